@@ -1,0 +1,6 @@
+pub mod Bricks
+pub mod Marks
+pub mod Majority
+pub mod SetLemmas
+pub mod MarksLemmas
+pub mod Text
