@@ -1,0 +1,6 @@
+//! Faults that a plan has for the requests to a brick.
+#![tactic(auto)]
+
+mod fault;
+
+pub use fault::Fault;

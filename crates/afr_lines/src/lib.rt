@@ -1,0 +1,12 @@
+//! The lines of the log: requests, answers, replies, events.
+#![tactic(auto)]
+
+mod answer;
+mod line;
+mod reply;
+mod request;
+
+pub use answer::{Answer, Told, told_of};
+pub use line::{Event, Heard, Line, Next};
+pub use reply::{Good, HealReply, Reply};
+pub use request::{Area, Request};

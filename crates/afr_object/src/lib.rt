@@ -1,0 +1,16 @@
+//! Objects as a brick keeps them: views, changes, repairs, loads, and the lists and maps in which they stand.
+#![tactic(auto)]
+
+mod change;
+mod entry;
+mod list;
+mod object;
+mod sorted_map;
+mod try_copy;
+
+pub use change::{Change, Load, Repair};
+pub use entry::{AttrList, Chunk, Entry, IndexList, NameList, View};
+pub use list::List;
+pub use object::Object;
+pub use sorted_map::SortedMap;
+pub use try_copy::TryCopy;

@@ -1,0 +1,48 @@
+//! Copies that need memory.
+ghost use Rattle.std.specs.Prelude.{◌≡◌, IfOk};
+
+use afr_base::{BrickId, Gfid, KeyId, NameId, NoMemory, ValueId, What};
+
+use crate::entry::Entry;
+
+/// A value that can be copied where there is memory. Items of lists have it, so that lists have it too.
+pub trait TryCopy: Drop + Sized {
+    fn copy(&self) -> Result<Self, NoMemory>
+        ensures ok { IfOk result (λ copy. copy ≡ self.now) };
+}
+
+impl TryCopy for u8 {
+    fn copy(&self) -> Result<u8, NoMemory> {
+        Ok(*self)
+    }
+}
+
+impl TryCopy for BrickId {
+    fn copy(&self) -> Result<BrickId, NoMemory> {
+        Ok(*self)
+    }
+}
+
+impl TryCopy for NameId {
+    fn copy(&self) -> Result<NameId, NoMemory> {
+        Ok(*self)
+    }
+}
+
+impl TryCopy for (NameId, Entry) {
+    fn copy(&self) -> Result<(NameId, Entry), NoMemory> {
+        Ok(*self)
+    }
+}
+
+impl TryCopy for (KeyId, ValueId) {
+    fn copy(&self) -> Result<(KeyId, ValueId), NoMemory> {
+        Ok(*self)
+    }
+}
+
+impl TryCopy for (Gfid, What) {
+    fn copy(&self) -> Result<(Gfid, What), NoMemory> {
+        Ok(*self)
+    }
+}

@@ -1,0 +1,86 @@
+//! A whole plan, its words, and the ways in which reading one stops.
+ghost use Rattle.std.specs.Prelude.{◌≡◌};
+
+use crate::command::Scripts;
+use crate::schedule::{Events, Faults, Orders, Rounds};
+use afr_base::{NoMemory, Shape};
+use afr_object::{List, TryCopy};
+
+/// The bytes of a name, a key or a value.
+pub type Word = List<u8>;
+
+pub type WordList = List<Word>;
+
+/// The distinct words of a plan, each list in the order of first sight; the names of the opening
+/// files stand before the other names. An id is a place in its list.
+#[derive(Debug, Drop)]
+pub struct Words {
+    pub names: WordList,
+    pub keys: WordList,
+    pub values: WordList,
+}
+
+/// All that a run is given: it is the same at each run of the same plan.
+#[derive(Debug, Drop)]
+pub struct Plan {
+    pub shape: Shape,
+    /// How many opening files there are.
+    pub files: u32,
+    /// How many lines the log may have.
+    pub turns: u32,
+    pub clients: Scripts,
+    pub healers: Rounds,
+    pub faults: Faults,
+    pub events: Events,
+    pub go: Orders,
+    pub words: Words,
+}
+
+/// The first line of a plan that breaks a rule, counted from 1, and the lowest rule that it breaks.
+#[derive(Clone, Copy, Debug, PartialEq, Eq)]
+pub struct PlanFault {
+    pub line: u32,
+    pub code: u8,
+}
+
+/// Why a plan wasn't read.
+#[derive(Clone, Copy, Debug, PartialEq, Eq)]
+pub enum PlanStop {
+    Refused(PlanFault),
+    NoMemory,
+}
+
+impl TryCopy for Words {
+    fn copy(&self) -> Result<Words, NoMemory> {
+        let names = self.names.copy()?;
+        let keys = self.keys.copy()?;
+        let values = self.values.copy()?;
+        Ok(Words {
+            names,
+            keys,
+            values,
+        })
+    }
+}
+
+impl TryCopy for Plan {
+    fn copy(&self) -> Result<Plan, NoMemory> {
+        let clients = self.clients.copy()?;
+        let healers = self.healers.copy()?;
+        let faults = self.faults.copy()?;
+        let events = self.events.copy()?;
+        let go = self.go.copy()?;
+        let words = self.words.copy()?;
+        Ok(Plan {
+            shape: self.shape,
+            files: self.files,
+            turns: self.turns,
+            clients,
+            healers,
+            faults,
+            events,
+            go,
+            words,
+        })
+    }
+}
