@@ -1,0 +1,2 @@
+//! What a log must satisfy: definitions over a plan and the lines of a log, the newest first.
+#![tactic(auto)]
