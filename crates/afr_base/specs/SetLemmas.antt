@@ -143,3 +143,8 @@ below_all n b few l = from_table n (λ b. member (filter (λ x. nat_lt x n) all_
   where
     small : (n : ℕ) → n ≤ 5 → passes_below n (λ b. member (filter (λ x. nat_lt x n) all_five) b) ≡ true
     small n few = from_table 6 (λ n. passes_below n (λ b. member (filter (λ x. nat_lt x n) all_five) b)) refl n (omega arith)
+
+-- some brick is below a number above 0
+pub below_some : (n : ℕ) → 0 < n → is_nothing (minus (below n) []) ≡ false
+unfolding below
+below_some n l = let k : nat_lt 0 n ≡ true = grind (arith, nat_tests) in rw k refl

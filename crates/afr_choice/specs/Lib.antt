@@ -1,0 +1,4 @@
+pub mod Looks
+pub mod LooksLemmas
+pub mod Verdict
+pub mod VerdictLemmas

@@ -1,0 +1,135 @@
+-- The sets of a verdict as tests, and what a verdict says of them.
+use Rattle.std.proofs.Common.{◌≡◌, ℕ, ◌<◌, ◌==◌, ◌&&◌, ◌||◌, not, Bool, true, false, List, [], ◌∷◌, refl, sym, ◌∙◌, ap, arith, filter, if◌then◌else◌, subst}
+use Rattle.std.specs.List.{list_any}
+use Rattle.std.proofs.lemmas.Bool.{eqb-true}
+use Rattle.std.proofs.lemmas.Bool.Decides.{nat_tests}
+use Rattle.afr_base.specs.Bricks.{all_five, member, is_nothing, IsIn, IsWithin, from_table, and_left, and_right}
+use Rattle.afr_base.specs.Majority.{is_majority}
+use Rattle.afr_base.specs.declared.ids.Kind.{Kind}
+use Rattle.afr_base.specs.declared.ids.Shape.{Shape}
+use Rattle.afr_choice.specs.declared.looked.Looked.{Looked}
+use Rattle.afr_choice.specs.declared.verdict.Verdict.TheVariants.{Short, Bare, Split, Sources}
+use Rattle.afr_choice.specs.Verdict.{is_holder, keeps, is_copy, is_good, accuses_at, is_accused, holders_of, copies_of, good_copies, verdict_of}
+
+member_filter : (p : ℕ → Bool) (xs : List ℕ) (b : ℕ) → member (filter p xs) b ≡ member xs b && p b
+member_filter p [] b = refl
+member_filter p (x ∷ xs) b = go (p x) refl (x == b) refl (member_filter p xs b)
+  where
+    go : (e : Bool) → p x ≡ e → (f : Bool) → (x == b) ≡ f → member (filter p xs) b ≡ member xs b && p b
+        → member (if e then x ∷ filter p xs else filter p xs) b ≡ (f || member xs b) && p b
+    go true h true g k = let at_b : p b ≡ true = subst (λ (y : ℕ). p y ≡ true) (eqb-true x b g) h in rw (g, at_b) refl
+    go true h false g k = rw g k
+    go false h true g k = let at_b : p b ≡ false = subst (λ (y : ℕ). p y ≡ false) (eqb-true x b g) h in k ∙ rw at_b (drop_test (member xs b))
+      where
+        drop_test : (m : Bool) → m && false ≡ false
+        drop_test true = refl
+        drop_test false = refl
+    go false h false g k = k
+
+chosen : (p : ℕ → Bool) (b : ℕ) → b < 5 → member (filter p all_five) b ≡ p b
+chosen p b l = member_filter p all_five b ∙ rw (from_table 5 (member all_five) refl b l) refl
+
+chosen_passes : (p : ℕ → Bool) (b : ℕ) → member (filter p all_five) b ≡ true → p b ≡ true
+chosen_passes p b m = and_right (member all_five b) (p b) (sym (member_filter p all_five b) ∙ m)
+
+chosen_below : (p : ℕ → Bool) → IsWithin 5 (filter p all_five)
+chosen_below p b m = five (and_left (member all_five b) (p b) (sym (member_filter p all_five b) ∙ m))
+  where
+    five : member all_five b ≡ true → b < 5
+    five h = grind (arith, nat_tests, h)
+
+-- the sets as tests
+pub member_holders : (looked : Looked) (b : ℕ) → b < 5 → member (holders_of looked) b ≡ is_holder looked b
+member_holders looked b l = chosen (is_holder looked) b l
+
+pub member_copies : (shape : Shape) (looked : Looked) (kind : Kind) (b : ℕ) → b < 5 → member (copies_of shape looked kind) b ≡ is_copy shape looked kind b
+member_copies shape looked kind b l = chosen (is_copy shape looked kind) b l
+
+pub member_good : (shape : Shape) (looked : Looked) (kind : Kind) (b : ℕ) → b < 5 → member (good_copies shape looked kind) b ≡ is_good shape looked kind b
+member_good shape looked kind b l = chosen (is_good shape looked kind) b l
+
+-- their members are bricks
+pub holders_below : (looked : Looked) → IsWithin 5 (holders_of looked)
+holders_below looked = chosen_below (is_holder looked)
+
+pub copies_below : (shape : Shape) (looked : Looked) (kind : Kind) → IsWithin 5 (copies_of shape looked kind)
+copies_below shape looked kind = chosen_below (is_copy shape looked kind)
+
+pub good_below : (shape : Shape) (looked : Looked) (kind : Kind) → IsWithin 5 (good_copies shape looked kind)
+good_below shape looked kind = chosen_below (is_good shape looked kind)
+
+-- good copies are copies, copies are holders, and holders were reached
+pub good_are_copies : (shape : Shape) (looked : Looked) (kind : Kind) → IsIn (good_copies shape looked kind) (copies_of shape looked kind)
+good_are_copies shape looked kind b m =
+    member_copies shape looked kind b (good_below shape looked kind b m)
+    ∙ and_left (is_copy shape looked kind b) (not (is_accused kind looked b)) (chosen_passes (is_good shape looked kind) b m)
+
+pub copies_are_holders : (shape : Shape) (looked : Looked) (kind : Kind) → IsIn (copies_of shape looked kind) (holders_of looked)
+copies_are_holders shape looked kind b m =
+    member_holders looked b (copies_below shape looked kind b m)
+    ∙ and_left (is_holder looked b) (keeps shape kind b) (chosen_passes (is_copy shape looked kind) b m)
+
+pub good_are_holders : (shape : Shape) (looked : Looked) (kind : Kind) → IsIn (good_copies shape looked kind) (holders_of looked)
+good_are_holders shape looked kind b m = copies_are_holders shape looked kind b (good_are_copies shape looked kind b m)
+
+pub holders_are_reached : (looked : Looked) → IsIn (holders_of looked) looked.reached
+holders_are_reached looked b m = and_left (member looked.reached b) _ (chosen_passes (is_holder looked) b m)
+
+none_of : (p : ℕ → Bool) (x : ℕ) (ys : List ℕ) → not (list_any p ys) ≡ true → member ys x ≡ true → p x ≡ false
+none_of p x [] h k = absurd (cc k)
+none_of p x (y ∷ ys) h k = go (p y) refl (y == x) refl h k (none_of p x ys)
+  where
+    go : (e : Bool) → p y ≡ e → (f : Bool) → (y == x) ≡ f → not (e || list_any p ys) ≡ true → (f || member ys x) ≡ true
+        → (not (list_any p ys) ≡ true → member ys x ≡ true → p x ≡ false) → p x ≡ false
+    go true i f g h k rest = absurd (cc h)
+    go false i true g h k rest = subst (λ (z : ℕ). p z ≡ false) (eqb-true y x g) i
+    go false i false g h k rest = rest h k
+
+-- nobody accuses a good copy
+pub nobody_accuses : (shape : Shape) (looked : Looked) (kind : Kind) (b x : ℕ) → member (good_copies shape looked kind) b ≡ true → x < 5 → accuses_at kind x b looked ≡ false
+nobody_accuses shape looked kind b x m l =
+    none_of (λ y. accuses_at kind y b looked) x all_five
+    (and_right (is_copy shape looked kind b) (not (is_accused kind looked b)) (chosen_passes (is_good shape looked kind) b m))
+    (from_table 5 (member all_five) refl x l)
+
+-- what each verdict says
+pub short_says : (shape : Shape) (looked : Looked) (kind : Kind) → verdict_of shape looked kind ≡ Short → is_majority shape.n looked.reached ≡ false
+short_says shape looked kind = go (is_majority shape.n looked.reached) (is_nothing (copies_of shape looked kind)) (is_nothing (good_copies shape looked kind)) (good_copies shape looked kind)
+  where
+    go : (a b c : Bool) (s : List ℕ) → (if not a then Short else (if b then Bare else (if c then Split else Sources s))) ≡ Short → a ≡ false
+    go false b c s h = refl
+    go true true c s h = absurd (cc h)
+    go true false true s h = absurd (cc h)
+    go true false false s h = absurd (cc h)
+
+pub bare_says : (shape : Shape) (looked : Looked) (kind : Kind) → verdict_of shape looked kind ≡ Bare
+    → (is_majority shape.n looked.reached ≡ true) × (is_nothing (copies_of shape looked kind) ≡ true)
+bare_says shape looked kind = go (is_majority shape.n looked.reached) (is_nothing (copies_of shape looked kind)) (is_nothing (good_copies shape looked kind)) (good_copies shape looked kind)
+  where
+    go : (a b c : Bool) (s : List ℕ) → (if not a then Short else (if b then Bare else (if c then Split else Sources s))) ≡ Bare → (a ≡ true) × (b ≡ true)
+    go false b c s h = absurd (cc h)
+    go true true c s h = (refl, refl)
+    go true false true s h = absurd (cc h)
+    go true false false s h = absurd (cc h)
+
+pub split_says : (shape : Shape) (looked : Looked) (kind : Kind) → verdict_of shape looked kind ≡ Split
+    → (is_majority shape.n looked.reached ≡ true) × (is_nothing (copies_of shape looked kind) ≡ false) × (is_nothing (good_copies shape looked kind) ≡ true)
+split_says shape looked kind = go (is_majority shape.n looked.reached) (is_nothing (copies_of shape looked kind)) (is_nothing (good_copies shape looked kind)) (good_copies shape looked kind)
+  where
+    go : (a b c : Bool) (s : List ℕ) → (if not a then Short else (if b then Bare else (if c then Split else Sources s))) ≡ Split → (a ≡ true) × (b ≡ false) × (c ≡ true)
+    go false b c s h = absurd (cc h)
+    go true true c s h = absurd (cc h)
+    go true false true s h = (refl, refl, refl)
+    go true false false s h = absurd (cc h)
+
+-- the sources are the good copies, and there is one
+pub sources_say : (shape : Shape) (looked : Looked) (kind : Kind) (s : List ℕ) → verdict_of shape looked kind ≡ Sources s
+    → (is_majority shape.n looked.reached ≡ true) × (s ≡ good_copies shape looked kind) × (is_nothing s ≡ false)
+sources_say shape looked kind s = go (is_majority shape.n looked.reached) (is_nothing (copies_of shape looked kind)) (good_copies shape looked kind)
+  where
+    go : (a b : Bool) (t : List ℕ) → (if not a then Short else (if b then Bare else (if is_nothing t then Split else Sources t))) ≡ Sources s
+        → (a ≡ true) × (s ≡ t) × (is_nothing s ≡ false)
+    go false b t h = absurd (cc h)
+    go true true t h = absurd (cc h)
+    go true false [] h = absurd (cc h)
+    go true false (x ∷ xs) h = let e : s ≡ x ∷ xs = cc h in (refl, e, ap is_nothing e)

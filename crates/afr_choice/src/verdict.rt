@@ -1,0 +1,236 @@
+//! Who accuses whom, which copies are good, and what that makes of a look.
+ghost use Rattle.std.specs.Prelude.{◌≡◌, ◌+◌, ◌-◌, ◌*◌, ◌/◌, ◌<◌, ◌≤◌};
+ghost use Rattle.afr_choice.specs.Verdict.{is_holder, keeps, is_copy, is_bytes, shown_missed, accuses_at, is_accused, is_good, holders_of, copies_of, good_copies, verdict_of};
+
+use crate::looked::Looked;
+use afr_base::{BrickId, BrickSet, Kind, Shape};
+use afr_object::View;
+
+/// What may be made of the copies that were looked at.
+#[derive(Clone, Copy, Debug, PartialEq, Eq)]
+pub enum Verdict {
+    /// The bricks that were reached are no majority.
+    Short,
+    /// None of them has a copy.
+    Bare,
+    /// Each copy is accused: split-brain.
+    Split,
+    /// The good copies.
+    Sources(BrickSet),
+}
+
+/// The least number of bricks that is more than half of `n`.
+pub fn majority(n: u8) -> u8
+    ensures value { result ≡ n / 2 + 1 }
+    ensures most { n < 2 * result }
+    ensures least { 2 * (result - 1) ≤ n }
+{
+    n / 2 + 1
+}
+
+/// The bricks that were reached and have the object.
+pub fn holders(looked: &Looked) -> BrickSet
+    ensures { result ≡ holders_of looked.now }
+{
+    let mut set = BrickSet::none();
+    for b in 0..5u8 {
+        set = set.with_if(has_view(looked, BrickId(b)), BrickId(b));
+    }
+    set
+}
+
+/// The copies of this kind that no brick accuses.
+pub fn good(shape: &Shape, looked: &Looked, kind: Kind) -> BrickSet
+    ensures { result ≡ good_copies shape.now looked.now kind }
+{
+    let mut set = BrickSet::none();
+    for b in 0..5u8 {
+        set = set.with_if(is_clean(shape, looked, kind, BrickId(b)), BrickId(b));
+    }
+    set
+}
+
+/// What the copies of this kind come to.
+pub fn judge(shape: &Shape, looked: &Looked, kind: Kind) -> Verdict
+    requires { shape.now.n ≤ 5 }
+    ensures { result ≡ verdict_of shape.now looked.now kind }
+{
+    if !looked.reached.has_quorum(shape.n) {
+        return Verdict::Short;
+    }
+    if copies(shape, looked, kind).is_empty() {
+        return Verdict::Bare;
+    }
+    let sources = good(shape, looked, kind);
+    if sources.is_empty() {
+        return Verdict::Split;
+    }
+    Verdict::Sources(sources)
+}
+
+fn copies(shape: &Shape, looked: &Looked, kind: Kind) -> BrickSet
+    ensures { result ≡ copies_of shape.now looked.now kind }
+{
+    let mut set = BrickSet::none();
+    for b in 0..5u8 {
+        set = set.with_if(has_copy(shape, looked, kind, BrickId(b)), BrickId(b));
+    }
+    set
+}
+
+fn has_view(looked: &Looked, b: BrickId) -> bool
+    requires { b.0 < 5 }
+    ensures { result ≡ is_holder looked.now b.0 }
+{
+    looked.reached.has(b) && looked.views[b.0 as usize].is_some()
+}
+
+/// Whether the brick keeps what this kind is about: the arbiter keeps no bytes.
+fn keeps(shape: &Shape, kind: Kind, b: BrickId) -> bool
+    ensures { result ≡ keeps shape.now kind b.0 }
+{
+    !(shape.arbiter && is_data(kind) && b.0 == 2)
+}
+
+fn has_copy(shape: &Shape, looked: &Looked, kind: Kind, b: BrickId) -> bool
+    requires { b.0 < 5 }
+    ensures { result ≡ is_copy shape.now looked.now kind b.0 }
+{
+    has_view(looked, b) && keeps(shape, kind, b)
+}
+
+fn is_clean(shape: &Shape, looked: &Looked, kind: Kind, b: BrickId) -> bool
+    requires { b.0 < 5 }
+    ensures { result ≡ is_good shape.now looked.now kind b.0 }
+{
+    has_copy(shape, looked, kind, b) && !is_blamed(looked, kind, b)
+}
+
+/// Whether a brick that was reached accuses brick `c`.
+fn is_blamed(looked: &Looked, kind: Kind, c: BrickId) -> bool
+    requires { c.0 < 5 }
+    ensures { result ≡ is_accused kind looked.now c.0 }
+{
+    for x in 0..5u8 {
+        if blames(looked, kind, BrickId(x), c) {
+            return true;
+        }
+    }
+    false
+}
+
+fn blames(looked: &Looked, kind: Kind, x: BrickId, c: BrickId) -> bool
+    requires by { x.0 < 5 }
+    requires whom { c.0 < 5 }
+    ensures { result ≡ accuses_at kind x.0 c.0 looked.now }
+{
+    looked.reached.has(x) && shows_missed(&looked.views[x.0 as usize], kind, c)
+}
+
+fn shows_missed(view: &Option<View>, kind: Kind, c: BrickId) -> bool
+    requires { c.0 < 5 }
+    ensures { result ≡ shown_missed kind c.0 view.now }
+{
+    match view {
+        Some(view) => view.marks.of(kind).accuses(c),
+        None => false,
+    }
+}
+
+fn is_data(kind: Kind) -> bool
+    ensures { result ≡ is_bytes kind }
+{
+    match kind {
+        Kind::Bytes => true,
+        Kind::Attrs | Kind::Names => false,
+    }
+}
+
+#[cfg(test)]
+mod tests {
+    use super::*;
+    use afr_base::{AllMarks, What};
+
+    /// A look at a brick: it doesn't answer, lacks the object, or has these data numbers.
+    #[derive(Clone, Copy, Debug)]
+    enum Seen {
+        Away,
+        Lacks,
+        Has([u32; 5]),
+    }
+
+    const CLEAN: Seen = Seen::Has([0; 5]);
+
+    fn looked(seen: &[Seen; 3]) -> Looked {
+        let mut looked = Looked::none();
+        for b in 0..3u8 {
+            match seen[b as usize] {
+                Seen::Away => looked.lose(BrickId(b)),
+                Seen::Lacks => looked.note(BrickId(b), None),
+                Seen::Has(pending) => looked.note(BrickId(b), Some(view(pending))),
+            }
+        }
+        looked
+    }
+
+    fn view(pending: [u32; 5]) -> View {
+        let mut marks = AllMarks::zero();
+        marks.bytes.pending = pending;
+        View {
+            what: What::File,
+            len: 7,
+            marks,
+        }
+    }
+
+    fn three(arbiter: bool) -> Shape
+        ensures { result.n ≡ 3 }
+    {
+        Shape { n: 3, arbiter }
+    }
+
+    #[test]
+    fn a_copy_is_a_source_where_nobody_accuses_it(rt: HostRuntime) {
+        let first = Seen::Has([1, 0, 0, 0, 0]);
+        let second = Seen::Has([0, 2, 0, 0, 0]);
+        let third = Seen::Has([0, 0, 3, 0, 0]);
+        let both = BrickSet::all(2);
+        let last = BrickSet::none().with(BrickId(2));
+        let rows = [
+            (
+                false,
+                [CLEAN, CLEAN, CLEAN],
+                Verdict::Sources(BrickSet::all(3)),
+            ),
+            (false, [third, third, Seen::Away], Verdict::Sources(both)),
+            (false, [third, CLEAN, CLEAN], Verdict::Sources(both)),
+            (false, [second, first, CLEAN], Verdict::Sources(last)),
+            (false, [second, first, Seen::Lacks], Verdict::Split),
+            (false, [second, third, first], Verdict::Split),
+            (false, [CLEAN, Seen::Away, Seen::Away], Verdict::Short),
+            (false, [Seen::Lacks, Seen::Lacks, Seen::Away], Verdict::Bare),
+            (true, [CLEAN, CLEAN, CLEAN], Verdict::Sources(both)),
+            (true, [CLEAN, Seen::Away, first], Verdict::Split),
+            (true, [Seen::Lacks, Seen::Away, CLEAN], Verdict::Bare),
+        ];
+        for (arbiter, seen, verdict) in &rows {
+            let found = judge(&three(*arbiter), &looked(seen), Kind::Bytes);
+            assert_eq!(rt; found, *verdict, "at {seen:?}");
+        }
+    }
+
+    #[test]
+    fn the_arbiter_holds_attributes_and_data_numbers_are_of_data_alone(rt: HostRuntime) {
+        let seen = looked(&[Seen::Has([0, 0, 1, 0, 0]), Seen::Lacks, CLEAN]);
+        let two = BrickSet::all(3).without(BrickId(1));
+        assert_eq!(rt; holders(&seen), two);
+        assert_eq!(rt; good(&three(true), &seen, Kind::Attrs), two);
+        assert_eq!(rt; good(&three(false), &seen, Kind::Bytes), BrickSet::all(1));
+    }
+
+    #[test]
+    fn two_of_three_and_three_of_five_are_majorities(rt: HostRuntime) {
+        assert_eq!(rt; majority(3), 2);
+        assert_eq!(rt; majority(5), 3);
+    }
+}
