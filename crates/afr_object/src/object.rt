@@ -47,13 +47,12 @@ impl Object {
 #[cfg(test)]
 mod tests {
     use crate::change::Change;
+    use crate::entry::Entry;
     use crate::list::List;
     use crate::object::Object;
     use crate::try_copy::TryCopy;
     use afr_base::{Gfid, NameId, What};
     use std::test::Fail;
-
-    use crate::entry::Entry;
 
     #[test]
     fn an_object_is_empty_and_shows_it(rt: HostRuntime) -> Result<(), Fail> {

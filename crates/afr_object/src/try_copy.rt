@@ -1,9 +1,8 @@
 //! Copies that need memory.
 ghost use Rattle.std.specs.Prelude.{◌≡◌, IfOk};
 
-use afr_base::{BrickId, Gfid, KeyId, NameId, NoMemory, ValueId, What};
-
 use crate::entry::Entry;
+use afr_base::{BrickId, Gfid, KeyId, NameId, NoMemory, ValueId, What};
 
 /// A value that can be copied where there is memory. Items of lists have it, so that lists have it too.
 pub trait TryCopy: Drop + Sized {

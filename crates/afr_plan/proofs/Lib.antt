@@ -1,0 +1,9 @@
+pub mod Front
+pub mod Laws
+pub mod TextLemmas
+pub mod SaidLemmas
+pub mod RulesLemmas
+pub mod SaysLemmas
+pub mod LoopLemmas
+pub mod NamesLemmas
+pub mod PlanLemmas

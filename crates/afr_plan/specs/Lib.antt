@@ -1,0 +1,15 @@
+pub mod Bytes
+pub mod TextLines
+pub mod Reading
+pub mod Spelling
+pub mod Said
+pub mod SaidReading
+pub mod Seen
+pub mod Rules
+pub mod Judging
+pub mod Counts
+pub mod Names
+pub mod PlanOf
+pub mod Spells
+pub mod FirstPath
+pub mod FirstPathLemmas
