@@ -1,15 +1,12 @@
 -- Reading from the front of a list.
-use Rattle.std.proofs.Common.{◌≡◌, ℕ, ◌+◌, ◌<◌, ◌≤◌, List, [], ◌∷◌, length, drop, get_or, None, refl, ap, arith, drop-cons, suc, Bool, true, false, cond, zero, take, ◌^◌, take_while}
+use Rattle.std.proofs.Common.{◌≡◌, ℕ, ◌+◌, ◌<◌, ◌≤◌, List, [], ◌∷◌, length, drop, get_or, None, refl, ap, arith, drop-cons, suc, Bool, true, false, cond, zero, take, take_while}
 use Rattle.std.specs.Char.{digit_value}
 use Rattle.std.specs.Int.{IsInRange}
-use Rattle.std.specs.Str.Parse.{AllDigits, digits_value}
+use Rattle.std.specs.Str.Parse.{AllDigits}
 use Rattle.std.proofs.lemmas.Str.Parse.{digit_from_value}
 use Rattle.std.proofs.lemmas.Str.{digit_value_digit}
-use Rattle.std.proofs.lemmas.Int.Digits.{digits_value-lt}
-use Rattle.std.proofs.lemmas.List.{length-take}
 use Rattle.std.proofs.lemmas.List.Sums.{take_while-cons}
 use Rattle.std.proofs.lemmas.Bool.Decides.{nat_tests}
-use Rattle.std.proofs.Math.Nat.{pow-le-pow_right}
 use Rattle.afr_plan.specs.Bytes.{digit}
 use Rattle.afr_plan.specs.Reading.{after}
 
@@ -29,21 +26,6 @@ pub digit_at : (ds : List ℕ) (i : ℕ) → i < length ds → AllDigits 10 ds �
 digit_at [] i l a = absurd (omega arith)
 digit_at (d ∷ ds) zero l a = a.0
 digit_at (d ∷ ds) (suc i) l a = digit_at ds i (omega arith) a.1
-
-all_take : (ds : List ℕ) (i : ℕ) → AllDigits 10 ds → AllDigits 10 (take i ds)
-all_take [] zero a = tt
-all_take [] (suc i) a = tt
-all_take (d ∷ ds) zero a = tt
-all_take (d ∷ ds) (suc i) a = (a.0, all_take ds i a.1)
-
--- a front of at most seven digits
-pub small : (ds : List ℕ) (i : ℕ) → length ds ≤ 7 → i < length ds → AllDigits 10 ds → digits_value 10 (take i ds) < 1000000
-small ds i l h a =
-    let p : digits_value 10 (take i ds) < 10 ^ length (take i ds) = digits_value-lt 10 (take i ds) (all_take ds i a) in
-    let six : length (take i ds) ≤ 6 = omega (arith, length-take i ds) in
-    let ten : zero < 10 = omega arith in
-    let q : 10 ^ length (take i ds) ≤ 10 ^ 6 = pow-le-pow_right ten six in
-    omega (arith, p, q)
 
 digit_value_of : (b : ℕ) → digit b ≡ true → digit_value b < 10
 digit_value_of b h = let r : IsInRange 48 57 b = (grind (arith, nat_tests, h), grind (arith, nat_tests, h)) in omega (arith, digit_value_digit b r, r.1)

@@ -73,12 +73,19 @@ front_again p (y ∷ a) rest h s =
 pub front_rest : (p : ℕ → Bool) (a rest : List ℕ) → list_all p a ≡ true → Stops p rest → front p (a ++ rest) ≡ (a, rest)
 front_rest p a rest h s = rw (front_again p a rest h s) (ap (λ (t : List ℕ). (a, t)) (drop_at a rest (length a) refl))
 
+-- two fronts, one after the other
+joined : (xs u r v q : List ℕ) → xs ≡ u ++ r → r ≡ v ++ q → xs ≡ (u ++ v) ++ q
+joined xs u r v q e f = e ∙ ap (λ (t : List ℕ). u ++ t) f ∙ sym (append_assoc u v q)
+
+followed : (xs u r q : List ℕ) → xs ≡ u ++ r → r ≡ q → xs ≡ u ++ q
+followed xs u r q e f = e ∙ ap (λ (t : List ℕ). u ++ t) f
+
 pub word-takes : {A : Type 0} (ws : List ℕ) (a : A) → Takes (word ws a) (Word ws a)
 word-takes {A} ws a = record {
   read = λ xs x rest e.
       let s = bind_some (after ws xs) (give a) (x, rest) e in
       let f : ◌≡◌ {A = A × List ℕ} (a, s.0) (x, rest) = cc in
-      (ws, (refl, ap (λ (t : A × List ℕ). t.0) f), after_takes ws xs s.0 s.1 ∙ ap (λ (r : List ℕ). ws ++ r) (ap (λ (t : A × List ℕ). t.1) f));
+      (ws, (refl, ap (λ (t : A × List ℕ). t.0) f), followed xs ws s.0 rest (after_takes ws xs s.0 s.1) (ap (λ (t : A × List ℕ). t.1) f));
 }
 
 pub word-again : {A : Type 0} (ws : List ℕ) (a : A) → Again (word ws a) (Word ws a) Any
@@ -91,7 +98,7 @@ word_then-takes ws q T t = record {
   read = λ xs x rest e.
       let s = bind_some (after ws xs) q (x, rest) e in
       let u = t.read s.0 x rest s.2 in
-      (ws ++ u.0, (u.0, u.1, refl), after_takes ws xs s.0 s.1 ∙ ap (λ (r : List ℕ). ws ++ r) u.2 ∙ sym (append_assoc ws u.0 rest));
+      (ws ++ u.0, (u.0, u.1, refl), joined xs ws s.0 u.0 rest (after_takes ws xs s.0 s.1) u.2);
 }
 
 pub word_then-again : {A : Type 0} (ws : List ℕ) (q : Reader A) (T : List ℕ → A → Type 0) (Next : List ℕ → Type 0) → Again q T Next → Again (word_then ws q) (WordThen ws T) Next
@@ -107,7 +114,7 @@ both-takes {A} {B} r q S T first second = record {
       let f : ◌≡◌ {A = (A × B) × List ℕ} ((s.0.0, s2.0.0), s2.0.1) (z, rest) = cc in
       let u = first.read xs s.0.0 s.0.1 s.1 in
       let v = second.read s.0.1 s2.0.0 s2.0.1 s2.1 in
-      let whole : xs ≡ (u.0 ++ v.0) ++ s2.0.1 = u.2 ∙ ap (λ (t : List ℕ). u.0 ++ t) v.2 ∙ sym (append_assoc u.0 v.0 s2.0.1) in
+      let whole : xs ≡ (u.0 ++ v.0) ++ s2.0.1 = joined xs u.0 s.0.1 v.0 s2.0.1 u.2 v.2 in
       let P : (A × B) × List ℕ → Type 0 = λ t. (w : List ℕ) × Both S T w t.0 × (xs ≡ w ++ t.1) in
       subst P f (u.0 ++ v.0, (u.0, v.0, u.1, v.1, refl), whole);
 }
@@ -140,7 +147,7 @@ as-takes {A} {B} f r S t = record {
       let s = bind_some (r xs) (give_as f) (y, rest) e in
       let p : ◌≡◌ {A = B × List ℕ} (f s.0.0, s.0.1) (y, rest) = cc in
       let u = t.read xs s.0.0 s.0.1 s.1 in
-      (u.0, (s.0.0, u.1, ap (λ (z : B × List ℕ). z.0) p), u.2 ∙ ap (λ (z : B × List ℕ). u.0 ++ z.1) p);
+      (u.0, (s.0.0, u.1, ap (λ (z : B × List ℕ). z.0) p), followed xs u.0 s.0.1 rest u.2 (ap (λ (z : B × List ℕ). z.1) p));
 }
 
 pub as-again : {A B : Type 0} (f : A → B) (r : Reader A) (S : List ℕ → A → Type 0) (Next : List ℕ → Type 0) → Again r S Next → Again (as_a f r) (As f S) Next
@@ -162,7 +169,7 @@ whole-takes {A} r S t line x e =
     let s = bind_some (r line) all_used x e in
     let u = used_all s.0.0 x s.0.1 s.2 in
     let v = t.read line s.0.0 s.0.1 s.1 in
-    let same : line ≡ v.0 = v.2 ∙ ap (λ (z : List ℕ). v.0 ++ z) u.1 ∙ append-nil v.0 in
+    let same : line ≡ v.0 = followed line v.0 s.0.1 [] v.2 u.1 ∙ append-nil v.0 in
     let P : List ℕ → Type 0 = λ w. S w x in
     let Q : A → Type 0 = λ y. S v.0 y in
     subst P (sym same) (subst Q u.0 v.1)

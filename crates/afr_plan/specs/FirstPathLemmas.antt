@@ -1,6 +1,8 @@
 -- Every text of the first forms spells a plan of the first path.
 use Rattle.std.proofs.Common.{◌≡◌, ℕ, ◌+◌, ◌<◌, ◌≤◌, List, [], ◌∷◌, ◌++◌, refl, sym, ap, subst, ◌∙◌, arith, Bool, true, false, cond, length, length-append, not, ◌||◌, suc, zero}
 use Rattle.std.specs.Prelude.{count_by}
+use Rattle.std.specs.List.{list_any, position_or_len}
+use Rattle.std.specs.Str.{bytes_eq}
 use Rattle.std.proofs.lemmas.List.Sums.{sum_by-cons}
 use Rattle.std.proofs.lemmas.Bool.Decides.{nat_tests}
 use Rattle.afr_base.specs.declared.ids.Shape.{Shape}
@@ -11,8 +13,6 @@ use Rattle.afr_plan.specs.declared.plan.Plan.{Plan}
 use Rattle.afr_plan.specs.declared.plan.Words.{Words}
 use Rattle.afr_plan.specs.Said.{Said, Afr, Volume, Files, Turns, Client, Write, Read, End}
 use Rattle.afr_plan.specs.Rules.{is_over, may_stand, is_client, is_command, is_beyond, is_disordered, passes_total}
-use Rattle.std.specs.List.{list_any, position_or_len}
-use Rattle.std.specs.Str.{bytes_eq}
 use Rattle.afr_plan.specs.Names.{file_name, file_names, with_name, number_of}
 use Rattle.afr_plan.specs.PlanOf.{empty_plan, onto_last, with_line, plan_of}
 use Rattle.afr_plan.specs.Spells.{AreLines, Spells}

@@ -50,7 +50,7 @@ is_over (End ∷ older) = true
 is_over before = false
 
 -- ---- limits
--- a number, a name or a text is beyond its limit
+-- a number, a name, a text or the end of a write is beyond its limit; there is at most one client
 abbrev pub is_beyond : Said → Bool
 is_beyond (Files k) = nat_lt 1000 k
 is_beyond (Turns t) = nat_lt t 1 || nat_lt 4000000 t

@@ -128,7 +128,7 @@ impl<'a> Lines<'a> {
 fn feed(bytes: &[u8]) -> Option<usize>
     ensures { result ≡ position (λ b. b == 10) bytes.now }
 {
-    bytes.iter().position(|b| *b == 10)
+    bytes.iter().position(|b| *b == b'\n')
 }
 
 /// The bytes before the first line feed, and those after it.

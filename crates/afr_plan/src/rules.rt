@@ -34,7 +34,7 @@ fn begins(words: &[u8], line: &[u8]) -> bool
 fn word_len(line: &[u8]) -> usize
     ensures { result ≡ length (take_while (λ b. not (b == 32)) line.now) }
 {
-    line.iter().take_while(|b| **b != 32).count()
+    line.iter().take_while(|b| **b != b' ').count()
 }
 
 /// What stands before the first space.

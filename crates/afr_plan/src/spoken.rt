@@ -35,32 +35,32 @@ pub(crate) enum Spoken<'a> {
 fn is_digit(b: u8) -> bool
     ensures { result ≡ digit b }
 {
-    48 <= b && b <= 57
+    b'0' <= b && b <= b'9'
 }
 
 fn is_letter(b: u8) -> bool
     ensures { result ≡ letter b }
 {
-    (97 <= b && b <= 122) || (65 <= b && b <= 90)
+    (b'a' <= b && b <= b'z') || (b'A' <= b && b <= b'Z')
 }
 
 fn is_name_byte(b: u8) -> bool
     ensures { result ≡ name_byte b }
 {
-    is_letter(b) || is_digit(b) || b == 46 || b == 95 || b == 45
+    is_letter(b) || is_digit(b) || b == b'.' || b == b'_' || b == b'-'
 }
 
 fn is_text_byte(b: u8) -> bool
     ensures { result ≡ text_byte b }
 {
-    32 <= b && b <= 126 && b != 34
+    b' ' <= b && b <= b'~' && b != b'"'
 }
 
 /// Whether no byte is other than from a space to a tilde.
 pub(crate) fn is_plain(bytes: &[u8]) -> bool
     ensures { result ≡ list_all plain bytes.now }
 {
-    bytes.iter().all(|b| 32 <= *b && *b <= 126)
+    bytes.iter().all(|b| b' ' <= *b && *b <= b'~')
 }
 
 pub(crate) fn is_same(a: &[u8], b: &[u8]) -> bool
@@ -110,7 +110,7 @@ fn value_of(ds: &[u8]) -> u32
 {
     let mut n: u32 = 0;
     for d in ds {
-        n = (n * 10 + u32::from(*d - 48)).min(10_000_000);
+        n = (n * 10 + u32::from(*d - b'0')).min(10_000_000);
     }
     n
 }
@@ -120,7 +120,7 @@ fn number(bytes: &[u8]) -> Option<(u32, &[u8])>
     ensures { option_map (λ x. (x.0, x.1.now)) result ≡ number_at bytes.now }
 {
     let count = digits(bytes);
-    if count == 0 || (count > 1 && bytes[0] == 48) {
+    if count == 0 || (count > 1 && bytes[0] == b'0') {
         return None;
     }
     Some((value_of(&bytes[..count]), &bytes[count..]))
@@ -131,7 +131,7 @@ fn is_name(name: &[u8]) -> bool
 {
     match name {
         [] => false,
-        [first, ..] => *first != 45 && !is_same(name, b".") && !is_same(name, b".."),
+        [first, ..] => *first != b'-' && !is_same(name, b".") && !is_same(name, b".."),
     }
 }
 

@@ -1,0 +1,14 @@
+-- What a call may answer where the brick has the object.
+use Rattle.std.proofs.Common.{◌≡◌, ◌≢◌, ◌↔◌, Option, Some, None, Result, Ok, Err}
+use Rattle.std.specs.Result.{IsErrAnd}
+use Rattle.afr_brick.specs.declared.refused.Refused.{Refused}
+use Rattle.afr_brick.specs.declared.refused.Refused.TheVariants.{NoObject, NoMemory}
+
+-- A call that answers something else agrees that the object is there.
+pub found : {A X : Type 0} (r : Result A Refused) (o : Option X) (x : X) → o ≡ Some x → r ≢ Err NoObject → (r ≡ Err NoObject) ↔ (o ≡ None)
+found r o x e n = (λ h. absurd (n h), λ h. absurd (cc))
+
+-- Want of memory is something else.
+pub no_memory : {A : Type 0} (r : Result A Refused) → IsErrAnd r (λ e. e ≡ NoMemory) → r ≢ Err NoObject
+no_memory (Ok x) h = absurd h
+no_memory (Err e) h = λ k. absurd (cc)

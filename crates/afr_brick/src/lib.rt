@@ -1,0 +1,13 @@
+//! One brick: its copies of objects, and the requests that look at them, read them and change them.
+#![tactic(auto)]
+
+mod brick;
+mod changes;
+mod numbers;
+mod reads;
+mod refused;
+#[cfg(test)]
+mod tests;
+
+pub use brick::Brick;
+pub use refused::Refused;

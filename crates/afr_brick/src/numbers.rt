@@ -1,0 +1,62 @@
+//! The changelog numbers of a copy before and after an operation, and after a heal.
+ghost use Rattle.std.specs.Prelude.{◌≡◌, ◌≢◌, ◌↔◌, None, OnOk, OnErr};
+ghost use Rattle.afr_base.specs.Marks.{closed_op, dirtied, taken_back};
+ghost use Rattle.afr_brick.specs.State.{CanPre, CanPost, CanSettle};
+ghost use Rattle.afr_object.specs.Tables.{changed, copy_at, with_numbers};
+
+use crate::brick::Brick;
+use crate::refused::Refused;
+use afr_base::{BrickSet, Gfid, Kind, Marks};
+
+impl Brick {
+    /// The pre-op: one more operation is open on the copy.
+    pub fn pre(&mut self, g: Gfid, kind: Kind) -> Result<(), Refused>
+        requires { CanPre kind g self.old.objects }
+        ensures ok { OnOk result (self.new ≡ record self.old { objects = changed (with_numbers kind dirtied) g (copy_at g self.old.objects) self.old.objects }) }
+        ensures absent { (result ≡ Err Refused.NoObject) ↔ (copy_at g self.old.objects ≡ None) }
+        ensures never { result ≢ Err Refused.NoMemory }
+        ensures err { OnErr result (self.new ≡ self.old) }
+    {
+        let Some(object) = self.objects.get_mut(&g) else {
+            return Err(Refused::NoObject);
+        };
+        let mut marks = object.marks.of(kind);
+        marks.raise_dirty();
+        object.marks.put(kind, marks);
+        Ok(())
+    }
+
+    /// The post-op: one operation fewer is open, and each brick that missed it is accused.
+    pub fn post(&mut self, g: Gfid, kind: Kind, missed: BrickSet) -> Result<(), Refused>
+        requires { CanPost kind g self.old.objects }
+        ensures ok { OnOk result (self.new ≡ record self.old { objects = changed (with_numbers kind (closed_op missed)) g (copy_at g self.old.objects) self.old.objects }) }
+        ensures absent { (result ≡ Err Refused.NoObject) ↔ (copy_at g self.old.objects ≡ None) }
+        ensures never { result ≢ Err Refused.NoMemory }
+        ensures err { OnErr result (self.new ≡ self.old) }
+    {
+        let Some(object) = self.objects.get_mut(&g) else {
+            return Err(Refused::NoObject);
+        };
+        let mut marks = object.marks.of(kind);
+        marks.after_op(missed);
+        object.marks.put(kind, marks);
+        Ok(())
+    }
+
+    /// Takes back the numbers that a heal has settled.
+    pub fn settle(&mut self, g: Gfid, kind: Kind, less: &Marks) -> Result<(), Refused>
+        requires { CanSettle kind less.now g self.old.objects }
+        ensures ok { OnOk result (self.new ≡ record self.old { objects = changed (with_numbers kind (taken_back less.now)) g (copy_at g self.old.objects) self.old.objects }) }
+        ensures absent { (result ≡ Err Refused.NoObject) ↔ (copy_at g self.old.objects ≡ None) }
+        ensures never { result ≢ Err Refused.NoMemory }
+        ensures err { OnErr result (self.new ≡ self.old) }
+    {
+        let Some(object) = self.objects.get_mut(&g) else {
+            return Err(Refused::NoObject);
+        };
+        let mut marks = object.marks.of(kind);
+        marks.settle(less);
+        object.marks.put(kind, marks);
+        Ok(())
+    }
+}

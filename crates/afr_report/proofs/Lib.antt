@@ -1,0 +1,3 @@
+pub mod BrickLinesLemmas
+pub mod CommandLemmas
+pub mod RisingLemmas

@@ -1,0 +1,92 @@
+-- What a volume keeps: its bricks, actors and counts are what the log says.
+use Rattle.std.specs.Prelude.{◌≡◌, ℕ, ◌+◌, ◌<◌, ◌≤◌, List, [], Some, length, slice_get}
+use Rattle.afr_lines.specs.Work.{work, ended, is_killed, events_made}
+use Rattle.afr_lines.specs.declared.line.Line.{Line}
+use Rattle.afr_brick.specs.State.{Copies}
+use Rattle.afr_plan.specs.FirstPath.{IsFirstCommand}
+use Rattle.afr_plan.specs.declared.command.Command.{Command}
+use Rattle.afr_plan.specs.declared.plan.Plan.{Plan}
+use Rattle.afr_plan.specs.declared.schedule.Go.{Go}
+use Rattle.afr_model.specs.Tables.{keeps_bytes, holds}
+use Rattle.afr_model.specs.Actors.{IsActor, script_of}
+use Rattle.afr_model.specs.Following.{Found, found_by, path_of, change_on, begins, Follows}
+use Rattle.afr_model.specs.Report.{started_bricks}
+use Rattle.afr_lookup.specs.declared.walk.Walk.{Walk}
+use Rattle.afr_lookup.specs.declared.walk.WalkStep.{WalkStep}
+use Rattle.afr_lookup.specs.declared.walk.WalkStep.TheVariants as walking
+use Rattle.afr_write.specs.Write as write
+use Rattle.afr_write.specs.declared.stage.WriteStage.{WriteStage}
+use Rattle.afr_write.specs.declared.stage.WriteStage.TheVariants as stage
+use Rattle.afr_volume.specs.declared.actor.Actor.{Actor}
+use Rattle.afr_volume.specs.declared.actor.ActorWork.{ActorWork}
+use Rattle.afr_volume.specs.declared.actor.ActorWork.TheVariants.{Idle, Write, Lookup}
+
+-- how far a walk has come, as its lines would show it
+abbrev pub found_at : Walk → Found
+found_at w = record { read = w.read; object = Some w.object.gfid }
+
+-- what is known of a walk at its step: the names that were read lead to its object, and some are left until it arrives
+abbrev pub IsOnWay : WalkStep → Found → Walk → Type 0
+IsOnWay (walking.Looking s) found w = (found ≡ found_at w) × (w.read < length w.path)
+IsOnWay (walking.Naming b) found w = (found ≡ found_at w) × (w.read < length w.path)
+IsOnWay walking.Arrived found w = (found ≡ found_at w) × (w.read ≡ length w.path)
+IsOnWay (walking.Stopped why views) found w = Unit {0}
+
+-- a walk is that of the command, and has come as far as the lines of the work show
+pub record WalksOn (p : Plan) (a : ℕ) (log : List Line) (command : Command) (w : Walk) : Type 0 where
+  pub path : w.path ≡ path_of command
+  pub way : IsOnWay w.step (found_by p (work a log)) w
+
+-- nothing was begun before the phases, and they come after the path
+abbrev pub HasBegun : WriteStage → ℕ → WalkStep → Type 0
+HasBegun stage.Walking attempts step = attempts ≡ 0
+HasBegun stage.Locking attempts step = (attempts ≡ 0) × (step ≡ walking.Arrived)
+HasBegun stage.Looking attempts step = (attempts ≡ 0) × (step ≡ walking.Arrived)
+HasBegun stage.Beginning attempts step = (attempts ≡ 0) × (step ≡ walking.Arrived)
+HasBegun other attempts step = Unit {0}
+
+-- a transaction is that of the command: its change is what the command names, and it is begun once
+pub record WritesOn (p : Plan) (a : ℕ) (log : List Line) (command : Command) (m : write.Write) : Type 0 where
+  pub walks : WalksOn p a log command m.walk
+  pub change : change_on m.walk.object.gfid command ≡ Some m.change
+  pub begun : HasBegun m.stage (begins (work a log)) m.walk.step
+
+-- the actor's machine carries out its present command
+pub record CarriesOut (p : Plan) (a : ℕ) (log : List Line) (Does : Command → Type 0) : Type 0 where
+  pub command : Command
+  pub present : slice_get (script_of p a) (ended a log) ≡ Some command
+  pub does : Does command
+
+abbrev pub Carries : Plan → ℕ → List Line → ActorWork → Type 0
+Carries p a log Idle = work a log ≡ []
+Carries p a log (Write m) = CarriesOut p a log (λ command. WritesOn p a log command m)
+Carries p a log (Lookup m) = CarriesOut p a log (λ command. WalksOn p a log command m.walk)
+
+-- an actor is what its lines say
+pub record IsActing (p : Plan) (log : List Line) (a : ℕ) (x : Actor) : Type 0 where
+  pub ended_is : x.ended ≡ ended a log
+  pub killed_is : x.killed ≡ is_killed a log
+  pub carries : Carries p a log x.work
+
+-- a plan that the volume can run so far
+pub record IsRunnable (p : Plan) : Type 0 where
+  pub few : p.shape.n ≤ 5
+  pub some : 0 < length p.clients → 0 < p.shape.n
+  pub clients : length p.clients ≤ 16
+  pub turns : p.turns ≤ 4000000
+  pub healers : p.healers ≡ []
+  pub events : p.events ≡ []
+  pub orders : (i : ℕ) (go : Go) → slice_get p.go i ≡ Some go → IsActor p go.actor.0
+  pub commands : (a k : ℕ) (command : Command) → slice_get (script_of p a) k ≡ Some command → (names : ℕ) × IsFirstCommand names command
+
+-- what the log says of all that the volume keeps beside it
+pub record IsVolume (p : Plan) (log : List Line) (bricks : List Copies) (actors : List Actor) (started : List ℕ) (made : ℕ) : Type 0 where
+  pub runnable : IsRunnable p
+  pub room : length log ≤ p.turns
+  pub few : length bricks ≡ p.shape.n
+  pub tables : (b : ℕ) (x : Copies) → slice_get bricks b ≡ Some x → x ≡ record { keeps = keeps_bytes p b; objects = holds p log b }
+  pub same : length actors ≡ length p.clients
+  pub each : (i : ℕ) (x : Actor) → slice_get actors i ≡ Some x → IsActing p log (i + 1) x
+  pub started_is : started ≡ started_bricks p.shape.n log
+  pub made_is : made ≡ events_made log
+  pub follows : Follows p log

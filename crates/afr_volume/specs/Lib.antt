@@ -1,0 +1,5 @@
+pub mod Serve
+pub mod Acting
+pub mod Keeping
+pub mod Turning
+pub mod Starting

@@ -1,0 +1,80 @@
+-- What a turn and an event do to a volume.
+use Rattle.std.specs.Prelude.{◌≡◌, ◌⊎◌, ℕ, ◌-◌, true, false, List, ◌∷◌, Option, Some, None, length, slice_get, slice_set, nat_le, nat_lt, if◌then◌else◌}
+use Rattle.afr_base.specs.declared.ids.ActorId.{ActorId}
+use Rattle.afr_lines.specs.Work.{is_of, events_made}
+use Rattle.afr_lines.specs.declared.answer.Told.TheVariants.{Held}
+use Rattle.afr_lines.specs.declared.line.Event.{Event}
+use Rattle.afr_lines.specs.declared.line.Line.{Line}
+use Rattle.afr_lines.specs.declared.line.Line.TheVariants.{Ask}
+use Rattle.afr_lines.specs.declared.line.Line.TheVariants as line_of
+use Rattle.afr_lines.specs.declared.request.Request.TheVariants.{Lock}
+use Rattle.afr_range_locks.specs.declared.domain.Domain.TheVariants.{Work}
+use Rattle.afr_plan.specs.declared.plan.Plan.{Plan}
+use Rattle.afr_plan.specs.declared.schedule.PlannedEvent.{PlannedEvent}
+use Rattle.afr_brick.specs.State.{Copies}
+use Rattle.afr_plan.specs.declared.command.Command.{Command}
+use Rattle.afr_model.specs.State.{State}
+use Rattle.afr_model.specs.Actors.{is_done, script_of}
+use Rattle.afr_volume.specs.Acting.{IsBusy, StartsWith, Stepped}
+use Rattle.afr_volume.specs.declared.actor.Actor.{Actor}
+use Rattle.afr_volume.specs.declared.actor.ActorWork.{ActorWork}
+use Rattle.afr_volume.specs.declared.actor.ActorWork.TheVariants.{Idle}
+use Rattle.afr_volume.specs.declared.turned.Turned.{Turned}
+use Rattle.afr_volume.specs.declared.turned.Turned.TheVariants.{Moved, Waits, Ended, Full}
+
+-- whom a line waits for: the holder of the transaction lock that it asked
+abbrev pub waits_for : Line → Option ActorId
+waits_for (Ask actor brick (Lock Work area) (Held owner) took) = Some owner
+waits_for line = None
+
+-- one line of the actor was added
+pub record AddsLine (a : ActorId) (old : State) (waits : Option ActorId) (new : State) : Type 0 where
+  pub line : Line
+  pub own : is_of a.0 line ≡ true
+  pub waiting : waits_for line ≡ waits
+  pub added : new ≡ record old { log = line ∷ old.log }
+
+-- what each answer of a turn says
+abbrev pub Turns : ActorId → State → Turned → State → Type 0
+Turns a old Moved new = AddsLine a old None new
+Turns a old (Waits owner) new = AddsLine a old (Some owner) new
+Turns a old Ended new = (is_done old.plan a.0 old.log ≡ true) × (new ≡ old)
+Turns a old Full new = (length old.log ≡ old.plan.turns) × (is_done old.plan a.0 old.log ≡ false) × (new ≡ old)
+
+-- an event is due where its position has come
+abbrev pub if_due : ℕ → Option PlannedEvent → Option Event
+if_due len None = None
+if_due len (Some planned) = if nat_le planned.at len then Some planned.event else None
+
+-- the next event of the plan, where it is due and the log has room
+abbrev pub due_of : State → Option Event
+due_of s = if nat_lt (length s.log) s.plan.turns then if_due (length s.log) (slice_get s.plan.events (events_made s.log)) else None
+
+-- the event that was due has come
+pub record Comes (old new : State) : Type 0 where
+  pub event : Event
+  pub is_due : due_of old ≡ Some event
+  pub added : new ≡ record old { log = line_of.Event event ∷ old.log }
+
+-- an actor has the machine of its present command: it had it, or the command begins
+abbrev pub Readies : Plan → ℕ → Actor → Actor → Type 0
+Readies p a x z =
+    (z ≡ x)
+    ⊎ ((x.work ≡ Idle) × (command : Command) × (slice_get (script_of p a) x.ended ≡ Some command) × (w : ActorWork) × StartsWith p.shape command w × (z ≡ record x { work = w }))
+
+-- the same of one actor among all
+pub record ReadiedAt (p : Plan) (a : ℕ) (old new : List Actor) : Type 0 where
+  pub before : Actor
+  pub after : Actor
+  pub was : slice_get old (a - 1) ≡ Some before
+  pub readies : Readies p a before after
+  pub busy : IsBusy after.work
+  pub set_is : new ≡ slice_set old (a - 1) after
+
+-- one line of one actor among all, whose command has begun
+pub record StepsAt (a : ActorId) (at : ℕ) (older : List Line) (old new : List Actor) (bricks after_bricks : List Copies) (written : Line) : Type 0 where
+  pub before : Actor
+  pub after : Actor
+  pub was : slice_get old (a.0 - 1) ≡ Some before
+  pub steps : Stepped a at older before after bricks after_bricks written
+  pub set_is : new ≡ slice_set old (a.0 - 1) after

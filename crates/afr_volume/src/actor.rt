@@ -1,0 +1,141 @@
+//! An actor: the machine of its present command, and how many it has ended.
+ghost use Rattle.std.specs.Prelude.{◌≡◌, ◌+◌, ◌-◌, ◌<◌, ◌≤◌, ◌^◌, IfOk, OnErr, ℕ, List, [], reverse};
+ghost use Rattle.afr_plan.specs.FirstPath.{IsFirstCommand};
+ghost use Rattle.afr_brick.specs.State.{Copies};
+ghost use Rattle.afr_volume.specs.Acting.{StartsWith, IsBusy, next_of_work, heard_work, Stepped, Begun};
+ghost use Rattle.afr_volume.specs.Serve.{ServedAt, NameGiven};
+
+use crate::serve::{Asked, serve_at};
+use afr_base::{ActorId, BrickId, NoMemory, Shape};
+use afr_brick::Brick;
+use afr_lines::{Heard, Line, Next, Request, told_of};
+use afr_lookup::{LookupJob, LookupMachine};
+use afr_object::TryCopy;
+use afr_plan::Command;
+use afr_write::{WriteJob, WriteMachine};
+use std::alloc::Global;
+
+/// The machine of an actor's present command, if it has begun.
+#[derive(Drop)]
+pub(crate) enum ActorWork {
+    Idle,
+    Write(WriteMachine),
+    Lookup(LookupMachine),
+}
+
+#[derive(Drop)]
+pub(crate) struct Actor {
+    /// How many works have ended.
+    pub ended: u32,
+    pub killed: bool,
+    pub work: ActorWork,
+}
+
+/// The machine of a command of the first plans.
+pub(crate) fn work_for(
+    alloc: Global,
+    shape: Shape,
+    command: &Command,
+) -> Result<ActorWork, NoMemory>
+    requires few { shape.n ≤ 5 }
+    requires some { 0 < shape.n }
+    requires first { (names : ℕ) × IsFirstCommand names command.now }
+    ensures ok { IfOk result (λ work. StartsWith shape command.now work) }
+{
+    match command {
+        Command::Write { path, at, bytes } => {
+            let bytes = bytes.copy()?;
+            let job = WriteJob::Write { at: *at, bytes };
+            let machine = WriteMachine::new(alloc, shape, path.as_slice(), job)?;
+            Ok(ActorWork::Write(machine))
+        }
+        Command::Read { path, at, len } => {
+            let job = LookupJob::Read { at: *at, len: *len };
+            let machine = LookupMachine::new(alloc, shape, path.as_slice(), job)?;
+            Ok(ActorWork::Lookup(machine))
+        }
+        _ => unreachable!(),
+    }
+}
+
+/// The next line of a work that has begun.
+fn next_line(work: &mut ActorWork, at: u32) -> Result<Next, NoMemory>
+    requires { IsBusy work.old }
+    ensures same { work.new ≡ work.old }
+    ensures ok { IfOk result (λ next. next ≡ next_of_work work.old) }
+{
+    match work {
+        ActorWork::Write(machine) => {
+            machine.ready()?;
+            machine.next(at)
+        }
+        ActorWork::Lookup(machine) => {
+            machine.ready()?;
+            machine.next(at)
+        }
+        ActorWork::Idle => unreachable!(),
+    }
+}
+
+fn hear(work: &mut ActorWork, heard: Heard)
+    ensures { work.new ≡ heard_work heard work.old }
+{
+    match work {
+        ActorWork::Write(machine) => machine.feed(heard),
+        ActorWork::Lookup(machine) => machine.feed(heard),
+        ActorWork::Idle => {}
+    }
+}
+
+/// One line of an actor whose work has begun. Its memory is taken before anything changes.
+pub(crate) fn step(
+    actor: &mut Actor,
+    a: ActorId,
+    bricks: &mut Vec<Brick>,
+    log: &[Line],
+    at: u32,
+) -> Result<Line, NoMemory>
+    requires busy { IsBusy actor.old.work }
+    requires room { actor.old.ended < 2 ^ 32 - 1 }
+    ensures ok { IfOk result (λ line. Stepped a at (reverse log.now) actor.old actor.new bricks.old.items bricks.new.items line) }
+    ensures err { OnErr result ((actor.new ≡ actor.old) × (bricks.new.items ≡ bricks.old.items)) }
+{
+    match next_line(&mut actor.work, at)? {
+        Next::Ask(brick, request) => asks(actor, a, brick, request, bricks, log, at),
+        Next::Begin(change) => {
+            hear(&mut actor.work, Heard::Begun(at));
+            Ok(Line::Begin { actor: a, change })
+        }
+        Next::End(reply) => {
+            actor.ended += 1;
+            actor.work = ActorWork::Idle;
+            Ok(Line::End { actor: a, reply })
+        }
+        _ => unreachable!(),
+    }
+}
+
+/// The request is carried out, and the actor hears the answer.
+fn asks(
+    actor: &mut Actor,
+    a: ActorId,
+    brick: BrickId,
+    request: Request,
+    bricks: &mut Vec<Brick>,
+    log: &[Line],
+    at: u32,
+) -> Result<Line, NoMemory>
+    ensures ok { IfOk result (λ line. Begun a at brick request (reverse log.now) actor.old actor.new bricks.old.items bricks.new.items line) }
+    ensures err { OnErr result ((actor.new ≡ actor.old) × (bricks.new.items ≡ bricks.old.items)) }
+{
+    let Asked { answer, took } = serve_at(bricks, brick, &request, log)?;
+    let told = told_of(&answer);
+    hear(&mut actor.work, Heard::Answer(answer, at));
+    Ok(Line::Ask {
+        actor: a,
+        brick,
+        request,
+        told,
+        took,
+    })
+}

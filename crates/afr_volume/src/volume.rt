@@ -1,0 +1,235 @@
+//! The volume: one log, and beside it the present state of bricks and actors.
+ghost use Rattle.std.specs.Prelude.{◌≡◌, ◌<◌, ◌≤◌, ℕ, Bool, Option, Some, None, OnOk, OnErr, true, false, IfOk, IsSome, length, reverse, slice_get, []};
+ghost use Rattle.afr_base.specs.Bricks.{member};
+ghost use Rattle.afr_lines.specs.Log.{from_oldest};
+ghost use Rattle.afr_lines.specs.Work.{work, is_killed};
+ghost use Rattle.afr_plan.specs.declared.schedule.Go.{Go};
+ghost use Rattle.afr_plan.specs.FirstPath.{IsFirstPath};
+ghost use Rattle.afr_model.specs.State.{no_volume, no_plan};
+ghost use Rattle.afr_model.specs.Actors.{IsActor, is_done};
+ghost use Rattle.afr_model.specs.Following.{Follows, NoneDue};
+ghost use Rattle.afr_model.specs.Report.{started_bricks};
+ghost use Rattle.afr_volume.specs.Turning.{Turns, Comes, due_of, if_due};
+
+use crate::actor::Actor;
+use crate::set_up::{all_actors, all_bricks};
+use crate::turned::Turned;
+use crate::turns::{add_line, answer_of, ready_actor, step_actor, turned_by};
+use afr_base::{ActorId, BrickSet, NoMemory, Shape};
+use afr_brick::Brick;
+use afr_lines::{Event, Line};
+use afr_object::List;
+use afr_plan::{Plan, Words};
+use std::alloc::Global;
+use std::marker::Model;
+
+/// A plan on its way. Contracts see the plan and the log.
+#[derive(Drop)]
+pub struct Volume {
+    alloc: Global,
+    plan: Plan,
+    log: Vec<Line>,
+    bricks: Vec<Brick>,
+    actors: Vec<Actor>,
+    started: BrickSet,
+    /// How many events of the plan have come.
+    made: u32,
+}
+
+impl Model for Volume {
+    ghost use Rattle.std.specs.Prelude.{reverse};
+    ghost use Rattle.afr_model.specs.State.{State};
+    ghost use Rattle.afr_volume.specs.Keeping.{IsVolume};
+
+    ghost Value = { State };
+
+    ghost view = { λ v. record { plan = v.plan; log = reverse v.log.items } };
+
+    ghost invariant = { λ v. IsVolume v.plan (reverse v.log.items) v.bricks.items v.actors.items v.started v.made };
+}
+
+impl Volume {
+    /// No actor, no brick, no line. It takes no memory.
+    pub fn empty(alloc: Global) -> Volume
+        ensures { result ≡ no_volume }
+    {
+        Volume {
+            alloc,
+            plan: empty_plan(alloc),
+            log: Vec::new(alloc),
+            bricks: Vec::new(alloc),
+            actors: Vec::new(alloc),
+            started: BrickSet::all(0),
+            made: 0,
+        }
+    }
+
+    /// Takes a plan over. The bricks have its opening files, and no actor has begun.
+    pub fn set_up(&mut self, plan: Plan) -> Result<(), NoMemory>
+        requires first { IsFirstPath plan }
+        ensures ok { OnOk result (self.new ≡ record { plan = plan; log = [] }) }
+        ensures err { OnErr result (self.new ≡ self.old) }
+    {
+        let bricks = all_bricks(self.alloc, &plan)?;
+        let actors = all_actors(self.alloc, plan.clients.len())?;
+        *self = Volume {
+            alloc: self.alloc,
+            log: Vec::new(self.alloc),
+            started: BrickSet::all(plan.shape.n),
+            plan,
+            bricks,
+            actors,
+            made: 0,
+        };
+        Ok(())
+    }
+
+    /// One line of the actor, where it has work left and the log has room. It takes its memory
+    /// before anything changes, in O(log n) for n objects and names of the bricks, and the bytes
+    /// that the line moves; it never walks the log.
+    pub fn turn(&mut self, a: ActorId) -> Result<Turned, NoMemory>
+        requires actor { IsActor self.old.plan a.0 }
+        requires none { due_of self.old ≡ None }
+        ensures ok { IfOk result (λ turned. Turns a self.old turned self.new) }
+        ensures err { OnErr result (self.new ≡ self.old) }
+    {
+        if self.is_done(a) {
+            return Ok(Turned::Ended);
+        }
+        if self.log.len() >= self.plan.turns as usize {
+            return Ok(Turned::Full);
+        }
+        self.log.try_reserve(1)?;
+        ready_actor(self.alloc, &self.plan, a, &mut self.actors)?;
+        let at = self.log.len() as u32;
+        let line = step_actor(a, &mut self.actors, &mut self.bricks, &self.log, at)?;
+        let waits = turned_by(&line);
+        add_line(&mut self.log, line);
+        Ok(answer_of(waits))
+    }
+
+    /// The next event of the plan, which is due. It takes its memory before anything changes.
+    pub fn event(&mut self) -> Result<(), NoMemory>
+        requires due { IsSome (due_of self.old) }
+        ensures ok { OnOk result (Comes self.old self.new) }
+        ensures err { OnErr result (self.new ≡ self.old) }
+    {
+        let Some(event) = self.due() else {
+            unreachable!()
+        };
+        self.log.try_reserve(1)?;
+        match event {
+            Event::Stop(b) => self.started = self.started.without(b),
+            Event::Start(b) => self.started = self.started.with(b),
+            Event::Kill(a) => self.actors[a.0 as usize - 1].killed = true,
+            _ => {}
+        }
+        self.made += 1;
+        add_line(&mut self.log, Line::Event { event });
+        Ok(())
+    }
+
+    /// Whether the actor has no work left, or was killed.
+    pub fn is_done(&self, a: ActorId) -> bool
+        requires actor { IsActor self.now.plan a.0 }
+        ensures { result ≡ is_done self.now.plan a.0 self.now.log }
+    {
+        let at = a.0 as usize - 1;
+        let actor = &self.actors[at];
+        actor.killed || actor.ended as usize >= self.plan.clients.item(at).len()
+    }
+
+    /// The next event of the plan, where its position has come and the log has room.
+    pub fn due(&self) -> Option<Event>
+        ensures value { result ≡ due_of self.now }
+        ensures none { result ≡ None → length self.now.log < self.now.plan.turns → NoneDue self.now.plan self.now.log }
+    {
+        if self.log.len() >= self.plan.turns as usize {
+            return None;
+        }
+        next_due(&self.plan, self.made as usize, self.log.len())
+    }
+
+    pub fn len(&self) -> u32
+        ensures { result ≡ length self.now.log }
+    {
+        self.log.len() as u32
+    }
+
+    /// The line at a position, counted from the oldest.
+    pub fn line(&self, i: u32) -> &Line
+        requires { i < length self.now.log }
+        ensures { from_oldest i self.now.log ≡ Some result.now }
+    {
+        &self.log[i as usize]
+    }
+
+    /// All lines, the oldest first.
+    pub fn lines(&self) -> &[Line]
+        ensures { reverse result.now ≡ self.now.log }
+    {
+        &self.log
+    }
+
+    pub fn plan(&self) -> &Plan
+        ensures { result.now ≡ self.now.plan }
+    {
+        &self.plan
+    }
+
+    /// The started bricks.
+    pub fn reach(&self) -> BrickSet
+        ensures { result ≡ started_bricks self.now.plan.shape.n self.now.log }
+    {
+        self.started
+    }
+
+    /// What the volume keeps of its log at every moment.
+    pub fn every_line(&self)
+        ensures follows { Follows self.now.plan self.now.log }
+        ensures room { length self.now.log ≤ self.now.plan.turns }
+        ensures few { self.now.plan.shape.n ≤ 5 }
+        ensures clients { length self.now.plan.clients ≤ 16 }
+        ensures orders { (i : ℕ) (go : Go) → slice_get self.now.plan.go i ≡ Some go → IsActor self.now.plan go.actor.0 }
+        ensures settled { (a : ℕ) → IsActor self.now.plan a → is_done self.now.plan a self.now.log ≡ true → is_killed a self.now.log ≡ false → work a self.now.log ≡ [] }
+    {
+        let _ = &self.log;
+    }
+}
+
+fn empty_plan(alloc: Global) -> Plan
+    ensures { result ≡ no_plan }
+{
+    Plan {
+        shape: Shape {
+            n: 0,
+            arbiter: false,
+        },
+        files: 0,
+        turns: 0,
+        clients: List::new(alloc),
+        healers: List::new(alloc),
+        faults: List::new(alloc),
+        events: List::new(alloc),
+        go: List::new(alloc),
+        words: Words {
+            names: List::new(alloc),
+            keys: List::new(alloc),
+            values: List::new(alloc),
+        },
+    }
+}
+
+fn next_due(plan: &Plan, made: usize, len: usize) -> Option<Event>
+    ensures { result ≡ if_due len (slice_get plan.now.events made) }
+{
+    if made >= plan.events.len() {
+        return None;
+    }
+    let planned = plan.events.item(made);
+    if planned.at as usize <= len {
+        Some(planned.event)
+    } else {
+        None
+    }
+}
