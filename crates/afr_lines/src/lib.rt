@@ -6,6 +6,9 @@ mod line;
 mod reply;
 mod request;
 
+#[cfg(test)]
+mod tests;
+
 pub use answer::{Answer, Told, told_of};
 pub use line::{Event, Heard, Line, Next};
 pub use reply::{Good, HealReply, Reply};

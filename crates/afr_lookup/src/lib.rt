@@ -6,6 +6,9 @@ mod lookup;
 mod stop;
 mod walk;
 
+#[cfg(test)]
+mod tests;
+
 pub use lookup::{LookupJob, LookupMachine, LookupStage};
 pub use looks::Looks;
 pub use stop::{Stop, stop_reply};

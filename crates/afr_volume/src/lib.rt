@@ -8,5 +8,8 @@ mod turned;
 mod turns;
 mod volume;
 
+#[cfg(test)]
+mod tests;
+
 pub use turned::Turned;
 pub use volume::Volume;

@@ -6,6 +6,9 @@ mod machine;
 mod phases;
 mod stage;
 
+#[cfg(test)]
+mod tests;
+
 pub use change::{WriteJob, area_of, kind_of};
 pub use machine::WriteMachine;
 pub use stage::{Outcome, Transaction, WriteStage};

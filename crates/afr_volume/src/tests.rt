@@ -1,0 +1,73 @@
+//! A write and a read, line by line.
+use crate::{Turned, Volume};
+use afr_base::ActorId;
+use afr_lines::{Line, Request};
+use afr_plan::read_plan;
+use std::alloc::Global;
+use std::test::Fail;
+
+const PLAN: &str =
+    "afr 1\nvolume replica\nfiles 1\nturns 100000\nclient 1\nwrite /f1 0 \"hello\"\nread /f1 0 5\nend\n";
+
+const LINES: &str = "look0 look1 look2 name0 lock0 lock1 lock2 look0 look1 look2 begin pre0 pre1 pre2 apply0 apply1 apply2 post0 post1 post2 unlock0 unlock1 unlock2 end look0 look1 look2 name0 look0 look1 look2 read0 end ";
+
+fn word_of(request: &Request) -> &'static str {
+    match request {
+        Request::Look { .. } => "look",
+        Request::ReadName { .. } => "name",
+        Request::Lock { .. } => "lock",
+        Request::Pre { .. } => "pre",
+        Request::Apply { attempt: 10 } => "apply",
+        Request::Post { attempt: 10, .. } => "post",
+        Request::Unlock { .. } => "unlock",
+        Request::ReadBytes { at: 0, len: 5, .. } => "read",
+        _ => "other",
+    }
+}
+
+fn write_line(text: &mut String, line: &Line) -> Result<(), Fail> {
+    match line {
+        Line::Ask { brick, request, .. } => {
+            let word = word_of(request);
+            let number = brick.0;
+            write!(text, "{word}{number} ")?;
+        }
+        Line::Begin { .. } => text.push_str("begin ")?,
+        Line::End { .. } => text.push_str("end ")?,
+        _ => text.push_str("other ")?,
+    }
+    Ok(())
+}
+
+fn set_up(alloc: Global, volume: &mut Volume) -> Result<(), Fail> {
+    let Ok(plan) = read_plan(alloc, PLAN.as_bytes()) else {
+        return Err(Fail::from("refused"));
+    };
+    let Ok(()) = volume.set_up(plan) else {
+        return Err(Fail::from("memory"));
+    };
+    Ok(())
+}
+
+#[test]
+fn a_write_and_a_read_have_33_lines(rt: HostRuntime) -> Result<(), Fail> {
+    let mut volume = Volume::empty(rt.alloc());
+    set_up(rt.alloc(), &mut volume)?;
+    let client = ActorId(1);
+    let mut text = String::new(rt.alloc());
+    for at in 0..33 {
+        assert!(rt; volume.plan().clients.len() == 1);
+        assert!(rt; volume.due().is_none());
+        assert!(rt; !volume.is_done(client));
+        assert!(rt; matches!(volume.turn(client), Ok(Turned::Moved)));
+        assert!(rt; volume.len() == at + 1);
+        write_line(&mut text, volume.line(at))?;
+    }
+    assert_eq!(rt; text.as_str(), LINES);
+    assert_eq!(rt; volume.lines().len(), 33);
+    assert!(rt; volume.reach().has_quorum(3));
+    volume.every_line();
+    assert!(rt; volume.plan().clients.len() == 1);
+    assert!(rt; volume.is_done(client));
+    Ok(())
+}
