@@ -5,7 +5,6 @@ mod answer;
 mod line;
 mod reply;
 mod request;
-
 #[cfg(test)]
 mod tests;
 

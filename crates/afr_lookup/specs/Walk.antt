@@ -1,6 +1,6 @@
 -- Walking a path, name by name.
 use Rattle.std.specs.Prelude.{◌≡◌, ℕ, ◌+◌, ◌<◌, ◌≤◌, ◌==◌, Bool, true, false, List, [], ◌∷◌, Option, Some, None, length, slice_index_or, if◌then◌else◌}
-use Rattle.afr_base.specs.Bricks.{below, lowest, is_nothing, member}
+use Rattle.afr_base.specs.Bricks.{below, lowest, is_nothing}
 use Rattle.afr_base.specs.declared.ids.BrickId.{BrickId}
 use Rattle.afr_base.specs.declared.ids.Kind.TheVariants.{Names}
 use Rattle.afr_base.specs.declared.ids.NameId.{NameId}

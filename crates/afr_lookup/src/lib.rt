@@ -4,12 +4,11 @@
 mod looks;
 mod lookup;
 mod stop;
-mod walk;
-
 #[cfg(test)]
 mod tests;
+mod walk;
 
-pub use lookup::{LookupJob, LookupMachine, LookupStage};
 pub use looks::Looks;
+pub use lookup::{LookupJob, LookupMachine, LookupStage};
 pub use stop::{Stop, stop_reply};
 pub use walk::{Walk, WalkStep};

@@ -32,10 +32,12 @@ fn a_file_in_the_root_is_read(rt: HostRuntime) -> Result<(), Fail> {
         assert!(rt; machine.ready().is_ok());
         machine.feed(seen(What::Dir));
     }
-    assert!(rt; matches!(
-        machine.next(3),
-        Ok(Next::Ask(BrickId(0), Request::ReadName { gfid: Gfid(1), .. }))
-    ));
+    assert!(rt;
+        matches!(
+            machine.next(3),
+            Ok(Next::Ask(BrickId(0), Request::ReadName { gfid: Gfid(1), .. }))
+        )
+    );
     let entry = Entry {
         gfid: FILE,
         what: What::File,
@@ -44,10 +46,19 @@ fn a_file_in_the_root_is_read(rt: HostRuntime) -> Result<(), Fail> {
     for _ in 0..3 {
         machine.feed(seen(What::File));
     }
-    assert!(rt; matches!(
-        machine.next(7),
-        Ok(Next::Ask(BrickId(0), Request::ReadBytes { gfid: FILE, at: 0, len: 5 }))
-    ));
+    assert!(rt;
+        matches!(
+            machine.next(7),
+            Ok(Next::Ask(
+                BrickId(0),
+                Request::ReadBytes {
+                    gfid: FILE,
+                    at: 0,
+                    len: 5
+                }
+            ))
+        )
+    );
     assert!(rt; matches!(machine.load(), Load::Nothing));
     let mut bytes = List::new(rt.alloc());
     bytes.push(7u8).ok().ok_or("memory")?;

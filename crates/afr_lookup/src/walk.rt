@@ -140,7 +140,10 @@ fn look_heard(shape: Shape, looks: Looks, answer: &Answer) -> WalkStep
     if !looks.is_over() {
         return WalkStep::Looking(looks);
     }
-    judged(judge(&shape, &looks.looked, Kind::Names), looks.looked.views)
+    judged(
+        judge(&shape, &looks.looked, Kind::Names),
+        looks.looked.views,
+    )
 }
 
 fn judged(verdict: Verdict, views: [Option<View>; 5]) -> WalkStep

@@ -1,5 +1,5 @@
 -- The actors of a plan and what is left for them to do.
-use Rattle.std.specs.Prelude.{ℕ, ◌+◌, ◌-◌, ◌||◌, ◌≤◌, ◌⊎◌, ◌<◌, nat_le, nat_lt, Bool, List, [], Option, Some, None, length, slice_get, slice_index_or, if◌then◌else◌}
+use Rattle.std.specs.Prelude.{ℕ, ◌+◌, ◌-◌, ◌||◌, ◌≤◌, nat_le, nat_lt, Bool, List, [], length, slice_index_or, if◌then◌else◌}
 use Rattle.afr_base.specs.declared.ids.BrickId.{BrickId}
 use Rattle.afr_lines.specs.declared.line.Line.{Line}
 use Rattle.afr_lines.specs.Work.{ended, is_killed}

@@ -1,5 +1,5 @@
 -- The stated order: first the orders of the plan, then passes over the actors.
-use Rattle.std.specs.Prelude.{◌≡◌, ℕ, suc, zero, ◌+◌, true, List, [], ◌∷◌, ◌++◌, length, replicate}
+use Rattle.std.specs.Prelude.{◌≡◌, ℕ, suc, zero, true, List, [], ◌∷◌, ◌++◌, length, replicate}
 use Rattle.std.specs.List.{range_with_len}
 use Rattle.afr_lines.specs.Work.{is_of, is_event}
 use Rattle.afr_lines.specs.declared.line.Line.{Line}

@@ -4,8 +4,10 @@
 mod clients;
 mod events;
 mod numbers;
+mod of_volume;
 mod replies;
 mod report;
 
 pub use events::started;
+pub use of_volume::report_text;
 pub use report::print_report;

@@ -4,12 +4,11 @@
 mod actor;
 mod serve;
 mod set_up;
+#[cfg(test)]
+mod tests;
 mod turned;
 mod turns;
 mod volume;
-
-#[cfg(test)]
-mod tests;
 
 pub use turned::Turned;
 pub use volume::Volume;

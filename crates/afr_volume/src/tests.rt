@@ -9,7 +9,8 @@ use std::test::Fail;
 const PLAN: &str =
     "afr 1\nvolume replica\nfiles 1\nturns 100000\nclient 1\nwrite /f1 0 \"hello\"\nread /f1 0 5\nend\n";
 
-const LINES: &str = "look0 look1 look2 name0 lock0 lock1 lock2 look0 look1 look2 begin pre0 pre1 pre2 apply0 apply1 apply2 post0 post1 post2 unlock0 unlock1 unlock2 end look0 look1 look2 name0 look0 look1 look2 read0 end ";
+const LINES: &str =
+    "look0 look1 look2 name0 lock0 lock1 lock2 look0 look1 look2 begin pre0 pre1 pre2 apply0 apply1 apply2 post0 post1 post2 unlock0 unlock1 unlock2 end look0 look1 look2 name0 look0 look1 look2 read0 end ";
 
 fn word_of(request: &Request) -> &'static str {
     match request {

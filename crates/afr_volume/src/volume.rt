@@ -190,6 +190,7 @@ impl Volume {
         ensures room { length self.now.log ≤ self.now.plan.turns }
         ensures few { self.now.plan.shape.n ≤ 5 }
         ensures clients { length self.now.plan.clients ≤ 16 }
+        ensures healers { length self.now.plan.healers ≤ 3 }
         ensures orders { (i : ℕ) (go : Go) → slice_get self.now.plan.go i ≡ Some go → IsActor self.now.plan go.actor.0 }
         ensures settled { (a : ℕ) → IsActor self.now.plan a → is_done self.now.plan a self.now.log ≡ true → is_killed a self.now.log ≡ false → work a self.now.log ≡ [] }
     {

@@ -1,18 +1,17 @@
 -- A phase of a transaction has somebody left to ask.
-use Rattle.std.proofs.Common.{◌≡◌, ℕ, ◌<◌, ◌&&◌, Bool, true, false, not, List, [], refl, sym, subst, if◌then◌else◌, Option}
-use Rattle.afr_base.specs.Bricks.{below, minus, is_nothing, and_left}
+use Rattle.std.proofs.Common.{◌≡◌, ℕ, ◌<◌, ◌&&◌, Bool, true, false, not, [], refl, sym, subst, if◌then◌else◌}
+use Rattle.afr_base.specs.Bricks.{is_nothing, and_left}
 use Rattle.afr_base.specs.Majority.{is_majority}
 use Rattle.afr_base.specs.SetLemmas.{below_some, majority_some}
 use Rattle.afr_base.specs.declared.ids.Gfid.{Gfid}
 use Rattle.afr_base.specs.declared.ids.Kind.{Kind}
-use Rattle.afr_base.specs.declared.ids.Shape.{Shape}
 use Rattle.afr_object.specs.Tables.{is_dir}
 use Rattle.afr_object.specs.declared.change.Change.{Change}
 use Rattle.afr_object.specs.declared.entry.Entry.{Entry}
 use Rattle.afr_lines.specs.declared.answer.Answer.{Answer}
 use Rattle.afr_choice.specs.Verdict.{holders_of, good_copies}
 use Rattle.afr_lookup.specs.Looks.{looks_at}
-use Rattle.afr_lookup.specs.Walk.{is_walking, no_views, IsWalk}
+use Rattle.afr_lookup.specs.Walk.{no_views, IsWalk}
 use Rattle.afr_lookup.specs.declared.stop.Stop.TheVariants.{IsDir, NoQuorum, FewCopies, SplitBrain, Failed, TooLarge}
 use Rattle.afr_lookup.specs.declared.walk.Walk.{Walk}
 use Rattle.afr_lookup.specs.declared.walk.WalkStep.{WalkStep}

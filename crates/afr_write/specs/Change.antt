@@ -1,5 +1,5 @@
 -- The change of a transaction: its area, its kind, and what rules it out.
-use Rattle.std.specs.Prelude.{ℕ, ◌+◌, ◌-◌, ◌^◌, ◌==◌, nat_lt, min, Bool, true, false, List, length, Option, Some}
+use Rattle.std.specs.Prelude.{ℕ, ◌+◌, ◌-◌, ◌^◌, ◌==◌, nat_lt, min, Bool, true, false, List, length, Some}
 use Rattle.afr_base.specs.declared.ids.Gfid.{Gfid}
 use Rattle.afr_base.specs.declared.ids.Kind.{Kind}
 use Rattle.afr_base.specs.declared.ids.Kind.TheVariants.{Bytes, Attrs, Names}

@@ -1,19 +1,16 @@
 -- The phases of a transaction: who is asked, and what an answer makes of the sets.
-use Rattle.std.specs.Prelude.{◌≡◌, ℕ, ◌<◌, Bool, true, false, not, ◌&&◌, List, [], Option, Some, None, if◌then◌else◌}
-use Rattle.afr_base.specs.Bricks.{added, added_if, removed, below, lowest, minus, is_nothing}
+use Rattle.std.specs.Prelude.{◌≡◌, ℕ, Bool, true, false, not, ◌&&◌, List, [], if◌then◌else◌}
+use Rattle.afr_base.specs.Bricks.{added, added_if, removed, below, minus, is_nothing}
 use Rattle.afr_base.specs.Majority.{is_majority}
 use Rattle.afr_base.specs.declared.ids.Gfid.{Gfid}
 use Rattle.afr_base.specs.declared.ids.Kind.{Kind}
 use Rattle.afr_base.specs.declared.ids.Shape.{Shape}
 use Rattle.afr_object.specs.Tables.{root}
-use Rattle.afr_object.specs.declared.entry.View.{View}
 use Rattle.afr_choice.specs.Verdict.{holders_of, good_copies}
-use Rattle.afr_choice.specs.declared.looked.Looked.{Looked}
 use Rattle.afr_lines.specs.declared.answer.Answer.{Answer}
 use Rattle.afr_lines.specs.declared.answer.Answer.TheVariants as answer
 use Rattle.afr_lookup.specs.Looks.{looks_at, left_to_look, heard_look}
 use Rattle.afr_lookup.specs.Walk.{no_views}
-use Rattle.afr_lookup.specs.declared.looks.Looks.{Looks}
 use Rattle.afr_lookup.specs.declared.stop.Stop.TheVariants.{NoQuorum, FewCopies, SplitBrain, Failed}
 use Rattle.afr_write.specs.declared.stage.Outcome.{Outcome}
 use Rattle.afr_write.specs.declared.stage.Outcome.TheVariants.{Acknowledged, Stopped}

@@ -5,7 +5,6 @@ mod change;
 mod machine;
 mod phases;
 mod stage;
-
 #[cfg(test)]
 mod tests;
 

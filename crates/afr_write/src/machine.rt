@@ -197,12 +197,7 @@ fn reply_of(outcome: Outcome) -> Reply
 }
 
 /// What a phase asks a brick.
-fn request_of(
-    walk: &Walk,
-    change: &Change,
-    transaction: &Transaction,
-    stage: WriteStage,
-) -> Request
+fn request_of(walk: &Walk, change: &Change, transaction: &Transaction, stage: WriteStage) -> Request
     requires { walk.now.shape.n ≤ 5 }
     ensures { result ≡ request_at stage (record { walk = walk.now; change = change.now; transaction = transaction.now; stage = stage }) }
 {

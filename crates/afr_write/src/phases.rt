@@ -129,13 +129,7 @@ pub(crate) fn advance(
     go_on(shape, gfid, kind, stage, t)
 }
 
-fn go_on(
-    shape: Shape,
-    gfid: Gfid,
-    kind: Kind,
-    stage: WriteStage,
-    t: &mut Transaction,
-) -> WriteStage
+fn go_on(shape: Shape, gfid: Gfid, kind: Kind, stage: WriteStage, t: &mut Transaction) -> WriteStage
     requires { shape.n ≤ 5 }
     ensures { IsStanding result t.new (gone_on shape gfid kind stage t.old) }
 {

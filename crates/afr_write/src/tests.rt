@@ -58,15 +58,43 @@ fn a_file_in_the_root_is_written(rt: HostRuntime) -> Result<(), Fail> {
     let Ok(Next::Begin(change)) = machine.next(10) else {
         return Err(Fail::from("no attempt"));
     };
-    assert!(rt; matches!(area_of(&change), Area::Range { gfid: FILE, from: 0, to: 1 }));
+    assert!(rt;
+        matches!(
+            area_of(&change),
+            Area::Range {
+                gfid: FILE,
+                from: 0,
+                to: 1
+            }
+        )
+    );
     assert!(rt; matches!(kind_of(&change), Kind::Bytes));
     machine.feed(Heard::Begun(10));
     three_done(&mut machine);
-    assert!(rt; matches!(machine.next(14), Ok(Next::Ask(BrickId(0), Request::Apply { attempt: 10 }))));
-    assert!(rt; matches!(machine.load(), Load::Change(Change::Write { gfid: FILE, at: 0, .. })));
+    assert!(rt;
+        matches!(
+            machine.next(14),
+            Ok(Next::Ask(BrickId(0), Request::Apply { attempt: 10 }))
+        )
+    );
+    assert!(rt;
+        matches!(
+            machine.load(),
+            Load::Change(Change::Write {
+                gfid: FILE,
+                at: 0,
+                ..
+            })
+        )
+    );
     three_done(&mut machine);
     three_done(&mut machine);
-    assert!(rt; matches!(machine.next(20), Ok(Next::Ask(BrickId(0), Request::Unlock { .. }))));
+    assert!(rt;
+        matches!(
+            machine.next(20),
+            Ok(Next::Ask(BrickId(0), Request::Unlock { .. }))
+        )
+    );
     three_done(&mut machine);
     assert!(rt; matches!(machine.next(23), Ok(Next::End(Reply::Ok(Good::Done)))));
     Ok(())

@@ -1,6 +1,5 @@
-use Rattle.std.proofs.Common.{ap, subst, sym, ◌∙◌}
-use Rattle.afr_lookup.specs.Walk.{IsWalk, walked_at, named}
-use Rattle.afr_lookup.specs.declared.walk.Walk.{Walk}
+use Rattle.std.proofs.Common.{subst}
+use Rattle.afr_lookup.specs.Walk.{IsWalk, walked_at}
 use Rattle.afr_lookup.specs.declared.walk.WalkStep.{WalkStep}
 use Rattle.afr_lookup.proofs.WalkLemmas.{is_walked}
 use Rattle.afr_lookup.proofs.walk.Walk.hear.Goals as goal

@@ -9,5 +9,5 @@ pub invariant_of-self : goal.invariant_of-self
 invariant_of-self c = record {
   sound = c.self.invariant.sound;
   stage = standing c.self.inside.walk _ _ (after_begin c.args.at c.self.inside.transaction) c.begun-self-inside.ensures
-    (is_begun c.self.inside.walk c.args.at c.self.inside.transaction (subst (λ (stage : WriteStage). IsStage c.self.inside.walk c.self.inside.transaction stage) c.in-Beginning.is c.self.invariant.stage));
+      (is_begun c.self.inside.walk c.args.at c.self.inside.transaction (subst (λ (stage : WriteStage). IsStage c.self.inside.walk c.self.inside.transaction stage) c.in-Beginning.is c.self.invariant.stage));
 }

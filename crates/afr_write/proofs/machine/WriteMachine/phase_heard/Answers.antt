@@ -10,5 +10,5 @@ invariant_of-self c =
     record {
       sound = c.self.invariant.sound;
       stage = standing w _ _ (advanced w.shape w.object.gfid c.kind_of.result c.args.stage c.note.new.t) c.advance-self-inside.ensures
-        (is_advanced w w.object.gfid c.kind_of.result c.args.stage c.note.new.t phase);
+          (is_advanced w w.object.gfid c.kind_of.result c.args.stage c.note.new.t phase);
     }

@@ -1,0 +1,35 @@
+//! The program: standard input and output, the words of the call, and the exit status.
+#![tactic(auto)]
+
+use afr_cli::afr_top;
+use afr_text::{StdSink, StdSource};
+use afr_volume::Volume;
+use std::alloc::Global;
+use std::io::ErrorKind;
+use std::process::ExitCode;
+use std::rt::Env;
+use std::{env, io};
+
+fn main(rt: HostRuntime) -> ExitCode {
+    let words = match words_after_the_name(&rt, rt.alloc()) {
+        Ok(words) => words,
+        Err(error) if error.kind() == ErrorKind::OutOfMemory => return ExitCode::from(6),
+        // A word that isn't text is no form of the call, as no word at all.
+        Err(_) => Vec::new(rt.alloc()),
+    };
+    let mut source = StdSource::new(rt.reader());
+    let mut sink = StdSink::new(io::writer(&rt));
+    let mut volume = Volume::empty(rt.alloc());
+    let status = afr_top(rt.alloc(), &words, &mut source, &mut sink, &mut volume);
+    ExitCode::from(status)
+}
+
+/// The words of the call, but for the name that the program is called by.
+fn words_after_the_name<R: Env + Alloc<A = Global>>(
+    rt: &R,
+    alloc: Global,
+) -> io::Result<Vec<String>> {
+    let mut words = env::args(rt)?;
+    let _name = words.next();
+    Ok(words.collect(alloc)?)
+}

@@ -1,0 +1,4 @@
+-- Lemmas of this crate.
+pub mod ActorLemmas
+pub mod StatusLemmas
+pub mod WordLemmas

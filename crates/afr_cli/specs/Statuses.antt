@@ -1,0 +1,82 @@
+-- What each status of the program says.
+use Rattle.std.specs.Prelude.{◌≡◌, ◌⊎◌, ℕ, true, false, List, [], ◌∷◌, ◌++◌, ◌==◌, if◌then◌else◌, Option, String, codes, decimal, length, map, string_bytes}
+use Rattle.std.specs.Global.{Global}
+use Rattle.std.specs.Io.KnownBytes.{Appends, Consumes, IsAtEnd}
+use Rattle.afr_text.specs.Parts.{AppendsFront, CameMore}
+use Rattle.afr_lines.specs.declared.line.Line.{Line}
+use Rattle.afr_plan.specs.declared.plan.Plan.{Plan}
+use Rattle.afr_plan.specs.declared.plan.PlanFault.{PlanFault}
+use Rattle.afr_plan.specs.Spells.{Spells}
+use Rattle.afr_model.specs.State.{State}
+use Rattle.afr_model.specs.Actors.{IsActor, is_done}
+use Rattle.afr_model.specs.Report.{report_of}
+
+-- the words are the command `run`, and no more
+abbrev pub AreRun : List (String Global) → Type 0
+AreRun words = map string_bytes words ≡ codes "run" ∷ []
+
+-- the line that tells how the program is called
+abbrev pub usage_line : List ℕ
+usage_line = codes "usage: afr run | trace | info | gen N | live\n"
+
+-- the name of a refused plan's code
+abbrev pub name_of : ℕ → List ℕ
+name_of code = if code == 0 then codes "long" else codes "unread"
+
+-- the line that refuses a plan
+abbrev pub refusal_line : PlanFault → List ℕ
+refusal_line fault = codes "plan refused: line " ++ decimal fault.line ++ codes ", code " ++ decimal fault.code ++ codes " " ++ name_of fault.code ++ codes "\n"
+
+-- the source was read to its end, and gave these bytes
+pub record WasRead (left now : Option (List ℕ)) (bytes : List ℕ) : Type 0 where
+  pub came : Consumes left now bytes
+  pub end : IsAtEnd now
+
+-- what the source gave spells the plan, and the sink took the report, to its end
+pub record Reports (left left' taken taken' : Option (List ℕ)) (now : State) : Type 0 where
+  pub bytes : List ℕ
+  pub read : WasRead left left' bytes
+  pub spells : Spells bytes now.plan
+  pub report : Appends taken taken' (report_of now.plan now.log)
+
+-- each actor was killed or has ended all its works
+abbrev pub AreDone : Plan → List Line → Type 0
+AreDone p log = (a : ℕ) → IsActor p a → is_done p a log ≡ true
+
+-- a living actor has work left
+pub record IsWorkLeft (p : Plan) (log : List Line) : Type 0 where
+  pub actor : ℕ
+  pub planned : IsActor p actor
+  pub left : is_done p actor log ≡ false
+
+-- the log has as many lines as the plan gives room for
+abbrev pub IsFull : Plan → List Line → Type 0
+IsFull p log = length log ≡ p.turns
+
+-- the source was read to its end, and spells no plan
+pub record SpellsNone (left now : Option (List ℕ)) : Type 0 where
+  pub bytes : List ℕ
+  pub read : WasRead left now bytes
+  pub none : (plan : Plan) → Spells bytes plan → ⊥
+
+-- the source spells no plan, at line 0 with code 10, or is longer than 16 MiB, at line 0 with code 0
+abbrev pub IsRefused : Option (List ℕ) → Option (List ℕ) → PlanFault → Type 0
+IsRefused left now fault = ((fault ≡ record { line = 0; code = 10 }) × SpellsNone left now) ⊎ ((fault ≡ record { line = 0; code = 0 }) × CameMore left now 16777216)
+
+-- the plan is refused, and the sink took the line that says so, to its end
+pub record IsRefusal (left left' taken taken' : Option (List ℕ)) : Type 0 where
+  pub fault : PlanFault
+  pub cause : IsRefused left left' fault
+  pub line : Appends taken taken' (refusal_line fault)
+
+-- a text of the program: the usage, a refusal, or the report of the volume
+pub data IsText (now : State) : List ℕ → Type 0 where
+  Usage : IsText now usage_line
+  Refusal : (fault : PlanFault) → IsText now (refusal_line fault)
+  Report : IsText now (report_of now.plan now.log)
+
+-- the sink took a front of one of the program's texts
+pub record StopsWriting (taken taken' : Option (List ℕ)) (now : State) : Type 0 where
+  pub text : List ℕ
+  pub known : IsText now text
+  pub front : AppendsFront taken taken' text

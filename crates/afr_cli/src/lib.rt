@@ -1,0 +1,10 @@
+//! The program without its outside: words, a source and a sink come in, a status goes out.
+#![tactic(auto)]
+
+mod finished;
+mod messages;
+mod program;
+mod running;
+mod words;
+
+pub use program::afr_top;

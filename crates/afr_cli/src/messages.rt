@@ -1,0 +1,55 @@
+//! What goes to the sink, and the status that it gives.
+ghost use Rattle.std.specs.Prelude.{◌≡◌, ◌≢◌, ◌⊎◌, IfOk, string_bytes};
+ghost use Rattle.std.specs.Io.KnownBytes.{Appends};
+ghost use Rattle.afr_text.specs.Causes.{Rose};
+ghost use Rattle.afr_text.specs.Parts.{AppendsFront};
+ghost use Rattle.afr_cli.specs.Statuses.{name_of, refusal_line};
+
+use afr_base::NoMemory;
+use afr_plan::PlanFault;
+use afr_text::{Sink, write_all};
+use std::alloc::Global;
+
+/// Writes a text, and answers the status, or 5 where the sink failed.
+pub fn answer<K: Sink>(sink: &mut K, text: &[u8], status: u8) -> u8
+    requires { status ≢ 5 }
+    ensures whole { result ≢ 5 → (result ≡ status) × Appends (K.taken sink.old) (K.taken sink.new) text.now }
+    ensures fault { result ≡ 5 → Rose (K.faults sink.old) (K.faults sink.new) × AppendsFront (K.taken sink.old) (K.taken sink.new) text.now }
+{
+    match write_all(sink, text) {
+        Ok(()) => status,
+        Err(_) => 5,
+    }
+}
+
+/// Writes the line that refuses a plan.
+pub fn refuse<K: Sink>(alloc: Global, sink: &mut K, fault: PlanFault) -> u8
+    ensures few { (result ≡ 3) ⊎ (result ≡ 5) ⊎ (result ≡ 6) }
+    ensures refused { result ≡ 3 → Appends (K.taken sink.old) (K.taken sink.new) (refusal_line fault) }
+    ensures write { result ≡ 5 → Rose (K.faults sink.old) (K.faults sink.new) × AppendsFront (K.taken sink.old) (K.taken sink.new) (refusal_line fault) }
+    ensures memory { result ≡ 6 → sink.new ≡ sink.old }
+{
+    match refusal_text(alloc, fault) {
+        Ok(text) => answer(sink, text.as_bytes(), 3),
+        Err(_) => 6,
+    }
+}
+
+fn refusal_text(alloc: Global, fault: PlanFault) -> Result<String, NoMemory>
+    ensures ok { IfOk result (λ text. string_bytes text ≡ refusal_line fault) }
+{
+    let PlanFault { line, code } = fault;
+    let name = name_of(code);
+    let mut text = String::new(alloc);
+    write!(text, "plan refused: line {line}, code {code} {name}\n")?;
+    Ok(text)
+}
+
+fn name_of(code: u8) -> &'static str
+    ensures { result.now ≡ name_of code }
+{
+    match code {
+        0 => "long",
+        _ => "unread",
+    }
+}

@@ -1,0 +1,133 @@
+//! The whole program, but for its outside.
+ghost use Rattle.std.specs.Prelude.{◌≡◌, ◌⊎◌};
+ghost use Rattle.afr_text.specs.Causes.{Rose};
+ghost use Rattle.afr_model.specs.State.{no_volume};
+ghost use Rattle.afr_model.specs.Complete.{IsComplete};
+ghost use Rattle.afr_model.specs.Following.{Follows};
+ghost use Rattle.afr_model.specs.Ordered.{IsOrdered};
+ghost use Rattle.std.specs.Io.KnownBytes.{Appends};
+ghost use Rattle.afr_cli.specs.Statuses.{AreRun, AreDone, IsFull, IsRefusal, IsWorkLeft, Reports, StopsWriting, usage_line};
+
+use crate::messages::{answer, refuse};
+use crate::running::run_plan;
+use crate::words::is_run;
+use afr_plan::{PlanFault, PlanStop, read_plan};
+use afr_text::{ReadStop, Sink, Source, read_all};
+use afr_volume::Volume;
+use std::alloc::Global;
+
+/// The longest source, in bytes.
+const LIMIT: usize = 16_777_216;
+
+/// Serves the words, and answers the status. It ends with 2 where the words are no form that it
+/// serves, 3 where the plan is refused, 4 where the source failed, 5 where the sink failed, 6 where
+/// memory was wanting, and with 7 where the log is full before all works have ended.
+#[tactic(auto, using(crate::proofs::StatusLemmas::nothing_ordered, crate::proofs::StatusLemmas::stops_at_usage))]
+pub fn afr_top<S: Source, K: Sink>(
+    alloc: Global,
+    words: &[String],
+    source: &mut S,
+    sink: &mut K,
+    volume: &mut Volume,
+) -> u8
+    requires fresh { volume.old ≡ no_volume }
+
+    // A plan was run, and its report is written.
+    ensures ok { result ≡ 0 → Reports (S.left source.old) (S.left source.new) (K.taken sink.old) (K.taken sink.new) volume.new
+        × IsComplete volume.new.plan volume.new.log × AreDone volume.new.plan volume.new.log }
+    ensures unfinished { result ≡ 7 → Reports (S.left source.old) (S.left source.new) (K.taken sink.old) (K.taken sink.new) volume.new
+        × IsFull volume.new.plan volume.new.log × IsWorkLeft volume.new.plan volume.new.log }
+
+    // No plan was run.
+    ensures usage { result ≡ 2 → (AreRun words.now → ⊥) × Appends (K.taken sink.old) (K.taken sink.new) usage_line × (source.new ≡ source.old) × (volume.new ≡ no_volume) }
+    ensures refused { result ≡ 3 → IsRefusal (S.left source.old) (S.left source.new) (K.taken sink.old) (K.taken sink.new) × (volume.new ≡ no_volume) }
+    ensures read { result ≡ 4 → Rose (S.faults source.old) (S.faults source.new) × (sink.new ≡ sink.old) × (volume.new ≡ no_volume) }
+
+    // The text is not whole.
+    ensures write { result ≡ 5 → Rose (K.faults sink.old) (K.faults sink.new) × StopsWriting (K.taken sink.old) (K.taken sink.new) volume.new }
+    ensures memory { result ≡ 6 → sink.new ≡ sink.old }
+
+    // At every status.
+    ensures others { (AreRun words.now → ⊥) → (result ≡ 2) ⊎ (result ≡ 5) }
+    ensures few { (result ≡ 0) ⊎ (result ≡ 2) ⊎ (result ≡ 3) ⊎ (result ≡ 4) ⊎ (result ≡ 5) ⊎ (result ≡ 6) ⊎ (result ≡ 7) }
+    ensures follows { Follows volume.new.plan volume.new.log }
+    ensures ordered { IsOrdered volume.new.plan volume.new.log }
+{
+    let status = if is_run(words) {
+        read_and_run(alloc, source, sink, volume)
+    } else {
+        answer(sink, b"usage: afr run | trace | info | gen N | live\n", 2)
+    };
+    volume.every_line();
+    status
+}
+
+/// Reads a plan from the source, and runs it.
+#[tactic(auto, using(crate::proofs::StatusLemmas::nothing_ordered, crate::proofs::StatusLemmas::stops_at_refusal, crate::proofs::StatusLemmas::stops_at_report, crate::proofs::StatusLemmas::refused_unread, crate::proofs::StatusLemmas::refused_long))]
+fn read_and_run<S: Source, K: Sink>(
+    alloc: Global,
+    source: &mut S,
+    sink: &mut K,
+    volume: &mut Volume,
+) -> u8
+    requires fresh { volume.old ≡ no_volume }
+    ensures ok { result ≡ 0 → Reports (S.left source.old) (S.left source.new) (K.taken sink.old) (K.taken sink.new) volume.new
+        × IsComplete volume.new.plan volume.new.log × AreDone volume.new.plan volume.new.log }
+    ensures unfinished { result ≡ 7 → Reports (S.left source.old) (S.left source.new) (K.taken sink.old) (K.taken sink.new) volume.new
+        × IsFull volume.new.plan volume.new.log × IsWorkLeft volume.new.plan volume.new.log }
+    ensures refused { result ≡ 3 → IsRefusal (S.left source.old) (S.left source.new) (K.taken sink.old) (K.taken sink.new) × (volume.new ≡ no_volume) }
+    ensures read { result ≡ 4 → Rose (S.faults source.old) (S.faults source.new) × (sink.new ≡ sink.old) × (volume.new ≡ no_volume) }
+    ensures write { result ≡ 5 → Rose (K.faults sink.old) (K.faults sink.new) × StopsWriting (K.taken sink.old) (K.taken sink.new) volume.new }
+    ensures memory { result ≡ 6 → sink.new ≡ sink.old }
+    ensures few { (result ≡ 0) ⊎ (result ≡ 3) ⊎ (result ≡ 4) ⊎ (result ≡ 5) ⊎ (result ≡ 6) ⊎ (result ≡ 7) }
+    ensures ordered { IsOrdered volume.new.plan volume.new.log }
+{
+    let bytes = match read_all(alloc, source, LIMIT) {
+        Ok(bytes) => bytes,
+        Err(ReadStop::ReadFault) => return 4,
+        Err(ReadStop::TooLong) => return refuse(alloc, sink, PlanFault { line: 0, code: 0 }),
+        Err(ReadStop::NoMemory) => return 6,
+    };
+    match read_plan(alloc, &bytes) {
+        Ok(plan) => run_plan(alloc, plan, sink, volume),
+        Err(PlanStop::Refused(fault)) => refuse(alloc, sink, fault),
+        Err(PlanStop::NoMemory) => 6,
+    }
+}
+
+#[cfg(test)]
+mod tests {
+    use super::*;
+    use afr_text::{MemSink, MemSource};
+    use std::test::Fail;
+
+    #[test]
+    fn other_words_and_other_texts_have_their_line(rt: HostRuntime) -> Result<(), Fail> {
+        let alloc = rt.alloc();
+        for (word, plan, status, line) in [
+            (
+                "help",
+                "",
+                2,
+                "usage: afr run | trace | info | gen N | live\n",
+            ),
+            (
+                "run",
+                "afr 1\nvolume replica\nfiles 0\nturns 100000\n",
+                3,
+                "plan refused: line 0, code 10 unread\n",
+            ),
+        ] {
+            let words = vec![in alloc; String::from_str(alloc, word)?]?;
+            let mut bytes = Vec::new(alloc);
+            bytes.extend_from_slice(plan.as_bytes())?;
+            let mut source = MemSource::new(bytes, 7, Vec::new(alloc));
+            let mut sink = MemSink::new(alloc, 5, Vec::new(alloc));
+            let mut volume = Volume::empty(alloc);
+            let got = afr_top(alloc, words.as_slice(), &mut source, &mut sink, &mut volume);
+            assert_eq!(rt; got, status, "{word}");
+            assert_eq!(rt; sink.taken(), line.as_bytes(), "{word}");
+        }
+        Ok(())
+    }
+}

@@ -1,0 +1,58 @@
+//! A plan from its start to its report.
+ghost use Rattle.std.specs.Prelude.{◌≡◌, ◌⊎◌, ◌≤◌, length};
+ghost use Rattle.std.specs.Io.KnownBytes.{Appends};
+ghost use Rattle.afr_text.specs.Causes.{Rose};
+ghost use Rattle.afr_text.specs.Parts.{AppendsFront};
+ghost use Rattle.afr_plan.specs.FirstPath.{IsFirstPath};
+ghost use Rattle.afr_model.specs.State.{no_volume};
+ghost use Rattle.afr_model.specs.Complete.{IsComplete};
+ghost use Rattle.afr_model.specs.Ordered.{IsOrdered};
+ghost use Rattle.afr_model.specs.Report.{report_of};
+ghost use Rattle.afr_cli.specs.Statuses.{AreDone, IsWorkLeft};
+
+use crate::finished::all_done;
+use crate::messages::answer;
+use afr_order::drive;
+use afr_plan::Plan;
+use afr_report::report_text;
+use afr_text::Sink;
+use afr_volume::Volume;
+use std::alloc::Global;
+
+#[tactic(auto, using(crate::proofs::StatusLemmas::nothing_ordered))]
+/// Runs a plan and writes its report.
+pub fn run_plan<K: Sink>(alloc: Global, plan: Plan, sink: &mut K, volume: &mut Volume) -> u8
+    requires first { IsFirstPath plan }
+    requires fresh { volume.old ≡ no_volume }
+    ensures few { (result ≡ 0) ⊎ (result ≡ 5) ⊎ (result ≡ 6) ⊎ (result ≡ 7) }
+    ensures plan { (result ≡ 6) ⊎ (volume.new.plan ≡ plan) }
+    ensures ordered { IsOrdered volume.new.plan volume.new.log }
+    ensures ok { result ≡ 0 → IsComplete volume.new.plan volume.new.log × AreDone volume.new.plan volume.new.log }
+    ensures unfinished { result ≡ 7 → (length volume.new.log ≡ volume.new.plan.turns) × IsWorkLeft volume.new.plan volume.new.log }
+    ensures report { (result ≡ 0) ⊎ (result ≡ 7) → Appends (K.taken sink.old) (K.taken sink.new) (report_of volume.new.plan volume.new.log) }
+    ensures write { result ≡ 5 → Rose (K.faults sink.old) (K.faults sink.new) × AppendsFront (K.taken sink.old) (K.taken sink.new) (report_of volume.new.plan volume.new.log) }
+    ensures memory { result ≡ 6 → sink.new ≡ sink.old }
+{
+    if volume.set_up(plan).is_err() {
+        return 6;
+    }
+    if drive(volume).is_err() {
+        return 6;
+    }
+    let status = status_of(volume);
+    match report_text(alloc, volume) {
+        Ok(text) => answer(sink, text.as_bytes(), status),
+        Err(_) => 6,
+    }
+}
+
+/// The status of a run that came to its end: 0, or 7 where the log is full and there is work left.
+fn status_of(volume: &Volume) -> u8
+    requires few { length volume.now.plan.healers ≤ 16 }
+    requires complete { IsComplete volume.now.plan volume.now.log }
+    ensures few { (result ≡ 0) ⊎ (result ≡ 7) }
+    ensures ok { result ≡ 0 → AreDone volume.now.plan volume.now.log }
+    ensures unfinished { result ≡ 7 → (length volume.now.log ≡ volume.now.plan.turns) × IsWorkLeft volume.now.plan volume.now.log }
+{
+    if all_done(volume) { 0 } else { 7 }
+}

@@ -1,0 +1,4 @@
+pub mod GoingLemmas
+pub mod OrderLemmas
+pub mod DoneLemmas
+pub mod PassLemmas

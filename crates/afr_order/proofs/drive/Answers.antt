@@ -1,0 +1,34 @@
+use Rattle.std.proofs.Common.{◌≡◌, true, arith, suc}
+use Rattle.std.proofs.lemmas.Grind.{common_steps}
+use Rattle.afr_order.proofs.GoingLemmas.{goes_then, ends_true}
+use Rattle.afr_order.proofs.OrderLemmas.{ordered_by_orders, ordered_by_pass, takes_pass}
+use Rattle.afr_order.proofs.drive.Goals as goal
+
+pub returns-in_err-take_orders-clause-ordered : goal.returns-in_err-take_orders-clause-ordered
+returns-in_err-take_orders-clause-ordered c = rw c.take_orders.ensures.goes.plan (ordered_by_orders c.args.volume.now.plan c.args.volume.now.log c.take_orders.new.volume.log c.requires.fresh c.take_orders.ensures.front)
+
+pub returns-then-not-branch-clause-ordered : goal.returns-then-not-branch-clause-ordered
+returns-then-not-branch-clause-ordered c = rw c.take_orders.ensures.goes.plan (ordered_by_orders c.args.volume.now.plan c.args.volume.now.log c.take_orders.new.volume.log c.requires.fresh c.take_orders.ensures.front)
+
+pub returns-in_err-take_pass-clause-ordered : goal.returns-in_err-take_pass-clause-ordered
+returns-in_err-take_pass-clause-ordered c =
+    rw (c.take_pass.ensures.goes.plan, c.loop-volume.invariant.goes.plan)
+    (ordered_by_pass c.args.volume.now c.loop-volume.volume c.take_pass.new.volume c.loop-volume.invariant.taken.0 c.requires.fresh c.loop-volume.invariant.goes c.loop-volume.invariant.taken.1 c.take_pass.ensures.front)
+
+pub returns-then-not-branch-2-clause-ordered : goal.returns-then-not-branch-2-clause-ordered
+returns-then-not-branch-2-clause-ordered c =
+    rw (c.take_pass.ensures.goes.plan, c.loop-volume.invariant.goes.plan)
+    (ordered_by_pass c.args.volume.now c.loop-volume.volume c.take_pass.new.volume c.loop-volume.invariant.taken.0 c.requires.fresh c.loop-volume.invariant.goes c.loop-volume.invariant.taken.1 c.take_pass.ensures.front)
+
+pub returns-then-len-before-clause-ordered : goal.returns-then-len-before-clause-ordered
+returns-then-len-before-clause-ordered c =
+    rw (c.take_pass.ensures.goes.plan, c.loop-volume.invariant.goes.plan)
+    (ordered_by_pass c.args.volume.now c.loop-volume.volume c.take_pass.new.volume c.loop-volume.invariant.taken.0 c.requires.fresh c.loop-volume.invariant.goes c.loop-volume.invariant.taken.1 c.take_pass.ensures.front)
+
+pub loop-volume-preserved : goal.loop-volume-preserved
+loop-volume-preserved c =
+    let on : c.in_ok-take_pass.field-0 ≡ true = grind (arith, common_steps) in
+    record {
+      goes = goes_then c.args.volume.now c.loop-volume.volume c.take_pass.new.volume c.loop-volume.invariant.goes c.take_pass.ensures.goes;
+      taken = (suc c.loop-volume.invariant.taken.0, takes_pass c.args.volume.now c.loop-volume.volume c.take_pass.new.volume c.loop-volume.invariant.taken.0 c.loop-volume.invariant.goes c.loop-volume.invariant.taken.1 (ends_true c.loop-volume.volume c.take_pass.new.volume _ _ on c.in_ok-take_pass.ensures.ok));
+    }

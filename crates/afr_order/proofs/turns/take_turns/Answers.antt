@@ -1,0 +1,26 @@
+use Rattle.std.proofs.Common.{[], ◌∷◌, ◌+◌, ◌≡◌, true, arith, replicate}
+use Rattle.std.proofs.lemmas.Grind.{common_steps}
+use Rattle.afr_order.proofs.GoingLemmas.{goes_then, takes_then, front_then, ends_true}
+use Rattle.afr_order.proofs.OrderLemmas.{replicate_more, front_of_replicate}
+use Rattle.afr_order.proofs.turns.take_turns.Goals as goal
+
+pub take_turn-requires : goal.take_turn-requires
+take_turn-requires c = record { actor = rw c.loop-taken.invariant.goes.plan c.requires.actor }
+
+pub returns-in_err-take_turn-clause-front : goal.returns-in_err-take_turn-clause-front
+returns-in_err-take_turn-clause-front c =
+    front_of_replicate c.args.volume.now.plan c.args.volume.now.log c.take_turn.new.volume.log c.args.a.0 (c.loop-taken._taken + 1) c.args.count (omega arith)
+    (rw replicate_more (front_then c.args.volume.now c.loop-taken.volume c.take_turn.new.volume (replicate c.loop-taken._taken c.args.a.0) (c.args.a.0 ∷ []) c.loop-taken.invariant.goes c.loop-taken.invariant.taken c.take_turn.ensures.front))
+
+pub returns-then-not-branch-clause-front : goal.returns-then-not-branch-clause-front
+returns-then-not-branch-clause-front c =
+    front_of_replicate c.args.volume.now.plan c.args.volume.now.log c.take_turn.new.volume.log c.args.a.0 (c.loop-taken._taken + 1) c.args.count (omega arith)
+    (rw replicate_more (front_then c.args.volume.now c.loop-taken.volume c.take_turn.new.volume (replicate c.loop-taken._taken c.args.a.0) (c.args.a.0 ∷ []) c.loop-taken.invariant.goes c.loop-taken.invariant.taken c.take_turn.ensures.front))
+
+pub loop-taken-preserved : goal.loop-taken-preserved
+loop-taken-preserved c =
+    let on : c.in_ok-take_turn.field-0 ≡ true = grind (arith, common_steps) in
+    record {
+      goes = goes_then c.args.volume.now c.loop-taken.volume c.take_turn.new.volume c.loop-taken.invariant.goes c.take_turn.ensures.goes;
+      taken = rw replicate_more (takes_then c.args.volume.now c.loop-taken.volume c.take_turn.new.volume (replicate c.loop-taken._taken c.args.a.0) (c.args.a.0 ∷ []) c.loop-taken.invariant.goes c.loop-taken.invariant.taken (ends_true c.loop-taken.volume c.take_turn.new.volume _ _ on c.in_ok-take_turn.ensures.ok));
+    }

@@ -1,0 +1,42 @@
+-- How turns and events take a log to a longer one.
+use Rattle.std.specs.Prelude.{◌≡◌, ℕ, ◌≤◌, ◌<◌, Bool, true, false, List, ◌++◌, length}
+use Rattle.afr_lines.specs.declared.line.Line.{Line}
+use Rattle.afr_plan.specs.declared.plan.Plan.{Plan}
+use Rattle.afr_model.specs.State.{State}
+use Rattle.afr_model.specs.Actors.{IsActor, is_done}
+use Rattle.afr_model.specs.Following.{NoneDue}
+use Rattle.afr_model.specs.Ordered.{Writes}
+use Rattle.afr_volume.specs.declared.turned.Turned.{Turned}
+use Rattle.afr_volume.specs.declared.turned.Turned.TheVariants.{Full}
+
+-- the plan stays, and the log grows or all is as it was
+pub record Goes (old new : State) : Type 0 where
+  pub plan : new.plan ≡ old.plan
+  pub grows : length old.log ≤ length new.log
+  pub same : length new.log ≤ length old.log → new ≡ old
+
+-- these turns, and events between them, took the old log to the new one
+pub record Takes (p : Plan) (turns : List ℕ) (old new : List Line) : Type 0 where
+  pub written : (before : List ℕ) → Writes p before old → Writes p (before ++ turns) new
+
+-- the first of these turns took the old log to the new one
+pub record TakesFront (p : Plan) (turns : List ℕ) (old new : List Line) : Type 0 where
+  pub front : List ℕ
+  pub later : List ℕ
+  pub whole : front ++ later ≡ turns
+  pub taken : Takes p front old new
+
+-- all of these turns were taken, or the log is full
+abbrev pub Ends : List ℕ → State → Bool → State → Type 0
+Ends turns old true new = Takes old.plan turns old.log new.log
+Ends turns old false new = length new.log ≡ new.plan.turns
+
+-- every actor is done, and no event is due
+pub record IsIdle (s : State) : Type 0 where
+  pub events : length s.log < s.plan.turns → NoneDue s.plan s.log
+  pub done : (a : ℕ) → IsActor s.plan a → is_done s.plan a s.log ≡ true
+
+-- whether the log had room for a turn
+abbrev pub goes_on_after : Turned → Bool
+goes_on_after Full = false
+goes_on_after turned = true

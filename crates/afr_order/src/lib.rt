@@ -1,0 +1,38 @@
+//! Turns of actors in the stated order.
+#![tactic(auto)]
+
+ghost use Rattle.std.specs.Prelude.{◌≡◌, OnOk, []};
+ghost use Rattle.afr_model.specs.Complete.{IsComplete};
+ghost use Rattle.afr_model.specs.Ordered.{IsOrdered};
+
+mod rows;
+mod turns;
+
+use crate::rows::{take_orders, take_pass};
+use afr_base::NoMemory;
+use afr_volume::Volume;
+
+/// Runs the plan that the volume was set up with, until every actor is done or the log is full.
+/// First come the orders of the plan, then passes over all actors in rising order: clients, then
+/// healers. Before each turn, and at the end, all due events come. It takes one turn for each line,
+/// and each pass asks each actor once more.
+pub fn drive(volume: &mut Volume) -> Result<(), NoMemory>
+    requires fresh { volume.old.log ≡ [] }
+    ensures plan { volume.new.plan ≡ volume.old.plan }
+    ensures ok { OnOk result (IsComplete volume.new.plan volume.new.log) }
+    ensures ordered { IsOrdered volume.new.plan volume.new.log }
+{
+    if !take_orders(volume)? {
+        return Ok(());
+    }
+    loop {
+        let before = volume.len();
+        if !take_pass(volume)? {
+            return Ok(());
+        }
+        volume.every_line();
+        if volume.len() == before {
+            return Ok(());
+        }
+    }
+}

@@ -1,0 +1,64 @@
+//! The orders of the plan, and a pass over all actors.
+ghost use Rattle.std.specs.Prelude.{◌≡◌, ◌≤◌, ◌<◌, ◌+◌, ◌^◌, ℕ, true, Ok, OnOk, IfOk, length};
+ghost use Rattle.std.specs.List.{range_with_len};
+ghost use Rattle.afr_model.specs.Actors.{IsActor, is_done};
+ghost use Rattle.afr_model.specs.Ordered.{actors_of, ordered_turns};
+ghost use Rattle.afr_order.specs.Going.{Goes, TakesFront, Ends, IsIdle};
+
+use crate::turns::{come_due, take_turn, take_turns};
+use afr_base::{ActorId, NoMemory};
+use afr_volume::Volume;
+
+/// All orders of the plan. It answers whether the log had room.
+pub(crate) fn take_orders(volume: &mut Volume) -> Result<bool, NoMemory>
+    ensures goes { Goes volume.old volume.new }
+    ensures front { TakesFront volume.old.plan (ordered_turns volume.old.plan.go) volume.old.log volume.new.log }
+    ensures ok { IfOk result (λ on. Ends (ordered_turns volume.old.plan.go) volume.old on volume.new) }
+{
+    volume.every_line();
+    let orders = volume.plan().go.len();
+    for i in 0..orders {
+        let go = *volume.plan().go.item(i);
+        if !take_turns(volume, go.actor, go.count)? {
+            return Ok(false);
+        }
+    }
+    Ok(true)
+}
+
+/// A turn of each of so many actors. It answers whether the log had room.
+fn take_row(volume: &mut Volume, first: u16, count: u16) -> Result<bool, NoMemory>
+    requires fits { first + count < 2 ^ 16 }
+    requires actors { (k : ℕ) → k < count → IsActor volume.old.plan (first + k) }
+    ensures goes { Goes volume.old volume.new }
+    ensures front { TakesFront volume.old.plan (range_with_len first count) volume.old.log volume.new.log }
+    ensures ok { IfOk result (λ on. Ends (range_with_len first count) volume.old on volume.new) }
+    ensures done { result ≡ Ok true → length volume.new.log ≤ length volume.old.log → (k : ℕ) → k < count → is_done volume.new.plan (first + k) volume.new.log ≡ true }
+{
+    for i in 0..count {
+        if !take_turn(volume, ActorId(first + i))? {
+            return Ok(false);
+        }
+    }
+    Ok(true)
+}
+
+/// A turn of each actor, and the events that are due then. It answers whether the log had room.
+pub(crate) fn take_pass(volume: &mut Volume) -> Result<bool, NoMemory>
+    ensures goes { Goes volume.old volume.new }
+    ensures front { TakesFront volume.old.plan (actors_of volume.old.plan) volume.old.log volume.new.log }
+    ensures ok { IfOk result (λ on. Ends (actors_of volume.old.plan) volume.old on volume.new) }
+    ensures idle { result ≡ Ok true → length volume.new.log ≤ length volume.old.log → IsIdle volume.new }
+{
+    volume.every_line();
+    let clients = volume.plan().clients.len() as u16;
+    let healers = volume.plan().healers.len() as u16;
+    if !take_row(volume, 1, clients)? {
+        return Ok(false);
+    }
+    if !take_row(volume, 17, healers)? {
+        return Ok(false);
+    }
+    come_due(volume)?;
+    Ok(true)
+}

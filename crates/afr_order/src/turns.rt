@@ -1,0 +1,59 @@
+//! The events that are due, and turns of one actor.
+ghost use Rattle.std.specs.Prelude.{◌≡◌, ◌≤◌, ◌<◌, ◌∷◌, [], true, Ok, None, OnOk, IfOk, length, replicate};
+ghost use Rattle.afr_model.specs.Actors.{IsActor, is_done};
+ghost use Rattle.afr_model.specs.Following.{NoneDue};
+ghost use Rattle.afr_volume.specs.Turning.{due_of};
+ghost use Rattle.afr_order.specs.Going.{Goes, Takes, TakesFront, Ends, goes_on_after};
+
+use afr_base::{ActorId, NoMemory};
+use afr_volume::{Turned, Volume};
+
+/// All events that are due.
+pub(crate) fn come_due(volume: &mut Volume) -> Result<(), NoMemory>
+    ensures goes { Goes volume.old volume.new }
+    ensures taken { Takes volume.old.plan [] volume.old.log volume.new.log }
+    ensures none { OnOk result (due_of volume.new ≡ None) }
+    ensures events { OnOk result (length volume.new.log < volume.new.plan.turns → NoneDue volume.new.plan volume.new.log) }
+{
+    while volume.due().is_some() {
+        volume.event()?;
+    }
+    Ok(())
+}
+
+fn goes_on(turned: Turned) -> bool
+    ensures { result ≡ goes_on_after turned }
+{
+    match turned {
+        Turned::Full => false,
+        _ => true,
+    }
+}
+
+/// The due events, and then one turn. It answers whether the log had room.
+pub(crate) fn take_turn(volume: &mut Volume, a: ActorId) -> Result<bool, NoMemory>
+    requires actor { IsActor volume.old.plan a.0 }
+    ensures goes { Goes volume.old volume.new }
+    ensures front { TakesFront volume.old.plan (a.0 ∷ []) volume.old.log volume.new.log }
+    ensures ok { IfOk result (λ on. Ends (a.0 ∷ []) volume.old on volume.new) }
+    ensures done { result ≡ Ok true → length volume.new.log ≤ length volume.old.log → is_done volume.new.plan a.0 volume.new.log ≡ true }
+{
+    come_due(volume)?;
+    let turned = volume.turn(a)?;
+    Ok(goes_on(turned))
+}
+
+/// So many turns of one actor. It answers whether the log had room.
+pub(crate) fn take_turns(volume: &mut Volume, a: ActorId, count: u32) -> Result<bool, NoMemory>
+    requires actor { IsActor volume.old.plan a.0 }
+    ensures goes { Goes volume.old volume.new }
+    ensures front { TakesFront volume.old.plan (replicate count a.0) volume.old.log volume.new.log }
+    ensures ok { IfOk result (λ on. Ends (replicate count a.0) volume.old on volume.new) }
+{
+    for _taken in 0..count {
+        if !take_turn(volume, a)? {
+            return Ok(false);
+        }
+    }
+    Ok(true)
+}
