@@ -32,11 +32,15 @@ pub record WasRead (left now : Option (List ℕ)) (bytes : List ℕ) : Type 0 wh
   pub came : Consumes left now bytes
   pub end : IsAtEnd now
 
+-- what the source gave, to its end, spells the plan
+pub record IsSpelled (left now : Option (List ℕ)) (plan : Plan) : Type 0 where
+  pub bytes : List ℕ
+  pub read : WasRead left now bytes
+  pub spells : Spells bytes plan
+
 -- what the source gave spells the plan, and the sink took the report, to its end
 pub record Reports (left left' taken taken' : Option (List ℕ)) (now : State) : Type 0 where
-  pub bytes : List ℕ
-  pub read : WasRead left left' bytes
-  pub spells : Spells bytes now.plan
+  pub spelled : IsSpelled left left' now.plan
   pub report : Appends taken taken' (report_of now.plan now.log)
 
 -- each actor was killed or has ended all its works

@@ -5,6 +5,8 @@ mod finished;
 mod messages;
 mod program;
 mod running;
+#[cfg(test)]
+mod tests;
 mod words;
 
 pub use program::afr_top;

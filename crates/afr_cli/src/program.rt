@@ -6,7 +6,7 @@ ghost use Rattle.afr_model.specs.Complete.{IsComplete};
 ghost use Rattle.afr_model.specs.Following.{Follows};
 ghost use Rattle.afr_model.specs.Ordered.{IsOrdered};
 ghost use Rattle.std.specs.Io.KnownBytes.{Appends};
-ghost use Rattle.afr_cli.specs.Statuses.{AreRun, AreDone, IsFull, IsRefusal, IsWorkLeft, Reports, StopsWriting, usage_line};
+ghost use Rattle.afr_cli.specs.Statuses.{AreRun, AreDone, IsFull, IsRefusal, IsSpelled, IsWorkLeft, Reports, StopsWriting, usage_line};
 
 use crate::messages::{answer, refuse};
 use crate::running::run_plan;
@@ -21,7 +21,8 @@ const LIMIT: usize = 16_777_216;
 
 /// Serves the words, and answers the status. It ends with 2 where the words are no form that it
 /// serves, 3 where the plan is refused, 4 where the source failed, 5 where the sink failed, 6 where
-/// memory was wanting, and with 7 where the log is full before all works have ended.
+/// memory was wanting, and with 7 where the log was full before all work was done; then nothing is
+/// written.
 #[tactic(auto, using(crate::proofs::StatusLemmas::nothing_ordered, crate::proofs::StatusLemmas::stops_at_usage))]
 pub fn afr_top<S: Source, K: Sink>(
     alloc: Global,
@@ -32,10 +33,10 @@ pub fn afr_top<S: Source, K: Sink>(
 ) -> u8
     requires fresh { volume.old ≡ no_volume }
 
-    // A plan was run, and its report is written.
+    // A plan was run, and where all work was done its report is written.
     ensures ok { result ≡ 0 → Reports (S.left source.old) (S.left source.new) (K.taken sink.old) (K.taken sink.new) volume.new
         × IsComplete volume.new.plan volume.new.log × AreDone volume.new.plan volume.new.log }
-    ensures unfinished { result ≡ 7 → Reports (S.left source.old) (S.left source.new) (K.taken sink.old) (K.taken sink.new) volume.new
+    ensures unfinished { result ≡ 7 → IsSpelled (S.left source.old) (S.left source.new) volume.new.plan × (sink.new ≡ sink.old)
         × IsFull volume.new.plan volume.new.log × IsWorkLeft volume.new.plan volume.new.log }
 
     // No plan was run.
@@ -73,7 +74,7 @@ fn read_and_run<S: Source, K: Sink>(
     requires fresh { volume.old ≡ no_volume }
     ensures ok { result ≡ 0 → Reports (S.left source.old) (S.left source.new) (K.taken sink.old) (K.taken sink.new) volume.new
         × IsComplete volume.new.plan volume.new.log × AreDone volume.new.plan volume.new.log }
-    ensures unfinished { result ≡ 7 → Reports (S.left source.old) (S.left source.new) (K.taken sink.old) (K.taken sink.new) volume.new
+    ensures unfinished { result ≡ 7 → IsSpelled (S.left source.old) (S.left source.new) volume.new.plan × (sink.new ≡ sink.old)
         × IsFull volume.new.plan volume.new.log × IsWorkLeft volume.new.plan volume.new.log }
     ensures refused { result ≡ 3 → IsRefusal (S.left source.old) (S.left source.new) (K.taken sink.old) (K.taken sink.new) × (volume.new ≡ no_volume) }
     ensures read { result ≡ 4 → Rose (S.faults source.old) (S.faults source.new) × (sink.new ≡ sink.old) × (volume.new ≡ no_volume) }
@@ -92,42 +93,5 @@ fn read_and_run<S: Source, K: Sink>(
         Ok(plan) => run_plan(alloc, plan, sink, volume),
         Err(PlanStop::Refused(fault)) => refuse(alloc, sink, fault),
         Err(PlanStop::NoMemory) => 6,
-    }
-}
-
-#[cfg(test)]
-mod tests {
-    use super::*;
-    use afr_text::{MemSink, MemSource};
-    use std::test::Fail;
-
-    #[test]
-    fn other_words_and_other_texts_have_their_line(rt: HostRuntime) -> Result<(), Fail> {
-        let alloc = rt.alloc();
-        for (word, plan, status, line) in [
-            (
-                "help",
-                "",
-                2,
-                "usage: afr run | trace | info | gen N | live\n",
-            ),
-            (
-                "run",
-                "afr 1\nvolume replica\nfiles 0\nturns 100000\n",
-                3,
-                "plan refused: line 0, code 10 unread\n",
-            ),
-        ] {
-            let words = vec![in alloc; String::from_str(alloc, word)?]?;
-            let mut bytes = Vec::new(alloc);
-            bytes.extend_from_slice(plan.as_bytes())?;
-            let mut source = MemSource::new(bytes, 7, Vec::new(alloc));
-            let mut sink = MemSink::new(alloc, 5, Vec::new(alloc));
-            let mut volume = Volume::empty(alloc);
-            let got = afr_top(alloc, words.as_slice(), &mut source, &mut sink, &mut volume);
-            assert_eq!(rt; got, status, "{word}");
-            assert_eq!(rt; sink.taken(), line.as_bytes(), "{word}");
-        }
-        Ok(())
     }
 }

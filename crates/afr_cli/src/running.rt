@@ -1,5 +1,5 @@
 //! A plan from its start to its report.
-ghost use Rattle.std.specs.Prelude.{◌≡◌, ◌⊎◌, ◌≤◌, length};
+ghost use Rattle.std.specs.Prelude.{◌≡◌, ◌⊎◌, ◌≤◌, length, true, false};
 ghost use Rattle.std.specs.Io.KnownBytes.{Appends};
 ghost use Rattle.afr_text.specs.Causes.{Rose};
 ghost use Rattle.afr_text.specs.Parts.{AppendsFront};
@@ -8,7 +8,7 @@ ghost use Rattle.afr_model.specs.State.{no_volume};
 ghost use Rattle.afr_model.specs.Complete.{IsComplete};
 ghost use Rattle.afr_model.specs.Ordered.{IsOrdered};
 ghost use Rattle.afr_model.specs.Report.{report_of};
-ghost use Rattle.afr_cli.specs.Statuses.{AreDone, IsWorkLeft};
+ghost use Rattle.afr_cli.specs.Statuses.{AreDone, IsFull, IsWorkLeft};
 
 use crate::finished::all_done;
 use crate::messages::answer;
@@ -19,8 +19,9 @@ use afr_text::Sink;
 use afr_volume::Volume;
 use std::alloc::Global;
 
+/// Runs a plan and writes its report. Where the log got full in the middle of the work nothing is
+/// written: the report has no word yet for what a transaction leaves that was cut off.
 #[tactic(auto, using(crate::proofs::StatusLemmas::nothing_ordered))]
-/// Runs a plan and writes its report.
 pub fn run_plan<K: Sink>(alloc: Global, plan: Plan, sink: &mut K, volume: &mut Volume) -> u8
     requires first { IsFirstPath plan }
     requires fresh { volume.old ≡ no_volume }
@@ -28,8 +29,8 @@ pub fn run_plan<K: Sink>(alloc: Global, plan: Plan, sink: &mut K, volume: &mut V
     ensures plan { (result ≡ 6) ⊎ (volume.new.plan ≡ plan) }
     ensures ordered { IsOrdered volume.new.plan volume.new.log }
     ensures ok { result ≡ 0 → IsComplete volume.new.plan volume.new.log × AreDone volume.new.plan volume.new.log }
-    ensures unfinished { result ≡ 7 → (length volume.new.log ≡ volume.new.plan.turns) × IsWorkLeft volume.new.plan volume.new.log }
-    ensures report { (result ≡ 0) ⊎ (result ≡ 7) → Appends (K.taken sink.old) (K.taken sink.new) (report_of volume.new.plan volume.new.log) }
+    ensures unfinished { result ≡ 7 → (sink.new ≡ sink.old) × IsFull volume.new.plan volume.new.log × IsWorkLeft volume.new.plan volume.new.log }
+    ensures report { result ≡ 0 → Appends (K.taken sink.old) (K.taken sink.new) (report_of volume.new.plan volume.new.log) }
     ensures write { result ≡ 5 → Rose (K.faults sink.old) (K.faults sink.new) × AppendsFront (K.taken sink.old) (K.taken sink.new) (report_of volume.new.plan volume.new.log) }
     ensures memory { result ≡ 6 → sink.new ≡ sink.old }
 {
@@ -39,20 +40,21 @@ pub fn run_plan<K: Sink>(alloc: Global, plan: Plan, sink: &mut K, volume: &mut V
     if drive(volume).is_err() {
         return 6;
     }
-    let status = status_of(volume);
+    if is_unfinished(volume) {
+        return 7;
+    }
     match report_text(alloc, volume) {
-        Ok(text) => answer(sink, text.as_bytes(), status),
+        Ok(text) => answer(sink, text.as_bytes(), 0),
         Err(_) => 6,
     }
 }
 
-/// The status of a run that came to its end: 0, or 7 where the log is full and there is work left.
-fn status_of(volume: &Volume) -> u8
+/// Whether the log was full before all work was done.
+fn is_unfinished(volume: &Volume) -> bool
     requires few { length volume.now.plan.healers ≤ 16 }
     requires complete { IsComplete volume.now.plan volume.now.log }
-    ensures few { (result ≡ 0) ⊎ (result ≡ 7) }
-    ensures ok { result ≡ 0 → AreDone volume.now.plan volume.now.log }
-    ensures unfinished { result ≡ 7 → (length volume.now.log ≡ volume.now.plan.turns) × IsWorkLeft volume.now.plan volume.now.log }
+    ensures yes { result ≡ true → IsFull volume.now.plan volume.now.log × IsWorkLeft volume.now.plan volume.now.log }
+    ensures no { result ≡ false → AreDone volume.now.plan volume.now.log }
 {
-    if all_done(volume) { 0 } else { 7 }
+    !all_done(volume)
 }
