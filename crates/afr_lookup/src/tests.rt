@@ -3,6 +3,7 @@ use crate::{LookupJob, LookupMachine, Stop, stop_reply};
 use afr_base::{AllMarks, BrickId, Gfid, NameId, Shape, What};
 use afr_lines::{Answer, Good, Heard, Next, Reply, Request};
 use afr_object::{Entry, List, Load, View};
+use std::alloc::Global;
 use std::test::Fail;
 
 const FILE: Gfid = Gfid(18_446_744_073_709_551_617);
@@ -18,20 +19,26 @@ fn seen(what: What) -> Heard {
     )
 }
 
-#[test]
-fn a_file_in_the_root_is_read(rt: HostRuntime) -> Result<(), Fail> {
+/// A read of five bytes whose path is looked at as far as the root.
+fn read_at_the_root(alloc: Global) -> Result<LookupMachine, Fail> {
     let shape = Shape {
         n: 3,
         arbiter: false,
     };
     let job = LookupJob::Read { at: 0, len: 5 };
-    let mut machine = LookupMachine::new(rt.alloc(), shape, &[NameId(0)], job)
+    let mut machine = LookupMachine::new(alloc, shape, &[NameId(0)], job)
         .ok()
         .ok_or("memory")?;
     for _ in 0..3 {
-        assert!(rt; machine.ready().is_ok());
         machine.feed(seen(What::Dir));
     }
+    Ok(machine)
+}
+
+#[test]
+fn a_file_in_the_root_is_read(rt: HostRuntime) -> Result<(), Fail> {
+    let mut machine = read_at_the_root(rt.alloc())?;
+    assert!(rt; machine.ready().is_ok());
     assert!(rt;
         matches!(
             machine.next(3),

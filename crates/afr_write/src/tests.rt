@@ -3,6 +3,7 @@ use crate::{WriteJob, WriteMachine, area_of, kind_of};
 use afr_base::{AllMarks, BrickId, Gfid, Kind, NameId, Shape, What};
 use afr_lines::{Answer, Area, Good, Heard, Next, Reply, Request};
 use afr_object::{Change, Entry, List, Load, View};
+use std::alloc::Global;
 use std::test::Fail;
 
 const FILE: Gfid = Gfid(18_446_744_073_709_551_617);
@@ -35,26 +36,32 @@ fn three_done(machine: &mut WriteMachine) {
     }
 }
 
-#[test]
-fn a_file_in_the_root_is_written(rt: HostRuntime) -> Result<(), Fail> {
+/// A write of one byte whose file is locked and seen on every brick.
+fn seen_write(alloc: Global) -> Result<WriteMachine, Fail> {
     let shape = Shape {
         n: 3,
         arbiter: false,
     };
-    let mut bytes = List::new(rt.alloc());
+    let mut bytes = List::new(alloc);
     bytes.push(7u8).ok().ok_or("memory")?;
     let job = WriteJob::Write { at: 0, bytes };
-    let mut machine = WriteMachine::new(rt.alloc(), shape, &[NameId(0)], job)
+    let mut machine = WriteMachine::new(alloc, shape, &[NameId(0)], job)
         .ok()
         .ok_or("memory")?;
     walk_to_the_file(&mut machine);
     for _ in 0..3 {
-        assert!(rt; machine.ready().is_ok());
         machine.feed(Heard::Answer(Answer::Granted, 0));
     }
     for _ in 0..3 {
         machine.feed(seen(What::File));
     }
+    Ok(machine)
+}
+
+#[test]
+fn a_write_begins_once_its_file_is_locked_and_seen(rt: HostRuntime) -> Result<(), Fail> {
+    let mut machine = seen_write(rt.alloc())?;
+    assert!(rt; machine.ready().is_ok());
     let Ok(Next::Begin(change)) = machine.next(10) else {
         return Err(Fail::from("no attempt"));
     };
@@ -69,6 +76,12 @@ fn a_file_in_the_root_is_written(rt: HostRuntime) -> Result<(), Fail> {
         )
     );
     assert!(rt; matches!(kind_of(&change), Kind::Bytes));
+    Ok(())
+}
+
+#[test]
+fn a_write_ends_once_its_attempt_is_closed(rt: HostRuntime) -> Result<(), Fail> {
+    let mut machine = seen_write(rt.alloc())?;
     machine.feed(Heard::Begun(10));
     three_done(&mut machine);
     assert!(rt;
