@@ -149,7 +149,7 @@ fn is_data(kind: Kind) -> bool
 #[cfg(test)]
 mod tests {
     use super::*;
-    use afr_base::{AllMarks, What};
+    use afr_base::{AllMarks, Marks, What};
 
     /// A look at a brick: it doesn't answer, lacks the object, or has these data numbers.
     #[derive(Clone, Copy, Debug)]
@@ -162,8 +162,13 @@ mod tests {
     const CLEAN: Seen = Seen::Has([0; 5]);
 
     fn looked(seen: &[Seen; 3]) -> Looked {
+        let [first, second, third] = *seen;
+        looked_at_five(&[first, second, third, Seen::Away, Seen::Away])
+    }
+
+    fn looked_at_five(seen: &[Seen; 5]) -> Looked {
         let mut looked = Looked::none();
-        for b in 0..3u8 {
+        for b in 0..5u8 {
             match seen[b as usize] {
                 Seen::Away => looked.lose(BrickId(b)),
                 Seen::Lacks => looked.note(BrickId(b), None),
@@ -174,8 +179,18 @@ mod tests {
     }
 
     fn view(pending: [u32; 5]) -> View {
-        let mut marks = AllMarks::zero();
-        marks.bytes.pending = pending;
+        view_with(AllMarks {
+            bytes: accusing(pending),
+            attrs: Marks::zero(),
+            names: Marks::zero(),
+        })
+    }
+
+    fn accusing(pending: [u32; 5]) -> Marks {
+        Marks { dirty: 0, pending }
+    }
+
+    fn view_with(marks: AllMarks) -> View {
         View {
             what: What::File,
             len: 7,
@@ -210,6 +225,11 @@ mod tests {
             (false, [CLEAN, Seen::Away, Seen::Away], Verdict::Short),
             (false, [Seen::Lacks, Seen::Lacks, Seen::Away], Verdict::Bare),
             (true, [CLEAN, CLEAN, CLEAN], Verdict::Sources(both)),
+            (
+                true,
+                [CLEAN, Seen::Away, CLEAN],
+                Verdict::Sources(BrickSet::all(1)),
+            ),
             (true, [CLEAN, Seen::Away, first], Verdict::Split),
             (true, [Seen::Lacks, Seen::Away, CLEAN], Verdict::Bare),
         ];
@@ -229,8 +249,65 @@ mod tests {
     }
 
     #[test]
-    fn two_of_three_and_three_of_five_are_majorities(rt: HostRuntime) {
-        assert_eq!(rt; majority(3), 2);
-        assert_eq!(rt; majority(5), 3);
+    fn an_arbiter_accuses_and_is_a_source_of_names_but_of_no_bytes(rt: HostRuntime) {
+        let marks = AllMarks {
+            bytes: accusing([0, 1, 0, 0, 0]),
+            attrs: Marks::zero(),
+            names: accusing([1, 0, 0, 0, 0]),
+        };
+        let mut seen = looked(&[CLEAN, CLEAN, CLEAN]);
+        seen.note(BrickId(2), Some(view_with(marks)));
+        let rows = [
+            (true, Kind::Names, BrickSet::all(3).without(BrickId(0))),
+            (true, Kind::Bytes, BrickSet::all(1)),
+            (false, Kind::Bytes, BrickSet::all(3).without(BrickId(1))),
+            (true, Kind::Attrs, BrickSet::all(3)),
+        ];
+        for (arbiter, kind, sources) in &rows {
+            let found = judge(&three(*arbiter), &seen, *kind);
+            assert_eq!(rt; found, Verdict::Sources(*sources), "at {kind:?}");
+        }
+    }
+
+    #[test]
+    fn of_five_bricks_three_have_to_be_reached(rt: HostRuntime) {
+        let shape = Shape {
+            n: 5,
+            arbiter: false,
+        };
+        let alone = Seen::Has([0, 1, 1, 1, 1]);
+        let fifth = Seen::Has([1, 0, 0, 0, 1]);
+        let away = Seen::Away;
+        let rows = [
+            ([CLEAN, CLEAN, away, away, away], Verdict::Short),
+            (
+                [away, away, Seen::Lacks, Seen::Lacks, Seen::Lacks],
+                Verdict::Bare,
+            ),
+            (
+                [CLEAN, CLEAN, CLEAN, away, away],
+                Verdict::Sources(BrickSet::all(3)),
+            ),
+            (
+                [alone, CLEAN, CLEAN, CLEAN, CLEAN],
+                Verdict::Sources(BrickSet::all(1)),
+            ),
+            (
+                [CLEAN, away, CLEAN, Seen::Lacks, fifth],
+                Verdict::Sources(BrickSet::none().with(BrickId(2))),
+            ),
+            ([alone, CLEAN, CLEAN, CLEAN, fifth], Verdict::Split),
+        ];
+        for (seen, verdict) in &rows {
+            let found = judge(&shape, &looked_at_five(seen), Kind::Bytes);
+            assert_eq!(rt; found, *verdict, "at {seen:?}");
+        }
+    }
+
+    #[test]
+    fn a_majority_is_more_than_half(rt: HostRuntime) {
+        for (n, least) in [(1u8, 1u8), (2, 2), (3, 2), (4, 3), (5, 3)] {
+            assert_eq!(rt; majority(n), least, "of {n}");
+        }
     }
 }

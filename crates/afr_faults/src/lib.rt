@@ -2,5 +2,7 @@
 #![tactic(auto)]
 
 mod fault;
+mod fault_plan;
 
 pub use fault::Fault;
+pub use fault_plan::FaultPlan;

@@ -1,4 +1,6 @@
 //! The name spaces of locks, and what a request for a lock gets.
+ghost use Rattle.std.specs.Prelude.{◌≡◌};
+ghost use Rattle.afr_range_locks.specs.Locks.{same_domain};
 
 use afr_base::ActorId;
 
@@ -15,4 +17,16 @@ pub enum Domain {
 pub enum Got {
     Granted,
     Held(ActorId),
+}
+
+impl Domain {
+    pub(crate) fn is_same(self, other: Domain) -> bool
+        ensures { result ≡ same_domain self other }
+    {
+        match (self, other) {
+            (Domain::Work, Domain::Work) => true,
+            (Domain::Heal, Domain::Heal) => true,
+            _ => false,
+        }
+    }
 }

@@ -1,6 +1,12 @@
-//! Locks on ranges of an object.
+//! Locks on ranges of an object, and a list of held locks that serves whatever they cover.
 #![tactic(auto)]
 
 mod domain;
+mod held;
+mod ranges;
+#[cfg(test)]
+mod tests;
 
 pub use domain::{Domain, Got};
+pub use held::{HeldLock, HeldLocks, Lockable};
+pub use ranges::{ObjectRange, RangeLocks, ranges_share_a_number};

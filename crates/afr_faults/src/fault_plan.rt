@@ -1,0 +1,87 @@
+//! The faults that are planned for the requests to one brick, by their count.
+ghost use Rattle.std.specs.Prelude.{◌≡◌, ◌+◌, ◌-◌, ◌^◌, ◌<◌, [], OnOk, OnErr};
+ghost use Rattle.std.specs.BTreeMap.{insert_entry};
+ghost use Rattle.std.specs.Ordering.{nat_cmp};
+ghost use Rattle.afr_faults.specs.Planned.{Plans, next_fault};
+
+use crate::fault::Fault;
+use afr_base::NoMemory;
+use std::alloc::Global;
+use std::collections::BTreeMap;
+use std::marker::Model;
+
+/// Counts the requests to a brick, refused ones included, and knows which of them have a fault.
+/// Each call takes O(log n) steps on n planned faults.
+#[derive(Drop)]
+pub struct FaultPlan {
+    requests: u32,
+    faults: BTreeMap<u64, Fault>,
+}
+
+impl Model for FaultPlan {
+    ghost use Rattle.afr_faults.specs.Planned.{Planned};
+
+    ghost Value = { Planned };
+
+    ghost view = { λ p. record { requests = p.requests; faults = p.faults.entries } };
+}
+
+impl FaultPlan {
+    /// No request came, and none is to fail.
+    pub fn new(alloc: Global) -> FaultPlan
+        ensures { result ≡ record { requests = 0; faults = [] } }
+    {
+        FaultPlan {
+            requests: 0,
+            faults: BTreeMap::new(alloc),
+        }
+    }
+
+    /// Plans a fault for the request of this count. A fault that was planned for it is replaced; one
+    /// for a count that is past, or for 0, never comes.
+    pub fn add(&mut self, at: u32, fault: Fault) -> Result<(), NoMemory>
+        ensures plans { OnOk result (Plans self.old self.new at fault) }
+        ensures ok { OnOk result (self.new ≡ record self.old { faults = insert_entry nat_cmp self.old.faults at fault }) }
+        ensures err { OnErr result (self.new ≡ self.old) }
+    {
+        self.faults.insert(u64::from(at), fault)?;
+        Ok(())
+    }
+
+    /// What `next_request` would answer.
+    pub fn peek(&self) -> Option<Fault>
+        ensures { result ≡ next_fault self.now }
+    {
+        self.faults.get(&(u64::from(self.requests) + 1)).copied()
+    }
+
+    /// Counts one more request, and gives its fault.
+    pub fn next_request(&mut self) -> Option<Fault>
+        requires { self.old.requests < 2 ^ 32 - 1 }
+        ensures fault { result ≡ next_fault self.old }
+        ensures counted { self.new ≡ record self.old { requests = self.old.requests + 1 } }
+    {
+        self.requests += 1;
+        self.faults.get(&u64::from(self.requests)).copied()
+    }
+}
+
+#[cfg(test)]
+mod tests {
+    use super::*;
+    use std::test::Fail;
+
+    #[test]
+    fn each_request_has_the_fault_of_its_count(rt: HostRuntime) -> Result<(), Fail> {
+        let mut plan = FaultPlan::new(rt.alloc());
+        plan.add(3, Fault::Lost).ok().ok_or("memory")?;
+        plan.add(2, Fault::Lost).ok().ok_or("memory")?;
+        plan.add(3, Fault::Fail).ok().ok_or("memory")?;
+        assert_eq!(rt; plan.next_request(), None);
+        assert_eq!(rt; plan.peek(), Some(Fault::Lost));
+        assert_eq!(rt; plan.next_request(), Some(Fault::Lost));
+        assert_eq!(rt; plan.next_request(), Some(Fault::Fail));
+        assert_eq!(rt; plan.next_request(), None);
+        Ok(())
+    }
+}

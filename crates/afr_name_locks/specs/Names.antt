@@ -1,0 +1,32 @@
+-- Names of directories as locks cover them: one name, or the whole directory.
+use Rattle.std.specs.Prelude.{◌==◌, ◌&&◌, Bool, true, false, Option, Some, None}
+use Rattle.afr_base.specs.declared.ids.ActorId.{ActorId}
+use Rattle.afr_base.specs.declared.ids.Gfid.{Gfid}
+use Rattle.afr_base.specs.declared.ids.NameId.{NameId}
+use Rattle.afr_range_locks.specs.declared.domain.Domain.{Domain}
+use Rattle.afr_range_locks.specs.declared.held.HeldLock.{HeldLock}
+use Rattle.afr_name_locks.specs.declared.names.DirName.{DirName}
+
+-- two names are the same; none stands for the whole directory
+abbrev pub same_name : Option NameId → Option NameId → Bool
+same_name None None = true
+same_name (Some n) (Some m) = n.0 == m.0
+same_name one other = false
+
+-- two owners can't lock both names of a directory at a time: the names are equal, or one is the whole directory
+abbrev pub share_name : Option NameId → Option NameId → Bool
+share_name None other = true
+share_name (Some n) None = true
+share_name (Some n) (Some m) = n.0 == m.0
+
+-- two names are of one directory and can't both be locked
+abbrev pub overlap_dir_name : DirName → DirName → Bool
+overlap_dir_name one other = (one.gfid.0 == other.gfid.0) && share_name one.name other.name
+
+-- two names are of one directory and the same
+abbrev pub same_dir_name : DirName → DirName → Bool
+same_dir_name one other = (one.gfid.0 == other.gfid.0) && same_name one.name other.name
+
+-- a lock of an owner in a domain on a name of a directory
+abbrev pub name_lock : ActorId → Domain → Gfid → Option NameId → HeldLock DirName
+name_lock owner domain g name = record { owner = owner; domain = domain; area = record { gfid = g; name = name } }

@@ -1,0 +1,115 @@
+//! Locks on ranges of an object.
+ghost use Rattle.std.specs.Prelude.{◌≡◌, ℕ, ◌<◌, ◌↔◌, true, [], ◌∷◌, ◌++◌, Ok, Some, None, OnErr};
+ghost use Rattle.afr_range_locks.specs.Locks.{AreApart, IsInBoth, first_conflict, overlap_range, range_lock, same_range, share_number, unlocked, without_owner};
+ghost use Rattle.afr_range_locks.specs.declared.domain.Got.TheVariants as got;
+
+use crate::domain::{Domain, Got};
+use crate::held::{HeldLock, HeldLocks, Lockable};
+use afr_base::{ActorId, Gfid, NoMemory};
+use std::alloc::Global;
+use std::marker::Model;
+
+/// A range of an object, from a number up to and without another.
+#[derive(Clone, Copy, Debug)]
+pub struct ObjectRange {
+    pub gfid: Gfid,
+    pub from: u64,
+    pub to: u64,
+}
+
+impl Lockable for ObjectRange {
+    ghost overlap = { overlap_range };
+
+    ghost same = { same_range };
+
+    fn overlaps(&self, other: &ObjectRange) -> bool {
+        self.gfid.0 == other.gfid.0 && self.from < other.to && other.from < self.to
+    }
+
+    fn is_same(&self, other: &ObjectRange) -> bool {
+        self.gfid.0 == other.gfid.0 && self.from == other.from && self.to == other.to
+    }
+}
+
+/// The locks on ranges that are held, which contracts see as a list with the one that was granted first at its front.
+#[derive(Drop)]
+pub struct RangeLocks {
+    held: HeldLocks<ObjectRange>,
+}
+
+impl Model for RangeLocks {
+    ghost use Rattle.std.specs.Prelude.{List};
+    ghost use Rattle.afr_range_locks.specs.declared.held.HeldLock.{HeldLock};
+    ghost use Rattle.afr_range_locks.specs.declared.ranges.ObjectRange.{ObjectRange};
+
+    ghost Value = { List (HeldLock ObjectRange) };
+
+    ghost view = { λ r. r.held };
+}
+
+impl RangeLocks {
+    pub fn new(alloc: Global) -> RangeLocks
+        ensures { result ≡ [] }
+    {
+        RangeLocks {
+            held: HeldLocks::new(alloc),
+        }
+    }
+
+    /// Takes the lock, unless another owner's is in the way. An owner may hold the same lock twice.
+    /// O(n) steps on n held locks.
+    pub fn lock(
+        &mut self,
+        owner: ActorId,
+        domain: Domain,
+        g: Gfid,
+        from: u64,
+        to: u64,
+    ) -> Result<Got, NoMemory>
+        requires some { from < to }
+        ensures granted { let wanted = range_lock owner domain g from to in
+            result ≡ Ok got.Granted → (first_conflict overlap_range wanted self.old ≡ None) × (self.new ≡ self.old ++ wanted ∷ []) }
+        ensures held { let wanted = range_lock owner domain g from to in
+            (other : _) → result ≡ Ok (got.Held other) → (first_conflict overlap_range wanted self.old ≡ Some other) × (self.new ≡ self.old) }
+        ensures err { let wanted = range_lock owner domain g from to in
+            OnErr result ((first_conflict overlap_range wanted self.old ≡ None) × (self.new ≡ self.old)) }
+    {
+        self.held.lock(range_lock(owner, domain, g, from, to))
+    }
+
+    /// Releases the lock as often as it was granted; where it isn't held nothing changes. O(n) steps on n held locks.
+    pub fn unlock(&mut self, owner: ActorId, domain: Domain, g: Gfid, from: u64, to: u64)
+        ensures { self.new ≡ unlocked same_range (range_lock owner domain g from to) self.old }
+    {
+        self.held.unlock(range_lock(owner, domain, g, from, to));
+    }
+
+    /// Releases all locks of an owner. O(n) steps on n held locks.
+    pub fn drop_owner(&mut self, owner: ActorId)
+        ensures { self.new ≡ without_owner owner self.old }
+    {
+        self.held.drop_owner(owner);
+    }
+
+    /// Whatever was locked, released and dropped before: two owners never hold ranges of one domain that share a number.
+    pub fn every_pair(&self)
+        ensures { AreApart overlap_range self.now }
+    {
+        self.held.every_pair();
+    }
+}
+
+/// What it means that two ranges share a number.
+pub fn ranges_share_a_number()
+    ensures { (from to start end : ℕ) → from < to → start < end → (share_number from to start end ≡ true) ↔ IsInBoth from to start end }
+{}
+
+fn range_lock(owner: ActorId, domain: Domain, g: Gfid, from: u64, to: u64) -> HeldLock<ObjectRange>
+    ensures { result ≡ range_lock owner domain g from to }
+{
+    HeldLock {
+        owner,
+        domain,
+        area: ObjectRange { gfid: g, from, to },
+    }
+}
