@@ -1,4 +1,5 @@
 -- Lemmas of this crate.
 pub mod ActorLemmas
 pub mod StatusLemmas
+pub mod ToldLemmas
 pub mod WordLemmas

@@ -1,5 +1,6 @@
 -- What a fault, a refusal and the want of a plan give.
-use Rattle.std.proofs.Common.{◌≡◌, ℕ, List, [], Option, refl, inl, inr}
+use Rattle.std.proofs.Common.{◌≡◌, ◌≤◌, ◌⊎◌, ℕ, List, [], Option, Global, length, refl, inl, inr}
+use Rattle.std.specs.Prelude.{String}
 use Rattle.std.specs.Io.KnownBytes.{Appends, Consumes, IsAtEnd}
 use Rattle.afr_text.specs.Parts.{AppendsFront, CameMore}
 use Rattle.afr_plan.specs.declared.plan.Plan.{Plan}
@@ -8,26 +9,42 @@ use Rattle.afr_plan.specs.Spells.{Spells}
 use Rattle.afr_model.specs.State.{State, no_volume}
 use Rattle.afr_model.specs.Ordered.{IsOrdered, Writes}
 use Rattle.afr_model.specs.Report.{report_of}
-use Rattle.afr_cli.specs.Statuses.{IsText, IsRefusal, StopsWriting, refusal_line, usage_line}
+use Rattle.afr_model.specs.Complete.{IsComplete}
+use Rattle.afr_cli.specs.Statuses.{AreDone, AreRun, IsText, IsRefused, IsRefusal, IsSpelled, StopsWriting, refusal_line, usage_line}
 
 -- before a plan was handed in nothing was written, in any order
 pub nothing_ordered : (v : State) → v ≡ no_volume → IsOrdered v.plan v.log
 nothing_ordered v e = rw e (record { turns = []; later = []; rounds = 0; stated = refl; written = Writes.Nothing })
 
-module _ (taken taken' : Option (List ℕ)) (now : State) where
-  pub stops_at_usage : AppendsFront taken taken' usage_line → StopsWriting taken taken' now
-  stops_at_usage front = record { text = usage_line; known = IsText.Usage; front = front }
+module _ {S : Type 0} (words : List (String Global)) (left : S → Option (List ℕ)) (source source' : S) (taken taken' : Option (List ℕ)) (now : State) where
+  pub stops_at_usage : (AreRun words → ⊥) → source' ≡ source → now ≡ no_volume → AppendsFront taken taken' usage_line → StopsWriting words left source source' taken taken' now
+  stops_at_usage other same none front = record { text = usage_line; known = IsText.Usage other same none; front = front }
 
-  pub stops_at_refusal : (fault : PlanFault) → AppendsFront taken taken' (refusal_line fault) → StopsWriting taken taken' now
-  stops_at_refusal fault front = record { text = refusal_line fault; known = IsText.Refusal fault; front = front }
+  pub stops_at_refusal : (fault : PlanFault) → AreRun words → IsRefused (left source) (left source') fault → now ≡ no_volume
+      → AppendsFront taken taken' (refusal_line fault) → StopsWriting words left source source' taken taken' now
+  stops_at_refusal fault run cause none front = record { text = refusal_line fault; known = IsText.Refusal run fault cause none; front = front }
 
-  pub stops_at_report : AppendsFront taken taken' (report_of now.plan now.log) → StopsWriting taken taken' now
-  stops_at_report front = record { text = report_of now.plan now.log; known = IsText.Report; front = front }
+  pub stops_at_report : AreRun words → IsSpelled (left source) (left source') now.plan → IsComplete now.plan now.log → AreDone now.plan now.log
+      → AppendsFront taken taken' (report_of now.plan now.log) → StopsWriting words left source source' taken taken' now
+  stops_at_report run spelled complete done front = record { text = report_of now.plan now.log; known = IsText.Report run spelled complete done; front = front }
 
-module _ (left left' taken taken' : Option (List ℕ)) (fault : PlanFault) where
-  pub refused_unread : (bytes seen : List ℕ) → seen ≡ bytes → Consumes left left' bytes → IsAtEnd left' → (fault ≡ record { line = 0; code = 10 }) × ((plan : Plan) → Spells seen plan → ⊥)
-      → Appends taken taken' (refusal_line fault) → IsRefusal left left' taken taken'
-  refused_unread bytes seen e came end why line = record { fault = fault; cause = inl (why.0, record { bytes = bytes; read = record { came = came; end = end }; none = rw (← e) why.1 }); line = line }
+module _ (left left' : Option (List ℕ)) (fault : PlanFault) where
+  pub is_unread : (bytes seen : List ℕ) → seen ≡ bytes → Consumes left left' bytes → IsAtEnd left' → length bytes ≤ 16777216
+      → (fault ≡ record { line = 0; code = 10 }) × ((plan : Plan) → Spells seen plan → ⊥) → IsRefused left left' fault
+  is_unread bytes seen e came end few why = inl (why.0, record { bytes = bytes; read = record { came = came; end = end; few = few }; none = rw (← e) why.1 })
 
-  pub refused_long : CameMore left left' 16777216 → fault ≡ record { line = 0; code = 0 } → Appends taken taken' (refusal_line fault) → IsRefusal left left' taken taken'
-  refused_long more why line = record { fault = fault; cause = inr (why, more); line = line }
+  pub is_long : CameMore left left' 16777216 → fault ≡ record { line = 0; code = 0 } → IsRefused left left' fault
+  is_long more why = inr (why, more)
+
+  pub refused : (taken taken' : Option (List ℕ)) → IsRefused left left' fault → Appends taken taken' (refusal_line fault) → IsRefusal left left' taken taken'
+  refused taken taken' cause line = record { fault = fault; cause = cause; line = line }
+
+module _ (left left' : Option (List ℕ)) (bytes seen : List ℕ) (plan : Plan) where
+  -- the plan that was spelled is the one that was run
+  pub is_spelled : (run : Plan) → seen ≡ bytes → Consumes left left' bytes → IsAtEnd left' → length bytes ≤ 16777216 → Spells seen plan → run ≡ plan → IsSpelled left left' run
+  is_spelled run e came end few spells same = record { bytes = bytes; read = record { came = came; end = end; few = few }; spells = rw (← e, same) spells }
+
+  pub spelled_or_none : (now : State) → seen ≡ bytes → Consumes left left' bytes → IsAtEnd left' → length bytes ≤ 16777216 → Spells seen plan
+      → (now ≡ no_volume) ⊎ (now.plan ≡ plan) → (now ≡ no_volume) ⊎ IsSpelled left left' now.plan
+  spelled_or_none now e came end few spells (inl none) = inl none
+  spelled_or_none now e came end few spells (inr same) = inr (is_spelled now.plan e came end few spells same)

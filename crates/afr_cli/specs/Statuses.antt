@@ -1,14 +1,16 @@
 -- What each status of the program says.
-use Rattle.std.specs.Prelude.{◌≡◌, ◌⊎◌, ℕ, true, false, List, [], ◌∷◌, ◌++◌, ◌==◌, if◌then◌else◌, Option, String, codes, decimal, length, map, string_bytes}
+use Rattle.std.specs.Prelude.{◌≡◌, ◌<◌, ◌≤◌, ◌⊎◌, ℕ, true, false, List, [], ◌∷◌, ◌++◌, ◌==◌, if◌then◌else◌, Option, Some, String, codes, decimal, length, map, string_bytes}
 use Rattle.std.specs.Global.{Global}
 use Rattle.std.specs.Io.KnownBytes.{Appends, Consumes, IsAtEnd}
+use Rattle.afr_text.specs.Causes.{Rose}
 use Rattle.afr_text.specs.Parts.{AppendsFront, CameMore}
 use Rattle.afr_lines.specs.declared.line.Line.{Line}
 use Rattle.afr_plan.specs.declared.plan.Plan.{Plan}
 use Rattle.afr_plan.specs.declared.plan.PlanFault.{PlanFault}
 use Rattle.afr_plan.specs.Spells.{Spells}
-use Rattle.afr_model.specs.State.{State}
+use Rattle.afr_model.specs.State.{State, no_volume}
 use Rattle.afr_model.specs.Actors.{IsActor, is_done}
+use Rattle.afr_model.specs.Complete.{IsComplete}
 use Rattle.afr_model.specs.Report.{report_of}
 
 -- the words are the command `run`, and no more
@@ -27,10 +29,11 @@ name_of code = if code == 0 then codes "long" else codes "unread"
 abbrev pub refusal_line : PlanFault → List ℕ
 refusal_line fault = codes "plan refused: line " ++ decimal fault.line ++ codes ", code " ++ decimal fault.code ++ codes " " ++ name_of fault.code ++ codes "\n"
 
--- the source was read to its end, and gave these bytes
+-- the source was read to its end, and gave these bytes, at most 16 MiB
 pub record WasRead (left now : Option (List ℕ)) (bytes : List ℕ) : Type 0 where
   pub came : Consumes left now bytes
   pub end : IsAtEnd now
+  pub few : length bytes ≤ 16777216
 
 -- what the source gave, to its end, spells the plan
 pub record IsSpelled (left now : Option (List ℕ)) (plan : Plan) : Type 0 where
@@ -73,14 +76,28 @@ pub record IsRefusal (left left' taken taken' : Option (List ℕ)) : Type 0 wher
   pub cause : IsRefused left left' fault
   pub line : Appends taken taken' (refusal_line fault)
 
--- a text of the program: the usage, a refusal, or the report of the volume
-pub data IsText (now : State) : List ℕ → Type 0 where
-  Usage : IsText now usage_line
-  Refusal : (fault : PlanFault) → IsText now (refusal_line fault)
-  Report : IsText now (report_of now.plan now.log)
+-- a text of the program, and why it was to be written: the usage, a refusal, or the report of the volume
+pub data IsText {S : Type 0} (words : List (String Global)) (left : S → Option (List ℕ)) (source source' : S) (now : State) : List ℕ → Type 0 where
+  Usage : (AreRun words → ⊥) → source' ≡ source → now ≡ no_volume
+      → IsText words left source source' now usage_line
+  Refusal : AreRun words → (fault : PlanFault) → IsRefused (left source) (left source') fault → now ≡ no_volume
+      → IsText words left source source' now (refusal_line fault)
+  Report : AreRun words → IsSpelled (left source) (left source') now.plan → IsComplete now.plan now.log → AreDone now.plan now.log
+      → IsText words left source source' now (report_of now.plan now.log)
 
--- the sink took a front of one of the program's texts
-pub record StopsWriting (taken taken' : Option (List ℕ)) (now : State) : Type 0 where
+-- the sink took a front of the text that was to be written
+pub record StopsWriting {S : Type 0} (words : List (String Global)) (left : S → Option (List ℕ)) (source source' : S) (taken taken' : Option (List ℕ)) (now : State) : Type 0 where
   pub text : List ℕ
-  pub known : IsText now text
+  pub known : IsText words left source source' now text
   pub front : AppendsFront taken taken' text
+
+-- the words are `run`, the source tells these bytes, and no read of it failed
+pub record AreGiven (words : List (String Global)) (left : Option (List ℕ)) (faults faults' : ℕ) (bytes : List ℕ) : Type 0 where
+  pub run : AreRun words
+  pub told : left ≡ Some bytes
+  pub sound : Rose faults faults' → ⊥
+
+-- bytes that are no plan: more than 16 MiB, at line 0 with code 0, or no more, and they spell none, at line 0 with code 10
+pub data HasFault (bytes : List ℕ) : PlanFault → Type 0 where
+  Long : 16777216 < length bytes → HasFault bytes (record { line = 0; code = 0 })
+  Unread : length bytes ≤ 16777216 → ((plan : Plan) → Spells bytes plan → ⊥) → HasFault bytes (record { line = 0; code = 10 })

@@ -1,12 +1,19 @@
 //! The whole program, but for its outside.
-ghost use Rattle.std.specs.Prelude.{◌≡◌, ◌⊎◌};
+ghost use Rattle.std.specs.Prelude.{◌≡◌, ◌≤◌, ◌⊎◌, ℕ, List, String, length};
+ghost use Rattle.std.specs.Global.{Global};
 ghost use Rattle.afr_text.specs.Causes.{Rose};
 ghost use Rattle.afr_model.specs.State.{no_volume};
 ghost use Rattle.afr_model.specs.Complete.{IsComplete};
 ghost use Rattle.afr_model.specs.Following.{Follows};
+ghost use Rattle.afr_model.specs.Honest.{Honest};
 ghost use Rattle.afr_model.specs.Ordered.{IsOrdered};
+ghost use Rattle.afr_model.specs.Replied.{Replied};
+ghost use Rattle.afr_model.specs.Safe.{AreFresh, IsAlwaysSafe};
 ghost use Rattle.std.specs.Io.KnownBytes.{Appends};
-ghost use Rattle.afr_cli.specs.Statuses.{AreRun, AreDone, IsFull, IsRefusal, IsSpelled, IsWorkLeft, Reports, StopsWriting, usage_line};
+ghost use Rattle.afr_plan.specs.declared.plan.Plan.{Plan};
+ghost use Rattle.afr_plan.specs.declared.plan.PlanFault.{PlanFault};
+ghost use Rattle.afr_plan.specs.Spells.{Spells};
+ghost use Rattle.afr_cli.specs.Statuses.{AreRun, AreDone, HasFault, AreGiven, IsFull, IsRefusal, IsSpelled, IsWorkLeft, Reports, StopsWriting, refusal_line, usage_line};
 
 use crate::messages::{answer, refuse};
 use crate::running::run_plan;
@@ -45,14 +52,28 @@ pub fn afr_top<S: Source, K: Sink>(
     ensures read { result ≡ 4 → Rose (S.faults source.old) (S.faults source.new) × (sink.new ≡ sink.old) × (volume.new ≡ no_volume) }
 
     // The text is not whole.
-    ensures write { result ≡ 5 → Rose (K.faults sink.old) (K.faults sink.new) × StopsWriting (K.taken sink.old) (K.taken sink.new) volume.new }
+    ensures write { result ≡ 5 → Rose (K.faults sink.old) (K.faults sink.new)
+        × StopsWriting words.now S.left source.old source.new (K.taken sink.old) (K.taken sink.new) volume.new }
     ensures memory { result ≡ 6 → sink.new ≡ sink.old }
 
+    // The words are `run`, the source tells its bytes, and no read failed.
+    ensures faulty { (bytes : List ℕ) (fault : PlanFault) → AreGiven words.now (S.left source.old) (S.faults source.old) (S.faults source.new) bytes
+        → HasFault bytes fault
+        → ((result ≡ 3) × Appends (K.taken sink.old) (K.taken sink.new) (refusal_line fault)) ⊎ (result ≡ 5) ⊎ (result ≡ 6) }
+    ensures spelled { (bytes : List ℕ) (plan : Plan) → AreGiven words.now (S.left source.old) (S.faults source.old) (S.faults source.new) bytes
+        → length bytes ≤ 16777216 → Spells bytes plan
+        → (result ≡ 0) ⊎ (result ≡ 7) ⊎ (result ≡ 5) ⊎ (result ≡ 6) }
+
     // At every status.
+    ensures plan { (volume.new ≡ no_volume) ⊎ IsSpelled (S.left source.old) (S.left source.new) volume.new.plan }
     ensures others { (AreRun words.now → ⊥) → (result ≡ 2) ⊎ (result ≡ 5) }
     ensures few { (result ≡ 0) ⊎ (result ≡ 2) ⊎ (result ≡ 3) ⊎ (result ≡ 4) ⊎ (result ≡ 5) ⊎ (result ≡ 6) ⊎ (result ≡ 7) }
     ensures follows { Follows volume.new.plan volume.new.log }
     ensures ordered { IsOrdered volume.new.plan volume.new.log }
+    ensures honest { Honest volume.new.plan volume.new.log }
+    ensures replied { Replied volume.new.plan volume.new.log }
+    ensures safe { IsAlwaysSafe volume.new.plan volume.new.log }
+    ensures fresh { AreFresh volume.new.plan volume.new.log }
 {
     let status = if is_run(words) {
         read_and_run(alloc, source, sink, volume)
@@ -64,7 +85,7 @@ pub fn afr_top<S: Source, K: Sink>(
 }
 
 /// Reads a plan from the source, and runs it.
-#[tactic(auto, using(crate::proofs::StatusLemmas::nothing_ordered, crate::proofs::StatusLemmas::stops_at_refusal, crate::proofs::StatusLemmas::stops_at_report, crate::proofs::StatusLemmas::refused_unread, crate::proofs::StatusLemmas::refused_long))]
+#[tactic(auto, using(crate::proofs::StatusLemmas::nothing_ordered))]
 fn read_and_run<S: Source, K: Sink>(
     alloc: Global,
     source: &mut S,
@@ -78,8 +99,10 @@ fn read_and_run<S: Source, K: Sink>(
         × IsFull volume.new.plan volume.new.log × IsWorkLeft volume.new.plan volume.new.log }
     ensures refused { result ≡ 3 → IsRefusal (S.left source.old) (S.left source.new) (K.taken sink.old) (K.taken sink.new) × (volume.new ≡ no_volume) }
     ensures read { result ≡ 4 → Rose (S.faults source.old) (S.faults source.new) × (sink.new ≡ sink.old) × (volume.new ≡ no_volume) }
-    ensures write { result ≡ 5 → Rose (K.faults sink.old) (K.faults sink.new) × StopsWriting (K.taken sink.old) (K.taken sink.new) volume.new }
+    ensures write { result ≡ 5 → Rose (K.faults sink.old) (K.faults sink.new)
+        × ((words : List (String Global)) → AreRun words → StopsWriting words S.left source.old source.new (K.taken sink.old) (K.taken sink.new) volume.new) }
     ensures memory { result ≡ 6 → sink.new ≡ sink.old }
+    ensures plan { (volume.new ≡ no_volume) ⊎ IsSpelled (S.left source.old) (S.left source.new) volume.new.plan }
     ensures few { (result ≡ 0) ⊎ (result ≡ 3) ⊎ (result ≡ 4) ⊎ (result ≡ 5) ⊎ (result ≡ 6) ⊎ (result ≡ 7) }
     ensures ordered { IsOrdered volume.new.plan volume.new.log }
 {

@@ -1,5 +1,5 @@
 //! A plan from its start to its report.
-ghost use Rattle.std.specs.Prelude.{◌≡◌, ◌⊎◌, ◌≤◌, length, true, false};
+ghost use Rattle.std.specs.Prelude.{◌≡◌, ◌≢◌, ◌⊎◌, ◌≤◌, length, true, false};
 ghost use Rattle.std.specs.Io.KnownBytes.{Appends};
 ghost use Rattle.afr_text.specs.Causes.{Rose};
 ghost use Rattle.afr_text.specs.Parts.{AppendsFront};
@@ -26,12 +26,14 @@ pub fn run_plan<K: Sink>(alloc: Global, plan: Plan, sink: &mut K, volume: &mut V
     requires first { IsFirstPath plan }
     requires fresh { volume.old ≡ no_volume }
     ensures few { (result ≡ 0) ⊎ (result ≡ 5) ⊎ (result ≡ 6) ⊎ (result ≡ 7) }
-    ensures plan { (result ≡ 6) ⊎ (volume.new.plan ≡ plan) }
+    ensures plan { (volume.new ≡ no_volume) ⊎ (volume.new.plan ≡ plan) }
+    ensures ran { result ≢ 6 → volume.new.plan ≡ plan }
     ensures ordered { IsOrdered volume.new.plan volume.new.log }
     ensures ok { result ≡ 0 → IsComplete volume.new.plan volume.new.log × AreDone volume.new.plan volume.new.log }
     ensures unfinished { result ≡ 7 → (sink.new ≡ sink.old) × IsFull volume.new.plan volume.new.log × IsWorkLeft volume.new.plan volume.new.log }
     ensures report { result ≡ 0 → Appends (K.taken sink.old) (K.taken sink.new) (report_of volume.new.plan volume.new.log) }
-    ensures write { result ≡ 5 → Rose (K.faults sink.old) (K.faults sink.new) × AppendsFront (K.taken sink.old) (K.taken sink.new) (report_of volume.new.plan volume.new.log) }
+    ensures write { result ≡ 5 → Rose (K.faults sink.old) (K.faults sink.new) × AppendsFront (K.taken sink.old) (K.taken sink.new) (report_of volume.new.plan volume.new.log)
+        × IsComplete volume.new.plan volume.new.log × AreDone volume.new.plan volume.new.log }
     ensures memory { result ≡ 6 → sink.new ≡ sink.old }
 {
     if volume.set_up(plan).is_err() {

@@ -1,3 +1,4 @@
 pub mod Told
 pub mod Log
 pub mod Work
+pub mod Areas

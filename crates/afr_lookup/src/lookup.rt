@@ -78,7 +78,9 @@ impl LookupMachine {
     /// Takes the memory of the coming move: a read needs none.
     pub fn ready(&mut self) -> Result<(), NoMemory>
         ensures same { self.new ≡ self.old }
+        ensures sound { IsLookup self.old.walk self.old.stage }
     {
+        let _ = &self.walk;
         Ok(())
     }
 

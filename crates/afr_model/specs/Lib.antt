@@ -5,3 +5,12 @@ pub mod Following
 pub mod Ordered
 pub mod Complete
 pub mod Report
+pub mod Cells
+pub mod Attempts
+pub mod Sums
+pub mod Safe
+pub mod Sessions
+pub mod Locks
+pub mod Honest
+pub mod Showing
+pub mod Replied

@@ -3,7 +3,11 @@
 
 ghost use Rattle.std.specs.Prelude.{◌≡◌, OnOk, []};
 ghost use Rattle.afr_model.specs.Complete.{IsComplete};
+ghost use Rattle.afr_model.specs.Following.{Follows};
+ghost use Rattle.afr_model.specs.Honest.{Honest};
 ghost use Rattle.afr_model.specs.Ordered.{IsOrdered};
+ghost use Rattle.afr_model.specs.Replied.{Replied};
+ghost use Rattle.afr_model.specs.Safe.{AreFresh, IsAlwaysSafe};
 
 mod rows;
 mod turns;
@@ -17,6 +21,22 @@ use afr_volume::Volume;
 /// healers. Before each turn, and at the end, all due events come. It takes one turn for each line,
 /// and each pass asks each actor once more.
 pub fn drive(volume: &mut Volume) -> Result<(), NoMemory>
+    requires fresh { volume.old.log ≡ [] }
+    ensures plan { volume.new.plan ≡ volume.old.plan }
+    ensures ok { OnOk result (IsComplete volume.new.plan volume.new.log) }
+    ensures ordered { IsOrdered volume.new.plan volume.new.log }
+    ensures follows { Follows volume.new.plan volume.new.log }
+    ensures honest { Honest volume.new.plan volume.new.log }
+    ensures replied { Replied volume.new.plan volume.new.log }
+    ensures safe { IsAlwaysSafe volume.new.plan volume.new.log }
+    ensures fresh { AreFresh volume.new.plan volume.new.log }
+{
+    let driven = take_all(volume);
+    volume.every_line();
+    driven
+}
+
+fn take_all(volume: &mut Volume) -> Result<(), NoMemory>
     requires fresh { volume.old.log ≡ [] }
     ensures plan { volume.new.plan ≡ volume.old.plan }
     ensures ok { OnOk result (IsComplete volume.new.plan volume.new.log) }

@@ -9,7 +9,10 @@ use Rattle.afr_plan.specs.declared.command.Command.{Command}
 use Rattle.afr_plan.specs.declared.plan.Plan.{Plan}
 use Rattle.afr_plan.specs.declared.schedule.Go.{Go}
 use Rattle.afr_model.specs.Actors.{IsActor, script_of}
-use Rattle.afr_volume.specs.Keeping.{IsActing, IsRunnable, IsVolume}
+use Rattle.afr_laws.specs.CurrentCells.{current_nothing}
+use Rattle.afr_laws.specs.CurrentLog.{answered_nothing}
+use Rattle.afr_laws.specs.CurrentSafe.{all_current_is_safe}
+use Rattle.afr_volume.specs.Keeping.{AbleWork, TellsWork, CurrentWork, IsActing, IsRunnable, IsVolume}
 use Rattle.afr_volume.specs.Starting.{AreOpened, idle_actor}
 use Rattle.afr_volume.specs.declared.actor.Actor.{Actor}
 
@@ -32,14 +35,17 @@ no_order p orders none i go h = absurd (omega (arith, slice_get_within orders i 
 
 runnable : (p : Plan) → IsFirstPath p → IsRunnable p
 runnable p first = record {
-  few = omega (arith, first.bricks);
+  plain = record {
+    one = first.clients;
+    healers = first.healers;
+    events = first.events;
+    faults = first.faults;
+    few = omega (arith, first.bricks);
+    commands = λ a k c h. (length p.words.names, command_is (length p.words.names) (script_of p a) k c (scripts_are 16384 (length p.words.names) p.clients (a - 1) first.scripts) h);
+  };
   some = λ h. omega (arith, first.bricks);
-  clients = omega (arith, first.clients);
   turns = first.turns;
-  healers = first.healers;
-  events = first.events;
   orders = no_order p p.go first.go;
-  commands = λ a k c h. (length p.words.names, command_is (length p.words.names) (script_of p a) k c (scripts_are 16384 (length p.words.names) p.clients (a - 1) first.scripts) h);
 }
 
 -- ---- the actors
@@ -64,8 +70,20 @@ fresh_volume p log bricks actors count started first none opened idle_actors all
   few = opened.count;
   tables = opened.each;
   same = ap length idle_actors ∙ length_of_replicate count idle_actor ∙ all;
-  each = λ i x h. subst (λ (y : Actor). IsActing p [] (i + 1) y) (sym (item_of_replicate count i idle_actor x (subst (λ (l : List Actor). slice_get l i ≡ Some x) idle_actors h))) (idle p (i + 1));
+  each = λ i x h. subst (λ (y : Actor). IsActing p [] (i + 1) y) (sym (is_idle i x h)) (idle p (i + 1));
+  able = λ i x h. subst (λ (y : Actor). AbleWork p [] y.work) (sym (is_idle i x h)) tt;
+  tells = λ i x h. subst (λ (y : Actor). TellsWork p (i + 1) [] y.work) (sym (is_idle i x h)) tt;
+  stays = λ i x h. subst (λ (y : Actor). CurrentWork p [] y.work) (sym (is_idle i x h)) answered_nothing;
   started_is = full;
   made_is = refl;
   follows = tt;
+  honest = tt;
+  replied = tt;
+  sums = tt;
+  current = current_nothing p;
+  safe = all_current_is_safe p [] (current_nothing p);
+  fresh = tt;
 })
+  where
+    is_idle : (i : ℕ) (x : Actor) → slice_get actors i ≡ Some x → x ≡ idle_actor
+    is_idle i x h = item_of_replicate count i idle_actor x (subst (λ (l : List Actor). slice_get l i ≡ Some x) idle_actors h)

@@ -1,14 +1,10 @@
 -- The log as the code keeps it, the oldest line first, and as contracts see it.
-use Rattle.std.proofs.Common.{◌≡◌, ℕ, ◌-◌, ◌==◌, List, [], ◌∷◌, ◌++◌, refl, ap, ◌∙◌, Some, None, arith, zero, suc, reverse, slice_get, option_and_then, if◌then◌else◌, false, length-append}
+use Rattle.std.proofs.Common.{◌≡◌, ℕ, ◌-◌, ◌==◌, List, [], ◌∷◌, ◌++◌, refl, ap, ◌∙◌, Some, arith, zero, suc, reverse, slice_get, option_and_then, if◌then◌else◌, false, length-append}
 use Rattle.std.proofs.lemmas.Bool.Decides.{nat_tests}
 use Rattle.std.proofs.lemmas.List.{reverse-append}
 use Rattle.std.proofs.lemmas.Grind.{reverse_onto}
-use Rattle.afr_object.specs.Tables.{Table, applied, copy_at, object_of}
-use Rattle.afr_object.specs.declared.change.Change.{Change}
-use Rattle.afr_object.specs.declared.change.Change.TheVariants.{Write, Cut, SetAttr, Make, Remove}
 use Rattle.afr_lines.specs.Log.{from_oldest, change_of, change_at}
 use Rattle.afr_lines.specs.declared.line.Line.{Line}
-use Rattle.std.proofs.Common.{Bool}
 
 -- the newest line of a log that is kept oldest first
 pub reverse_push : (xs : List Line) (x : Line) → reverse (xs ++ x ∷ []) ≡ x ∷ reverse xs
@@ -33,11 +29,3 @@ from_oldest-reverse (x ∷ xs) (suc k) = ap (from_oldest (suc k)) (reverse_onto 
 
 pub change_at-reverse : (xs : List Line) (k : ℕ) → change_at k (reverse xs) ≡ option_and_then change_of (slice_get xs k)
 change_at-reverse xs k = ap (option_and_then change_of) (from_oldest-reverse xs k)
-
--- a change of an object that the brick lacks changes nothing
-pub applied_absent : (keeps : Bool) (change : Change) (t : Table) → copy_at (object_of change) t ≡ None → applied keeps change t ≡ t
-applied_absent keeps (Write g at bytes) t h = rw h refl
-applied_absent keeps (Cut g len) t h = rw h refl
-applied_absent keeps (SetAttr g key value) t h = rw h refl
-applied_absent keeps (Make dir name g what) t h = rw h refl
-applied_absent keeps (Remove dir name what) t h = rw h refl

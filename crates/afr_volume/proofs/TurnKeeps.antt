@@ -1,12 +1,10 @@
 -- A turn keeps what a volume keeps.
 use Rattle.std.proofs.Common.{◌≡◌, ℕ, ◌+◌, ◌-◌, ◌<◌, ◌≤◌, ◌==◌, Bool, true, false, List, [], ◌∷◌, refl, sym, ap, ◌∙◌, arith, subst, length, Some, slice_get, set, length-set, inl, inr, ◌⊎◌, ◌≢◌, if◌then◌else◌}
 use Rattle.std.proofs.lemmas.Bool.Decides.{eqb_tells}
-use Rattle.std.proofs.lemmas.List.{get_or-set_same, get_or-set_other}
-use Rattle.std.proofs.lemmas.Option.{slice_get-get_or, slice_get_within, get_or_from_slice_get}
+use Rattle.std.proofs.lemmas.Option.{slice_get_within}
 use Rattle.afr_base.specs.Bricks.{is_nothing}
 use Rattle.afr_base.specs.declared.ids.ActorId.{ActorId}
 use Rattle.afr_base.specs.declared.ids.BrickId.{BrickId}
-use Rattle.afr_object.specs.Tables.{Table}
 use Rattle.afr_object.specs.declared.change.Change.{Change}
 use Rattle.afr_lines.specs.Told.{told_by}
 use Rattle.afr_lines.specs.Work.{work, ended, is_of, is_killed, events_made}
@@ -21,7 +19,6 @@ use Rattle.afr_lines.specs.declared.request.Request.{Request}
 use Rattle.afr_brick.specs.State.{Copies}
 use Rattle.afr_plan.specs.declared.command.Command.{Command}
 use Rattle.afr_plan.specs.declared.plan.Plan.{Plan}
-use Rattle.afr_model.specs.Tables.{holds, keeps_bytes, asked}
 use Rattle.afr_model.specs.Actors.{IsActor, script_of}
 use Rattle.afr_model.specs.Following.{Found, found_by, KeepsTo, IsTurnOf, NoneDue, IsDue, begins}
 use Rattle.afr_model.specs.Report.{started_bricks}
@@ -32,26 +29,22 @@ use Rattle.afr_lookup.specs.declared.walk.Walk.{Walk}
 use Rattle.afr_write.specs.Write as write
 use Rattle.afr_write.specs.declared.stage.WriteStage.{WriteStage}
 use Rattle.afr_write.specs.declared.stage.WriteStage.TheVariants as stage
-use Rattle.afr_volume.specs.Serve.{NameGiven, ServedAt}
-use Rattle.afr_volume.specs.Acting.{IsBusy, StartsWith, next_of_work, heard_work, Begun, SteppedBy, Stepped}
-use Rattle.afr_volume.specs.Keeping.{IsOnWay, WalksOn, HasBegun, WritesOn, CarriesOut, Carries, IsActing, IsVolume}
+use Rattle.afr_laws.specs.CurrentSafe.{all_current_is_safe}
+use Rattle.afr_volume.specs.Acting.{IsBusy, IsSound, StartsWith, next_of_work, heard_work, Begun, SteppedBy, Stepped}
+use Rattle.afr_volume.specs.Keeping.{IsOnWay, WalksOn, HasBegun, WritesOn, CarriesOut, Carries, AbleWork, TellsWork, CurrentWork, IsActing, IsVolume}
 use Rattle.afr_plan.specs.declared.command.Command.TheVariants as command
 use Rattle.afr_volume.specs.Turning.{Readies, ReadiedAt}
 use Rattle.afr_volume.specs.declared.actor.Actor.{Actor}
 use Rattle.afr_volume.specs.declared.actor.ActorWork.{ActorWork}
 use Rattle.afr_volume.specs.declared.actor.ActorWork.TheVariants.{Idle, Write, Lookup}
+use Rattle.afr_volume.proofs.BeginKeeps.{readied_able, readied_tells}
+use Rattle.afr_volume.proofs.BrickKeeps.{got_same, got_other, each_one, AreTables, given, tables_ask, served_len}
+use Rattle.afr_volume.proofs.CurrentKeeps.{LineStays, current_handles, readied_current}
+use Rattle.afr_volume.proofs.LineKeeps.{line_keeps}
+use Rattle.afr_volume.proofs.MachineKeeps.{LineTells, IsBefore, told_handles}
 use Rattle.afr_volume.proofs.WalkKeeps.{self, NamesNothing, free_ask, walk_moves, walk_begins}
 use Rattle.afr_volume.proofs.WriteKeeps.{IsAsking, phase_moves, walking_moves, begin_moves, write_begins}
 use Rattle.afr_volume.proofs.LookupKeeps.{read_is_free, copy_moves}
-
--- ---- lists with one item set
-pub got_same : {A : Type 0} (l : List A) (i : ℕ) (y z : A) → i < length l → slice_get (set l i y) i ≡ Some z → z ≡ y
-got_same l i y z small h = sym (get_or_from_slice_get (set l i y) i z y h) ∙ get_or-set_same l i y y small
-
-pub got_other : {A : Type 0} (l : List A) (i j : ℕ) (y z : A) → i ≢ j → slice_get (set l i y) j ≡ Some z → slice_get l j ≡ Some z
-got_other l i j y z other h =
-    let small : j < length l = omega (arith, slice_get_within (set l i y) j z h, length-set l i y) in
-    slice_get-get_or l j y small ∙ ap Some (sym (get_or-set_other l i j y y (λ k. other (sym k))) ∙ get_or_from_slice_get (set l i y) j z y h)
 
 -- ---- the lines that clients write
 pub data Wrote (a : ActorId) : Line → Type 0 where
@@ -118,39 +111,6 @@ others p a c line log x w e k = record {
   carries = carries_other p c line log x.work (other_work a c line log w e) (other_ended a c line log w e) k.carries;
 }
 
--- ---- the bricks
-abbrev pub AreTables : Plan → List Line → List Copies → Type 0
-AreTables p log bricks = (b : ℕ) (x : Copies) → slice_get bricks b ≡ Some x → x ≡ record { keeps = keeps_bytes p b; objects = holds p log b }
-
-given : (p : Plan) (log : List Line) (b : ℕ) (r : Request) (old new : List Copies) (heard : Answer) (took : Bool) → AreTables p log old → ServedAt b r log old new heard took → NameGiven (holds p log b) r heard
-given p log b r old new heard took t (inl s) = subst (λ (x : Copies). NameGiven x.objects r heard) (t b s.0 s.2) s.3.named
-given p log b r old new heard took t (inr s) = s.3 (holds p log b)
-
-tables_ask : (p : Plan) (log : List Line) (a : ActorId) (b : BrickId) (r : Request) (told : Told) (old new : List Copies) (heard : Answer) (took : Bool) → AreTables p log old
-    → ServedAt b.0 r log old new heard took → AreTables p (Ask a b r told took ∷ log) new
-tables_ask p log a b r told old new heard took t (inl s) c z h = split (eqb_tells b.0 c)
-  where
-    here : slice_get (set old b.0 s.1) c ≡ Some z
-    here = rw (← s.4) h
-
-    split : ((b.0 == c) ≡ true) × (b.0 ≡ c) ⊎ ((b.0 == c) ≡ false) × (b.0 ≢ c)
-        → z ≡ record { keeps = keeps_bytes p c; objects = (if took then (if b.0 == c then asked (keeps_bytes p c) r log (holds p log c) else holds p log c) else holds p log c) }
-    split (inl e) =
-        let is : z ≡ s.1 = got_same old b.0 s.1 z (slice_get_within old b.0 s.0 s.2) (rw (← e.1) at here) in
-        rw (e.0, ← e.1) (is ∙ s.3.tables ∙ ap (λ (x : Copies). record { keeps = x.keeps; objects = if took then asked x.keeps r log x.objects else x.objects }) (t b.0 s.0 s.2))
-    split (inr e) = rw e.0 (t c z (got_other old b.0 c s.1 z e.1 here) ∙ ap (λ (o : Table). record { keeps = keeps_bytes p c; objects = o }) (same took))
-      where
-        same : (f : Bool) → holds p log c ≡ (if f then holds p log c else holds p log c)
-        same true = refl
-        same false = refl
-tables_ask p log a b r told old new heard took t (inr s) c z h =
-    let here : slice_get old c ≡ Some z = rw (← s.0) h in
-    rw s.1 (t c z here)
-
-served_len : (b : ℕ) (r : Request) (log : List Line) (old new : List Copies) (heard : Answer) (took : Bool) → ServedAt b r log old new heard took → length new ≡ length old
-served_len b r log old new heard took (inl s) = ap length s.4 ∙ length-set old b s.1
-served_len b r log old new heard took (inr s) = ap length s.0
-
 -- ---- the actor of the turn
 pub record ActorMoves (p : Plan) (a : ActorId) (log : List Line) (line : Line) (y : Actor) (old new : List Copies) : Type 0 where
   pub command : Command
@@ -164,7 +124,7 @@ pub record ActorMoves (p : Plan) (a : ActorId) (log : List Line) (line : Line) (
 module _ (p : Plan) (a : ActorId) (at : ℕ) (log : List Line) (x y : Actor) (old new : List Copies) (written : Line) (k : IsActing p log a.0 x) (t : AreTables p log old) where
   -- a request was asked, and its answer heard
   asked_moves : (b : BrickId) (r : Request) (s : Begun a at b r log x y old new written) (command : Command) → slice_get (script_of p a.0) (ended a.0 log) ≡ Some command
-      → KeepsTo p command (Ask a b r (told_by s.answer) s.took) (work a.0 log) → Carries p a.0 (Ask a b r (told_by s.answer) s.took ∷ log) (heard_work (heard.Answer s.answer at) x.work)
+      → KeepsTo p command (Ask a b r (told_by s.answer) true) (work a.0 log) → Carries p a.0 (Ask a b r (told_by s.answer) true ∷ log) (heard_work (heard.Answer s.answer at) x.work)
       → ActorMoves p a log written y old new
   asked_moves b r s command present keeps carries =
       subst (λ (l : Line). ActorMoves p a log l y old new) (sym s.is_line) (record {
@@ -172,9 +132,9 @@ module _ (p : Plan) (a : ActorId) (at : ℕ) (log : List Line) (x y : Actor) (ol
         present = present;
         keeps = keeps;
         acting = rw s.becomes (record { ended_is = k.ended_is; killed_is = k.killed_is; carries = carries });
-        wrote = Asks b r (told_by s.answer) s.took;
-        tables = tables_ask p log a b r (told_by s.answer) old new s.answer s.took t s.served;
-        len = served_len b.0 r log old new s.answer s.took s.served;
+        wrote = Asks b r (told_by s.answer) true;
+        tables = tables_ask p log a b r (told_by s.answer) old new s.answer t s.served;
+        len = served_len b.0 r log old new s.answer s.served;
       })
 
   same_tables : new ≡ old → AreTables p log new
@@ -220,13 +180,13 @@ module _ (p : Plan) (a : ActorId) (at : ℕ) (log : List Line) (x y : Actor) (ol
       phase : (st : WriteStage) → m.stage ≡ st → IsAsking st → ((h : Answer) → write.answered_at st h m ≡ write.phase_heard st h m) → (b : BrickId) (r : Request) → NamesNothing r
           → Begun a at b r log x y old new written → ActorMoves p a log written y old new
       phase st f asking same b r free s =
-          asked_moves b r s c.command c.present (free_ask p c.command a b r (told_by s.answer) s.took (work a.0 log) free)
-          (carried st (Ask a b r (told_by s.answer) s.took) s.answer f refl
-          (rw (same s.answer) (phase_moves p a log c.command m st b r s.answer (told_by s.answer) s.took f asking free c.does)))
+          asked_moves b r s c.command c.present (free_ask p c.command a b r (told_by s.answer) true (work a.0 log) free)
+          (carried st (Ask a b r (told_by s.answer) true) s.answer f refl
+          (rw (same s.answer) (phase_moves p a log c.command m st b r s.answer (told_by s.answer) true f asking free c.does)))
 
       by_stage : (st : WriteStage) → m.stage ≡ st → SteppedBy a at log x y old new written (write.next_at st m) → ActorMoves p a log written y old new
       by_stage stage.Walking f s =
-          let moves = walking_moves p a log c.command m s.answer s.took c.does f (given p log _ _ old new s.answer s.took t s.served) in
+          let moves = walking_moves p a log c.command m s.answer true c.does f (given p log _ _ old new s.answer t s.served) in
           asked_moves _ _ s c.command c.present moves.keeps (carried stage.Walking _ s.answer f refl moves.writes)
       by_stage stage.Locking f s = phase stage.Locking f tt (λ h. refl) _ _ tt s
       by_stage stage.Looking f s = phase stage.Looking f tt (λ h. refl) _ _ tt s
@@ -254,12 +214,12 @@ module _ (p : Plan) (a : ActorId) (at : ℕ) (log : List Line) (x y : Actor) (ol
 
       copy : (st : LookupStage) → m.stage ≡ st → ((h : Answer) → lookup.walk_after st h m.walk ≡ m.walk) → (b : BrickId) (r : Request) → NamesNothing r → Begun a at b r log x y old new written → ActorMoves p a log written y old new
       copy st f same b r free s =
-          let moves = copy_moves p a log c.command m.walk b r s.answer s.took free c.does in
-          asked_moves b r s c.command c.present moves.keeps (carried st (Ask a b r (told_by s.answer) s.took) s.answer f refl (rw (same s.answer) moves.walks))
+          let moves = copy_moves p a log c.command m.walk b r s.answer true free c.does in
+          asked_moves b r s c.command c.present moves.keeps (carried st (Ask a b r (told_by s.answer) true) s.answer f refl (rw (same s.answer) moves.walks))
 
       by_stage : (st : LookupStage) → m.stage ≡ st → SteppedBy a at log x y old new written (lookup.next_at st m) → ActorMoves p a log written y old new
       by_stage reading.Walking f s =
-          let moves = walk_moves p a log c.command m.walk s.answer s.took c.does (given p log _ _ old new s.answer s.took t s.served) in
+          let moves = walk_moves p a log c.command m.walk s.answer true c.does (given p log _ _ old new s.answer t s.served) in
           asked_moves _ _ s c.command c.present moves.keeps (carried reading.Walking _ s.answer f refl moves.walks)
       by_stage (reading.Looking looks) f s = copy (reading.Looking looks) f (λ h. refl) _ _ tt s
       by_stage (reading.Reading b) f s = copy (reading.Reading b) f (λ h. refl) _ _ (read_is_free m.walk.object.gfid m.job) s
@@ -276,25 +236,53 @@ module _ (p : Plan) (a : ActorId) (at : ℕ) (log : List Line) (x y : Actor) (ol
 
 -- ---- the whole volume
 pub kept_turn : (p : Plan) (a : ActorId) (at : ℕ) (log : List Line) (x y : Actor) (bricks new : List Copies) (actors : List Actor) (started : List ℕ) (made : ℕ) (line : Line)
-    → IsVolume p log bricks actors started made → IsActor p a.0 → 1 ≤ a.0 → slice_get actors (a.0 - 1) ≡ Some x → IsBusy x.work → is_killed a.0 log ≡ false → length log < p.turns → NoneDue p log
-    → Stepped a at log x y bricks new line → IsVolume p (line ∷ log) new (set actors (a.0 - 1) y) started made
-kept_turn p a at log x y bricks new actors started made line v actor one is busy alive room none s = record {
+    → IsVolume p log bricks actors started made → IsActor p a.0 → 1 ≤ a.0 → slice_get actors (a.0 - 1) ≡ Some x → IsBusy x.work → IsSound x.work → is_killed a.0 log ≡ false → length log < p.turns → NoneDue p log
+    → at ≡ length log → Stepped a at log x y bricks new line → IsVolume p (line ∷ log) new (set actors (a.0 - 1) y) started made
+kept_turn p a at log x y bricks new actors started made line v actor one is busy sound alive room none position s = record {
   runnable = v.runnable;
   room = room;
   few = moves.len ∙ v.few;
   tables = moves.tables;
   same = length-set actors (a.0 - 1) y ∙ v.same;
   each = λ i z h. each i z h (eqb_tells a.0 (i + 1));
+  able = each_one (λ (i : ℕ) (z : Actor). AbleWork p (line ∷ log) z.work) actors (a.0 - 1) y lone small keeps.able;
+  tells = each_one (λ (i : ℕ) (z : Actor). TellsWork p (i + 1) (line ∷ log) z.work) actors (a.0 - 1) y lone small (subst (λ (c : ℕ). TellsWork p c (line ∷ log) y.work) (sym again) keeps.tells);
+  stays = each_one (λ (i : ℕ) (z : Actor). CurrentWork p (line ∷ log) z.work) actors (a.0 - 1) y lone small stays.work;
   started_is = v.started_is ∙ sym (wrote_started p.shape.n a line log moves.wrote);
   made_is = v.made_is ∙ sym (wrote_made a line log moves.wrote);
   follows = ((room, wrote_due p a line log moves.wrote (record { actor = actor; alive = alive; command = moves.command; present = moves.present; keeps = moves.keeps }) none), v.follows);
+  honest = (keeps.honest, v.honest);
+  replied = (keeps.replied, v.replied);
+  sums = (keeps.sums, v.sums);
+  current = stays.all;
+  safe = (all_current_is_safe p (line ∷ log) stays.all, v.safe);
+  fresh = (stays.fresh, v.fresh);
 }
   where
+    again : (a.0 - 1) + 1 ≡ a.0
+    again = omega (arith, one)
+
+    lone : length actors ≤ 1
+    lone = omega (arith, v.same, v.runnable.plain.one)
+
+    small : a.0 - 1 < length actors
+    small = slice_get_within actors (a.0 - 1) x is
+
     mine : IsActing p log a.0 x
-    mine = let e : (a.0 - 1) + 1 ≡ a.0 = omega arith in subst (λ (c : ℕ). IsActing p log c x) e (v.each (a.0 - 1) x is)
+    mine = subst (λ (c : ℕ). IsActing p log c x) again (v.each (a.0 - 1) x is)
 
     moves : ActorMoves p a log line y bricks new
     moves = actor_moves p a at log x y bricks new line mine v.tables busy s
+
+    before : IsBefore p a log
+    before = record { plain = v.runnable.plain; follows = v.follows; honest = v.honest; actor = actor; room = omega (arith, room, v.runnable.turns); command = moves.command; present = moves.present }
+
+    keeps : LineTells p a log line y.work
+    keeps = line_keeps p a at log x y bricks new line v.tables v.few (LineTells p a log) busy
+        (told_handles p a log before at position x.work (v.able (a.0 - 1) x is) (subst (λ (c : ℕ). TellsWork p c log x.work) again (v.tells (a.0 - 1) x is)) sound) s
+
+    stays : LineStays p a log line y.work
+    stays = line_keeps p a at log x y bricks new line v.tables v.few (LineStays p a log) busy (current_handles p a log before v.current at position x.work (v.stays (a.0 - 1) x is) sound) s
 
     each : (i : ℕ) (z : Actor) → slice_get (set actors (a.0 - 1) y) i ≡ Some z → ((a.0 == i + 1) ≡ true) × (a.0 ≡ i + 1) ⊎ ((a.0 == i + 1) ≡ false) × (a.0 ≢ i + 1) → IsActing p (line ∷ log) (i + 1) z
     each i z h (inl e) =
@@ -327,13 +315,34 @@ kept_ready p log bricks actors new started made a one v r = record {
   tables = v.tables;
   same = ap length r.set_is ∙ length-set actors (a - 1) r.after ∙ v.same;
   each = λ i z h. each i z (rw r.set_is at h) (eqb_tells a (i + 1));
+  able = λ i z h. each_one (λ (i : ℕ) (z : Actor). AbleWork p log z.work) actors (a - 1) r.after lone small (readied_able p a log r.before r.after v.runnable.plain (v.able (a - 1) r.before r.was) r.readies) i z (rw r.set_is at h);
+  tells = λ i z h. each_one (λ (i : ℕ) (z : Actor). TellsWork p (i + 1) log z.work) actors (a - 1) r.after lone small (subst (λ (c : ℕ). TellsWork p c log r.after.work) (sym again) told) i z (rw r.set_is at h);
+  stays = λ i z h. each_one (λ (i : ℕ) (z : Actor). CurrentWork p log z.work) actors (a - 1) r.after lone small (readied_current p a log r.before r.after (v.stays (a - 1) r.before r.was) r.readies) i z (rw r.set_is at h);
   started_is = v.started_is;
   made_is = v.made_is;
   follows = v.follows;
+  honest = v.honest;
+  replied = v.replied;
+  sums = v.sums;
+  current = v.current;
+  safe = v.safe;
+  fresh = v.fresh;
 }
   where
+    again : (a - 1) + 1 ≡ a
+    again = omega (arith, one)
+
+    lone : length actors ≤ 1
+    lone = omega (arith, v.same, v.runnable.plain.one)
+
+    small : a - 1 < length actors
+    small = slice_get_within actors (a - 1) r.before r.was
+
     mine : IsActing p log a r.before
-    mine = let e : (a - 1) + 1 ≡ a = omega arith in subst (λ (c : ℕ). IsActing p log c r.before) e (v.each (a - 1) r.before r.was)
+    mine = subst (λ (c : ℕ). IsActing p log c r.before) again (v.each (a - 1) r.before r.was)
+
+    told : TellsWork p a log r.after.work
+    told = readied_tells p a log r.before r.after v.runnable.plain mine (subst (λ (c : ℕ). TellsWork p c log r.before.work) again (v.tells (a - 1) r.before r.was)) r.readies
 
     each : (i : ℕ) (z : Actor) → slice_get (set actors (a - 1) r.after) i ≡ Some z → ((a == i + 1) ≡ true) × (a ≡ i + 1) ⊎ ((a == i + 1) ≡ false) × (a ≢ i + 1) → IsActing p log (i + 1) z
     each i z h (inl e) =

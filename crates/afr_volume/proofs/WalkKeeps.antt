@@ -2,12 +2,17 @@
 use Rattle.std.proofs.Common.{◌≡◌, ℕ, ◌+◌, ◌<◌, ◌≤◌, ◌==◌, Bool, true, false, List, [], ◌∷◌, refl, sym, ap, ◌∙◌, arith, length, Option, Some, None, slice_get, if◌then◌else◌, inl, inr, ◌⊎◌, ◌≢◌, subst}
 use Rattle.std.proofs.lemmas.Bool.Decides.{nat_tests, eqb_tells}
 use Rattle.std.proofs.lemmas.Option.{slice_get-get_or}
+use Rattle.std.specs.BTreeMap.{is_at}
+use Rattle.std.specs.Map.{lookup}
 use Rattle.afr_base.specs.Bricks.{is_nothing, below}
 use Rattle.afr_base.specs.declared.ids.ActorId.{ActorId}
 use Rattle.afr_base.specs.declared.ids.BrickId.{BrickId}
 use Rattle.afr_base.specs.declared.ids.Kind.TheVariants.{Names}
+use Rattle.afr_base.specs.declared.ids.NameId.{NameId}
 use Rattle.afr_base.specs.declared.ids.Shape.{Shape}
-use Rattle.afr_object.specs.Tables.{is_dir}
+use Rattle.afr_object.specs.Tables.{is_dir, copy_at, name_cmp}
+use Rattle.afr_object.specs.declared.entry.Entry.{Entry}
+use Rattle.afr_object.specs.declared.object.Object.{Object}
 use Rattle.afr_object.specs.declared.entry.View.{View}
 use Rattle.afr_choice.specs.Verdict.{verdict_of}
 use Rattle.afr_choice.specs.declared.verdict.Verdict.{Verdict}
@@ -23,7 +28,8 @@ use Rattle.afr_lines.specs.declared.request.Request.{Request}
 use Rattle.afr_lines.specs.declared.request.Request.TheVariants.{ReadName, Look, Index}
 use Rattle.afr_plan.specs.declared.command.Command.{Command}
 use Rattle.afr_plan.specs.declared.plan.Plan.{Plan}
-use Rattle.afr_model.specs.Tables.{holds}
+use Rattle.afr_model.specs.Tables.{holds, entry_in}
+use Rattle.afr_model.specs.Honest.{answer_by, copy_answer}
 use Rattle.afr_model.specs.Following.{Found, found_by, found_after, at_root, path_of, KeepsTo}
 use Rattle.afr_lookup.specs.Looks.{looks_at, left_to_look, heard_look}
 use Rattle.afr_lookup.specs.Walk.{walk_from, step_at, no_views, next_in, next_at, name_in, verdict_step, after_looks, named, walked, walked_at}
@@ -32,7 +38,6 @@ use Rattle.afr_lookup.specs.declared.stop.Stop.TheVariants.{NotDir}
 use Rattle.afr_lookup.specs.declared.walk.Walk.{Walk}
 use Rattle.afr_lookup.specs.declared.walk.WalkStep.{WalkStep}
 use Rattle.afr_lookup.specs.declared.walk.WalkStep.TheVariants.{Looking, Naming, Arrived, Stopped}
-use Rattle.afr_volume.specs.Serve.{NameGiven}
 use Rattle.afr_volume.specs.Keeping.{found_at, IsOnWay, WalksOn}
 
 pub self : (n : ℕ) → (n == n) ≡ true
@@ -102,13 +107,18 @@ on_looks shape s found w e l = go (is_nothing (left_to_look s))
     go true = on_verdict (verdict_of shape s.looked Names) s.looked.views found w e l
     go false = (e, l)
 
+-- what a brick answers of a name is what its copy has there
+pub entry_given : (name : NameId) (copy : Option Object) (entry : Option Entry) → answer.Entry entry ≡ copy_answer (λ o. answer.Entry (lookup (is_at (name_cmp name)) o.names)) copy → entry_in name copy ≡ entry
+entry_given name None entry h = absurd (cc h)
+entry_given name (Some o) entry h = cc h
+
 -- a line of a walk keeps to the command, and the walk goes on as its lines show
 pub record WalkMoves (p : Plan) (a : ActorId) (log : List Line) (command : Command) (w : Walk) (b : BrickId) (r : Request) (heard : Answer) (took : Bool) : Type 0 where
   pub keeps : KeepsTo p command (Ask a b r (told_by heard) took) (work a.0 log)
   pub walks : WalksOn p a.0 (Ask a b r (told_by heard) took ∷ log) command (walked heard w)
 
 pub walk_moves : (p : Plan) (a : ActorId) (log : List Line) (command : Command) (w : Walk) (heard : Answer) (took : Bool) → WalksOn p a.0 log command w
-    → NameGiven (holds p log (next_in w).0.0) (next_in w).1 heard → WalkMoves p a log command w (next_in w).0 (next_in w).1 heard took
+    → heard ≡ answer_by None (next_in w).1 (holds p log (next_in w).0.0) log → WalkMoves p a log command w (next_in w).0 (next_in w).1 heard took
 walk_moves p a log command w heard took k given = go w.step refl k.way given
   where
     line_at : WalkStep → Answer → Line
@@ -118,7 +128,7 @@ walk_moves p a log command w heard took k given = go w.step refl k.way given
     by_step : (step : WalkStep) (heard : Answer) (line : Line) → w.step ≡ step → WalksOn p a.0 (line ∷ log) command (walked_at step heard w) → WalksOn p a.0 (line ∷ log) command (walked heard w)
     by_step step heard line e k = subst (λ (at : WalkStep). WalksOn p a.0 (line ∷ log) command (walked_at at heard w)) (sym e) k
 
-    go : (step : WalkStep) → w.step ≡ step → IsOnWay step (found_by p (work a.0 log)) w → NameGiven (holds p log (next_at step w).0.0) (next_at step w).1 heard
+    go : (step : WalkStep) → w.step ≡ step → IsOnWay step (found_by p (work a.0 log)) w → heard ≡ answer_by None (next_at step w).1 (holds p log (next_at step w).0.0) log
         → WalkMoves p a log command w (next_at step w).0 (next_at step w).1 heard took
     go (Looking s) e way given = record {
       keeps = tt;
@@ -137,11 +147,11 @@ walk_moves p a log command w heard took k given = go w.step refl k.way given
         line : Answer → Line
         line heard = Ask a b (ReadName w.object.gfid (name_in w)) (told_by heard) took
 
-        by_answer : (heard : Answer) → NameGiven (holds p log b.0) (ReadName w.object.gfid (name_in w)) heard → WalksOn p a.0 (line heard ∷ log) command (named heard w)
+        by_answer : (heard : Answer) → heard ≡ answer_by None (ReadName w.object.gfid (name_in w)) (holds p log b.0) log → WalksOn p a.0 (line heard ∷ log) command (named heard w)
         by_answer (answer.Entry (Some entry)) given =
             let found : found_by p (work a.0 (line (answer.Entry (Some entry)) ∷ log)) ≡ record { read = w.read + 1; object = Some entry.gfid } =
             ap (found_by p) (work_ask a log b (ReadName w.object.gfid (name_in w)) (told_by (answer.Entry (Some entry))) took)
-            ∙ rw (given, ap (λ (f : Found). f.read) way.0) refl in
+            ∙ rw (entry_given (name_in w) (copy_at w.object.gfid (holds p log b.0)) (Some entry) given, ap (λ (f : Found). f.read) way.0) refl in
             record {
               path = k.path;
               way = rw found (is_on_way w.shape (length w.path) _ (named (answer.Entry (Some entry)) w) refl (omega (arith, way.1)) refl);

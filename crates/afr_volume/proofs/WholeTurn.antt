@@ -1,5 +1,5 @@
 -- A whole turn: its premises from what the volume keeps, and what it leaves.
-use Rattle.std.proofs.Common.{◌≡◌, ℕ, ◌+◌, ◌-◌, ◌<◌, ◌≤◌, ◌||◌, Bool, true, false, List, [], ◌∷◌, ◌++◌, refl, sym, ap, arith, subst, length, Option, Some, None, slice_get, set, reverse, get_or, nat_le, nat_lt, if◌then◌else◌}
+use Rattle.std.proofs.Common.{◌≡◌, ◌∙◌, ℕ, ◌+◌, ◌-◌, ◌<◌, ◌≤◌, ◌||◌, Bool, true, false, List, [], ◌∷◌, ◌++◌, refl, sym, ap, arith, subst, length, Option, Some, None, slice_get, set, reverse, get_or, nat_le, nat_lt, if◌then◌else◌}
 use Rattle.std.proofs.lemmas.Bool.Decides.{nat_tests}
 use Rattle.std.proofs.lemmas.List.{length-reverse}
 use Rattle.std.proofs.lemmas.Option.{slice_get_within, slice_get-get_or}
@@ -10,7 +10,7 @@ use Rattle.afr_brick.specs.State.{Copies}
 use Rattle.afr_plan.specs.declared.plan.Plan.{Plan}
 use Rattle.afr_model.specs.Actors.{IsActor, Client, Healer, is_done, works_of, script_of}
 use Rattle.afr_model.specs.Following.{NoneDue}
-use Rattle.afr_volume.specs.Acting.{IsBusy}
+use Rattle.afr_volume.specs.Acting.{IsBusy, IsSound}
 use Rattle.afr_volume.specs.Keeping.{Carries, IsActing, IsVolume}
 use Rattle.afr_volume.specs.Starting.{idle_actor}
 use Rattle.afr_volume.specs.Turning.{Turns, AddsLine, waits_for, Readies, ReadiedAt, StepsAt, due_of, if_due}
@@ -20,7 +20,8 @@ use Rattle.afr_volume.specs.declared.actor.ActorWork.TheVariants.{Idle, Write, L
 use Rattle.afr_volume.specs.declared.turned.Turned.{Turned}
 use Rattle.afr_volume.specs.declared.turned.Turned.TheVariants.{Moved, Waits}
 use Rattle.afr_volume.proofs.LogLemmas.{reverse_push}
-use Rattle.afr_volume.proofs.TurnKeeps.{kept_turn, kept_ready, actor_moves, wrote_own, got_same, ActorMoves}
+use Rattle.afr_volume.proofs.BrickKeeps.{got_same}
+use Rattle.afr_volume.proofs.TurnKeeps.{kept_turn, kept_ready, actor_moves, wrote_own, ActorMoves}
 use Rattle.std.proofs.Common.{inl, inr}
 
 -- ---- the premises
@@ -85,16 +86,16 @@ pub record Took (p : Plan) (a : ActorId) (items added : List Line) (bricks : Lis
 
 pub took : (p : Plan) (a : ActorId) (at : ℕ) (items seen added : List Line) (actors readied new_actors : List Actor) (bricks new_bricks : List Copies) (started : List ℕ) (made : ℕ) (line : Line)
     → IsVolume p (reverse items) bricks actors started made → IsActor p a.0 → is_done p a.0 (reverse items) ≡ false → length items < p.turns → due_of (record { plan = p; log = reverse items }) ≡ None
-    → seen ≡ items → ReadiedAt p a.0 actors readied → StepsAt a at (reverse seen) readied new_actors bricks new_bricks line → added ≡ items ++ line ∷ []
+    → seen ≡ items → at ≡ length items → ReadiedAt p a.0 actors readied → StepsAt a at (reverse seen) readied new_actors bricks new_bricks line → added ≡ items ++ line ∷ []
     → Took p a items added new_bricks new_actors started made line
-took p a at items seen added actors readied new_actors bricks new_bricks started made line v actor left room none same r s grown = record {
+took p a at items seen added actors readied new_actors bricks new_bricks started made line v actor left room none same position r s grown = record {
   volume = rw (grown, reverse_push items line, s.set_is) kept;
   own = wrote_own a line moves.wrote;
   log = rw grown (reverse_push items line);
 }
   where
     one : 1 ≤ a.0
-    one = (is_client p a.0 v.runnable.healers actor).0
+    one = (is_client p a.0 v.runnable.plain.healers actor).0
 
     ready_volume : IsVolume p (reverse items) bricks readied started made
     ready_volume = kept_ready p (reverse items) bricks actors readied started made a.0 one v r
@@ -105,6 +106,12 @@ took p a at items seen added actors readied new_actors bricks new_bricks started
     busy : IsBusy s.before.work
     busy = (busy_at p a.0 (reverse items) bricks actors readied started made one v r s.before s.was).0
 
+    same_actor : s.before ≡ r.after
+    same_actor = got_same actors (a.0 - 1) r.after s.before (slice_get_within actors (a.0 - 1) r.before r.was) (rw r.set_is at s.was)
+
+    sound : IsSound s.before.work
+    sound = subst (λ (x : Actor). IsSound x.work) (sym same_actor) r.sound
+
     mine : IsActing p (reverse items) a.0 s.before
     mine = let e : (a.0 - 1) + 1 ≡ a.0 = omega (arith, one) in subst (λ (c : ℕ). IsActing p (reverse items) c s.before) e (ready_volume.each (a.0 - 1) s.before s.was)
 
@@ -112,8 +119,8 @@ took p a at items seen added actors readied new_actors bricks new_bricks started
     moves = actor_moves p a at (reverse items) s.before s.after bricks new_bricks line mine ready_volume.tables busy (rw same at s.steps)
 
     kept : IsVolume p (line ∷ reverse items) new_bricks (set readied (a.0 - 1) s.after) started made
-    kept = kept_turn p a at (reverse items) s.before s.after bricks new_bricks readied started made line ready_volume actor one s.was busy (not_killed p a.0 (reverse items) left) few
-        (none_due p (reverse items) few none) (rw same at s.steps)
+    kept = kept_turn p a at (reverse items) s.before s.after bricks new_bricks readied started made line ready_volume actor one s.was busy sound (not_killed p a.0 (reverse items) left) few
+        (none_due p (reverse items) few none) (position ∙ sym (length-reverse items)) (rw same at s.steps)
 
 -- what a turn answers by the line that it added
 pub turned : (p : Plan) (a : ActorId) (items added : List Line) (bricks : List Copies) (actors : List Actor) (started : List ℕ) (made : ℕ) (line : Line) (waits : Option ActorId) (answer : Turned)
@@ -140,7 +147,7 @@ pub settled : (p : Plan) (log : List Line) (bricks : List Copies) (actors : List
 settled p log bricks actors started made v a actor done alive = with_command p a log x.work few mine.carries
   where
     bounds : (1 ≤ a) × (a ≤ length p.clients)
-    bounds = is_client p a v.runnable.healers actor
+    bounds = is_client p a v.runnable.plain.healers actor
 
     one : (a - 1) + 1 ≡ a
     one = let low = bounds.0 in omega (arith, low)
@@ -158,6 +165,6 @@ settled p log bricks actors started made v a actor done alive = with_command p a
     few =
         let d : nat_le (works_of p a) (ended a log) ≡ true = rw alive at done in
         let high = bounds.1 in
-        let small : nat_lt 16 a ≡ false = grind (arith, nat_tests, high, v.runnable.clients) in
+        let small : nat_lt 16 a ≡ false = grind (arith, nat_tests, high, v.runnable.plain.one) in
         let m : nat_le (length (script_of p a)) (ended a log) ≡ true = rw small at d in
         grind (arith, nat_tests, m)

@@ -1,5 +1,5 @@
 -- A transaction begins one change, the one that its command names.
-use Rattle.std.proofs.Common.{◌≡◌, ℕ, ◌&&◌, Bool, true, false, not, List, [], ◌∷◌, refl, sym, ap, ◌∙◌, subst, length, Some, if◌then◌else◌}
+use Rattle.std.proofs.Common.{◌≡◌, ℕ, ◌&&◌, Bool, true, false, not, List, [], ◌∷◌, refl, sym, ap, ◌∙◌, subst, length, Some, None, if◌then◌else◌}
 use Rattle.afr_base.specs.Bricks.{is_nothing, lowest}
 use Rattle.afr_base.specs.Majority.{is_majority}
 use Rattle.afr_base.specs.declared.ids.ActorId.{ActorId}
@@ -23,6 +23,7 @@ use Rattle.afr_plan.specs.declared.command.Command.{Command}
 use Rattle.afr_plan.specs.declared.command.Command.TheVariants as command
 use Rattle.afr_plan.specs.declared.plan.Plan.{Plan}
 use Rattle.afr_model.specs.Tables.{holds}
+use Rattle.afr_model.specs.Honest.{answer_by}
 use Rattle.afr_model.specs.Following.{Found, found_by, change_on, begins, KeepsTo}
 use Rattle.afr_lookup.specs.Walk.{walk_from, next_in, walked, no_views}
 use Rattle.afr_lookup.specs.declared.stop.Stop.TheVariants.{NoQuorum, FewCopies, SplitBrain, Failed, IsDir, TooLarge}
@@ -30,7 +31,8 @@ use Rattle.afr_lookup.specs.Looks.{looks_at}
 use Rattle.afr_lookup.specs.declared.walk.Walk.{Walk}
 use Rattle.afr_lookup.specs.declared.walk.WalkStep.{WalkStep}
 use Rattle.afr_lookup.specs.declared.walk.WalkStep.TheVariants as walking
-use Rattle.afr_write.specs.Change.{on_object, kind_for, change_of_job, is_too_large, is_empty_write, needs_file}
+use Rattle.afr_lines.specs.Areas.{kind_for}
+use Rattle.afr_write.specs.Change.{on_object, change_of_job, is_too_large, is_empty_write, needs_file}
 use Rattle.afr_write.specs.Phases.{left, noted, gone_on, advanced, after_begin, suffices, stopping, Standing}
 use Rattle.afr_write.specs.Write.{Write, write_from, after_walk, after_step, at_object, walked_to, phase_heard, at_standing}
 use Rattle.afr_write.specs.declared.change.WriteJob.TheVariants as job
@@ -38,7 +40,6 @@ use Rattle.afr_write.specs.declared.stage.Outcome.TheVariants.{Acknowledged, Sto
 use Rattle.afr_write.specs.declared.stage.Transaction.{Transaction}
 use Rattle.afr_write.specs.declared.stage.WriteStage.{WriteStage}
 use Rattle.afr_write.specs.declared.stage.WriteStage.TheVariants.{Walking, Locking, Looking, Beginning, Preparing, Applying, Posting, Closing}
-use Rattle.afr_volume.specs.Serve.{NameGiven}
 use Rattle.afr_volume.specs.Keeping.{found_at, IsOnWay, HasBegun, WritesOn}
 use Rattle.afr_volume.proofs.WalkKeeps.{self, work_ask, NamesNothing, walks_ask, walk_moves, walk_begins, WalkMoves}
 
@@ -163,7 +164,7 @@ pub record WriteMoves (p : Plan) (a : ActorId) (log : List Line) (command : Comm
   pub writes : WritesOn p a.0 (line ∷ log) command m
 
 pub walking_moves : (p : Plan) (a : ActorId) (log : List Line) (command : Command) (m : Write) (heard : Answer) (took : Bool) → WritesOn p a.0 log command m → m.stage ≡ Walking
-    → NameGiven (holds p log (next_in m.walk).0.0) (next_in m.walk).1 heard
+    → heard ≡ answer_by None (next_in m.walk).1 (holds p log (next_in m.walk).0.0) log
     → WriteMoves p a log command (Ask a (next_in m.walk).0 (next_in m.walk).1 (told_by heard) took) (walked_to (walked heard m.walk) m)
 walking_moves p a log command m heard took k e given = record {
   keeps = moves.keeps;

@@ -1,5 +1,5 @@
 -- One line of an actor: what its machine would write next, and what it makes of the answer.
-use Rattle.std.specs.Prelude.{◌≡◌, ℕ, ◌+◌, Bool, List}
+use Rattle.std.specs.Prelude.{◌≡◌, ℕ, ◌+◌, true, List}
 use Rattle.afr_base.specs.declared.ids.ActorId.{ActorId}
 use Rattle.afr_base.specs.declared.ids.BrickId.{BrickId}
 use Rattle.afr_base.specs.declared.ids.Shape.{Shape}
@@ -20,7 +20,7 @@ use Rattle.afr_lookup.specs.Lookup as lookup
 use Rattle.afr_lookup.specs.declared.lookup.LookupJob.TheVariants.{Read}
 use Rattle.afr_write.specs.Write as write
 use Rattle.afr_write.specs.declared.change.WriteJob.TheVariants as job
-use Rattle.afr_volume.specs.Serve.{ServedAt}
+use Rattle.afr_volume.specs.Serve.{ServedAt, CanServeAt}
 use Rattle.afr_volume.specs.declared.actor.Actor.{Actor}
 use Rattle.afr_volume.specs.declared.actor.ActorWork.{ActorWork}
 use Rattle.afr_volume.specs.declared.actor.ActorWork.TheVariants.{Idle, Write, Lookup}
@@ -37,6 +37,12 @@ IsBusy Idle = ⊥
 IsBusy (Write m) = Unit {0}
 IsBusy (Lookup m) = Unit {0}
 
+-- what a machine keeps at every moment: somebody is left to ask
+abbrev pub IsSound : ActorWork → Type 0
+IsSound Idle = Unit {0}
+IsSound (Write m) = write.IsWrite m.walk m.transaction m.stage
+IsSound (Lookup m) = lookup.IsLookup m.walk m.stage
+
 -- the next line of a work
 abbrev pub next_of_work : ActorWork → Next
 next_of_work Idle = next.End Failed
@@ -49,12 +55,16 @@ heard_work h Idle = Idle
 heard_work h (Write m) = Write (write.heard_by h m)
 heard_work h (Lookup m) = Lookup (lookup.heard_by h m)
 
--- a request was carried out, or not, and its answer was heard
+-- what the next line asks can be carried out
+abbrev pub CanAsk : List Copies → List Line → Next → Type 0
+CanAsk bricks older (next.Ask brick request) = CanServeAt bricks brick.0 request older
+CanAsk bricks older other = Unit {0}
+
+-- a request was carried out, and its answer was heard
 pub record Begun (a : ActorId) (at : ℕ) (brick : BrickId) (request : Request) (older : List Line) (x y : Actor) (old new : List Copies) (written : Line) : Type 0 where
   pub answer : Answer
-  pub took : Bool
-  pub served : ServedAt brick.0 request older old new answer took
-  pub is_line : written ≡ line.Ask a brick request (told_by answer) took
+  pub served : ServedAt brick.0 request older old new answer
+  pub is_line : written ≡ line.Ask a brick request (told_by answer) true
   pub becomes : y ≡ record x { work = heard_work (heard.Answer answer at) x.work }
 
 -- one line of an actor, by what its machine would write next

@@ -1,9 +1,9 @@
 -- What a volume keeps: its bricks, actors and counts are what the log says.
 use Rattle.std.specs.Prelude.{◌≡◌, ℕ, ◌+◌, ◌<◌, ◌≤◌, List, [], Some, length, slice_get}
-use Rattle.afr_lines.specs.Work.{work, ended, is_killed, events_made}
+use Rattle.afr_lines.specs.Log.{EachLine}
+use Rattle.afr_lines.specs.Work.{Work, work, ended, is_killed, events_made}
 use Rattle.afr_lines.specs.declared.line.Line.{Line}
 use Rattle.afr_brick.specs.State.{Copies}
-use Rattle.afr_plan.specs.FirstPath.{IsFirstCommand}
 use Rattle.afr_plan.specs.declared.command.Command.{Command}
 use Rattle.afr_plan.specs.declared.plan.Plan.{Plan}
 use Rattle.afr_plan.specs.declared.schedule.Go.{Go}
@@ -11,6 +11,16 @@ use Rattle.afr_model.specs.Tables.{keeps_bytes, holds}
 use Rattle.afr_model.specs.Actors.{IsActor, script_of}
 use Rattle.afr_model.specs.Following.{Found, found_by, path_of, change_on, begins, Follows}
 use Rattle.afr_model.specs.Report.{started_bricks}
+use Rattle.afr_model.specs.Honest.{Honest}
+use Rattle.afr_model.specs.Replied.{Replied}
+use Rattle.afr_model.specs.Safe.{AreFresh, IsAlwaysSafe}
+use Rattle.afr_laws.specs.Able.{WriteAble, LookupAble}
+use Rattle.afr_laws.specs.AboutTelling.{BegunTells}
+use Rattle.afr_laws.specs.Current.{AllCurrent, AreAnswered, LookupCurrent, WriteCurrent}
+use Rattle.afr_laws.specs.Fits.{FitsSums}
+use Rattle.afr_laws.specs.Plain.{IsPlain}
+use Rattle.afr_laws.specs.ReadTelling.{ReadTells}
+use Rattle.afr_laws.specs.WriteTelling.{WriteTells}
 use Rattle.afr_lookup.specs.declared.walk.Walk.{Walk}
 use Rattle.afr_lookup.specs.declared.walk.WalkStep.{WalkStep}
 use Rattle.afr_lookup.specs.declared.walk.WalkStep.TheVariants as walking
@@ -68,16 +78,35 @@ pub record IsActing (p : Plan) (log : List Line) (a : ℕ) (x : Actor) : Type 0 
   pub killed_is : x.killed ≡ is_killed a log
   pub carries : Carries p a log x.work
 
+-- what a machine asks can be served, and it doesn't fail without a fault
+abbrev pub AbleWork : Plan → List Line → ActorWork → Type 0
+AbleWork p log Idle = Unit {0}
+AbleWork p log (Write m) = WriteAble p log m
+AbleWork p log (Lookup m) = LookupAble p log m
+
+-- the lines of a work show where its transaction stands, and which attempt is its last
+pub record TellsWrite (p : Plan) (command : Command) (m : write.Write) (lines : Work) : Type 0 where
+  pub stands : WriteTells p command m lines
+  pub begun : BegunTells m.stage m.transaction lines
+
+-- the lines of the actor's present work show where its machine stands
+abbrev pub TellsWork : Plan → ℕ → List Line → ActorWork → Type 0
+TellsWork p a log Idle = Unit {0}
+TellsWork p a log (Write m) = (command : Command) → slice_get (script_of p a) (ended a log) ≡ Some command → TellsWrite p command m (work a log)
+TellsWork p a log (Lookup m) = (command : Command) → slice_get (script_of p a) (ended a log) ≡ Some command → ReadTells p command m (work a log)
+
+-- what a machine keeps, so that every brick stays current: an idle one, that no attempt lacks its end
+abbrev pub CurrentWork : Plan → List Line → ActorWork → Type 0
+CurrentWork p log Idle = AreAnswered log
+CurrentWork p log (Write m) = WriteCurrent p log m
+CurrentWork p log (Lookup m) = LookupCurrent p m × AreAnswered log
+
 -- a plan that the volume can run so far
 pub record IsRunnable (p : Plan) : Type 0 where
-  pub few : p.shape.n ≤ 5
+  pub plain : IsPlain p
   pub some : 0 < length p.clients → 0 < p.shape.n
-  pub clients : length p.clients ≤ 16
   pub turns : p.turns ≤ 4000000
-  pub healers : p.healers ≡ []
-  pub events : p.events ≡ []
   pub orders : (i : ℕ) (go : Go) → slice_get p.go i ≡ Some go → IsActor p go.actor.0
-  pub commands : (a k : ℕ) (command : Command) → slice_get (script_of p a) k ≡ Some command → (names : ℕ) × IsFirstCommand names command
 
 -- what the log says of all that the volume keeps beside it
 pub record IsVolume (p : Plan) (log : List Line) (bricks : List Copies) (actors : List Actor) (started : List ℕ) (made : ℕ) : Type 0 where
@@ -87,6 +116,15 @@ pub record IsVolume (p : Plan) (log : List Line) (bricks : List Copies) (actors 
   pub tables : (b : ℕ) (x : Copies) → slice_get bricks b ≡ Some x → x ≡ record { keeps = keeps_bytes p b; objects = holds p log b }
   pub same : length actors ≡ length p.clients
   pub each : (i : ℕ) (x : Actor) → slice_get actors i ≡ Some x → IsActing p log (i + 1) x
+  pub able : (i : ℕ) (x : Actor) → slice_get actors i ≡ Some x → AbleWork p log x.work
+  pub tells : (i : ℕ) (x : Actor) → slice_get actors i ≡ Some x → TellsWork p (i + 1) log x.work
+  pub stays : (i : ℕ) (x : Actor) → slice_get actors i ≡ Some x → CurrentWork p log x.work
   pub started_is : started ≡ started_bricks p.shape.n log
   pub made_is : made ≡ events_made log
   pub follows : Follows p log
+  pub honest : Honest p log
+  pub replied : Replied p log
+  pub sums : EachLine (FitsSums p) log
+  pub current : AllCurrent p log
+  pub safe : IsAlwaysSafe p log
+  pub fresh : AreFresh p log

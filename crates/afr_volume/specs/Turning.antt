@@ -15,7 +15,7 @@ use Rattle.afr_brick.specs.State.{Copies}
 use Rattle.afr_plan.specs.declared.command.Command.{Command}
 use Rattle.afr_model.specs.State.{State}
 use Rattle.afr_model.specs.Actors.{is_done, script_of}
-use Rattle.afr_volume.specs.Acting.{IsBusy, StartsWith, Stepped}
+use Rattle.afr_volume.specs.Acting.{IsBusy, IsSound, StartsWith, Stepped}
 use Rattle.afr_volume.specs.declared.actor.Actor.{Actor}
 use Rattle.afr_volume.specs.declared.actor.ActorWork.{ActorWork}
 use Rattle.afr_volume.specs.declared.actor.ActorWork.TheVariants.{Idle}
@@ -69,6 +69,7 @@ pub record ReadiedAt (p : Plan) (a : ℕ) (old new : List Actor) : Type 0 where
   pub was : slice_get old (a - 1) ≡ Some before
   pub readies : Readies p a before after
   pub busy : IsBusy after.work
+  pub sound : IsSound after.work
   pub set_is : new ≡ slice_set old (a - 1) after
 
 -- one line of one actor among all, whose command has begun

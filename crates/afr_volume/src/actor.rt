@@ -1,11 +1,10 @@
 //! An actor: the machine of its present command, and how many it has ended.
-ghost use Rattle.std.specs.Prelude.{◌≡◌, ◌+◌, ◌-◌, ◌<◌, ◌≤◌, ◌^◌, IfOk, OnErr, ℕ, List, [], reverse};
+ghost use Rattle.std.specs.Prelude.{◌≡◌, ◌+◌, ◌-◌, ◌<◌, ◌≤◌, ◌^◌, IfOk, OnErr, ℕ, reverse};
 ghost use Rattle.afr_plan.specs.FirstPath.{IsFirstCommand};
-ghost use Rattle.afr_brick.specs.State.{Copies};
-ghost use Rattle.afr_volume.specs.Acting.{StartsWith, IsBusy, next_of_work, heard_work, Stepped, Begun};
-ghost use Rattle.afr_volume.specs.Serve.{ServedAt, NameGiven};
+ghost use Rattle.afr_volume.specs.Acting.{StartsWith, IsBusy, IsSound, next_of_work, heard_work, Stepped, Begun, CanAsk};
+ghost use Rattle.afr_volume.specs.Serve.{CanServeAt};
 
-use crate::serve::{Asked, serve_at};
+use crate::serve::serve_at;
 use afr_base::{ActorId, BrickId, NoMemory, Shape};
 use afr_brick::Brick;
 use afr_lines::{Heard, Line, Next, Request, told_of};
@@ -58,21 +57,26 @@ pub(crate) fn work_for(
     }
 }
 
-/// The next line of a work that has begun.
-fn next_line(work: &mut ActorWork, at: u32) -> Result<Next, NoMemory>
-    requires { IsBusy work.old }
+/// Takes the memory of a work's next line.
+pub(crate) fn make_ready(work: &mut ActorWork) -> Result<(), NoMemory>
     ensures same { work.new ≡ work.old }
-    ensures ok { IfOk result (λ next. next ≡ next_of_work work.old) }
+    ensures sound { IsSound work.old }
 {
     match work {
-        ActorWork::Write(machine) => {
-            machine.ready()?;
-            machine.next(at)
-        }
-        ActorWork::Lookup(machine) => {
-            machine.ready()?;
-            machine.next(at)
-        }
+        ActorWork::Write(machine) => machine.ready(),
+        ActorWork::Lookup(machine) => machine.ready(),
+        ActorWork::Idle => Ok(()),
+    }
+}
+
+/// The next line of a work that has begun.
+fn next_line(work: &ActorWork, at: u32) -> Result<Next, NoMemory>
+    requires { IsBusy work.now }
+    ensures ok { IfOk result (λ next. next ≡ next_of_work work.now) }
+{
+    match work {
+        ActorWork::Write(machine) => machine.next(at),
+        ActorWork::Lookup(machine) => machine.next(at),
         ActorWork::Idle => unreachable!(),
     }
 }
@@ -97,10 +101,11 @@ pub(crate) fn step(
 ) -> Result<Line, NoMemory>
     requires busy { IsBusy actor.old.work }
     requires room { actor.old.ended < 2 ^ 32 - 1 }
+    requires can { CanAsk bricks.old.items (reverse log.now) (next_of_work actor.old.work) }
     ensures ok { IfOk result (λ line. Stepped a at (reverse log.now) actor.old actor.new bricks.old.items bricks.new.items line) }
     ensures err { OnErr result ((actor.new ≡ actor.old) × (bricks.new.items ≡ bricks.old.items)) }
 {
-    match next_line(&mut actor.work, at)? {
+    match next_line(&actor.work, at)? {
         Next::Ask(brick, request) => asks(actor, a, brick, request, bricks, log, at),
         Next::Begin(change) => {
             hear(&mut actor.work, Heard::Begun(at));
@@ -125,10 +130,11 @@ fn asks(
     log: &[Line],
     at: u32,
 ) -> Result<Line, NoMemory>
+    requires can { CanServeAt bricks.old.items brick.0 request (reverse log.now) }
     ensures ok { IfOk result (λ line. Begun a at brick request (reverse log.now) actor.old actor.new bricks.old.items bricks.new.items line) }
     ensures err { OnErr result ((actor.new ≡ actor.old) × (bricks.new.items ≡ bricks.old.items)) }
 {
-    let Asked { answer, took } = serve_at(bricks, brick, &request, log)?;
+    let answer = serve_at(bricks, brick, &request, log)?;
     let told = told_of(&answer);
     hear(&mut actor.work, Heard::Answer(answer, at));
     Ok(Line::Ask {
@@ -136,6 +142,6 @@ fn asks(
         brick,
         request,
         told,
-        took,
+        took: true,
     })
 }

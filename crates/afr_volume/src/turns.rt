@@ -8,10 +8,10 @@ ghost use Rattle.afr_model.specs.Actors.{script_of};
 ghost use Rattle.afr_volume.specs.declared.actor.Actor.{Actor};
 ghost use Rattle.afr_volume.specs.declared.actor.ActorWork.{ActorWork};
 ghost use Rattle.afr_volume.specs.declared.actor.ActorWork.TheVariants.{Idle};
-ghost use Rattle.afr_volume.specs.Acting.{IsBusy};
+ghost use Rattle.afr_volume.specs.Acting.{IsBusy, CanAsk, next_of_work};
 ghost use Rattle.afr_volume.specs.Turning.{ReadiedAt, StepsAt, waits_for};
 
-use crate::actor::{Actor, ActorWork, step, work_for};
+use crate::actor::{Actor, ActorWork, make_ready, step, work_for};
 use crate::turned::Turned;
 use afr_base::{ActorId, NoMemory};
 use afr_brick::Brick;
@@ -39,11 +39,12 @@ pub(crate) fn ready_actor(
 {
     let at = a.0 as usize - 1;
     if is_busy(&actors[at].work) {
-        return Ok(());
+        return make_ready(&mut actors[at].work);
     }
     let script = plan.clients.item(at);
     let command = script.item(actors[at].ended as usize);
-    let work = work_for(alloc, plan.shape, command)?;
+    let mut work = work_for(alloc, plan.shape, command)?;
+    make_ready(&mut work)?;
     actors[at].work = work;
     Ok(())
 }
@@ -70,6 +71,7 @@ pub(crate) fn step_actor(
     requires one { 1 ≤ a.0 }
     requires within { a.0 - 1 < length actors.old.items }
     requires busy { (x : Actor) → slice_get actors.old.items (a.0 - 1) ≡ Some x → IsBusy x.work × (x.ended < 2 ^ 32 - 1) }
+    requires can { (x : Actor) → slice_get actors.old.items (a.0 - 1) ≡ Some x → CanAsk bricks.old.items (reverse log.now) (next_of_work x.work) }
     ensures ok { IfOk result (λ line. StepsAt a at (reverse log.now) actors.old.items actors.new.items bricks.old.items bricks.new.items line) }
     ensures err { OnErr result ((actors.new.items ≡ actors.old.items) × (bricks.new.items ≡ bricks.old.items)) }
 {

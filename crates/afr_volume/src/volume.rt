@@ -8,7 +8,11 @@ ghost use Rattle.afr_plan.specs.FirstPath.{IsFirstPath};
 ghost use Rattle.afr_model.specs.State.{no_volume, no_plan};
 ghost use Rattle.afr_model.specs.Actors.{IsActor, is_done};
 ghost use Rattle.afr_model.specs.Following.{Follows, NoneDue};
+ghost use Rattle.afr_model.specs.Honest.{Honest};
+ghost use Rattle.afr_model.specs.Replied.{Replied};
 ghost use Rattle.afr_model.specs.Report.{started_bricks};
+ghost use Rattle.afr_model.specs.Safe.{AreFresh, IsAlwaysSafe};
+ghost use Rattle.afr_model.specs.Sums.{AreSums};
 ghost use Rattle.afr_volume.specs.Turning.{Turns, Comes, due_of, if_due};
 
 use crate::actor::Actor;
@@ -88,6 +92,22 @@ impl Volume {
     /// before anything changes, in O(log n) for n objects and names of the bricks, and the bytes
     /// that the line moves; it never walks the log.
     pub fn turn(&mut self, a: ActorId) -> Result<Turned, NoMemory>
+        requires actor { IsActor self.old.plan a.0 }
+        requires none { due_of self.old ≡ None }
+        ensures ok { IfOk result (λ turned. Turns a self.old turned self.new) }
+        ensures err { OnErr result (self.new ≡ self.old) }
+        ensures follows { Follows self.new.plan self.new.log }
+        ensures honest { Honest self.new.plan self.new.log }
+        ensures replied { Replied self.new.plan self.new.log }
+        ensures safe { IsAlwaysSafe self.new.plan self.new.log }
+        ensures fresh { AreFresh self.new.plan self.new.log }
+    {
+        let turned = self.take_turn(a);
+        self.every_line();
+        turned
+    }
+
+    fn take_turn(&mut self, a: ActorId) -> Result<Turned, NoMemory>
         requires actor { IsActor self.old.plan a.0 }
         requires none { due_of self.old ≡ None }
         ensures ok { IfOk result (λ turned. Turns a self.old turned self.new) }
@@ -187,6 +207,11 @@ impl Volume {
     /// What the volume keeps of its log at every moment.
     pub fn every_line(&self)
         ensures follows { Follows self.now.plan self.now.log }
+        ensures honest { Honest self.now.plan self.now.log }
+        ensures replied { Replied self.now.plan self.now.log }
+        ensures sums { AreSums self.now.plan self.now.log }
+        ensures safe { IsAlwaysSafe self.now.plan self.now.log }
+        ensures fresh { AreFresh self.now.plan self.now.log }
         ensures room { length self.now.log ≤ self.now.plan.turns }
         ensures few { self.now.plan.shape.n ≤ 5 }
         ensures clients { length self.now.plan.clients ≤ 16 }

@@ -26,7 +26,8 @@ use Rattle.afr_lookup.specs.declared.stop.Stop.TheVariants.{IsDir, TooLarge}
 use Rattle.afr_lookup.specs.declared.walk.Walk.{Walk}
 use Rattle.afr_lookup.specs.declared.walk.WalkStep.{WalkStep}
 use Rattle.afr_lookup.specs.declared.walk.WalkStep.TheVariants as walking
-use Rattle.afr_write.specs.Change.{change_of_job, on_object, area_for, kind_for, is_too_large, is_empty_write, needs_file}
+use Rattle.afr_lines.specs.Areas.{area_for, kind_for}
+use Rattle.afr_write.specs.Change.{change_of_job, on_object, is_too_large, is_empty_write, needs_file}
 use Rattle.afr_write.specs.Phases.{no_transaction, left, noted, advanced, after_begin, Standing, IsAsking}
 use Rattle.afr_write.specs.declared.change.WriteJob.{WriteJob}
 use Rattle.afr_write.specs.declared.stage.Outcome.{Outcome}

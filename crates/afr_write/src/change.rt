@@ -1,6 +1,7 @@
 //! The change of a transaction: what it locks, and which numbers count it.
 ghost use Rattle.std.specs.Prelude.{◌≡◌};
-ghost use Rattle.afr_write.specs.Change.{change_of_job, on_object, area_for, kind_for, end_of, is_too_large, is_empty_write, needs_file};
+ghost use Rattle.afr_lines.specs.Areas.{area_for, kind_for, end_of};
+ghost use Rattle.afr_write.specs.Change.{change_of_job, on_object, is_too_large, is_empty_write, needs_file};
 
 use afr_base::{Gfid, KeyId, Kind, ValueId};
 use afr_lines::Area;

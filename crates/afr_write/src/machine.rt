@@ -2,7 +2,8 @@
 ghost use Rattle.std.specs.Prelude.{◌≡◌, ◌<◌, ◌≤◌, IfOk, false, []};
 ghost use Rattle.afr_base.specs.Bricks.{is_nothing, lowest};
 ghost use Rattle.afr_lookup.specs.Walk.{walked, IsWalk};
-ghost use Rattle.afr_write.specs.Change.{on_object, area_for};
+ghost use Rattle.afr_lines.specs.Areas.{area_for};
+ghost use Rattle.afr_write.specs.Change.{on_object};
 ghost use Rattle.afr_write.specs.Phases.{no_transaction, left, IsStanding, advanced, noted, IsAsking};
 ghost use Rattle.afr_object.specs.Tables.{is_dir};
 ghost use Rattle.afr_write.specs.declared.stage.Transaction.{Transaction};
@@ -67,7 +68,9 @@ impl WriteMachine {
     /// Takes the memory of the coming move: it is taken by `next`, before anything changes.
     pub fn ready(&mut self) -> Result<(), NoMemory>
         ensures same { self.new ≡ self.old }
+        ensures sound { IsWrite self.old.walk self.old.transaction self.old.stage }
     {
+        let _ = &self.walk;
         Ok(())
     }
 

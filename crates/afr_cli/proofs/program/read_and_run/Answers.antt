@@ -1,15 +1,40 @@
--- A refusal, whole and cut off.
-use Rattle.afr_cli.proofs.StatusLemmas.{stops_at_refusal, refused_unread}
+-- A refusal and a report, whole and cut off.
+use Rattle.std.proofs.Common.{refl}
+use Rattle.afr_cli.proofs.StatusLemmas.{stops_at_refusal, stops_at_report, refused, is_long, is_unread, is_spelled, spelled_or_none}
 use Rattle.afr_cli.proofs.program.read_and_run.Goals as goal
 
+pub returns-in-Err-TooLong-clause-refused : goal.returns-in-Err-TooLong-clause-refused
+returns-in-Err-TooLong-clause-refused g c = λ e. (refused _ _ _ _ _ (is_long _ _ _ (c.in-Err-TooLong.ensures.long cc) refl) (c.refuse.ensures.refused e), c.requires.fresh)
+
 pub returns-in-Err-TooLong-clause-write : goal.returns-in-Err-TooLong-clause-write
-returns-in-Err-TooLong-clause-write g c = λ e. ((c.refuse.ensures.write e).0, stops_at_refusal _ _ _ _ (c.refuse.ensures.write e).1)
+returns-in-Err-TooLong-clause-write g c = λ e. let cut = c.refuse.ensures.write e in (
+  cut.0,
+  λ words run. stops_at_refusal words _ _ _ _ _ _ _ run (is_long _ _ _ (c.in-Err-TooLong.ensures.long cc) refl) c.requires.fresh cut.1,
+)
+
+pub returns-in-Ok-read_plan-clause-write : goal.returns-in-Ok-read_plan-clause-write
+returns-in-Ok-read_plan-clause-write g c = λ e. let cut = c.run_plan.ensures.write e in (
+  cut.0,
+  λ words run. stops_at_report words _ _ _ _ _ _ run
+      (is_spelled _ _ _ _ _ _ c.deref.ensures.value c.in-Ok.ensures.ok c.in-Ok.ensures.end c.in-Ok.ensures.len c.in-Ok-read_plan.ensures.read (c.run_plan.ensures.ran (λ h. cc)))
+      cut.2 cut.3 cut.1,
+)
+
+pub returns-in-Ok-read_plan-clause-plan : goal.returns-in-Ok-read_plan-clause-plan
+returns-in-Ok-read_plan-clause-plan g c =
+    spelled_or_none _ _ _ _ _ _ c.deref.ensures.value c.in-Ok.ensures.ok c.in-Ok.ensures.end c.in-Ok.ensures.len c.in-Ok-read_plan.ensures.read c.run_plan.ensures.plan
 
 pub returns-in-Err-Refused-clause-refused : goal.returns-in-Err-Refused-clause-refused
 returns-in-Err-Refused-clause-refused g c = λ e. (
-  refused_unread _ _ _ _ _ _ _ c.deref.ensures.value c.in-Ok.ensures.ok c.in-Ok.ensures.end (c.in-Err-Refused.ensures.refused c.in-Err-Refused.fault cc) (c.refuse-in-Err-Refused.ensures.refused e),
+  refused _ _ _ _ _ (is_unread _ _ _ _ _ c.deref.ensures.value c.in-Ok.ensures.ok c.in-Ok.ensures.end c.in-Ok.ensures.len (c.in-Err-Refused.ensures.refused c.in-Err-Refused.fault cc))
+      (c.refuse-in-Err-Refused.ensures.refused e),
   c.requires.fresh,
 )
 
 pub returns-in-Err-Refused-clause-write : goal.returns-in-Err-Refused-clause-write
-returns-in-Err-Refused-clause-write g c = λ e. ((c.refuse-in-Err-Refused.ensures.write e).0, stops_at_refusal _ _ _ _ (c.refuse-in-Err-Refused.ensures.write e).1)
+returns-in-Err-Refused-clause-write g c = λ e. let cut = c.refuse-in-Err-Refused.ensures.write e in (
+  cut.0,
+  λ words run. stops_at_refusal words _ _ _ _ _ _ _ run
+      (is_unread _ _ _ _ _ c.deref.ensures.value c.in-Ok.ensures.ok c.in-Ok.ensures.end c.in-Ok.ensures.len (c.in-Err-Refused.ensures.refused c.in-Err-Refused.fault cc))
+      c.requires.fresh cut.1,
+)

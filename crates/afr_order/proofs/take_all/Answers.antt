@@ -2,7 +2,7 @@ use Rattle.std.proofs.Common.{◌≡◌, true, arith, suc}
 use Rattle.std.proofs.lemmas.Grind.{common_steps}
 use Rattle.afr_order.proofs.GoingLemmas.{goes_then, ends_true}
 use Rattle.afr_order.proofs.OrderLemmas.{ordered_by_orders, ordered_by_pass, takes_pass}
-use Rattle.afr_order.proofs.drive.Goals as goal
+use Rattle.afr_order.proofs.take_all.Goals as goal
 
 pub returns-in_err-take_orders-clause-ordered : goal.returns-in_err-take_orders-clause-ordered
 returns-in_err-take_orders-clause-ordered c = rw c.take_orders.ensures.goes.plan (ordered_by_orders c.args.volume.now.plan c.args.volume.now.log c.take_orders.new.volume.log c.requires.fresh c.take_orders.ensures.front)

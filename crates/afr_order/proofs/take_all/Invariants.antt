@@ -1,7 +1,7 @@
 use Rattle.std.proofs.Common.{◌++◌, ◌-◌, ℕ, length}
 use Rattle.afr_model.specs.Ordered.{actors_of, ordered_turns, passes}
 use Rattle.afr_order.specs.Going.{Goes, Takes}
-use Rattle.afr_order.proofs.drive.Given as goal
+use Rattle.afr_order.proofs.take_all.Given as goal
 
 abbrev pub invariant-loop-volume : goal.invariant-loop-volume
 invariant-loop-volume l = record {

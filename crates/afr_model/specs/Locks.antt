@@ -1,0 +1,43 @@
+-- The locks on a brick.
+use Rattle.std.specs.Prelude.{ℕ, ◌==◌, ◌&&◌, not, Bool, false, List, [], ◌∷◌, ◌++◌, filter, if◌then◌else◌}
+use Rattle.afr_lines.specs.declared.answer.Told.TheVariants.{Granted}
+use Rattle.afr_lines.specs.declared.line.Line.{Line}
+use Rattle.afr_lines.specs.declared.line.Line.TheVariants.{Ask}
+use Rattle.afr_lines.specs.declared.request.Area.{Area}
+use Rattle.afr_lines.specs.declared.request.Area.TheVariants.{Range, Name}
+use Rattle.afr_lines.specs.declared.request.Request.TheVariants.{Lock, Unlock}
+use Rattle.afr_range_locks.specs.Locks.{is_lock, overlap_range, same_range}
+use Rattle.afr_range_locks.specs.declared.held.HeldLock.{HeldLock}
+use Rattle.afr_name_locks.specs.Names.{overlap_dir_name, same_dir_name}
+use Rattle.afr_model.specs.Sessions.{ends_session}
+
+-- two areas are the same
+abbrev pub same_area : Area → Area → Bool
+same_area (Range g from to) (Range h start end) = same_range (record { gfid = g; from = from; to = to }) (record { gfid = h; from = start; to = end })
+same_area (Name g n) (Name h m) = same_dir_name (record { gfid = g; name = n }) (record { gfid = h; name = m })
+same_area one other = false
+
+-- two areas of one object overlap
+abbrev pub overlap : Area → Area → Bool
+overlap (Range g from to) (Range h start end) = overlap_range (record { gfid = g; from = from; to = to }) (record { gfid = h; from = start; to = end })
+overlap (Name g n) (Name h m) = overlap_dir_name (record { gfid = g; name = n }) (record { gfid = h; name = m })
+overlap one other = false
+
+-- a request to unlock releases a lock of its owner with the same domain and area
+abbrev pub releases : Line → ℕ → HeldLock Area → Bool
+releases (Ask a y (Unlock domain area) told took) b lock = took && (y.0 == b) && is_lock same_area (record { owner = a; domain = domain; area = area }) lock
+releases line b lock = false
+
+-- a lock outlives a line that neither releases it nor ends its owner's session
+abbrev pub outlives : Line → ℕ → HeldLock Area → Bool
+outlives line b lock = not (releases line b lock) && not (ends_session lock.owner.0 b line)
+
+-- the lock that a line grants on brick b
+abbrev pub granted_by_line : ℕ → Line → List (HeldLock Area)
+granted_by_line b (Ask a y (Lock domain area) Granted took) = if y.0 == b then record { owner = a; domain = domain; area = area } ∷ [] else []
+granted_by_line b line = []
+
+-- the locks on brick b, in the order in which they were granted
+abbrev pub locks_held : ℕ → List Line → List (HeldLock Area)
+locks_held b [] = []
+locks_held b (line ∷ older) = filter (outlives line b) (locks_held b older) ++ granted_by_line b line

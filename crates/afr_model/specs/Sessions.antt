@@ -1,0 +1,81 @@
+-- Sessions of actors with bricks.
+use Rattle.std.specs.Prelude.{ℕ, ◌==◌, ◌&&◌, ◌||◌, not, Bool, true, false, List, [], ◌∷◌, if◌then◌else◌}
+use Rattle.afr_base.specs.Bricks.{member}
+use Rattle.afr_lines.specs.Work.{is_of}
+use Rattle.afr_lines.specs.declared.answer.Told.TheVariants.{NotConnected}
+use Rattle.afr_lines.specs.declared.line.Event.{Event}
+use Rattle.afr_lines.specs.declared.line.Event.TheVariants as event
+use Rattle.afr_lines.specs.declared.line.Line.{Line}
+use Rattle.afr_lines.specs.declared.line.Line.TheVariants.{Ask, End, HealEnd}
+use Rattle.afr_lines.specs.declared.line.Line.TheVariants as line_of
+use Rattle.afr_lines.specs.declared.request.Request.TheVariants.{Lock, Index}
+use Rattle.afr_range_locks.specs.declared.domain.Domain.TheVariants.{Heal}
+use Rattle.afr_plan.specs.declared.plan.Plan.{Plan}
+use Rattle.afr_model.specs.Report.{started_bricks}
+
+-- where an actor stands in its works: its next line is a work's first, it has asked for an index alone, its last line ended a heal, or it is within
+pub data Place : Type 0 where
+  Fresh : Place
+  Indexed : Place
+  Between : Place
+  Within : Place
+
+-- what one more line of the actor makes of it
+abbrev pub next_place : Place → Line → Place
+next_place Fresh (Ask a b Index told took) = Indexed
+next_place place (End a reply) = Fresh
+next_place place (HealEnd a g kind reply) = Between
+next_place place line = Within
+
+abbrev pub place_of : ℕ → List Line → Place
+place_of a [] = Fresh
+place_of a (line ∷ older) = if is_of a line then next_place (place_of a older) line else place_of a older
+
+-- whether a line asks for a lock of a heal
+abbrev pub is_heal_lock : Line → Bool
+is_heal_lock (Ask a b (Lock Heal area) told took) = true
+is_heal_lock line = false
+
+-- whether a line of the actor opens sessions: it is the first of a work or of a heal
+abbrev pub opens : Place → Line → Bool
+opens Fresh line = true
+opens Indexed line = is_heal_lock line
+opens Between line = is_heal_lock line
+opens Within line = false
+
+-- what an event does to the link of an actor and a brick
+abbrev pub linked_after : ℕ → ℕ → Event → Bool → Bool
+linked_after a b (event.Cut x y) was = if (x.0 == a) && (y.0 == b) then false else was
+linked_after a b (event.Join x y) was = if (x.0 == a) && (y.0 == b) then true else was
+linked_after a b other was = was
+
+abbrev pub linked_by : ℕ → ℕ → Line → Bool → Bool
+linked_by a b (line_of.Event e) was = linked_after a b e was
+linked_by a b line was = was
+
+-- whether the link of an actor and a brick is up
+abbrev pub is_linked : ℕ → ℕ → List Line → Bool
+is_linked a b [] = true
+is_linked a b (line ∷ older) = linked_by a b line (is_linked a b older)
+
+-- whether a line of the actor opens its session with brick b, which is started and linked to it
+abbrev pub opens_with : Plan → ℕ → ℕ → Line → List Line → Bool
+opens_with p a b line older = is_of a line && opens (place_of a older) line && member (started_bricks p.shape.n older) b && is_linked a b older
+
+-- whether an event ends the session of an actor with a brick: the brick stops, the link is cut, or the actor is killed
+abbrev pub event_ends : ℕ → ℕ → Event → Bool
+event_ends a b (event.Stop y) = y.0 == b
+event_ends a b (event.Cut x y) = (x.0 == a) && (y.0 == b)
+event_ends a b (event.Kill x) = x.0 == a
+event_ends a b other = false
+
+-- whether a line ends it: an event, or an answer of the brick that was lost
+abbrev pub ends_session : ℕ → ℕ → Line → Bool
+ends_session a b (Ask x y request NotConnected took) = (x.0 == a) && (y.0 == b) && took
+ends_session a b (line_of.Event e) = event_ends a b e
+ends_session a b line = false
+
+-- whether the session of an actor with a brick is live
+abbrev pub is_joined : Plan → ℕ → ℕ → List Line → Bool
+is_joined p a b [] = false
+is_joined p a b (line ∷ older) = (is_joined p a b older || opens_with p a b line older) && not (ends_session a b line)
