@@ -1,0 +1,12 @@
+pub mod AcknowledgedLemmas
+pub mod CopyLemmas
+pub mod EachLemmas
+pub mod LastLemmas
+pub mod LogLemmas
+pub mod PartLemmas
+pub mod SeenLemmas
+pub mod SetLemmas
+pub mod ShownLemmas
+pub mod ShowsLemmas
+pub mod StartLemmas
+pub mod ToldLemmas

@@ -1,0 +1,39 @@
+-- What a copy and its numbers can take.
+use Rattle.std.specs.Prelude.{◌≡◌, ℕ, ◌-◌, ◌<◌, ◌≤◌, ◌^◌, ◌==◌, ◌&&◌, true, List, IfSome, slice_index}
+use Rattle.afr_brick.specs.State.{CanApply, CanPost, CanPre, CanSettle}
+use Rattle.afr_object.specs.Tables.{Table}
+use Rattle.afr_lines.specs.Log.{EachLine, change_at}
+use Rattle.afr_lines.specs.declared.line.Line.{Line}
+use Rattle.afr_lines.specs.declared.line.Line.TheVariants.{Ask}
+use Rattle.afr_lines.specs.declared.request.Request.{Request}
+use Rattle.afr_lines.specs.declared.request.Request.TheVariants.{Apply, Pre, Post, Settle}
+use Rattle.afr_plan.specs.declared.plan.Plan.{Plan}
+use Rattle.afr_model.specs.Tables.{holds}
+use Rattle.afr_base.specs.declared.marks.Marks.{Marks}
+
+-- an operation is open, and each brick can be accused once more
+pub record CanClose (marks : Marks) : Type 0 where
+  pub open_op : 0 < marks.dirty
+  pub room : (b : ℕ) → b < 5 → slice_index marks.pending b < 2 ^ 32 - 1
+
+-- each number is at most the other's
+pub record AreAtMost (less marks : Marks) : Type 0 where
+  pub dirty : less.dirty ≤ marks.dirty
+  pub pending : (b : ℕ) → b < 5 → slice_index less.pending b ≤ slice_index marks.pending b
+
+-- the tables can take what a request makes of them
+abbrev pub CanAsk : Request → List Line → Table → Type 0
+CanAsk (Apply attempt) older t = IfSome (change_at attempt older) (λ change. CanApply change t)
+CanAsk (Pre g kind) older t = CanPre kind g t
+CanAsk (Post attempt g kind missed) older t = CanPost kind g t
+CanAsk (Settle g kind less) older t = CanSettle kind less g t
+CanAsk request older t = Unit {0}
+
+-- the tables of brick b can take a line
+abbrev pub CanTake : ℕ → Line → List Line → Table → Type 0
+CanTake b (Ask a y request told took) older t = (took && (y.0 == b)) ≡ true → CanAsk request older t
+CanTake b line older t = Unit {0}
+
+-- they can take each line of the log
+abbrev pub Fits : Plan → List Line → ℕ → Type 0
+Fits p log b = EachLine (λ line older. CanTake b line older (holds p older b)) log
