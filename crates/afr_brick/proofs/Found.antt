@@ -1,5 +1,5 @@
 -- What a call may answer where the brick has the object.
-use Rattle.std.proofs.Common.{◌≡◌, ◌≢◌, ◌↔◌, Option, Some, None, Result, Ok, Err}
+use Rattle.std.proofs.Common.{◌≡◌, ◌≢◌, ◌↔◌, Option, Some, None, Result, Ok, Err, refl}
 use Rattle.std.specs.Result.{IsErrAnd}
 use Rattle.afr_brick.specs.declared.refused.Refused.{Refused}
 use Rattle.afr_brick.specs.declared.refused.Refused.TheVariants.{NoObject, NoMemory}
@@ -12,3 +12,8 @@ found r o x e n = (λ h. absurd (n h), λ h. absurd (cc))
 pub no_memory : {A : Type 0} (r : Result A Refused) → IsErrAnd r (λ e. e ≡ NoMemory) → r ≢ Err NoObject
 no_memory (Ok x) h = absurd h
 no_memory (Err e) h = λ k. absurd (cc)
+
+-- What isn't absent is there.
+pub present : {X : Type 0} (o : Option X) → (o ≡ None → ⊥) → (x : X) × (o ≡ Some x)
+present None n = absurd (n refl)
+present (Some x) n = (x, refl)

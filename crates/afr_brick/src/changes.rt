@@ -52,7 +52,7 @@ impl Brick {
     }
 
     #[tactic(auto, using(std::proofs::lemmas::Map::Steps::set_value_same))]
-    fn cut(&mut self, g: Gfid, len: u32) -> Result<(), Refused>
+    pub(crate) fn cut(&mut self, g: Gfid, len: u32) -> Result<(), Refused>
         ensures ok { OnOk result (self.new ≡ record self.old { objects = changed (with_bytes self.old.keeps (take len)) g (copy_at g self.old.objects) self.old.objects }) }
         ensures absent { (result ≡ Err Refused.NoObject) ↔ (copy_at g self.old.objects ≡ None) }
         ensures never { result ≢ Err Refused.NoMemory }
@@ -134,7 +134,7 @@ impl Brick {
         }
     }
 
-    fn add_object(&mut self, gfid: Gfid, what: What) -> Result<(), NoMemory>
+    pub(crate) fn add_object(&mut self, gfid: Gfid, what: What) -> Result<(), NoMemory>
         ensures ok { OnOk result (self.new ≡ record self.old { objects = insert_entry gfid_cmp self.old.objects gfid (new_object what) }) }
         ensures err { OnErr result (self.new ≡ self.old) }
     {
@@ -142,7 +142,7 @@ impl Brick {
         Ok(())
     }
 
-    fn drop_object(&mut self, gfid: Gfid)
+    pub(crate) fn drop_object(&mut self, gfid: Gfid)
         ensures { self.new ≡ record self.old { objects = remove_entry (is_at (gfid_cmp gfid)) self.old.objects } }
     {
         self.objects.remove(&gfid);

@@ -6,6 +6,7 @@ mod changes;
 mod numbers;
 mod reads;
 mod refused;
+mod repairs;
 #[cfg(test)]
 mod tests;
 

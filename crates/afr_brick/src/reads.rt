@@ -1,7 +1,8 @@
 //! What a client reads of a copy: bytes, names and attributes.
 ghost use Rattle.std.specs.Prelude.{◌≡◌, ◌≢◌, ◌↔◌, None, Some, IfOk, drop, option_map, take};
 ghost use Rattle.std.specs.BTreeMap.{is_at};
-ghost use Rattle.std.specs.Map.{lookup};
+ghost use Rattle.std.specs.List.Sorted.{IsStrictlySortedBy};
+ghost use Rattle.std.specs.Map.{keys_of, lookup};
 ghost use Rattle.afr_object.specs.Tables.{copy_at, key_cmp, name_cmp};
 
 use crate::brick::Brick;
@@ -39,6 +40,7 @@ impl Brick {
     /// All names of a directory. A file has none.
     pub fn list(&self, g: Gfid) -> Result<NameList, Refused>
         ensures ok { IfOk result (λ names. option_map (λ o. o.names) (copy_at g self.now.objects) ≡ Some names) }
+        ensures order { IfOk result (λ names. IsStrictlySortedBy name_cmp (keys_of names)) }
         ensures absent { (result ≡ Err Refused.NoObject) ↔ (copy_at g self.now.objects ≡ None) }
     {
         let Some(object) = self.objects.get(&g) else {
@@ -63,6 +65,7 @@ impl Brick {
     /// All attributes of an object.
     pub fn read_attrs(&self, g: Gfid) -> Result<AttrList, Refused>
         ensures ok { IfOk result (λ attrs. option_map (λ o. o.attrs) (copy_at g self.now.objects) ≡ Some attrs) }
+        ensures order { IfOk result (λ attrs. IsStrictlySortedBy key_cmp (keys_of attrs)) }
         ensures absent { (result ≡ Err Refused.NoObject) ↔ (copy_at g self.now.objects ≡ None) }
     {
         let Some(object) = self.objects.get(&g) else {

@@ -1,7 +1,7 @@
 //! One brick's story, in which each public call has its part.
 use crate::{Brick, Refused};
 use afr_base::{BrickId, BrickSet, Gfid, KeyId, Kind, NameId, ValueId, What};
-use afr_object::{Change, Entry, List};
+use afr_object::{Change, Entry, List, Load, Repair};
 use std::test::Fail;
 
 const ROOT: Gfid = Gfid(1);
@@ -77,5 +77,59 @@ fn a_made_file_is_listed_until_its_name_goes(rt: HostRuntime) -> Result<(), Fail
     assert!(rt; brick.apply(&remove).is_ok());
     assert_eq!(rt; brick.read_name(ROOT, NameId(3)), Ok(None));
     assert_eq!(rt; brick.read_name(Gfid(9), NameId(3)), Err(Refused::NoObject));
+    Ok(())
+}
+
+#[test]
+fn a_repaired_brick_has_what_another_shows(rt: HostRuntime) -> Result<(), Fail> {
+    let mut source = Brick::empty(rt.alloc(), false).ok().ok_or("memory")?;
+    let mut sink = Brick::empty(rt.alloc(), false).ok().ok_or("memory")?;
+    let file = Gfid(77);
+    let make = Change::Make {
+        dir: ROOT,
+        name: NameId(3),
+        gfid: file,
+        what: What::File,
+    };
+    let set_attr = Change::SetAttr {
+        gfid: file,
+        key: KeyId(5),
+        value: ValueId(6),
+    };
+    assert!(rt; source.apply(&make).is_ok());
+    assert!(rt; source.apply(&set_attr).is_ok());
+    let put_names = Repair::PutNames {
+        gfid: ROOT,
+        reads: [Some(0), None, None, None, None],
+    };
+    let put_attrs = Repair::PutAttrs {
+        gfid: file,
+        read: 0,
+    };
+    let copy = Repair::Copy {
+        gfid: file,
+        at: 1,
+        span: 4,
+        read: 0,
+    };
+    let cut = Repair::CutTo { gfid: file, len: 2 };
+    assert_eq!(rt; sink.repair(&cut, Load::Nothing), Err(Refused::NoObject));
+    let names = source.list(ROOT).ok().ok_or("memory")?;
+    assert!(rt; sink.repair(&put_names, Load::Names(&names)).is_ok());
+    assert_eq!(rt;
+        sink.read_name(ROOT, NameId(3)),
+        source.read_name(ROOT, NameId(3))
+    );
+    let attrs = source.read_attrs(file).ok().ok_or("memory")?;
+    assert!(rt; sink.repair(&put_attrs, Load::Attrs(&attrs)).is_ok());
+    assert_eq!(rt; sink.read_attr(file, KeyId(5)), Ok(Some(ValueId(6))));
+    assert!(rt; sink.repair(&copy, Load::Bytes(b"ab")).is_ok());
+    assert!(rt; sink.repair(&copy, Load::Nothing).is_ok());
+    let read = sink.read_bytes(file, 0, 9).ok().ok_or("memory")?;
+    assert_eq!(rt; read.as_slice(), b"\0ab".as_slice());
+    assert!(rt; sink.repair(&copy, Load::Bytes(b"c")).is_ok());
+    assert!(rt; sink.repair(&cut, Load::Nothing).is_ok());
+    let read = sink.read_bytes(file, 0, 9).ok().ok_or("memory")?;
+    assert_eq!(rt; read.as_slice(), b"\0c".as_slice());
     Ok(())
 }

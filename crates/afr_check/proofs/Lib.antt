@@ -1,8 +1,9 @@
 pub mod AcknowledgedLemmas
 pub mod CopyLemmas
-pub mod EachLemmas
+pub mod FitsLemmas
 pub mod LastLemmas
 pub mod LogLemmas
+pub mod MendsLemmas
 pub mod PartLemmas
 pub mod SeenLemmas
 pub mod SetLemmas

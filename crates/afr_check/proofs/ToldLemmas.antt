@@ -18,7 +18,8 @@ use Rattle.afr_lines.specs.declared.answer.Told.{Told}
 use Rattle.afr_lines.specs.declared.answer.Told.TheVariants as told
 use Rattle.afr_lines.specs.declared.line.Line.{Line}
 use Rattle.afr_lines.specs.declared.request.Request.TheVariants as request
-use Rattle.afr_model.specs.Honest.{answer_by, copy_answer, repaired}
+use Rattle.afr_model.specs.Honest.{answer_by, copy_answer}
+use Rattle.afr_object.specs.Repairs.{repaired}
 use Rattle.afr_check.specs.Telling.{seen_told}
 
 copy_told : (f : Object → Answer) (x : Told) (o : Option Object) → ((w : Object) → told_by (f w) ≡ x) → told_by (copy_answer f o) ≡ (if is_some o then x else told.NoObject)

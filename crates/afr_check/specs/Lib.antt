@@ -2,6 +2,7 @@ pub mod Acknowledged
 pub mod Closing
 pub mod Freshness
 pub mod Last
+pub mod Mends
 pub mod Parts
 pub mod Room
 pub mod Seen

@@ -37,7 +37,7 @@ impl Model for Outcome {
 }
 
 /// Whether each line of the log was told what its brick then gave, in as many steps as the cube of
-/// the log's length.
+/// the log's length where nothing was healed.
 pub fn is_honest(alloc: Global, plan: &Plan, log: &[Line]) -> Result<bool, Unfit>
     requires few { plan.now.shape.n ≤ 5 }
     ensures ok { IfOk result (λ flag. (flag ≡ true) ↔ Honest plan.now (reverse log.now)) }

@@ -8,6 +8,7 @@ mod current;
 mod fresh;
 mod honest;
 mod locks;
+mod mends;
 mod reading;
 mod replay;
 mod replied;

@@ -1,18 +1,21 @@
 //! The tables of a brick after a log: what it had at the start, and then the effect of each line.
 ghost use Rattle.std.specs.Prelude.{Err, IfSome, ◌≡◌, ◌&&◌, ◌==◌, not, true, false, reverse, IfOk, OnOk, ◌^◌, ◌-◌, ◌<◌, ◌≤◌, ℕ, slice_index, EachIndex};
 ghost use Rattle.afr_base.specs.Marks.{closed_op, dirtied, taken_back};
-ghost use Rattle.afr_brick.specs.State.{CanApply, CanPost, CanPre, CanSettle};
+ghost use Rattle.afr_brick.specs.State.{CanApply, CanPost, CanPre, CanSettle, IsInOrder};
 ghost use Rattle.afr_object.specs.Tables.{applied, changed, copy_at, opening, with_numbers};
-ghost use Rattle.afr_lines.specs.Log.{change_at};
-ghost use Rattle.afr_check.specs.Room.{AreAtMost, CanAsk, CanClose, CanTake, Fits};
-ghost use Rattle.afr_model.specs.Tables.{asked, effect, holds, keeps_bytes, step};
+ghost use Rattle.afr_lines.specs.Log.{change_at, from_oldest};
+ghost use Rattle.afr_object.specs.Repairs.{Names, merged};
+ghost use Rattle.afr_check.specs.Mends.{Brings, BringsTo, contents_seen, names_among, names_by, repair_to, shown_by};
+ghost use Rattle.afr_check.specs.Room.{AreAtMost, CanAsk, CanClose, CanTake, Fits, IsMended};
+ghost use Rattle.afr_model.specs.Tables.{all_names_shown, asked, carried, effect, held_before, holds, keeps_bytes, step};
 
 use crate::attempts::change_at;
+use crate::mends::{Brought, asked_by, attrs_only, bytes_only, mend, merge, repair_of, shown_of};
 use crate::unfit::Unfit;
 use afr_base::{BrickId, BrickSet, Gfid, Kind, Marks, NameId, NoMemory};
 use afr_brick::{Brick, Refused};
 use afr_lines::{Line, Request};
-use afr_object::Change;
+use afr_object::{Change, Repair, SortedMap};
 use afr_plan::Plan;
 use std::alloc::Global;
 
@@ -21,16 +24,132 @@ const OPENING: u128 = 0x1_0000_0000_0000_0000;
 
 const FILE_LIMIT: usize = 1_048_576;
 
-/// The brick after the log, in as many steps as the log has lines.
+/// The brick after the log, in as many steps as the log has lines. What a repair of it carries is
+/// shown by a replay of what came before each line that it names.
+#[cycle(tables)]
 pub fn tables(alloc: Global, plan: &Plan, log: &[Line], b: BrickId) -> Result<Brick, Unfit>
     ensures ok { IfOk result (λ brick. brick ≡ record { keeps = keeps_bytes plan.now b.0; objects = holds plan.now (reverse log.now) b.0 }) }
     ensures too_much { result ≡ Err Unfit.TooMuch → Fits plan.now (reverse log.now) b.0 → ⊥ }
 {
     let mut brick = opened(alloc, plan, b)?;
     for at in 0..log.len() {
-        step(&mut brick, plan, b, &log[at], &log[..at])?;
+        let brought = brought_to(alloc, plan, b, &log[at], &log[..at])?;
+        step(&mut brick, plan, b, &log[at], &log[..at], &brought)?;
     }
     Ok(brick)
+}
+
+/// What the repair of a line to this brick carries.
+#[cycle(tables)]
+pub(crate) fn brought_to(
+    alloc: Global,
+    plan: &Plan,
+    b: BrickId,
+    line: &Line,
+    older: &[Line],
+) -> Result<Brought, Unfit>
+    ensures ok { IfOk result (λ brought. Brings plan.now b.0 line.now (reverse older.now) (contents_seen brought)) }
+    ensures order { IfOk result (λ brought. IsInOrder (contents_seen brought)) }
+    ensures too_much { result ≡ Err Unfit.TooMuch → (IsMended b.0 line.now → (y : ℕ) → Fits plan.now (reverse older.now) y) → ⊥ }
+{
+    match repair_to(b, line) {
+        Some(repair) => carried(alloc, plan, &repair, older),
+        None => Ok(Brought::Nothing),
+    }
+}
+
+/// What a repair carries: what the lines that it names showed.
+#[cycle(tables)]
+fn carried(alloc: Global, plan: &Plan, repair: &Repair, older: &[Line]) -> Result<Brought, Unfit>
+    ensures ok { IfOk result (λ brought. contents_seen brought ≡ carried (held_before plan.now (reverse older.now)) (reverse older.now) repair.now) }
+    ensures order { IfOk result (λ brought. IsInOrder (contents_seen brought)) }
+    ensures too_much { result ≡ Err Unfit.TooMuch → ((y : ℕ) → Fits plan.now (reverse older.now) y) → ⊥ }
+{
+    match repair {
+        Repair::CutTo { .. } => Ok(Brought::Nothing),
+        Repair::Copy { read, .. } => {
+            let brought = shown(alloc, plan, older, *read as usize)?;
+            Ok(bytes_only(alloc, brought))
+        }
+        Repair::PutAttrs { read, .. } => {
+            let brought = shown(alloc, plan, older, *read as usize)?;
+            Ok(attrs_only(alloc, brought))
+        }
+        Repair::PutNames { reads, .. } => names_shown(alloc, plan, older, reads),
+    }
+}
+
+/// The names that each of some lines showed, merged.
+#[cycle(tables)]
+fn names_shown(
+    alloc: Global,
+    plan: &Plan,
+    older: &[Line],
+    reads: &[Option<u32>],
+) -> Result<Brought, Unfit>
+    ensures ok { IfOk result (λ brought. contents_seen brought ≡ Names (merged (all_names_shown (held_before plan.now (reverse older.now)) (reverse older.now) reads.now))) }
+    ensures order { IfOk result (λ brought. IsInOrder (contents_seen brought)) }
+    ensures too_much { result ≡ Err Unfit.TooMuch → ((y : ℕ) → Fits plan.now (reverse older.now) y) → ⊥ }
+{
+    let mut names = SortedMap::new(alloc);
+    let len = reads.len();
+    for i in 0..len {
+        let brought = names_by(alloc, plan, older, reads[len - 1 - i])?;
+        merge(&mut names, &brought)?;
+    }
+    Ok(Brought::Names(names.list(alloc)?))
+}
+
+/// What a line showed, where one is named.
+#[cycle(tables)]
+fn names_by(alloc: Global, plan: &Plan, older: &[Line], read: Option<u32>) -> Result<Brought, Unfit>
+    ensures ok { IfOk result (λ brought. names_among (contents_seen brought) ≡ names_by (held_before plan.now (reverse older.now)) (reverse older.now) read) }
+    ensures too_much { result ≡ Err Unfit.TooMuch → ((y : ℕ) → Fits plan.now (reverse older.now) y) → ⊥ }
+{
+    match read {
+        Some(k) => shown(alloc, plan, older, k as usize),
+        None => Ok(Brought::Nothing),
+    }
+}
+
+/// What a line showed of the brick that it asked.
+#[cycle(tables)]
+fn shown(alloc: Global, plan: &Plan, older: &[Line], k: usize) -> Result<Brought, Unfit>
+    ensures ok { IfOk result (λ brought. contents_seen brought ≡ shown_by (held_before plan.now (reverse older.now)) k (from_oldest k (reverse older.now))) }
+    ensures order { IfOk result (λ brought. IsInOrder (contents_seen brought)) }
+    ensures too_much { result ≡ Err Unfit.TooMuch → ((y : ℕ) → Fits plan.now (reverse older.now) y) → ⊥ }
+{
+    if k >= older.len() {
+        return Ok(Brought::Nothing);
+    }
+    match asked_by(&older[k]) {
+        Some((y, request)) => {
+            let brick = tables(alloc, plan, &older[..k], y)?;
+            Ok(shown_of(alloc, &brick, request)?)
+        }
+        None => Ok(Brought::Nothing),
+    }
+}
+
+/// The repair of a line that this brick carried out.
+fn repair_to(b: BrickId, line: &Line) -> Option<Repair>
+    ensures { result ≡ repair_to b.0 line.now }
+{
+    match line {
+        Line::Ask {
+            brick,
+            request,
+            took,
+            ..
+        } => {
+            if *took && *brick == b {
+                repair_of(request)
+            } else {
+                None
+            }
+        }
+        _ => None,
+    }
 }
 
 /// A brick with the opening files.
@@ -52,19 +171,21 @@ pub(crate) fn step(
     b: BrickId,
     line: &Line,
     older: &[Line],
+    brought: &Brought,
 ) -> Result<(), Unfit>
     requires keeps { brick.old.keeps ≡ keeps_bytes plan.now b.0 }
-    ensures ok { OnOk result (brick.new ≡ record brick.old { objects = step plan.now line.now b.0 (reverse older.now) brick.old.objects }) }
-    ensures too_much { result ≡ Err Unfit.TooMuch → CanTake b.0 line.now (reverse older.now) brick.old.objects → ⊥ }
+    requires brings { Brings plan.now b.0 line.now (reverse older.now) (contents_seen brought.now) }
+    requires order { IsInOrder (contents_seen brought.now) }
+    ensures ok { OnOk result (brick.new ≡ record brick.old { objects = step plan.now line.now b.0 (reverse older.now) (held_before plan.now (reverse older.now)) brick.old.objects }) }
+    ensures too_much { result ≡ Err Unfit.TooMuch → CanTake b.0 line.now (reverse older.now) (held_before plan.now (reverse older.now)) brick.old.objects → ⊥ }
 {
-    let _plan = plan;
     match line {
         Line::Ask {
             brick: asked,
             request,
             took,
             ..
-        } => carry_out_if(brick, *took && *asked == b, request, older),
+        } => carry_out_if(brick, *took && *asked == b, plan, request, older, brought),
         _ => Ok(()),
     }
 }
@@ -72,24 +193,37 @@ pub(crate) fn step(
 fn carry_out_if(
     brick: &mut Brick,
     flag: bool,
+    plan: &Plan,
     request: &Request,
     older: &[Line],
+    brought: &Brought,
 ) -> Result<(), Unfit>
-    ensures yes { flag ≡ true → OnOk result (brick.new ≡ record brick.old { objects = asked brick.old.keeps request.now (reverse older.now) brick.old.objects }) }
+    requires brings { flag ≡ true → BringsTo plan.now request.now (reverse older.now) (contents_seen brought.now) }
+    requires order { IsInOrder (contents_seen brought.now) }
+    ensures yes { flag ≡ true → OnOk result (brick.new ≡ record brick.old { objects = asked brick.old.keeps request.now (reverse older.now) (held_before plan.now (reverse older.now)) brick.old.objects }) }
     ensures no { flag ≡ false → OnOk result (brick.new ≡ brick.old) }
-    ensures too_much { result ≡ Err Unfit.TooMuch → (flag ≡ true → CanAsk request.now (reverse older.now) brick.old.objects) → ⊥ }
+    ensures too_much { result ≡ Err Unfit.TooMuch → (flag ≡ true → CanAsk request.now (reverse older.now) (held_before plan.now (reverse older.now)) brick.old.objects) → ⊥ }
 {
     if flag {
-        carry_out(brick, request, older)
+        carry_out(brick, plan, request, older, brought)
     } else {
         Ok(())
     }
 }
 
-fn carry_out(brick: &mut Brick, request: &Request, older: &[Line]) -> Result<(), Unfit>
-    ensures ok { OnOk result (brick.new ≡ record brick.old { objects = asked brick.old.keeps request.now (reverse older.now) brick.old.objects }) }
-    ensures too_much { result ≡ Err Unfit.TooMuch → CanAsk request.now (reverse older.now) brick.old.objects → ⊥ }
+fn carry_out(
+    brick: &mut Brick,
+    plan: &Plan,
+    request: &Request,
+    older: &[Line],
+    brought: &Brought,
+) -> Result<(), Unfit>
+    requires brings { BringsTo plan.now request.now (reverse older.now) (contents_seen brought.now) }
+    requires order { IsInOrder (contents_seen brought.now) }
+    ensures ok { OnOk result (brick.new ≡ record brick.old { objects = asked brick.old.keeps request.now (reverse older.now) (held_before plan.now (reverse older.now)) brick.old.objects }) }
+    ensures too_much { result ≡ Err Unfit.TooMuch → CanAsk request.now (reverse older.now) (held_before plan.now (reverse older.now)) brick.old.objects → ⊥ }
 {
+    let _plan = plan;
     match request {
         Request::Apply { attempt } => apply(brick, *attempt, older),
         Request::Pre { gfid, kind } => pre(brick, *gfid, *kind),
@@ -109,7 +243,7 @@ fn carry_out(brick: &mut Brick, request: &Request, older: &[Line]) -> Result<(),
         Request::ReadAttr { .. } => Ok(()),
         Request::ReadAttrs { .. } => Ok(()),
         Request::Index => Ok(()),
-        Request::Mend { .. } => Ok(()),
+        Request::Mend { repair } => mend(brick, repair, brought),
     }
 }
 

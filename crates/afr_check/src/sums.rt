@@ -7,7 +7,7 @@ ghost use Rattle.afr_object.specs.Tables.{copy_at};
 ghost use Rattle.afr_check.specs.Room.{Fits};
 ghost use Rattle.afr_check.specs.Parts.{NamesBrick, counted_in, number_if, part_of};
 
-use crate::replay::{opened, step};
+use crate::replay::{brought_to, opened, step};
 use crate::unfit::Unfit;
 use afr_base::{BrickId, Gfid, Kind};
 use afr_brick::Brick;
@@ -89,7 +89,8 @@ fn sum(
     for at in 0..log.len() {
         let there = has_copy(&brick, g);
         sum = u128::from(added(&log[at], x, g, kind, part, there)) + sum;
-        step(&mut brick, plan, x, &log[at], &log[..at])?;
+        let brought = brought_to(alloc, plan, x, &log[at], &log[..at])?;
+        step(&mut brick, plan, x, &log[at], &log[..at], &brought)?;
     }
     Ok(sum)
 }

@@ -6,7 +6,7 @@ use crate::*;
 use afr_base::{ActorId, AllMarks, BrickId, BrickSet, Gfid, Kind, NameId, Shape, What};
 use afr_faults::Fault;
 use afr_lines::{Area, Event, Good, Line, Reply, Request, Told};
-use afr_object::{Change, List, View};
+use afr_object::{Change, List, Repair, View};
 use afr_plan::{Command, Plan, PlannedFault, Words};
 use afr_range_locks::Domain;
 use std::alloc::Global;
@@ -21,6 +21,8 @@ const BYTE: Cell = Cell::Byte(FILE, 0);
 const WRITER: ActorId = ActorId(1);
 
 const READER: ActorId = ActorId(2);
+
+const HEALER: ActorId = ActorId(3);
 
 /// The position of the write's Begin line.
 const ATTEMPT: u32 = 10;
@@ -327,6 +329,56 @@ fn a_read_of_what_was_acknowledged_before_is_fresh(rt: HostRuntime) -> Result<()
         event: Event::Kill(READER),
     })?;
     assert!(rt; is_killed(log.as_slice(), READER));
+    Ok(())
+}
+
+/// A write that brick 2 missed, a healer's read of brick 0 at position 19, and a cut of that copy.
+fn read_then_cut(alloc: Global) -> Result<Vec<Line>, Fail> {
+    let mut log = missed_at_2(alloc)?;
+    let read = Request::ReadBytes {
+        gfid: FILE,
+        at: 0,
+        len: 1,
+    };
+    log.push(ask(HEALER, 0, &read, &Told::Given))?;
+    let cut = Repair::CutTo { gfid: FILE, len: 0 };
+    log.push(ask(HEALER, 0, &Request::Mend { repair: cut }, &Told::Done))?;
+    Ok(log)
+}
+
+/// A copy of what was read at position 19.
+fn copy_to(at: u32) -> Request {
+    let repair = Repair::Copy {
+        gfid: FILE,
+        at,
+        span: 1,
+        read: 19,
+    };
+    Request::Mend { repair }
+}
+
+#[test]
+fn a_healed_brick_has_what_the_read_showed(rt: HostRuntime) -> Result<(), Fail> {
+    let plan = plan(rt.alloc());
+    let mut log = read_then_cut(rt.alloc())?;
+    log.push(ask(HEALER, 2, &copy_to(0), &Told::Done))?;
+    for (b, byte) in [(0, 0), (1, 7), (2, 7)] {
+        assert_eq!(rt;
+            value(rt.alloc(), &plan, log.as_slice(), BrickId(b), BYTE),
+            Ok(Value::Byte(byte))
+        );
+    }
+    Ok(())
+}
+
+#[test]
+fn a_piece_past_the_longest_file_is_too_much(rt: HostRuntime) -> Result<(), Fail> {
+    let plan = plan(rt.alloc());
+    let mut log = read_then_cut(rt.alloc())?;
+    log.push(ask(HEALER, 2, &copy_to(1_048_576), &Told::Done))?;
+    let answer = tables(rt.alloc(), &plan, log.as_slice(), BrickId(2));
+    assert!(rt; matches!(answer, Err(Unfit::TooMuch)));
+    assert!(rt; tables(rt.alloc(), &plan, log.as_slice(), BrickId(0)).is_ok());
     Ok(())
 }
 

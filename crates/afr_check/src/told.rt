@@ -2,7 +2,8 @@
 ghost use Rattle.std.specs.Prelude.{◌≡◌, ◌↔◌, true, is_some, option_map, reverse, if◌then◌else◌};
 ghost use Rattle.afr_lines.specs.Log.{change_at};
 ghost use Rattle.afr_lines.specs.Told.{told_by};
-ghost use Rattle.afr_model.specs.Honest.{answer_by, copy_answer, copy_for, lock_answer, repaired};
+ghost use Rattle.afr_model.specs.Honest.{answer_by, copy_answer, copy_for, lock_answer};
+ghost use Rattle.afr_object.specs.Repairs.{repaired};
 ghost use Rattle.afr_lines.specs.declared.answer.Answer.{Answer};
 ghost use Rattle.afr_object.specs.Tables.{copy_at, object_of, view_of};
 ghost use Rattle.afr_check.specs.Telling.{seen_told};

@@ -1,85 +1,36 @@
 -- What a line of a command leaves in the bricks' tables.
-use Rattle.std.proofs.Common.{◌≡◌, ◌≢◌, ℕ, ◌<◌, ◌≤◌, ◌==◌, Bool, true, false, List, ◌∷◌, Option, Some, None, refl, ap, ◌∙◌, subst, arith, length, if◌then◌else◌, ◌⊎◌, inl, inr}
+use Rattle.std.proofs.Common.{◌≡◌, ◌≢◌, ℕ, ◌<◌, ◌≤◌, ◌==◌, Bool, true, false, List, ◌∷◌, Option, Some, None, refl, ap, ◌∙◌, arith, length, if◌then◌else◌, ◌⊎◌, inl, inr}
 use Rattle.std.proofs.lemmas.Bool.Decides.{nat_tests, eqb_tells}
 use Rattle.std.specs.Prelude.{is_some, ◌&&◌}
 use Rattle.std.specs.Option.{option_map}
-use Rattle.std.specs.BTreeMap.{is_at, insert_entry}
-use Rattle.std.specs.Map.{remove_entry}
-use Rattle.afr_base.specs.Marks.{marks_of, dirtied, closed_op, taken_back}
+use Rattle.afr_base.specs.Marks.{marks_of, dirtied}
 use Rattle.afr_base.specs.declared.ids.ActorId.{ActorId}
 use Rattle.afr_base.specs.declared.ids.BrickId.{BrickId}
 use Rattle.afr_base.specs.declared.ids.Gfid.{Gfid}
 use Rattle.afr_base.specs.declared.ids.Kind.{Kind}
 use Rattle.afr_base.specs.declared.ids.Kind.TheVariants.{Bytes, Attrs, Names}
-use Rattle.afr_base.specs.declared.ids.NameId.{NameId}
-use Rattle.afr_base.specs.declared.ids.What.{What}
-use Rattle.afr_brick.specs.TablesLemmas.{copy_at-changed, copy_at-made}
+use Rattle.afr_brick.specs.TablesLemmas.{copy_at-changed}
 use Rattle.afr_content.specs.Bytes.{written}
-use Rattle.afr_object.specs.Tables.{Table, copy_at, changed, with_numbers, with_bytes, with_attr, with_names, made, new_object, linked, is_file, name_cmp}
+use Rattle.afr_object.specs.Tables.{Table, copy_at, changed, with_numbers, with_bytes, is_file}
 use Rattle.afr_object.specs.declared.change.Change.{Change}
-use Rattle.afr_object.specs.declared.change.Change.TheVariants.{Write, Cut, SetAttr, Make, Remove}
+use Rattle.afr_object.specs.declared.change.Change.TheVariants.{Write}
 use Rattle.afr_object.specs.declared.object.Object.{Object}
 use Rattle.afr_lines.specs.Log.{change_at}
 use Rattle.afr_lines.specs.declared.answer.Told.{Told}
 use Rattle.afr_lines.specs.declared.line.Line.{Line}
 use Rattle.afr_lines.specs.declared.line.Line.TheVariants.{Ask, Begin}
 use Rattle.afr_lines.specs.declared.request.Request.{Request}
-use Rattle.afr_lines.specs.declared.request.Request.TheVariants.{Apply, Pre, Post, Settle}
+use Rattle.afr_lines.specs.declared.request.Request.TheVariants.{Apply, Pre}
 use Rattle.afr_plan.specs.declared.plan.Plan.{Plan}
-use Rattle.afr_model.specs.Tables.{holds, asked, effect, keeps_bytes}
+use Rattle.afr_model.specs.Tables.{holds, held_before, asked, effect, keeps_bytes}
 use Rattle.afr_laws.specs.Able.{IsHeld, open_on, IsOpen}
+use Rattle.afr_laws.specs.TableLaws.{stays_asked}
 
 pub self : (n : ℕ) → (n == n) ≡ true
 self n = grind (arith, nat_tests)
 
 pub apart : (b c : ℕ) → b ≢ c → (b == c) ≡ false
 apart b c h = grind (arith, nat_tests, h)
-
--- ---- an object never goes
-
-some_map : (f : Object → Object) (o : Option Object) → is_some o ≡ true → is_some (option_map f o) ≡ true
-some_map f None h = h
-some_map f (Some o) h = refl
-
-held_changed : (f : Object → Object) (g q : Gfid) (t : Table) → is_some (copy_at q t) ≡ true → is_some (copy_at q (changed f g (copy_at g t) t)) ≡ true
-held_changed f g q t h = rw (copy_at-changed f g q t) (go (eqb_tells g.0 q.0))
-  where
-    go : ((g.0 == q.0) ≡ true) × (g.0 ≡ q.0) ⊎ ((g.0 == q.0) ≡ false) × (g.0 ≢ q.0) → is_some (if g.0 == q.0 then option_map f (copy_at g t) else copy_at q t) ≡ true
-    go (inl s) = let same : g ≡ q = ap (λ (n : ℕ). record { 0 = n }) s.1 in rw s.0 (some_map f (copy_at g t) (rw same h))
-    go (inr s) = rw s.0 h
-
-held_made : (g q : Gfid) (what : What) (t : Table) → is_some (copy_at q t) ≡ true → is_some (copy_at q (made g what t)) ≡ true
-held_made g q what t h = rw (copy_at-made g q what t) (go (is_some (copy_at g t)) (g.0 == q.0))
-  where
-    go : (e f : Bool) → is_some (if e then copy_at q t else if f then Some (new_object what) else copy_at q t) ≡ true
-    go true f = h
-    go false true = refl
-    go false false = h
-
-held_linked : (dir q : Gfid) (name : NameId) (g : Gfid) (what : What) (t : Table) → is_some (copy_at q t) ≡ true → is_some (copy_at q (linked dir name g what (copy_at dir t) t)) ≡ true
-held_linked dir q name g what t h = go (copy_at dir t) refl
-  where
-    go : (o : Option Object) → copy_at dir t ≡ o → is_some (copy_at q (linked dir name g what o t)) ≡ true
-    go None e = h
-    go (Some o) e = held_made g q what (changed f dir (Some o) t) (subst (λ (o : Option Object). is_some (copy_at q (changed f dir o t)) ≡ true) e (held_changed f dir q t h))
-      where
-        f : Object → Object
-        f = with_names (λ names. insert_entry name_cmp names name (record { gfid = g; what = what }))
-
-held_effect : (keeps : Bool) (c : Option Change) (q : Gfid) (t : Table) → is_some (copy_at q t) ≡ true → is_some (copy_at q (effect keeps c t)) ≡ true
-held_effect keeps None q t h = h
-held_effect keeps (Some (Write g at bytes)) q t h = held_changed (with_bytes keeps (written at bytes)) g q t h
-held_effect keeps (Some (Cut g len)) q t h = held_changed _ g q t h
-held_effect keeps (Some (SetAttr g key value)) q t h = held_changed (with_attr key value) g q t h
-held_effect keeps (Some (Make dir name g what)) q t h = held_linked dir q name g what t h
-held_effect keeps (Some (Remove dir name what)) q t h = held_changed (with_names (remove_entry (is_at (name_cmp name)))) dir q t h
-
-held_asked : (keeps : Bool) (r : Request) (older : List Line) (q : Gfid) (t : Table) → is_some (copy_at q t) ≡ true → is_some (copy_at q (asked keeps r older t)) ≡ true
-held_asked keeps (Apply attempt) older q t h = held_effect keeps (change_at attempt older) q t h
-held_asked keeps (Pre g kind) older q t h = held_changed (with_numbers kind dirtied) g q t h
-held_asked keeps (Post attempt g kind missed) older q t h = held_changed (with_numbers kind (closed_op missed)) g q t h
-held_asked keeps (Settle g kind less) older q t h = held_changed (with_numbers kind (taken_back less)) g q t h
-held_asked keeps r older q t h = h
 
 -- ---- what no line undoes
 
@@ -99,8 +50,8 @@ goes_ask p a b r told log = record {
   attempts = λ k l. still k (Ask a b r told true) log l;
 }
   where
-    go : (g : Gfid) (c : ℕ) → IsHeld p log g c → (f : Bool) → is_some (copy_at g (if f then asked (keeps_bytes p c) r log (holds p log c) else holds p log c)) ≡ true
-    go g c h true = held_asked (keeps_bytes p c) r log g (holds p log c) h
+    go : (g : Gfid) (c : ℕ) → IsHeld p log g c → (f : Bool) → is_some (copy_at g (if f then asked (keeps_bytes p c) r log (held_before p log) (holds p log c) else holds p log c)) ≡ true
+    go g c h true = stays_asked (keeps_bytes p c) r log (held_before p log) (holds p log c) g h
     go g c h false = h
 
 pub goes_begin : (p : Plan) (a : ActorId) (c : Change) (log : List Line) → GoesOn p log (Begin a c ∷ log)
@@ -173,6 +124,6 @@ open_apply p a b k told log h at bytes g kind c e o = go (b.0 == c)
     written_here : 0 < open_on kind (copy_at g (effect (keeps_bytes p c) (change_at k log) (holds p log c)))
     written_here = rw (e, bytes_open (keeps_bytes p c) (written at bytes) kind h g (holds p log c)) o
 
-    go : (f : Bool) → 0 < open_on kind (copy_at g (if f then asked (keeps_bytes p c) (Apply k) log (holds p log c) else holds p log c))
+    go : (f : Bool) → 0 < open_on kind (copy_at g (if f then asked (keeps_bytes p c) (Apply k) log (held_before p log) (holds p log c) else holds p log c))
     go true = written_here
     go false = o

@@ -12,6 +12,7 @@ use Rattle.afr_base.specs.declared.ids.Kind.{Kind}
 use Rattle.afr_base.specs.declared.ids.Kind.TheVariants.{Bytes, Attrs, Names}
 use Rattle.afr_base.specs.declared.ids.NameId.{NameId}
 use Rattle.afr_base.specs.declared.ids.Shape.{Shape}
+use Rattle.afr_object.specs.Repairs.{repaired}
 use Rattle.afr_object.specs.Tables.{copy_at}
 use Rattle.afr_object.specs.declared.object.Object.{Object}
 use Rattle.afr_choice.specs.Verdict.{keeps, is_bytes}
@@ -29,7 +30,7 @@ use Rattle.afr_model.specs.Tables.{holds}
 use Rattle.afr_model.specs.Cells.{Cell, Byte, Attr, Name, object_of_cell, kind_of_cell}
 use Rattle.afr_model.specs.Attempts.{IsAcknowledged, touches_if, IsNoOlder, Opening, Left, IsCurrent}
 use Rattle.afr_model.specs.Sums.{has_object}
-use Rattle.afr_model.specs.Honest.{answer_by, copy_answer, copy_for, repaired}
+use Rattle.afr_model.specs.Honest.{answer_by, copy_answer, copy_for}
 use Rattle.afr_model.specs.Safe.{accuses, IsSafe, names_cell, log_before, IsFresh}
 use Rattle.afr_laws.specs.Current.{is_there, AllCurrent, ReadsKept}
 use Rattle.afr_laws.specs.CurrentLog.{change_stays, acknowledged_within, acknowledged_more}

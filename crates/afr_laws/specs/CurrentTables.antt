@@ -22,9 +22,9 @@ use Rattle.afr_lines.specs.declared.answer.Told.{Told}
 use Rattle.afr_lines.specs.declared.line.Line.{Line}
 use Rattle.afr_lines.specs.declared.line.Line.TheVariants.{Ask}
 use Rattle.afr_lines.specs.declared.request.Request.{Request}
-use Rattle.afr_lines.specs.declared.request.Request.TheVariants.{Apply, Pre, Post, Settle}
+use Rattle.afr_lines.specs.declared.request.Request.TheVariants.{Apply, Mend, Pre, Post, Settle}
 use Rattle.afr_plan.specs.declared.plan.Plan.{Plan}
-use Rattle.afr_model.specs.Tables.{holds, asked, effect, keeps_bytes}
+use Rattle.afr_model.specs.Tables.{Past, holds, held_before, asked, effect, keeps_bytes}
 use Rattle.afr_model.specs.Cells.{Cell, Byte, Attr, Name, IsByte, object_of_cell, value_in, value_if, value_of, touches, leaves}
 use Rattle.afr_laws.specs.Current.{is_there, AreAlike, KeepsObjects, IsWriteTo}
 
@@ -61,20 +61,22 @@ bytes_keep flag f o = go (flag && is_file o.what)
 -- a request that changes no value
 abbrev pub IsMild : Request → Type 0
 IsMild (Apply attempt) = ⊥
+IsMild (Mend repair) = ⊥
 IsMild other = Unit {0}
 
-alike_asked : (flag : Bool) (r : Request) (log : List Line) (q : Gfid) (t : Table) (was : Option Object) → IsMild r → AreAlike (copy_at q t) was → AreAlike (copy_at q (asked flag r log t)) was
-alike_asked flag (Apply attempt) log q t was mild h = absurd mild
-alike_asked flag (Pre g kind) log q t was mild h = alike_changed (with_numbers kind dirtied) g q t was (λ o. (refl, refl)) h
-alike_asked flag (Post attempt g kind missed) log q t was mild h = alike_changed (with_numbers kind (closed_op missed)) g q t was (λ o. (refl, refl)) h
-alike_asked flag (Settle g kind less) log q t was mild h = alike_changed (with_numbers kind (taken_back less)) g q t was (λ o. (refl, refl)) h
-alike_asked flag r log q t was mild h = h
+alike_asked : (flag : Bool) (r : Request) (log : List Line) (past : Past) (q : Gfid) (t : Table) (was : Option Object) → IsMild r → AreAlike (copy_at q t) was → AreAlike (copy_at q (asked flag r log past t)) was
+alike_asked flag (Apply attempt) log past q t was mild h = absurd mild
+alike_asked flag (Mend repair) log past q t was mild h = absurd mild
+alike_asked flag (Pre g kind) log past q t was mild h = alike_changed (with_numbers kind dirtied) g q t was (λ o. (refl, refl)) h
+alike_asked flag (Post attempt g kind missed) log past q t was mild h = alike_changed (with_numbers kind (closed_op missed)) g q t was (λ o. (refl, refl)) h
+alike_asked flag (Settle g kind less) log past q t was mild h = alike_changed (with_numbers kind (taken_back less)) g q t was (λ o. (refl, refl)) h
+alike_asked flag r log past q t was mild h = h
 
 pub objects_mild : (p : Plan) (a : ActorId) (x : BrickId) (r : Request) (told : Told) (log : List Line) → IsMild r → KeepsObjects p log → KeepsObjects p (Ask a x r told true ∷ log)
 objects_mild p a x r told log mild k b g = go (x.0 == b)
   where
-    go : (e : Bool) → AreAlike (copy_at g (if e then asked (keeps_bytes p b) r log (holds p log b) else holds p log b)) (copy_at g (opening p.files))
-    go true = alike_asked (keeps_bytes p b) r log g (holds p log b) (copy_at g (opening p.files)) mild (k b g)
+    go : (e : Bool) → AreAlike (copy_at g (if e then asked (keeps_bytes p b) r log (held_before p log) (holds p log b) else holds p log b)) (copy_at g (opening p.files))
+    go true = alike_asked (keeps_bytes p b) r log (held_before p log) g (holds p log b) (copy_at g (opening p.files)) mild (k b g)
     go false = k b g
 
 alike_effect : (flag : Bool) (h : Gfid) (c : Change) (q : Gfid) (t : Table) (was : Option Object) → IsWriteTo h c → AreAlike (copy_at q t) was → AreAlike (copy_at q (effect flag (Some c) t)) was
@@ -121,19 +123,20 @@ numbers_value kind f (Byte g i) o = refl
 numbers_value kind f (Attr g key) o = refl
 numbers_value kind f (Name g name) o = refl
 
-value_asked : (flag : Bool) (r : Request) (log : List Line) (t : Table) (cell : Cell) → IsMild r
-    → value_if cell (copy_at (object_of_cell cell) (asked flag r log t)) ≡ value_if cell (copy_at (object_of_cell cell) t)
-value_asked flag (Apply attempt) log t cell mild = absurd mild
-value_asked flag (Pre g kind) log t cell mild = value_changed (with_numbers kind dirtied) g t cell (λ e o. numbers_value kind dirtied cell o)
-value_asked flag (Post attempt g kind missed) log t cell mild = value_changed (with_numbers kind (closed_op missed)) g t cell (λ e o. numbers_value kind (closed_op missed) cell o)
-value_asked flag (Settle g kind less) log t cell mild = value_changed (with_numbers kind (taken_back less)) g t cell (λ e o. numbers_value kind (taken_back less) cell o)
-value_asked flag r log t cell mild = refl
+value_asked : (flag : Bool) (r : Request) (log : List Line) (past : Past) (t : Table) (cell : Cell) → IsMild r
+    → value_if cell (copy_at (object_of_cell cell) (asked flag r log past t)) ≡ value_if cell (copy_at (object_of_cell cell) t)
+value_asked flag (Apply attempt) log past t cell mild = absurd mild
+value_asked flag (Mend repair) log past t cell mild = absurd mild
+value_asked flag (Pre g kind) log past t cell mild = value_changed (with_numbers kind dirtied) g t cell (λ e o. numbers_value kind dirtied cell o)
+value_asked flag (Post attempt g kind missed) log past t cell mild = value_changed (with_numbers kind (closed_op missed)) g t cell (λ e o. numbers_value kind (closed_op missed) cell o)
+value_asked flag (Settle g kind less) log past t cell mild = value_changed (with_numbers kind (taken_back less)) g t cell (λ e o. numbers_value kind (taken_back less) cell o)
+value_asked flag r log past t cell mild = refl
 
 pub value_mild : (p : Plan) (a : ActorId) (x : BrickId) (r : Request) (told : Told) (log : List Line) (b : ℕ) (cell : Cell) → IsMild r → value_of p (Ask a x r told true ∷ log) b cell ≡ value_of p log b cell
 value_mild p a x r told log b cell mild = go (x.0 == b)
   where
-    go : (e : Bool) → value_if cell (copy_at (object_of_cell cell) (if e then asked (keeps_bytes p b) r log (holds p log b) else holds p log b)) ≡ value_of p log b cell
-    go true = value_asked (keeps_bytes p b) r log (holds p log b) cell mild
+    go : (e : Bool) → value_if cell (copy_at (object_of_cell cell) (if e then asked (keeps_bytes p b) r log (held_before p log) (holds p log b) else holds p log b)) ≡ value_of p log b cell
+    go true = value_asked (keeps_bytes p b) r log (held_before p log) (holds p log b) cell mild
     go false = refl
 
 -- a write changes no value in a cell that it doesn't touch

@@ -11,6 +11,7 @@ pub mod AboutTelling
 pub mod AboutTellingLemmas
 pub mod Bounded
 pub mod CanServe
+pub mod CopyLaws
 pub mod Current
 pub mod CurrentCells
 pub mod CurrentLog
@@ -24,9 +25,11 @@ pub mod CurrentWrite
 pub mod Fits
 pub mod HonestLaws
 pub mod LinesShow
+pub mod NameLaws
 pub mod Plain
 pub mod ReadTelling
 pub mod ReadTellingLemmas
+pub mod RepairLaws
 pub mod SumLaws
 pub mod TableLaws
 pub mod WalkTelling

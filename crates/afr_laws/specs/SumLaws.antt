@@ -14,21 +14,26 @@ use Rattle.afr_base.specs.declared.ids.NameId.{NameId}
 use Rattle.afr_base.specs.declared.ids.What.{What}
 use Rattle.afr_base.specs.declared.marks.Marks.{Marks}
 use Rattle.afr_base.specs.declared.marks.AllMarks.{AllMarks}
+use Rattle.afr_object.specs.Repairs.{Contents, all_made, mended, renamed, with_attrs}
+use Rattle.afr_object.specs.Repairs as contents
 use Rattle.afr_object.specs.Tables.{Table, copy_at, changed, with_copy, made, linked, applied, name_cmp, new_object, with_bytes, with_attr, with_names, with_numbers, is_file, is_dir}
 use Rattle.afr_object.specs.declared.change.Change.{Change}
 use Rattle.afr_object.specs.declared.change.Change.TheVariants.{Write, Cut, SetAttr, Make, Remove}
+use Rattle.afr_object.specs.declared.change.Repair.{Repair}
+use Rattle.afr_object.specs.declared.change.Repair.TheVariants.{CutTo, Copy, PutAttrs, PutNames}
 use Rattle.afr_object.specs.declared.entry.Entry.{Entry}
 use Rattle.afr_object.specs.declared.object.Object.{Object}
 use Rattle.afr_lines.specs.Log.{EachLine, change_at}
 use Rattle.afr_lines.specs.declared.line.Line.{Line}
 use Rattle.afr_lines.specs.declared.line.Line.TheVariants.{Ask}
-use Rattle.afr_lines.specs.declared.request.Request.TheVariants.{Apply, Pre, Post, Settle}
+use Rattle.afr_lines.specs.declared.request.Request.TheVariants.{Apply, Mend, Pre, Post, Settle}
 use Rattle.afr_brick.specs.TablesLemmas.{copy_at-changed, copy_at-made}
 use Rattle.afr_plan.specs.declared.plan.Plan.{Plan}
 use Rattle.afr_model.specs.Sums.{same_kind, has_object, sum_over, opens_op, closes_op, blames, settles_dirty, settles_pending, dirty_of, pending_of}
-use Rattle.afr_model.specs.Tables.{keeps_bytes, effect, holds}
+use Rattle.afr_model.specs.Tables.{keeps_bytes, effect, carried, holds, held_before}
 use Rattle.afr_laws.specs.Fits.{FitsSums}
-use Rattle.afr_laws.specs.TableLaws.{gfid_is, zeros, numbers_below, five_pending}
+use Rattle.afr_laws.specs.CopyLaws.{gfid_is}
+use Rattle.afr_laws.specs.TableLaws.{zeros, numbers_below, five_pending}
 
 -- ---- the numbers at one brick
 -- the numbers of one kind; a brick that lacks the object has none
@@ -139,6 +144,30 @@ numbers_applied kind g keeps (Remove dir name what) t = numbers_left _ (marks-wi
 pub numbers_effect : (kind : Kind) (g : Gfid) (keeps : Bool) (change : Option Change) (t : Table) → numbers_if kind (copy_at g (effect keeps change t)) ≡ numbers_if kind (copy_at g t)
 numbers_effect kind g keeps None t = refl
 numbers_effect kind g keeps (Some change) t = numbers_applied kind g keeps change t
+
+-- no repair changes a number
+numbers_all_made : (kind : Kind) (g : Gfid) (names : List (NameId × Entry)) (t : Table) → numbers_if kind (copy_at g (all_made names t)) ≡ numbers_if kind (copy_at g t)
+numbers_all_made kind g [] t = refl
+numbers_all_made kind g (x ∷ names) t = numbers_made kind x.1.gfid g x.1.what (all_made names t) ∙ numbers_all_made kind g names t
+
+numbers_renamed : (kind : Kind) (g h : Gfid) (names : List (NameId × Entry)) (t : Table) → numbers_if kind (copy_at g (renamed names h (copy_at h t) t)) ≡ numbers_if kind (copy_at g t)
+numbers_renamed kind g h names t = go (copy_at h t) refl
+  where
+    f : Object → Object
+    f o = with_names (λ old. names) o
+
+    go : (o : Option Object) → copy_at h t ≡ o → numbers_if kind (copy_at g (renamed names h o t)) ≡ numbers_if kind (copy_at g t)
+    go None e = refl
+    go (Some o) e =
+        let named : numbers_if kind (copy_at g (changed f h (copy_at h t) t)) ≡ numbers_if kind (copy_at g t) = numbers_left f (marks-with_names _) kind h g t in
+        numbers_all_made kind g names (with_copy h (f o) t) ∙ (rw e at named)
+
+pub numbers_mended : (kind : Kind) (g : Gfid) (keeps : Bool) (repair : Repair) (c : Contents) (t : Table) → numbers_if kind (copy_at g (mended keeps repair c t)) ≡ numbers_if kind (copy_at g t)
+numbers_mended kind g keeps (CutTo h len) c t = numbers_left _ (marks-with_bytes keeps _) kind h g t
+numbers_mended kind g keeps (Copy h at span read) (contents.Bytes bytes) t = numbers_left _ (marks-with_bytes keeps _) kind h g t
+numbers_mended kind g keeps (PutAttrs h read) (contents.Attrs attrs) t = numbers_left (with_attrs attrs) (λ o. refl) kind h g t
+numbers_mended kind g keeps (PutNames h reads) (contents.Names names) t = numbers_renamed kind g h names t
+numbers_mended kind g keeps repair c t = refl
 
 -- ---- one line
 -- whether a line counts at a brick for an object and a kind
@@ -271,6 +300,9 @@ line_adds p x g kind (Ask a y (Settle h k less) told took) older fits =
     }
 line_adds p x g kind (Ask a y (Apply attempt) told took) older fits =
     let e = numbers_same kind g took (y.0 == x) (effect (keeps_bytes p x) (change_at attempt older) (holds p older x)) (holds p older x) (numbers_effect kind g (keeps_bytes p x) (change_at attempt older) (holds p older x)) in
+    record { dirty = same_dirty _ _ e; pending = λ at small. same_pending at _ _ e }
+line_adds p x g kind (Ask a y (Mend repair) told took) older fits =
+    let e = numbers_same kind g took (y.0 == x) (mended (keeps_bytes p x) repair (carried (held_before p older) older repair) (holds p older x)) (holds p older x) (numbers_mended kind g (keeps_bytes p x) repair (carried (held_before p older) older repair) (holds p older x)) in
     record { dirty = same_dirty _ _ e; pending = λ at small. same_pending at _ _ e }
 line_adds p x g kind (Ask a y r told took) older fits =
     let e = numbers_same kind g took (y.0 == x) (holds p older x) (holds p older x) refl in

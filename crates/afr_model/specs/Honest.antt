@@ -10,8 +10,7 @@ use Rattle.afr_faults.specs.declared.fault.Fault.{Fault}
 use Rattle.afr_faults.specs.declared.fault.Fault.TheVariants.{Fail, Lost}
 use Rattle.afr_object.specs.Tables.{Table, copy_at, key_cmp, name_cmp, view_of, object_of}
 use Rattle.afr_object.specs.declared.change.Change.{Change}
-use Rattle.afr_object.specs.declared.change.Repair.{Repair}
-use Rattle.afr_object.specs.declared.change.Repair.TheVariants as repair
+use Rattle.afr_object.specs.Repairs.{repaired}
 use Rattle.afr_object.specs.declared.object.Object.{Object}
 use Rattle.afr_lines.specs.Log.{EachLine, change_at}
 use Rattle.afr_lines.specs.Told.{told_by}
@@ -43,13 +42,6 @@ requests_to b (line ∷ older) = one_more b line (requests_to b older)
 abbrev pub fault_in : List PlannedFault → ℕ → ℕ → Option Fault
 fault_in [] b k = None
 fault_in (x ∷ more) b k = if (x.brick.0 == b) && (x.at == k) then Some x.fault else fault_in more b k
-
--- the object that a repair is of
-abbrev pub repaired : Repair → Gfid
-repaired (repair.CutTo g len) = g
-repaired (repair.Copy g at span read) = g
-repaired (repair.PutAttrs g read) = g
-repaired (repair.PutNames g reads) = g
 
 -- the answer to a lock: who is in the way, or that it is granted
 abbrev pub lock_answer : Option ActorId → Answer

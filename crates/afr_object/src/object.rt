@@ -50,6 +50,7 @@ mod tests {
     use crate::entry::Entry;
     use crate::list::List;
     use crate::object::Object;
+    use crate::sorted_map::SortedMap;
     use crate::try_copy::TryCopy;
     use afr_base::{Gfid, NameId, What};
     use std::test::Fail;
@@ -67,6 +68,10 @@ mod tests {
         assert_eq!(rt; dir.names.get(NameId(4)), Some(entry));
         let names = dir.names.list(rt.alloc()).ok().ok_or("memory")?;
         assert_eq!(rt; names.len(), 1);
+        let same = SortedMap::from_list(rt.alloc(), &names)
+            .ok()
+            .ok_or("memory")?;
+        assert_eq!(rt; same.get(NameId(4)), Some(entry));
         dir.names.remove(NameId(4));
         assert_eq!(rt; dir.names.get(NameId(4)), None);
         Ok(())

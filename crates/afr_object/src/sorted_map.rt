@@ -1,7 +1,8 @@
 //! A map in the order of its keys, which contracts see as the list of its entries.
 ghost use Rattle.std.specs.Prelude.{◌≡◌, [], List as PlainList, OnOk, OnErr, IfOk};
 ghost use Rattle.std.specs.BTreeMap.{is_at, insert_entry};
-ghost use Rattle.std.specs.Map.{lookup, remove_entry};
+ghost use Rattle.std.specs.List.Sorted.{IsStrictlySortedBy};
+ghost use Rattle.std.specs.Map.{keys_of, lookup, remove_entry};
 
 use crate::list::List;
 use afr_base::NoMemory;
@@ -59,9 +60,24 @@ impl<K: Ord + Copy + Drop, V: Copy> SortedMap<K, V> {
         self.map.remove(&key);
     }
 
+    /// A map of entries that stand in order.
+    pub fn from_list(alloc: Global, entries: &List<(K, V)>) -> Result<Self, NoMemory>
+        requires { IsStrictlySortedBy K.cmp (keys_of entries.now) }
+        ensures { IfOk result (λ map. map ≡ entries.now) }
+    {
+        let mut map = SortedMap::new(alloc);
+        let len = entries.len();
+        for i in 0..len {
+            let (key, value) = *entries.item(len - 1 - i);
+            map.insert(key, value)?;
+        }
+        Ok(map)
+    }
+
     /// All entries, in order.
     pub fn list(&self, alloc: Global) -> Result<List<(K, V)>, NoMemory>
-        ensures { IfOk result (λ list. list ≡ self.now) }
+        ensures all { IfOk result (λ list. list ≡ self.now) }
+        ensures order { IfOk result (λ list. IsStrictlySortedBy K.cmp (keys_of list)) }
     {
         let mut list = List::new(alloc);
         for (key, value) in self.map.iter() {

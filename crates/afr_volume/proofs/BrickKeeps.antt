@@ -12,7 +12,7 @@ use Rattle.afr_lines.specs.declared.line.Line.TheVariants.{Ask}
 use Rattle.afr_lines.specs.declared.request.Request.{Request}
 use Rattle.afr_brick.specs.State.{Copies}
 use Rattle.afr_plan.specs.declared.plan.Plan.{Plan}
-use Rattle.afr_model.specs.Tables.{holds, keeps_bytes, asked}
+use Rattle.afr_model.specs.Tables.{holds, held_before, keeps_bytes, asked}
 use Rattle.afr_model.specs.Honest.{answer_by}
 use Rattle.afr_volume.specs.Serve.{ServedAt}
 use Rattle.afr_volume.specs.declared.actor.Actor.{Actor}
@@ -50,10 +50,10 @@ tables_ask p log a b r told old new heard t s c z h = split (eqb_tells b.0 c)
     here = rw (← s.4) h
 
     split : ((b.0 == c) ≡ true) × (b.0 ≡ c) ⊎ ((b.0 == c) ≡ false) × (b.0 ≢ c)
-        → z ≡ record { keeps = keeps_bytes p c; objects = (if b.0 == c then asked (keeps_bytes p c) r log (holds p log c) else holds p log c) }
+        → z ≡ record { keeps = keeps_bytes p c; objects = (if b.0 == c then asked (keeps_bytes p c) r log (held_before p log) (holds p log c) else holds p log c) }
     split (inl e) =
         let is : z ≡ s.1 = got_same old b.0 s.1 z (slice_get_within old b.0 s.0 s.2) (rw (← e.1) at here) in
-        rw (e.0, ← e.1) (is ∙ s.3.tables ∙ ap (λ (x : Copies). record { keeps = x.keeps; objects = asked x.keeps r log x.objects }) (t b.0 s.0 s.2))
+        rw (e.0, ← e.1) (is ∙ s.3.tables (held_before p log) ∙ ap (λ (x : Copies). record { keeps = x.keeps; objects = asked x.keeps r log (held_before p log) x.objects }) (t b.0 s.0 s.2))
     split (inr e) = rw e.0 (t c z (got_other old b.0 c s.1 z e.1 here))
 
 pub served_len : (b : ℕ) (r : Request) (log : List Line) (old new : List Copies) (heard : Answer) → ServedAt b r log old new heard → length new ≡ length old

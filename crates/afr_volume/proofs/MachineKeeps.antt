@@ -35,7 +35,8 @@ use Rattle.afr_laws.specs.Fits.{FitsSums}
 use Rattle.afr_laws.specs.HonestLaws.{honest_ask}
 use Rattle.afr_laws.specs.Plain.{IsPlain}
 use Rattle.afr_laws.specs.ReadTellingLemmas.{read_asks, read_answers}
-use Rattle.afr_laws.specs.TableLaws.{named_above, numbers_below}
+use Rattle.afr_laws.specs.NameLaws.{named_above}
+use Rattle.afr_laws.specs.TableLaws.{numbers_below}
 use Rattle.afr_laws.specs.WalkTelling.{NamesAboveRoot}
 use Rattle.afr_laws.specs.WriteTellingLemmas.{write_tells_asks, write_tells_begun, write_answers}
 use Rattle.afr_lookup.specs.Lookup as lookup

@@ -4,13 +4,13 @@ use Rattle.afr_lines.specs.declared.answer.Answer.{Answer}
 use Rattle.afr_lines.specs.declared.line.Line.{Line}
 use Rattle.afr_lines.specs.declared.request.Request.{Request}
 use Rattle.afr_brick.specs.State.{Copies}
-use Rattle.afr_model.specs.Tables.{asked}
+use Rattle.afr_model.specs.Tables.{Past, asked}
 use Rattle.afr_model.specs.Honest.{answer_by}
 use Rattle.afr_laws.specs.CanServe.{CanServe}
 
--- a request has its effect on a brick, and the answer that the tables give
+-- a request has its effect on a brick, whatever tables stood there before, and the answer that the tables give
 pub record Served (request : Request) (older : List Line) (old new : Copies) (answer : Answer) : Type 0 where
-  pub tables : new ≡ record { keeps = old.keeps; objects = asked old.keeps request older old.objects }
+  pub tables : (past : Past) → new ≡ record { keeps = old.keeps; objects = asked old.keeps request older past old.objects }
   pub answered : answer ≡ answer_by None request old.objects older
 
 -- one of the bricks served the request
