@@ -239,7 +239,7 @@ module _ (n : ℕ) (keeps : ℕ → Kind → Bool) (files : Beginning) (faults :
     numbers = numbered_own n keeps files faults log honest lawful t a (opened log t a) r new f.numbers may (Begins change is);
     going = λ q c at past k. elim (cases_lt q t) [
       | inl early ↦ elim (f.going q c at early (sym (outcome_next log t a q (end_none log t a (begin_by a change) is refl)) ∙ k)) [
-        | inl mine ↦ absurd (let m : MayBegin log t a r change = subst (MayOf n keeps files faults log honest lawful t a (opened log t a) r) is may in omega (arith, mine, m.first))
+        | inl mine ↦ absurd (let m : MayBegin r change = subst (MayOf n keeps files faults log honest lawful t a (opened log t a) r) is may in omega (arith, mine, m.first))
         | inr fixed ↦ inr (fixed_next n log t a q fixed)
       ]
       | inr late ↦ inl (let e : t ≡ q = omega arith in rw is (ap suc e))
@@ -249,7 +249,7 @@ module _ (n : ℕ) (keeps : ℕ → Kind → Bool) (files : Beginning) (faults :
       | inr late ↦ absurd (cc (sym k, outcome_next log t a q (end_none log t a (begin_by a change) is refl), outcome_new log t a q late))
     ];
     rests = λ out. absurd (out (place_own log t a (begin_by a change) is (same_self a) ∙ begun_place (place log t a) a change));
-    healing = λ inside. absurd (let m : MayBegin log t a r change = subst (MayOf n keeps files faults log honest lawful t a (opened log t a) r) is may in true≢false (sym (subst (λ l. (note n r t l).heal ≡ true) is inside) ∙ m.outside));
+    healing = λ inside. absurd (let m : MayBegin r change = subst (MayOf n keeps files faults log honest lawful t a (opened log t a) r) is may in true≢false (sym (subst (λ l. (note n r t l).heal ≡ true) is inside) ∙ m.outside));
   }
   fate_own t a r new f may (HealBegins g kind is) = record {
     numbers = numbered_own n keeps files faults log honest lawful t a (opened log t a) r new f.numbers may (HealBegins g kind is);

@@ -43,7 +43,7 @@ unfolding last
 last_under log a zero = omega arith
 last_under log a (suc t) = elim (last_cases log t a) [ inl e ↦ omega (arith, e, last_under log a t) | inr e ↦ omega (arith, e) ]
 
-last_rises : (log : Log) (a t u : ℕ) → t ≤ u → last log t a ≤ last log u a
+pub last_rises : (log : Log) (a t u : ℕ) → t ≤ u → last log t a ≤ last log u a
 last_rises log a t zero h = (let e : t ≡ 0 = omega arith in rw e (omega arith))
 last_rises log a t (suc u) h =
     elim (cases_lt u t) [
@@ -181,7 +181,7 @@ module _ (n : ℕ) (keeps : ℕ → Kind → Bool) (files : Beginning) (faults :
 
   pub post_acts : (cell : Cell) (t a b q g : ℕ) (kind : Kind) (missed : Seq ℕ) (told : Told) → log t ≡ Some (ask_by a b (post_on q g kind missed) told true) → changes (log q) cell ≡ true → Act log cell q b t
   post_acts cell t a b q g kind missed told is touch =
-      let may : MayPost n log (present n log t a) b q g kind (member missed) = may_ask t a b (post_on q g kind missed) told true is in
+      let may : MayPost n log t a (present n log t a) b q g kind (member missed) = may_ask t a b (post_on q g kind missed) told true is in
       let w = working t a b (post_on q g kind missed) told q is may.own in
       acting cell t a b (present n log t a) (post_on q g kind missed) told q is w may.own (w.numbers.ready b (w.numbers.acted b may.ready)) may.open_still
       (attempt_covers cell t a b q (present n log t a) w may.outside may.own touch)
@@ -189,7 +189,7 @@ module _ (n : ℕ) (keeps : ℕ → Kind → Bool) (files : Beginning) (faults :
   -- each brick that a Post line doesn't name has the attempt
   pub post_exact : (t a b q g : ℕ) (kind : Kind) (missed : Seq ℕ) (told : Told) → log t ≡ Some (ask_by a b (post_on q g kind missed) told true) → (c : ℕ) → c < n → (member missed c ≡ true) ⊎ Applied log t a c q
   post_exact t a b q g kind missed told is c below =
-      let may : MayPost n log (present n log t a) b q g kind (member missed) = may_ask t a b (post_on q g kind missed) told true is in
+      let may : MayPost n log t a (present n log t a) b q g kind (member missed) = may_ask t a b (post_on q g kind missed) told true is in
       let w = working t a b (post_on q g kind missed) told q is may.own in
       go ((present n log t a).done c) refl (may.exact c below) (w.numbers.applied q c may.own)
     where
@@ -199,4 +199,4 @@ module _ (n : ℕ) (keeps : ℕ → Kind → Bool) (files : Beginning) (faults :
 
   pub post_plane : (t a b q g : ℕ) (kind : Kind) (missed : Seq ℕ) (told : Told) → log t ≡ Some (ask_by a b (post_on q g kind missed) told true) → PlaneIs (log q) g kind
   post_plane t a b q g kind missed told is =
-      let may : MayPost n log (present n log t a) b q g kind (member missed) = may_ask t a b (post_on q g kind missed) told true is in may.plane
+      let may : MayPost n log t a (present n log t a) b q g kind (member missed) = may_ask t a b (post_on q g kind missed) told true is in may.plane

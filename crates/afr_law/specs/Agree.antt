@@ -8,6 +8,9 @@ use Rattle.afr_law.specs.Past.{Beginning, kind_at, Log, before, is_of, ends, pla
 use Rattle.afr_law.specs.Honest.{asks, asked}
 use Rattle.afr_law.specs.Safe.{end_of, or_else, outcome, Acknowledged, Current, Opening, Left, Safe}
 use Rattle.afr_law.specs.Lawful.{register, register_after}
+use Rattle.afr_law.specs.Tally.{tally, tally_after}
+use Rattle.afr_law.specs.Dirty.{raising, raised, lowering, lowered}
+use Rattle.afr_law.specs.Alike.{Alike}
 
 module _ (log other : Log) (m : ℕ) (agree : (u : ℕ) → u < m → log u ≡ other u) where
   pub before_at : (t : ℕ) → t ≤ m → (q : ℕ) → before log t q ≡ before other t q
@@ -104,6 +107,21 @@ module _ (log other : Log) (m : ℕ) (agree : (u : ℕ) → u < m → log u ≡ 
   register_same n a zero h = refl
   register_same n a (suc t) h = λ i. register_after n (is_of a (agree t h i)) (opens (place_same a t (omega arith) i) (agree t h i)) (register_same n a t (omega arith) i) t (agree t h i)
 
+  pub tally_same : (a t : ℕ) → t ≤ m → tally log t a ≡ tally other t a
+  unfolding tally
+  tally_same a zero h = refl
+  tally_same a (suc t) h = λ i. tally_after (is_of a (agree t h i)) (opens (place_same a t (omega arith) i) (agree t h i)) (tally_same a t (omega arith) i) (last_same a t (omega arith) i) (agree t h i)
+
+  pub raised_same : (files : Beginning) (x g : ℕ) (kind : Kind) (t : ℕ) → t ≤ m → raised files log t x g kind ≡ raised files other t x g kind
+  unfolding raised
+  raised_same files x g kind zero h = refl
+  raised_same files x g kind (suc t) h = λ i. (if holds_same files x g t (omega arith) i && raising x g kind (agree t h i) then 1 else 0) + raised_same files x g kind t (omega arith) i
+
+  pub lowered_same : (files : Beginning) (x g : ℕ) (kind : Kind) (t : ℕ) → t ≤ m → lowered files log t x g kind ≡ lowered files other t x g kind
+  unfolding lowered
+  lowered_same files x g kind zero h = refl
+  lowered_same files x g kind (suc t) h = λ i. (if holds_same files x g t (omega arith) i then lowering x g kind (agree t h i) else 0) + lowered_same files x g kind t (omega arith) i
+
   pub held_same : (b p t : ℕ) → t ≤ m → held log t b p ≡ held other t b p
   unfolding held
   held_same b p zero h = refl
@@ -136,3 +154,13 @@ module _ (log other : Log) (m : ℕ) (agree : (u : ℕ) → u < m → log u ≡ 
         unaccused = λ x below member.
             (λ i. posts_same files x b (object_of cell) (kind_of cell) m (omega arith) i - settled_same files x b (object_of cell) (kind_of cell) m (omega arith) i) ∙ good.unaccused x below member;
       }))
+
+  -- what is alike of a log at m is so of any log with the same lines before m
+  pub alike_same : (n : ℕ) (files : Beginning) → Alike n files log m → Alike n files other m
+  alike_same n files alike cell none b c below under copy also =
+      sym (value_same files b cell m (omega arith))
+      ∙ alike cell (record {
+        clean = λ x low. (λ i. raised_same files x (object_of cell) (kind_of cell) m (omega arith) i - lowered_same files x (object_of cell) (kind_of cell) m (omega arith) i) ∙ none.clean x low;
+        unaccused = λ x d low high. (λ i. posts_same files x d (object_of cell) (kind_of cell) m (omega arith) i - settled_same files x d (object_of cell) (kind_of cell) m (omega arith) i) ∙ none.unaccused x d low high;
+      }) b c below under copy also
+      ∙ value_same files c cell m (omega arith)

@@ -35,14 +35,14 @@ kind_changed f same g t q = ap kind_code (copy_at-changed f g (record { 0 = q })
     split (inl s) = rw s.0 (of_copy (copy_at g t) ∙ ap (kind_in t) s.1)
     split (inr s) = rw s.0 refl
 
-what_bytes : (keeps : Bool) (f : List ℕ → List ℕ) (o : Object) → (with_bytes keeps f o).what ≡ o.what
+pub what_bytes : (keeps : Bool) (f : List ℕ → List ℕ) (o : Object) → (with_bytes keeps f o).what ≡ o.what
 what_bytes keeps f o = go (keeps && is_file o.what)
   where
     go : (b : Bool) → (if b then record o { content = f o.content } else o).what ≡ o.what
     go true = refl
     go false = refl
 
-what_names : (f : List (NameId × NameEntry) → List (NameId × NameEntry)) (o : Object) → (with_names f o).what ≡ o.what
+pub what_names : (f : List (NameId × NameEntry) → List (NameId × NameEntry)) (o : Object) → (with_names f o).what ≡ o.what
 what_names f o = go (is_dir o.what)
   where
     go : (b : Bool) → (if b then record o { names = f o.names } else o).what ≡ o.what
@@ -59,7 +59,7 @@ keep_none zero true = refl
 keep_none zero false = refl
 keep_none (suc k) b = refl
 
-kind_made : (g : Gfid) (what : What) (t : Table) (q : ℕ) → kind_in (made g what t) q ≡ keep (kind_in t q) (if g.0 == q then what_code what else 0)
+pub kind_made : (g : Gfid) (what : What) (t : Table) (q : ℕ) → kind_in (made g what t) q ≡ keep (kind_in t q) (if g.0 == q then what_code what else 0)
 kind_made g what t q = ap kind_code (copy_at-made g (record { 0 = q }) what t) ∙ split (eqb_tells g.0 q)
   where
     here : (o : Option Object) → kind_code (if is_some o then o else Some (new_object what)) ≡ keep (kind_code o) (what_code what)

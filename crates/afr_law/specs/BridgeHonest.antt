@@ -1,4 +1,4 @@
--- Honest answers in the words of the model are honest answers by positions, where no heal mends.
+-- Honest answers in the words of the model are honest answers by positions.
 use Rattle.std.proofs.Common.{◌≡◌, ℕ, suc, zero, ◌+◌, ◌<◌, ◌≤◌, ◌^◌, Bool, true, false, ◌&&◌, ◌||◌, refl, sym, ◌∙◌, ap, subst, arith, List, [], ◌∷◌, length, Option, None, Some, ◌==◌, if◌then◌else◌, true≢false}
 use Rattle.std.specs.Prelude.{is_some, nat_lt, option_and_then}
 use Rattle.std.proofs.lemmas.Bool.Decides.{nat_tests}
@@ -12,6 +12,7 @@ use Rattle.afr_base.specs.declared.ids.Kind.TheVariants.{Bytes}
 use Rattle.afr_content.specs.Bytes.{byte_at}
 use Rattle.afr_faults.specs.declared.fault.Fault.{Fault}
 use Rattle.afr_faults.specs.declared.fault.Fault.TheVariants.{Fail, Lost as LostAnswer}
+use Rattle.afr_object.specs.Repairs as repairs
 use Rattle.afr_object.specs.Tables.{Table, copy_at, view_of, object_of, opening}
 use Rattle.afr_object.specs.declared.change.Change.{Change}
 use Rattle.afr_object.specs.declared.change.Change.TheVariants.{Write, Cut, SetAttr, Make, Remove}
@@ -43,9 +44,10 @@ use Rattle.afr_law.specs.Positions.{IsPast, before_past}
 use Rattle.afr_law.specs.CellHistory.{untouched_value}
 use Rattle.afr_law.specs.BridgeSessions.{joined_is, opening_is}
 use Rattle.afr_law.specs.BridgeLocks.{free_way, taken_way}
-use Rattle.afr_law.specs.BridgeTables.{HasNoMend, kind_is, code_is_value}
+use Rattle.afr_law.specs.BridgeTables.{kind_is, code_is_value}
+use Rattle.afr_law.specs.BridgeSoundLog.{LawfulBelow}
 use Rattle.afr_law.specs.BridgeValues.{linked_left, content_names, code_of}
-use Rattle.afr_law.specs.BridgeSums.{TakeNone, holds_is, pending_is, copy_pending}
+use Rattle.afr_law.specs.BridgeSums.{TakeWithin, holds_is, pending_is, copy_pending}
 use Rattle.afr_law.specs.BridgeOpening.{start_of}
 
 -- how many requests came to a brick
@@ -79,73 +81,73 @@ no_bytes zero g i = of_test _
     of_test false = refl
 no_bytes (suc k) g i = linked_left _ _ _ _ (opening k) (Byte g i) (λ f o. ap (λ (c : List ℕ). Rattle.afr_model.specs.Cells.IsByte (byte_at i c)) (content_names f o).0) ∙ no_bytes k g i
 
-small_of : (p : Plan) (c : ℕ) (kind : Kind) → kept_by p c kind ≡ true → c < 5
+pub small_of : (p : Plan) (c : ℕ) (kind : Kind) → kept_by p c kind ≡ true → c < 5
 small_of p c kind e = go (nat_lt c 5) refl e
   where
     go : (low : Bool) → nat_lt c 5 ≡ low → (low && Rattle.afr_choice.specs.Verdict.keeps p.shape kind c) ≡ true → c < 5
     go true f e = grind (arith, nat_tests)
     go false f e = absurd (true≢false (sym e))
 
-module _ (p : Plan) (L : Log) (b : ℕ) (older : List Line) (h : IsPast L older) (plain : HasNoMend older) (takes : (c : ℕ) (kind : Kind) → kept_by p c kind ≡ true → TakeNone kind c older) where
-  value_past : (g : Gfid) (o : Object) → copy_at g (holds p older b) ≡ Some o → kept_by p b Bytes ≡ true → (i : ℕ) → length o.content ≤ i → value (start_of p) L (length older) b (Byte g.0 i) ≡ 0
+module _ (p : Plan) (n : ℕ) (L : Log) (b : ℕ) (older : List Line) (h : IsPast L older) (lawful : LawfulBelow p n older) (within : TakeWithin p older) where
+  value_past : (g : Gfid) (o : Object) → copy_at g (holds p older b) ≡ Some o → kept_by p b Bytes ≡ true → (i : ℕ) → length o.content ≤ i → value (start_of p n) L (length older) b (Byte g.0 i) ≡ 0
   value_past g o e kept i low = go (nat_lt i (2 ^ 63)) refl
     where
-      go : (real : Bool) → nat_lt i (2 ^ 63) ≡ real → value (start_of p) L (length older) b (Byte g.0 i) ≡ 0
-      go true real = code_is_value p L b (Byte g.0 i) real kept older h plain ∙ ap (code_of (Byte g.0 i)) e ∙ get_or_past o.content i 0 low
-      go false real = untouched_value (start_of p) L b (Byte g.0 i) real (length older) ∙ no_bytes p.files g.0 i
+      go : (real : Bool) → nat_lt i (2 ^ 63) ≡ real → value (start_of p n) L (length older) b (Byte g.0 i) ≡ 0
+      go true real = code_is_value p n L b (Byte g.0 i) real kept older h lawful ∙ ap (code_of (Byte g.0 i)) e ∙ get_or_past o.content i 0 low
+      go false real = untouched_value (start_of p n) L b (Byte g.0 i) real (length older) ∙ no_bytes p.files g.0 i
 
-  look_shows : (g : Gfid) (o : Object) → copy_at g (holds p older b) ≡ Some o → Shows (start_of p) L (length older) b g.0 (view_of o)
+  look_shows : (g : Gfid) (o : Object) → copy_at g (holds p older b) ≡ Some o → Shows (start_of p n) L (length older) b g.0 (view_of o)
   look_shows g o e = record {
-    marks = λ kind c kept. copy_pending p b c g kind (small_of p c kind kept) older (takes c kind kept) o e ∙ sym (pending_is p L b c g kind older h plain);
-    what = sym (kind_is p L b older h plain g.0 ∙ ap kind_code e);
+    marks = λ kind c kept. copy_pending p b c g kind (small_of p c kind kept) kept older within o e ∙ sym (pending_is p n L b c g kind older h lawful);
+    what = sym (kind_is p n L b older h lawful g.0 ∙ ap kind_code e);
     length = λ kept i low. value_past g o e kept i low;
   }
 
   -- a request that a copy answers
-  copy_tells : (a : ℕ) (g : Gfid) (r : Request) (f : Object → Answer) → finds (start_of p) L (length older) b r ≡ has_object p older g b
-      → ((o : Object) → copy_at g (holds p older b) ≡ Some o → Answers (start_of p) L (length older) a b r (told_by (f o)))
-      → Tells (start_of p) L (length older) a b r (told_by (copy_answer f (copy_at g (holds p older b)))) (finds (start_of p) L (length older) b r)
-  copy_tells a g r f found each = subst (Tells (start_of p) L (length older) a b r (told_by (copy_answer f (copy_at g (holds p older b))))) (sym found) (go (copy_at g (holds p older b)) refl)
+  copy_tells : (a : ℕ) (g : Gfid) (r : Request) (f : Object → Answer) → finds (start_of p n) L (length older) b r ≡ has_object p older g b
+      → ((o : Object) → copy_at g (holds p older b) ≡ Some o → Answers (start_of p n) L (length older) a b r (told_by (f o)))
+      → Tells (start_of p n) L (length older) a b r (told_by (copy_answer f (copy_at g (holds p older b)))) (finds (start_of p n) L (length older) b r)
+  copy_tells a g r f found each = subst (Tells (start_of p n) L (length older) a b r (told_by (copy_answer f (copy_at g (holds p older b))))) (sym found) (go (copy_at g (holds p older b)) refl)
     where
-      go : (o : Option Object) → copy_at g (holds p older b) ≡ o → Tells (start_of p) L (length older) a b r (told_by (copy_answer f o)) (is_some o)
+      go : (o : Option Object) → copy_at g (holds p older b) ≡ o → Tells (start_of p n) L (length older) a b r (told_by (copy_answer f o)) (is_some o)
       go None e = refl
       go (Some o) e = each o e
 
-  found : (g : Gfid) → past.holds (start_of p) L (length older) b g.0 ≡ has_object p older g b
-  found g = holds_is p L b older h plain g.0
+  found : (g : Gfid) → past.holds (start_of p n) L (length older) b g.0 ≡ has_object p older g b
+  found g = holds_is p n L b older h lawful g.0
 
-  apply_found : (c : Change) → past.holds (start_of p) L (length older) b (object c) ≡ has_object p older (object_of c) b
+  apply_found : (c : Change) → past.holds (start_of p n) L (length older) b (object c) ≡ has_object p older (object_of c) b
   apply_found (Write g at bytes) = found g
   apply_found (Cut g len) = found g
   apply_found (SetAttr g key value) = found g
   apply_found (Make dir name g what) = found dir
   apply_found (Remove dir name what) = found dir
 
-  mend_found : (r : Repair) → past.holds (start_of p) L (length older) b (repaired r) ≡ has_object p older (model.repaired r) b
+  mend_found : (r : Repair) → past.holds (start_of p n) L (length older) b (repaired r) ≡ has_object p older (repairs.repaired r) b
   mend_found (CutTo g len) = found g
   mend_found (Copy g at span read) = found g
   mend_found (PutAttrs g read) = found g
   mend_found (PutNames g reads) = found g
 
   lock_tells : (a : ActorId) (domain : Rattle.afr_range_locks.specs.declared.domain.Domain.Domain) (area : Rattle.afr_lines.specs.declared.request.Area.Area)
-      → Answers (start_of p) L (length older) a.0 b (request.Lock domain area) (told_by (lock_answer (first_conflict overlap (record { owner = a; domain = domain; area = area }) (locks_held b older))))
+      → Answers (start_of p n) L (length older) a.0 b (request.Lock domain area) (told_by (lock_answer (first_conflict overlap (record { owner = a; domain = domain; area = area }) (locks_held b older))))
   lock_tells a domain area = go (first_conflict overlap (record { owner = a; domain = domain; area = area }) (locks_held b older)) refl
     where
-      go : (way : Option ActorId) → first_conflict overlap (record { owner = a; domain = domain; area = area }) (locks_held b older) ≡ way → Answers (start_of p) L (length older) a.0 b (request.Lock domain area) (told_by (lock_answer way))
+      go : (way : Option ActorId) → first_conflict overlap (record { owner = a; domain = domain; area = area }) (locks_held b older) ≡ way → Answers (start_of p n) L (length older) a.0 b (request.Lock domain area) (told_by (lock_answer way))
       go None e = free_way L a.0 b domain area older h e
       go (Some owner) e = taken_way L a.0 b domain area older h owner e
 
-  apply_tells : (a q : ℕ) → Tells (start_of p) L (length older) a b (request.Apply q) (told_by (copy_answer (λ o. answer.Done) (copy_for (change_at q older) (holds p older b)))) (finds (start_of p) L (length older) b (request.Apply q))
-  apply_tells a q = subst (λ (x : Option Line). Tells (start_of p) L (length older) a b (request.Apply q) (told_by (copy_answer (λ o. answer.Done) (copy_for (change_at q older) (holds p older b)))) (begins_attempt x && past.holds (start_of p) L (length older) b (object_of_line x))) (sym (before_past L older h q)) (go (from_oldest q older))
+  apply_tells : (a q : ℕ) → Tells (start_of p n) L (length older) a b (request.Apply q) (told_by (copy_answer (λ o. answer.Done) (copy_for (change_at q older) (holds p older b)))) (finds (start_of p n) L (length older) b (request.Apply q))
+  apply_tells a q = subst (λ (x : Option Line). Tells (start_of p n) L (length older) a b (request.Apply q) (told_by (copy_answer (λ o. answer.Done) (copy_for (change_at q older) (holds p older b)))) (begins_attempt x && past.holds (start_of p n) L (length older) b (object_of_line x))) (sym (before_past L older h q)) (go (from_oldest q older))
     where
-      some : (c : Change) (there : Bool) → there ≡ has_object p older (object_of c) b → Tells (start_of p) L (length older) a b (request.Apply q) (told_by (copy_answer (λ o. answer.Done) (copy_at (object_of c) (holds p older b)))) (true && there)
-      some c there e = subst (λ (x : Bool). Tells (start_of p) L (length older) a b (request.Apply q) (told_by (copy_answer (λ o. answer.Done) (copy_at (object_of c) (holds p older b)))) (true && x)) (sym e) (by_copy (copy_at (object_of c) (holds p older b)))
+      some : (c : Change) (there : Bool) → there ≡ has_object p older (object_of c) b → Tells (start_of p n) L (length older) a b (request.Apply q) (told_by (copy_answer (λ o. answer.Done) (copy_at (object_of c) (holds p older b)))) (true && there)
+      some c there e = subst (λ (x : Bool). Tells (start_of p n) L (length older) a b (request.Apply q) (told_by (copy_answer (λ o. answer.Done) (copy_at (object_of c) (holds p older b)))) (true && x)) (sym e) (by_copy (copy_at (object_of c) (holds p older b)))
         where
-          by_copy : (o : Option Object) → Tells (start_of p) L (length older) a b (request.Apply q) (told_by (copy_answer (λ o. answer.Done) o)) (true && is_some o)
+          by_copy : (o : Option Object) → Tells (start_of p n) L (length older) a b (request.Apply q) (told_by (copy_answer (λ o. answer.Done) o)) (true && is_some o)
           by_copy None = refl
           by_copy (Some o) = tt
 
-      go : (x : Option Line) → Tells (start_of p) L (length older) a b (request.Apply q) (told_by (copy_answer (λ o. answer.Done) (copy_for (option_and_then change_of x) (holds p older b)))) (begins_attempt x && past.holds (start_of p) L (length older) b (object_of_line x))
+      go : (x : Option Line) → Tells (start_of p n) L (length older) a b (request.Apply q) (told_by (copy_answer (λ o. answer.Done) (copy_for (option_and_then change_of x) (holds p older b)))) (begins_attempt x && past.holds (start_of p n) L (length older) b (object_of_line x))
       go (Some (Begin z c)) = some c _ (apply_found c)
       go None = refl
       go (Some (Ask z y r told took)) = refl
@@ -155,7 +157,7 @@ module _ (p : Plan) (L : Log) (b : ℕ) (older : List Line) (h : IsPast L older)
       go (Some (Event e)) = refl
 
   -- what a brick tells
-  tells_so : (a : ActorId) (r : Request) → Tells (start_of p) L (length older) a.0 b r (tells a r b (holds p older b) older) (finds (start_of p) L (length older) b r)
+  tells_so : (a : ActorId) (r : Request) → Tells (start_of p n) L (length older) a.0 b r (tells a r b (holds p older b) older) (finds (start_of p n) L (length older) b r)
   tells_so a (request.Lock domain area) = lock_tells a domain area
   tells_so a (request.Unlock domain area) = tt
   tells_so a (request.Look g) = copy_tells a.0 g (request.Look g) _ (found g) (λ o e. look_shows g o e)
@@ -168,22 +170,22 @@ module _ (p : Plan) (L : Log) (b : ℕ) (older : List Line) (h : IsPast L older)
   tells_so a (request.Pre g kind) = copy_tells a.0 g (request.Pre g kind) _ (found g) (λ o e. tt)
   tells_so a (request.Apply q) = apply_tells a.0 q
   tells_so a (request.Post q g kind missed) = copy_tells a.0 g (request.Post q g kind missed) _ (found g) (λ o e. tt)
-  tells_so a (request.Mend repair) = copy_tells a.0 (model.repaired repair) (request.Mend repair) _ (mend_found repair) (λ o e. tt)
+  tells_so a (request.Mend repair) = copy_tells a.0 (repairs.repaired repair) (request.Mend repair) _ (mend_found repair) (λ o e. tt)
   tells_so a (request.Settle g kind less) = copy_tells a.0 g (request.Settle g kind less) _ (found g) (λ o e. tt)
 
   -- and what is told over a session
-  asked_so : (a : ActorId) (r : Request) (told : Told) (took live : Bool) (fault : Option Fault) → (record { told = told; took = took }) ≡ over_session live fault (tells a r b (holds p older b) older) → HonestAsk (start_of p) L (length older) a.0 b r told took live fault
+  asked_so : (a : ActorId) (r : Request) (told : Told) (took live : Bool) (fault : Option Fault) → (record { told = told; took = took }) ≡ over_session live fault (tells a r b (holds p older b) older) → HonestAsk (start_of p n) L (length older) a.0 b r told took live fault
   asked_so a r told took false fault e = (ap (λ (o : Outcome). o.told) e, ap (λ (o : Outcome). o.took) e)
   asked_so a r told took true (Some Fail) e = (ap (λ (o : Outcome). o.told) e, ap (λ (o : Outcome). o.took) e)
   asked_so a r told took true (Some LostAnswer) e = (ap (λ (o : Outcome). o.told) e, ap (λ (o : Outcome). o.took) e)
   asked_so a r told took true None e =
-      (subst (λ (said : Told). Tells (start_of p) L (length older) a.0 b r said (finds (start_of p) L (length older) b r)) (sym (ap (λ (o : Outcome). o.told) e)) (tells_so a r), ap (λ (o : Outcome). o.took) e)
+      (subst (λ (said : Told). Tells (start_of p n) L (length older) a.0 b r said (finds (start_of p n) L (length older) b r)) (sym (ap (λ (o : Outcome). o.told) e)) (tells_so a r), ap (λ (o : Outcome). o.took) e)
 
 -- an honest Ask line of the model is honest by positions
-pub honest_ask : (p : Plan) (L : Log) (a : ActorId) (b : BrickId) (r : Request) (told : Told) (took : Bool) (older : List Line) → member (below p.shape.n) b.0 ≡ true → L (length older) ≡ Some (Ask a b r told took) → IsPast L older → HasNoMend older
-    → ((c : ℕ) (kind : Kind) → kept_by p c kind ≡ true → TakeNone kind c older) → IsHonest p (Ask a b r told took) older → HonestLine (start_of p) (fault_in p.faults) L (length older) (Some (Ask a b r told took))
-honest_ask p L a b r told took older low is h plain takes honest =
+pub honest_ask : (p : Plan) (n : ℕ) (L : Log) (a : ActorId) (b : BrickId) (r : Request) (told : Told) (took : Bool) (older : List Line) → member (below p.shape.n) b.0 ≡ true → L (length older) ≡ Some (Ask a b r told took) → IsPast L older → LawfulBelow p n older
+    → TakeWithin p older → IsHonest p (Ask a b r told took) older → HonestLine (start_of p n) (fault_in p.faults) L (length older) (Some (Ask a b r told took))
+honest_ask p n L a b r told took older low is h lawful within honest =
     let live : is_live p a b.0 (Ask a b r told took) older ≡ (joined L (length older) a.0 b.0 || opens_session L (length older) a.0 b.0) =
     (λ i. sym (joined_is L p a.0 b.0 low older h) i || sym (opening_is L p a.0 b.0 low (Ask a b r told took) older is h) i) in
     let fault : fault_in p.faults b.0 (suc (requests_to b.0 older)) ≡ fault_in p.faults b.0 (suc (asked L (length older) b.0)) = (λ i. fault_in p.faults b.0 (suc (sym (asked_is L b.0 older h) i))) in
-    asked_so p L b.0 older h plain takes a r told took _ _ (honest ∙ (λ i. over_session (live i) (fault i) (tells a r b.0 (holds p older b.0) older)))
+    asked_so p n L b.0 older h lawful within a r told took _ _ (honest ∙ (λ i. over_session (live i) (fault i) (tells a r b.0 (holds p older b.0) older)))

@@ -1,5 +1,5 @@
 -- What every brick of a plan has at the beginning, as numbers.
-use Rattle.std.proofs.Common.{◌≡◌, ℕ, suc, zero, ◌≤◌, Bool, true, false, ◌&&◌, refl, sym, ◌∙◌, subst, arith, None, Some, ◌==◌, if◌then◌else◌}
+use Rattle.std.proofs.Common.{◌≡◌, ℕ, suc, zero, ◌<◌, ◌≤◌, ◌^◌, Bool, true, false, ◌&&◌, refl, sym, ◌∙◌, subst, arith, None, Some, ◌==◌, if◌then◌else◌}
 use Rattle.std.proofs.lemmas.Bool.Decides.{nat_tests}
 use Rattle.afr_base.specs.declared.ids.What.{What}
 use Rattle.afr_base.specs.declared.ids.What.TheVariants.{File, Dir}
@@ -14,7 +14,7 @@ use Rattle.afr_law.specs.Past.{Beginning, keep}
 use Rattle.afr_law.specs.Objects.{entry_same, entry_some}
 use Rattle.afr_law.specs.BridgeCopies.{kind_applied}
 use Rattle.afr_law.specs.BridgeValues.{code_applied, after_change}
-use Rattle.afr_law.specs.BridgeNames.{rising_opening}
+use Rattle.afr_law.specs.BridgeSound.{sound_opening}
 
 -- the change that makes the next opening file
 abbrev pub opening_make : ℕ → Change
@@ -44,6 +44,24 @@ opening_other (suc i) g other = (let is = kind_applied true (opening_make i) (op
 above_root : (i : ℕ) → ((opening_gfid i).0 == 1) ≡ false
 above_root i = grind (arith, nat_tests)
 
+-- nothing but the root and the opening files is there
+pub opening_none : (i g : ℕ) → (g ≡ 1 → ⊥) → g < 2 ^ 64 → kind_in (opening i) g ≡ 0
+opening_none zero g other low = start (same_gfid (record { 0 = g }) root ∙ apart g other)
+  where
+    start : {is : Bool} → is ≡ false → kind_code (if is then Some (new_object Dir) else None) ≡ 0
+    start e = rw e refl
+
+    apart : (g : ℕ) → (g ≡ 1 → ⊥) → (g == 1) ≡ false
+    apart g other = grind (arith, nat_tests)
+opening_none (suc i) g other low = kind_applied true (opening_make i) (opening i) g ∙ rw (opening_none i g other low, above g (opening_gfid (suc i)).0 (omega (arith, low))) (none (kind_in (opening i) 1 == 0))
+  where
+    above : (g k : ℕ) → g < k → (k == g) ≡ false
+    above g k low = grind (arith, nat_tests)
+
+    none : (lacks : Bool) → keep 0 (if lacks then 0 else 0) ≡ 0
+    none true = refl
+    none false = refl
+
 -- each entry leads to an object of its kind
 pub opening_named : (i d m g : ℕ) (what : What) → code_in (opening i) (Entry d m) ≡ entry_code g what → kind_in (opening i) g ≡ what_code what
 unfolding leaves
@@ -55,7 +73,7 @@ opening_named zero d m g what e = absurd (entry_some g what (sym e ∙ start))
 
     start : code_in (opening 0) (Entry d m) ≡ 0
     start = of_test _
-opening_named (suc i) d m g what e = go (fits (kind_in (opening i) d) (Entry d m) && touches (opening_make i) (Entry d m)) (sym (code_applied true (opening_make i) (opening i) (Entry d m) refl (λ k. refl) (rising_opening i)) ∙ e) (λ k. opening_named i d m g what k)
+opening_named (suc i) d m g what e = go (fits (kind_in (opening i) d) (Entry d m) && touches (opening_make i) (Entry d m)) (sym (code_applied true (opening_make i) (opening i) (Entry d m) refl (λ k. refl) (λ h o k. (sound_opening i i (omega arith) h o k).0)) ∙ e) (λ k. opening_named i d m g what k)
   where
     is_kind : kind_in (opening (suc i)) g ≡ keep (kind_in (opening i) g) (if kind_in (opening i) 1 == 0 then 0 else (if (opening_gfid (suc i)).0 == g then 1 else 0))
     is_kind = kind_applied true (opening_make i) (opening i) g
@@ -78,12 +96,12 @@ opening_named (suc i) d m g what e = go (fits (kind_in (opening i) d) (Entry d m
     go true k rest = (let w = entry_same (opening_gfid (suc i)).0 g File what k in new w.0 ∙ w.1)
     go false k rest = (let was = rest k in is_kind ∙ keep_some _ _ (what_some what _ was) ∙ was)
 
--- the beginning that the law speaks of
-abbrev pub start_of : Plan → Beginning
-start_of p = record {
+-- the beginning that the law speaks of, with so many names
+abbrev pub start_of : Plan → ℕ → Beginning
+start_of p n = record {
   kinds = kind_in (opening p.files);
   cells = code_in (opening p.files);
   keeps = kept_by p;
-  names = 0;
+  names = n;
   named = opening_named p.files;
 }

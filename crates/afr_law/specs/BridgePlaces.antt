@@ -19,8 +19,8 @@ use Rattle.afr_model.specs.Attempts.{IsAcknowledged, first_reply, touches_if, Op
 use Rattle.afr_model.specs.Cells.{Cell, Byte, IsByte, value_if, value_of, touches, leaves}
 use Rattle.afr_model.specs.Tables.{holds}
 use Rattle.afr_law.specs.BridgeCells.{below_length}
-use Rattle.afr_law.specs.BridgeEnds.{short_holds, ends_at}
-use Rattle.afr_law.specs.ModelLaw.{EndsInTime, IsLawful}
+use Rattle.afr_law.specs.BridgeSoundLog.{LawfulBelow, files_below, all_sound, ends_at}
+use Rattle.afr_law.specs.ModelLaw.{EndsInTime}
 
 -- an acknowledged attempt on the cell
 abbrev pub IsAckedOn : List Line → Cell → ℕ → Type 0
@@ -67,12 +67,12 @@ far : (i : ℕ) → nat_lt i (2 ^ 63) ≡ false → 2 ^ 63 ≤ i
 far i e = grind (arith, nat_tests)
 
 -- nothing stands there
-nothing_far : (p : Plan) (log : List Line) → IsLawful p log → (b : ℕ) (g : Gfid) (i : ℕ) → nat_lt i (2 ^ 63) ≡ false → value_of p log b (Byte g i) ≡ IsByte 0
-nothing_far p log lawful b g i e = go (copy_at g (holds p log b)) refl
+pub nothing_far : (p : Plan) (n : ℕ) (log : List Line) → LawfulBelow p n log → (b : ℕ) (g : Gfid) (i : ℕ) → nat_lt i (2 ^ 63) ≡ false → value_of p log b (Byte g i) ≡ IsByte 0
+nothing_far p n log lawful b g i e = go (copy_at g (holds p log b)) refl
   where
     go : (o : Option Object) → copy_at g (holds p log b) ≡ o → value_if (Byte g i) o ≡ IsByte 0
     go None k = refl
-    go (Some o) k = ap IsByte (get_or_past o.content i 0 (omega (arith, short_holds p b log lawful g o k, far i e)))
+    go (Some o) k = ap IsByte (get_or_past o.content i 0 (omega (arith, ((all_sound p n log lawful).0 b g o k).2, far i e)))
 
 -- and a change that ends in time leaves nothing there
 leaves_nothing : (c : Change) (g : Gfid) (i : ℕ) → nat_lt i (2 ^ 63) ≡ false → EndsInTime c → touches c (Byte g i) ≡ true → leaves c (Byte g i) ≡ IsByte 0
@@ -86,9 +86,9 @@ leaves_nothing (Make dir name h what) g i e ends hit = absurd (true≢false (sym
 leaves_nothing (Remove dir name what) g i e ends hit = absurd (true≢false (sym hit))
 
 -- such a place is current
-pub far_current : (p : Plan) (log : List Line) → IsLawful p log → (b : ℕ) (g : Gfid) (i : ℕ) → nat_lt i (2 ^ 63) ≡ false → IsCurrent p log b (Byte g i)
-far_current p log lawful b g i e = elim (newest log (Byte g i) (length log)) [
-  | inl none ↦ Opening (nothing_far p log lawful b g i e ∙ sym (nothing_far p [] tt b g i e)) (λ k w hit. none k (below_length log k (Begin w.actor w.change) w.begun) (w, hit))
+pub far_current : (p : Plan) (n : ℕ) (log : List Line) → LawfulBelow p n log → (b : ℕ) (g : Gfid) (i : ℕ) → nat_lt i (2 ^ 63) ≡ false → IsCurrent p log b (Byte g i)
+far_current p n log lawful b g i e = elim (newest log (Byte g i) (length log)) [
+  | inl none ↦ Opening (nothing_far p n log lawful b g i e ∙ sym (nothing_far p n [] (files_below p n log lawful) b g i e)) (λ k w hit. none k (below_length log k (Begin w.actor w.change) w.begun) (w, hit))
   | inr some ↦ last some
 ]
   where
@@ -96,5 +96,5 @@ far_current p log lawful b g i e = elim (newest log (Byte g i) (length log)) [
     last w =
         let at : change_at w.0 log ≡ Some w.1.0.change = ap (option_and_then change_of) w.1.0.begun in
         let hit : touches w.1.0.change (Byte g i) ≡ true = ap (λ (c : Option Change). touches_if c (Byte g i)) (sym at) ∙ w.1.1 in
-        Left w.0 w.1.0.change at hit (nothing_far p log lawful b g i e ∙ sym (leaves_nothing w.1.0.change g i e (ends_at p log lawful w.0 w.1.0.change at) hit))
+        Left w.0 w.1.0.change at hit (nothing_far p n log lawful b g i e ∙ sym (leaves_nothing w.1.0.change g i e (ends_at p n log lawful w.0 w.1.0.change at).0 hit))
         (λ k v t. w.2 k (below_length log k (Begin v.actor v.change) v.begun) (v, t))

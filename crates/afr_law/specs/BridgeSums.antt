@@ -1,5 +1,5 @@
--- The marks by positions are the sums of the list of lines, and the numbers of the copies where no heal mends.
-use Rattle.std.proofs.Common.{◌≡◌, ℕ, ◌+◌, ◌-◌, ◌<◌, Bool, true, false, ◌&&◌, not, refl, ◌∙◌, ap, arith, List, [], ◌∷◌, length, Option, None, Some, ◌==◌, if◌then◌else◌}
+-- The marks by positions are the sums of the list of lines, and the numbers of the copies where no Settle line takes back more than there is.
+use Rattle.std.proofs.Common.{◌≡◌, ℕ, ◌+◌, ◌-◌, ◌<◌, ◌≤◌, Bool, true, false, ◌&&◌, not, refl, ◌∙◌, ap, arith, List, [], ◌∷◌, length, Option, None, Some, ◌==◌, if◌then◌else◌}
 use Rattle.std.specs.Prelude.{slice_index, is_some}
 use Rattle.afr_base.specs.Bricks.{member}
 use Rattle.afr_base.specs.Marks.{marks_of, dirtied, closed_op, taken_back}
@@ -7,22 +7,24 @@ use Rattle.afr_base.specs.declared.ids.Gfid.{Gfid}
 use Rattle.afr_base.specs.declared.ids.Kind.{Kind}
 use Rattle.afr_base.specs.declared.ids.What.{What}
 use Rattle.afr_base.specs.declared.ids.What.TheVariants.{File, Dir}
+use Rattle.afr_object.specs.Repairs.{mended}
 use Rattle.afr_object.specs.Tables.{copy_at}
 use Rattle.afr_object.specs.declared.object.Object.{Object}
 use Rattle.afr_lines.specs.Log.{change_at}
 use Rattle.afr_lines.specs.declared.line.Line.{Line}
 use Rattle.afr_lines.specs.declared.line.Line.TheVariants.{Ask}
-use Rattle.afr_lines.specs.declared.request.Request.TheVariants.{Pre, Apply, Post, Settle}
+use Rattle.afr_lines.specs.declared.request.Request.TheVariants.{Pre, Apply, Mend, Post, Settle}
 use Rattle.afr_plan.specs.declared.plan.Plan.{Plan}
-use Rattle.afr_model.specs.Tables.{holds, effect, keeps_bytes}
+use Rattle.afr_model.specs.Tables.{holds, held_before, carried, effect, keeps_bytes}
 use Rattle.afr_model.specs.Sums.{same_kind, has_object, sum_over, blames, settles_pending, pending_of}
-use Rattle.afr_laws.specs.SumLaws.{now_at, counts, numbers_asked, numbers_same, numbers_effect, all_true, pre_pending, post_pending, settle_pending, same_pending, five_now, at_first}
+use Rattle.afr_laws.specs.SumLaws.{now_at, counts, numbers_asked, numbers_same, numbers_effect, numbers_mended, pre_pending, post_pending, settle_pending, same_pending, five_now, at_first}
 use Rattle.afr_law.specs.Cells.{what_code}
-use Rattle.afr_law.specs.Codes.{kind_code}
+use Rattle.afr_law.specs.Codes.{kind_code, kept_by}
 use Rattle.afr_law.specs.Past.{Log, Beginning, kind_at, named, taken, posts, settled, pending}
 use Rattle.afr_law.specs.Past as past
 use Rattle.afr_law.specs.Positions.{IsPast}
-use Rattle.afr_law.specs.BridgeTables.{HasNoMend, kind_is}
+use Rattle.afr_law.specs.BridgeTables.{kind_is}
+use Rattle.afr_law.specs.BridgeSoundLog.{LawfulBelow}
 use Rattle.afr_law.specs.BridgeOpening.{start_of}
 
 -- a kind is no 0 exactly where the brick has the object
@@ -34,8 +36,8 @@ there_is (Some o) = go o.what
     go File = refl
     go Dir = refl
 
-pub holds_is : (p : Plan) (L : Log) (b : ℕ) (older : List Line) → IsPast L older → HasNoMend older → (g : ℕ) → past.holds (start_of p) L (length older) b g ≡ has_object p older (record { 0 = g }) b
-holds_is p L b older h plain g = ap (λ (k : ℕ). not (k == 0)) (kind_is p L b older h plain g) ∙ there_is (copy_at (record { 0 = g }) (holds p older b))
+pub holds_is : (p : Plan) (n : ℕ) (L : Log) (b : ℕ) (older : List Line) → IsPast L older → LawfulBelow p n older → (g : ℕ) → past.holds (start_of p n) L (length older) b g ≡ has_object p older (record { 0 = g }) b
+holds_is p n L b older h lawful g = ap (λ (k : ℕ). not (k == 0)) (kind_is p n L b older h lawful g) ∙ there_is (copy_at (record { 0 = g }) (holds p older b))
 
 -- one where a test holds
 abbrev one_if : Bool → ℕ
@@ -49,7 +51,7 @@ no_settle : (b : Bool) (n : ℕ) → (if b then n else n) ≡ n
 no_settle true n = refl
 no_settle false n = refl
 
-module _ (p : Plan) (L : Log) (x c : ℕ) (g : Gfid) (kind : Kind) where
+module _ (p : Plan) (n : ℕ) (L : Log) (x c : ℕ) (g : Gfid) (kind : Kind) where
   post_line : (line : Line) (older : List Line) → one_if (has_object p older g x && named x c g.0 kind (Some line)) ≡ blames p x c g kind line older
   post_line (Ask a y (Post q h k missed) told took) older = go (has_object p older g x) (y.0 == x) took (h.0 == g.0) (same_kind k kind) (member missed c)
     where
@@ -70,11 +72,11 @@ module _ (p : Plan) (L : Log) (x c : ℕ) (g : Gfid) (kind : Kind) where
   post_line (Ask a y r told took) older = no_post (has_object p older g x) _ _
   post_line line older = no_post (has_object p older g x) _ _
 
-  pub posts_is : (older : List Line) → IsPast L older → HasNoMend older → posts (start_of p) L (length older) x c g.0 kind ≡ sum_over (blames p x c g kind) older
+  pub posts_is : (older : List Line) → IsPast L older → LawfulBelow p n older → posts (start_of p n) L (length older) x c g.0 kind ≡ sum_over (blames p x c g kind) older
   unfolding posts
-  posts_is [] h plain = refl
-  posts_is (line ∷ older) h plain =
-      (λ i. one_if (holds_is p L x older h.1 plain.1 g.0 i && named x c g.0 kind (h.0 i)) + posts_is older h.1 plain.1 i)
+  posts_is [] h lawful = refl
+  posts_is (line ∷ older) h lawful =
+      (λ i. one_if (holds_is p n L x older h.1 lawful.1 g.0 i && named x c g.0 kind (h.0 i)) + posts_is older h.1 lawful.1 i)
       ∙ ap (λ (k : ℕ). k + sum_over (blames p x c g kind) older) (post_line line older)
 
   settle_line : (line : Line) (older : List Line) → (if has_object p older g x then taken x c g.0 kind (Some line) else 0) ≡ settles_pending p x c g kind line older
@@ -96,45 +98,50 @@ module _ (p : Plan) (L : Log) (x c : ℕ) (g : Gfid) (kind : Kind) where
   settle_line (Ask a y r told took) older = no_settle (has_object p older g x) _
   settle_line line older = no_settle (has_object p older g x) _
 
-  pub settled_is : (older : List Line) → IsPast L older → HasNoMend older → settled (start_of p) L (length older) x c g.0 kind ≡ sum_over (settles_pending p x c g kind) older
+  pub settled_is : (older : List Line) → IsPast L older → LawfulBelow p n older → settled (start_of p n) L (length older) x c g.0 kind ≡ sum_over (settles_pending p x c g kind) older
   unfolding settled
-  settled_is [] h plain = refl
-  settled_is (line ∷ older) h plain =
-      (λ i. (if holds_is p L x older h.1 plain.1 g.0 i then taken x c g.0 kind (h.0 i) else 0) + settled_is older h.1 plain.1 i)
+  settled_is [] h lawful = refl
+  settled_is (line ∷ older) h lawful =
+      (λ i. (if holds_is p n L x older h.1 lawful.1 g.0 i then taken x c g.0 kind (h.0 i) else 0) + settled_is older h.1 lawful.1 i)
       ∙ ap (λ (k : ℕ). k + sum_over (settles_pending p x c g kind) older) (settle_line line older)
 
   -- what a brick holds against another is the sum of the list of lines
-  pub pending_is : (older : List Line) → IsPast L older → HasNoMend older → pending (start_of p) L (length older) x c g.0 kind ≡ pending_of p older x c g kind
-  pending_is older h plain = λ i. posts_is older h plain i - settled_is older h plain i
+  pub pending_is : (older : List Line) → IsPast L older → LawfulBelow p n older → pending (start_of p n) L (length older) x c g.0 kind ≡ pending_of p older x c g kind
+  pending_is older h lawful = λ i. posts_is older h lawful i - settled_is older h lawful i
 
--- a Settle line takes nothing back that is held against brick c
-abbrev pub TakesNone : Kind → ℕ → Line → Type 0
-TakesNone kind c (Ask a y (Settle h k less) told took) = same_kind k kind ≡ true → slice_index less.pending c ≡ 0
-TakesNone kind c line = Unit {0}
+-- a Settle line that counts takes back no more than the copy holds against brick c
+abbrev pub TakesWithin : Plan → ℕ → ℕ → Gfid → Kind → Line → List Line → Type 0
+TakesWithin p x c g kind (Ask a y (Settle h k less) told took) older = counts p x g kind y.0 h k took older ≡ true → slice_index less.pending c ≤ slice_index (now_at p older x g kind).pending c
+TakesWithin p x c g kind line older = Unit {0}
 
--- no Settle line does
-abbrev pub TakeNone : Kind → ℕ → List Line → Type 0
-TakeNone kind c [] = Unit {0}
-TakeNone kind c (line ∷ older) = TakesNone kind c line × TakeNone kind c older
+-- no line takes back more than there is, for a brick that keeps such cells
+abbrev pub TakeWithin : Plan → List Line → Type 0
+TakeWithin p [] = Unit {0}
+TakeWithin p (line ∷ older) = ((x c : ℕ) (g : Gfid) (kind : Kind) → kept_by p c kind ≡ true → TakesWithin p x c g kind line older) × TakeWithin p older
 
-module _ (p : Plan) (x c : ℕ) (g : Gfid) (kind : Kind) (small : c < 5) where
-  line_adds : (line : Line) (older : List Line) → TakesNone kind c line
+module _ (p : Plan) (x c : ℕ) (g : Gfid) (kind : Kind) (small : c < 5) (kept : kept_by p c kind ≡ true) where
+  line_adds : (line : Line) (older : List Line) → TakesWithin p x c g kind line older
       → slice_index (now_at p (line ∷ older) x g kind).pending c + settles_pending p x c g kind line older ≡ slice_index (now_at p older x g kind).pending c + blames p x c g kind line older
-  line_adds (Ask a y (Pre h k) told took) older none = pre_pending (counts p x g kind y.0 h k took older) c _ _ (numbers_asked p x g kind y.0 h k took older dirtied)
-  line_adds (Ask a y (Post q h k missed) told took) older none =
+  line_adds (Ask a y (Pre h k) told took) older within = pre_pending (counts p x g kind y.0 h k took older) c _ _ (numbers_asked p x g kind y.0 h k took older dirtied)
+  line_adds (Ask a y (Post q h k missed) told took) older within =
       post_pending (counts p x g kind y.0 h k took older) c missed _ _ (numbers_asked p x g kind y.0 h k took older (closed_op missed)) (omega (arith, small, five_now p older x g kind))
-  line_adds (Ask a y (Settle h k less) told took) older none =
-      settle_pending (counts p x g kind y.0 h k took older) c less _ _ (numbers_asked p x g kind y.0 h k took older (taken_back less))
-      (λ counted. omega (arith, none (all_true took (y.0 == x) (h.0 == g.0) (same_kind k kind) (has_object p older g x) counted).3))
-  line_adds (Ask a y (Apply q) told took) older none =
+  line_adds (Ask a y (Settle h k less) told took) older within =
+      settle_pending (counts p x g kind y.0 h k took older) c less _ _ (numbers_asked p x g kind y.0 h k took older (taken_back less)) within
+  line_adds (Ask a y (Apply q) told took) older within =
       same_pending c _ _ (numbers_same kind g took (y.0 == x) (effect (keeps_bytes p x) (change_at q older) (holds p older x)) (holds p older x) (numbers_effect kind g (keeps_bytes p x) (change_at q older) (holds p older x)))
-  line_adds (Ask a y r told took) older none = same_pending c _ _ (numbers_same kind g took (y.0 == x) (holds p older x) (holds p older x) refl)
-  line_adds line older none = let old = now_at p older x g kind in same_pending c old old refl
+  line_adds (Ask a y (Mend repair) told took) older within =
+      let new = mended (keeps_bytes p x) repair (carried (held_before p older) older repair) (holds p older x) in
+      same_pending c _ _ (numbers_same kind g took (y.0 == x) new (holds p older x) (numbers_mended kind g (keeps_bytes p x) repair (carried (held_before p older) older repair) (holds p older x)))
+  line_adds (Ask a y r told took) older within = same_pending c _ _ (numbers_same kind g took (y.0 == x) (holds p older x) (holds p older x) refl)
+  line_adds line older within = let old = now_at p older x g kind in same_pending c old old refl
 
-  adds_up : (log : List Line) → TakeNone kind c log → slice_index (now_at p log x g kind).pending c + sum_over (settles_pending p x c g kind) log ≡ sum_over (blames p x c g kind) log
-  adds_up [] none = let first = at_first p x g kind in omega (arith, first.1 c small)
-  adds_up (line ∷ older) none = omega (arith, line_adds line older none.0, adds_up older none.1)
+  pub adds_up : (log : List Line) → TakeWithin p log → slice_index (now_at p log x g kind).pending c + sum_over (settles_pending p x c g kind) log ≡ sum_over (blames p x c g kind) log
+  adds_up [] within = let first = at_first p x g kind in omega (arith, first.1 c small)
+  adds_up (line ∷ older) within = omega (arith, line_adds line older (within.0 x c g kind kept), adds_up older within.1)
 
   -- what a copy holds against a brick is the sum
-  pub copy_pending : (log : List Line) → TakeNone kind c log → (o : Object) → copy_at g (holds p log x) ≡ Some o → slice_index (marks_of kind o.marks).pending c ≡ pending_of p log x c g kind
-  copy_pending log none o e = let sums : slice_index (now_at p log x g kind).pending c ≡ pending_of p log x c g kind = omega (arith, adds_up log none) in rw e at sums
+  pub now_pending : (log : List Line) → TakeWithin p log → slice_index (now_at p log x g kind).pending c ≡ pending_of p log x c g kind
+  now_pending log within = omega (arith, adds_up log within)
+
+  pub copy_pending : (log : List Line) → TakeWithin p log → (o : Object) → copy_at g (holds p log x) ≡ Some o → slice_index (marks_of kind o.marks).pending c ≡ pending_of p log x c g kind
+  copy_pending log within o e = rw e at (now_pending log within)

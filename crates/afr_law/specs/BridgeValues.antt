@@ -39,7 +39,7 @@ code_is t (Attr g k) = refl
 code_is t (Entry g n) = refl
 
 -- after one copy was changed
-code_changed : (f : Object → Object) (g : Gfid) (t : Table) (cell : Cell)
+pub code_changed : (f : Object → Object) (g : Gfid) (t : Table) (cell : Cell)
     → code_in (changed f g (copy_at g t) t) cell ≡ (if g.0 == object_of cell then code_of cell (option_map f (copy_of t (object_of cell))) else code_in t cell)
 code_changed f g t cell = code_is (changed f g (copy_at g t) t) cell ∙ ap (code_of cell) (copy_at-changed f g (record { 0 = object_of cell }) t) ∙ split (eqb_tells g.0 (object_of cell))
   where
@@ -74,7 +74,7 @@ no_code (Byte g i) = refl
 no_code (Attr g k) = refl
 no_code (Entry g n) = refl
 
-code_made : (g : Gfid) (what : What) (t : Table) (cell : Cell) → code_in (made g what t) cell ≡ code_in t cell
+pub code_made : (g : Gfid) (what : What) (t : Table) (cell : Cell) → code_in (made g what t) cell ≡ code_in t cell
 code_made g what t cell = code_is (made g what t) cell ∙ ap (code_of cell) (copy_at-made g (record { 0 = object_of cell }) what t) ∙ go (copy_at g t) refl (eqb_tells g.0 (object_of cell)) ∙ sym (code_is t cell)
   where
     go : (o : Option Object) → copy_at g t ≡ o → ((g.0 == object_of cell) ≡ true) × (g.0 ≡ object_of cell) ⊎ ((g.0 == object_of cell) ≡ false) × (g.0 ≡ object_of cell → ⊥)
@@ -89,7 +89,7 @@ code_made g what t cell = code_is (made g what t) cell ∙ ap (code_of cell) (co
 abbrev pub after_change : Change → Table → Cell → ℕ
 after_change change t cell = if fits (kind_in t (object_of cell)) cell && touches change cell then leaves change cell else code_in t cell
 
-no_touch : (b : Bool) (x y : ℕ) → y ≡ (if b && false then x else y)
+pub no_touch : (b : Bool) (x y : ℕ) → y ≡ (if b && false then x else y)
 no_touch true x y = refl
 no_touch false x y = refl
 
@@ -100,7 +100,7 @@ content_names f o = go (is_dir o.what)
     go true = (refl, refl)
     go false = (refl, refl)
 
-others_bytes : (keeps : Bool) (f : List ℕ → List ℕ) (o : Object) → ((with_bytes keeps f o).attrs ≡ o.attrs) × ((with_bytes keeps f o).names ≡ o.names)
+pub others_bytes : (keeps : Bool) (f : List ℕ → List ℕ) (o : Object) → ((with_bytes keeps f o).attrs ≡ o.attrs) × ((with_bytes keeps f o).names ≡ o.names)
 others_bytes keeps f o = go (keeps && is_file o.what)
   where
     go : (b : Bool) → ((if b then record o { content = f o.content } else o).attrs ≡ o.attrs) × ((if b then record o { content = f o.content } else o).names ≡ o.names)
@@ -108,7 +108,7 @@ others_bytes keeps f o = go (keeps && is_file o.what)
     go false = (refl, refl)
 
 -- bytes, where the brick keeps them
-bytes_changed : (f : List ℕ → List ℕ) (g : Gfid) (t : Table) (h i new : ℕ) (hit : Bool) → ((old : List ℕ) → byte_at i (f old) ≡ (if hit then new else byte_at i old))
+pub bytes_changed : (f : List ℕ → List ℕ) (g : Gfid) (t : Table) (h i new : ℕ) (hit : Bool) → ((old : List ℕ) → byte_at i (f old) ≡ (if hit then new else byte_at i old))
     → code_in (changed (with_bytes true f) g (copy_at g t) t) (Byte h i) ≡ (if fits (kind_in t h) (Byte h i) && ((g.0 == h) && hit) then new else code_in t (Byte h i))
 bytes_changed f g t h i new hit is = code_changed (with_bytes true f) g t (Byte h i) ∙ split (g.0 == h) (copy_of t h)
   where
@@ -158,7 +158,7 @@ attrs_changed g key value t h k = code_changed (with_attr key value) g t (Attr h
     split false o = no_touch _ _ _
 
 -- names, where a change of them is as said
-names_changed : (f : List (NameId × NameEntry) → List (NameId × NameEntry)) (g : Gfid) (t : Table) (h n : ℕ) (hit : Bool) (new : Option NameEntry)
+pub names_changed : (f : List (NameId × NameEntry) → List (NameId × NameEntry)) (g : Gfid) (t : Table) (h n : ℕ) (hit : Bool) (new : Option NameEntry)
     → ((o : Object) → copy_of t h ≡ Some o → lookup (is_at (name_cmp (record { 0 = n }))) (f o.names) ≡ (if hit then new else lookup (is_at (name_cmp (record { 0 = n }))) o.names))
     → code_in (changed (with_names f) g (copy_at g t) t) (Entry h n) ≡ (if fits (kind_in t h) (Entry h n) && ((g.0 == h) && hit) then value_code (IsEntry new) else code_in t (Entry h n))
 names_changed f g t h n hit new is = code_changed (with_names f) g t (Entry h n) ∙ split (g.0 == h) (copy_of t h) refl
@@ -179,7 +179,7 @@ names_changed f g t h n hit new is = code_changed (with_names f) g t (Entry h n)
     split true (Some o) k = one o.what o refl k
     split false o k = no_touch _ _ _
 
-group_bytes : (f g a b c : Bool) (x y : ℕ) → c ≡ true → (if f && (g && (a && b)) then x else y) ≡ (if f && (g && a && b && c) then x else y)
+pub group_bytes : (f g a b c : Bool) (x y : ℕ) → c ≡ true → (if f && (g && (a && b)) then x else y) ≡ (if f && (g && a && b && c) then x else y)
 group_bytes f g a b true x y e = go f g a b
   where
     go : (f g a b : Bool) → (if f && (g && (a && b)) then x else y) ≡ (if f && (g && a && b && true) then x else y)
@@ -190,7 +190,7 @@ group_bytes f g a b true x y e = go f g a b
     go false g a b = refl
 group_bytes f g a b false x y e = absurd (true≢false (sym e))
 
-group_cut : (f g a c : Bool) (x y : ℕ) → c ≡ true → (if f && (g && a) then x else y) ≡ (if f && (g && a && c) then x else y)
+pub group_cut : (f g a c : Bool) (x y : ℕ) → c ≡ true → (if f && (g && a) then x else y) ≡ (if f && (g && a && c) then x else y)
 group_cut f g a true x y e = go f g a
   where
     go : (f g a : Bool) → (if f && (g && a) then x else y) ≡ (if f && (g && a && true) then x else y)
@@ -200,7 +200,7 @@ group_cut f g a true x y e = go f g a
     go false g a = refl
 group_cut f g a false x y e = absurd (true≢false (sym e))
 
-taken_byte : (i len : ℕ) (old : List ℕ) → byte_at i (take len old) ≡ (if nat_le len i then 0 else byte_at i old)
+pub taken_byte : (i len : ℕ) (old : List ℕ) → byte_at i (take len old) ≡ (if nat_le len i then 0 else byte_at i old)
 taken_byte i len old = byte_at-take i len old ∙ turned (byte_at i old)
   where
     turned : (x : ℕ) → (if ltb i len then x else 0) ≡ (if nat_le len i then 0 else x)

@@ -26,12 +26,13 @@ use Rattle.std.specs.Prelude.{slice_index, nat_le, nat_lt, length, List as Seq}
 use Rattle.afr_object.specs.declared.change.Change.TheVariants.{Write, Cut}
 use Rattle.afr_law.specs.Cells.{fits, is_cell, touches}
 use Rattle.afr_law.specs.Safe.{Acknowledged, Current, Opening, Left, Good, Safe}
-use Rattle.afr_law.specs.Core.{History, Clean, one_cell}
+use Rattle.afr_law.specs.Core.{History, Clean, one_cell, reached, stamp_rises}
 use Rattle.afr_law.specs.Locks.{before_is, same_self}
 use Rattle.afr_law.specs.Numbers.{Recorded, Piece}
 use Rattle.afr_law.specs.Acts.{Act, act_later, acts_apart, working, may_ask, mend_covers, apply_acts, post_acts, post_exact, post_plane}
-use Rattle.afr_law.specs.HealLooks.{SettleLine, settle_line, Viewing, done_finds, mends_plane, mend_works, mend_acts, settle_works}
-use Rattle.afr_law.specs.Heals.{viewings, ready}
+use Rattle.afr_law.specs.HealLooks.{positive, SettleLine, settle_line, Viewing, done_finds, mends_plane, mend_works, mend_acts, settle_works}
+use Rattle.afr_law.specs.HealMarks.{ready}
+use Rattle.afr_law.specs.Heals.{viewings}
 use Rattle.afr_law.specs.Touches.{Touched, touched, Not, Made, Mended, stamp_next, value_next, values_at}
 use Rattle.afr_law.specs.Objects.{holds_fits, unfit_nowhere, seen_born, change_fits}
 use Rattle.afr_base.specs.Majority.{majorities_share, IsMajority}
@@ -74,7 +75,7 @@ module _ (n : ℕ) (files : Beginning) (faults : ℕ → ℕ → Option Fault) (
       ]
 
   -- the copy s was clean at the looks of the register's number
-  pub clean : (t a : ℕ) (r : Register) (h s : ℕ) → Viewing files log t a r → r.number ≡ suc h → ((mine : Area) → r.area ≡ Some mine → covers mine cell ≡ true) → r.object ≡ object_of cell → r.kind ≡ kind_of cell → Views n files.keeps r s
+  pub clean : (t a : ℕ) (r : Register) (h s : ℕ) → Viewing files log t a r → r.number ≡ suc h → ((mine : Area) → r.area ≡ Some mine → covers mine cell ≡ true) → r.object ≡ object_of cell → r.kind ≡ kind_of cell → Views n files.keeps log t a r s
       → Clean n (LooksCell log cell) (λ u x c. posts files log u x c (object_of cell) (kind_of cell)) (λ u x c. settled files log u x c (object_of cell) (kind_of cell)) h s
   clean t a r h s v number inside object_is kind_is views = record {
     among = views.among;
@@ -107,7 +108,7 @@ module _ (n : ℕ) (files : Beginning) (faults : ℕ → ℕ → Option Fault) (
     pub from : v ≡ value files log read s cell
     pub since : h ≤ read
     pub past : read ≤ t
-    pub source : Views n files.keeps r s
+    pub source : Views n files.keeps log t a r s
 
   read_brings : (t a : ℕ) (r : Register) (h read : ℕ) → r.number ≡ suc h → ReadOf n files.keeps log t a r read → Brought t a r h (values files log t read (brick_of (before log t read)) cell)
   read_brings t a r h read number w = record {
@@ -119,7 +120,7 @@ module _ (n : ℕ) (files : Beginning) (faults : ℕ → ℕ → Option Fault) (
     source = w.source;
   }
 
-  cut_brings : (t a : ℕ) (r : Register) (h g len : ℕ) → Viewing files log t a r → r.number ≡ suc h → r.object ≡ object_of cell → mends (cut_to g len) cell ≡ true → Bytes ≡ r.kind → CutOf n files.keeps r len → Brought t a r h 0
+  cut_brings : (t a : ℕ) (r : Register) (h g len : ℕ) → Viewing files log t a r → r.number ≡ suc h → r.object ≡ object_of cell → mends (cut_to g len) cell ≡ true → Bytes ≡ r.kind → CutOf n files.keeps log t a r len → Brought t a r h 0
   cut_brings t a r h g len v number object_is inside bytes w =
       let k = v.views w.s w.view w.seen in
       let l = k.look.l in
@@ -133,7 +134,7 @@ module _ (n : ℕ) (files : Beginning) (faults : ℕ → ℕ → Option Fault) (
         source = w.source;
       }
 
-  brings : (t a b : ℕ) (r : Register) (h : ℕ) (repair : Repair) (told : Told) → log t ≡ Some (ask_by a b (Mend repair) told true) → Viewing files log t a r → r.number ≡ suc h → MayMend n files.keeps log t a r b repair → mends repair cell ≡ true
+  pub brings : (t a b : ℕ) (r : Register) (h : ℕ) (repair : Repair) (told : Told) → log t ≡ Some (ask_by a b (Mend repair) told true) → Viewing files log t a r → r.number ≡ suc h → MayMend n files.keeps log t a r b repair → mends repair cell ≡ true
       → Brought t a r h (left_by (before log t) (values files log t) (log t) cell)
   brings t a b r h repair told is v number may inside = rw is (go repair (sym may.object_same ∙ (mends_plane repair cell inside).0) may.kind_same may.contents inside)
     where
@@ -200,7 +201,7 @@ module _ (n : ℕ) (files : Beginning) (faults : ℕ → ℕ → Option Fault) (
         | inr w ↦ go w (may_ask n files.keeps files faults log honest lawful t w.a x (settle_on (object_of cell) (kind_of cell) w.less) w.told true w.is)
       ]
     where
-      go : (w : SettleLine files log t x (object_of cell) (kind_of cell)) → MaySettle n files.keeps (present n log t w.a) x (object_of cell) (kind_of cell) w.less →
+      go : (w : SettleLine files log t x (object_of cell) (kind_of cell)) → MaySettle n files.keeps log t w.a (present n log t w.a) x (object_of cell) (kind_of cell) w.less →
           (settled files log (suc t) x c (object_of cell) (kind_of cell) ≡ settled files log t x c (object_of cell) (kind_of cell))
           ⊎ ((l : ℕ) × (h : ℕ) × LooksCell log cell h x l × (l ≤ t)
           × (settled files log (suc t) x c (object_of cell) (kind_of cell) ≡ settled files log t x c (object_of cell) (kind_of cell) + (posts files log l x c (object_of cell) (kind_of cell) - settled files log l x c (object_of cell) (kind_of cell)))
@@ -218,7 +219,8 @@ module _ (n : ℕ) (files : Beginning) (faults : ℕ → ℕ → Option Fault) (
             subst (λ g. slice_index (view_marks may.view (kind_of cell)).pending c ≡ posts files log l x c g (kind_of cell) - settled files log l x c g (kind_of cell)) (sym may.object_same) (shows.marks (kind_of cell) c copy) in
             let same : settled files log t x c (object_of cell) (kind_of cell) ≡ settled files log l x c (object_of cell) (kind_of cell) =
             subst (λ g. settled files log t x c g (kind_of cell) ≡ settled files log l x c g (kind_of cell)) (sym may.object_same) (subst (λ o. settled files log t x c r.object o ≡ settled files log l x c r.object o) (sym may.kind_same) (f.same may.once may.healing work.2.live c)) in
-            let mended = v.mended c cell (full.1 copy cell real refl refl) in
+            let given = positive ((present n log t w.a).mended c cell) (full.1 copy cell real refl refl) in
+            let mended = v.mended c cell given.0 given.1 in
             inr (
               l,
               f.h,
@@ -226,7 +228,7 @@ module _ (n : ℕ) (files : Beginning) (faults : ℕ → ℕ → Option Fault) (
               omega (arith, f.past),
               omega (arith, settled_step t x c w, full.0, seen),
               same,
-              (let low = mended.1 fit in omega (arith, low, f.start_is)),
+              (let low = mended.2 fit in omega (arith, mended.1, low, f.start_is)),
             )
             )
       ]
@@ -266,6 +268,16 @@ module _ (n : ℕ) (files : Beginning) (faults : ℕ → ℕ → Option Fault) (
 
       posts_start_at : (x c : ℕ) → (posts files log 0 x c (object_of cell) (kind_of cell) ≡ 0) × (settled files log 0 x c (object_of cell) (kind_of cell) ≡ 0)
       posts_start_at x c = no_marks files log x c (object_of cell) (kind_of cell)
+
+  -- a copy that a brick with a Post line doesn't accuse has the attempt, or a later number
+  pub copy_reached : (t x c q p : ℕ) → files.keeps c (kind_of cell) ≡ true → c < n → PostedAt files log cell q x p → p < t
+      → posts files log t x c (object_of cell) (kind_of cell) ≤ settled files log t x c (object_of cell) (kind_of cell) → q < stamp files log t c cell
+  unfolding history
+  copy_reached t x c q p copy below posted past none = reached history t x c q p copy below posted past none
+
+  pub copy_rises : (c : ℕ) → files.keeps c (kind_of cell) ≡ true → (t u : ℕ) → t ≤ u → stamp files log t c cell ≤ stamp files log u c cell
+  unfolding history
+  copy_rises c copy t u low = stamp_rises history c copy t u low
 
   recorded_at : (t a x q : ℕ) → Recorded log t a x q → changes (log q) cell ≡ true → (p : ℕ) × (p < t) × PostedAt files log cell q x p
   recorded_at t a x q w touch =
@@ -338,7 +350,7 @@ module _ (n : ℕ) (files : Beginning) (faults : ℕ → ℕ → Option Fault) (
       (λ x below member. recorded_at n files faults log honest lawful cell real fit t acked.a x k (f.recorded x member) touch)
       ))
 
-  unfit_value : (b : ℕ) (cell : Cell) → fits (born files log (object_of cell)) cell ≡ false → (t : ℕ) → value files log t b cell ≡ files.cells cell
+  pub unfit_value : (b : ℕ) (cell : Cell) → fits (born files log (object_of cell)) cell ≡ false → (t : ℕ) → value files log t b cell ≡ files.cells cell
   unfit_value b cell unfit zero = (begins files log b cell).1
   unfit_value b cell unfit (suc t) =
       let none : touch files log t b cell ≡ 0 = rw (unfit_nowhere files faults log honest t b cell unfit) refl in
@@ -347,7 +359,7 @@ module _ (n : ℕ) (files : Beginning) (faults : ℕ → ℕ → Option Fault) (
   -- no attempt on such a cell has a Post line that was told Done
   unfit_post : (cell : Cell) (t a x q : ℕ) → Recorded log t a x q → changes (log q) cell ≡ true → fits (born files log (object_of cell)) cell ≡ true
   unfit_post cell t a x q w hit =
-      let may : MayPost n log (present n log w.p a) x q w.g w.kind (member w.missed) = may_ask n files.keeps files faults log honest lawful w.p a x (post_on q w.g w.kind w.missed) Done true w.is in
+      let may : MayPost n log w.p a (present n log w.p a) x q w.g w.kind (member w.missed) = may_ask n files.keeps files faults log honest lawful w.p a x (post_on q w.g w.kind w.missed) Done true w.is in
       let work = working n files.keeps files faults log honest lawful w.p a x (post_on q w.g w.kind w.missed) Done q w.is may.own in
       let attempt = work.numbers.attempt q may.outside may.own in
       let seen : (present n log w.p a).pre x ≡ true = work.numbers.acted x may.ready in

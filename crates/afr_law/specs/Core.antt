@@ -97,7 +97,7 @@ module _ (H : History) where
         | inr under ↦ (let before = rises f up t u under in omega (arith, before, up u))
       ]
 
-  stamp_rises : (b : ℕ) → H.IsCopy b → (t u : ℕ) → t ≤ u → H.stamp t b ≤ H.stamp u b
+  pub stamp_rises : (b : ℕ) → H.IsCopy b → (t u : ℕ) → t ≤ u → H.stamp t b ≤ H.stamp u b
   stamp_rises b copy = rises (λ t. H.stamp t b) (λ t. stamp_rises_once t b copy)
 
   posts_later : (x c t u : ℕ) → t ≤ u → H.posts t x c ≤ H.posts u x c
@@ -155,7 +155,7 @@ module _ (H : History) where
           ]
 
   -- a copy that a brick with a Post line doesn't accuse has the attempt, or a later number
-  reached : (t x c q p : ℕ) → H.IsCopy c → c < H.bricks → H.Posted q x p → p < t → H.posts t x c ≤ H.settled t x c → q < H.stamp t c
+  pub reached : (t x c q p : ℕ) → H.IsCopy c → c < H.bricks → H.Posted q x p → p < t → H.posts t x c ≤ H.settled t x c → q < H.stamp t c
   reached t x c q p copy below posted past none =
       elim (H.names q x p c copy posted below) [
         | inl named ↦ (

@@ -26,13 +26,13 @@ use Rattle.afr_law.specs.Cells.{fits, is_cell, object_of, kind_of, Byte, Attr, E
 use Rattle.afr_base.specs.declared.ids.Kind.TheVariants.{Bytes, Attrs, Names}
 use Rattle.afr_object.specs.declared.change.Repair.TheVariants.{CutTo, Copy, PutAttrs, PutNames}
 use Rattle.std.specs.Prelude.{nat_le, nat_lt}
-use Rattle.afr_law.specs.Locks.{Grant, same_self, same_yes}
+use Rattle.afr_law.specs.Locks.{Grant, same_self, same_yes, cases_lt}
 use Rattle.afr_law.specs.Standing.{without_true}
 use Rattle.afr_law.specs.Numbers.{last_asked}
 use Rattle.afr_law.specs.Acts.{Act, act_later, acts_apart, Working, working, acting, may_ask, mend_covers, all_covers, apply_acts}
 use Rattle.afr_law.specs.Rising.{rises_once}
 use Rattle.afr_law.specs.Touches.{Touched, touched, Not, Made, Mended, stamp_next, stamp_start}
-use Rattle.afr_law.specs.Lines.{ask_by, look_at, settle_on}
+use Rattle.afr_law.specs.Lines.{ask_by, look_at, pre_on, settle_on}
 
 -- a Settle line that a brick with the object carried out
 pub record SettleLine (files : Beginning) (log : Log) (t x g : ℕ) (kind : Kind) : Type 0 where
@@ -110,7 +110,18 @@ pub record ViewedAt (files : Beginning) (log : Log) (t a x number object : ℕ) 
   pub past : look.l < t
   pub marks : (c : ℕ) → settled files log look.l x c object kind ≡ settled files log h x c object kind
 
-pub record FirstAt (files : Beginning) (log : Log) (t a x start object : ℕ) (kind : Kind) (settled_already healing : Bool) (view : View) : Type 0 where
+-- the heal's own Pre at a brick, after its first look there
+pub record OwnPre (log : Log) (t a x object : ℕ) (kind : Kind) (start l : ℕ) : Type 0 where
+  pub p : ℕ
+  pub later : l < p
+  pub past : p < t
+  pub is : log p ≡ Some (ask_by a x (pre_on object kind) Done true)
+  pub newest : last log p a ≡ start
+
+own_later : (log : Log) (t a x object : ℕ) (kind : Kind) (start l : ℕ) → OwnPre log t a x object kind start l → OwnPre log (suc t) a x object kind start l
+own_later log t a x object kind start l o = record { p = o.p; later = o.later; past = omega (arith, o.past); is = o.is; newest = o.newest }
+
+pub record FirstAt (files : Beginning) (log : Log) (t a x start object : ℕ) (kind : Kind) (settled_already healing heal raised_already : Bool) (view : View) : Type 0 where
   pub h : ℕ
   pub start_is : start ≡ suc h
   pub mine : Area
@@ -118,12 +129,15 @@ pub record FirstAt (files : Beginning) (log : Log) (t a x start object : ℕ) (k
   pub past : look.l < t
   pub whole : (cell : Cell) → is_cell cell ≡ true → object_of cell ≡ object → kind_of cell ≡ kind → covers mine cell ≡ true
   pub same : settled_already ≡ false → healing ≡ true → joined log t a x ≡ true → (c : ℕ) → settled files log t x c object kind ≡ settled files log look.l x c object kind
+  pub none : settled_already ≡ false → healing ≡ true → joined log t a x ≡ true → (u : ℕ) → look.l ≤ u → u < t → SettleLine files log u x object kind → ⊥
+  pub own : heal ≡ true → raised_already ≡ true → OwnPre log t a x object kind start look.l
 
 pub record Viewing (files : Beginning) (log : Log) (t a : ℕ) (r : Register) : Type 0 where
   pub views : (x : ℕ) (view : View) → r.view x ≡ Some view → ViewedAt files log t a x r.number r.object r.kind r.area view
-  pub firsts : (x : ℕ) (view : View) → r.first x ≡ Some view → FirstAt files log t a x r.start r.object r.kind (r.settled x) (r.healing x) view
+  pub firsts : (x : ℕ) (view : View) → r.first x ≡ Some view → FirstAt files log t a x r.start r.object r.kind (r.settled x) (r.healing x) r.heal (r.raised x) view
   pub wholly : (h : ℕ) → r.number ≡ suc h → r.start ≡ suc h → CoversAll r.area r.object r.kind
-  pub mended : (c : ℕ) (cell : Cell) → r.mended c cell ≡ true → (r.start ≡ 0 → ⊥) × (fits (born files log (object_of cell)) cell ≡ true → r.start ≤ stamp files log t c cell)
+  pub mended : (c : ℕ) (cell : Cell) (m : ℕ) → r.mended c cell ≡ suc m → (r.start ≡ 0 → ⊥) × (r.start ≤ suc m) × (fits (born files log (object_of cell)) cell ≡ true → suc m ≤ stamp files log t c cell)
+  pub raised_first : (x : ℕ) → r.heal ≡ true → r.raised x ≡ true → (view : View) × (r.first x ≡ Some view)
   pub began : r.heal ≡ true → (r.number ≡ 0 → ⊥) → r.start ≡ 0 → ⊥
   pub seen_began : (x : ℕ) (view : View) → r.view x ≡ Some view → r.start ≡ 0 → ⊥
   pub steady : (h x : ℕ) → r.heal ≡ true → r.number ≡ suc h → r.seen x ≡ true → r.healing x ≡ true → r.settled x ≡ false → joined log t a x ≡ true → (c : ℕ) → settled files log t x c r.object r.kind ≡ settled files log h x c r.object r.kind
@@ -133,7 +147,8 @@ viewing_fresh files log t a = record {
   views = λ x view e. absurd (cc);
   firsts = λ x view e. absurd (cc);
   wholly = λ h e f. absurd (cc);
-  mended = λ c cell e. absurd (cc);
+  mended = λ c cell m e. absurd (cc);
+  raised_first = λ x inside e. absurd (cc inside);
   began = λ inside some. absurd (cc);
   seen_began = λ x view e. absurd (cc);
   steady = λ h x inside. absurd (cc);
@@ -151,9 +166,12 @@ viewing_dropped files log t a b true r s = record {
     past = w.past;
     whole = w.whole;
     same = λ un heal live c. w.same un (without_true r.healing b x heal).1 live c;
+    none = λ un heal live u low high line. w.none un (without_true r.healing b x heal).1 live u low high line;
+    own = w.own;
   });
   wholly = s.wholly;
   mended = s.mended;
+  raised_first = s.raised_first;
   began = s.began;
   seen_began = s.seen_began;
   steady = λ h x inside number seen heal un live c. s.steady h x inside number seen (without_true r.healing b x heal).1 un live c;
@@ -163,7 +181,11 @@ viewing_dropped files log t a b true r s = record {
 abbrev pub Quiet : Beginning → Log → ℕ → ℕ → Register → (ℕ → Bool) → (ℕ → Bool) → Type 0
 Quiet files log t a r settled_now healing_now =
     (x : ℕ) → (r.start ≡ 0 → ⊥) → settled_now x ≡ false → healing_now x ≡ true → joined log (suc t) a x ≡ true
-    → (r.settled x ≡ false) × (r.healing x ≡ true) × (joined log t a x ≡ true) × ((c : ℕ) → settled files log (suc t) x c r.object r.kind ≡ settled files log t x c r.object r.kind)
+    → (r.settled x ≡ false) × (r.healing x ≡ true) × (joined log t a x ≡ true) × (SettleLine files log t x r.object r.kind → ⊥)
+
+-- no Settle line, nothing taken back
+pub unsettled : (files : Beginning) (log : Log) (t x g : ℕ) (kind : Kind) → (SettleLine files log t x g kind → ⊥) → (c : ℕ) → settled files log (suc t) x c g kind ≡ settled files log t x c g kind
+unsettled files log t x g kind none c = elim (settle_line files log t x g kind) [ inl eq ↦ eq c | inr w ↦ absurd (none w) ]
 
 -- a line that changes neither number nor views nor mended cells
 pub viewing_next : (files : Beginning) (log : Log) (t a : ℕ) (r : Register) (held closed pre done post settled_now healing_now : ℕ → Bool)
@@ -178,13 +200,22 @@ viewing_next files log t a r held closed pre done post settled_now healing_now r
     look = w.look;
     past = omega (arith, w.past);
     whole = w.whole;
-    same = λ un heal live c. (let q = quiet x (λ none. omega (arith, none, w.start_is)) un heal live in q.3 c ∙ w.same q.0 q.1 q.2 c);
+    same = λ un heal live c. (let q = quiet x (λ none. omega (arith, none, w.start_is)) un heal live in unsettled files log t x r.object r.kind q.3 c ∙ w.same q.0 q.1 q.2 c);
+    none = λ un heal live u low high line. (
+        let q = quiet x (λ none. omega (arith, none, w.start_is)) un heal live in
+        elim (cases_lt u t) [
+          | inl early ↦ w.none q.0 q.1 q.2 u low early line
+          | inr last ↦ q.3 (let e : u ≡ t = omega (arith, last, high) in subst (λ k. SettleLine files log k x r.object r.kind) e line)
+        ]
+        );
+    own = λ inside mine. own_later log t a x r.object r.kind r.start w.look.l (w.own inside mine);
   });
   wholly = s.wholly;
-  mended = λ c cell e. (let w = s.mended c cell e in (w.0, λ fit. (let low = w.1 fit in omega (arith, low, rises c cell))));
+  mended = λ c cell m e. (let w = s.mended c cell m e in (w.0, w.1, λ fit. (let low = w.2 fit in omega (arith, low, rises c cell))));
+  raised_first = s.raised_first;
   began = s.began;
   seen_began = s.seen_began;
-  steady = λ h x inside number seen heal un live c. (let q = quiet x (s.began inside (λ none. omega (arith, none, number))) un heal live in q.3 c ∙ s.steady h x inside number seen q.1 q.0 q.2 c);
+  steady = λ h x inside number seen heal un live c. (let q = quiet x (s.began inside (λ none. omega (arith, none, number))) un heal live in unsettled files log t x r.object r.kind q.3 c ∙ s.steady h x inside number seen q.1 q.0 q.2 c);
 }
 
 -- a brick that told Done to an operation has the object
@@ -259,14 +290,14 @@ module _ (n : ℕ) (keeps : ℕ → Kind → Bool) (files : Beginning) (faults :
   pub settle_works : (t a b g : ℕ) (kind : Kind) (less : Marks) (told : Told) → log t ≡ Some (ask_by a b (settle_on g kind less) told true)
       → (h : ℕ) × ((present n log t a).number ≡ suc h) × Working n keeps files faults log honest lawful t a b (present n log t a)
   settle_works t a b g kind less told is =
-      let may : MaySettle n keeps (present n log t a) b g kind less = may_ask n keeps files faults log honest lawful t a b (settle_on g kind less) told true is in
+      let may : MaySettle n keeps log t a (present n log t a) b g kind less = may_ask n keeps files faults log honest lawful t a b (settle_on g kind less) told true is in
       let q = positive (present n log t a).number may.begun_already in
       (q.0, q.1, working n keeps files faults log honest lawful t a b (settle_on g kind less) told q.0 is q.1)
 
   pub settle_acts : (cell : Cell) (t a b g : ℕ) (kind : Kind) (less : Marks) (told : Told) (is : log t ≡ Some (ask_by a b (settle_on g kind less) told true)) → is_cell cell ≡ true → object_of cell ≡ g → kind_of cell ≡ kind
       → Act log cell (settle_works t a b g kind less told is).0 b t
   settle_acts cell t a b g kind less told is real o k =
-      let may : MaySettle n keeps (present n log t a) b g kind less = may_ask n keeps files faults log honest lawful t a b (settle_on g kind less) told true is in
+      let may : MaySettle n keeps log t a (present n log t a) b g kind less = may_ask n keeps files faults log honest lawful t a b (settle_on g kind less) told true is in
       let w = settle_works t a b g kind less told is in
       acting n keeps files faults log honest lawful cell t a b (present n log t a) (settle_on g kind less) told w.0 is w.2 w.1 may.locked may.open_still
       (λ mine e. all_covers n keeps files faults log honest lawful cell (present n log t a).area mine g kind may.whole e real o k)

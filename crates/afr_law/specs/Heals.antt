@@ -1,7 +1,7 @@
 -- The lines of a heal keep what its register says.
 use Rattle.afr_faults.specs.declared.fault.Fault.TheVariants.{Fail, Lost}
 use Rattle.afr_faults.specs.declared.fault.Fault.{Fault}
-use Rattle.std.proofs.Common.{◌≡◌, ℕ, suc, ◌≤◌, Bool, true, false, ◌&&◌, ◌||◌, not, ◌⊎◌, inl, inr, refl, sym, ap, ◌∙◌, subst, arith, true≢false}
+use Rattle.std.proofs.Common.{◌≡◌, ℕ, suc, ◌<◌, ◌≤◌, Bool, true, false, ◌&&◌, ◌||◌, not, ◌⊎◌, inl, inr, refl, sym, ap, ◌∙◌, subst, arith, true≢false}
 use Rattle.std.specs.Prelude.{Option, None, Some, ◌==◌, if◌then◌else◌}
 use Rattle.std.proofs.lemmas.Bool.Decides.{nat_tests}
 use Rattle.afr_base.specs.declared.ids.Kind.{Kind}
@@ -17,115 +17,36 @@ use Rattle.afr_lines.specs.declared.answer.Told.{Told}
 use Rattle.afr_lines.specs.declared.answer.Told.TheVariants.{Seen, Done}
 use Rattle.afr_law.specs.Sets.{with, without, empty}
 use Rattle.afr_law.specs.Cells.{Cell}
-use Rattle.afr_law.specs.Past.{Beginning, Log, born, held, holds, touch, over, stamp, settled, mends, joined, opening, is_of, is_gone, brick_of}
+use Rattle.afr_law.specs.Past.{Beginning, Log, born, held, holds, touch, over, stamp, settled, mends, joined, opening, is_gone}
 use Rattle.afr_law.specs.Honest.{HonestAsk, HonestLine, Honest, finds, asked}
-use Rattle.afr_law.specs.Lawful.{Register, fresh, CoversAll, MayBegin, MayMend, MaySettle, begun, is_area, looked, viewed, looking, put_view, is_none, locking, heal_area, area_object, piece, note_ask, dropping, note, in_force, register, MayAsk, MayHealLock, MayHealBegin, Lawful, opened, present, busy, second_of, second_freed}
-use Rattle.afr_law.specs.Cells.{fits, object_of, Byte}
-use Rattle.afr_law.specs.Locks.{same_self, same_yes, excluded}
-use Rattle.afr_law.specs.Standing.{SeenAt, HeldAt, Standing, standing_fresh, with_false, without_true, Plain, Noted, noted, Grants, Waits, Frees, Tries, HealGrants, HealWaits, HealFrees, HealTries, Looks, Pres, Applies, Posts, Mends, Settles, Same}
-use Rattle.afr_law.specs.Registers.{Own, Asks, Begins, HealBegins, Ends, HealEnds, standing, goes_back, registers_at, joined_back, MayOf}
-use Rattle.afr_law.specs.Numbers.{Numbered, numbered, carried_out, numbered_fresh, force_fresh}
-use Rattle.afr_law.specs.Acts.{Working, working, may_ask, all_covers}
+use Rattle.afr_law.specs.Lawful.{MayPre, Register, fresh, CoversAll, MayBegin, MayMend, begun, is_area, looked, viewed, looking, put_view, is_none, locking, area_object, piece, note_ask, dropping, note, register, MayAsk, MayHealLock, MayHealBegin, Lawful, opened, present, busy, second_of, second_freed}
+use Rattle.afr_law.specs.Cells.{fits, object_of}
+use Rattle.afr_law.specs.Locks.{cases_lt, same_self, same_yes}
+use Rattle.afr_law.specs.Standing.{SeenAt, with_cases, with_false, without_true, Plain, Noted, noted, Grants, Waits, Frees, Tries, HealGrants, HealWaits, HealFrees, HealTries, Looks, Pres, Applies, Posts, Mends, Settles, Same}
+use Rattle.afr_law.specs.Registers.{Own, Asks, Begins, HealBegins, Ends, HealEnds, standing, registers_at, MayOf}
+use Rattle.afr_law.specs.Numbers.{carried_out, force_fresh}
+use Rattle.afr_law.specs.Acts.{Working, working, all_covers}
 use Rattle.afr_law.specs.Touches.{stamp_next}
 use Rattle.afr_law.specs.Objects.{holds_fits}
-use Rattle.afr_law.specs.Lines.{ask_by, begin_by, heal_begin_by, look_at, settle_on}
-use Rattle.afr_law.specs.HealLooks.{SettleLine, settle_line, positive, LookAt, ViewedAt, FirstAt, Viewing, viewing_fresh, viewing_dropped, Quiet, viewing_next, done_finds, mends_plane, heal_overlap, settle_told, lost_ends, settle_works, stamp_rises}
+use Rattle.afr_law.specs.Lines.{ask_by, begin_by, heal_begin_by, look_at, pre_on, settle_on}
+use Rattle.afr_law.specs.HealLooks.{SettleLine, settle_line, unsettled, OwnPre, positive, LookAt, ViewedAt, FirstAt, Viewing, viewing_fresh, viewing_dropped, Quiet, viewing_next, done_finds, mends_plane, stamp_rises}
+use Rattle.afr_law.specs.HealMarks.{no_start, quiet_foreign, Ready, ready, quiet_own}
 
 module _ (n : ℕ) (keeps : ℕ → Kind → Bool) (files : Beginning) (faults : ℕ → ℕ → Option Fault) (log : Log) (honest : Honest files faults log) (lawful : Lawful n keeps log) where
-  -- two actors don't settle at one brick while one of them holds the Heal lock
-  clash : (t a x g : ℕ) (kind : Kind) → HeldAt log t a x Heal (Some (heal_area g)) → joined log t a x ≡ true → (w : SettleLine files log t x g kind) → (a ≡ w.a → ⊥) → ⊥
-  clash t a x g kind mine live w apart =
-      let may : MaySettle n keeps (present n log t w.a) x g kind w.less = may_ask n keeps files faults log honest lawful t w.a x (settle_on g kind w.less) w.told true w.is in
-      let work = settle_works n keeps files faults log honest lawful t w.a x g kind w.less w.told w.is in
-      let its = work.2.standing.healing x may.healing in
-      excluded files faults log honest (Byte 0 0) Heal refl t x mine.p its.p a w.a mine.mine its.mine mine.grant its.grant
-      (heal_overlap (present n log t w.a).object g its.mine mine.mine its.is mine.is (sym may.object_same))
-      (heal_overlap g (present n log t w.a).object mine.mine its.mine mine.is its.is may.object_same)
-      apart (mine.on live) (its.on work.2.live)
-
-  quiet_foreign : (t a : ℕ) (r : Register) → is_of a (log t) ≡ false → Standing log t a r → Quiet files log t a r r.settled r.healing
-  quiet_foreign t a r other s x some un heal live =
-      let back = joined_back log t a x (rw other refl) live in (
-        un,
-        heal,
-        back,
-        elim (settle_line files log t x r.object r.kind) [
-          | inl eq ↦ eq
-          | inr w ↦ absurd (clash t a x r.object r.kind (s.healing x heal) back w (λ k. true≢false (sym (rw k (same_self w.a)) ∙ subst (λ l. is_of a l ≡ false) w.is other)))
-        ],
-      )
-
-  -- an own line leaves the marks at a brick as they are, or is a Settle that was told Done there
-  own_settle : (t a b x g : ℕ) (kind : Kind) (request : Request) (told : Told) (took : Bool) → log t ≡ Some (ask_by a b request told took) → joined log (suc t) a x ≡ true
-      → ((c : ℕ) → settled files log (suc t) x c g kind ≡ settled files log t x c g kind) ⊎ ((less : Marks) × (request ≡ settle_on g kind less) × (told ≡ Done) × (x ≡ b))
-  own_settle t a b x g kind request told took is live =
-      elim (settle_line files log t x g kind) [
-        | inl eq ↦ inl eq
-        | inr w ↦ inr (w.less, cc (w.is, is), done w, ap brick_of (sym w.is ∙ is))
-      ]
-    where
-      done : (w : SettleLine files log t x g kind) → told ≡ Done
-      done w =
-          elim (settle_told files log t w.a x g kind w.less w.told (joined log t w.a x || opening log t w.a x) (faults x (suc (asked log t x))) (subst (HonestLine files faults log t) w.is (honest t)) w.there) [
-            | inl d ↦ cc (w.is, is, d)
-            | inr lost ↦ absurd (lost_ends log t a x (settle_on g kind w.less) (cc (w.is, is, lost)) live)
-          ]
-
-  -- the register of a line, not noted yet
-  pub record Ready (t a : ℕ) (r : Register) : Type 0 where
-    pub standing : Standing log t a r
-    pub numbers : Numbered log t a r
-    pub viewing : Viewing files log t a r
-    pub old : (x : ℕ) → (joined log (suc t) a x ≡ true → joined log t a x ≡ true) ⊎ (r ≡ fresh)
-    pub number_old : (q : ℕ) → r.number ≡ suc q → opened log t a ≡ false
-
-  pub ready : (t a : ℕ) → Viewing files log t a (register n log t a) → Ready t a (present n log t a)
-  ready t a v = go (opened log t a) refl
-    where
-      go : (first : Bool) → opened log t a ≡ first → Ready t a (in_force first (register n log t a))
-      go true e = record {
-        standing = standing_fresh log t a;
-        numbers = numbered_fresh log t a;
-        viewing = viewing_fresh files log t a;
-        old = λ x. inr refl;
-        number_old = λ q k. absurd (cc k);
-      }
-      go false e = record {
-        standing = standing n keeps files faults log honest lawful t a;
-        numbers = numbered n keeps files faults log honest lawful t a;
-        viewing = v;
-        old = λ x. inl (goes_back n keeps files faults log honest lawful t a e x);
-        number_old = λ q k. e;
-      }
-
-  no_start : (r : Register) → r ≡ fresh → r.start ≡ 0
-  no_start r e = ap (λ (q : Register). q.start) e
-
-  -- an own line that isn't a Settle told Done leaves the marks
-  quiet_own : (t a b : ℕ) (r : Register) (request : Request) (told : Told) (took : Bool) (settled_now healing_now : ℕ → Bool) → log t ≡ Some (ask_by a b request told took) → Ready t a r
-      → ((x : ℕ) → settled_now x ≡ false → r.settled x ≡ false)
-      → ((x : ℕ) (g : ℕ) (kind : Kind) (less : Marks) → request ≡ settle_on g kind less → told ≡ Done → x ≡ b → settled_now x ≡ false → ⊥)
-      → ((x : ℕ) → (r.start ≡ 0 → ⊥) → healing_now x ≡ true → r.healing x ≡ true) → Quiet files log t a r settled_now healing_now
-  quiet_own t a b r request told took settled_now healing_now is w less_settled no_settle less_healing x some un heal live = (
-    less_settled x un,
-    less_healing x some heal,
-    elim (w.old x) [ inl back ↦ back live | inr new ↦ absurd (some (no_start r new)) ],
-    elim (own_settle t a b x r.object r.kind request told took is live) [ inl eq ↦ eq | inr s ↦ absurd (no_settle x r.object r.kind s.0 s.1 s.2 s.3 un) ],
-  )
-
   viewing_begun : (t a : ℕ) (area : Area) (r : Register) → Viewing files log t a r → Viewing files log t a (begun r area)
   viewing_begun t a area r s = record {
     views = λ x view e. absurd (cc);
     firsts = s.firsts;
     wholly = λ h e f. absurd (cc);
     mended = s.mended;
+    raised_first = s.raised_first;
     began = λ inside some. absurd (some refl);
     seen_began = λ x view e. absurd (cc);
     steady = λ h x inside number. absurd (cc);
   }
 
   viewing_second : (t a : ℕ) (r : Register) (second : Option Area) (second_held : ℕ → Bool) → Viewing files log t a r → Viewing files log t a (record r { second = second; second_held = second_held })
-  viewing_second t a r second second_held s = record { views = s.views; firsts = s.firsts; wholly = s.wholly; mended = s.mended; began = s.began; seen_began = s.seen_began; steady = s.steady }
+  viewing_second t a r second second_held s = record { views = s.views; firsts = s.firsts; wholly = s.wholly; mended = s.mended; raised_first = s.raised_first; began = s.began; seen_began = s.seen_began; steady = s.steady }
 
   viewing_locking : (t a : ℕ) (area : Area) (r : Register) → Viewing files log t a r → Viewing files log t a (locking n r area)
   viewing_locking t a area r s = go (busy n r)
@@ -135,7 +56,7 @@ module _ (n : ℕ) (keeps : ℕ → Kind → Bool) (files : Beginning) (faults :
       go false = viewing_begun t a area r s
 
   viewing_plain : (t a : ℕ) (r : Register) (held closed pre done post : ℕ → Bool) → Viewing files log t a r → Viewing files log t a (record r { held = held; closed = closed; pre = pre; done = done; post = post })
-  viewing_plain t a r held closed pre done post s = record { views = s.views; firsts = s.firsts; wholly = s.wholly; mended = s.mended; began = s.began; seen_began = s.seen_began; steady = s.steady }
+  viewing_plain t a r held closed pre done post s = record { views = s.views; firsts = s.firsts; wholly = s.wholly; mended = s.mended; raised_first = s.raised_first; began = s.began; seen_began = s.seen_began; steady = s.steady }
 
   -- a Heal Lock line comes before the first HealBegin
   viewing_healing : (t a : ℕ) (first : Bool) (area : Area) (healing : ℕ → Bool) (r : Register) → (first ≡ true → r ≡ fresh) → MayHealLock first r area → Viewing files log t a r → Viewing files log t a (record r { heal = true; object = area_object area; healing = healing })
@@ -143,7 +64,11 @@ module _ (n : ℕ) (keeps : ℕ → Kind → Bool) (files : Beginning) (faults :
     views = λ x view e. absurd (s.seen_began x view e may.early);
     firsts = λ x view e. (let w = s.firsts x view e in absurd (omega (arith, may.early, w.start_is)));
     wholly = λ h e f. absurd (omega (arith, may.early, f));
-    mended = λ c cell e. absurd ((s.mended c cell e).0 may.early);
+    mended = λ c cell m e. absurd ((s.mended c cell m e).0 may.early);
+    raised_first = λ x inside mine. elim may.place [
+      | inl k ↦ absurd (true≢false (sym mine ∙ ap (λ (q : Register). q.raised x) (new k)))
+      | inr w ↦ s.raised_first x w.0 mine
+    ];
     began = λ inside some none. elim may.place [
       | inl k ↦ some (ap (λ (q : Register). q.number) (new k))
       | inr w ↦ s.began w.0 some none
@@ -162,7 +87,7 @@ module _ (n : ℕ) (keeps : ℕ → Kind → Bool) (files : Beginning) (faults :
   seen_took t a b g view took true (Some Lost) h = absurd (cc h.0)
   seen_took t a b g view took true None h = h.1
 
-  viewing_looking : (t a b g : ℕ) (view : View) (took : Bool) (r : Register) → log t ≡ Some (ask_by a b (look_at g) (Seen view) took) → present n log t a ≡ r → Ready t a r → Viewing files log (suc t) a r → Viewing files log (suc t) a (looking r b g view)
+  viewing_looking : (t a b g : ℕ) (view : View) (took : Bool) (r : Register) → log t ≡ Some (ask_by a b (look_at g) (Seen view) took) → present n log t a ≡ r → Ready n keeps files faults log honest lawful t a r → Viewing files log (suc t) a r → Viewing files log (suc t) a (looking r b g view)
   viewing_looking t a b g view took r is force w s = go r.heal refl
     where
       carried : took ≡ true
@@ -225,15 +150,29 @@ module _ (n : ℕ) (keeps : ℕ → Kind → Bool) (files : Beginning) (faults :
                 marks = λ c. w.viewing.steady h.0 b heal h.1 f.1 f.4 f.5 work.live c;
               }
 
-              first_now : r.number ≡ r.start → FirstAt files log (suc t) a b r.start r.object r.kind (r.settled b) (r.healing b) view
-              first_now same = record {
+              still_first : (new : Bool) (x : ℕ) → (v : View) × (r.first x ≡ Some v) → (v : View) × ((if new then put_view r.first b view else r.first) x ≡ Some v)
+              still_first false x f = f
+              still_first true x f = pick (x == b)
+                where
+                  pick : (hit : Bool) → (v : View) × ((if hit then Some view else r.first x) ≡ Some v)
+                  pick true = (view, refl)
+                  pick false = f
+
+              none_is : (o : Option View) → is_none o ≡ true → (v : View) → o ≡ Some v → ⊥
+              none_is None e v k = cc k
+              none_is (Some u) e v k = true≢false (sym e)
+
+              first_now : r.number ≡ r.start → is_none (r.first b) ≡ true → FirstAt files log (suc t) a b r.start r.object r.kind (r.settled b) (r.healing b) r.heal (r.raised b) view
+              first_now same unseen = record {
                 h = h.0;
                 start_is = sym same ∙ h.1;
                 mine = lock.mine;
                 look = look;
                 past = omega arith;
                 whole = λ cell real o k. all_covers n keeps files faults log honest lawful cell r.area lock.mine r.object r.kind (w.viewing.wholly h.0 h.1 (sym same ∙ h.1)) lock.is real o k;
-                same = λ un heal live c. elim (own_settle t a b b r.object r.kind (look_at g) (Seen view) took is live) [ inl eq ↦ eq c | inr k ↦ absurd (cc k.1) ];
+                same = λ un heal live c. unsettled files log t b r.object r.kind (λ line. cc (line.is, is)) c;
+                none = λ un heal live u low high line. (let e : u ≡ t = omega (arith, low, high) in cc ((subst (λ k. SettleLine files log k b r.object r.kind) e line).is, is));
+                own = λ inside mine. (let f = w.viewing.raised_first b inside mine in absurd (none_is (r.first b) unseen f.0 f.1));
               }
 
               done : (new : Bool) → ((r.number == r.start) && is_none (r.first b)) ≡ new → Viewing files log (suc t) a (record r { view = put_view r.view b view; first = if new then put_view r.first b view else r.first })
@@ -245,6 +184,7 @@ module _ (n : ℕ) (keeps : ℕ → Kind → Bool) (files : Beginning) (faults :
                 firsts = λ x v k. firsts new q x v k;
                 wholly = s.wholly;
                 mended = s.mended;
+                raised_first = λ x inside mine. still_first new x (s.raised_first x inside mine);
                 began = s.began;
                 seen_began = λ x v k. elim (put_cases r.view x v k) [
                   | inl k ↦ s.began heal (zero_no r.number f.0)
@@ -253,16 +193,19 @@ module _ (n : ℕ) (keeps : ℕ → Kind → Bool) (files : Beginning) (faults :
                 steady = s.steady;
               }
                 where
-                  firsts : (new : Bool) → ((r.number == r.start) && is_none (r.first b)) ≡ new → (x : ℕ) (v : View) → (if new then put_view r.first b view else r.first) x ≡ Some v → FirstAt files log (suc t) a x r.start r.object r.kind (r.settled x) (r.healing x) v
+                  firsts : (new : Bool) → ((r.number == r.start) && is_none (r.first b)) ≡ new → (x : ℕ) (v : View) → (if new then put_view r.first b view else r.first) x ≡ Some v → FirstAt files log (suc t) a x r.start r.object r.kind (r.settled x) (r.healing x) r.heal (r.raised x) v
                   firsts false q x v k = s.firsts x v k
                   firsts true q x v k =
                       elim (put_cases r.first x v k) [
-                        | inl k ↦ subst (λ y. FirstAt files log (suc t) a y r.start r.object r.kind (r.settled y) (r.healing y) v) (sym k.0) (subst (FirstAt files log (suc t) a b r.start r.object r.kind (r.settled b) (r.healing b)) k.1 (first_now (same_yes r.number r.start (and_first (r.number == r.start) (is_none (r.first b)) q))))
+                        | inl k ↦ subst (λ y. FirstAt files log (suc t) a y r.start r.object r.kind (r.settled y) (r.healing y) r.heal (r.raised y) v) (sym k.0) (subst (FirstAt files log (suc t) a b r.start r.object r.kind (r.settled b) (r.healing b) r.heal (r.raised b)) k.1 (first_now (same_yes r.number r.start (and_first (r.number == r.start) (is_none (r.first b)) q)) (and_second (r.number == r.start) (is_none (r.first b)) q)))
                         | inr old ↦ s.firsts x v old
                       ]
                     where
                       and_first : (x y : Bool) → (x && y) ≡ true → x ≡ true
                       and_first x y e = grind arith
+
+                      and_second : (x y : Bool) → (x && y) ≡ true → y ≡ true
+                      and_second x y e = grind arith
 
       go : (heal : Bool) → r.heal ≡ heal → Viewing files log (suc t) a (if heal then viewed r b g view else looked r b)
       go true e = see e (not (r.number == 0) && r.seen b && not (r.closed b) && (g == r.object) && r.healing b && not (r.settled b)) refl
@@ -274,6 +217,7 @@ module _ (n : ℕ) (keeps : ℕ → Kind → Bool) (files : Beginning) (faults :
             firsts = s.firsts;
             wholly = s.wholly;
             mended = s.mended;
+            raised_first = s.raised_first;
             began = s.began;
             seen_began = s.seen_began;
             steady = λ h x inside. absurd (true≢false (sym inside ∙ e));
@@ -281,18 +225,65 @@ module _ (n : ℕ) (keeps : ℕ → Kind → Bool) (files : Beginning) (faults :
           add false = s
 
   -- a Mend that was told Done stamps the cells that it changes with the number
-  mend_stamps : (t a b : ℕ) (repair : Repair) (r : Register) (cell : Cell) → log t ≡ Some (ask_by a b (Mend repair) Done true) → Ready t a r → (r.number ≡ 0 → ⊥) → mends repair cell ≡ true → fits (born files log (object_of cell)) cell ≡ true → r.start ≤ stamp files log (suc t) b cell
+  mend_stamps : (t a b : ℕ) (repair : Repair) (r : Register) (cell : Cell) → log t ≡ Some (ask_by a b (Mend repair) Done true) → Ready n keeps files faults log honest lawful t a r → (r.number ≡ 0 → ⊥) → mends repair cell ≡ true → fits (born files log (object_of cell)) cell ≡ true → r.number ≤ stamp files log (suc t) b cell
   mend_stamps t a b repair r cell is w some inside fit =
       let h = positive r.number some in
       let found : finds files log t b (Mend repair) ≡ true = done_finds files log t a b (Mend repair) true (joined log t a b || opening log t a b) (faults b (suc (asked log t b))) (subst (HonestLine files faults log t) is (honest t)) in
       let there : holds files log t b (object_of cell) ≡ true = subst (λ g. holds files log t b g ≡ true) (mends_plane repair cell inside).0 found in
       let right = holds_fits files faults log honest t b cell fit there in
       let hit : touch files log t b cell ≡ suc h.0 = rw (right, is, same_self b, inside) ((w.numbers.newest h.0 h.1).1) in
-      let low = w.numbers.since h.0 h.1 in
       let stamped : stamp files log (suc t) b cell ≡ suc h.0 = stamp_next files log t b cell ∙ ap (λ k. over k (stamp files log t b cell)) hit in
-      omega (arith, stamped, low)
+      omega (arith, stamped, h.1)
 
-  viewing_asked : (t a b : ℕ) (request : Request) (told : Told) (took : Bool) (r : Register) → log t ≡ Some (ask_by a b request told took) → present n log t a ≡ r → (opened log t a ≡ true → r ≡ fresh) → Ready t a r
+  -- a Pre line that was told Done
+  viewing_raised : (t a b g : ℕ) (kind : Kind) (r : Register) → MayPre log t a r b g kind → log t ≡ Some (ask_by a b (pre_on g kind) Done true) → Ready n keeps files faults log honest lawful t a r → Viewing files log (suc t) a r → Viewing files log (suc t) a (record r { pre = with r.pre b; raised = with r.raised b })
+  viewing_raised t a b g kind r k at w v = record {
+    views = v.views;
+    firsts = λ x view e. (let f = v.firsts x view e in record {
+      h = f.h;
+      start_is = f.start_is;
+      mine = f.mine;
+      look = f.look;
+      past = f.past;
+      whole = f.whole;
+      same = f.same;
+      none = f.none;
+      own = λ inside mine. own x view e f inside (with_cases r.raised b x mine);
+    });
+    wholly = v.wholly;
+    mended = v.mended;
+    raised_first = λ x inside mine. elim (with_cases r.raised b x mine) [
+      | inl here ↦ (let f = k.within inside in (f.view, ap r.first here ∙ f.looked))
+      | inr old ↦ v.raised_first x inside old
+    ];
+    began = v.began;
+    seen_began = v.seen_began;
+    steady = v.steady;
+  }
+    where
+      own : (x : ℕ) (view : View) → r.first x ≡ Some view → (f : FirstAt files log (suc t) a x r.start r.object r.kind (r.settled x) (r.healing x) r.heal (r.raised x) view) → r.heal ≡ true → (x ≡ b) ⊎ (r.raised x ≡ true) → OwnPre log (suc t) a x r.object r.kind r.start f.look.l
+      own x view e f inside (inr old) = f.own inside old
+      own x view e f inside (inl here) = (
+          let may = k.within inside in
+          let number : r.number ≡ suc f.h = may.first_piece ∙ f.start_is in
+          record {
+            p = t;
+            later = before_now f;
+            past = omega arith;
+            is = at ∙ (λ i. Some (ask_by a (sym here i) (pre_on (may.object_same i) (may.kind_same i)) Done true));
+            newest = (w.numbers.newest f.h number).1 ∙ sym f.start_is;
+          }
+          )
+        where
+          before_now : (f : FirstAt files log (suc t) a x r.start r.object r.kind (r.settled x) (r.healing x) r.heal (r.raised x) view) → f.look.l < t
+          before_now f = (
+              elim (cases_lt f.look.l t) [
+                | inl early ↦ early
+                | inr last ↦ absurd (let here_now : f.look.l ≡ t = omega (arith, last, f.past) in let line : log t ≡ Some (ask_by a x (look_at r.object) (Seen view) true) = subst (λ k. log k ≡ Some (ask_by a x (look_at r.object) (Seen view) true)) here_now f.look.is in cc (line, at))
+              ]
+              )
+
+  viewing_asked : (t a b : ℕ) (request : Request) (told : Told) (took : Bool) (r : Register) → log t ≡ Some (ask_by a b request told took) → present n log t a ≡ r → (opened log t a ≡ true → r ≡ fresh) → Ready n keeps files faults log honest lawful t a r
       → MayAsk n keeps log t a (opened log t a) r b request → Viewing files log (suc t) a (dropping (is_gone told) b (note_ask n r b request told))
   viewing_asked t a b request told took r is force new w may = viewing_dropped files log (suc t) a b (is_gone told) (note_ask n r b request told) (go (note_ask n r b request told) (noted n r b request told))
     where
@@ -309,7 +300,7 @@ module _ (n : ℕ) (keeps : ℕ → Kind → Bool) (files : Beginning) (faults :
           → ((x : ℕ) → (r.start ≡ 0 → ⊥) → healing_now x ≡ true → r.healing x ≡ true) → Viewing files log (suc t) a (record r { healing = healing_now })
       next healing_now other less =
           viewing_next files log t a r r.held r.closed r.pre r.done r.post r.settled healing_now rises
-          (quiet_own t a b r request told took r.settled healing_now is w (λ x un. un) (λ x g kind less e d hit un. other x g kind less e d) less) w.viewing
+          (quiet_own n keeps files faults log honest lawful t a b r request told took r.settled healing_now is w (λ x un. un) (λ x g kind less e d hit un. other x g kind less e d) less) w.viewing
 
       same : ((x : ℕ) (g : ℕ) (kind : Kind) (less : Marks) → request ≡ settle_on g kind less → told ≡ Done → ⊥) → Viewing files log (suc t) a r
       same other = next r.healing other (λ x some heal. heal)
@@ -344,8 +335,13 @@ module _ (n : ℕ) (keeps : ℕ → Kind → Bool) (files : Beginning) (faults :
       go l (HealWaits area what e) = put l _ e (viewing_healing (suc t) a (opened log t a) area r.healing r new (m (Lock Heal area) what) (same (λ x g kind less s d. cc (sym what ∙ s))))
       go l (HealFrees area what said e) = put l _ e (next (without r.healing b) (λ x g kind less s d. cc (sym what ∙ s)) (λ x some heal. (without_true r.healing b x heal).1))
       go l (HealTries area what other e) = put l _ e (same (λ x g kind less s d. cc (sym what ∙ s)))
-      go l (Looks g view what said e) = put l _ e (viewing_looking t a b g view took r (is ∙ (λ i. Some (ask_by a b (what i) (said i) took))) force w (same (λ x g kind less s d. cc (sym what ∙ s))))
-      go l (Pres g kind what said e) = put l _ e (viewing_plain (suc t) a r r.held r.closed (with r.pre b) r.done r.post (same (λ x g kind less s d. cc (sym what ∙ s))))
+      go l (Looks g view what said e) = put l _ e (viewing_looking t a b g view took r (is ∙ (λ i. Some (ask_by a b (what i) (said i) took))) force w (same (λ x g kind less s d. cc (sym said ∙ d))))
+      go l (Pres g kind what said e) = put l _ e (
+          let v = same (λ x g kind less s d. cc (sym what ∙ s)) in
+          let k : MayPre log t a r b g kind = m (pre_on g kind) what in
+          let at : log t ≡ Some (ask_by a b (pre_on g kind) Done true) = is ∙ (λ i. Some (ask_by a b (what i) (said i) (carried_out n keeps files faults log honest lawful t a b request told took is said i))) in
+          viewing_raised t a b g kind r k at w v
+          )
       go l (Applies q what said e) = put l _ e (viewing_plain (suc t) a r r.held r.closed r.pre (with r.done b) r.post (same (λ x g kind less s d. cc (sym what ∙ s))))
       go l (Posts q g kind missed what said e) = put l _ e (viewing_plain (suc t) a r r.held r.closed r.pre r.done (with r.post b) (same (λ x g kind less s d. cc (sym what ∙ s))))
       go l (Mends repair what said e) = put l _ e (
@@ -356,41 +352,43 @@ module _ (n : ℕ) (keeps : ℕ → Kind → Bool) (files : Beginning) (faults :
             views = v.views;
             firsts = v.firsts;
             wholly = v.wholly;
-            mended = λ c cell hit. mended at k v c cell ((c == b) && mends repair cell) refl hit;
+            mended = λ c cell i hit. mended at k v c cell i ((c == b) && mends repair cell) refl hit;
+            raised_first = v.raised_first;
             began = v.began;
             seen_began = v.seen_began;
             steady = v.steady;
           }
           )
         where
-          mended : log t ≡ Some (ask_by a b (Mend repair) Done true) → MayMend n keeps log t a r b repair → Viewing files log (suc t) a r → (c : ℕ) (cell : Cell) (new : Bool) → ((c == b) && mends repair cell) ≡ new → (if new then true else r.mended c cell) ≡ true → (r.start ≡ 0 → ⊥) × (fits (born files log (object_of cell)) cell ≡ true → r.start ≤ stamp files log (suc t) c cell)
-          mended at k v c cell false q hit = v.mended c cell hit
-          mended at k v c cell true q hit = (
+          mended : log t ≡ Some (ask_by a b (Mend repair) Done true) → MayMend n keeps log t a r b repair → Viewing files log (suc t) a r → (c : ℕ) (cell : Cell) (i : ℕ) (new : Bool) → ((c == b) && mends repair cell) ≡ new → (if new then r.number else r.mended c cell) ≡ suc i → (r.start ≡ 0 → ⊥) × (r.start ≤ suc i) × (fits (born files log (object_of cell)) cell ≡ true → suc i ≤ stamp files log (suc t) c cell)
+          mended at k v c cell i false q hit = v.mended c cell i hit
+          mended at k v c cell i true q hit = (
             w.viewing.began k.inside k.begun_already,
-            λ fit. (let two = both (c == b) (mends repair cell) q in subst (λ y. r.start ≤ stamp files log (suc t) y cell) (sym (same_yes c b two.0)) (mend_stamps t a b repair r cell at w k.begun_already two.1 fit)),
+            w.numbers.since i hit,
+            λ fit. (let two = both (c == b) (mends repair cell) q in let low : r.number ≤ stamp files log (suc t) c cell = subst (λ y. r.number ≤ stamp files log (suc t) y cell) (sym (same_yes c b two.0)) (mend_stamps t a b repair r cell at w k.begun_already two.1 fit) in omega (arith, low, hit)),
           )
             where
               both : (x y : Bool) → (x && y) ≡ true → (x ≡ true) × (y ≡ true)
               both x y e = grind arith
       go l (Settles g kind less what said e) = put l _ e (
           viewing_next files log t a r r.held r.closed r.pre r.done r.post (with r.settled b) r.healing rises
-          (quiet_own t a b r request told took (with r.settled b) r.healing is w (λ x un. (with_false r.settled b x un).1) (λ x g kind less e d hit un. (with_false r.settled b x un).0 hit) (λ x some heal. heal)) w.viewing
+          (quiet_own n keeps files faults log honest lawful t a b r request told took (with r.settled b) r.healing is w (λ x un. (with_false r.settled b x un).1) (λ x g kind less e d hit un. (with_false r.settled b x un).0 hit) (λ x some heal. heal)) w.viewing
           )
       go l (Same keeps plain e) = put l _ e (same (λ x g kind less s d. subst Plain s (plain d)))
 
   -- own lines other than Ask leave the marks
-  quiet_other : (t a : ℕ) (r : Register) → ((b : ℕ) (g : ℕ) (kind : Kind) (less : Marks) (c : ℕ) (told : Told) → log t ≡ Some (ask_by c b (settle_on g kind less) told true) → ⊥) → Ready t a r → Quiet files log t a r r.settled r.healing
+  quiet_other : (t a : ℕ) (r : Register) → ((b : ℕ) (g : ℕ) (kind : Kind) (less : Marks) (c : ℕ) (told : Told) → log t ≡ Some (ask_by c b (settle_on g kind less) told true) → ⊥) → Ready n keeps files faults log honest lawful t a r → Quiet files log t a r r.settled r.healing
   quiet_other t a r other w x some un heal live = (
     un,
     heal,
     elim (w.old x) [ inl back ↦ back live | inr new ↦ absurd (some (no_start r new)) ],
-    elim (settle_line files log t x r.object r.kind) [ inl eq ↦ eq | inr k ↦ absurd (other x r.object r.kind k.less k.a k.told k.is) ],
+    λ k. other x r.object r.kind k.less k.a k.told k.is,
   )
 
-  viewing_same : (t a : ℕ) (r : Register) → ((b : ℕ) (g : ℕ) (kind : Kind) (less : Marks) (c : ℕ) (told : Told) → log t ≡ Some (ask_by c b (settle_on g kind less) told true) → ⊥) → Ready t a r → Viewing files log (suc t) a r
+  viewing_same : (t a : ℕ) (r : Register) → ((b : ℕ) (g : ℕ) (kind : Kind) (less : Marks) (c : ℕ) (told : Told) → log t ≡ Some (ask_by c b (settle_on g kind less) told true) → ⊥) → Ready n keeps files faults log honest lawful t a r → Viewing files log (suc t) a r
   viewing_same t a r other w = viewing_next files log t a r r.held r.closed r.pre r.done r.post r.settled r.healing (λ c cell. stamp_rises n keeps files faults log honest lawful t c cell) (quiet_other t a r other w) w.viewing
 
-  viewing_begin : (t a : ℕ) (change : Change) (r : Register) → log t ≡ Some (begin_by a change) → MayBegin log t a r change → Ready t a r → Viewing files log (suc t) a (record r { number = suc t })
+  viewing_begin : (t a : ℕ) (change : Change) (r : Register) → log t ≡ Some (begin_by a change) → MayBegin r change → Ready n keeps files faults log honest lawful t a r → Viewing files log (suc t) a (record r { number = suc t })
   viewing_begin t a change r is may w =
       let v = viewing_same t a r (λ b g kind less c told e. cc (is, e)) w in
       record {
@@ -398,12 +396,13 @@ module _ (n : ℕ) (keeps : ℕ → Kind → Bool) (files : Beginning) (faults :
         firsts = v.firsts;
         wholly = λ h e f. absurd (omega (arith, e, f, w.numbers.start_past));
         mended = v.mended;
+        raised_first = v.raised_first;
         began = λ inside some. absurd (true≢false (sym inside ∙ may.outside));
         seen_began = v.seen_began;
         steady = λ h x inside. absurd (true≢false (sym inside ∙ may.outside));
       }
 
-  viewing_piece : (t a g : ℕ) (kind : Kind) (r : Register) → log t ≡ Some (heal_begin_by a g kind) → MayHealBegin r g kind → Ready t a r → Viewing files log (suc t) a (piece r t kind)
+  viewing_piece : (t a g : ℕ) (kind : Kind) (r : Register) → log t ≡ Some (heal_begin_by a g kind) → MayHealBegin r g kind → Ready n keeps files faults log honest lawful t a r → Viewing files log (suc t) a (piece r t kind)
   viewing_piece t a g kind r is may w = go (r.start == 0) refl
     where
       v : Viewing files log (suc t) a r
@@ -427,16 +426,18 @@ module _ (n : ℕ) (keeps : ℕ → Kind → Bool) (files : Beginning) (faults :
         views = λ x view k. absurd (cc);
         firsts = λ x view k. absurd (let f = v.firsts x view k in omega (arith, f.start_is, zero_is r.start e));
         wholly = λ h k l. subst (λ o. CoversAll r.area o kind) may.same (may.whole (zero_is r.start e));
-        mended = λ c cell k. absurd ((v.mended c cell k).0 (zero_is r.start e));
+        mended = λ c cell m k. absurd ((v.mended c cell m k).0 (zero_is r.start e));
+        raised_first = v.raised_first;
         began = λ inside some none. omega (arith, none);
         seen_began = λ x view k. absurd (cc);
         steady = λ h x inside number seen heal un live c. here h x number c;
       }
       go false e = record {
         views = λ x view k. absurd (cc);
-        firsts = λ x view k. subst (λ o. FirstAt files log (suc t) a x r.start r.object o (r.settled x) (r.healing x) view) (sym old_kind) (v.firsts x view k);
+        firsts = λ x view k. subst (λ o. FirstAt files log (suc t) a x r.start r.object o (r.settled x) (r.healing x) r.heal (r.raised x) view) (sym old_kind) (v.firsts x view k);
         wholly = λ h k l. absurd (omega (arith, k, l, w.numbers.start_past));
         mended = v.mended;
+        raised_first = v.raised_first;
         began = λ inside some none. zero_no r.start e none;
         seen_began = λ x view k. absurd (cc);
         steady = λ h x inside number seen heal un live c. here h x number c;
@@ -449,10 +450,10 @@ module _ (n : ℕ) (keeps : ℕ → Kind → Bool) (files : Beginning) (faults :
   viewings =
       registers_at n keeps files faults log honest lawful (Viewing files log) (viewing_fresh files log 0)
       (λ t a other v. viewing_next files log t a (register n log t a) (register n log t a).held (register n log t a).closed (register n log t a).pre (register n log t a).done (register n log t a).post (register n log t a).settled (register n log t a).healing
-      (λ c cell. stamp_rises n keeps files faults log honest lawful t c cell) (quiet_foreign t a (register n log t a) other (standing n keeps files faults log honest lawful t a)) v)
-      (λ t a mine v may. own t a mine (ready t a v) may)
+      (λ c cell. stamp_rises n keeps files faults log honest lawful t c cell) (quiet_foreign n keeps files faults log honest lawful t a (register n log t a) other (standing n keeps files faults log honest lawful t a)) v)
+      (λ t a mine v may. own t a mine (ready n keeps files faults log honest lawful t a v) may)
     where
-      own : (t a : ℕ) → Own log t a → Ready t a (present n log t a) → MayOf n keeps files faults log honest lawful t a (opened log t a) (present n log t a) (log t) → Viewing files log (suc t) a (note n (present n log t a) t (log t))
+      own : (t a : ℕ) → Own log t a → Ready n keeps files faults log honest lawful t a (present n log t a) → MayOf n keeps files faults log honest lawful t a (opened log t a) (present n log t a) (log t) → Viewing files log (suc t) a (note n (present n log t a) t (log t))
       own t a (Asks b request told took is) w may =
           subst (λ l. Viewing files log (suc t) a (note n (present n log t a) t l)) (sym is)
           (viewing_asked t a b request told took (present n log t a) is refl (λ e. force_fresh n keeps files faults log honest lawful (opened log t a) (register n log t a) e) w (subst (MayOf n keeps files faults log honest lawful t a (opened log t a) (present n log t a)) is may).1)

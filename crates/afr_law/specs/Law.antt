@@ -5,6 +5,8 @@ use Rattle.afr_law.specs.Honest.{HonestAsk, KnownMake, asked}
 use Rattle.afr_faults.specs.declared.fault.Fault.{Fault}
 use Rattle.afr_law.specs.Lawful.{in_force, register, May}
 use Rattle.afr_law.specs.Safe.{Safe}
+use Rattle.afr_law.specs.Dirty.{ShowsDirty}
+use Rattle.afr_law.specs.Alike.{Alike}
 use Rattle.afr_base.specs.declared.ids.Kind.{Kind}
 use Rattle.afr_lines.specs.declared.line.Line.{Line}
 use Rattle.afr_lines.specs.declared.line.Line.TheVariants.{Ask, Begin}
@@ -40,3 +42,16 @@ abbrev pub LawfulIsSafe : Type 0
 LawfulIsSafe =
     (n : ℕ) (files : Beginning) (faults : ℕ → ℕ → Option Fault) (lines : List Line)
     → HonestLog files faults lines → LawfulLog n files.keeps lines → (i : ℕ) → i ≤ length lines → SafeLog n files.keeps files (take i lines)
+
+-- each look shows the dirty numbers that the lines before it leave
+abbrev pub DirtyShownLog : Beginning → List Line → Type 0
+DirtyShownLog files lines = (t : ℕ) (line : Line) → slice_get lines t ≡ Some line → ShowsDirty files (before (slice_get lines) t) t (Some line)
+
+abbrev pub AlikeLog : ℕ → Beginning → List Line → Type 0
+AlikeLog n files lines = Alike n files (slice_get lines) (length lines)
+
+-- in every prefix of an honest and lawful log, what no brick holds a number against is alike on all copies
+abbrev pub NothingDivergesUnrecorded : Type 0
+NothingDivergesUnrecorded =
+    (n : ℕ) (files : Beginning) (faults : ℕ → ℕ → Option Fault) (lines : List Line)
+    → HonestLog files faults lines → DirtyShownLog files lines → LawfulLog n files.keeps lines → (i : ℕ) → i ≤ length lines → AlikeLog n files (take i lines)

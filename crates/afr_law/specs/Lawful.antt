@@ -1,5 +1,5 @@
 -- The moves that an actor may make.
-use Rattle.std.specs.Prelude.{◌≡◌, ℕ, zero, suc, ◌<◌, Bool, true, false, ◌&&◌, not, ◌==◌, if◌then◌else◌, ◌⊎◌, ◌≤◌, ◌^◌, slice_index, List as Seq, [], ◌∷◌, Option, None, Some, ◌||◌}
+use Rattle.std.specs.Prelude.{◌≡◌, ℕ, zero, suc, ◌<◌, Bool, true, false, ◌&&◌, not, ◌==◌, if◌then◌else◌, ◌⊎◌, ◌≤◌, ◌+◌, ◌^◌, slice_index, List as Seq, [], ◌∷◌, Option, None, Some, ◌||◌}
 use Rattle.afr_law.specs.Sets.{any, empty, with, without}
 use Rattle.afr_object.specs.declared.change.Change.TheVariants.{Write, Cut, SetAttr, Make, Remove}
 use Rattle.afr_law.specs.Cells.{Cell, what_code, is_cell, object_of, kind_of, touches, covers}
@@ -25,6 +25,7 @@ use Rattle.afr_lines.specs.declared.answer.Told.TheVariants.{Granted, Seen, Done
 use Rattle.afr_lines.specs.declared.line.Line.{Line}
 use Rattle.afr_lines.specs.declared.line.Line.TheVariants.{Ask, Begin, HealBegin, End, HealEnd, Event}
 use Rattle.afr_law.specs.Lines.{is_ok, begin_by, ask_by, look_at, range_of}
+use Rattle.afr_law.specs.Tally.{tally}
 
 -- what the lines of one work outside its heals, or of one heal, show
 pub record Register : Type 0 where
@@ -45,14 +46,15 @@ pub record Register : Type 0 where
   pub start : ℕ  -- suc of the position of its first HealBegin line, or 0
   pub view : ℕ → Option View  -- the views since the last HealBegin, under the lock
   pub first : ℕ → Option View  -- those since the first one, before the second
-  pub mended : ℕ → Cell → Bool  -- the cells that a Mend line changed, by brick
+  pub mended : ℕ → Cell → ℕ  -- suc of the number of the last piece whose Mend line changed the cell there, or 0
+  pub raised : ℕ → Bool  -- the bricks where the heal's Pre was told Done
   pub settled : ℕ → Bool
 
 abbrev pub no_views : ℕ → Option View
 no_views x = None
 
-abbrev pub no_cells : ℕ → Cell → Bool
-no_cells x cell = false
+abbrev pub no_cells : ℕ → Cell → ℕ
+no_cells x cell = 0
 
 abbrev pub fresh : Register
 fresh = record {
@@ -74,6 +76,7 @@ fresh = record {
   view = no_views;
   first = no_views;
   mended = no_cells;
+  raised = empty;
   settled = empty;
 }
 
@@ -136,8 +139,8 @@ area_object (Name g name) = g.0
 abbrev pub healing_on : Register → Area → Register
 healing_on r area = record r { heal = true; object = area_object area }
 
-abbrev pub mend_cells : (ℕ → Cell → Bool) → ℕ → Repair → ℕ → Cell → Bool
-mend_cells cells b repair c cell = if (c == b) && mends repair cell then true else cells c cell
+abbrev pub mend_cells : (ℕ → Cell → ℕ) → ℕ → ℕ → Repair → ℕ → Cell → ℕ
+mend_cells cells number b repair c cell = if (c == b) && mends repair cell then number else cells c cell
 
 abbrev pub note_ask : ℕ → Register → ℕ → Request → Told → Register
 note_ask n r b (Lock Work area) Granted = granting n r area b
@@ -148,10 +151,10 @@ note_ask n r b (Unlock Work area) Done = released r area b
 note_ask n r b (Unlock Work area) told = unlocked r area b
 note_ask n r b (Unlock Heal area) Done = record r { healing = without r.healing b }
 note_ask n r b (Look g) (Seen view) = looking r b g.0 view
-note_ask n r b (Pre g kind) Done = record r { pre = with r.pre b }
+note_ask n r b (Pre g kind) Done = record r { pre = with r.pre b; raised = with r.raised b }
 note_ask n r b (Apply q) Done = record r { done = with r.done b }
 note_ask n r b (Post q g kind missed) Done = record r { post = with r.post b }
-note_ask n r b (Mend repair) Done = record r { mended = mend_cells r.mended b repair }
+note_ask n r b (Mend repair) Done = record r { mended = mend_cells r.mended r.number b repair }
 note_ask n r b (Settle g kind less) Done = record r { settled = with r.settled b }
 note_ask n r b _ _ = r
 
@@ -189,23 +192,31 @@ LastPosted n r = (r.number ≡ 0) ⊎ IsMajority n r.post
 pub record MayLock (n : ℕ) (r : Register) : Type 0 where
   pub first : busy n r ≡ false → (r.heal ≡ true) ⊎ LastPosted n r
 
+-- the line begins an attempt on this object and kind
+abbrev pub PlaneIs : Option Line → ℕ → Kind → Type 0
+PlaneIs (Some (Begin a change)) g kind = (object change ≡ g) × (plane_kind change ≡ kind)
+PlaneIs _ g kind = ⊥
+
 pub record MayApply (r : Register) (b q : ℕ) : Type 0 where
   pub outside : r.heal ≡ false
   pub own : r.number ≡ suc q
   pub ready : r.pre b ≡ true
   pub open_still : r.closed b ≡ false
 
-abbrev pub PlaneIs : Option Line → ℕ → Kind → Type 0
-PlaneIs (Some (Begin a change)) g kind = (object change ≡ g) × (plane_kind change ≡ kind)
-PlaneIs _ g kind = ⊥
-
-pub record MayPost (n : ℕ) (log : Log) (r : Register) (b q g : ℕ) (kind : Kind) (missed : ℕ → Bool) : Type 0 where
+pub record MayPost (n : ℕ) (log : Log) (t a : ℕ) (r : Register) (b q g : ℕ) (kind : Kind) (missed : ℕ → Bool) : Type 0 where
   pub outside : r.heal ≡ false
   pub own : r.number ≡ suc q
   pub plane : PlaneIs (log q) g kind
   pub ready : r.done b ≡ true
   pub open_still : r.closed b ≡ false
   pub exact : (c : ℕ) → c < n → missed c ≡ not (r.done c)
+  -- once per brick: a second one would take back another's raise
+  pub once : (tally log t a).posts b ≡ false
+
+-- the area has a cell of the change's object and kind
+abbrev pub SomeCell : Option Area → Change → Type 0
+SomeCell None change = ⊥
+SomeCell (Some area) change = (cell : Cell) × (is_cell cell ≡ true) × (object_of cell ≡ object change) × (kind_of cell ≡ plane_kind change) × (covers area cell ≡ true)
 
 abbrev pub CoveredBy : Option Area → Change → Type 0
 CoveredBy None change = ⊥
@@ -226,10 +237,12 @@ pub record SeenFit (log : Log) (t a x : ℕ) (change : Change) : Type 0 where
   pub is : log l ≡ Some (ask_by a x (look_at (object change)) (Seen view) true)
   pub fit : fits_change (what_code view.what) change ≡ true
 
-pub record MayBegin (log : Log) (t a : ℕ) (r : Register) (change : Change) : Type 0 where
+pub record MayBegin (r : Register) (change : Change) : Type 0 where
   pub outside : r.heal ≡ false
   pub first : r.number ≡ 0
   pub within : CoveredBy r.area change
+  -- the area isn't empty, so the first lock of a heal keeps out even a change that touches nothing
+  pub some : SomeCell r.area change
 
 -- the change of the attempt fits what the actor saw on x before
 pub record FitAt (log : Log) (q a x : ℕ) : Type 0 where
@@ -237,10 +250,23 @@ pub record FitAt (log : Log) (q a x : ℕ) : Type 0 where
   pub is : log q ≡ Some (begin_by a change)
   pub fit : SeenFit log q a x change
 
-pub record MayPre (log : Log) (a : ℕ) (r : Register) (b : ℕ) : Type 0 where
+-- a Pre of a heal: on its object and kind, in its first piece, after the first look there, before each Mend, once per brick
+pub record MayRaise (log : Log) (t a : ℕ) (r : Register) (b g : ℕ) (kind : Kind) : Type 0 where
+  pub object_same : g ≡ r.object
+  pub kind_same : kind ≡ r.kind
+  pub first_piece : r.number ≡ r.start
+  pub view : View
+  pub looked : r.first b ≡ Some view
+  pub before_mends : (tally log t a).mending ≡ false
+  pub once : (tally log t a).raises b ≡ false
+
+pub record MayPre (log : Log) (t a : ℕ) (r : Register) (b g : ℕ) (kind : Kind) : Type 0 where
   pub begun_already : (r.number ≡ 0) → ⊥
   pub holder : r.seen b ≡ true
   pub open_still : r.closed b ≡ false
+  -- on the attempt's object and kind
+  pub plane : (q : ℕ) → r.heal ≡ false → r.number ≡ suc q → PlaneIs (log q) g kind
+  pub within : r.heal ≡ true → MayRaise log t a r b g kind
   pub fit : (q : ℕ) → r.heal ≡ false → r.number ≡ suc q → FitAt log q a b
 
 -- the Heal lock is always the same range of the object
@@ -265,12 +291,14 @@ pub record MayHealBegin (r : Register) (g : ℕ) (kind : Kind) : Type 0 where
   pub whole : r.start ≡ 0 → CoversAll r.area g kind
 
 -- a majority of views since the HealBegin, none of which accuses s
-pub record Views (n : ℕ) (keeps : ℕ → Kind → Bool) (r : Register) (s : ℕ) : Type 0 where
+pub record Views (n : ℕ) (keeps : ℕ → Kind → Bool) (log : Log) (t a : ℕ) (r : Register) (s : ℕ) : Type 0 where
   pub among : ℕ → Bool
   pub majority : IsMajority n among
   pub member : among s ≡ true
   pub below : s < n
   pub copy : keeps s r.kind ≡ true
+  -- the source isn't one of the bricks that the heal changes
+  pub aside : (r.kind ≡ Names) ⊎ ((tally log t a).raises s ≡ false)
   pub good : (x : ℕ) → x < n → among x ≡ true → (view : View) × (r.view x ≡ Some view) × (slice_index (view_marks view r.kind).pending s ≡ 0)
 
 -- the line at read showed the contents of an unaccused copy after the HealBegin
@@ -280,7 +308,7 @@ pub record ReadOf (n : ℕ) (keeps : ℕ → Kind → Bool) (log : Log) (t a : �
   pub is : log read ≡ Some (ask_by a s request Given true)
   pub since : r.number ≤ read
   pub past : read < t
-  pub source : Views n keeps r s
+  pub source : Views n keeps log t a r s
 
 abbrev pub EachRead : (ℕ → Type 0) → Seq (Option ℕ) → Type 0
 EachRead P [] = Unit {0}
@@ -293,15 +321,15 @@ some_read (None ∷ reads) = some_read reads
 some_read (Some r ∷ reads) = true
 
 -- the length that the copy s was seen to have
-pub record CutOf (n : ℕ) (keeps : ℕ → Kind → Bool) (r : Register) (len : ℕ) : Type 0 where
+pub record CutOf (n : ℕ) (keeps : ℕ → Kind → Bool) (log : Log) (t a : ℕ) (r : Register) (len : ℕ) : Type 0 where
   pub s : ℕ
   pub view : View
   pub seen : r.view s ≡ Some view
   pub length : len ≡ view.len
-  pub source : Views n keeps r s
+  pub source : Views n keeps log t a r s
 
 abbrev pub Contents : ℕ → (ℕ → Kind → Bool) → Log → ℕ → ℕ → Register → Repair → Type 0
-Contents n keeps log t a r (CutTo g len) = CutOf n keeps r len
+Contents n keeps log t a r (CutTo g len) = CutOf n keeps log t a r len
 Contents n keeps log t a r (Copy g at span read) = ReadOf n keeps log t a r read
 Contents n keeps log t a r (PutAttrs g read) = ReadOf n keeps log t a r read
 Contents n keeps log t a r (PutNames g reads) = EachRead (ReadOf n keeps log t a r) reads × (some_read reads ≡ true)
@@ -325,9 +353,30 @@ pub record MayMend (n : ℕ) (keeps : ℕ → Kind → Bool) (log : Log) (t a : 
   pub kind_same : repair_kind repair ≡ r.kind
   pub within : CoversMend r.area repair
   pub contents : Contents n keeps log t a r repair
+  -- under the Heal lock, after the heal's Pre there, before its Settle there
+  pub healing : r.healing b ≡ true
+  pub unsettled : r.settled b ≡ false
+  pub raised : r.raised b ≡ true
+  -- a piece has one repair
+  pub one : ((tally log t a).repair ≡ None) ⊎ ((tally log t a).repair ≡ Some repair)
+
+-- c got every cell, and whatever the heal gave any brick
+pub record Sink (log : Log) (t a : ℕ) (r : Register) (c : ℕ) : Type 0 where
+  pub raised : r.raised c ≡ true
+  pub whole : (cell : Cell) → is_cell cell ≡ true → object_of cell ≡ r.object → kind_of cell ≡ r.kind → (r.mended c cell ≡ 0) → ⊥
+  pub level : (cell : Cell) → (tally log t a).given cell ≤ r.mended c cell
+
+-- all copies took part: each but one source is a sink, and for names each is
+pub record Full (n : ℕ) (keeps : ℕ → Kind → Bool) (log : Log) (t a : ℕ) (r : Register) : Type 0 where
+  pub s : ℕ
+  pub sinks : (c : ℕ) → c < n → keeps c r.kind ≡ true → ((c ≡ s) × (r.kind ≡ Names → ⊥)) ⊎ Sink log t a r c
+
+abbrev pub one_if : Bool → ℕ
+one_if true = 1
+one_if false = 0
 
 -- what is taken back for c is nothing, or what the first look saw, where each cell of c was mended since
-pub record MaySettle (n : ℕ) (keeps : ℕ → Kind → Bool) (r : Register) (b g : ℕ) (kind : Kind) (less : Marks) : Type 0 where
+pub record MaySettle (n : ℕ) (keeps : ℕ → Kind → Bool) (log : Log) (t a : ℕ) (r : Register) (b g : ℕ) (kind : Kind) (less : Marks) : Type 0 where
   pub inside : r.heal ≡ true
   pub begun_already : (r.number ≡ 0) → ⊥
   pub locked : r.seen b ≡ true
@@ -340,16 +389,18 @@ pub record MaySettle (n : ℕ) (keeps : ℕ → Kind → Bool) (r : Register) (b
   pub view : View
   pub seen : r.first b ≡ Some view
   pub exact : (c : ℕ) → (slice_index less.pending c ≡ 0)
-      ⊎ ((slice_index less.pending c ≡ slice_index (view_marks view kind).pending c) × (keeps c kind ≡ true → (cell : Cell) → is_cell cell ≡ true → object_of cell ≡ g → kind_of cell ≡ kind → r.mended c cell ≡ true))
+      ⊎ ((slice_index less.pending c ≡ slice_index (view_marks view kind).pending c) × (keeps c kind ≡ true → (cell : Cell) → is_cell cell ≡ true → object_of cell ≡ g → kind_of cell ≡ kind → (r.mended c cell ≡ 0) → ⊥))
+  -- the dirty number is that of the first look and the heal's own raise, or nothing
+  pub cleaned : (less.dirty ≡ 0) ⊎ ((less.dirty ≡ (view_marks view kind).dirty + one_if (r.raised b)) × Full n keeps log t a r)
 
 abbrev pub MayAsk : ℕ → (ℕ → Kind → Bool) → Log → ℕ → ℕ → Bool → Register → ℕ → Request → Type 0
 MayAsk n keeps log t a first r b (Lock Work area) = MayLock n r
 MayAsk n keeps log t a first r b (Lock Heal area) = MayHealLock first r area
-MayAsk n keeps log t a first r b (Pre g kind) = MayPre log a r b
+MayAsk n keeps log t a first r b (Pre g kind) = MayPre log t a r b g.0 kind
 MayAsk n keeps log t a first r b (Apply q) = MayApply r b q
-MayAsk n keeps log t a first r b (Post q g kind missed) = MayPost n log r b q g.0 kind (member missed)
+MayAsk n keeps log t a first r b (Post q g kind missed) = MayPost n log t a r b q g.0 kind (member missed)
 MayAsk n keeps log t a first r b (Mend repair) = MayMend n keeps log t a r b repair
-MayAsk n keeps log t a first r b (Settle g kind less) = MaySettle n keeps r b g.0 kind less
+MayAsk n keeps log t a first r b (Settle g kind less) = MaySettle n keeps log t a r b g.0 kind less
 MayAsk n keeps log t a first r b _ = Unit {0}
 
 pub record MayEnd (n : ℕ) (r : Register) (ok : Bool) : Type 0 where
@@ -365,7 +416,7 @@ pub record MayHealEnd (n : ℕ) (r : Register) : Type 0 where
 abbrev pub May : ℕ → (ℕ → Kind → Bool) → Log → ℕ → (ℕ → Bool) → (ℕ → Register) → Option Line → Type 0
 May n keeps log t first of None = Unit {0}
 May n keeps log t first of (Some (Ask a b request told took)) = (b.0 < n) × MayAsk n keeps log t a.0 (first a.0) (of a.0) b.0 request
-May n keeps log t first of (Some (Begin a change)) = MayBegin log t a.0 (of a.0) change
+May n keeps log t first of (Some (Begin a change)) = MayBegin (of a.0) change
 May n keeps log t first of (Some (HealBegin a g kind)) = MayHealBegin (of a.0) g.0 kind
 May n keeps log t first of (Some (End a reply)) = MayEnd n (of a.0) (is_ok reply)
 May n keeps log t first of (Some (HealEnd a g kind reply)) = MayHealEnd n (of a.0)

@@ -25,14 +25,14 @@ above_lower : (m k : ℕ) (t : List (NameId × Entry)) → k ≤ m → AreAbove 
 above_lower m k [] low h = tt
 above_lower m k (x ∷ t) low h = (omega (arith, h.0, low), above_lower m k t low h.1)
 
-same_name_of : (n k : NameId) → is_at (name_cmp n) k ≡ (n.0 == k.0)
+pub same_name_of : (n k : NameId) → is_at (name_cmp n) k ≡ (n.0 == k.0)
 same_name_of n k = grind (arith, nat_tests)
 
 pub lookup_named : (n q : NameId) (e : Entry) (t : List (NameId × Entry)) → lookup (is_at (name_cmp q)) (insert_entry name_cmp t n e) ≡ (if n.0 == q.0 then Some e else lookup (is_at (name_cmp q)) t)
 lookup_named n q e [] = rw (same_name_of q n) (grind (arith, nat_tests))
 lookup_named n q e (x ∷ t) = grind (arith, nat_tests, same_name_of q n, same_name_of q x.0, lookup_named n q e t)
 
-above_none : (q : NameId) (m : ℕ) (t : List (NameId × Entry)) → q.0 ≤ m → AreAbove m t → lookup (is_at (name_cmp q)) t ≡ None
+pub above_none : (q : NameId) (m : ℕ) (t : List (NameId × Entry)) → q.0 ≤ m → AreAbove m t → lookup (is_at (name_cmp q)) t ≡ None
 above_none q m [] low h = refl
 above_none q m (x ∷ t) low h = (let other : (q.0 == x.0.0) ≡ false = differ q.0 m x.0.0 low h.0 in rw (same_name_of q x.0, other) (above_none q m t low h.1))
   where
@@ -72,7 +72,7 @@ lookup_removed n q (x ∷ t) once = rw (same_name_of n x.0) (step (eqb_tells n.0
         turned false true r l v apart e = refl
         turned false false r l v apart e = e
 
-by_order : (n x : ℕ) (P : List (NameId × Entry) → Type 0) (a b c : List (NameId × Entry)) → (n < x → P a) → (n ≡ x → P b) → (x < n → P c) → P (match_ordering (nat_cmp n x) a b c)
+pub by_order : (n x : ℕ) (P : List (NameId × Entry) → Type 0) (a b c : List (NameId × Entry)) → (n < x → P a) → (n ≡ x → P b) → (x < n → P c) → P (match_ordering (nat_cmp n x) a b c)
 by_order n x P a b c less same more = go (nat_cmp n x) (ranks n x)
   where
     go : (r : Ordering) → MatchOrdering r (n < x) (n ≡ x) (x < n) → P (match_ordering r a b c)
@@ -80,7 +80,7 @@ by_order n x P a b c less same more = go (nat_cmp n x) (ranks n x)
     go Equal h = same h
     go Greater h = more h
 
-above_inserted : (m : ℕ) (n : NameId) (e : Entry) (t : List (NameId × Entry)) → m < n.0 → AreAbove m t → AreAbove m (insert_entry name_cmp t n e)
+pub above_inserted : (m : ℕ) (n : NameId) (e : Entry) (t : List (NameId × Entry)) → m < n.0 → AreAbove m t → AreAbove m (insert_entry name_cmp t n e)
 above_inserted m n e [] low h = (low, tt)
 above_inserted m n e (x ∷ t) low h =
     by_order n.0 x.0.0 (AreAbove m) ((n, e) ∷ x ∷ t) ((x.0, e) ∷ t) (x ∷ insert_entry name_cmp t n e) (λ less. (low, h)) (λ same. h) (λ more. (h.0, above_inserted m n e t low h.1))

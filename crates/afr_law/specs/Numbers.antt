@@ -23,7 +23,7 @@ use Rattle.afr_law.specs.Sets.{with, without}
 use Rattle.afr_law.specs.Cells.{Cell}
 use Rattle.afr_law.specs.Past.{Beginning, Log, held, last, last_after, joined, opening, is_of, is_gone}
 use Rattle.afr_law.specs.Honest.{HonestAsk, HonestLine, Honest, asked}
-use Rattle.afr_law.specs.Lawful.{Register, fresh, CoveredBy, SeenFit, MayApply, MayPost, MayPre, MayBegin, begun, is_area, looked, viewed, looking, put_view, is_none, unlocked, released, locking, area_object, mend_cells, piece, note_ask, dropping, note, in_force, register, MayAsk, MayHealLock, MayHealBegin, Lawful, busy, second_of, second_freed}
+use Rattle.afr_law.specs.Lawful.{Register, fresh, CoveredBy, SomeCell, PlaneIs, SeenFit, MayApply, MayPost, MayPre, MayBegin, begun, is_area, looked, viewed, looking, put_view, is_none, unlocked, released, locking, area_object, mend_cells, piece, note_ask, dropping, note, in_force, register, MayAsk, MayHealLock, MayHealBegin, Lawful, busy, second_of, second_freed}
 use Rattle.afr_law.specs.Locks.{same_self}
 use Rattle.afr_law.specs.Standing.{Noted, noted, Grants, Waits, Frees, Tries, HealGrants, HealWaits, HealFrees, HealTries, Looks, Pres, Applies, Posts, Mends, Settles, Same, with_cases}
 use Rattle.afr_law.specs.Registers.{Own, Asks, Begins, HealBegins, Ends, HealEnds, registers, MayOf}
@@ -33,6 +33,7 @@ pub record Attempt (log : Log) (a q : ℕ) (area : Option Area) (pre : ℕ → B
   pub change : Change
   pub is : log q ≡ Some (begin_by a change)
   pub within : CoveredBy area change
+  pub some : SomeCell area change
   pub fit : (x : ℕ) → pre x ≡ true → SeenFit log q a x change
 
 pub record Applied (log : Log) (t a x q : ℕ) : Type 0 where
@@ -48,6 +49,23 @@ pub record Recorded (log : Log) (t a x q : ℕ) : Type 0 where
   pub is : log p ≡ Some (ask_by a x (post_on q g kind missed) Done true)
   pub past : p < t
 
+-- a Pre of the attempt
+pub record Prepared (log : Log) (t a x q : ℕ) : Type 0 where
+  pub p : ℕ
+  pub g : ℕ
+  pub kind : Kind
+  pub is : log p ≡ Some (ask_by a x (pre_on g kind) Done true)
+  pub after : q < p
+  pub past : p < t
+  pub newest : last log p a ≡ suc q
+  pub plane : PlaneIs (log q) g kind
+
+prepared_later : (log : Log) (t a x q : ℕ) → Prepared log t a x q → Prepared log (suc t) a x q
+prepared_later log t a x q w = record { p = w.p; g = w.g; kind = w.kind; is = w.is; after = w.after; past = omega (arith, w.past); newest = w.newest; plane = w.plane }
+
+with_more : (set : ℕ → Bool) (b x : ℕ) → set x ≡ true → with set b x ≡ true
+with_more set b x h = grind (arith, nat_tests)
+
 -- a HealBegin line of the actor
 pub record Piece (log : Log) (a h : ℕ) : Type 0 where
   pub g : ℕ
@@ -62,6 +80,7 @@ pub record Numbered (log : Log) (t a : ℕ) (r : Register) : Type 0 where
   pub ready : (x : ℕ) → r.pre x ≡ true → r.seen x ≡ true
   pub acted : (x : ℕ) → r.done x ≡ true → r.pre x ≡ true
   pub applied : (q x : ℕ) → r.number ≡ suc q → r.done x ≡ true → Applied log t a x q
+  pub prepared : (q x : ℕ) → r.heal ≡ false → r.number ≡ suc q → r.pre x ≡ true → Prepared log t a x q
   pub posted : (q x : ℕ) → r.number ≡ suc q → r.post x ≡ true → Recorded log t a x q
   pub idle : r.number ≡ 0 → (x : ℕ) → (r.pre x ≡ false) × (r.done x ≡ false) × (r.post x ≡ false)
   pub start_past : r.start ≤ t
@@ -75,6 +94,7 @@ numbered_fresh log t a = record {
   ready = λ x h. cc;
   acted = λ x h. cc;
   applied = λ q x e h. absurd (cc);
+  prepared = λ q x out e h. absurd (cc);
   posted = λ q x e h. absurd (cc);
   idle = λ e x. (refl, refl, refl);
   start_past = omega arith;
@@ -90,6 +110,7 @@ numbered_next log t a r same s = record {
   ready = s.ready;
   acted = s.acted;
   applied = λ q x e h. (let w = s.applied q x e h in record { m = w.m; is = w.is; past = omega (arith, w.past) });
+  prepared = λ q x out e h. prepared_later log t a x q (s.prepared q x out e h);
   posted = λ q x e h. (let w = s.posted q x e h in record { p = w.p; g = w.g; kind = w.kind; missed = w.missed; is = w.is; past = omega (arith, w.past) });
   idle = s.idle;
   start_past = omega (arith, s.start_past);
@@ -104,6 +125,7 @@ numbered_second log t a r second second_held s = record {
   ready = s.ready;
   acted = s.acted;
   applied = s.applied;
+  prepared = s.prepared;
   posted = s.posted;
   idle = s.idle;
   start_past = s.start_past;
@@ -122,13 +144,14 @@ numbered_locking n log t a area r s = go (busy n r)
       ready = λ x h. cc;
       acted = λ x h. cc;
       applied = λ q x e h. absurd (cc);
+      prepared = λ q x out e h. absurd (cc);
       posted = λ q x e h. absurd (cc);
       idle = λ e x. (refl, refl, refl);
       start_past = s.start_past;
     }
 
 -- other bricks held or closed, or other views, cells and settled bricks
-numbered_held : (log : Log) (t a : ℕ) (r : Register) (held closed healing : ℕ → Bool) (view first : ℕ → Option View) (mended : ℕ → Cell → Bool) (settled : ℕ → Bool) → Numbered log t a r
+numbered_held : (log : Log) (t a : ℕ) (r : Register) (held closed healing : ℕ → Bool) (view first : ℕ → Option View) (mended : ℕ → Cell → ℕ) (settled : ℕ → Bool) → Numbered log t a r
     → Numbered log t a (record r { held = held; closed = closed; healing = healing; view = view; first = first; mended = mended; settled = settled })
 numbered_held log t a r held closed healing view first mended settled s = record {
   newest = s.newest;
@@ -138,6 +161,7 @@ numbered_held log t a r held closed healing view first mended settled s = record
   ready = s.ready;
   acted = s.acted;
   applied = s.applied;
+  prepared = s.prepared;
   posted = s.posted;
   idle = s.idle;
   start_past = s.start_past;
@@ -171,6 +195,7 @@ numbered_looking log t a b g seen r s = go r.heal
       ready = λ x k. more x (s.ready x k);
       acted = s.acted;
       applied = s.applied;
+      prepared = s.prepared;
       posted = s.posted;
       idle = s.idle;
       start_past = s.start_past;
@@ -212,6 +237,7 @@ numbered_healing log t a first area healing r new may s = record {
   ready = s.ready;
   acted = s.acted;
   applied = s.applied;
+  prepared = λ q x out e h. absurd (cc out);
   posted = s.posted;
   idle = s.idle;
   start_past = s.start_past;
@@ -265,7 +291,7 @@ numbered_asked n keeps log t a b request told took first r is same new was may c
     go l (HealTries area what other e) = put l _ e s
     go l (Looks g view what said e) = put l _ e (numbered_looking log (suc t) a b g view r s)
     go l (Pres g kind what said e) = put l _ e (
-        let k : MayPre log a r b = m (pre_on g kind) what in
+        let k : MayPre log t a r b g kind = m (pre_on g kind) what in
         record {
           newest = s.newest;
           attempt = λ q out e. (
@@ -276,6 +302,7 @@ numbered_asked n keeps log t a b request told took first r is same new was may c
                 change = w.change;
                 is = w.is;
                 within = w.within;
+                some = w.some;
                 fit = λ x h. elim (with_cases r.pre b x h) [ inl here ↦ rw here (subst (SeenFit log q a b) one f.fit) | inr other ↦ w.fit x other ];
               }
               );
@@ -284,6 +311,19 @@ numbered_asked n keeps log t a b request told took first r is same new was may c
           ready = λ x h. elim (with_cases r.pre b x h) [ inl here ↦ rw here k.holder | inr other ↦ s.ready x other ];
           acted = λ x h. more x (s.acted x h);
           applied = s.applied;
+          prepared = λ q x out number h. elim (with_cases r.pre b x h) [
+            | inl here ↦ subst (λ y. Prepared log (suc t) a y q) (sym here) (record {
+              p = t;
+              g = g;
+              kind = kind;
+              is = is ∙ (λ i. Some (ask_by a b (what i) (said i) (carried said i)));
+              after = (was.newest q number).0;
+              past = omega arith;
+              newest = (was.newest q number).1;
+              plane = k.plane q out number;
+            })
+            | inr other ↦ s.prepared q x out number other
+          ];
           posted = s.posted;
           idle = λ none x. absurd (k.begun_already none);
           start_past = s.start_past;
@@ -303,13 +343,14 @@ numbered_asked n keeps log t a b request told took first r is same new was may c
             | inl here ↦ (let same_q : q ≡ j = omega (arith, k.own, number) in rw here (subst (Applied log (suc t) a b) same_q (record { m = t; is = at; past = omega arith })))
             | inr other ↦ s.applied j x number other
           ];
+          prepared = s.prepared;
           posted = s.posted;
           idle = λ none x. absurd (omega (arith, none, k.own));
           start_past = s.start_past;
         }
         )
     go l (Posts q g kind missed what said e) = put l _ e (
-        let k : MayPost n log r b q g kind (member missed) = m (post_on q g kind missed) what in
+        let k : MayPost n log t a r b q g kind (member missed) = m (post_on q g kind missed) what in
         let at : log t ≡ Some (ask_by a b (post_on q g kind missed) Done true) = is ∙ (λ i. Some (ask_by a b (what i) (said i) (carried said i))) in
         record {
           newest = s.newest;
@@ -319,6 +360,7 @@ numbered_asked n keeps log t a b request told took first r is same new was may c
           ready = s.ready;
           acted = s.acted;
           applied = s.applied;
+          prepared = s.prepared;
           posted = λ j x number h. elim (with_cases r.post b x h) [
             | inl here ↦ (let same_q : q ≡ j = omega (arith, k.own, number) in rw here (subst (Recorded log (suc t) a b) same_q (record { p = t; g = g; kind = kind; missed = missed; is = at; past = omega arith })))
             | inr other ↦ s.posted j x number other
@@ -327,7 +369,7 @@ numbered_asked n keeps log t a b request told took first r is same new was may c
           start_past = s.start_past;
         }
         )
-    go l (Mends repair what said e) = put l _ e (numbered_held log (suc t) a r r.held r.closed r.healing r.view r.first (mend_cells r.mended b repair) r.settled s)
+    go l (Mends repair what said e) = put l _ e (numbered_held log (suc t) a r r.held r.closed r.healing r.view r.first (mend_cells r.mended r.number b repair) r.settled s)
     go l (Settles g kind less what said e) = put l _ e (numbered_held log (suc t) a r r.held r.closed r.healing r.view r.first r.mended (with r.settled b) s)
     go l (Same keeps plain e) = put l _ e s
 
@@ -364,15 +406,16 @@ last_healed : (log : Log) (t a g : ℕ) (kind : Kind) (reply : HealReply) → lo
 unfolding last
 last_healed log t a g kind reply is = rw is refl
 
-numbered_begin : (log : Log) (t a : ℕ) (change : Change) (r : Register) → log t ≡ Some (begin_by a change) → MayBegin log t a r change → Numbered log t a r → Numbered log (suc t) a (record r { number = suc t })
+numbered_begin : (log : Log) (t a : ℕ) (change : Change) (r : Register) → log t ≡ Some (begin_by a change) → MayBegin r change → Numbered log t a r → Numbered log (suc t) a (record r { number = suc t })
 numbered_begin log t a change r is may s = record {
   newest = λ q e. (let here : t ≡ q = omega (arith, e) in (omega (arith, here), last_begun log t a change is ∙ ap suc here));
-  attempt = λ q out e. (let here : t ≡ q = omega (arith, e) in subst (λ k. Attempt log a k r.area r.pre) here (record { change = change; is = is; within = may.within; fit = λ x h. absurd (true≢false (sym h ∙ (s.idle may.first x).0)) }));
+  attempt = λ q out e. (let here : t ≡ q = omega (arith, e) in subst (λ k. Attempt log a k r.area r.pre) here (record { change = change; is = is; within = may.within; some = may.some; fit = λ x h. absurd (true≢false (sym h ∙ (s.idle may.first x).0)) }));
   piece = λ h inside e. absurd (true≢false (sym inside ∙ may.outside));
   since = λ h e. omega (arith, e, s.start_past);
   ready = s.ready;
   acted = s.acted;
   applied = λ q x e h. absurd (true≢false (sym h ∙ (s.idle may.first x).1));
+  prepared = λ q x out e h. absurd (true≢false (sym h ∙ (s.idle may.first x).0));
   posted = λ q x e h. absurd (true≢false (sym h ∙ (s.idle may.first x).2));
   idle = λ none x. absurd (omega (arith, none));
   start_past = omega (arith, s.start_past);
@@ -387,6 +430,7 @@ numbered_piece log t a g kind r is may s = record {
   ready = λ x h. absurd (true≢false (sym h ∙ (s.idle may.first x).0));
   acted = λ x h. absurd (true≢false (sym h ∙ (s.idle may.first x).1));
   applied = λ q x e h. absurd (true≢false (sym h ∙ (s.idle may.first x).1));
+  prepared = λ q x out e h. absurd (true≢false (sym may.inside ∙ out));
   posted = λ q x e h. absurd (true≢false (sym h ∙ (s.idle may.first x).2));
   idle = λ none x. absurd (omega (arith, none));
   start_past = begun_past (r.start == 0);

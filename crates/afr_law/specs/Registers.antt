@@ -5,7 +5,7 @@ use Rattle.afr_faults.specs.declared.fault.Fault.TheVariants.{Fail, Lost}
 use Rattle.afr_faults.specs.declared.fault.Fault.{Fault}
 use Rattle.afr_range_locks.specs.Locks.{same_domain}
 use Rattle.afr_model.specs.Locks.{same_area}
-use Rattle.std.proofs.Common.{◌≡◌, ℕ, zero, suc, Bool, true, false, ◌&&◌, ◌||◌, not, ◌⊎◌, inl, inr, refl, sym, ap, ◌∙◌, subst, arith}
+use Rattle.std.proofs.Common.{◌≡◌, ℕ, zero, suc, ◌<◌, Bool, true, false, ◌&&◌, ◌||◌, not, ◌⊎◌, inl, inr, refl, sym, ap, ◌∙◌, subst, arith}
 use Rattle.std.specs.Prelude.{Option, None, Some, ◌==◌, if◌then◌else◌}
 use Rattle.afr_base.specs.declared.ids.Kind.{Kind}
 use Rattle.afr_object.specs.declared.change.Change.{Change}
@@ -63,6 +63,7 @@ standing_asked n keeps log t a b request told took first r is on may fair = go (
               is = locking_area n area r q;
               grant = grant;
               past = omega arith;
+              before = λ q none. absurd (cc none);
               on = λ live. held_new log t a b Work area grant;
             })
             )
@@ -73,7 +74,7 @@ standing_asked n keeps log t a b request told took first r is on may fair = go (
         let grant : Grant log t a b Heal area = record { took = took; is = at (Lock Heal area) Granted what said } in
         drop s _ e (standing_heal_locking log t a first area (with r.healing b) r on (base_at (Lock Heal area) what (lock_keeps Heal area)) (m (Lock Heal area) what)
         (λ x h. elim (with_cases r.healing b x h) [
-          | inl here ↦ inl (subst (λ y. HeldAt log (suc t) a y Heal (Some area)) (sym here) (record { p = t; mine = area; is = refl; grant = grant; past = omega arith; on = λ live. held_new log t a b Heal area grant }))
+          | inl here ↦ inl (subst (λ y. HeldAt log (suc t) a y Heal r.start (Some area)) (sym here) (record { p = t; mine = area; is = refl; grant = grant; past = omega arith; before = λ h e. absurd (let none = (m (Lock Heal area) what).early in omega (arith, none, e)); on = λ live. held_new log t a b Heal area grant }))
           | inr old ↦ inr old
         ]))
         )
@@ -175,8 +176,20 @@ standing_piece log t a first kind r (Goes s back old) still =
             before = λ q e. omega (arith, w.past, e);
             on = λ open_still live. held_on log t a x w.p Work w.mine w.grant (w.on (back x live)) live (still x Work w.mine);
           };
-      healing = next.healing;
+      healing = λ x h. (let w = s.healing x h in record {
+        p = w.p;
+        mine = w.mine;
+        is = w.is;
+        grant = w.grant;
+        past = omega (arith, w.past);
+        before = λ q e. starts (r.start == 0) q w.p w.before w.past e;
+        on = λ live. held_on log t a x w.p Heal w.mine w.grant (w.on (back x live)) live (still x Heal w.mine);
+      });
     }
+  where
+    starts : (none : Bool) (q p : ℕ) → ((h : ℕ) → r.start ≡ suc h → p < h) → p < t → (if none then suc t else r.start) ≡ suc q → p < q
+    starts true q p old past e = omega (arith, past, e)
+    starts false q p old past e = old q e
 
 module _ (n : ℕ) (keeps : ℕ → Kind → Bool) (files : Beginning) (faults : ℕ → ℕ → Option Fault) (log : Log) (honest : Honest files faults log) (lawful : Lawful n keeps log) where
   foreign : (t a : ℕ) → is_of a (log t) ≡ false → (r : Register) → Standing log t a r → Standing log (suc t) a r

@@ -47,10 +47,10 @@ pub data Noted (n : ℕ) (r : Register) (b : ℕ) (request : Request) (told : To
   HealFrees : (area : Area) → request ≡ Unlock Heal area → told ≡ Done → s ≡ record r { healing = without r.healing b } → Noted n r b request told s
   HealTries : (area : Area) → request ≡ Unlock Heal area → (told ≡ Done → ⊥) → s ≡ r → Noted n r b request told s
   Looks : (g : ℕ) (view : View) → request ≡ look_at g → told ≡ Seen view → s ≡ looking r b g view → Noted n r b request told s
-  Pres : (g : ℕ) (kind : Kind) → request ≡ pre_on g kind → told ≡ Done → s ≡ record r { pre = with r.pre b } → Noted n r b request told s
+  Pres : (g : ℕ) (kind : Kind) → request ≡ pre_on g kind → told ≡ Done → s ≡ record r { pre = with r.pre b; raised = with r.raised b } → Noted n r b request told s
   Applies : (q : ℕ) → request ≡ Apply q → told ≡ Done → s ≡ record r { done = with r.done b } → Noted n r b request told s
   Posts : (q g : ℕ) (kind : Kind) (missed : Seq ℕ) → request ≡ post_on q g kind missed → told ≡ Done → s ≡ record r { post = with r.post b } → Noted n r b request told s
-  Mends : (repair : Repair) → request ≡ Mend repair → told ≡ Done → s ≡ record r { mended = mend_cells r.mended b repair } → Noted n r b request told s
+  Mends : (repair : Repair) → request ≡ Mend repair → told ≡ Done → s ≡ record r { mended = mend_cells r.mended r.number b repair } → Noted n r b request told s
   Settles : (g : ℕ) (kind : Kind) (less : Marks) → request ≡ settle_on g kind less → told ≡ Done → s ≡ record r { settled = with r.settled b } → Noted n r b request told s
   Same : ((domain : Domain) → KeepsLocks domain request) → (told ≡ Done → Plain request) → s ≡ r → Noted n r b request told s
 
@@ -78,12 +78,13 @@ noted n r b (Settle g kind less) _ = Same (λ d x y a c area told took. refl) (�
 noted n r b _ _ = Same (λ d x y a c area told took. refl) (λ e. tt) refl
 
 -- a lock of actor a on brick x, that the brick has as long as the session lasts
-pub record HeldAt (log : Log) (t a x : ℕ) (domain : Domain) (area : Option Area) : Type 0 where
+pub record HeldAt (log : Log) (t a x : ℕ) (domain : Domain) (start : ℕ) (area : Option Area) : Type 0 where
   pub p : ℕ
   pub mine : Area
   pub is : area ≡ Some mine
   pub grant : Grant log p a x domain mine
   pub past : p < t
+  pub before : (h : ℕ) → start ≡ suc h → p < h
   pub on : joined log t a x ≡ true → held log t x p ≡ true
 
 -- the lock that was held on a brick before the number was given
@@ -97,9 +98,9 @@ pub record SeenAt (log : Log) (t a x : ℕ) (area : Option Area) (number : ℕ) 
   pub on : closed ≡ false → joined log t a x ≡ true → held log t x p ≡ true
 
 pub record Standing (log : Log) (t a : ℕ) (r : Register) : Type 0 where
-  pub here : (x : ℕ) → r.held x ≡ true → HeldAt log t a x Work r.area
+  pub here : (x : ℕ) → r.held x ≡ true → HeldAt log t a x Work 0 r.area
   pub under : (x : ℕ) → r.seen x ≡ true → SeenAt log t a x r.area r.number (r.closed x)
-  pub healing : (x : ℕ) → r.healing x ≡ true → HeldAt log t a x Heal (Some (heal_area r.object))
+  pub healing : (x : ℕ) → r.healing x ≡ true → HeldAt log t a x Heal r.start (Some (heal_area r.object))
 
 pub standing_fresh : (log : Log) (t a : ℕ) → Standing log t a fresh
 standing_fresh log t a = record { here = λ x h. cc; under = λ x h. cc; healing = λ x h. cc }
@@ -112,13 +113,14 @@ pub record Leaves (log : Log) (t a x : ℕ) (domain : Domain) (area : Option Are
   pub back : joined log (suc t) a x ≡ true → joined log t a x ≡ true
   pub still : (mine : Area) → area ≡ Some mine → unlocks a x domain mine (log t) ≡ false
 
-pub held_next : (log : Log) (t a x : ℕ) (domain : Domain) (area : Option Area) → HeldAt log t a x domain area → Leaves log t a x domain area → HeldAt log (suc t) a x domain area
-held_next log t a x domain area h leaves = record {
+pub held_next : (log : Log) (t a x : ℕ) (domain : Domain) (start : ℕ) (area : Option Area) → HeldAt log t a x domain start area → Leaves log t a x domain area → HeldAt log (suc t) a x domain start area
+held_next log t a x domain start area h leaves = record {
   p = h.p;
   mine = h.mine;
   is = h.is;
   grant = h.grant;
   past = omega (arith, h.past);
+  before = h.before;
   on = λ live. held_on log t a x h.p domain h.mine h.grant (h.on (leaves.back live)) live (leaves.still h.mine h.is);
 }
 
@@ -135,9 +137,9 @@ seen_next log t a x area number closed h leaves = record {
 
 pub standing_next : (log : Log) (t a : ℕ) (r : Register) → Standing log t a r → ((x : ℕ) → joined log (suc t) a x ≡ true → joined log t a x ≡ true) → ((x : ℕ) (domain : Domain) (mine : Area) → unlocks a x domain mine (log t) ≡ false) → Standing log (suc t) a r
 standing_next log t a r s back still = record {
-  here = λ x h. held_next log t a x Work r.area (s.here x h) (record { back = back x; still = λ mine e. still x Work mine });
+  here = λ x h. held_next log t a x Work 0 r.area (s.here x h) (record { back = back x; still = λ mine e. still x Work mine });
   under = λ x h. seen_next log t a x r.area r.number (r.closed x) (s.under x h) (record { back = back x; still = λ mine e. still x Work mine });
-  healing = λ x h. held_next log t a x Heal (Some (heal_area r.object)) (s.healing x h) (record { back = back x; still = λ mine e. still x Heal mine });
+  healing = λ x h. held_next log t a x Heal r.start (Some (heal_area r.object)) (s.healing x h) (record { back = back x; still = λ mine e. still x Heal mine });
 }
 
 -- one brick more, or less
@@ -158,10 +160,10 @@ standing_dropped log t a b true r s = record {
   healing = λ x h. s.healing x (without_true r.healing b x h).1;
 }
 
-pub standing_granted : (log : Log) (t a b : ℕ) (r : Register) → Standing log t a r → HeldAt log t a b Work r.area → Standing log t a (record r { held = with r.held b })
+pub standing_granted : (log : Log) (t a b : ℕ) (r : Register) → Standing log t a r → HeldAt log t a b Work 0 r.area → Standing log t a (record r { held = with r.held b })
 standing_granted log t a b r s new = record {
   here = λ x h. elim (with_cases r.held b x h) [
-    | inl is ↦ subst (λ y. HeldAt log t a y Work r.area) (sym is) new
+    | inl is ↦ subst (λ y. HeldAt log t a y Work 0 r.area) (sym is) new
     | inr other ↦ s.here x other
   ];
   under = s.under;
@@ -244,9 +246,9 @@ module _ (log : Log) (t a b : ℕ) (area : Area) (told : Told) (took first : Boo
   -- an Unlock line of another area
   unlock_other : Standing log t a r → ((x : ℕ) → joined log (suc t) a x ≡ true → joined log t a x ≡ true) → is_area r.area area ≡ false → Standing log (suc t) a r
   unlock_other s back e = record {
-    here = λ x h. held_next log t a x Work r.area (s.here x h) (record { back = back x; still = λ mine f. unlocks_at log t a b x Work Work area mine told took is (inl (other_area r.area mine e f)) });
+    here = λ x h. held_next log t a x Work 0 r.area (s.here x h) (record { back = back x; still = λ mine f. unlocks_at log t a b x Work Work area mine told took is (inl (other_area r.area mine e f)) });
     under = λ x h. seen_next log t a x r.area r.number (r.closed x) (s.under x h) (record { back = back x; still = λ mine f. unlocks_at log t a b x Work Work area mine told took is (inl (other_area r.area mine e f)) });
-    healing = λ x h. held_next log t a x Heal (Some (heal_area r.object)) (s.healing x h) (record { back = back x; still = λ mine f. heal_still x mine });
+    healing = λ x h. held_next log t a x Heal r.start (Some (heal_area r.object)) (s.healing x h) (record { back = back x; still = λ mine f. heal_still x mine });
   }
 
   under_closed : Standing log t a r → ((x : ℕ) → joined log (suc t) a x ≡ true → joined log t a x ≡ true) → (x : ℕ) → r.seen x ≡ true → SeenAt log (suc t) a x r.area r.number (with r.closed b x)
@@ -267,16 +269,16 @@ module _ (log : Log) (t a b : ℕ) (area : Area) (told : Told) (took first : Boo
   -- one of the area that is told Done, or that nothing came of
   unlock_own : Standing log t a r → ((x : ℕ) → joined log (suc t) a x ≡ true → joined log t a x ≡ true) → Standing log (suc t) a (record r { closed = with r.closed b; held = without r.held b })
   unlock_own s back = record {
-    here = λ x h. held_next log t a x Work r.area (s.here x (without_true r.held b x h).1) (record { back = back x; still = λ mine f. unlocks_at log t a b x Work Work area mine told took is (inr (inl (without_true r.held b x h).0)) });
+    here = λ x h. held_next log t a x Work 0 r.area (s.here x (without_true r.held b x h).1) (record { back = back x; still = λ mine f. unlocks_at log t a b x Work Work area mine told took is (inr (inl (without_true r.held b x h).0)) });
     under = λ x h. under_closed s back x h;
-    healing = λ x h. held_next log t a x Heal (Some (heal_area r.object)) (s.healing x h) (record { back = back x; still = λ mine f. heal_still x mine });
+    healing = λ x h. held_next log t a x Heal r.start (Some (heal_area r.object)) (s.healing x h) (record { back = back x; still = λ mine f. heal_still x mine });
   }
 
   unlock_refused : Standing log t a r → ((x : ℕ) → joined log (suc t) a x ≡ true → joined log t a x ≡ true) → took ≡ false → Standing log (suc t) a (record r { closed = with r.closed b })
   unlock_refused s back e = record {
-    here = λ x h. held_next log t a x Work r.area (s.here x h) (record { back = back x; still = λ mine f. unlocks_at log t a b x Work Work area mine told took is (inr (inr e)) });
+    here = λ x h. held_next log t a x Work 0 r.area (s.here x h) (record { back = back x; still = λ mine f. unlocks_at log t a b x Work Work area mine told took is (inr (inr e)) });
     under = λ x h. under_closed s back x h;
-    healing = λ x h. held_next log t a x Heal (Some (heal_area r.object)) (s.healing x h) (record { back = back x; still = λ mine f. heal_still x mine });
+    healing = λ x h. held_next log t a x Heal r.start (Some (heal_area r.object)) (s.healing x h) (record { back = back x; still = λ mine f. heal_still x mine });
   }
 
   pub standing_released : Onward log t a first r → Standing log (suc t) a (released r area b)
@@ -301,9 +303,9 @@ module _ (log : Log) (t a b : ℕ) (area : Area) (told : Told) (took first : Boo
 pub standing_heal_freed : (log : Log) (t a b : ℕ) (area : Area) (told : Told) (took first : Bool) (r : Register) → log t ≡ Some (ask_by a b (Unlock Heal area) told took) → Onward log t a first r → Standing log (suc t) a (record r { healing = without r.healing b })
 standing_heal_freed log t a b area told took first r is (New e) = subst (λ q. Standing log (suc t) a (record q { healing = without q.healing b })) (sym e) (record { here = λ x h. cc; under = λ x h. cc; healing = λ x h. absurd (true≢false (sym (without_true empty b x h).1)) })
 standing_heal_freed log t a b area told took first r is (Goes s back old) = record {
-  here = λ x h. held_next log t a x Work r.area (s.here x h) (record { back = back x; still = λ mine f. rw is refl });
+  here = λ x h. held_next log t a x Work 0 r.area (s.here x h) (record { back = back x; still = λ mine f. rw is refl });
   under = λ x h. seen_next log t a x r.area r.number (r.closed x) (s.under x h) (record { back = back x; still = λ mine f. rw is refl });
-  healing = λ x h. held_next log t a x Heal (Some (heal_area r.object)) (s.healing x (without_true r.healing b x h).1) (record { back = back x; still = λ mine f. unlocks_at log t a b x Heal Heal area mine told took is (inr (inl (without_true r.healing b x h).0)) });
+  healing = λ x h. held_next log t a x Heal r.start (Some (heal_area r.object)) (s.healing x (without_true r.healing b x h).1) (record { back = back x; still = λ mine f. unlocks_at log t a b x Heal Heal area mine told took is (inr (inl (without_true r.healing b x h).0)) });
 }
 
 pub standing_heal_tried : (log : Log) (t a b : ℕ) (area : Area) (told : Told) (took first : Bool) (r : Register) → log t ≡ Some (ask_by a b (Unlock Heal area) told took) → Onward log t a first r → (drop : Bool) → (drop ≡ true) ⊎ (took ≡ false) → Standing log (suc t) a (dropping drop b r)
@@ -314,9 +316,9 @@ standing_heal_tried log t a b area told took first r is on true why = (
 standing_heal_tried log t a b area told took first r is on false (inl wrong) = absurd (cc wrong)
 standing_heal_tried log t a b area told took first r is (New e) false (inr refused) = subst (Standing log (suc t) a) (sym e) (standing_fresh log (suc t) a)
 standing_heal_tried log t a b area told took first r is (Goes s back old) false (inr refused) = record {
-  here = λ x h. held_next log t a x Work r.area (s.here x h) (record { back = back x; still = λ mine f. rw is refl });
+  here = λ x h. held_next log t a x Work 0 r.area (s.here x h) (record { back = back x; still = λ mine f. rw is refl });
   under = λ x h. seen_next log t a x r.area r.number (r.closed x) (s.under x h) (record { back = back x; still = λ mine f. rw is refl });
-  healing = λ x h. held_next log t a x Heal (Some (heal_area r.object)) (s.healing x h) (record { back = back x; still = λ mine f. unlocks_at log t a b x Heal Heal area mine told took is (inr (inr refused)) });
+  healing = λ x h. held_next log t a x Heal r.start (Some (heal_area r.object)) (s.healing x h) (record { back = back x; still = λ mine f. unlocks_at log t a b x Heal Heal area mine told took is (inr (inr refused)) });
 }
 
 -- a Lock line of the transaction, or the first of a new one
@@ -378,13 +380,13 @@ locking_area n area r e = go (busy n r) refl
 
 -- a Heal Lock line
 pub standing_heal_locking : (log : Log) (t a : ℕ) (first : Bool) (area : Area) (healing : ℕ → Bool) (r : Register) → Onward log t a first r → Standing log (suc t) a r → MayHealLock first r area
-    → ((x : ℕ) → healing x ≡ true → (HeldAt log (suc t) a x Heal (Some area)) ⊎ (r.healing x ≡ true)) → Standing log (suc t) a (record r { heal = true; object = area_object area; healing = healing })
+    → ((x : ℕ) → healing x ≡ true → (HeldAt log (suc t) a x Heal r.start (Some area)) ⊎ (r.healing x ≡ true)) → Standing log (suc t) a (record r { heal = true; object = area_object area; healing = healing })
 standing_heal_locking log t a first area healing r on s may new = record {
   here = s.here;
   under = s.under;
   healing = λ x h. elim (new x h) [
-    | inl w ↦ subst (λ (o : Area). HeldAt log (suc t) a x Heal (Some o)) (sym (named may)) w
-    | inr old ↦ subst (λ g. HeldAt log (suc t) a x Heal (Some (heal_area g))) (same may on x old) (s.healing x old)
+    | inl w ↦ subst (λ (o : Area). HeldAt log (suc t) a x Heal r.start (Some o)) (sym (named may)) w
+    | inr old ↦ subst (λ g. HeldAt log (suc t) a x Heal r.start (Some (heal_area g))) (same may on x old) (s.healing x old)
   ];
 }
   where

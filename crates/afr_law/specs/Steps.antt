@@ -19,11 +19,12 @@ use Rattle.afr_object.specs.declared.change.Change.TheVariants.{Write, Cut, SetA
 use Rattle.afr_law.specs.Cells.{Entry}
 use Rattle.afr_law.specs.Past.{Beginning, Log, before, is_of, blocks, joined, opening, place, opens, holds, object_of_line}
 use Rattle.afr_law.specs.Honest.{KnownMake, Shows, finds, Answers, Tells, HonestAsk, HonestLine, Honest, asked, begins_attempt}
-use Rattle.afr_law.specs.Lawful.{Register, in_force, register, May, MayAsk, PlaneIs, ReadOf, Contents, EachRead, Lawful, opened, present}
+use Rattle.afr_law.specs.Lawful.{Views, MayRaise, Sink, Full, Register, in_force, register, May, MayAsk, PlaneIs, ReadOf, Contents, EachRead, Lawful, opened, present}
+use Rattle.afr_law.specs.Tally.{Tally, tally}
 use Rattle.afr_law.specs.Law.{opening_by, HonestNext, MayNext, HonestLog, LawfulLog, SafeLog}
 use Rattle.afr_law.specs.Safe.{Safe}
 use Rattle.afr_law.specs.Locks.{before_is, held_past}
-use Rattle.afr_law.specs.Agree.{before_same, before_at, place_same, started_same, linked_same, joined_same, kind_same, holds_same, value_same, posts_same, settled_same, asked_same, register_same, held_same, safe_same}
+use Rattle.afr_law.specs.Agree.{tally_same, before_same, before_at, place_same, started_same, linked_same, joined_same, kind_same, holds_same, value_same, posts_same, settled_same, asked_same, register_same, held_same, safe_same}
 use Rattle.afr_law.specs.CellHistory.{safe}
 use Rattle.afr_law.specs.Lines.{ask_by}
 
@@ -75,8 +76,39 @@ plane_before log t q g kind h = go (nat_lt q t) h
     go false k = absurd k
 
 module _ (n : ℕ) (keeps : ℕ → Kind → Bool) (log : Log) (t : ℕ) where
+  tally_log : (a : ℕ) → tally (before log t) t a ≡ tally log t a
+  tally_log a = tally_same (before log t) log t (λ u h. before_is log t u h) a t (omega arith)
+
+  views_log : (a : ℕ) (r : Register) (s : ℕ) → Views n keeps (before log t) t a r s → Views n keeps log t a r s
+  views_log a r s w = record {
+    among = w.among;
+    majority = w.majority;
+    member = w.member;
+    below = w.below;
+    copy = w.copy;
+    aside = elim w.aside [ inl names ↦ inl names | inr none ↦ inr (subst (λ (k : Tally). k.raises s ≡ false) (tally_log a) none) ];
+    good = w.good;
+  }
+
+  raise_log : (a : ℕ) (r : Register) (b g : ℕ) (kind : Kind) → MayRaise (before log t) t a r b g kind → MayRaise log t a r b g kind
+  raise_log a r b g kind w = record {
+    object_same = w.object_same;
+    kind_same = w.kind_same;
+    first_piece = w.first_piece;
+    view = w.view;
+    looked = w.looked;
+    before_mends = subst (λ (k : Tally). k.mending ≡ false) (tally_log a) w.before_mends;
+    once = subst (λ (k : Tally). k.raises b ≡ false) (tally_log a) w.once;
+  }
+
+  sink_log : (a : ℕ) (r : Register) (c : ℕ) → Sink (before log t) t a r c → Sink log t a r c
+  sink_log a r c w = record { raised = w.raised; whole = w.whole; level = λ cell. subst (λ (k : Tally). k.given cell ≤ r.mended c cell) (tally_log a) (w.level cell) }
+
+  full_log : (a : ℕ) (r : Register) → Full n keeps (before log t) t a r → Full n keeps log t a r
+  full_log a r w = record { s = w.s; sinks = λ c below copy. elim (w.sinks c below copy) [ inl source ↦ inl source | inr sink ↦ inr (sink_log a r c sink) ] }
+
   read_log : (a : ℕ) (r : Register) (read : ℕ) → ReadOf n keeps (before log t) t a r read → ReadOf n keeps log t a r read
-  read_log a r read w = record { s = w.s; request = w.request; is = sym (before_is log t read w.past) ∙ w.is; since = w.since; past = w.past; source = w.source }
+  read_log a r read w = record { s = w.s; request = w.request; is = sym (before_is log t read w.past) ∙ w.is; since = w.since; past = w.past; source = views_log a r w.s w.source }
 
   reads_log : (a : ℕ) (r : Register) (reads : Seq (Option ℕ)) → EachRead (ReadOf n keeps (before log t) t a r) reads → EachRead (ReadOf n keeps log t a r) reads
   reads_log a r [] h = h
@@ -84,7 +116,7 @@ module _ (n : ℕ) (keeps : ℕ → Kind → Bool) (log : Log) (t : ℕ) where
   reads_log a r (Some read ∷ reads) h = (read_log a r read h.0, reads_log a r reads h.1)
 
   contents_log : (a : ℕ) (r : Register) (repair : Repair) → Contents n keeps (before log t) t a r repair → Contents n keeps log t a r repair
-  contents_log a r (CutTo g len) h = h
+  contents_log a r (CutTo g len) h = record { s = h.s; view = h.view; seen = h.seen; length = h.length; source = views_log a r h.s h.source }
   contents_log a r (Copy g at span read) h = read_log a r read h
   contents_log a r (PutAttrs g read) h = read_log a r read h
   contents_log a r (PutNames g reads) h = (reads_log a r reads h.0, h.1)
@@ -97,7 +129,7 @@ module _ (n : ℕ) (keeps : ℕ → Kind → Bool) (log : Log) (t : ℕ) where
       go false k = absurd (cc k)
 
   may_ask_log : (a : ℕ) (first : Bool) (r : Register) (b : ℕ) (request : Request) → MayAsk n keeps (before log t) t a first r b request → MayAsk n keeps log t a first r b request
-  may_ask_log a first r b (Post q g kind missed) h = record { outside = h.outside; own = h.own; plane = plane_before log t q g.0 kind h.plane; ready = h.ready; open_still = h.open_still; exact = h.exact }
+  may_ask_log a first r b (Post q g kind missed) h = record { outside = h.outside; own = h.own; plane = plane_before log t q g.0 kind h.plane; ready = h.ready; open_still = h.open_still; exact = h.exact; once = subst (λ (k : Tally). k.posts b ≡ false) (tally_log a) h.once }
   may_ask_log a first r b (Mend repair) h = record {
     inside = h.inside;
     begun_already = h.begun_already;
@@ -107,6 +139,10 @@ module _ (n : ℕ) (keeps : ℕ → Kind → Bool) (log : Log) (t : ℕ) where
     kind_same = h.kind_same;
     within = h.within;
     contents = contents_log a r repair h.contents;
+    healing = h.healing;
+    unsettled = h.unsettled;
+    raised = h.raised;
+    one = subst (λ (k : Tally). (k.repair ≡ None) ⊎ (k.repair ≡ Some repair)) (tally_log a) h.one;
   }
   may_ask_log a first r b (Lock Work area) h = h
   may_ask_log a first r b (Lock Heal area) h = h
@@ -114,21 +150,33 @@ module _ (n : ℕ) (keeps : ℕ → Kind → Bool) (log : Log) (t : ℕ) where
     begun_already = h.begun_already;
     holder = h.holder;
     open_still = h.open_still;
+    plane = λ q out number. plane_before log t q g.0 kind (h.plane q out number);
+    within = λ inside. raise_log a r b g.0 kind (h.within inside);
     fit = λ q out e. (
         let f = h.fit q out e in
         let w = f.fit in
         record { change = f.change; is = known q _ f.is; fit = record { l = w.l; view = w.view; past = w.past; is = known w.l _ w.is; fit = w.fit } }
         );
   }
+  may_ask_log a first r b (Settle g kind less) h = record {
+    inside = h.inside;
+    begun_already = h.begun_already;
+    locked = h.locked;
+    open_still = h.open_still;
+    object_same = h.object_same;
+    kind_same = h.kind_same;
+    whole = h.whole;
+    healing = h.healing;
+    once = h.once;
+    view = h.view;
+    seen = h.seen;
+    exact = h.exact;
+    cleaned = elim h.cleaned [ inl none ↦ inl none | inr w ↦ inr (w.0, full_log a r w.1) ];
+  }
   may_ask_log a first r b _ h = h
 
   may_log : (first : ℕ → Bool) (of : ℕ → Register) (line : Line) → May n keeps (before log t) t first of (Some line) → May n keeps log t first of (Some line)
   may_log first of (Ask a b request told took) h = (h.0, may_ask_log a.0 (first a.0) (of a.0) b.0 request h.1)
-  may_log first of (Begin a change) h = record {
-    outside = h.outside;
-    first = h.first;
-    within = h.within;
-  }
   may_log first of _ h = h
 
   past_agrees : (u : ℕ) → u < t → before log t u ≡ log u
@@ -192,7 +240,7 @@ honest_whole files faults lines honest t = go (slice_get lines t) refl
     go None is = rw is tt
     go (Some line) is = honest_here files faults (slice_get lines) t line (honest t line is) is
 
-front : (lines : List Line) (i u : ℕ) → u < i → slice_get lines u ≡ slice_get (take i lines) u
+pub front : (lines : List Line) (i u : ℕ) → u < i → slice_get lines u ≡ slice_get (take i lines) u
 front [] zero u h = absurd (omega arith)
 front [] (suc i) u h = refl
 front (x ∷ lines) zero u h = absurd (omega arith)

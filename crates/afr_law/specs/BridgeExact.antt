@@ -1,0 +1,97 @@
+-- Honest logs that keep the discipline in full keep the one that the laws use, in the words of the model.
+use Rattle.afr_law.specs.BridgeAlike.{model_alike}
+use Rattle.afr_law.specs.BridgeHonest.{honest_ask}
+use Rattle.afr_law.specs.BridgeOpening.{start_of}
+use Rattle.afr_law.specs.BridgeSafe.{model_safe}
+use Rattle.afr_law.specs.BridgeSettles.{honest_at, make_known, member_below, take_within, within_before}
+use Rattle.afr_law.specs.BridgeSoundLog.{LawfulBelow, lawful_below, name_limit}
+use Rattle.afr_law.specs.BridgeSums.{TakeWithin}
+use Rattle.afr_law.specs.Codes.{kept_by}
+use Rattle.afr_law.specs.Exact.{LawfulExactly}
+use Rattle.afr_law.specs.ExactKnown.{line_known}
+use Rattle.afr_law.specs.ExactLog.{IsExactLine, IsExactlyLawful, exactly_lawful}
+use Rattle.afr_law.specs.Honest.{Honest, HonestLine}
+use Rattle.afr_law.specs.Implies.{implies}
+use Rattle.afr_law.specs.Lawful.{Lawful, Register, present}
+use Rattle.afr_law.specs.Locks.{cases_lt}
+use Rattle.afr_law.specs.ModelExact.{ModelExactIsAlike, ModelExactIsSafe}
+use Rattle.afr_law.specs.ModelLaw.{IsKnown, IsLawful, IsLawfulLine}
+use Rattle.afr_law.specs.Past.{Log}
+use Rattle.afr_law.specs.Positions.{IsPast, by_position, none_at, past_at, past_whole}
+use Rattle.afr_law.specs.Projection.{present_law}
+use Rattle.afr_law.specs.SameMoves.{may_next}
+use Rattle.afr_law.specs.Untouched.{newest_now}
+use Rattle.afr_lines.specs.Log.{from_oldest}
+use Rattle.afr_lines.specs.declared.line.Line.{Line}
+use Rattle.afr_lines.specs.declared.line.Line.TheVariants.{Ask, Begin, End, Event, HealBegin, HealEnd}
+use Rattle.afr_model.specs.Honest.{Honest as IsHonestLog, IsHonest, fault_in}
+use Rattle.afr_plan.specs.declared.plan.Plan.{Plan}
+use Rattle.std.proofs.Common.{List, [], arith, inl, inr, length, subst, suc, sym, ℕ, ◌<◌, ◌∷◌, ◌≡◌, ◌≤◌}
+use Rattle.std.specs.Prelude.{Some}
+
+-- the newest line is honest by positions: a request went to a brick of the plan, and what is made is known
+newest_told : (p : Plan) (n : ℕ) (five : p.shape.n ≤ 5) (L : Log) (older : List Line) → IsPast L older → LawfulBelow p n older → TakeWithin p older → (line : Line) → L (length older) ≡ Some line → IsKnown p line older
+    → IsExactLine p.shape.n (start_of p n) line older → IsHonest p line older → HonestLine (start_of p n) (fault_in p.faults) L (length older) (Some line)
+newest_told p n five L older h below within (Ask a b r told took) is known here said = honest_ask p n L a b r told took older (member_below p.shape.n b.0 five (here.1).0) is h below within said
+newest_told p n five L older h below within (Begin a c) is known here said = make_known p n L older h below c known.1
+newest_told p n five L older h below within (HealBegin a g kind) is known here said = tt
+newest_told p n five L older h below within (End a reply) is known here said = tt
+newest_told p n five L older h below within (HealEnd a g kind reply) is known here said = tt
+newest_told p n five L older h below within (Event e) is known here said = tt
+
+-- the newest line, after lines that keep the discipline that the laws use
+module _ (p : Plan) (n : ℕ) (five : p.shape.n ≤ 5) (line : Line) (older : List Line) (short : length older ≤ 4000000) (honest : IsHonestLog p (line ∷ older)) (lawful : IsExactlyLawful p.shape.n (start_of p n) (line ∷ older)) (below : LawfulBelow p n older) where
+  -- the log by its positions
+  abbrev L : Log
+  L = by_position (line ∷ older)
+
+  within : TakeWithin p older
+  within = take_within p n five older below honest.1
+
+  past : IsPast L (line ∷ older)
+  past = past_whole (line ∷ older)
+
+  exactly : LawfulExactly p.shape.n (start_of p n) L
+  exactly = exactly_lawful p.shape.n (start_of p n) (line ∷ older) lawful
+
+  agree : (q : ℕ) → q < length older → L q ≡ from_oldest q older
+  agree q less = past_at L older past.1 q less
+
+  known : IsKnown p line older
+  known = line_known p n older below short L exactly.moves agree line past.0 lawful.0
+
+  newest : HonestLine (start_of p n) (fault_in p.faults) L (length older) (L (length older))
+  newest = subst (HonestLine (start_of p n) (fault_in p.faults) L (length older)) (sym past.0) (newest_told p n five L older past.1 below within line past.0 known lawful.0 honest.0)
+
+  told : Honest (start_of p n) (fault_in p.faults) L
+  told t = elim (cases_lt t (length older)) [
+    | inl early ↦ honest_at p n L five older past.1 below (within_before p older within) honest.1 t early
+    | inr late ↦ elim (cases_lt t (suc (length older))) [
+      | inl here ↦ subst (λ (k : ℕ). HonestLine (start_of p n) (fault_in p.faults) L k (L k)) (omega (arith, late, here)) newest
+      | inr high ↦ subst (HonestLine (start_of p n) (fault_in p.faults) L t) (sym (none_at (line ∷ older) t high)) tt
+    ]
+  ]
+
+  weakly : Lawful p.shape.n (kept_by p) L
+  weakly = implies p.shape.n (start_of p n) (fault_in p.faults) L exactly told
+
+  number_low : (a : ℕ) → (present p.shape.n L (length older) a).number ≤ length older
+  number_low a = subst (λ (w : Register). w.number ≤ length older) (present_law p.shape.n (kept_by p) L (length older) a) (newest_now p.shape.n (kept_by p) L exactly.moves (length older) a).past
+
+  newest_lawful : IsLawfulLine p line older
+  newest_lawful = (may_next p.shape.n (kept_by p) L (by_position older) (length older) agree line past.0 number_low (weakly (length older)), known)
+
+-- each line by those before it
+exact_lawful : (p : Plan) (n : ℕ) → p.shape.n ≤ 5 → (log : List Line) → name_limit p log ≤ n → length log ≤ 4000000 → IsHonestLog p log → IsExactlyLawful p.shape.n (start_of p n) log → IsLawful p log
+exact_lawful p n five [] low short honest lawful = tt
+exact_lawful p n five (line ∷ older) low short honest lawful = (
+    let before = exact_lawful p n five older (omega (arith, low)) (omega (arith, short)) honest.1 lawful.1 in
+    (newest_lawful p n five line older (omega (arith, short)) honest lawful (lawful_below p n older (omega (arith, low)) before), before)
+    )
+
+-- so both laws hold of them
+pub exact_safe : ModelExactIsSafe
+exact_safe p log five short honest lawful = model_safe p log five honest (exact_lawful p (name_limit p log) five log (omega arith) short honest lawful)
+
+pub exact_alike : ModelExactIsAlike
+exact_alike p log five short honest lawful = model_alike p log five honest (exact_lawful p (name_limit p log) five log (omega arith) short honest lawful)
