@@ -1,10 +1,12 @@
 -- What a fault, a refusal and the want of a plan give.
-use Rattle.std.proofs.Common.{◌≡◌, ◌≤◌, ◌⊎◌, ℕ, List, [], Option, Global, length, refl, inl, inr}
+use Rattle.std.proofs.Common.{◌≡◌, Bool, true, false, IsTrue, ◌≤◌, ◌⊎◌, ℕ, List, [], Option, Some, Global, length, refl, inl, inr}
 use Rattle.std.specs.Prelude.{String}
 use Rattle.std.specs.Io.KnownBytes.{Appends, Consumes, IsAtEnd}
 use Rattle.afr_text.specs.Parts.{AppendsFront, CameMore}
 use Rattle.afr_plan.specs.declared.plan.Plan.{Plan}
 use Rattle.afr_plan.specs.declared.plan.PlanFault.{PlanFault}
+use Rattle.afr_plan.specs.FirstPath.{IsFirstPath}
+use Rattle.afr_plan.specs.Judging.{first_fault}
 use Rattle.afr_plan.specs.Spells.{Spells}
 use Rattle.afr_model.specs.State.{State, no_volume}
 use Rattle.afr_model.specs.Ordered.{IsOrdered, Writes}
@@ -15,6 +17,11 @@ use Rattle.afr_cli.specs.Statuses.{AreDone, AreRun, IsText, IsRefused, IsRefusal
 -- before a plan was handed in nothing was written, in any order
 pub nothing_ordered : (v : State) → v ≡ no_volume → IsOrdered v.plan v.log
 nothing_ordered v e = rw e (record { turns = []; later = []; rounds = 0; stated = refl; written = Writes.Nothing })
+
+-- what a test denies isn't so
+pub untold : (b : Bool) (P : Type 0) → (P → IsTrue b) → b ≡ false → P → ⊥
+untold true P t e h = absurd (cc)
+untold false P t e h = let wrong : false ≡ true = t h in absurd (cc)
 
 module _ {S : Type 0} (words : List (String Global)) (left : S → Option (List ℕ)) (source source' : S) (taken taken' : Option (List ℕ)) (now : State) where
   pub stops_at_usage : (AreRun words → ⊥) → source' ≡ source → now ≡ no_volume → AppendsFront taken taken' usage_line → StopsWriting words left source source' taken taken' now
@@ -29,22 +36,26 @@ module _ {S : Type 0} (words : List (String Global)) (left : S → Option (List 
   stops_at_report run spelled complete done front = record { text = report_of now.plan now.log; known = IsText.Report run spelled complete done; front = front }
 
 module _ (left left' : Option (List ℕ)) (fault : PlanFault) where
-  pub is_unread : (bytes seen : List ℕ) → seen ≡ bytes → Consumes left left' bytes → IsAtEnd left' → length bytes ≤ 16777216
-      → (fault ≡ record { line = 0; code = 10 }) × ((plan : Plan) → Spells seen plan → ⊥) → IsRefused left left' fault
-  is_unread bytes seen e came end few why = inl (why.0, record { bytes = bytes; read = record { came = came; end = end; few = few }; none = rw (← e) why.1 })
+  pub is_faulty : (bytes seen : List ℕ) → seen ≡ bytes → Consumes left left' bytes → IsAtEnd left' → length bytes ≤ 16777216
+      → (first_fault seen ≡ Some fault) × ((plan : Plan) → Spells seen plan → ⊥) → IsRefused left left' fault
+  is_faulty bytes seen e came end few why = inl (record { bytes = bytes; read = record { came = came; end = end; few = few }; first = rw (← e) why.0; none = rw (← e) why.1 })
+
+  pub is_ahead : (bytes seen : List ℕ) (plan : Plan) → seen ≡ bytes → Consumes left left' bytes → IsAtEnd left' → length bytes ≤ 16777216
+      → Spells seen plan → (IsFirstPath plan → ⊥) → fault ≡ record { line = 0; code = 10 } → IsRefused left left' fault
+  is_ahead bytes seen plan e came end few spells ahead why = inr (inl (why, record { bytes = bytes; read = record { came = came; end = end; few = few }; plan = plan; spells = rw (← e) spells; ahead = ahead }))
 
   pub is_long : CameMore left left' 16777216 → fault ≡ record { line = 0; code = 0 } → IsRefused left left' fault
-  is_long more why = inr (why, more)
+  is_long more why = inr (inr (why, more))
 
   pub refused : (taken taken' : Option (List ℕ)) → IsRefused left left' fault → Appends taken taken' (refusal_line fault) → IsRefusal left left' taken taken'
   refused taken taken' cause line = record { fault = fault; cause = cause; line = line }
 
 module _ (left left' : Option (List ℕ)) (bytes seen : List ℕ) (plan : Plan) where
   -- the plan that was spelled is the one that was run
-  pub is_spelled : (run : Plan) → seen ≡ bytes → Consumes left left' bytes → IsAtEnd left' → length bytes ≤ 16777216 → Spells seen plan → run ≡ plan → IsSpelled left left' run
-  is_spelled run e came end few spells same = record { bytes = bytes; read = record { came = came; end = end; few = few }; spells = rw (← e, same) spells }
+  pub is_spelled : (run : Plan) → seen ≡ bytes → Consumes left left' bytes → IsAtEnd left' → length bytes ≤ 16777216 → Spells seen plan → IsFirstPath plan → run ≡ plan → IsSpelled left left' run
+  is_spelled run e came end few spells first same = record { bytes = bytes; read = record { came = came; end = end; few = few }; spells = rw (← e, same) spells; first = rw same first }
 
-  pub spelled_or_none : (now : State) → seen ≡ bytes → Consumes left left' bytes → IsAtEnd left' → length bytes ≤ 16777216 → Spells seen plan
+  pub spelled_or_none : (now : State) → seen ≡ bytes → Consumes left left' bytes → IsAtEnd left' → length bytes ≤ 16777216 → Spells seen plan → IsFirstPath plan
       → (now ≡ no_volume) ⊎ (now.plan ≡ plan) → (now ≡ no_volume) ⊎ IsSpelled left left' now.plan
-  spelled_or_none now e came end few spells (inl none) = inl none
-  spelled_or_none now e came end few spells (inr same) = inr (is_spelled now.plan e came end few spells same)
+  spelled_or_none now e came end few spells first (inl none) = inl none
+  spelled_or_none now e came end few spells first (inr same) = inr (is_spelled now.plan e came end few spells first same)

@@ -7,6 +7,8 @@ use Rattle.afr_text.specs.Parts.{AppendsFront, CameMore}
 use Rattle.afr_lines.specs.declared.line.Line.{Line}
 use Rattle.afr_plan.specs.declared.plan.Plan.{Plan}
 use Rattle.afr_plan.specs.declared.plan.PlanFault.{PlanFault}
+use Rattle.afr_plan.specs.FirstPath.{IsFirstPath}
+use Rattle.afr_plan.specs.Judging.{first_fault}
 use Rattle.afr_plan.specs.Spells.{Spells}
 use Rattle.afr_model.specs.State.{State, no_volume}
 use Rattle.afr_model.specs.Actors.{IsActor, is_done}
@@ -23,7 +25,18 @@ usage_line = codes "usage: afr run | trace | info | gen N | live\n"
 
 -- the name of a refused plan's code
 abbrev pub name_of : ℕ → List ℕ
-name_of code = if code == 0 then codes "long" else codes "unread"
+name_of code =
+    if code == 0 then codes "long"
+    else if code == 1 then codes "byte"
+    else if code == 2 then codes "unended"
+    else if code == 3 then codes "head"
+    else if code == 4 then codes "word"
+    else if code == 5 then codes "form"
+    else if code == 6 then codes "range"
+    else if code == 7 then codes "order"
+    else if code == 8 then codes "total"
+    else if code == 9 then codes "end"
+    else codes "unread"
 
 -- the line that refuses a plan
 abbrev pub refusal_line : PlanFault → List ℕ
@@ -35,11 +48,12 @@ pub record WasRead (left now : Option (List ℕ)) (bytes : List ℕ) : Type 0 wh
   pub end : IsAtEnd now
   pub few : length bytes ≤ 16777216
 
--- what the source gave, to its end, spells the plan
+-- what the source gave, to its end, spells the plan, which the volume can run
 pub record IsSpelled (left now : Option (List ℕ)) (plan : Plan) : Type 0 where
   pub bytes : List ℕ
   pub read : WasRead left now bytes
   pub spells : Spells bytes plan
+  pub first : IsFirstPath plan
 
 -- what the source gave spells the plan, and the sink took the report, to its end
 pub record Reports (left left' taken taken' : Option (List ℕ)) (now : State) : Type 0 where
@@ -60,15 +74,24 @@ pub record IsWorkLeft (p : Plan) (log : List Line) : Type 0 where
 abbrev pub IsFull : Plan → List Line → Type 0
 IsFull p log = length log ≡ p.turns
 
--- the source was read to its end, and spells no plan
-pub record SpellsNone (left now : Option (List ℕ)) : Type 0 where
+-- the source was read to its end, and has this first fault; so it spells no plan
+pub record IsFaulty (left now : Option (List ℕ)) (fault : PlanFault) : Type 0 where
   pub bytes : List ℕ
   pub read : WasRead left now bytes
+  pub first : first_fault bytes ≡ Some fault
   pub none : (plan : Plan) → Spells bytes plan → ⊥
 
--- the source spells no plan, at line 0 with code 10, or is longer than 16 MiB, at line 0 with code 0
+-- the source was read to its end, and spells a plan that the volume can't run yet
+pub record IsAhead (left now : Option (List ℕ)) : Type 0 where
+  pub bytes : List ℕ
+  pub read : WasRead left now bytes
+  pub plan : Plan
+  pub spells : Spells bytes plan
+  pub ahead : IsFirstPath plan → ⊥
+
+-- the source has this first fault; or it spells a plan that can't be run yet, at line 0 with code 10; or it is longer than 16 MiB, at line 0 with code 0
 abbrev pub IsRefused : Option (List ℕ) → Option (List ℕ) → PlanFault → Type 0
-IsRefused left now fault = ((fault ≡ record { line = 0; code = 10 }) × SpellsNone left now) ⊎ ((fault ≡ record { line = 0; code = 0 }) × CameMore left now 16777216)
+IsRefused left now fault = IsFaulty left now fault ⊎ ((fault ≡ record { line = 0; code = 10 }) × IsAhead left now) ⊎ ((fault ≡ record { line = 0; code = 0 }) × CameMore left now 16777216)
 
 -- the plan is refused, and the sink took the line that says so, to its end
 pub record IsRefusal (left left' taken taken' : Option (List ℕ)) : Type 0 where
@@ -97,7 +120,8 @@ pub record AreGiven (words : List (String Global)) (left : Option (List ℕ)) (f
   pub told : left ≡ Some bytes
   pub sound : Rose faults faults' → ⊥
 
--- bytes that are no plan: more than 16 MiB, at line 0 with code 0, or no more, and they spell none, at line 0 with code 10
+-- bytes that aren't run: more than 16 MiB, at line 0 with code 0; or no more, and they have this first fault; or they spell a plan that can't be run yet, at line 0 with code 10
 pub data HasFault (bytes : List ℕ) : PlanFault → Type 0 where
   Long : 16777216 < length bytes → HasFault bytes (record { line = 0; code = 0 })
-  Unread : length bytes ≤ 16777216 → ((plan : Plan) → Spells bytes plan → ⊥) → HasFault bytes (record { line = 0; code = 10 })
+  Faulty : length bytes ≤ 16777216 → (fault : PlanFault) → first_fault bytes ≡ Some fault → HasFault bytes fault
+  Ahead : length bytes ≤ 16777216 → (plan : Plan) → Spells bytes plan → (IsFirstPath plan → ⊥) → HasFault bytes (record { line = 0; code = 10 })

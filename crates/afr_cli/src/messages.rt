@@ -50,6 +50,15 @@ fn name_of(code: u8) -> &'static str
 {
     match code {
         0 => "long",
+        1 => "byte",
+        2 => "unended",
+        3 => "head",
+        4 => "word",
+        5 => "form",
+        6 => "range",
+        7 => "order",
+        8 => "total",
+        9 => "end",
         _ => "unread",
     }
 }

@@ -12,13 +12,14 @@ ghost use Rattle.afr_model.specs.Safe.{AreFresh, IsAlwaysSafe};
 ghost use Rattle.std.specs.Io.KnownBytes.{Appends};
 ghost use Rattle.afr_plan.specs.declared.plan.Plan.{Plan};
 ghost use Rattle.afr_plan.specs.declared.plan.PlanFault.{PlanFault};
+ghost use Rattle.afr_plan.specs.FirstPath.{IsFirstPath};
 ghost use Rattle.afr_plan.specs.Spells.{Spells};
 ghost use Rattle.afr_cli.specs.Statuses.{AreRun, AreDone, HasFault, AreGiven, IsFull, IsRefusal, IsSpelled, IsWorkLeft, Reports, StopsWriting, refusal_line, usage_line};
 
 use crate::messages::{answer, refuse};
 use crate::running::run_plan;
 use crate::words::is_run;
-use afr_plan::{PlanFault, PlanStop, read_plan};
+use afr_plan::{PlanFault, PlanStop, is_runnable_yet, read_plan};
 use afr_text::{ReadStop, Sink, Source, read_all};
 use afr_volume::Volume;
 use std::alloc::Global;
@@ -61,7 +62,7 @@ pub fn afr_top<S: Source, K: Sink>(
         → HasFault bytes fault
         → ((result ≡ 3) × Appends (K.taken sink.old) (K.taken sink.new) (refusal_line fault)) ⊎ (result ≡ 5) ⊎ (result ≡ 6) }
     ensures spelled { (bytes : List ℕ) (plan : Plan) → AreGiven words.now (S.left source.old) (S.faults source.old) (S.faults source.new) bytes
-        → length bytes ≤ 16777216 → Spells bytes plan
+        → length bytes ≤ 16777216 → Spells bytes plan → IsFirstPath plan
         → (result ≡ 0) ⊎ (result ≡ 7) ⊎ (result ≡ 5) ⊎ (result ≡ 6) }
 
     // At every status.
@@ -113,7 +114,13 @@ fn read_and_run<S: Source, K: Sink>(
         Err(ReadStop::NoMemory) => return 6,
     };
     match read_plan(alloc, &bytes) {
-        Ok(plan) => run_plan(alloc, plan, sink, volume),
+        Ok(plan) => {
+            if is_runnable_yet(&plan) {
+                run_plan(alloc, plan, sink, volume)
+            } else {
+                refuse(alloc, sink, PlanFault { line: 0, code: 10 })
+            }
+        }
         Err(PlanStop::Refused(fault)) => refuse(alloc, sink, fault),
         Err(PlanStop::NoMemory) => 6,
     }

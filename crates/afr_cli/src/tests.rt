@@ -16,13 +16,19 @@ const REPORT: &str =
     "afr replica 3\nlines 33\nc1 2 of 2\n1 write ok\n2 read ok 68656c6c6f\nreach 0 1 2\nobjects 0\nsplit-brain 0\n";
 
 /// Words, plan, status and text.
-const CASES: [(&[&str], &str, u8, &str); 8] = [
+const CASES: [(&[&str], &str, u8, &str); 9] = [
     (&[], PLAN, 2, USAGE),
     (&["help"], "", 2, USAGE),
     (&["run", "x"], PLAN, 2, USAGE),
     (
         &["run"],
         "afr 1\nvolume replica\nfiles 0\nturns 100000\n",
+        3,
+        "plan refused: line 5, code 9 end\n",
+    ),
+    (
+        &["run"],
+        "afr 1\nvolume replica\nfiles 0\nturns 100000\nclient 1\nls /\nend\n",
         3,
         "plan refused: line 0, code 10 unread\n",
     ),

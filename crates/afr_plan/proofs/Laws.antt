@@ -1,12 +1,13 @@
 -- What is read is spelled so, and what is spelled so is read.
-use Rattle.std.proofs.Common.{◌≡◌, ℕ, List, [], ◌∷◌, ◌++◌, length, drop, Option, Some, None, refl, sym, ap, subst, ◌∙◌, Bool, true, false, ◌==◌, cond, ◌&&◌, take_while, append_assoc}
+use Rattle.std.proofs.Common.{◌≡◌, ◌⊎◌, inl, inr, ℕ, List, [], ◌∷◌, ◌++◌, length, drop, Option, Some, None, refl, sym, ap, subst, ◌∙◌, Bool, true, false, ◌==◌, cond, ◌&&◌, take_while, append_assoc}
 use Rattle.std.specs.List.{list_all}
 use Rattle.std.proofs.lemmas.List.{take-append-drop, append-nil, drop_at}
 use Rattle.std.proofs.lemmas.List.Sums.{take_while-cons}
 use Rattle.std.proofs.lemmas.Bool.{eqb-true, eq-eqb}
-use Rattle.afr_plan.specs.Bytes.{digit, name_byte, text_byte, is_numeral, is_name, is_text, value}
-use Rattle.afr_plan.specs.Reading.{◌>>=◌, after, front, checked, Reader, give, give_as, as_a, all_used, whole, pair, then_pair, word, word_then, both, run_of, name_at, number_at, text_at}
-use Rattle.afr_plan.specs.Spelling.{IsRun, As, IsName, IsNumber, IsText, WordThen, Both, Word}
+use Rattle.afr_plan.specs.Bytes.{digit, path_byte, key_byte, text_byte, is_numeral, is_key, is_text, value, small_value}
+use Rattle.afr_plan.specs.Paths.{names_in, is_path, is_named_path}
+use Rattle.afr_plan.specs.Reading.{◌>>=◌, after, front, checked, Reader, give, give_as, as_a, all_used, whole, pair, then_pair, word, word_then, both, run_of, or_else, either, key_at, path_at, named_path_at, number_at, small_at, text_at}
+use Rattle.afr_plan.specs.Spelling.{IsRun, As, IsKey, IsPath, IsNamedPath, IsNumber, IsSmall, IsText, WordThen, Both, Word, Either}
 use Rattle.afr_plan.proofs.Front.{front_take}
 
 -- the rest doesn't begin with a byte that passes
@@ -160,6 +161,43 @@ takes-so r S T t f = record {
   read = λ xs x rest e. let u = t.read xs x rest e in (u.0, f u.0 x u.1, u.2);
 }
 
+-- a reader whose value is another form of another's, for any relation that it keeps
+pub as-so : {A B : Type 0} (f : A → B) (r : Reader A) (S : List ℕ → A → Type 0) (T : List ℕ → B → Type 0) → Takes r S → ((w : List ℕ) (x : A) → S w x → T w (f x)) → Takes (as_a f r) T
+as-so f r S T t g = takes-so _ _ _ (as-takes f r S t) (λ w y h. let P : _ → Type 0 = λ s. T w s in subst P h.2 (g w h.0 h.1))
+
+pub again-after : {A : Type 0} (r : Reader A) (S : List ℕ → A → Type 0) (Next Later : List ℕ → Type 0) → Again r S Next → ((rest : List ℕ) → Later rest → Next rest) → Again r S Later
+again-after r S Next Later t f = record {
+  read = λ w x rest s n. t.read w x rest s (f rest n);
+}
+
+-- ---- one of two forms
+pub or_some : {A : Type 0} (o q : Option A) (x : A) → or_else o q ≡ Some x → (o ≡ Some x) ⊎ (q ≡ Some x)
+or_some None q x e = inr e
+or_some (Some t) q x e = inl e
+
+pub first_of : {A : Type 0} (o q : Option A) (x : A) → o ≡ Some x → or_else o q ≡ Some x
+first_of o q x e = rw e refl
+
+pub either-so : {A : Type 0} (r q : Reader A) (S : List ℕ → A → Type 0) → Takes r S → Takes q S → Takes (either r q) S
+either-so {A} r q S tr tq = record {
+  read = λ xs x rest e. elim (or_some (r xs) (q xs) (x, rest) e) [
+    | inl h ↦ tr.read xs x rest h
+    | inr h ↦ tq.read xs x rest h
+  ];
+}
+
+pub either-takes : {A : Type 0} (r q : Reader A) (S T : List ℕ → A → Type 0) → Takes r S → Takes q T → Takes (either r q) (Either S T)
+either-takes r q S T tr tq = either-so r q (Either S T) (takes-so r S (Either S T) tr (λ w x h. inl h)) (takes-so q T (Either S T) tq (λ w x h. inr h))
+
+pub either-again : {A : Type 0} (r q : Reader A) (S T : List ℕ → A → Type 0) (Next : List ℕ → Type 0)
+    → Again r S Next → Again q T Next → ((w : List ℕ) (x : A) (rest : List ℕ) → T w x → r (w ++ rest) ≡ None) → Again (either r q) (Either S T) Next
+either-again r q S T Next ar aq other = record {
+  read = λ w x rest s n. elim s [
+    | inl h ↦ first_of (r (w ++ rest)) (q (w ++ rest)) (x, rest) (ar.read w x rest h n)
+    | inr h ↦ rw (other w x rest h) (aq.read w x rest h n)
+  ];
+}
+
 used_all : {A : Type 0} (a x : A) (rest : List ℕ) → all_used (a, rest) ≡ Some x → (a ≡ x) × (rest ≡ [])
 used_all a x [] e = (cc, refl)
 used_all a x (b ∷ bs) e = absurd (cc)
@@ -179,13 +217,30 @@ whole-again {A} r S Next t n line x s =
     let e : r line ≡ Some (x, []) = ap r (sym (append-nil line)) ∙ t.read line x [] s n in
     rw e refl
 
-pub name-takes : Takes name_at IsName
-unfolding name_at
-name-takes = run-takes name_byte is_name
+-- ---- words
+pub key-takes : Takes key_at IsKey
+unfolding key_at
+key-takes = run-takes key_byte is_key
 
-pub name-again : Again name_at IsName (Stops name_byte)
-unfolding name_at
-name-again = run-again name_byte is_name
+pub key-again : Again key_at IsKey (Stops key_byte)
+unfolding key_at
+key-again = run-again key_byte is_key
+
+pub path-takes : Takes path_at IsPath
+unfolding path_at
+path-takes = as-takes names_in _ _ (run-takes path_byte is_path)
+
+pub path-again : Again path_at IsPath (Stops path_byte)
+unfolding path_at
+path-again = as-again names_in _ _ _ (run-again path_byte is_path)
+
+pub named_path-takes : Takes named_path_at IsNamedPath
+unfolding named_path_at
+named_path-takes = as-takes names_in _ _ (run-takes path_byte is_named_path)
+
+pub named_path-again : Again named_path_at IsNamedPath (Stops path_byte)
+unfolding named_path_at
+named_path-again = as-again names_in _ _ _ (run-again path_byte is_named_path)
 
 pub number-takes : Takes number_at IsNumber
 unfolding number_at
@@ -194,6 +249,14 @@ number-takes = as-takes value _ _ (run-takes digit is_numeral)
 pub number-again : Again number_at IsNumber (Stops digit)
 unfolding number_at
 number-again = as-again value _ _ _ (run-again digit is_numeral)
+
+pub small-takes : Takes small_at IsSmall
+unfolding small_at
+small-takes = as-takes small_value _ _ (run-takes digit is_numeral)
+
+pub small-again : Again small_at IsSmall (Stops digit)
+unfolding small_at
+small-again = as-again small_value _ _ _ (run-again digit is_numeral)
 
 pub text-takes : Takes text_at IsText
 unfolding text_at

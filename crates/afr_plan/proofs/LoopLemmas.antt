@@ -3,10 +3,10 @@ use Rattle.std.proofs.Common.{◌≡◌, ℕ, ◌<◌, List, [], ◌∷◌, leng
 use Rattle.afr_plan.specs.TextLines.{Text, text_of, cut_of, in_front}
 use Rattle.afr_plan.specs.Said.{Said}
 use Rattle.afr_plan.specs.Judging.{judged, judged_tail, finished, reading_on, at_line}
-use Rattle.afr_plan.specs.declared.lines.LineFault.{LineFault}
+use Rattle.afr_plan.specs.declared.plan.PlanFault.{PlanFault}
 use Rattle.afr_plan.proofs.TextLemmas.{text-cut, text_after}
 
-abbrev pub from : List ℕ → List Said → Result (List Said) LineFault
+abbrev pub from : List ℕ → List Said → Result (List Said) PlanFault
 from rest before = reading_on (text_of rest).tail (text_of rest).lines before
 
 first_line : (rest line more : List ℕ) → Some (line, more) ≡ cut_of rest → text_of rest ≡ record { lines = line ∷ (text_of more).lines; tail = (text_of more).tail }

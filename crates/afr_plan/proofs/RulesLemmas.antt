@@ -2,34 +2,70 @@
 use Rattle.std.proofs.Common.{◌≡◌, ℕ, List, [], ◌∷◌, Option, Some, None, Result, Ok, Err, refl, sym, ap, subst, ◌∙◌, Bool, true, false, not, if◌then◌else◌, codes}
 use Rattle.std.specs.List.{list_all}
 use Rattle.afr_plan.specs.Bytes.{plain}
-use Rattle.afr_plan.specs.Said.{Said, IsSaid, Afr, Volume, Files, Turns, Client, Write, Read, End}
+use Rattle.afr_plan.specs.Said.{Said, IsSaid, Afr, Volume, Files, Turns, Client, Command, Healer, Round, Faulty, At, Go, End}
 use Rattle.afr_plan.specs.SaidReading.{said}
 use Rattle.afr_plan.specs.Rules.{is_over, may_stand, words_after, word_of, is_one_of, is_beyond, is_disordered, passes_total}
+use Rattle.afr_plan.specs.Work.{Work, IsCommand, work_word, Write, Read, Create, Mkdir, Unlink, Rmdir, Ls, Stat, SetAttr, GetAttr}
+use Rattle.afr_plan.specs.Work as work
 use Rattle.afr_plan.specs.Judging.{begins, may_begin, first_word, place_code, judged, formed, fitting}
 use Rattle.afr_plan.specs.Spells.{IsLine}
 use Rattle.afr_plan.proofs.SaidLemmas.{said-takes, said-again}
 
 -- ---- places
 -- a line's first word is that of what it says
+first_command : (line : List ℕ) (path : List (List ℕ)) (w : Work) → IsCommand line path w → first_word line ≡ work_word w
+first_command line path (Write at bytes) h = ap first_word h.2
+first_command line path (work.Cut len) h = ap first_word h.2
+first_command line path (Read at len) h = ap first_word h.2
+first_command line path Create h = ap first_word h.2
+first_command line path Mkdir h = ap first_word h.2
+first_command line path Unlink h = ap first_word h.2
+first_command line path Rmdir h = ap first_word h.2
+first_command line path Ls h = ap first_word h.2
+first_command line path Stat h = ap first_word h.2
+first_command line path (SetAttr key value) h = ap first_word h.2
+first_command line path (GetAttr key) h = ap first_word h.2
+
 first_said : (line : List ℕ) (s : Said) → IsSaid line s → first_word line ≡ word_of s
 first_said line Afr h = ap first_word h
-first_said line Volume h = ap first_word h
+first_said line (Volume arbiter) h = ap first_word h.2
 first_said line (Files k) h = ap first_word h.2
 first_said line (Turns t) h = ap first_word h.2
 first_said line (Client i) h = ap first_word h.2
-first_said line (Write name at text) h = ap first_word h.2
-first_said line (Read name at len) h = ap first_word h.2
+first_said line (Command path w) h = first_command line path w h
+first_said line (Healer j) h = ap first_word h.2
+first_said line (Round brick) h = ap first_word h.2
+first_said line (Faulty brick at fault) h = ap first_word h.2
+first_said line (At at event) h = ap first_word h.2
+first_said line (Go who count) h = ap first_word h.2
 first_said line End h = ap first_word h
 
 -- and only the first line begins with the first line's words
+begun_command : (line : List ℕ) (path : List (List ℕ)) (w : Work) → IsCommand line path w → begins (codes "afr 1") line ≡ may_stand [] (Command path w)
+begun_command line path (Write at bytes) h = ap (begins (codes "afr 1")) h.2
+begun_command line path (work.Cut len) h = ap (begins (codes "afr 1")) h.2
+begun_command line path (Read at len) h = ap (begins (codes "afr 1")) h.2
+begun_command line path Create h = ap (begins (codes "afr 1")) h.2
+begun_command line path Mkdir h = ap (begins (codes "afr 1")) h.2
+begun_command line path Unlink h = ap (begins (codes "afr 1")) h.2
+begun_command line path Rmdir h = ap (begins (codes "afr 1")) h.2
+begun_command line path Ls h = ap (begins (codes "afr 1")) h.2
+begun_command line path Stat h = ap (begins (codes "afr 1")) h.2
+begun_command line path (SetAttr key value) h = ap (begins (codes "afr 1")) h.2
+begun_command line path (GetAttr key) h = ap (begins (codes "afr 1")) h.2
+
 begun_said : (line : List ℕ) (s : Said) → IsSaid line s → begins (codes "afr 1") line ≡ may_stand [] s
 begun_said line Afr h = ap (begins (codes "afr 1")) h
-begun_said line Volume h = ap (begins (codes "afr 1")) h
+begun_said line (Volume arbiter) h = ap (begins (codes "afr 1")) h.2
 begun_said line (Files k) h = ap (begins (codes "afr 1")) h.2
 begun_said line (Turns t) h = ap (begins (codes "afr 1")) h.2
 begun_said line (Client i) h = ap (begins (codes "afr 1")) h.2
-begun_said line (Write name at text) h = ap (begins (codes "afr 1")) h.2
-begun_said line (Read name at len) h = ap (begins (codes "afr 1")) h.2
+begun_said line (Command path w) h = begun_command line path w h
+begun_said line (Healer j) h = ap (begins (codes "afr 1")) h.2
+begun_said line (Round brick) h = ap (begins (codes "afr 1")) h.2
+begun_said line (Faulty brick at fault) h = ap (begins (codes "afr 1")) h.2
+begun_said line (At at event) h = ap (begins (codes "afr 1")) h.2
+begun_said line (Go who count) h = ap (begins (codes "afr 1")) h.2
 begun_said line End h = ap (begins (codes "afr 1")) h
 
 placed_said : (before : List Said) (line : List ℕ) (s : Said) → IsSaid line s → may_begin before line ≡ may_stand before s
@@ -39,14 +75,8 @@ placed_said (newest ∷ older) line s h = ap (is_one_of (words_after newest)) (f
 -- nothing may stand after `end`
 goes_on : (before : List Said) (s : Said) → may_stand before s ≡ true → is_over before ≡ false
 goes_on [] s h = refl
-goes_on (Afr ∷ older) s h = refl
-goes_on (Volume ∷ older) s h = refl
-goes_on (Files k ∷ older) s h = refl
-goes_on (Turns t ∷ older) s h = refl
-goes_on (Client i ∷ older) s h = refl
-goes_on (Write name at text ∷ older) s h = refl
-goes_on (Read name at len ∷ older) s h = refl
 goes_on (End ∷ older) s h = absurd (cc)
+goes_on (newest ∷ older) s h = refl
 
 -- ---- what `fitting` finds, by its three tests
 pub record Fits (before : List Said) (t s : Said) : Type 0 where

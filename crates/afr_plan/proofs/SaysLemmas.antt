@@ -8,7 +8,7 @@ use Rattle.afr_plan.specs.TextLines.{Text, text_of, with_byte, bytes_of}
 use Rattle.afr_plan.specs.Said.{Said}
 use Rattle.afr_plan.specs.Rules.{is_over}
 use Rattle.afr_plan.specs.Judging.{judged, judged_tail, finished, onward, reading_on, reading}
-use Rattle.afr_plan.specs.declared.lines.LineFault.{LineFault}
+use Rattle.afr_plan.specs.declared.plan.PlanFault.{PlanFault}
 use Rattle.afr_plan.specs.Spells.{AreLines, Says}
 use Rattle.afr_plan.proofs.RulesLemmas.{judged-line, line-judged}
 
@@ -38,7 +38,7 @@ tail_read before (b ∷ bs) all h = step (list_all plain (b ∷ bs)) h
     step true h = absurd (cc)
     step false h = absurd (cc)
 
-onward_ok : (before : List Said) (r : Result Said ℕ) (f : Said → Result (List Said) LineFault) (all : List Said) → onward before r f ≡ Ok all → (s : Said) × (r ≡ Ok s) × (f s ≡ Ok all)
+onward_ok : (before : List Said) (r : Result Said ℕ) (f : Said → Result (List Said) PlanFault) (all : List Said) → onward before r f ≡ Ok all → (s : Said) × (r ≡ Ok s) × (f s ≡ Ok all)
 onward_ok before (Ok s) f all h = (s, refl, h)
 onward_ok before (Err code) f all h = absurd (cc)
 

@@ -15,6 +15,18 @@ letter b = (nat_le 97 b && nat_le b 122) || (nat_le 65 b && nat_le b 90)
 abbrev pub name_byte : ℕ → Bool
 name_byte b = letter b || digit b || b == 46 || b == 95 || b == 45
 
+-- a byte of a name, or a slash
+abbrev pub path_byte : ℕ → Bool
+path_byte b = name_byte b || b == 47
+
+-- a letter, a digit, `.` or `_`
+abbrev pub key_byte : ℕ → Bool
+key_byte b = letter b || digit b || b == 46 || b == 95
+
+-- a digit, or a letter from `a` to `f`
+abbrev pub hex_digit : ℕ → Bool
+hex_digit b = digit b || (nat_le 97 b && nat_le b 102)
+
 -- from a space to a tilde
 abbrev pub plain : ℕ → Bool
 plain b = nat_le 32 b && nat_le b 126
@@ -33,10 +45,19 @@ is_numeral (d ∷ e ∷ ds) = not (d == 48)
 abbrev pub value : List ℕ → ℕ
 value ds = min (digits_value 10 ds) 10000000
 
+-- what digits come to where the number is small, as a brick's; 255 stands for all that is above it
+abbrev pub small_value : List ℕ → ℕ
+small_value ds = min (value ds) 255
+
 -- a name isn't empty, doesn't begin with `-`, and is neither `.` nor `..`
 abbrev pub is_name : List ℕ → Bool
 is_name [] = false
 is_name (b ∷ bs) = not (b == 45) && not (bytes_eq (b ∷ bs) (codes ".")) && not (bytes_eq (b ∷ bs) (codes ".."))
+
+-- a key or a value isn't empty
+abbrev pub is_key : List ℕ → Bool
+is_key [] = false
+is_key (b ∷ bs) = true
 
 -- a text may be of any length, and empty
 abbrev pub is_text : List ℕ → Bool

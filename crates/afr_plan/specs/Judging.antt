@@ -7,7 +7,7 @@ use Rattle.afr_plan.specs.TextLines.{text_of}
 use Rattle.afr_plan.specs.Said.{Said}
 use Rattle.afr_plan.specs.SaidReading.{said}
 use Rattle.afr_plan.specs.Rules.{next_words, is_one_of, is_over, is_beyond, is_disordered, passes_total}
-use Rattle.afr_plan.specs.declared.lines.LineFault.{LineFault}
+use Rattle.afr_plan.specs.declared.plan.PlanFault.{PlanFault}
 
 -- nothing follows, or a space
 abbrev pub ends_word : Option (List ℕ) → Bool
@@ -51,33 +51,33 @@ judged_tail before [] = if is_over before then None else Some 9
 judged_tail before (b ∷ bs) = if list_all plain (b ∷ bs) then Some 2 else Some 1
 
 -- the line after these has a fault
-abbrev pub at_line : List Said → ℕ → LineFault
+abbrev pub at_line : List Said → ℕ → PlanFault
 at_line before code = record { line = length before + 1; code = code }
 
 -- the lines, or the fault at their end
-abbrev pub finished : List Said → Option ℕ → Result (List Said) LineFault
+abbrev pub finished : List Said → Option ℕ → Result (List Said) PlanFault
 finished before None = Ok before
 finished before (Some code) = Err (at_line before code)
 
 -- what comes later, or the fault of this line
-abbrev pub onward : List Said → Result Said ℕ → (Said → Result (List Said) LineFault) → Result (List Said) LineFault
+abbrev pub onward : List Said → Result Said ℕ → (Said → Result (List Said) PlanFault) → Result (List Said) PlanFault
 onward before (Ok s) later = later s
 onward before (Err code) later = Err (at_line before code)
 
 -- what these and the further lines say, the newest first, or the first fault
-abbrev pub reading_on : List ℕ → List (List ℕ) → List Said → Result (List Said) LineFault
+abbrev pub reading_on : List ℕ → List (List ℕ) → List Said → Result (List Said) PlanFault
 reading_on tail [] before = finished before (judged_tail before tail)
 reading_on tail (line ∷ lines) before = onward before (judged before line) (λ s. reading_on tail lines (s ∷ before))
 
 -- what all lines of a text say, or its first fault
-unfoldable pub reading : List ℕ → Result (List Said) LineFault
+unfoldable pub reading : List ℕ → Result (List Said) PlanFault
 reading bytes = reading_on (text_of bytes).tail (text_of bytes).lines []
 
 -- the fault in an outcome
-abbrev pub fault_in : Result (List Said) LineFault → Option LineFault
+abbrev pub fault_in : Result (List Said) PlanFault → Option PlanFault
 fault_in (Ok before) = None
 fault_in (Err fault) = Some fault
 
 -- the first line that breaks a rule, and the lowest rule that it breaks
-abbrev pub first_fault : List ℕ → Option LineFault
+abbrev pub first_fault : List ℕ → Option PlanFault
 first_fault bytes = fault_in (reading bytes)

@@ -1,6 +1,7 @@
 -- Readers: each takes a value off the front of some bytes, and leaves what follows it.
 use Rattle.std.specs.Prelude.{ℕ, List, [], ◌∷◌, length, drop, Bool, ◌==◌, Option, Some, None, if◌then◌else◌, take_while}
-use Rattle.afr_plan.specs.Bytes.{digit, name_byte, text_byte, is_numeral, value, is_name, is_text}
+use Rattle.afr_plan.specs.Bytes.{digit, path_byte, key_byte, text_byte, is_numeral, value, small_value, is_key, is_text}
+use Rattle.afr_plan.specs.Paths.{names_in, is_path, is_named_path}
 
 -- the second step, where the first gives something
 infixl 10 ◌>>=◌
@@ -71,14 +72,35 @@ all_used (x, b ∷ bs) = None
 abbrev pub whole : {A : Type 0} → Reader A → List ℕ → Option A
 whole r xs = r xs >>= all_used
 
--- a name
-unfoldable pub name_at : Reader (List ℕ)
-name_at = run_of name_byte is_name
+-- the first of two that is there
+abbrev pub or_else : {A : Type 0} → Option A → Option A → Option A
+or_else (Some x) o = Some x
+or_else None o = o
+
+-- one of two readers, the first where both take the bytes
+abbrev pub either : {A : Type 0} → Reader A → Reader A → Reader A
+either r q xs = or_else (r xs) (q xs)
+
+-- a key or a value
+unfoldable pub key_at : Reader (List ℕ)
+key_at = run_of key_byte is_key
+
+-- a text
+unfoldable pub text_at : Reader (List ℕ)
+text_at = run_of text_byte is_text
+
+-- a path
+unfoldable pub path_at : Reader (List (List ℕ))
+path_at = as_a names_in (run_of path_byte is_path)
+
+-- a path other than `/`
+unfoldable pub named_path_at : Reader (List (List ℕ))
+named_path_at = as_a names_in (run_of path_byte is_named_path)
 
 -- a number
 unfoldable pub number_at : Reader ℕ
 number_at = as_a value (run_of digit is_numeral)
 
--- a text
-unfoldable pub text_at : Reader (List ℕ)
-text_at = run_of text_byte is_text
+-- a small number
+unfoldable pub small_at : Reader ℕ
+small_at = as_a small_value (run_of digit is_numeral)

@@ -1,7 +1,8 @@
 -- How the parts of a line are spelled: each is a relation between some bytes and what they stand for.
-use Rattle.std.specs.Prelude.{◌≡◌, ℕ, List, ◌++◌, Bool, true}
+use Rattle.std.specs.Prelude.{◌≡◌, ℕ, List, ◌++◌, ◌⊎◌, Bool, true}
 use Rattle.std.specs.List.{list_all}
-use Rattle.afr_plan.specs.Bytes.{digit, name_byte, text_byte, is_numeral, is_name, is_text, value}
+use Rattle.afr_plan.specs.Bytes.{digit, name_byte, path_byte, key_byte, text_byte, is_numeral, is_name, is_key, is_text, value, small_value}
+use Rattle.afr_plan.specs.Paths.{names_in, is_path, is_named_path}
 
 -- bytes that each pass one test and together pass another stand for themselves
 abbrev pub IsRun : (ℕ → Bool) → (List ℕ → Bool) → List ℕ → List ℕ → Type 0
@@ -23,14 +24,34 @@ Both S T w z = (u : List ℕ) × (v : List ℕ) × S u z.0 × T v z.1 × (w ≡ 
 abbrev pub Word : {A : Type 0} → List ℕ → A → List ℕ → A → Type 0
 Word word a w x = (w ≡ word) × (a ≡ x)
 
+-- one of two forms
+abbrev pub Either : {A : Type 0} → (List ℕ → A → Type 0) → (List ℕ → A → Type 0) → List ℕ → A → Type 0
+Either S T w x = S w x ⊎ T w x
+
 -- a name, as it stands
 abbrev pub IsName : List ℕ → List ℕ → Type 0
 IsName = IsRun name_byte is_name
+
+-- a key or a value, as it stands
+abbrev pub IsKey : List ℕ → List ℕ → Type 0
+IsKey = IsRun key_byte is_key
 
 -- a text, as it stands
 abbrev pub IsText : List ℕ → List ℕ → Type 0
 IsText = IsRun text_byte is_text
 
+-- a path, and its names
+abbrev pub IsPath : List ℕ → List (List ℕ) → Type 0
+IsPath = As names_in (IsRun path_byte is_path)
+
+-- a path other than `/`, and its names
+abbrev pub IsNamedPath : List ℕ → List (List ℕ) → Type 0
+IsNamedPath = As names_in (IsRun path_byte is_named_path)
+
 -- digits with no leading zero, and what they come to
 abbrev pub IsNumber : List ℕ → ℕ → Type 0
 IsNumber = As value (IsRun digit is_numeral)
+
+-- the same of a small number
+abbrev pub IsSmall : List ℕ → ℕ → Type 0
+IsSmall = As small_value (IsRun digit is_numeral)

@@ -1,46 +1,29 @@
 //! The lines of a plan, read one after the other.
-ghost use Rattle.std.specs.Prelude.{◌≡◌, ◌==◌, ◌∷◌, [], ℕ, List, length, position, reverse, map, IfOk, OnOk, OnErr, Some, Ok, Err};
+ghost use Rattle.std.specs.Prelude.{◌≡◌, ◌==◌, ◌∷◌, [], ℕ, position, reverse, map, IfOk, OnOk, OnErr, Some, Ok, Err, true};
 ghost use Rattle.std.specs.Option.{option_map};
 ghost use Rattle.afr_plan.specs.Judging.{reading, first_fault, at_line, fitting};
+ghost use Rattle.afr_plan.specs.FaultPlaces.{IsNewPlace, with_place};
 ghost use Rattle.afr_plan.specs.Judging as judging;
+ghost use Rattle.afr_plan.specs.Rules.{may_stand};
 ghost use Rattle.afr_plan.specs.Said.{Said};
 ghost use Rattle.afr_plan.specs.Seen.{seen, seen_ok};
 ghost use Rattle.afr_plan.specs.TextLines.{cut_of};
 
-use crate::rules::{Counts, counted, judged, judged_tail};
+use crate::order::FaultPlaces;
+use crate::plan::{PlanFault, PlanStop};
+use crate::rules::{judged, judged_tail};
 use crate::spoken::Spoken;
-use std::alloc::{AllocFailed, Global};
+use crate::totals::{Counts, counted, no_counts};
+use afr_base::NoMemory;
+use std::alloc::Global;
 use std::marker::Model;
-
-/// The first line that breaks a rule, counted from 1, and the lowest rule that it breaks.
-#[derive(Clone, Copy, Debug, Drop)]
-pub(crate) struct LineFault {
-    pub(crate) line: usize,
-    pub(crate) code: u8,
-}
-
-/// Why the lines weren't read.
-#[derive(Clone, Copy, Debug, Drop)]
-pub(crate) enum LineStop {
-    Faulty(LineFault),
-    NoMemory,
-}
-
-impl<T: Drop> From<AllocFailed<T>> for LineStop {
-    ghost use Rattle.afr_plan.specs.declared.lines.LineStop.TheVariants.{NoMemory};
-
-    ghost from_gives = { λ _ stop. stop ≡ NoMemory };
-
-    fn from(_: AllocFailed<T>) -> LineStop {
-        LineStop::NoMemory
-    }
-}
 
 /// What the lines so far say. Contracts see it with the newest line first.
 #[derive(Drop)]
 pub(crate) struct Lines<'a> {
     spoken: Vec<Spoken<'a>>,
     counts: Counts,
+    places: FaultPlaces,
 }
 
 impl<'a> Model for Lines<'a> {
@@ -48,12 +31,13 @@ impl<'a> Model for Lines<'a> {
     ghost use Rattle.afr_plan.specs.Said.{Said};
     ghost use Rattle.afr_plan.specs.Seen.{seen};
     ghost use Rattle.afr_plan.specs.Counts.{IsCounted};
+    ghost use Rattle.afr_plan.specs.FaultPlaces.{ArePlaces};
 
     ghost Value = { List Said };
 
     ghost view = { λ l. reverse (map seen l.spoken.items) };
 
-    ghost invariant = { λ l. IsCounted (reverse (map seen l.spoken.items)) l.counts };
+    ghost invariant = { λ l. IsCounted (reverse (map seen l.spoken.items)) l.counts × ArePlaces (reverse (map seen l.spoken.items)) l.places };
 }
 
 impl<'a> Lines<'a> {
@@ -62,12 +46,8 @@ impl<'a> Lines<'a> {
     {
         Lines {
             spoken: Vec::new(alloc),
-            counts: Counts {
-                clients: 0,
-                commands: 0,
-                ends: 0,
-                lengths: 0,
-            },
+            counts: no_counts(),
+            places: FaultPlaces::new(alloc),
         }
     }
 
@@ -82,7 +62,7 @@ impl<'a> Lines<'a> {
     fn judge(&self, line: &'a [u8]) -> Result<Spoken<'a>, u8>
         ensures { seen_ok result ≡ judging.judged self.now line.now }
     {
-        judged(&self.spoken, &self.counts, line)
+        judged(&self.spoken, &self.counts, &self.places, line)
     }
 
     fn judge_tail(&self, tail: &[u8]) -> Option<u8>
@@ -92,35 +72,69 @@ impl<'a> Lines<'a> {
     }
 
     /// One line more, which breaks no rule.
-    fn push(&mut self, s: Spoken<'a>) -> Result<(), LineStop>
+    fn push(&mut self, s: Spoken<'a>) -> Result<(), NoMemory>
+        requires place { may_stand self.old (seen s) ≡ true }
         requires fits { fitting self.old (seen s) ≡ Ok (seen s) }
         ensures ok { OnOk result (self.new ≡ seen s.entry ∷ self.old) }
-        ensures err { OnErr result (result ≡ Err LineStop.NoMemory) }
     {
-        self.spoken.push(s)?;
+        self.spoken.try_reserve(1)?;
+        placed(&mut self.places, &s)?;
         self.counts = counted(self.counts, &s);
-        Ok(())
+        match self.spoken.push(s) {
+            Ok(()) => Ok(()),
+            Err(_) => unreachable!(),
+        }
     }
 
-    fn fault(&self, code: u8) -> LineFault
+    /// The fault of the line after these. The totals keep its number small.
+    fn fault(&self, code: u8) -> PlanFault
         ensures { result ≡ at_line self.now code }
     {
-        LineFault {
-            line: self.spoken.len() + 1,
+        PlanFault {
+            line: self.spoken.len() as u32 + 1,
             code,
         }
     }
 
     /// Takes a line, or refuses it.
-    fn take_line(&mut self, line: &'a [u8]) -> Result<(), LineStop>
+    fn take_line(&mut self, line: &'a [u8]) -> Result<(), PlanStop>
         ensures ok { OnOk result ((s : Said) × (judging.judged self.old line.now ≡ Ok s) × (self.new ≡ s ∷ self.old)) }
-        ensures refused { (fault : LineFault) → result ≡ Err (LineStop.Faulty fault)
+        ensures refused { (fault : PlanFault) → result ≡ Err (PlanStop.Refused fault)
             → (code : ℕ) × (judging.judged self.old line.now ≡ Err code) × (fault ≡ at_line self.old code) }
     {
         match self.judge(line) {
-            Ok(s) => self.push(s),
-            Err(code) => Err(LineStop::Faulty(self.fault(code))),
+            Ok(s) => match self.push(s) {
+                Ok(()) => Ok(()),
+                Err(_) => Err(PlanStop::NoMemory),
+            },
+            Err(code) => Err(PlanStop::Refused(self.fault(code))),
         }
+    }
+}
+
+/// The places of the faults with one line more.
+fn placed(places: &mut FaultPlaces, s: &Spoken) -> Result<(), NoMemory>
+    requires new { IsNewPlace (seen s.now) places.old }
+    ensures ok { OnOk result (places.new ≡ with_place (seen s.now) places.old) }
+    ensures err { OnErr result (places.new ≡ places.old) }
+{
+    match s {
+        Spoken::Faulty {
+            brick,
+            at,
+            fault: _,
+        } => places.add(*brick, *at),
+        Spoken::Afr => Ok(()),
+        Spoken::Volume(_) => Ok(()),
+        Spoken::Files(_) => Ok(()),
+        Spoken::Turns(_) => Ok(()),
+        Spoken::Client(_) => Ok(()),
+        Spoken::Command { path: _, work: _ } => Ok(()),
+        Spoken::Healer(_) => Ok(()),
+        Spoken::Round(_) => Ok(()),
+        Spoken::At { at: _, event: _ } => Ok(()),
+        Spoken::Go { who: _, count: _ } => Ok(()),
+        Spoken::End => Ok(()),
     }
 }
 
@@ -140,9 +154,9 @@ fn cut(bytes: &[u8]) -> Option<(&[u8], &[u8])>
 }
 
 /// What all lines say, up to `end`.
-pub(crate) fn read_lines<'a>(alloc: Global, bytes: &'a [u8]) -> Result<Lines<'a>, LineStop>
+pub(crate) fn read_lines<'a>(alloc: Global, bytes: &'a [u8]) -> Result<Lines<'a>, PlanStop>
     ensures ok { IfOk result (λ lines. reading bytes.now ≡ Ok lines) }
-    ensures cause { (fault : LineFault) → result ≡ Err (LineStop.Faulty fault) → first_fault bytes.now ≡ Some fault }
+    ensures cause { (fault : PlanFault) → result ≡ Err (PlanStop.Refused fault) → first_fault bytes.now ≡ Some fault }
 {
     let mut lines = Lines::new(alloc);
     let mut rest = bytes;
@@ -155,6 +169,6 @@ pub(crate) fn read_lines<'a>(alloc: Global, bytes: &'a [u8]) -> Result<Lines<'a>
     }
     match lines.judge_tail(rest) {
         None => Ok(lines),
-        Some(code) => Err(LineStop::Faulty(lines.fault(code))),
+        Some(code) => Err(PlanStop::Refused(lines.fault(code))),
     }
 }

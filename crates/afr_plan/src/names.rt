@@ -1,9 +1,9 @@
-//! The names of a plan, numbered by first sight.
+//! Words of one kind, numbered by first sight.
 ghost use Rattle.std.specs.Prelude.{◌≡◌, [], IfOk, OnOk};
 ghost use Rattle.afr_plan.specs.Names.{with_name, number_of, file_names};
 
 use crate::plan::WordList;
-use afr_base::{NameId, NoMemory};
+use afr_base::NoMemory;
 use afr_object::List;
 use indexmap::IndexSet;
 use std::alloc::Global;
@@ -47,12 +47,12 @@ impl NameTable {
 
     /// The number of a name, which is added at the end where it is new: one look-up. A table has
     /// no room for a name whose number isn't a `u32`.
-    pub(crate) fn number(&mut self, name: Vec<u8>) -> Result<NameId, NoMemory>
-        ensures ok { IfOk result (λ id. id ≡ record { 0 = number_of self.old name.items }) }
+    pub(crate) fn number(&mut self, name: Vec<u8>) -> Result<u32, NoMemory>
+        ensures ok { IfOk result (λ id. id ≡ number_of self.old name.items) }
         ensures value { OnOk result (self.new ≡ with_name self.old name.items) }
     {
         let (index, _) = self.set.insert_full(name)?;
-        let id = name_id(index)?;
+        let id = narrowed(index)?;
         Ok(id)
     }
 
@@ -69,11 +69,11 @@ impl NameTable {
     }
 }
 
-fn name_id(index: usize) -> Result<NameId, NoMemory>
-    ensures ok { IfOk result (λ id. id ≡ record { 0 = index }) }
+fn narrowed(index: usize) -> Result<u32, NoMemory>
+    ensures ok { IfOk result (λ id. id ≡ index) }
 {
     match u32::try_from(index) {
-        Ok(id) => Ok(NameId(id)),
+        Ok(id) => Ok(id),
         Err(_) => Err(NoMemory),
     }
 }

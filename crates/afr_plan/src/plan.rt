@@ -5,6 +5,7 @@ use crate::command::Scripts;
 use crate::schedule::{Events, Faults, Orders, Rounds};
 use afr_base::{NoMemory, Shape};
 use afr_object::{List, TryCopy};
+use thiserror::Error;
 
 /// The bytes of a name, a key or a value.
 pub type Word = List<u8>;
@@ -37,16 +38,19 @@ pub struct Plan {
 }
 
 /// The first line of a plan that breaks a rule, counted from 1, and the lowest rule that it breaks.
-#[derive(Clone, Copy, Debug, PartialEq, Eq)]
+#[derive(Clone, Copy, Debug, PartialEq, Eq, Error)]
+#[error("line {line}, code {code}")]
 pub struct PlanFault {
     pub line: u32,
     pub code: u8,
 }
 
 /// Why a plan wasn't read.
-#[derive(Clone, Copy, Debug, PartialEq, Eq)]
+#[derive(Clone, Copy, Debug, PartialEq, Eq, Error)]
 pub enum PlanStop {
+    #[error("plan refused: {0}")]
     Refused(PlanFault),
+    #[error("no memory")]
     NoMemory,
 }
 

@@ -2,7 +2,7 @@
 use crate::{Turned, Volume};
 use afr_base::ActorId;
 use afr_lines::{Line, Request};
-use afr_plan::read_plan;
+use afr_plan::{is_runnable_yet, read_plan};
 use std::alloc::Global;
 use std::test::Fail;
 
@@ -44,6 +44,9 @@ fn set_up(alloc: Global, volume: &mut Volume) -> Result<(), Fail> {
     let Ok(plan) = read_plan(alloc, PLAN.as_bytes()) else {
         return Err(Fail::from("refused"));
     };
+    if !is_runnable_yet(&plan) {
+        return Err(Fail::from("ahead"));
+    }
     let Ok(()) = volume.set_up(plan) else {
         return Err(Fail::from("memory"));
     };

@@ -1,0 +1,3 @@
+//! Whole plans, the lines that are refused, and the limits.
+mod plans;
+mod refused;
