@@ -1,0 +1,355 @@
+-- The test of a move outside a heal is true exactly where the discipline allows the move.
+use Rattle.std.proofs.Common.{◌≡◌, ℕ, suc, ◌+◌, ◌^◌, ◌<◌, ◌≤◌, ◌&&◌, ◌||◌, not, ◌==◌, nat_le, nat_lt, Bool, true, false, List, refl, sym, ◌∙◌, ap, arith, Option, None, Some, ◌⊎◌, inl, inr, length}
+use Rattle.std.proofs.lemmas.Bool.{eqb-true}
+use Rattle.std.proofs.lemmas.Bool.Decides.{nat_tests}
+use Rattle.afr_base.specs.Majority.{is_most}
+use Rattle.afr_base.specs.Bricks.{member, minus, below, is_nothing, lowest}
+use Rattle.afr_base.specs.SetLemmas.{below_all, lowest_left, none_left, within_below}
+use Rattle.afr_base.specs.declared.ids.Kind.{Kind}
+use Rattle.afr_base.specs.declared.ids.NameId.{NameId}
+use Rattle.afr_object.specs.declared.change.Change.{Change}
+use Rattle.afr_object.specs.declared.change.Change.TheVariants.{Write, Cut, SetAttr, Make, Remove}
+use Rattle.afr_object.specs.declared.entry.View.{View}
+use Rattle.afr_range_locks.specs.declared.domain.Domain.TheVariants.{Work, Heal}
+use Rattle.afr_lines.specs.declared.request.Area.{Area}
+use Rattle.afr_lines.specs.declared.request.Area.TheVariants.{Range, Name}
+use Rattle.afr_lines.specs.declared.request.Request.{Request}
+use Rattle.afr_lines.specs.declared.request.Request.TheVariants.{Lock, Unlock, Look, ReadBytes, ReadName, List as ListNames, ReadAttr, ReadAttrs, Index, Pre, Apply, Post, Mend, Settle}
+use Rattle.afr_law.specs.Sets.{any}
+use Rattle.afr_law.specs.Cells.{what_code}
+use Rattle.afr_law.specs.Honest.{plane_kind}
+use Rattle.afr_law.specs.Lawful.{busy, fits_change, heal_area}
+use Rattle.afr_law.specs.Exact.{MayAskExactly}
+use Rattle.afr_law.specs.ExactHeal.{InHeal, Goes, Gives}
+use Rattle.afr_law.specs.ExactRegister.{Exact, Step, Untouched, Open, Pres, Applies, Posts, HealLocks, WorkLocks, Looks, Reads, HealPres, Mends, Settles, Unlocks, HealUnlocks, all, holder, kind_in, same_step}
+use Rattle.afr_law.specs.ExactTransaction.{EndsLow, LiesIn, MayApply, MayBegin, MayEnd, MayOpen, MayPost, MayPre, Outside}
+use Rattle.afr_discipline.specs.declared.register.Move.{Move}
+use Rattle.afr_discipline.specs.declared.register.Move.TheVariants as move
+use Rattle.afr_discipline.specs.Moves.{IffTrue, MayEndHeal, MayMove}
+use Rattle.afr_discipline.specs.declared.register.Register.{Register}
+use Rattle.afr_discipline.specs.Stands.{keeps_in, seen_as}
+use Rattle.afr_discipline.proofs.StandsLemmas.{filled}
+use Rattle.afr_discipline.specs.Tests.{carried, ends_low, fits_view, has_name, is_heal_area, last_posted, lies_in, may_apply, may_ask_outside, may_begin, may_end, may_move_outside, may_open, may_post, may_pre, misses, once, plane_in, same_flag}
+use Rattle.afr_discipline.proofs.Decides.{both, pair, denied, deny, most_yes, most_no, equal, at_most, le_test, less, lt_test, all_yes, all_no, posted_yes, posted_no, work_yes, work_no, once_yes, once_no, carried_yes, carried_no, plane_yes, plane_no}
+
+-- the change lies in the area
+name_yes : (name : Option NameId) (m : NameId) → has_name name m ≡ true → (name ≡ None) ⊎ (name ≡ Some m)
+name_yes None m h = inl refl
+name_yes (Some k) m h = inr (ap (λ (i : ℕ). Some (record { 0 = i })) (eqb-true k.0 m.0 h))
+
+name_no : (name : Option NameId) (m : NameId) → (name ≡ None) ⊎ (name ≡ Some m) → has_name name m ≡ true
+name_no name m (inl e) = rw e refl
+name_no name m (inr e) = rw e (equal m.0 m.0 refl)
+
+lies_yes : (area : Option Area) (change : Change) → lies_in area change ≡ true → LiesIn area change
+lies_yes None change h = absurd (cc h)
+lies_yes (Some (Range g from to)) (Write k at bytes) h =
+    let w = both _ (nat_le to (2 ^ 63)) h in
+    let v = both _ (nat_le (at + length bytes) to) w.0 in
+    let u = both (g.0 == k.0) (nat_le from at) v.0 in
+    (eqb-true g.0 k.0 u.0, at_most from at u.1, at_most (at + length bytes) to v.1, at_most to (2 ^ 63) w.1)
+lies_yes (Some (Range g from to)) (Cut k len) h =
+    let w = both _ (to == 2 ^ 63) h in
+    let v = both (g.0 == k.0) (nat_le from len) w.0 in
+    (eqb-true g.0 k.0 v.0, at_most from len v.1, eqb-true to (2 ^ 63) w.1)
+lies_yes (Some (Range g from to)) (SetAttr k key value) h =
+    let w = both _ (to == 2 ^ 63 + 1) h in
+    let v = both (g.0 == k.0) (from == 2 ^ 63) w.0 in
+    (eqb-true g.0 k.0 v.0, eqb-true from (2 ^ 63) v.1, eqb-true to (2 ^ 63 + 1) w.1)
+lies_yes (Some (Range g from to)) (Make k m new what) h = absurd (cc h)
+lies_yes (Some (Range g from to)) (Remove k m what) h = absurd (cc h)
+lies_yes (Some (Name g name)) (Make k m new what) h = let w = both (g.0 == k.0) (has_name name m) h in (eqb-true g.0 k.0 w.0, name_yes name m w.1)
+lies_yes (Some (Name g name)) (Remove k m what) h = let w = both (g.0 == k.0) (has_name name m) h in (eqb-true g.0 k.0 w.0, name_yes name m w.1)
+lies_yes (Some (Name g name)) (Write k at bytes) h = absurd (cc h)
+lies_yes (Some (Name g name)) (Cut k len) h = absurd (cc h)
+lies_yes (Some (Name g name)) (SetAttr k key value) h = absurd (cc h)
+
+lies_no : (area : Option Area) (change : Change) → LiesIn area change → lies_in area change ≡ true
+lies_no None change h = absurd h
+lies_no (Some (Range g from to)) (Write k at bytes) h =
+    pair _ (nat_le to (2 ^ 63)) (pair _ (nat_le (at + length bytes) to) (pair (g.0 == k.0) (nat_le from at) (equal g.0 k.0 h.0) (le_test from at h.1)) (le_test (at + length bytes) to h.2)) (le_test to (2 ^ 63) h.3)
+lies_no (Some (Range g from to)) (Cut k len) h =
+    pair _ (to == 2 ^ 63) (pair (g.0 == k.0) (nat_le from len) (equal g.0 k.0 h.0) (le_test from len h.1)) (equal to (2 ^ 63) h.2)
+lies_no (Some (Range g from to)) (SetAttr k key value) h =
+    pair _ (to == 2 ^ 63 + 1) (pair (g.0 == k.0) (from == 2 ^ 63) (equal g.0 k.0 h.0) (equal from (2 ^ 63) h.1)) (equal to (2 ^ 63 + 1) h.2)
+lies_no (Some (Range g from to)) (Make k m new what) h = absurd h
+lies_no (Some (Range g from to)) (Remove k m what) h = absurd h
+lies_no (Some (Name g name)) (Make k m new what) h = pair (g.0 == k.0) (has_name name m) (equal g.0 k.0 h.0) (name_no name m h.1)
+lies_no (Some (Name g name)) (Remove k m what) h = pair (g.0 == k.0) (has_name name m) (equal g.0 k.0 h.0) (name_no name m h.1)
+lies_no (Some (Name g name)) (Write k at bytes) h = absurd h
+lies_no (Some (Name g name)) (Cut k len) h = absurd h
+lies_no (Some (Name g name)) (SetAttr k key value) h = absurd h
+
+low_yes : (change : Change) → ends_low change ≡ true → EndsLow change
+low_yes (Write k at bytes) h = at_most (at + length bytes) 1048576 h
+low_yes (Cut k len) h = tt
+low_yes (SetAttr k key value) h = tt
+low_yes (Make k m new what) h = tt
+low_yes (Remove k m what) h = tt
+
+low_no : (change : Change) → EndsLow change → ends_low change ≡ true
+low_no (Write k at bytes) h = le_test (at + length bytes) 1048576 h
+low_no (Cut k len) h = refl
+low_no (SetAttr k key value) h = refl
+low_no (Make k m new what) h = refl
+low_no (Remove k m what) h = refl
+
+fit_no : (shown : Option View) (change : Change) → ((view : View) → shown ≡ Some view → fits_change (what_code view.what) change ≡ true) → fits_view shown change ≡ true
+fit_no None change h = refl
+fit_no (Some view) change h = h view refl
+
+fit_yes : (shown : Option View) (change : Change) (view : View) → fits_view shown change ≡ true → shown ≡ Some view → fits_change (what_code view.what) change ≡ true
+fit_yes shown change view h e = let k : fits_view (Some view) change ≡ true = rw e at h in k
+
+begin_yes : (n : ℕ) (keeps : ℕ → Kind → Bool) (r : Exact) (change : Change) → r.law.heal ≡ false → may_begin n keeps r change ≡ true → MayBegin n keeps r change
+begin_yes n keeps r change out h =
+    let a = both _ (carried n keeps (plane_kind change) r.views (holder r.views)) h in
+    let b = both _ (is_most n r.reached) a.0 in
+    let c = both _ (all n (λ x. fits_view (r.views x) change)) b.0 in
+    let d = both _ (ends_low change) c.0 in
+    let e = both _ (lies_in r.law.area change) d.0 in
+    let f = both (r.law.number == 0) (not r.unlocked) e.0 in
+    record {
+      outside = out;
+      first = eqb-true r.law.number 0 f.0;
+      open_still = denied r.unlocked f.1;
+      lies = lies_yes r.law.area change e.1;
+      low = low_yes change d.1;
+      fits = λ x view l shown. fit_yes (r.views x) change view (all_yes n (λ x. fits_view (r.views x) change) c.1 x l) shown;
+      reached = most_yes n r.reached b.1;
+      holders = carried_yes n keeps (plane_kind change) r.views (holder r.views) a.1;
+    }
+
+begin_no : (n : ℕ) (keeps : ℕ → Kind → Bool) (r : Exact) (change : Change) → MayBegin n keeps r change → may_begin n keeps r change ≡ true
+begin_no n keeps r change m =
+    pair _ (carried n keeps (plane_kind change) r.views (holder r.views))
+    (pair _ (is_most n r.reached)
+    (pair _ (all n (λ x. fits_view (r.views x) change))
+    (pair _ (ends_low change)
+    (pair _ (lies_in r.law.area change) (pair (r.law.number == 0) (not r.unlocked) (equal r.law.number 0 m.first) (deny r.unlocked m.open_still)) (lies_no r.law.area change m.lies))
+    (low_no change m.low))
+    (all_no n (λ x. fits_view (r.views x) change) (λ x l. fit_no (r.views x) change (λ view shown. m.fits x view l shown))))
+    (most_no n r.reached m.reached))
+    (carried_no n keeps (plane_kind change) r.views (holder r.views) m.holders)
+
+not_zero : (k : ℕ) → not (k == 0) ≡ true → k ≡ 0 → ⊥
+not_zero k h e = let w : not (0 == 0) ≡ true = rw e at h in absurd (cc w)
+
+is_more : (k : ℕ) → (k ≡ 0 → ⊥) → not (k == 0) ≡ true
+is_more k h = go (k == 0) refl
+  where
+    go : (x : Bool) → (k == 0) ≡ x → not x ≡ true
+    go true e = absurd (h (eqb-true k 0 e))
+    go false e = refl
+
+pre_yes : (n : ℕ) (r : Exact) (b g : ℕ) (kind : Kind) → r.law.heal ≡ false → may_pre r b g kind ≡ true → MayPre n r b g kind
+pre_yes n r b g kind out h =
+    let x = both _ (once r Pres b) h in
+    let y = both _ (holder r.views b) x.0 in
+    let z = both (not (r.law.number == 0)) (plane_in r.law.area g kind) y.0 in
+    record { outside = out; begun_already = not_zero r.law.number z.0; plane = plane_yes r.law.area g kind z.1; holds = y.1; turn = once_yes r Pres b x.1 }
+
+pre_no : (n : ℕ) (r : Exact) (b g : ℕ) (kind : Kind) → MayPre n r b g kind → may_pre r b g kind ≡ true
+pre_no n r b g kind m =
+    pair _ (once r Pres b) (pair _ (holder r.views b) (pair (not (r.law.number == 0)) (plane_in r.law.area g kind) (is_more r.law.number m.begun_already) (plane_no r.law.area g kind m.plane)) m.holds) (once_no r Pres b m.turn)
+
+apply_yes : (n : ℕ) (keeps : ℕ → Kind → Bool) (r : Exact) (b q : ℕ) → r.law.heal ≡ false → may_apply n keeps r b q ≡ true → MayApply n keeps r b q
+apply_yes n keeps r b q out h =
+    let x = both _ (once r Applies b) h in
+    let y = both _ (carried n keeps (kind_in r.law.area) r.views r.law.pre) x.0 in
+    let z = both (r.law.number == suc q) (r.law.pre b) y.0 in
+    record { outside = out; own = eqb-true r.law.number (suc q) z.0; ready = z.1; enough = carried_yes n keeps (kind_in r.law.area) r.views r.law.pre y.1; turn = once_yes r Applies b x.1 }
+
+apply_no : (n : ℕ) (keeps : ℕ → Kind → Bool) (r : Exact) (b q : ℕ) → MayApply n keeps r b q → may_apply n keeps r b q ≡ true
+apply_no n keeps r b q m =
+    pair _ (once r Applies b)
+    (pair _ (carried n keeps (kind_in r.law.area) r.views r.law.pre) (pair (r.law.number == suc q) (r.law.pre b) (equal r.law.number (suc q) m.own) m.ready) (carried_no n keeps (kind_in r.law.area) r.views r.law.pre m.enough))
+    (once_no r Applies b m.turn)
+
+same_flag_yes : (x y : Bool) → same_flag x y ≡ true → x ≡ y
+same_flag_yes true y h = sym h
+same_flag_yes false true h = absurd (cc h)
+same_flag_yes false false h = refl
+
+same_flag_no : (x y : Bool) → x ≡ y → same_flag x y ≡ true
+same_flag_no true y h = sym h
+same_flag_no false true h = absurd (cc h)
+same_flag_no false false h = refl
+
+misses_yes : (n : ℕ) (done : ℕ → Bool) (missed : List ℕ) → n ≤ 5 → misses n done missed ≡ true → (c : ℕ) → member missed c ≡ (nat_lt c n && not (done c))
+misses_yes n done missed few h c =
+    let w = both (is_nothing (minus missed (below 5))) (all 5 (λ c. same_flag (member missed c) (nat_lt c n && not (done c)))) h in
+    elim (cases c) [
+      | inl small ↦ same_flag_yes (member missed c) (nat_lt c n && not (done c)) (all_yes 5 (λ c. same_flag (member missed c) (nat_lt c n && not (done c))) w.1 c small)
+      | inr large ↦ beyond (member missed c) refl w.0 (λ l. absurd (omega (arith, l, large))) (nat_lt c n) (over c large)
+    ]
+  where
+    cases : (c : ℕ) → (c < 5) ⊎ (5 ≤ c)
+    cases c = grind arith
+
+    over : (c : ℕ) → 5 ≤ c → nat_lt c n ≡ false
+    over c l = grind (arith, nat_tests, few)
+
+    beyond : (x : Bool) → member missed c ≡ x → is_nothing (minus missed (below 5)) ≡ true → (c < 5 → ⊥) → (y : Bool) → y ≡ false → x ≡ (y && not (done c))
+    beyond false e none apart y f = rw f refl
+    beyond true e none apart true f = absurd (cc f)
+    beyond true e none apart false f = absurd (apart (within_below 5 c (none_left missed (below 5) none c e)))
+
+misses_no : (n : ℕ) (done : ℕ → Bool) (missed : List ℕ) → n ≤ 5 → ((c : ℕ) → member missed c ≡ (nat_lt c n && not (done c))) → misses n done missed ≡ true
+misses_no n done missed few h =
+    pair (is_nothing (minus missed (below 5))) (all 5 (λ c. same_flag (member missed c) (nat_lt c n && not (done c))))
+    (none (is_nothing (minus missed (below 5))) refl)
+    (all_no 5 (λ c. same_flag (member missed c) (nat_lt c n && not (done c))) (λ c l. same_flag_no (member missed c) (nat_lt c n && not (done c)) (h c)))
+  where
+    none : (x : Bool) → is_nothing (minus missed (below 5)) ≡ x → x ≡ true
+    none true e = refl
+    none false e =
+        let w = lowest_left missed (below 5) e in
+        let c : ℕ = lowest (minus missed (below 5)) in
+        let k : (nat_lt c n && not (done c)) ≡ true = sym (h c) ∙ w.1 in
+        let l : c < n = less c n (both (nat_lt c n) (not (done c)) k).0 in
+        let m : member (below 5) c ≡ true = below_all 5 c (omega arith) (omega (arith, l, few)) in
+        absurd (cc (w.0, m))
+
+post_yes : (n : ℕ) (keeps : ℕ → Kind → Bool) (r : Exact) (b q g : ℕ) (kind : Kind) (missed : List ℕ) → n ≤ 5 → r.law.heal ≡ false → may_post n keeps r b q g kind missed ≡ true → MayPost n keeps r b q g kind (member missed)
+post_yes n keeps r b q g kind missed few out h =
+    let u = both _ (misses n r.law.done missed) h in
+    let v = both _ (once r Posts b) u.0 in
+    let x = both _ (carried n keeps kind r.views r.law.done) v.0 in
+    let y = both _ (r.law.done b) x.0 in
+    let z = both (r.law.number == suc q) (plane_in r.law.area g kind) y.0 in
+    record {
+      outside = out;
+      own = eqb-true r.law.number (suc q) z.0;
+      plane = plane_yes r.law.area g kind z.1;
+      ready = y.1;
+      enough = carried_yes n keeps kind r.views r.law.done x.1;
+      exact = misses_yes n r.law.done missed few u.1;
+      turn = once_yes r Posts b v.1;
+    }
+
+post_no : (n : ℕ) (keeps : ℕ → Kind → Bool) (r : Exact) (b q g : ℕ) (kind : Kind) (missed : List ℕ) → n ≤ 5 → MayPost n keeps r b q g kind (member missed) → may_post n keeps r b q g kind missed ≡ true
+post_no n keeps r b q g kind missed few m =
+    pair _ (misses n r.law.done missed)
+    (pair _ (once r Posts b)
+    (pair _ (carried n keeps kind r.views r.law.done)
+    (pair _ (r.law.done b) (pair (r.law.number == suc q) (plane_in r.law.area g kind) (equal r.law.number (suc q) m.own) (plane_no r.law.area g kind m.plane)) m.ready)
+    (carried_no n keeps kind r.views r.law.done m.enough))
+    (once_no r Posts b m.turn))
+    (misses_no n r.law.done missed few m.exact)
+
+first_yes : (s : Step) → same_step s Untouched ≡ true → s ≡ Untouched
+first_yes Untouched h = refl
+first_yes Open h = absurd (cc h)
+first_yes Pres h = absurd (cc h)
+first_yes Applies h = absurd (cc h)
+first_yes Posts h = absurd (cc h)
+first_yes HealLocks h = absurd (cc h)
+first_yes WorkLocks h = absurd (cc h)
+first_yes Looks h = absurd (cc h)
+first_yes Reads h = absurd (cc h)
+first_yes HealPres h = absurd (cc h)
+first_yes Mends h = absurd (cc h)
+first_yes Settles h = absurd (cc h)
+first_yes Unlocks h = absurd (cc h)
+first_yes HealUnlocks h = absurd (cc h)
+
+heal_area_yes : (area : Area) → is_heal_area area ≡ true → (g : ℕ) × (area ≡ heal_area g)
+heal_area_yes (Name g name) h = absurd (cc h)
+heal_area_yes (Range g from to) h =
+    let w = both (from == 0) (to == 2 ^ 63) h in
+    (g.0, ap (λ (i : ℕ). Range g i to) (eqb-true from 0 w.0) ∙ ap (λ (i : ℕ). Range g 0 i) (eqb-true to (2 ^ 63) w.1))
+
+open_yes : (r : Exact) (b : ℕ) (area : Area) → may_open r b area ≡ true → MayOpen r b area
+open_yes r b area h =
+    let w = both _ (is_heal_area area) h in
+    let v = both (same_step r.step Untouched) (b == 0) w.0 in
+    let a = heal_area_yes area w.1 in
+    record { first = first_yes r.step v.0; lowest = eqb-true b 0 v.1; g = a.0; range = a.1 }
+
+open_no : (r : Exact) (b : ℕ) (area : Area) → MayOpen r b area → may_open r b area ≡ true
+open_no r b area m = rw (m.first, m.lowest, m.range) refl
+
+ask_yes : (n : ℕ) (keeps : ℕ → Kind → Bool) (r : Exact) (b : ℕ) (request : Request) → n ≤ 5 → r.law.heal ≡ false → may_ask_outside n keeps r b request ≡ true → Outside n keeps r b request
+ask_yes n keeps r b (Lock Work area) few out h = work_yes n r area out h
+ask_yes n keeps r b (Lock Heal area) few out h = open_yes r b area h
+ask_yes n keeps r b (Pre g kind) few out h = pre_yes n r b g.0 kind out h
+ask_yes n keeps r b (Apply q) few out h = apply_yes n keeps r b q out h
+ask_yes n keeps r b (Post q g kind missed) few out h = post_yes n keeps r b q g.0 kind missed few out h
+ask_yes n keeps r b (Mend repair) few out h = absurd (cc h)
+ask_yes n keeps r b (Settle g kind less) few out h = absurd (cc h)
+ask_yes n keeps r b (Unlock domain area) few out h = tt
+ask_yes n keeps r b (Look g) few out h = tt
+ask_yes n keeps r b (ReadBytes g at len) few out h = tt
+ask_yes n keeps r b (ReadName g name) few out h = tt
+ask_yes n keeps r b (ListNames g) few out h = tt
+ask_yes n keeps r b (ReadAttr g key) few out h = tt
+ask_yes n keeps r b (ReadAttrs g) few out h = tt
+ask_yes n keeps r b Index few out h = tt
+
+ask_no : (n : ℕ) (keeps : ℕ → Kind → Bool) (r : Exact) (b : ℕ) (request : Request) → n ≤ 5 → Outside n keeps r b request → may_ask_outside n keeps r b request ≡ true
+ask_no n keeps r b (Lock Work area) few m = work_no n r area m
+ask_no n keeps r b (Lock Heal area) few m = open_no r b area m
+ask_no n keeps r b (Pre g kind) few m = pre_no n r b g.0 kind m
+ask_no n keeps r b (Apply q) few m = apply_no n keeps r b q m
+ask_no n keeps r b (Post q g kind missed) few m = post_no n keeps r b q g.0 kind missed few m
+ask_no n keeps r b (Mend repair) few m = absurd m
+ask_no n keeps r b (Settle g kind less) few m = absurd m
+ask_no n keeps r b (Unlock domain area) few m = refl
+ask_no n keeps r b (Look g) few m = refl
+ask_no n keeps r b (ReadBytes g at len) few m = refl
+ask_no n keeps r b (ReadName g name) few m = refl
+ask_no n keeps r b (ListNames g) few m = refl
+ask_no n keeps r b (ReadAttr g key) few m = refl
+ask_no n keeps r b (ReadAttrs g) few m = refl
+ask_no n keeps r b Index few m = refl
+
+in_no_heal : (n : ℕ) (keeps : ℕ → Kind → Bool) (r : Exact) (b : ℕ) (request : Request) → r.law.heal ≡ false → InHeal n keeps r b request → ⊥
+in_no_heal n keeps r b request out (Goes m) = absurd (cc (out, m.inside))
+in_no_heal n keeps r b request out (Gives inside broken unlock) = absurd (cc (out, inside))
+
+asked_no : (n : ℕ) (keeps : ℕ → Kind → Bool) (r : Exact) (b : ℕ) (request : Request) → n ≤ 5 → r.law.heal ≡ false → MayAskExactly n keeps r b request → may_ask_outside n keeps r b request ≡ true
+asked_no n keeps r b request few out (inl m) = ask_no n keeps r b request few m.1
+asked_no n keeps r b request few out (inr m) = absurd (in_no_heal n keeps r b request out m)
+
+end_yes : (n : ℕ) (r : Exact) (ok : Bool) → r.law.heal ≡ false → may_end n r ok ≡ true → MayEnd n r ok
+end_yes n r ok out h =
+    let x = both _ (not ok || last_posted n r.law) h in
+    let y = both (not (busy n r.law)) (not (any n r.law.healing)) x.0 in
+    record { outside = out; free = denied (busy n r.law) y.0; healed = denied (any n r.law.healing) y.1; posted = λ said. posted_yes n r.law (told ok (last_posted n r.law) x.1 said) }
+  where
+    told : (a b : Bool) → (not a || b) ≡ true → a ≡ true → b ≡ true
+    told true b h k = h
+    told false b h k = absurd (cc k)
+
+end_no : (n : ℕ) (r : Exact) (ok : Bool) → MayEnd n r ok → may_end n r ok ≡ true
+end_no n r ok m =
+    pair _ (not ok || last_posted n r.law) (pair (not (busy n r.law)) (not (any n r.law.healing)) (deny (busy n r.law) m.free) (deny (any n r.law.healing) m.healed)) (told ok (last_posted n r.law) (λ said. posted_no n r.law (m.posted said)))
+  where
+    told : (a b : Bool) → (a ≡ true → b ≡ true) → (not a || b) ≡ true
+    told true b h = h refl
+    told false b h = refl
+
+finished : (n : ℕ) (r : Exact) (ok : Bool) → r.law.heal ≡ false → MayEnd n r ok ⊎ MayEndHeal n r → may_end n r ok ≡ true
+finished n r ok out (inl m) = end_no n r ok m
+finished n r ok out (inr m) = absurd (cc (out, m.inside))
+
+pub decided : (n : ℕ) (keeps : ℕ → Kind → Bool) (r : Exact) (step : Move) → n ≤ 5 → r.law.heal ≡ false → IffTrue (may_move_outside n keeps r step) (MayMove n keeps r step)
+decided n keeps r (move.Ask b request) few out = record {
+  yes = λ h. (let w = both (nat_lt b.0 n) (may_ask_outside n keeps r b.0 request.now) h in (less b.0 n w.0, inl (out, ask_yes n keeps r b.0 request.now few out w.1)));
+  complete = λ m. pair (nat_lt b.0 n) (may_ask_outside n keeps r b.0 request.now) (lt_test b.0 n m.0) (asked_no n keeps r b.0 request.now few out m.1);
+}
+decided n keeps r (move.Begin change) few out = record { yes = λ h. begin_yes n keeps r change.now out h; complete = λ m. begin_no n keeps r change.now m }
+decided n keeps r (move.HealBegin g kind) few out = record { yes = λ h. absurd (cc h); complete = λ m. absurd (cc (out, m.inside)) }
+decided n keeps r (move.End ok) few out = record { yes = λ h. inl (end_yes n r ok out h); complete = λ m. finished n r ok out m }
+
+-- what a work may ask outside a heal is told by the fields that the program has
+pub asks_unseen : (p : Register) (r : Exact) (b : ℕ) (request : Request) → may_ask_outside p.shape.n (keeps_in p.shape) (filled p r) b request ≡ may_ask_outside p.shape.n (keeps_in p.shape) (seen_as p) b request
+asks_unseen p r b (Lock Work area) = refl
+asks_unseen p r b (Lock Heal area) = refl
+asks_unseen p r b (Pre g kind) = refl
+asks_unseen p r b (Apply q) = refl
+asks_unseen p r b (Post q g kind missed) = refl
+asks_unseen p r b (Mend repair) = refl
+asks_unseen p r b (Settle g kind less) = refl
+asks_unseen p r b _ = refl

@@ -1,0 +1,4 @@
+mod StandsLemmas
+mod Decides
+mod Decisions
+mod HealDecisions

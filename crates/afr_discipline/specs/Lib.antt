@@ -1,0 +1,5 @@
+pub mod Stands
+pub mod Moves
+pub mod Tests
+pub mod Five
+pub mod Inside

@@ -1,0 +1,191 @@
+-- Which exact register a program's register stands for.
+use Rattle.std.specs.Prelude.{◌≡◌, ℕ, zero, suc, ◌<◌, ◌&&◌, not, ◌==◌, Bool, false, if◌then◌else◌, List, [], ◌∷◌, slice_index_or, Option, None, Some}
+use Rattle.afr_base.specs.Bricks.{below, member}
+use Rattle.afr_base.specs.Majority.{count_below}
+use Rattle.afr_base.specs.declared.ids.BrickId.{BrickId}
+use Rattle.afr_base.specs.declared.ids.Gfid.{Gfid}
+use Rattle.afr_base.specs.declared.ids.Kind.{Kind}
+use Rattle.afr_base.specs.declared.ids.Kind.TheVariants.{Bytes}
+use Rattle.afr_base.specs.declared.ids.Shape.{Shape}
+use Rattle.afr_object.specs.declared.entry.View.{View}
+use Rattle.afr_choice.specs.Looks.{no_looks, view_at}
+use Rattle.afr_choice.specs.Verdict.{keeps}
+use Rattle.afr_choice.specs.declared.looked.Looked.{Looked}
+use Rattle.afr_law.specs.Sets.{any}
+use Rattle.afr_law.specs.Lawful.{fresh}
+use Rattle.afr_law.specs.ExactRegister as exact
+use Rattle.afr_law.specs.ExactRegister.{Exact, Mends, asked_in, good}
+use Rattle.afr_discipline.specs.declared.register.Register.{Register}
+use Rattle.afr_discipline.specs.declared.register.Step.{Step}
+use Rattle.afr_discipline.specs.declared.register.Step.TheVariants as step
+use Rattle.afr_discipline.specs.declared.register.Phase.{Phase}
+use Rattle.afr_discipline.specs.declared.register.Phase.TheVariants as phase
+
+-- the steps by their names
+abbrev pub step_of : Step → exact.Step
+step_of step.Untouched = exact.Untouched
+step_of step.Open = exact.Open
+step_of step.Pres = exact.Pres
+step_of step.Applies = exact.Applies
+step_of step.Posts = exact.Posts
+step_of step.HealLocks = exact.HealLocks
+step_of step.WorkLocks = exact.WorkLocks
+step_of step.Looks = exact.Looks
+step_of step.Reads = exact.Reads
+step_of step.HealPres = exact.HealPres
+step_of step.Mends = exact.Mends
+step_of step.Settles = exact.Settles
+step_of step.Unlocks = exact.Unlocks
+step_of step.HealUnlocks = exact.HealUnlocks
+
+-- the parts of a heal
+abbrev pub phase_of : Phase → exact.Phase
+phase_of phase.Opening = exact.Opening
+phase_of phase.Piece = exact.Piece
+phase_of phase.Finish = exact.Finish
+
+-- the number of an attempt or a part of a heal: suc of its position, or 0
+abbrev pub number_of : Option ℕ → ℕ
+number_of None = 0
+number_of (Some q) = suc q
+
+-- what each brick showed
+abbrev pub views_of : Looked → ℕ → Option View
+views_of looked x = view_at x looked
+
+-- the position of the read at each brick
+abbrev pub reads_of : List (Option ℕ) → ℕ → Option ℕ
+reads_of reads x = slice_index_or reads x None
+
+-- which bricks keep what a kind is about
+abbrev pub keeps_in : Shape → ℕ → Kind → Bool
+keeps_in shape b kind = keeps shape kind b
+
+-- the position that a number says
+abbrev pub position_of : ℕ → Option ℕ
+position_of zero = None
+position_of (suc q) = Some q
+
+-- the position of the Begin of a transaction
+abbrev pub attempt_of : Exact → Option ℕ
+attempt_of r = if r.law.heal then None else position_of r.law.number
+
+-- a heal has a HealBegin
+abbrev pub has_begun : Exact → Bool
+has_begun r = r.law.heal && not (r.law.number == 0)
+
+-- the object and kind of a heal that has begun
+abbrev pub heal_of : Exact → Option (Gfid × Kind)
+heal_of r = if has_begun r then Some (record { 0 = r.law.object }, r.law.kind) else None
+
+-- the least number below n that passes
+abbrev pub least : ℕ → (ℕ → Bool) → ℕ
+least zero test = 0
+least (suc n) test = if any n test then least n test else n
+
+-- the one brick below n that passes
+abbrev pub sole : ℕ → (ℕ → Bool) → Option BrickId
+sole n test = if count_below n test == 1 then Some (record { 0 = least n test }) else None
+
+-- the source of a heal, where its lines leave one copy alone
+abbrev pub source_of : ℕ → (ℕ → Kind → Bool) → Exact → Option BrickId
+source_of n keeps r = if r.law.heal then sole n (λ s. r.possible s && good n keeps r.law.kind r.first_views s) else None
+
+-- a field of the program for each field that it keeps; what may be the source is told of the volume's bricks alone
+pub record Stands (p : Register) (r : Exact) : Type 0 where
+  pub number : r.law.number ≡ number_of p.begun
+  pub area : r.law.area ≡ p.area
+  pub held : r.law.held ≡ member p.held
+  pub second : r.law.second ≡ p.second
+  pub second_held : r.law.second_held ≡ member p.second_held
+  pub pre : r.law.pre ≡ member p.pre
+  pub done : r.law.done ≡ member p.done
+  pub post : r.law.post ≡ member p.post
+  pub inside : r.law.heal ≡ p.inside
+  pub object : r.law.object ≡ p.object.0
+  pub kind : r.law.kind ≡ p.kind
+  pub healing : r.law.healing ≡ member p.healing
+  pub settled : r.law.settled ≡ member p.settled
+  pub step : r.step ≡ step_of p.step
+  pub asked : r.asked ≡ member p.asked
+  pub unlocked : r.unlocked ≡ p.unlocked
+  pub reached : r.reached ≡ member p.looked.reached
+  pub views : r.views ≡ views_of p.looked
+  pub first_reached : r.first_reached ≡ member p.seen.reached
+  pub first_views : r.first_views ≡ views_of p.seen
+  pub phase : r.phase ≡ phase_of p.phase
+  pub possible : (s : ℕ) → s < p.shape.n → r.possible s ≡ member p.possible s
+  pub reads : r.reads ≡ reads_of p.reads
+  pub upto : r.upto ≡ p.upto
+  pub broken : r.broken ≡ p.broken
+  pub attempt : p.attempt ≡ attempt_of r
+  pub begun : p.begun_before_looks ≡ has_begun r
+  pub heal : p.heal ≡ heal_of r
+  pub source : p.source ≡ source_of p.shape.n (keeps_in p.shape) r
+  pub mended : asked_in r Mends ≡ member p.mended
+
+-- the exact register with the fields of the program, and those of the proof as they were before any line
+abbrev pub seen_as : Register → Exact
+seen_as p = record {
+  law = record fresh {
+    number = number_of p.begun;
+    area = p.area;
+    held = member p.held;
+    second = p.second;
+    second_held = member p.second_held;
+    pre = member p.pre;
+    done = member p.done;
+    post = member p.post;
+    heal = p.inside;
+    object = p.object.0;
+    kind = p.kind;
+    healing = member p.healing;
+    settled = member p.settled;
+  };
+  step = step_of p.step;
+  asked = member p.asked;
+  unlocked = p.unlocked;
+  reached = member p.looked.reached;
+  views = views_of p.looked;
+  first_reached = member p.seen.reached;
+  first_views = views_of p.seen;
+  phase = phase_of p.phase;
+  possible = member p.possible;
+  reads = reads_of p.reads;
+  upto = p.upto;
+  broken = p.broken;
+}
+
+-- the program's register before any line
+abbrev pub no_lines : Shape → Register
+no_lines shape = record {
+  shape = shape;
+  attempt = None;
+  area = None;
+  held = [];
+  second = None;
+  second_held = [];
+  heal = None;
+  healing = [];
+  looked = no_looks;
+  begun_before_looks = false;
+  pre = [];
+  done = [];
+  post = [];
+  source = None;
+  seen = no_looks;
+  reads = None ∷ None ∷ None ∷ None ∷ None ∷ [];
+  mended = [];
+  upto = 0;
+  settled = [];
+  broken = false;
+  step = step.Untouched;
+  asked = [];
+  unlocked = false;
+  begun = None;
+  inside = false;
+  object = record { 0 = 0 };
+  kind = Bytes;
+  phase = phase.Opening;
+  possible = below shape.n;
+}

@@ -1,0 +1,114 @@
+//! Which request a heal may make: one that some copy allows, of those that its lines leave as the source.
+ghost use Rattle.std.specs.Prelude.{◌≡◌, ◌<◌, ◌≤◌};
+ghost use Rattle.afr_law.specs.Sets.{any};
+ghost use Rattle.afr_law.specs.ExactSteps.{may_heal};
+ghost use Rattle.afr_discipline.specs.Inside.{allows, is_unlock, may_ask_inside};
+ghost use Rattle.afr_discipline.specs.Stands.{keeps_in, seen_as};
+
+use crate::heal_moves::{
+    may_list, may_lock_in_heal, may_look, may_raise_in_heal, may_read_attrs, may_read_bytes,
+    may_take_heal, may_unlock_heal, may_unlock_work,
+};
+use crate::heal_numbers::may_settle;
+use crate::heal_reads::may_repair;
+use crate::register::Register;
+use crate::tests_of_five::any_of;
+use afr_base::BrickId;
+use afr_lines::{Area, Request};
+use afr_range_locks::Domain;
+
+fn may_lock(register: &Register, s: BrickId, b: BrickId, domain: Domain, area: Area) -> bool
+    requires few { register.now.shape.n ≤ 5 }
+    requires source { s.0 < 5 }
+    requires small { b.0 < 5 }
+    ensures { result ≡ may_heal register.now.shape.n (keeps_in register.now.shape) (seen_as register.now) s.0 b.0 (Request.Lock domain area) }
+{
+    match domain {
+        Domain::Work => may_lock_in_heal(register, s, b, area),
+        Domain::Heal => may_take_heal(register, s, b, area),
+    }
+}
+
+fn may_unlock(register: &Register, s: BrickId, b: BrickId, domain: Domain, area: Area) -> bool
+    requires few { register.now.shape.n ≤ 5 }
+    requires source { s.0 < 5 }
+    requires small { b.0 < 5 }
+    ensures { result ≡ may_heal register.now.shape.n (keeps_in register.now.shape) (seen_as register.now) s.0 b.0 (Request.Unlock domain area) }
+{
+    match domain {
+        Domain::Work => may_unlock_work(register, s, b, area),
+        Domain::Heal => may_unlock_heal(register, s, b, area),
+    }
+}
+
+/// Whether a heal may ask this, if the copy is its source.
+pub(crate) fn may_heal(register: &Register, s: BrickId, b: BrickId, request: &Request) -> bool
+    requires few { register.now.shape.n ≤ 5 }
+    requires source { s.0 < 5 }
+    requires small { b.0 < 5 }
+    ensures { result ≡ may_heal register.now.shape.n (keeps_in register.now.shape) (seen_as register.now) s.0 b.0 request.now }
+{
+    match request {
+        Request::Lock { domain, area } => may_lock(register, s, b, *domain, *area),
+        Request::Unlock { domain, area } => may_unlock(register, s, b, *domain, *area),
+        Request::Look { gfid } => may_look(register, s, b, *gfid),
+        Request::ReadBytes { gfid, at, len } => may_read_bytes(register, s, b, *gfid, *at, *len),
+        Request::List { gfid } => may_list(register, s, b, *gfid),
+        Request::ReadAttrs { gfid } => may_read_attrs(register, s, b, *gfid),
+        Request::Pre { gfid, kind } => may_raise_in_heal(register, s, b, *gfid, *kind),
+        Request::Mend { repair } => may_repair(register, s, b, repair),
+        Request::Settle { gfid, kind, less } => may_settle(register, s, b, *gfid, *kind, less),
+        Request::ReadName { .. }
+        | Request::ReadAttr { .. }
+        | Request::Index
+        | Request::Apply { .. }
+        | Request::Post { .. } => false,
+    }
+}
+
+/// Whether the copy may be the source by all the lines, and as the source it allows the request.
+pub(crate) fn is_allowed_by(register: &Register, s: BrickId, b: BrickId, request: &Request) -> bool
+    requires few { register.now.shape.n ≤ 5 }
+    requires source { s.0 < 5 }
+    requires small { b.0 < 5 }
+    ensures { result ≡ allows register.now.shape.n (keeps_in register.now.shape) (seen_as register.now) b.0 request.now s.0 }
+{
+    register.possible.has(s) && may_heal(register, s, b, request)
+}
+
+fn some_allows(register: &Register, b: BrickId, request: &Request) -> bool
+    requires few { register.now.shape.n ≤ 5 }
+    requires small { b.0 < 5 }
+    ensures { result ≡ any register.now.shape.n (allows register.now.shape.n (keeps_in register.now.shape) (seen_as register.now) b.0 request.now) }
+{
+    any_of(
+        register.shape.n,
+        is_allowed_by(register, BrickId(0), b, request),
+        is_allowed_by(register, BrickId(1), b, request),
+        is_allowed_by(register, BrickId(2), b, request),
+        is_allowed_by(register, BrickId(3), b, request),
+        is_allowed_by(register, BrickId(4), b, request),
+    )
+}
+
+fn gives_back(request: &Request) -> bool
+    ensures { result ≡ is_unlock request.now }
+{
+    match request {
+        Request::Unlock { .. } => true,
+        _ => false,
+    }
+}
+
+/// Whether some source allows the request; a broken heal only unlocks.
+pub(crate) fn may_ask_in_heal(register: &Register, b: BrickId, request: &Request) -> bool
+    requires few { register.now.shape.n ≤ 5 }
+    requires small { b.0 < 5 }
+    ensures { result ≡ may_ask_inside register.now.shape.n (keeps_in register.now.shape) (seen_as register.now) b.0 request.now }
+{
+    if register.broken {
+        gives_back(request)
+    } else {
+        some_allows(register, b, request)
+    }
+}

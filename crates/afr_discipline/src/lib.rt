@@ -1,0 +1,23 @@
+//! What an actor may do next, and what its lines so far show: the discipline as a test of each move.
+#![tactic(auto)]
+
+mod areas;
+mod heal_asks;
+mod heal_moves;
+mod heal_numbers;
+mod heal_reads;
+mod heal_sets;
+#[cfg(test)]
+mod heal_tests;
+mod heals;
+mod moves;
+mod outside;
+mod register;
+mod steps;
+#[cfg(test)]
+mod tests;
+mod tests_of_five;
+mod views;
+
+pub use moves::may;
+pub use register::{Move, Register, fresh};
