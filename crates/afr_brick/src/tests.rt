@@ -81,7 +81,7 @@ fn a_made_file_is_listed_until_its_name_goes(rt: HostRuntime) -> Result<(), Fail
 }
 
 #[test]
-fn a_repaired_brick_has_what_another_shows(rt: HostRuntime) -> Result<(), Fail> {
+fn a_repaired_brick_has_the_names_and_attributes_of_another(rt: HostRuntime) -> Result<(), Fail> {
     let mut source = Brick::empty(rt.alloc(), false).ok().ok_or("memory")?;
     let mut sink = Brick::empty(rt.alloc(), false).ok().ok_or("memory")?;
     let file = Gfid(77);
@@ -106,14 +106,10 @@ fn a_repaired_brick_has_what_another_shows(rt: HostRuntime) -> Result<(), Fail> 
         gfid: file,
         read: 0,
     };
-    let copy = Repair::Copy {
-        gfid: file,
-        at: 1,
-        span: 4,
-        read: 0,
-    };
-    let cut = Repair::CutTo { gfid: file, len: 2 };
-    assert_eq!(rt; sink.repair(&cut, Load::Nothing), Err(Refused::NoObject));
+    assert_eq!(rt;
+        sink.repair(&put_attrs, Load::Nothing),
+        Err(Refused::NoObject)
+    );
     let names = source.list(ROOT).ok().ok_or("memory")?;
     assert!(rt; sink.repair(&put_names, Load::Names(&names)).is_ok());
     assert_eq!(rt;
@@ -123,6 +119,28 @@ fn a_repaired_brick_has_what_another_shows(rt: HostRuntime) -> Result<(), Fail> 
     let attrs = source.read_attrs(file).ok().ok_or("memory")?;
     assert!(rt; sink.repair(&put_attrs, Load::Attrs(&attrs)).is_ok());
     assert_eq!(rt; sink.read_attr(file, KeyId(5)), Ok(Some(ValueId(6))));
+    Ok(())
+}
+
+#[test]
+fn a_repaired_brick_has_the_bytes_of_another(rt: HostRuntime) -> Result<(), Fail> {
+    let mut sink = Brick::empty(rt.alloc(), false).ok().ok_or("memory")?;
+    let file = Gfid(77);
+    let copy = Repair::Copy {
+        gfid: file,
+        at: 1,
+        span: 4,
+        read: 0,
+    };
+    let cut = Repair::CutTo { gfid: file, len: 2 };
+    assert_eq!(rt; sink.repair(&cut, Load::Nothing), Err(Refused::NoObject));
+    let make = Change::Make {
+        dir: ROOT,
+        name: NameId(3),
+        gfid: file,
+        what: What::File,
+    };
+    assert!(rt; sink.apply(&make).is_ok());
     assert!(rt; sink.repair(&copy, Load::Bytes(b"ab")).is_ok());
     assert!(rt; sink.repair(&copy, Load::Nothing).is_ok());
     let read = sink.read_bytes(file, 0, 9).ok().ok_or("memory")?;

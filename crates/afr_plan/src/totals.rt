@@ -161,11 +161,7 @@ pub(crate) fn counted(counts: Counts, s: &Spoken) -> Counts
             rounds: counts.rounds + 1,
             ..counts
         },
-        Spoken::Faulty {
-            brick: _,
-            at: _,
-            fault: _,
-        } => Counts {
+        Spoken::Faulty { .. } => Counts {
             faults: counts.faults + 1,
             ..counts
         },
