@@ -4,12 +4,15 @@ use Rattle.afr_law.specs.BridgeHonest.{honest_ask}
 use Rattle.afr_law.specs.BridgeOpening.{start_of}
 use Rattle.afr_law.specs.BridgeSafe.{model_safe}
 use Rattle.afr_law.specs.BridgeSettles.{honest_at, make_known, member_below, take_within, within_before}
-use Rattle.afr_law.specs.BridgeSoundLog.{LawfulBelow, lawful_below, name_limit}
+use Rattle.afr_law.specs.BridgeSoundLog.{LawfulBelow, NameIsBelow}
+use Rattle.afr_law.specs.BridgeSound.{NameFits}
 use Rattle.afr_law.specs.BridgeSums.{TakeWithin}
 use Rattle.afr_law.specs.Codes.{kept_by}
 use Rattle.afr_law.specs.Exact.{LawfulExactly}
 use Rattle.afr_law.specs.ExactKnown.{line_known}
 use Rattle.afr_law.specs.ExactLog.{IsExactLine, IsExactlyLawful, exactly_lawful}
+use Rattle.afr_law.specs.ExactRange.{ChangeInRange, InRange}
+use Rattle.afr_law.specs.ExactSafe.{IsLawfulExactly, name_bound}
 use Rattle.afr_law.specs.Honest.{Honest, HonestLine}
 use Rattle.afr_law.specs.Implies.{implies}
 use Rattle.afr_law.specs.Lawful.{Lawful, Register, present}
@@ -25,8 +28,10 @@ use Rattle.afr_lines.specs.Log.{from_oldest}
 use Rattle.afr_lines.specs.declared.line.Line.{Line}
 use Rattle.afr_lines.specs.declared.line.Line.TheVariants.{Ask, Begin, End, Event, HealBegin, HealEnd}
 use Rattle.afr_model.specs.Honest.{Honest as IsHonestLog, IsHonest, fault_in}
+use Rattle.afr_object.specs.declared.change.Change.{Change}
+use Rattle.afr_object.specs.declared.change.Change.TheVariants.{Cut, Make, Remove, SetAttr, Write}
 use Rattle.afr_plan.specs.declared.plan.Plan.{Plan}
-use Rattle.std.proofs.Common.{List, [], arith, inl, inr, length, subst, suc, sym, ℕ, ◌<◌, ◌∷◌, ◌≡◌, ◌≤◌}
+use Rattle.std.proofs.Common.{List, [], arith, inl, inr, length, subst, suc, sym, ℕ, ◌<◌, ◌^◌, ◌∷◌, ◌≡◌, ◌≤◌}
 use Rattle.std.specs.Prelude.{Some}
 
 -- the newest line is honest by positions: a request went to a brick of the plan, and what is made is known
@@ -81,17 +86,45 @@ module _ (p : Plan) (n : ℕ) (five : p.shape.n ≤ 5) (line : Line) (older : Li
   newest_lawful : IsLawfulLine p line older
   newest_lawful = (may_next p.shape.n (kept_by p) L (by_position older) (length older) agree line past.0 number_low (weakly (length older)), known)
 
+-- names of four bytes are below
+change_below : (n : ℕ) → 2 ^ 32 ≤ n → (c : Change) → ChangeInRange c → NameFits n c
+change_below n wide (Make dir name g what) h = (let w = h.1 in omega (arith, wide, w))
+change_below n wide (Write g at bytes) h = tt
+change_below n wide (Cut g len) h = tt
+change_below n wide (SetAttr g key value) h = tt
+change_below n wide (Remove dir name what) h = tt
+
+line_below : (n : ℕ) → 2 ^ 32 ≤ n → (line : Line) → InRange line → NameIsBelow n line
+line_below n wide (Begin a c) h = change_below n wide c h.1
+line_below n wide (Ask a b r said took) h = tt
+line_below n wide (HealBegin a g kind) h = tt
+line_below n wide (End a reply) h = tt
+line_below n wide (HealEnd a g kind reply) h = tt
+line_below n wide (Event e) h = tt
+
+all_below : (p : Plan) (n : ℕ) → p.files ≤ n → 2 ^ 32 ≤ n → (log : List Line) → IsExactlyLawful p.shape.n (start_of p n) log → IsLawful p log → LawfulBelow p n log
+all_below p n files wide [] lawful kept = files
+all_below p n files wide (line ∷ older) lawful kept = ((kept.0, line_below n wide line (lawful.0).0), all_below p n files wide older lawful.1 kept.1)
+
 -- each line by those before it
-exact_lawful : (p : Plan) (n : ℕ) → p.shape.n ≤ 5 → (log : List Line) → name_limit p log ≤ n → length log ≤ 4000000 → IsHonestLog p log → IsExactlyLawful p.shape.n (start_of p n) log → IsLawful p log
-exact_lawful p n five [] low short honest lawful = tt
-exact_lawful p n five (line ∷ older) low short honest lawful = (
-    let before = exact_lawful p n five older (omega (arith, low)) (omega (arith, short)) honest.1 lawful.1 in
-    (newest_lawful p n five line older (omega (arith, short)) honest lawful (lawful_below p n older (omega (arith, low)) before), before)
+exact_lawful : (p : Plan) (n : ℕ) → p.shape.n ≤ 5 → p.files ≤ n → 2 ^ 32 ≤ n → (log : List Line) → length log ≤ 4000000 → IsHonestLog p log → IsExactlyLawful p.shape.n (start_of p n) log → IsLawful p log
+exact_lawful p n five files wide [] short honest lawful = tt
+exact_lawful p n five files wide (line ∷ older) short honest lawful = (
+    let before = exact_lawful p n five files wide older (omega (arith, short)) honest.1 lawful.1 in
+    (newest_lawful p n five line older (omega (arith, short)) honest lawful (all_below p n files wide older lawful.1 before), before)
     )
+
+-- lines that keep the discipline in full keep the one that the laws use
+pub weakly_lawful : (p : Plan) (log : List Line) → p.shape.n ≤ 5 → length log ≤ 4000000 → IsHonestLog p log → IsLawfulExactly p log → IsLawful p log
+weakly_lawful p log five short honest lawful = exact_lawful p (name_bound p) five (omega arith) (omega arith) log short honest lawful
+
+-- and all their names are below the bound
+pub exactly_below : (p : Plan) (log : List Line) → p.shape.n ≤ 5 → length log ≤ 4000000 → IsHonestLog p log → IsLawfulExactly p log → LawfulBelow p (name_bound p) log
+exactly_below p log five short honest lawful = all_below p (name_bound p) (omega arith) (omega arith) log lawful (weakly_lawful p log five short honest lawful)
 
 -- so both laws hold of them
 pub exact_safe : ModelExactIsSafe
-exact_safe p log five short honest lawful = model_safe p log five honest (exact_lawful p (name_limit p log) five log (omega arith) short honest lawful)
+exact_safe p log five short honest lawful = model_safe p log five honest (weakly_lawful p log five short honest lawful)
 
 pub exact_alike : ModelExactIsAlike
-exact_alike p log five short honest lawful = model_alike p log five honest (exact_lawful p (name_limit p log) five log (omega arith) short honest lawful)
+exact_alike p log five short honest lawful = model_alike p log five honest (weakly_lawful p log five short honest lawful)

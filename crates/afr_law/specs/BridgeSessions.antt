@@ -37,7 +37,7 @@ heal_lock_same (End x reply) = refl
 heal_lock_same (HealEnd x g kind reply) = refl
 heal_lock_same (line_of.Event e) = refl
 
-opens_same : (p : Place) (line : Line) → opens p (Some line) ≡ session.opens p line
+pub opens_same : (p : Place) (line : Line) → opens p (Some line) ≡ session.opens p line
 unfolding opens
 opens_same Fresh line = refl
 opens_same Indexed line = heal_lock_same line

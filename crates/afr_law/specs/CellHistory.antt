@@ -26,7 +26,7 @@ use Rattle.std.specs.Prelude.{slice_index, nat_le, nat_lt, length, List as Seq}
 use Rattle.afr_object.specs.declared.change.Change.TheVariants.{Write, Cut}
 use Rattle.afr_law.specs.Cells.{fits, is_cell, touches}
 use Rattle.afr_law.specs.Safe.{Acknowledged, Current, Opening, Left, Good, Safe}
-use Rattle.afr_law.specs.Core.{History, Clean, one_cell, reached, stamp_rises}
+use Rattle.afr_law.specs.Core.{History, Clean, one_cell, one_read, reached, stamp_rises}
 use Rattle.afr_law.specs.Locks.{before_is, same_self}
 use Rattle.afr_law.specs.Numbers.{Recorded, Piece}
 use Rattle.afr_law.specs.Acts.{Act, act_later, acts_apart, working, may_ask, mend_covers, apply_acts, post_acts, post_exact, post_plane}
@@ -279,7 +279,15 @@ module _ (n : ℕ) (files : Beginning) (faults : ℕ → ℕ → Option Fault) (
   unfolding history
   copy_rises c copy t u low = stamp_rises history c copy t u low
 
-  recorded_at : (t a x q : ℕ) → Recorded log t a x q → changes (log q) cell ≡ true → (p : ℕ) × (p < t) × PostedAt files log cell q x p
+  -- what a copy has that some looks at a majority, since a moment, didn't accuse is left by no attempt before one that was acknowledged by then
+  pub copy_read : (r b since : ℕ) (among : ℕ → Bool) → IsMajority n among → files.keeps b (kind_of cell) ≡ true → b < n
+      → ((x : ℕ) → x < n → among x ≡ true → (l : ℕ) × (since ≤ l) × (l ≤ r) × (posts files log l x b (object_of cell) (kind_of cell) ≤ settled files log l x b (object_of cell) (kind_of cell)))
+      → (from : ℕ) × IsOriginAt log cell r from × (value files log r b cell ≡ leaves_at files log cell from)
+      × ((q : ℕ) → CountsAt n files log cell q → (done : ℕ → Bool) → IsMajority n done → ((x : ℕ) → x < n → done x ≡ true → (p : ℕ) × (p < since) × PostedAt files log cell q x p) → q < from)
+  unfolding history
+  copy_read r b since among majority copy below looks = one_read history r b since among majority copy below looks
+
+  pub recorded_at : (t a x q : ℕ) → Recorded log t a x q → changes (log q) cell ≡ true → (p : ℕ) × (p < t) × PostedAt files log cell q x p
   recorded_at t a x q w touch =
       let plane = post_here (log q) cell w.g w.kind (post_plane n files.keeps files faults log honest lawful w.p a x q w.g w.kind w.missed Done w.is) touch in (
         w.p,
@@ -296,7 +304,7 @@ module _ (n : ℕ) (files : Beginning) (faults : ℕ → ℕ → Option Fault) (
         },
       )
 
-  counts_at : (t a q : ℕ) → Fixed n log t a q → changes (log q) cell ≡ true → CountsAt n files log cell q
+  pub counts_at : (t a q : ℕ) → Fixed n log t a q → changes (log q) cell ≡ true → CountsAt n files log cell q
   counts_at t a q f touch = record {
     touch = touch;
     among = f.among;
@@ -313,7 +321,7 @@ and_last : (x y : Bool) → y ≡ false → (x && y) ≡ false
 and_last x y e = grind arith
 
 -- nothing touches a place past the last byte
-no_change : (line : Option Line) (cell : Cell) → is_cell cell ≡ false → changes line cell ≡ false
+pub no_change : (line : Option Line) (cell : Cell) → is_cell cell ≡ false → changes line cell ≡ false
 unfolding touches
 no_change (Some (Begin a (Write g at bytes))) (Byte h i) e = and_last ((g.0 == h) && nat_le at i && nat_lt i (at + length bytes)) (nat_lt i (2 ^ 63)) e
 no_change (Some (Begin a (Cut g len))) (Byte h i) e = and_last ((g.0 == h) && nat_le len i) (nat_lt i (2 ^ 63)) e
@@ -367,7 +375,7 @@ module _ (n : ℕ) (files : Beginning) (faults : ℕ → ℕ → Option Fault) (
       let right = seen_born files faults log honest q a x attempt.change (attempt.fit x seen) in
       subst (λ g. fits (born files log g) cell ≡ true) (change_plane attempt.change cell inside).0 (change_fits (born files log (object attempt.change)) attempt.change cell right inside)
 
-  unfit_acked : (cell : Cell) (t k : ℕ) → fits (born files log (object_of cell)) cell ≡ false → Acknowledged log t k → changes (log k) cell ≡ true → ⊥
+  pub unfit_acked : (cell : Cell) (t k : ℕ) → fits (born files log (object_of cell)) cell ≡ false → Acknowledged log t k → changes (log k) cell ≡ true → ⊥
   unfit_acked cell t k unfit acked hit =
       let f = acknowledged_fixed n files.keeps files faults log honest lawful t k acked in
       let x = majorities_share n f.among f.among f.majority f.majority in

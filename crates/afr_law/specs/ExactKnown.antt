@@ -77,7 +77,7 @@ same_what File Dir e = absurd (omega (arith, e))
 same_what Dir File e = absurd (omega (arith, e))
 
 -- the entry that has this code
-entry_of : (x : Option NameEntry) (g : Gfid) (what : What) → value_code (IsEntry x) ≡ entry_code g.0 what → x ≡ Some (record { gfid = g; what = what })
+pub entry_of : (x : Option NameEntry) (g : Gfid) (what : What) → value_code (IsEntry x) ≡ entry_code g.0 what → x ≡ Some (record { gfid = g; what = what })
 entry_of None g what e = absurd (entry_some g.0 what (sym e))
 entry_of (Some y) g what e = (let w = entry_same y.gfid.0 g.0 y.what what e in λ i. Some (record { gfid = record { 0 = w.0 i }; what = same_what y.what what w.1 i }))
 

@@ -30,7 +30,7 @@ abbrev pub IsExactlyLawful : ℕ → Beginning → Seq Line → Type 0
 IsExactlyLawful n files log = EachLine (IsExactLine n files) log
 
 module _ (log other : Log) (m : ℕ) (agree : (u : ℕ) → u < m → log u ≡ other u) where
-  exact_same : (n : ℕ) (keeps : ℕ → Kind → Bool) (a t : ℕ) → t ≤ m → exact n keeps log t a ≡ exact n keeps other t a
+  pub exact_same : (n : ℕ) (keeps : ℕ → Kind → Bool) (a t : ℕ) → t ≤ m → exact n keeps log t a ≡ exact n keeps other t a
   unfolding exact
   exact_same n keeps a zero h = refl
   exact_same n keeps a (suc t) h = λ i. exact_after n keeps (is_of a (agree t h i)) (opens (place_same log other m agree a t (omega (arith, h)) i) (agree t h i)) (exact_same n keeps a t (omega (arith, h)) i) t (agree t h i)

@@ -106,3 +106,15 @@ pub mod HealAsked
 pub mod ExactKnown
 pub mod ModelExact
 pub mod BridgeExact
+pub mod FreshReads
+pub mod FreshLemmas
+pub mod ModelFresh
+pub mod BridgeLooks
+pub mod BridgeEarly
+pub mod BridgeFresh
+pub mod SampleReads
+pub mod Misses
+pub mod Causes
+pub mod CauseLemmas
+pub mod ModelCauses
+pub mod BridgeCauses
