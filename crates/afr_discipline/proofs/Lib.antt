@@ -2,3 +2,11 @@ mod StandsLemmas
 mod Decides
 mod Decisions
 mod HealDecisions
+mod SetsOfFive
+mod NotedLaw
+mod NotedShape
+mod StepsOutside
+mod StepsInside
+mod NotedSteps
+mod Published
+mod Noted

@@ -3,3 +3,4 @@ pub mod Moves
 pub mod Tests
 pub mod Five
 pub mod Inside
+pub mod Notes

@@ -67,7 +67,7 @@ fn has_some_read(reads: &[Option<u32>; 5]) -> bool
         || has_read_at(reads, BrickId(4))
 }
 
-fn is_in_opening(phase: Phase) -> bool
+pub(crate) fn is_in_opening(phase: Phase) -> bool
     ensures { result ≡ is_opening (phase_of phase) }
 {
     match phase {

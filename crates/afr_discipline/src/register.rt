@@ -92,7 +92,8 @@ pub fn fresh(shape: Shape) -> Register
     empty(shape)
 }
 
-fn empty(shape: Shape) -> Register
+/// The register of no line, field by field.
+pub(crate) fn empty(shape: Shape) -> Register
     requires { shape.n ≤ 5 }
     ensures { result ≡ no_lines shape }
 {

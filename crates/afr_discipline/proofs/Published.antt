@@ -1,0 +1,152 @@
+-- A register that stands in its law and its steps stands whole once it is published.
+use Rattle.std.proofs.Common.{◌≡◌, ℕ, zero, suc, ◌<◌, ◌&&◌, ◌||◌, not, Bool, if◌then◌else◌, refl, sym, ◌∙◌, ap, subst, arith, Option, None}
+use Rattle.afr_base.specs.Bricks.{member}
+use Rattle.afr_base.specs.SetLemmas.{count_same}
+use Rattle.afr_base.specs.declared.ids.BrickId.{BrickId}
+use Rattle.afr_base.specs.declared.ids.Shape.{Shape}
+use Rattle.afr_law.specs.Lawful.{Register as LawRegister}
+use Rattle.afr_law.specs.ExactNote.{stopping, stops_at}
+use Rattle.afr_law.specs.ExactRegister as exact
+use Rattle.afr_law.specs.ExactRegister.{Exact, asked_in, good, over, same_step}
+use Rattle.afr_law.specs.ExactSteps.{goes_on, looks_at}
+use Rattle.afr_discipline.specs.declared.register.Register.{Register}
+use Rattle.afr_discipline.specs.Notes.{joined, published, stopped}
+use Rattle.afr_discipline.specs.Stands.{Stands, attempt_of, has_begun, heal_of, keeps_in, least, seen_as, sole, source_of, step_of, views_of}
+use Rattle.afr_discipline.proofs.StandsLemmas.{filled}
+use Rattle.afr_discipline.proofs.HealDecisions.{any_same}
+use Rattle.afr_discipline.proofs.NotedLaw.{LawStands, stopped_law}
+use Rattle.afr_discipline.proofs.StepsOutside.{MayMatch, StepsStand, asked_if}
+
+-- the half of the law's register
+pub law_half : (p : Register) (r : Exact) → Stands p r → LawStands p r.law
+law_half p r s = record {
+  number = s.number;
+  area = s.area;
+  held = s.held;
+  second = s.second;
+  second_held = s.second_held;
+  pre = s.pre;
+  done = s.done;
+  post = s.post;
+  inside = s.inside;
+  object = s.object;
+  kind = s.kind;
+  healing = s.healing;
+  settled = s.settled;
+}
+
+-- the exact register is that of the program's fields
+halves_fill : (p : Register) (r : Exact) → LawStands p r.law → StepsStand p r → r ≡ filled p r
+halves_fill p r l s =
+    rw (← l.number, ← l.area, ← l.held, ← l.second, ← l.second_held, ← l.pre, ← l.done, ← l.post, ← l.inside, ← l.object, ← l.kind, ← l.healing, ← l.settled, ← s.step, ← s.asked, ← s.unlocked, ← s.reached, ← s.views, ← s.first_reached, ← s.first_views, ← s.phase, ← s.reads, ← s.upto, ← s.broken) refl
+
+-- ---- the one source
+-- tests that are the same below n have the same least number
+least_same : (n : ℕ) (test same : ℕ → Bool) → ((s : ℕ) → s < n → test s ≡ same s) → least n test ≡ least n same
+least_same zero test same h = refl
+least_same (suc n) test same h = rw (any_same n test same (λ s l. h s (omega (arith, l))), least_same n test same (λ s l. h s (omega (arith, l)))) refl
+
+-- and the same one brick
+sole_same : (n : ℕ) (test same : ℕ → Bool) → ((s : ℕ) → s < n → test s ≡ same s) → sole n test ≡ sole n same
+sole_same n test same h = rw (count_same n test same h, least_same n test same h) refl
+
+-- the source is told by the fields that the program has
+source_same : (p : Register) (r : Exact) → MayMatch p r → source_of p.shape.n (keeps_in p.shape) (seen_as p) ≡ source_of p.shape.n (keeps_in p.shape) (filled p r)
+source_same p r possible =
+    ap (λ (one : Option BrickId). if p.inside then one else None)
+    (sole_same p.shape.n (λ s. member p.possible s && good p.shape.n (keeps_in p.shape) p.kind (views_of p.seen) s) (λ s. r.possible s && good p.shape.n (keeps_in p.shape) p.kind (views_of p.seen) s)
+    (λ s l. ap (λ (may : Bool). may && good p.shape.n (keeps_in p.shape) p.kind (views_of p.seen) s) (sym (possible s l))))
+
+-- ---- published
+-- the other fields say what the exact register says
+pub published_stands : (p : Register) (r : Exact) → LawStands p r.law → StepsStand p r → Stands (published p) r
+published_stands p r l s = record {
+  number = l.number;
+  area = l.area;
+  held = l.held;
+  second = l.second;
+  second_held = l.second_held;
+  pre = l.pre;
+  done = l.done;
+  post = l.post;
+  inside = l.inside;
+  object = l.object;
+  kind = l.kind;
+  healing = l.healing;
+  settled = l.settled;
+  step = s.step;
+  asked = s.asked;
+  unlocked = s.unlocked;
+  reached = s.reached;
+  views = s.views;
+  first_reached = s.first_reached;
+  first_views = s.first_views;
+  phase = s.phase;
+  possible = s.possible;
+  reads = s.reads;
+  upto = s.upto;
+  broken = s.broken;
+  attempt = ap attempt_of (sym (halves_fill p r l s));
+  begun = ap has_begun (sym (halves_fill p r l s));
+  heal = ap heal_of (sym (halves_fill p r l s));
+  source = source_same p r s.possible ∙ ap (source_of p.shape.n (keeps_in p.shape)) (sym (halves_fill p r l s));
+  mended = ap (λ (x : Exact). asked_in x exact.Mends) (halves_fill p r l s) ∙ asked_if (same_step (step_of p.step) exact.Mends) p.asked;
+}
+
+-- ---- stopped
+-- what ends a heal is told by the fields that the program has
+stops_unseen : (p : Register) (r : Exact) (step : exact.Step) → MayMatch p r → stops_at p.shape.n (keeps_in p.shape) (filled p r) step ≡ stops_at p.shape.n (keeps_in p.shape) (seen_as p) step
+stops_unseen p r exact.HealLocks possible = refl
+stops_unseen p r exact.WorkLocks possible = refl
+stops_unseen p r exact.Looks possible =
+    ap (λ (some : Bool). over p.shape.n (looks_at (seen_as p) (seen_as p).phase) (member p.asked) && not some)
+    (any_same p.shape.n (λ s. r.possible s && goes_on p.shape.n (keeps_in p.shape) (filled p r) s) (λ s. member p.possible s && goes_on p.shape.n (keeps_in p.shape) (seen_as p) s)
+    (λ s l. ap (λ (may : Bool). may && goes_on p.shape.n (keeps_in p.shape) (seen_as p) s) (possible s l)))
+stops_unseen p r _ possible = refl
+
+-- a step ends the heal in both
+broken_same : (p : Register) (r : Exact) → LawStands p r.law → StepsStand p r
+    → (r.broken || stops_at p.shape.n (keeps_in p.shape) r r.step) ≡ (p.broken || stops_at p.shape.n (keeps_in p.shape) (seen_as p) (step_of p.step))
+broken_same p r l s =
+    ap (λ (x : Exact). x.broken || stops_at p.shape.n (keeps_in p.shape) x x.step) (halves_fill p r l s)
+    ∙ ap (λ (stops : Bool). p.broken || stops) (stops_unseen p r (step_of p.step) s.possible)
+
+-- the steps, with that end noted
+stopped_steps : (p : Register) (r : Exact) → LawStands p r.law → StepsStand p r → StepsStand (stopped p) (stopping p.shape.n (keeps_in p.shape) r)
+stopped_steps p r l s = record {
+  step = s.step;
+  asked = s.asked;
+  unlocked = s.unlocked;
+  reached = s.reached;
+  views = s.views;
+  first_reached = s.first_reached;
+  first_views = s.first_views;
+  phase = s.phase;
+  possible = s.possible;
+  reads = s.reads;
+  upto = s.upto;
+  broken = broken_same p r l s;
+}
+
+-- the steps of the one and the law's register of the other
+pub joined_steps : (p q : Register) (r : Exact) (law : LawRegister) → StepsStand p r → StepsStand (joined p q) (record r { law = law })
+joined_steps p q r law s = record {
+  step = s.step;
+  asked = s.asked;
+  unlocked = s.unlocked;
+  reached = s.reached;
+  views = s.views;
+  first_reached = s.first_reached;
+  first_views = s.first_views;
+  phase = s.phase;
+  possible = s.possible;
+  reads = s.reads;
+  upto = s.upto;
+  broken = s.broken;
+}
+
+-- both, for a register of this shape
+pub stopped_stands : (p : Register) (r : Exact) (shape : Shape) → p.shape ≡ shape → LawStands p r.law → StepsStand p r → Stands (published (stopped p)) (stopping shape.n (keeps_in shape) r)
+stopped_stands p r shape same l s =
+    subst (λ (here : Shape). Stands (published (stopped p)) (stopping here.n (keeps_in here) r)) same
+    (published_stands (stopped p) (stopping p.shape.n (keeps_in p.shape) r) (stopped_law p r.law l) (stopped_steps p r l s))

@@ -1,0 +1,86 @@
+//! The fields of a register that are for its readers alone: what the others say of the attempt, the heal and its source.
+ghost use Rattle.std.specs.Prelude.{◌≡◌, ◌<◌, ◌≤◌, ◌&&◌};
+ghost use Rattle.afr_base.specs.Bricks.{member};
+ghost use Rattle.afr_law.specs.ExactRegister.{good};
+ghost use Rattle.afr_discipline.specs.Notes.{published};
+ghost use Rattle.afr_discipline.specs.Stands.{attempt_of, has_begun, heal_of, keeps_in, seen_as, sole, source_of, views_of};
+
+use crate::note_steps::asked_at;
+use crate::register::{Register, Step};
+use crate::tests_of_five::sole_of;
+use crate::views::is_good;
+use afr_base::{BrickId, Gfid, Kind};
+
+fn attempt_of(register: &Register) -> Option<u32>
+    ensures { result ≡ attempt_of (seen_as register.now) }
+{
+    match register.begun {
+        Some(at) if !register.inside => Some(at),
+        _ => None,
+    }
+}
+
+fn has_begun(register: &Register) -> bool
+    ensures { result ≡ has_begun (seen_as register.now) }
+{
+    register.inside && register.begun.is_some()
+}
+
+fn heal_of(register: &Register) -> Option<(Gfid, Kind)>
+    ensures { result ≡ heal_of (seen_as register.now) }
+{
+    if has_begun(register) {
+        Some((register.object, register.kind))
+    } else {
+        None
+    }
+}
+
+/// A copy that is good by the first looks, and may be the source by all the lines.
+fn is_left(register: &Register, s: BrickId) -> bool
+    requires few { register.now.shape.n ≤ 5 }
+    requires small { s.0 < 5 }
+    ensures { result ≡ member register.now.possible s.0 && good register.now.shape.n (keeps_in register.now.shape) register.now.kind (views_of register.now.seen) s.0 }
+{
+    register.possible.has(s) && is_good(register.shape, &register.seen, register.kind, s)
+}
+
+fn sole_left(register: &Register) -> Option<BrickId>
+    requires { register.now.shape.n ≤ 5 }
+    ensures { result ≡ sole register.now.shape.n (λ s. member register.now.possible s && good register.now.shape.n (keeps_in register.now.shape) register.now.kind (views_of register.now.seen) s) }
+{
+    sole_of(
+        register.shape.n,
+        is_left(register, BrickId(0)),
+        is_left(register, BrickId(1)),
+        is_left(register, BrickId(2)),
+        is_left(register, BrickId(3)),
+        is_left(register, BrickId(4)),
+    )
+}
+
+fn source_of(register: &Register) -> Option<BrickId>
+    requires { register.now.shape.n ≤ 5 }
+    ensures { result ≡ source_of register.now.shape.n (keeps_in register.now.shape) (seen_as register.now) }
+{
+    if register.inside {
+        sole_left(register)
+    } else {
+        None
+    }
+}
+
+/// What the other fields say, for those who read it.
+pub(crate) fn published(register: Register) -> Register
+    requires { register.shape.n ≤ 5 }
+    ensures { result ≡ published register }
+{
+    Register {
+        attempt: attempt_of(&register),
+        begun_before_looks: has_begun(&register),
+        heal: heal_of(&register),
+        source: source_of(&register),
+        mended: asked_at(&register, Step::Mends),
+        ..register
+    }
+}

@@ -1,0 +1,238 @@
+//! What a request of a heal and its answer leave in a register: the step, the looks, the reads and the part.
+ghost use Rattle.std.specs.Prelude.{◌≡◌, ◌+◌, ◌^◌, ◌<◌, ◌≤◌, false, not};
+ghost use Rattle.afr_law.specs.ExactRegister.{is_piece, span};
+ghost use Rattle.afr_discipline.specs.Notes.{broken_by, leaves_open, looked_inside, noted_inside, noted_steps, part_after, picked, read_inside, still_possible, upto_after};
+ghost use Rattle.afr_discipline.specs.Stands.{phase_of};
+
+use crate::answers::{
+    answers, fails, given, is_done, is_failed, is_given, is_gone, is_granted, is_held,
+};
+use crate::areas::is_same_area;
+use crate::heal_asks::is_allowed_by;
+use crate::heal_moves::whole;
+use crate::heal_reads::is_in_opening;
+use crate::note_steps::{entered, noted_outside, shown, shown_if};
+use crate::register::{Phase, Register, Step};
+use crate::steps::{is_same_step, rank};
+use afr_base::{BrickId, BrickSet, Kind};
+use afr_lines::{Area, Request, Told};
+use afr_range_locks::Domain;
+
+/// The length of a piece.
+const SPAN: u32 = 131_072;
+
+fn is_piece(phase: Phase) -> bool
+    ensures { result ≡ is_piece (phase_of phase) }
+{
+    match phase {
+        Phase::Piece => true,
+        Phase::Opening | Phase::Finish => false,
+    }
+}
+
+/// The first Work lock after the unlocks begins a piece, or the finish where it is of all bytes.
+fn part_after(register: &Register, area: Area) -> Phase
+    ensures { result ≡ part_after register.now area }
+{
+    if !is_same_step(register.step, Step::Unlocks) {
+        register.phase
+    } else if is_same_area(whole(register.object, Kind::Bytes), area) {
+        Phase::Finish
+    } else {
+        Phase::Piece
+    }
+}
+
+/// A look of a heal; those of its first part are kept to its end.
+fn looked_inside(register: Register, b: BrickId, told: Told) -> Register
+    requires { b.0 < 5 }
+    ensures { result ≡ looked_inside register b.0 told }
+{
+    let again = !(answers(told) || fails(told));
+    let opening = is_in_opening(register.phase);
+    Register {
+        looked: shown(register.looked, b, told),
+        seen: shown_if(opening, register.seen, b, told),
+        ..entered(register, Step::Looks, b, again)
+    }
+}
+
+/// A read of a heal.
+fn read_inside(register: Register, at: u32, b: BrickId, told: Told) -> Register
+    requires { b.0 < 5 }
+    ensures { result ≡ read_inside register at b.0 told }
+{
+    let again = !(is_given(told) || fails(told));
+    let mut after = entered(register, Step::Reads, b, again);
+    after.reads[b.0 as usize] = given(told, at);
+    after
+}
+
+/// The bytes that are done after an unlock: the first one ends a piece.
+fn upto_after(register: &Register) -> u32
+    requires { register.now.upto + span < 2 ^ 32 }
+    ensures { result ≡ upto_after register.now }
+{
+    if is_piece(register.phase) && rank(register.step) < rank(Step::Unlocks) {
+        register.upto + SPAN
+    } else {
+        register.upto
+    }
+}
+
+/// A change of the numbers or of the contents is asked again unless it was carried out or failed.
+fn leaves_open(told: Told) -> bool
+    ensures { result ≡ leaves_open told }
+{
+    !(is_done(told) || fails(told))
+}
+
+fn noted_lock(
+    register: Register,
+    at: u32,
+    b: BrickId,
+    domain: Domain,
+    area: Area,
+    told: Told,
+) -> Register
+    requires { b.0 < 5 }
+    ensures { result ≡ noted_inside register at b.0 (Request.Lock domain area) told }
+{
+    match domain {
+        Domain::Heal => entered(register, Step::HealLocks, b, false),
+        Domain::Work => Register {
+            phase: part_after(&register, area),
+            ..entered(
+                register,
+                Step::WorkLocks,
+                b,
+                !(is_granted(told) || fails(told)),
+            )
+        },
+    }
+}
+
+fn noted_unlock(
+    register: Register,
+    at: u32,
+    b: BrickId,
+    domain: Domain,
+    area: Area,
+    told: Told,
+) -> Register
+    requires small { b.0 < 5 }
+    requires room { register.upto + span < 2 ^ 32 }
+    ensures { result ≡ noted_inside register at b.0 (Request.Unlock domain area) told }
+{
+    match domain {
+        Domain::Work => Register {
+            upto: upto_after(&register),
+            ..entered(register, Step::Unlocks, b, is_failed(told))
+        },
+        Domain::Heal => entered(register, Step::HealUnlocks, b, is_failed(told)),
+    }
+}
+
+fn noted_inside(register: Register, at: u32, b: BrickId, request: &Request, told: Told) -> Register
+    requires small { b.0 < 5 }
+    requires room { register.upto + span < 2 ^ 32 }
+    ensures { result ≡ noted_inside register at b.0 request.now told }
+{
+    match request {
+        Request::Lock { domain, area } => noted_lock(register, at, b, *domain, *area, told),
+        Request::Unlock { domain, area } => noted_unlock(register, at, b, *domain, *area, told),
+        Request::Look { .. } => looked_inside(register, b, told),
+        Request::ReadBytes { .. } => read_inside(register, at, b, told),
+        Request::ReadAttrs { .. } => read_inside(register, at, b, told),
+        Request::List { .. } => read_inside(register, at, b, told),
+        Request::Pre { .. } => entered(register, Step::HealPres, b, leaves_open(told)),
+        Request::Mend { .. } => entered(register, Step::Mends, b, leaves_open(told)),
+        Request::Settle { .. } => entered(register, Step::Settles, b, leaves_open(told)),
+        Request::ReadName { .. }
+        | Request::ReadAttr { .. }
+        | Request::Index
+        | Request::Apply { .. }
+        | Request::Post { .. } => register,
+    }
+}
+
+fn broken_by_lock(register: &Register, domain: Domain, area: Area, told: Told) -> bool
+    ensures { result ≡ broken_by register.now (Request.Lock domain area) told }
+{
+    match domain {
+        Domain::Heal => is_held(told),
+        Domain::Work => fails(told) && !is_in_opening(part_after(register, area)),
+    }
+}
+
+/// Whether the answer ends the heal.
+fn broken_by(register: &Register, request: &Request, told: Told) -> bool
+    ensures { result ≡ broken_by register.now request.now told }
+{
+    match request {
+        Request::Lock { domain, area } => broken_by_lock(register, *domain, *area, told),
+        Request::Look { .. } => fails(told) && !is_in_opening(register.phase),
+        Request::Unlock { .. } => is_gone(told),
+        Request::ReadBytes { .. }
+        | Request::ReadName { .. }
+        | Request::List { .. }
+        | Request::ReadAttr { .. }
+        | Request::ReadAttrs { .. }
+        | Request::Index
+        | Request::Pre { .. }
+        | Request::Apply { .. }
+        | Request::Post { .. }
+        | Request::Mend { .. }
+        | Request::Settle { .. } => fails(told),
+    }
+}
+
+fn picked(a: bool, b: bool, c: bool, d: bool, e: bool) -> BrickSet
+    ensures { result ≡ picked a b c d e }
+{
+    BrickSet::none()
+        .with_if(a, BrickId(0))
+        .with_if(b, BrickId(1))
+        .with_if(c, BrickId(2))
+        .with_if(d, BrickId(3))
+        .with_if(e, BrickId(4))
+}
+
+/// The copies that may still be the source.
+fn still_possible(register: &Register, b: BrickId, request: &Request) -> BrickSet
+    requires few { register.now.shape.n ≤ 5 }
+    requires small { b.0 < 5 }
+    ensures { result ≡ still_possible register.now b.0 request.now }
+{
+    picked(
+        is_allowed_by(register, BrickId(0), b, request),
+        is_allowed_by(register, BrickId(1), b, request),
+        is_allowed_by(register, BrickId(2), b, request),
+        is_allowed_by(register, BrickId(3), b, request),
+        is_allowed_by(register, BrickId(4), b, request),
+    )
+}
+
+/// What the steps keep of a request and its answer.
+pub(crate) fn noted_steps(
+    register: Register,
+    at: u32,
+    b: BrickId,
+    request: &Request,
+    told: Told,
+) -> Register
+    requires few { register.shape.n ≤ 5 }
+    requires small { b.0 < 5 }
+    requires room { register.upto + span < 2 ^ 32 }
+    ensures { result ≡ noted_steps register at b.0 request.now told }
+{
+    if register.inside {
+        Register {
+            possible: still_possible(&register, b, request),
+            broken: register.broken || broken_by(&register, request, told),
+            ..noted_inside(register, at, b, request, told)
+        }
+    } else {
+        noted_outside(register, b, request, told)
+    }
+}
