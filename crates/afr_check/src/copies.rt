@@ -1,5 +1,5 @@
 //! Who accuses whom after a log, and which copies are good.
-ghost use Rattle.std.specs.Prelude.{Err, ◌≡◌, ◌<◌, ◌≤◌, reverse, IfOk};
+ghost use Rattle.std.specs.Prelude.{Err, ℕ, ◌≡◌, ◌<◌, ◌≤◌, reverse, IfOk};
 ghost use Rattle.std.specs.List.{list_any};
 ghost use Rattle.afr_base.specs.Bricks.{IsWithin};
 ghost use Rattle.afr_choice.specs.Verdict.{keeps};
@@ -46,6 +46,7 @@ pub fn is_good_copy(
     requires within { IsWithin plan.now.shape.n among }
     requires brick { b.0 < 5 }
     ensures ok { IfOk result (λ flag. flag ≡ is_good_copy plan.now (reverse log.now) among g kind b.0) }
+    ensures too_much { result ≡ Err Unfit.TooMuch → ((y : ℕ) → Fits plan.now (reverse log.now) y) → ⊥ }
 {
     let there = has_object(alloc, plan, log, g, b)?;
     let accused = is_accused(alloc, plan, log, among, g, kind, b)?;
@@ -81,6 +82,7 @@ fn is_accused(
     requires within { IsWithin plan.now.shape.n among }
     requires brick { b.0 < 5 }
     ensures ok { IfOk result (λ flag. flag ≡ list_any (λ x. accuses plan.now (reverse log.now) g kind x b.0) among) }
+    ensures too_much { result ≡ Err Unfit.TooMuch → ((y : ℕ) → Fits plan.now (reverse log.now) y) → ⊥ }
 {
     for x in 0..plan.shape.n {
         if among.has(BrickId(x)) && accuses(alloc, plan, log, g, kind, BrickId(x), b)? {

@@ -1,9 +1,10 @@
 //! Whether what a brick has in a cell is no older than the acknowledged attempts.
-ghost use Rattle.std.specs.Prelude.{◌≡◌, ◌↔◌, true, reverse, IfOk, None};
+ghost use Rattle.std.specs.Prelude.{Err, ◌≡◌, ◌↔◌, true, reverse, IfOk, None};
 ghost use Rattle.std.specs.Option.{option_copied};
 ghost use Rattle.afr_lines.specs.Log.{change_at};
 ghost use Rattle.afr_model.specs.Attempts.{IsCurrent, IsNoOlder, touches_if};
 ghost use Rattle.afr_check.specs.Last.{IsAcknowledgedOn, IsLastOf, IsLeftAt, IsLeftFrom, IsRecent, from_last};
+ghost use Rattle.afr_check.specs.Room.{Fits};
 ghost use Rattle.afr_check.specs.Seen.{cell_of, value_seen};
 
 use crate::attempts::{change_at, is_acknowledged};
@@ -26,6 +27,7 @@ pub fn is_current(
     cell: Cell,
 ) -> Result<bool, Unfit>
     ensures ok { IfOk result (λ flag. (flag ≡ true) ↔ IsCurrent plan.now (reverse log.now) b.0 (cell_of cell)) }
+    ensures too_much { result ≡ Err Unfit.TooMuch → Fits plan.now (reverse log.now) b.0 → ⊥ }
 {
     is_no_older(alloc, plan, log, log, b, cell)
 }
@@ -41,6 +43,7 @@ pub(crate) fn is_no_older(
     cell: Cell,
 ) -> Result<bool, Unfit>
     ensures ok { IfOk result (λ flag. (flag ≡ true) ↔ IsNoOlder plan.now (reverse log.now) (reverse earlier.now) b.0 (cell_of cell)) }
+    ensures too_much { result ≡ Err Unfit.TooMuch → Fits plan.now (reverse log.now) b.0 → ⊥ }
 {
     let here = value(alloc, plan, log, b, cell)?;
     let opening = value(alloc, plan, &log[..0], b, cell)?;

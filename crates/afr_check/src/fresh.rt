@@ -1,10 +1,11 @@
 //! Whether a read line showed a value that is no older than what was acknowledged before its command.
-ghost use Rattle.std.specs.Prelude.{List, ◌≡◌, ◌↔◌, Bool, ◌≤◌, true, length, reverse, take, IfOk};
+ghost use Rattle.std.specs.Prelude.{Err, List, ℕ, ◌≡◌, ◌↔◌, Bool, ◌≤◌, true, length, reverse, take, IfOk};
 ghost use Rattle.afr_lines.specs.declared.line.Line.{Line as SpecLine};
 ghost use Rattle.afr_plan.specs.declared.plan.Plan.{Plan as SpecPlan};
 ghost use Rattle.afr_lines.specs.Work.{work};
 ghost use Rattle.afr_model.specs.Safe.{IsFresh, log_before, names_cell};
 ghost use Rattle.afr_check.specs.Freshness.{IsFreshIn, IsFreshInEach, ShowsNoOlder, earliest, first_after};
+ghost use Rattle.afr_check.specs.Room.{Fits};
 ghost use Rattle.afr_check.specs.Seen.{cell_of};
 
 use crate::cell::{Cell, is_within};
@@ -29,6 +30,7 @@ pub fn is_fresh_at(
     cell: Cell,
 ) -> Result<bool, Unfit>
     ensures ok { IfOk result (λ flag. (flag ≡ true) ↔ IsFreshIn plan.now line.now (reverse older.now) (cell_of cell)) }
+    ensures too_much { result ≡ Err Unfit.TooMuch → ((y : ℕ) → Fits plan.now (reverse older.now) y) → ⊥ }
 {
     match line {
         Line::Ask {
@@ -59,6 +61,7 @@ fn is_fresh_told(
     cell: Cell,
 ) -> Result<bool, Unfit>
     ensures ok { (took : Bool) → IfOk result (λ flag. (flag ≡ true) ↔ IsFreshIn plan.now (Line.Ask a b request.now told took) (reverse older.now) (cell_of cell)) }
+    ensures too_much { result ≡ Err Unfit.TooMuch → Fits plan.now (reverse older.now) b.0 → ⊥ }
 {
     match told {
         Told::Given => shows_no_older(alloc, plan, older, a, b, request, cell),
@@ -76,6 +79,7 @@ fn shows_no_older(
     cell: Cell,
 ) -> Result<bool, Unfit>
     ensures ok { IfOk result (λ flag. (flag ≡ true) ↔ ShowsNoOlder plan.now a b.0 request.now (reverse older.now) (cell_of cell)) }
+    ensures too_much { result ≡ Err Unfit.TooMuch → Fits plan.now (reverse older.now) b.0 → ⊥ }
 {
     if a.0 > LAST_CLIENT || !names_cell(request, cell) {
         return Ok(true);

@@ -41,6 +41,7 @@ impl Model for Outcome {
 pub fn is_honest(alloc: Global, plan: &Plan, log: &[Line]) -> Result<bool, Unfit>
     requires few { plan.now.shape.n ≤ 5 }
     ensures ok { IfOk result (λ flag. (flag ≡ true) ↔ Honest plan.now (reverse log.now)) }
+    ensures too_much { result ≡ Err Unfit.TooMuch → ((y : ℕ) → Fits plan.now (reverse log.now) y) → ⊥ }
 {
     let mut honest = true;
     for at in 0..log.len() {

@@ -13,10 +13,13 @@ use afr_plan::Plan;
 use afr_range_locks::Domain;
 
 /// Where an actor stands in its works.
-#[derive(Clone, Copy)]
-pub(crate) enum Place {
+#[derive(Clone, Copy, Debug)]
+pub enum Place {
+    /// Its next line is the first of a work.
     Fresh,
+    /// It has asked for an index alone.
     Indexed,
+    /// Its last line ended a heal.
     Between,
     Within,
 }
@@ -33,7 +36,8 @@ fn place_of(log: &[Line], a: ActorId) -> Place
     place
 }
 
-fn next_place(place: Place, line: &Line) -> Place
+/// What one more line of the actor makes of it.
+pub fn next_place(place: Place, line: &Line) -> Place
     ensures { place_seen result ≡ next_place (place_seen place) line.now }
 {
     match line {
@@ -72,7 +76,7 @@ fn is_heal_lock(line: &Line) -> bool
 }
 
 /// Whether a line of the actor opens sessions: it is the first of a work or of a heal.
-fn opens(place: Place, line: &Line) -> bool
+pub fn opens(place: Place, line: &Line) -> bool
     ensures { result ≡ opens (place_seen place) line.now }
 {
     match place {

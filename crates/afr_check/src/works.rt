@@ -6,7 +6,7 @@ use afr_base::ActorId;
 use afr_lines::{Event, Line};
 
 /// Whether the actor wrote the line. An event is nobody's.
-pub(crate) fn is_of(a: ActorId, line: &Line) -> bool
+pub fn is_of(a: ActorId, line: &Line) -> bool
     ensures { result ≡ is_of a.0 line.now }
 {
     match line {
@@ -28,7 +28,8 @@ pub(crate) fn is_end(line: &Line) -> bool
     }
 }
 
-fn ends_work(a: ActorId, line: &Line) -> bool
+/// Whether a line ends a work of the actor.
+pub fn ends_work(a: ActorId, line: &Line) -> bool
     ensures { result ≡ ends_work a.0 line.now }
 {
     match line {

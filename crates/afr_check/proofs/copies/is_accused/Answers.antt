@@ -5,8 +5,8 @@ use Rattle.afr_check.proofs.SetLemmas.{some_passes, none_passes, one_more}
 use Rattle.afr_check.proofs.copies.is_accused.Goals.{else-has-via-then-has+in_ok-accuses+else-branch, else-has-via-else-has}
 use Rattle.afr_check.proofs.copies.is_accused.Goals as goal
 
-pub returns-then-branch : goal.returns-then-branch
-returns-then-branch c = record { ok = sym (some_passes _ c.args.among c.loop-x.x (sym c.has.ensures ∙ c.if-has.true) (sym c.in_ok-accuses.ensures.ok ∙ c.if-branch.true)) }
+pub returns-then-branch-clause-ok : goal.returns-then-branch-clause-ok
+returns-then-branch-clause-ok c = sym (some_passes _ c.args.among c.loop-x.x (sym c.has.ensures ∙ c.if-has.true) (sym c.in_ok-accuses.ensures.ok ∙ c.if-branch.true))
 
 pub loop-x-preserved : goal.loop-x-preserved
 loop-x-preserved c =
@@ -16,5 +16,5 @@ loop-x-preserved c =
       | else-has-via-else-has w ↦ (λ m. let e : true ≡ false = sym m ∙ sym c.has.ensures ∙ w.if-has.false in absurd (cc e))
     ])
 
-pub returns : goal.returns
-returns c = record { ok = sym (none_passes _ c.args.among (λ b m. c.loop-x.invariant b (omega (arith, c.requires.within b m, c.loop-x-test.false)) m)) }
+pub returns-clause-ok : goal.returns-clause-ok
+returns-clause-ok c = sym (none_passes _ c.args.among (λ b m. c.loop-x.invariant b (omega (arith, c.requires.within b m, c.loop-x-test.false)) m))
