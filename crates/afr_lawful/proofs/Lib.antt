@@ -1,0 +1,11 @@
+pub mod CourseLemmas
+pub mod FollowedLemmas
+pub mod JudgedLemmas
+pub mod Keeping
+pub mod KeptMoves
+pub mod KeptNotes
+pub mod LimitLemmas
+pub mod MoveLemmas
+pub mod RangeLemmas
+pub mod ReadLemmas
+pub mod UnlawfulLemmas
