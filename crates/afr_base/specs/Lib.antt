@@ -4,3 +4,4 @@ pub mod Majority
 pub mod SetLemmas
 pub mod MarksLemmas
 pub mod Text
+pub mod Kinds
