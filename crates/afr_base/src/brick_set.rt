@@ -1,6 +1,6 @@
 //! A set of bricks, and majorities.
 ghost use Rattle.std.specs.Prelude.{◌≡◌, ℕ, ◌*◌, ◌<◌, ◌≤◌, [], length, nat_lt, Bool, true, false};
-ghost use Rattle.afr_base.specs.Bricks.{below, added, added_if, removed, marked, minus, lowest, member, same, is_nothing};
+ghost use Rattle.afr_base.specs.Bricks.{below, added, added_if, removed, minus, common, lowest, member, is_nothing};
 ghost use Rattle.afr_base.specs.Majority.{IsMajority, Shared, count_below, is_majority};
 
 use crate::ids::BrickId;
@@ -72,14 +72,6 @@ impl BrickSet {
         if flag { self.with(b) } else { self }
     }
 
-    /// With the brick, where the flag is set; without it otherwise.
-    pub fn marked(self, flag: bool, b: BrickId) -> BrickSet
-        requires { b.0 < 5 }
-        ensures { result ≡ marked flag b.0 self }
-    {
-        if flag { self.with(b) } else { self.without(b) }
-    }
-
     /// What is in this set alone.
     pub fn minus(self, other: BrickSet) -> BrickSet
         ensures { result ≡ minus self other }
@@ -89,11 +81,11 @@ impl BrickSet {
         }
     }
 
-    /// Whether both hold the same bricks.
-    pub fn equals(self, other: BrickSet) -> bool
-        ensures { result ≡ same self other }
+    /// What is in both sets.
+    pub fn common(self, other: BrickSet) -> BrickSet
+        ensures { result ≡ common self other }
     {
-        self.bits == other.bits
+        self.minus(self.minus(other))
     }
 
     pub fn is_empty(&self) -> bool

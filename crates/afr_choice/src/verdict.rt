@@ -1,6 +1,6 @@
 //! Who accuses whom, which copies are good, and what that makes of a look.
 ghost use Rattle.std.specs.Prelude.{◌≡◌, ◌+◌, ◌-◌, ◌*◌, ◌/◌, ◌<◌, ◌≤◌};
-ghost use Rattle.afr_choice.specs.Verdict.{is_holder, keeps, is_copy, is_bytes, shown_missed, accuses_at, is_accused, is_good, holders_of, copies_of, good_copies, verdict_of};
+ghost use Rattle.afr_choice.specs.Verdict.{is_holder, is_copy, shown_missed, accuses_at, is_accused, is_good, holders_of, copies_of, good_copies, verdict_of};
 
 use crate::looked::Looked;
 use afr_base::{BrickId, BrickSet, Kind, Shape};
@@ -85,18 +85,11 @@ fn has_view(looked: &Looked, b: BrickId) -> bool
     looked.reached.has(b) && looked.views[b.0 as usize].is_some()
 }
 
-/// Whether the brick keeps what this kind is about: the arbiter keeps no bytes.
-fn keeps(shape: &Shape, kind: Kind, b: BrickId) -> bool
-    ensures { result ≡ keeps shape.now kind b.0 }
-{
-    !(shape.arbiter && is_data(kind) && b.0 == 2)
-}
-
 fn has_copy(shape: &Shape, looked: &Looked, kind: Kind, b: BrickId) -> bool
     requires { b.0 < 5 }
     ensures { result ≡ is_copy shape.now looked.now kind b.0 }
 {
-    has_view(looked, b) && keeps(shape, kind, b)
+    has_view(looked, b) && shape.keeps(kind, b)
 }
 
 fn is_clean(shape: &Shape, looked: &Looked, kind: Kind, b: BrickId) -> bool
@@ -134,15 +127,6 @@ fn shows_missed(view: &Option<View>, kind: Kind, c: BrickId) -> bool
     match view {
         Some(view) => view.marks.of(kind).accuses(c),
         None => false,
-    }
-}
-
-fn is_data(kind: Kind) -> bool
-    ensures { result ≡ is_bytes kind }
-{
-    match kind {
-        Kind::Bytes => true,
-        Kind::Attrs | Kind::Names => false,
     }
 }
 
