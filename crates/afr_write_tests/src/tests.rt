@@ -1,8 +1,8 @@
 //! A write of a file in the root, from its first look to its end.
-use crate::{WriteJob, WriteMachine, area_of, kind_of};
 use afr_base::{AllMarks, BrickId, Gfid, Kind, NameId, Shape, What};
 use afr_lines::{Answer, Area, Good, Heard, Next, Reply, Request};
 use afr_object::{Change, Entry, List, Load, View};
+use afr_write::{WriteJob, WriteMachine, area_of, kind_of};
 use std::alloc::Global;
 use std::test::Fail;
 

@@ -1,8 +1,10 @@
 //! A write and a read, line by line.
-use crate::{Turned, Volume};
+ghost use Rattle.std.specs.Prelude.{◌<◌};
+
 use afr_base::ActorId;
 use afr_lines::{Line, Request};
 use afr_plan::{is_runnable_yet, read_plan};
+use afr_volume::{Turned, Volume};
 use std::alloc::Global;
 use std::test::Fail;
 
@@ -53,25 +55,44 @@ fn set_up(alloc: Global, volume: &mut Volume) -> Result<(), Fail> {
     Ok(())
 }
 
+/// A turn of the client, which adds the line at this position.
+fn takes_a_turn(volume: &mut Volume, position: u32, text: &mut String) -> Result<(), Fail>
+    requires { position < 33 }
+{
+    let client = ActorId::client(1);
+    if volume.plan().clients.len() != 1 || volume.due().is_some() || volume.is_done(client) {
+        return Err(Fail::from("before"));
+    }
+    if !matches!(volume.turn(client), Ok(Turned::Moved)) || volume.len() != position + 1 {
+        return Err(Fail::from("turn"));
+    }
+    write_line(text, volume.line(position))
+}
+
+/// Takes all turns, and says whether the client is done then.
+fn is_worked(alloc: Global, volume: &mut Volume, text: &mut String) -> Result<bool, Fail> {
+    set_up(alloc, volume)?;
+    for position in 0..33 {
+        takes_a_turn(volume, position, text)?;
+    }
+    volume.every_line();
+    Ok(volume.lines().len() == 33
+        && volume.reach().has_quorum(3)
+        && volume.plan().clients.len() == 1
+        && volume.is_done(ActorId::client(1)))
+}
+
+/// The words of the lines, where the client is done after them.
+fn worked(alloc: Global, text: &mut String) -> Result<bool, Fail> {
+    let mut volume = Volume::empty(alloc);
+    is_worked(alloc, &mut volume, text)
+}
+
 #[test]
 fn a_write_and_a_read_have_33_lines(rt: HostRuntime) -> Result<(), Fail> {
-    let mut volume = Volume::empty(rt.alloc());
-    set_up(rt.alloc(), &mut volume)?;
-    let client = ActorId(1);
     let mut text = String::new(rt.alloc());
-    for at in 0..33 {
-        assert!(rt; volume.plan().clients.len() == 1);
-        assert!(rt; volume.due().is_none());
-        assert!(rt; !volume.is_done(client));
-        assert!(rt; matches!(volume.turn(client), Ok(Turned::Moved)));
-        assert!(rt; volume.len() == at + 1);
-        write_line(&mut text, volume.line(at))?;
-    }
+    let done = worked(rt.alloc(), &mut text)?;
+    assert!(rt; done);
     assert_eq!(rt; text.as_str(), LINES);
-    assert_eq!(rt; volume.lines().len(), 33);
-    assert!(rt; volume.reach().has_quorum(3));
-    volume.every_line();
-    assert!(rt; volume.plan().clients.len() == 1);
-    assert!(rt; volume.is_done(client));
     Ok(())
 }

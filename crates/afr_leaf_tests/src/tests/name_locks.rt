@@ -1,6 +1,6 @@
-//! One table's story, in which each public call has its part.
-use crate::NameLocks;
+//! One table of locks on names, in which each public call has its part.
 use afr_base::{ActorId, Gfid, NameId};
+use afr_name_locks::NameLocks;
 use afr_range_locks::{Domain, Got};
 use std::test::Fail;
 

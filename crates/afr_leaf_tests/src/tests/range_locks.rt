@@ -1,6 +1,6 @@
-//! One table's story, in which each public call has its part.
-use crate::{Domain, Got, RangeLocks};
+//! One table of locks on ranges, in which each public call has its part.
 use afr_base::{ActorId, Gfid};
+use afr_range_locks::{Domain, Got, RangeLocks};
 use std::test::Fail;
 
 const FILE: Gfid = Gfid(18_446_744_073_709_551_617);

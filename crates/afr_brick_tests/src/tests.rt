@@ -1,6 +1,6 @@
 //! One brick's story, in which each public call has its part.
-use crate::{Brick, Refused};
 use afr_base::{BrickId, BrickSet, Gfid, KeyId, Kind, NameId, ValueId, What};
+use afr_brick::{Brick, Refused};
 use afr_object::{Change, Entry, List, Load, Repair};
 use std::test::Fail;
 

@@ -1,7 +1,7 @@
 //! A read of a file in the root, from its first look to its end.
-use crate::{LookupJob, LookupMachine, Stop, stop_reply};
 use afr_base::{AllMarks, BrickId, Gfid, NameId, Shape, What};
 use afr_lines::{Answer, Good, Heard, Next, Reply, Request};
+use afr_lookup::{LookupJob, LookupMachine, Stop, stop_reply};
 use afr_object::{Entry, List, Load, View};
 use std::alloc::Global;
 use std::test::Fail;

@@ -1,6 +1,6 @@
 //! Answers in the log, and copies of replies.
-use crate::{Answer, Good, Reply, Told, told_of};
 use afr_base::ActorId;
+use afr_lines::{Answer, Good, Reply, Told, told_of};
 use afr_object::{List, TryCopy};
 use std::test::Fail;
 
