@@ -9,7 +9,7 @@ use Rattle.afr_base.specs.declared.ids.Kind.TheVariants.{Bytes}
 use Rattle.afr_base.specs.declared.ids.Shape.{Shape}
 use Rattle.afr_object.specs.declared.entry.View.{View}
 use Rattle.afr_choice.specs.Looks.{no_looks, view_at}
-use Rattle.afr_choice.specs.Verdict.{keeps}
+use Rattle.afr_base.specs.Keeping.{keeps}
 use Rattle.afr_choice.specs.declared.looked.Looked.{Looked}
 use Rattle.afr_moves.specs.Sets.{any}
 use Rattle.afr_moves.specs.Rules.{fresh}

@@ -2,7 +2,7 @@
 use Rattle.std.specs.Prelude.{ℕ, ◌&&◌, nat_lt, Bool, List, [], ◌∷◌, length, Some, if◌then◌else◌}
 use Rattle.afr_base.specs.declared.ids.Kind.{Kind}
 use Rattle.afr_base.specs.declared.ids.Shape.{Shape}
-use Rattle.afr_choice.specs.Verdict.{keeps}
+use Rattle.afr_base.specs.Keeping.{keeps}
 use Rattle.afr_lines.specs.Places.{opens, place_of}
 use Rattle.afr_lines.specs.Work.{is_of}
 use Rattle.afr_lines.specs.declared.line.Line.{Line}

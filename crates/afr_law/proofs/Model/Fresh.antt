@@ -8,7 +8,8 @@ use Rattle.afr_base.specs.declared.ids.Gfid.{Gfid}
 use Rattle.afr_base.specs.declared.ids.Kind.{Kind}
 use Rattle.afr_base.specs.declared.ids.Kind.TheVariants.{Bytes, Attrs, Names}
 use Rattle.afr_choice.specs.Looks.{view_at}
-use Rattle.afr_choice.specs.Verdict.{keeps, is_holder, shown_missed}
+use Rattle.afr_base.specs.Keeping.{keeps}
+use Rattle.afr_choice.specs.Verdict.{is_holder, shown_missed}
 use Rattle.afr_choice.specs.declared.looked.Looked.{Looked}
 use Rattle.afr_choice.specs.VerdictLemmas.{good_below, member_good, nobody_accuses}
 use Rattle.afr_lines.specs.Log.{EachLine, before}

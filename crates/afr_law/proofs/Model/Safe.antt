@@ -7,7 +7,7 @@ use Rattle.afr_base.specs.Bricks.{member, IsWithin}
 use Rattle.afr_base.specs.Majority.{IsMajority, count_below}
 use Rattle.afr_base.specs.declared.ids.Gfid.{Gfid}
 use Rattle.afr_base.specs.declared.ids.Kind.{Kind}
-use Rattle.afr_choice.specs.Verdict.{keeps}
+use Rattle.afr_base.specs.Keeping.{keeps}
 use Rattle.afr_object.specs.Tables.{opening, copy_at}
 use Rattle.afr_object.specs.declared.change.Change.{Change}
 use Rattle.afr_lines.specs.Log.{EveryPrefix, change_of, change_at}
