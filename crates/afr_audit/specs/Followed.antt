@@ -1,5 +1,5 @@
 -- What the lines so far leave in the register of an actor, from the oldest on.
-use Rattle.afr_moves.specs.Followed.{kept_in, noted_if, register_by}
+use Rattle.afr_moves.specs.Followed.{noted_if, register_by}
 use Rattle.std.specs.Prelude.{ℕ, ◌<◌, ◌&&◌, nat_lt, Bool, List, [], ◌∷◌, length, Some, if◌then◌else◌}
 use Rattle.afr_base.specs.declared.ids.Kind.{Kind}
 use Rattle.afr_base.specs.declared.ids.Shape.{Shape}

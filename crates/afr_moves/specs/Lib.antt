@@ -1,4 +1,5 @@
 pub mod Sets
+pub mod Keeps
 pub mod Cells
 pub mod Lines
 pub mod Past
