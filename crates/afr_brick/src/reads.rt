@@ -3,13 +3,14 @@ ghost use Rattle.std.specs.Prelude.{◌≡◌, ◌≢◌, ◌↔◌, None, Some,
 ghost use Rattle.std.specs.BTreeMap.{is_at};
 ghost use Rattle.std.specs.List.Sorted.{IsStrictlySortedBy};
 ghost use Rattle.std.specs.Map.{keys_of, lookup};
+ghost use Rattle.afr_object.specs.Indexed.{index_of};
 ghost use Rattle.afr_object.specs.Tables.{copy_at, key_cmp, name_cmp};
 
 use crate::brick::Brick;
 use crate::refused::Refused;
 use afr_base::{Gfid, KeyId, NameId, NoMemory, ValueId};
 use afr_content::Content;
-use afr_object::{AttrList, Chunk, Entry, List, NameList};
+use afr_object::{AttrList, Chunk, Entry, IndexList, List, NameList};
 use std::alloc::Global;
 
 impl Brick {
@@ -73,6 +74,19 @@ impl Brick {
         };
         let attrs = object.attrs.list(self.alloc)?;
         Ok(attrs)
+    }
+
+    /// The objects with a number above zero, in rising gfid.
+    pub fn index(&self) -> Result<IndexList, NoMemory>
+        ensures ok { IfOk result (λ list. list ≡ index_of self.now.objects) }
+    {
+        let mut list = List::new(self.alloc);
+        for (g, object) in self.objects.iter() {
+            if !object.marks.is_zero() {
+                list.push((*g, object.what))?;
+            }
+        }
+        Ok(list)
     }
 }
 

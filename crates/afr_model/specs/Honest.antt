@@ -2,12 +2,10 @@
 use Rattle.std.specs.Prelude.{◌≡◌, ℕ, suc, ◌+◌, ◌==◌, ◌&&◌, ◌||◌, Bool, true, false, List, [], ◌∷◌, Option, Some, None, take, drop, if◌then◌else◌}
 use Rattle.std.specs.BTreeMap.{is_at}
 use Rattle.std.specs.Map.{lookup}
-use Rattle.afr_base.specs.Marks.{is_no_marks}
 use Rattle.afr_base.specs.declared.ids.ActorId.{ActorId}
-use Rattle.afr_base.specs.declared.ids.Gfid.{Gfid}
-use Rattle.afr_base.specs.declared.ids.What.{What}
 use Rattle.afr_faults.specs.declared.fault.Fault.{Fault}
 use Rattle.afr_faults.specs.declared.fault.Fault.TheVariants.{Fail, Lost}
+use Rattle.afr_object.specs.Indexed.{index_of}
 use Rattle.afr_object.specs.Tables.{Table, copy_at, key_cmp, name_cmp, view_of, object_of}
 use Rattle.afr_object.specs.declared.change.Change.{Change}
 use Rattle.afr_object.specs.Repairs.{repaired}
@@ -58,11 +56,6 @@ copy_answer f (Some o) = f o
 abbrev pub copy_for : Option Change → Table → Option Object
 copy_for None t = None
 copy_for (Some change) t = copy_at (object_of change) t
-
--- the objects with a number above 0
-abbrev pub index_of : Table → List (Gfid × What)
-index_of [] = []
-index_of (entry ∷ t) = if is_no_marks entry.1.marks then index_of t else (entry.0, entry.1.what) ∷ index_of t
 
 -- what a brick that carries a request out answers, by its tables, and by who is in the way of a lock
 abbrev pub answer_by : Option ActorId → Request → Table → List Line → Answer

@@ -53,6 +53,22 @@ impl Sessions {
         link.epoch()
     }
 
+    /// What `meet` would answer.
+    pub fn peek(&self, a: ActorId) -> Option<u32>
+        requires actor { a.0 < 20 }
+        requires room { opens self.now.started (link_of a.0 self.now) ≡ true → (link_of a.0 self.now).opened < 2 ^ 32 - 1 }
+        ensures { result ≡ epoch_met self.now.started (link_of a.0 self.now) }
+    {
+        let link = &self.links[a.0 as usize];
+        if !self.started || !link.up {
+            return None;
+        }
+        if link.live {
+            return Some(link.opened);
+        }
+        Some(link.opened + 1)
+    }
+
     /// Whether the actor's session of this epoch is live. Only a started brick has live sessions,
     /// and only over links that are up.
     pub fn is_live(&self, a: ActorId, epoch: u32) -> bool

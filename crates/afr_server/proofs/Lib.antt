@@ -1,0 +1,9 @@
+pub mod RequestLemmas
+pub mod GuardLemmas
+pub mod LockLemmas
+pub mod LinkLemmas
+pub mod ServedLemmas
+pub mod ElsewhereLemmas
+pub mod EventLemmas
+pub mod FindsLemmas
+pub mod OpeningLemmas

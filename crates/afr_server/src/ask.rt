@@ -1,0 +1,187 @@
+//! One request: by its session and its planned fault it is refused, carried out and answered, or carried out with its answer lost.
+ghost use Rattle.std.specs.Prelude.{◌≡◌, ℕ, ◌<◌, ◌-◌, ◌^◌, Bool, true, false, Option, Some, None, IfOk, OnErr, is_some};
+ghost use Rattle.afr_faults.specs.Planned.{next_fault};
+ghost use Rattle.afr_server.specs.Carried.{CanCarryOut, CanLock};
+ghost use Rattle.afr_server.specs.Outcome.{Serves, counted, is_carried, link_served};
+ghost use Rattle.afr_server.specs.Serving.{HasEpoch, epoch_of, has_session, is_epoch, is_met, link_for};
+ghost use Rattle.afr_session.specs.Calls.{only};
+ghost use Rattle.afr_session.specs.Links.{epoch_met, is_reached, link_of, opens};
+
+use crate::carry_out::carry_out;
+use crate::server::{Asked, Server};
+use afr_base::{ActorId, NoMemory};
+use afr_faults::{Fault, FaultPlan};
+use afr_lines::{Answer, Request};
+use afr_object::Load;
+use afr_session::Sessions;
+
+impl Server {
+    /// Without a live session the answer is `NotConnected`. A request that the plan refuses is told
+    /// `Failed`. Any other is carried out, and where its answer is lost the session ends. Each
+    /// request is counted; want of memory changes nothing, the count included. O(log n) steps on n
+    /// objects, names and faults, one for each lock on the brick and for each byte or name that is
+    /// moved; an index takes one for each object.
+    pub fn ask(
+        &mut self,
+        actor: ActorId,
+        epoch: Option<u32>,
+        request: &Request,
+        load: Load<'_>,
+    ) -> Result<Asked, NoMemory>
+        requires known { actor.0 < 20 }
+        requires count { self.old.faults.requests < 2 ^ 32 - 1 }
+        requires lock { CanLock request.now }
+        requires can { is_carried (has_session epoch actor self.old) (next_fault self.old.faults) ≡ true → CanCarryOut request.now load self.old.copies.objects }
+        ensures ok { IfOk result (λ given. Serves false (has_session epoch actor self.old) (next_fault self.old.faults) actor request.now load.entry self.old self.new given) }
+        ensures err { OnErr result (self.new ≡ self.old) }
+    {
+        let live = self.is_live(actor, epoch);
+        self.serve(actor, live, false, request, load)
+    }
+
+    /// The first line of a work or of a heal: the brick is met as the request comes, once its memory
+    /// is there. The epoch that the meeting gave is answered too; its actor asks on over it, and
+    /// doesn't meet this brick again, since a lost answer has ended that session.
+    pub fn ask_first(
+        &mut self,
+        actor: ActorId,
+        request: &Request,
+        load: Load<'_>,
+    ) -> Result<(Option<u32>, Asked), NoMemory>
+        requires known { actor.0 < 20 }
+        requires count { self.old.faults.requests < 2 ^ 32 - 1 }
+        requires room { HasEpoch actor self.old }
+        requires lock { CanLock request.now }
+        requires can { is_carried (is_met actor self.old) (next_fault self.old.faults) ≡ true → CanCarryOut request.now load self.old.copies.objects }
+        ensures epoch { IfOk result (λ given. given.0 ≡ epoch_of actor self.old) }
+        ensures ok { IfOk result (λ given. Serves true (is_met actor self.old) (next_fault self.old.faults) actor request.now load.entry self.old self.new given.1) }
+        ensures err { OnErr result (self.new ≡ self.old) }
+    {
+        let epoch = self.sessions.peek(actor);
+        let asked = self.serve(actor, epoch.is_some(), true, request, load)?;
+        Ok((epoch, asked))
+    }
+
+    fn serve(
+        &mut self,
+        actor: ActorId,
+        live: bool,
+        first: bool,
+        request: &Request,
+        load: Load<'_>,
+    ) -> Result<Asked, NoMemory>
+        requires known { actor.0 < 20 }
+        requires count { self.old.faults.requests < 2 ^ 32 - 1 }
+        requires room { first ≡ true → HasEpoch actor self.old }
+        requires reach { live ≡ true → (link_served first false self.old.links.started (link_for actor self.old)).live ≡ true }
+        requires lock { CanLock request.now }
+        requires can { is_carried live (next_fault self.old.faults) ≡ true → CanCarryOut request.now load self.old.copies.objects }
+        ensures ok { IfOk result (λ given. Serves first live (next_fault self.old.faults) actor request.now load.entry self.old self.new given) }
+        ensures err { OnErr result (self.new ≡ self.old) }
+    {
+        if !live {
+            return Ok(self.refuse(actor, first, Answer::NotConnected));
+        }
+        match self.faults.peek() {
+            Some(Fault::Fail) => Ok(self.refuse(actor, first, Answer::Failed)),
+            Some(Fault::Lost) => self.lose(actor, first, request, load),
+            None => self.answer(actor, first, request, load),
+        }
+    }
+
+    /// The request isn't carried out.
+    fn refuse(&mut self, actor: ActorId, first: bool, answer: Answer) -> Asked
+        requires known { actor.0 < 20 }
+        requires count { self.old.faults.requests < 2 ^ 32 - 1 }
+        requires room { first ≡ true → HasEpoch actor self.old }
+        ensures asked { result ≡ record { answer = answer; took = false } }
+        ensures same { self.new ≡ record self.old { links = self.new.links; faults = counted self.old.faults } }
+        ensures started { self.new.links.started ≡ self.old.links.started }
+        ensures links { (x : ℕ) → link_of x self.new.links ≡ only actor.0 x (link_served first false self.old.links.started) (link_of x self.old.links) }
+    {
+        count(&mut self.sessions, &mut self.faults, actor, first);
+        Asked {
+            answer,
+            took: false,
+        }
+    }
+
+    /// The request is carried out and answered.
+    fn answer(
+        &mut self,
+        actor: ActorId,
+        first: bool,
+        request: &Request,
+        load: Load<'_>,
+    ) -> Result<Asked, NoMemory>
+        requires known { actor.0 < 20 }
+        requires count { self.old.faults.requests < 2 ^ 32 - 1 }
+        requires room { first ≡ true → HasEpoch actor self.old }
+        requires reach { (link_served first false self.old.links.started (link_for actor self.old)).live ≡ true }
+        requires lock { CanLock request.now }
+        requires can { CanCarryOut request.now load self.old.copies.objects }
+        ensures ok { IfOk result (λ given. Serves first true None actor request.now load.entry self.old self.new given) }
+        ensures err { OnErr result (self.new ≡ self.old) }
+    {
+        let answer = carry_out(
+            &mut self.brick,
+            &mut self.ranges,
+            &mut self.names,
+            actor,
+            request,
+            load,
+        )?;
+        count(&mut self.sessions, &mut self.faults, actor, first);
+        Ok(Asked { answer, took: true })
+    }
+
+    /// The request is carried out, its answer is lost, and the session ends.
+    fn lose(
+        &mut self,
+        actor: ActorId,
+        first: bool,
+        request: &Request,
+        load: Load<'_>,
+    ) -> Result<Asked, NoMemory>
+        requires known { actor.0 < 20 }
+        requires count { self.old.faults.requests < 2 ^ 32 - 1 }
+        requires room { first ≡ true → HasEpoch actor self.old }
+        requires reach { (link_served first false self.old.links.started (link_for actor self.old)).live ≡ true }
+        requires lock { CanLock request.now }
+        requires can { CanCarryOut request.now load self.old.copies.objects }
+        ensures ok { IfOk result (λ given. Serves first true (Some Fault.Lost) actor request.now load.entry self.old self.new given) }
+        ensures err { OnErr result (self.new ≡ self.old) }
+    {
+        let _lost = carry_out(
+            &mut self.brick,
+            &mut self.ranges,
+            &mut self.names,
+            actor,
+            request,
+            load,
+        )?;
+        count(&mut self.sessions, &mut self.faults, actor, first);
+        self.sessions.end(actor);
+        self.ranges.drop_owner(actor);
+        self.names.drop_owner(actor);
+        Ok(Asked {
+            answer: Answer::NotConnected,
+            took: true,
+        })
+    }
+}
+
+/// Counts the request; the first of a work meets the brick. It takes no memory, so it comes after all that does.
+fn count(sessions: &mut Sessions, faults: &mut FaultPlan, actor: ActorId, first: bool)
+    requires known { actor.0 < 20 }
+    requires count { faults.old.requests < 2 ^ 32 - 1 }
+    requires room { first ≡ true → opens sessions.old.started (link_of actor.0 sessions.old) ≡ true → (link_of actor.0 sessions.old).opened < 2 ^ 32 - 1 }
+    ensures faults { faults.new ≡ counted faults.old }
+    ensures started { sessions.new.started ≡ sessions.old.started }
+    ensures links { (x : ℕ) → link_of x sessions.new ≡ only actor.0 x (link_served first false sessions.old.started) (link_of x sessions.old) }
+{
+    if first {
+        sessions.meet(actor);
+    }
+    faults.next_request();
+}

@@ -1,0 +1,47 @@
+//! Locks that are asked for: granted, or held by another.
+ghost use Rattle.std.specs.Prelude.{◌≡◌, ◌<◌, IfOk, OnErr};
+ghost use Rattle.afr_model.specs.Honest.{lock_answer};
+ghost use Rattle.afr_range_locks.specs.Locks.{first_conflict, overlap_range, range_lock};
+ghost use Rattle.afr_name_locks.specs.Names.{name_lock, overlap_dir_name};
+ghost use Rattle.afr_server.specs.Carried.{joined_by};
+
+use afr_base::{ActorId, Gfid, NameId, NoMemory};
+use afr_lines::Answer;
+use afr_name_locks::NameLocks;
+use afr_range_locks::{Domain, Got, RangeLocks};
+
+pub(crate) fn lock_range(
+    ranges: &mut RangeLocks,
+    owner: ActorId,
+    domain: Domain,
+    gfid: Gfid,
+    from: u64,
+    to: u64,
+) -> Result<Answer, NoMemory>
+    requires { from < to }
+    ensures answer { IfOk result (λ answer. answer ≡ lock_answer (first_conflict overlap_range (range_lock owner domain gfid from to) ranges.old)) }
+    ensures locks { IfOk result (λ answer. ranges.new ≡ joined_by (first_conflict overlap_range (range_lock owner domain gfid from to) ranges.old) (range_lock owner domain gfid from to) ranges.old) }
+    ensures err { OnErr result (ranges.new ≡ ranges.old) }
+{
+    match ranges.lock(owner, domain, gfid, from, to)? {
+        Got::Granted => Ok(Answer::Granted),
+        Got::Held(holder) => Ok(Answer::Held(holder)),
+    }
+}
+
+pub(crate) fn lock_name(
+    names: &mut NameLocks,
+    owner: ActorId,
+    domain: Domain,
+    gfid: Gfid,
+    name: Option<NameId>,
+) -> Result<Answer, NoMemory>
+    ensures answer { IfOk result (λ answer. answer ≡ lock_answer (first_conflict overlap_dir_name (name_lock owner domain gfid name) names.old)) }
+    ensures locks { IfOk result (λ answer. names.new ≡ joined_by (first_conflict overlap_dir_name (name_lock owner domain gfid name) names.old) (name_lock owner domain gfid name) names.old) }
+    ensures err { OnErr result (names.new ≡ names.old) }
+{
+    match names.lock(owner, domain, gfid, name)? {
+        Got::Granted => Ok(Answer::Granted),
+        Got::Held(other) => Ok(Answer::Held(other)),
+    }
+}
