@@ -15,3 +15,4 @@ pub mod Ranges
 pub mod Discipline
 pub mod ByList
 pub mod Followed
+pub mod Covering
