@@ -16,7 +16,7 @@ use Rattle.afr_base.specs.Kinds.{same_kind}
 use Rattle.afr_plan.specs.declared.plan.Plan.{Plan}
 use Rattle.afr_audit.specs.declared.reads.NameRead.{NameRead}
 use Rattle.afr_law.specs.Beginning.{start_of}
-use Rattle.afr_law.specs.Codes.{kept_by}
+use Rattle.afr_tables.specs.Codes.{kept_by}
 use Rattle.afr_moves.specs.Discipline.{BeginsKnown}
 use Rattle.afr_moves.specs.ByList.{IsExactLine, MayExactlyNext}
 use Rattle.afr_moves.specs.Register.{area_kind}
