@@ -4,7 +4,6 @@ use Rattle.std.proofs.lemmas.Bool.Decides.{nat_tests}
 use Rattle.std.specs.Prelude.{None, Option, Some, if◌then◌else◌, nat_lt, option_and_then, ◌==◌, ◌^◌}
 use Rattle.afr_base.specs.declared.ids.Kind.{Kind}
 use Rattle.afr_base.specs.declared.ids.Kind.TheVariants.{Attrs, Bytes, Names}
-use Rattle.afr_base.specs.declared.marks.Marks.{Marks}
 use Rattle.afr_lines.specs.Log.{change_of}
 use Rattle.afr_lines.specs.declared.request.Area.{Area}
 use Rattle.afr_lines.specs.declared.request.Request.{Request}
@@ -15,11 +14,10 @@ use Rattle.afr_object.specs.declared.change.Repair.TheVariants.{Copy, CutTo, Put
 use Rattle.afr_moves.specs.Covering.{AppliesIn, Changes, Covers}
 use Rattle.afr_moves.specs.Discipline.{MayAskExactly, MovesExactly, present}
 use Rattle.afr_moves.specs.Heal.{Gives, Goes, MayHeal}
-use Rattle.afr_moves.specs.Lines.{name_of, pre_on, range_of, settle_on}
+use Rattle.afr_moves.specs.Lines.{range_of}
 use Rattle.afr_moves.specs.Past.{Log, object}
 use Rattle.afr_moves.specs.Honest.{plane_kind}
 use Rattle.afr_moves.specs.Register.{Exact, Finish, HealPres, Mends, Opening, Phase, Piece, PlaneIn, Settles, area_kind, rank, span, whole_area}
-use Rattle.afr_moves.specs.Rules.{area_object}
 use Rattle.afr_moves.specs.Steps.{mends_at, onward, pres_at, settles_at}
 use Rattle.afr_moves.specs.Transaction.{LiesIn, Outside}
 use Rattle.afr_law.proofs.Discipline.Cleans.{Shown, clean_now}
@@ -126,7 +124,7 @@ module _ (n : ℕ) (keeps : ℕ → Kind → Bool) (log : Log) (shown : Shown lo
       let room : here.upto + 131072 ≤ 1048576 = pieces.room phase (omega (arith, low)) in
       let area : here.law.area ≡ Some (range_of here.law.object here.upto (here.upto + span)) = part (Mend (Copy g at some read)) m (mend_far n keeps here m.source (Copy g at some read) test) (omega (arith, low)) ∙ (λ i. Some (part_area here.law.object (f.1 i) here.upto (phase i))) in
       by_whole (Mend (Copy g at some read)) None (range_of here.law.object here.upto (here.upto + span)) mine area is
-          ((f.0, sym (low_kind here.law.object here.upto (here.upto + span) (omega (arith, room)))), (sym f.0, omega (arith, f.3), omega (arith, f.3, f.4), omega (arith, room)))
+      ((f.0, sym (low_kind here.law.object here.upto (here.upto + span) (omega (arith, room)))), (sym f.0, omega (arith, f.3), omega (arith, f.3, f.4), omega (arith, room)))
   mend_covers (PutAttrs g read) m mine is =
       let test = mend_test n keeps here m.source b (PutAttrs g read) m.allowed in
       let on : onward n keeps here m.source g.0 Attrs ≡ true = first_2 _ _ test in

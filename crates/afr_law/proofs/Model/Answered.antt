@@ -3,7 +3,6 @@ use Rattle.std.proofs.Common.{◌≡◌, ℕ, suc, ◌<◌, ◌≤◌, ◌^◌, 
 use Rattle.std.specs.Prelude.{if◌then◌else◌, slice_index, ◌==◌}
 use Rattle.afr_base.specs.Marks.{marks_of}
 use Rattle.afr_base.specs.declared.ids.ActorId.{ActorId}
-use Rattle.afr_base.specs.declared.ids.BrickId.{BrickId}
 use Rattle.afr_base.specs.declared.ids.Gfid.{Gfid}
 use Rattle.afr_base.specs.declared.ids.Kind.{Kind}
 use Rattle.afr_base.specs.declared.ids.Kind.TheVariants.{Attrs, Bytes, Names}
@@ -20,7 +19,7 @@ use Rattle.afr_lines.specs.declared.line.Line.TheVariants.{Ask}
 use Rattle.afr_lines.specs.declared.request.Area.{Area}
 use Rattle.afr_lines.specs.declared.request.Request.{Request}
 use Rattle.afr_lines.specs.declared.request.Request.TheVariants as request
-use Rattle.afr_model.specs.Honest.{copy_answer, copy_for, fault_in, in_the_way, is_live, lock_answer, outcome_of, over_session, requests_to, tells}
+use Rattle.afr_model.specs.Honest.{copy_answer, fault_in, is_live, lock_answer, outcome_of, over_session, requests_to, tells}
 use Rattle.afr_model.specs.Locks.{granted_by_line, locks_held, outlives}
 use Rattle.afr_model.specs.Tables.{holds}
 use Rattle.afr_object.specs.Tables.{Table, copy_at, view_of}
@@ -131,6 +130,6 @@ next_answered p log a b r five short honest lawful may =
     let copies = (all_short p log (ends_each p.shape.n p log lawful) weak).0 in
     let locks = locks_short p.shape.n (start_of p (name_bound p)) b.0 log lawful in
     let range : ToldInRange (outcome_of p a b.0 r (asking a b r) log).told =
-        session_range (is_live p a b.0 (asking a b r) log) (fault_in p.faults b.0 (suc (requests_to b.0 log))) _
-        (tells_range a r b.0 (holds p log b.0) log locks (λ g o e. view_range p log short b.0 g o e (copies b.0 g o e).0)) in
+    session_range (is_live p a b.0 (asking a b r) log) (fault_in p.faults b.0 (suc (requests_to b.0 log))) _
+    (tells_range a r b.0 (holds p log b.0) log locks (λ g o e. view_range p log short b.0 g o e (copies b.0 g o e).0)) in
     (said_by p log a b r may, next_by p log a b r may range)

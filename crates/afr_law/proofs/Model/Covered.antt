@@ -1,5 +1,5 @@
 -- Who changes a brick in an honest and lawful log holds the locks for it there.
-use Rattle.std.proofs.Common.{◌≡◌, ℕ, suc, ◌<◌, ◌≤◌, Bool, true, false, inl, inr, refl, sym, ◌∙◌, ap, subst, arith, List, [], ◌∷◌, length, Option, None, Some, Contains}
+use Rattle.std.proofs.Common.{◌≡◌, ℕ, suc, ◌<◌, ◌≤◌, Bool, true, false, inl, inr, refl, sym, ◌∙◌, ap, subst, arith, List, [], ◌∷◌, length, Option, Some, Contains}
 use Rattle.std.specs.Prelude.{option_and_then}
 use Rattle.afr_base.specs.declared.ids.ActorId.{ActorId}
 use Rattle.afr_base.specs.declared.ids.BrickId.{BrickId}
@@ -25,7 +25,7 @@ use Rattle.afr_moves.specs.Covering.{Changes, Covers, HasHealLock, IsCovered}
 use Rattle.afr_moves.specs.Discipline.{LawfulExactly, MayExactly}
 use Rattle.afr_moves.specs.Discipline as exactly
 use Rattle.afr_moves.specs.Honest.{Honest}
-use Rattle.afr_moves.specs.Lines.{ask_by, post_on, pre_on, settle_on}
+use Rattle.afr_moves.specs.Lines.{ask_by, settle_on}
 use Rattle.afr_moves.specs.Past.{Beginning, Log, held}
 use Rattle.afr_moves.specs.Positions.{by_position}
 use Rattle.afr_moves.specs.Rules.{Lawful, MayApply, MayMend, MayPost, MayPre, MaySettle, Register, heal_area, present}

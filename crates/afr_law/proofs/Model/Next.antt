@@ -81,10 +81,10 @@ module _ (p : Plan) (log : List Line) (a : ActorId) (b : BrickId) (r : Request) 
 
   pub next_by : ToldInRange out.told → IsNext p (Ask a b r out.told out.took) log
   next_by range = (
-      ((may.0).0, (may.0).1, (may.0).2, range),
-      subst (λ (x : Bool). (b.0 < p.shape.n) × MayAskExactly p.shape.n (kept_by p) (in_force x (exact p.shape.n (kept_by p) (by_position log) (length log) a.0)) b.0 r)
-          (begins_same (place (by_position log) (length log) a.0) a b r _ out.told false out.took) may.1,
-      tt,
+    ((may.0).0, (may.0).1, (may.0).2, range),
+    subst (λ (x : Bool). (b.0 < p.shape.n) × MayAskExactly p.shape.n (kept_by p) (in_force x (exact p.shape.n (kept_by p) (by_position log) (length log) a.0)) b.0 r)
+        (begins_same (place (by_position log) (length log) a.0) a b r _ out.told false out.took) may.1,
+    tt,
   )
 
   comes_by : ToldInRange out.told → Comes p log a b r

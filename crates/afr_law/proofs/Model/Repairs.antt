@@ -1,5 +1,5 @@
 -- The next Mend line of an honest log that keeps the discipline in full can be carried out; so can every line.
-use Rattle.std.proofs.Common.{◌≡◌, ℕ, ◌+◌, ◌<◌, ◌≤◌, Bool, true, inl, inr, refl, sym, ◌∙◌, ap, subst, arith, List, [], ◌∷◌, length, Option, None, Some, take, drop, length-take, true≢false}
+use Rattle.std.proofs.Common.{◌≡◌, ℕ, ◌+◌, ◌<◌, ◌≤◌, Bool, true, inl, inr, refl, sym, ◌∙◌, ap, subst, arith, List, [], ◌∷◌, length, Option, None, Some, take, drop, length-take}
 use Rattle.std.specs.Prelude.{IfSome}
 use Rattle.std.specs.Cmp.{ranks}
 use Rattle.std.specs.List.{AllByRecursion}
@@ -13,7 +13,6 @@ use Rattle.afr_base.specs.declared.ids.BrickId.{BrickId}
 use Rattle.afr_base.specs.declared.ids.Gfid.{Gfid}
 use Rattle.afr_base.specs.declared.ids.KeyId.{KeyId}
 use Rattle.afr_base.specs.declared.ids.Kind.{Kind}
-use Rattle.afr_base.specs.declared.ids.Kind.TheVariants.{Bytes}
 use Rattle.afr_base.specs.declared.ids.NameId.{NameId}
 use Rattle.afr_base.specs.declared.ids.ValueId.{ValueId}
 use Rattle.afr_brick.specs.State.{CanRepair, IsInOrder}
@@ -46,9 +45,8 @@ use Rattle.afr_moves.specs.Discipline.{LawfulExactly, MayAskExactly, MayExactly,
 use Rattle.afr_moves.specs.Heal.{Gives, Goes, MayHeal}
 use Rattle.afr_moves.specs.ByList.{IsExactlyLawful}
 use Rattle.afr_law.proofs.Discipline.ByList.{exactly_lawful}
-use Rattle.afr_moves.specs.Register.{Exact, Finish, Mends, Opening, Phase, Piece, rank}
+use Rattle.afr_moves.specs.Register.{Mends, Piece, rank}
 use Rattle.afr_law.specs.Exactly.{IsLawfulExactly, name_bound}
-use Rattle.afr_moves.specs.Steps.{mends_at}
 use Rattle.afr_law.proofs.Heals.Mended.{mend_fits}
 use Rattle.afr_law.proofs.Heals.Pieces.{ShortLooks, pieces_now}
 use Rattle.afr_law.proofs.Heals.Tests.{mend_test, mend_turn}
