@@ -19,3 +19,11 @@ pub mod Looks
 pub mod Early
 pub mod Fresh
 pub mod Causes
+pub mod Fits
+pub mod Short
+pub mod Repairs
+pub mod Next
+pub mod Found
+pub mod Kinds
+pub mod Covered
+pub mod Answered

@@ -11,3 +11,7 @@ pub mod ModelAlike
 pub mod ModelExact
 pub mod ModelFresh
 pub mod ModelCauses
+pub mod ModelNext
+pub mod ModelFits
+pub mod ModelKinds
+pub mod ModelCovered

@@ -16,3 +16,4 @@ pub mod Ranges
 pub mod Discipline
 pub mod ByList
 pub mod Followed
+pub mod Covering

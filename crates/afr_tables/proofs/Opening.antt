@@ -24,7 +24,7 @@ keep_some : (k new : ℕ) → (k ≡ 0 → ⊥) → keep k new ≡ k
 keep_some zero new h = absurd (h refl)
 keep_some (suc k) new h = refl
 
-opening_root : (i : ℕ) → kind_in (opening i) 1 ≡ 2
+pub opening_root : (i : ℕ) → kind_in (opening i) 1 ≡ 2
 opening_root zero = refl
 opening_root (suc i) = kind_applied true (opening_make i) (opening i) 1 ∙ rw (opening_root i) refl
 

@@ -40,7 +40,7 @@ each_changed P f keep g t all q w h = split (g.0 == q.0) (sym (copy_at-changed f
     split true k = mapped (copy_at g t) refl k
     split false k = all q w k
 
-each_made : (P : Object → Type 0) → ((what : What) → P (new_object what)) → (g : Gfid) (what : What) (t : Table) → EachCopy P t → EachCopy P (made g what t)
+pub each_made : (P : Object → Type 0) → ((what : What) → P (new_object what)) → (g : Gfid) (what : What) (t : Table) → EachCopy P t → EachCopy P (made g what t)
 each_made P new g what t all q w h = split (is_some (copy_at g t)) (g.0 == q.0) (sym (copy_at-made g q what t) ∙ h)
   where
     split : (there same : Bool) → (if there then copy_at q t else (if same then Some (new_object what) else copy_at q t)) ≡ Some w → P w
@@ -48,7 +48,7 @@ each_made P new g what t all q w h = split (is_some (copy_at g t)) (g.0 == q.0) 
     split false true k = subst P (some_is (new_object what) w k) (new what)
     split false false k = all q w k
 
-each_all_made : (P : Object → Type 0) → ((what : What) → P (new_object what)) → (names : NameTable) (t : Table) → EachCopy P t → EachCopy P (all_made names t)
+pub each_all_made : (P : Object → Type 0) → ((what : What) → P (new_object what)) → (names : NameTable) (t : Table) → EachCopy P t → EachCopy P (all_made names t)
 each_all_made P new [] t all = all
 each_all_made P new (x ∷ more) t all = each_made P new x.1.gfid x.1.what (all_made more t) (each_all_made P new more t all)
 

@@ -165,7 +165,7 @@ module _ (p : Plan) (n : ℕ) (L : Log) (x : ℕ) (g : Gfid) (kind : Kind) where
 
 -- ---- looks
 -- a look that was told Seen was shown a copy
-seen_copy : (live : Bool) (fault : Option Fault) (c : Option Object) (view : View) (took : Bool) → (record { told = Seen view; took = took }) ≡ over_session live fault (told_by (copy_answer (λ o. answer.Seen (view_of o)) c)) → (o : Object) × (c ≡ Some o) × (view ≡ view_of o)
+pub seen_copy : (live : Bool) (fault : Option Fault) (c : Option Object) (view : View) (took : Bool) → (record { told = Seen view; took = took }) ≡ over_session live fault (told_by (copy_answer (λ o. answer.Seen (view_of o)) c)) → (o : Object) × (c ≡ Some o) × (view ≡ view_of o)
 seen_copy false fault c view took e = absurd (cc (ap (λ (q : Outcome). q.told) e))
 seen_copy true (Some Fail) c view took e = absurd (cc (ap (λ (q : Outcome). q.told) e))
 seen_copy true (Some LostAnswer) c view took e = absurd (cc (ap (λ (q : Outcome). q.told) e))

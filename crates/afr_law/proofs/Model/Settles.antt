@@ -73,7 +73,7 @@ unfolding below
 member_below n b five low = in_filter (λ x. nat_lt x n) all_five b (grind (arith, nat_tests)) (from_table 5 (member all_five) refl b (omega (arith, low, five)))
 
 -- ---- the marks at a Settle line
-posts_later : (files : Beginning) (log : Log) (g : ℕ) (kind : Kind) (x c l t : ℕ) → l ≤ t → posts files log l x c g kind ≤ posts files log t x c g kind
+pub posts_later : (files : Beginning) (log : Log) (g : ℕ) (kind : Kind) (x c l t : ℕ) → l ≤ t → posts files log l x c g kind ≤ posts files log t x c g kind
 posts_later files log g kind x c l zero low = (let same : l ≡ 0 = omega (arith, low) in subst (λ (k : ℕ). posts files log k x c g kind ≤ posts files log 0 x c g kind) (sym same) (omega arith))
 posts_later files log g kind x c l (suc t) low = elim (cases_lt t l) [
   | inl late ↦ (let same : l ≡ suc t = omega (arith, late, low) in subst (λ (k : ℕ). posts files log k x c g kind ≤ posts files log (suc t) x c g kind) (sym same) (omega arith))

@@ -141,7 +141,7 @@ module _ (files : Beginning) (faults : ℕ → ℕ → Option Fault) (log : Log)
               )
 
   -- an entry that stands somewhere has the kind that its object was made with
-  entry_born : (t d m g : ℕ) (what : What) (v : ℕ) → From files log (Entry d m) t v → v ≡ entry_code g what → born files log g ≡ what_code what
+  pub entry_born : (t d m g : ℕ) (what : What) (v : ℕ) → From files log (Entry d m) t v → v ≡ entry_code g what → born files log g ≡ what_code what
   entry_born t d m g what v (inl e) is = absurd (entry_some g what (sym is ∙ e))
   entry_born t d m g what v (inr (inl e)) is = born_opening files log g what (files.named d m g what (sym e ∙ is))
   entry_born t d m g what v (inr (inr w)) is =
