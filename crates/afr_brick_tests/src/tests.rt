@@ -1,4 +1,5 @@
 //! Stories of one brick, in which each public call has its part.
+ghost use Rattle.std.specs.Prelude.{◌≡◌, ◌∷◌, [], IfOk};
 ghost use Rattle.std.specs.List.Sorted.{IsStrictlySortedBy};
 ghost use Rattle.std.specs.Map.{keys_of};
 ghost use Rattle.afr_object.specs.Tables.{key_cmp, name_cmp};
@@ -59,7 +60,9 @@ fn remove_name(brick: &mut Brick) -> bool {
     brick.apply(&remove).is_ok()
 }
 
-fn one_byte(alloc: Global) -> Result<Chunk, Refused> {
+fn one_byte(alloc: Global) -> Result<Chunk, Refused>
+    ensures { IfOk result (λ bytes. bytes ≡ 7 ∷ []) }
+{
     let mut bytes = List::new(alloc);
     bytes.push(7u8)?;
     Ok(bytes)
