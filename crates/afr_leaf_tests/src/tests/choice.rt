@@ -1,5 +1,5 @@
 //! Which copies are good, by what each brick showed.
-ghost use Rattle.std.specs.Prelude.{◌≡◌};
+ghost use Rattle.std.specs.Prelude.{◌<◌, ◌≤◌, length};
 
 use afr_base::{AllMarks, BrickId, BrickSet, Kind, Marks, Shape, What};
 use afr_choice::{Looked, Verdict, good, holders, judge, majority};
@@ -13,38 +13,101 @@ enum Seen {
     Has([u32; 5]),
 }
 
-const CLEAN: Seen = Seen::Has([0; 5]);
-
-fn looked(seen: &[Seen; 3]) -> Looked {
-    let [first, second, third] = *seen;
-    looked_at_five(&[first, second, third, Seen::Away, Seen::Away])
+/// A verdict, where the sources are told brick by brick.
+#[derive(Clone, Copy, Debug)]
+enum Want {
+    Short,
+    Bare,
+    Split,
+    Sources([bool; 5]),
 }
 
-fn looked_at_five(seen: &[Seen; 5]) -> Looked {
+const CLEAN: Seen = Seen::Has([0; 5]);
+
+const FIRST: Seen = Seen::Has([1, 0, 0, 0, 0]);
+
+const SECOND: Seen = Seen::Has([0, 2, 0, 0, 0]);
+
+const THIRD: Seen = Seen::Has([0, 0, 3, 0, 0]);
+
+const THIRD_ONCE: Seen = Seen::Has([0, 0, 1, 0, 0]);
+
+const ALONE: Seen = Seen::Has([0, 1, 1, 1, 1]);
+
+const FIFTH: Seen = Seen::Has([1, 0, 0, 0, 1]);
+
+const AWAY: Seen = Seen::Away;
+
+const LACKS: Seen = Seen::Lacks;
+
+const ONE: Want = Want::Sources([true, false, false, false, false]);
+
+const TWO: Want = Want::Sources([true, true, false, false, false]);
+
+const THREE: Want = Want::Sources([true, true, true, false, false]);
+
+const LAST_OF_THREE: Want = Want::Sources([false, false, true, false, false]);
+
+/// Of three bricks: whether the last is an arbiter, the looks, and the verdict over data.
+const OF_THREE: [(bool, [Seen; 3], Want); 12] = [
+    (false, [CLEAN, CLEAN, CLEAN], THREE),
+    (false, [THIRD, THIRD, AWAY], TWO),
+    (false, [THIRD, CLEAN, CLEAN], TWO),
+    (false, [SECOND, FIRST, CLEAN], LAST_OF_THREE),
+    (false, [SECOND, FIRST, LACKS], Want::Split),
+    (false, [SECOND, THIRD, FIRST], Want::Split),
+    (false, [CLEAN, AWAY, AWAY], Want::Short),
+    (false, [LACKS, LACKS, AWAY], Want::Bare),
+    (true, [CLEAN, CLEAN, CLEAN], TWO),
+    (true, [CLEAN, AWAY, CLEAN], ONE),
+    (true, [CLEAN, AWAY, FIRST], Want::Split),
+    (true, [LACKS, AWAY, CLEAN], Want::Bare),
+];
+
+/// Of five bricks: the looks, and the verdict over data.
+const OF_FIVE: [([Seen; 5], Want); 6] = [
+    ([CLEAN, CLEAN, AWAY, AWAY, AWAY], Want::Short),
+    ([AWAY, AWAY, LACKS, LACKS, LACKS], Want::Bare),
+    ([CLEAN, CLEAN, CLEAN, AWAY, AWAY], THREE),
+    ([ALONE, CLEAN, CLEAN, CLEAN, CLEAN], ONE),
+    ([CLEAN, AWAY, CLEAN, LACKS, FIFTH], LAST_OF_THREE),
+    ([ALONE, CLEAN, CLEAN, CLEAN, FIFTH], Want::Split),
+];
+
+/// Where the arbiter accuses brick 1 of data and brick 0 of entries: arbiter or not, kind, sources.
+const OF_KINDS: [(bool, Kind, [bool; 5]); 4] = [
+    (true, Kind::Names, [false, true, true, false, false]),
+    (true, Kind::Bytes, [true, false, false, false, false]),
+    (false, Kind::Bytes, [true, false, true, false, false]),
+    (true, Kind::Attrs, [true, true, true, false, false]),
+];
+
+fn looked(seen: &[Seen]) -> Looked
+    requires { length seen.now ≤ 5 }
+{
     let mut looked = Looked::none();
-    for b in 0..5u8 {
-        match seen[b as usize] {
-            Seen::Away => looked.lose(BrickId(b)),
-            Seen::Lacks => looked.note(BrickId(b), None),
-            Seen::Has(pending) => looked.note(BrickId(b), Some(view(pending))),
-        }
+    for b in 0..seen.len() {
+        note(&mut looked, BrickId(b as u8), seen[b]);
     }
     looked
 }
 
-fn view(pending: [u32; 5]) -> View {
-    view_with(AllMarks {
-        bytes: accusing(pending),
+fn note(looked: &mut Looked, b: BrickId, seen: Seen)
+    requires { b.0 < 5 }
+{
+    match seen {
+        Seen::Away => looked.lose(b),
+        Seen::Lacks => looked.note(b, None),
+        Seen::Has(pending) => looked.note(b, Some(view(accusing(pending), Marks::zero()))),
+    }
+}
+
+fn view(bytes: Marks, names: Marks) -> View {
+    let marks = AllMarks {
+        bytes,
         attrs: Marks::zero(),
-        names: Marks::zero(),
-    })
-}
-
-fn accusing(pending: [u32; 5]) -> Marks {
-    Marks { dirty: 0, pending }
-}
-
-fn view_with(marks: AllMarks) -> View {
+        names,
+    };
     View {
         what: What::File,
         len: 7,
@@ -52,115 +115,84 @@ fn view_with(marks: AllMarks) -> View {
     }
 }
 
-fn three(arbiter: bool) -> Shape
-    ensures { result.n ≡ 3 }
+fn accusing(pending: [u32; 5]) -> Marks {
+    Marks { dirty: 0, pending }
+}
+
+fn set(sources: &[bool; 5]) -> BrickSet {
+    let mut set = BrickSet::none();
+    for b in 0..5u8 {
+        set = set.with_if(sources[b as usize], BrickId(b));
+    }
+    set
+}
+
+fn wanted(want: &Want) -> Verdict {
+    match want {
+        Want::Short => Verdict::Short,
+        Want::Bare => Verdict::Bare,
+        Want::Split => Verdict::Split,
+        Want::Sources(sources) => Verdict::Sources(set(sources)),
+    }
+}
+
+/// Whether the looks have this verdict over data.
+fn judges(n: u8, arbiter: bool, seen: &[Seen], want: &Want) -> bool
+    requires bricks { n ≤ 5 }
+    requires looks { length seen.now ≤ 5 }
 {
-    Shape { n: 3, arbiter }
+    judge(&Shape { n, arbiter }, &looked(seen), Kind::Bytes) == wanted(want)
 }
 
 #[test]
 fn a_copy_is_a_source_where_nobody_accuses_it(rt: HostRuntime) {
-    let first = Seen::Has([1, 0, 0, 0, 0]);
-    let second = Seen::Has([0, 2, 0, 0, 0]);
-    let third = Seen::Has([0, 0, 3, 0, 0]);
-    let both = BrickSet::all(2);
-    let last = BrickSet::none().with(BrickId(2));
-    let rows = [
-        (
-            false,
-            [CLEAN, CLEAN, CLEAN],
-            Verdict::Sources(BrickSet::all(3)),
-        ),
-        (false, [third, third, Seen::Away], Verdict::Sources(both)),
-        (false, [third, CLEAN, CLEAN], Verdict::Sources(both)),
-        (false, [second, first, CLEAN], Verdict::Sources(last)),
-        (false, [second, first, Seen::Lacks], Verdict::Split),
-        (false, [second, third, first], Verdict::Split),
-        (false, [CLEAN, Seen::Away, Seen::Away], Verdict::Short),
-        (false, [Seen::Lacks, Seen::Lacks, Seen::Away], Verdict::Bare),
-        (true, [CLEAN, CLEAN, CLEAN], Verdict::Sources(both)),
-        (
-            true,
-            [CLEAN, Seen::Away, CLEAN],
-            Verdict::Sources(BrickSet::all(1)),
-        ),
-        (true, [CLEAN, Seen::Away, first], Verdict::Split),
-        (true, [Seen::Lacks, Seen::Away, CLEAN], Verdict::Bare),
-    ];
-    for (arbiter, seen, verdict) in &rows {
-        let found = judge(&three(*arbiter), &looked(seen), Kind::Bytes);
-        assert_eq!(rt; found, *verdict, "at {seen:?}");
-    }
-}
-
-#[test]
-fn the_arbiter_holds_attributes_and_data_numbers_are_of_data_alone(rt: HostRuntime) {
-    let seen = looked(&[Seen::Has([0, 0, 1, 0, 0]), Seen::Lacks, CLEAN]);
-    let two = BrickSet::all(3).without(BrickId(1));
-    assert_eq!(rt; holders(&seen), two);
-    assert_eq!(rt; good(&three(true), &seen, Kind::Attrs), two);
-    assert_eq!(rt; good(&three(false), &seen, Kind::Bytes), BrickSet::all(1));
-}
-
-#[test]
-fn an_arbiter_accuses_and_is_a_source_of_names_but_of_no_bytes(rt: HostRuntime) {
-    let marks = AllMarks {
-        bytes: accusing([0, 1, 0, 0, 0]),
-        attrs: Marks::zero(),
-        names: accusing([1, 0, 0, 0, 0]),
-    };
-    let mut seen = looked(&[CLEAN, CLEAN, CLEAN]);
-    seen.note(BrickId(2), Some(view_with(marks)));
-    let rows = [
-        (true, Kind::Names, BrickSet::all(3).without(BrickId(0))),
-        (true, Kind::Bytes, BrickSet::all(1)),
-        (false, Kind::Bytes, BrickSet::all(3).without(BrickId(1))),
-        (true, Kind::Attrs, BrickSet::all(3)),
-    ];
-    for (arbiter, kind, sources) in &rows {
-        let found = judge(&three(*arbiter), &seen, *kind);
-        assert_eq!(rt; found, Verdict::Sources(*sources), "at {kind:?}");
+    for (arbiter, seen, want) in &OF_THREE {
+        let holds = judges(3, *arbiter, seen, want);
+        assert!(rt; holds, "at {seen:?}");
     }
 }
 
 #[test]
 fn of_five_bricks_three_have_to_be_reached(rt: HostRuntime) {
-    let shape = Shape {
-        n: 5,
-        arbiter: false,
-    };
-    let alone = Seen::Has([0, 1, 1, 1, 1]);
-    let fifth = Seen::Has([1, 0, 0, 0, 1]);
-    let away = Seen::Away;
-    let rows = [
-        ([CLEAN, CLEAN, away, away, away], Verdict::Short),
-        (
-            [away, away, Seen::Lacks, Seen::Lacks, Seen::Lacks],
-            Verdict::Bare,
-        ),
-        (
-            [CLEAN, CLEAN, CLEAN, away, away],
-            Verdict::Sources(BrickSet::all(3)),
-        ),
-        (
-            [alone, CLEAN, CLEAN, CLEAN, CLEAN],
-            Verdict::Sources(BrickSet::all(1)),
-        ),
-        (
-            [CLEAN, away, CLEAN, Seen::Lacks, fifth],
-            Verdict::Sources(BrickSet::none().with(BrickId(2))),
-        ),
-        ([alone, CLEAN, CLEAN, CLEAN, fifth], Verdict::Split),
-    ];
-    for (seen, verdict) in &rows {
-        let found = judge(&shape, &looked_at_five(seen), Kind::Bytes);
-        assert_eq!(rt; found, *verdict, "at {seen:?}");
+    for (seen, want) in &OF_FIVE {
+        let holds = judges(5, false, seen, want);
+        assert!(rt; holds, "at {seen:?}");
+    }
+}
+
+fn three(arbiter: bool) -> Shape {
+    Shape { n: 3, arbiter }
+}
+
+#[test]
+fn the_arbiter_holds_attributes_and_data_numbers_are_of_data_alone(rt: HostRuntime) {
+    let seen = looked(&[THIRD_ONCE, LACKS, CLEAN]);
+    let two = BrickSet::all(3).without(BrickId(1));
+    assert!(rt; holders(&seen) == two);
+    assert!(rt; good(&three(true), &seen, Kind::Attrs) == two);
+    assert!(rt; good(&three(false), &seen, Kind::Bytes) == BrickSet::all(1));
+}
+
+/// Whether these are the sources where the arbiter accuses one brick of data and one of entries.
+fn has_sources(arbiter: bool, kind: Kind, sources: &[bool; 5]) -> bool {
+    let mut seen = looked(&[CLEAN, CLEAN, CLEAN]);
+    let data = accusing([0, 1, 0, 0, 0]);
+    let entries = accusing([1, 0, 0, 0, 0]);
+    seen.note(BrickId(2), Some(view(data, entries)));
+    judge(&Shape { n: 3, arbiter }, &seen, kind) == Verdict::Sources(set(sources))
+}
+
+#[test]
+fn an_arbiter_accuses_and_is_a_source_of_names_but_of_no_bytes(rt: HostRuntime) {
+    for (arbiter, kind, sources) in &OF_KINDS {
+        let holds = has_sources(*arbiter, *kind, sources);
+        assert!(rt; holds, "at {kind:?}");
     }
 }
 
 #[test]
 fn a_majority_is_more_than_half(rt: HostRuntime) {
     for (n, least) in [(1u8, 1u8), (2, 2), (3, 2), (4, 3), (5, 3)] {
-        assert_eq!(rt; majority(n), least, "of {n}");
+        assert!(rt; majority(n) == least, "of {n}");
     }
 }
