@@ -51,11 +51,15 @@ module _ (left left' : Option (List ℕ)) (fault : PlanFault) where
   refused taken taken' cause line = record { fault = fault; cause = cause; line = line }
 
 module _ (left left' : Option (List ℕ)) (bytes seen : List ℕ) (plan : Plan) where
-  -- the plan that was spelled is the one that was run
-  pub is_spelled : (run : Plan) → seen ≡ bytes → Consumes left left' bytes → IsAtEnd left' → length bytes ≤ 16777216 → Spells seen plan → IsFirstPath plan → run ≡ plan → IsSpelled left left' run
-  is_spelled run e came end few spells first same = record { bytes = bytes; read = record { came = came; end = end; few = few }; spells = rw (← e, same) spells; first = rw same first }
+  -- what was read to its end spells the plan
+  pub is_spelled : seen ≡ bytes → Consumes left left' bytes → IsAtEnd left' → length bytes ≤ 16777216 → Spells seen plan → IsFirstPath plan → IsSpelled left left' plan
+  is_spelled e came end few spells first = record { bytes = bytes; read = record { came = came; end = end; few = few }; spells = rw (← e) spells; first = first }
 
-  pub spelled_or_none : (now : State) → seen ≡ bytes → Consumes left left' bytes → IsAtEnd left' → length bytes ≤ 16777216 → Spells seen plan → IsFirstPath plan
-      → (now ≡ no_volume) ⊎ (now.plan ≡ plan) → (now ≡ no_volume) ⊎ IsSpelled left left' now.plan
-  spelled_or_none now e came end few spells first (inl none) = inl none
-  spelled_or_none now e came end few spells first (inr same) = inr (is_spelled now.plan e came end few spells first same)
+module _ (left left' : Option (List ℕ)) (plan : Plan) (spelled : IsSpelled left left' plan) where
+  -- the plan that was spelled is the one that was run
+  pub run_is_spelled : (run : Plan) → run ≡ plan → IsSpelled left left' run
+  run_is_spelled run same = rw same spelled
+
+  pub spelled_or_none : (now : State) → (now ≡ no_volume) ⊎ (now.plan ≡ plan) → (now ≡ no_volume) ⊎ IsSpelled left left' now.plan
+  spelled_or_none now (inl none) = inl none
+  spelled_or_none now (inr same) = inr (run_is_spelled now.plan same)

@@ -4,7 +4,9 @@
 mod finished;
 mod messages;
 mod program;
+mod reading;
 mod running;
+mod status;
 mod words;
 
 pub use program::afr_top;

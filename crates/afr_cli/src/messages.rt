@@ -5,6 +5,7 @@ ghost use Rattle.afr_text.specs.Causes.{Rose};
 ghost use Rattle.afr_text.specs.Parts.{AppendsFront};
 ghost use Rattle.afr_cli.specs.Statuses.{name_of, refusal_line};
 
+use crate::status::Status;
 use afr_base::NoMemory;
 use afr_plan::PlanFault;
 use afr_text::{Sink, write_all};
@@ -18,7 +19,7 @@ pub fn answer<K: Sink>(sink: &mut K, text: &[u8], status: u8) -> u8
 {
     match write_all(sink, text) {
         Ok(()) => status,
-        Err(_) => 5,
+        Err(_) => Status::WriteFault as u8,
     }
 }
 
@@ -30,8 +31,8 @@ pub fn refuse<K: Sink>(alloc: Global, sink: &mut K, fault: PlanFault) -> u8
     ensures memory { result ≡ 6 → sink.new ≡ sink.old }
 {
     match refusal_text(alloc, fault) {
-        Ok(text) => answer(sink, text.as_bytes(), 3),
-        Err(_) => 6,
+        Ok(text) => answer(sink, text.as_bytes(), Status::Refused as u8),
+        Err(_) => Status::NoMemory as u8,
     }
 }
 

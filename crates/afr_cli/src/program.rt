@@ -17,16 +17,13 @@ ghost use Rattle.afr_plan.specs.Spells.{Spells};
 ghost use Rattle.afr_cli.specs.Statuses.{AreRun, AreDone, HasFault, AreGiven, IsFull, IsRefusal, IsSpelled, IsWorkLeft, Reports, StopsWriting, refusal_line, usage_line};
 
 use crate::messages::{answer, refuse};
+use crate::reading::{Unread, read_runnable};
 use crate::running::run_plan;
+use crate::status::Status;
 use crate::words::is_run;
-use afr_plan::{PlanFault, PlanStop, is_runnable_yet};
-use afr_plan_read::read_plan;
-use afr_text::{ReadStop, Sink, Source, read_all};
+use afr_text::{Sink, Source};
 use afr_volume::Volume;
 use std::alloc::Global;
-
-/// The longest source, in bytes.
-const LIMIT: usize = 16_777_216;
 
 /// Serves the words, and answers the status. It ends with 2 where the words are no form that it
 /// serves, 3 where the plan is refused, 4 where the source failed, 5 where the sink failed, 6 where
@@ -80,7 +77,11 @@ pub fn afr_top<S: Source, K: Sink>(
     let status = if is_run(words) {
         read_and_run(alloc, source, sink, volume)
     } else {
-        answer(sink, b"usage: afr run | trace | info | gen N | live\n", 2)
+        answer(
+            sink,
+            b"usage: afr run | trace | info | gen N | live\n",
+            Status::Usage as u8,
+        )
     };
     volume.every_line();
     status
@@ -108,21 +109,10 @@ fn read_and_run<S: Source, K: Sink>(
     ensures few { (result ≡ 0) ⊎ (result ≡ 3) ⊎ (result ≡ 4) ⊎ (result ≡ 5) ⊎ (result ≡ 6) ⊎ (result ≡ 7) }
     ensures ordered { IsOrdered volume.new.plan volume.new.log }
 {
-    let bytes = match read_all(alloc, source, LIMIT) {
-        Ok(bytes) => bytes,
-        Err(ReadStop::ReadFault) => return 4,
-        Err(ReadStop::TooLong) => return refuse(alloc, sink, PlanFault { line: 0, code: 0 }),
-        Err(ReadStop::NoMemory) => return 6,
-    };
-    match read_plan(alloc, &bytes) {
-        Ok(plan) => {
-            if is_runnable_yet(&plan) {
-                run_plan(alloc, plan, sink, volume)
-            } else {
-                refuse(alloc, sink, PlanFault { line: 0, code: 10 })
-            }
-        }
-        Err(PlanStop::Refused(fault)) => refuse(alloc, sink, fault),
-        Err(PlanStop::NoMemory) => 6,
+    match read_runnable(alloc, source) {
+        Ok(plan) => run_plan(alloc, plan, sink, volume),
+        Err(Unread::Refused(fault)) => refuse(alloc, sink, fault),
+        Err(Unread::ReadFault) => Status::ReadFault as u8,
+        Err(Unread::NoMemory) => Status::NoMemory as u8,
     }
 }

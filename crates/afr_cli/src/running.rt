@@ -12,6 +12,7 @@ ghost use Rattle.afr_cli.specs.Statuses.{AreDone, IsFull, IsWorkLeft};
 
 use crate::finished::all_done;
 use crate::messages::answer;
+use crate::status::Status;
 use afr_order::drive;
 use afr_plan::Plan;
 use afr_report::report_text;
@@ -37,17 +38,17 @@ pub fn run_plan<K: Sink>(alloc: Global, plan: Plan, sink: &mut K, volume: &mut V
     ensures memory { result ≡ 6 → sink.new ≡ sink.old }
 {
     if volume.set_up(plan).is_err() {
-        return 6;
+        return Status::NoMemory as u8;
     }
     if drive(volume).is_err() {
-        return 6;
+        return Status::NoMemory as u8;
     }
     if is_unfinished(volume) {
-        return 7;
+        return Status::Unfinished as u8;
     }
     match report_text(alloc, volume) {
-        Ok(text) => answer(sink, text.as_bytes(), 0),
-        Err(_) => 6,
+        Ok(text) => answer(sink, text.as_bytes(), Status::Done as u8),
+        Err(_) => Status::NoMemory as u8,
     }
 }
 

@@ -60,7 +60,7 @@ fn set_up(alloc: Global, volume: &mut Volume) -> Result<(), Fail> {
 fn takes_a_turn(volume: &mut Volume, position: u32, text: &mut String) -> Result<(), Fail>
     requires { position < 33 }
 {
-    let client = ActorId::client(1);
+    let client = ActorId(1);
     if volume.plan().clients.len() != 1 || volume.due().is_some() || volume.is_done(client) {
         return Err(Fail::from("before"));
     }
@@ -77,10 +77,12 @@ fn is_worked(alloc: Global, volume: &mut Volume, text: &mut String) -> Result<bo
         takes_a_turn(volume, position, text)?;
     }
     volume.every_line();
-    Ok(volume.lines().len() == 33
-        && volume.reach().has_quorum(3)
-        && volume.plan().clients.len() == 1
-        && volume.is_done(ActorId::client(1)))
+    Ok(
+        volume.lines().len() == 33
+            && volume.reach().has_quorum(3)
+            && volume.plan().clients.len() == 1
+            && volume.is_done(ActorId(1)),
+    )
 }
 
 /// The words of the lines, where the client is done after them.

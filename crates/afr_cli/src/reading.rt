@@ -1,0 +1,56 @@
+//! Reading a plan from a source, and judging whether it can be run.
+ghost use Rattle.std.specs.Prelude.{◌≡◌, Err, IfOk};
+ghost use Rattle.afr_text.specs.Causes.{Rose};
+ghost use Rattle.afr_plan.specs.declared.plan.PlanFault.{PlanFault};
+ghost use Rattle.afr_plan.specs.FirstPath.{IsFirstPath};
+ghost use Rattle.afr_cli.specs.Statuses.{IsRefused, IsSpelled};
+
+use crate::status::WholePlan;
+use afr_plan::{Plan, PlanFault, PlanStop, is_runnable_yet};
+use afr_plan_read::read_plan;
+use afr_text::{ReadStop, Source, read_all};
+use std::alloc::Global;
+
+/// The longest source, in bytes.
+const LIMIT: usize = 16_777_216;
+
+/// Why there is no plan to run.
+#[derive(Drop)]
+pub enum Unread {
+    ReadFault,
+    Refused(PlanFault),
+    NoMemory,
+}
+
+/// Reads the source to its end, as a plan that the volume can run.
+pub fn read_runnable<S: Source>(alloc: Global, source: &mut S) -> Result<Plan, Unread>
+    ensures ok { IfOk result (λ plan. IsSpelled (S.left source.old) (S.left source.new) plan) }
+    ensures first { IfOk result (λ plan. IsFirstPath plan) }
+    ensures refused { (fault : PlanFault) → result ≡ Err (Unread.Refused fault) → IsRefused (S.left source.old) (S.left source.new) fault }
+    ensures read { result ≡ Err Unread.ReadFault → Rose (S.faults source.old) (S.faults source.new) }
+{
+    let bytes = match read_all(alloc, source, LIMIT) {
+        Ok(bytes) => bytes,
+        Err(ReadStop::ReadFault) => return Err(Unread::ReadFault),
+        Err(ReadStop::TooLong) => return Err(whole(WholePlan::TooLong as u8)),
+        Err(ReadStop::NoMemory) => return Err(Unread::NoMemory),
+    };
+    match read_plan(alloc, &bytes) {
+        Ok(plan) => {
+            if is_runnable_yet(&plan) {
+                Ok(plan)
+            } else {
+                Err(whole(WholePlan::NotYetRun as u8))
+            }
+        }
+        Err(PlanStop::Refused(fault)) => Err(Unread::Refused(fault)),
+        Err(PlanStop::NoMemory) => Err(Unread::NoMemory),
+    }
+}
+
+/// The plan as a whole is refused.
+fn whole(code: u8) -> Unread
+    ensures { result ≡ Unread.Refused (record { line = 0; code = code }) }
+{
+    Unread::Refused(PlanFault { line: 0, code })
+}

@@ -1,0 +1,19 @@
+//! What the program ends with, and the codes of plans that are refused as a whole.
+
+/// The status of the program. A plan that was run to its end gives `Done`, one whose log was full
+/// before all work was done `Unfinished`; the others name what kept a plan from its report.
+pub enum Status {
+    Done = 0,
+    Usage = 2,
+    Refused = 3,
+    ReadFault = 4,
+    WriteFault = 5,
+    NoMemory = 6,
+    Unfinished = 7,
+}
+
+/// The codes of a fault that no line of the plan has: it stands at line 0.
+pub enum WholePlan {
+    TooLong = 0,
+    NotYetRun = 10,
+}
