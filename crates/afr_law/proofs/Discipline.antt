@@ -16,3 +16,4 @@ pub mod Safe
 pub mod SameMoves
 pub mod Known
 pub mod Covers
+pub mod Lockable

@@ -7,12 +7,14 @@ use Rattle.afr_lines.specs.declared.answer.Told.{Told}
 use Rattle.afr_lines.specs.declared.line.Line.{Line}
 use Rattle.afr_lines.specs.declared.line.Line.TheVariants.{Ask}
 use Rattle.afr_lines.specs.declared.request.Request.{Request}
-use Rattle.afr_lines.specs.declared.request.Request.TheVariants.{Apply}
+use Rattle.afr_lines.specs.declared.request.Request.TheVariants.{Apply, Lock}
 use Rattle.afr_model.specs.Honest.{Honest, IsHonest}
 use Rattle.afr_model.specs.Locks.{locks_held}
-use Rattle.afr_moves.specs.Covering.{HasItsLocks}
+use Rattle.afr_lines.specs.declared.request.Area.{Area}
+use Rattle.afr_moves.specs.Covering.{HasItsLocks, HasNumber}
 use Rattle.afr_object.specs.declared.change.Change.{Change}
 use Rattle.afr_plan.specs.declared.plan.Plan.{Plan}
+use Rattle.afr_range_locks.specs.declared.domain.Domain.{Domain}
 use Rattle.afr_law.specs.Exactly.{IsLawfulExactly}
 use Rattle.afr_law.specs.ModelNext.{IsNext, MayAskNext, is_carried}
 
@@ -32,3 +34,7 @@ abbrev pub ModelCarriedCovered : Type 0
 ModelCarriedCovered =
     (p : Plan) (log : List Line) (a : ActorId) (b : BrickId) (request : Request) → p.shape.n ≤ 5 → length log < 4000000 → Honest p log → IsLawfulExactly p log
     → MayAskNext p a b request log → is_carried p a b request log ≡ true → HasItsLocks (locks_held b.0 log) a request (change_for request log)
+
+-- a range that may be locked next has a number in it
+abbrev pub ModelNextLocks : Type 0
+ModelNextLocks = (p : Plan) (log : List Line) (a : ActorId) (b : BrickId) (domain : Domain) (area : Area) → IsLawfulExactly p log → MayAskNext p a b (Lock domain area) log → HasNumber area

@@ -13,7 +13,7 @@ ghost use Rattle.afr_law.specs.ModelCauses.{ModelAccusationsHaveCauses, ModelExa
 ghost use Rattle.afr_law.specs.ModelNext.{ModelNextAnswered};
 ghost use Rattle.afr_law.specs.ModelFits.{ModelNextFits, ModelNextCarries, ModelNextFound, ModelExactSums};
 ghost use Rattle.afr_law.specs.ModelKinds.{ModelOneKind, ModelNextLooks};
-ghost use Rattle.afr_law.specs.ModelCovered.{ModelNextCovered, ModelCarriedCovered};
+ghost use Rattle.afr_law.specs.ModelCovered.{ModelNextCovered, ModelCarriedCovered, ModelNextLocks};
 
 /// The law, in three clauses that have no use for a body: `model` in the words of the model, for plans of at most five
 /// bricks; `lines` over lines by their positions, for any number of bricks; `exact` in the words of the model again, of
@@ -71,8 +71,9 @@ pub fn a_gfid_is_of_one_kind()
 {}
 
 /// Whoever changes a brick holds a Work lock that covers the change there, and who settles holds the Heal lock too; `carries`
-/// says so of a request before anybody knows its answer.
+/// says so of a request before anybody knows its answer. `locks`: a range that may be locked next has a number in it.
 pub fn lawful_lines_are_covered()
     ensures next { ModelNextCovered }
     ensures carries { ModelCarriedCovered }
+    ensures locks { ModelNextLocks }
 {}

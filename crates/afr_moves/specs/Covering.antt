@@ -1,5 +1,5 @@
 -- The locks under which a brick's copy is changed: which area covers which request.
-use Rattle.std.specs.Prelude.{◌≡◌, ℕ, ◌+◌, ◌^◌, ◌≤◌, Contains, List, Option, None, Some}
+use Rattle.std.specs.Prelude.{◌≡◌, ◌+◌, ◌^◌, ◌<◌, ◌≤◌, Contains, List, Option, None, Some}
 use Rattle.afr_base.specs.declared.ids.ActorId.{ActorId}
 use Rattle.afr_object.specs.declared.change.Change.{Change}
 use Rattle.afr_object.specs.declared.change.Repair.{Repair}
@@ -62,3 +62,8 @@ pub record IsCovered (locks : List (HeldLock Area)) (a : ActorId) (request : Req
 -- a request that changes something is covered
 abbrev pub HasItsLocks : List (HeldLock Area) → ActorId → Request → Option Change → Type 0
 HasItsLocks locks a request change = Changes request → IsCovered locks a request change
+
+-- a range has a number in it
+abbrev pub HasNumber : Area → Type 0
+HasNumber (Range g from to) = from < to
+HasNumber (Name g name) = Unit {0}

@@ -26,11 +26,12 @@ use Rattle.afr_moves.specs.Discipline.{LawfulExactly, MayExactly}
 use Rattle.afr_moves.specs.Discipline as exactly
 use Rattle.afr_moves.specs.Honest.{Honest}
 use Rattle.afr_moves.specs.Lines.{ask_by, settle_on}
-use Rattle.afr_moves.specs.Past.{Beginning, Log, held}
+use Rattle.afr_moves.specs.Past.{Beginning, Log, held, opens, place}
 use Rattle.afr_moves.specs.Positions.{by_position}
 use Rattle.afr_moves.specs.Rules.{Lawful, MayApply, MayMend, MayPost, MayPre, MaySettle, Register, heal_area, present}
 use Rattle.afr_law.proofs.Discipline.ByList.{exactly_lawful}
 use Rattle.afr_law.proofs.Discipline.Covers.{change_there, covers_now}
+use Rattle.afr_law.proofs.Discipline.Lockable.{forced_has, lock_has}
 use Rattle.afr_law.proofs.Discipline.Projection.{present_law}
 use Rattle.afr_law.proofs.Heals.Answers.{honestly}
 use Rattle.afr_law.proofs.Heals.Looks.{mend_works, positive, settle_works}
@@ -46,8 +47,8 @@ use Rattle.afr_law.proofs.Safety.Acts.{Working, may_ask, working}
 use Rattle.afr_law.specs.Beginning.{start_of}
 use Rattle.afr_tables.specs.Codes.{kept_by}
 use Rattle.afr_law.specs.Exactly.{IsLawfulExactly, name_bound}
-use Rattle.afr_law.specs.ModelCovered.{ModelCarriedCovered, ModelNextCovered, change_for}
-use Rattle.afr_law.specs.ModelNext.{IsNext}
+use Rattle.afr_law.specs.ModelCovered.{ModelCarriedCovered, ModelNextCovered, ModelNextLocks, change_for}
+use Rattle.afr_law.specs.ModelNext.{IsNext, asking}
 
 -- ---- by positions
 -- a lock of actor a on brick b that is held at t
@@ -202,3 +203,10 @@ carried_covered p log a b r five short honest lawful may carried so =
     let w = comes p log a b r may so in
     let took : w.took ≡ true = w.is ∙ carried in
     next_covered p log a b r w.told five short honest lawful (subst (λ (k : Bool). IsHonest p (Ask a b r w.told k) log) took w.said) (subst (λ (k : Bool). IsNext p (Ask a b r w.told k) log) took w.next) so
+
+pub next_locks : ModelNextLocks
+next_locks p log a b domain area lawful may =
+    let moves = (exactly_lawful p.shape.n (start_of p (name_bound p)) log lawful).moves in
+    let first = opens (place (by_position log) (length log) a.0) (Some (asking a b (Lock domain area))) in
+    lock_has p.shape.n (kept_by p) (exactly.in_force first (exactly.exact p.shape.n (kept_by p) (by_position log) (length log) a.0)) b.0
+    (forced_has p.shape.n (kept_by p) (by_position log) moves first (length log) a.0) domain area (may.1).1
