@@ -7,7 +7,8 @@ use Rattle.afr_lines.specs.declared.line.Line.{Line}
 use Rattle.afr_lines.specs.declared.request.Request.{Request}
 use Rattle.afr_lines.specs.declared.request.Request.TheVariants.{Pre, Post, Settle}
 use Rattle.afr_plan.specs.declared.plan.Plan.{Plan}
-use Rattle.afr_model.specs.Sums.{blames, closes_op, opens_op, same_kind, settles_dirty, settles_pending}
+use Rattle.afr_model.specs.Sums.{blames, closes_op, opens_op, settles_dirty, settles_pending}
+use Rattle.afr_base.specs.Kinds.{same_kind}
 use Rattle.afr_check.specs.declared.sums.Counted.{Counted}
 use Rattle.afr_check.specs.declared.sums.Part.{Part}
 use Rattle.afr_check.specs.declared.sums.Part.TheVariants.{Opened, Closed, Blamed, SettledDirty, SettledPending}

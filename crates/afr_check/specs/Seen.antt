@@ -1,6 +1,6 @@
 -- The code's cells, values, places, paths and readings, as the definitions have them.
 use Rattle.afr_model.specs.Cells.{Cell, Byte, Attr, Name, Value, IsByte, IsAttr, IsEntry}
-use Rattle.afr_model.specs.Sessions.{Place, Fresh, Indexed, Between, Within}
+use Rattle.afr_lines.specs.Places.{Place, Fresh, Indexed, Between, Within}
 use Rattle.afr_check.specs.declared.cell.Cell as code
 use Rattle.afr_check.specs.declared.cell.Cell.TheVariants as code_cell
 use Rattle.afr_check.specs.declared.cell.Value as code_values

@@ -1,6 +1,7 @@
 //! The locks on a brick after a log, and which of them are in the way of a request.
 ghost use Rattle.std.specs.Prelude.{◌≡◌, true, false, filter, reverse, IfOk, IfSome, IfNone, OnOk, ◌∷◌, [], ◌++◌};
-ghost use Rattle.afr_model.specs.Locks.{granted_by_line, locks_held, outlives, overlap, releases, same_area};
+ghost use Rattle.afr_model.specs.Locks.{granted_by_line, locks_held, outlives, releases};
+ghost use Rattle.afr_lines.specs.Overlap.{overlap, same_area};
 ghost use Rattle.afr_name_locks.specs.Names.{same_name, share_name};
 ghost use Rattle.afr_range_locks.specs.Locks.{conflicts, first_conflict, same_domain};
 ghost use Rattle.afr_lines.specs.declared.answer.Told.{Told};

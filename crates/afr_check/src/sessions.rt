@@ -3,7 +3,8 @@ ghost use Rattle.std.specs.Prelude.{◌≡◌, ◌≤◌, Bool, List, ℕ, rever
 ghost use Rattle.afr_base.specs.Bricks.{member};
 ghost use Rattle.afr_lines.specs.declared.answer.Told.{Told};
 ghost use Rattle.afr_model.specs.Report.{started_after, started_bricks, started_by};
-ghost use Rattle.afr_model.specs.Sessions.{ends_session, event_ends, is_heal_lock, is_joined, is_linked, linked_after, linked_by, next_place, opens, opens_with, place_of};
+ghost use Rattle.afr_model.specs.Sessions.{ends_session, event_ends, is_joined, is_linked, linked_after, linked_by, opens_with};
+ghost use Rattle.afr_lines.specs.Places.{is_heal_lock, next_place, opens, place_of};
 ghost use Rattle.afr_check.specs.Seen.{place_seen};
 
 use crate::works::is_of;

@@ -1,6 +1,7 @@
 //! The numbers of a copy as sums over a log.
 ghost use Rattle.std.specs.Prelude.{Err, ◌≡◌, ◌<◌, ◌≤◌, ◌*◌, ◌^◌, ℕ, Bool, reverse, IfOk, List, is_some, length};
-ghost use Rattle.afr_model.specs.Sums.{dirty_of, has_object, pending_of, same_kind, sum_over};
+ghost use Rattle.afr_model.specs.Sums.{dirty_of, has_object, pending_of, sum_over};
+ghost use Rattle.afr_base.specs.Kinds.{same_kind};
 ghost use Rattle.afr_lines.specs.declared.line.Line.{Line};
 ghost use Rattle.afr_plan.specs.declared.plan.Plan.{Plan};
 ghost use Rattle.afr_object.specs.Tables.{copy_at};

@@ -8,11 +8,11 @@ use Rattle.afr_base.specs.declared.ids.Kind.TheVariants.{Bytes, Attrs, Names}
 use Rattle.afr_object.specs.declared.entry.View.{View}
 use Rattle.afr_lines.specs.declared.request.Area.{Area}
 use Rattle.afr_lines.specs.declared.request.Area.TheVariants.{Range, Name}
-use Rattle.afr_model.specs.Sums.{same_kind}
-use Rattle.afr_law.specs.Sets.{any}
-use Rattle.afr_law.specs.Lawful.{Register, LastPosted, busy, is_area, area_object}
-use Rattle.afr_law.specs.ExactRegister.{Exact, Step, IsArea, PlaneIn, all, area_kind, asked_in, good, rank}
-use Rattle.afr_law.specs.ExactTransaction.{Carried, MayWork, Once, OneOf}
+use Rattle.afr_base.specs.Kinds.{same_kind}
+use Rattle.afr_moves.specs.Sets.{any}
+use Rattle.afr_moves.specs.Rules.{Register, LastPosted, busy, is_area, area_object}
+use Rattle.afr_moves.specs.Register.{Exact, Step, IsArea, PlaneIn, all, area_kind, asked_in, good, rank}
+use Rattle.afr_moves.specs.Transaction.{Carried, MayWork, Once, OneOf}
 use Rattle.afr_discipline.specs.Tests.{carried, is_open, is_valid, last_posted, may_work, once, one_of, plane_in}
 
 pub both : (a b : Bool) → (a && b) ≡ true → (a ≡ true) × (b ≡ true)

@@ -15,14 +15,14 @@ use Rattle.afr_lines.specs.declared.request.Area.{Area}
 use Rattle.afr_lines.specs.declared.request.Area.TheVariants.{Range, Name}
 use Rattle.afr_lines.specs.declared.request.Request.{Request}
 use Rattle.afr_lines.specs.declared.request.Request.TheVariants.{Lock, Unlock, Look, ReadBytes, ReadName, List as ListNames, ReadAttr, ReadAttrs, Index, Pre, Apply, Post, Mend, Settle}
-use Rattle.afr_law.specs.Sets.{any}
-use Rattle.afr_law.specs.Cells.{what_code}
-use Rattle.afr_law.specs.Honest.{plane_kind}
-use Rattle.afr_law.specs.Lawful.{busy, fits_change, heal_area}
-use Rattle.afr_law.specs.Exact.{MayAskExactly}
-use Rattle.afr_law.specs.ExactHeal.{InHeal, Goes, Gives}
-use Rattle.afr_law.specs.ExactRegister.{Exact, Step, Untouched, Open, Pres, Applies, Posts, HealLocks, WorkLocks, Looks, Reads, HealPres, Mends, Settles, Unlocks, HealUnlocks, all, holder, kind_in, same_step}
-use Rattle.afr_law.specs.ExactTransaction.{EndsLow, LiesIn, MayApply, MayBegin, MayEnd, MayOpen, MayPost, MayPre, Outside}
+use Rattle.afr_moves.specs.Sets.{any}
+use Rattle.afr_moves.specs.Cells.{what_code}
+use Rattle.afr_moves.specs.Honest.{plane_kind}
+use Rattle.afr_moves.specs.Rules.{busy, fits_change, heal_area}
+use Rattle.afr_moves.specs.Discipline.{MayAskExactly}
+use Rattle.afr_moves.specs.Heal.{InHeal, Goes, Gives}
+use Rattle.afr_moves.specs.Register.{Exact, Step, Untouched, Open, Pres, Applies, Posts, HealLocks, WorkLocks, Looks, Reads, HealPres, Mends, Settles, Unlocks, HealUnlocks, all, holder, kind_in, same_step}
+use Rattle.afr_moves.specs.Transaction.{EndsLow, LiesIn, MayApply, MayBegin, MayEnd, MayOpen, MayPost, MayPre, Outside}
 use Rattle.afr_discipline.specs.declared.register.Move.{Move}
 use Rattle.afr_discipline.specs.declared.register.Move.TheVariants as move
 use Rattle.afr_discipline.specs.Moves.{IffTrue, MayEndHeal, MayMove}

@@ -8,15 +8,15 @@ use Rattle.afr_object.specs.declared.change.Repair.TheVariants.{CutTo, Copy, Put
 use Rattle.afr_range_locks.specs.declared.domain.Domain.TheVariants.{Work, Heal}
 use Rattle.afr_lines.specs.declared.request.Request.{Request}
 use Rattle.afr_lines.specs.declared.request.Request.TheVariants.{Lock, Unlock, Look, ReadBytes, List as ListNames, ReadAttrs, Pre, Mend, Settle}
-use Rattle.afr_law.specs.Sets.{any}
-use Rattle.afr_law.specs.Lawful.{busy, is_area}
-use Rattle.afr_law.specs.Exact.{MayAskExactly}
-use Rattle.afr_law.specs.ExactHeal.{InHeal, Goes, Gives, IsUnlock, MayHealBegin}
-use Rattle.afr_law.specs.ExactRegister.{Exact, Step, HealUnlocks, WorkLocks, Phase, Opening, Piece, Finish, over, same_step, whole_area}
-use Rattle.afr_law.specs.ExactSteps.{locks_at, may_heal}
-use Rattle.afr_law.specs.ExactTransaction.{MayEnd}
-use Rattle.afr_law.specs.Standing.{is_area_is}
-use Rattle.afr_model.specs.Locks.{same_area}
+use Rattle.afr_moves.specs.Sets.{any}
+use Rattle.afr_moves.specs.Rules.{busy, is_area}
+use Rattle.afr_moves.specs.Discipline.{MayAskExactly}
+use Rattle.afr_moves.specs.Heal.{InHeal, Goes, Gives, IsUnlock, MayHealBegin}
+use Rattle.afr_moves.specs.Register.{Exact, Step, HealUnlocks, WorkLocks, Phase, Opening, Piece, Finish, over, same_step, whole_area}
+use Rattle.afr_moves.specs.Steps.{locks_at, may_heal}
+use Rattle.afr_moves.specs.Transaction.{MayEnd}
+use Rattle.afr_moves.proofs.AreaLemmas.{is_area_is}
+use Rattle.afr_lines.specs.Overlap.{same_area}
 use Rattle.afr_discipline.specs.declared.register.Move.{Move}
 use Rattle.afr_discipline.specs.declared.register.Move.TheVariants as move
 use Rattle.afr_discipline.specs.declared.register.Register.{Register}

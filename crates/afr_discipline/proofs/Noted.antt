@@ -4,13 +4,13 @@ use Rattle.afr_base.specs.declared.ids.Kind.{Kind}
 use Rattle.afr_choice.specs.Looks.{no_looks}
 use Rattle.afr_lines.specs.declared.answer.Told.{Told}
 use Rattle.afr_lines.specs.declared.request.Request.{Request}
-use Rattle.afr_law.specs.Sets.{empty}
-use Rattle.afr_law.specs.Past.{is_gone}
-use Rattle.afr_law.specs.Lawful as weak
-use Rattle.afr_law.specs.Lawful.{no_views}
-use Rattle.afr_law.specs.ExactNote.{left_by, stopping}
-use Rattle.afr_law.specs.ExactRegister as exact
-use Rattle.afr_law.specs.ExactRegister.{Exact, no_reads, untouched}
+use Rattle.afr_moves.specs.Sets.{empty}
+use Rattle.afr_moves.specs.Past.{is_gone}
+use Rattle.afr_moves.specs.Rules as weak
+use Rattle.afr_moves.specs.Rules.{no_views}
+use Rattle.afr_moves.specs.Note.{left_by, stopping}
+use Rattle.afr_moves.specs.Register as exact
+use Rattle.afr_moves.specs.Register.{Exact, no_reads, untouched}
 use Rattle.afr_discipline.specs.declared.register.Move.{Move}
 use Rattle.afr_discipline.specs.declared.register.Move.TheVariants as move
 use Rattle.afr_discipline.specs.declared.register.Register.{Register}

@@ -2,8 +2,8 @@
 use Rattle.std.proofs.Common.{ℕ, ◌<◌, ◌≤◌, Bool, true, false, if◌then◌else◌, sym, subst}
 use Rattle.afr_lines.specs.declared.answer.Told.{Told}
 use Rattle.afr_lines.specs.declared.request.Request.{Request}
-use Rattle.afr_law.specs.ExactNote.{left_by}
-use Rattle.afr_law.specs.ExactRegister.{Exact}
+use Rattle.afr_moves.specs.Note.{left_by}
+use Rattle.afr_moves.specs.Register.{Exact}
 use Rattle.afr_discipline.specs.declared.register.Register.{Register}
 use Rattle.afr_discipline.specs.Notes.{noted_steps}
 use Rattle.afr_discipline.specs.Stands.{Stands, keeps_in}

@@ -4,11 +4,11 @@ use Rattle.afr_base.specs.Bricks.{member}
 use Rattle.afr_base.specs.SetLemmas.{count_same}
 use Rattle.afr_base.specs.declared.ids.BrickId.{BrickId}
 use Rattle.afr_base.specs.declared.ids.Shape.{Shape}
-use Rattle.afr_law.specs.Lawful.{Register as LawRegister}
-use Rattle.afr_law.specs.ExactNote.{stopping, stops_at}
-use Rattle.afr_law.specs.ExactRegister as exact
-use Rattle.afr_law.specs.ExactRegister.{Exact, asked_in, good, over, same_step}
-use Rattle.afr_law.specs.ExactSteps.{goes_on, looks_at}
+use Rattle.afr_moves.specs.Rules.{Register as LawRegister}
+use Rattle.afr_moves.specs.Note.{stopping, stops_at}
+use Rattle.afr_moves.specs.Register as exact
+use Rattle.afr_moves.specs.Register.{Exact, asked_in, good, over, same_step}
+use Rattle.afr_moves.specs.Steps.{goes_on, looks_at}
 use Rattle.afr_discipline.specs.declared.register.Register.{Register}
 use Rattle.afr_discipline.specs.Notes.{joined, published, stopped}
 use Rattle.afr_discipline.specs.Stands.{Stands, attempt_of, has_begun, heal_of, keeps_in, least, seen_as, sole, source_of, step_of, views_of}

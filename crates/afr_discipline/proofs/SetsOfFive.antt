@@ -9,8 +9,8 @@ use Rattle.afr_base.specs.SetLemmas.{member_added, member_added_if, member_remov
 use Rattle.afr_object.specs.declared.entry.View.{View}
 use Rattle.afr_choice.specs.Looks.{with_look, without_look}
 use Rattle.afr_choice.specs.declared.looked.Looked.{Looked}
-use Rattle.afr_law.specs.Sets.{empty, with, without}
-use Rattle.afr_law.specs.ExactNote.{put}
+use Rattle.afr_moves.specs.Sets.{empty, with, without}
+use Rattle.afr_moves.specs.Note.{put}
 use Rattle.afr_discipline.specs.Notes.{picked}
 use Rattle.afr_discipline.specs.Stands.{reads_of, views_of}
 

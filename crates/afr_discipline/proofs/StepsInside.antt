@@ -8,11 +8,11 @@ use Rattle.afr_lines.specs.declared.answer.Told.{Told}
 use Rattle.afr_lines.specs.declared.request.Area.{Area}
 use Rattle.afr_lines.specs.declared.request.Request.{Request}
 use Rattle.afr_lines.specs.declared.request.Request.TheVariants.{Lock, Unlock, Look, ReadBytes, List as ListNames, ReadAttrs, Pre, Mend, Settle}
-use Rattle.afr_model.specs.Locks.{same_area}
-use Rattle.afr_law.specs.ExactNote.{answers, breaks, entering, fails, given, is_failed, is_given, is_granted, left_in_heal, next_phase, put_first, put_look, reading}
-use Rattle.afr_law.specs.ExactRegister as exact
-use Rattle.afr_law.specs.ExactRegister.{Exact, is_opening, is_piece, rank, same_step, span, whole_area}
-use Rattle.afr_law.specs.ExactSteps.{may_heal}
+use Rattle.afr_lines.specs.Overlap.{same_area}
+use Rattle.afr_moves.specs.Note.{answers, breaks, entering, fails, given, is_failed, is_given, is_granted, left_in_heal, next_phase, put_first, put_look, reading}
+use Rattle.afr_moves.specs.Register as exact
+use Rattle.afr_moves.specs.Register.{Exact, is_opening, is_piece, rank, same_step, span, whole_area}
+use Rattle.afr_moves.specs.Steps.{may_heal}
 use Rattle.afr_discipline.specs.declared.register.Register.{Register}
 use Rattle.afr_discipline.specs.declared.register.Step.TheVariants.{HealLocks, WorkLocks, HealPres, Mends, Settles, Unlocks, HealUnlocks}
 use Rattle.afr_discipline.specs.declared.register.Phase.{Phase}

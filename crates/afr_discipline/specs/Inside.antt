@@ -4,11 +4,11 @@ use Rattle.afr_base.specs.Majority.{is_most}
 use Rattle.afr_base.specs.declared.ids.Kind.{Kind}
 use Rattle.afr_lines.specs.declared.request.Request.{Request}
 use Rattle.afr_lines.specs.declared.request.Request.TheVariants.{Unlock}
-use Rattle.afr_model.specs.Sums.{same_kind}
-use Rattle.afr_law.specs.Sets.{any}
-use Rattle.afr_law.specs.Lawful.{busy, is_area}
-use Rattle.afr_law.specs.ExactRegister.{Exact, HealUnlocks, Opening, Phase, WorkLocks, over, same_step, whole_area}
-use Rattle.afr_law.specs.ExactSteps.{locks_at, may_heal}
+use Rattle.afr_base.specs.Kinds.{same_kind}
+use Rattle.afr_moves.specs.Sets.{any}
+use Rattle.afr_moves.specs.Rules.{busy, is_area}
+use Rattle.afr_moves.specs.Register.{Exact, HealUnlocks, Opening, Phase, WorkLocks, over, same_step, whole_area}
+use Rattle.afr_moves.specs.Steps.{locks_at, may_heal}
 use Rattle.afr_discipline.specs.declared.register.Move.{Move}
 use Rattle.afr_discipline.specs.declared.register.Move.TheVariants.{Ask, Begin, HealBegin, End}
 use Rattle.afr_discipline.specs.Tests.{may_move_outside}

@@ -2,13 +2,13 @@
 use Rattle.std.specs.Prelude.{◌≡◌, ℕ, ◌<◌, Bool, true, false, ◌⊎◌, if◌then◌else◌, Some}
 use Rattle.afr_base.specs.declared.ids.Kind.{Kind}
 use Rattle.afr_lines.specs.declared.answer.Told.{Told}
-use Rattle.afr_law.specs.Sets.{any}
-use Rattle.afr_law.specs.Lawful.{busy}
-use Rattle.afr_law.specs.Lines.{ask_by, begin_by, heal_begin_by}
-use Rattle.afr_law.specs.Exact.{MayAskExactly, note}
-use Rattle.afr_law.specs.ExactRegister.{Exact, HealUnlocks, untouched}
-use Rattle.afr_law.specs.ExactTransaction.{MayBegin, MayEnd}
-use Rattle.afr_law.specs.ExactHeal.{MayHealBegin}
+use Rattle.afr_moves.specs.Sets.{any}
+use Rattle.afr_moves.specs.Rules.{busy}
+use Rattle.afr_moves.specs.Lines.{ask_by, begin_by, heal_begin_by}
+use Rattle.afr_moves.specs.Discipline.{MayAskExactly, note}
+use Rattle.afr_moves.specs.Register.{Exact, HealUnlocks, untouched}
+use Rattle.afr_moves.specs.Transaction.{MayBegin, MayEnd}
+use Rattle.afr_moves.specs.Heal.{MayHealBegin}
 use Rattle.afr_discipline.specs.declared.register.Move.{Move}
 use Rattle.afr_discipline.specs.declared.register.Move.TheVariants.{Ask, Begin, HealBegin, End}
 

@@ -10,12 +10,12 @@ use Rattle.afr_lines.specs.declared.answer.Told.{Told}
 use Rattle.afr_lines.specs.declared.request.Area.{Area}
 use Rattle.afr_lines.specs.declared.request.Request.{Request}
 use Rattle.afr_lines.specs.declared.request.Request.TheVariants.{Lock, Unlock, Look, ReadBytes, List as ListNames, ReadAttrs, Pre, Apply, Post, Mend, Settle}
-use Rattle.afr_model.specs.Locks.{same_area}
-use Rattle.afr_law.specs.Past.{is_gone}
-use Rattle.afr_law.specs.Lawful.{area_object, busy, is_area}
-use Rattle.afr_law.specs.ExactNote.{answers, fails, given, is_done, is_failed, is_given, is_granted, is_held, stops_at, view_of}
-use Rattle.afr_law.specs.ExactRegister as exact
-use Rattle.afr_law.specs.ExactRegister.{is_on, is_opening, is_piece, rank, same_step, span, whole_area}
+use Rattle.afr_lines.specs.Overlap.{same_area}
+use Rattle.afr_moves.specs.Past.{is_gone}
+use Rattle.afr_moves.specs.Rules.{area_object, busy, is_area}
+use Rattle.afr_moves.specs.Note.{answers, fails, given, is_done, is_failed, is_given, is_granted, is_held, stops_at, view_of}
+use Rattle.afr_moves.specs.Register as exact
+use Rattle.afr_moves.specs.Register.{is_on, is_opening, is_piece, rank, same_step, span, whole_area}
 use Rattle.afr_discipline.specs.declared.register.Move.{Move}
 use Rattle.afr_discipline.specs.declared.register.Move.TheVariants as move
 use Rattle.afr_discipline.specs.declared.register.Register.{Register}

@@ -1,10 +1,10 @@
 //! What an area is, and which changes lie in it.
 ghost use Rattle.std.specs.Prelude.{◌≡◌, ◌+◌, ◌^◌, length, nat_lt, if◌then◌else◌};
-ghost use Rattle.afr_law.specs.Honest.{plane_kind};
-ghost use Rattle.afr_law.specs.Lawful.{area_object, is_area};
-ghost use Rattle.afr_law.specs.ExactRegister.{area_kind, is_on, kind_in};
-ghost use Rattle.afr_model.specs.Locks.{same_area};
-ghost use Rattle.afr_model.specs.Sums.{same_kind};
+ghost use Rattle.afr_moves.specs.Honest.{plane_kind};
+ghost use Rattle.afr_moves.specs.Rules.{area_object, is_area};
+ghost use Rattle.afr_moves.specs.Register.{area_kind, is_on, kind_in};
+ghost use Rattle.afr_lines.specs.Overlap.{same_area};
+ghost use Rattle.afr_base.specs.Kinds.{same_kind};
 ghost use Rattle.afr_name_locks.specs.Names.{same_name};
 ghost use Rattle.afr_discipline.specs.Tests.{ends_low, has_name, is_heal_area, is_valid, lies_at, lies_in, plane_in};
 

@@ -1,7 +1,7 @@
 //! Which request a heal may make: one that some copy allows, of those that its lines leave as the source.
 ghost use Rattle.std.specs.Prelude.{◌≡◌, ◌<◌, ◌≤◌};
-ghost use Rattle.afr_law.specs.Sets.{any};
-ghost use Rattle.afr_law.specs.ExactSteps.{may_heal};
+ghost use Rattle.afr_moves.specs.Sets.{any};
+ghost use Rattle.afr_moves.specs.Steps.{may_heal};
 ghost use Rattle.afr_discipline.specs.Inside.{allows, is_unlock, may_ask_inside};
 ghost use Rattle.afr_discipline.specs.Stands.{keeps_in, seen_as};
 

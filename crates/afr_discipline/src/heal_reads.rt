@@ -1,8 +1,8 @@
 //! The repairs of a heal, if one copy is its source.
 ghost use Rattle.std.specs.Prelude.{◌≡◌, ◌<◌, ◌≤◌, slice_index_or, None};
-ghost use Rattle.afr_law.specs.Lawful.{some_read};
-ghost use Rattle.afr_law.specs.ExactRegister.{is_opening};
-ghost use Rattle.afr_law.specs.ExactSteps.{may_heal, may_mend, same_read, same_reads};
+ghost use Rattle.afr_moves.specs.Rules.{some_read};
+ghost use Rattle.afr_moves.specs.Register.{is_opening};
+ghost use Rattle.afr_moves.specs.Steps.{may_heal, may_mend, same_read, same_reads};
 ghost use Rattle.afr_discipline.specs.Stands.{keeps_in, phase_of, reads_of, seen_as};
 ghost use Rattle.afr_discipline.specs.Five.{has_read};
 

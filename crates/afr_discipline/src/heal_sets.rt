@@ -1,7 +1,7 @@
 //! The bricks that each step of a heal asks, if one copy is its source.
 ghost use Rattle.std.specs.Prelude.{◌≡◌, ◌<◌, ◌≤◌, ◌||◌, not};
-ghost use Rattle.afr_law.specs.ExactRegister.{asked_in, good, holder, over};
-ghost use Rattle.afr_law.specs.ExactSteps.{locks_at, looks_at, mends_at, other, passed, pres_at, reads_at, set_of, settles_at, sink, turn};
+ghost use Rattle.afr_moves.specs.Register.{asked_in, good, holder, over};
+ghost use Rattle.afr_moves.specs.Steps.{locks_at, looks_at, mends_at, other, passed, pres_at, reads_at, set_of, settles_at, sink, turn};
 ghost use Rattle.afr_discipline.specs.Stands.{keeps_in, phase_of, seen_as, step_of};
 
 use crate::register::{Phase, Register, Step};

@@ -1,6 +1,6 @@
 //! Whether the discipline allows a move.
 ghost use Rattle.std.specs.Prelude.{◌≡◌, ◌≤◌};
-ghost use Rattle.afr_law.specs.ExactRegister.{Exact};
+ghost use Rattle.afr_moves.specs.Register.{Exact};
 ghost use Rattle.afr_discipline.specs.Inside.{begins_part, may_end_heal, may_heal_begin, may_move, may_move_inside};
 ghost use Rattle.afr_discipline.specs.Moves.{IffTrue, MayMove};
 ghost use Rattle.afr_discipline.specs.Stands.{Stands, keeps_in, phase_of, seen_as};

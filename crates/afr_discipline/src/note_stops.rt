@@ -1,9 +1,9 @@
 //! Whether a step ends a heal: too few locks, or looks with which no copy may be the source.
 ghost use Rattle.std.specs.Prelude.{◌≡◌, ◌<◌, ◌≤◌, ◌&&◌};
 ghost use Rattle.afr_base.specs.Bricks.{member};
-ghost use Rattle.afr_law.specs.Sets.{any};
-ghost use Rattle.afr_law.specs.ExactNote.{stops_at};
-ghost use Rattle.afr_law.specs.ExactSteps.{goes_on};
+ghost use Rattle.afr_moves.specs.Sets.{any};
+ghost use Rattle.afr_moves.specs.Note.{stops_at};
+ghost use Rattle.afr_moves.specs.Steps.{goes_on};
 ghost use Rattle.afr_discipline.specs.Notes.{stopped};
 ghost use Rattle.afr_discipline.specs.Stands.{keeps_in, seen_as, step_of};
 

@@ -1,6 +1,6 @@
 //! What a move and its answer leave in a register.
 ghost use Rattle.std.specs.Prelude.{◌≡◌, ◌+◌, ◌^◌, ◌<◌, ◌≤◌, if◌then◌else◌, length};
-ghost use Rattle.afr_law.specs.ExactRegister.{Exact, span};
+ghost use Rattle.afr_moves.specs.Register.{Exact, span};
 ghost use Rattle.afr_discipline.specs.Moves.{note_move};
 ghost use Rattle.afr_discipline.specs.Notes.{AsksBelow, joined, noted, noted_ask, noted_begin, noted_part};
 ghost use Rattle.afr_discipline.specs.Stands.{Stands, keeps_in, no_lines};

@@ -1,6 +1,6 @@
 //! What a register says of a heal.
 ghost use Rattle.std.specs.Prelude.{◌≡◌};
-ghost use Rattle.afr_law.specs.ExactRegister.{Exact};
+ghost use Rattle.afr_moves.specs.Register.{Exact};
 ghost use Rattle.afr_discipline.specs.Stands.{Stands};
 
 use crate::register::Register;

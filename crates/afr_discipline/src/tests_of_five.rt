@@ -1,8 +1,8 @@
 //! One test of the bricks below `n`: whether some pass, whether all do, whether most do, and which alone does.
 ghost use Rattle.std.specs.Prelude.{◌≡◌, ℕ, Bool, ◌≤◌, ◌==◌, if◌then◌else◌};
 ghost use Rattle.afr_base.specs.Majority.{count_below, is_most};
-ghost use Rattle.afr_law.specs.Sets.{any};
-ghost use Rattle.afr_law.specs.ExactRegister.{all};
+ghost use Rattle.afr_moves.specs.Sets.{any};
+ghost use Rattle.afr_moves.specs.Register.{all};
 ghost use Rattle.afr_discipline.specs.Five.{Gives};
 ghost use Rattle.afr_discipline.specs.Stands.{least, sole};
 

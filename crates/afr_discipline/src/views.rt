@@ -1,12 +1,12 @@
 //! What the views of an object say of its copies, and which sets carry a change.
 ghost use Rattle.std.specs.Prelude.{◌≡◌, ◌<◌, ◌≤◌, ◌&&◌, ◌==◌, not, false};
-ghost use Rattle.afr_law.specs.Sets.{any};
+ghost use Rattle.afr_moves.specs.Sets.{any};
 ghost use Rattle.afr_base.specs.Bricks.{member};
 ghost use Rattle.afr_base.specs.Majority.{is_most};
-ghost use Rattle.afr_law.specs.Lawful.{fits_change};
-ghost use Rattle.afr_law.specs.Cells.{what_code};
-ghost use Rattle.afr_law.specs.ExactRegister.{accuses, good, holder, unaccused, all};
-ghost use Rattle.afr_law.specs.Honest.{plane_kind};
+ghost use Rattle.afr_moves.specs.Rules.{fits_change};
+ghost use Rattle.afr_moves.specs.Cells.{what_code};
+ghost use Rattle.afr_moves.specs.Register.{accuses, good, holder, unaccused, all};
+ghost use Rattle.afr_moves.specs.Honest.{plane_kind};
 ghost use Rattle.afr_choice.specs.Verdict.{is_bytes, keeps};
 ghost use Rattle.afr_discipline.specs.Stands.{keeps_in, views_of};
 ghost use Rattle.afr_discipline.specs.Tests.{carried, fits_view};

@@ -7,7 +7,7 @@ use Rattle.afr_choice.specs.Verdict.{keeps}
 use Rattle.afr_plan.specs.declared.plan.Plan.{Plan}
 use Rattle.afr_model.specs.Cells.{Value, IsByte, IsAttr, IsEntry, value_if, object_of_cell}
 use Rattle.afr_model.specs.Cells as model
-use Rattle.afr_law.specs.Cells.{Cell, Byte, Attr, Entry, what_code, entry_code}
+use Rattle.afr_moves.specs.Cells.{Cell, Byte, Attr, Entry, what_code, entry_code}
 
 -- the kind of a copy; 0 is no copy
 abbrev pub kind_code : Option Object → ℕ

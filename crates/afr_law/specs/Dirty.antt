@@ -1,9 +1,9 @@
 -- The dirty numbers: what Pre lines raised and Post and Settle lines took back.
 use Rattle.std.specs.Prelude.{◌≡◌, ℕ, zero, suc, ◌+◌, ◌-◌, ◌≤◌, Bool, false, ◌&&◌, ◌==◌, if◌then◌else◌, Option, Some}
-use Rattle.afr_law.specs.Past.{Beginning, Log, holds}
-use Rattle.afr_law.specs.Honest.{view_marks}
+use Rattle.afr_moves.specs.Past.{Beginning, Log, holds}
+use Rattle.afr_moves.specs.Honest.{view_marks}
 use Rattle.afr_base.specs.declared.ids.Kind.{Kind}
-use Rattle.afr_model.specs.Sums.{same_kind}
+use Rattle.afr_base.specs.Kinds.{same_kind}
 use Rattle.afr_lines.specs.declared.request.Request.TheVariants.{Look, Pre, Post, Settle}
 use Rattle.afr_lines.specs.declared.answer.Told.TheVariants.{Seen}
 use Rattle.afr_lines.specs.declared.line.Line.{Line}

@@ -11,7 +11,8 @@ use Rattle.afr_lines.specs.declared.line.Line.TheVariants.{Begin, HealBegin, End
 use Rattle.afr_plan.specs.declared.plan.Plan.{Plan}
 use Rattle.afr_model.specs.Cells.{Cell, object_of_cell, kind_of_cell, value_of}
 use Rattle.afr_model.specs.Honest.{Honest}
-use Rattle.afr_model.specs.Sums.{dirty_of, pending_of, same_kind}
+use Rattle.afr_model.specs.Sums.{dirty_of, pending_of}
+use Rattle.afr_base.specs.Kinds.{same_kind}
 use Rattle.afr_lines.specs.Areas.{kind_for}
 use Rattle.afr_law.specs.ModelLaw.{IsLawful}
 

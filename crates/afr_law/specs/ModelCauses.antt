@@ -16,7 +16,7 @@ use Rattle.afr_lines.specs.declared.request.Request.TheVariants.{Apply, Post}
 use Rattle.afr_plan.specs.declared.plan.Plan.{Plan}
 use Rattle.afr_model.specs.Honest.{Honest}
 use Rattle.afr_model.specs.Safe.{accuses}
-use Rattle.afr_law.specs.ExactSafe.{IsLawfulExactly}
+use Rattle.afr_law.specs.Exactly.{IsLawfulExactly}
 use Rattle.afr_law.specs.ModelLaw.{IsLawful}
 
 -- brick x carried out a post-op of an attempt on the object and kind, which names brick c as having missed it

@@ -5,7 +5,7 @@ use Rattle.afr_lines.specs.declared.line.Line.{Line}
 use Rattle.afr_model.specs.Honest.{Honest}
 use Rattle.afr_model.specs.Safe.{IsAlwaysSafe}
 use Rattle.afr_plan.specs.declared.plan.Plan.{Plan}
-use Rattle.afr_law.specs.ExactSafe.{IsLawfulExactly}
+use Rattle.afr_law.specs.Exactly.{IsLawfulExactly}
 use Rattle.afr_law.specs.ModelAlike.{AreAlike}
 
 -- an honest log of at most 4,000,000 lines that keeps the discipline in full is safe at every moment

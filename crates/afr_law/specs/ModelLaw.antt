@@ -22,8 +22,8 @@ use Rattle.afr_model.specs.Safe.{IsAlwaysSafe}
 use Rattle.afr_model.specs.Tables.{entry_at, held_before}
 use Rattle.afr_law.specs.Codes.{kept_by}
 use Rattle.afr_law.specs.Law.{MayNext}
-use Rattle.afr_law.specs.Lawful.{EachRead}
-use Rattle.afr_law.specs.Positions.{by_position}
+use Rattle.afr_moves.specs.Rules.{EachRead}
+use Rattle.afr_moves.specs.Positions.{by_position}
 
 -- the line at a position is this read, and a copy answered it
 pub record IsRead (older : List Line) (asked : Request) (read : ℕ) : Type 0 where

@@ -2,3 +2,5 @@ pub mod Told
 pub mod Log
 pub mod Work
 pub mod Areas
+pub mod Overlap
+pub mod Places

@@ -1,4 +1,5 @@
 -- The locks on a brick.
+use Rattle.afr_lines.specs.Overlap.{same_area, overlap}
 use Rattle.std.specs.Prelude.{ℕ, ◌==◌, ◌&&◌, not, Bool, false, List, [], ◌∷◌, ◌++◌, filter, if◌then◌else◌}
 use Rattle.afr_lines.specs.declared.answer.Told.TheVariants.{Granted}
 use Rattle.afr_lines.specs.declared.line.Line.{Line}
@@ -10,18 +11,6 @@ use Rattle.afr_range_locks.specs.Locks.{is_lock, overlap_range, same_range}
 use Rattle.afr_range_locks.specs.declared.held.HeldLock.{HeldLock}
 use Rattle.afr_name_locks.specs.Names.{overlap_dir_name, same_dir_name}
 use Rattle.afr_model.specs.Sessions.{ends_session}
-
--- two areas are the same
-abbrev pub same_area : Area → Area → Bool
-same_area (Range g from to) (Range h start end) = same_range (record { gfid = g; from = from; to = to }) (record { gfid = h; from = start; to = end })
-same_area (Name g n) (Name h m) = same_dir_name (record { gfid = g; name = n }) (record { gfid = h; name = m })
-same_area one other = false
-
--- two areas of one object overlap
-abbrev pub overlap : Area → Area → Bool
-overlap (Range g from to) (Range h start end) = overlap_range (record { gfid = g; from = from; to = to }) (record { gfid = h; from = start; to = end })
-overlap (Name g n) (Name h m) = overlap_dir_name (record { gfid = g; name = n }) (record { gfid = h; name = m })
-overlap one other = false
 
 -- a request to unlock releases a lock of its owner with the same domain and area
 abbrev pub releases : Line → ℕ → HeldLock Area → Bool

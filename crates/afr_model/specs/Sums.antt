@@ -1,4 +1,5 @@
 -- The numbers of a copy as sums over the log.
+use Rattle.afr_base.specs.Kinds.{same_kind}
 use Rattle.std.specs.Prelude.{◌≡◌, ℕ, ◌<◌, ◌+◌, ◌-◌, ◌==◌, ◌&&◌, Bool, true, false, List, [], ◌∷◌, Some, is_some, slice_index, if◌then◌else◌}
 use Rattle.afr_base.specs.Bricks.{member}
 use Rattle.afr_base.specs.Marks.{marks_of}
@@ -12,13 +13,6 @@ use Rattle.afr_lines.specs.declared.line.Line.TheVariants.{Ask}
 use Rattle.afr_lines.specs.declared.request.Request.TheVariants.{Pre, Post, Settle}
 use Rattle.afr_plan.specs.declared.plan.Plan.{Plan}
 use Rattle.afr_model.specs.Tables.{holds}
-
--- whether two kinds are the same
-abbrev pub same_kind : Kind → Kind → Bool
-same_kind Bytes Bytes = true
-same_kind Attrs Attrs = true
-same_kind Names Names = true
-same_kind one other = false
 
 -- whether brick b has the object after the log
 abbrev pub has_object : Plan → List Line → Gfid → ℕ → Bool

@@ -9,10 +9,10 @@ use Rattle.afr_lines.specs.declared.request.Request.{Request}
 use Rattle.afr_brick.specs.State.{Copies}
 use Rattle.afr_plan.specs.declared.plan.Plan.{Plan}
 use Rattle.afr_model.specs.Tables.{holds}
-use Rattle.afr_laws.specs.AbleLookup.{lookup_able_serves}
-use Rattle.afr_laws.specs.AbleServes.{write_able_serves}
-use Rattle.afr_laws.specs.CanServe.{CanServe}
-use Rattle.afr_laws.specs.TableLaws.{numbers_below}
+use Rattle.afr_telling.specs.AbleLookup.{lookup_able_serves}
+use Rattle.afr_telling.specs.AbleServes.{write_able_serves}
+use Rattle.afr_telling.specs.CanServe.{CanServe}
+use Rattle.afr_tables.specs.TableLaws.{numbers_below}
 use Rattle.afr_lookup.specs.Lookup as lookup
 use Rattle.afr_write.specs.Write as write
 use Rattle.afr_volume.specs.Acting.{CanAsk, IsSound, next_of_work}

@@ -7,12 +7,12 @@ use Rattle.afr_plan.specs.declared.command.Command.{Command}
 use Rattle.afr_plan.specs.declared.command.Command.TheVariants as command
 use Rattle.afr_plan.specs.declared.plan.Plan.{Plan}
 use Rattle.afr_model.specs.Actors.{script_of}
-use Rattle.afr_laws.specs.AboutTellingLemmas.{begun_tells_begins}
-use Rattle.afr_laws.specs.AbleLookup.{lookup_able_begins}
-use Rattle.afr_laws.specs.AbleWrite.{write_able_begins}
-use Rattle.afr_laws.specs.Plain.{IsPlain}
-use Rattle.afr_laws.specs.ReadTellingLemmas.{read_tells_begins}
-use Rattle.afr_laws.specs.WriteTellingLemmas.{write_tells_begins}
+use Rattle.afr_telling.specs.AboutTellingLemmas.{begun_tells_begins}
+use Rattle.afr_telling.specs.AbleLookup.{lookup_able_begins}
+use Rattle.afr_telling.specs.AbleWrite.{write_able_begins}
+use Rattle.afr_telling.specs.Plain.{IsPlain}
+use Rattle.afr_telling.specs.ReadTellingLemmas.{read_tells_begins}
+use Rattle.afr_telling.specs.WriteTellingLemmas.{write_tells_begins}
 use Rattle.afr_lookup.specs.declared.lookup.LookupJob.TheVariants.{Read}
 use Rattle.afr_write.specs.declared.change.WriteJob.TheVariants as job
 use Rattle.afr_volume.specs.Acting.{StartsWith}

@@ -8,14 +8,14 @@ use Rattle.afr_plan.specs.declared.command.Command.TheVariants as command
 use Rattle.afr_plan.specs.declared.plan.Plan.{Plan}
 use Rattle.afr_model.specs.Following.{Follows}
 use Rattle.afr_model.specs.Safe.{IsFresh}
-use Rattle.afr_laws.specs.Current.{AllCurrent, AreAnswered, IsOfOne}
-use Rattle.afr_laws.specs.CurrentLog.{answered_end, answered_more}
-use Rattle.afr_laws.specs.CurrentRead.{lookup_current_begins, lookup_reads_kept, read_current_asks, read_current_ends, write_reads_kept}
-use Rattle.afr_laws.specs.CurrentSafe.{current_is_fresh}
-use Rattle.afr_laws.specs.CurrentWalk.{write_current_begins}
-use Rattle.afr_laws.specs.CurrentWrite.{write_current_asks, write_current_begun, write_current_ends}
-use Rattle.afr_laws.specs.HonestLaws.{by_client, client_is_one, lone_actor}
-use Rattle.afr_laws.specs.Plain.{IsPlain}
+use Rattle.afr_telling.specs.Current.{AllCurrent, AreAnswered, IsOfOne}
+use Rattle.afr_telling.specs.CurrentLog.{answered_end, answered_more}
+use Rattle.afr_telling.specs.CurrentRead.{lookup_current_begins, lookup_reads_kept, read_current_asks, read_current_ends, write_reads_kept}
+use Rattle.afr_telling.specs.CurrentSafe.{current_is_fresh}
+use Rattle.afr_telling.specs.CurrentWalk.{write_current_begins}
+use Rattle.afr_telling.specs.CurrentWrite.{write_current_asks, write_current_begun, write_current_ends}
+use Rattle.afr_telling.specs.HonestLaws.{by_client, client_is_one, lone_actor}
+use Rattle.afr_telling.specs.Plain.{IsPlain}
 use Rattle.afr_lookup.specs.declared.lookup.LookupJob.TheVariants.{Read}
 use Rattle.afr_volume.specs.Acting.{IsSound, StartsWith}
 use Rattle.afr_volume.specs.Keeping.{CurrentWork}

@@ -9,9 +9,9 @@ use Rattle.afr_plan.specs.declared.command.Command.{Command}
 use Rattle.afr_plan.specs.declared.plan.Plan.{Plan}
 use Rattle.afr_plan.specs.declared.schedule.Go.{Go}
 use Rattle.afr_model.specs.Actors.{IsActor, script_of}
-use Rattle.afr_laws.specs.CurrentCells.{current_nothing}
-use Rattle.afr_laws.specs.CurrentLog.{answered_nothing}
-use Rattle.afr_laws.specs.CurrentSafe.{all_current_is_safe}
+use Rattle.afr_telling.specs.CurrentCells.{current_nothing}
+use Rattle.afr_telling.specs.CurrentLog.{answered_nothing}
+use Rattle.afr_telling.specs.CurrentSafe.{all_current_is_safe}
 use Rattle.afr_volume.specs.Keeping.{AbleWork, TellsWork, CurrentWork, IsActing, IsRunnable, IsVolume}
 use Rattle.afr_volume.specs.Starting.{AreOpened, idle_actor}
 use Rattle.afr_volume.specs.declared.actor.Actor.{Actor}

@@ -24,21 +24,21 @@ use Rattle.afr_model.specs.Actors.{IsActor, script_of}
 use Rattle.afr_model.specs.Following.{Follows}
 use Rattle.afr_model.specs.Honest.{Honest, IsHonest, answer_by}
 use Rattle.afr_model.specs.Replied.{IsReplied}
-use Rattle.afr_laws.specs.Able.{WriteAble, LookupAble}
-use Rattle.afr_laws.specs.AbleLookup.{lookup_able_asks, lookup_able_serves, lookup_able_ends}
-use Rattle.afr_laws.specs.AbleServes.{write_able_serves, write_able_ends}
-use Rattle.afr_laws.specs.AbleWrite.{write_able_asks, write_able_begun}
-use Rattle.afr_laws.specs.AboutTellingLemmas.{begun_tells_asks, begun_tells_begun, write_about, read_about}
-use Rattle.afr_laws.specs.Bounded.{Bounded}
-use Rattle.afr_laws.specs.CanServe.{CanServe}
-use Rattle.afr_laws.specs.Fits.{FitsSums}
-use Rattle.afr_laws.specs.HonestLaws.{honest_ask}
-use Rattle.afr_laws.specs.Plain.{IsPlain}
-use Rattle.afr_laws.specs.ReadTellingLemmas.{read_asks, read_answers}
-use Rattle.afr_laws.specs.NameLaws.{named_above}
-use Rattle.afr_laws.specs.TableLaws.{numbers_below}
-use Rattle.afr_laws.specs.WalkTelling.{NamesAboveRoot}
-use Rattle.afr_laws.specs.WriteTellingLemmas.{write_tells_asks, write_tells_begun, write_answers}
+use Rattle.afr_telling.specs.Able.{WriteAble, LookupAble}
+use Rattle.afr_telling.specs.AbleLookup.{lookup_able_asks, lookup_able_serves, lookup_able_ends}
+use Rattle.afr_telling.specs.AbleServes.{write_able_serves, write_able_ends}
+use Rattle.afr_telling.specs.AbleWrite.{write_able_asks, write_able_begun}
+use Rattle.afr_telling.specs.AboutTellingLemmas.{begun_tells_asks, begun_tells_begun, write_about, read_about}
+use Rattle.afr_telling.specs.Bounded.{Bounded}
+use Rattle.afr_telling.specs.CanServe.{CanServe}
+use Rattle.afr_tables.specs.Fits.{FitsSums}
+use Rattle.afr_telling.specs.HonestLaws.{honest_ask}
+use Rattle.afr_telling.specs.Plain.{IsPlain}
+use Rattle.afr_telling.specs.ReadTellingLemmas.{read_asks, read_answers}
+use Rattle.afr_telling.specs.NameLaws.{named_above}
+use Rattle.afr_tables.specs.TableLaws.{numbers_below}
+use Rattle.afr_telling.specs.WalkTelling.{NamesAboveRoot}
+use Rattle.afr_telling.specs.WriteTellingLemmas.{write_tells_asks, write_tells_begun, write_answers}
 use Rattle.afr_lookup.specs.Lookup as lookup
 use Rattle.afr_write.specs.Write as write
 use Rattle.afr_volume.specs.Acting.{IsSound, heard_work}

@@ -29,7 +29,7 @@ use Rattle.afr_lookup.specs.declared.walk.Walk.{Walk}
 use Rattle.afr_write.specs.Write as write
 use Rattle.afr_write.specs.declared.stage.WriteStage.{WriteStage}
 use Rattle.afr_write.specs.declared.stage.WriteStage.TheVariants as stage
-use Rattle.afr_laws.specs.CurrentSafe.{all_current_is_safe}
+use Rattle.afr_telling.specs.CurrentSafe.{all_current_is_safe}
 use Rattle.afr_volume.specs.Acting.{IsBusy, IsSound, StartsWith, next_of_work, heard_work, Begun, SteppedBy, Stepped}
 use Rattle.afr_volume.specs.Keeping.{IsOnWay, WalksOn, HasBegun, WritesOn, CarriesOut, Carries, AbleWork, TellsWork, CurrentWork, IsActing, IsVolume}
 use Rattle.afr_plan.specs.declared.command.Command.TheVariants as command

@@ -14,13 +14,13 @@ use Rattle.afr_model.specs.Report.{started_bricks}
 use Rattle.afr_model.specs.Honest.{Honest}
 use Rattle.afr_model.specs.Replied.{Replied}
 use Rattle.afr_model.specs.Safe.{AreFresh, IsAlwaysSafe}
-use Rattle.afr_laws.specs.Able.{WriteAble, LookupAble}
-use Rattle.afr_laws.specs.AboutTelling.{BegunTells}
-use Rattle.afr_laws.specs.Current.{AllCurrent, AreAnswered, LookupCurrent, WriteCurrent}
-use Rattle.afr_laws.specs.Fits.{FitsSums}
-use Rattle.afr_laws.specs.Plain.{IsPlain}
-use Rattle.afr_laws.specs.ReadTelling.{ReadTells}
-use Rattle.afr_laws.specs.WriteTelling.{WriteTells}
+use Rattle.afr_telling.specs.Able.{WriteAble, LookupAble}
+use Rattle.afr_telling.specs.AboutTelling.{BegunTells}
+use Rattle.afr_telling.specs.Current.{AllCurrent, AreAnswered, LookupCurrent, WriteCurrent}
+use Rattle.afr_tables.specs.Fits.{FitsSums}
+use Rattle.afr_telling.specs.Plain.{IsPlain}
+use Rattle.afr_telling.specs.ReadTelling.{ReadTells}
+use Rattle.afr_telling.specs.WriteTelling.{WriteTells}
 use Rattle.afr_lookup.specs.declared.walk.Walk.{Walk}
 use Rattle.afr_lookup.specs.declared.walk.WalkStep.{WalkStep}
 use Rattle.afr_lookup.specs.declared.walk.WalkStep.TheVariants as walking

@@ -6,7 +6,7 @@ use Rattle.afr_lines.specs.declared.request.Request.{Request}
 use Rattle.afr_brick.specs.State.{Copies}
 use Rattle.afr_model.specs.Tables.{Past, asked}
 use Rattle.afr_model.specs.Honest.{answer_by}
-use Rattle.afr_laws.specs.CanServe.{CanServe}
+use Rattle.afr_telling.specs.CanServe.{CanServe}
 
 -- a request has its effect on a brick, whatever tables stood there before, and the answer that the tables give
 pub record Served (request : Request) (older : List Line) (old new : Copies) (answer : Answer) : Type 0 where

@@ -6,7 +6,7 @@ ghost use Rattle.afr_object.specs.Tables.{applied, copy_at, object_of};
 ghost use Rattle.afr_object.specs.declared.change.Change.{Change};
 ghost use Rattle.afr_brick.specs.State.{CanApply, CanPre, CanPost};
 ghost use Rattle.afr_model.specs.Honest.{answer_by, copy_answer};
-ghost use Rattle.afr_laws.specs.CanServe.{CanServe};
+ghost use Rattle.afr_telling.specs.CanServe.{CanServe};
 ghost use Rattle.afr_volume.specs.Serve.{CanServeAt, Served, ServedAt};
 
 use afr_base::{BrickId, BrickSet, Gfid, KeyId, Kind, NameId, NoMemory};

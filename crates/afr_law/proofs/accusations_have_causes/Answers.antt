@@ -1,5 +1,5 @@
-use Rattle.afr_law.specs.BridgeCauses.{model_causes, exact_causes}
-use Rattle.afr_law.specs.CauseLemmas.{accusations}
+use Rattle.afr_law.proofs.Model.Causes.{model_causes, exact_causes}
+use Rattle.afr_law.proofs.Causes.Posted.{accusations}
 use Rattle.afr_law.proofs.accusations_have_causes.Goals as goal
 
 pub returns : goal.returns

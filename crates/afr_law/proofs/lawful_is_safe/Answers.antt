@@ -1,6 +1,6 @@
-use Rattle.afr_law.specs.BridgeSafe.{model_safe}
-use Rattle.afr_law.specs.Steps.{prefixes}
-use Rattle.afr_law.specs.BridgeExact.{exact_safe}
+use Rattle.afr_law.proofs.Model.Safe.{model_safe}
+use Rattle.afr_law.proofs.Safety.Steps.{prefixes}
+use Rattle.afr_law.proofs.Model.Discipline.{exact_safe}
 use Rattle.afr_law.proofs.lawful_is_safe.Goals as goal
 
 pub returns : goal.returns

@@ -1,6 +1,6 @@
-use Rattle.afr_law.specs.BridgeAlike.{model_alike}
-use Rattle.afr_law.specs.Prefixes.{alike_prefixes}
-use Rattle.afr_law.specs.BridgeExact.{exact_alike}
+use Rattle.afr_law.proofs.Model.Alike.{model_alike}
+use Rattle.afr_law.proofs.Safety.Prefixes.{alike_prefixes}
+use Rattle.afr_law.proofs.Model.Discipline.{exact_alike}
 use Rattle.afr_law.proofs.nothing_diverges_unrecorded.Goals as goal
 
 pub returns : goal.returns

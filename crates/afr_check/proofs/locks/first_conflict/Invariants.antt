@@ -1,5 +1,5 @@
 use Rattle.std.proofs.Common.{◌≡◌, drop}
-use Rattle.afr_model.specs.Locks.{overlap}
+use Rattle.afr_lines.specs.Overlap.{overlap}
 use Rattle.afr_range_locks.specs.Locks.{first_conflict}
 use Rattle.afr_check.proofs.locks.first_conflict.Given as goal
 

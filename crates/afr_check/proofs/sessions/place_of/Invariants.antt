@@ -1,5 +1,5 @@
 use Rattle.std.proofs.Common.{◌≡◌, take, reverse}
-use Rattle.afr_model.specs.Sessions.{place_of}
+use Rattle.afr_lines.specs.Places.{place_of}
 use Rattle.afr_check.specs.Seen.{place_seen}
 use Rattle.afr_check.proofs.sessions.place_of.Given as goal
 

@@ -1,5 +1,5 @@
 use Rattle.std.proofs.Common.{subst}
-use Rattle.afr_laws.specs.SumLaws.{numbers_are_sums}
+use Rattle.afr_tables.specs.SumLaws.{numbers_are_sums}
 use Rattle.afr_model.specs.State.{State}
 use Rattle.afr_model.specs.Sums.{AreSums}
 use Rattle.afr_volume.proofs.WholeTurn.{settled}

@@ -1,0 +1,17 @@
+pub mod Asks
+pub mod AskFields
+pub mod Projection
+pub mod Clear
+pub mod Cleans
+pub mod Transactions
+pub mod Stages
+pub mod StagesAlong
+pub mod Inner
+pub mod Firsts
+pub mod Untouched
+pub mod PostsOnce
+pub mod Implies
+pub mod ByList
+pub mod Safe
+pub mod SameMoves
+pub mod Known

@@ -1,0 +1,203 @@
+-- Reads of honest and lawful logs of the model are fresh where looks let them.
+use Rattle.std.proofs.Common.{◌≡◌, ℕ, ◌-◌, ◌*◌, ◌<◌, ◌≤◌, Bool, true, false, ◌&&◌, refl, sym, ◌∙◌, subst, arith, List, [], ◌∷◌, length, length-drop, ◌==◌, true≢false}
+use Rattle.std.specs.Prelude.{None, Some, nat_lt}
+use Rattle.std.proofs.lemmas.Bool.Decides.{nat_tests}
+use Rattle.afr_base.specs.Bricks.{member, and_left, and_right}
+use Rattle.afr_base.specs.Majority.{count_below, is_majority}
+use Rattle.afr_base.specs.declared.ids.Gfid.{Gfid}
+use Rattle.afr_base.specs.declared.ids.Kind.{Kind}
+use Rattle.afr_base.specs.declared.ids.Kind.TheVariants.{Bytes, Attrs, Names}
+use Rattle.afr_choice.specs.Looks.{view_at}
+use Rattle.afr_choice.specs.Verdict.{keeps, is_holder, shown_missed}
+use Rattle.afr_choice.specs.declared.looked.Looked.{Looked}
+use Rattle.afr_choice.specs.VerdictLemmas.{good_below, member_good, nobody_accuses}
+use Rattle.afr_lines.specs.Log.{EachLine, before}
+use Rattle.afr_lines.specs.Work.{Work, work}
+use Rattle.afr_lines.specs.declared.answer.Told.TheVariants.{Given}
+use Rattle.afr_lines.specs.declared.line.Line.{Line}
+use Rattle.afr_lines.specs.declared.line.Line.TheVariants.{Ask}
+use Rattle.afr_lines.specs.declared.request.Request.TheVariants as request
+use Rattle.afr_plan.specs.declared.plan.Plan.{Plan}
+use Rattle.afr_model.specs.Attempts.{IsNoOlder}
+use Rattle.afr_model.specs.Cells.{Cell, object_of_cell, kind_of_cell}
+use Rattle.afr_model.specs.Cells as model
+use Rattle.afr_model.specs.Honest.{Honest as IsHonestLog, fault_in}
+use Rattle.afr_model.specs.Replied.{FromGood, by_looks}
+use Rattle.afr_lines.specs.declared.reply.Reply.TheVariants as reply
+use Rattle.afr_model.specs.Safe.{AreFresh, log_before, names_cell}
+use Rattle.afr_model.specs.Showing.{looked_by}
+use Rattle.afr_law.proofs.Model.Cells.{kind_cell, object_cell, below_length}
+use Rattle.afr_law.proofs.Model.Discipline.{weakly_lawful}
+use Rattle.afr_law.proofs.Model.Looks.{looked_clear}
+use Rattle.afr_law.specs.Beginning.{start_of}
+use Rattle.afr_law.proofs.Model.Settles.{all_honest, all_lawful, take_within, within_before}
+use Rattle.afr_law.proofs.Model.SoundLog.{LawfulBelow, lawful_below, name_limit}
+use Rattle.afr_moves.specs.Cells.{is_cell, object_of, kind_of}
+use Rattle.afr_moves.specs.Cells as law_cell
+use Rattle.afr_law.specs.Codes.{cell_of, kept_by}
+use Rattle.afr_law.proofs.Reads.Fresh.{fresh_read}
+use Rattle.afr_law.specs.FreshReads.{LooksLet, NoOlder}
+use Rattle.afr_moves.specs.Honest.{Honest}
+use Rattle.afr_moves.specs.Lines.{ask_by}
+use Rattle.afr_law.proofs.Safety.Locks.{same_yes}
+use Rattle.afr_law.specs.ModelFresh.{IsLetBy, IsFreshSince, ModelReadsAreFresh, IsLet, IsLetRead, IsFreshByLooks, ModelWorksReadFresh, ModelExactReadsFresh}
+use Rattle.afr_law.specs.ModelLaw.{IsLawfulLine}
+use Rattle.afr_moves.specs.Past.{Log}
+use Rattle.afr_moves.specs.Positions.{by_position}
+use Rattle.afr_law.proofs.Model.Positions.{IsPast, past_whole, past_at}
+use Rattle.afr_law.proofs.Model.Early.{Early, early_begun, early_drop, far_no_older, no_older_is}
+
+-- ---- one read
+module _ (p : Plan) (n : ℕ) (L : Log) (five : p.shape.n ≤ 5)
+    (all : (r since a b : ℕ) (cell : law_cell.Cell) → LooksLet p.shape.n (kept_by p) L a since r (object_of cell) (kind_of cell) b → NoOlder (start_of p n) L r since b cell) where
+  kept_is : (b : ℕ) (kind : Kind) → b < p.shape.n → keeps p.shape kind b ≡ true → kept_by p b kind ≡ true
+  kept_is b kind low kept = (let small : nat_lt b 5 ≡ true = below b p.shape.n low five in rw small kept)
+    where
+      below : (b n : ℕ) → b < n → n ≤ 5 → nat_lt b 5 ≡ true
+      below b n l f = grind (arith, nat_tests)
+
+  most : (n m : ℕ) → nat_lt n m ≡ true → n < m
+  most n m e = grind (arith, nat_tests)
+
+  looks_let : (older : List Line) → IsPast L older → (a since m : ℕ) (g : Gfid) (kind : Kind) (b : ℕ) → b < p.shape.n → m ≤ since → IsLetBy p older a since g kind b → LooksLet p.shape.n (kept_by p) L a m (length older) g.0 kind b
+  looks_let older h a since m g kind b low under w = record {
+    below = low;
+    copy = kept_is b kind low w.copy;
+    among = member w.among;
+    majority = most p.shape.n (2 * count_below p.shape.n (member w.among)) w.majority;
+    looks = λ x small inside. (
+        let k = w.looks x small inside in
+        let stands : k.position < length older = below_length older k.position (ask_by a x (request.Look g) k.told k.took) k.line in
+        record { l = k.position; told = k.told; took = k.took; is = past_at L older h k.position stands ∙ k.line; after = omega (arith, k.after, under); past = stands; clear = k.clear }
+        );
+  }
+
+  module _ (older : List Line) (h : IsPast L older) (lawful : LawfulBelow p n older) where
+    -- what is shown is no older than what was acknowledged in some first lines
+    read_fresh : (early : List Line) → Early p n L (length older) early → (a since b : ℕ) → b < p.shape.n → length early ≤ since → (cell : Cell) → IsLetBy p older a since (object_of_cell cell) (kind_of_cell cell) b → IsNoOlder p older early b cell
+    read_fresh early was a since b low under cell w = go (is_cell (cell_of cell)) refl
+      where
+        moved : LooksLet p.shape.n (kept_by p) L a (length early) (length older) (object_of (cell_of cell)) (kind_of (cell_of cell)) b
+        moved = subst (λ (o : ℕ). LooksLet p.shape.n (kept_by p) L a (length early) (length older) o (kind_of (cell_of cell)) b) (sym (object_cell cell))
+            (subst (λ (k : Kind). LooksLet p.shape.n (kept_by p) L a (length early) (length older) (object_of_cell cell).0 k b) (sym (kind_cell cell))
+            (looks_let older h a since (length early) (object_of_cell cell) (kind_of_cell cell) b low under w))
+
+        unreal : (cell : Cell) → is_cell (cell_of cell) ≡ false → IsNoOlder p older early b cell
+        unreal (model.Byte g i) e = far_no_older p n L five older h lawful early was b g i e
+        unreal (model.Attr g key) e = absurd (true≢false e)
+        unreal (model.Name g name) e = absurd (true≢false e)
+
+        go : (real : Bool) → is_cell (cell_of cell) ≡ real → IsNoOlder p older early b cell
+        go true real = no_older_is p n L five older h lawful early was b cell real (kept_is b (kind_of_cell cell) low w.copy) (all (length older) (length early) a b (cell_of cell) moved)
+        go false e = unreal cell e
+
+    -- since a position
+    short : (since : ℕ) → length (before since older) ≤ since
+    short since = omega (arith, length-drop (length older - since) older)
+
+    fresh_since : (line : Line) → IsLawfulLine p line older → IsFreshSince p line older
+    fresh_since (Ask a b r Given took) here = λ since cell named w. read_fresh (before since older) (early_drop p n L (length older) (length older - since) older (h, lawful, omega arith)) a.0 since b.0 here.0.0 (short since) cell w
+    fresh_since line here = tt
+
+    -- since the work began
+    let_by : (a b : ℕ) (g : Gfid) (kind : Kind) → IsLet p b g kind (work a older) → IsLetBy p older a (length (log_before (work a older) older)) g kind b
+    let_by a b g kind w = record {
+      copy = and_right (is_holder looked b) (keeps p.shape kind b) (and_left (is_holder looked b && keeps p.shape kind b) _ (sym (member_good p.shape looked kind b (good_below p.shape looked kind b w.good)) ∙ w.good));
+      among = looked.reached;
+      majority = w.answered;
+      looks = λ x small inside. (
+          let low : x < 5 = omega (arith, small, five) in
+          let none : (member looked.reached x && shown_missed kind b (view_at x looked)) ≡ false = nobody_accuses p.shape looked kind b x w.good low in
+          looked_clear a x g kind b low older inside (rest (member looked.reached x) (shown_missed kind b (view_at x looked)) inside none)
+          );
+    }
+      where
+        looked : Looked
+        looked = looked_by g (work a older)
+
+        rest : (reached missed : Bool) → reached ≡ true → (reached && missed) ≡ false → missed ≡ false
+        rest true missed e f = f
+        rest false missed e f = absurd (true≢false (sym e))
+
+    cell_fresh : (a b : ℕ) → b < p.shape.n → (cell : Cell) → IsLet p b (object_of_cell cell) (kind_of_cell cell) (work a older) → IsNoOlder p older (log_before (work a older) older) b cell
+    cell_fresh a b low cell w = read_fresh (log_before (work a older) older) (early_begun p n L (length older) a older (h, lawful, omega arith)) a (length (log_before (work a older) older)) b low (omega arith) cell (let_by a b (object_of_cell cell) (kind_of_cell cell) w)
+
+    -- of the object that a test names
+    of_same : (a b : ℕ) → b < p.shape.n → (g : Gfid) (cell : Cell) → (g.0 == (object_of_cell cell).0) ≡ true → IsLet p b g (kind_of_cell cell) (work a older) → IsNoOlder p older (log_before (work a older) older) b cell
+    of_same a b low g cell e w = cell_fresh a b low cell (subst (λ (o : Gfid). IsLet p b o (kind_of_cell cell) (work a older)) (λ i. record { 0 = same_yes g.0 (object_of_cell cell).0 e i }) w)
+
+    fresh_by_looks : (line : Line) → IsLawfulLine p line older → IsFreshByLooks p line older
+    fresh_by_looks (Ask a b (request.ReadBytes g at len) Given took) here = λ w client cell. by_cell cell w
+      where
+        by_cell : (cell : Cell) → IsLet p b.0 g Bytes (work a.0 older) → names_cell (request.ReadBytes g at len) cell ≡ true → IsNoOlder p older (log_before (work a.0 older) older) b.0 cell
+        by_cell (model.Byte o i) w named = of_same a.0 b.0 here.0.0 g (model.Byte o i) (and_left (g.0 == o.0) _ named) w
+        by_cell (model.Attr o key) w named = absurd (cc named)
+        by_cell (model.Name o name) w named = absurd (cc named)
+    fresh_by_looks (Ask a b (request.ReadName g name) Given took) here = λ w client cell. by_cell cell w
+      where
+        by_cell : (cell : Cell) → IsLet p b.0 g Names (work a.0 older) → names_cell (request.ReadName g name) cell ≡ true → IsNoOlder p older (log_before (work a.0 older) older) b.0 cell
+        by_cell (model.Byte o i) w named = absurd (cc named)
+        by_cell (model.Attr o key) w named = absurd (cc named)
+        by_cell (model.Name o other) w named = of_same a.0 b.0 here.0.0 g (model.Name o other) (and_left (g.0 == o.0) _ named) w
+    fresh_by_looks (Ask a b (request.List g) Given took) here = λ w client cell. by_cell cell w
+      where
+        by_cell : (cell : Cell) → IsLet p b.0 g Names (work a.0 older) → names_cell (request.List g) cell ≡ true → IsNoOlder p older (log_before (work a.0 older) older) b.0 cell
+        by_cell (model.Byte o i) w named = absurd (cc named)
+        by_cell (model.Attr o key) w named = absurd (cc named)
+        by_cell (model.Name o other) w named = of_same a.0 b.0 here.0.0 g (model.Name o other) named w
+    fresh_by_looks (Ask a b (request.ReadAttr g key) Given took) here = λ w client cell. by_cell cell w
+      where
+        by_cell : (cell : Cell) → IsLet p b.0 g Attrs (work a.0 older) → names_cell (request.ReadAttr g key) cell ≡ true → IsNoOlder p older (log_before (work a.0 older) older) b.0 cell
+        by_cell (model.Byte o i) w named = absurd (cc named)
+        by_cell (model.Attr o other) w named = of_same a.0 b.0 here.0.0 g (model.Attr o other) (and_left (g.0 == o.0) _ named) w
+        by_cell (model.Name o name) w named = absurd (cc named)
+    fresh_by_looks (Ask a b r Given took) here = λ w client cell named. absurd (cc named)
+    fresh_by_looks line here = λ w. tt
+
+  -- ---- every line
+  each_since : (older : List Line) → IsPast L older → LawfulBelow p n older → EachLine (IsFreshSince p) older
+  each_since [] h lawful = tt
+  each_since (line ∷ older) h lawful = (fresh_since older h.1 lawful.1 line lawful.0.0, each_since older h.1 lawful.1)
+
+  each_by_looks : (older : List Line) → IsPast L older → LawfulBelow p n older → EachLine (IsFreshByLooks p) older
+  each_by_looks [] h lawful = tt
+  each_by_looks (line ∷ older) h lawful = (fresh_by_looks older h.1 lawful.1 line lawful.0.0, each_by_looks older h.1 lawful.1)
+
+-- ---- the whole log
+module _ (p : Plan) (log : List Line) (five : p.shape.n ≤ 5) (honest : IsHonestLog p log) (n : ℕ) (below : LawfulBelow p n log) where
+  all_told : Honest (start_of p n) (fault_in p.faults) (by_position log)
+  all_told = all_honest p n five log below honest (within_before p log (take_within p n five log below honest))
+
+  each_read : (r since a b : ℕ) (cell : law_cell.Cell) → LooksLet p.shape.n (kept_by p) (by_position log) a since r (object_of cell) (kind_of cell) b → NoOlder (start_of p n) (by_position log) r since b cell
+  each_read r since a b cell w = fresh_read p.shape.n (start_of p n) (fault_in p.faults) (by_position log) all_told (all_lawful p n five log below) r since a b cell w
+
+  log_since : EachLine (IsFreshSince p) log
+  log_since = each_since p n (by_position log) five each_read log (past_whole log) below
+
+  log_by_looks : EachLine (IsFreshByLooks p) log
+  log_by_looks = each_by_looks p n (by_position log) five each_read log (past_whole log) below
+
+-- the third law in the words of the model
+pub model_fresh_since : ModelReadsAreFresh
+model_fresh_since p log five honest lawful = log_since p log five honest (name_limit p log) (lawful_below p (name_limit p log) log (omega arith) lawful)
+
+pub model_fresh_by_looks : ModelWorksReadFresh
+model_fresh_by_looks p log five honest lawful = log_by_looks p log five honest (name_limit p log) (lawful_below p (name_limit p log) log (omega arith) lawful)
+
+-- over the discipline in full
+pub exact_fresh : ModelExactReadsFresh
+exact_fresh p log five short honest lawful = (let weak = weakly_lawful p log five short honest lawful in (model_fresh_since p log five honest weak, model_fresh_by_looks p log five honest weak))
+
+-- ---- for whoever asks
+-- where the last looks give no reply of their own, a majority answered them; so a good copy by them is let
+pub let_by_looks : (p : Plan) (b : ℕ) (g : Gfid) (kind : Kind) (w : Work) → by_looks p.shape kind (looked_by g w) ≡ None → FromGood p b g kind w → IsLet p b g kind w
+let_by_looks p b g kind w none good = record { answered = go (is_majority p.shape.n (looked_by g w).reached) refl; good = good }
+  where
+    go : (most : Bool) → is_majority p.shape.n (looked_by g w).reached ≡ most → is_majority p.shape.n (looked_by g w).reached ≡ true
+    go true e = e
+    go false e = (let short : by_looks p.shape kind (looked_by g w) ≡ Some reply.NoQuorum = rw e refl in absurd (cc (short, none)))
+
+-- where the looks of their works let all reads, all reads are fresh
+pub all_fresh : (p : Plan) (log : List Line) → EachLine (IsFreshByLooks p) log → EachLine (IsLetRead p) log → AreFresh p log
+all_fresh p [] h w = tt
+all_fresh p (line ∷ older) h w = (h.0 w.0, all_fresh p older h.1 w.1)

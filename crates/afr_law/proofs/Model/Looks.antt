@@ -1,0 +1,165 @@
+-- What the last looks of a work show stands in lines of its actor.
+use Rattle.std.proofs.Common.{◌≡◌, ◌≢◌, ℕ, suc, ◌<◌, ◌≤◌, Bool, true, false, ◌&&◌, not, ◌⊎◌, inl, inr, refl, sym, ap, ◌∙◌, subst, arith, List, [], ◌∷◌, length, Option, None, Some, ◌==◌, if◌then◌else◌, true≢false}
+use Rattle.std.specs.Prelude.{nat_lt}
+use Rattle.std.proofs.lemmas.Bool.Decides.{nat_tests}
+use Rattle.afr_base.specs.Bricks.{member, and_left, and_right}
+use Rattle.afr_base.specs.SetLemmas.{member_added, member_removed}
+use Rattle.afr_base.specs.declared.ids.Gfid.{Gfid}
+use Rattle.afr_base.specs.declared.ids.Kind.{Kind}
+use Rattle.afr_choice.specs.Looks.{no_looks, with_look, without_look, view_at}
+use Rattle.afr_choice.specs.LooksLemmas.{view_after_look, view_after_other_look, view_after_other_loss, length_after_look, length_after_loss}
+use Rattle.afr_choice.specs.Verdict.{shown_missed}
+use Rattle.afr_choice.specs.declared.looked.Looked.{Looked}
+use Rattle.afr_object.specs.declared.entry.View.{View}
+use Rattle.afr_lines.specs.Areas.{object_of_area}
+use Rattle.afr_lines.specs.Work.{Work, work, is_of, is_end}
+use Rattle.afr_lines.specs.declared.answer.Told.{Told}
+use Rattle.afr_lines.specs.declared.answer.Told.TheVariants.{Seen, NoObject}
+use Rattle.afr_lines.specs.declared.line.Line.{Line}
+use Rattle.afr_lines.specs.declared.line.Line.TheVariants.{Ask}
+use Rattle.afr_lines.specs.declared.request.Request.TheVariants as request
+use Rattle.afr_range_locks.specs.declared.domain.Domain.TheVariants.{Work as WorkDomain}
+use Rattle.afr_model.specs.Safe.{log_before}
+use Rattle.afr_model.specs.Showing.{look_shows, looked_after, looked_by}
+use Rattle.afr_law.proofs.Model.Cells.{below_length}
+use Rattle.afr_law.specs.FreshReads.{ShowsNoMiss}
+use Rattle.afr_moves.specs.Lines.{ask_by}
+use Rattle.afr_law.proofs.Safety.Locks.{same_yes}
+use Rattle.afr_law.specs.ModelFresh.{IsClearLook}
+use Rattle.afr_law.proofs.Model.Positions.{newest_at, older_at}
+
+-- there is a place for each brick's view
+five_shown : (c : ℕ) (told : Told) (looked : Looked) → length looked.views ≡ 5 → length (look_shows c told looked).views ≡ 5
+five_shown c (Seen view) looked e = length_after_look c (Some view) looked ∙ e
+five_shown c NoObject looked e = length_after_look c None looked ∙ e
+five_shown c told looked e = length_after_loss c looked ∙ e
+
+five_either : (hit : Bool) (one other : Looked) → length one.views ≡ 5 → length other.views ≡ 5 → length (if hit then one else other).views ≡ 5
+five_either true one other e f = e
+five_either false one other e f = f
+
+five_after : (g : Gfid) (line : Line) (looked : Looked) → length looked.views ≡ 5 → length (looked_after g line looked).views ≡ 5
+five_after g (Ask y z (request.Look h) told took) looked e = five_either (h.0 == g.0) _ _ (five_shown z.0 told looked e) e
+five_after g (Ask y z (request.Lock WorkDomain area) told took) looked e = five_either ((object_of_area area).0 == g.0) no_looks looked refl e
+five_after g line looked e = e
+
+five_views : (g : Gfid) (w : Work) → length (looked_by g w).views ≡ 5
+five_views g [] = refl
+five_views g (y ∷ w) = five_after g y.0 (looked_by g w) (five_views g w)
+
+-- the work's first line stands in the log
+begun_within : (a : ℕ) (log : List Line) → length (log_before (work a log) log) ≤ length log
+begun_within a [] = omega arith
+begun_within a (line ∷ log) = go (is_of a line) (is_end line) (work a log) (begun_within a log)
+  where
+    go : (own last : Bool) (w : Work) → length (log_before w log) ≤ length log → length (log_before (if own then (if last then [] else (line, log) ∷ w) else w) (line ∷ log)) ≤ suc (length log)
+    go true true w h = omega arith
+    go true false w h = omega (arith, h)
+    go false last [] h = omega arith
+    go false last (x ∷ w) h = omega (arith, h)
+
+module _ (a x : ℕ) (g : Gfid) (kind : Kind) (b : ℕ) (small : x < 5) where
+  -- brick x answered its last look, and showed nothing that b missed
+  record IsClearBy (looked : Looked) : Type 0 where
+    reached : member looked.reached x ≡ true
+    clear : shown_missed kind b (view_at x looked) ≡ false
+
+  unlooked : IsClearBy no_looks → ⊥
+  unlooked w = true≢false (sym w.reached)
+
+  other_look : (c : ℕ) (view : Option View) (looked : Looked) → (c == x) ≡ false → IsClearBy (with_look c view looked) → IsClearBy looked
+  other_look c view looked e w = record {
+    reached = sym (member_added c looked.reached x ∙ rw e refl) ∙ w.reached;
+    clear = ap (shown_missed kind b) (sym (view_after_other_look c x view looked (apart c e))) ∙ w.clear;
+  }
+    where
+      apart : (c : ℕ) → (c == x) ≡ false → x ≢ c
+      apart c e = grind (arith, nat_tests)
+
+  other_loss : (c : ℕ) (looked : Looked) → IsClearBy (without_look c looked) → IsClearBy looked
+  other_loss c looked w = record {
+    reached = and_right (not (c == x)) (member looked.reached x) there;
+    clear = ap (shown_missed kind b) (sym (view_after_other_loss c x looked (apart c (and_left (not (c == x)) (member looked.reached x) there)))) ∙ w.clear;
+  }
+    where
+      there : (not (c == x) && member looked.reached x) ≡ true
+      there = sym (member_removed c looked.reached x) ∙ w.reached
+
+      apart : (c : ℕ) → not (c == x) ≡ true → x ≢ c
+      apart c e = grind (arith, nat_tests)
+
+  own_look : (c : ℕ) (view : Option View) (looked : Looked) → length looked.views ≡ 5 → (c == x) ≡ true → IsClearBy (with_look c view looked) → shown_missed kind b view ≡ false
+  own_look c view looked five e w =
+      let same : c ≡ x = same_yes c x e in
+      let here : view_at x (with_look x view looked) ≡ view = view_after_look x view looked (omega (arith, small, five)) in
+      let shown : shown_missed kind b (view_at x (with_look x view looked)) ≡ false = subst (λ (d : ℕ). shown_missed kind b (view_at x (with_look d view looked)) ≡ false) same w.clear in
+      ap (shown_missed kind b) (sym here) ∙ shown
+
+  no_miss : (m : ℕ) → nat_lt 0 m ≡ false → m ≡ 0
+  no_miss m e = grind (arith, nat_tests)
+
+  -- a look's answer, or what was shown before it
+  by_answer : (c : ℕ) (told : Told) (looked : Looked) → length looked.views ≡ 5 → (here : Bool) → (c == x) ≡ here → IsClearBy (look_shows c told looked) → ((c ≡ x) × ShowsNoMiss kind b told) ⊎ IsClearBy looked
+  by_answer c (Seen view) looked five true e w = inl (same_yes c x e, no_miss _ (own_look c (Some view) looked five e w))
+  by_answer c (Seen view) looked five false e w = inr (other_look c (Some view) looked e w)
+  by_answer c NoObject looked five true e w = inl (same_yes c x e, tt)
+  by_answer c NoObject looked five false e w = inr (other_look c None looked e w)
+  by_answer c told looked five here e w = inr (other_loss c looked w)
+
+  -- a look of the lines before
+  older_look : (line : Line) (older : List Line) (since : ℕ) → IsClearLook older a since x g kind b → IsClearLook (line ∷ older) a since x g kind b
+  older_look line older since w = record {
+    position = w.position;
+    told = w.told;
+    took = w.took;
+    line = older_at line older w.position (below_length older w.position (ask_by a x (request.Look g) w.told w.took) w.line) ∙ w.line;
+    after = w.after;
+    clear = w.clear;
+  }
+
+  -- one line more of the work
+  line_look : (line : Line) (older : List Line) (since : ℕ) (looked : Looked) → is_of a line ≡ true → length looked.views ≡ 5 → since ≤ length older
+      → (IsClearBy looked → IsClearLook older a since x g kind b) → IsClearBy (looked_after g line looked) → IsClearLook (line ∷ older) a since x g kind b
+  line_look (Ask y z (request.Look h) told took) older since looked mine five low before now = go (h.0 == g.0) refl now
+    where
+      line : Line
+      line = Ask y z (request.Look h) told took
+
+      new : h.0 ≡ g.0 → (z.0 ≡ x) × ShowsNoMiss kind b told → IsClearLook (line ∷ older) a since x g kind b
+      new object at = record {
+        position = length older;
+        told = told;
+        took = took;
+        line = newest_at line older ∙ (λ i. Some (ask_by (same_yes y.0 a mine i) (at.0 i) (request.Look (record { 0 = object i })) told took));
+        after = low;
+        clear = at.1;
+      }
+
+      go : (hit : Bool) → (h.0 == g.0) ≡ hit → IsClearBy (if hit then look_shows z.0 told looked else looked) → IsClearLook (line ∷ older) a since x g kind b
+      go true e w = elim (by_answer z.0 told looked five (z.0 == x) refl w) [
+        | inl here ↦ new (same_yes h.0 g.0 e) here
+        | inr was ↦ older_look line older since (before was)
+      ]
+      go false e w = older_look line older since (before w)
+  line_look (Ask y z (request.Lock WorkDomain area) told took) older since looked mine five low before now = go ((object_of_area area).0 == g.0) now
+    where
+      go : (hit : Bool) → IsClearBy (if hit then no_looks else looked) → IsClearLook (Ask y z (request.Lock WorkDomain area) told took ∷ older) a since x g kind b
+      go true w = absurd (unlooked w)
+      go false w = older_look (Ask y z (request.Lock WorkDomain area) told took) older since (before w)
+  line_look line older since looked mine five low before now = older_look line older since (before now)
+
+  -- a brick that answered the last look of the work and showed nothing was looked at in the work
+  looked_at : (log : List Line) → IsClearBy (looked_by g (work a log)) → IsClearLook log a (length (log_before (work a log) log)) x g kind b
+  looked_at [] now = absurd (unlooked now)
+  looked_at (line ∷ log) now = go (is_of a line) refl (is_end line) (work a log) (begun_within a log) (λ w. looked_at log w) now
+    where
+      go : (own : Bool) → is_of a line ≡ own → (last : Bool) (w : Work) → length (log_before w log) ≤ length log → (IsClearBy (looked_by g w) → IsClearLook log a (length (log_before w log)) x g kind b)
+          → IsClearBy (looked_by g (if own then (if last then [] else (line, log) ∷ w) else w))
+          → IsClearLook (line ∷ log) a (length (log_before (if own then (if last then [] else (line, log) ∷ w) else w) (line ∷ log))) x g kind b
+      go true mine true w low before now = absurd (unlooked now)
+      go true mine false w low before now = line_look line log (length (log_before w log)) (looked_by g w) mine (five_views g w) low before now
+      go false other last [] low before now = absurd (unlooked now)
+      go false other last (y ∷ w) low before now = older_look line log (length (log_before (y ∷ w) log)) (before now)
+
+  pub looked_clear : (log : List Line) → member (looked_by g (work a log)).reached x ≡ true → shown_missed kind b (view_at x (looked_by g (work a log))) ≡ false → IsClearLook log a (length (log_before (work a log) log)) x g kind b
+  looked_clear log reached clear = looked_at log (record { reached = reached; clear = clear })

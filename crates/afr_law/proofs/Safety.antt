@@ -1,0 +1,16 @@
+pub mod Core
+pub mod Areas
+pub mod Locks
+pub mod Standing
+pub mod Registers
+pub mod Numbers
+pub mod Acts
+pub mod Rising
+pub mod Touches
+pub mod Objects
+pub mod Acks
+pub mod CellLemmas
+pub mod CellHistory
+pub mod Agree
+pub mod Steps
+pub mod Prefixes

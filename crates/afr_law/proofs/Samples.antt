@@ -1,0 +1,3 @@
+pub mod Heal
+pub mod Attr
+pub mod Reads

@@ -1,0 +1,52 @@
+-- Areas that a test calls the same are the same.
+use Rattle.afr_moves.specs.Lines.{range_of, name_of}
+use Rattle.std.specs.Prelude.{List as Seq}
+use Rattle.afr_lines.specs.Overlap.{same_area}
+use Rattle.std.proofs.Common.{◌≡◌, ℕ, suc, ◌<◌, Bool, true, false, ◌&&◌, not, ◌⊎◌, inl, inr, refl, sym, ap, ◌∙◌, subst, arith, true≢false}
+use Rattle.std.specs.Prelude.{Option, None, Some, ◌==◌, if◌then◌else◌}
+use Rattle.std.proofs.lemmas.Bool.Decides.{nat_tests}
+use Rattle.afr_lines.specs.declared.request.Area.{Area}
+use Rattle.afr_lines.specs.declared.request.Area.TheVariants.{Range, Name}
+use Rattle.afr_moves.specs.Rules.{Register, fresh, begun, is_area, looked, viewed, looking, put_view, is_none, unlocked, released, locking, granting, heal_area, area_object, mend_cells, note_ask, dropping, MayHealLock, busy, second_of, second_freed}
+
+same_yes : (x y : ℕ) → (x == y) ≡ true → x ≡ y
+same_yes x y e = grind (arith, nat_tests)
+
+pub same_area_is : (a b : Area) → same_area a b ≡ true → a ≡ b
+same_area_is (Range g from to) (Range h start stop) e = three g.0 h.0 from start to stop (all_three (g.0 == h.0) (from == start) (to == stop) e)
+  where
+    all_three : (x y z : Bool) → (x && y && z) ≡ true → (x ≡ true) × (y ≡ true) × (z ≡ true)
+    all_three x y z e = grind arith
+
+    three : (g h from start to stop : ℕ) → ((g == h) ≡ true) × ((from == start) ≡ true) × ((to == stop) ≡ true) → range_of g from to ≡ range_of h start stop
+    three g h from start to stop w = λ i. range_of (same_yes g h w.0 i) (same_yes from start w.1 i) (same_yes to stop w.2 i)
+same_area_is (Name g None) (Name h None) e = two g.0 h.0 (both (g.0 == h.0) true e).0
+  where
+    both : (x y : Bool) → (x && y) ≡ true → (x ≡ true) × (y ≡ true)
+    both x y e = grind arith
+
+    two : (g h : ℕ) → (g == h) ≡ true → name_of g None ≡ name_of h None
+    two g h w = λ i. name_of (same_yes g h w i) None
+same_area_is (Name g (Some n)) (Name h (Some m)) e = two g.0 h.0 n.0 m.0 (both (g.0 == h.0) (n.0 == m.0) e)
+  where
+    both : (x y : Bool) → (x && y) ≡ true → (x ≡ true) × (y ≡ true)
+    both x y e = grind arith
+
+    two : (g h n m : ℕ) → ((g == h) ≡ true) × ((n == m) ≡ true) → name_of g (Some (record { 0 = n })) ≡ name_of h (Some (record { 0 = m }))
+    two g h n m w = λ i. name_of (same_yes g h w.0 i) (Some (record { 0 = same_yes n m w.1 i }))
+same_area_is (Range g from to) (Name h None) e = absurd (cc e)
+same_area_is (Range g from to) (Name h (Some m)) e = absurd (cc e)
+same_area_is (Name g None) (Range h start stop) e = absurd (cc e)
+same_area_is (Name g (Some n)) (Range h start stop) e = absurd (cc e)
+same_area_is (Name g None) (Name h (Some m)) e = absurd (no_and (g.0 == h.0) e)
+  where
+    no_and : (x : Bool) → (x && false) ≡ true → ⊥
+    no_and x e = grind arith
+same_area_is (Name g (Some n)) (Name h None) e = absurd (no_and (g.0 == h.0) e)
+  where
+    no_and : (x : Bool) → (x && false) ≡ true → ⊥
+    no_and x e = grind arith
+
+pub is_area_is : (of : Option Area) (area : Area) → is_area of area ≡ true → of ≡ Some area
+is_area_is None area e = absurd (cc e)
+is_area_is (Some mine) area e = ap (λ (o : Area). Some o) (same_area_is mine area e)

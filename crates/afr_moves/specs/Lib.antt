@@ -1,0 +1,17 @@
+pub mod Sets
+pub mod Cells
+pub mod Lines
+pub mod Past
+pub mod Honest
+pub mod Positions
+pub mod Rules
+pub mod Tally
+pub mod Register
+pub mod Transaction
+pub mod Steps
+pub mod Heal
+pub mod Note
+pub mod Ranges
+pub mod Discipline
+pub mod ByList
+pub mod Followed

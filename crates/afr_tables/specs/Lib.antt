@@ -1,0 +1,5 @@
+pub mod CopyLaws
+pub mod RepairLaws
+pub mod TableLaws
+pub mod Fits
+pub mod SumLaws
