@@ -11,7 +11,7 @@ use Rattle.afr_lines.specs.declared.line.Line.TheVariants.{Ask}
 use Rattle.afr_lines.specs.declared.line.Line.TheVariants as line_of
 use Rattle.afr_lines.specs.declared.request.Request.{Request}
 use Rattle.afr_model.specs.Honest.{IsHonest, fault_in}
-use Rattle.afr_model.specs.Sessions.{opens, place_of}
+use Rattle.afr_lines.specs.Places.{opens, place_of}
 use Rattle.afr_model.specs.Tables.{held_before, keeps_bytes}
 use Rattle.afr_object.specs.Tables.{opening}
 use Rattle.afr_object.specs.declared.change.Load.{Load}

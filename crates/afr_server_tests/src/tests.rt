@@ -13,11 +13,15 @@ use afr_server::{Asked, Server, planned_faults};
 use std::alloc::Global;
 
 const ROOT: Gfid = Gfid(1);
+
 const ONE: ActorId = ActorId(1);
+
 const TWO: ActorId = ActorId(2);
+
 const HERE: BrickId = BrickId(0);
 
 const LOOK: Request = Request::Look { gfid: Gfid(1) };
+
 const LOOK_ELSEWHERE: Request = Request::Look { gfid: Gfid(7) };
 
 fn server_with(alloc: Global, faults: &[PlannedFault]) -> Option<Server>
