@@ -1,6 +1,7 @@
 #!/usr/bin/env bash
-# A benchmark: reads the longest plan that a source may have, with a quarter of a million names, prints
-# it, and prints the time and the peak memory of both together. It needs GNU time.
+# A benchmark: reads plans of a quarter of a million names, prints them, and prints the time and the peak
+# memory of both together: the longest plan that a source may have, a plan of short names, and one of as
+# many short names that collide under a fixed seed. It needs GNU time, and cc for the last.
 set -eu
 export LC_ALL=C
 top=$(readlink -f "$(dirname "$(readlink -f "${BASH_SOURCE[0]}")")/..")
@@ -11,12 +12,13 @@ trap 'rm -rf "$room"' EXIT
 mkdir -p "$room/crates/reprint/src"
 (cd "$top" && tar -c --exclude=out --exclude=must-fail crates) | tar -x -C "$room"
 cp "$top/crates.txt" "$room"
-echo 'reprint: afr_text afr_base afr_plan' >>"$room/crates.txt"
+echo 'reprint: afr_text afr_base afr_plan_read afr_plan_print' >>"$room/crates.txt"
 cat >"$room/crates/reprint/src/main.rt" <<'END'
 //! Reads a plan, and writes what is printed of it.
 #![tactic(auto)]
 
-use afr_plan::{print_plan, read_plan};
+use afr_plan_print::print_plan;
+use afr_plan_read::read_plan;
 use afr_text::{StdSink, StdSource, read_all, write_all};
 use std::io;
 use std::process::ExitCode;
@@ -46,23 +48,39 @@ if [ ! -x "$program" ]; then
     exit 1
 fi
 
-# Commands on paths of 16 names of 62 bytes, each name new.
-awk 'BEGIN {
-    print "afr 1\nvolume replica\nfiles 0\nturns 1\nclient 1"
-    for (k = 0; k < 16384; k++) {
-        path = ""
-        for (i = 0; i < 16; i++) path = path sprintf("/n%061d", 16 * k + i)
-        print "stat " path
-    }
-    print "end"
-}' >"$room/plan"
+# Commands on paths of 16 names of so many bytes after a letter, each name new.
+plan() {
+    awk -v digits="$1" 'BEGIN {
+        print "afr 1\nvolume replica\nfiles 0\nturns 1\nclient 1"
+        for (k = 0; k < 16384; k++) {
+            path = ""
+            for (i = 0; i < 16; i++) path = path sprintf("/n%0" digits "d", 16 * k + i)
+            print "stat " path
+        }
+        print "end"
+    }'
+}
 
-printf '%9s %9s %9s %10s\n' bytes names seconds 'peak KiB'
-for _ in 1 2 3; do
-    before=$EPOCHREALTIME
-    /usr/bin/time -f %M -o "$room/peak" "$program" <"$room/plan" >"$room/text"
-    after=$EPOCHREALTIME
-    cmp "$room/plan" "$room/text"
-    awk -v bytes="$(wc -c <"$room/plan")" -v before="$before" -v after="$after" -v peak="$(cat "$room/peak")" \
-        'BEGIN { printf "%9d %9d %9.3f %10d\n", bytes, 262144, after - before, peak }'
-done
+# Reads and prints a plan three times.
+measure() {
+    local kind=$1 plan=$2
+    for _ in 1 2 3; do
+        before=$EPOCHREALTIME
+        /usr/bin/time -f %M -o "$room/peak" "$program" <"$plan" >"$room/text"
+        after=$EPOCHREALTIME
+        cmp "$plan" "$room/text"
+        awk -v kind="$kind" -v bytes="$(wc -c <"$plan")" -v before="$before" -v after="$after" -v peak="$(cat "$room/peak")" \
+            'BEGIN { printf "%-9s %9d %9d %9.3f %10d\n", kind, bytes, 262144, after - before, peak }'
+    done
+}
+
+printf '%-9s %9s %9s %9s %10s\n' names bytes number seconds 'peak KiB'
+plan 61 >"$room/long.plan"
+measure long "$room/long.plan"
+plan 7 >"$room/short.plan"
+measure short "$room/short.plan"
+
+# Finding the names takes a minute or more.
+cc -O2 -o "$room/colliding_names" "$top/bench/colliding_names.c"
+"$room/colliding_names" 262144 >"$room/colliding.plan"
+measure colliding "$room/colliding.plan"

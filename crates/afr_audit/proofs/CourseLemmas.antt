@@ -16,12 +16,13 @@ use Rattle.afr_lines.specs.declared.request.Request.{Request}
 use Rattle.afr_lines.specs.Places.{Place, next_place, opens, place_of}
 use Rattle.afr_object.specs.declared.change.Change.{Change}
 use Rattle.afr_plan.specs.declared.plan.Plan.{Plan}
-use Rattle.afr_law.specs.Codes.{kept_by}
+use Rattle.afr_tables.specs.Codes.{kept_by}
 use Rattle.afr_moves.specs.Discipline.{MayAskExactly}
 use Rattle.afr_moves.specs.Heal.{MayHealBegin, MayHealEnd}
 use Rattle.afr_moves.specs.Transaction.{MayBegin, MayEnd}
 use Rattle.afr_moves.specs.Lines.{is_ok}
-use Rattle.afr_moves.specs.Followed.{kept_in, noted_if, register_by}
+use Rattle.afr_moves.specs.Followed.{noted_if, register_by}
+use Rattle.afr_moves.specs.Keeps.{keeps_in}
 use Rattle.afr_audit.specs.Followed.{register_at}
 use Rattle.afr_audit.specs.Judged.{IsMove}
 use Rattle.afr_check.proofs.StartLemmas.{newest}
@@ -39,18 +40,18 @@ followed_register p a log at line was shape l e same size =
 
 -- ---- moves
 module _ (p : Plan) (shape : Shape) (size : shape ≡ p.shape) (line : Line) (older : List Line) (test : Bool) where
-  pub asks_move : (a : ActorId) (b : BrickId) (request : Request) (told : Told) (took : Bool) → line ≡ Ask a b request told took → (test ≡ true) ↔ ((b.0 < shape.n) × MayAskExactly shape.n (kept_in shape) (register_at p a.0 line older) b.0 request)
+  pub asks_move : (a : ActorId) (b : BrickId) (request : Request) (told : Told) (took : Bool) → line ≡ Ask a b request told took → (test ≡ true) ↔ ((b.0 < shape.n) × MayAskExactly shape.n (keeps_in shape) (register_at p a.0 line older) b.0 request)
       → (test ≡ true) ↔ IsMove p line older
   asks_move a b request told took is k =
       subst (λ (l : Line). (test ≡ true) ↔ IsMove p l older) (sym is)
       (subst (λ (l : Line). (test ≡ true) ↔ ((b.0 < p.shape.n) × MayAskExactly p.shape.n (kept_by p) (register_at p a.0 l older) b.0 request)) is
-      (subst (λ (s : Shape). (test ≡ true) ↔ ((b.0 < s.n) × MayAskExactly s.n (kept_in s) (register_at p a.0 line older) b.0 request)) size k))
+      (subst (λ (s : Shape). (test ≡ true) ↔ ((b.0 < s.n) × MayAskExactly s.n (keeps_in s) (register_at p a.0 line older) b.0 request)) size k))
 
-  pub begins_move : (a : ActorId) (change : Change) → line ≡ Begin a change → (test ≡ true) ↔ MayBegin shape.n (kept_in shape) (register_at p a.0 line older) change → (test ≡ true) ↔ IsMove p line older
+  pub begins_move : (a : ActorId) (change : Change) → line ≡ Begin a change → (test ≡ true) ↔ MayBegin shape.n (keeps_in shape) (register_at p a.0 line older) change → (test ≡ true) ↔ IsMove p line older
   begins_move a change is k =
       subst (λ (l : Line). (test ≡ true) ↔ IsMove p l older) (sym is)
       (subst (λ (l : Line). (test ≡ true) ↔ MayBegin p.shape.n (kept_by p) (register_at p a.0 l older) change) is
-      (subst (λ (s : Shape). (test ≡ true) ↔ MayBegin s.n (kept_in s) (register_at p a.0 line older) change) size k))
+      (subst (λ (s : Shape). (test ≡ true) ↔ MayBegin s.n (keeps_in s) (register_at p a.0 line older) change) size k))
 
   pub parts_move : (a : ActorId) (g : Gfid) (kind : Kind) → line ≡ HealBegin a g kind → (test ≡ true) ↔ MayHealBegin shape.n (register_at p a.0 line older) g.0 kind → (test ≡ true) ↔ IsMove p line older
   parts_move a g kind is k =
@@ -63,7 +64,7 @@ module _ (p : Plan) (shape : Shape) (size : shape ≡ p.shape) (line : Line) (ol
       (subst (λ (l : Line). (test ≡ true) ↔ MayEnd p.shape.n (register_at p a.0 l older) (is_ok reply)) is
       (subst (λ (s : Shape). (test ≡ true) ↔ MayEnd s.n (register_at p a.0 line older) (is_ok reply)) size (subst (λ (f : Bool). (test ≡ true) ↔ MayEnd shape.n (register_at p a.0 line older) f) says k)))
 
-  pub heal_ends_move : (a : ActorId) (g : Gfid) (kind : Kind) (reply : HealReply) → line ≡ HealEnd a g kind reply → (test ≡ true) ↔ MayHealEnd shape.n (register_at p a.0 line older) g.0 kind → (test ≡ true) ↔ IsMove p line older
+  pub heal_ends_move : (a : ActorId) (g : Gfid) (kind : Kind) (reply : HealReply) → line ≡ HealEnd a g kind reply → (test ≡ true) ↔ MayHealEnd shape.n (register_at p a.0 line older) → (test ≡ true) ↔ IsMove p line older
   heal_ends_move a g kind reply is k =
       subst (λ (l : Line). (test ≡ true) ↔ IsMove p l older) (sym is)
-      (subst (λ (l : Line). (test ≡ true) ↔ MayHealEnd p.shape.n (register_at p a.0 l older) g.0 kind) is (subst (λ (s : Shape). (test ≡ true) ↔ MayHealEnd s.n (register_at p a.0 line older) g.0 kind) size k))
+      (subst (λ (l : Line). (test ≡ true) ↔ MayHealEnd p.shape.n (register_at p a.0 l older)) is (subst (λ (s : Shape). (test ≡ true) ↔ MayHealEnd s.n (register_at p a.0 line older)) size k))

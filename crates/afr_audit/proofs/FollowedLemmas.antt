@@ -1,10 +1,7 @@
 -- The register of an actor by a list of lines is the one by their positions.
 use Rattle.std.proofs.Common.{Bool, List, [], ap, arith, false, length, refl, suc, sym, true, ℕ, ◌<◌, ◌∙◌, ◌∷◌, ◌≡◌}
-use Rattle.std.proofs.lemmas.Bool.Decides.{nat_tests}
-use Rattle.std.specs.Prelude.{Some, if◌then◌else◌, nat_lt, ◌&&◌}
+use Rattle.std.specs.Prelude.{Some, if◌then◌else◌}
 use Rattle.afr_base.specs.declared.ids.Kind.{Kind}
-use Rattle.afr_base.specs.declared.ids.Shape.{Shape}
-use Rattle.afr_choice.specs.Verdict as choice
 use Rattle.afr_lines.specs.Work as work
 use Rattle.afr_lines.specs.declared.line.Line.{Line}
 use Rattle.afr_lines.specs.Places as session
@@ -16,16 +13,7 @@ use Rattle.afr_moves.specs.Register.{Exact}
 use Rattle.afr_moves.specs.Past.{is_of, opens, place}
 use Rattle.afr_moves.specs.Positions.{by_position}
 use Rattle.afr_law.proofs.Model.Positions.{newest_at, older_at, past_whole}
-use Rattle.afr_discipline.specs.Stands.{keeps_in}
-use Rattle.afr_moves.specs.Followed.{kept_in, register_by}
-
--- the two tests of which bricks keep what say the same of five bricks
-pub kept_same : (shape : Shape) (x : ℕ) (kind : Kind) → x < 5 → kept_in shape x kind ≡ keeps_in shape x kind
-kept_same shape x kind l = go (nat_lt x 5) refl
-  where
-    go : (low : Bool) → nat_lt x 5 ≡ low → (low && choice.keeps shape kind x) ≡ choice.keeps shape kind x
-    go true e = refl
-    go false e = absurd (grind (arith, nat_tests))
+use Rattle.afr_moves.specs.Followed.{register_by}
 
 -- a line opens a work or a heal by the list, and by positions
 pub opens_here : (a : ℕ) (line : Line) (older : List Line) → opens (place (by_position older) (length older) a) (Some line) ≡ session.opens (place_of a older) line

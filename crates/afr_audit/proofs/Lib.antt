@@ -1,9 +1,6 @@
 pub mod CourseLemmas
 pub mod FollowedLemmas
 pub mod JudgedLemmas
-pub mod Keeping
-pub mod KeptMoves
-pub mod KeptNotes
 pub mod LimitLemmas
 pub mod MoveLemmas
 pub mod RangeLemmas

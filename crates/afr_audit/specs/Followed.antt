@@ -1,15 +1,15 @@
 -- What the lines so far leave in the register of an actor, from the oldest on.
-use Rattle.afr_moves.specs.Followed.{kept_in, noted_if, register_by}
+use Rattle.afr_moves.specs.Followed.{noted_if, register_by}
 use Rattle.std.specs.Prelude.{ℕ, ◌<◌, ◌&&◌, nat_lt, Bool, List, [], ◌∷◌, length, Some, if◌then◌else◌}
 use Rattle.afr_base.specs.declared.ids.Kind.{Kind}
 use Rattle.afr_base.specs.declared.ids.Shape.{Shape}
-use Rattle.afr_choice.specs.Verdict.{keeps}
+use Rattle.afr_base.specs.Keeping.{keeps}
 use Rattle.afr_lines.specs.Work.{is_of}
 use Rattle.afr_lines.specs.declared.line.Line.{Line}
 use Rattle.afr_lines.specs.declared.line.Line.TheVariants.{Ask}
 use Rattle.afr_lines.specs.Places.{opens, place_of}
 use Rattle.afr_plan.specs.declared.plan.Plan.{Plan}
-use Rattle.afr_law.specs.Codes.{kept_by}
+use Rattle.afr_tables.specs.Codes.{kept_by}
 use Rattle.afr_moves.specs.Discipline as exact
 use Rattle.afr_moves.specs.Discipline.{in_force, note}
 use Rattle.afr_moves.specs.Register.{Exact, untouched}

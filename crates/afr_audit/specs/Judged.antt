@@ -1,7 +1,6 @@
 -- What is tested of a line, after the lines before it.
-use Rattle.std.specs.Prelude.{◌≡◌, ◌⊎◌, ℕ, ◌+◌, Bool, true, false, List, [], ◌∷◌, length, Option, None, Some, if◌then◌else◌, ◌==◌}
+use Rattle.std.specs.Prelude.{◌≡◌, ◌⊎◌, ℕ, ◌+◌, true, false, List, [], ◌∷◌, length, Option, None, Some, if◌then◌else◌, ◌==◌}
 use Rattle.afr_base.specs.declared.ids.Gfid.{Gfid}
-use Rattle.afr_base.specs.declared.ids.Kind.{Kind}
 use Rattle.afr_base.specs.declared.ids.What.{What}
 use Rattle.afr_object.specs.declared.change.Change.{Change}
 use Rattle.afr_object.specs.declared.change.Change.TheVariants.{Make}
@@ -9,24 +8,16 @@ use Rattle.afr_lines.specs.Work.{ends_work}
 use Rattle.afr_lines.specs.declared.answer.Told.TheVariants.{Given}
 use Rattle.afr_lines.specs.declared.line.Line.{Line}
 use Rattle.afr_lines.specs.declared.line.Line.TheVariants.{Ask, Begin}
-use Rattle.afr_lines.specs.declared.request.Area.{Area}
 use Rattle.afr_lines.specs.declared.request.Request.TheVariants.{ReadName}
 use Rattle.afr_model.specs.Cells.{IsEntry, Name, value_of}
-use Rattle.afr_base.specs.Kinds.{same_kind}
 use Rattle.afr_plan.specs.declared.plan.Plan.{Plan}
 use Rattle.afr_audit.specs.declared.reads.NameRead.{NameRead}
 use Rattle.afr_law.specs.Beginning.{start_of}
-use Rattle.afr_law.specs.Codes.{kept_by}
+use Rattle.afr_tables.specs.Codes.{kept_by}
 use Rattle.afr_moves.specs.Discipline.{BeginsKnown}
 use Rattle.afr_moves.specs.ByList.{IsExactLine, MayExactlyNext}
-use Rattle.afr_moves.specs.Register.{area_kind}
 use Rattle.afr_law.specs.Exactly.{name_bound}
 use Rattle.afr_moves.specs.Positions.{by_position}
-
--- a heal's kind is that of the area that it named, if it named one
-abbrev pub is_told : Option Area → Kind → Bool
-is_told None kind = true
-is_told (Some area) kind = same_kind kind (area_kind area)
 
 -- the line is a move that the lines before it, the newest first, allow its actor
 abbrev pub IsMove : Plan → Line → List Line → Type 0

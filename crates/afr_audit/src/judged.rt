@@ -4,13 +4,13 @@ ghost use Rattle.afr_check.specs.Room.{Fits};
 ghost use Rattle.afr_model.specs.Honest.{Honest};
 ghost use Rattle.afr_moves.specs.Discipline.{MakesKnown, MayAskExactly};
 ghost use Rattle.afr_moves.specs.Heal.{MayHealBegin, MayHealEnd};
-ghost use Rattle.afr_moves.specs.Register.{Exact, area_kind};
+ghost use Rattle.afr_moves.specs.Register.{Exact};
 ghost use Rattle.afr_law.specs.Exactly.{IsLawfulExactly};
 ghost use Rattle.afr_moves.specs.Transaction.{MayBegin, MayEnd};
 ghost use Rattle.afr_moves.specs.Lines.{is_ok};
 ghost use Rattle.afr_discipline.specs.Stands.{Stands};
-ghost use Rattle.afr_moves.specs.Followed.{kept_in};
-ghost use Rattle.afr_audit.specs.Judged.{IsMade, IsMadeBy, IsMove, KeepsDiscipline, WasGiven, is_told};
+ghost use Rattle.afr_moves.specs.Keeps.{keeps_in};
+ghost use Rattle.afr_audit.specs.Judged.{IsMade, IsMadeBy, IsMove, KeepsDiscipline, WasGiven};
 ghost use Rattle.afr_audit.specs.Limits.{CanFollow, CanJudge};
 ghost use Rattle.afr_audit.specs.New.{MakesNew};
 
@@ -19,25 +19,22 @@ use crate::ranges::fits_its_types;
 use crate::reads::was_given;
 use crate::unjudged::Unjudged;
 use afr_base::{ActorId, BrickId, Gfid, Kind, What};
-use afr_discipline::{Move, Register, healed, is_heal, may};
-use afr_lines::{Area, Line, Reply, Request};
+use afr_discipline::{Move, Register, is_heal, may};
+use afr_lines::{Line, Reply, Request};
 use afr_object::Change;
 use afr_plan::Plan;
 use std::alloc::Global;
 
-/// Where the bytes of a file end, and its attributes begin.
-const ATTRS: u64 = 1 << 63;
-
 fn may_ask(register: &Register, brick: BrickId, request: &Request) -> bool
     requires few { register.now.shape.n ≤ 5 }
-    ensures { (r : Exact) → Stands register.now r → (result ≡ true) ↔ ((brick.0 < register.now.shape.n) × MayAskExactly register.now.shape.n (kept_in register.now.shape) r brick.0 request.now) }
+    ensures { (r : Exact) → Stands register.now r → (result ≡ true) ↔ ((brick.0 < register.now.shape.n) × MayAskExactly register.now.shape.n (keeps_in register.now.shape) r brick.0 request.now) }
 {
     may(register, &Move::Ask(brick, request))
 }
 
 fn may_begin(register: &Register, change: &Change) -> bool
     requires few { register.now.shape.n ≤ 5 }
-    ensures { (r : Exact) → Stands register.now r → (result ≡ true) ↔ MayBegin register.now.shape.n (kept_in register.now.shape) r change.now }
+    ensures { (r : Exact) → Stands register.now r → (result ≡ true) ↔ MayBegin register.now.shape.n (keeps_in register.now.shape) r change.now }
 {
     may(register, &Move::Begin(change))
 }
@@ -56,43 +53,11 @@ fn may_end(register: &Register, ok: bool) -> bool
     !is_heal(register) && may(register, &Move::End { ok })
 }
 
-fn kind_of(area: Area) -> Kind
-    ensures { result ≡ area_kind area }
-{
-    match area {
-        Area::Range {
-            gfid: _,
-            from,
-            to: _,
-        } => {
-            if from < ATTRS {
-                Kind::Bytes
-            } else {
-                Kind::Attrs
-            }
-        }
-        Area::Name { .. } => Kind::Names,
-    }
-}
-
-fn is_told(area: Option<Area>, kind: Kind) -> bool
-    ensures { result ≡ is_told area kind }
-{
-    match area {
-        Some(area) => kind == kind_of(area),
-        None => true,
-    }
-}
-
-/// A heal ends with its object and kind, as far as a line told the kind.
-fn may_end_heal(register: &Register, gfid: Gfid, kind: Kind) -> bool
+fn may_end_heal(register: &Register) -> bool
     requires few { register.now.shape.n ≤ 5 }
-    ensures { (r : Exact) → Stands register.now r → (result ≡ true) ↔ MayHealEnd register.now.shape.n r gfid.0 kind }
+    ensures { (r : Exact) → Stands register.now r → (result ≡ true) ↔ MayHealEnd register.now.shape.n r }
 {
-    is_heal(register)
-        && gfid.0 == healed(register).0
-        && is_told(register.area, kind)
-        && may(register, &Move::End { ok: false })
+    is_heal(register) && may(register, &Move::End { ok: false })
 }
 
 fn is_ok(reply: &Reply) -> bool
@@ -133,14 +98,9 @@ fn is_move(plan: &Plan, line: &Line, older: &[Line]) -> Result<bool, Unjudged>
             let register = register_at(plan, older, *actor, line)?;
             Ok(may_end(&register, is_ok(reply)))
         }
-        Line::HealEnd {
-            actor,
-            gfid,
-            kind,
-            ..
-        } => {
+        Line::HealEnd { actor, .. } => {
             let register = register_at(plan, older, *actor, line)?;
-            Ok(may_end_heal(&register, *gfid, *kind))
+            Ok(may_end_heal(&register))
         }
         Line::Event { .. } => Ok(true),
     }

@@ -5,7 +5,7 @@ ghost use Rattle.afr_moves.specs.Discipline.{in_force, note};
 ghost use Rattle.afr_moves.specs.Register.{Exact, span, untouched};
 ghost use Rattle.afr_discipline.specs.Stands.{Stands};
 ghost use Rattle.afr_audit.specs.Followed.{AsksOneOfFive};
-ghost use Rattle.afr_moves.specs.Followed.{kept_in};
+ghost use Rattle.afr_moves.specs.Keeps.{keeps_in};
 
 use crate::unjudged::Unjudged;
 use afr_base::{BrickId, Gfid, Kind};
@@ -20,7 +20,7 @@ fn note_ask(register: &mut Register, brick: BrickId, request: &Request, told: &T
     requires few { register.old.shape.n ≤ 5 }
     requires small { brick.0 < 5 }
     requires room { register.old.upto + span < 2 ^ 32 }
-    ensures stands { (a : ActorId) (took : Bool) (r : Exact) → Stands register.old r → Stands register.new (note register.old.shape.n (kept_in register.old.shape) r at (Some (Line.Ask a brick request.now told.now took))) }
+    ensures stands { (a : ActorId) (took : Bool) (r : Exact) → Stands register.old r → Stands register.new (note register.old.shape.n (keeps_in register.old.shape) r at (Some (Line.Ask a brick request.now told.now took))) }
     ensures shape { register.new.shape ≡ register.old.shape }
 {
     note(register, &Move::Ask(brick, request), told, at);
@@ -29,7 +29,7 @@ fn note_ask(register: &mut Register, brick: BrickId, request: &Request, told: &T
 fn note_begin(register: &mut Register, change: &Change, at: u32)
     requires few { register.old.shape.n ≤ 5 }
     requires room { register.old.upto + span < 2 ^ 32 }
-    ensures stands { (a : ActorId) (r : Exact) → Stands register.old r → Stands register.new (note register.old.shape.n (kept_in register.old.shape) r at (Some (Line.Begin a change.now))) }
+    ensures stands { (a : ActorId) (r : Exact) → Stands register.old r → Stands register.new (note register.old.shape.n (keeps_in register.old.shape) r at (Some (Line.Begin a change.now))) }
     ensures shape { register.new.shape ≡ register.old.shape }
 {
     note(register, &Move::Begin(change), &Told::Done, at);
@@ -38,7 +38,7 @@ fn note_begin(register: &mut Register, change: &Change, at: u32)
 fn note_part(register: &mut Register, gfid: Gfid, kind: Kind, at: u32)
     requires few { register.old.shape.n ≤ 5 }
     requires room { register.old.upto + span < 2 ^ 32 }
-    ensures stands { (a : ActorId) (r : Exact) → Stands register.old r → Stands register.new (note register.old.shape.n (kept_in register.old.shape) r at (Some (Line.HealBegin a gfid kind))) }
+    ensures stands { (a : ActorId) (r : Exact) → Stands register.old r → Stands register.new (note register.old.shape.n (keeps_in register.old.shape) r at (Some (Line.HealBegin a gfid kind))) }
     ensures shape { register.new.shape ≡ register.old.shape }
 {
     note(register, &Move::HealBegin(gfid, kind), &Told::Done, at);
@@ -56,7 +56,7 @@ fn note_line(register: &mut Register, line: &Line, at: u32)
     requires few { register.old.shape.n ≤ 5 }
     requires small { AsksOneOfFive line.now }
     requires room { register.old.upto + span < 2 ^ 32 }
-    ensures stands { (r : Exact) → Stands register.old r → Stands register.new (note register.old.shape.n (kept_in register.old.shape) r at (Some line.now)) }
+    ensures stands { (r : Exact) → Stands register.old r → Stands register.new (note register.old.shape.n (keeps_in register.old.shape) r at (Some line.now)) }
     ensures shape { register.new.shape ≡ register.old.shape }
 {
     match line {
@@ -112,7 +112,7 @@ pub(crate) fn noted(
     at: usize,
 ) -> Result<Register, Unjudged>
     requires few { register.shape.n ≤ 5 }
-    ensures stands { IfOk result (λ p. (r : Exact) → Stands register r → Stands p (note register.shape.n (kept_in register.shape) (in_force first r) at (Some line.now))) }
+    ensures stands { IfOk result (λ p. (r : Exact) → Stands register r → Stands p (note register.shape.n (keeps_in register.shape) (in_force first r) at (Some line.now))) }
     ensures shape { IfOk result (λ p. p.shape ≡ register.shape) }
     ensures too_much { result ≡ Err Unjudged.TooMuch → at < 2 ^ 32 → register.upto + span < 2 ^ 32 - 1 → AsksOneOfFive line.now → ⊥ }
     ensures never { result ≢ Err Unjudged.NoMemory }

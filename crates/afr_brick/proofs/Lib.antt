@@ -1,4 +1,3 @@
 pub mod Found
 pub mod Made
 pub mod Mended
-pub mod Zeros

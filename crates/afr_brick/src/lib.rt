@@ -7,8 +7,6 @@ mod numbers;
 mod reads;
 mod refused;
 mod repairs;
-#[cfg(test)]
-mod tests;
 
 pub use brick::Brick;
 pub use refused::Refused;

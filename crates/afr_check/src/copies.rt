@@ -2,7 +2,7 @@
 ghost use Rattle.std.specs.Prelude.{Err, ℕ, ◌≡◌, ◌<◌, ◌≤◌, reverse, IfOk};
 ghost use Rattle.std.specs.List.{list_any};
 ghost use Rattle.afr_base.specs.Bricks.{IsWithin};
-ghost use Rattle.afr_choice.specs.Verdict.{keeps};
+ghost use Rattle.afr_base.specs.Keeping.{keeps};
 ghost use Rattle.afr_model.specs.Safe.{accuses, is_good_copy};
 ghost use Rattle.afr_check.specs.Room.{Fits};
 ghost use Rattle.afr_model.specs.Sums.{has_object};

@@ -3,9 +3,9 @@ use Rattle.std.specs.Prelude.{ℕ, Bool, true, false, List, Option, Some, None, 
 use Rattle.std.specs.List.{list_any}
 use Rattle.afr_base.specs.Bricks.{all_five, member, is_nothing}
 use Rattle.afr_base.specs.Majority.{is_majority}
+pub use Rattle.afr_base.specs.Keeping.{is_bytes, keeps}
 use Rattle.afr_base.specs.Marks.{marks_of}
 use Rattle.afr_base.specs.declared.ids.Kind.{Kind}
-use Rattle.afr_base.specs.declared.ids.Kind.TheVariants.{Bytes, Attrs, Names}
 use Rattle.afr_base.specs.declared.ids.Shape.{Shape}
 use Rattle.afr_object.specs.declared.entry.View.{View}
 use Rattle.afr_choice.specs.declared.looked.Looked.{Looked}
@@ -16,16 +16,6 @@ use Rattle.afr_choice.specs.Looks.{view_at}
 -- brick b was reached and has the object
 abbrev pub is_holder : Looked → ℕ → Bool
 is_holder looked b = member looked.reached b && is_some (view_at b looked)
-
--- the kind is that of file bytes
-abbrev pub is_bytes : Kind → Bool
-is_bytes Bytes = true
-is_bytes Attrs = false
-is_bytes Names = false
-
--- brick b keeps what this kind is about: brick 2 of an arbiter volume keeps no bytes
-abbrev pub keeps : Shape → Kind → ℕ → Bool
-keeps shape kind b = not (shape.arbiter && is_bytes kind && (b == 2))
 
 -- the view has operations of this kind that brick c missed
 abbrev pub shown_missed : Kind → ℕ → Option View → Bool

@@ -4,12 +4,13 @@ use Rattle.std.specs.List.{list_any}
 use Rattle.std.proofs.lemmas.Bool.{eqb-true}
 use Rattle.std.proofs.lemmas.Bool.Decides.{nat_tests}
 use Rattle.afr_base.specs.Bricks.{all_five, member, is_nothing, IsIn, IsWithin, from_table, and_left, and_right}
+use Rattle.afr_base.specs.Keeping.{keeps}
 use Rattle.afr_base.specs.Majority.{is_majority}
 use Rattle.afr_base.specs.declared.ids.Kind.{Kind}
 use Rattle.afr_base.specs.declared.ids.Shape.{Shape}
 use Rattle.afr_choice.specs.declared.looked.Looked.{Looked}
 use Rattle.afr_choice.specs.declared.verdict.Verdict.TheVariants.{Short, Bare, Split, Sources}
-use Rattle.afr_choice.specs.Verdict.{is_holder, keeps, is_copy, is_good, accuses_at, is_accused, holders_of, copies_of, good_copies, verdict_of}
+use Rattle.afr_choice.specs.Verdict.{is_holder, is_copy, is_good, accuses_at, is_accused, holders_of, copies_of, good_copies, verdict_of}
 
 member_filter : (p : ℕ → Bool) (xs : List ℕ) (b : ℕ) → member (filter p xs) b ≡ member xs b && p b
 member_filter p [] b = refl

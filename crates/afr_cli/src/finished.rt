@@ -3,7 +3,7 @@ ghost use Rattle.std.specs.Prelude.{◌≡◌, ◌≤◌, ◌<◌, ◌+◌, ℕ,
 ghost use Rattle.afr_model.specs.Actors.{IsActor, is_done};
 ghost use Rattle.afr_cli.specs.Statuses.{AreDone, IsWorkLeft};
 
-use afr_base::ActorId;
+use afr_base::{ActorId, FIRST_CLIENT, FIRST_HEALER};
 use afr_volume::Volume;
 
 /// Whether each actor was killed or has ended all its works.
@@ -16,7 +16,7 @@ pub fn all_done(volume: &Volume) -> bool
     volume.every_line();
     let clients = volume.plan().clients.len() as u16;
     let healers = volume.plan().healers.len() as u16;
-    are_done(volume, 1, clients) && are_done(volume, 17, healers)
+    are_done(volume, FIRST_CLIENT, clients) && are_done(volume, FIRST_HEALER, healers)
 }
 
 /// The same of so many actors in a row.

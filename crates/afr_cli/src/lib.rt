@@ -5,8 +5,6 @@ mod finished;
 mod messages;
 mod program;
 mod running;
-#[cfg(test)]
-mod tests;
 mod words;
 
 pub use program::afr_top;

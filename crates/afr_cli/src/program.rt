@@ -19,7 +19,8 @@ ghost use Rattle.afr_cli.specs.Statuses.{AreRun, AreDone, HasFault, AreGiven, Is
 use crate::messages::{answer, refuse};
 use crate::running::run_plan;
 use crate::words::is_run;
-use afr_plan::{PlanFault, PlanStop, is_runnable_yet, read_plan};
+use afr_plan::{PlanFault, PlanStop, is_runnable_yet};
+use afr_plan_read::read_plan;
 use afr_text::{ReadStop, Sink, Source, read_all};
 use afr_volume::Volume;
 use std::alloc::Global;

@@ -20,14 +20,15 @@ use Rattle.afr_moves.specs.Cells.{what_code}
 use Rattle.afr_moves.specs.Honest.{plane_kind}
 use Rattle.afr_moves.specs.Rules.{busy, fits_change, heal_area}
 use Rattle.afr_moves.specs.Discipline.{MayAskExactly}
-use Rattle.afr_moves.specs.Heal.{InHeal, Goes, Gives}
+use Rattle.afr_moves.specs.Heal.{InHeal, Goes, Gives, MayHealEnd}
 use Rattle.afr_moves.specs.Register.{Exact, Step, Untouched, Open, Pres, Applies, Posts, HealLocks, WorkLocks, Looks, Reads, HealPres, Mends, Settles, Unlocks, HealUnlocks, all, holder, kind_in, same_step}
 use Rattle.afr_moves.specs.Transaction.{EndsLow, LiesIn, MayApply, MayBegin, MayEnd, MayOpen, MayPost, MayPre, Outside}
 use Rattle.afr_discipline.specs.declared.register.Move.{Move}
 use Rattle.afr_discipline.specs.declared.register.Move.TheVariants as move
-use Rattle.afr_discipline.specs.Moves.{IffTrue, MayEndHeal, MayMove}
+use Rattle.afr_discipline.specs.Moves.{IffTrue, MayMove}
 use Rattle.afr_discipline.specs.declared.register.Register.{Register}
-use Rattle.afr_discipline.specs.Stands.{keeps_in, seen_as}
+use Rattle.afr_moves.specs.Keeps.{keeps_in}
+use Rattle.afr_discipline.specs.Stands.{seen_as}
 use Rattle.afr_discipline.proofs.StandsLemmas.{filled}
 use Rattle.afr_discipline.specs.Tests.{carried, ends_low, fits_view, has_name, is_heal_area, last_posted, lies_in, may_apply, may_ask_outside, may_begin, may_end, may_move_outside, may_open, may_post, may_pre, misses, once, plane_in, same_flag}
 use Rattle.afr_discipline.proofs.Decides.{both, pair, denied, deny, most_yes, most_no, equal, at_most, le_test, less, lt_test, all_yes, all_no, posted_yes, posted_no, work_yes, work_no, once_yes, once_no, carried_yes, carried_no, plane_yes, plane_no}
@@ -330,7 +331,7 @@ end_no n r ok m =
     told true b h = h refl
     told false b h = refl
 
-finished : (n : ℕ) (r : Exact) (ok : Bool) → r.law.heal ≡ false → MayEnd n r ok ⊎ MayEndHeal n r → may_end n r ok ≡ true
+finished : (n : ℕ) (r : Exact) (ok : Bool) → r.law.heal ≡ false → MayEnd n r ok ⊎ MayHealEnd n r → may_end n r ok ≡ true
 finished n r ok out (inl m) = end_no n r ok m
 finished n r ok out (inr m) = absurd (cc (out, m.inside))
 

@@ -11,7 +11,7 @@ use Rattle.afr_lines.specs.declared.request.Request.TheVariants.{Lock, Unlock, L
 use Rattle.afr_moves.specs.Sets.{any}
 use Rattle.afr_moves.specs.Rules.{busy, is_area}
 use Rattle.afr_moves.specs.Discipline.{MayAskExactly}
-use Rattle.afr_moves.specs.Heal.{InHeal, Goes, Gives, IsUnlock, MayHealBegin}
+use Rattle.afr_moves.specs.Heal.{InHeal, Goes, Gives, IsUnlock, MayHealBegin, MayHealEnd}
 use Rattle.afr_moves.specs.Register.{Exact, Step, HealUnlocks, WorkLocks, Phase, Opening, Piece, Finish, over, same_step, whole_area}
 use Rattle.afr_moves.specs.Steps.{locks_at, may_heal}
 use Rattle.afr_moves.specs.Transaction.{MayEnd}
@@ -21,8 +21,9 @@ use Rattle.afr_discipline.specs.declared.register.Move.{Move}
 use Rattle.afr_discipline.specs.declared.register.Move.TheVariants as move
 use Rattle.afr_discipline.specs.declared.register.Register.{Register}
 use Rattle.afr_discipline.specs.Inside.{allows, begins_part, is_unlock, may_ask_inside, may_end_heal, may_heal_begin, may_move, may_move_inside}
-use Rattle.afr_discipline.specs.Moves.{IffTrue, MayEndHeal, MayMove}
-use Rattle.afr_discipline.specs.Stands.{Stands, keeps_in, seen_as}
+use Rattle.afr_discipline.specs.Moves.{IffTrue, MayMove}
+use Rattle.afr_moves.specs.Keeps.{keeps_in}
+use Rattle.afr_discipline.specs.Stands.{Stands, seen_as}
 use Rattle.afr_discipline.specs.Tests.{may_move_outside}
 use Rattle.afr_discipline.proofs.StandsLemmas.{filled, is_filled}
 use Rattle.afr_discipline.proofs.Decides.{both, pair, denied, deny, either, left_one, right_one, most_yes, most_no, equal, less, lt_test, some_yes, some_no, same_kind_yes, same_kind_self}
@@ -112,7 +113,7 @@ begin_no n r g kind m =
     m.over)
     (part_no n r g kind r.phase (record { enough = m.enough; opening = m.opening; later = m.later }))
 
-end_yes : (n : ℕ) (r : Exact) → r.law.heal ≡ true → may_end_heal n r ≡ true → MayEndHeal n r
+end_yes : (n : ℕ) (r : Exact) → r.law.heal ≡ true → may_end_heal n r ≡ true → MayHealEnd n r
 end_yes n r inside h =
     let x = both _ (r.broken || same_step r.step HealUnlocks) h in
     let y = both (not (busy n r.law)) (not (any n r.law.healing)) x.0 in
@@ -127,7 +128,7 @@ last_no : (r : Exact) → (r.broken ≡ true) ⊎ (r.step ≡ HealUnlocks) → (
 last_no r (inl broken) = left_one r.broken (same_step r.step HealUnlocks) broken
 last_no r (inr done) = right_one r.broken (same_step r.step HealUnlocks) (rw done refl)
 
-end_no : (n : ℕ) (r : Exact) (ok : Bool) → r.law.heal ≡ true → MayEnd n r ok ⊎ MayEndHeal n r → may_end_heal n r ≡ true
+end_no : (n : ℕ) (r : Exact) (ok : Bool) → r.law.heal ≡ true → MayEnd n r ok ⊎ MayHealEnd n r → may_end_heal n r ≡ true
 end_no n r ok inside (inl m) = absurd (cc (inside, m.outside))
 end_no n r ok inside (inr m) =
     pair _ (r.broken || same_step r.step HealUnlocks) (pair (not (busy n r.law)) (not (any n r.law.healing)) (deny (busy n r.law) m.free) (deny (any n r.law.healing) m.healed)) (last_no r m.last)

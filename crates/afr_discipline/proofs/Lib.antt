@@ -5,6 +5,7 @@ mod HealDecisions
 mod SetsOfFive
 mod NotedLaw
 mod NotedShape
+mod NotedUpto
 mod StepsOutside
 mod StepsInside
 mod NotedSteps

@@ -17,12 +17,12 @@ use Rattle.afr_discipline.specs.declared.register.Register.{Register}
 use Rattle.afr_discipline.specs.declared.register.Step.TheVariants.{Open, Looks}
 use Rattle.afr_discipline.specs.Moves.{note_move}
 use Rattle.afr_discipline.specs.Notes.{AsksBelow, dropped, joined, noted, noted_ask, noted_begin, noted_law, noted_part, noted_steps}
-use Rattle.afr_discipline.specs.Stands.{Stands, keeps_in, no_lines}
+use Rattle.afr_moves.specs.Keeps.{keeps_in}
+use Rattle.afr_discipline.specs.Stands.{HasFive, Stands, no_lines}
 use Rattle.afr_discipline.proofs.StandsLemmas.{no_reads_kept, no_views_shown, stands_untouched}
 use Rattle.afr_discipline.proofs.NotedShape.{steps_shape}
 use Rattle.afr_discipline.proofs.NotedLaw.{begun_law, joined_law, law_noted, part_law}
 use Rattle.afr_discipline.proofs.StepsOutside.{StepsStand}
-pub use Rattle.afr_discipline.proofs.StepsOutside.{HasFive}
 use Rattle.afr_discipline.proofs.NotedSteps.{steps_noted}
 use Rattle.afr_discipline.proofs.Published.{joined_steps, law_half, published_stands, stopped_stands}
 

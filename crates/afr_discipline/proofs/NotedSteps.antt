@@ -6,9 +6,10 @@ use Rattle.afr_moves.specs.Note.{left_by}
 use Rattle.afr_moves.specs.Register.{Exact}
 use Rattle.afr_discipline.specs.declared.register.Register.{Register}
 use Rattle.afr_discipline.specs.Notes.{noted_steps}
-use Rattle.afr_discipline.specs.Stands.{Stands, keeps_in}
+use Rattle.afr_moves.specs.Keeps.{keeps_in}
+use Rattle.afr_discipline.specs.Stands.{HasFive, Stands}
 use Rattle.afr_discipline.proofs.StandsLemmas.{filled, is_filled}
-use Rattle.afr_discipline.proofs.StepsOutside.{HasFive, MayMatch, StepsStand, outside_stands}
+use Rattle.afr_discipline.proofs.StepsOutside.{MayMatch, StepsStand, outside_stands}
 use Rattle.afr_discipline.proofs.StepsInside.{inside_stands}
 
 -- in a heal or outside

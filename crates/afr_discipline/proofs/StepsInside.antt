@@ -19,12 +19,13 @@ use Rattle.afr_discipline.specs.declared.register.Phase.{Phase}
 use Rattle.afr_discipline.specs.declared.register.Phase.TheVariants.{Piece, Finish}
 use Rattle.afr_discipline.specs.Inside.{allows}
 use Rattle.afr_discipline.specs.Notes.{broken_by, entered, leaves_open, looked_inside, noted_inside, part_after, read_inside, still_possible, upto_after}
-use Rattle.afr_discipline.specs.Stands.{keeps_in, phase_of, seen_as, step_of}
+use Rattle.afr_moves.specs.Keeps.{keeps_in}
+use Rattle.afr_discipline.specs.Stands.{HasFive, phase_of, seen_as, step_of}
 use Rattle.afr_discipline.proofs.StandsLemmas.{filled}
 use Rattle.afr_discipline.proofs.HealDecisions.{heal_unseen}
 use Rattle.afr_discipline.proofs.NotedShape.{inside_shape}
 use Rattle.afr_discipline.proofs.SetsOfFive.{member_picked, put_read}
-use Rattle.afr_discipline.proofs.StepsOutside.{HasFive, MayMatch, StepsStand, WalkStands, asked_again, counted_reached, counted_views, entered_walks, shown_reached, shown_views, whole_with}
+use Rattle.afr_discipline.proofs.StepsOutside.{MayMatch, StepsStand, WalkStands, asked_again, counted_reached, counted_views, entered_walks, shown_reached, shown_views, whole_with}
 
 -- the part of a heal that a Work lock begins
 part_at : (first all : Bool) (phase : Phase) → (if first then (if all then exact.Finish else exact.Piece) else phase_of phase) ≡ phase_of (if first then (if all then Finish else Piece) else phase)

@@ -17,7 +17,7 @@ use Rattle.afr_discipline.specs.declared.register.Register.{Register}
 use Rattle.afr_discipline.specs.declared.register.Step.{Step}
 use Rattle.afr_discipline.specs.declared.register.Step.TheVariants.{Open, Pres, Applies, Posts, HealLocks}
 use Rattle.afr_discipline.specs.Notes.{counts, entered, is_working, noted_outside, shown, shown_if, stayed}
-use Rattle.afr_discipline.specs.Stands.{phase_of, reads_of, step_of, views_of}
+use Rattle.afr_discipline.specs.Stands.{HasFive, phase_of, reads_of, step_of, views_of}
 use Rattle.afr_discipline.proofs.StandsLemmas.{filled, no_views_shown}
 use Rattle.afr_discipline.proofs.SetsOfFive.{put_marked_no, put_marked_yes, put_no_view, put_view, with_not}
 
@@ -35,12 +35,6 @@ pub record StepsStand (p : Register) (r : Exact) : Type 0 where
   pub reads : r.reads ≡ reads_of p.reads
   pub upto : r.upto ≡ p.upto
   pub broken : r.broken ≡ p.broken
-
--- the lists of views and reads have a place for each of five bricks
-pub record HasFive (p : Register) : Type 0 where
-  pub looked : length p.looked.views ≡ 5
-  pub seen : length p.seen.views ≡ 5
-  pub reads : length p.reads ≡ 5
 
 -- the same without what may be the source, and whether the heal is broken
 pub record WalkStands (p : Register) (r : Exact) : Type 0 where

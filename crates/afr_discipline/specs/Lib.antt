@@ -4,3 +4,5 @@ pub mod Tests
 pub mod Five
 pub mod Inside
 pub mod Notes
+pub mod Turns
+pub mod Laws

@@ -1,14 +1,12 @@
 -- What the discipline says of one move of one actor, and what the move leaves in its register.
-use Rattle.std.specs.Prelude.{◌≡◌, ℕ, ◌<◌, Bool, true, false, ◌⊎◌, if◌then◌else◌, Some}
+use Rattle.std.specs.Prelude.{◌≡◌, ℕ, ◌<◌, Bool, true, ◌⊎◌, if◌then◌else◌, Some}
 use Rattle.afr_base.specs.declared.ids.Kind.{Kind}
 use Rattle.afr_lines.specs.declared.answer.Told.{Told}
-use Rattle.afr_moves.specs.Sets.{any}
-use Rattle.afr_moves.specs.Rules.{busy}
 use Rattle.afr_moves.specs.Lines.{ask_by, begin_by, heal_begin_by}
 use Rattle.afr_moves.specs.Discipline.{MayAskExactly, note}
-use Rattle.afr_moves.specs.Register.{Exact, HealUnlocks, untouched}
+use Rattle.afr_moves.specs.Register.{Exact, untouched}
 use Rattle.afr_moves.specs.Transaction.{MayBegin, MayEnd}
-use Rattle.afr_moves.specs.Heal.{MayHealBegin}
+use Rattle.afr_moves.specs.Heal.{MayHealBegin, MayHealEnd}
 use Rattle.afr_discipline.specs.declared.register.Move.{Move}
 use Rattle.afr_discipline.specs.declared.register.Move.TheVariants.{Ask, Begin, HealBegin, End}
 
@@ -17,19 +15,12 @@ pub record IffTrue (test : Bool) (Fact : Type 0) : Type 0 where
   pub yes : test ≡ true → Fact
   pub complete : Fact → test ≡ true
 
--- the end of a heal: no lock is held, and no step is left
-pub record MayEndHeal (n : ℕ) (r : Exact) : Type 0 where
-  pub inside : r.law.heal ≡ true
-  pub free : busy n r.law ≡ false
-  pub healed : any n r.law.healing ≡ false
-  pub last : (r.broken ≡ true) ⊎ (r.step ≡ HealUnlocks)
-
 -- the discipline allows the move; an end in a heal is the heal's
 abbrev pub MayMove : ℕ → (ℕ → Kind → Bool) → Exact → Move → Type 0
 MayMove n keeps r (Ask b request) = (b.0 < n) × MayAskExactly n keeps r b.0 request.now
 MayMove n keeps r (Begin change) = MayBegin n keeps r change.now
 MayMove n keeps r (HealBegin g kind) = MayHealBegin n r g.0 kind
-MayMove n keeps r (End ok) = MayEnd n r ok ⊎ MayEndHeal n r
+MayMove n keeps r (End ok) = MayEnd n r ok ⊎ MayHealEnd n r
 
 -- what the move leaves, answered with this, at position t
 abbrev pub note_move : ℕ → (ℕ → Kind → Bool) → Exact → Move → Told → ℕ → Exact

@@ -24,7 +24,8 @@ use Rattle.afr_discipline.specs.declared.register.Step.TheVariants.{Open, Pres, 
 use Rattle.afr_discipline.specs.declared.register.Phase.{Phase}
 use Rattle.afr_discipline.specs.declared.register.Phase.TheVariants.{Piece, Finish}
 use Rattle.afr_discipline.specs.Inside.{allows}
-use Rattle.afr_discipline.specs.Stands.{attempt_of, has_begun, heal_of, keeps_in, no_lines, phase_of, seen_as, source_of, step_of}
+use Rattle.afr_moves.specs.Keeps.{keeps_in}
+use Rattle.afr_discipline.specs.Stands.{attempt_of, has_begun, heal_of, no_lines, phase_of, seen_as, source_of, step_of}
 
 -- the actor holds a Work lock
 abbrev pub is_working : Register → Bool
@@ -213,6 +214,17 @@ noted p (move.Ask b request) told t = noted_ask p t b.0 request.now told
 noted p (move.Begin change) told t = noted_begin p t
 noted p (move.HealBegin g kind) told t = noted_part p t kind
 noted p (move.End ok) told t = if p.inside then no_lines p.shape else p
+
+-- the bytes that are done after a request: the first unlock of a piece adds the length of a piece
+abbrev pub upto_asked : Register → Request → ℕ
+upto_asked p (Unlock Work area) = if p.inside then upto_after p else p.upto
+upto_asked p request = p.upto
+
+-- and after a move: the end of a heal leaves none
+abbrev pub upto_noted : Register → Move → ℕ
+upto_noted p (move.Ask b request) = upto_asked p request.now
+upto_noted p (move.End ok) = if p.inside then 0 else p.upto
+upto_noted p step = p.upto
 
 -- a request goes to one of the five bricks
 abbrev pub AsksBelow : Move → Type 0

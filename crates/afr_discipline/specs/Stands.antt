@@ -1,5 +1,5 @@
 -- Which exact register a program's register stands for.
-use Rattle.std.specs.Prelude.{◌≡◌, ℕ, zero, suc, ◌<◌, ◌&&◌, not, ◌==◌, Bool, false, if◌then◌else◌, List, [], ◌∷◌, slice_index_or, Option, None, Some}
+use Rattle.std.specs.Prelude.{◌≡◌, ℕ, zero, suc, ◌<◌, ◌&&◌, not, ◌==◌, Bool, false, if◌then◌else◌, List, [], ◌∷◌, length, slice_index_or, Option, None, Some}
 use Rattle.afr_base.specs.Bricks.{below, member}
 use Rattle.afr_base.specs.Majority.{count_below}
 use Rattle.afr_base.specs.declared.ids.BrickId.{BrickId}
@@ -9,9 +9,9 @@ use Rattle.afr_base.specs.declared.ids.Kind.TheVariants.{Bytes}
 use Rattle.afr_base.specs.declared.ids.Shape.{Shape}
 use Rattle.afr_object.specs.declared.entry.View.{View}
 use Rattle.afr_choice.specs.Looks.{no_looks, view_at}
-use Rattle.afr_choice.specs.Verdict.{keeps}
 use Rattle.afr_choice.specs.declared.looked.Looked.{Looked}
 use Rattle.afr_moves.specs.Sets.{any}
+use Rattle.afr_moves.specs.Keeps.{keeps_in}
 use Rattle.afr_moves.specs.Rules.{fresh}
 use Rattle.afr_moves.specs.Register as exact
 use Rattle.afr_moves.specs.Register.{Exact, Mends, asked_in, good}
@@ -56,10 +56,6 @@ views_of looked x = view_at x looked
 -- the position of the read at each brick
 abbrev pub reads_of : List (Option ℕ) → ℕ → Option ℕ
 reads_of reads x = slice_index_or reads x None
-
--- which bricks keep what a kind is about
-abbrev pub keeps_in : Shape → ℕ → Kind → Bool
-keeps_in shape b kind = keeps shape kind b
 
 -- the position that a number says
 abbrev pub position_of : ℕ → Option ℕ
@@ -123,6 +119,12 @@ pub record Stands (p : Register) (r : Exact) : Type 0 where
   pub heal : p.heal ≡ heal_of r
   pub source : p.source ≡ source_of p.shape.n (keeps_in p.shape) r
   pub mended : asked_in r Mends ≡ member p.mended
+
+-- the lists of views and reads have a place for each of five bricks
+pub record HasFive (p : Register) : Type 0 where
+  pub looked : length p.looked.views ≡ 5
+  pub seen : length p.seen.views ≡ 5
+  pub reads : length p.reads ≡ 5
 
 -- the exact register with the fields of the program, and those of the proof as they were before any line
 abbrev pub seen_as : Register → Exact

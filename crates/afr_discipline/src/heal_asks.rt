@@ -3,7 +3,8 @@ ghost use Rattle.std.specs.Prelude.{◌≡◌, ◌<◌, ◌≤◌};
 ghost use Rattle.afr_moves.specs.Sets.{any};
 ghost use Rattle.afr_moves.specs.Steps.{may_heal};
 ghost use Rattle.afr_discipline.specs.Inside.{allows, is_unlock, may_ask_inside};
-ghost use Rattle.afr_discipline.specs.Stands.{keeps_in, seen_as};
+ghost use Rattle.afr_moves.specs.Keeps.{keeps_in};
+ghost use Rattle.afr_discipline.specs.Stands.{seen_as};
 
 use crate::heal_moves::{
     may_list, may_lock_in_heal, may_look, may_raise_in_heal, may_read_attrs, may_read_bytes,

@@ -7,7 +7,8 @@ ghost use Rattle.afr_moves.specs.Register.{is_finish, len_of, over, piece_area, 
 ghost use Rattle.afr_moves.specs.Steps.{after_unlocks, is_lowest, is_next, is_whole, locks_at, may_heal, may_heal_work, onward, turn};
 ghost use Rattle.afr_lines.specs.Overlap.{same_area};
 ghost use Rattle.afr_base.specs.Kinds.{same_kind};
-ghost use Rattle.afr_discipline.specs.Stands.{keeps_in, phase_of, seen_as, step_of, views_of};
+ghost use Rattle.afr_moves.specs.Keeps.{keeps_in};
+ghost use Rattle.afr_discipline.specs.Stands.{phase_of, seen_as, step_of, views_of};
 
 use crate::areas::{ATTRS, is_same_area, is_same_kind, is_the_area};
 use crate::heal_sets::{is_locked, is_over, is_turn};

@@ -3,7 +3,8 @@ ghost use Rattle.std.specs.Prelude.{◌≡◌, ◌<◌, ◌≤◌, ◌+◌, ◌=
 ghost use Rattle.afr_moves.specs.Honest.{view_marks};
 ghost use Rattle.afr_moves.specs.Register.{all, holder};
 ghost use Rattle.afr_moves.specs.Steps.{changed, may_heal, raised, takes};
-ghost use Rattle.afr_discipline.specs.Stands.{keeps_in, seen_as, views_of};
+ghost use Rattle.afr_moves.specs.Keeps.{keeps_in};
+ghost use Rattle.afr_discipline.specs.Stands.{seen_as, views_of};
 
 use crate::heal_sets::is_turn;
 use crate::heals::{has_mended, is_changed, is_onward, is_raised};
@@ -47,7 +48,8 @@ fn are_taken(register: &Register, s: BrickId, kind: Kind, less: &Marks, view: &V
     )
 }
 
-fn all_hold(register: &Register) -> bool
+/// Whether each brick of the volume has a copy, by the first looks.
+pub(crate) fn all_hold(register: &Register) -> bool
     requires { register.now.shape.n ≤ 5 }
     ensures { result ≡ all register.now.shape.n (holder (views_of register.now.seen)) }
 {

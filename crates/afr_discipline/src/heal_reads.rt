@@ -3,7 +3,8 @@ ghost use Rattle.std.specs.Prelude.{◌≡◌, ◌<◌, ◌≤◌, slice_index_o
 ghost use Rattle.afr_moves.specs.Rules.{some_read};
 ghost use Rattle.afr_moves.specs.Register.{is_opening};
 ghost use Rattle.afr_moves.specs.Steps.{may_heal, may_mend, same_read, same_reads};
-ghost use Rattle.afr_discipline.specs.Stands.{keeps_in, phase_of, reads_of, seen_as};
+ghost use Rattle.afr_moves.specs.Keeps.{keeps_in};
+ghost use Rattle.afr_discipline.specs.Stands.{phase_of, reads_of, seen_as};
 ghost use Rattle.afr_discipline.specs.Five.{has_read};
 
 use crate::heal_sets::is_turn;

@@ -4,7 +4,8 @@ ghost use Rattle.afr_base.specs.Majority.{is_most};
 ghost use Rattle.afr_moves.specs.Sets.{any};
 ghost use Rattle.afr_moves.specs.Register.{all, has_number, holder, len_of, shows_number};
 ghost use Rattle.afr_moves.specs.Steps.{changed, goes_on, goes_on_at, looks_over, mends_over, onward, pres_over, raised, reads_over, settles_over, sink};
-ghost use Rattle.afr_discipline.specs.Stands.{keeps_in, phase_of, seen_as, views_of};
+ghost use Rattle.afr_moves.specs.Keeps.{keeps_in};
+ghost use Rattle.afr_discipline.specs.Stands.{phase_of, seen_as, views_of};
 
 use crate::areas::is_same_kind;
 use crate::heal_sets::{has_passed, is_other, is_sink};
@@ -81,7 +82,8 @@ fn len_shown(view: &Option<View>) -> u32
     }
 }
 
-pub(crate) fn len_at(looked: &Looked, x: BrickId) -> u32
+/// The length that a brick showed, or 0 where it has no copy.
+pub fn len_at(looked: &Looked, x: BrickId) -> u32
     requires { x.0 < 5 }
     ensures { result ≡ len_of (views_of looked.now x.0) }
 {

@@ -3,7 +3,8 @@ ghost use Rattle.std.specs.Prelude.{◌≡◌, ◌≤◌};
 ghost use Rattle.afr_moves.specs.Register.{Exact};
 ghost use Rattle.afr_discipline.specs.Inside.{begins_part, may_end_heal, may_heal_begin, may_move, may_move_inside};
 ghost use Rattle.afr_discipline.specs.Moves.{IffTrue, MayMove};
-ghost use Rattle.afr_discipline.specs.Stands.{Stands, keeps_in, phase_of, seen_as};
+ghost use Rattle.afr_moves.specs.Keeps.{keeps_in};
+ghost use Rattle.afr_discipline.specs.Stands.{Stands, phase_of, seen_as};
 
 use crate::areas::{is_same_kind, is_the_area};
 use crate::heal_asks::may_ask_in_heal;
@@ -75,7 +76,8 @@ fn is_move(register: &Register, step: &Move<'_>) -> bool
 /// Whether the discipline allows the move.
 pub fn may(register: &Register, step: &Move<'_>) -> bool
     requires { register.now.shape.n ≤ 5 }
-    ensures { (r : Exact) → Stands register.now r → IffTrue result (MayMove register.now.shape.n (keeps_in register.now.shape) r step.now) }
+    ensures value { result ≡ may_move register.now.shape.n (keeps_in register.now.shape) (seen_as register.now) step.now }
+    ensures lawful { (r : Exact) → Stands register.now r → IffTrue result (MayMove register.now.shape.n (keeps_in register.now.shape) r step.now) }
 {
     is_move(register, step)
 }

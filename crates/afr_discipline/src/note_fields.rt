@@ -3,7 +3,8 @@ ghost use Rattle.std.specs.Prelude.{◌≡◌, ◌<◌, ◌≤◌, ◌&&◌};
 ghost use Rattle.afr_base.specs.Bricks.{member};
 ghost use Rattle.afr_moves.specs.Register.{good};
 ghost use Rattle.afr_discipline.specs.Notes.{published};
-ghost use Rattle.afr_discipline.specs.Stands.{attempt_of, has_begun, heal_of, keeps_in, seen_as, sole, source_of, views_of};
+ghost use Rattle.afr_moves.specs.Keeps.{keeps_in};
+ghost use Rattle.afr_discipline.specs.Stands.{attempt_of, has_begun, heal_of, seen_as, sole, source_of, views_of};
 
 use crate::note_steps::asked_at;
 use crate::register::{Register, Step};

@@ -13,7 +13,7 @@ use afr_lines::{Area, Request, Told};
 use afr_range_locks::Domain;
 
 /// The bricks that were asked, if this is the present step.
-pub(crate) fn asked_at(register: &Register, step: Step) -> BrickSet
+pub fn asked_at(register: &Register, step: Step) -> BrickSet
     ensures { result ≡ asked_at register.now step }
 {
     if is_same_step(register.step, step) {

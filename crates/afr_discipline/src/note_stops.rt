@@ -5,7 +5,8 @@ ghost use Rattle.afr_moves.specs.Sets.{any};
 ghost use Rattle.afr_moves.specs.Note.{stops_at};
 ghost use Rattle.afr_moves.specs.Steps.{goes_on};
 ghost use Rattle.afr_discipline.specs.Notes.{stopped};
-ghost use Rattle.afr_discipline.specs.Stands.{keeps_in, seen_as, step_of};
+ghost use Rattle.afr_moves.specs.Keeps.{keeps_in};
+ghost use Rattle.afr_discipline.specs.Stands.{seen_as, step_of};
 
 use crate::heal_sets::is_over;
 use crate::heals::is_going_on;
@@ -13,7 +14,8 @@ use crate::register::{Phase, Register, Step};
 use crate::tests_of_five::any_of;
 use afr_base::BrickId;
 
-fn may_be_source(register: &Register, s: BrickId) -> bool
+/// A copy that may be the source by all the lines, and lets the heal go on.
+pub(crate) fn may_be_source(register: &Register, s: BrickId) -> bool
     requires few { register.now.shape.n ≤ 5 }
     requires small { s.0 < 5 }
     ensures { result ≡ member register.now.possible s.0 && goes_on register.now.shape.n (keeps_in register.now.shape) (seen_as register.now) s.0 }

@@ -2,8 +2,9 @@
 ghost use Rattle.std.specs.Prelude.{◌≡◌, ◌+◌, ◌^◌, ◌<◌, ◌≤◌, if◌then◌else◌, length};
 ghost use Rattle.afr_moves.specs.Register.{Exact, span};
 ghost use Rattle.afr_discipline.specs.Moves.{note_move};
-ghost use Rattle.afr_discipline.specs.Notes.{AsksBelow, joined, noted, noted_ask, noted_begin, noted_part};
-ghost use Rattle.afr_discipline.specs.Stands.{Stands, keeps_in, no_lines};
+ghost use Rattle.afr_discipline.specs.Notes.{AsksBelow, joined, noted, noted_ask, noted_begin, noted_part, upto_noted};
+ghost use Rattle.afr_moves.specs.Keeps.{keeps_in};
+ghost use Rattle.afr_discipline.specs.Stands.{Stands, no_lines};
 
 use crate::answers::is_gone;
 use crate::note_fields::published;
@@ -115,8 +116,10 @@ pub fn note(register: &mut Register, step: &Move<'_>, told: &Told, at: u32)
     requires few { register.old.shape.n ≤ 5 }
     requires small { AsksBelow step.now }
     requires room { register.old.upto + span < 2 ^ 32 }
+    ensures value { register.new ≡ noted register.old step.now told.now at }
     ensures stands { (r : Exact) → Stands register.old r → Stands register.new (note_move register.old.shape.n (keeps_in register.old.shape) r step.now told.now at) }
     ensures shape { register.new.shape ≡ register.old.shape }
+    ensures upto { register.new.upto ≡ upto_noted register.old step.now }
 {
     has_five(&register.looked.views);
     has_five(&register.seen.views);

@@ -3,7 +3,8 @@ ghost use Rattle.std.specs.Prelude.{◌≡◌, ◌<◌, ◌≤◌, false, suc, �
 ghost use Rattle.afr_base.specs.Bricks.{member};
 ghost use Rattle.afr_moves.specs.Rules.{busy};
 ghost use Rattle.afr_moves.specs.Register.{all};
-ghost use Rattle.afr_discipline.specs.Stands.{keeps_in, number_of, seen_as};
+ghost use Rattle.afr_moves.specs.Keeps.{keeps_in};
+ghost use Rattle.afr_discipline.specs.Stands.{number_of, seen_as};
 ghost use Rattle.afr_discipline.specs.Tests.{is_open, last_posted, may_apply, may_ask_outside, may_begin, may_end, may_move_outside, may_open, may_post, may_pre, may_work, misses, one_of, same_flag};
 
 use crate::areas::{

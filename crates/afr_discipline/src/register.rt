@@ -86,6 +86,7 @@ pub struct Register {
 /// The register of no line.
 pub fn fresh(shape: Shape) -> Register
     requires { shape.n ≤ 5 }
+    ensures value { result ≡ no_lines shape }
     ensures stands { Stands result untouched }
     ensures shape { result.shape ≡ shape }
 {

@@ -7,8 +7,9 @@ ghost use Rattle.afr_moves.specs.Rules.{fits_change};
 ghost use Rattle.afr_moves.specs.Cells.{what_code};
 ghost use Rattle.afr_moves.specs.Register.{accuses, good, holder, unaccused, all};
 ghost use Rattle.afr_moves.specs.Honest.{plane_kind};
-ghost use Rattle.afr_choice.specs.Verdict.{is_bytes, keeps};
-ghost use Rattle.afr_discipline.specs.Stands.{keeps_in, views_of};
+ghost use Rattle.afr_base.specs.Keeping.{is_bytes, keeps};
+ghost use Rattle.afr_moves.specs.Keeps.{keeps_in};
+ghost use Rattle.afr_discipline.specs.Stands.{views_of};
 ghost use Rattle.afr_discipline.specs.Tests.{carried, fits_view};
 
 use crate::tests_of_five::{all_of, any_of, most_of};
@@ -36,7 +37,7 @@ fn is_data(kind: Kind) -> bool
 pub(crate) fn keeps(shape: Shape, b: BrickId, kind: Kind) -> bool
     ensures { result ≡ keeps_in shape b.0 kind }
 {
-    !(shape.arbiter && is_data(kind) && b.0 == 2)
+    b.0 < 5 && !(shape.arbiter && is_data(kind) && b.0 == 2)
 }
 
 fn shows_missed(view: &Option<View>, kind: Kind, s: BrickId) -> bool
@@ -91,7 +92,7 @@ fn is_good_in(shape: Shape, looked: &Looked, kind: Kind, set: BrickSet, s: Brick
 }
 
 /// Whether the set is a majority in which a copy is good.
-pub(crate) fn is_carried(shape: Shape, looked: &Looked, kind: Kind, set: BrickSet) -> bool
+pub fn is_carried(shape: Shape, looked: &Looked, kind: Kind, set: BrickSet) -> bool
     requires { shape.n ≤ 5 }
     ensures { result ≡ carried shape.n (keeps_in shape) kind (views_of looked.now) (member set) }
 {

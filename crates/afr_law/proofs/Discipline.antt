@@ -15,3 +15,4 @@ pub mod ByList
 pub mod Safe
 pub mod SameMoves
 pub mod Known
+pub mod Covers

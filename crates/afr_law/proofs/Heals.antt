@@ -19,3 +19,4 @@ pub mod Moves
 pub mod Works
 pub mod Settles
 pub mod Asked
+pub mod Pieces

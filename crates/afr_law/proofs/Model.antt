@@ -1,13 +1,7 @@
-pub mod Names
 pub mod Positions
 pub mod Sessions
 pub mod Locks
-pub mod Copies
-pub mod Values
-pub mod Merged
 pub mod Mended
-pub mod Sound
-pub mod Opening
 pub mod SoundLog
 pub mod Carried
 pub mod Begun
@@ -25,3 +19,11 @@ pub mod Looks
 pub mod Early
 pub mod Fresh
 pub mod Causes
+pub mod Fits
+pub mod Short
+pub mod Repairs
+pub mod Next
+pub mod Found
+pub mod Kinds
+pub mod Covered
+pub mod Answered

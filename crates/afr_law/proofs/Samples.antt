@@ -1,3 +1,4 @@
 pub mod Heal
 pub mod Attr
 pub mod Reads
+pub mod Next

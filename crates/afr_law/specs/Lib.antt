@@ -1,4 +1,3 @@
-pub mod Codes
 pub mod Beginning
 pub mod Safe
 pub mod Dirty
@@ -12,3 +11,7 @@ pub mod ModelAlike
 pub mod ModelExact
 pub mod ModelFresh
 pub mod ModelCauses
+pub mod ModelNext
+pub mod ModelFits
+pub mod ModelKinds
+pub mod ModelCovered

@@ -10,6 +10,10 @@ ghost use Rattle.afr_law.specs.FreshReads.{ReadsAreFresh};
 ghost use Rattle.afr_law.specs.ModelFresh.{ModelReadsAreFresh, ModelWorksReadFresh, ModelExactReadsFresh};
 ghost use Rattle.afr_law.specs.Causes.{AccusationsHaveCauses};
 ghost use Rattle.afr_law.specs.ModelCauses.{ModelAccusationsHaveCauses, ModelExactAccusations};
+ghost use Rattle.afr_law.specs.ModelNext.{ModelNextAnswered};
+ghost use Rattle.afr_law.specs.ModelFits.{ModelNextFits, ModelNextCarries, ModelNextFound, ModelExactSums};
+ghost use Rattle.afr_law.specs.ModelKinds.{ModelOneKind, ModelNextLooks};
+ghost use Rattle.afr_law.specs.ModelCovered.{ModelNextCovered, ModelCarriedCovered};
 
 /// The law, in three clauses that have no use for a body: `model` in the words of the model, for plans of at most five
 /// bricks; `lines` over lines by their positions, for any number of bricks; `exact` in the words of the model again, of
@@ -44,4 +48,31 @@ pub fn accusations_have_causes()
     ensures model { ModelAccusationsHaveCauses }
     ensures lines { AccusationsHaveCauses }
     ensures exact { ModelExactAccusations }
+{}
+
+/// What the next line of an honest and lawful log asks of its brick, the brick can carry out: numbers can rise, what is
+/// taken from them is there, and what is written ends within the longest file. `answered`: a request that may be asked next
+/// makes such a line with its honest answer. `next` is of a line with its honest answer; `carries` of a request before
+/// anybody knows its answer; `found`: where it changes a copy, there is one. `sums`: so the numbers of every copy are the
+/// sums of the log.
+pub fn lawful_lines_fit()
+    ensures answered { ModelNextAnswered }
+    ensures next { ModelNextFits }
+    ensures carries { ModelNextCarries }
+    ensures found { ModelNextFound }
+    ensures sums { ModelExactSums }
+{}
+
+/// A gfid names objects of one kind: all its copies, on every brick and at every moment, and all entries that lead to it. So
+/// the next look at an object shows the kind that the path's entry says.
+pub fn a_gfid_is_of_one_kind()
+    ensures kinds { ModelOneKind }
+    ensures looks { ModelNextLooks }
+{}
+
+/// Whoever changes a brick holds a Work lock that covers the change there, and who settles holds the Heal lock too; `carries`
+/// says so of a request before anybody knows its answer.
+pub fn lawful_lines_are_covered()
+    ensures next { ModelNextCovered }
+    ensures carries { ModelCarriedCovered }
 {}

@@ -5,8 +5,6 @@ mod answer;
 mod line;
 mod reply;
 mod request;
-#[cfg(test)]
-mod tests;
 
 pub use answer::{Answer, Told, told_of};
 pub use line::{Event, Heard, Line, Next};

@@ -4,8 +4,6 @@
 mod looks;
 mod lookup;
 mod stop;
-#[cfg(test)]
-mod tests;
 mod walk;
 
 pub use looks::Looks;

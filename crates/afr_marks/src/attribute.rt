@@ -30,23 +30,3 @@ fn client_name(alloc: Global, brick: BrickId) -> Result<String, NoMemory>
     let number = brick.0;
     Ok(format!(in alloc; "trusted.afr.vol-client-{number}")?)
 }
-
-#[cfg(test)]
-mod tests {
-    use super::*;
-    use std::test::Fail;
-
-    #[test]
-    fn each_attribute_has_its_name(rt: HostRuntime) -> Result<(), Fail> {
-        let table = [
-            (Which::Dirty, "trusted.afr.dirty"),
-            (Which::Client(BrickId(0)), "trusted.afr.vol-client-0"),
-            (Which::Client(BrickId(4)), "trusted.afr.vol-client-4"),
-        ];
-        for (which, expected) in table {
-            let name = attr_name(rt.alloc(), which).ok().ok_or("memory")?;
-            assert_eq!(rt; name.as_str(), expected);
-        }
-        Ok(())
-    }
-}

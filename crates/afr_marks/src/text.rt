@@ -15,17 +15,3 @@ pub fn value_text(alloc: Global, bytes: &[u8; 12]) -> Result<String, NoMemory>
     text.push_str(&digits)?;
     Ok(text)
 }
-
-#[cfg(test)]
-mod tests {
-    use super::*;
-    use std::test::Fail;
-
-    #[test]
-    fn a_value_is_written_in_lower_case_digits(rt: HostRuntime) -> Result<(), Fail> {
-        let value = [0, 0, 0, 1, 0, 0, 0, 0xab, 0xff, 0x10, 9, 0xa0];
-        let text = value_text(rt.alloc(), &value).ok().ok_or("memory")?;
-        assert_eq!(rt; text.as_str(), "0x00000001000000abff1009a0");
-        Ok(())
-    }
-}

@@ -32,7 +32,7 @@ MayExactly n keeps of (Some (Ask a b request told took)) = (b.0 < n) × MayAskEx
 MayExactly n keeps of (Some (Begin a change)) = MayBegin n keeps (of a.0) change
 MayExactly n keeps of (Some (HealBegin a g kind)) = MayHealBegin n (of a.0) g.0 kind
 MayExactly n keeps of (Some (End a reply)) = MayEnd n (of a.0) (is_ok reply)
-MayExactly n keeps of (Some (HealEnd a g kind reply)) = MayHealEnd n (of a.0) g.0 kind
+MayExactly n keeps of (Some (HealEnd a g kind reply)) = MayHealEnd n (of a.0)
 MayExactly n keeps of (Some (Event e)) = Unit {0}
 
 -- what a line leaves in the register of its actor

@@ -1,21 +1,17 @@
 -- What the lines so far leave in the register of an actor, from the oldest on.
-use Rattle.std.specs.Prelude.{ℕ, ◌&&◌, nat_lt, Bool, List, [], ◌∷◌, length, Some, if◌then◌else◌}
+use Rattle.std.specs.Prelude.{ℕ, Bool, List, [], ◌∷◌, length, Some, if◌then◌else◌}
 use Rattle.afr_base.specs.declared.ids.Kind.{Kind}
 use Rattle.afr_base.specs.declared.ids.Shape.{Shape}
-use Rattle.afr_choice.specs.Verdict.{keeps}
 use Rattle.afr_lines.specs.Places.{opens, place_of}
 use Rattle.afr_lines.specs.Work.{is_of}
 use Rattle.afr_lines.specs.declared.line.Line.{Line}
 use Rattle.afr_moves.specs.Discipline.{in_force, note}
+use Rattle.afr_moves.specs.Keeps.{keeps_in}
 use Rattle.afr_moves.specs.Register.{Exact, untouched}
-
--- which of five bricks keep what a kind is about
-abbrev pub kept_in : Shape → ℕ → Kind → Bool
-kept_in shape b kind = nat_lt b 5 && keeps shape kind b
 
 -- the register of an actor after one more line at this position, if it is the actor's
 abbrev pub noted_if : Bool → Bool → Shape → Exact → ℕ → Line → Exact
-noted_if own first shape r at line = if own then note shape.n (kept_in shape) (in_force first r) at (Some line) else r
+noted_if own first shape r at line = if own then note shape.n (keeps_in shape) (in_force first r) at (Some line) else r
 
 -- the register of an actor after these lines, the newest first
 abbrev pub register_by : ℕ → (ℕ → Kind → Bool) → ℕ → List Line → Exact

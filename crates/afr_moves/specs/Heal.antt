@@ -2,12 +2,11 @@
 use Rattle.std.specs.Prelude.{◌≡◌, ℕ, ◌<◌, Bool, true, false, ◌⊎◌, Some}
 use Rattle.afr_base.specs.Majority.{IsMajority}
 use Rattle.afr_base.specs.declared.ids.Kind.{Kind}
-use Rattle.afr_lines.specs.declared.request.Area.{Area}
 use Rattle.afr_lines.specs.declared.request.Request.{Request}
 use Rattle.afr_lines.specs.declared.request.Request.TheVariants.{Unlock}
 use Rattle.afr_moves.specs.Sets.{any}
 use Rattle.afr_moves.specs.Rules.{busy}
-use Rattle.afr_moves.specs.Register.{Exact, WorkLocks, HealUnlocks, Opening, over, whole_area, area_kind}
+use Rattle.afr_moves.specs.Register.{Exact, WorkLocks, HealUnlocks, Opening, over, whole_area}
 use Rattle.afr_moves.specs.Steps.{may_heal, locks_at}
 
 -- the request is an unlock
@@ -40,11 +39,9 @@ pub record MayHealBegin (n : ℕ) (r : Exact) (g : ℕ) (kind : Kind) : Type 0 w
   pub opening : r.phase ≡ Opening → r.law.area ≡ Some (whole_area g kind)
   pub later : (r.phase ≡ Opening → ⊥) → kind ≡ r.law.kind
 
--- the end of a heal names its object and kind, as far as a line told it; no lock is held, and no step is left
-pub record MayHealEnd (n : ℕ) (r : Exact) (g : ℕ) (kind : Kind) : Type 0 where
+-- the end of a heal: no lock is held, and no step is left
+pub record MayHealEnd (n : ℕ) (r : Exact) : Type 0 where
   pub inside : r.law.heal ≡ true
-  pub object : g ≡ r.law.object
-  pub kind_same : (area : Area) → r.law.area ≡ Some area → kind ≡ area_kind area
   pub free : busy n r.law ≡ false
   pub healed : any n r.law.healing ≡ false
   pub last : (r.broken ≡ true) ⊎ (r.step ≡ HealUnlocks)

@@ -1,4 +1,5 @@
 pub mod Sets
+pub mod Keeps
 pub mod Cells
 pub mod Lines
 pub mod Past
@@ -15,3 +16,4 @@ pub mod Ranges
 pub mod Discipline
 pub mod ByList
 pub mod Followed
+pub mod Covering

@@ -6,7 +6,7 @@ ghost use Rattle.afr_model.specs.Ordered.{actors_of, ordered_turns};
 ghost use Rattle.afr_order.specs.Going.{Goes, TakesFront, Ends, IsIdle};
 
 use crate::turns::{come_due, take_turn, take_turns};
-use afr_base::{ActorId, NoMemory};
+use afr_base::{ActorId, FIRST_CLIENT, FIRST_HEALER, NoMemory};
 use afr_volume::Volume;
 
 /// All orders of the plan. It answers whether the log had room.
@@ -53,10 +53,10 @@ pub(crate) fn take_pass(volume: &mut Volume) -> Result<bool, NoMemory>
     volume.every_line();
     let clients = volume.plan().clients.len() as u16;
     let healers = volume.plan().healers.len() as u16;
-    if !take_row(volume, 1, clients)? {
+    if !take_row(volume, FIRST_CLIENT, clients)? {
         return Ok(false);
     }
-    if !take_row(volume, 17, healers)? {
+    if !take_row(volume, FIRST_HEALER, healers)? {
         return Ok(false);
     }
     come_due(volume)?;

@@ -1,5 +1,5 @@
 //! A whole plan, its words, and the ways in which reading one stops.
-ghost use Rattle.std.specs.Prelude.{◌≡◌};
+ghost use Rattle.std.specs.Prelude.{◌≡◌, IfOk};
 
 use crate::command::Scripts;
 use crate::schedule::{Events, Faults, Orders, Rounds};
@@ -54,6 +54,16 @@ pub enum PlanStop {
     NoMemory,
 }
 
+impl From<NoMemory> for PlanStop {
+    ghost use Rattle.afr_plan.specs.declared.plan.PlanStop.TheVariants as stops;
+
+    ghost from_gives = { λ _ stop. stop ≡ stops.NoMemory };
+
+    fn from(_: NoMemory) -> PlanStop {
+        PlanStop::NoMemory
+    }
+}
+
 impl TryCopy for Words {
     fn copy(&self) -> Result<Words, NoMemory> {
         let names = self.names.copy()?;
@@ -67,14 +77,30 @@ impl TryCopy for Words {
     }
 }
 
+/// The scripts of the clients and the rounds of the healers.
+fn copied_scripts(plan: &Plan) -> Result<(Scripts, Rounds), NoMemory>
+    ensures ok { IfOk result (λ copied. copied ≡ (plan.now.clients, plan.now.healers)) }
+{
+    let clients = plan.clients.copy()?;
+    let healers = plan.healers.copy()?;
+    Ok((clients, healers))
+}
+
+/// The faults, the events and the orders.
+fn copied_schedule(plan: &Plan) -> Result<(Faults, Events, Orders), NoMemory>
+    ensures ok { IfOk result (λ copied. copied ≡ (plan.now.faults, plan.now.events, plan.now.go)) }
+{
+    let faults = plan.faults.copy()?;
+    let events = plan.events.copy()?;
+    let go = plan.go.copy()?;
+    Ok((faults, events, go))
+}
+
 impl TryCopy for Plan {
     fn copy(&self) -> Result<Plan, NoMemory> {
-        let clients = self.clients.copy()?;
-        let healers = self.healers.copy()?;
-        let faults = self.faults.copy()?;
-        let events = self.events.copy()?;
-        let go = self.go.copy()?;
         let words = self.words.copy()?;
+        let (clients, healers) = copied_scripts(self)?;
+        let (faults, events, go) = copied_schedule(self)?;
         Ok(Plan {
             shape: self.shape,
             files: self.files,

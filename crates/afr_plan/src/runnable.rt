@@ -5,6 +5,7 @@ ghost use Rattle.afr_plan.specs.FirstPath.{IsFirstPath};
 ghost use Rattle.afr_plan.specs.FirstPathTests as first;
 
 use crate::command::{Command, NamePath, Script};
+use crate::limits;
 use crate::plan::Plan;
 use afr_base::NameId;
 
@@ -28,10 +29,11 @@ fn is_first_command(names: usize, command: &Command) -> bool
 {
     match command {
         Command::Write { path, at, bytes } => {
-            is_in_root(names, path) && (*at as usize).saturating_add(bytes.len()) <= 1_048_576
+            is_in_root(names, path)
+                && (*at as usize).saturating_add(bytes.len()) <= limits::FILE as usize
         }
         Command::Read { path, at, len } => {
-            is_in_root(names, path) && *at <= 1_048_576 && *len <= 65_536
+            is_in_root(names, path) && *at <= limits::FILE && *len <= limits::PIECE
         }
         Command::Cut { path: _, len: _ } => false,
         Command::Create { path: _ } => false,
@@ -60,7 +62,7 @@ fn are_first_commands(names: usize, script: &[Command]) -> bool
 fn is_first_script(names: usize, script: &Script) -> bool
     ensures { result ≡ first.is_first_script names script.now }
 {
-    script.len() <= 16_384 && are_first_commands(names, script.as_slice())
+    script.len() <= limits::COMMANDS as usize && are_first_commands(names, script.as_slice())
 }
 
 fn are_first_scripts(names: usize, scripts: &[Script]) -> bool
@@ -73,11 +75,11 @@ fn are_first_scripts(names: usize, scripts: &[Script]) -> bool
 fn has_first_numbers(plan: &Plan) -> bool
     ensures { result ≡ first.has_first_numbers plan.now }
 {
-    plan.shape.n == 3
+    plan.shape.n == limits::BRICKS
         && !plan.shape.arbiter
-        && plan.files <= 1000
+        && plan.files <= limits::FILES
         && plan.turns >= 1
-        && plan.turns <= 4_000_000
+        && plan.turns <= limits::TURNS
         && plan.clients.len() <= 1
         && plan.files as usize <= plan.words.names.len()
 }

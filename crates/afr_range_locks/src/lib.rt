@@ -4,8 +4,6 @@
 mod domain;
 mod held;
 mod ranges;
-#[cfg(test)]
-mod tests;
 
 pub use domain::{Domain, Got};
 pub use held::{HeldLock, HeldLocks, Lockable};

@@ -10,7 +10,8 @@ use Rattle.afr_object.specs.declared.change.Change.{Change}
 use Rattle.afr_object.specs.declared.change.Change.TheVariants.{Write as WriteBytes}
 use Rattle.afr_object.specs.declared.entry.Entry.{Entry}
 use Rattle.afr_object.specs.declared.object.Object.{Object}
-use Rattle.afr_choice.specs.Verdict.{is_holder, keeps}
+use Rattle.afr_choice.specs.Verdict.{is_holder}
+use Rattle.afr_base.specs.Keeping.{keeps}
 use Rattle.afr_choice.specs.declared.looked.Looked.{Looked}
 use Rattle.afr_lines.specs.Log.{EachLine, from_oldest, change_at}
 use Rattle.afr_lines.specs.Work.{is_of, is_event}

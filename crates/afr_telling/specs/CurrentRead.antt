@@ -10,7 +10,8 @@ use Rattle.afr_base.specs.declared.ids.NameId.{NameId}
 use Rattle.afr_base.specs.declared.ids.Shape.{Shape}
 use Rattle.afr_object.specs.Tables.{is_dir}
 use Rattle.afr_object.specs.declared.entry.View.{View}
-use Rattle.afr_choice.specs.Verdict.{is_holder, keeps, good_copies, verdict_of}
+use Rattle.afr_choice.specs.Verdict.{is_holder, good_copies, verdict_of}
+use Rattle.afr_base.specs.Keeping.{keeps}
 use Rattle.afr_choice.specs.VerdictLemmas.{sources_say, good_are_copies, copies_below, member_copies}
 use Rattle.afr_choice.specs.declared.looked.Looked.{Looked}
 use Rattle.afr_choice.specs.declared.verdict.Verdict.{Verdict}

@@ -15,7 +15,7 @@ use Rattle.afr_base.specs.declared.ids.Shape.{Shape}
 use Rattle.afr_object.specs.Repairs.{repaired}
 use Rattle.afr_object.specs.Tables.{copy_at}
 use Rattle.afr_object.specs.declared.object.Object.{Object}
-use Rattle.afr_choice.specs.Verdict.{keeps, is_bytes}
+use Rattle.afr_base.specs.Keeping.{keeps, is_bytes}
 use Rattle.afr_lines.specs.Log.{change_at}
 use Rattle.afr_lines.specs.Told.{told_by}
 use Rattle.afr_lines.specs.Work.{Work, work, is_of, is_end}

@@ -267,38 +267,3 @@ fn give(bytes: &[u8], at: &mut usize, into: &mut [u8], most: usize) -> usize
     *at += count;
     count
 }
-
-#[cfg(test)]
-mod tests {
-    use super::*;
-    use std::test::Fail;
-
-    #[test]
-    fn gives_the_next_bytes(rt: HostRuntime) -> Result<(), Fail> {
-        let mut piece = [0u8; 4];
-        let mut source = MemSource::new(
-            vec![in rt.alloc(); 1u8, 2, 3]?,
-            2,
-            vec![in rt.alloc(); 2u32]?,
-        );
-        assert_eq!(rt; source.read(&mut piece), Ok(2));
-        assert_eq!(rt; piece, [1, 2, 0, 0]);
-        assert_eq!(rt; source.read(&mut piece), Err(Failed));
-        assert_eq!(rt; source.read(&mut piece), Ok(1));
-        assert_eq!(rt; piece, [3, 2, 0, 0]);
-        let mut source = SureSource::new(vec![in rt.alloc(); 7u8, 8, 9]?);
-        assert_eq!(rt; source.read(&mut piece), Ok(3));
-        assert_eq!(rt; piece, [7, 8, 9, 0]);
-        assert_eq!(rt; source.read(&mut piece), Ok(0));
-        Ok(())
-    }
-
-    #[test]
-    fn takes_the_first_bytes(rt: HostRuntime) -> Result<(), Fail> {
-        let mut sink = MemSink::new(rt.alloc(), 2, vec![in rt.alloc()]?);
-        assert_eq!(rt; sink.write(b"afr"), Ok(2));
-        assert_eq!(rt; sink.taken(), b"af".as_slice());
-        assert_eq!(rt; SureSink::new().write(b"afr"), Ok(3));
-        Ok(())
-    }
-}

@@ -69,30 +69,3 @@ impl<W: Write> Sink for StdSink<W> {
         }
     }
 }
-
-#[cfg(test)]
-mod tests {
-    use super::*;
-    use std::io::Cursor;
-    use std::test::Fail;
-
-    #[test]
-    fn reads_what_a_reader_has(rt: HostRuntime) {
-        let mut piece = [0u8; 4];
-        let mut source = StdSource::new(b"afr".as_slice());
-        assert_eq!(rt; source.read(&mut piece), Ok(3));
-        assert_eq!(rt; piece, *b"afr\0");
-        assert_eq!(rt; source.read(&mut piece), Ok(0));
-    }
-
-    #[test]
-    fn writes_to_a_writer(rt: HostRuntime) -> Result<(), Fail> {
-        let mut bytes = vec![in rt.alloc(); 1u8]?;
-        assert_eq!(rt; StdSink::new(&mut bytes).write(b"ab"), Ok(2));
-        assert_eq!(rt; bytes.as_slice(), [1, 97, 98].as_slice());
-        let mut full = StdSink::new(Cursor::new([0u8; 1]));
-        assert_eq!(rt; full.write(b"ab"), Ok(1));
-        assert_eq!(rt; full.write(b"b"), Err(Failed));
-        Ok(())
-    }
-}

@@ -70,13 +70,13 @@ pub(crate) fn make_ready(work: &mut ActorWork) -> Result<(), NoMemory>
 }
 
 /// The next line of a work that has begun.
-fn next_line(work: &ActorWork, at: u32) -> Result<Next, NoMemory>
+fn next_line(work: &ActorWork, position: u32) -> Result<Next, NoMemory>
     requires { IsBusy work.now }
     ensures ok { IfOk result (λ next. next ≡ next_of_work work.now) }
 {
     match work {
-        ActorWork::Write(machine) => machine.next(at),
-        ActorWork::Lookup(machine) => machine.next(at),
+        ActorWork::Write(machine) => machine.next(position),
+        ActorWork::Lookup(machine) => machine.next(position),
         ActorWork::Idle => unreachable!(),
     }
 }
@@ -97,18 +97,18 @@ pub(crate) fn step(
     a: ActorId,
     bricks: &mut Vec<Brick>,
     log: &[Line],
-    at: u32,
+    position: u32,
 ) -> Result<Line, NoMemory>
     requires busy { IsBusy actor.old.work }
     requires room { actor.old.ended < 2 ^ 32 - 1 }
     requires can { CanAsk bricks.old.items (reverse log.now) (next_of_work actor.old.work) }
-    ensures ok { IfOk result (λ line. Stepped a at (reverse log.now) actor.old actor.new bricks.old.items bricks.new.items line) }
+    ensures ok { IfOk result (λ line. Stepped a position (reverse log.now) actor.old actor.new bricks.old.items bricks.new.items line) }
     ensures err { OnErr result ((actor.new ≡ actor.old) × (bricks.new.items ≡ bricks.old.items)) }
 {
-    match next_line(&actor.work, at)? {
-        Next::Ask(brick, request) => asks(actor, a, brick, request, bricks, log, at),
+    match next_line(&actor.work, position)? {
+        Next::Ask(brick, request) => asks(actor, a, brick, request, bricks, log, position),
         Next::Begin(change) => {
-            hear(&mut actor.work, Heard::Begun(at));
+            hear(&mut actor.work, Heard::Begun(position));
             Ok(Line::Begin { actor: a, change })
         }
         Next::End(reply) => {
@@ -128,15 +128,15 @@ fn asks(
     request: Request,
     bricks: &mut Vec<Brick>,
     log: &[Line],
-    at: u32,
+    position: u32,
 ) -> Result<Line, NoMemory>
     requires can { CanServeAt bricks.old.items brick.0 request (reverse log.now) }
-    ensures ok { IfOk result (λ line. Begun a at brick request (reverse log.now) actor.old actor.new bricks.old.items bricks.new.items line) }
+    ensures ok { IfOk result (λ line. Begun a position brick request (reverse log.now) actor.old actor.new bricks.old.items bricks.new.items line) }
     ensures err { OnErr result ((actor.new ≡ actor.old) × (bricks.new.items ≡ bricks.old.items)) }
 {
     let answer = serve_at(bricks, brick, &request, log)?;
     let told = told_of(&answer);
-    hear(&mut actor.work, Heard::Answer(answer, at));
+    hear(&mut actor.work, Heard::Answer(answer, position));
     Ok(Line::Ask {
         actor: a,
         brick,

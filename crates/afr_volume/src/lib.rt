@@ -4,8 +4,6 @@
 mod actor;
 mod serve;
 mod set_up;
-#[cfg(test)]
-mod tests;
 mod turned;
 mod turns;
 mod volume;

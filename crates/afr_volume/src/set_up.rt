@@ -4,13 +4,10 @@ ghost use Rattle.afr_object.specs.Tables.{opening};
 ghost use Rattle.afr_volume.specs.Starting.{AreOpened, idle_actor};
 
 use crate::actor::{Actor, ActorWork};
-use afr_base::{Gfid, NameId, NoMemory};
+use afr_base::{Gfid, NameId, NoMemory, OPENING_GFIDS};
 use afr_brick::Brick;
 use afr_plan::Plan;
 use std::alloc::Global;
-
-/// The gfid of the first opening file is one more.
-const OPENING: u128 = 0x1_0000_0000_0000_0000;
 
 /// A brick with the opening files.
 fn opened_brick(alloc: Global, files: u32, arbiter: bool) -> Result<Brick, NoMemory>
@@ -18,7 +15,7 @@ fn opened_brick(alloc: Global, files: u32, arbiter: bool) -> Result<Brick, NoMem
 {
     let mut brick = Brick::empty(alloc, arbiter)?;
     for i in 0..files {
-        brick.add_opening_file(NameId(i), Gfid(OPENING + u128::from(i) + 1))?;
+        brick.add_opening_file(NameId(i), Gfid(OPENING_GFIDS + u128::from(i) + 1))?;
     }
     Ok(brick)
 }

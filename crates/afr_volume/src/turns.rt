@@ -66,16 +66,16 @@ pub(crate) fn step_actor(
     actors: &mut Vec<Actor>,
     bricks: &mut Vec<Brick>,
     log: &[Line],
-    at: u32,
+    position: u32,
 ) -> Result<Line, NoMemory>
     requires one { 1 ≤ a.0 }
     requires within { a.0 - 1 < length actors.old.items }
     requires busy { (x : Actor) → slice_get actors.old.items (a.0 - 1) ≡ Some x → IsBusy x.work × (x.ended < 2 ^ 32 - 1) }
     requires can { (x : Actor) → slice_get actors.old.items (a.0 - 1) ≡ Some x → CanAsk bricks.old.items (reverse log.now) (next_of_work x.work) }
-    ensures ok { IfOk result (λ line. StepsAt a at (reverse log.now) actors.old.items actors.new.items bricks.old.items bricks.new.items line) }
+    ensures ok { IfOk result (λ line. StepsAt a position (reverse log.now) actors.old.items actors.new.items bricks.old.items bricks.new.items line) }
     ensures err { OnErr result ((actors.new.items ≡ actors.old.items) × (bricks.new.items ≡ bricks.old.items)) }
 {
-    step(&mut actors[a.0 as usize - 1], a, bricks, log, at)
+    step(&mut actors[a.0 as usize - 1], a, bricks, log, position)
 }
 
 /// What a turn answers by its line.

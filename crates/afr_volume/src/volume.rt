@@ -121,8 +121,8 @@ impl Volume {
         }
         self.log.try_reserve(1)?;
         ready_actor(self.alloc, &self.plan, a, &mut self.actors)?;
-        let at = self.log.len() as u32;
-        let line = step_actor(a, &mut self.actors, &mut self.bricks, &self.log, at)?;
+        let position = self.log.len() as u32;
+        let line = step_actor(a, &mut self.actors, &mut self.bricks, &self.log, position)?;
         let waits = turned_by(&line);
         add_line(&mut self.log, line);
         Ok(answer_of(waits))

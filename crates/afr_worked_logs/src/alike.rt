@@ -1,6 +1,6 @@
 //! Whether a log records anything of an object, and whether its copies are alike.
 ghost use Rattle.std.specs.Prelude.{Err, ◌≡◌, ◌≤◌, ◌↔◌, ℕ, true, reverse, IfOk};
-ghost use Rattle.afr_choice.specs.Verdict.{keeps};
+ghost use Rattle.afr_base.specs.Keeping.{keeps};
 ghost use Rattle.afr_model.specs.Cells.{kind_of_cell};
 ghost use Rattle.afr_check.specs.Room.{Fits};
 ghost use Rattle.afr_check.specs.Seen.{cell_of, value_seen};

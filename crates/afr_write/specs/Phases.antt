@@ -1,6 +1,6 @@
 -- The phases of a transaction: who is asked, and what an answer makes of the sets.
 use Rattle.std.specs.Prelude.{◌≡◌, ℕ, Bool, true, false, not, ◌&&◌, List, [], if◌then◌else◌}
-use Rattle.afr_base.specs.Bricks.{added, added_if, removed, below, minus, is_nothing}
+use Rattle.afr_base.specs.Bricks.{added, added_if, removed, below, minus, common, is_nothing}
 use Rattle.afr_base.specs.Majority.{is_majority}
 use Rattle.afr_base.specs.declared.ids.Gfid.{Gfid}
 use Rattle.afr_base.specs.declared.ids.Kind.{Kind}
@@ -89,7 +89,7 @@ stopping outcome t = record { stage = Closing outcome; transaction = t }
 
 -- some good copy is among these bricks
 abbrev pub has_good : Shape → Kind → Transaction → List ℕ → Bool
-has_good shape kind t s = not (is_nothing (minus (good_copies shape t.looks.looked kind) (minus (good_copies shape t.looks.looked kind) s)))
+has_good shape kind t s = not (is_nothing (common (good_copies shape t.looks.looked kind) s))
 
 -- a majority with a good copy
 abbrev pub suffices : Shape → Kind → Transaction → List ℕ → Bool

@@ -3,7 +3,7 @@ ghost use Rattle.std.specs.Prelude.{◌≡◌};
 ghost use Rattle.afr_lines.specs.Areas.{area_for, kind_for, end_of};
 ghost use Rattle.afr_write.specs.Change.{change_of_job, on_object, is_too_large, is_empty_write, needs_file};
 
-use afr_base::{Gfid, KeyId, Kind, ValueId};
+use afr_base::{FIRST_ATTRIBUTE, Gfid, KeyId, Kind, LONGEST_FILE, ValueId};
 use afr_lines::Area;
 use afr_object::{Change, Chunk};
 
@@ -14,12 +14,6 @@ pub enum WriteJob {
     Cut { len: u32 },
     SetAttr { key: KeyId, value: ValueId },
 }
-
-/// The largest size of a file.
-const FILE_LIMIT: u64 = 1_048_576;
-
-/// Past every byte of a file. The range from here to the next number stands for the attributes.
-const RANGE_END: u64 = 0x8000_0000_0000_0000;
 
 /// The change, of the root until the path has led to its object.
 pub(crate) fn change_for(job: WriteJob) -> Change
@@ -77,12 +71,12 @@ pub fn area_of(change: &Change) -> Area
         Change::Cut { gfid, len } => Area::Range {
             gfid: *gfid,
             from: u64::from(*len),
-            to: RANGE_END,
+            to: FIRST_ATTRIBUTE,
         },
         Change::SetAttr { gfid, .. } => Area::Range {
             gfid: *gfid,
-            from: RANGE_END,
-            to: RANGE_END + 1,
+            from: FIRST_ATTRIBUTE,
+            to: FIRST_ATTRIBUTE + 1,
         },
         Change::Make { dir, name, .. } => Area::Name {
             gfid: *dir,
@@ -119,7 +113,7 @@ pub(crate) fn is_past_limit(change: &Change) -> bool
     ensures { result ≡ is_too_large change.now }
 {
     match change {
-        Change::Write { at, bytes, .. } => write_end(*at, bytes) > FILE_LIMIT,
+        Change::Write { at, bytes, .. } => write_end(*at, bytes) > u64::from(LONGEST_FILE),
         Change::Cut { .. } => false,
         Change::SetAttr { .. } => false,
         Change::Make { .. } => false,

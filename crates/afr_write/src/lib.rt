@@ -5,8 +5,6 @@ mod change;
 mod machine;
 mod phases;
 mod stage;
-#[cfg(test)]
-mod tests;
 
 pub use change::{WriteJob, area_of, kind_of};
 pub use machine::WriteMachine;

@@ -107,15 +107,15 @@ impl WriteMachine {
     {
         match heard {
             Heard::Answer(answer, _) => self.hear(&answer),
-            Heard::Begun(at) => self.begin(at),
+            Heard::Begun(position) => self.begin(position),
         }
     }
 
-    fn begin(&mut self, at: u32)
-        ensures { self.new ≡ begun_at self.old.stage at self.old }
+    fn begin(&mut self, position: u32)
+        ensures { self.new ≡ begun_at self.old.stage position self.old }
     {
         if let WriteStage::Beginning = self.stage {
-            self.stage = begun(at, &mut self.transaction);
+            self.stage = begun(position, &mut self.transaction);
         }
     }
 

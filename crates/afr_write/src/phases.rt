@@ -173,10 +173,10 @@ fn looked(shape: Shape, kind: Kind, t: &Transaction) -> WriteStage
 }
 
 /// The attempt has its number.
-pub(crate) fn begun(at: u32, t: &mut Transaction) -> WriteStage
-    ensures { IsStanding result t.new (after_begin at t.old) }
+pub(crate) fn begun(position: u32, t: &mut Transaction) -> WriteStage
+    ensures { IsStanding result t.new (after_begin position t.old) }
 {
-    t.attempt = at;
+    t.attempt = position;
     t.pre_asked = BrickSet::none();
     t.pre = BrickSet::none();
     WriteStage::Preparing
@@ -193,7 +193,7 @@ fn is_good_among(shape: Shape, kind: Kind, t: &Transaction, bricks: BrickSet) ->
     ensures { result ≡ has_good shape kind t.now bricks }
 {
     let good = good(&shape, &t.looks.looked, kind);
-    !good.minus(good.minus(bricks)).is_empty()
+    !good.common(bricks).is_empty()
 }
 
 fn prepared(shape: Shape, kind: Kind, t: &mut Transaction) -> WriteStage

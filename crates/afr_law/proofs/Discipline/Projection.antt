@@ -51,7 +51,7 @@ module _ (n : ℕ) (keeps : ℕ → Kind → Bool) (log : Log) where
   same_actor t a (Some (Begin x change)) mine may = subst (λ k. MayBegin n keeps (present n keeps log t k) change) (same_yes x.0 a mine) may
   same_actor t a (Some (HealBegin x g kind)) mine may = subst (λ k. MayHealBegin n (present n keeps log t k) g.0 kind) (same_yes x.0 a mine) may
   same_actor t a (Some (End x reply)) mine may = subst (λ k. MayEnd n (present n keeps log t k) (is_ok reply)) (same_yes x.0 a mine) may
-  same_actor t a (Some (HealEnd x g kind reply)) mine may = subst (λ k. MayHealEnd n (present n keeps log t k) g.0 kind) (same_yes x.0 a mine) may
+  same_actor t a (Some (HealEnd x g kind reply)) mine may = subst (λ k. MayHealEnd n (present n keeps log t k)) (same_yes x.0 a mine) may
   same_actor t a (Some (Event e)) mine may = may
 
 module _ (n : ℕ) (keeps : ℕ → Kind → Bool) (log : Log) (moves : MovesExactly n keeps log) (P : ℕ → ℕ → Exact → Type 0) (start : (t a : ℕ) → P t a untouched)

@@ -1,13 +1,11 @@
 -- The law of logs that keep the discipline in full.
-use Rattle.std.specs.Prelude.{ℕ, ◌+◌, ◌^◌, List, Option}
+use Rattle.std.specs.Prelude.{ℕ, List, Option}
 use Rattle.afr_faults.specs.declared.fault.Fault.{Fault}
 use Rattle.afr_lines.specs.declared.line.Line.{Line}
-use Rattle.afr_plan.specs.declared.plan.Plan.{Plan}
 use Rattle.afr_moves.specs.Past.{Beginning, Log}
 use Rattle.afr_moves.specs.Honest.{Honest}
 use Rattle.afr_law.specs.Safe.{Safe}
 use Rattle.afr_moves.specs.Positions.{by_position}
-use Rattle.afr_law.specs.Beginning.{start_of}
 use Rattle.afr_law.proofs.Safety.CellHistory.{safe}
 use Rattle.afr_moves.specs.Discipline.{LawfulExactly}
 use Rattle.afr_moves.specs.ByList.{IsExactlyLawful}

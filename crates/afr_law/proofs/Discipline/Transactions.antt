@@ -55,7 +55,7 @@ lies_covered None change lies = absurd lies
 lies_covered (Some area) change lies = lies_within area change lies
 
 -- and it is of the area's object and kind
-lies_plane : (area : Area) (change : Change) → IsArea area → LiesIn (Some area) change → (object change ≡ area_object area) × (plane_kind change ≡ area_kind area)
+pub lies_plane : (area : Area) (change : Change) → IsArea area → LiesIn (Some area) change → (object change ≡ area_object area) × (plane_kind change ≡ area_kind area)
 lies_plane (Range g from to) (Write h at bytes) valid lies = (sym lies.0, sym (bytes_kind (nat_lt from (2 ^ 63)) (let p = lies.1 in let q = lies.2 in let s = lies.3 in let v = valid.0 in grind (arith, nat_tests))))
   where
     bytes_kind : (low : Bool) → low ≡ true → (if low then Bytes else Attrs) ≡ Bytes

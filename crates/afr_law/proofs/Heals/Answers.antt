@@ -83,7 +83,7 @@ module _ (files : Beginning) (faults : ℕ → ℕ → Option Fault) (log : Log)
       → HonestAsk files log t a b request told took (joined log t a b || opening log t a b) (faults b (suc (asked log t b)))
   asked_honestly t a b request told took is = subst (HonestLine files faults log t) is (honest t)
 
-  still_there : (l t a b g : ℕ) (view : View) → l < t → log l ≡ Some (ask_by a b (look_at g) (Seen view) true) → holds files log t b g ≡ true
+  pub still_there : (l t a b g : ℕ) (view : View) → l < t → log l ≡ Some (ask_by a b (look_at g) (Seen view) true) → holds files log t b g ≡ true
   still_there l t a b g view past is = (
       let was = (shown_ask files log l a b g view true (joined log l a b || opening log l a b) (faults b (suc (asked log l b))) (asked_honestly l a b (look_at g) (Seen view) true is)).1 in
       let d : t ≡ (t - l) + l = omega (arith, past) in

@@ -25,7 +25,7 @@ use Rattle.afr_model.specs.Tables.{holds, held_before, carried, effect, keeps_by
 use Rattle.afr_tables.specs.SumLaws.{now_at, counts, numbers_asked, numbers_same, numbers_effect, numbers_mended, at_first}
 use Rattle.afr_law.specs.Dirty.{raising, raised, lowering, lowered, dirty, NoneBelow, TracksDirty, DirtyTracked}
 use Rattle.afr_moves.specs.Honest.{view_marks}
-use Rattle.afr_law.proofs.Safety.Locks.{cases_lt}
+use Rattle.afr_tables.proofs.Entries.{cases_lt}
 use Rattle.afr_moves.specs.Past.{Log}
 use Rattle.afr_moves.specs.Positions.{by_position}
 use Rattle.afr_law.proofs.Model.Positions.{IsPast, past_whole, none_at}
@@ -165,7 +165,7 @@ module _ (p : Plan) (n : ℕ) (L : Log) (x : ℕ) (g : Gfid) (kind : Kind) where
 
 -- ---- looks
 -- a look that was told Seen was shown a copy
-seen_copy : (live : Bool) (fault : Option Fault) (c : Option Object) (view : View) (took : Bool) → (record { told = Seen view; took = took }) ≡ over_session live fault (told_by (copy_answer (λ o. answer.Seen (view_of o)) c)) → (o : Object) × (c ≡ Some o) × (view ≡ view_of o)
+pub seen_copy : (live : Bool) (fault : Option Fault) (c : Option Object) (view : View) (took : Bool) → (record { told = Seen view; took = took }) ≡ over_session live fault (told_by (copy_answer (λ o. answer.Seen (view_of o)) c)) → (o : Object) × (c ≡ Some o) × (view ≡ view_of o)
 seen_copy false fault c view took e = absurd (cc (ap (λ (q : Outcome). q.told) e))
 seen_copy true (Some Fail) c view took e = absurd (cc (ap (λ (q : Outcome). q.told) e))
 seen_copy true (Some LostAnswer) c view took e = absurd (cc (ap (λ (q : Outcome). q.told) e))

@@ -8,7 +8,8 @@ use Rattle.afr_base.specs.declared.ids.Gfid.{Gfid}
 use Rattle.afr_base.specs.declared.ids.Kind.{Kind}
 use Rattle.afr_base.specs.declared.ids.Kind.TheVariants.{Bytes, Attrs, Names}
 use Rattle.afr_choice.specs.Looks.{view_at}
-use Rattle.afr_choice.specs.Verdict.{keeps, is_holder, shown_missed}
+use Rattle.afr_base.specs.Keeping.{keeps}
+use Rattle.afr_choice.specs.Verdict.{is_holder, shown_missed}
 use Rattle.afr_choice.specs.declared.looked.Looked.{Looked}
 use Rattle.afr_choice.specs.VerdictLemmas.{good_below, member_good, nobody_accuses}
 use Rattle.afr_lines.specs.Log.{EachLine, before}
@@ -34,8 +35,8 @@ use Rattle.afr_law.proofs.Model.Settles.{all_honest, all_lawful, take_within, wi
 use Rattle.afr_law.proofs.Model.SoundLog.{LawfulBelow, lawful_below, name_limit}
 use Rattle.afr_moves.specs.Cells.{is_cell, object_of, kind_of}
 use Rattle.afr_moves.specs.Cells as law_cell
-use Rattle.afr_law.specs.Codes.{cell_of, kept_by}
-use Rattle.afr_law.proofs.Reads.Fresh.{fresh_read}
+use Rattle.afr_tables.specs.Codes.{cell_of, kept_by}
+use Rattle.afr_law.proofs.Freshness.Fresh.{fresh_read}
 use Rattle.afr_law.specs.FreshReads.{LooksLet, NoOlder}
 use Rattle.afr_moves.specs.Honest.{Honest}
 use Rattle.afr_moves.specs.Lines.{ask_by}

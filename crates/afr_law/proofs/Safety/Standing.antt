@@ -4,7 +4,7 @@ use Rattle.std.specs.Prelude.{List as Seq}
 use Rattle.afr_range_locks.specs.Locks.{same_domain}
 use Rattle.afr_lines.specs.Overlap.{same_area}
 use Rattle.std.proofs.Common.{◌≡◌, ℕ, suc, ◌<◌, Bool, true, false, ◌&&◌, not, ◌⊎◌, inl, inr, refl, sym, ap, ◌∙◌, subst, arith, true≢false}
-use Rattle.std.specs.Prelude.{Option, None, Some, ◌==◌, if◌then◌else◌}
+use Rattle.std.specs.Prelude.{Option, Some, ◌==◌, if◌then◌else◌}
 use Rattle.std.proofs.lemmas.Bool.Decides.{nat_tests}
 use Rattle.afr_base.specs.declared.ids.Kind.{Kind}
 use Rattle.afr_object.specs.declared.entry.View.{View}
@@ -13,7 +13,6 @@ use Rattle.afr_object.specs.declared.change.Repair.{Repair}
 use Rattle.afr_range_locks.specs.declared.domain.Domain.{Domain}
 use Rattle.afr_range_locks.specs.declared.domain.Domain.TheVariants.{Work, Heal}
 use Rattle.afr_lines.specs.declared.request.Area.{Area}
-use Rattle.afr_lines.specs.declared.request.Area.TheVariants.{Range, Name}
 use Rattle.afr_lines.specs.declared.request.Request.{Request}
 use Rattle.afr_lines.specs.declared.request.Request.TheVariants.{Lock, Unlock, Look, Pre, Apply, Post, Mend, Settle}
 use Rattle.afr_lines.specs.declared.answer.Told.{Told}
@@ -21,8 +20,8 @@ use Rattle.afr_lines.specs.declared.answer.Told.TheVariants.{Granted, Seen, Done
 use Rattle.afr_moves.specs.Sets.{with, without, empty}
 use Rattle.afr_moves.specs.Past.{Log, held, unlocks, joined, is_gone}
 use Rattle.afr_moves.specs.Rules.{Register, fresh, begun, is_area, looked, viewed, looking, put_view, is_none, unlocked, released, locking, granting, heal_area, area_object, mend_cells, note_ask, dropping, MayHealLock, busy, second_of, second_freed}
-use Rattle.afr_law.proofs.Safety.Locks.{Grant, held_on, other_no, same_yes}
-use Rattle.afr_moves.specs.Lines.{ask_by, look_at, pre_on, post_on, settle_on, range_of, name_of}
+use Rattle.afr_law.proofs.Safety.Locks.{Grant, held_on, other_no}
+use Rattle.afr_moves.specs.Lines.{ask_by, look_at, pre_on, post_on, settle_on}
 
 -- no lock of this domain is given up by the request
 pub KeepsLocks : Domain → Request → Type 0

@@ -5,7 +5,7 @@ use Rattle.afr_base.specs.declared.ids.What.TheVariants.{File}
 use Rattle.afr_base.specs.declared.marks.Marks.{Marks}
 use Rattle.afr_moves.specs.Discipline.{exact, present}
 use Rattle.afr_moves.specs.Heal.{MayHeal, MayHealBegin, MayHealEnd}
-use Rattle.afr_moves.specs.Register.{Exact, area_kind}
+use Rattle.afr_moves.specs.Register.{Exact}
 use Rattle.afr_moves.specs.Steps.{may_heal}
 use Rattle.afr_moves.specs.Transaction.{MayOpen}
 use Rattle.afr_moves.specs.Lines.{ask_by, heal_begin_by, heal_end_by, look_at, pre_on, range_of, settle_on}
@@ -18,8 +18,8 @@ use Rattle.afr_lines.specs.declared.request.Request.TheVariants.{Lock, Mend, Rea
 use Rattle.afr_object.specs.declared.change.Repair.TheVariants.{PutAttrs}
 use Rattle.afr_object.specs.declared.entry.View.{View}
 use Rattle.afr_range_locks.specs.declared.domain.Domain.TheVariants.{Heal, Work}
-use Rattle.std.proofs.Common.{Bool, [], ap, arith, false, inr, refl, true, ℕ, ◌+◌, ◌∷◌, ◌≡◌}
-use Rattle.std.specs.Prelude.{Some, slice_get, ◌^◌}
+use Rattle.std.proofs.Common.{Bool, [], arith, false, inr, refl, true, ℕ, ◌+◌, ◌∷◌, ◌≡◌}
+use Rattle.std.specs.Prelude.{slice_get, ◌^◌}
 use Rattle.afr_lines.specs.declared.reply.HealReply.TheVariants.{Settled}
 use Rattle.afr_moves.specs.Rules.{heal_area}
 use Rattle.std.specs.Prelude.{List as Seq}
@@ -178,12 +178,9 @@ may_23 : MayHeal 3 (λ b kind. true) (at 23) 2 (Unlock Heal (heal_area 50))
 unfolding exact place opens
 may_23 = record { inside = refl; whole = refl; source = 0; below = omega arith; possible = refl; allowed = refl }
 
-some_area : (x y : Area) → Some x ≡ Some y → x ≡ y
-some_area x y e = cc e
-
-may_24 : MayHealEnd 3 (at 24) 50 Attrs
+may_24 : MayHealEnd 3 (at 24)
 unfolding exact place opens
-may_24 = record { inside = refl; object = refl; kind_same = λ mine e. ap area_kind (some_area area mine e); free = refl; healed = refl; last = inr refl }
+may_24 = record { inside = refl; free = refl; healed = refl; last = inr refl }
 
 -- what is refused there: an unlock before the settling, a Settle before the Mends, the source as a sink, a read at another copy than the source's, a Mend of another read
 abbrev pub may : ℕ → ℕ → ℕ → Request → Bool

@@ -24,7 +24,7 @@ took_here c =
     took c.self.inside.plan c.args.a _ c.self.inside.log.items c.deref.result.now c.add_line.new.log.items c.self.inside.actors.items c.ready_actor.new.actors.items c.step_actor.new.actors.items
     c.self.inside.bricks.items c.step_actor.new.bricks.items c.self.inside.started c.self.inside.made c.in_ok-line.line
     c.self.invariant (rw (← c.self.view_is) at c.requires.actor) (rw (← c.self.view_is) at (sym c.is_done.ensures ∙ c.if-is_done.false)) (grind (arith, nat_tests, c.if-len-self.false, c.len.ensures)) (rw (← c.self.view_is) at c.requires.none)
-    (c.deref.ensures.value ∙ c.in_ok-try_reserve.ensures.items) (c.len-at.ensures ∙ c.in_ok-try_reserve.ensures.len ∙ grind (arith, nat_tests, c.len.ensures)) c.in_ok-ready_actor.ensures.ok c.in_ok-line.ensures.ok (rw (← c.in_ok-try_reserve.ensures.items) c.add_line.ensures)
+    (c.deref.ensures.value ∙ c.in_ok-try_reserve.ensures.items) (c.len-position.ensures ∙ c.in_ok-try_reserve.ensures.len ∙ grind (arith, nat_tests, c.len.ensures)) c.in_ok-ready_actor.ensures.ok c.in_ok-line.ensures.ok (rw (← c.in_ok-try_reserve.ensures.items) c.add_line.ensures)
 
 pub invariant_of-self-2 : goal.invariant_of-self-2
 invariant_of-self-2 c = (took_here c).volume

@@ -1,0 +1,5 @@
+//! Tests of the small crates, in a crate of their own, so that none of them is proved twice.
+#![tactic(auto)]
+
+#[cfg(test)]
+mod tests;

@@ -1,0 +1,63 @@
+//! One copy of an object, and copies of a change.
+use afr_base::{Gfid, NameId, NoMemory, What};
+use afr_object::{Change, Entry, List, Object, SortedMap, TryCopy};
+use std::alloc::Global;
+use std::test::Fail;
+
+const ENTRY: Entry = Entry {
+    gfid: Gfid(9),
+    what: What::File,
+};
+
+/// A name comes, stands in the list of all names, and goes.
+fn keeps_a_name(alloc: Global, dir: &mut Object) -> Result<bool, NoMemory> {
+    dir.names.insert(NameId(4), ENTRY)?;
+    let names = dir.names.list(alloc)?;
+    let same = SortedMap::from_list(alloc, &names)?;
+    let listed = names.len() == 1 && same.get(NameId(4)) == Some(ENTRY);
+    dir.names.remove(NameId(4));
+    Ok(listed && dir.names.get(NameId(4)).is_none())
+}
+
+#[test]
+fn an_object_is_empty_and_shows_it(rt: HostRuntime) -> Result<(), Fail> {
+    let view = Object::new(rt.alloc(), What::Dir).view();
+    assert_eq!(rt; view.what, What::Dir);
+    assert_eq!(rt; view.len, 0);
+    let kept = keeps_a_name(rt.alloc(), &mut Object::new(rt.alloc(), What::Dir))
+        .ok()
+        .ok_or("memory")?;
+    assert!(rt; kept);
+    Ok(())
+}
+
+/// A write of one byte.
+fn write(alloc: Global) -> Result<Change, NoMemory> {
+    let mut bytes = List::new(alloc);
+    bytes.push(7u8)?;
+    Ok(Change::Write {
+        gfid: Gfid(9),
+        at: 3,
+        bytes,
+    })
+}
+
+fn is_that_write(change: &Change) -> bool {
+    match change {
+        Change::Write { at, bytes, .. } => *at == 3 && bytes.as_slice() == [7u8].as_slice(),
+        _ => false,
+    }
+}
+
+fn is_copied(alloc: Global) -> Result<bool, NoMemory> {
+    let write = write(alloc)?;
+    let copy = write.copy()?;
+    Ok(is_that_write(&copy))
+}
+
+#[test]
+fn a_copied_write_has_its_bytes(rt: HostRuntime) -> Result<(), Fail> {
+    let copied = is_copied(rt.alloc()).ok().ok_or("memory")?;
+    assert!(rt; copied);
+    Ok(())
+}

@@ -1,5 +1,0 @@
-use Rattle.std.proofs.Common.{◌≡◌, ◌++◌, map}
-use Rattle.afr_plan.proofs.names.NameTable.into_list.Given as goal
-
-abbrev pub invariant-loop-name : goal.invariant-loop-name
-invariant-loop-name l = l.words ++ map (λ name. name.items) l.name-iterator ≡ l.fn.self

@@ -1,6 +1,0 @@
-use Rattle.std.proofs.Common.{sym}
-use Rattle.afr_plan.proofs.DataLemmas.{paired-even}
-use Rattle.afr_plan.proofs.parts.are_paired.Goals as goal
-
-pub returns : goal.returns
-returns c = sym (paired-even c.args.digits.now)

@@ -1,0 +1,201 @@
+//! Bytes, and the words that stand at the front of some bytes.
+ghost use Rattle.std.specs.Prelude.{◌≡◌, IfSome, ◌+◌, ◌*◌, length, take_while, ◌<◌};
+ghost use Rattle.std.specs.Option.{option_copied, option_map};
+ghost use Rattle.std.specs.List.{list_all};
+ghost use Rattle.std.specs.Str.{bytes_eq};
+ghost use Rattle.std.specs.Str.Parse.{AllDigits};
+ghost use Rattle.afr_plan.specs.Bytes.{digit, letter, name_byte, path_byte, key_byte, text_byte, plain, is_numeral, value};
+ghost use Rattle.afr_plan.specs.Bytes as spec;
+ghost use Rattle.afr_plan.specs.Data as datum;
+ghost use Rattle.afr_plan.specs.Reading.{after, front, run_of, number_at, small_at, key_at};
+
+fn is_digit(b: u8) -> bool
+    ensures { result ≡ digit b }
+{
+    b'0' <= b && b <= b'9'
+}
+
+fn is_letter(b: u8) -> bool
+    ensures { result ≡ letter b }
+{
+    (b'a' <= b && b <= b'z') || (b'A' <= b && b <= b'Z')
+}
+
+fn is_name_byte(b: u8) -> bool
+    ensures { result ≡ name_byte b }
+{
+    is_letter(b) || is_digit(b) || b == b'.' || b == b'_' || b == b'-'
+}
+
+fn is_path_byte(b: u8) -> bool
+    ensures { result ≡ path_byte b }
+{
+    is_name_byte(b) || b == b'/'
+}
+
+fn is_key_byte(b: u8) -> bool
+    ensures { result ≡ key_byte b }
+{
+    is_letter(b) || is_digit(b) || b == b'.' || b == b'_'
+}
+
+pub(crate) fn is_hex_digit(b: u8) -> bool
+    ensures { result ≡ spec.hex_digit b }
+{
+    is_digit(b) || (b'a' <= b && b <= b'f')
+}
+
+fn is_text_byte(b: u8) -> bool
+    ensures { result ≡ text_byte b }
+{
+    b' ' <= b && b <= b'~' && b != b'"'
+}
+
+/// Whether no byte is other than from a space to a tilde.
+pub fn is_plain(bytes: &[u8]) -> bool
+    ensures { result ≡ list_all plain bytes.now }
+{
+    bytes.iter().all(|b| b' ' <= *b && *b <= b'~')
+}
+
+/// Whether two words are the same.
+pub fn is_same(word: &[u8], other: &[u8]) -> bool
+    ensures { result ≡ bytes_eq word.now other.now }
+{
+    word == other
+}
+
+/// What follows a word.
+pub fn skip<'a>(word: &[u8], bytes: &'a [u8]) -> Option<&'a [u8]>
+    ensures { option_copied result ≡ after word.now bytes.now }
+{
+    let mut rest = bytes;
+    for w in word {
+        let Some((b, more)) = rest.split_first() else {
+            return None;
+        };
+        if *b != *w {
+            return None;
+        }
+        rest = more;
+    }
+    Some(rest)
+}
+
+fn digits(bytes: &[u8]) -> usize
+    ensures { result ≡ length (take_while digit bytes.now) }
+{
+    bytes.iter().take_while(|b| is_digit(**b)).count()
+}
+
+pub(crate) fn path_len(bytes: &[u8]) -> usize
+    ensures { result ≡ length (take_while path_byte bytes.now) }
+{
+    bytes.iter().take_while(|b| is_path_byte(**b)).count()
+}
+
+fn key_len(bytes: &[u8]) -> usize
+    ensures { result ≡ length (take_while key_byte bytes.now) }
+{
+    bytes.iter().take_while(|b| is_key_byte(**b)).count()
+}
+
+fn text_len(bytes: &[u8]) -> usize
+    ensures { result ≡ length (take_while text_byte bytes.now) }
+{
+    bytes.iter().take_while(|b| is_text_byte(**b)).count()
+}
+
+fn hex_len(bytes: &[u8]) -> usize
+    ensures { result ≡ length (take_while spec.hex_digit bytes.now) }
+{
+    bytes.iter().take_while(|b| is_hex_digit(**b)).count()
+}
+
+fn value_of(ds: &[u8]) -> u32
+    requires digits { AllDigits 10 ds.now }
+    ensures { result ≡ value ds.now }
+{
+    let mut n: u32 = 0;
+    for d in ds {
+        n = (n * 10 + u32::from(*d - b'0')).min(10_000_000);
+    }
+    n
+}
+
+/// Digits with no leading zero.
+fn numeral(bytes: &[u8]) -> Option<(&[u8], &[u8])>
+    ensures read { option_map (λ x. (x.0.now, x.1.now)) result ≡ run_of digit is_numeral bytes.now }
+    ensures digits { IfSome result (λ x. AllDigits 10 x.0.now) }
+{
+    let count = digits(bytes);
+    if count == 0 || (count > 1 && bytes[0] == b'0') {
+        return None;
+    }
+    Some((&bytes[..count], &bytes[count..]))
+}
+
+#[tactic(auto, unfolding(afr_plan::specs::Reading::number_at))]
+pub(crate) fn number(bytes: &[u8]) -> Option<(u32, &[u8])>
+    ensures { option_map (λ x. (x.0, x.1.now)) result ≡ number_at bytes.now }
+{
+    let (digits, rest) = numeral(bytes)?;
+    Some((value_of(digits), rest))
+}
+
+/// A number of which 255 is as good as any that is higher.
+#[tactic(auto, unfolding(afr_plan::specs::Reading::small_at))]
+pub(crate) fn small(bytes: &[u8]) -> Option<(u8, &[u8])>
+    ensures { option_map (λ x. (x.0, x.1.now)) result ≡ small_at bytes.now }
+{
+    let (digits, rest) = numeral(bytes)?;
+    Some((value_of(digits).min(255) as u8, rest))
+}
+
+/// A key or a value.
+#[tactic(auto, unfolding(afr_plan::specs::Reading::key_at))]
+pub(crate) fn key(bytes: &[u8]) -> Option<(&[u8], &[u8])>
+    ensures { option_map (λ x. (x.0.now, x.1.now)) result ≡ key_at bytes.now }
+{
+    let count = key_len(bytes);
+    if count == 0 {
+        return None;
+    }
+    Some((&bytes[..count], &bytes[count..]))
+}
+
+/// The longest front that may be a text, and the rest.
+pub(crate) fn text(bytes: &[u8]) -> (&[u8], &[u8])
+    ensures { (result.0.now, result.1.now) ≡ front text_byte bytes.now }
+{
+    let count = text_len(bytes);
+    (&bytes[..count], &bytes[count..])
+}
+
+/// The longest front of hexadecimal digits, and the rest.
+pub(crate) fn hex_digits(bytes: &[u8]) -> (&[u8], &[u8])
+    ensures { (result.0.now, result.1.now) ≡ front spec.hex_digit bytes.now }
+{
+    let count = hex_len(bytes);
+    (&bytes[..count], &bytes[count..])
+}
+
+fn hex_value(d: u8) -> u8
+    ensures value { result ≡ datum.hex_value d }
+    ensures small { result < 16 }
+{
+    if is_digit(d) {
+        d - b'0'
+    } else if is_hex_digit(d) {
+        d - b'a' + 10
+    } else {
+        0
+    }
+}
+
+/// The byte of two hexadecimal digits.
+pub fn hex_byte(high: u8, low: u8) -> u8
+    ensures { result ≡ 16 * datum.hex_value high + datum.hex_value low }
+{
+    16 * hex_value(high) + hex_value(low)
+}

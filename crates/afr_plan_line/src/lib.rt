@@ -1,0 +1,14 @@
+//! What one line of a plan says by itself.
+#![tactic(auto)]
+
+mod bytes;
+mod parts;
+mod path;
+mod say;
+mod spoken;
+
+pub use bytes::{hex_byte, is_plain, is_same, skip};
+pub use parts::data_len;
+pub use path::{Names, is_path_beyond, names_of};
+pub use say::say_line;
+pub use spoken::{Spoken, SpokenData, SpokenEvent, SpokenWho, SpokenWork};

@@ -1,0 +1,10 @@
+pub mod DataFormLemmas
+pub mod PrintedNumberLemmas
+pub mod PrintedPathLemmas
+pub mod PrintedDataLemmas
+pub mod PrintedLineLemmas
+pub mod PrintedPartsLemmas
+pub mod StageLemmas
+pub mod WordPlaceLemmas
+pub mod PlanLinesLemmas
+pub mod RoundTripLemmas

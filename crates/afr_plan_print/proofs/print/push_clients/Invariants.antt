@@ -1,0 +1,10 @@
+use Rattle.std.proofs.Common.{◌≡◌, ◌++◌, ◌+◌, drop}
+use Rattle.std.specs.Prelude.{string_bytes}
+use Rattle.afr_plan_print.specs.PrintedParts.{clients_text}
+use Rattle.afr_plan_print.proofs.print.push_clients.Given as goal
+
+abbrev pub invariant-loop-script : goal.invariant-loop-script
+invariant-loop-script l = record {
+  number : l.client ≡ l.script-index + 1;
+  text : string_bytes l.out ++ clients_text l.words l.client (drop l.script-index l.scripts) ≡ string_bytes l.fn.out ++ clients_text l.words 1 l.scripts;
+}

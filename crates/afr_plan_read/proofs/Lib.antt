@@ -1,0 +1,10 @@
+pub mod Laws
+pub mod TextLemmas
+pub mod PartLemmas
+pub mod SaidLemmas
+pub mod RulesLemmas
+pub mod SaysLemmas
+pub mod LoopLemmas
+pub mod NamesLemmas
+pub mod CountsLemmas
+pub mod PlanLemmas

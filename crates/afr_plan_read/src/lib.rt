@@ -1,0 +1,17 @@
+//! Reading a plan: its lines, the rules that each may break, and the plan that all of them give.
+#![tactic(auto)]
+
+mod data_bytes;
+mod draft;
+mod keyed;
+mod limits;
+mod lines;
+mod names;
+mod order;
+mod places;
+mod read;
+mod rules;
+mod totals;
+mod words;
+
+pub use read::{one_plan_for_a_text, read_plan};

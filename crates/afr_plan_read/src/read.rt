@@ -1,0 +1,42 @@
+//! Reading a plan's text.
+ghost use Rattle.std.specs.Prelude.{◌≡◌, ◌↔◌, ℕ, List, IfOk, OnErr, Err, Some, None};
+ghost use Rattle.afr_plan.specs.Judging.{first_fault};
+ghost use Rattle.afr_plan.specs.PlanOf.{plan_of};
+ghost use Rattle.afr_plan.specs.Spells.{Spells};
+
+use crate::draft::make_plan;
+use crate::keyed::Keyed;
+use crate::lines::{Lines, read_lines};
+use afr_plan::{Plan, PlanFault, PlanStop};
+use std::alloc::Global;
+
+/// The plan that whole lines give.
+fn plan_from(alloc: Global, keyed: Keyed, lines: &Lines) -> Result<Plan, PlanStop>
+    ensures ok { IfOk result (λ plan. plan ≡ plan_of lines.now) }
+    ensures err { OnErr result (result ≡ Err PlanStop.NoMemory) }
+{
+    let plan = make_plan(alloc, keyed, lines.spoken())?;
+    Ok(plan)
+}
+
+/// The plan that a text spells, or the first line that breaks a rule and the lowest rule that it
+/// breaks. Memory is linear in the length of the text and of the data that it stands for, and so is
+/// time, whatever words the text has: the tables hash them under a key made of the whole text.
+pub fn read_plan(alloc: Global, bytes: &[u8]) -> Result<Plan, PlanStop>
+    ensures read { IfOk result (λ plan. Spells bytes.now plan) }
+    ensures refused { (fault : PlanFault) → result ≡ Err (PlanStop.Refused fault)
+        → (first_fault bytes.now ≡ Some fault) × ((plan : Plan) → Spells bytes.now plan → ⊥) }
+{
+    let keyed = Keyed::by_text(bytes);
+    match read_lines(alloc, keyed, bytes) {
+        Ok(lines) => plan_from(alloc, keyed, &lines),
+        Err(stop) => Err(stop),
+    }
+}
+
+/// A text spells at most one plan, and it spells one exactly where no line breaks a rule.
+pub fn one_plan_for_a_text()
+    ensures same { (bytes : List ℕ) (plan other : Plan) → Spells bytes plan → Spells bytes other → plan ≡ other }
+    ensures found { (bytes : List ℕ) → first_fault bytes ≡ None → (plan : Plan) × Spells bytes plan }
+    ensures none { (bytes : List ℕ) (plan : Plan) → Spells bytes plan → first_fault bytes ≡ None }
+{}

@@ -1,0 +1,191 @@
+//! The words of a plan of which some lines are still to come, and commands over their numbers.
+ghost use Rattle.std.specs.Prelude.{◌≡◌, IfOk, OnOk};
+ghost use Rattle.afr_plan.specs.Names.{with_name, with_names, number_of, file_names};
+ghost use Rattle.afr_plan.specs.Paths.{names_in};
+ghost use Rattle.afr_plan.specs.PlanOf.{empty_plan, path_of, command_of, words_with};
+ghost use Rattle.afr_plan.specs.declared.command.Command.TheVariants as commands;
+ghost use Rattle.afr_plan_line.specs.Seen.{seen_data, seen_work};
+
+use crate::data_bytes::data_chunk;
+use crate::keyed::Keyed;
+use crate::names::NameTable;
+use afr_base::{KeyId, NameId, NoMemory, ValueId};
+use afr_object::List;
+use afr_plan::{Command, NamePath, WordList, Words};
+use afr_plan_line::{SpokenData, SpokenWork, names_of};
+use std::alloc::Global;
+use std::marker::Model;
+
+/// The words of a plan of which some lines are still to come.
+#[derive(Drop)]
+pub(crate) struct WordTables {
+    names: NameTable,
+    keys: NameTable,
+    values: NameTable,
+}
+
+impl Model for WordTables {
+    ghost use Rattle.afr_plan.specs.declared.plan.Words.{Words};
+
+    ghost Value = { Words };
+
+    ghost view = { λ w. record { names = w.names; keys = w.keys; values = w.values } };
+}
+
+impl WordTables {
+    pub(crate) fn new(alloc: Global, keyed: Keyed) -> WordTables
+        ensures { result ≡ empty_plan.words }
+    {
+        WordTables {
+            names: NameTable::new(alloc, keyed),
+            keys: NameTable::new(alloc, keyed),
+            values: NameTable::new(alloc, keyed),
+        }
+    }
+
+    /// The opening files are named before all else.
+    pub(crate) fn name_files(
+        &mut self,
+        alloc: Global,
+        keyed: Keyed,
+        files: u32,
+    ) -> Result<(), NoMemory>
+        ensures ok { OnOk result (self.new ≡ record self.old { names = file_names files }) }
+    {
+        self.names = NameTable::of_files(alloc, keyed, files)?;
+        Ok(())
+    }
+
+    /// The numbers of a path's names; new names are added.
+    fn path(&mut self, alloc: Global, path: &[u8]) -> Result<NamePath, NoMemory>
+        ensures ok { IfOk result (λ ids. ids ≡ path_of self.old.names (names_in path.now)) }
+        ensures value { OnOk result (self.new ≡ record self.old { names = with_names self.old.names (names_in path.now) }) }
+    {
+        number_path(&mut self.names, alloc, path)
+    }
+
+    fn key(&mut self, alloc: Global, key: &[u8]) -> Result<KeyId, NoMemory>
+        ensures ok { IfOk result (λ id. id ≡ record { 0 = number_of self.old.keys key.now }) }
+        ensures value { OnOk result (self.new ≡ record self.old { keys = with_name self.old.keys key.now }) }
+    {
+        let id = self.keys.number(key.to_vec(alloc)?)?;
+        Ok(KeyId(id))
+    }
+
+    fn value(&mut self, alloc: Global, value: &[u8]) -> Result<ValueId, NoMemory>
+        ensures ok { IfOk result (λ id. id ≡ record { 0 = number_of self.old.values value.now }) }
+        ensures value { OnOk result (self.new ≡ record self.old { values = with_name self.old.values value.now }) }
+    {
+        let id = self.values.number(value.to_vec(alloc)?)?;
+        Ok(ValueId(id))
+    }
+
+    /// A command, its words numbered; new words are added.
+    pub(crate) fn command(
+        &mut self,
+        alloc: Global,
+        path: &[u8],
+        work: &SpokenWork,
+    ) -> Result<Command, NoMemory>
+        ensures ok { IfOk result (λ command. command ≡ command_of self.old (names_in path.now) (seen_work work.now)) }
+        ensures value { OnOk result (self.new ≡ words_with self.old (names_in path.now) (seen_work work.now)) }
+    {
+        let path = self.path(alloc, path)?;
+        match work {
+            SpokenWork::Write { at, data } => write_of(alloc, path, *at, data),
+            SpokenWork::Cut { len } => Ok(Command::Cut { path, len: *len }),
+            SpokenWork::Read { at, len } => Ok(Command::Read {
+                path,
+                at: *at,
+                len: *len,
+            }),
+            SpokenWork::Create => Ok(Command::Create { path }),
+            SpokenWork::Mkdir => Ok(Command::Mkdir { path }),
+            SpokenWork::Unlink => Ok(Command::Unlink { path }),
+            SpokenWork::Rmdir => Ok(Command::Rmdir { path }),
+            SpokenWork::Ls => Ok(Command::Ls { path }),
+            SpokenWork::Stat => Ok(Command::Stat { path }),
+            SpokenWork::SetAttr { key, value } => self.set_attr(alloc, path, key, value),
+            SpokenWork::GetAttr { key } => self.get_attr(alloc, path, key),
+        }
+    }
+
+    fn set_attr(
+        &mut self,
+        alloc: Global,
+        path: NamePath,
+        key: &[u8],
+        value: &[u8],
+    ) -> Result<Command, NoMemory>
+        ensures ok { IfOk result (λ command. command ≡ commands.SetAttr path (record { 0 = number_of self.old.keys key.now }) (record { 0 = number_of self.old.values value.now })) }
+        ensures value { OnOk result (self.new ≡ record self.old { keys = with_name self.old.keys key.now; values = with_name self.old.values value.now }) }
+    {
+        let key = self.key(alloc, key)?;
+        let value = self.value(alloc, value)?;
+        Ok(Command::SetAttr { path, key, value })
+    }
+
+    fn get_attr(&mut self, alloc: Global, path: NamePath, key: &[u8]) -> Result<Command, NoMemory>
+        ensures ok { IfOk result (λ command. command ≡ commands.GetAttr path (record { 0 = number_of self.old.keys key.now })) }
+        ensures value { OnOk result (self.new ≡ record self.old { keys = with_name self.old.keys key.now }) }
+    {
+        let key = self.key(alloc, key)?;
+        Ok(Command::GetAttr { path, key })
+    }
+
+    pub(crate) fn into_words(self, alloc: Global) -> Result<Words, NoMemory>
+        ensures ok { IfOk result (λ words. words ≡ self) }
+    {
+        let WordTables {
+            names,
+            keys,
+            values,
+        } = self;
+        let names = names.into_list(alloc)?;
+        let (keys, values) = lists_of(alloc, keys, values)?;
+        Ok(Words {
+            names,
+            keys,
+            values,
+        })
+    }
+}
+
+/// The words of two tables.
+fn lists_of(
+    alloc: Global,
+    keys: NameTable,
+    values: NameTable,
+) -> Result<(WordList, WordList), NoMemory>
+    ensures ok { IfOk result (λ lists. lists ≡ (keys, values)) }
+{
+    let keys = keys.into_list(alloc)?;
+    let values = values.into_list(alloc)?;
+    Ok((keys, values))
+}
+
+fn write_of(
+    alloc: Global,
+    path: NamePath,
+    at: u32,
+    spoken: &SpokenData,
+) -> Result<Command, NoMemory>
+    ensures ok { IfOk result (λ command. command ≡ commands.Write path at (seen_data spoken.now)) }
+{
+    let bytes = data_chunk(alloc, spoken)?;
+    Ok(Command::Write { path, at, bytes })
+}
+
+/// The numbers of a path's names; new names are added. One look-up a name.
+fn number_path(table: &mut NameTable, alloc: Global, path: &[u8]) -> Result<NamePath, NoMemory>
+    ensures ok { IfOk result (λ ids. ids ≡ path_of table.old (names_in path.now)) }
+    ensures value { OnOk result (table.new ≡ with_names table.old (names_in path.now)) }
+{
+    let mut ids = List::new(alloc);
+    let mut names = names_of(path);
+    while let Some(name) = names.next() {
+        let id = table.number(name.to_vec(alloc)?)?;
+        ids.push(NameId(id))?;
+    }
+    Ok(ids)
+}

@@ -1,0 +1,99 @@
+//! A write and a read, line by line.
+ghost use Rattle.std.specs.Prelude.{◌<◌};
+
+use afr_base::ActorId;
+use afr_lines::{Line, Request};
+use afr_plan::is_runnable_yet;
+use afr_plan_read::read_plan;
+use afr_volume::{Turned, Volume};
+use std::alloc::Global;
+use std::test::Fail;
+
+const PLAN: &str =
+    "afr 1\nvolume replica\nfiles 1\nturns 100000\nclient 1\nwrite /f1 0 \"hello\"\nread /f1 0 5\nend\n";
+
+const LINES: &str =
+    "look0 look1 look2 name0 lock0 lock1 lock2 look0 look1 look2 begin pre0 pre1 pre2 apply0 apply1 apply2 post0 post1 post2 unlock0 unlock1 unlock2 end look0 look1 look2 name0 look0 look1 look2 read0 end ";
+
+fn word_of(request: &Request) -> &'static str {
+    match request {
+        Request::Look { .. } => "look",
+        Request::ReadName { .. } => "name",
+        Request::Lock { .. } => "lock",
+        Request::Pre { .. } => "pre",
+        Request::Apply { attempt: 10 } => "apply",
+        Request::Post { attempt: 10, .. } => "post",
+        Request::Unlock { .. } => "unlock",
+        Request::ReadBytes { at: 0, len: 5, .. } => "read",
+        _ => "other",
+    }
+}
+
+fn write_line(text: &mut String, line: &Line) -> Result<(), Fail> {
+    match line {
+        Line::Ask { brick, request, .. } => {
+            let word = word_of(request);
+            let number = brick.0;
+            write!(text, "{word}{number} ")?;
+        }
+        Line::Begin { .. } => text.push_str("begin ")?,
+        Line::End { .. } => text.push_str("end ")?,
+        _ => text.push_str("other ")?,
+    }
+    Ok(())
+}
+
+fn set_up(alloc: Global, volume: &mut Volume) -> Result<(), Fail> {
+    let Ok(plan) = read_plan(alloc, PLAN.as_bytes()) else {
+        return Err(Fail::from("refused"));
+    };
+    if !is_runnable_yet(&plan) {
+        return Err(Fail::from("ahead"));
+    }
+    let Ok(()) = volume.set_up(plan) else {
+        return Err(Fail::from("memory"));
+    };
+    Ok(())
+}
+
+/// A turn of the client, which adds the line at this position.
+fn takes_a_turn(volume: &mut Volume, position: u32, text: &mut String) -> Result<(), Fail>
+    requires { position < 33 }
+{
+    let client = ActorId::client(1);
+    if volume.plan().clients.len() != 1 || volume.due().is_some() || volume.is_done(client) {
+        return Err(Fail::from("before"));
+    }
+    if !matches!(volume.turn(client), Ok(Turned::Moved)) || volume.len() != position + 1 {
+        return Err(Fail::from("turn"));
+    }
+    write_line(text, volume.line(position))
+}
+
+/// Takes all turns, and says whether the client is done then.
+fn is_worked(alloc: Global, volume: &mut Volume, text: &mut String) -> Result<bool, Fail> {
+    set_up(alloc, volume)?;
+    for position in 0..33 {
+        takes_a_turn(volume, position, text)?;
+    }
+    volume.every_line();
+    Ok(volume.lines().len() == 33
+        && volume.reach().has_quorum(3)
+        && volume.plan().clients.len() == 1
+        && volume.is_done(ActorId::client(1)))
+}
+
+/// The words of the lines, where the client is done after them.
+fn worked(alloc: Global, text: &mut String) -> Result<bool, Fail> {
+    let mut volume = Volume::empty(alloc);
+    is_worked(alloc, &mut volume, text)
+}
+
+#[test]
+fn a_write_and_a_read_have_33_lines(rt: HostRuntime) -> Result<(), Fail> {
+    let mut text = String::new(rt.alloc());
+    let done = worked(rt.alloc(), &mut text)?;
+    assert!(rt; done);
+    assert_eq!(rt; text.as_str(), LINES);
+    Ok(())
+}
