@@ -14,11 +14,11 @@ use Rattle.afr_lines.specs.declared.request.Request.{Request}
 use Rattle.afr_lines.specs.declared.request.Request.TheVariants.{Lock}
 use Rattle.afr_server.proofs.RequestLemmas.{by_locks}
 use Rattle.afr_model.specs.Honest.{one_more, requests_to}
-use Rattle.afr_model.specs.Locks.{granted_by_line, locks_held, releases}
 use Rattle.afr_lines.specs.Overlap.{same_area}
+use Rattle.afr_model.specs.Locks.{granted_by_line, locks_held, releases}
 use Rattle.afr_model.specs.Report.{started_bricks, started_by}
-use Rattle.afr_model.specs.Sessions.{ends_session, is_linked}
 use Rattle.afr_lines.specs.Places.{opens, place_of}
+use Rattle.afr_model.specs.Sessions.{ends_session, is_linked}
 use Rattle.afr_model.specs.Tables.{Past, held_before, holds, step}
 use Rattle.afr_object.specs.Tables.{Table}
 use Rattle.afr_plan.specs.declared.plan.Plan.{Plan}
@@ -57,8 +57,8 @@ none false v = refl
 releases_other : (a : ActorId) (y : BrickId) (r : Request) (told : Told) (took : Bool) (b : ℕ) (lock : HeldLock Area) → (y.0 == b) ≡ false → releases (Ask a y r told took) b lock ≡ false
 releases_other a y r told took b lock h =
     by_locks (λ r. releases (Ask a y r told took) b lock ≡ false) (λ d area. refl)
-      (λ d area. rw h (unreleased took (is_lock same_area (record { owner = a; domain = d; area = area }) lock)))
-      (λ r plain. plain.releases a y told took b lock) r
+    (λ d area. rw h (unreleased took (is_lock same_area (record { owner = a; domain = d; area = area }) lock)))
+    (λ r plain. plain.releases a y told took b lock) r
   where
     unreleased : (took same : Bool) → (took && false && same) ≡ false
     unreleased true same = refl

@@ -1,6 +1,7 @@
 -- A server of a log to which an event comes is the server of the log with that event.
-use Rattle.std.proofs.Common.{◌≡◌, ℕ, suc, ◌≤◌, Bool, true, false, List, [], ◌∷◌, refl, sym, ap, ◌∙◌, arith, length, if◌then◌else◌, ◌==◌, ◌&&◌, ◌||◌, not}
+use Rattle.std.proofs.Common.{◌≡◌, ℕ, suc, Bool, true, false, List, [], ◌∷◌, refl, sym, ap, ◌∙◌, arith, length, if◌then◌else◌, ◌==◌, ◌&&◌, ◌||◌, not}
 use Rattle.std.proofs.lemmas.Bool.Decides.{nat_tests}
+use Rattle.std.proofs.lemmas.List.{append-nil}
 use Rattle.std.specs.List.{filter}
 use Rattle.afr_base.specs.Bricks.{member}
 use Rattle.afr_base.specs.SetLemmas.{member_added, member_removed}
@@ -24,7 +25,8 @@ use Rattle.afr_session.specs.Links.{cut_off, ended, joined, link_of}
 use Rattle.afr_session.specs.declared.link.Link.{Link}
 use Rattle.afr_server.specs.Happening.{Meets, link_past, locks_past, started_past}
 use Rattle.afr_server.proofs.LinkLemmas.{opened_if, up_if}
-use Rattle.afr_server.proofs.LockLemmas.{append_nil, filter_true, locks_next, names-filter, ranges-filter}
+use Rattle.afr_server.proofs.LockLemmas.{locks_next, names-filter, ranges-filter}
+use Rattle.afr_server.proofs.ListLemmas.{filter_true}
 use Rattle.afr_server.specs.Log.{IsLinked, IsServed, names_in, ranges_in}
 use Rattle.afr_server.specs.Serving.{Serving}
 
@@ -52,11 +54,11 @@ ranges_cut a true held = ranges-filter (λ lock. true && not ((a.0 == lock.owner
 ranges_cut a false held = ap ranges_in (filter_true (λ lock. true && not ((a.0 == lock.owner.0) && false)) held (λ lock. none (a.0 == lock.owner.0)))
 
 ranges_event : (event : Event) (b : ℕ) (held : List (HeldLock Area)) → ranges_in (locks_next (line_of.Event event) b held) ≡ locks_past event b (ranges_in held)
-ranges_event (Stop y) b held = ap ranges_in (append_nil (filter (outlives (line_of.Event (Stop y)) b) held)) ∙ ranges_stop (y.0 == b) held
-ranges_event (Start y) b held = ap ranges_in (append_nil (filter (outlives (line_of.Event (Start y)) b) held)) ∙ ranges_stop false held
-ranges_event (Cut a y) b held = ap ranges_in (append_nil (filter (outlives (line_of.Event (Cut a y)) b) held)) ∙ ranges_cut a (y.0 == b) held
-ranges_event (Join a y) b held = ap ranges_in (append_nil (filter (outlives (line_of.Event (Join a y)) b) held)) ∙ ranges_stop false held
-ranges_event (Kill a) b held = ap ranges_in (append_nil (filter (outlives (line_of.Event (Kill a)) b) held)) ∙ ranges-filter (λ lock. true && not (a.0 == lock.owner.0)) (λ lock. not (lock.owner.0 == a.0)) (λ o d g from to. gone a.0 o.0) held
+ranges_event (Stop y) b held = ap ranges_in (append-nil (filter (outlives (line_of.Event (Stop y)) b) held)) ∙ ranges_stop (y.0 == b) held
+ranges_event (Start y) b held = ap ranges_in (append-nil (filter (outlives (line_of.Event (Start y)) b) held)) ∙ ranges_stop false held
+ranges_event (Cut a y) b held = ap ranges_in (append-nil (filter (outlives (line_of.Event (Cut a y)) b) held)) ∙ ranges_cut a (y.0 == b) held
+ranges_event (Join a y) b held = ap ranges_in (append-nil (filter (outlives (line_of.Event (Join a y)) b) held)) ∙ ranges_stop false held
+ranges_event (Kill a) b held = ap ranges_in (append-nil (filter (outlives (line_of.Event (Kill a)) b) held)) ∙ ranges-filter (λ lock. true && not (a.0 == lock.owner.0)) (λ lock. not (lock.owner.0 == a.0)) (λ o d g from to. gone a.0 o.0) held
 
 names_stop : (q : Bool) (held : List (HeldLock Area)) → names_in (filter (λ lock. true && not q) held) ≡ (if q then [] else names_in held)
 names_stop true held = ap names_in (all held)
@@ -67,11 +69,11 @@ names_cut a true held = names-filter (λ lock. true && not ((a.0 == lock.owner.0
 names_cut a false held = ap names_in (filter_true (λ lock. true && not ((a.0 == lock.owner.0) && false)) held (λ lock. none (a.0 == lock.owner.0)))
 
 names_event : (event : Event) (b : ℕ) (held : List (HeldLock Area)) → names_in (locks_next (line_of.Event event) b held) ≡ locks_past event b (names_in held)
-names_event (Stop y) b held = ap names_in (append_nil (filter (outlives (line_of.Event (Stop y)) b) held)) ∙ names_stop (y.0 == b) held
-names_event (Start y) b held = ap names_in (append_nil (filter (outlives (line_of.Event (Start y)) b) held)) ∙ names_stop false held
-names_event (Cut a y) b held = ap names_in (append_nil (filter (outlives (line_of.Event (Cut a y)) b) held)) ∙ names_cut a (y.0 == b) held
-names_event (Join a y) b held = ap names_in (append_nil (filter (outlives (line_of.Event (Join a y)) b) held)) ∙ names_stop false held
-names_event (Kill a) b held = ap names_in (append_nil (filter (outlives (line_of.Event (Kill a)) b) held)) ∙ names-filter (λ lock. true && not (a.0 == lock.owner.0)) (λ lock. not (lock.owner.0 == a.0)) (λ o d g name. gone a.0 o.0) held
+names_event (Stop y) b held = ap names_in (append-nil (filter (outlives (line_of.Event (Stop y)) b) held)) ∙ names_stop (y.0 == b) held
+names_event (Start y) b held = ap names_in (append-nil (filter (outlives (line_of.Event (Start y)) b) held)) ∙ names_stop false held
+names_event (Cut a y) b held = ap names_in (append-nil (filter (outlives (line_of.Event (Cut a y)) b) held)) ∙ names_cut a (y.0 == b) held
+names_event (Join a y) b held = ap names_in (append-nil (filter (outlives (line_of.Event (Join a y)) b) held)) ∙ names_stop false held
+names_event (Kill a) b held = ap names_in (append-nil (filter (outlives (line_of.Event (Kill a)) b) held)) ∙ names-filter (λ lock. true && not (a.0 == lock.owner.0)) (λ lock. not (lock.owner.0 == a.0)) (λ o d g name. gone a.0 o.0) held
 
 -- ---- links
 still_live : (j : Bool) → j ≡ ((j || false) && true)

@@ -11,6 +11,7 @@ use Rattle.afr_lines.specs.declared.request.Request.{Request}
 use Rattle.afr_lines.specs.declared.request.Request.TheVariants.{Lock, Unlock}
 use Rattle.afr_lines.specs.declared.request.Area.{Area}
 use Rattle.afr_range_locks.specs.declared.domain.Domain.{Domain}
+use Rattle.afr_server.proofs.ListLemmas.{self}
 use Rattle.afr_server.proofs.RequestLemmas.{by_locks}
 use Rattle.afr_name_locks.specs.Names.{name_lock, same_dir_name}
 use Rattle.afr_name_locks.specs.declared.names.DirName.{DirName}
@@ -120,10 +121,7 @@ owned_frees links a d (Name g name) way r n o = record { over_ranges = o.over_ra
 owned_after : (links : Links) (a : ActorId) (request : Request) (way : Option ActorId) (r : List (HeldLock ObjectRange)) (n : List (HeldLock DirName)) → (link_of a.0 links).live ≡ true → IsGuarded links r n → IsGuarded links (ranges_after a request way r) (names_after a request way n)
 owned_after links a request way r n live o =
     by_locks (λ q. IsGuarded links (ranges_after a q way r) (names_after a q way n)) (λ d area. owned_takes links a d area way r n live o) (λ d area. owned_frees links a d area way r n o)
-      (λ q plain. record { over_ranges = subst (AreOwned links) (sym (plain.ranges a way r)) o.over_ranges; over_names = subst (AreOwned links) (sym (plain.names a way n)) o.over_names }) request
-
-self : (n : ℕ) → (n == n) ≡ true
-self n = grind (arith, nat_tests)
+    (λ q plain. record { over_ranges = subst (AreOwned links) (sym (plain.ranges a way r)) o.over_ranges; over_names = subst (AreOwned links) (sym (plain.names a way n)) o.over_names }) request
 
 -- a request that is carried out for an actor whose session is live after it
 pub guard_carry : (a : ActorId) (request : Request) (way : Option ActorId) (first started : Bool) (links links' : Links) (r r' : List (HeldLock ObjectRange)) (n n' : List (HeldLock DirName))

@@ -1,3 +1,4 @@
+pub mod ListLemmas
 pub mod RequestLemmas
 pub mod GuardLemmas
 pub mod LockLemmas
@@ -6,4 +7,5 @@ pub mod ServedLemmas
 pub mod ElsewhereLemmas
 pub mod EventLemmas
 pub mod FindsLemmas
+pub mod CoveredLemmas
 pub mod OpeningLemmas

@@ -1,6 +1,6 @@
 -- The links of a brick's actors after one more line.
 use Rattle.std.proofs.Common.{◌≡◌, ℕ, suc, ◌≤◌, Bool, true, false, List, [], ◌∷◌, refl, sym, ap, ◌∙◌, arith, length, if◌then◌else◌, ◌==◌, ◌&&◌, ◌||◌, not, ◌⊎◌, inl, inr}
-use Rattle.std.proofs.lemmas.Bool.Decides.{eqb_tells, nat_tests}
+use Rattle.std.proofs.lemmas.Bool.Decides.{eqb_tells}
 use Rattle.afr_base.specs.Bricks.{member}
 use Rattle.afr_base.specs.SetLemmas.{member_added, member_removed}
 use Rattle.afr_lines.specs.Work.{is_of}
@@ -10,8 +10,8 @@ use Rattle.afr_lines.specs.declared.line.Line.{Line}
 use Rattle.afr_lines.specs.declared.line.Line.TheVariants.{Ask, Begin, HealBegin, End, HealEnd}
 use Rattle.afr_lines.specs.declared.line.Line.TheVariants as line_of
 use Rattle.afr_model.specs.Report.{started_after, started_bricks}
-use Rattle.afr_model.specs.Sessions.{ends_session, event_ends, is_joined, is_linked, linked_after}
 use Rattle.afr_lines.specs.Places.{opens, place_of}
+use Rattle.afr_model.specs.Sessions.{ends_session, event_ends, is_joined, is_linked, linked_after}
 use Rattle.afr_plan.specs.declared.plan.Plan.{Plan}
 use Rattle.afr_session.specs.Calls.{only}
 use Rattle.afr_session.specs.Links.{ended, met, opened_once}
@@ -130,9 +130,6 @@ opened_by first lost started l n h = opened_if lost (ended l') l' (suc n) low lo
 other_live : (j : Bool) → ((j || false) && true) ≡ j
 other_live true = refl
 other_live false = refl
-
-self : (n : ℕ) → (n == n) ≡ true
-self n = grind (arith, nat_tests)
 
 -- a line of actor a: it opens the session where it is a first one, and ends it where its answer is lost
 pub link_line : (p : Plan) (log : List Line) (line : Line) (a b x : ℕ) (first lost started : Bool) (l : Link)

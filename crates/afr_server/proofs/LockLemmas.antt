@@ -5,6 +5,7 @@ use Rattle.std.specs.List.{filter}
 use Rattle.std.specs.Prelude.{take, drop}
 use Rattle.std.specs.BTreeMap.{is_at}
 use Rattle.std.specs.Map.{lookup}
+use Rattle.std.proofs.lemmas.List.{append-nil}
 use Rattle.std.proofs.lemmas.List.Elements.{filter-append}
 use Rattle.afr_object.specs.Repairs.{repaired}
 use Rattle.afr_object.specs.Tables.{copy_at, key_cmp, name_cmp, view_of}
@@ -39,24 +40,11 @@ use Rattle.afr_range_locks.specs.Locks.{conflicts, first_conflict, is_lock, over
 use Rattle.afr_range_locks.specs.declared.domain.Domain.{Domain}
 use Rattle.afr_range_locks.specs.declared.held.HeldLock.{HeldLock}
 use Rattle.afr_range_locks.specs.declared.ranges.ObjectRange.{ObjectRange}
+use Rattle.afr_server.proofs.ListLemmas.{filter_and, filter_true, never, self}
 use Rattle.afr_server.proofs.RequestLemmas.{by_locks}
 use Rattle.afr_server.specs.Carried.{joined_by, names_after, ranges_after}
 use Rattle.afr_server.specs.Log.{name_before, names_in, range_before, ranges_in}
 use Rattle.afr_server.specs.Outcome.{is_carried, is_lost, locks_served}
-
--- ---- lists
-pub filter_true : {A : Type 0} (f : A → Bool) (xs : List A) → ((x : A) → f x ≡ true) → filter f xs ≡ xs
-filter_true f [] h = refl
-filter_true f (x ∷ xs) h = rw (h x) (ap (λ (ys : List _). x ∷ ys) (filter_true f xs h))
-
-pub filter_and : {A : Type 0} (f g h : A → Bool) (xs : List A) → ((x : A) → h x ≡ (f x && g x)) → filter h xs ≡ filter g (filter f xs)
-filter_and f g h [] e = refl
-filter_and f g h (x ∷ xs) e = rw (e x) (step (f x) (g x) refl (filter_and f g h xs e))
-  where
-    step : (u v : Bool) → g x ≡ v → filter h xs ≡ filter g (filter f xs) → (if u && v then x ∷ filter h xs else filter h xs) ≡ filter g (if u then x ∷ filter f xs else filter f xs)
-    step true true t r = rw t (ap (λ (ys : List _). x ∷ ys) r)
-    step true false t r = rw t r
-    step false v t r = r
 
 -- ---- ranges
 pub ranges-filter : (P : HeldLock Area → Bool) (Q : HeldLock ObjectRange → Bool) → ((o : ActorId) (d : Domain) (g : Gfid) (from to : ℕ) → P (record { owner = o; domain = d; area = Range g from to }) ≡ Q (range_lock o d g from to)) → (held : List (HeldLock Area)) → ranges_in (filter P held) ≡ filter Q (ranges_in held)
@@ -89,16 +77,11 @@ pub ranges-conflict : (a : ActorId) (domain : Domain) (g : Gfid) (from to : ℕ)
 ranges-conflict a domain g from to [] = refl
 ranges-conflict a domain g from to (lock ∷ more) = step lock.area (ranges-conflict a domain g from to more)
   where
-    pub_none : (u v : Bool) → (u && v && false) ≡ false
-    pub_none true true = refl
-    pub_none true false = refl
-    pub_none false v = refl
-
     step : (area : Area) → first_conflict overlap (record { owner = a; domain = domain; area = Range g from to }) more ≡ first_conflict overlap_range (range_lock a domain g from to) (ranges_in more)
         → (if conflicts overlap (record { owner = a; domain = domain; area = Range g from to }) (record { owner = lock.owner; domain = lock.domain; area = area }) then Some lock.owner else first_conflict overlap (record { owner = a; domain = domain; area = Range g from to }) more)
         ≡ first_conflict overlap_range (range_lock a domain g from to) (range_before lock.owner lock.domain area (ranges_in more))
     step (Range g' from' to') r = ap (λ (more : Option ActorId). if conflicts overlap_range (range_lock a domain g from to) (range_lock lock.owner lock.domain g' from' to') then Some lock.owner else more) r
-    step (Name g' name') r = rw (pub_none (not (lock.owner.0 == a.0)) (same_domain domain lock.domain)) r
+    step (Name g' name') r = rw (never (not (lock.owner.0 == a.0)) (same_domain domain lock.domain)) r
 
 -- ---- names
 pub names-filter : (P : HeldLock Area → Bool) (Q : HeldLock DirName → Bool) → ((o : ActorId) (d : Domain) (g : Gfid) (name : Option NameId) → P (record { owner = o; domain = d; area = Name g name }) ≡ Q (name_lock o d g name)) → (held : List (HeldLock Area)) → names_in (filter P held) ≡ filter Q (names_in held)
@@ -131,25 +114,13 @@ pub names-conflict : (a : ActorId) (domain : Domain) (g : Gfid) (name : Option N
 names-conflict a domain g name [] = refl
 names-conflict a domain g name (lock ∷ more) = step lock.area (names-conflict a domain g name more)
   where
-    pub_none : (u v : Bool) → (u && v && false) ≡ false
-    pub_none true true = refl
-    pub_none true false = refl
-    pub_none false v = refl
-
     step : (area : Area) → first_conflict overlap (record { owner = a; domain = domain; area = Name g name }) more ≡ first_conflict overlap_dir_name (name_lock a domain g name) (names_in more)
         → (if conflicts overlap (record { owner = a; domain = domain; area = Name g name }) (record { owner = lock.owner; domain = lock.domain; area = area }) then Some lock.owner else first_conflict overlap (record { owner = a; domain = domain; area = Name g name }) more)
         ≡ first_conflict overlap_dir_name (name_lock a domain g name) (name_before lock.owner lock.domain area (names_in more))
     step (Name g' name') r = ap (λ (more : Option ActorId). if conflicts overlap_dir_name (name_lock a domain g name) (name_lock lock.owner lock.domain g' name') then Some lock.owner else more) r
-    step (Range g' from' to') r = rw (pub_none (not (lock.owner.0 == a.0)) (same_domain domain lock.domain)) r
+    step (Range g' from' to') r = rw (never (not (lock.owner.0 == a.0)) (same_domain domain lock.domain)) r
 
 -- ---- what a line does to the locks
-pub self : (n : ℕ) → (n == n) ≡ true
-self n = grind (arith, nat_tests)
-
-pub append_nil : {A : Type 0} (xs : List A) → xs ++ [] ≡ xs
-append_nil [] = refl
-append_nil (x ∷ xs) = ap (λ (ys : List _). x ∷ ys) (append_nil xs)
-
 -- an answer that says that there is no session, or that was lost
 abbrev pub is_unheard : Told → Bool
 is_unheard told_of.NotConnected = true
@@ -194,11 +165,6 @@ ends_heard x y a b r told_of.NoObject took h = refl
 ends_heard x y a b r told_of.NotConnected took h = absurd (cc)
 ends_heard x y a b r told_of.Failed took h = refl
 
-and_none : (u v : Bool) → (u && v && false) ≡ false
-and_none true true = refl
-and_none true false = refl
-and_none false v = refl
-
 pub releases_refused : (a : ActorId) (b : BrickId) (r : Request) (told : Told) (y : ℕ) (lock : HeldLock Area) → releases (Ask a b r told false) y lock ≡ false
 releases_refused a b r told y lock = by_locks (λ r. releases (Ask a b r told false) y lock ≡ false) (λ d area. refl) (λ d area. refl) (λ r plain. plain.releases a b told false y lock) r
 
@@ -221,10 +187,10 @@ locks_next line y held = filter (outlives line y) held ++ granted_by_line y line
 
 -- a line that grants and releases nothing and ends no session leaves them
 pub same_locks : (line : Line) (y : ℕ) (held : List (HeldLock Area)) → ((lock : HeldLock Area) → releases line y lock ≡ false) → ((x : ℕ) → ends_session x y line ≡ false) → granted_by_line y line ≡ [] → locks_next line y held ≡ held
-same_locks line y held r e g = rw g (append_nil (filter (outlives line y) held) ∙ filter_true (outlives line y) held (λ lock. rw (r lock, e lock.owner.0) refl))
+same_locks line y held r e g = rw g (append-nil (filter (outlives line y) held) ∙ filter_true (outlives line y) held (λ lock. rw (r lock, e lock.owner.0) refl))
 
 refused_ends : (x y : ℕ) (a : ActorId) (b : BrickId) (r : Request) → ends_session x y (Ask a b r told_of.NotConnected false) ≡ false
-refused_ends x y a b r = and_none (a.0 == x) (b.0 == y)
+refused_ends x y a b r = never (a.0 == x) (b.0 == y)
 
 -- the lock's owner is gone, or not
 gone : (a o b : ℕ) → (true && not ((a == o) && (b == b) && true)) ≡ not (o == a)
@@ -237,11 +203,11 @@ both_gone a o b false = grind (arith, nat_tests)
 -- ---- ranges after a request whose answer was lost
 ranges_lost_plain : (a : ActorId) (b : BrickId) (r : Request) (held : List (HeldLock Area)) → ((lock : HeldLock Area) → releases (Ask a b r told_of.NotConnected true) b.0 lock ≡ false) → ranges_in (locks_next (Ask a b r told_of.NotConnected true) b.0 held) ≡ without_owner a (ranges_in held)
 ranges_lost_plain a b r held kept =
-    rw (granted_none a b r told_of.NotConnected true b.0 refl, append_nil (filter (outlives (Ask a b r told_of.NotConnected true) b.0) held))
+    rw (granted_none a b r told_of.NotConnected true b.0 refl, append-nil (filter (outlives (Ask a b r told_of.NotConnected true) b.0) held))
     (ranges-filter (outlives (Ask a b r told_of.NotConnected true) b.0) (λ lock. not (lock.owner.0 == a.0)) (λ o d g from to. rw (kept (record { owner = o; domain = d; area = Range g from to })) (gone a.0 o.0 b.0)) held)
 
 ranges_without_joined : (a : ActorId) (domain : Domain) (g : Gfid) (from to : ℕ) (way : Option ActorId) (held : List (HeldLock ObjectRange)) → without_owner a (joined_by way (range_lock a domain g from to) held) ≡ without_owner a held
-ranges_without_joined a domain g from to None held = filter-append (λ lock. not (lock.owner.0 == a.0)) held (range_lock a domain g from to ∷ []) ∙ rw (self a.0) (append_nil (without_owner a held))
+ranges_without_joined a domain g from to None held = filter-append (λ lock. not (lock.owner.0 == a.0)) held (range_lock a domain g from to ∷ []) ∙ rw (self a.0) (append-nil (without_owner a held))
 ranges_without_joined a domain g from to (Some owner) held = refl
 
 ranges_lost_lock : (a : ActorId) (b : BrickId) (domain : Domain) (area : Area) (way : Option ActorId) (held : List (HeldLock Area)) → ranges_in (locks_next (Ask a b (Lock domain area) told_of.NotConnected true) b.0 held) ≡ without_owner a (ranges_after a (Lock domain area) way (ranges_in held))
@@ -250,35 +216,35 @@ ranges_lost_lock a b domain (Name g name) way held = ranges_lost_plain a b (Lock
 
 ranges_lost_unlock : (a : ActorId) (b : BrickId) (domain : Domain) (area : Area) (way : Option ActorId) (held : List (HeldLock Area)) → ranges_in (locks_next (Ask a b (Unlock domain area) told_of.NotConnected true) b.0 held) ≡ without_owner a (ranges_after a (Unlock domain area) way (ranges_in held))
 ranges_lost_unlock a b domain (Range g from to) way held =
-    append_nil_in ∙ ranges-filter (outlives (Ask a b (Unlock domain (Range g from to)) told_of.NotConnected true) b.0) both each held
+    end_in ∙ ranges-filter (outlives (Ask a b (Unlock domain (Range g from to)) told_of.NotConnected true) b.0) both each held
     ∙ filter_and (λ lock. not (is_lock same_range (range_lock a domain g from to) lock)) (λ lock. not (lock.owner.0 == a.0)) both (ranges_in held) (λ lock. refl)
   where
     both : HeldLock ObjectRange → Bool
     both lock = not (is_lock same_range (range_lock a domain g from to) lock) && not (lock.owner.0 == a.0)
 
-    append_nil_in : ranges_in (filter (outlives (Ask a b (Unlock domain (Range g from to)) told_of.NotConnected true) b.0) held ++ []) ≡ ranges_in (filter (outlives (Ask a b (Unlock domain (Range g from to)) told_of.NotConnected true) b.0) held)
-    append_nil_in = ap ranges_in (append_nil (filter (outlives (Ask a b (Unlock domain (Range g from to)) told_of.NotConnected true) b.0) held))
+    end_in : ranges_in (filter (outlives (Ask a b (Unlock domain (Range g from to)) told_of.NotConnected true) b.0) held ++ []) ≡ ranges_in (filter (outlives (Ask a b (Unlock domain (Range g from to)) told_of.NotConnected true) b.0) held)
+    end_in = ap ranges_in (append-nil (filter (outlives (Ask a b (Unlock domain (Range g from to)) told_of.NotConnected true) b.0) held))
 
     each : (o : ActorId) (d : Domain) (g' : Gfid) (from' to' : ℕ) → outlives (Ask a b (Unlock domain (Range g from to)) told_of.NotConnected true) b.0 (record { owner = o; domain = d; area = Range g' from' to' }) ≡ both (range_lock o d g' from' to')
     each o d g' from' to' = both_gone a.0 o.0 b.0 (is_lock same_range (range_lock a domain g from to) (range_lock o d g' from' to'))
 ranges_lost_unlock a b domain (Name g name) way held =
-    ap ranges_in (append_nil (filter (outlives (Ask a b (Unlock domain (Name g name)) told_of.NotConnected true) b.0) held))
-    ∙ ranges-filter (outlives (Ask a b (Unlock domain (Name g name)) told_of.NotConnected true) b.0) (λ lock. not (lock.owner.0 == a.0)) (λ o d g' from' to'. both_gone a.0 o.0 b.0 ((a.0 == o.0) && same_domain domain d && false) ∙ rw (and_none (a.0 == o.0) (same_domain domain d)) refl) held
+    ap ranges_in (append-nil (filter (outlives (Ask a b (Unlock domain (Name g name)) told_of.NotConnected true) b.0) held))
+    ∙ ranges-filter (outlives (Ask a b (Unlock domain (Name g name)) told_of.NotConnected true) b.0) (λ lock. not (lock.owner.0 == a.0)) (λ o d g' from' to'. both_gone a.0 o.0 b.0 ((a.0 == o.0) && same_domain domain d && false) ∙ rw (never (a.0 == o.0) (same_domain domain d)) refl) held
 
 ranges_lost : (a : ActorId) (b : BrickId) (r : Request) (way : Option ActorId) (held : List (HeldLock Area)) → ranges_in (locks_next (Ask a b r told_of.NotConnected true) b.0 held) ≡ without_owner a (ranges_after a r way (ranges_in held))
 ranges_lost a b r way held =
     by_locks (λ r. ranges_in (locks_next (Ask a b r told_of.NotConnected true) b.0 held) ≡ without_owner a (ranges_after a r way (ranges_in held)))
-      (λ domain area. ranges_lost_lock a b domain area way held) (λ domain area. ranges_lost_unlock a b domain area way held)
-      (λ r plain. ranges_lost_plain a b r held (λ lock. plain.releases a b told_of.NotConnected true b.0 lock) ∙ ap (without_owner a) (sym (plain.ranges a way (ranges_in held)))) r
+    (λ domain area. ranges_lost_lock a b domain area way held) (λ domain area. ranges_lost_unlock a b domain area way held)
+    (λ r plain. ranges_lost_plain a b r held (λ lock. plain.releases a b told_of.NotConnected true b.0 lock) ∙ ap (without_owner a) (sym (plain.ranges a way (ranges_in held)))) r
 
 -- ---- names after a request whose answer was lost
 names_lost_plain : (a : ActorId) (b : BrickId) (r : Request) (held : List (HeldLock Area)) → ((lock : HeldLock Area) → releases (Ask a b r told_of.NotConnected true) b.0 lock ≡ false) → names_in (locks_next (Ask a b r told_of.NotConnected true) b.0 held) ≡ without_owner a (names_in held)
 names_lost_plain a b r held kept =
-    rw (granted_none a b r told_of.NotConnected true b.0 refl, append_nil (filter (outlives (Ask a b r told_of.NotConnected true) b.0) held))
+    rw (granted_none a b r told_of.NotConnected true b.0 refl, append-nil (filter (outlives (Ask a b r told_of.NotConnected true) b.0) held))
     (names-filter (outlives (Ask a b r told_of.NotConnected true) b.0) (λ lock. not (lock.owner.0 == a.0)) (λ o d g name. rw (kept (record { owner = o; domain = d; area = Name g name })) (gone a.0 o.0 b.0)) held)
 
 names_without_joined : (a : ActorId) (domain : Domain) (g : Gfid) (name : Option NameId) (way : Option ActorId) (held : List (HeldLock DirName)) → without_owner a (joined_by way (name_lock a domain g name) held) ≡ without_owner a held
-names_without_joined a domain g name None held = filter-append (λ lock. not (lock.owner.0 == a.0)) held (name_lock a domain g name ∷ []) ∙ rw (self a.0) (append_nil (without_owner a held))
+names_without_joined a domain g name None held = filter-append (λ lock. not (lock.owner.0 == a.0)) held (name_lock a domain g name ∷ []) ∙ rw (self a.0) (append-nil (without_owner a held))
 names_without_joined a domain g name (Some owner) held = refl
 
 names_lost_lock : (a : ActorId) (b : BrickId) (domain : Domain) (area : Area) (way : Option ActorId) (held : List (HeldLock Area)) → names_in (locks_next (Ask a b (Lock domain area) told_of.NotConnected true) b.0 held) ≡ without_owner a (names_after a (Lock domain area) way (names_in held))
@@ -287,26 +253,26 @@ names_lost_lock a b domain (Range g from to) way held = names_lost_plain a b (Lo
 
 names_lost_unlock : (a : ActorId) (b : BrickId) (domain : Domain) (area : Area) (way : Option ActorId) (held : List (HeldLock Area)) → names_in (locks_next (Ask a b (Unlock domain area) told_of.NotConnected true) b.0 held) ≡ without_owner a (names_after a (Unlock domain area) way (names_in held))
 names_lost_unlock a b domain (Name g name) way held =
-    append_nil_in ∙ names-filter (outlives (Ask a b (Unlock domain (Name g name)) told_of.NotConnected true) b.0) both each held
+    end_in ∙ names-filter (outlives (Ask a b (Unlock domain (Name g name)) told_of.NotConnected true) b.0) both each held
     ∙ filter_and (λ lock. not (is_lock same_dir_name (name_lock a domain g name) lock)) (λ lock. not (lock.owner.0 == a.0)) both (names_in held) (λ lock. refl)
   where
     both : HeldLock DirName → Bool
     both lock = not (is_lock same_dir_name (name_lock a domain g name) lock) && not (lock.owner.0 == a.0)
 
-    append_nil_in : names_in (filter (outlives (Ask a b (Unlock domain (Name g name)) told_of.NotConnected true) b.0) held ++ []) ≡ names_in (filter (outlives (Ask a b (Unlock domain (Name g name)) told_of.NotConnected true) b.0) held)
-    append_nil_in = ap names_in (append_nil (filter (outlives (Ask a b (Unlock domain (Name g name)) told_of.NotConnected true) b.0) held))
+    end_in : names_in (filter (outlives (Ask a b (Unlock domain (Name g name)) told_of.NotConnected true) b.0) held ++ []) ≡ names_in (filter (outlives (Ask a b (Unlock domain (Name g name)) told_of.NotConnected true) b.0) held)
+    end_in = ap names_in (append-nil (filter (outlives (Ask a b (Unlock domain (Name g name)) told_of.NotConnected true) b.0) held))
 
     each : (o : ActorId) (d : Domain) (g' : Gfid) (name' : Option NameId) → outlives (Ask a b (Unlock domain (Name g name)) told_of.NotConnected true) b.0 (record { owner = o; domain = d; area = Name g' name' }) ≡ both (name_lock o d g' name')
     each o d g' name' = both_gone a.0 o.0 b.0 (is_lock same_dir_name (name_lock a domain g name) (name_lock o d g' name'))
 names_lost_unlock a b domain (Range g from to) way held =
-    ap names_in (append_nil (filter (outlives (Ask a b (Unlock domain (Range g from to)) told_of.NotConnected true) b.0) held))
-    ∙ names-filter (outlives (Ask a b (Unlock domain (Range g from to)) told_of.NotConnected true) b.0) (λ lock. not (lock.owner.0 == a.0)) (λ o d g' name'. both_gone a.0 o.0 b.0 ((a.0 == o.0) && same_domain domain d && false) ∙ rw (and_none (a.0 == o.0) (same_domain domain d)) refl) held
+    ap names_in (append-nil (filter (outlives (Ask a b (Unlock domain (Range g from to)) told_of.NotConnected true) b.0) held))
+    ∙ names-filter (outlives (Ask a b (Unlock domain (Range g from to)) told_of.NotConnected true) b.0) (λ lock. not (lock.owner.0 == a.0)) (λ o d g' name'. both_gone a.0 o.0 b.0 ((a.0 == o.0) && same_domain domain d && false) ∙ rw (never (a.0 == o.0) (same_domain domain d)) refl) held
 
 names_lost : (a : ActorId) (b : BrickId) (r : Request) (way : Option ActorId) (held : List (HeldLock Area)) → names_in (locks_next (Ask a b r told_of.NotConnected true) b.0 held) ≡ without_owner a (names_after a r way (names_in held))
 names_lost a b r way held =
     by_locks (λ r. names_in (locks_next (Ask a b r told_of.NotConnected true) b.0 held) ≡ without_owner a (names_after a r way (names_in held)))
-      (λ domain area. names_lost_lock a b domain area way held) (λ domain area. names_lost_unlock a b domain area way held)
-      (λ r plain. names_lost_plain a b r held (λ lock. plain.releases a b told_of.NotConnected true b.0 lock) ∙ ap (without_owner a) (sym (plain.names a way (names_in held)))) r
+    (λ domain area. names_lost_lock a b domain area way held) (λ domain area. names_lost_unlock a b domain area way held)
+    (λ r plain. names_lost_plain a b r held (λ lock. plain.releases a b told_of.NotConnected true b.0 lock) ∙ ap (without_owner a) (sym (plain.names a way (names_in held)))) r
 
 -- ---- after a request that was answered
 told_same : (a : ActorId) (b : BrickId) (r : Request) (told : Told) (held : List (HeldLock Area)) → ((lock : HeldLock Area) → releases (Ask a b r told true) b.0 lock ≡ false) → granted_by_line b.0 (Ask a b r told true) ≡ [] → is_unheard told ≡ false → locks_next (Ask a b r told true) b.0 held ≡ held
@@ -322,23 +288,23 @@ released o false b = grind (arith, nat_tests)
 ranges_told_lock : (a : ActorId) (b : BrickId) (domain : Domain) (area : Area) (way : Option ActorId) (t : Table) (older : List Line) (held : List (HeldLock Area)) → ranges_in (locks_next (Ask a b (Lock domain area) (told_by (answer_by way (Lock domain area) t older)) true) b.0 held) ≡ ranges_after a (Lock domain area) way (ranges_in held)
 ranges_told_lock a b domain (Range g from to) None t older held = ap ranges_in (told_granted a b domain (Range g from to) held) ∙ ranges-append held ((record { owner = a; domain = domain; area = Range g from to }) ∷ [])
 ranges_told_lock a b domain (Range g from to) (Some owner) t older held = ap ranges_in (told_same a b (Lock domain (Range g from to)) (told_of.Held owner) held (λ lock. refl) refl refl)
-ranges_told_lock a b domain (Name g name) None t older held = ap ranges_in (told_granted a b domain (Name g name) held) ∙ ranges-append held ((record { owner = a; domain = domain; area = Name g name }) ∷ []) ∙ append_nil (ranges_in held)
+ranges_told_lock a b domain (Name g name) None t older held = ap ranges_in (told_granted a b domain (Name g name) held) ∙ ranges-append held ((record { owner = a; domain = domain; area = Name g name }) ∷ []) ∙ append-nil (ranges_in held)
 ranges_told_lock a b domain (Name g name) (Some owner) t older held = ap ranges_in (told_same a b (Lock domain (Name g name)) (told_of.Held owner) held (λ lock. refl) refl refl)
 
 ranges_told_unlock : (a : ActorId) (b : BrickId) (domain : Domain) (area : Area) (way : Option ActorId) (t : Table) (older : List Line) (held : List (HeldLock Area)) → ranges_in (locks_next (Ask a b (Unlock domain area) (told_by (answer_by way (Unlock domain area) t older)) true) b.0 held) ≡ ranges_after a (Unlock domain area) way (ranges_in held)
 ranges_told_unlock a b domain (Range g from to) way t older held =
-    ap ranges_in (append_nil (filter (outlives (Ask a b (Unlock domain (Range g from to)) told_of.Done true) b.0) held))
+    ap ranges_in (append-nil (filter (outlives (Ask a b (Unlock domain (Range g from to)) told_of.Done true) b.0) held))
     ∙ ranges-filter (outlives (Ask a b (Unlock domain (Range g from to)) told_of.Done true) b.0) (λ lock. not (is_lock same_range (range_lock a domain g from to) lock)) (λ o d g' from' to'. released o.0 (is_lock same_range (range_lock a domain g from to) (range_lock o d g' from' to')) b.0) held
 ranges_told_unlock a b domain (Name g name) way t older held =
-    ap ranges_in (append_nil (filter (outlives (Ask a b (Unlock domain (Name g name)) told_of.Done true) b.0) held))
-    ∙ ranges-filter (outlives (Ask a b (Unlock domain (Name g name)) told_of.Done true) b.0) (λ lock. true) (λ o d g' from' to'. released o.0 ((a.0 == o.0) && same_domain domain d && false) b.0 ∙ rw (and_none (a.0 == o.0) (same_domain domain d)) refl) held
+    ap ranges_in (append-nil (filter (outlives (Ask a b (Unlock domain (Name g name)) told_of.Done true) b.0) held))
+    ∙ ranges-filter (outlives (Ask a b (Unlock domain (Name g name)) told_of.Done true) b.0) (λ lock. true) (λ o d g' from' to'. released o.0 ((a.0 == o.0) && same_domain domain d && false) b.0 ∙ rw (never (a.0 == o.0) (same_domain domain d)) refl) held
     ∙ filter_true (λ lock. true) (ranges_in held) (λ lock. refl)
 
 ranges_told : (a : ActorId) (b : BrickId) (r : Request) (way : Option ActorId) (t : Table) (older : List Line) (held : List (HeldLock Area)) → ranges_in (locks_next (Ask a b r (told_by (answer_by way r t older)) true) b.0 held) ≡ ranges_after a r way (ranges_in held)
 ranges_told a b r way t older held =
     by_locks (λ r. ranges_in (locks_next (Ask a b r (told_by (answer_by way r t older)) true) b.0 held) ≡ ranges_after a r way (ranges_in held))
-      (λ domain area. ranges_told_lock a b domain area way t older held) (λ domain area. ranges_told_unlock a b domain area way t older held)
-      (λ r plain. ap ranges_in (told_same a b r (told_by (answer_by way r t older)) held (λ lock. plain.releases a b (told_by (answer_by way r t older)) true b.0 lock) (plain.grants a b (told_by (answer_by way r t older)) true b.0) (answers_heard way r t older)) ∙ sym (plain.ranges a way (ranges_in held))) r
+    (λ domain area. ranges_told_lock a b domain area way t older held) (λ domain area. ranges_told_unlock a b domain area way t older held)
+    (λ r plain. ap ranges_in (told_same a b r (told_by (answer_by way r t older)) held (λ lock. plain.releases a b (told_by (answer_by way r t older)) true b.0 lock) (plain.grants a b (told_by (answer_by way r t older)) true b.0) (answers_heard way r t older)) ∙ sym (plain.ranges a way (ranges_in held))) r
 
 -- the table after a request is what the log then says
 pub ranges_served : (live : Bool) (fault : Option Fault) (a : ActorId) (b : BrickId) (r : Request) (way : Option ActorId) (t : Table) (older : List Line) (held : List (HeldLock Area))
@@ -352,23 +318,23 @@ ranges_served true None a b r way t older held = ranges_told a b r way t older h
 names_told_lock : (a : ActorId) (b : BrickId) (domain : Domain) (area : Area) (way : Option ActorId) (t : Table) (older : List Line) (held : List (HeldLock Area)) → names_in (locks_next (Ask a b (Lock domain area) (told_by (answer_by way (Lock domain area) t older)) true) b.0 held) ≡ names_after a (Lock domain area) way (names_in held)
 names_told_lock a b domain (Name g name) None t older held = ap names_in (told_granted a b domain (Name g name) held) ∙ names-append held ((record { owner = a; domain = domain; area = Name g name }) ∷ [])
 names_told_lock a b domain (Name g name) (Some owner) t older held = ap names_in (told_same a b (Lock domain (Name g name)) (told_of.Held owner) held (λ lock. refl) refl refl)
-names_told_lock a b domain (Range g from to) None t older held = ap names_in (told_granted a b domain (Range g from to) held) ∙ names-append held ((record { owner = a; domain = domain; area = Range g from to }) ∷ []) ∙ append_nil (names_in held)
+names_told_lock a b domain (Range g from to) None t older held = ap names_in (told_granted a b domain (Range g from to) held) ∙ names-append held ((record { owner = a; domain = domain; area = Range g from to }) ∷ []) ∙ append-nil (names_in held)
 names_told_lock a b domain (Range g from to) (Some owner) t older held = ap names_in (told_same a b (Lock domain (Range g from to)) (told_of.Held owner) held (λ lock. refl) refl refl)
 
 names_told_unlock : (a : ActorId) (b : BrickId) (domain : Domain) (area : Area) (way : Option ActorId) (t : Table) (older : List Line) (held : List (HeldLock Area)) → names_in (locks_next (Ask a b (Unlock domain area) (told_by (answer_by way (Unlock domain area) t older)) true) b.0 held) ≡ names_after a (Unlock domain area) way (names_in held)
 names_told_unlock a b domain (Name g name) way t older held =
-    ap names_in (append_nil (filter (outlives (Ask a b (Unlock domain (Name g name)) told_of.Done true) b.0) held))
+    ap names_in (append-nil (filter (outlives (Ask a b (Unlock domain (Name g name)) told_of.Done true) b.0) held))
     ∙ names-filter (outlives (Ask a b (Unlock domain (Name g name)) told_of.Done true) b.0) (λ lock. not (is_lock same_dir_name (name_lock a domain g name) lock)) (λ o d g' name'. released o.0 (is_lock same_dir_name (name_lock a domain g name) (name_lock o d g' name')) b.0) held
 names_told_unlock a b domain (Range g from to) way t older held =
-    ap names_in (append_nil (filter (outlives (Ask a b (Unlock domain (Range g from to)) told_of.Done true) b.0) held))
-    ∙ names-filter (outlives (Ask a b (Unlock domain (Range g from to)) told_of.Done true) b.0) (λ lock. true) (λ o d g' name'. released o.0 ((a.0 == o.0) && same_domain domain d && false) b.0 ∙ rw (and_none (a.0 == o.0) (same_domain domain d)) refl) held
+    ap names_in (append-nil (filter (outlives (Ask a b (Unlock domain (Range g from to)) told_of.Done true) b.0) held))
+    ∙ names-filter (outlives (Ask a b (Unlock domain (Range g from to)) told_of.Done true) b.0) (λ lock. true) (λ o d g' name'. released o.0 ((a.0 == o.0) && same_domain domain d && false) b.0 ∙ rw (never (a.0 == o.0) (same_domain domain d)) refl) held
     ∙ filter_true (λ lock. true) (names_in held) (λ lock. refl)
 
 names_told : (a : ActorId) (b : BrickId) (r : Request) (way : Option ActorId) (t : Table) (older : List Line) (held : List (HeldLock Area)) → names_in (locks_next (Ask a b r (told_by (answer_by way r t older)) true) b.0 held) ≡ names_after a r way (names_in held)
 names_told a b r way t older held =
     by_locks (λ r. names_in (locks_next (Ask a b r (told_by (answer_by way r t older)) true) b.0 held) ≡ names_after a r way (names_in held))
-      (λ domain area. names_told_lock a b domain area way t older held) (λ domain area. names_told_unlock a b domain area way t older held)
-      (λ r plain. ap names_in (told_same a b r (told_by (answer_by way r t older)) held (λ lock. plain.releases a b (told_by (answer_by way r t older)) true b.0 lock) (plain.grants a b (told_by (answer_by way r t older)) true b.0) (answers_heard way r t older)) ∙ sym (plain.names a way (names_in held))) r
+    (λ domain area. names_told_lock a b domain area way t older held) (λ domain area. names_told_unlock a b domain area way t older held)
+    (λ r plain. ap names_in (told_same a b r (told_by (answer_by way r t older)) held (λ lock. plain.releases a b (told_by (answer_by way r t older)) true b.0 lock) (plain.grants a b (told_by (answer_by way r t older)) true b.0) (answers_heard way r t older)) ∙ sym (plain.names a way (names_in held))) r
 
 -- the table after a request is what the log then says
 pub names_served : (live : Bool) (fault : Option Fault) (a : ActorId) (b : BrickId) (r : Request) (way : Option ActorId) (t : Table) (older : List Line) (held : List (HeldLock Area))

@@ -21,8 +21,8 @@ use Rattle.afr_server.proofs.RequestLemmas.{by_locks}
 use Rattle.afr_model.specs.Honest.{IsHonest, Outcome, answer_by, fault_in, in_the_way, is_live, over_session, requests_to, tells}
 use Rattle.afr_model.specs.Locks.{locks_held}
 use Rattle.afr_model.specs.Report.{started_bricks}
-use Rattle.afr_model.specs.Sessions.{ends_session, is_joined, is_linked}
 use Rattle.afr_lines.specs.Places.{opens, place_of}
+use Rattle.afr_model.specs.Sessions.{ends_session, is_joined, is_linked}
 use Rattle.afr_model.specs.Tables.{Past, asked, held_before, holds, keeps_bytes}
 use Rattle.afr_object.specs.Tables.{Table}
 use Rattle.afr_object.specs.declared.change.Load.{Load}
@@ -34,7 +34,8 @@ use Rattle.afr_session.specs.Links.{is_reached, link_of}
 use Rattle.afr_server.specs.declared.server.Asked.{Asked}
 use Rattle.afr_server.specs.Carried.{Brings, names_after, ranges_after}
 use Rattle.afr_server.proofs.LinkLemmas.{joined_reached, link_line}
-use Rattle.afr_server.proofs.LockLemmas.{answers_heard, ends_heard, is_unheard, names-conflict, names_served, ranges-conflict, ranges_served, self}
+use Rattle.afr_server.proofs.LockLemmas.{answers_heard, ends_heard, is_unheard, names-conflict, names_served, ranges-conflict, ranges_served}
+use Rattle.afr_server.proofs.ListLemmas.{never, self}
 use Rattle.afr_server.specs.Log.{Finds, IsServed}
 use Rattle.afr_server.specs.Outcome.{Serves, is_carried, is_lost, locks_served}
 use Rattle.afr_server.specs.Serving.{Serving, in_way, is_epoch}
@@ -63,19 +64,9 @@ same_outcome p log a b r line live s v e = rw (e, same_fault p log b.0 s v, same
 ends_line : (x y : ℕ) (a : ActorId) (b : BrickId) (r : Request) (live : Bool) (fault : Option Fault) (said : Told) → is_unheard said ≡ false
     → ends_session x y (Ask a b r (over_session live fault said).told (over_session live fault said).took) ≡ ((a.0 == x) && (b.0 == y) && is_lost live fault)
 ends_line x y a b r false fault said h = refl
-ends_line x y a b r true (Some Fail) said h = sym (none (a.0 == x) (b.0 == y))
-  where
-    none : (u v : Bool) → (u && v && false) ≡ false
-    none true true = refl
-    none true false = refl
-    none false v = refl
+ends_line x y a b r true (Some Fail) said h = sym (never (a.0 == x) (b.0 == y))
 ends_line x y a b r true (Some Lost) said h = refl
-ends_line x y a b r true None said h = ends_heard x y a b r said true h ∙ sym (none (a.0 == x) (b.0 == y))
-  where
-    none : (u v : Bool) → (u && v && false) ≡ false
-    none true true = refl
-    none true false = refl
-    none false v = refl
+ends_line x y a b r true None said h = ends_heard x y a b r said true h ∙ sym (never (a.0 == x) (b.0 == y))
 
 ends_here : (x : ℕ) (a : ActorId) (b : BrickId) (r : Request) (live : Bool) (fault : Option Fault) (said : Told) → is_unheard said ≡ false
     → ends_session x b.0 (Ask a b r (over_session live fault said).told (over_session live fault said).took) ≡ ((a.0 == x) && is_lost live fault)

@@ -2,6 +2,7 @@
 ghost use Rattle.std.specs.Prelude.{◌≡◌, ℕ, ◌<◌, ◌-◌, ◌^◌, Bool, true, false, Option, Some, None, IfOk, OnErr, is_some};
 ghost use Rattle.afr_faults.specs.Planned.{next_fault};
 ghost use Rattle.afr_server.specs.Carried.{CanCarryOut, CanLock};
+ghost use Rattle.afr_server.specs.Covered.{IsUnderLocks};
 ghost use Rattle.afr_server.specs.Outcome.{Serves, counted, is_carried, link_served};
 ghost use Rattle.afr_server.specs.Serving.{HasEpoch, epoch_of, has_session, is_epoch, is_met, link_for};
 ghost use Rattle.afr_session.specs.Calls.{only};
@@ -32,6 +33,7 @@ impl Server {
         requires count { self.old.faults.requests < 2 ^ 32 - 1 }
         requires lock { CanLock request.now }
         requires can { is_carried (has_session epoch actor self.old) (next_fault self.old.faults) ≡ true → CanCarryOut request.now load self.old.copies.objects }
+        requires covered { is_carried (has_session epoch actor self.old) (next_fault self.old.faults) ≡ true → IsUnderLocks actor request.now load self.old }
         ensures ok { IfOk result (λ given. Serves false (has_session epoch actor self.old) (next_fault self.old.faults) actor request.now load.entry self.old self.new given) }
         ensures err { OnErr result (self.new ≡ self.old) }
     {
@@ -53,6 +55,7 @@ impl Server {
         requires room { HasEpoch actor self.old }
         requires lock { CanLock request.now }
         requires can { is_carried (is_met actor self.old) (next_fault self.old.faults) ≡ true → CanCarryOut request.now load self.old.copies.objects }
+        requires covered { is_carried (is_met actor self.old) (next_fault self.old.faults) ≡ true → IsUnderLocks actor request.now load self.old }
         ensures epoch { IfOk result (λ given. given.0 ≡ epoch_of actor self.old) }
         ensures ok { IfOk result (λ given. Serves true (is_met actor self.old) (next_fault self.old.faults) actor request.now load.entry self.old self.new given.1) }
         ensures err { OnErr result (self.new ≡ self.old) }

@@ -13,11 +13,31 @@ use afr_server::{Asked, Server, planned_faults};
 use std::alloc::Global;
 
 const ROOT: Gfid = Gfid(1);
+
 const ONE: ActorId = ActorId(1);
+
 const TWO: ActorId = ActorId(2);
+
 const HERE: BrickId = BrickId(0);
 
+const TEN: Area = Area::Range {
+    gfid: Gfid(1),
+    from: 0,
+    to: 10,
+};
+
+const WORK_LOCK: Request = Request::Lock {
+    domain: Domain::Work,
+    area: TEN,
+};
+
+const HEAL_LOCK: Request = Request::Lock {
+    domain: Domain::Heal,
+    area: TEN,
+};
+
 const LOOK: Request = Request::Look { gfid: Gfid(1) };
+
 const LOOK_ELSEWHERE: Request = Request::Look { gfid: Gfid(7) };
 
 fn server_with(alloc: Global, faults: &[PlannedFault]) -> Option<Server>
@@ -37,17 +57,6 @@ fn of_first(fault: Fault) -> PlannedFault {
         brick: HERE,
         at: 1,
         fault,
-    }
-}
-
-fn lock(domain: Domain) -> Request {
-    Request::Lock {
-        domain,
-        area: Area::Range {
-            gfid: ROOT,
-            from: 0,
-            to: 10,
-        },
     }
 }
 
@@ -113,11 +122,10 @@ fn loses_the_answer_and_the_session(server: &mut Server) -> bool
 fn waits_for_its_holder(server: &mut Server) -> bool
     requires { IsFresh server.old }
 {
-    let work = lock(Domain::Work);
-    match server.ask_first(ONE, &work, Load::Nothing) {
+    match server.ask_first(ONE, &WORK_LOCK, Load::Nothing) {
         Ok((_, asked)) => {
             let granted = matches!(asked.answer, Answer::Granted);
-            match server.ask_first(TWO, &work, Load::Nothing) {
+            match server.ask_first(TWO, &WORK_LOCK, Load::Nothing) {
                 Ok((_, asked)) => granted && matches!(asked.answer, Answer::Held(ActorId(1))),
                 Err(_) => false,
             }
@@ -129,8 +137,8 @@ fn waits_for_its_holder(server: &mut Server) -> bool
 fn locks_beside_a_heal(server: &mut Server) -> bool
     requires { IsFresh server.old }
 {
-    match server.ask_first(ONE, &lock(Domain::Heal), Load::Nothing) {
-        Ok(_) => match server.ask_first(TWO, &lock(Domain::Work), Load::Nothing) {
+    match server.ask_first(ONE, &HEAL_LOCK, Load::Nothing) {
+        Ok(_) => match server.ask_first(TWO, &WORK_LOCK, Load::Nothing) {
             Ok((_, asked)) => matches!(asked.answer, Answer::Granted),
             Err(_) => false,
         },
