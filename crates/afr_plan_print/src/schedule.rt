@@ -7,7 +7,7 @@ ghost use Rattle.afr_plan_print.specs.PrintedPlan.{happening_of, said_event, sai
 use afr_base::{ActorId, BrickId, NoMemory};
 use afr_faults::Fault;
 use afr_lines::Event;
-use afr_plan::{Go, PlannedEvent, PlannedFault, RoundList};
+use afr_plan::{Go, PlannedEvent, PlannedFault, RoundList, limits};
 
 /// Adds the healers and their rounds. Healer 1 has the first list.
 pub(crate) fn push_healers(out: &mut String, healers: &[RoundList]) -> Result<(), NoMemory>
@@ -124,16 +124,17 @@ fn push_session(
     push_brick(out, " ", brick)
 }
 
-/// Adds a word and an actor: a client up to 16, and then a healer.
+/// Adds a word and an actor: the clients come first, and then the healers.
 fn push_actor(out: &mut String, word: &str, actor: ActorId) -> Result<(), NoMemory>
     ensures ok { OnOk result (string_bytes out.new ≡ string_bytes out.old ++ (word.now ++ who_text (said_who actor))) }
 {
     let number = actor.0;
-    if number <= 16 {
+    let clients = u16::from(limits::CLIENTS);
+    if number <= clients {
         write!(out, "{word}c{number}")?;
         return Ok(());
     }
-    let healer = number - 16;
+    let healer = number - clients;
     write!(out, "{word}h{healer}")?;
     Ok(())
 }

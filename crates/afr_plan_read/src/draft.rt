@@ -21,7 +21,7 @@ fn actor(who: &SpokenWho) -> ActorId
 {
     match who {
         SpokenWho::OfClient(number) => ActorId(u16::from(*number)),
-        SpokenWho::OfHealer(number) => { ActorId(u16::from(limits::CLIENTS) + u16::from(*number)) },
+        SpokenWho::OfHealer(number) => ActorId(u16::from(limits::CLIENTS) + u16::from(*number)),
     }
 }
 

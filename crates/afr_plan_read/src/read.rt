@@ -20,8 +20,9 @@ fn plan_from(alloc: Global, keyed: Keyed, lines: &Lines) -> Result<Plan, PlanSto
 }
 
 /// The plan that a text spells, or the first line that breaks a rule and the lowest rule that it
-/// breaks. Memory is linear in the length of the text and of the data that it stands for, and so is
-/// time, whatever words the text has: the tables hash them under a key made of the whole text.
+/// breaks. Memory is linear in the length of the text and of the data that it stands for. So is time,
+/// but for chance: the tables hash words under a digest of the whole text, by which nobody can choose
+/// them.
 pub fn read_plan(alloc: Global, bytes: &[u8]) -> Result<Plan, PlanStop>
     ensures read { IfOk result (λ plan. Spells bytes.now plan) }
     ensures refused { (fault : PlanFault) → result ≡ Err (PlanStop.Refused fault)
