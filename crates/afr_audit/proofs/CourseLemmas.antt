@@ -16,7 +16,7 @@ use Rattle.afr_lines.specs.declared.request.Request.{Request}
 use Rattle.afr_lines.specs.Places.{Place, next_place, opens, place_of}
 use Rattle.afr_object.specs.declared.change.Change.{Change}
 use Rattle.afr_plan.specs.declared.plan.Plan.{Plan}
-use Rattle.afr_law.specs.Codes.{kept_by}
+use Rattle.afr_tables.specs.Codes.{kept_by}
 use Rattle.afr_moves.specs.Discipline.{MayAskExactly}
 use Rattle.afr_moves.specs.Heal.{MayHealBegin, MayHealEnd}
 use Rattle.afr_moves.specs.Transaction.{MayBegin, MayEnd}

@@ -21,12 +21,12 @@ use Rattle.afr_law.specs.Beginning.{start_of}
 use Rattle.afr_law.proofs.Model.SoundLog.{LawfulBelow}
 use Rattle.afr_law.proofs.Model.Tables.{all_same}
 use Rattle.afr_moves.specs.Cells.{Entry, entry_code}
-use Rattle.afr_law.specs.Codes.{value_code}
+use Rattle.afr_tables.specs.Codes.{value_code}
 use Rattle.afr_moves.specs.Discipline.{EndsWork, HasRead}
 use Rattle.afr_law.proofs.Discipline.Known.{entry_of}
 use Rattle.afr_moves.specs.Lines.{ask_by}
-use Rattle.afr_law.proofs.Safety.Locks.{cases_lt}
-use Rattle.afr_law.proofs.Safety.Objects.{entry_some}
+use Rattle.afr_tables.proofs.Entries.{cases_lt}
+use Rattle.afr_tables.proofs.Entries.{entry_some}
 use Rattle.afr_moves.specs.Past.{Beginning, value}
 use Rattle.afr_moves.specs.Positions.{by_position}
 use Rattle.afr_law.proofs.Model.Positions.{newest_at, older_at, past_whole}

@@ -9,7 +9,7 @@ use Rattle.afr_lines.specs.declared.line.Line.{Line}
 use Rattle.afr_model.specs.Honest.{Honest, IsHonest}
 use Rattle.afr_plan.specs.declared.plan.Plan.{Plan}
 use Rattle.afr_law.specs.Exactly.{IsLawfulExactly}
-use Rattle.afr_law.proofs.Safety.Locks.{cases_lt}
+use Rattle.afr_tables.proofs.Entries.{cases_lt}
 use Rattle.afr_audit.specs.Judged.{KeepsDiscipline}
 use Rattle.afr_audit.specs.Unlawful.{KeepsUpTo, PassesNone}
 

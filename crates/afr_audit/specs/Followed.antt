@@ -9,7 +9,7 @@ use Rattle.afr_lines.specs.declared.line.Line.{Line}
 use Rattle.afr_lines.specs.declared.line.Line.TheVariants.{Ask}
 use Rattle.afr_lines.specs.Places.{opens, place_of}
 use Rattle.afr_plan.specs.declared.plan.Plan.{Plan}
-use Rattle.afr_law.specs.Codes.{kept_by}
+use Rattle.afr_tables.specs.Codes.{kept_by}
 use Rattle.afr_moves.specs.Discipline as exact
 use Rattle.afr_moves.specs.Discipline.{in_force, note}
 use Rattle.afr_moves.specs.Register.{Exact, untouched}

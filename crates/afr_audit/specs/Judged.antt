@@ -13,7 +13,7 @@ use Rattle.afr_model.specs.Cells.{IsEntry, Name, value_of}
 use Rattle.afr_plan.specs.declared.plan.Plan.{Plan}
 use Rattle.afr_audit.specs.declared.reads.NameRead.{NameRead}
 use Rattle.afr_law.specs.Beginning.{start_of}
-use Rattle.afr_law.specs.Codes.{kept_by}
+use Rattle.afr_tables.specs.Codes.{kept_by}
 use Rattle.afr_moves.specs.Discipline.{BeginsKnown}
 use Rattle.afr_moves.specs.ByList.{IsExactLine, MayExactlyNext}
 use Rattle.afr_law.specs.Exactly.{name_bound}

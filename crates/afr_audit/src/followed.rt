@@ -3,7 +3,7 @@ ghost use Rattle.std.specs.Prelude.{◌≡◌, ◌≢◌, ◌≤◌, ◌<◌, �
 ghost use Rattle.afr_check.specs.Seen.{place_seen};
 ghost use Rattle.afr_lines.specs.Work.{is_of};
 ghost use Rattle.afr_lines.specs.Places.{next_place, opens, place_of};
-ghost use Rattle.afr_law.specs.Codes.{kept_by};
+ghost use Rattle.afr_tables.specs.Codes.{kept_by};
 ghost use Rattle.afr_moves.specs.Discipline.{in_force, note};
 ghost use Rattle.afr_moves.specs.Register.{Exact, span};
 ghost use Rattle.afr_discipline.specs.Stands.{Stands};

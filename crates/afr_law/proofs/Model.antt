@@ -1,13 +1,7 @@
-pub mod Names
 pub mod Positions
 pub mod Sessions
 pub mod Locks
-pub mod Copies
-pub mod Values
-pub mod Merged
 pub mod Mended
-pub mod Sound
-pub mod Opening
 pub mod SoundLog
 pub mod Carried
 pub mod Begun

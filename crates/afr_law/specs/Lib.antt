@@ -1,4 +1,3 @@
-pub mod Codes
 pub mod Beginning
 pub mod Safe
 pub mod Dirty

@@ -1,4 +1,5 @@
 -- The law in the words of the model.
+use Rattle.afr_tables.specs.Ends.{EndsInTime}
 use Rattle.std.specs.Prelude.{◌≡◌, ℕ, ◌+◌, ◌<◌, ◌≤◌, ◌^◌, ◌⊎◌, Bool, List, length, None, Some}
 use Rattle.afr_base.specs.declared.ids.ActorId.{ActorId}
 use Rattle.afr_base.specs.declared.ids.BrickId.{BrickId}
@@ -20,7 +21,7 @@ use Rattle.afr_plan.specs.declared.plan.Plan.{Plan}
 use Rattle.afr_model.specs.Honest.{Honest}
 use Rattle.afr_model.specs.Safe.{IsAlwaysSafe}
 use Rattle.afr_model.specs.Tables.{entry_at, held_before}
-use Rattle.afr_law.specs.Codes.{kept_by}
+use Rattle.afr_tables.specs.Codes.{kept_by}
 use Rattle.afr_law.specs.Law.{MayNext}
 use Rattle.afr_moves.specs.Rules.{EachRead}
 use Rattle.afr_moves.specs.Positions.{by_position}
@@ -38,11 +39,6 @@ NamesReads (CutTo g len) older = Unit {0}
 NamesReads (Copy g at span read) older = IsRead older (request.ReadBytes g at span) read
 NamesReads (PutAttrs g read) older = IsRead older (request.ReadAttrs g) read
 NamesReads (PutNames g reads) older = EachRead (IsRead older (request.List g)) reads
-
--- a write ends where ranges end
-abbrev pub EndsInTime : Change → Type 0
-EndsInTime (Write g at bytes) = at + length bytes ≤ 2 ^ 63
-EndsInTime change = Unit {0}
 
 -- an entry of this gfid and kind stood in a directory of some brick before an earlier line
 pub record WasShown (p : Plan) (older : List Line) (g : Gfid) (what : What) : Type 0 where

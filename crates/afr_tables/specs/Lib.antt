@@ -1,3 +1,5 @@
+pub mod Codes
+pub mod Ends
 pub mod CopyLaws
 pub mod RepairLaws
 pub mod TableLaws

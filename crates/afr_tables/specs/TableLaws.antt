@@ -26,15 +26,9 @@ use Rattle.afr_lines.specs.declared.line.Line.{Line}
 use Rattle.afr_lines.specs.declared.line.Line.TheVariants.{Ask, Begin}
 use Rattle.afr_lines.specs.declared.request.Request.{Request}
 use Rattle.afr_lines.specs.declared.request.Request.TheVariants.{Apply, Mend, Pre, Post, Settle}
-use Rattle.afr_plan.specs.FirstPath.{IsFirstCommand}
-use Rattle.afr_plan.specs.declared.command.Command.{Command}
-use Rattle.afr_plan.specs.declared.command.Command.TheVariants as command_of
 use Rattle.afr_plan.specs.declared.plan.Plan.{Plan}
 use Rattle.afr_model.specs.Tables.{Past, keeps_bytes, effect, carried, asked, step, holds, held_before}
-use Rattle.afr_model.specs.Actors.{script_of}
-use Rattle.afr_model.specs.Following.{Follows, IsFollowing, change_on}
 use Rattle.afr_tables.specs.CopyLaws.{HasAll, EachCopy, stays_changed, stays_made, some_is, each_changed, each_made}
-use Rattle.afr_telling.specs.Plain.{IsPlain, IsShortWrite}
 use Rattle.afr_tables.specs.RepairLaws.{stays_mended, each_mended}
 
 -- ---- an object never goes

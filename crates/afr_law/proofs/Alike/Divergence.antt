@@ -18,7 +18,8 @@ use Rattle.afr_moves.specs.Tally.{tally}
 use Rattle.afr_moves.specs.Rules.{Register, in_force, register, PlaneIs, MayPre, MayRaise, MayApply, MayMend, Sink, Lawful, opened, present}
 use Rattle.afr_law.specs.Alike.{Unrecorded, Alike}
 use Rattle.afr_moves.specs.Lines.{ask_by, pre_on, post_on}
-use Rattle.afr_law.proofs.Safety.Locks.{cases_lt, cases_le, held_from, excluded}
+use Rattle.afr_tables.proofs.Entries.{cases_lt}
+use Rattle.afr_law.proofs.Safety.Locks.{cases_le, held_from, excluded}
 use Rattle.afr_law.proofs.Safety.Numbers.{Prepared}
 use Rattle.afr_law.proofs.Safety.Acts.{Act, acts_apart, Working, working, may_ask, mend_covers}
 use Rattle.afr_law.proofs.Heals.Looks.{SettleLine, positive, look_acts, OwnPre, FirstAt, Viewing, mends_plane, heal_overlap, mend_works, settle_works}

@@ -17,7 +17,7 @@ use Rattle.afr_moves.specs.Honest.{Honest}
 use Rattle.afr_moves.specs.Tally.{Tally, blank, note_tally, in_tally, tally}
 use Rattle.afr_moves.specs.Rules.{Register, fresh, begun, is_area, locking, note_ask, dropping, note, piece, in_force, register, MayAsk, MayMend, Lawful, opened, present, looked, viewed, busy, second_of, second_freed}
 use Rattle.afr_moves.specs.Lines.{ask_by, pre_on, post_on}
-use Rattle.afr_law.proofs.Safety.Locks.{cases_lt}
+use Rattle.afr_tables.proofs.Entries.{cases_lt}
 use Rattle.afr_law.proofs.Safety.Acts.{last_rises}
 use Rattle.afr_law.proofs.Safety.Standing.{Noted, noted, Grants, Waits, Frees, Tries, HealGrants, HealWaits, HealFrees, HealTries, Looks, Pres, Applies, Posts, Mends, Settles, Same}
 use Rattle.afr_law.proofs.Safety.Registers.{Own, Asks, Begins, HealBegins, Ends, HealEnds, registers_at, MayOf}

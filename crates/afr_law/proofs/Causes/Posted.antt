@@ -18,7 +18,7 @@ use Rattle.afr_moves.specs.Honest.{Answers, Honest, HonestAsk, HonestLine, Tells
 use Rattle.afr_moves.specs.Rules.{Lawful, MayPost, PlaneIs, present}
 use Rattle.afr_moves.specs.Lines.{ask_by, begin_by, post_on}
 use Rattle.afr_law.proofs.Safety.Locks.{same_yes}
-use Rattle.afr_law.proofs.Reads.Misses.{not_done}
+use Rattle.afr_law.proofs.Freshness.Misses.{not_done}
 use Rattle.afr_moves.specs.Past.{Beginning, Log, holds, joined, named, opening, pending, posts}
 use Rattle.afr_law.proofs.Safety.Steps.{honest_whole, lawful_whole}
 

@@ -3,13 +3,13 @@ use Rattle.afr_base.specs.declared.ids.Gfid.{Gfid}
 use Rattle.afr_base.specs.declared.ids.Kind.{Kind}
 use Rattle.afr_base.specs.declared.ids.What.{What}
 use Rattle.afr_base.specs.declared.ids.What.TheVariants.{Dir, File}
-use Rattle.afr_law.proofs.Model.Opening.{opening_none}
+use Rattle.afr_tables.proofs.Opening.{opening_none}
 use Rattle.afr_law.specs.Beginning.{start_of}
 use Rattle.afr_law.proofs.Model.SoundLog.{LawfulBelow}
 use Rattle.afr_law.proofs.Model.Tables.{all_same}
-use Rattle.afr_law.proofs.Model.Values.{code_of}
+use Rattle.afr_tables.proofs.Values.{code_of}
 use Rattle.afr_moves.specs.Cells.{Entry, entry_code, what_code}
-use Rattle.afr_law.specs.Codes.{kept_by, kind_code, value_code}
+use Rattle.afr_tables.specs.Codes.{kept_by, kind_code, value_code}
 use Rattle.afr_moves.specs.Discipline.{HasRead, MayAskExactly, MayExactly, MovesExactly, present}
 use Rattle.afr_moves.specs.Discipline as exact
 use Rattle.afr_moves.specs.Heal.{Gives, Goes, MayHeal}
@@ -25,8 +25,9 @@ use Rattle.afr_law.proofs.Discipline.Implies.{wide_line}
 use Rattle.afr_law.proofs.Discipline.Inner.{turn_low}
 use Rattle.afr_moves.specs.Rules.{EachRead}
 use Rattle.afr_moves.specs.Lines.{ask_by}
-use Rattle.afr_law.specs.ModelLaw.{EndsInTime, IsKnown, IsRead, MakesKnown, NamesReads, WasShown}
-use Rattle.afr_law.proofs.Safety.Objects.{entry_same, entry_some}
+use Rattle.afr_tables.specs.Ends.{EndsInTime}
+use Rattle.afr_law.specs.ModelLaw.{IsKnown, IsRead, MakesKnown, NamesReads, WasShown}
+use Rattle.afr_tables.proofs.Entries.{entry_same, entry_some}
 use Rattle.afr_moves.specs.Past.{Log}
 use Rattle.afr_moves.specs.Positions.{by_position}
 use Rattle.afr_law.proofs.Model.Positions.{past_whole}

@@ -21,7 +21,8 @@ use Rattle.afr_moves.specs.Past.{Beginning, Log, born, held, holds, touch, over,
 use Rattle.afr_moves.specs.Honest.{HonestAsk, HonestLine, Honest, finds, asked}
 use Rattle.afr_moves.specs.Rules.{MayPre, Register, fresh, CoversAll, MayBegin, MayMend, begun, is_area, looked, viewed, looking, put_view, is_none, locking, area_object, piece, note_ask, dropping, note, register, MayAsk, MayHealLock, MayHealBegin, Lawful, opened, present, busy, second_of, second_freed}
 use Rattle.afr_moves.specs.Cells.{fits, object_of}
-use Rattle.afr_law.proofs.Safety.Locks.{cases_lt, same_self, same_yes}
+use Rattle.afr_tables.proofs.Entries.{cases_lt}
+use Rattle.afr_law.proofs.Safety.Locks.{same_self, same_yes}
 use Rattle.afr_law.proofs.Safety.Standing.{SeenAt, with_cases, with_false, without_true, Plain, Noted, noted, Grants, Waits, Frees, Tries, HealGrants, HealWaits, HealFrees, HealTries, Looks, Pres, Applies, Posts, Mends, Settles, Same}
 use Rattle.afr_law.proofs.Safety.Registers.{Own, Asks, Begins, HealBegins, Ends, HealEnds, standing, registers_at, MayOf}
 use Rattle.afr_law.proofs.Safety.Numbers.{carried_out, force_fresh}

@@ -26,7 +26,8 @@ use Rattle.afr_moves.specs.Cells.{fits, is_cell, object_of, kind_of, Byte, Attr,
 use Rattle.afr_base.specs.declared.ids.Kind.TheVariants.{Bytes, Attrs, Names}
 use Rattle.afr_object.specs.declared.change.Repair.TheVariants.{CutTo, Copy, PutAttrs, PutNames}
 use Rattle.std.specs.Prelude.{nat_le, nat_lt}
-use Rattle.afr_law.proofs.Safety.Locks.{Grant, same_self, same_yes, cases_lt}
+use Rattle.afr_law.proofs.Safety.Locks.{Grant, same_self, same_yes}
+use Rattle.afr_tables.proofs.Entries.{cases_lt}
 use Rattle.afr_law.proofs.Safety.Standing.{without_true}
 use Rattle.afr_law.proofs.Safety.Numbers.{last_asked}
 use Rattle.afr_law.proofs.Safety.Acts.{Act, act_later, acts_apart, Working, working, acting, may_ask, mend_covers, all_covers, apply_acts}

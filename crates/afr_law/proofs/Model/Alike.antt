@@ -14,7 +14,7 @@ use Rattle.afr_model.specs.Cells as model
 use Rattle.afr_model.specs.Honest.{fault_in}
 use Rattle.afr_model.specs.Tables.{holds}
 use Rattle.afr_moves.specs.Cells.{is_cell, object_of, kind_of}
-use Rattle.afr_law.specs.Codes.{cell_of, kept_by}
+use Rattle.afr_tables.specs.Codes.{cell_of, kept_by}
 use Rattle.afr_moves.specs.Past.{Log, value}
 use Rattle.afr_law.specs.Alike.{Unrecorded, Alike}
 use Rattle.afr_law.proofs.Alike.Divergence.{undiverged}

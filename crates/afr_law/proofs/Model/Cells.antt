@@ -19,13 +19,13 @@ use Rattle.afr_model.specs.Attempts.{first_reply, earlier, IsAcknowledged}
 use Rattle.afr_model.specs.Cells.{Value, IsByte, IsAttr, IsEntry, value_if, nothing_in, object_of_cell, kind_of_cell}
 use Rattle.afr_model.specs.Cells as model
 use Rattle.afr_moves.specs.Cells.{object_of, kind_of, entry_code, what_code, is_cell, touches, leaves}
-use Rattle.afr_law.specs.Codes.{value_code, cell_by, cell_of}
+use Rattle.afr_tables.specs.Codes.{value_code, cell_by, cell_of}
 use Rattle.afr_moves.specs.Lines.{is_ok}
-use Rattle.afr_law.proofs.Safety.Objects.{entry_same, entry_some}
+use Rattle.afr_tables.proofs.Entries.{entry_same, entry_some}
 use Rattle.afr_moves.specs.Past.{Log}
 use Rattle.afr_law.proofs.Model.Positions.{IsPast, past_at, none_at}
 use Rattle.afr_law.specs.Safe.{end_of, or_else, outcome, Acknowledged}
-use Rattle.afr_law.proofs.Safety.Locks.{cases_lt}
+use Rattle.afr_tables.proofs.Entries.{cases_lt}
 
 -- ---- cells
 pub kind_cell : (cell : model.Cell) → kind_of (cell_of cell) ≡ kind_of_cell cell

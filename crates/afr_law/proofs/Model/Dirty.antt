@@ -25,7 +25,7 @@ use Rattle.afr_model.specs.Tables.{holds, held_before, carried, effect, keeps_by
 use Rattle.afr_tables.specs.SumLaws.{now_at, counts, numbers_asked, numbers_same, numbers_effect, numbers_mended, at_first}
 use Rattle.afr_law.specs.Dirty.{raising, raised, lowering, lowered, dirty, NoneBelow, TracksDirty, DirtyTracked}
 use Rattle.afr_moves.specs.Honest.{view_marks}
-use Rattle.afr_law.proofs.Safety.Locks.{cases_lt}
+use Rattle.afr_tables.proofs.Entries.{cases_lt}
 use Rattle.afr_moves.specs.Past.{Log}
 use Rattle.afr_moves.specs.Positions.{by_position}
 use Rattle.afr_law.proofs.Model.Positions.{IsPast, past_whole, none_at}

@@ -5,9 +5,9 @@ use Rattle.afr_law.specs.Beginning.{start_of}
 use Rattle.afr_law.proofs.Model.Safe.{model_safe}
 use Rattle.afr_law.proofs.Model.Settles.{honest_at, make_known, member_below, take_within, within_before}
 use Rattle.afr_law.proofs.Model.SoundLog.{LawfulBelow, NameIsBelow}
-use Rattle.afr_law.proofs.Model.Sound.{NameFits}
+use Rattle.afr_tables.proofs.Sound.{NameFits}
 use Rattle.afr_law.proofs.Model.Sums.{TakeWithin}
-use Rattle.afr_law.specs.Codes.{kept_by}
+use Rattle.afr_tables.specs.Codes.{kept_by}
 use Rattle.afr_moves.specs.Discipline.{LawfulExactly}
 use Rattle.afr_law.proofs.Discipline.Known.{line_known}
 use Rattle.afr_moves.specs.ByList.{IsExactLine, IsExactlyLawful}
@@ -17,7 +17,7 @@ use Rattle.afr_law.specs.Exactly.{IsLawfulExactly, name_bound}
 use Rattle.afr_moves.specs.Honest.{Honest, HonestLine}
 use Rattle.afr_law.proofs.Discipline.Implies.{implies}
 use Rattle.afr_moves.specs.Rules.{Lawful, Register, present}
-use Rattle.afr_law.proofs.Safety.Locks.{cases_lt}
+use Rattle.afr_tables.proofs.Entries.{cases_lt}
 use Rattle.afr_law.specs.ModelExact.{ModelExactIsAlike, ModelExactIsSafe}
 use Rattle.afr_law.specs.ModelLaw.{IsKnown, IsLawful, IsLawfulLine}
 use Rattle.afr_moves.specs.Past.{Log}

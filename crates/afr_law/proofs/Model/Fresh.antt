@@ -34,8 +34,8 @@ use Rattle.afr_law.proofs.Model.Settles.{all_honest, all_lawful, take_within, wi
 use Rattle.afr_law.proofs.Model.SoundLog.{LawfulBelow, lawful_below, name_limit}
 use Rattle.afr_moves.specs.Cells.{is_cell, object_of, kind_of}
 use Rattle.afr_moves.specs.Cells as law_cell
-use Rattle.afr_law.specs.Codes.{cell_of, kept_by}
-use Rattle.afr_law.proofs.Reads.Fresh.{fresh_read}
+use Rattle.afr_tables.specs.Codes.{cell_of, kept_by}
+use Rattle.afr_law.proofs.Freshness.Fresh.{fresh_read}
 use Rattle.afr_law.specs.FreshReads.{LooksLet, NoOlder}
 use Rattle.afr_moves.specs.Honest.{Honest}
 use Rattle.afr_moves.specs.Lines.{ask_by}

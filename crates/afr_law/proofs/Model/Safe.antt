@@ -23,7 +23,7 @@ use Rattle.afr_model.specs.Safe.{IsSafe, is_good_copy, accuses}
 use Rattle.afr_model.specs.Sums.{has_object, pending_of}
 use Rattle.afr_model.specs.Tables.{holds}
 use Rattle.afr_moves.specs.Cells.{is_cell, object_of, kind_of}
-use Rattle.afr_law.specs.Codes.{value_code, cell_of, kept_by}
+use Rattle.afr_tables.specs.Codes.{value_code, cell_of, kept_by}
 use Rattle.afr_moves.specs.Past.{Log, changes, leaves_of, value}
 use Rattle.afr_law.specs.Safe.{Safe, Good, Current, Acknowledged}
 use Rattle.afr_law.specs.Safe as law

@@ -17,6 +17,7 @@ use Rattle.afr_model.specs.Report.{started_bricks}
 use Rattle.afr_lines.specs.Places.{Place, Fresh, Indexed, Between, Within, next_place, place_of}
 use Rattle.afr_model.specs.Sessions.{is_linked, opens_with, ends_session, is_joined}
 use Rattle.afr_lines.specs.Places as session
+use Rattle.afr_model.specs.Sessions as model
 use Rattle.afr_moves.specs.Past.{Log, is_of, place, place_after, opens, started, started_after, linked, linked_after, opening, joined, ends}
 use Rattle.afr_law.proofs.Model.Positions.{IsPast}
 
@@ -78,7 +79,7 @@ module _ (L : Log) where
       go true = refl
       go false = refl
 
-  linked_one : (a b : ℕ) (line : Line) (was : Bool) → linked_after was a b (Some line) ≡ session.linked_by a b line was
+  linked_one : (a b : ℕ) (line : Line) (was : Bool) → linked_after was a b (Some line) ≡ model.linked_by a b line was
   linked_one a b (line_of.Event (event.Stop y)) was = refl
   linked_one a b (line_of.Event (event.Start y)) was = refl
   linked_one a b (line_of.Event (event.Cut x y)) was = refl

@@ -18,7 +18,7 @@ use Rattle.afr_base.specs.Kinds.{same_kind}
 use Rattle.afr_tables.specs.SumLaws.{all_true}
 use Rattle.afr_law.proofs.Safety.Acts.{may_ask}
 use Rattle.afr_law.proofs.Safety.CellLemmas.{posts_rise, shows_at}
-use Rattle.afr_law.specs.Codes.{kept_by, kind_code, value_code}
+use Rattle.afr_tables.specs.Codes.{kept_by, kind_code, value_code}
 use Rattle.afr_law.proofs.Heals.Looks.{same_kind_eq, settle_works}
 use Rattle.afr_law.proofs.Heals.Marks.{ready}
 use Rattle.afr_law.proofs.Heals.EachLine.{viewings}
@@ -26,7 +26,8 @@ use Rattle.afr_moves.specs.Honest.{asked, HonestLine, Honest, KnownMake, Shows}
 use Rattle.afr_law.specs.Law.{MayNext}
 use Rattle.afr_moves.specs.Rules.{May, Lawful, opened, present}
 use Rattle.afr_moves.specs.Lines.{ask_by, settle_on}
-use Rattle.afr_law.proofs.Safety.Locks.{cases_lt, same_yes}
+use Rattle.afr_tables.proofs.Entries.{cases_lt}
+use Rattle.afr_law.proofs.Safety.Locks.{same_yes}
 use Rattle.afr_moves.specs.Past.{Beginning, Log, before, joined, opening, pending, posts, settled}
 use Rattle.afr_moves.specs.Positions.{by_position}
 use Rattle.afr_law.proofs.Model.Positions.{IsPast, past_whole, before_past, none_at}
@@ -35,7 +36,7 @@ use Rattle.afr_law.proofs.Model.Honest.{honest_ask, small_of}
 use Rattle.afr_law.specs.Beginning.{start_of}
 use Rattle.afr_law.proofs.Model.SoundLog.{LawfulBelow}
 use Rattle.afr_law.proofs.Model.Tables.{all_same}
-use Rattle.afr_law.proofs.Model.Values.{code_of}
+use Rattle.afr_tables.proofs.Values.{code_of}
 use Rattle.afr_moves.specs.Cells.{Entry, entry_code}
 use Rattle.afr_object.specs.Tables.{copy_at}
 use Rattle.afr_object.specs.declared.change.Change.{Change}

@@ -22,11 +22,12 @@ use Rattle.afr_lines.specs.declared.request.Request.TheVariants.{Pre, Apply, Pos
 use Rattle.afr_lines.specs.declared.request.Request.TheVariants as request
 use Rattle.afr_plan.specs.declared.plan.Plan.{Plan}
 use Rattle.afr_model.specs.Tables.{Past, holds, held_before, step, asked, effect, keeps_bytes, content_in, names_in, names_shown, bytes_shown, all_names_shown, carried}
-use Rattle.afr_law.proofs.Model.Names.{AreRising}
+use Rattle.afr_tables.proofs.Names.{AreRising}
 use Rattle.afr_moves.specs.Rules.{EachRead}
-use Rattle.afr_law.proofs.Model.Merged.{AreBelow, AllBelow, below_merged, rising_merged}
-use Rattle.afr_law.proofs.Model.Sound.{EachCopy, IsSound, NameFits, CarriesSound, each_changed, sound_applied, sound_mended, sound_opening}
-use Rattle.afr_law.specs.ModelLaw.{EndsInTime, IsRead, NamesReads, IsKnown, IsLawful, IsLawfulLine}
+use Rattle.afr_tables.proofs.Merged.{AreBelow, AllBelow, below_merged, rising_merged}
+use Rattle.afr_tables.proofs.Sound.{EachCopy, IsSound, NameFits, CarriesSound, each_changed, sound_applied, sound_mended, sound_opening}
+use Rattle.afr_tables.specs.Ends.{EndsInTime}
+use Rattle.afr_law.specs.ModelLaw.{IsRead, NamesReads, IsKnown, IsLawful, IsLawfulLine}
 
 -- a line that makes a new name makes one below n
 abbrev pub NameIsBelow : ℕ → Line → Type 0

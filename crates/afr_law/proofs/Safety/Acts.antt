@@ -18,7 +18,8 @@ use Rattle.afr_moves.specs.Past.{Beginning, Log, last, last_after, changes, mend
 use Rattle.afr_moves.specs.Honest.{HonestAsk, HonestLine, Honest, asked}
 use Rattle.afr_moves.specs.Rules.{Register, CoveredBy, CoversAll, CoversMend, PlaneIs, MayApply, MayPost, in_force, register, May, MayAsk, Lawful, opened, present}
 use Rattle.afr_moves.specs.Cells.{touches, is_cell, object_of, kind_of}
-use Rattle.afr_law.proofs.Safety.Locks.{Locked, apart_others, cases_lt}
+use Rattle.afr_law.proofs.Safety.Locks.{Locked, apart_others}
+use Rattle.afr_tables.proofs.Entries.{cases_lt}
 use Rattle.afr_law.proofs.Safety.Standing.{Standing}
 use Rattle.afr_law.proofs.Safety.Registers.{standing}
 use Rattle.afr_law.proofs.Safety.Numbers.{Applied, Numbered, numbered, last_asked}

@@ -1,4 +1,5 @@
 -- A lock that is held keeps others out, from its Lock line on.
+use Rattle.afr_tables.proofs.Entries.{cases_lt}
 use Rattle.afr_faults.specs.declared.fault.Fault.TheVariants.{Fail, Lost}
 use Rattle.afr_faults.specs.declared.fault.Fault.{Fault}
 use Rattle.afr_range_locks.specs.Locks.{same_domain}
@@ -53,9 +54,6 @@ cases_le_last u t h = grind arith
 pub and_not : (x y : Bool) → (x && not y) ≡ true → y ≡ false
 and_not x true e = grind arith
 and_not x false e = refl
-
-pub cases_lt : (a b : ℕ) → (a < b) ⊎ (b ≤ a)
-cases_lt a b = grind arith
 
 pub cases_le : (a b : ℕ) → (a < b) ⊎ (a ≡ b) ⊎ (b < a)
 cases_le a b = grind arith

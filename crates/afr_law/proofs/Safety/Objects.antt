@@ -1,4 +1,5 @@
 -- A gfid has one kind of object, on each brick and at each time.
+use Rattle.afr_tables.proofs.Entries.{entry_some, entry_same}
 use Rattle.afr_faults.specs.declared.fault.Fault.TheVariants.{Fail, Lost}
 use Rattle.afr_faults.specs.declared.fault.Fault.{Fault}
 use Rattle.std.proofs.Common.{◌≡◌, ℕ, zero, suc, ◌+◌, ◌<◌, Bool, true, false, ◌&&◌, ◌||◌, not, ◌⊎◌, inl, inr, refl, sym, ap, ◌∙◌, subst, arith, true≢false}
@@ -22,7 +23,8 @@ use Rattle.afr_moves.specs.Rules.{fresh, SeenFit, fits_change}
 use Rattle.afr_moves.specs.Cells.{what_code, entry_code, fits, touches, leaves, object_of, Byte, Attr, Entry}
 use Rattle.afr_object.specs.declared.change.Repair.TheVariants.{CutTo, Copy, PutAttrs, PutNames}
 use Rattle.std.specs.Prelude.{nat_le, nat_lt, max, ◌-◌, List as Seq, [], ◌∷◌}
-use Rattle.afr_law.proofs.Safety.Locks.{before_is, same_self, same_yes, cases_lt}
+use Rattle.afr_law.proofs.Safety.Locks.{before_is, same_self, same_yes}
+use Rattle.afr_tables.proofs.Entries.{cases_lt}
 use Rattle.afr_law.proofs.Safety.Touches.{Touched, touched, Not, Made, Mended, kind_next, begin_kinds}
 use Rattle.afr_moves.specs.Lines.{ask_by, begin_by, look_at, make_in}
 
@@ -93,18 +95,6 @@ made_line (Some (Begin x (Make dir name h what))) g k e = go (h.0 == g) refl e
     go true f h = (x.0, dir.0, name.0, what, ap (λ j. Some (begin_by x.0 (make_in dir.0 name.0 j what))) (same_yes _ g f), h)
     go false f h = absurd (omega (arith, h))
 made_line _ g k e = absurd (omega (arith, e))
-
-pub entry_some : (g : ℕ) (what : What) → entry_code g what ≡ 0 → ⊥
-unfolding entry_code
-entry_some g File e = omega (arith, e)
-entry_some g Dir e = omega (arith, e)
-
-pub entry_same : (g h : ℕ) (what other : What) → entry_code g what ≡ entry_code h other → (g ≡ h) × (what_code what ≡ what_code other)
-unfolding entry_code
-entry_same g h File File e = (omega (arith, e), refl)
-entry_same g h Dir Dir e = (omega (arith, e), refl)
-entry_same g h File Dir e = absurd (omega (arith, e))
-entry_same g h Dir File e = absurd (omega (arith, e))
 
 -- what leaves an entry is a Make of its gfid and kind
 entry_left : (line : Option Line) (d m g : ℕ) (what : What) → leaves_of line (Entry d m) ≡ entry_code g what → (x : ℕ) × (dir : ℕ) × (name : ℕ) × (h : ℕ) × (other : What) × (line ≡ Some (begin_by x (make_in dir name h other))) × (h ≡ g) × (what_code other ≡ what_code what)

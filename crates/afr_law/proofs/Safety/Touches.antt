@@ -11,7 +11,8 @@ use Rattle.afr_moves.specs.Cells.{Cell}
 use Rattle.afr_moves.specs.Past.{Beginning, Tables, tables, after, keep, makes, kind_at, choose, left_by, values, value, last, Log, before, touch, over, stamp, changes, mends, target}
 use Rattle.afr_moves.specs.Cells.{fits, object_of}
 use Rattle.std.specs.Prelude.{nat_le, nat_lt}
-use Rattle.afr_law.proofs.Safety.Locks.{same_yes, cases_lt}
+use Rattle.afr_law.proofs.Safety.Locks.{same_yes}
+use Rattle.afr_tables.proofs.Entries.{cases_lt}
 use Rattle.afr_moves.specs.Lines.{ask_by}
 
 -- how a line touches a cell

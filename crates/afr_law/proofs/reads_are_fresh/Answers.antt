@@ -1,5 +1,5 @@
 use Rattle.afr_law.proofs.Model.Fresh.{model_fresh_since, model_fresh_by_looks, exact_fresh}
-use Rattle.afr_law.proofs.Reads.Fresh.{fresh_reads}
+use Rattle.afr_law.proofs.Freshness.Fresh.{fresh_reads}
 use Rattle.afr_law.proofs.reads_are_fresh.Goals as goal
 
 pub returns : goal.returns

@@ -1,6 +1,6 @@
 use Rattle.std.proofs.Common.{Err, ap, reverse, subst, sym, take, ◌∙◌}
 use Rattle.afr_check.specs.Seen.{place_seen}
-use Rattle.afr_law.specs.Codes.{kept_by}
+use Rattle.afr_tables.specs.Codes.{kept_by}
 use Rattle.afr_discipline.specs.Stands.{Stands}
 use Rattle.afr_moves.specs.Followed.{register_by}
 use Rattle.afr_audit.proofs.CourseLemmas.{followed_place, followed_register}

@@ -1,7 +1,7 @@
 use Rattle.std.proofs.Common.{◌≡◌, reverse, take}
 use Rattle.afr_check.specs.Seen.{place_seen}
 use Rattle.afr_lines.specs.Places.{place_of}
-use Rattle.afr_law.specs.Codes.{kept_by}
+use Rattle.afr_tables.specs.Codes.{kept_by}
 use Rattle.afr_discipline.specs.Stands.{Stands}
 use Rattle.afr_moves.specs.Followed.{register_by}
 use Rattle.afr_audit.proofs.followed.course_of.Given as goal

@@ -1,6 +1,6 @@
 use Rattle.std.proofs.Common.{Bool, ap, reverse, subst, sym, ◌∙◌}
 use Rattle.afr_lines.specs.Places.{Place, opens}
-use Rattle.afr_law.specs.Codes.{kept_by}
+use Rattle.afr_tables.specs.Codes.{kept_by}
 use Rattle.afr_moves.specs.Discipline.{in_force}
 use Rattle.afr_discipline.specs.Stands.{Stands}
 use Rattle.afr_audit.specs.Followed.{register_of}

@@ -22,9 +22,9 @@ use Rattle.afr_object.specs.declared.object.Object.{Object}
 use Rattle.afr_brick.specs.TablesLemmas.{copy_at-changed, copy_at-made}
 use Rattle.afr_model.specs.Cells.{IsByte, IsAttr, IsEntry, value_if, value_in}
 use Rattle.afr_moves.specs.Cells.{Cell, Byte, Attr, Entry, object_of, kind_of, what_code, entry_code, fits, is_cell, touches, leaves}
-use Rattle.afr_law.specs.Codes.{kind_code, value_code, cell_by, kind_in, code_in}
-use Rattle.afr_law.proofs.Model.Names.{AreRising, lookup_named, lookup_removed}
-use Rattle.afr_law.proofs.Safety.Locks.{cases_lt}
+use Rattle.afr_tables.specs.Codes.{kind_code, value_code, cell_by, kind_in, code_in}
+use Rattle.afr_tables.proofs.Names.{AreRising, lookup_named, lookup_removed}
+use Rattle.afr_tables.proofs.Entries.{cases_lt}
 
 -- what a copy has in a cell, as a number
 abbrev pub code_of : Cell → Option Object → ℕ

@@ -16,7 +16,8 @@ use Rattle.afr_law.proofs.Safety.Acts.{may_ask, working}
 use Rattle.afr_moves.specs.Honest.{Honest}
 use Rattle.afr_moves.specs.Rules.{Lawful, May, MayApply, MayPost, Register, area_object, begun, dropping, fresh, in_force, is_area, is_none, locking, looked, mend_cells, note, note_ask, opened, present, put_view, register, second_freed, second_of, viewed, busy}
 use Rattle.afr_moves.specs.Lines.{ask_by, post_on}
-use Rattle.afr_law.proofs.Safety.Locks.{cases_lt, same_self}
+use Rattle.afr_tables.proofs.Entries.{cases_lt}
+use Rattle.afr_law.proofs.Safety.Locks.{same_self}
 use Rattle.afr_moves.specs.Past.{Beginning, Log, is_gone, is_of}
 use Rattle.afr_law.proofs.Safety.Registers.{Asks, Begins, Ends, HealBegins, HealEnds, Own, registers}
 use Rattle.afr_moves.specs.Sets.{with, without}

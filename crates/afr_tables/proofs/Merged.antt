@@ -12,11 +12,11 @@ use Rattle.afr_object.specs.Repairs.{outranks, higher, merged_into, merged, all_
 use Rattle.afr_object.specs.declared.entry.Entry.{Entry as NameEntry}
 use Rattle.afr_model.specs.Cells.{IsEntry}
 use Rattle.afr_moves.specs.Cells.{what_code, entry_code}
-use Rattle.afr_law.specs.Codes.{value_code, kind_in}
-use Rattle.afr_law.proofs.Model.Names.{AreAbove, AreRising, by_order, lookup_named, rising_inserted, above_none, same_name_of}
-use Rattle.afr_law.proofs.Safety.Objects.{entry_some, entry_same}
+use Rattle.afr_tables.specs.Codes.{value_code, kind_in}
+use Rattle.afr_tables.proofs.Names.{AreAbove, AreRising, by_order, lookup_named, rising_inserted, above_none, same_name_of}
+use Rattle.afr_tables.proofs.Entries.{entry_some, entry_same}
 use Rattle.afr_moves.specs.Past.{keep, named_kind}
-use Rattle.afr_law.proofs.Model.Copies.{kind_made}
+use Rattle.afr_tables.proofs.Copies.{kind_made}
 
 -- names of a directory, with what they lead to
 abbrev pub NameTable : Type 0

@@ -9,12 +9,12 @@ use Rattle.afr_object.specs.declared.change.Change.TheVariants.{Make}
 use Rattle.afr_plan.specs.declared.plan.Plan.{Plan}
 use Rattle.afr_brick.specs.TablesLemmas.{same_gfid}
 use Rattle.afr_moves.specs.Cells.{Entry, what_code, entry_code, fits, touches, leaves}
-use Rattle.afr_law.specs.Codes.{kind_code, kind_in, code_in, kept_by}
+use Rattle.afr_tables.specs.Codes.{kind_code, kind_in, code_in, kept_by}
 use Rattle.afr_moves.specs.Past.{Beginning, keep}
-use Rattle.afr_law.proofs.Safety.Objects.{entry_same, entry_some}
-use Rattle.afr_law.proofs.Model.Copies.{kind_applied}
-use Rattle.afr_law.proofs.Model.Values.{code_applied, after_change}
-use Rattle.afr_law.proofs.Model.Sound.{sound_opening}
+use Rattle.afr_tables.proofs.Entries.{entry_same, entry_some}
+use Rattle.afr_tables.proofs.Copies.{kind_applied}
+use Rattle.afr_tables.proofs.Values.{code_applied, after_change}
+use Rattle.afr_tables.proofs.Sound.{sound_opening}
 
 -- the change that makes the next opening file
 abbrev pub opening_make : ℕ → Change
@@ -67,7 +67,7 @@ pub opening_named : (i d m g : ℕ) (what : What) → code_in (opening i) (Entry
 unfolding leaves
 opening_named zero d m g what e = absurd (entry_some g what (sym e ∙ start))
   where
-    of_test : (is : Bool) → Rattle.afr_law.proofs.Model.Values.code_of (Entry d m) (if is then Some (new_object Dir) else None) ≡ 0
+    of_test : (is : Bool) → Rattle.afr_tables.proofs.Values.code_of (Entry d m) (if is then Some (new_object Dir) else None) ≡ 0
     of_test true = refl
     of_test false = refl
 
