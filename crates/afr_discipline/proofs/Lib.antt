@@ -6,6 +6,7 @@ mod SetsOfFive
 mod NotedLaw
 mod NotedShape
 mod NotedUpto
+mod InPlace
 mod StepsOutside
 mod StepsInside
 mod NotedSteps

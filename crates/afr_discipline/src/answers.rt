@@ -6,8 +6,8 @@ ghost use Rattle.afr_moves.specs.Past.{is_gone};
 use afr_lines::Told;
 use afr_object::View;
 
-pub(crate) fn is_granted(told: Told) -> bool
-    ensures { result ≡ is_granted told }
+pub(crate) fn is_granted(told: &Told) -> bool
+    ensures { result ≡ is_granted told.now }
 {
     match told {
         Told::Granted => true,
@@ -15,8 +15,8 @@ pub(crate) fn is_granted(told: Told) -> bool
     }
 }
 
-pub(crate) fn is_done(told: Told) -> bool
-    ensures { result ≡ is_done told }
+pub(crate) fn is_done(told: &Told) -> bool
+    ensures { result ≡ is_done told.now }
 {
     match told {
         Told::Done => true,
@@ -25,8 +25,8 @@ pub(crate) fn is_done(told: Told) -> bool
 }
 
 /// A read gave something.
-pub(crate) fn is_given(told: Told) -> bool
-    ensures { result ≡ is_given told }
+pub(crate) fn is_given(told: &Told) -> bool
+    ensures { result ≡ is_given told.now }
 {
     match told {
         Told::Given => true,
@@ -35,8 +35,8 @@ pub(crate) fn is_given(told: Told) -> bool
 }
 
 /// A failed unlock is asked again.
-pub(crate) fn is_failed(told: Told) -> bool
-    ensures { result ≡ is_failed told }
+pub(crate) fn is_failed(told: &Told) -> bool
+    ensures { result ≡ is_failed told.now }
 {
     match told {
         Told::Failed => true,
@@ -45,8 +45,8 @@ pub(crate) fn is_failed(told: Told) -> bool
 }
 
 /// The session has ended, and with it its locks.
-pub(crate) fn is_gone(told: Told) -> bool
-    ensures { result ≡ is_gone told }
+pub(crate) fn is_gone(told: &Told) -> bool
+    ensures { result ≡ is_gone told.now }
 {
     match told {
         Told::NotConnected => true,
@@ -55,8 +55,8 @@ pub(crate) fn is_gone(told: Told) -> bool
 }
 
 /// No answer, as far as a heal goes.
-pub(crate) fn fails(told: Told) -> bool
-    ensures { result ≡ fails told }
+pub(crate) fn fails(told: &Told) -> bool
+    ensures { result ≡ fails told.now }
 {
     match told {
         Told::NotConnected | Told::Failed => true,
@@ -65,8 +65,8 @@ pub(crate) fn fails(told: Told) -> bool
 }
 
 /// Another actor has a lock that is in the way.
-pub(crate) fn is_held(told: Told) -> bool
-    ensures { result ≡ is_held told }
+pub(crate) fn is_held(told: &Told) -> bool
+    ensures { result ≡ is_held told.now }
 {
     match told {
         Told::Held(_) => true,
@@ -75,8 +75,8 @@ pub(crate) fn is_held(told: Told) -> bool
 }
 
 /// An answer to a look: a view, or that there is no copy.
-pub(crate) fn answers(told: Told) -> bool
-    ensures { result ≡ answers told }
+pub(crate) fn answers(told: &Told) -> bool
+    ensures { result ≡ answers told.now }
 {
     match told {
         Told::Seen(_) | Told::NoObject => true,
@@ -85,18 +85,18 @@ pub(crate) fn answers(told: Told) -> bool
 }
 
 /// The view that was told.
-pub(crate) fn view_of(told: Told) -> Option<View>
-    ensures { result ≡ view_of told }
+pub(crate) fn view_of(told: &Told) -> Option<View>
+    ensures { result ≡ view_of told.now }
 {
     match told {
-        Told::Seen(view) => Some(view),
+        Told::Seen(view) => Some(*view),
         _ => None,
     }
 }
 
 /// The position of a read that gave something.
-pub(crate) fn given(told: Told, at: u32) -> Option<u32>
-    ensures { result ≡ given told at }
+pub(crate) fn given(told: &Told, at: u32) -> Option<u32>
+    ensures { result ≡ given told.now at }
 {
     match told {
         Told::Given => Some(at),

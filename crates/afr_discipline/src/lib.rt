@@ -9,8 +9,6 @@ mod heal_numbers;
 mod heal_owed;
 mod heal_reads;
 mod heal_sets;
-#[cfg(test)]
-mod heal_tests;
 mod heal_turns;
 mod heals;
 mod laws;
@@ -20,15 +18,11 @@ mod note_heal;
 mod note_law;
 mod note_steps;
 mod note_stops;
-#[cfg(test)]
-mod note_tests;
 mod notes;
 mod of_heals;
 mod outside;
 mod register;
 mod steps;
-#[cfg(test)]
-mod tests;
 mod tests_of_five;
 mod views;
 

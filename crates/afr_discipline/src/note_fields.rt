@@ -72,16 +72,13 @@ fn source_of(register: &Register) -> Option<BrickId>
 }
 
 /// What the other fields say, for those who read it.
-pub(crate) fn published(register: Register) -> Register
-    requires { register.shape.n ≤ 5 }
-    ensures { result ≡ published register }
+pub(crate) fn published(register: &mut Register)
+    requires { register.old.shape.n ≤ 5 }
+    ensures { register.new ≡ published register.old }
 {
-    Register {
-        attempt: attempt_of(&register),
-        begun_before_looks: has_begun(&register),
-        heal: heal_of(&register),
-        source: source_of(&register),
-        mended: asked_at(&register, Step::Mends),
-        ..register
-    }
+    register.attempt = attempt_of(register);
+    register.begun_before_looks = has_begun(register);
+    register.heal = heal_of(register);
+    register.source = source_of(register);
+    register.mended = asked_at(register, Step::Mends);
 }

@@ -44,28 +44,25 @@ fn part_after(register: &Register, area: Area) -> Phase
 }
 
 /// A look of a heal; those of its first part are kept to its end.
-fn looked_inside(register: Register, b: BrickId, told: Told) -> Register
+fn looked_inside(register: &mut Register, b: BrickId, told: &Told)
     requires { b.0 < 5 }
-    ensures { result ≡ looked_inside register b.0 told }
+    ensures { register.new ≡ looked_inside register.old b.0 told.now }
 {
     let again = !(answers(told) || fails(told));
     let opening = is_in_opening(register.phase);
-    Register {
-        looked: shown(register.looked, b, told),
-        seen: shown_if(opening, register.seen, b, told),
-        ..entered(register, Step::Looks, b, again)
-    }
+    shown(&mut register.looked, b, told);
+    shown_if(opening, &mut register.seen, b, told);
+    entered(register, Step::Looks, b, again);
 }
 
 /// A read of a heal.
-fn read_inside(register: Register, at: u32, b: BrickId, told: Told) -> Register
+fn read_inside(register: &mut Register, at: u32, b: BrickId, told: &Told)
     requires { b.0 < 5 }
-    ensures { result ≡ read_inside register at b.0 told }
+    ensures { register.new ≡ read_inside register.old at b.0 told.now }
 {
     let again = !(is_given(told) || fails(told));
-    let mut after = entered(register, Step::Reads, b, again);
-    after.reads[b.0 as usize] = given(told, at);
-    after
+    register.reads[b.0 as usize] = given(told, at);
+    entered(register, Step::Reads, b, again);
 }
 
 /// The bytes that are done after an unlock: the first one ends a piece.
@@ -81,62 +78,51 @@ fn upto_after(register: &Register) -> u32
 }
 
 /// A change of the numbers or of the contents is asked again unless it was carried out or failed.
-fn leaves_open(told: Told) -> bool
-    ensures { result ≡ leaves_open told }
+fn leaves_open(told: &Told) -> bool
+    ensures { result ≡ leaves_open told.now }
 {
     !(is_done(told) || fails(told))
 }
 
-fn noted_lock(
-    register: Register,
-    at: u32,
-    b: BrickId,
-    domain: Domain,
-    area: Area,
-    told: Told,
-) -> Register
+fn noted_lock(register: &mut Register, at: u32, b: BrickId, domain: Domain, area: Area, told: &Told)
     requires { b.0 < 5 }
-    ensures { result ≡ noted_inside register at b.0 (Request.Lock domain area) told }
+    ensures { register.new ≡ noted_inside register.old at b.0 (Request.Lock domain area) told.now }
 {
     match domain {
         Domain::Heal => entered(register, Step::HealLocks, b, false),
-        Domain::Work => Register {
-            phase: part_after(&register, area),
-            ..entered(
-                register,
-                Step::WorkLocks,
-                b,
-                !(is_granted(told) || fails(told)),
-            )
-        },
+        Domain::Work => {
+            register.phase = part_after(register, area);
+            let again = !(is_granted(told) || fails(told));
+            entered(register, Step::WorkLocks, b, again);
+        }
     }
 }
 
 fn noted_unlock(
-    register: Register,
+    register: &mut Register,
     at: u32,
     b: BrickId,
     domain: Domain,
     area: Area,
-    told: Told,
-) -> Register
+    told: &Told,
+)
     requires small { b.0 < 5 }
-    requires room { register.upto + span < 2 ^ 32 }
-    ensures { result ≡ noted_inside register at b.0 (Request.Unlock domain area) told }
+    requires room { register.old.upto + span < 2 ^ 32 }
+    ensures { register.new ≡ noted_inside register.old at b.0 (Request.Unlock domain area) told.now }
 {
     match domain {
-        Domain::Work => Register {
-            upto: upto_after(&register),
-            ..entered(register, Step::Unlocks, b, is_failed(told))
-        },
+        Domain::Work => {
+            register.upto = upto_after(register);
+            entered(register, Step::Unlocks, b, is_failed(told));
+        }
         Domain::Heal => entered(register, Step::HealUnlocks, b, is_failed(told)),
     }
 }
 
-fn noted_inside(register: Register, at: u32, b: BrickId, request: &Request, told: Told) -> Register
+fn noted_inside(register: &mut Register, at: u32, b: BrickId, request: &Request, told: &Told)
     requires small { b.0 < 5 }
-    requires room { register.upto + span < 2 ^ 32 }
-    ensures { result ≡ noted_inside register at b.0 request.now told }
+    requires room { register.old.upto + span < 2 ^ 32 }
+    ensures { register.new ≡ noted_inside register.old at b.0 request.now told.now }
 {
     match request {
         Request::Lock { domain, area } => noted_lock(register, at, b, *domain, *area, told),
@@ -152,12 +138,12 @@ fn noted_inside(register: Register, at: u32, b: BrickId, request: &Request, told
         | Request::ReadAttr { .. }
         | Request::Index
         | Request::Apply { .. }
-        | Request::Post { .. } => register,
+        | Request::Post { .. } => {}
     }
 }
 
-fn broken_by_lock(register: &Register, domain: Domain, area: Area, told: Told) -> bool
-    ensures { result ≡ broken_by register.now (Request.Lock domain area) told }
+fn broken_by_lock(register: &Register, domain: Domain, area: Area, told: &Told) -> bool
+    ensures { result ≡ broken_by register.now (Request.Lock domain area) told.now }
 {
     match domain {
         Domain::Heal => is_held(told),
@@ -166,8 +152,8 @@ fn broken_by_lock(register: &Register, domain: Domain, area: Area, told: Told) -
 }
 
 /// Whether the answer ends the heal.
-fn broken_by(register: &Register, request: &Request, told: Told) -> bool
-    ensures { result ≡ broken_by register.now request.now told }
+fn broken_by(register: &Register, request: &Request, told: &Told) -> bool
+    ensures { result ≡ broken_by register.now request.now told.now }
 {
     match request {
         Request::Lock { domain, area } => broken_by_lock(register, *domain, *area, told),
@@ -215,24 +201,24 @@ fn still_possible(register: &Register, b: BrickId, request: &Request) -> BrickSe
 
 /// What the steps keep of a request and its answer.
 pub(crate) fn noted_steps(
-    register: Register,
+    register: &mut Register,
     at: u32,
     b: BrickId,
     request: &Request,
-    told: Told,
-) -> Register
-    requires few { register.shape.n ≤ 5 }
+    told: &Told,
+)
+    requires few { register.old.shape.n ≤ 5 }
     requires small { b.0 < 5 }
-    requires room { register.upto + span < 2 ^ 32 }
-    ensures { result ≡ noted_steps register at b.0 request.now told }
+    requires room { register.old.upto + span < 2 ^ 32 }
+    ensures { register.new ≡ noted_steps register.old at b.0 request.now told.now }
 {
     if register.inside {
-        Register {
-            possible: still_possible(&register, b, request),
-            broken: register.broken || broken_by(&register, request, told),
-            ..noted_inside(register, at, b, request, told)
-        }
+        let possible = still_possible(register, b, request);
+        let broken = register.broken || broken_by(register, request, told);
+        noted_inside(register, at, b, request, told);
+        register.possible = possible;
+        register.broken = broken;
     } else {
-        noted_outside(register, b, request, told)
+        noted_outside(register, b, request, told);
     }
 }

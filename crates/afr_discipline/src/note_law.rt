@@ -11,20 +11,17 @@ use afr_lines::{Area, Request, Told};
 use afr_range_locks::Domain;
 
 /// A new transaction, or a new part of a heal.
-fn anew(register: Register, area: Area) -> Register
-    ensures { result ≡ anew register area }
+fn anew(register: &mut Register, area: Area)
+    ensures { register.new ≡ anew register.old area }
 {
-    Register {
-        begun: None,
-        area: Some(area),
-        held: BrickSet::none(),
-        second: None,
-        second_held: BrickSet::none(),
-        pre: BrickSet::none(),
-        done: BrickSet::none(),
-        post: BrickSet::none(),
-        ..register
-    }
+    register.begun = None;
+    register.area = Some(area);
+    register.held = BrickSet::none();
+    register.second = None;
+    register.second_held = BrickSet::none();
+    register.pre = BrickSet::none();
+    register.done = BrickSet::none();
+    register.post = BrickSet::none();
 }
 
 /// The other area that was named.
@@ -39,71 +36,60 @@ fn second_in(register: &Register, area: Area) -> Option<Area>
 }
 
 /// A Work lock was asked for.
-fn named(register: Register, area: Area) -> Register
-    requires { register.shape.n ≤ 5 }
-    ensures { result ≡ named register area }
+fn named(register: &mut Register, area: Area)
+    requires { register.old.shape.n ≤ 5 }
+    ensures { register.new ≡ named register.old area }
 {
-    if is_busy(&register) {
-        Register {
-            second: second_in(&register, area),
-            ..register
-        }
+    if is_busy(register) {
+        register.second = second_in(register, area);
     } else {
-        anew(register, area)
+        anew(register, area);
     }
 }
 
-fn with_held(register: Register, b: BrickId) -> Register
+fn with_held(register: &mut Register, b: BrickId)
     requires { b.0 < 5 }
-    ensures { result ≡ with_held register b.0 }
+    ensures { register.new ≡ with_held register.old b.0 }
 {
-    Register {
-        held: register.held.with(b),
-        ..register
-    }
+    register.held = register.held.with(b);
 }
 
 /// A Work lock was granted.
-fn taken(register: Register, area: Area, b: BrickId) -> Register
-    requires few { register.shape.n ≤ 5 }
+fn taken(register: &mut Register, area: Area, b: BrickId)
+    requires few { register.old.shape.n ≤ 5 }
     requires small { b.0 < 5 }
-    ensures { result ≡ taken register area b.0 }
+    ensures { register.new ≡ taken register.old area b.0 }
 {
-    if is_busy(&register) && !is_the_area(register.area, area) {
-        Register {
-            second: Some(area),
-            second_held: register.second_held.with(b),
-            ..register
-        }
+    if is_busy(register) && !is_the_area(register.area, area) {
+        register.second = Some(area);
+        register.second_held = register.second_held.with(b);
     } else {
-        with_held(named(register, area), b)
+        named(register, area);
+        with_held(register, b);
     }
 }
 
 /// A Work lock.
-fn locked(register: Register, area: Area, b: BrickId, told: Told) -> Register
-    requires few { register.shape.n ≤ 5 }
+fn locked(register: &mut Register, area: Area, b: BrickId, told: &Told)
+    requires few { register.old.shape.n ≤ 5 }
     requires small { b.0 < 5 }
-    ensures { result ≡ locked register area b.0 told }
+    ensures { register.new ≡ locked register.old area b.0 told.now }
 {
     if is_granted(told) {
-        taken(register, area, b)
+        taken(register, area, b);
     } else {
-        named(register, area)
+        named(register, area);
     }
 }
 
 /// A Heal lock: its object is the heal's from the first line on.
-fn heal_locked(register: Register, area: Area, b: BrickId, told: Told) -> Register
+fn heal_locked(register: &mut Register, area: Area, b: BrickId, told: &Told)
     requires { b.0 < 5 }
-    ensures { result ≡ heal_locked register area b.0 told }
+    ensures { register.new ≡ heal_locked register.old area b.0 told.now }
 {
-    Register {
-        inside: true,
-        object: object_of(area),
-        healing: register.healing.with_if(is_granted(told), b),
-        ..register
-    }
+    register.inside = true;
+    register.object = object_of(area);
+    register.healing = register.healing.with_if(is_granted(told), b);
 }
 
 fn second_left(register: &Register, area: Area, b: BrickId) -> BrickSet
@@ -118,27 +104,21 @@ fn second_left(register: &Register, area: Area, b: BrickId) -> BrickSet
 }
 
 /// An area was given back.
-fn released(register: Register, area: Area, b: BrickId) -> Register
+fn released(register: &mut Register, area: Area, b: BrickId)
     requires { b.0 < 5 }
-    ensures { result ≡ released register area b.0 }
+    ensures { register.new ≡ released register.old area b.0 }
 {
     if is_the_area(register.area, area) {
-        Register {
-            held: register.held.without(b),
-            ..register
-        }
+        register.held = register.held.without(b);
     } else {
-        Register {
-            second_held: second_left(&register, area, b),
-            ..register
-        }
+        register.second_held = second_left(register, area, b);
     }
 }
 
-fn noted_lock(register: Register, b: BrickId, domain: Domain, area: Area, told: Told) -> Register
-    requires few { register.shape.n ≤ 5 }
+fn noted_lock(register: &mut Register, b: BrickId, domain: Domain, area: Area, told: &Told)
+    requires few { register.old.shape.n ≤ 5 }
     requires small { b.0 < 5 }
-    ensures { result ≡ noted_law register b.0 (Request.Lock domain area) told }
+    ensures { register.new ≡ noted_law register.old b.0 (Request.Lock domain area) told.now }
 {
     match domain {
         Domain::Work => locked(register, area, b, told),
@@ -147,47 +127,32 @@ fn noted_lock(register: Register, b: BrickId, domain: Domain, area: Area, told: 
 }
 
 /// Only an unlock that was carried out gives a lock back.
-fn noted_unlock(register: Register, b: BrickId, domain: Domain, area: Area, told: Told) -> Register
+fn noted_unlock(register: &mut Register, b: BrickId, domain: Domain, area: Area, told: &Told)
     requires { b.0 < 5 }
-    ensures { result ≡ noted_law register b.0 (Request.Unlock domain area) told }
+    ensures { register.new ≡ noted_law register.old b.0 (Request.Unlock domain area) told.now }
 {
     if !is_done(told) {
-        return register;
+        return;
     }
     match domain {
         Domain::Work => released(register, area, b),
-        Domain::Heal => Register {
-            healing: register.healing.without(b),
-            ..register
-        },
+        Domain::Heal => register.healing = register.healing.without(b),
     }
 }
 
 /// What the law's register keeps of a request and its answer.
-pub(crate) fn noted_law(register: Register, b: BrickId, request: &Request, told: Told) -> Register
-    requires few { register.shape.n ≤ 5 }
+pub(crate) fn noted_law(register: &mut Register, b: BrickId, request: &Request, told: &Told)
+    requires few { register.old.shape.n ≤ 5 }
     requires small { b.0 < 5 }
-    ensures { result ≡ noted_law register b.0 request.now told }
+    ensures { register.new ≡ noted_law register.old b.0 request.now told.now }
 {
     match request {
         Request::Lock { domain, area } => noted_lock(register, b, *domain, *area, told),
         Request::Unlock { domain, area } => noted_unlock(register, b, *domain, *area, told),
-        Request::Pre { .. } => Register {
-            pre: register.pre.with_if(is_done(told), b),
-            ..register
-        },
-        Request::Apply { .. } => Register {
-            done: register.done.with_if(is_done(told), b),
-            ..register
-        },
-        Request::Post { .. } => Register {
-            post: register.post.with_if(is_done(told), b),
-            ..register
-        },
-        Request::Settle { .. } => Register {
-            settled: register.settled.with_if(is_done(told), b),
-            ..register
-        },
+        Request::Pre { .. } => register.pre = register.pre.with_if(is_done(told), b),
+        Request::Apply { .. } => register.done = register.done.with_if(is_done(told), b),
+        Request::Post { .. } => register.post = register.post.with_if(is_done(told), b),
+        Request::Settle { .. } => register.settled = register.settled.with_if(is_done(told), b),
         Request::Look { .. }
         | Request::ReadBytes { .. }
         | Request::ReadName { .. }
@@ -195,23 +160,18 @@ pub(crate) fn noted_law(register: Register, b: BrickId, request: &Request, told:
         | Request::ReadAttr { .. }
         | Request::ReadAttrs { .. }
         | Request::Index
-        | Request::Mend { .. } => register,
+        | Request::Mend { .. } => {}
     }
 }
 
 /// A session that has ended took its locks along.
-pub(crate) fn dropped(gone: bool, b: BrickId, register: Register) -> Register
+pub(crate) fn dropped(gone: bool, b: BrickId, register: &mut Register)
     requires { b.0 < 5 }
-    ensures { result ≡ dropped gone b.0 register }
+    ensures { register.new ≡ dropped gone b.0 register.old }
 {
     if gone {
-        Register {
-            held: register.held.without(b),
-            second_held: register.second_held.without(b),
-            healing: register.healing.without(b),
-            ..register
-        }
-    } else {
-        register
+        register.held = register.held.without(b);
+        register.second_held = register.second_held.without(b);
+        register.healing = register.healing.without(b);
     }
 }

@@ -24,72 +24,57 @@ pub fn asked_at(register: &Register, step: Step) -> BrickSet
 }
 
 /// The brick was asked in this step; it is asked again where the answer leaves it so.
-pub(crate) fn entered(register: Register, step: Step, b: BrickId, again: bool) -> Register
+pub(crate) fn entered(register: &mut Register, step: Step, b: BrickId, again: bool)
     requires { b.0 < 5 }
-    ensures { result ≡ entered register step b.0 again }
+    ensures { register.new ≡ entered register.old step b.0 again }
 {
-    Register {
-        step,
-        asked: asked_at(&register, step).with_if(!again, b),
-        ..register
-    }
+    register.asked = asked_at(register, step).with_if(!again, b);
+    register.step = step;
 }
 
 /// A line that enters no step.
-fn stayed(register: Register) -> Register
-    ensures { result ≡ stayed register }
+fn stayed(register: &mut Register)
+    ensures { register.new ≡ stayed register.old }
 {
     if is_same_step(register.step, Step::Untouched) {
-        Register {
-            step: Step::Open,
-            ..register
-        }
-    } else {
-        register
+        register.step = Step::Open;
     }
 }
 
 /// A look: what the brick showed at an earlier one is forgotten.
-pub(crate) fn shown(looked: Looked, b: BrickId, told: Told) -> Looked
+pub(crate) fn shown(looked: &mut Looked, b: BrickId, told: &Told)
     requires { b.0 < 5 }
-    ensures { result ≡ shown looked b.0 told }
+    ensures { looked.new ≡ shown looked.old b.0 told.now }
 {
-    let mut after = looked;
     if answers(told) {
-        after.note(b, view_of(told));
+        looked.note(b, view_of(told));
     } else {
-        after.lose(b);
+        looked.lose(b);
     }
-    after
 }
 
 /// A look, where it counts.
-pub(crate) fn shown_if(counts: bool, looked: Looked, b: BrickId, told: Told) -> Looked
+pub(crate) fn shown_if(counts: bool, looked: &mut Looked, b: BrickId, told: &Told)
     requires { b.0 < 5 }
-    ensures { result ≡ shown_if counts looked b.0 told }
+    ensures { looked.new ≡ shown_if counts looked.old b.0 told.now }
 {
     if counts {
-        shown(looked, b, told)
-    } else {
-        looked
+        shown(looked, b, told);
     }
 }
 
 /// A Work lock outside a heal: the first begins a transaction.
-fn locked_outside(register: Register) -> Register
-    requires { register.shape.n ≤ 5 }
-    ensures { result ≡ locked_outside register }
+fn locked_outside(register: &mut Register)
+    requires { register.old.shape.n ≤ 5 }
+    ensures { register.new ≡ locked_outside register.old }
 {
-    if is_busy(&register) {
-        stayed(register)
+    if is_busy(register) {
+        stayed(register);
     } else {
-        Register {
-            step: Step::Open,
-            asked: BrickSet::none(),
-            unlocked: false,
-            looked: Looked::none(),
-            ..register
-        }
+        register.step = Step::Open;
+        register.asked = BrickSet::none();
+        register.unlocked = false;
+        register.looked = Looked::none();
     }
 }
 
@@ -101,53 +86,44 @@ fn counts(register: &Register, b: BrickId, g: Gfid) -> bool
     register.begun.is_none() && register.held.has(b) && is_on_object(register.area, g)
 }
 
-fn noted_lock(register: Register, b: BrickId, domain: Domain, area: Area, told: Told) -> Register
-    requires few { register.shape.n ≤ 5 }
+fn noted_lock(register: &mut Register, b: BrickId, domain: Domain, area: Area, told: &Told)
+    requires few { register.old.shape.n ≤ 5 }
     requires small { b.0 < 5 }
-    ensures { result ≡ noted_outside register b.0 (Request.Lock domain area) told }
+    ensures { register.new ≡ noted_outside register.old b.0 (Request.Lock domain area) told.now }
 {
     match domain {
         Domain::Work => locked_outside(register),
-        Domain::Heal => Register {
-            broken: register.broken || is_held(told),
-            ..entered(register, Step::HealLocks, b, false)
-        },
+        Domain::Heal => {
+            entered(register, Step::HealLocks, b, false);
+            register.broken = register.broken || is_held(told);
+        }
     }
 }
 
-fn noted_unlock(register: Register, b: BrickId, domain: Domain, area: Area, told: Told) -> Register
-    ensures { result ≡ noted_outside register b.0 (Request.Unlock domain area) told }
+fn noted_unlock(register: &mut Register, b: BrickId, domain: Domain, area: Area, told: &Told)
+    ensures { register.new ≡ noted_outside register.old b.0 (Request.Unlock domain area) told.now }
 {
+    stayed(register);
     match domain {
-        Domain::Work => Register {
-            unlocked: is_the_area(register.area, area) || register.unlocked,
-            ..stayed(register)
-        },
-        Domain::Heal => stayed(register),
+        Domain::Work => register.unlocked = is_the_area(register.area, area) || register.unlocked,
+        Domain::Heal => {}
     }
 }
 
-fn noted_look(register: Register, b: BrickId, g: Gfid, told: Told) -> Register
+fn noted_look(register: &mut Register, b: BrickId, g: Gfid, told: &Told)
     requires { b.0 < 5 }
-    ensures { result ≡ noted_outside register b.0 (Request.Look g) told }
+    ensures { register.new ≡ noted_outside register.old b.0 (Request.Look g) told.now }
 {
-    let counts = counts(&register, b, g);
-    Register {
-        looked: shown_if(counts, register.looked, b, told),
-        ..stayed(register)
-    }
+    let counts = counts(register, b, g);
+    stayed(register);
+    shown_if(counts, &mut register.looked, b, told);
 }
 
 /// What the steps keep of a request outside a heal, and its answer.
-pub(crate) fn noted_outside(
-    register: Register,
-    b: BrickId,
-    request: &Request,
-    told: Told,
-) -> Register
-    requires few { register.shape.n ≤ 5 }
+pub(crate) fn noted_outside(register: &mut Register, b: BrickId, request: &Request, told: &Told)
+    requires few { register.old.shape.n ≤ 5 }
     requires small { b.0 < 5 }
-    ensures { result ≡ noted_outside register b.0 request.now told }
+    ensures { register.new ≡ noted_outside register.old b.0 request.now told.now }
 {
     match request {
         Request::Lock { domain, area } => noted_lock(register, b, *domain, *area, told),

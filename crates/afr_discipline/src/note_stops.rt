@@ -80,12 +80,9 @@ fn stops_at(register: &Register) -> bool
 }
 
 /// A heal that a step ends has only unlocks left.
-pub(crate) fn stopped(register: Register) -> Register
-    requires { register.shape.n ≤ 5 }
-    ensures { result ≡ stopped register }
+pub(crate) fn stopped(register: &mut Register)
+    requires { register.old.shape.n ≤ 5 }
+    ensures { register.new ≡ stopped register.old }
 {
-    Register {
-        broken: register.broken || stops_at(&register),
-        ..register
-    }
+    register.broken = register.broken || stops_at(register);
 }

@@ -2,7 +2,7 @@
 ghost use Rattle.std.specs.Prelude.{◌≡◌, ◌+◌, ◌^◌, ◌<◌, ◌≤◌, if◌then◌else◌, length};
 ghost use Rattle.afr_moves.specs.Register.{Exact, span};
 ghost use Rattle.afr_discipline.specs.Moves.{note_move};
-ghost use Rattle.afr_discipline.specs.Notes.{AsksBelow, joined, noted, noted_ask, noted_begin, noted_part, upto_noted};
+ghost use Rattle.afr_discipline.specs.Notes.{AsksBelow, noted, noted_ask, noted_begin, noted_part, upto_noted};
 ghost use Rattle.afr_moves.specs.Keeps.{keeps_in};
 ghost use Rattle.afr_discipline.specs.Stands.{Stands, no_lines};
 
@@ -17,85 +17,59 @@ use afr_choice::Looked;
 use afr_lines::{Request, Told};
 use afr_object::View;
 
-/// The steps of the one, and of the other its locks, its area, its numbers and its heal.
-fn joined(steps: Register, law: Register) -> Register
-    ensures { result ≡ joined steps law }
-{
-    Register {
-        begun: law.begun,
-        area: law.area,
-        held: law.held,
-        second: law.second,
-        second_held: law.second_held,
-        pre: law.pre,
-        done: law.done,
-        post: law.post,
-        inside: law.inside,
-        object: law.object,
-        kind: law.kind,
-        healing: law.healing,
-        settled: law.settled,
-        ..steps
-    }
-}
-
-/// A request and its answer.
-fn noted_ask(register: Register, at: u32, b: BrickId, request: &Request, told: Told) -> Register
-    requires few { register.shape.n ≤ 5 }
+/// A request and its answer. The steps come first: they read the locks as they were before, and the locks never read
+/// the steps.
+fn noted_ask(register: &mut Register, at: u32, b: BrickId, request: &Request, told: &Told)
+    requires few { register.old.shape.n ≤ 5 }
     requires small { b.0 < 5 }
-    requires room { register.upto + span < 2 ^ 32 }
-    ensures { result ≡ noted_ask register at b.0 request.now told }
+    requires room { register.old.upto + span < 2 ^ 32 }
+    ensures { register.new ≡ noted_ask register.old at b.0 request.now told.now }
 {
-    let before = register;
-    let law = dropped(is_gone(told), b, noted_law(before, b, request, told));
-    let steps = noted_steps(register, at, b, request, told);
-    published(stopped(joined(steps, law)))
+    noted_steps(register, at, b, request, told);
+    noted_law(register, b, request, told);
+    dropped(is_gone(told), b, register);
+    stopped(register);
+    published(register);
 }
 
-fn noted_begin(register: Register, at: u32) -> Register
-    requires { register.shape.n ≤ 5 }
-    ensures { result ≡ noted_begin register at }
+fn noted_begin(register: &mut Register, at: u32)
+    requires { register.old.shape.n ≤ 5 }
+    ensures { register.new ≡ noted_begin register.old at }
 {
-    published(Register {
-        step: Step::Open,
-        begun: Some(at),
-        ..register
-    })
+    register.step = Step::Open;
+    register.begun = Some(at);
+    published(register);
 }
 
 /// A part of a heal begins: its looks and its reads start anew.
-fn noted_part(register: Register, at: u32, kind: Kind) -> Register
-    requires { register.shape.n ≤ 5 }
-    ensures { result ≡ noted_part register at kind }
+fn noted_part(register: &mut Register, at: u32, kind: Kind)
+    requires { register.old.shape.n ≤ 5 }
+    ensures { register.new ≡ noted_part register.old at kind }
 {
-    published(Register {
-        begun: Some(at),
-        kind,
-        step: Step::Looks,
-        asked: BrickSet::none(),
-        looked: Looked::none(),
-        reads: [None; 5],
-        ..register
-    })
+    register.begun = Some(at);
+    register.kind = kind;
+    register.step = Step::Looks;
+    register.asked = BrickSet::none();
+    register.looked = Looked::none();
+    register.reads = [None; 5];
+    published(register);
 }
 
 /// A heal that ends leaves nothing; the end of a work leaves its register to its later reads.
-fn noted_end(register: Register) -> Register
-    requires { register.shape.n ≤ 5 }
-    ensures { result ≡ (if register.inside then no_lines register.shape else register) }
+fn noted_end(register: &mut Register)
+    requires { register.old.shape.n ≤ 5 }
+    ensures { register.new ≡ (if register.old.inside then no_lines register.old.shape else register.old) }
 {
     if register.inside {
-        empty(register.shape)
-    } else {
-        register
+        *register = empty(register.shape);
     }
 }
 
-fn noted(register: Register, step: &Move<'_>, told: Told, at: u32) -> Register
-    requires few { register.shape.n ≤ 5 }
+fn noted(register: &mut Register, step: &Move<'_>, told: &Told, at: u32)
+    requires few { register.old.shape.n ≤ 5 }
     requires small { AsksBelow step.now }
-    requires room { register.upto + span < 2 ^ 32 }
-    ensures { result ≡ noted register step.now told at }
+    requires room { register.old.upto + span < 2 ^ 32 }
+    ensures { register.new ≡ noted register.old step.now told.now at }
 {
     match step {
         Move::Ask(b, request) => noted_ask(register, at, *b, request, told),
@@ -123,5 +97,5 @@ pub fn note(register: &mut Register, step: &Move<'_>, told: &Told, at: u32)
 {
     has_five(&register.looked.views);
     has_five(&register.seen.views);
-    *register = noted(*register, step, *told, at);
+    noted(register, step, told, at);
 }

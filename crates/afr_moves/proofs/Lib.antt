@@ -1,1 +1,4 @@
 pub mod AreaLemmas
+pub mod ByPosition
+pub mod Places
+pub mod Followed

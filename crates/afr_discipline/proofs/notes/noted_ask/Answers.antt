@@ -1,8 +1,25 @@
+use Rattle.std.proofs.Common.{◌≤◌, refl, subst, sym}
+use Rattle.afr_base.specs.declared.ids.Shape.{Shape}
+use Rattle.afr_discipline.proofs.InPlace.{noted_in_turn, turn_shape}
 use Rattle.afr_discipline.proofs.NotedShape.{steps_shape}
 use Rattle.afr_discipline.proofs.notes.noted_ask.Goals as goal
 
+pub noted_law-requires-clause-few : goal.noted_law-requires-clause-few
+noted_law-requires-clause-few c = rw (c.noted_steps.ensures, steps_shape c.args.register.now c.args.at c.args.b.0 c.args.request.now c.args.told.now) c.requires.few
+
 pub stopped-requires : goal.stopped-requires
-stopped-requires c = rw (c.joined.ensures, c.noted_steps-steps.ensures, steps_shape c.args.register c.args.at c.args.b.0 c.args.request.now c.args.told) c.requires.few
+stopped-requires c =
+    subst (λ (s : Shape). s.n ≤ 5)
+    (sym (turn_shape c.args.register.now c.noted_steps.new.register c.noted_law.new.register c.dropped.new.register c.args.at c.args.b.0 c.args.request.now c.args.told.now c.is_gone.result c.noted_steps.ensures c.noted_law.ensures c.is_gone.ensures c.dropped.ensures))
+    c.requires.few
 
 pub published-requires : goal.published-requires
-published-requires c = rw (c.stopped.ensures, c.joined.ensures, c.noted_steps-steps.ensures, steps_shape c.args.register c.args.at c.args.b.0 c.args.request.now c.args.told) c.requires.few
+published-requires c =
+    rw c.stopped.ensures
+    (subst (λ (s : Shape). s.n ≤ 5)
+    (sym (turn_shape c.args.register.now c.noted_steps.new.register c.noted_law.new.register c.dropped.new.register c.args.at c.args.b.0 c.args.request.now c.args.told.now c.is_gone.result c.noted_steps.ensures c.noted_law.ensures c.is_gone.ensures c.dropped.ensures))
+    c.requires.few)
+
+pub returns : goal.returns
+returns c =
+    rw (c.published.ensures, c.stopped.ensures, noted_in_turn c.args.register.now c.noted_steps.new.register c.noted_law.new.register c.dropped.new.register c.args.at c.args.b.0 c.args.request.now c.args.told.now c.is_gone.result c.noted_steps.ensures c.noted_law.ensures c.is_gone.ensures c.dropped.ensures) refl
