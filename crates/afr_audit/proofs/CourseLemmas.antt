@@ -25,7 +25,7 @@ use Rattle.afr_moves.specs.Followed.{noted_if, register_by}
 use Rattle.afr_moves.specs.Keeps.{keeps_in}
 use Rattle.afr_audit.specs.Followed.{register_at}
 use Rattle.afr_audit.specs.Judged.{IsMove}
-use Rattle.afr_check.proofs.StartLemmas.{newest}
+use Rattle.afr_replay.proofs.LogLemmas.{newest}
 use Rattle.afr_audit.proofs.UnlawfulLemmas.{length_before}
 
 -- ---- one line more

@@ -18,7 +18,7 @@ use Rattle.afr_moves.specs.Register.{Exact, Open, span}
 use Rattle.afr_moves.specs.Steps.{may_heal}
 use Rattle.afr_moves.specs.Rules.{busy, no_views}
 use Rattle.afr_moves.specs.Sets.{empty}
-use Rattle.afr_check.proofs.FitsLemmas.{fits_before}
+use Rattle.afr_replay.proofs.FitsLemmas.{fits_before}
 use Rattle.afr_audit.specs.Followed.{AsksOneOfFive}
 use Rattle.afr_moves.specs.Followed.{register_by}
 use Rattle.afr_audit.specs.Limits.{AsksFive, CanFollow, CanJudge}

@@ -3,7 +3,7 @@ use Rattle.std.proofs.Common.{List, [], ap, arith, drop, inl, inr, get_or, lengt
 use Rattle.std.proofs.lemmas.List.{length-reverse, length-take, reverse-append, take-append-drop, take_all}
 use Rattle.std.proofs.lemmas.Option.{slice_get-get_or, slice_get_past}
 use Rattle.std.specs.Prelude.{Some}
-use Rattle.afr_check.proofs.StartLemmas.{newest}
+use Rattle.afr_replay.proofs.LogLemmas.{newest}
 use Rattle.afr_lines.specs.Log.{EachLine}
 use Rattle.afr_lines.specs.declared.line.Line.{Line}
 use Rattle.afr_model.specs.Honest.{Honest, IsHonest}

@@ -1,6 +1,6 @@
 -- Which logs, the newest line first, are not too much to be judged.
 use Rattle.std.specs.Prelude.{ℕ, ◌≤◌, List, length}
-use Rattle.afr_check.specs.Room.{Fits}
+use Rattle.afr_replay.specs.Room.{Fits}
 use Rattle.afr_lines.specs.Log.{EachLine}
 use Rattle.afr_lines.specs.declared.line.Line.{Line}
 use Rattle.afr_plan.specs.declared.plan.Plan.{Plan}

@@ -1,6 +1,6 @@
 -- Why a log that no brick can have carried out is not judged.
-use Rattle.afr_check.specs.declared.unfit.Unfit.{Unfit}
-use Rattle.afr_check.specs.declared.unfit.Unfit.TheVariants as unfit
+use Rattle.afr_replay.specs.declared.unfit.Unfit.{Unfit}
+use Rattle.afr_replay.specs.declared.unfit.Unfit.TheVariants as unfit
 use Rattle.afr_audit.specs.declared.unjudged.Unjudged.{Unjudged}
 use Rattle.afr_audit.specs.declared.unjudged.Unjudged.TheVariants as unjudged
 

@@ -1,6 +1,6 @@
 //! The register of an actor after a log.
 ghost use Rattle.std.specs.Prelude.{◌≡◌, ◌≢◌, ◌≤◌, ◌<◌, ◌+◌, ◌-◌, ◌^◌, true, Err, IfOk, if◌then◌else◌, reverse};
-ghost use Rattle.afr_check.specs.Seen.{place_seen};
+ghost use Rattle.afr_replay.specs.Seen.{place_seen};
 ghost use Rattle.afr_lines.specs.Work.{is_of};
 ghost use Rattle.afr_lines.specs.Places.{next_place, opens, place_of};
 ghost use Rattle.afr_tables.specs.Codes.{kept_by};
@@ -14,7 +14,7 @@ ghost use Rattle.afr_audit.specs.Limits.{CanFollow};
 use crate::noted::{in_force, noted};
 use crate::unjudged::Unjudged;
 use afr_base::ActorId;
-use afr_check::{Place, is_of, next_place, opens};
+use afr_replay::{Place, is_of, next_place, opens};
 use afr_discipline::{Register, fresh};
 use afr_lines::Line;
 use afr_plan::Plan;

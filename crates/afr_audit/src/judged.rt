@@ -1,6 +1,6 @@
 //! Whether a line keeps the discipline after the lines before it.
 ghost use Rattle.std.specs.Prelude.{◌≡◌, ◌≢◌, ◌↔◌, ◌⊎◌, ℕ, ◌≤◌, ◌<◌, ◌+◌, true, Err, IfOk, reverse, length};
-ghost use Rattle.afr_check.specs.Room.{Fits};
+ghost use Rattle.afr_replay.specs.Room.{Fits};
 ghost use Rattle.afr_model.specs.Honest.{Honest};
 ghost use Rattle.afr_moves.specs.Discipline.{MakesKnown, MayAskExactly};
 ghost use Rattle.afr_moves.specs.Heal.{MayHealBegin, MayHealEnd};

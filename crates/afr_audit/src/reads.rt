@@ -1,14 +1,14 @@
 //! What the reads of a work gave it.
 ghost use Rattle.std.specs.Prelude.{◌≡◌, ◌↔◌, ℕ, true, Err, IfOk, Some, None, if◌then◌else◌, reverse};
-ghost use Rattle.afr_check.specs.Room.{Fits};
+ghost use Rattle.afr_replay.specs.Room.{Fits};
 ghost use Rattle.std.specs.Option.{option_map};
 ghost use Rattle.afr_model.specs.Cells.{IsEntry};
-ghost use Rattle.afr_check.specs.Seen.{value_seen};
+ghost use Rattle.afr_replay.specs.Seen.{value_seen};
 ghost use Rattle.afr_audit.specs.Judged.{Showed, WasGiven, read_by};
 
 use crate::unjudged::Unjudged;
 use afr_base::{ActorId, BrickId, Gfid, NameId, What};
-use afr_check::{Cell, Value, ends_work, value};
+use afr_replay::{Cell, Value, ends_work, value};
 use afr_lines::{Line, Request, Told};
 use afr_plan::Plan;
 use std::alloc::Global;

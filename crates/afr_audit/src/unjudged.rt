@@ -2,7 +2,7 @@
 ghost use Rattle.std.specs.Prelude.{◌≡◌};
 ghost use Rattle.afr_audit.specs.Unfitting.{unjudged_of};
 
-use afr_check::Unfit;
+use afr_replay::Unfit;
 
 /// A log that is not judged.
 #[derive(Clone, Copy, Debug, PartialEq, Eq)]

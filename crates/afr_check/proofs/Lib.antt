@@ -1,10 +1,4 @@
-pub mod AcknowledgedLemmas
-pub mod CopyLemmas
-pub mod FitsLemmas
 pub mod LastLemmas
-pub mod LogLemmas
-pub mod MendsLemmas
-pub mod PartLemmas
 pub mod SeenLemmas
 pub mod SetLemmas
 pub mod ShownLemmas

@@ -1,9 +1,8 @@
 -- When some brick of a set passes a test.
-use Rattle.std.proofs.Common.{◌≡◌, ◌∙◌, ℕ, suc, ◌<◌, ◌≤◌, ◌+◌, ◌⊎◌, inl, inr, subst, sym, nat_lt, leb, Bool, true, false, List, [], ◌∷◌, refl, arith}
-use Rattle.std.proofs.lemmas.Bool.Decides.{nat_tests, leb_tells}
+use Rattle.std.proofs.Common.{◌≡◌, ℕ, ◌<◌, ◌+◌, ◌⊎◌, inl, inr, subst, sym, Bool, true, false, List, [], ◌∷◌, refl, arith}
+use Rattle.std.proofs.lemmas.Bool.Decides.{nat_tests}
 use Rattle.std.specs.List.{list_any}
-use Rattle.afr_base.specs.Bricks.{member, below}
-use Rattle.afr_base.specs.SetLemmas.{below_all, within_below}
+use Rattle.afr_base.specs.Bricks.{member}
 
 -- a brick of the set passes
 pub some_passes : (test : ℕ → Bool) (s : List ℕ) (b : ℕ) → member s b ≡ true → test b ≡ true → list_any test s ≡ true
@@ -24,15 +23,3 @@ one_more P x below here k l = elim (split k x l) as (λ _. P k) [ inl s ↦ belo
   where
     split : (k n : ℕ) → k < n + 1 → (k < n) ⊎ (k ≡ n)
     split k n l = grind arith
-
--- the bricks below n are those with a lower number
-pub member_below : (n b : ℕ) → n ≤ 5 → member (below n) b ≡ nat_lt b n
-member_below n b few = by_side (leb_tells (suc b) n)
-  where
-    by_side : ((leb (suc b) n ≡ true) × (suc b ≤ n)) ⊎ ((leb (suc b) n ≡ false) × (n < suc b)) → member (below n) b ≡ nat_lt b n
-    by_side (inl (e, h)) = below_all n b few h ∙ sym e
-    by_side (inr (e, h)) = outside (member (below n) b) refl ∙ sym e
-      where
-        outside : (f : Bool) → member (below n) b ≡ f → f ≡ false
-        outside false m = refl
-        outside true m = absurd (omega (arith, within_below n b m, h))

@@ -1,11 +1,10 @@
 -- Where the present work of an actor begins.
 use Rattle.std.proofs.Common.{◌≡◌, ◌∙◌, ℕ, suc, ◌+◌, ◌<◌, Bool, true, false, List, [], ◌∷◌, ◌++◌, Option, Some, None, length, take, reverse, get_or, refl, ap, sym, arith, if◌then◌else◌}
-use Rattle.std.proofs.Math.Seq.{take-suc}
 use Rattle.afr_lines.specs.Work.{Work, work, is_of, is_end}
 use Rattle.afr_lines.specs.declared.line.Line.{Line}
 use Rattle.afr_model.specs.Safe.{log_before}
 use Rattle.afr_check.specs.Freshness.{earliest, first_after}
-use Rattle.afr_check.proofs.LogLemmas.{reverse_push}
+use Rattle.afr_replay.proofs.LogLemmas.{newest}
 
 -- a work of the first lines of a log begins at a position, if it has a line
 abbrev pub Starts : Work → List Line → ℕ → Option ℕ → Type 0
@@ -22,12 +21,6 @@ stepped true false line w log at None h = (omega arith, λ l. ap (λ (v : Work).
 stepped true false line w log at (Some first) h = (omega (arith, h.0), λ l. h.1 (reverse (take at log)))
 stepped false y line w log at None h = h
 stepped false y line w log at (Some first) h = (omega (arith, h.0), h.1)
-
-pub newest : (log : List Line) (at : ℕ) (line : Line) → at < length log → line ≡ get_or log at line → reverse (take (at + 1) log) ≡ line ∷ reverse (take at log)
-newest log at line l e =
-    let next : at + 1 ≡ suc at = omega arith in
-    let whole : take (at + 1) log ≡ take at log ++ line ∷ [] = ap (λ (n : ℕ). take n log) next ∙ take-suc log at line l ∙ ap (λ (x : Line). take at log ++ x ∷ []) (sym e) in
-    ap (λ (t : List Line). reverse t) whole ∙ reverse_push (take at log) line
 
 -- after one more line
 pub starts_after : (a : ℕ) (log : List Line) (at : ℕ) (line : Line) (first : Option ℕ) → at < length log → line ≡ get_or log at line

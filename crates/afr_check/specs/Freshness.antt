@@ -27,9 +27,9 @@ IsFreshInEach p line older = (cell : Cell) → IsFreshIn p line older cell
 
 -- the position of a work's first line, after one more line of it
 abbrev pub earliest : Option ℕ → ℕ → ℕ
-earliest None at = at
-earliest (Some first) at = first
+earliest None position = position
+earliest (Some first) position = first
 
 -- the same after one more line
 abbrev pub first_after : Option ℕ → Line → ℕ → ℕ → Option ℕ
-first_after first line at a = if is_of a line then (if is_end line then None else Some (earliest first at)) else first
+first_after first line position a = if is_of a line then (if is_end line then None else Some (earliest first position)) else first

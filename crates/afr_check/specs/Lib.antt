@@ -1,9 +1,6 @@
-pub mod Acknowledged
+pub mod Alike
 pub mod Closing
 pub mod Freshness
 pub mod Last
-pub mod Mends
-pub mod Parts
-pub mod Room
-pub mod Seen
+pub mod Readings
 pub mod Telling

@@ -4,15 +4,13 @@ ghost use Rattle.std.specs.List.{list_any};
 ghost use Rattle.afr_base.specs.Bricks.{IsWithin};
 ghost use Rattle.afr_base.specs.Keeping.{keeps};
 ghost use Rattle.afr_model.specs.Safe.{accuses, is_good_copy};
-ghost use Rattle.afr_check.specs.Room.{Fits};
+ghost use Rattle.afr_replay.specs.Room.{Fits};
 ghost use Rattle.afr_model.specs.Sums.{has_object};
 
-use crate::replay::tables;
-use crate::sums::{has_copy, pending, same_kind};
-use crate::unfit::Unfit;
 use afr_base::{BrickId, BrickSet, Gfid, Kind, Shape};
 use afr_lines::Line;
 use afr_plan::Plan;
+use afr_replay::{Unfit, has_copy, pending, tables};
 use std::alloc::Global;
 
 /// Whether brick `x` has operations that brick `c` missed.
@@ -65,7 +63,7 @@ fn has_object(alloc: Global, plan: &Plan, log: &[Line], g: Gfid, b: BrickId) -> 
 fn keeps(shape: Shape, kind: Kind, b: BrickId) -> bool
     ensures { result ≡ keeps shape kind b.0 }
 {
-    !(shape.arbiter && same_kind(kind, Kind::Bytes) && b.0 == 2)
+    !(shape.arbiter && matches!(kind, Kind::Bytes) && b.0 == 2)
 }
 
 /// Whether some brick of the set accuses the brick.

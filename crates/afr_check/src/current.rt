@@ -4,17 +4,14 @@ ghost use Rattle.std.specs.Option.{option_copied};
 ghost use Rattle.afr_lines.specs.Log.{change_at};
 ghost use Rattle.afr_model.specs.Attempts.{IsCurrent, IsNoOlder, touches_if};
 ghost use Rattle.afr_check.specs.Last.{IsAcknowledgedOn, IsLastOf, IsLeftAt, IsLeftFrom, IsRecent, from_last};
-ghost use Rattle.afr_check.specs.Room.{Fits};
-ghost use Rattle.afr_check.specs.Seen.{cell_of, value_seen};
+ghost use Rattle.afr_replay.specs.Room.{Fits};
+ghost use Rattle.afr_replay.specs.Seen.{cell_of, value_seen};
 
-use crate::attempts::{change_at, is_acknowledged};
-use crate::cell::{Cell, Value, leaves, touches};
-use crate::unfit::Unfit;
-use crate::values::value;
 use afr_base::BrickId;
 use afr_lines::Line;
 use afr_object::Change;
 use afr_plan::Plan;
+use afr_replay::{Cell, Unfit, Value, change_at, is_acknowledged, leaves, touches, value};
 use std::alloc::Global;
 
 /// Whether the brick's value was left by the last acknowledged attempt on the cell, or by a later one,
@@ -96,8 +93,9 @@ fn is_left_at(log: &[Line], q: usize, cell: Cell, here: Value) -> bool
     }
 }
 
+/// Whether the same stands in two cells.
 #[tactic(auto, using(crate::proofs::SeenLemmas::value_back))]
-fn same_value(one: Value, other: Value) -> bool
+pub(crate) fn same_value(one: Value, other: Value) -> bool
     ensures { (result ≡ true) ↔ (value_seen one ≡ value_seen other) }
 {
     one == other

@@ -5,16 +5,14 @@ ghost use Rattle.afr_plan.specs.declared.plan.Plan.{Plan as SpecPlan};
 ghost use Rattle.afr_lines.specs.Work.{work};
 ghost use Rattle.afr_model.specs.Safe.{IsFresh, log_before, names_cell};
 ghost use Rattle.afr_check.specs.Freshness.{IsFreshIn, IsFreshInEach, ShowsNoOlder, earliest, first_after};
-ghost use Rattle.afr_check.specs.Room.{Fits};
-ghost use Rattle.afr_check.specs.Seen.{cell_of};
+ghost use Rattle.afr_replay.specs.Room.{Fits};
+ghost use Rattle.afr_replay.specs.Seen.{cell_of};
 
-use crate::cell::{Cell, is_within};
 use crate::current::is_no_older;
-use crate::unfit::Unfit;
-use crate::works::{is_end, is_of};
 use afr_base::{ActorId, BrickId, Gfid, KeyId, NameId};
 use afr_lines::{Line, Request, Told};
 use afr_plan::Plan;
+use afr_replay::{Cell, Unfit, is_end, is_of, is_within};
 use std::alloc::Global;
 
 /// Clients are numbered up to here.
@@ -147,33 +145,33 @@ fn work_start(log: &[Line], a: ActorId) -> usize
     ensures start { reverse (take result log.now) ≡ log_before (work a.0 (reverse log.now)) (reverse log.now) }
 {
     let mut first = None;
-    for at in 0..log.len() {
-        first = first_after(first, &log[at], at, a);
+    for position in 0..log.len() {
+        first = first_after(first, &log[position], position, a);
     }
     match first {
-        Some(at) => at,
+        Some(position) => position,
         None => log.len(),
     }
 }
 
 /// The position of the work's first line, after one more line.
-fn first_after(first: Option<usize>, line: &Line, at: usize, a: ActorId) -> Option<usize>
-    ensures { result ≡ first_after first line.now at a.0 }
+fn first_after(first: Option<usize>, line: &Line, position: usize, a: ActorId) -> Option<usize>
+    ensures { result ≡ first_after first line.now position a.0 }
 {
     if !is_of(a, line) {
         first
     } else if is_end(line) {
         None
     } else {
-        Some(earliest(first, at))
+        Some(earliest(first, position))
     }
 }
 
-fn earliest(first: Option<usize>, at: usize) -> usize
-    ensures { result ≡ earliest first at }
+fn earliest(first: Option<usize>, position: usize) -> usize
+    ensures { result ≡ earliest first position }
 {
     match first {
         Some(first) => first,
-        None => at,
+        None => position,
     }
 }

@@ -1,18 +1,15 @@
 //! Whether each line was told what its brick then gives.
 ghost use Rattle.std.specs.Prelude.{Err, ℕ, ◌≡◌, ◌↔◌, ◌<◌, ◌≤◌, ◌^◌, suc, true, length, reverse, IfOk};
-ghost use Rattle.afr_check.specs.Room.{Fits};
+ghost use Rattle.afr_replay.specs.Room.{Fits};
 ghost use Rattle.afr_model.specs.Honest.{Honest, IsHonest, fault_in, faulted, in_the_way, is_live, one_more, outcome_of, over_session, requests_to, tells};
 ghost use Rattle.afr_model.specs.Tables.{holds};
 
-use crate::locks::conflict;
-use crate::replay::tables;
-use crate::sessions::{is_joined, opens_with};
 use crate::told::{same_told, told};
-use crate::unfit::Unfit;
 use afr_base::{ActorId, BrickId, NoMemory};
 use afr_faults::Fault;
 use afr_lines::{Line, Request, Told};
 use afr_plan::{Plan, PlannedFault};
+use afr_replay::{Unfit, conflict, is_joined, opens_with, tables};
 use std::alloc::Global;
 use std::marker::Model;
 
@@ -44,8 +41,8 @@ pub fn is_honest(alloc: Global, plan: &Plan, log: &[Line]) -> Result<bool, Unfit
     ensures too_much { result ≡ Err Unfit.TooMuch → ((y : ℕ) → Fits plan.now (reverse log.now) y) → ⊥ }
 {
     let mut honest = true;
-    for at in 0..log.len() {
-        honest = is_honest_line(alloc, plan, &log[at], &log[..at])? && honest;
+    for position in 0..log.len() {
+        honest = is_honest_line(alloc, plan, &log[position], &log[..position])? && honest;
     }
     Ok(honest)
 }

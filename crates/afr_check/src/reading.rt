@@ -4,16 +4,14 @@ ghost use Rattle.afr_lines.specs.Work.{work};
 ghost use Rattle.afr_model.specs.Showing.{At as SpecAt, given_by, one_name, path_after, path_by, reading_after, reading_by, reading_told, root_entry};
 ghost use Rattle.afr_model.specs.Tables.{entry_in, holds};
 ghost use Rattle.afr_object.specs.Tables.{copy_at};
-ghost use Rattle.afr_check.specs.Seen.{path_seen, reading_seen};
+ghost use Rattle.afr_check.specs.Readings.{path_seen, reading_seen};
 
-use crate::replay::tables;
-use crate::unfit::Unfit;
-use crate::works::{is_end, is_of};
 use afr_base::{ActorId, BrickId, Gfid, KeyId, NameId, What};
 use afr_brick::{Brick, Refused};
 use afr_lines::{Good, Line, Request, Told};
 use afr_object::Entry;
 use afr_plan::Plan;
+use afr_replay::{Unfit, is_end, is_of, tables};
 use std::alloc::Global;
 
 /// At an object, after so many names; or the last name isn't there, or wasn't told.
@@ -36,12 +34,12 @@ pub(crate) fn path_by(alloc: Global, plan: &Plan, log: &[Line], a: ActorId) -> R
     ensures ok { IfOk result (λ path. path_seen path ≡ path_by plan.now (work a.0 (reverse log.now))) }
 {
     let mut path = at_root();
-    for at in 0..log.len() {
-        if is_of(a, &log[at]) {
-            path = if is_end(&log[at]) {
+    for position in 0..log.len() {
+        if is_of(a, &log[position]) {
+            path = if is_end(&log[position]) {
                 at_root()
             } else {
-                path_after(alloc, plan, path, &log[at], &log[..at])?
+                path_after(alloc, plan, path, &log[position], &log[..position])?
             };
         }
     }
@@ -160,12 +158,12 @@ pub(crate) fn reading_by(
     ensures ok { IfOk result (λ reading. reading_seen reading ≡ reading_by plan.now (work a.0 (reverse log.now))) }
 {
     let mut reading = Reading::NotAsked;
-    for at in 0..log.len() {
-        if is_of(a, &log[at]) {
-            reading = if is_end(&log[at]) {
+    for position in 0..log.len() {
+        if is_of(a, &log[position]) {
+            reading = if is_end(&log[position]) {
                 Reading::NotAsked
             } else {
-                reading_after(alloc, plan, reading, &log[at], &log[..at])?
+                reading_after(alloc, plan, reading, &log[position], &log[..position])?
             };
         }
     }

@@ -6,16 +6,16 @@ ghost use Rattle.afr_model.specs.Following.{path_of};
 ghost use Rattle.afr_model.specs.Replied.{at_object, by_looks, by_path, by_reading, by_transaction, on_way, or_else, reply_of, too_large};
 ghost use Rattle.afr_model.specs.Showing.{looked_by, reading_by};
 ghost use Rattle.afr_check.specs.Closing.{closed_by};
-ghost use Rattle.afr_check.specs.Seen.{path_seen, reading_seen};
+ghost use Rattle.afr_check.specs.Readings.{path_seen, reading_seen};
 
 use crate::reading::{Path, Reading, path_by, reading_by};
 use crate::showing::{granting_by, looked_by, posted_by};
-use crate::unfit::Unfit;
 use afr_base::{ActorId, BrickSet, Gfid, Kind, Shape, What};
 use afr_choice::{Looked, Verdict, good, holders, judge};
 use afr_lines::{Good, Line, Reply};
 use afr_object::{Entry, List};
 use afr_plan::{Command, Plan};
+use afr_replay::Unfit;
 use std::alloc::Global;
 
 const FILE_LIMIT: u128 = 1_048_576;

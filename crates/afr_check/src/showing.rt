@@ -5,12 +5,11 @@ ghost use Rattle.afr_lines.specs.Areas.{object_of_area};
 ghost use Rattle.afr_lines.specs.Work.{work};
 ghost use Rattle.afr_model.specs.Showing.{among, granting, is_done, is_granted, look_shows, looked_after, looked_by, posted};
 
-use crate::unfit::Unfit;
-use crate::works::{is_end, is_of};
 use afr_base::{ActorId, BrickId, BrickSet, Gfid};
 use afr_choice::Looked;
 use afr_lines::{Area, Line, Request, Told};
 use afr_range_locks::Domain;
+use afr_replay::{Unfit, is_end, is_of};
 
 /// What the last looks at an object show.
 pub(crate) fn looked_by(log: &[Line], a: ActorId, g: Gfid) -> Result<Looked, Unfit>

@@ -1,7 +1,6 @@
-//! The logs of some plans line by line, as data, and logs that go wrong in one line.
+//! The logs of some plans as the texts of their traces, and logs that go wrong in one line.
 #![tactic(auto)]
 
-mod alike;
 mod arbiter;
 mod logs;
 mod lost_answer_then_heal;
@@ -9,13 +8,12 @@ mod one_brick_away;
 mod operation_fails_on_two;
 mod plans;
 mod removed_name_stays_removed;
-mod row;
+mod requests;
 mod stale_heal_piece;
-#[cfg(test)]
-mod tests;
+mod trace;
+mod words;
 mod write_and_read;
 
-pub use alike::{are_alike, are_alike_in_bytes, is_clear};
 pub use logs::{Mistake, Worked, log_of, mistaken, worked_of};
 pub use plans::plan_of;
-pub use row::NoLog;
+pub use trace::NoLog;

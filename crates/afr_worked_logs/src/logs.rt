@@ -1,6 +1,6 @@
 //! The logs by name.
 
-use crate::row::{NoLog, Row, Viewed, line_of};
+use crate::trace::{NoLog, log_told, put};
 use crate::{
     arbiter, lost_answer_then_heal, one_brick_away, operation_fails_on_two,
     removed_name_stays_removed, stale_heal_piece, write_and_read,
@@ -32,7 +32,7 @@ pub enum Mistake {
 
 /// The log of a worked plan.
 pub fn log_of(alloc: Global, worked: Worked) -> Result<Vec<Line>, NoLog> {
-    lines_of(alloc, views_of(worked), rows_of(worked))
+    log_told(alloc, trace_of(worked))
 }
 
 /// The worked plan whose log the mistake is in.
@@ -48,51 +48,25 @@ pub fn worked_of(mistake: Mistake) -> Worked {
 
 /// The log with the mistake.
 pub fn mistaken(alloc: Global, mistake: Mistake) -> Result<Vec<Line>, NoLog> {
-    let worked = worked_of(mistake);
-    let mut log = log_of(alloc, worked)?;
-    let (at, row) = changed(mistake);
-    match log.get_mut(at) {
-        Some(line) => *line = line_of(alloc, views_of(worked), row)?,
-        None => return Err(NoLog::NoLine),
-    }
+    let mut log = log_of(alloc, worked_of(mistake))?;
+    put(alloc, &mut log, changed(mistake))?;
     Ok(log)
 }
 
-fn lines_of(alloc: Global, views: &[Viewed], rows: &[Row]) -> Result<Vec<Line>, NoLog> {
-    let mut log = Vec::new(alloc);
-    for row in rows {
-        let line = line_of(alloc, views, *row)?;
-        log.push(line).ok().ok_or(NoLog::NoMemory)?;
-    }
-    Ok(log)
-}
-
-fn rows_of(worked: Worked) -> &'static [Row] {
+fn trace_of(worked: Worked) -> &'static str {
     match worked {
-        Worked::WriteAndRead => &write_and_read::LINES,
-        Worked::OneBrickAway => &one_brick_away::LINES,
-        Worked::LostAnswerThenHeal => &lost_answer_then_heal::LINES,
-        Worked::RemovedNameStaysRemoved => &removed_name_stays_removed::LINES,
-        Worked::Arbiter => &arbiter::LINES,
-        Worked::OperationFailsOnTwo => &operation_fails_on_two::LINES,
-        Worked::StaleHealPiece => &stale_heal_piece::LINES,
+        Worked::WriteAndRead => write_and_read::TRACE,
+        Worked::OneBrickAway => one_brick_away::TRACE,
+        Worked::LostAnswerThenHeal => lost_answer_then_heal::TRACE,
+        Worked::RemovedNameStaysRemoved => removed_name_stays_removed::TRACE,
+        Worked::Arbiter => arbiter::TRACE,
+        Worked::OperationFailsOnTwo => operation_fails_on_two::TRACE,
+        Worked::StaleHealPiece => stale_heal_piece::TRACE,
     }
 }
 
-fn views_of(worked: Worked) -> &'static [Viewed] {
-    match worked {
-        Worked::WriteAndRead => &write_and_read::VIEWS,
-        Worked::OneBrickAway => &one_brick_away::VIEWS,
-        Worked::LostAnswerThenHeal => &lost_answer_then_heal::VIEWS,
-        Worked::RemovedNameStaysRemoved => &removed_name_stays_removed::VIEWS,
-        Worked::Arbiter => &arbiter::VIEWS,
-        Worked::OperationFailsOnTwo => &operation_fails_on_two::VIEWS,
-        Worked::StaleHealPiece => &stale_heal_piece::VIEWS,
-    }
-}
-
-/// Where the line is changed, and into what.
-fn changed(mistake: Mistake) -> (usize, Row) {
+/// The line that is changed, as it stands then.
+fn changed(mistake: Mistake) -> &'static str {
     match mistake {
         Mistake::ServedAfterTheSession => arbiter::SERVED_AFTER_THE_SESSION,
         Mistake::AcknowledgedAfterOnePost => one_brick_away::ACKNOWLEDGED_AFTER_ONE_POST,

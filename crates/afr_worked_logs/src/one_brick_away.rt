@@ -1,41 +1,27 @@
 //! A write while brick 2 is stopped.
 
-use crate::row::Form::{
-    Apply, BeginWrite, EndOk, LockRange, Look, Post, Pre, ReadName, Stop, UnlockRange,
-};
-use crate::row::{DONE, GIVEN, GONE, GRANTED, Row, SEEN, Viewed};
-
-pub(crate) const VIEWS: [Viewed; 3] = [
-    [1, 0, 0, 0, 0, 0, 0, 0, 0, 0, 0, 0, 0, 0],
-    [0, 0, 0, 0, 0, 0, 0, 0, 0, 0, 0, 0, 0, 0],
-    [0, 5, 1, 0, 0, 0, 0, 0, 0, 0, 0, 0, 0, 0],
-];
-
-pub(crate) const LINES: [Row; 20] = [
-    (Stop, 0, 2, [0, 0, 0, 0, 0, 0, 0], DONE),
-    (Look, 1, 0, [0, 0, 0, 0, 0, 0, 0], SEEN),
-    (Look, 1, 1, [0, 0, 0, 0, 0, 0, 0], SEEN),
-    (Look, 1, 2, [0, 0, 0, 0, 0, 0, 0], GONE),
-    (ReadName, 1, 0, [0, 0, 0, 0, 0, 0, 0], GIVEN),
-    (LockRange, 1, 0, [1, 0, 5, 0, 0, 0, 0], GRANTED),
-    (LockRange, 1, 1, [1, 0, 5, 0, 0, 0, 0], GRANTED),
-    (LockRange, 1, 2, [1, 0, 5, 0, 0, 0, 0], GONE),
-    (Look, 1, 0, [1, 0, 0, 0, 0, 0, 0], SEEN + 1),
-    (Look, 1, 1, [1, 0, 0, 0, 0, 0, 0], SEEN + 1),
-    (BeginWrite, 1, 0, [1, 5, 104, 101, 108, 108, 111], DONE),
-    (Pre, 1, 0, [1, 0, 0, 0, 0, 0, 0], DONE),
-    (Pre, 1, 1, [1, 0, 0, 0, 0, 0, 0], DONE),
-    (Apply, 1, 0, [10, 0, 0, 0, 0, 0, 0], DONE),
-    (Apply, 1, 1, [10, 0, 0, 0, 0, 0, 0], DONE),
-    (Post, 1, 0, [1, 0, 10, 4, 0, 0, 0], DONE),
-    (Post, 1, 1, [1, 0, 10, 4, 0, 0, 0], DONE),
-    (UnlockRange, 1, 0, [1, 0, 5, 0, 0, 0, 0], DONE),
-    (UnlockRange, 1, 1, [1, 0, 5, 0, 0, 0, 0], DONE),
-    (EndOk, 1, 0, [0, 0, 0, 0, 0, 0, 0], DONE),
-];
+pub(crate) const TRACE: &str = "\
+0 event stop 2
+1 c1 b0 look g1 seen dir
+2 c1 b1 look g1 seen dir
+3 c1 b2 look g1 gone
+4 c1 b0 name g1/f1 ok
+5 c1 b0 lock f1[0,5) granted
+6 c1 b1 lock f1[0,5) granted
+7 c1 b2 lock f1[0,5) gone
+8 c1 b0 look f1 seen file 0
+9 c1 b1 look f1 seen file 0
+10 c1 begin write f1 0 hello
+11 c1 b0 pre f1 data done
+12 c1 b1 pre f1 data done
+13 c1 b0 apply 10 done
+14 c1 b1 apply 10 done
+15 c1 b0 post 10 2 done
+16 c1 b1 post 10 2 done
+17 c1 b0 unlock f1[0,5) done
+18 c1 b1 unlock f1[0,5) done
+19 c1 end ok
+";
 
 /// Brick 1 is looked at in place of its post-op, and the write is acknowledged all the same.
-pub(crate) const ACKNOWLEDGED_AFTER_ONE_POST: (usize, Row) = (
-    16,
-    (Look, 1, 1, [1, 0, 0, 0, 0, 0, 0], SEEN + 2),
-);
+pub(crate) const ACKNOWLEDGED_AFTER_ONE_POST: &str = "16 c1 b1 look f1 seen file 5 data 1 0 0 0";

@@ -1,107 +1,91 @@
 //! A write that fails on two bricks, and the heal of its bytes.
 
-use crate::row::Form::{
-    Apply, BeginHeal, BeginWrite, CopyIn, CutTo, EndFailed, EndNothing, EndOk, EndSettled,
-    HealLockRange, HealUnlockRange, Index, LockRange, Look, Pre, ReadBytes, ReadName, Settle,
-    UnlockRange,
-};
-use crate::row::{DONE, END, FAILED, GIVEN, GRANTED, Row, SEEN, Viewed};
-
-pub(crate) const VIEWS: [Viewed; 6] = [
-    [1, 0, 0, 0, 0, 0, 0, 0, 0, 0, 0, 0, 0, 0],
-    [0, 0, 0, 0, 0, 0, 0, 0, 0, 0, 0, 0, 0, 0],
-    [0, 5, 1, 0, 0, 0, 0, 0, 0, 0, 0, 0, 0, 0],
-    [0, 0, 1, 0, 0, 0, 0, 0, 0, 0, 0, 0, 0, 0],
-    [0, 0, 2, 0, 0, 0, 0, 0, 0, 0, 0, 0, 0, 0],
-    [0, 5, 2, 0, 0, 0, 0, 0, 0, 0, 0, 0, 0, 0],
-];
-
-pub(crate) const LINES: [Row; 87] = [
-    (Look, 1, 0, [0, 0, 0, 0, 0, 0, 0], SEEN),
-    (Look, 1, 1, [0, 0, 0, 0, 0, 0, 0], SEEN),
-    (Look, 1, 2, [0, 0, 0, 0, 0, 0, 0], SEEN),
-    (ReadName, 1, 0, [0, 0, 0, 0, 0, 0, 0], GIVEN),
-    (LockRange, 1, 0, [1, 0, 5, 0, 0, 0, 0], GRANTED),
-    (LockRange, 1, 1, [1, 0, 5, 0, 0, 0, 0], GRANTED),
-    (LockRange, 1, 2, [1, 0, 5, 0, 0, 0, 0], GRANTED),
-    (Look, 1, 0, [1, 0, 0, 0, 0, 0, 0], SEEN + 1),
-    (Look, 1, 1, [1, 0, 0, 0, 0, 0, 0], SEEN + 1),
-    (Look, 1, 2, [1, 0, 0, 0, 0, 0, 0], SEEN + 1),
-    (BeginWrite, 1, 0, [1, 5, 104, 101, 108, 108, 111], DONE),
-    (Pre, 1, 0, [1, 0, 0, 0, 0, 0, 0], DONE),
-    (Pre, 1, 1, [1, 0, 0, 0, 0, 0, 0], DONE),
-    (Pre, 1, 2, [1, 0, 0, 0, 0, 0, 0], DONE),
-    (Apply, 1, 0, [10, 0, 0, 0, 0, 0, 0], DONE),
-    (Apply, 1, 1, [10, 0, 0, 0, 0, 0, 0], FAILED),
-    (Apply, 1, 2, [10, 0, 0, 0, 0, 0, 0], FAILED),
-    (UnlockRange, 1, 0, [1, 0, 5, 0, 0, 0, 0], DONE),
-    (UnlockRange, 1, 1, [1, 0, 5, 0, 0, 0, 0], DONE),
-    (UnlockRange, 1, 2, [1, 0, 5, 0, 0, 0, 0], DONE),
-    (EndFailed, 1, 0, [0, 0, 0, 0, 0, 0, 0], DONE),
-    (Index, 17, 0, [0, 0, 0, 0, 0, 0, 0], GIVEN),
-    (HealLockRange, 17, 0, [1, 0, END, 0, 0, 0, 0], GRANTED),
-    (HealLockRange, 17, 1, [1, 0, END, 0, 0, 0, 0], GRANTED),
-    (HealLockRange, 17, 2, [1, 0, END, 0, 0, 0, 0], GRANTED),
-    (LockRange, 17, 0, [1, END, END, 0, 0, 0, 0], GRANTED),
-    (LockRange, 17, 1, [1, END, END, 0, 0, 0, 0], GRANTED),
-    (LockRange, 17, 2, [1, END, END, 0, 0, 0, 0], GRANTED),
-    (BeginHeal, 17, 0, [1, 1, 0, 0, 0, 0, 0], DONE),
-    (Look, 17, 0, [1, 0, 0, 0, 0, 0, 0], SEEN + 2),
-    (Look, 17, 1, [1, 0, 0, 0, 0, 0, 0], SEEN + 3),
-    (Look, 17, 2, [1, 0, 0, 0, 0, 0, 0], SEEN + 3),
-    (UnlockRange, 17, 0, [1, END, END, 0, 0, 0, 0], DONE),
-    (UnlockRange, 17, 1, [1, END, END, 0, 0, 0, 0], DONE),
-    (UnlockRange, 17, 2, [1, END, END, 0, 0, 0, 0], DONE),
-    (HealUnlockRange, 17, 0, [1, 0, END, 0, 0, 0, 0], DONE),
-    (HealUnlockRange, 17, 1, [1, 0, END, 0, 0, 0, 0], DONE),
-    (HealUnlockRange, 17, 2, [1, 0, END, 0, 0, 0, 0], DONE),
-    (EndNothing, 17, 0, [1, 1, 0, 0, 0, 0, 0], DONE),
-    (HealLockRange, 17, 0, [1, 0, END, 0, 0, 0, 0], GRANTED),
-    (HealLockRange, 17, 1, [1, 0, END, 0, 0, 0, 0], GRANTED),
-    (HealLockRange, 17, 2, [1, 0, END, 0, 0, 0, 0], GRANTED),
-    (LockRange, 17, 0, [1, 0, END, 0, 0, 0, 0], GRANTED),
-    (LockRange, 17, 1, [1, 0, END, 0, 0, 0, 0], GRANTED),
-    (LockRange, 17, 2, [1, 0, END, 0, 0, 0, 0], GRANTED),
-    (BeginHeal, 17, 0, [1, 0, 0, 0, 0, 0, 0], DONE),
-    (Look, 17, 0, [1, 0, 0, 0, 0, 0, 0], SEEN + 2),
-    (Look, 17, 1, [1, 0, 0, 0, 0, 0, 0], SEEN + 3),
-    (Look, 17, 2, [1, 0, 0, 0, 0, 0, 0], SEEN + 3),
-    (Pre, 17, 1, [1, 0, 0, 0, 0, 0, 0], DONE),
-    (Pre, 17, 2, [1, 0, 0, 0, 0, 0, 0], DONE),
-    (CutTo, 17, 1, [1, 5, 0, 0, 0, 0, 0], DONE),
-    (CutTo, 17, 2, [1, 5, 0, 0, 0, 0, 0], DONE),
-    (UnlockRange, 17, 0, [1, 0, END, 0, 0, 0, 0], DONE),
-    (UnlockRange, 17, 1, [1, 0, END, 0, 0, 0, 0], DONE),
-    (UnlockRange, 17, 2, [1, 0, END, 0, 0, 0, 0], DONE),
-    (LockRange, 17, 0, [1, 0, 131072, 0, 0, 0, 0], GRANTED),
-    (LockRange, 17, 1, [1, 0, 131072, 0, 0, 0, 0], GRANTED),
-    (LockRange, 17, 2, [1, 0, 131072, 0, 0, 0, 0], GRANTED),
-    (BeginHeal, 17, 0, [1, 0, 0, 0, 0, 0, 0], DONE),
-    (Look, 17, 0, [1, 0, 0, 0, 0, 0, 0], SEEN + 2),
-    (Look, 17, 1, [1, 0, 0, 0, 0, 0, 0], SEEN + 4),
-    (Look, 17, 2, [1, 0, 0, 0, 0, 0, 0], SEEN + 4),
-    (ReadBytes, 17, 0, [1, 0, 131072, 0, 0, 0, 0], GIVEN),
-    (CopyIn, 17, 1, [1, 0, 131072, 63, 0, 0, 0], DONE),
-    (CopyIn, 17, 2, [1, 0, 131072, 63, 0, 0, 0], DONE),
-    (UnlockRange, 17, 0, [1, 0, 131072, 0, 0, 0, 0], DONE),
-    (UnlockRange, 17, 1, [1, 0, 131072, 0, 0, 0, 0], DONE),
-    (UnlockRange, 17, 2, [1, 0, 131072, 0, 0, 0, 0], DONE),
-    (LockRange, 17, 0, [1, 0, END, 0, 0, 0, 0], GRANTED),
-    (LockRange, 17, 1, [1, 0, END, 0, 0, 0, 0], GRANTED),
-    (LockRange, 17, 2, [1, 0, END, 0, 0, 0, 0], GRANTED),
-    (BeginHeal, 17, 0, [1, 0, 0, 0, 0, 0, 0], DONE),
-    (Look, 17, 0, [1, 0, 0, 0, 0, 0, 0], SEEN + 2),
-    (Look, 17, 1, [1, 0, 0, 0, 0, 0, 0], SEEN + 5),
-    (Look, 17, 2, [1, 0, 0, 0, 0, 0, 0], SEEN + 5),
-    (Settle, 17, 0, [1, 0, 1, 0, 0, 0, 0], DONE),
-    (Settle, 17, 1, [1, 0, 2, 0, 0, 0, 0], DONE),
-    (Settle, 17, 2, [1, 0, 2, 0, 0, 0, 0], DONE),
-    (UnlockRange, 17, 0, [1, 0, END, 0, 0, 0, 0], DONE),
-    (UnlockRange, 17, 1, [1, 0, END, 0, 0, 0, 0], DONE),
-    (UnlockRange, 17, 2, [1, 0, END, 0, 0, 0, 0], DONE),
-    (HealUnlockRange, 17, 0, [1, 0, END, 0, 0, 0, 0], DONE),
-    (HealUnlockRange, 17, 1, [1, 0, END, 0, 0, 0, 0], DONE),
-    (HealUnlockRange, 17, 2, [1, 0, END, 0, 0, 0, 0], DONE),
-    (EndSettled, 17, 0, [1, 0, 0, 0, 0, 0, 0], DONE),
-    (EndOk, 17, 0, [0, 0, 0, 0, 0, 0, 0], DONE),
-];
+pub(crate) const TRACE: &str = "\
+0 c1 b0 look g1 seen dir
+1 c1 b1 look g1 seen dir
+2 c1 b2 look g1 seen dir
+3 c1 b0 name g1/f1 ok
+4 c1 b0 lock f1[0,5) granted
+5 c1 b1 lock f1[0,5) granted
+6 c1 b2 lock f1[0,5) granted
+7 c1 b0 look f1 seen file 0
+8 c1 b1 look f1 seen file 0
+9 c1 b2 look f1 seen file 0
+10 c1 begin write f1 0 hello
+11 c1 b0 pre f1 data done
+12 c1 b1 pre f1 data done
+13 c1 b2 pre f1 data done
+14 c1 b0 apply 10 done
+15 c1 b1 apply 10 failed
+16 c1 b2 apply 10 failed
+17 c1 b0 unlock f1[0,5) done
+18 c1 b1 unlock f1[0,5) done
+19 c1 b2 unlock f1[0,5) done
+20 c1 end failed
+21 h1 b0 index ok
+22 h1 b0 lock heal f1[0,end) granted
+23 h1 b1 lock heal f1[0,end) granted
+24 h1 b2 lock heal f1[0,end) granted
+25 h1 b0 lock f1[meta] granted
+26 h1 b1 lock f1[meta] granted
+27 h1 b2 lock f1[meta] granted
+28 h1 begin heal metadata f1
+29 h1 b0 look f1 seen file 5 data 1 0 0 0
+30 h1 b1 look f1 seen file 0 data 1 0 0 0
+31 h1 b2 look f1 seen file 0 data 1 0 0 0
+32 h1 b0 unlock f1[meta] done
+33 h1 b1 unlock f1[meta] done
+34 h1 b2 unlock f1[meta] done
+35 h1 b0 unlock heal f1[0,end) done
+36 h1 b1 unlock heal f1[0,end) done
+37 h1 b2 unlock heal f1[0,end) done
+38 h1 end metadata f1 nothing
+39 h1 b0 lock heal f1[0,end) granted
+40 h1 b1 lock heal f1[0,end) granted
+41 h1 b2 lock heal f1[0,end) granted
+42 h1 b0 lock f1[0,end) granted
+43 h1 b1 lock f1[0,end) granted
+44 h1 b2 lock f1[0,end) granted
+45 h1 begin heal data f1
+46 h1 b0 look f1 seen file 5 data 1 0 0 0
+47 h1 b1 look f1 seen file 0 data 1 0 0 0
+48 h1 b2 look f1 seen file 0 data 1 0 0 0
+49 h1 b1 pre f1 data done
+50 h1 b2 pre f1 data done
+51 h1 b1 cut f1 5 done
+52 h1 b2 cut f1 5 done
+53 h1 b0 unlock f1[0,end) done
+54 h1 b1 unlock f1[0,end) done
+55 h1 b2 unlock f1[0,end) done
+56 h1 b0 lock f1[0,131072) granted
+57 h1 b1 lock f1[0,131072) granted
+58 h1 b2 lock f1[0,131072) granted
+59 h1 begin heal data f1
+60 h1 b0 look f1 seen file 5 data 1 0 0 0
+61 h1 b1 look f1 seen file 0 data 2 0 0 0
+62 h1 b2 look f1 seen file 0 data 2 0 0 0
+63 h1 b0 read f1[0,131072) ok
+64 h1 b1 copy f1[0,131072) from 63 done
+65 h1 b2 copy f1[0,131072) from 63 done
+66 h1 b0 unlock f1[0,131072) done
+67 h1 b1 unlock f1[0,131072) done
+68 h1 b2 unlock f1[0,131072) done
+69 h1 b0 lock f1[0,end) granted
+70 h1 b1 lock f1[0,end) granted
+71 h1 b2 lock f1[0,end) granted
+72 h1 begin heal data f1
+73 h1 b0 look f1 seen file 5 data 1 0 0 0
+74 h1 b1 look f1 seen file 5 data 2 0 0 0
+75 h1 b2 look f1 seen file 5 data 2 0 0 0
+76 h1 b0 settle f1 data 1 0 0 0 done
+77 h1 b1 settle f1 data 2 0 0 0 done
+78 h1 b2 settle f1 data 2 0 0 0 done
+79 h1 b0 unlock f1[0,end) done
+80 h1 b1 unlock f1[0,end) done
+81 h1 b2 unlock f1[0,end) done
+82 h1 b0 unlock heal f1[0,end) done
+83 h1 b1 unlock heal f1[0,end) done
+84 h1 b2 unlock heal f1[0,end) done
+85 h1 end data f1 settled
+86 h1 end ok
+";

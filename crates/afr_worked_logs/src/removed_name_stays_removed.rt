@@ -1,92 +1,77 @@
 //! A name removed while brick 2 is stopped, and the heal of its directory.
 
-use crate::row::Form::{
-    Apply, BeginHeal, BeginUnlink, EndNoEntry, EndNothing, EndOk, EndSettled, HealLockRange,
-    HealUnlockRange, Index, List, LockName, LockRange, Look, Post, Pre, PutNames, ReadName, Settle,
-    Start, Stop, UnlockName, UnlockRange,
-};
-use crate::row::{DONE, END, GIVEN, GONE, GRANTED, NONE, Row, SEEN, Viewed};
-
-pub(crate) const VIEWS: [Viewed; 2] = [
-    [1, 0, 0, 0, 0, 0, 0, 0, 0, 0, 0, 0, 0, 0],
-    [1, 0, 0, 0, 0, 0, 0, 0, 0, 0, 0, 0, 0, 1],
-];
-
-pub(crate) const LINES: [Row; 70] = [
-    (Stop, 0, 2, [0, 0, 0, 0, 0, 0, 0], DONE),
-    (LockName, 1, 0, [0, 0, 0, 0, 0, 0, 0], GRANTED),
-    (LockName, 1, 1, [0, 0, 0, 0, 0, 0, 0], GRANTED),
-    (LockName, 1, 2, [0, 0, 0, 0, 0, 0, 0], GONE),
-    (Look, 1, 0, [0, 0, 0, 0, 0, 0, 0], SEEN),
-    (Look, 1, 1, [0, 0, 0, 0, 0, 0, 0], SEEN),
-    (ReadName, 1, 0, [0, 0, 0, 0, 0, 0, 0], GIVEN),
-    (BeginUnlink, 1, 0, [0, 0, 0, 0, 0, 0, 0], DONE),
-    (Pre, 1, 0, [0, 2, 0, 0, 0, 0, 0], DONE),
-    (Pre, 1, 1, [0, 2, 0, 0, 0, 0, 0], DONE),
-    (Apply, 1, 0, [7, 0, 0, 0, 0, 0, 0], DONE),
-    (Apply, 1, 1, [7, 0, 0, 0, 0, 0, 0], DONE),
-    (Post, 1, 0, [0, 2, 7, 4, 0, 0, 0], DONE),
-    (Post, 1, 1, [0, 2, 7, 4, 0, 0, 0], DONE),
-    (UnlockName, 1, 0, [0, 0, 0, 0, 0, 0, 0], DONE),
-    (UnlockName, 1, 1, [0, 0, 0, 0, 0, 0, 0], DONE),
-    (EndOk, 1, 0, [0, 0, 0, 0, 0, 0, 0], DONE),
-    (Start, 0, 2, [0, 0, 0, 0, 0, 0, 0], DONE),
-    (Index, 17, 0, [0, 0, 0, 0, 0, 0, 0], GIVEN),
-    (HealLockRange, 17, 0, [0, 0, END, 0, 0, 0, 0], GRANTED),
-    (HealLockRange, 17, 1, [0, 0, END, 0, 0, 0, 0], GRANTED),
-    (HealLockRange, 17, 2, [0, 0, END, 0, 0, 0, 0], GRANTED),
-    (LockRange, 17, 0, [0, END, END, 0, 0, 0, 0], GRANTED),
-    (LockRange, 17, 1, [0, END, END, 0, 0, 0, 0], GRANTED),
-    (LockRange, 17, 2, [0, END, END, 0, 0, 0, 0], GRANTED),
-    (BeginHeal, 17, 0, [0, 1, 0, 0, 0, 0, 0], DONE),
-    (Look, 17, 0, [0, 0, 0, 0, 0, 0, 0], SEEN + 1),
-    (Look, 17, 1, [0, 0, 0, 0, 0, 0, 0], SEEN + 1),
-    (Look, 17, 2, [0, 0, 0, 0, 0, 0, 0], SEEN),
-    (UnlockRange, 17, 0, [0, END, END, 0, 0, 0, 0], DONE),
-    (UnlockRange, 17, 1, [0, END, END, 0, 0, 0, 0], DONE),
-    (UnlockRange, 17, 2, [0, END, END, 0, 0, 0, 0], DONE),
-    (HealUnlockRange, 17, 0, [0, 0, END, 0, 0, 0, 0], DONE),
-    (HealUnlockRange, 17, 1, [0, 0, END, 0, 0, 0, 0], DONE),
-    (HealUnlockRange, 17, 2, [0, 0, END, 0, 0, 0, 0], DONE),
-    (EndNothing, 17, 0, [0, 1, 0, 0, 0, 0, 0], DONE),
-    (HealLockRange, 17, 0, [0, 0, END, 0, 0, 0, 0], GRANTED),
-    (HealLockRange, 17, 1, [0, 0, END, 0, 0, 0, 0], GRANTED),
-    (HealLockRange, 17, 2, [0, 0, END, 0, 0, 0, 0], GRANTED),
-    (LockName, 17, 0, [0, NONE, 0, 0, 0, 0, 0], GRANTED),
-    (LockName, 17, 1, [0, NONE, 0, 0, 0, 0, 0], GRANTED),
-    (LockName, 17, 2, [0, NONE, 0, 0, 0, 0, 0], GRANTED),
-    (BeginHeal, 17, 0, [0, 2, 0, 0, 0, 0, 0], DONE),
-    (Look, 17, 0, [0, 0, 0, 0, 0, 0, 0], SEEN + 1),
-    (Look, 17, 1, [0, 0, 0, 0, 0, 0, 0], SEEN + 1),
-    (Look, 17, 2, [0, 0, 0, 0, 0, 0, 0], SEEN),
-    (List, 17, 0, [0, 0, 0, 0, 0, 0, 0], GIVEN),
-    (List, 17, 1, [0, 0, 0, 0, 0, 0, 0], GIVEN),
-    (Pre, 17, 0, [0, 2, 0, 0, 0, 0, 0], DONE),
-    (Pre, 17, 1, [0, 2, 0, 0, 0, 0, 0], DONE),
-    (Pre, 17, 2, [0, 2, 0, 0, 0, 0, 0], DONE),
-    (PutNames, 17, 0, [0, 46, 47, NONE, 0, 0, 0], DONE),
-    (PutNames, 17, 1, [0, 46, 47, NONE, 0, 0, 0], DONE),
-    (PutNames, 17, 2, [0, 46, 47, NONE, 0, 0, 0], DONE),
-    (Settle, 17, 0, [0, 2, 1, 0, 0, 1, 0], DONE),
-    (Settle, 17, 1, [0, 2, 1, 0, 0, 1, 0], DONE),
-    (Settle, 17, 2, [0, 2, 1, 0, 0, 0, 0], DONE),
-    (UnlockName, 17, 0, [0, NONE, 0, 0, 0, 0, 0], DONE),
-    (UnlockName, 17, 1, [0, NONE, 0, 0, 0, 0, 0], DONE),
-    (UnlockName, 17, 2, [0, NONE, 0, 0, 0, 0, 0], DONE),
-    (HealUnlockRange, 17, 0, [0, 0, END, 0, 0, 0, 0], DONE),
-    (HealUnlockRange, 17, 1, [0, 0, END, 0, 0, 0, 0], DONE),
-    (HealUnlockRange, 17, 2, [0, 0, END, 0, 0, 0, 0], DONE),
-    (EndSettled, 17, 0, [0, 2, 0, 0, 0, 0, 0], DONE),
-    (EndOk, 17, 0, [0, 0, 0, 0, 0, 0, 0], DONE),
-    (Look, 2, 0, [0, 0, 0, 0, 0, 0, 0], SEEN),
-    (Look, 2, 1, [0, 0, 0, 0, 0, 0, 0], SEEN),
-    (Look, 2, 2, [0, 0, 0, 0, 0, 0, 0], SEEN),
-    (ReadName, 2, 0, [0, 0, 0, 0, 0, 0, 0], GIVEN),
-    (EndNoEntry, 2, 0, [0, 0, 0, 0, 0, 0, 0], DONE),
-];
+pub(crate) const TRACE: &str = "\
+0 event stop 2
+1 c1 b0 lock g1/f1 granted
+2 c1 b1 lock g1/f1 granted
+3 c1 b2 lock g1/f1 gone
+4 c1 b0 look g1 seen dir
+5 c1 b1 look g1 seen dir
+6 c1 b0 name g1/f1 ok
+7 c1 begin unlink g1/f1
+8 c1 b0 pre g1 entry done
+9 c1 b1 pre g1 entry done
+10 c1 b0 apply 7 done
+11 c1 b1 apply 7 done
+12 c1 b0 post 7 2 done
+13 c1 b1 post 7 2 done
+14 c1 b0 unlock g1/f1 done
+15 c1 b1 unlock g1/f1 done
+16 c1 end ok
+17 event start 2
+18 h1 b0 index ok
+19 h1 b0 lock heal g1[0,end) granted
+20 h1 b1 lock heal g1[0,end) granted
+21 h1 b2 lock heal g1[0,end) granted
+22 h1 b0 lock g1[meta] granted
+23 h1 b1 lock g1[meta] granted
+24 h1 b2 lock g1[meta] granted
+25 h1 begin heal metadata g1
+26 h1 b0 look g1 seen dir entry 0 0 0 1
+27 h1 b1 look g1 seen dir entry 0 0 0 1
+28 h1 b2 look g1 seen dir
+29 h1 b0 unlock g1[meta] done
+30 h1 b1 unlock g1[meta] done
+31 h1 b2 unlock g1[meta] done
+32 h1 b0 unlock heal g1[0,end) done
+33 h1 b1 unlock heal g1[0,end) done
+34 h1 b2 unlock heal g1[0,end) done
+35 h1 end metadata g1 nothing
+36 h1 b0 lock heal g1[0,end) granted
+37 h1 b1 lock heal g1[0,end) granted
+38 h1 b2 lock heal g1[0,end) granted
+39 h1 b0 lock g1/* granted
+40 h1 b1 lock g1/* granted
+41 h1 b2 lock g1/* granted
+42 h1 begin heal entry g1
+43 h1 b0 look g1 seen dir entry 0 0 0 1
+44 h1 b1 look g1 seen dir entry 0 0 0 1
+45 h1 b2 look g1 seen dir
+46 h1 b0 list g1 ok
+47 h1 b1 list g1 ok
+48 h1 b0 pre g1 entry done
+49 h1 b1 pre g1 entry done
+50 h1 b2 pre g1 entry done
+51 h1 b0 put-names g1 from 46,47 done
+52 h1 b1 put-names g1 from 46,47 done
+53 h1 b2 put-names g1 from 46,47 done
+54 h1 b0 settle g1 entry 1 0 0 1 done
+55 h1 b1 settle g1 entry 1 0 0 1 done
+56 h1 b2 settle g1 entry 1 0 0 0 done
+57 h1 b0 unlock g1/* done
+58 h1 b1 unlock g1/* done
+59 h1 b2 unlock g1/* done
+60 h1 b0 unlock heal g1[0,end) done
+61 h1 b1 unlock heal g1[0,end) done
+62 h1 b2 unlock heal g1[0,end) done
+63 h1 end entry g1 settled
+64 h1 end ok
+65 c2 b0 look g1 seen dir
+66 c2 b1 look g1 seen dir
+67 c2 b2 look g1 seen dir
+68 c2 b0 name g1/f1 ok
+69 c2 end no-entry
+";
 
 /// The names of brick 2, which is accused, are read for the merge in place of those of brick 1.
-pub(crate) const MERGED_OVER_ACCUSED_NAMES: (usize, Row) = (
-    47,
-    (List, 17, 2, [0, 0, 0, 0, 0, 0, 0], GIVEN),
-);
+pub(crate) const MERGED_OVER_ACCUSED_NAMES: &str = "47 h1 b2 list g1 ok";

@@ -1,49 +1,37 @@
 //! A write on three bricks and a read of it.
 
-use crate::row::Form::{
-    Apply, BeginWrite, EndBytes, EndOk, LockRange, Look, Post, Pre, ReadBytes, ReadName,
-    UnlockRange,
-};
-use crate::row::{DONE, GIVEN, GRANTED, Row, SEEN, Viewed};
-
-pub(crate) const VIEWS: [Viewed; 3] = [
-    [1, 0, 0, 0, 0, 0, 0, 0, 0, 0, 0, 0, 0, 0],
-    [0, 0, 0, 0, 0, 0, 0, 0, 0, 0, 0, 0, 0, 0],
-    [0, 5, 0, 0, 0, 0, 0, 0, 0, 0, 0, 0, 0, 0],
-];
-
-pub(crate) const LINES: [Row; 33] = [
-    (Look, 1, 0, [0, 0, 0, 0, 0, 0, 0], SEEN),
-    (Look, 1, 1, [0, 0, 0, 0, 0, 0, 0], SEEN),
-    (Look, 1, 2, [0, 0, 0, 0, 0, 0, 0], SEEN),
-    (ReadName, 1, 0, [0, 0, 0, 0, 0, 0, 0], GIVEN),
-    (LockRange, 1, 0, [1, 0, 5, 0, 0, 0, 0], GRANTED),
-    (LockRange, 1, 1, [1, 0, 5, 0, 0, 0, 0], GRANTED),
-    (LockRange, 1, 2, [1, 0, 5, 0, 0, 0, 0], GRANTED),
-    (Look, 1, 0, [1, 0, 0, 0, 0, 0, 0], SEEN + 1),
-    (Look, 1, 1, [1, 0, 0, 0, 0, 0, 0], SEEN + 1),
-    (Look, 1, 2, [1, 0, 0, 0, 0, 0, 0], SEEN + 1),
-    (BeginWrite, 1, 0, [1, 5, 104, 101, 108, 108, 111], DONE),
-    (Pre, 1, 0, [1, 0, 0, 0, 0, 0, 0], DONE),
-    (Pre, 1, 1, [1, 0, 0, 0, 0, 0, 0], DONE),
-    (Pre, 1, 2, [1, 0, 0, 0, 0, 0, 0], DONE),
-    (Apply, 1, 0, [10, 0, 0, 0, 0, 0, 0], DONE),
-    (Apply, 1, 1, [10, 0, 0, 0, 0, 0, 0], DONE),
-    (Apply, 1, 2, [10, 0, 0, 0, 0, 0, 0], DONE),
-    (Post, 1, 0, [1, 0, 10, 0, 0, 0, 0], DONE),
-    (Post, 1, 1, [1, 0, 10, 0, 0, 0, 0], DONE),
-    (Post, 1, 2, [1, 0, 10, 0, 0, 0, 0], DONE),
-    (UnlockRange, 1, 0, [1, 0, 5, 0, 0, 0, 0], DONE),
-    (UnlockRange, 1, 1, [1, 0, 5, 0, 0, 0, 0], DONE),
-    (UnlockRange, 1, 2, [1, 0, 5, 0, 0, 0, 0], DONE),
-    (EndOk, 1, 0, [0, 0, 0, 0, 0, 0, 0], DONE),
-    (Look, 1, 0, [0, 0, 0, 0, 0, 0, 0], SEEN),
-    (Look, 1, 1, [0, 0, 0, 0, 0, 0, 0], SEEN),
-    (Look, 1, 2, [0, 0, 0, 0, 0, 0, 0], SEEN),
-    (ReadName, 1, 0, [0, 0, 0, 0, 0, 0, 0], GIVEN),
-    (Look, 1, 0, [1, 0, 0, 0, 0, 0, 0], SEEN + 2),
-    (Look, 1, 1, [1, 0, 0, 0, 0, 0, 0], SEEN + 2),
-    (Look, 1, 2, [1, 0, 0, 0, 0, 0, 0], SEEN + 2),
-    (ReadBytes, 1, 0, [1, 0, 5, 0, 0, 0, 0], GIVEN),
-    (EndBytes, 1, 0, [5, 104, 101, 108, 108, 111, 0], DONE),
-];
+pub(crate) const TRACE: &str = "\
+0 c1 b0 look g1 seen dir
+1 c1 b1 look g1 seen dir
+2 c1 b2 look g1 seen dir
+3 c1 b0 name g1/f1 ok
+4 c1 b0 lock f1[0,5) granted
+5 c1 b1 lock f1[0,5) granted
+6 c1 b2 lock f1[0,5) granted
+7 c1 b0 look f1 seen file 0
+8 c1 b1 look f1 seen file 0
+9 c1 b2 look f1 seen file 0
+10 c1 begin write f1 0 hello
+11 c1 b0 pre f1 data done
+12 c1 b1 pre f1 data done
+13 c1 b2 pre f1 data done
+14 c1 b0 apply 10 done
+15 c1 b1 apply 10 done
+16 c1 b2 apply 10 done
+17 c1 b0 post 10 - done
+18 c1 b1 post 10 - done
+19 c1 b2 post 10 - done
+20 c1 b0 unlock f1[0,5) done
+21 c1 b1 unlock f1[0,5) done
+22 c1 b2 unlock f1[0,5) done
+23 c1 end ok
+24 c1 b0 look g1 seen dir
+25 c1 b1 look g1 seen dir
+26 c1 b2 look g1 seen dir
+27 c1 b0 name g1/f1 ok
+28 c1 b0 look f1 seen file 5
+29 c1 b1 look f1 seen file 5
+30 c1 b2 look f1 seen file 5
+31 c1 b0 read f1[0,5) ok
+32 c1 end ok 68656c6c6f
+";

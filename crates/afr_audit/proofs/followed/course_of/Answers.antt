@@ -1,5 +1,5 @@
 use Rattle.std.proofs.Common.{Err, ap, reverse, subst, sym, take, ◌∙◌}
-use Rattle.afr_check.specs.Seen.{place_seen}
+use Rattle.afr_replay.specs.Seen.{place_seen}
 use Rattle.afr_tables.specs.Codes.{kept_by}
 use Rattle.afr_discipline.specs.Stands.{Stands}
 use Rattle.afr_moves.specs.Followed.{register_by}

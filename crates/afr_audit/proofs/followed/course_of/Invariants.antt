@@ -1,5 +1,5 @@
 use Rattle.std.proofs.Common.{◌≡◌, reverse, take}
-use Rattle.afr_check.specs.Seen.{place_seen}
+use Rattle.afr_replay.specs.Seen.{place_seen}
 use Rattle.afr_lines.specs.Places.{place_of}
 use Rattle.afr_tables.specs.Codes.{kept_by}
 use Rattle.afr_discipline.specs.Stands.{Stands}

@@ -1,5 +1,5 @@
 use Rattle.std.proofs.Common.{Err, ap, sym}
-use Rattle.afr_check.proofs.FitsLemmas.{fits_before}
+use Rattle.afr_replay.proofs.FitsLemmas.{fits_before}
 use Rattle.afr_audit.proofs.reads.was_given.Goals as goal
 
 pub returns-in_err-now-clause-too_much : goal.returns-in_err-now-clause-too_much
