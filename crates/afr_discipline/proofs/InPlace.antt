@@ -1,7 +1,7 @@
 -- The steps and the locks of a register are noted one after the other as if each were noted of the register before.
 use Rattle.std.proofs.Common.{◌≡◌, ℕ, ◌&&◌, not, Bool, true, false, if◌then◌else◌, refl, sym, ap, ◌∙◌, Some}
 use Rattle.std.specs.Prelude.{List as Seq}
-use Rattle.afr_base.specs.Bricks.{added, added_if, removed}
+use Rattle.afr_base.specs.Bricks.{added, removed}
 use Rattle.afr_base.specs.declared.ids.Shape.{Shape}
 use Rattle.afr_range_locks.specs.declared.domain.Domain.TheVariants.{Work, Heal}
 use Rattle.afr_lines.specs.declared.answer.Told.{Told}

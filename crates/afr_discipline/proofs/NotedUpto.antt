@@ -7,7 +7,7 @@ use Rattle.afr_lines.specs.declared.request.Request.TheVariants.{Lock, Unlock, L
 use Rattle.afr_discipline.specs.declared.register.Move.{Move}
 use Rattle.afr_discipline.specs.declared.register.Move.TheVariants.{Ask, Begin, HealBegin, End}
 use Rattle.afr_discipline.specs.declared.register.Register.{Register}
-use Rattle.afr_discipline.specs.Notes.{is_working, noted, noted_inside, noted_outside, noted_steps, upto_after, upto_asked, upto_noted}
+use Rattle.afr_discipline.specs.Notes.{is_working, noted, noted_outside, noted_steps, upto_after, upto_asked, upto_noted}
 use Rattle.afr_discipline.specs.Stands.{no_lines}
 
 -- one of two registers

@@ -11,7 +11,7 @@ use Rattle.afr_lines.specs.declared.request.Request.TheVariants.{Lock, Unlock, L
 use Rattle.afr_lines.specs.Overlap.{same_area}
 use Rattle.afr_moves.specs.Note.{answers, breaks, entering, fails, given, is_failed, is_given, is_granted, left_in_heal, next_phase, put_first, put_look, reading}
 use Rattle.afr_moves.specs.Register as exact
-use Rattle.afr_moves.specs.Register.{Exact, is_opening, is_piece, rank, same_step, span, whole_area}
+use Rattle.afr_moves.specs.Register.{Exact, is_opening, same_step, whole_area}
 use Rattle.afr_moves.specs.Steps.{may_heal}
 use Rattle.afr_discipline.specs.declared.register.Register.{Register}
 use Rattle.afr_discipline.specs.declared.register.Step.TheVariants.{HealLocks, WorkLocks, HealPres, Mends, Settles, Unlocks, HealUnlocks}

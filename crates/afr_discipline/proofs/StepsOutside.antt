@@ -17,7 +17,7 @@ use Rattle.afr_discipline.specs.declared.register.Register.{Register}
 use Rattle.afr_discipline.specs.declared.register.Step.{Step}
 use Rattle.afr_discipline.specs.declared.register.Step.TheVariants.{Open, Pres, Applies, Posts, HealLocks}
 use Rattle.afr_discipline.specs.Notes.{counts, entered, is_working, noted_outside, shown, shown_if, stayed}
-use Rattle.afr_discipline.specs.Stands.{HasFive, phase_of, reads_of, step_of, views_of}
+use Rattle.afr_discipline.specs.Stands.{phase_of, reads_of, step_of, views_of}
 use Rattle.afr_discipline.proofs.StandsLemmas.{filled, no_views_shown}
 use Rattle.afr_discipline.proofs.SetsOfFive.{put_marked_no, put_marked_yes, put_no_view, put_view, with_not}
 

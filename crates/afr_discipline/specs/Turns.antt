@@ -1,5 +1,5 @@
 -- Whose turn it is in a step of a heal, and what the heal takes back.
-use Rattle.std.specs.Prelude.{ℕ, zero, suc, ◌+◌, nat_lt, Bool, true, false, if◌then◌else◌, Option, None, Some, ◌&&◌, slice_index, ◌∷◌, []}
+use Rattle.std.specs.Prelude.{ℕ, zero, suc, ◌+◌, nat_lt, Bool, if◌then◌else◌, Option, None, Some, ◌&&◌, slice_index, ◌∷◌, []}
 use Rattle.afr_base.specs.declared.marks.Marks.{Marks}
 use Rattle.afr_object.specs.declared.entry.View.{View}
 use Rattle.afr_moves.specs.Honest.{view_marks}

@@ -1,6 +1,6 @@
 //! The bricks that each step of a heal asks, if one copy is its source.
 ghost use Rattle.std.specs.Prelude.{◌≡◌, ◌<◌, ◌≤◌, ◌||◌, not};
-ghost use Rattle.afr_moves.specs.Register.{asked_in, good, holder, over};
+ghost use Rattle.afr_moves.specs.Register.{asked_in, holder, over};
 ghost use Rattle.afr_moves.specs.Steps.{locks_at, looks_at, mends_at, other, passed, pres_at, reads_at, set_of, settles_at, sink, turn};
 ghost use Rattle.afr_moves.specs.Keeps.{keeps_in};
 ghost use Rattle.afr_discipline.specs.Stands.{phase_of, seen_as, step_of};

@@ -1,5 +1,5 @@
 //! What a request of a heal and its answer leave in a register: the step, the looks, the reads and the part.
-ghost use Rattle.std.specs.Prelude.{◌≡◌, ◌+◌, ◌^◌, ◌<◌, ◌≤◌, false, not};
+ghost use Rattle.std.specs.Prelude.{◌≡◌, ◌+◌, ◌^◌, ◌<◌, ◌≤◌, false};
 ghost use Rattle.afr_moves.specs.Register.{is_piece, span};
 ghost use Rattle.afr_discipline.specs.Notes.{broken_by, leaves_open, looked_inside, noted_inside, noted_steps, part_after, picked, read_inside, still_possible, upto_after};
 ghost use Rattle.afr_discipline.specs.Stands.{phase_of};

@@ -86,6 +86,8 @@ fn has_five(views: &[Option<View>; 5])
 
 /// Notes a move with its answer, where the log has its line at this position: the register then stands for what its actor's
 /// lines show, this one included.
+/// Whoever notes the lines of a heal shows `room` from the length of its source: `upto` is then at most that length and one
+/// piece more.
 pub fn note(register: &mut Register, step: &Move<'_>, told: &Told, at: u32)
     requires few { register.old.shape.n ≤ 5 }
     requires small { AsksBelow step.now }

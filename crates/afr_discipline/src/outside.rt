@@ -5,7 +5,7 @@ ghost use Rattle.afr_moves.specs.Rules.{busy};
 ghost use Rattle.afr_moves.specs.Register.{all};
 ghost use Rattle.afr_moves.specs.Keeps.{keeps_in};
 ghost use Rattle.afr_discipline.specs.Stands.{number_of, seen_as};
-ghost use Rattle.afr_discipline.specs.Tests.{is_open, last_posted, may_apply, may_ask_outside, may_begin, may_end, may_move_outside, may_open, may_post, may_pre, may_work, misses, one_of, same_flag};
+ghost use Rattle.afr_discipline.specs.Tests.{last_posted, may_apply, may_ask_outside, may_begin, may_end, may_move_outside, may_open, may_post, may_pre, may_work, misses, one_of, same_flag};
 
 use crate::areas::{
     is_an_area, is_in_plane, is_low, is_of_heals, is_the_area, is_within, kind_of_change,

@@ -6,7 +6,6 @@ ghost use Rattle.afr_base.specs.Majority.{is_most};
 ghost use Rattle.afr_moves.specs.Rules.{fits_change};
 ghost use Rattle.afr_moves.specs.Cells.{what_code};
 ghost use Rattle.afr_moves.specs.Register.{accuses, good, holder, unaccused, all};
-ghost use Rattle.afr_moves.specs.Honest.{plane_kind};
 ghost use Rattle.afr_base.specs.Keeping.{is_bytes, keeps};
 ghost use Rattle.afr_moves.specs.Keeps.{keeps_in};
 ghost use Rattle.afr_discipline.specs.Stands.{views_of};

@@ -1,13 +1,12 @@
 -- Areas that a test calls the same are the same.
 use Rattle.afr_moves.specs.Lines.{range_of, name_of}
-use Rattle.std.specs.Prelude.{List as Seq}
 use Rattle.afr_lines.specs.Overlap.{same_area}
-use Rattle.std.proofs.Common.{◌≡◌, ℕ, suc, ◌<◌, Bool, true, false, ◌&&◌, not, ◌⊎◌, inl, inr, refl, sym, ap, ◌∙◌, subst, arith, true≢false}
-use Rattle.std.specs.Prelude.{Option, None, Some, ◌==◌, if◌then◌else◌}
+use Rattle.std.proofs.Common.{◌≡◌, ℕ, Bool, true, false, ◌&&◌, ap, arith}
+use Rattle.std.specs.Prelude.{Option, None, Some, ◌==◌}
 use Rattle.std.proofs.lemmas.Bool.Decides.{nat_tests}
 use Rattle.afr_lines.specs.declared.request.Area.{Area}
 use Rattle.afr_lines.specs.declared.request.Area.TheVariants.{Range, Name}
-use Rattle.afr_moves.specs.Rules.{Register, fresh, begun, is_area, looked, viewed, looking, put_view, is_none, unlocked, released, locking, granting, heal_area, area_object, mend_cells, note_ask, dropping, MayHealLock, busy, second_of, second_freed}
+use Rattle.afr_moves.specs.Rules.{is_area}
 
 same_yes : (x y : ℕ) → (x == y) ≡ true → x ≡ y
 same_yes x y e = grind (arith, nat_tests)

@@ -1,6 +1,6 @@
 //! Each number of a line lies in the range of its type: functions that do nothing but walk over a list, and whose contracts say so of each part of a line.
-ghost use Rattle.std.specs.Prelude.{◌≡◌, ◌<◌, ◌^◌, Bool, length};
-ghost use Rattle.afr_moves.specs.Ranges.{AreaInRange, ChangeInRange, Each, EntryInRange, EventInRange, GoodInRange, HealReplyInRange, IfSome, InRange, IsByte, IsGfid, IsShort, IsWord, MarksInRange, RepairInRange, ReplyInRange, RequestInRange, ToldInRange, ViewInRange, ViewsInRange};
+ghost use Rattle.std.specs.Prelude.{◌<◌, ◌^◌};
+ghost use Rattle.afr_moves.specs.Ranges.{AreaInRange, ChangeInRange, Each, EventInRange, GoodInRange, HealReplyInRange, IfSome, InRange, IsByte, IsGfid, IsShort, IsWord, MarksInRange, RepairInRange, ReplyInRange, RequestInRange, ToldInRange, ViewInRange, ViewsInRange};
 ghost use Rattle.afr_ranges.specs.Named.{IsNamed};
 
 use afr_base::{ActorId, BrickId, BrickSet, Gfid, Marks, NameId};

@@ -1,5 +1,5 @@
 //! Sources and sinks, piece by piece and whole.
-ghost use Rattle.std.specs.Prelude.{◌<◌, ◌^◌};
+ghost use Rattle.std.specs.Prelude.{◌<◌};
 
 use afr_text::{
     Failed, MemSink, MemSource, ReadStop, Sink, Source, StdSink, StdSource, SureSink, SureSource,
@@ -98,7 +98,7 @@ fn read_in_pieces(
     limit: usize,
     fails: u32,
 ) -> Result<Result<usize, ReadStop>, AllocError>
-    requires { limit < 2 ^ 32 }
+    requires { 0 < most }
 {
     let bytes = [1u8, 2, 3, 4, 5].to_vec(alloc)?;
     let fails = [fails].to_vec(alloc)?;
@@ -109,6 +109,7 @@ fn read_in_pieces(
 #[test]
 fn reads_in_pieces_and_stops_at_a_fault(rt: HostRuntime) -> Result<(), Fail> {
     for (most, limit, fails, want) in READS {
+        assert!(rt; most > 0);
         let read = read_in_pieces(rt.alloc(), most, limit, fails)?;
         assert!(rt;
             read == want,
