@@ -1,5 +1,6 @@
 //! The texts of reports: each reply, a dead client, and bricks that are stopped.
-ghost use Rattle.std.specs.Prelude.{◌≡◌, ◌≤◌, IfOk, length};
+ghost use Rattle.std.specs.Prelude.{◌≡◌, ◌≤◌, IfOk, length, reverse};
+ghost use Rattle.afr_report.specs.BrickLines.{AreBrickLines};
 
 use afr_base::{ActorId, BrickId, NoMemory, Shape};
 use afr_lines::{Event, Good, Line, Reply};
@@ -79,40 +80,19 @@ fn two_readers(alloc: Global) -> Result<Scripts, NoMemory>
     Ok(clients)
 }
 
-fn end(reply: Reply) -> Line {
+fn end(reply: Reply) -> Line
+    ensures { result ≡ Line.End (record { 0 = 1 }) reply }
+{
     Line::End {
-        actor: ActorId::client(1),
+        actor: ActorId(1),
         reply,
     }
 }
 
-fn bytes_read(alloc: Global, bytes: &[u8]) -> Result<Line, NoMemory> {
-    let bytes = bytes.to_vec(alloc)?;
-    Ok(end(Reply::Ok(Good::Bytes(List::from_vec(bytes)))))
-}
-
-fn event(event: Event) -> Line {
+fn event(event: Event) -> Line
+    ensures { result ≡ Line.Event event }
+{
     Line::Event { event }
-}
-
-/// The lines that end a write and three reads.
-fn four_ends(alloc: Global) -> Result<Vec<Line>, NoMemory> {
-    let mut log = Vec::new(alloc);
-    log.push(end(Reply::Ok(Good::Done)))?;
-    log.push(bytes_read(alloc, b"hello")?)?;
-    log.push(bytes_read(alloc, b"")?)?;
-    log.push(end(Reply::NoEntry))?;
-    Ok(log)
-}
-
-/// Two bricks stop, a read ends short of copies, and its client dies.
-fn stops_and_a_death(alloc: Global) -> Result<Vec<Line>, NoMemory> {
-    let mut log = Vec::new(alloc);
-    log.push(event(Event::Stop(BrickId(0))))?;
-    log.push(event(Event::Stop(BrickId(2))))?;
-    log.push(end(Reply::FewCopies))?;
-    log.push(event(Event::Kill(ActorId::client(1))))?;
-    Ok(log)
 }
 
 /// Whether the report has this text.
@@ -124,6 +104,7 @@ fn reports(
     text: &str,
 ) -> Result<bool, NoMemory>
     requires few { length clients ≤ 16 }
+    requires bricks { AreBrickLines (reverse log.now) }
 {
     let plan = plan(alloc, arbiter, clients);
     let report = print_report(alloc, &plan, log, started(3, log))?;
@@ -132,7 +113,13 @@ fn reports(
 
 fn has_each_reply(alloc: Global) -> Result<bool, NoMemory> {
     let clients = write_and_reads(alloc)?;
-    let log = four_ends(alloc)?;
+    let hello = b"hello".to_vec(alloc)?;
+    let log = [
+        end(Reply::Ok(Good::Done)),
+        end(Reply::Ok(Good::Bytes(List::from_vec(hello)))),
+        end(Reply::Ok(Good::Bytes(List::new(alloc)))),
+        end(Reply::NoEntry),
+    ];
     reports(
         alloc,
         false,
@@ -144,7 +131,12 @@ fn has_each_reply(alloc: Global) -> Result<bool, NoMemory> {
 
 fn shows_the_dead_and_the_short(alloc: Global) -> Result<bool, NoMemory> {
     let clients = two_readers(alloc)?;
-    let log = stops_and_a_death(alloc)?;
+    let log = [
+        event(Event::Stop(BrickId(0))),
+        event(Event::Stop(BrickId(2))),
+        end(Reply::FewCopies),
+        event(Event::Kill(ActorId(1))),
+    ];
     reports(
         alloc,
         true,
@@ -163,7 +155,9 @@ fn each_reply_has_its_line(rt: HostRuntime) -> Result<(), Fail> {
 
 #[test]
 fn a_dead_client_and_a_short_reach_show(rt: HostRuntime) -> Result<(), Fail> {
-    let holds = shows_the_dead_and_the_short(rt.alloc()).ok().ok_or("memory")?;
+    let holds = shows_the_dead_and_the_short(rt.alloc())
+        .ok()
+        .ok_or("memory")?;
     assert!(rt; holds);
     Ok(())
 }
