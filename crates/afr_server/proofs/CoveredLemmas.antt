@@ -37,8 +37,8 @@ none_in x h = absurd (omega (arith, h.1))
 one_of : {A : Type 0} (first : A) (more : List A) (x : A) → Contains (first ∷ more) x → (first ≡ x) ⊎ Contains more x
 one_of first more x h =
     elim (Contains-append_cases (first ∷ []) more x h) [
-      inl here ↦ elim (Contains-push_cases [] first x here) [ inl none ↦ absurd (none_in x none) | inr same ↦ inl same ]
-    | inr later ↦ inr later
+      | inl here ↦ elim (Contains-push_cases [] first x here) [ inl none ↦ absurd (none_in x none) | inr same ↦ inl same ]
+      | inr later ↦ inr later
     ]
 
 first_in : {A : Type 0} (x : A) (more : List A) → Contains (x ∷ more) x
@@ -56,8 +56,8 @@ in_ranges : (a : ActorId) (d : Domain) (g : Gfid) (from to : ℕ) (held : List (
 in_ranges a d g from to [] h = absurd (none_in _ h)
 in_ranges a d g from to (lock ∷ more) h =
     elim (one_of lock more _ h) [
-      inl same ↦ subst (λ (l : HeldLock Area). Contains (range_before l.owner l.domain l.area (ranges_in more)) (range_lock a d g from to)) (sym same) (first_in (range_lock a d g from to) (ranges_in more))
-    | inr later ↦ passes lock.area (in_ranges a d g from to more later)
+      | inl same ↦ subst (λ (l : HeldLock Area). Contains (range_before l.owner l.domain l.area (ranges_in more)) (range_lock a d g from to)) (sym same) (first_in (range_lock a d g from to) (ranges_in more))
+      | inr later ↦ passes lock.area (in_ranges a d g from to more later)
     ]
   where
     passes : (area : Area) → Contains (ranges_in more) (range_lock a d g from to) → Contains (range_before lock.owner lock.domain area (ranges_in more)) (range_lock a d g from to)
@@ -68,8 +68,8 @@ in_names : (a : ActorId) (d : Domain) (g : Gfid) (name : Option NameId) (held : 
 in_names a d g name [] h = absurd (none_in _ h)
 in_names a d g name (lock ∷ more) h =
     elim (one_of lock more _ h) [
-      inl same ↦ subst (λ (l : HeldLock Area). Contains (name_before l.owner l.domain l.area (names_in more)) (name_lock a d g name)) (sym same) (first_in (name_lock a d g name) (names_in more))
-    | inr later ↦ passes lock.area (in_names a d g name more later)
+      | inl same ↦ subst (λ (l : HeldLock Area). Contains (name_before l.owner l.domain l.area (names_in more)) (name_lock a d g name)) (sym same) (first_in (name_lock a d g name) (names_in more))
+      | inr later ↦ passes lock.area (in_names a d g name more later)
     ]
   where
     passes : (area : Area) → Contains (names_in more) (name_lock a d g name) → Contains (name_before lock.owner lock.domain area (names_in more)) (name_lock a d g name)
