@@ -1,12 +1,12 @@
 //! One request: by its session and its planned fault it is refused, carried out and answered, or carried out with its answer lost.
-ghost use Rattle.std.specs.Prelude.{◌≡◌, ℕ, ◌<◌, ◌-◌, ◌^◌, Bool, true, false, Option, Some, None, IfOk, OnErr, is_some};
+ghost use Rattle.std.specs.Prelude.{◌≡◌, ℕ, ◌<◌, ◌-◌, ◌^◌, true, false, Some, None, IfOk, OnErr};
 ghost use Rattle.afr_faults.specs.Planned.{next_fault};
 ghost use Rattle.afr_server.specs.Carried.{CanCarryOut, CanLock};
 ghost use Rattle.afr_server.specs.Covered.{IsUnderLocks};
 ghost use Rattle.afr_server.specs.Outcome.{Serves, counted, is_carried, link_served};
-ghost use Rattle.afr_server.specs.Serving.{HasEpoch, epoch_of, has_session, is_epoch, is_met, link_for};
+ghost use Rattle.afr_server.specs.Serving.{HasEpoch, epoch_of, has_session, is_met, link_for};
 ghost use Rattle.afr_session.specs.Calls.{only};
-ghost use Rattle.afr_session.specs.Links.{epoch_met, is_reached, link_of, opens};
+ghost use Rattle.afr_session.specs.Links.{link_of, opens};
 
 use crate::carry_out::carry_out;
 use crate::server::{Asked, Server};

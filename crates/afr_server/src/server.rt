@@ -1,9 +1,9 @@
 //! What a server holds, and meeting it.
-ghost use Rattle.std.specs.Prelude.{◌≡◌, ℕ, ◌<◌, ◌-◌, ◌^◌, [], Option, Some, None, true};
-ghost use Rattle.afr_server.specs.Serving.{HasEpoch, epoch_of, has_session, is_epoch, link_for};
+ghost use Rattle.std.specs.Prelude.{◌≡◌, ℕ, ◌<◌, [], true};
+ghost use Rattle.afr_server.specs.Serving.{HasEpoch, epoch_of, has_session, link_for};
 ghost use Rattle.afr_session.specs.Calls.{Does};
 ghost use Rattle.afr_session.specs.Calls.Call.{Meet};
-ghost use Rattle.afr_session.specs.Links.{epoch_met, fresh_link, link_of, live_epoch, opens};
+ghost use Rattle.afr_session.specs.Links.{fresh_link, link_of, live_epoch};
 
 use afr_base::ActorId;
 use afr_brick::Brick;
