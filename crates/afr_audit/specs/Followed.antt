@@ -1,18 +1,13 @@
 -- What the lines so far leave in the register of an actor, from the oldest on.
-use Rattle.afr_moves.specs.Followed.{noted_if, register_by}
-use Rattle.std.specs.Prelude.{ℕ, ◌<◌, ◌&&◌, nat_lt, Bool, List, [], ◌∷◌, length, Some, if◌then◌else◌}
-use Rattle.afr_base.specs.declared.ids.Kind.{Kind}
-use Rattle.afr_base.specs.declared.ids.Shape.{Shape}
-use Rattle.afr_base.specs.Keeping.{keeps}
-use Rattle.afr_lines.specs.Work.{is_of}
+use Rattle.std.specs.Prelude.{ℕ, ◌<◌, List, length, Some}
 use Rattle.afr_lines.specs.declared.line.Line.{Line}
 use Rattle.afr_lines.specs.declared.line.Line.TheVariants.{Ask}
-use Rattle.afr_lines.specs.Places.{opens, place_of}
+use Rattle.afr_lines.specs.Places.{opens}
 use Rattle.afr_plan.specs.declared.plan.Plan.{Plan}
 use Rattle.afr_tables.specs.Codes.{kept_by}
 use Rattle.afr_moves.specs.Discipline as exact
-use Rattle.afr_moves.specs.Discipline.{in_force, note}
-use Rattle.afr_moves.specs.Register.{Exact, untouched}
+use Rattle.afr_moves.specs.Discipline.{in_force}
+use Rattle.afr_moves.specs.Register.{Exact}
 use Rattle.afr_moves.specs.Past as past
 use Rattle.afr_moves.specs.Past.{place}
 use Rattle.afr_moves.specs.Positions.{by_position}

@@ -4,7 +4,7 @@ ghost use Rattle.afr_replay.specs.Seen.{place_seen};
 ghost use Rattle.afr_lines.specs.Work.{is_of};
 ghost use Rattle.afr_lines.specs.Places.{next_place, opens, place_of};
 ghost use Rattle.afr_tables.specs.Codes.{kept_by};
-ghost use Rattle.afr_moves.specs.Discipline.{in_force, note};
+ghost use Rattle.afr_moves.specs.Discipline.{in_force};
 ghost use Rattle.afr_moves.specs.Register.{Exact, span};
 ghost use Rattle.afr_discipline.specs.Stands.{Stands};
 ghost use Rattle.afr_audit.specs.Followed.{AsksOneOfFive, register_at, register_of};

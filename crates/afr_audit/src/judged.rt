@@ -2,7 +2,7 @@
 ghost use Rattle.std.specs.Prelude.{◌≡◌, ◌≢◌, ◌↔◌, ◌⊎◌, ℕ, ◌≤◌, ◌<◌, ◌+◌, true, Err, IfOk, reverse, length};
 ghost use Rattle.afr_replay.specs.Room.{Fits};
 ghost use Rattle.afr_model.specs.Honest.{Honest};
-ghost use Rattle.afr_moves.specs.Discipline.{MakesKnown, MayAskExactly};
+ghost use Rattle.afr_moves.specs.Discipline.{MayAskExactly};
 ghost use Rattle.afr_moves.specs.Heal.{MayHealBegin, MayHealEnd};
 ghost use Rattle.afr_moves.specs.Register.{Exact};
 ghost use Rattle.afr_law.specs.Exactly.{IsLawfulExactly};
@@ -15,7 +15,6 @@ ghost use Rattle.afr_audit.specs.Limits.{CanFollow, CanJudge};
 ghost use Rattle.afr_audit.specs.New.{MakesNew};
 
 use crate::followed::register_at;
-use crate::ranges::fits_its_types;
 use crate::reads::was_given;
 use crate::unjudged::Unjudged;
 use afr_base::{ActorId, BrickId, Gfid, Kind, What};
@@ -23,6 +22,7 @@ use afr_discipline::{Move, Register, is_heal, may};
 use afr_lines::{Line, Reply, Request};
 use afr_object::Change;
 use afr_plan::Plan;
+use afr_ranges::fits_its_types;
 use std::alloc::Global;
 
 fn may_ask(register: &Register, brick: BrickId, request: &Request) -> bool

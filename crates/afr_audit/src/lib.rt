@@ -5,14 +5,9 @@ mod followed;
 mod judged;
 mod makes;
 mod noted;
-mod ranges;
 mod reads;
-#[cfg(test)]
-mod tests;
 mod unjudged;
 mod unlawful;
-#[cfg(test)]
-mod worked_tests;
 
 pub use followed::register_of;
 pub use judged::is_lawful_line;

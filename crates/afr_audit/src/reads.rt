@@ -1,7 +1,6 @@
 //! What the reads of a work gave it.
 ghost use Rattle.std.specs.Prelude.{◌≡◌, ◌↔◌, ℕ, true, Err, IfOk, Some, None, if◌then◌else◌, reverse};
 ghost use Rattle.afr_replay.specs.Room.{Fits};
-ghost use Rattle.std.specs.Option.{option_map};
 ghost use Rattle.afr_model.specs.Cells.{IsEntry};
 ghost use Rattle.afr_replay.specs.Seen.{value_seen};
 ghost use Rattle.afr_audit.specs.Judged.{Showed, WasGiven, read_by};

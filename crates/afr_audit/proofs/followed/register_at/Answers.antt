@@ -4,7 +4,7 @@ use Rattle.afr_tables.specs.Codes.{kept_by}
 use Rattle.afr_moves.specs.Discipline.{in_force}
 use Rattle.afr_discipline.specs.Stands.{Stands}
 use Rattle.afr_audit.specs.Followed.{register_of}
-use Rattle.afr_audit.proofs.FollowedLemmas.{opens_here, register_is}
+use Rattle.afr_moves.proofs.Followed.{opens_here, register_is}
 use Rattle.afr_audit.proofs.followed.register_at.Goals as goal
 
 pub returns-clause-stands : goal.returns-clause-stands

@@ -1,7 +1,7 @@
 use Rattle.std.proofs.Common.{reverse, subst}
 use Rattle.afr_tables.specs.Codes.{kept_by}
 use Rattle.afr_discipline.specs.Stands.{Stands}
-use Rattle.afr_audit.proofs.FollowedLemmas.{register_is}
+use Rattle.afr_moves.proofs.Followed.{register_is}
 use Rattle.afr_audit.proofs.followed.register_of.Goals as goal
 
 pub returns-clause-stands : goal.returns-clause-stands

@@ -1,7 +1,7 @@
 //! A write line by line, and a make after it: which lines keep the discipline.
 ghost use Rattle.std.specs.Prelude.{◌≡◌};
 
-use crate::*;
+use afr_audit::{first_unlawful, is_lawful_line, makes_new_alone, register_of};
 use afr_base::{ActorId, AllMarks, BrickId, BrickSet, Gfid, Kind, NameId, Shape, What};
 use afr_lines::{Area, Good, Line, Reply, Request, Told};
 use afr_object::{Change, List, View};
@@ -124,27 +124,26 @@ fn carry_out(log: &mut Vec<Line>) -> Result<(), Fail> {
 }
 
 /// The write from its locks to the end of its work.
-fn written(alloc: Global) -> Result<Vec<Line>, Fail> {
-    let mut log = Vec::new(alloc);
-    ask_all(&mut log, WRITER, &locks(bytes_area()), &Told::Granted)?;
+fn write(alloc: Global, log: &mut Vec<Line>) -> Result<(), Fail> {
+    ask_all(log, WRITER, &locks(bytes_area()), &Told::Granted)?;
     ask_all(
-        &mut log,
+        log,
         WRITER,
         &Request::Look { gfid: FILE },
         &view(What::File),
     )?;
-    begin_write(alloc, &mut log)?;
-    carry_out(&mut log)?;
+    begin_write(alloc, log)?;
+    carry_out(log)?;
     let unlock = Request::Unlock {
         domain: Domain::Work,
         area: bytes_area(),
     };
-    ask_all(&mut log, WRITER, &unlock, &Told::Done)?;
+    ask_all(log, WRITER, &unlock, &Told::Done)?;
     log.push(Line::End {
         actor: WRITER,
         reply: Reply::Ok(Good::Done),
     })?;
-    Ok(log)
+    Ok(())
 }
 
 fn make(gfid: Gfid, what: What) -> Line {
@@ -159,29 +158,48 @@ fn make(gfid: Gfid, what: What) -> Line {
     }
 }
 
+/// Whether the first line that breaks the discipline is the one at this position.
+fn breaks_at(alloc: Global, log: &[Line], at: usize) -> bool {
+    let plan = plan(alloc);
+    matches!(first_unlawful(alloc, &plan, log), Ok(first) if first == at)
+}
+
+/// Whether the writer's register has no lock left, and three operations.
+fn is_carried_out(alloc: Global, log: &[Line]) -> bool {
+    let plan = plan(alloc);
+    let register = register_of(&plan, log, WRITER);
+    matches!(register, Ok(register) if register.held.is_empty() && register.done.count() == 3)
+}
+
+/// Whether a Make of this gfid keeps the discipline after the log.
+fn may_make(alloc: Global, log: &[Line], gfid: Gfid, what: What) -> bool {
+    let plan = plan(alloc);
+    let line = make(gfid, what);
+    matches!(is_lawful_line(alloc, &plan, &line, log), Ok(true))
+}
+
 #[test]
 fn a_write_keeps_the_discipline(rt: HostRuntime) -> Result<(), Fail> {
-    let plan = plan(rt.alloc());
-    let mut log = written(rt.alloc())?;
-    assert_eq!(rt; first_unlawful(rt.alloc(), &plan, log.as_slice()), Ok(20));
-    ask_all(
-        &mut log,
-        WRITER,
-        &Request::Apply { attempt: ATTEMPT },
-        &Told::Done,
-    )?;
-    assert_eq!(rt; first_unlawful(rt.alloc(), &plan, log.as_slice()), Ok(20));
-    let register = register_of(&plan, log.as_slice(), WRITER);
-    assert!(rt;
-        matches!(register, Ok(register) if register.held.is_empty() && register.done.count() == 3)
-    );
+    let mut log = Vec::new(rt.alloc());
+    write(rt.alloc(), &mut log)?;
+    assert!(rt; breaks_at(rt.alloc(), log.as_slice(), 20));
+    assert!(rt; is_carried_out(rt.alloc(), log.as_slice()));
     Ok(())
 }
 
 #[test]
-fn a_made_gfid_is_new_or_was_read(rt: HostRuntime) -> Result<(), Fail> {
-    let plan = plan(rt.alloc());
-    let mut log = written(rt.alloc())?;
+fn an_operation_after_its_work_breaks_the_discipline(rt: HostRuntime) -> Result<(), Fail> {
+    let apply = Request::Apply { attempt: ATTEMPT };
+    let mut log = Vec::new(rt.alloc());
+    write(rt.alloc(), &mut log)?;
+    ask_all(&mut log, WRITER, &apply, &Told::Done)?;
+    assert!(rt; breaks_at(rt.alloc(), log.as_slice(), 20));
+    assert!(rt; makes_new_alone(log.as_slice()));
+    Ok(())
+}
+
+/// The maker reads the file's name, locks another one and looks at its directory.
+fn prepare(log: &mut Vec<Line>) -> Result<(), Fail> {
     log.push(Line::Ask {
         actor: MAKER,
         brick: BrickId(0),
@@ -196,26 +214,23 @@ fn a_made_gfid_is_new_or_was_read(rt: HostRuntime) -> Result<(), Fail> {
         gfid: ROOT,
         name: Some(NameId(1)),
     };
-    ask_all(&mut log, MAKER, &locks(name), &Told::Granted)?;
-    ask_all(
-        &mut log,
-        MAKER,
-        &Request::Look { gfid: ROOT },
-        &view(What::Dir),
-    )?;
+    ask_all(log, MAKER, &locks(name), &Told::Granted)?;
+    ask_all(log, MAKER, &Request::Look { gfid: ROOT }, &view(What::Dir))
+}
+
+#[test]
+fn a_made_gfid_is_new_or_was_read(rt: HostRuntime) -> Result<(), Fail> {
+    let mut log = Vec::new(rt.alloc());
+    write(rt.alloc(), &mut log)?;
+    prepare(&mut log)?;
     for (gfid, what, kept) in [
         (Gfid(29), What::File, true),
         (Gfid(28), What::File, false),
         (FILE, What::File, true),
         (FILE, What::Dir, false),
     ] {
-        let line = make(gfid, what);
-        assert_eq!(rt;
-            is_lawful_line(rt.alloc(), &plan, &line, log.as_slice()),
-            Ok(kept)
-        );
+        assert!(rt; may_make(rt.alloc(), log.as_slice(), gfid, what) == kept);
     }
-    assert!(rt; makes_new_alone(log.as_slice()));
     log.push(make(FILE, What::File))?;
     assert!(rt; !makes_new_alone(log.as_slice()));
     Ok(())
