@@ -14,10 +14,10 @@ ghost use Rattle.afr_audit.specs.Limits.{CanFollow};
 use crate::noted::{in_force, noted};
 use crate::unjudged::Unjudged;
 use afr_base::ActorId;
-use afr_replay::{Place, is_of, next_place, opens};
 use afr_discipline::{Register, fresh};
 use afr_lines::Line;
 use afr_plan::Plan;
+use afr_replay::{Place, is_of, next_place, opens};
 
 /// Where an actor stands in its works, and its register.
 #[derive(Clone, Copy)]

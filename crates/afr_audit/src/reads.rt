@@ -7,9 +7,9 @@ ghost use Rattle.afr_audit.specs.Judged.{Showed, WasGiven, read_by};
 
 use crate::unjudged::Unjudged;
 use afr_base::{ActorId, BrickId, Gfid, NameId, What};
-use afr_replay::{Cell, Value, ends_work, value};
 use afr_lines::{Line, Request, Told};
 use afr_plan::Plan;
+use afr_replay::{Cell, Value, ends_work, value};
 use std::alloc::Global;
 
 /// A read of a name that its actor was given.

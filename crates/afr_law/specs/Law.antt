@@ -28,12 +28,15 @@ abbrev pub MayNext : ℕ → (ℕ → Kind → Bool) → Log → ℕ → Line �
 MayNext n keeps past t line =
     May n keeps past t (λ a. opens (place past t a) (Some line)) (λ a. in_force (opens (place past t a) (Some line)) (register n past t a)) (Some line)
 
+-- each line of the list is honest after those before it
 abbrev pub HonestLog : Beginning → (ℕ → ℕ → Option Fault) → List Line → Type 0
 HonestLog files faults lines = (t : ℕ) (line : Line) → slice_get lines t ≡ Some line → HonestNext files faults (before (slice_get lines) t) t line
 
+-- each line of the list is a move that those before it allow
 abbrev pub LawfulLog : ℕ → (ℕ → Kind → Bool) → List Line → Type 0
 LawfulLog n keeps lines = (t : ℕ) (line : Line) → slice_get lines t ≡ Some line → MayNext n keeps (before (slice_get lines) t) t line
 
+-- the list is safe at its end
 abbrev pub SafeLog : ℕ → (ℕ → Kind → Bool) → Beginning → List Line → Type 0
 SafeLog n keeps files lines = Safe n keeps files (slice_get lines) (length lines)
 
@@ -47,6 +50,7 @@ LawfulIsSafe =
 abbrev pub DirtyShownLog : Beginning → List Line → Type 0
 DirtyShownLog files lines = (t : ℕ) (line : Line) → slice_get lines t ≡ Some line → ShowsDirty files (before (slice_get lines) t) t (Some line)
 
+-- at the end of the list nothing diverges unrecorded
 abbrev pub AlikeLog : ℕ → Beginning → List Line → Type 0
 AlikeLog n files lines = Alike n files (slice_get lines) (length lines)
 

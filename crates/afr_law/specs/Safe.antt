@@ -14,14 +14,17 @@ abbrev pub end_of : ℕ → Option Line → Option Bool
 end_of a (Some (End x reply)) = if x.0 == a then Some (is_ok reply) else None
 end_of a _ = None
 
+-- the first of two ends
 abbrev pub or_else : Option Bool → Option Bool → Option Bool
 or_else None b = b
 or_else (Some ok) b = Some ok
 
+-- whether the work of a that was going on at q ended with ok before t, if it ended
 unfoldable pub outcome : Log → ℕ → ℕ → ℕ → Option Bool
 outcome log zero a q = None
 outcome log (suc t) a q = or_else (outcome log t a q) (if nat_lt q t then end_of a (log t) else None)
 
+-- the attempt that began at q was acknowledged before t: the first end of its actor after it says ok
 pub record Acknowledged (log : Log) (t q : ℕ) : Type 0 where
   pub a : ℕ
   pub change : Change
@@ -43,6 +46,7 @@ pub record Good (n : ℕ) (keeps : ℕ → Kind → Bool) (files : Beginning) (l
   pub copy : keeps b kind ≡ true
   pub unaccused : (x : ℕ) → x < n → among x ≡ true → pending files log t x b g kind ≡ 0
 
+-- whatever majority is asked, each copy that it shows good is current in each cell
 abbrev pub Safe : ℕ → (ℕ → Kind → Bool) → Beginning → Log → ℕ → Type 0
 Safe n keeps files log t =
     (among : ℕ → Bool) → IsMajority n among → (b : ℕ) (cell : Cell) → Good n keeps files log t among (object_of cell) (kind_of cell) b → Current files log t b cell

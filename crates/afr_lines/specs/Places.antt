@@ -20,6 +20,7 @@ next_place place (End a reply) = Fresh
 next_place place (HealEnd a g kind reply) = Between
 next_place place line = Within
 
+-- where an actor stands after these lines, the newest first
 abbrev pub place_of : ℕ → List Line → Place
 place_of a [] = Fresh
 place_of a (line ∷ older) = if is_of a line then next_place (place_of a older) line else place_of a older

@@ -43,6 +43,7 @@ ended a (line ∷ older) = if ends_work a line then ended a older + 1 else ended
 abbrev pub Work : Type 0
 Work = List (Line × List Line)
 
+-- the lines of the present work of actor a: those after its last End line
 abbrev pub work : ℕ → List Line → Work
 work a [] = []
 work a (line ∷ older) = if is_of a line then (if is_end line then [] else (line, older) ∷ work a older) else work a older

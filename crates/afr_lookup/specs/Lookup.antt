@@ -51,6 +51,7 @@ after_step (walking.Naming b) w = Walking
 after_step walking.Arrived w = at_object w.shape w.object
 after_step (walking.Stopped why views) w = Ending (reply_of why views)
 
+-- what a lookup does once its path was walked
 abbrev pub after_walk : Walk → LookupStage
 after_walk w = after_step w.step w
 
@@ -69,6 +70,7 @@ next_at (Looking s) m = next.Ask (record { 0 = lowest (left_to_look s) }) (reque
 next_at (Reading b) m = next.Ask b (request_of m.walk.object.gfid m.job)
 next_at (Ending r) m = next.End r
 
+-- what a lookup does next
 abbrev pub next_of : Lookup → Next
 next_of m = next_at m.stage m
 

@@ -57,6 +57,7 @@ next_at (Looking s) w = (record { 0 = lowest (left_to_look s) }, request.Look w.
 next_at (Naming b) w = (b, request.ReadName w.object.gfid (name_in w))
 next_at step w = (record { 0 = 0 }, request.Index)
 
+-- whom a walk asks next, and for what
 abbrev pub next_in : Walk → BrickId × Request
 next_in w = next_at w.step w
 
@@ -83,6 +84,7 @@ walked_at (Looking s) heard w = record w { step = after_looks w.shape (heard_loo
 walked_at (Naming b) heard w = named heard w
 walked_at step heard w = w
 
+-- a walk after an answer to what it asked
 abbrev pub walked : Answer → Walk → Walk
 walked heard w = walked_at w.step heard w
 

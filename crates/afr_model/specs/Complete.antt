@@ -12,5 +12,6 @@ pub record IsFinished (p : Plan) (log : List Line) : Type 0 where
   pub done : (a : ℕ) → IsActor p a → is_done p a log ≡ true
   pub ended : (a : ℕ) → IsActor p a → is_killed a log ≡ false → work a log ≡ []
 
+-- the log is full, or nothing is left to do
 abbrev pub IsComplete : Plan → List Line → Type 0
 IsComplete p log = (length log ≡ p.turns) ⊎ IsFinished p log

@@ -48,6 +48,7 @@ pub record Found : Type 0 where
   pub read : ℕ
   pub object : Option Gfid
 
+-- a path that has no name yet
 abbrev pub at_root : Found
 at_root = record { read = 0; object = Some root }
 
@@ -61,6 +62,7 @@ found_after p (Ask a b (ReadName g name) Given took) older found = record { read
 found_after p (Ask a b (ReadName g name) told took) older found = record { read = found.read + 1; object = None }
 found_after p line older found = found
 
+-- where the lines of a work have led its path
 abbrev pub found_by : Plan → Work → Found
 found_by p [] = at_root
 found_by p (x ∷ w) = found_after p x.0 x.1 (found_by p w)

@@ -33,6 +33,7 @@ abbrev pub one_more : ℕ → Line → ℕ → ℕ
 one_more b (Ask a y request told took) n = if y.0 == b then n + 1 else n
 one_more b line n = n
 
+-- how many requests brick b was asked
 abbrev pub requests_to : ℕ → List Line → ℕ
 requests_to b [] = 0
 requests_to b (line ∷ older) = one_more b line (requests_to b older)

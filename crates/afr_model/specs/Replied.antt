@@ -93,6 +93,7 @@ by_path p command NoName w = Some reply.NoEntry
 by_path p command Untold w = Some reply.Failed
 by_path p command (At read object) w = if nat_lt read (length (path_of command)) then on_way p.shape object w else at_object p command object w
 
+-- what the lines of a work answer its command
 abbrev pub reply_of : Plan → Command → Work → Option Reply
 reply_of p command w = or_else (too_large command) (by_path p command (path_by p w) w)
 

@@ -20,6 +20,7 @@ linked_after a b (event.Cut x y) was = if (x.0 == a) && (y.0 == b) then false el
 linked_after a b (event.Join x y) was = if (x.0 == a) && (y.0 == b) then true else was
 linked_after a b other was = was
 
+-- whether the link of a and b is up after a line
 abbrev pub linked_by : ℕ → ℕ → Line → Bool → Bool
 linked_by a b (line_of.Event e) was = linked_after a b e was
 linked_by a b line was = was

@@ -31,14 +31,17 @@ is_fault told_of.Failed = true
 is_fault told_of.NotConnected = true
 is_fault other = false
 
+-- whether the brick carried the request out
 abbrev pub is_done : Told → Bool
 is_done told_of.Done = true
 is_done other = false
 
+-- whether the lock was granted
 abbrev pub is_granted : Told → Bool
 is_granted told_of.Granted = true
 is_granted other = false
 
+-- whether another holds a lock in the way
 abbrev pub is_held : Told → Bool
 is_held (told_of.Held owner) = true
 is_held other = false
@@ -66,6 +69,7 @@ path_after p (Ask a b (request.ReadName g name) told_of.Given took) older path =
 path_after p (Ask a b (request.ReadName g name) told took) older path = Untold
 path_after p line older path = path
 
+-- how far the lines of a work have read its path
 abbrev pub path_by : Plan → Work → Path
 path_by p [] = At 0 root_entry
 path_by p (x ∷ w) = path_after p x.0 x.1 (path_by p w)
@@ -162,6 +166,7 @@ abbrev pub locks : Gfid → Line → Bool
 locks g (Ask a b (request.Lock WorkDomain area) told took) = (object_of_area area).0 == g.0
 locks g line = false
 
+-- whether a line begins an attempt
 abbrev pub begins_attempt : Line → Bool
 begins_attempt (Begin a change) = true
 begins_attempt line = false
@@ -179,6 +184,7 @@ abbrev pub begun_after : Line → List Line → Option ℕ → Option ℕ
 begun_after (Begin a change) older was = Some (length older)
 begun_after line older was = was
 
+-- the position of the attempt that a work has begun
 abbrev pub begun_by : Work → Option ℕ
 begun_by [] = None
 begun_by (x ∷ w) = begun_after x.0 x.1 (begun_by w)

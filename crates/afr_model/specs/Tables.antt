@@ -120,5 +120,6 @@ abbrev pub entry_in : NameId → Option Object → Option Entry
 entry_in name None = None
 entry_in name (Some o) = lookup (is_at (name_cmp name)) o.names
 
+-- the entry of a name in a directory of a table
 abbrev pub entry_at : Gfid → NameId → Table → Option Entry
 entry_at g name t = entry_in name (copy_at g t)

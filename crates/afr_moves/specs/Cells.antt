@@ -17,11 +17,13 @@ pub data Cell : Type 0 where
   Attr : ℕ → ℕ → Cell
   Entry : ℕ → ℕ → Cell
 
+-- the object of a cell
 abbrev pub object_of : Cell → ℕ
 object_of (Byte g i) = g
 object_of (Attr g k) = g
 object_of (Entry g n) = g
 
+-- the kind of a cell
 abbrev pub kind_of : Cell → Kind
 kind_of (Byte g i) = Bytes
 kind_of (Attr g k) = Attrs
@@ -52,6 +54,7 @@ is_cell (Byte g i) = nat_lt i (2 ^ 63)
 is_cell (Attr g k) = true
 is_cell (Entry g n) = true
 
+-- whether a change writes the cell
 unfoldable pub touches : Change → Cell → Bool
 touches (Write g at bytes) (Byte h i) = (g.0 == h) && nat_le at i && nat_lt i (at + length bytes) && nat_lt i (2 ^ 63)
 touches (Cut g len) (Byte h i) = (g.0 == h) && nat_le len i && nat_lt i (2 ^ 63)

@@ -24,6 +24,7 @@ abbrev pub asks : ℕ → Option Line → Bool
 asks b (Some (Ask x y request told took)) = y.0 == b
 asks _ _ = false
 
+-- how many requests brick b was asked before t
 unfoldable pub asked : Log → ℕ → ℕ → ℕ
 asked log zero b = 0
 asked log (suc t) b = (if asks b (log t) then 1 else 0) + asked log t b
@@ -32,6 +33,7 @@ asked log (suc t) b = (if asks b (log t) then 1 else 0) + asked log t b
 abbrev pub view_marks : View → Kind → Marks
 view_marks view kind = marks_of kind view.marks
 
+-- the kind of the cells that a change writes
 abbrev pub plane_kind : Change → Kind
 plane_kind (Write g at bytes) = Bytes
 plane_kind (Cut g len) = Bytes
@@ -84,10 +86,12 @@ Answers files log t a b (Mend repair) Done = Unit {0}
 Answers files log t a b (Settle g kind less) Done = Unit {0}
 Answers _ _ _ _ _ _ _ = ⊥
 
+-- a brick that has what the request needs answers it; one that lacks it says so
 abbrev pub Tells : Beginning → Log → ℕ → ℕ → ℕ → Request → Told → Bool → Type 0
 Tells files log t a b request told true = Answers files log t a b request told
 Tells files log t a b request told false = told ≡ NoObject
 
+-- what is told: not connected without a session, else the planned failure, else the answer, which a planned loss hides
 abbrev pub HonestAsk : Beginning → Log → ℕ → ℕ → ℕ → Request → Told → Bool → Bool → Option Fault → Type 0
 HonestAsk files log t a b request told took false fault = (told ≡ NotConnected) × (took ≡ false)
 HonestAsk files log t a b request told took true (Some Fail) = (told ≡ Failed) × (took ≡ false)
@@ -109,11 +113,13 @@ abbrev pub KnownMake : Beginning → Log → ℕ → Change → Type 0
 KnownMake files log t (Make dir name g what) = ((g.0 ≡ t + 2) × (files.kinds g.0 ≡ 0)) ⊎ Shown files log t g.0 what
 KnownMake files log t _ = Unit {0}
 
+-- a request was answered so, and what a Begin makes is known
 abbrev pub HonestLine : Beginning → (ℕ → ℕ → Option Fault) → Log → ℕ → Option Line → Type 0
 HonestLine files faults log t (Some (Ask a b request told took)) =
     HonestAsk files log t a.0 b.0 request told took (joined log t a.0 b.0 || opening log t a.0 b.0) (faults b.0 (suc (asked log t b.0)))
 HonestLine files faults log t (Some (Begin a change)) = KnownMake files log t change
 HonestLine _ _ _ _ _ = Unit {0}
 
+-- each line is honest
 abbrev pub Honest : Beginning → (ℕ → ℕ → Option Fault) → Log → Type 0
 Honest files faults log = (t : ℕ) → HonestLine files faults log t (log t)

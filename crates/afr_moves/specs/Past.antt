@@ -41,6 +41,7 @@ is_of a (Some (End x reply)) = x.0 == a
 is_of a (Some (HealEnd x g kind reply)) = x.0 == a
 is_of a (Some (Event e)) = false
 
+-- whether the answer says that there is no session
 abbrev pub is_gone : Told → Bool
 is_gone NotConnected = true
 is_gone _ = false
@@ -53,10 +54,12 @@ ends a b (Some (Event (CutLink x y))) = (x.0 == a) && (y.0 == b)
 ends a b (Some (Event (Kill x))) = x.0 == a
 ends _ _ _ = false
 
+-- where an actor stands after a line, if it is the actor's
 abbrev pub place_after : Bool → Place → Option Line → Place
 place_after true place (Some line) = next_place place line
 place_after _ place _ = place
 
+-- where actor a stands before t
 unfoldable pub place : Log → ℕ → ℕ → Place
 place log zero a = Fresh
 place log (suc t) a = place_after (is_of a (log t)) (place log t a) (log t)
@@ -73,20 +76,24 @@ opens Indexed line = is_heal_lock line
 opens Between line = is_heal_lock line
 opens Within line = false
 
+-- whether brick b is started after a line
 abbrev pub started_after : Bool → ℕ → Option Line → Bool
 started_after was b (Some (Event (Stop y))) = if y.0 == b then false else was
 started_after was b (Some (Event (Start y))) = if y.0 == b then true else was
 started_after was b _ = was
 
+-- whether brick b is started before t
 unfoldable pub started : Log → ℕ → ℕ → Bool
 started log zero b = true
 started log (suc t) b = started_after (started log t b) b (log t)
 
+-- whether the link of a and b is up after a line
 abbrev pub linked_after : Bool → ℕ → ℕ → Option Line → Bool
 linked_after was a b (Some (Event (CutLink x y))) = if (x.0 == a) && (y.0 == b) then false else was
 linked_after was a b (Some (Event (Join x y))) = if (x.0 == a) && (y.0 == b) then true else was
 linked_after was a b _ = was
 
+-- whether the link of a and b is up before t
 unfoldable pub linked : Log → ℕ → ℕ → ℕ → Bool
 linked log zero a b = true
 linked log (suc t) a b = linked_after (linked log t a b) a b (log t)
@@ -95,6 +102,7 @@ linked log (suc t) a b = linked_after (linked log t a b) a b (log t)
 unfoldable pub opening : Log → ℕ → ℕ → ℕ → Bool
 opening log t a b = is_of a (log t) && opens (place log t a) (log t) && started log t b && linked log t a b
 
+-- whether the session of a with b is live before t
 unfoldable pub joined : Log → ℕ → ℕ → ℕ → Bool
 joined log zero a b = false
 joined log (suc t) a b = (joined log t a b || opening log t a b) && not (ends a b (log t))
@@ -104,6 +112,7 @@ abbrev pub grants : ℕ → Option Line → Bool
 grants b (Some (Ask x y (Lock domain area) Granted took)) = y.0 == b
 grants _ _ = false
 
+-- the line gives a lock of a on b back, of this domain and area
 abbrev pub unlocks : ℕ → ℕ → Domain → Area → Option Line → Bool
 unlocks a b domain area (Some (Ask x y (Unlock d e) told took)) = same_domain domain d && same_area area e && (x.0 == a) && (y.0 == b) && took
 unlocks _ _ _ _ _ = false
@@ -129,6 +138,7 @@ last_after was a t (Some (Begin x change)) = if x.0 == a then suc t else was
 last_after was a t (Some (HealBegin x g kind)) = if x.0 == a then suc t else was
 last_after was a t _ = was
 
+-- suc of the position of the last Begin or HealBegin line of a before t, or 0
 unfoldable pub last : Log → ℕ → ℕ → ℕ
 last log zero a = 0
 last log (suc t) a = last_after (last log t a) a t (log t)
@@ -182,18 +192,22 @@ abbrev pub named_kind : ℕ → (ℕ → ℕ) → ℕ → ℕ
 named_kind zero entries g = 0
 named_kind (suc m) entries g = if entries m == entry_code g File then 1 else if entries m == entry_code g Dir then 2 else named_kind m entries g
 
+-- the kind that was there, or else a new one
 abbrev pub keep : ℕ → ℕ → ℕ
 keep zero new = new
 keep (suc k) new = suc k
 
+-- the attempt that the line begins touches the cell
 abbrev pub changes : Option Line → Cell → Bool
 changes (Some (Begin x change)) cell = touches change cell
 changes _ _ = false
 
+-- what the attempt that the line begins leaves in the cell
 abbrev pub leaves_of : Option Line → Cell → ℕ
 leaves_of (Some (Begin x change)) cell = leaves change cell
 leaves_of _ _ = 0
 
+-- whether a repair changes the cell
 abbrev pub mends : Repair → Cell → Bool
 mends (CutTo g len) (Byte h i) = (g.0 == h) && nat_le len i && nat_lt i (2 ^ 63)
 mends (Copy g at span read) (Byte h i) = (g.0 == h) && nat_le at i && nat_lt i (at + span) && nat_lt i (2 ^ 63)
@@ -207,14 +221,17 @@ touch_of log number b cell (Some (Ask a y (Apply q) told took)) = if (y.0 == b) 
 touch_of log number b cell (Some (Ask a y (Mend repair) told took)) = if (y.0 == b) && took && mends repair cell then number a.0 else 0
 touch_of _ _ _ _ _ = 0
 
+-- a later number in place of an earlier one
 abbrev pub over : ℕ → ℕ → ℕ
 over zero was = was
 over (suc n) was = suc n
 
+-- the actor of a request
 abbrev pub actor_of : Option Line → ℕ
 actor_of (Some (Ask a b request told took)) = a.0
 actor_of _ = 0
 
+-- the brick of a request
 abbrev pub brick_of : Option Line → ℕ
 brick_of (Some (Ask a b request told took)) = b.0
 brick_of _ = 0
@@ -239,6 +256,7 @@ makes names log past b g (Some (Ask a y (Apply q) told took)) = if (y.0 == b) &&
 makes names log past b g (Some (Ask a y (Mend (PutNames d reads)) told took)) = if (y.0 == b) && took then named_kind names (λ m. most (λ r. past r (brick_of (log r)) (Entry d.0 m)) reads) g else 0
 makes _ _ _ _ _ _ = 0
 
+-- what a line leaves where it touches the cell, and else what was there
 abbrev pub choose : ℕ → ℕ → ℕ → ℕ
 choose zero was new = was
 choose (suc n) was new = new
@@ -256,15 +274,19 @@ unfoldable pub tables : Beginning → Log → ℕ → ℕ → ℕ → Tables
 tables start log zero u b = record { kinds = start.kinds; cells = start.cells }
 tables start log (suc t) u b = if nat_le u t then tables start log t u b else after start.names (before log t) (last log t) t b (tables start log t) (log t)
 
+-- what brick b has in the cell at position u, by the lines before t
 abbrev pub values : Beginning → Log → ℕ → ℕ → ℕ → Cell → ℕ
 values files log t u b cell = (tables files log t u b).cells cell
 
+-- what brick b has in the cell before t
 abbrev pub value : Beginning → Log → ℕ → ℕ → Cell → ℕ
 value files log t b cell = values files log t t b cell
 
+-- the kind of object g on brick b before t; 0 is no object
 abbrev pub kind_at : Beginning → Log → ℕ → ℕ → ℕ → ℕ
 kind_at files log t b g = (tables files log t t b).kinds g
 
+-- whether brick b has object g before t
 abbrev pub holds : Beginning → Log → ℕ → ℕ → ℕ → Bool
 holds files log t b g = not (kind_at files log t b g == 0)
 
@@ -276,6 +298,7 @@ born files log g = keep (files.kinds g) (made g (log (g - 2)))
 abbrev pub touch : Beginning → Log → ℕ → ℕ → Cell → ℕ
 touch files log t b cell = if fits (kind_at files log t b (object_of cell)) cell then touch_of (before log t) (last log t) b cell (log t) else 0
 
+-- suc of the number of the last line that touched the cell on b before t, or 0
 unfoldable pub stamp : Beginning → Log → ℕ → ℕ → Cell → ℕ
 stamp files log zero b cell = 0
 stamp files log (suc t) b cell = over (touch files log t b cell) (stamp files log t b cell)
@@ -285,17 +308,21 @@ abbrev pub named : ℕ → ℕ → ℕ → Kind → Option Line → Bool
 named x c g kind (Some (Ask a y (Post q h k missed) told took)) = (y.0 == x) && took && (h.0 == g) && same_kind k kind && member missed c
 named _ _ _ _ _ = false
 
+-- how many lines before t added to what x holds against c, where x had the object
 unfoldable pub posts : Beginning → Log → ℕ → ℕ → ℕ → ℕ → Kind → ℕ
 posts files log zero x c g kind = 0
 posts files log (suc t) x c g kind = (if holds files log t x g && named x c g kind (log t) then 1 else 0) + posts files log t x c g kind
 
+-- what a settling at x takes back of what it holds against c
 abbrev pub taken : ℕ → ℕ → ℕ → Kind → Option Line → ℕ
 taken x c g kind (Some (Ask a y (Settle h k less) told took)) = if (y.0 == x) && took && (h.0 == g) && same_kind k kind then slice_index less.pending c else 0
 taken _ _ _ _ _ = 0
 
+-- how much the lines before t took back of what x holds against c
 unfoldable pub settled : Beginning → Log → ℕ → ℕ → ℕ → ℕ → Kind → ℕ
 settled files log zero x c g kind = 0
 settled files log (suc t) x c g kind = (if holds files log t x g then taken x c g kind (log t) else 0) + settled files log t x c g kind
 
+-- what x holds against c before t
 abbrev pub pending : Beginning → Log → ℕ → ℕ → ℕ → ℕ → Kind → ℕ
 pending files log t x c g kind = posts files log t x c g kind - settled files log t x c g kind

@@ -50,12 +50,15 @@ pub record Register : Type 0 where
   pub raised : ℕ → Bool  -- the bricks where the heal's Pre was told Done
   pub settled : ℕ → Bool
 
+-- no brick was looked at
 abbrev pub no_views : ℕ → Option View
 no_views x = None
 
+-- no piece changed a cell
 abbrev pub no_cells : ℕ → Cell → ℕ
 no_cells x cell = 0
 
+-- the register of no line
 abbrev pub fresh : Register
 fresh = record {
   number = 0;
@@ -84,16 +87,20 @@ fresh = record {
 abbrev pub begun : Register → Area → Register
 begun r area = record r { number = 0; area = Some area; held = empty; second = None; second_held = empty; seen = empty; closed = empty; pre = empty; done = empty; post = empty; view = no_views }
 
+-- whether the area that was named is this one
 abbrev pub is_area : Option Area → Area → Bool
 is_area None area = false
 is_area (Some mine) area = same_area mine area
 
+-- a look of a transaction: it counts before the Begin, where the area is held
 abbrev pub looked : Register → ℕ → Register
 looked r b = if (r.number == 0) && r.held b then record r { seen = with r.seen b } else r
 
+-- the views with one more
 abbrev pub put_view : (ℕ → Option View) → ℕ → View → ℕ → Option View
 put_view views b view x = if x == b then Some view else views x
 
+-- whether there is no view
 abbrev pub is_none : Option View → Bool
 is_none None = true
 is_none (Some view) = false
@@ -105,15 +112,19 @@ viewed r b g view =
     then record r { view = put_view r.view b view; first = if (r.number == r.start) && is_none (r.first b) then put_view r.first b view else r.first }
     else r
 
+-- a look, in a heal or outside one
 abbrev pub looking : Register → ℕ → ℕ → View → Register
 looking r b g view = if r.heal then viewed r b g view else looked r b
 
+-- where the second area is still held once it was given back at b
 abbrev pub second_freed : Register → Area → ℕ → ℕ → Bool
 second_freed r area b = if is_area r.second area then without r.second_held b else r.second_held
 
+-- an Unlock line of the area, whatever it was told
 abbrev pub unlocked : Register → Area → ℕ → Register
 unlocked r area b = if is_area r.area area then record r { closed = with r.closed b } else r
 
+-- an Unlock line that was told Done gives the area back, or the second one
 abbrev pub released : Register → Area → ℕ → Register
 released r area b = if is_area r.area area then record r { closed = with r.closed b; held = without r.held b } else record r { second_held = second_freed r area b }
 
@@ -121,6 +132,7 @@ released r area b = if is_area r.area area then record r { closed = with r.close
 abbrev pub busy : ℕ → Register → Bool
 busy n r = any n r.held || any n r.second_held
 
+-- the second area after a lock of this one was asked for
 abbrev pub second_of : Register → Area → Option Area
 second_of r area = if is_area r.area area then r.second else Some area
 
@@ -132,16 +144,20 @@ locking n r area = if busy n r then record r { second = second_of r area } else 
 abbrev pub granting : ℕ → Register → Area → ℕ → Register
 granting n r area b = if busy n r && not (is_area r.area area) then record r { second = Some area; second_held = with r.second_held b } else (let s = locking n r area in record s { held = with s.held b })
 
+-- the object of an area, by its number
 abbrev pub area_object : Area → ℕ
 area_object (Range g from to) = g.0
 area_object (Name g name) = g.0
 
+-- a line of a heal names the heal's object
 abbrev pub healing_on : Register → Area → Register
 healing_on r area = record r { heal = true; object = area_object area }
 
+-- which cells the last piece changed, with those of this repair at b
 abbrev pub mend_cells : (ℕ → Cell → ℕ) → ℕ → ℕ → Repair → ℕ → Cell → ℕ
 mend_cells cells number b repair c cell = if (c == b) && mends repair cell then number else cells c cell
 
+-- what a request and its answer leave in the register
 abbrev pub note_ask : ℕ → Register → ℕ → Request → Told → Register
 note_ask n r b (Lock Work area) Granted = granting n r area b
 note_ask n r b (Lock Work area) told = locking n r area
@@ -158,6 +174,7 @@ note_ask n r b (Mend repair) Done = record r { mended = mend_cells r.mended r.nu
 note_ask n r b (Settle g kind less) Done = record r { settled = with r.settled b }
 note_ask n r b _ _ = r
 
+-- a session that ended took its locks along
 abbrev pub dropping : Bool → ℕ → Register → Register
 dropping true b r = record r { held = without r.held b; second_held = without r.second_held b; healing = without r.healing b }
 dropping false b r = r
@@ -166,6 +183,7 @@ dropping false b r = r
 abbrev pub piece : Register → ℕ → Kind → Register
 piece r t kind = record r { number = suc t; seen = r.held; closed = empty; kind = kind; start = if r.start == 0 then suc t else r.start; view = no_views }
 
+-- what a line of the actor leaves in its register
 abbrev pub note : ℕ → Register → ℕ → Option Line → Register
 note n r t (Some (Ask a b request told took)) = dropping (is_gone told) b.0 (note_ask n r b.0 request told)
 note n r t (Some (Begin a change)) = record r { number = suc t }
@@ -178,17 +196,21 @@ abbrev pub in_force : Bool → Register → Register
 in_force true r = fresh
 in_force false r = r
 
+-- the register of an actor after a line, which may be of another
 abbrev pub register_after : ℕ → Bool → Bool → Register → ℕ → Option Line → Register
 register_after n false first r t line = r
 register_after n true first r t line = note n (in_force first r) t line
 
+-- the register of actor a before t
 unfoldable pub register : ℕ → Log → ℕ → ℕ → Register
 register n log zero a = fresh
 register n log (suc t) a = register_after n (is_of a (log t)) (opens (place log t a) (log t)) (register n log t a) t (log t)
 
+-- the last attempt, if there is one, was closed at a majority
 abbrev pub LastPosted : ℕ → Register → Type 0
 LastPosted n r = (r.number ≡ 0) ⊎ IsMajority n r.post
 
+-- a first Work lock comes in a heal, or after an attempt that was closed at a majority
 pub record MayLock (n : ℕ) (r : Register) : Type 0 where
   pub first : busy n r ≡ false → (r.heal ≡ true) ⊎ LastPosted n r
 
@@ -197,12 +219,14 @@ abbrev pub PlaneIs : Option Line → ℕ → Kind → Type 0
 PlaneIs (Some (Begin a change)) g kind = (object change ≡ g) × (plane_kind change ≡ kind)
 PlaneIs _ g kind = ⊥
 
+-- the operation is the attempt's own, where its pre-op was done and the area wasn't given back
 pub record MayApply (r : Register) (b q : ℕ) : Type 0 where
   pub outside : r.heal ≡ false
   pub own : r.number ≡ suc q
   pub ready : r.pre b ≡ true
   pub open_still : r.closed b ≡ false
 
+-- the post-op is the attempt's own, where the operation was done; it names exactly the bricks where it wasn't
 pub record MayPost (n : ℕ) (log : Log) (t a : ℕ) (r : Register) (b q g : ℕ) (kind : Kind) (missed : ℕ → Bool) : Type 0 where
   pub outside : r.heal ≡ false
   pub own : r.number ≡ suc q
@@ -218,10 +242,12 @@ abbrev pub SomeCell : Option Area → Change → Type 0
 SomeCell None change = ⊥
 SomeCell (Some area) change = (cell : Cell) × (is_cell cell ≡ true) × (object_of cell ≡ object change) × (kind_of cell ≡ plane_kind change) × (covers area cell ≡ true)
 
+-- the area has each cell that the change touches
 abbrev pub CoveredBy : Option Area → Change → Type 0
 CoveredBy None change = ⊥
 CoveredBy (Some area) change = (cell : Cell) → touches change cell ≡ true → covers area cell ≡ true
 
+-- whether an object of this kind, 1 for a file and 2 for a directory, can be changed so
 abbrev pub fits_change : ℕ → Change → Bool
 fits_change k (Write g at bytes) = k == 1
 fits_change k (Cut g len) = k == 1
@@ -237,6 +263,7 @@ pub record SeenFit (log : Log) (t a x : ℕ) (change : Change) : Type 0 where
   pub is : log l ≡ Some (ask_by a x (look_at (object change)) (Seen view) true)
   pub fit : fits_change (what_code view.what) change ≡ true
 
+-- an attempt begins outside heals, once in a transaction, within the area
 pub record MayBegin (r : Register) (change : Change) : Type 0 where
   pub outside : r.heal ≡ false
   pub first : r.number ≡ 0
@@ -260,6 +287,7 @@ pub record MayRaise (log : Log) (t a : ℕ) (r : Register) (b g : ℕ) (kind : K
   pub before_mends : (tally log t a).mending ≡ false
   pub once : (tally log t a).raises b ≡ false
 
+-- a pre-op comes after the Begin or HealBegin, on its object and kind, at a brick that was looked at
 pub record MayPre (log : Log) (t a : ℕ) (r : Register) (b g : ℕ) (kind : Kind) : Type 0 where
   pub begun_already : (r.number ≡ 0) → ⊥
   pub holder : r.seen b ≡ true
@@ -273,16 +301,19 @@ pub record MayPre (log : Log) (t a : ℕ) (r : Register) (b g : ℕ) (kind : Kin
 abbrev pub heal_area : ℕ → Area
 heal_area g = range_of g 0 (2 ^ 63)
 
+-- a Heal lock of an object comes before the heal's first HealBegin, first or after others of this heal
 pub record MayHealLock (first : Bool) (r : Register) (area : Area) : Type 0 where
   pub object : ℕ
   pub range : area ≡ heal_area object
   pub early : r.start ≡ 0
   pub place : (first ≡ true) ⊎ ((r.heal ≡ true) × (r.object ≡ object))
 
+-- the area has each cell of the object and kind
 abbrev pub CoversAll : Option Area → ℕ → Kind → Type 0
 CoversAll None g kind = ⊥
 CoversAll (Some area) g kind = (cell : Cell) → is_cell cell ≡ true → object_of cell ≡ g → kind_of cell ≡ kind → covers area cell ≡ true
 
+-- a HealBegin names the heal's object and kind, once after its Work locks; the first one has the whole kind locked
 pub record MayHealBegin (r : Register) (g : ℕ) (kind : Kind) : Type 0 where
   pub inside : r.heal ≡ true
   pub same : g ≡ r.object
@@ -310,11 +341,13 @@ pub record ReadOf (n : ℕ) (keeps : ℕ → Kind → Bool) (log : Log) (t a : �
   pub past : read < t
   pub source : Views n keeps log t a r s
 
+-- a fact of each read that is named
 abbrev pub EachRead : (ℕ → Type 0) → Seq (Option ℕ) → Type 0
 EachRead P [] = Unit {0}
 EachRead P (None ∷ reads) = EachRead P reads
 EachRead P (Some r ∷ reads) = P r × EachRead P reads
 
+-- whether a read is named
 abbrev pub some_read : Seq (Option ℕ) → Bool
 some_read [] = false
 some_read (None ∷ reads) = some_read reads
@@ -328,22 +361,26 @@ pub record CutOf (n : ℕ) (keeps : ℕ → Kind → Bool) (log : Log) (t a : �
   pub length : len ≡ view.len
   pub source : Views n keeps log t a r s
 
+-- what a repair brings was seen at an unaccused copy since the HealBegin
 abbrev pub Contents : ℕ → (ℕ → Kind → Bool) → Log → ℕ → ℕ → Register → Repair → Type 0
 Contents n keeps log t a r (CutTo g len) = CutOf n keeps log t a r len
 Contents n keeps log t a r (Copy g at span read) = ReadOf n keeps log t a r read
 Contents n keeps log t a r (PutAttrs g read) = ReadOf n keeps log t a r read
 Contents n keeps log t a r (PutNames g reads) = EachRead (ReadOf n keeps log t a r) reads × (some_read reads ≡ true)
 
+-- the kind of the cells that a repair changes
 abbrev pub repair_kind : Repair → Kind
 repair_kind (CutTo g len) = Bytes
 repair_kind (Copy g at span read) = Bytes
 repair_kind (PutAttrs g read) = Attrs
 repair_kind (PutNames g reads) = Names
 
+-- the area has each cell that the repair changes
 abbrev pub CoversMend : Option Area → Repair → Type 0
 CoversMend None repair = ⊥
 CoversMend (Some area) repair = (cell : Cell) → mends repair cell ≡ true → covers area cell ≡ true
 
+-- a repair comes in a heal at a locked brick that the heal raised, within the area, with contents of an unaccused copy
 pub record MayMend (n : ℕ) (keeps : ℕ → Kind → Bool) (log : Log) (t a : ℕ) (r : Register) (b : ℕ) (repair : Repair) : Type 0 where
   pub inside : r.heal ≡ true
   pub begun_already : (r.number ≡ 0) → ⊥
@@ -371,6 +408,7 @@ pub record Full (n : ℕ) (keeps : ℕ → Kind → Bool) (log : Log) (t a : ℕ
   pub s : ℕ
   pub sinks : (c : ℕ) → c < n → keeps c r.kind ≡ true → ((c ≡ s) × (r.kind ≡ Names → ⊥)) ⊎ Sink log t a r c
 
+-- a test as a number
 abbrev pub one_if : Bool → ℕ
 one_if true = 1
 one_if false = 0
@@ -393,6 +431,7 @@ pub record MaySettle (n : ℕ) (keeps : ℕ → Kind → Bool) (log : Log) (t a 
   -- the dirty number is that of the first look and the heal's own raise, or nothing
   pub cleaned : (less.dirty ≡ 0) ⊎ ((less.dirty ≡ (view_marks view kind).dirty + one_if (r.raised b)) × Full n keeps log t a r)
 
+-- the request is one that the lines so far allow
 abbrev pub MayAsk : ℕ → (ℕ → Kind → Bool) → Log → ℕ → ℕ → Bool → Register → ℕ → Request → Type 0
 MayAsk n keeps log t a first r b (Lock Work area) = MayLock n r
 MayAsk n keeps log t a first r b (Lock Heal area) = MayHealLock first r area
@@ -403,11 +442,13 @@ MayAsk n keeps log t a first r b (Mend repair) = MayMend n keeps log t a r b rep
 MayAsk n keeps log t a first r b (Settle g kind less) = MaySettle n keeps log t a r b g.0 kind less
 MayAsk n keeps log t a first r b _ = Unit {0}
 
+-- a work ends outside heals without a Work lock, and with Ok only after a majority of post-ops
 pub record MayEnd (n : ℕ) (r : Register) (ok : Bool) : Type 0 where
   pub outside : r.heal ≡ false
   pub free : any n r.held ≡ false
   pub posted : ok ≡ true → LastPosted n r
 
+-- a heal ends without a Work lock
 pub record MayHealEnd (n : ℕ) (r : Register) : Type 0 where
   pub inside : r.heal ≡ true
   pub free : any n r.held ≡ false
@@ -422,11 +463,14 @@ May n keeps log t first of (Some (End a reply)) = MayEnd n (of a.0) (is_ok reply
 May n keeps log t first of (Some (HealEnd a g kind reply)) = MayHealEnd n (of a.0)
 May n keeps log t first of (Some (Event e)) = Unit {0}
 
+-- whether the line at t begins a work or a heal of a
 abbrev pub opened : Log → ℕ → ℕ → Bool
 opened log t a = opens (place log t a) (log t)
 
+-- the register in force at the line at t
 abbrev pub present : ℕ → Log → ℕ → ℕ → Register
 present n log t a = in_force (opened log t a) (register n log t a)
 
+-- each line is a move that the lines before it allow its actor
 abbrev pub Lawful : ℕ → (ℕ → Kind → Bool) → Log → Type 0
 Lawful n keeps log = (t : ℕ) → May n keeps log t (opened log t) (present n log t) (log t)

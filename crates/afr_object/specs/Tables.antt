@@ -28,9 +28,11 @@ Table = List (Gfid × Object)
 abbrev pub gfid_cmp : Gfid → Gfid → Ordering
 gfid_cmp a b = nat_cmp a.0 b.0
 
+-- names in the order of their numbers
 abbrev pub name_cmp : NameId → NameId → Ordering
 name_cmp a b = nat_cmp a.0 b.0
 
+-- keys in the order of their numbers
 abbrev pub key_cmp : KeyId → KeyId → Ordering
 key_cmp a b = nat_cmp a.0 b.0
 

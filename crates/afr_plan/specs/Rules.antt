@@ -27,12 +27,15 @@ word_of End = codes "end"
 abbrev pub after_go : List (List ℕ)
 after_go = codes "go" ∷ codes "end" ∷ []
 
+-- after an event
 abbrev pub after_event : List (List ℕ)
 after_event = codes "at" ∷ after_go
 
+-- after a fault
 abbrev pub after_fault : List (List ℕ)
 after_fault = codes "fault" ∷ after_event
 
+-- after the last healer
 abbrev pub after_healers : List (List ℕ)
 after_healers = codes "healer" ∷ after_fault
 
@@ -40,6 +43,7 @@ after_healers = codes "healer" ∷ after_fault
 abbrev pub after_round : List (List ℕ)
 after_round = codes "round" ∷ after_healers
 
+-- after the turns
 abbrev pub after_turns : List (List ℕ)
 after_turns = codes "client" ∷ after_healers
 
@@ -47,9 +51,11 @@ after_turns = codes "client" ∷ after_healers
 abbrev pub after_changes : List (List ℕ)
 after_changes = codes "ls" ∷ codes "stat" ∷ codes "setattr" ∷ codes "getattr" ∷ after_turns
 
+-- after a command, from the commands on names on
 abbrev pub after_bytes : List (List ℕ)
 after_bytes = codes "create" ∷ codes "mkdir" ∷ codes "unlink" ∷ codes "rmdir" ∷ after_changes
 
+-- after a command
 abbrev pub after_command : List (List ℕ)
 after_command = codes "write" ∷ codes "cut" ∷ codes "read" ∷ after_bytes
 
@@ -154,6 +160,7 @@ abbrev pub is_ls : Work → Bool
 is_ls work.Ls = true
 is_ls w = false
 
+-- a line with the command `ls`
 abbrev pub is_listing : Said → Bool
 is_listing (Command path w) = is_ls w
 is_listing s = false
@@ -199,6 +206,7 @@ abbrev pub work_end : Work → ℕ
 work_end (work.Write at bytes) = at + length bytes
 work_end w = 0
 
+-- how far into the file the write of a line goes
 abbrev pub write_end : Said → ℕ
 write_end (Command path w) = work_end w
 write_end s = 0
@@ -208,6 +216,7 @@ abbrev pub work_len : Work → ℕ
 work_len (work.Read at len) = len
 work_len w = 0
 
+-- how many bytes the read of a line asks for
 abbrev pub read_len : Said → ℕ
 read_len (Command path w) = work_len w
 read_len s = 0

@@ -32,9 +32,11 @@ data_at = either quoted_at (either hexed_at filled_at)
 unfoldable pub client_who_at : Reader Who
 client_who_at = as_a OfClient (word_then (codes "c") small_at)
 
+-- a healer
 unfoldable pub healer_who_at : Reader Who
 healer_who_at = as_a OfHealer (word_then (codes "h") small_at)
 
+-- a client or a healer
 unfoldable pub who_at : Reader Who
 who_at = either client_who_at healer_who_at
 
@@ -42,6 +44,7 @@ who_at = either client_who_at healer_who_at
 abbrev pub cut_event : Who × ℕ → Happening
 cut_event x = Cut x.0 x.1
 
+-- the end of such a cut
 abbrev pub join_event : Who × ℕ → Happening
 join_event x = Join x.0 x.1
 
@@ -53,15 +56,19 @@ pair_at = both who_at (word_then (codes " ") small_at)
 unfoldable pub stop_at : Reader Happening
 stop_at = as_a Stop (word_then (codes "stop ") small_at)
 
+-- a start
 unfoldable pub start_at : Reader Happening
 start_at = as_a Start (word_then (codes "start ") small_at)
 
+-- a cut of an actor from a brick
 unfoldable pub cut_event_at : Reader Happening
 cut_event_at = as_a cut_event (word_then (codes "cut ") pair_at)
 
+-- the end of a cut
 unfoldable pub join_event_at : Reader Happening
 join_event_at = as_a join_event (word_then (codes "join ") pair_at)
 
+-- a death
 unfoldable pub kill_at : Reader Happening
 kill_at = as_a Kill (word_then (codes "kill ") who_at)
 
@@ -73,15 +80,19 @@ happening_at = either stop_at (either start_at (either cut_event_at (either join
 abbrev pub write_of : List (List ℕ) × (ℕ × List ℕ) → Said
 write_of x = Command x.0 (Write x.1.0 x.1.1)
 
+-- a cut of a file
 abbrev pub cut_of : List (List ℕ) × ℕ → Said
 cut_of x = Command x.0 (work.Cut x.1)
 
+-- a read
 abbrev pub read_of : List (List ℕ) × (ℕ × ℕ) → Said
 read_of x = Command x.0 (Read x.1.0 x.1.1)
 
+-- a set attribute
 abbrev pub set_of : List (List ℕ) × (List ℕ × List ℕ) → Said
 set_of x = Command x.0 (SetAttr x.1.0 x.1.1)
 
+-- a read attribute
 abbrev pub get_of : List (List ℕ) × List ℕ → Said
 get_of x = Command x.0 (GetAttr x.1)
 

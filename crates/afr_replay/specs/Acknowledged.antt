@@ -17,5 +17,6 @@ abbrev pub begins_well : Option Line → List Line → ℕ → Bool
 begins_well (Some (Begin actor change)) log q = says_ok (first_reply actor.0 q log)
 begins_well other log q = false
 
+-- whether the attempt at a position is acknowledged
 abbrev pub is_acknowledged : List Line → ℕ → Bool
 is_acknowledged log q = begins_well (from_oldest q log) log q

@@ -18,6 +18,7 @@ use Rattle.afr_server.specs.Serving.{Serving}
 abbrev pub of_range : HeldLock ObjectRange → HeldLock Area
 of_range lock = record { owner = lock.owner; domain = lock.domain; area = Range lock.area.gfid lock.area.from lock.area.to }
 
+-- a lock of a name as a lock of an area
 abbrev pub of_name : HeldLock DirName → HeldLock Area
 of_name lock = record { owner = lock.owner; domain = lock.domain; area = Name lock.area.gfid lock.area.name }
 

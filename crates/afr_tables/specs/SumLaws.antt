@@ -42,6 +42,7 @@ abbrev pub numbers_if : Kind → Option Object → Marks
 numbers_if kind None = zero_marks
 numbers_if kind (Some o) = marks_of kind o.marks
 
+-- the numbers of a copy as sums of the lines so far
 abbrev pub now_at : Plan → List Line → ℕ → Gfid → Kind → Marks
 now_at p log x g kind = numbers_if kind (copy_at g (holds p log x))
 

@@ -74,5 +74,6 @@ SteppedBy a at older x y old new written (next.Begin change) = (written ≡ line
 SteppedBy a at older x y old new written (next.End reply) = (written ≡ line.End a reply) × (y ≡ record x { ended = x.ended + 1; work = Idle }) × (new ≡ old)
 SteppedBy a at older x y old new written other = ⊥
 
+-- one line of an actor, by what its work would write next
 abbrev pub Stepped : ActorId → ℕ → List Line → Actor → Actor → List Copies → List Copies → Line → Type 0
 Stepped a at older x y old new written = SteppedBy a at older x y old new written (next_of_work x.work)

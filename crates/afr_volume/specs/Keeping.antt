@@ -67,6 +67,7 @@ pub record CarriesOut (p : Plan) (a : ℕ) (log : List Line) (Does : Command →
   pub present : slice_get (script_of p a) (ended a log) ≡ Some command
   pub does : Does command
 
+-- what an actor is at stands for the lines of its present work
 abbrev pub Carries : Plan → ℕ → List Line → ActorWork → Type 0
 Carries p a log Idle = work a log ≡ []
 Carries p a log (Write m) = CarriesOut p a log (λ command. WritesOn p a log command m)

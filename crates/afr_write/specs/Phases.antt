@@ -34,6 +34,7 @@ no_transaction = record {
   post = [];
 }
 
+-- the lock was granted
 abbrev pub is_granted : Answer → Bool
 is_granted answer.Granted = true
 is_granted other = false
@@ -43,6 +44,7 @@ abbrev pub is_held : Answer → Bool
 is_held (answer.Held owner) = true
 is_held other = false
 
+-- the brick carried the request out
 abbrev pub is_done : Answer → Bool
 is_done answer.Done = true
 is_done other = false

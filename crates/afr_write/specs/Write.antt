@@ -55,6 +55,7 @@ after_step (walking.Naming b) object change = Walking
 after_step walking.Arrived object change = at_object object change
 after_step (walking.Stopped why views) object change = Closing (Stopped why views)
 
+-- what a write does once its path was walked
 abbrev pub after_walk : Walk → Change → WriteStage
 after_walk w change = after_step w.step w.object change
 
@@ -62,6 +63,7 @@ after_walk w change = after_step w.step w.object change
 abbrev pub first_stage : Walk → Change → WriteStage
 first_stage w change = if is_too_large change then Closing (Stopped TooLarge no_views) else after_walk w change
 
+-- a write before its first line
 abbrev pub write_from : Shape → List NameId → WriteJob → Write
 write_from shape path job = record {
   walk = walk_from shape path;
@@ -101,6 +103,7 @@ next_at Beginning m = next.Begin m.change
 next_at (Closing outcome) m = closing outcome m
 next_at stage m = next.Ask (next_brick stage m) (request_at stage m)
 
+-- what a write does next
 abbrev pub next_of : Write → Next
 next_of m = next_at m.stage m
 
@@ -108,6 +111,7 @@ next_of m = next_at m.stage m
 abbrev pub walked_to : Walk → Write → Write
 walked_to w m = record { walk = w; change = on_object w.object.gfid m.change; transaction = m.transaction; stage = after_walk w (on_object w.object.gfid m.change) }
 
+-- a write that stands elsewhere in its transaction
 abbrev pub at_standing : Standing → Write → Write
 at_standing s m = record { walk = m.walk; change = m.change; transaction = s.transaction; stage = s.stage }
 
