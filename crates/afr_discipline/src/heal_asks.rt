@@ -12,8 +12,8 @@ use crate::heal_moves::{
 };
 use crate::heal_numbers::may_settle;
 use crate::heal_reads::may_repair;
+use crate::of_five::any_of;
 use crate::register::Register;
-use crate::tests_of_five::any_of;
 use afr_base::BrickId;
 use afr_lines::{Area, Request};
 use afr_range_locks::Domain;

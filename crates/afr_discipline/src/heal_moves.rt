@@ -13,10 +13,10 @@ ghost use Rattle.afr_discipline.specs.Stands.{phase_of, seen_as, step_of, views_
 use crate::areas::{ATTRS, is_same_area, is_same_kind, is_the_area};
 use crate::heal_sets::{is_locked, is_over, is_turn};
 use crate::heals::{has_read, has_settled, is_going_on, is_onward, len_at};
+use crate::of_five::all_of;
 use crate::outside::is_busy;
 use crate::register::{Phase, Register, Step};
 use crate::steps::{is_same_step, rank};
-use crate::tests_of_five::all_of;
 use afr_base::{BrickId, BrickSet, Gfid, Kind};
 use afr_lines::{Area, Request};
 use afr_range_locks::Domain;

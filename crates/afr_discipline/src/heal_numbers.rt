@@ -8,8 +8,8 @@ ghost use Rattle.afr_discipline.specs.Stands.{seen_as, views_of};
 
 use crate::heal_sets::is_turn;
 use crate::heals::{has_mended, is_changed, is_onward, is_raised};
+use crate::of_five::all_of;
 use crate::register::{Register, Step};
-use crate::tests_of_five::all_of;
 use crate::views::holds;
 use afr_base::{BrickId, Gfid, Kind, Marks};
 use afr_lines::Request;

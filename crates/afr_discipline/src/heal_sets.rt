@@ -5,9 +5,9 @@ ghost use Rattle.afr_moves.specs.Steps.{locks_at, looks_at, mends_at, other, pas
 ghost use Rattle.afr_moves.specs.Keeps.{keeps_in};
 ghost use Rattle.afr_discipline.specs.Stands.{phase_of, seen_as, step_of};
 
+use crate::of_five::all_of;
 use crate::register::{Phase, Register, Step};
 use crate::steps::{rank, was_asked};
-use crate::tests_of_five::all_of;
 use crate::views::{holds, is_good, keeps};
 use afr_base::{BrickId, Kind};
 

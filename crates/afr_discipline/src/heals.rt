@@ -9,9 +9,9 @@ ghost use Rattle.afr_discipline.specs.Stands.{phase_of, seen_as, views_of};
 
 use crate::areas::is_same_kind;
 use crate::heal_sets::{has_passed, is_other, is_sink};
+use crate::of_five::{all_of, any_of};
 use crate::register::{Phase, Register, Step};
 use crate::steps::rank;
-use crate::tests_of_five::{all_of, any_of};
 use crate::views::{holds, is_good, is_unaccused, most_hold};
 use afr_base::{BrickId, Gfid, Kind, Marks};
 use afr_choice::Looked;

@@ -19,11 +19,11 @@ mod note_law;
 mod note_steps;
 mod note_stops;
 mod notes;
+mod of_five;
 mod of_heals;
 mod outside;
 mod register;
 mod steps;
-mod tests_of_five;
 mod views;
 
 pub use heal_owed::owed_at;

@@ -7,8 +7,8 @@ ghost use Rattle.afr_moves.specs.Keeps.{keeps_in};
 ghost use Rattle.afr_discipline.specs.Stands.{attempt_of, has_begun, heal_of, seen_as, sole, source_of, views_of};
 
 use crate::note_steps::asked_at;
+use crate::of_five::sole_of;
 use crate::register::{Register, Step};
-use crate::tests_of_five::sole_of;
 use crate::views::is_good;
 use afr_base::{BrickId, Gfid, Kind};
 

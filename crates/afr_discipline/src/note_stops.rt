@@ -10,8 +10,8 @@ ghost use Rattle.afr_discipline.specs.Stands.{seen_as, step_of};
 
 use crate::heal_sets::is_over;
 use crate::heals::is_going_on;
+use crate::of_five::any_of;
 use crate::register::{Phase, Register, Step};
-use crate::tests_of_five::any_of;
 use afr_base::BrickId;
 
 /// A copy that may be the source by all the lines, and lets the heal go on.

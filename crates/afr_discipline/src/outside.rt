@@ -11,9 +11,9 @@ use crate::areas::{
     is_an_area, is_in_plane, is_low, is_of_heals, is_the_area, is_within, kind_of_change,
     kind_of_some,
 };
+use crate::of_five::all_of;
 use crate::register::{Move, Register, Step};
 use crate::steps::{is_once, is_same_step};
-use crate::tests_of_five::all_of;
 use crate::views::{fits_all, has_some, holds, is_carried, is_carried_by_holders};
 use afr_base::{BrickId, BrickSet, Gfid, Kind};
 use afr_lines::{Area, Request};

@@ -48,38 +48,63 @@ pub enum Phase {
 /// What the lines of one work outside its heals, or of one heal, show.
 #[derive(Clone, Copy, Debug)]
 pub struct Register {
+    /// The bricks of the volume, and whether one is an arbiter.
     pub shape: Shape,
     /// The position of the transaction's Begin.
     pub attempt: Option<u32>,
+    /// What the present transaction, or the present part of a heal, locks.
     pub area: Option<Area>,
+    /// The bricks where `area` is held.
     pub held: BrickSet,
+    /// Another area that the transaction locks, as the child of a directory that is removed.
     pub second: Option<Area>,
+    /// The bricks where `second` is held.
     pub second_held: BrickSet,
     /// The object and kind of a heal that has begun.
     pub heal: Option<(Gfid, Kind)>,
+    /// The bricks where the Heal lock is held.
     pub healing: BrickSet,
+    /// The views since the lock; in a heal, since its last HealBegin.
     pub looked: Looked,
     /// A heal has a HealBegin.
     pub begun_before_looks: bool,
+    /// The bricks whose pre-op was done; in a heal, those whose dirty number it raised.
     pub pre: BrickSet,
+    /// The bricks that carried the operation out.
     pub done: BrickSet,
+    /// The bricks whose post-op was done.
     pub post: BrickSet,
+    /// The source of a heal, once its lines fit one good copy alone.
     pub source: Option<BrickId>,
+    /// The views of a heal since its first HealBegin, before its second.
     pub seen: Looked,
+    /// The positions of the reads of the present part of a heal that gave contents.
     pub reads: [Option<u32>; 5],
+    /// The bricks that the present part of a heal asked to change their contents.
     pub mended: BrickSet,
+    /// How many bytes of the file the pieces of a heal are past.
     pub upto: u32,
+    /// The bricks whose numbers the heal took back.
     pub settled: BrickSet,
+    /// The heal has unlocks left and no other request.
     pub broken: bool,
+    /// The step that the lines are in.
     pub(crate) step: Step,
+    /// The bricks that were asked in this step, and are not to be asked again.
     pub(crate) asked: BrickSet,
+    /// The transaction has an Unlock line of its area.
     pub(crate) unlocked: bool,
     /// The position of the present Begin or HealBegin.
     pub(crate) begun: Option<u32>,
+    /// The lines are those of a heal.
     pub(crate) inside: bool,
+    /// The object of the heal, by its Heal lock.
     pub(crate) object: Gfid,
+    /// The kind of the heal, by its HealBegin.
     pub(crate) kind: Kind,
+    /// The part that the heal is in.
     pub(crate) phase: Phase,
+    /// The copies that may be the source by all lines of the heal.
     pub(crate) possible: BrickSet,
 }
 

@@ -11,7 +11,7 @@ ghost use Rattle.afr_moves.specs.Keeps.{keeps_in};
 ghost use Rattle.afr_discipline.specs.Stands.{views_of};
 ghost use Rattle.afr_discipline.specs.Tests.{carried, fits_view};
 
-use crate::tests_of_five::{all_of, any_of, most_of};
+use crate::of_five::{all_of, any_of, most_of};
 use afr_base::{BrickId, BrickSet, Kind, Shape, What};
 use afr_choice::Looked;
 use afr_object::{Change, View};

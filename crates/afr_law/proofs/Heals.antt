@@ -4,7 +4,7 @@ pub mod EachLine
 pub mod Answers
 pub mod Opening
 pub mod Along
-pub mod Tests
+pub mod Conditions
 pub mod Holds
 pub mod Areas
 pub mod Views

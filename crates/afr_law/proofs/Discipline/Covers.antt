@@ -27,7 +27,7 @@ use Rattle.afr_law.proofs.Discipline.Transactions.{lies_plane}
 use Rattle.afr_law.proofs.Heals.Areas.{AreasIn, areas_now, kind_is, part_area}
 use Rattle.afr_law.proofs.Heals.Mended.{mend_fits}
 use Rattle.afr_law.proofs.Heals.Pieces.{PiecesIn, ShortLooks, pieces_now}
-use Rattle.afr_law.proofs.Heals.Tests.{mend_test, mend_turn, onward_kind, onward_object, pre_onward, pre_turn, settle_onward, settle_turn}
+use Rattle.afr_law.proofs.Heals.Conditions.{mend_test, mend_turn, onward_kind, onward_object, pre_onward, pre_turn, settle_onward, settle_turn}
 
 -- the change of the attempt that the request carries out, by positions
 abbrev pub change_there : Log → Request → Option Change

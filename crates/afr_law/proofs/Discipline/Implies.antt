@@ -13,7 +13,7 @@ use Rattle.afr_law.proofs.Heals.MendsAlong.{Wide}
 use Rattle.afr_law.proofs.Heals.Moves.{whole_covers}
 use Rattle.afr_law.proofs.Heals.Opening.{opens_here}
 use Rattle.afr_law.proofs.Heals.Settles.{Fives, settle_works}
-use Rattle.afr_law.proofs.Heals.Tests.{heal_lock_area, heal_lock_step}
+use Rattle.afr_law.proofs.Heals.Conditions.{heal_lock_area, heal_lock_step}
 use Rattle.afr_law.proofs.Heals.Works.{mend_works, pre_works}
 use Rattle.afr_moves.specs.Lines.{ask_by}
 use Rattle.afr_moves.specs.Past.{Beginning, Log, place}

@@ -20,7 +20,7 @@ use Rattle.afr_moves.specs.Transaction.{EndsLow}
 use Rattle.afr_law.proofs.Heals.Asked.{read_for, wanted_now}
 use Rattle.afr_law.proofs.Heals.Mended.{IsWide, mend_fits, read_is}
 use Rattle.afr_law.proofs.Heals.Reads.{readings_now}
-use Rattle.afr_law.proofs.Heals.Tests.{mend_test, mend_turn}
+use Rattle.afr_law.proofs.Heals.Conditions.{mend_test, mend_turn}
 use Rattle.afr_law.proofs.Discipline.Implies.{wide_line}
 use Rattle.afr_law.proofs.Discipline.Inner.{turn_low}
 use Rattle.afr_moves.specs.Rules.{EachRead}

@@ -24,7 +24,7 @@ use Rattle.afr_moves.specs.Rules.{Register, begun, busy, heal_area, is_area, sec
 use Rattle.afr_moves.specs.Steps.{after_unlocks, is_lowest, is_next, is_whole, locks_at, may_heal_work}
 use Rattle.afr_law.proofs.Discipline.Projection.{along}
 use Rattle.afr_law.proofs.Discipline.Stages.{first_2, second_2}
-use Rattle.afr_law.proofs.Heals.Tests.{heal_lock_area}
+use Rattle.afr_law.proofs.Heals.Conditions.{heal_lock_area}
 use Rattle.afr_law.proofs.Safety.Standing.{Applies, Frees, Grants, HealFrees, HealGrants, HealTries, HealWaits, Looks, Mends, Noted, Posts, Pres, Same, Settles, Tries, Waits, noted}
 use Rattle.afr_moves.specs.Sets.{empty, with, without}
 use Rattle.afr_object.specs.declared.entry.View.{View}

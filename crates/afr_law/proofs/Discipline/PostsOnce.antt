@@ -9,7 +9,7 @@ use Rattle.afr_moves.specs.Note.{breaks, left_in_heal, left_outside, stay}
 use Rattle.afr_moves.specs.Register.{Applies, Exact, Open, Posts, Pres, Step, Untouched, asked_in, rank, same_step}
 use Rattle.afr_moves.specs.Steps.{may_heal, other}
 use Rattle.afr_moves.specs.Transaction.{MayPost, Outside}
-use Rattle.afr_law.proofs.Heals.Tests.{asked_now}
+use Rattle.afr_law.proofs.Heals.Conditions.{asked_now}
 use Rattle.afr_moves.specs.Lines.{ask_by}
 use Rattle.afr_law.proofs.Discipline.Projection.{goes_tally, tally_at, together_now}
 use Rattle.afr_moves.specs.Sets.{empty, with}

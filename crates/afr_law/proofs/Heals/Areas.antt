@@ -8,7 +8,7 @@ use Rattle.afr_moves.specs.Note.{left_in_heal, next_phase}
 use Rattle.afr_moves.specs.Register.{Exact, Finish, HealPres, HealUnlocks, Looks, Mends, Opening, Phase, Piece, Reads, Settles, Step, Unlocks, WorkLocks, len_of, piece_area, rank, whole_area}
 use Rattle.afr_moves.specs.Steps.{may_heal}
 use Rattle.afr_law.proofs.Heals.Along.{healing_now, opened_by}
-use Rattle.afr_law.proofs.Heals.Tests.{Resumes, Starts, Waits, WorkPlace, attrs_onward, attrs_turn, bytes_onward, bytes_turn, heal_lock_step, list_onward, list_turn, look_step, mend_test, mend_turn, pre_onward, pre_turn, settle_onward, settle_turn, work_place}
+use Rattle.afr_law.proofs.Heals.Conditions.{Resumes, Starts, Waits, WorkPlace, attrs_onward, attrs_turn, bytes_onward, bytes_turn, heal_lock_step, list_onward, list_turn, look_step, mend_test, mend_turn, pre_onward, pre_turn, settle_onward, settle_turn, work_place}
 use Rattle.afr_law.proofs.Discipline.Inner.{turn_low}
 use Rattle.afr_moves.specs.Rules.{fresh}
 use Rattle.afr_moves.specs.Lines.{heal_begin_by}

@@ -10,7 +10,7 @@ use Rattle.afr_law.proofs.Heals.Along.{healing_now}
 use Rattle.afr_law.proofs.Heals.Areas.{kind_is}
 use Rattle.afr_law.proofs.Heals.Holds.{fails_gone, kept_law}
 use Rattle.afr_law.proofs.Heals.Reads.{readings_now}
-use Rattle.afr_law.proofs.Heals.Tests.{attrs_onward, attrs_turn, bytes_onward, bytes_turn, list_onward, list_turn, look_step, mend_test, mend_turn, onward_kind, onward_object, pre_onward, pre_turn, settle_onward, settle_turn}
+use Rattle.afr_law.proofs.Heals.Conditions.{attrs_onward, attrs_turn, bytes_onward, bytes_turn, list_onward, list_turn, look_step, mend_test, mend_turn, onward_kind, onward_object, pre_onward, pre_turn, settle_onward, settle_turn}
 use Rattle.afr_law.proofs.Discipline.Inner.{turn_low}
 use Rattle.afr_moves.specs.Rules as weak
 use Rattle.afr_moves.specs.Rules.{Register}

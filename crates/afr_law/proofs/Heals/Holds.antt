@@ -11,7 +11,7 @@ use Rattle.afr_moves.specs.Register.{Exact, Finish, HealLocks, HealPres, Looks, 
 use Rattle.afr_moves.specs.Steps.{locks_at, looks_at, may_heal, settles_at, turn}
 use Rattle.afr_law.proofs.Discipline.Firsts.{FirstsOf, firsts_now}
 use Rattle.afr_law.proofs.Heals.Along.{healing_now, opened_by}
-use Rattle.afr_law.proofs.Heals.Tests.{Resumes, Starts, Waits, WorkPlace, attrs_turn, bytes_turn, heal_lock_step, list_turn, look_step, look_turn, mend_turn, pre_turn, settle_turn, settles_is, unlock_turn, work_place}
+use Rattle.afr_law.proofs.Heals.Conditions.{Resumes, Starts, Waits, WorkPlace, attrs_turn, bytes_turn, heal_lock_step, list_turn, look_step, look_turn, mend_turn, pre_turn, settle_turn, settles_is, unlock_turn, work_place}
 use Rattle.afr_law.proofs.Discipline.Inner.{turn_in, turn_low}
 use Rattle.afr_moves.specs.Rules.{fresh}
 use Rattle.afr_moves.specs.Lines.{heal_begin_by, look_at, settle_on}

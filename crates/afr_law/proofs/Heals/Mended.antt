@@ -5,7 +5,7 @@ use Rattle.afr_moves.specs.Register.{Exact, Finish, Mends, Opening, Phase, Piece
 use Rattle.afr_moves.specs.Steps.{may_mend, mends_at, same_read, same_reads}
 use Rattle.afr_law.proofs.Heals.Areas.{kind_is}
 use Rattle.afr_law.proofs.Heals.Raises.{raise_set}
-use Rattle.afr_law.proofs.Heals.Tests.{onward_kind, onward_object}
+use Rattle.afr_law.proofs.Heals.Conditions.{onward_kind, onward_object}
 use Rattle.afr_moves.specs.Lines.{cut_to}
 use Rattle.afr_law.proofs.Safety.Locks.{same_yes}
 use Rattle.afr_moves.specs.Past.{mends, place}

@@ -7,7 +7,7 @@ use Rattle.afr_moves.specs.Steps.{may_heal, mends_at, mends_over}
 use Rattle.afr_law.proofs.Heals.Areas.{AreasIn, opening_or}
 use Rattle.afr_law.proofs.Heals.Raises.{raise_set}
 use Rattle.afr_law.proofs.Heals.Sights.{equal_true}
-use Rattle.afr_law.proofs.Heals.Tests.{asked_is, mends_passed, over_at, passed_over}
+use Rattle.afr_law.proofs.Heals.Conditions.{asked_is, mends_passed, over_at, passed_over}
 use Rattle.afr_moves.specs.Sets.{with}
 use Rattle.afr_moves.specs.Tally.{Tally, give}
 use Rattle.afr_lines.specs.declared.answer.Told.{Told}

@@ -9,7 +9,7 @@ use Rattle.afr_law.proofs.Heals.Areas.{AreasIn}
 use Rattle.afr_law.proofs.Heals.Mends.{MendedAfter, bool_or, mends_is}
 use Rattle.afr_law.proofs.Heals.Raises.{raise_set}
 use Rattle.afr_law.proofs.Heals.Sights.{equal_true}
-use Rattle.afr_law.proofs.Heals.Tests.{asked_is, mend_test, mend_turn}
+use Rattle.afr_law.proofs.Heals.Conditions.{asked_is, mend_test, mend_turn}
 use Rattle.afr_law.proofs.Discipline.Inner.{turn_in, turn_low}
 use Rattle.afr_moves.specs.Rules.{fresh}
 use Rattle.afr_moves.specs.Lines.{ask_by}

@@ -15,7 +15,7 @@ use Rattle.afr_law.proofs.Heals.Holds.{kept_law}
 use Rattle.afr_law.proofs.Heals.Mends.{after_mends, first_part, later_part, tally_after_ask}
 use Rattle.afr_law.proofs.Heals.Raises.{pres_opening, raise_set}
 use Rattle.afr_law.proofs.Heals.Sights.{not_opening}
-use Rattle.afr_law.proofs.Heals.Tests.{Resumes, Starts, Waits, WorkPlace, attrs_onward, attrs_turn, bytes_onward, bytes_turn, heal_lock_step, heal_unlock_over, list_onward, list_turn, look_step, mend_test, pre_onward, pre_turn, settle_mends, settle_onward, settle_turn, settles_mends, unlock_over, work_place}
+use Rattle.afr_law.proofs.Heals.Conditions.{Resumes, Starts, Waits, WorkPlace, attrs_onward, attrs_turn, bytes_onward, bytes_turn, heal_lock_step, heal_unlock_over, list_onward, list_turn, look_step, mend_test, pre_onward, pre_turn, settle_mends, settle_onward, settle_turn, settles_mends, unlock_over, work_place}
 use Rattle.afr_law.proofs.Discipline.Inner.{turn_in, turn_low}
 use Rattle.afr_moves.specs.Rules.{fresh, no_views}
 use Rattle.afr_moves.specs.Lines.{ask_by, heal_begin_by, look_at, pre_on, settle_on}

@@ -11,7 +11,7 @@ use Rattle.afr_law.proofs.Heals.Mends.{bool_or}
 use Rattle.afr_law.proofs.Heals.Raises.{RaisesIn, raise_set, raises_now}
 use Rattle.afr_law.proofs.Heals.Reads.{readings_now}
 use Rattle.afr_law.proofs.Heals.Sights.{sights_now}
-use Rattle.afr_law.proofs.Heals.Tests.{all_below}
+use Rattle.afr_law.proofs.Heals.Conditions.{all_below}
 use Rattle.afr_law.proofs.Heals.Views.{SightsIn}
 use Rattle.afr_moves.specs.Honest.{view_marks}
 use Rattle.afr_moves.specs.Lines.{ask_by}

@@ -18,7 +18,7 @@ use Rattle.afr_moves.specs.Note.{left_in_heal, next_phase, put, view_of}
 use Rattle.afr_moves.specs.Register.{Exact, Finish, HealPres, Mends, Phase, Piece, Reads, Settles, Step, Unlocks, is_opening, len_of, piece_area, rank, span, whole_area}
 use Rattle.afr_moves.specs.Steps.{may_heal}
 use Rattle.afr_law.proofs.Heals.Along.{healing_now}
-use Rattle.afr_law.proofs.Heals.Tests.{Resumes, Starts, Waits, WorkPlace, attrs_turn, bytes_turn, heal_lock_step, list_turn, look_step, mend_turn, pre_turn, settle_turn, work_place}
+use Rattle.afr_law.proofs.Heals.Conditions.{Resumes, Starts, Waits, WorkPlace, attrs_turn, bytes_turn, heal_lock_step, list_turn, look_step, mend_turn, pre_turn, settle_turn, work_place}
 use Rattle.afr_law.proofs.Discipline.Inner.{turn_low}
 use Rattle.afr_moves.specs.Lines.{ask_by, look_at}
 use Rattle.afr_moves.specs.Past.{Log}

@@ -13,7 +13,7 @@ use Rattle.afr_law.proofs.Heals.Answers.{Honestly}
 use Rattle.afr_law.proofs.Heals.Areas.{AreasIn, areas_now, opening_or}
 use Rattle.afr_law.proofs.Heals.Holds.{kept_law}
 use Rattle.afr_law.proofs.Heals.Sights.{not_opening, sights_now}
-use Rattle.afr_law.proofs.Heals.Tests.{Resumes, Starts, Waits, WorkPlace, asked_is, asked_now, attrs_turn, bytes_turn, heal_lock_step, heal_unlock_over, list_turn, look_step, mend_pres, mends_pres, onward_object, over_at, passed_over, pre_onward, pre_turn, pres_passed, settle_mends, settles_mends, unlock_over, work_place}
+use Rattle.afr_law.proofs.Heals.Conditions.{Resumes, Starts, Waits, WorkPlace, asked_is, asked_now, attrs_turn, bytes_turn, heal_lock_step, heal_unlock_over, list_turn, look_step, mend_pres, mends_pres, onward_object, over_at, passed_over, pre_onward, pre_turn, pres_passed, settle_mends, settles_mends, unlock_over, work_place}
 use Rattle.afr_law.proofs.Heals.Views.{SightsIn}
 use Rattle.afr_law.proofs.Discipline.Inner.{turn_in, turn_low}
 use Rattle.afr_moves.specs.Rules.{fresh}

@@ -8,7 +8,7 @@ use Rattle.afr_moves.specs.Register.{Exact, HealPres, HealUnlocks, Mends, Phase,
 use Rattle.afr_moves.specs.Steps.{may_heal, reads_at}
 use Rattle.afr_law.proofs.Heals.Along.{healing_now}
 use Rattle.afr_law.proofs.Heals.Holds.{fails_gone, kept_law}
-use Rattle.afr_law.proofs.Heals.Tests.{attrs_onward, attrs_turn, bytes_onward, bytes_turn, heal_unlock_over, list_onward, list_turn, look_step, mend_test, pre_onward, settle_onward, unlock_over}
+use Rattle.afr_law.proofs.Heals.Conditions.{attrs_onward, attrs_turn, bytes_onward, bytes_turn, heal_unlock_over, list_onward, list_turn, look_step, mend_test, pre_onward, settle_onward, unlock_over}
 use Rattle.afr_law.proofs.Discipline.Inner.{turn_in}
 use Rattle.afr_moves.specs.Lines.{ask_by}
 use Rattle.afr_moves.specs.Past.{Log, is_gone}

@@ -14,7 +14,7 @@ use Rattle.afr_law.proofs.Heals.Mends.{bool_or}
 use Rattle.afr_law.proofs.Heals.MendsNow.{mended_asked, mended_now, numbers_now}
 use Rattle.afr_law.proofs.Heals.Raises.{RaisesIn, late_raises, raise_set, raises_now}
 use Rattle.afr_law.proofs.Heals.Sights.{sights_now}
-use Rattle.afr_law.proofs.Heals.Tests.{all_below, asked_now, mends_pres, onward_kind, onward_object, settle_mends, settle_onward, settle_takes, settle_turn, settles_is, turn_fresh}
+use Rattle.afr_law.proofs.Heals.Conditions.{all_below, asked_now, mends_pres, onward_kind, onward_object, settle_mends, settle_onward, settle_takes, settle_turn, settles_is, turn_fresh}
 use Rattle.afr_law.proofs.Heals.Works.{changed_set, pending_past, source_or, takes_one, tests_equal}
 use Rattle.afr_moves.specs.Honest.{view_marks}
 use Rattle.afr_law.proofs.Discipline.Inner.{turn_in, turn_low}

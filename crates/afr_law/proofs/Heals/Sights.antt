@@ -13,7 +13,7 @@ use Rattle.afr_law.proofs.Heals.Along.{healing_now, opened_by}
 use Rattle.afr_law.proofs.Heals.Answers.{Honestly}
 use Rattle.afr_law.proofs.Heals.Areas.{opening_or}
 use Rattle.afr_law.proofs.Heals.Holds.{HoldsIn, fails_gone, holds_now, kept_law}
-use Rattle.afr_law.proofs.Heals.Tests.{Resumes, Starts, Waits, WorkPlace, asked_now, attrs_onward, attrs_turn, bytes_onward, bytes_turn, heal_lock_area, heal_lock_step, heal_unlock_goes, heal_unlock_over, list_onward, list_turn, look_object, look_step, look_turn, looks_is, mend_goes, mend_pres, mend_test, mend_turn, mends_pres, onward_goes, onward_looks, pre_onward, pre_turn, pres_looks, settle_onward, settle_turn, settles_mends, turn_fresh, unlock_goes, unlock_over, work_place}
+use Rattle.afr_law.proofs.Heals.Conditions.{Resumes, Starts, Waits, WorkPlace, asked_now, attrs_onward, attrs_turn, bytes_onward, bytes_turn, heal_lock_area, heal_lock_step, heal_unlock_goes, heal_unlock_over, list_onward, list_turn, look_object, look_step, look_turn, looks_is, mend_goes, mend_pres, mend_test, mend_turn, mends_pres, onward_goes, onward_looks, pre_onward, pre_turn, pres_looks, settle_onward, settle_turn, settles_mends, turn_fresh, unlock_goes, unlock_over, work_place}
 use Rattle.afr_law.proofs.Heals.Views.{SeenAt, Sights, SightsIn, after_looks, here_or, later_not, later_seen, none_view, opening_not, opening_seen, put_other, seen_next, with_false}
 use Rattle.afr_law.proofs.Discipline.Inner.{Inner, turn_in, turn_low}
 use Rattle.afr_moves.specs.Rules.{fresh}

@@ -8,7 +8,7 @@ use Rattle.afr_moves.specs.Register.{Exact, Finish, Looks, Opening, Phase, Piece
 use Rattle.afr_moves.specs.Steps.{goes_on, looks_at, looks_over, other}
 use Rattle.afr_law.proofs.Discipline.Firsts.{FirstsOf}
 use Rattle.afr_law.proofs.Heals.Areas.{opening_or}
-use Rattle.afr_law.proofs.Heals.Tests.{asked_now, goes_enough, looks_far, looks_is, looks_passed, over_at, passed_over}
+use Rattle.afr_law.proofs.Heals.Conditions.{asked_now, goes_enough, looks_far, looks_is, looks_passed, over_at, passed_over}
 use Rattle.afr_moves.specs.Honest.{asks}
 use Rattle.afr_moves.specs.Lines.{ask_by, look_at}
 use Rattle.afr_moves.specs.Past.{Log, object}

@@ -15,7 +15,7 @@ use Rattle.afr_law.proofs.Heals.MendsNow.{mended_now}
 use Rattle.afr_law.proofs.Heals.Raises.{late_raises, pres_opening, pres_set, raise_set, raises_now}
 use Rattle.afr_law.proofs.Heals.Reads.{readings_now}
 use Rattle.afr_law.proofs.Heals.Sights.{sights_now}
-use Rattle.afr_law.proofs.Heals.Tests.{asked_now, goes_enough, goes_good, goes_unaccused, mend_goes, mend_pres, mend_test, mend_turn, onward_kind, onward_object, pre_onward, pre_turn, turn_fresh}
+use Rattle.afr_law.proofs.Heals.Conditions.{asked_now, goes_enough, goes_good, goes_unaccused, mend_goes, mend_pres, mend_test, mend_turn, onward_kind, onward_object, pre_onward, pre_turn, turn_fresh}
 use Rattle.afr_moves.specs.Honest.{view_marks}
 use Rattle.afr_law.proofs.Discipline.Inner.{turn_in, turn_low}
 use Rattle.afr_moves.specs.Lines.{pre_on}

@@ -49,7 +49,7 @@ use Rattle.afr_moves.specs.Register.{Mends, Piece, rank}
 use Rattle.afr_law.specs.Exactly.{IsLawfulExactly, name_bound}
 use Rattle.afr_law.proofs.Heals.Mended.{mend_fits}
 use Rattle.afr_law.proofs.Heals.Pieces.{ShortLooks, pieces_now}
-use Rattle.afr_law.proofs.Heals.Tests.{mend_test, mend_turn}
+use Rattle.afr_law.proofs.Heals.Conditions.{mend_test, mend_turn}
 use Rattle.afr_law.proofs.Discipline.Covers.{piece_is}
 use Rattle.afr_law.proofs.Discipline.Inner.{turn_in, turn_low}
 use Rattle.afr_tables.proofs.Entries.{cases_lt}

@@ -1,4 +1,4 @@
-//! One test of the bricks below `n`: whether some pass, whether all do, whether most do, and which alone does.
+//! A condition on the bricks below `n`, told for each of five: whether some meet it, all, most, and which alone does.
 ghost use Rattle.std.specs.Prelude.{◌≡◌, ℕ, Bool, ◌≤◌, ◌==◌, if◌then◌else◌};
 ghost use Rattle.afr_base.specs.Majority.{count_below, is_most};
 ghost use Rattle.afr_moves.specs.Sets.{any};
