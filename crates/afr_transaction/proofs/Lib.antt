@@ -1,0 +1,4 @@
+pub mod Allowed
+pub mod Kept
+pub mod Parts
+pub mod Turned

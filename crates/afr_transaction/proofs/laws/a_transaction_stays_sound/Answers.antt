@@ -1,0 +1,9 @@
+use Rattle.afr_transaction.proofs.Allowed.{allowed_next}
+use Rattle.afr_transaction.proofs.Kept.{stays_sound}
+use Rattle.afr_transaction.proofs.laws.a_transaction_stays_sound.Goals as goal
+
+pub returns-clause-allowed : goal.returns-clause-allowed
+returns-clause-allowed c = allowed_next
+
+pub returns-clause-stays : goal.returns-clause-stays
+returns-clause-stays c = stays_sound
