@@ -32,14 +32,14 @@ use Rattle.afr_discipline.specs.declared.register.Step.TheVariants as step
 use Rattle.afr_discipline.specs.Notes.{asked_at}
 use Rattle.afr_moves.specs.Keeps.{keeps_in}
 use Rattle.afr_discipline.specs.Stands.{number_of, seen_as, step_of, views_of}
-use Rattle.afr_discipline.specs.Tests.{carried, fits_view, lies_in, last_posted, may_apply, may_end, may_post, may_pre, may_work, misses, once, one_of, plane_in, same_flag}
+use Rattle.afr_discipline.specs.Tests.{carried, fits_view, lies_in, last_posted, may_end, misses, once, one_of, plane_in, same_flag}
 use Rattle.afr_transaction.specs.declared.stage.Stage.{Stage}
 use Rattle.afr_transaction.specs.declared.stage.Stage.TheVariants.{Locking, Looking, Beginning, Preparing, Applying, Posting, Closing}
 use Rattle.afr_transaction.specs.Progress.{Progress, left, next_at, allowed, number_in, numbered, enough, may_start, asks}
-use Rattle.afr_transaction.specs.Outcome.{outcome_of, reply_for, reply_of}
+use Rattle.afr_transaction.specs.Outcome.{reply_for, reply_of}
 use Rattle.afr_transaction.specs.declared.reply.Outcome.TheVariants.{Acknowledged, NoQuorum, FewCopies, SplitBrain, Failed}
 use Rattle.afr_transaction.specs.Laws.{AllowedNext}
-use Rattle.afr_transaction.specs.Sound.{Base, IsBase, Suits, OnLocks, OnLooks, OnAttempt, HasBegun, During, Ready, Sound}
+use Rattle.afr_transaction.specs.Sound.{IsBase, Suits, HasBegun, During, Ready}
 use Rattle.afr_transaction.proofs.Parts.{pair, deny, lt_test, any_nothing, holder_shows, any_member}
 
 same_self : (g : ℕ) → (g == g) ≡ true

@@ -1,16 +1,15 @@
 -- A transaction stays sound, whatever its bricks answer.
-use Rattle.std.proofs.Common.{◌≡◌, ℕ, zero, suc, ◌+◌, ◌<◌, ◌≤◌, ◌&&◌, ◌||◌, not, ◌==◌, Bool, true, false, List, [], ◌∷◌, refl, sym, ◌∙◌, ap, subst, arith, Option, None, Some, is_some, if◌then◌else◌}
+use Rattle.std.proofs.Common.{◌≡◌, ℕ, ◌<◌, ◌≤◌, ◌&&◌, ◌||◌, not, ◌==◌, Bool, true, false, List, [], ◌∷◌, refl, sym, ◌∙◌, ap, subst, arith, None, Some, if◌then◌else◌}
 use Rattle.std.proofs.lemmas.Bool.Decides.{nat_tests, eqb_tells}
-use Rattle.std.proofs.Common.{inl, inr, ◌⊎◌}
-use Rattle.afr_base.specs.Bricks.{added, added_if, below, lowest, member, minus, removed, is_nothing, IsIn, IsWithin}
+use Rattle.std.proofs.Common.{inl, inr}
+use Rattle.afr_base.specs.Bricks.{added, added_if, below, lowest, member, minus, removed, is_nothing, IsWithin}
 use Rattle.afr_base.specs.Majority.{is_majority, is_most}
 use Rattle.afr_base.specs.SetLemmas.{lowest_left, lowest_in, member_added, member_removed, majority_some, within_added_if, within_below, below_all}
 use Rattle.afr_object.specs.Tables.{object_of}
 use Rattle.afr_object.specs.declared.change.Change.{Change}
-use Rattle.afr_choice.specs.Looks.{no_looks, with_look, without_look}
+use Rattle.afr_choice.specs.Looks.{no_looks}
 use Rattle.afr_choice.specs.Verdict.{holders_of}
 use Rattle.afr_choice.specs.VerdictLemmas.{holders_below}
-use Rattle.afr_choice.specs.declared.looked.Looked.{Looked}
 use Rattle.afr_range_locks.specs.declared.domain.Domain.TheVariants.{Work}
 use Rattle.afr_lines.specs.Areas.{area_for, kind_for}
 use Rattle.afr_lines.specs.declared.answer.Told.{Told}
@@ -25,22 +24,22 @@ use Rattle.afr_moves.specs.Honest.{plane_kind}
 use Rattle.afr_moves.specs.Past.{is_gone}
 use Rattle.afr_moves.specs.Sets.{any}
 use Rattle.afr_moves.specs.Rules.{busy, is_area}
-use Rattle.afr_moves.specs.Note.{is_granted, is_held, is_done, view_of}
+use Rattle.afr_moves.specs.Note.{is_granted, is_held, is_done}
 use Rattle.afr_moves.specs.Register.{holder, rank, same_step}
 use Rattle.afr_discipline.specs.declared.register.Register.{Register}
 use Rattle.afr_discipline.specs.declared.register.Step.{Step}
 use Rattle.afr_discipline.specs.declared.register.Step.TheVariants as step
 use Rattle.afr_discipline.specs.Tests.{carried}
-use Rattle.afr_discipline.specs.Notes.{anew, asked_at, counts, dropped, joined, is_working, locked_outside, noted_ask, noted_begin, noted_law, noted_inside, noted_outside, still_possible, broken_by, published, second_left, shown_if, stayed, stopped, with_held}
+use Rattle.afr_discipline.specs.Notes.{anew, asked_at, counts, dropped, joined, noted_ask, noted_law, noted_inside, noted_outside, still_possible, broken_by, published, second_left, shown_if, stayed, stopped, with_held}
 use Rattle.afr_moves.specs.Keeps.{keeps_in}
 use Rattle.afr_discipline.specs.Stands.{no_lines, seen_as, step_of, views_of}
 use Rattle.afr_transaction.specs.declared.stage.Stage.{Stage}
 use Rattle.afr_transaction.specs.declared.stage.Stage.TheVariants.{Locking, Looking, Beginning, Preparing, Applying, Posting, Closing}
-use Rattle.afr_transaction.specs.Progress.{Progress, left, request_at, gone_on, after, answered, answered_by, asked_by, asks, next_at, sets_after, on_stage, begun, enough, fed, is_over, may_start, number_in}
+use Rattle.afr_transaction.specs.Progress.{Progress, left, request_at, gone_on, after, answered, asked_by, asks, next_at, sets_after, on_stage, begun, enough, fed, is_over, may_start, number_in}
 use Rattle.afr_transaction.specs.Laws.{StaysSound}
 use Rattle.afr_transaction.specs.declared.stage.Asked.{Asked}
-use Rattle.afr_transaction.specs.Sound.{Base, IsBase, Shown, Suits, OnLocks, OnLooks, OnAttempt, HasBegun, During, IsAsking, Ready, Sound}
-use Rattle.afr_transaction.proofs.Parts.{pair, both, denied, any_member, any_nothing, base_done, base_gone, base_left, base_pre, base_shown, holder_is, holder_shows, no_or, none_at, nonempty, nonempty_before, shown_look, shown_loss, shown_none, some_of, some_of_most}
+use Rattle.afr_transaction.specs.Sound.{IsBase, Shown, Suits, OnLocks, HasBegun, During, IsAsking, Ready, Sound}
+use Rattle.afr_transaction.proofs.Parts.{both, denied, any_member, any_nothing, base_done, base_gone, base_left, base_pre, base_shown, holder_is, holder_shows, no_or, none_at, nonempty, shown_look, shown_loss, shown_none, some_of_most}
 use Rattle.afr_transaction.proofs.Allowed.{own_area}
 
 -- what a request and its answer leave outside a heal
@@ -137,49 +136,97 @@ module _ (change : Change) (r : Register) (b : ℕ) (locked granted : List ℕ) 
   lock_by true false own none told = absurd (cc (own refl).0)
   lock_by true true own none told_of.Granted = record {
     base = record {
-      few = base.few; outside = base.outside; no_second = base.no_second; none_second = base.none_second; none_healing = base.none_healing;
+      few = base.few;
+      outside = base.outside;
+      no_second = base.no_second;
+      none_second = base.none_second;
+      none_healing = base.none_healing;
       held_within = within_added_if r.shape.n b r.held true small base.held_within;
-      shown = base.shown; pre_within = base.pre_within; done_within = base.done_within; no_bytes = base.no_bytes; of_held = λ h. (own refl).1;
+      shown = base.shown;
+      pre_within = base.pre_within;
+      done_within = base.done_within;
+      no_bytes = base.no_bytes;
+      of_held = λ h. (own refl).1;
     };
     locks = rw (k.first, k.open_still) (with_grant (added b r.held) (grant_same r.held k.same));
   }
   lock_by true true own none told_of.NotConnected = record {
     base = record {
-      few = base.few; outside = base.outside; no_second = base.no_second; none_second = ap (removed b) base.none_second; none_healing = ap (removed b) base.none_healing;
+      few = base.few;
+      outside = base.outside;
+      no_second = base.no_second;
+      none_second = ap (removed b) base.none_second;
+      none_healing = ap (removed b) base.none_healing;
       held_within = within_held (removed b r.held) (gone_same r.held k.same);
-      shown = base.shown; pre_within = base.pre_within; done_within = base.done_within; no_bytes = base.no_bytes; of_held = λ h. (own refl).1;
+      shown = base.shown;
+      pre_within = base.pre_within;
+      done_within = base.done_within;
+      no_bytes = base.no_bytes;
+      of_held = λ h. (own refl).1;
     };
     locks = rw (k.first, k.open_still) (with_locks (removed b r.held) true (gone_same r.held k.same));
   }
   lock_by true true own none told = record {
     base = record {
-      few = base.few; outside = base.outside; no_second = base.no_second; none_second = base.none_second; none_healing = base.none_healing;
+      few = base.few;
+      outside = base.outside;
+      no_second = base.no_second;
+      none_second = base.none_second;
+      none_healing = base.none_healing;
       held_within = base.held_within;
-      shown = base.shown; pre_within = base.pre_within; done_within = base.done_within; no_bytes = base.no_bytes; of_held = λ h. (own refl).1;
+      shown = base.shown;
+      pre_within = base.pre_within;
+      done_within = base.done_within;
+      no_bytes = base.no_bytes;
+      of_held = λ h. (own refl).1;
     };
     locks = rw (k.first, k.open_still) (with_locks r.held (not (is_held told)) k.same);
   }
   lock_by false s own none told_of.Granted = record {
     base = record {
-      few = base.few; outside = base.outside; no_second = refl; none_second = refl; none_healing = base.none_healing;
+      few = base.few;
+      outside = base.outside;
+      no_second = refl;
+      none_second = refl;
+      none_healing = base.none_healing;
       held_within = within_added_if r.shape.n b [] true small (λ c m. absurd (cc m));
-      shown = shown_none r.shape.n; pre_within = λ c m. absurd (cc m); done_within = λ c m. absurd (cc m); no_bytes = base.no_bytes; of_held = λ h. refl;
+      shown = shown_none r.shape.n;
+      pre_within = λ c m. absurd (cc m);
+      done_within = λ c m. absurd (cc m);
+      no_bytes = base.no_bytes;
+      of_held = λ h. refl;
     };
     locks = with_grant (added b []) (grant_same [] (λ c. sym (sym (k.same c) ∙ none refl c)));
   }
   lock_by false s own none told_of.NotConnected = record {
     base = record {
-      few = base.few; outside = base.outside; no_second = refl; none_second = refl; none_healing = ap (removed b) base.none_healing;
+      few = base.few;
+      outside = base.outside;
+      no_second = refl;
+      none_second = refl;
+      none_healing = ap (removed b) base.none_healing;
       held_within = λ c m. absurd (cc m);
-      shown = shown_none r.shape.n; pre_within = λ c m. absurd (cc m); done_within = λ c m. absurd (cc m); no_bytes = base.no_bytes; of_held = λ h. refl;
+      shown = shown_none r.shape.n;
+      pre_within = λ c m. absurd (cc m);
+      done_within = λ c m. absurd (cc m);
+      no_bytes = base.no_bytes;
+      of_held = λ h. refl;
     };
     locks = with_locks [] true (λ c. sym (sym (k.same c) ∙ none refl c));
   }
   lock_by false s own none told = record {
     base = record {
-      few = base.few; outside = base.outside; no_second = refl; none_second = refl; none_healing = base.none_healing;
+      few = base.few;
+      outside = base.outside;
+      no_second = refl;
+      none_second = refl;
+      none_healing = base.none_healing;
       held_within = λ c m. absurd (cc m);
-      shown = shown_none r.shape.n; pre_within = λ c m. absurd (cc m); done_within = λ c m. absurd (cc m); no_bytes = base.no_bytes; of_held = λ h. refl;
+      shown = shown_none r.shape.n;
+      pre_within = λ c m. absurd (cc m);
+      done_within = λ c m. absurd (cc m);
+      no_bytes = base.no_bytes;
+      of_held = λ h. refl;
     };
     locks = with_locks [] (not (is_held told)) (λ c. sym (sym (k.same c) ∙ none refl c));
   }
@@ -446,8 +493,17 @@ pub sound_first : (shape : Shape) (change : Change) → shape.n ≤ 5 → 0 < sh
 sound_first shape change few some suits = record {
   suits = suits;
   base = record {
-    few = few; outside = refl; no_second = refl; none_second = refl; none_healing = refl; held_within = λ b m. absurd (cc m); shown = shown_none shape.n;
-    pre_within = λ b m. absurd (cc m); done_within = λ b m. absurd (cc m); no_bytes = refl; of_held = λ h. absurd (cc h);
+    few = few;
+    outside = refl;
+    no_second = refl;
+    none_second = refl;
+    none_healing = refl;
+    held_within = λ b m. absurd (cc m);
+    shown = shown_none shape.n;
+    pre_within = λ b m. absurd (cc m);
+    done_within = λ b m. absurd (cc m);
+    no_bytes = refl;
+    of_held = λ h. absurd (cc h);
   };
   during = (record { first = refl; open_still = refl; same = λ b. refl; among = λ b m. absurd (cc m); within = λ b m. absurd (cc m) }, refl);
   ready = minus_nil (below shape.n) (nonempty (below shape.n) 0 (below_all shape.n 0 few some));

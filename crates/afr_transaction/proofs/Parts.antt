@@ -1,16 +1,15 @@
 -- Small facts of tests, sets and looks.
-use Rattle.std.proofs.Common.{◌≡◌, ◌≢◌, ℕ, zero, suc, ◌+◌, ◌*◌, ◌<◌, ◌≤◌, ◌&&◌, ◌||◌, not, ◌==◌, nat_lt, Bool, true, false, List, [], ◌∷◌, refl, sym, ◌∙◌, ap, subst, arith, Option, None, Some, is_some, length, if◌then◌else◌}
-use Rattle.std.proofs.lemmas.Bool.{eqb-true}
+use Rattle.std.proofs.Common.{◌≡◌, ℕ, zero, suc, ◌*◌, ◌<◌, ◌≤◌, ◌&&◌, ◌||◌, not, nat_lt, Bool, true, false, List, [], ◌∷◌, refl, sym, ◌∙◌, ap, subst, arith, Option, None, Some, is_some}
 use Rattle.std.proofs.lemmas.Bool.Decides.{nat_tests, eqb_tells}
-use Rattle.std.proofs.Common.{inl, inr, ◌⊎◌}
-use Rattle.afr_base.specs.Bricks.{added, added_if, all_five, member, removed, is_nothing, IsIn, IsWithin, from_table}
-use Rattle.afr_base.specs.Majority.{is_most, is_majority, count_below}
+use Rattle.std.proofs.Common.{inl, inr}
+use Rattle.afr_base.specs.Bricks.{added_if, member, removed, is_nothing, IsWithin}
+use Rattle.afr_base.specs.Majority.{is_most, count_below}
 use Rattle.afr_base.specs.SetLemmas.{member_added, member_removed, within_added_if, within_removed_if}
 use Rattle.afr_object.specs.declared.change.Change.{Change}
 use Rattle.afr_object.specs.declared.entry.View.{View}
 use Rattle.afr_choice.specs.Looks.{no_looks, view_at, with_look, without_look}
 use Rattle.afr_choice.specs.LooksLemmas.{view_after_loss, view_after_other_look, view_after_other_loss, length_after_look, length_after_loss}
-use Rattle.afr_choice.specs.Verdict.{is_holder, holders_of}
+use Rattle.afr_choice.specs.Verdict.{holders_of}
 use Rattle.afr_choice.specs.VerdictLemmas.{member_holders}
 use Rattle.afr_choice.specs.declared.looked.Looked.{Looked}
 use Rattle.afr_lines.specs.declared.request.Area.{Area}

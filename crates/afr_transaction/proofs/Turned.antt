@@ -1,36 +1,27 @@
 -- A turn keeps the log lawful and each register at its actor's lines, for every kind of line.
-use Rattle.std.proofs.Common.{◌≡◌, ℕ, ◌+◌, ◌<◌, ◌≤◌, ◌==◌, Bool, true, false, List, [], ◌∷◌, refl, sym, ◌∙◌, ap, subst, arith, length, Option, None, Some, if◌then◌else◌, inl, inr, ◌⊎◌}
+use Rattle.std.proofs.Common.{◌≡◌, ℕ, ◌≤◌, ◌==◌, Bool, true, false, List, ◌∷◌, refl, sym, ◌∙◌, subst, arith, length, Some, if◌then◌else◌, inl, inr}
 use Rattle.std.proofs.lemmas.Bool.Decides.{nat_tests}
 use Rattle.afr_base.specs.declared.ids.ActorId.{ActorId}
-use Rattle.afr_base.specs.declared.ids.BrickId.{BrickId}
-use Rattle.afr_base.specs.declared.ids.Gfid.{Gfid}
-use Rattle.afr_base.specs.declared.ids.Kind.{Kind}
 use Rattle.afr_base.specs.declared.ids.Shape.{Shape}
 use Rattle.afr_lines.specs.Work.{is_of}
 use Rattle.afr_lines.specs.declared.answer.Told.{Told}
 use Rattle.afr_lines.specs.declared.line.Line.{Line}
 use Rattle.afr_lines.specs.declared.line.Line.TheVariants as line_of
-use Rattle.afr_lines.specs.declared.reply.Reply.{Reply}
-use Rattle.afr_lines.specs.declared.reply.HealReply.{HealReply}
-use Rattle.afr_lines.specs.declared.request.Area.{Area}
-use Rattle.afr_lines.specs.Places.{Place, opens, place_of}
-use Rattle.afr_moves.specs.Discipline.{in_force, note, MayExactly}
-use Rattle.afr_moves.specs.Heal.{MayHealEnd}
-use Rattle.afr_moves.specs.Register.{Exact, area_kind, untouched}
+use Rattle.afr_moves.specs.Discipline.{note}
+use Rattle.afr_moves.specs.Register.{Exact, untouched}
 use Rattle.afr_moves.specs.Transaction.{MayEnd}
-use Rattle.afr_moves.specs.Lines.{is_ok}
 use Rattle.afr_discipline.specs.Inside.{may_move}
-use Rattle.afr_discipline.specs.Moves.{IffTrue, MayMove, note_move}
+use Rattle.afr_discipline.specs.Moves.{MayMove, note_move}
 use Rattle.afr_discipline.specs.Notes.{AsksBelow, noted}
 use Rattle.afr_moves.specs.Keeps.{keeps_in}
-use Rattle.afr_discipline.specs.Stands.{Stands, no_lines, seen_as}
+use Rattle.afr_discipline.specs.Stands.{Stands, seen_as}
 use Rattle.afr_discipline.specs.declared.register.Move.{Move}
 use Rattle.afr_discipline.specs.declared.register.Move.TheVariants as move
 use Rattle.afr_discipline.specs.declared.register.Register.{Register}
 use Rattle.afr_discipline.specs.Laws.{FreshStands, NotesStand, ShapesKept, TestsDecide}
 use Rattle.afr_discipline.specs.Stands.{HasFive}
-use Rattle.afr_transaction.specs.Turn.{IsMove, register_at}
-use Rattle.afr_transaction.specs.Turn.{BeginsAnew, EachLineIsKept, EndsHeal, EndsWork, GoesOn, InForce, IsLineOf, IsTurn, Stood}
+use Rattle.afr_transaction.specs.Turn.{register_at}
+use Rattle.afr_transaction.specs.Turn.{BeginsAnew, EachLineIsKept, GoesOn, InForce, IsLineOf, IsTurn, Stood}
 
 self : (a : ℕ) → (a == a) ≡ true
 self a = grind (arith, nat_tests)

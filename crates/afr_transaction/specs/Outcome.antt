@@ -1,5 +1,5 @@
 -- What a transaction ends with, by the bricks that did its phases.
-use Rattle.std.specs.Prelude.{ℕ, not, Bool, List, Option, if◌then◌else◌}
+use Rattle.std.specs.Prelude.{not, if◌then◌else◌}
 use Rattle.afr_base.specs.Bricks.{is_nothing}
 use Rattle.afr_base.specs.Majority.{is_majority}
 use Rattle.afr_object.specs.declared.change.Change.{Change}

@@ -1,8 +1,7 @@
 -- How far a transaction is, what it asks next, and what an answer leaves of it.
-use Rattle.std.specs.Prelude.{ℕ, ◌+◌, not, ◌&&◌, nat_lt, Bool, true, false, List, [], Option, Some, None, if◌then◌else◌}
+use Rattle.std.specs.Prelude.{ℕ, ◌+◌, not, ◌&&◌, nat_lt, Bool, false, List, [], Option, Some, None, if◌then◌else◌}
 use Rattle.afr_base.specs.Bricks.{added, added_if, below, lowest, member, minus, is_nothing}
 use Rattle.afr_base.specs.Majority.{is_majority}
-use Rattle.afr_base.specs.declared.ids.BrickId.{BrickId}
 use Rattle.afr_base.specs.declared.ids.Kind.{Kind}
 use Rattle.afr_object.specs.Tables.{object_of}
 use Rattle.afr_object.specs.declared.change.Change.{Change}

@@ -1,9 +1,8 @@
-use Rattle.std.proofs.Common.{◌≡◌, true, false, ℕ, refl, sym, ap, subst, ◌∙◌}
+use Rattle.std.proofs.Common.{◌≡◌, sym, ap, subst, ◌∙◌}
 use Rattle.afr_base.specs.Bricks.{lowest}
-use Rattle.afr_lines.specs.declared.request.Request.{Request}
 use Rattle.afr_discipline.specs.Notes.{noted_ask}
 use Rattle.afr_transaction.specs.Progress.{Progress, left, request_at, answered}
-use Rattle.afr_transaction.specs.Sound.{Sound, IsBase}
+use Rattle.afr_transaction.specs.Sound.{Sound}
 use Rattle.afr_transaction.proofs.Kept.{kept, fed_is}
 use Rattle.afr_transaction.proofs.machine.Transaction.answer.Goals as goal
 

@@ -1,4 +1,4 @@
-use Rattle.std.proofs.Common.{◌≡◌, sym, ap, subst, ◌∙◌}
+use Rattle.std.proofs.Common.{sym, ap, subst, ◌∙◌}
 use Rattle.afr_discipline.specs.declared.register.Register.{Register}
 use Rattle.afr_transaction.specs.Progress.{Progress}
 use Rattle.afr_transaction.specs.Sound.{Sound}

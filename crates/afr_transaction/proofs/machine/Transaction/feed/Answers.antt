@@ -1,4 +1,4 @@
-use Rattle.std.proofs.Common.{◌≡◌, ap, ◌∙◌}
+use Rattle.std.proofs.Common.{ap, ◌∙◌}
 use Rattle.afr_transaction.specs.Progress.{Progress}
 use Rattle.afr_transaction.proofs.Kept.{answers_line}
 use Rattle.afr_transaction.proofs.machine.Transaction.feed.Goals as goal

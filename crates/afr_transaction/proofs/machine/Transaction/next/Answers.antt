@@ -1,9 +1,7 @@
-use Rattle.std.proofs.Common.{◌≡◌, true, false, ℕ, refl, sym, ap, subst, ◌∙◌}
+use Rattle.std.proofs.Common.{sym, ap, subst, ◌∙◌}
 use Rattle.afr_lines.specs.declared.line.Next.{Next}
-use Rattle.afr_lines.specs.declared.line.Next.TheVariants as next
-use Rattle.afr_object.specs.declared.change.Change.{Change}
 use Rattle.afr_transaction.specs.declared.stage.Stage.{Stage}
-use Rattle.afr_transaction.specs.Progress.{Progress, allowed, next_at, numbered}
+use Rattle.afr_transaction.specs.Progress.{Progress, allowed, next_at}
 use Rattle.afr_transaction.specs.Sound.{Sound}
 use Rattle.afr_transaction.proofs.Allowed.{allowed_next}
 use Rattle.afr_transaction.proofs.Kept.{asks_next}
