@@ -38,7 +38,12 @@ use Rattle.afr_transaction.specs.declared.stage.Stage.TheVariants.{Locking, Look
 use Rattle.afr_transaction.specs.Progress.{Progress, left, next_at, allowed, number_in, numbered, enough, may_start, asks}
 use Rattle.afr_transaction.specs.Outcome.{reply_for, reply_of}
 use Rattle.afr_transaction.specs.declared.reply.Outcome.TheVariants.{Acknowledged, NoQuorum, FewCopies, SplitBrain, Failed}
-use Rattle.afr_transaction.specs.Laws.{AllowedNext}
+use Rattle.afr_discipline.specs.Inside.{may_move, may_move_inside}
+use Rattle.afr_discipline.specs.Tests.{may_move_outside}
+use Rattle.afr_discipline.specs.declared.register.Move.{Move}
+use Rattle.afr_discipline.specs.declared.register.Move.TheVariants as move
+use Rattle.afr_lines.specs.declared.line.Next.{Next}
+use Rattle.afr_transaction.specs.Laws.{AllowedMoves, AllowedNext, IsMoveOf}
 use Rattle.afr_transaction.specs.Sound.{IsBase, Suits, HasBegun, During, Ready}
 use Rattle.afr_transaction.proofs.Parts.{pair, deny, lt_test, any_nothing, holder_shows, any_member}
 
@@ -268,3 +273,31 @@ module _ (m : Progress) (suits : Suits m.change) (base : IsBase m.change m.regis
 -- whatever the bricks have answered so far, the next line is allowed
 pub allowed_next : AllowedNext
 allowed_next m s at = allowed_at m s.suits s.base at m.stage s.during s.ready
+
+-- outside a heal an allowed line is one that the test of a move passes
+moves_of : (r : Register) (line : Next) (step : Move) → r.inside ≡ false → allowed r line ≡ true → IsMoveOf line step → may_move r.shape.n (keeps_in r.shape) (seen_as r) step ≡ true
+moves_of r line step outside h is = pick r.inside (may_move_inside r.shape.n (keeps_in r.shape) (seen_as r) step) (may_move_outside r.shape.n (keeps_in r.shape) (seen_as r) step) outside (by line step h is)
+  where
+    pick : (x p q : Bool) → x ≡ false → q ≡ true → (if x then p else q) ≡ true
+    pick true p q e f = absurd (cc e)
+    pick false p q e f = f
+
+    by : (line : Next) (step : Move) → allowed r line ≡ true → IsMoveOf line step → may_move_outside r.shape.n (keeps_in r.shape) (seen_as r) step ≡ true
+    by (next.Ask b request) (move.Ask c asked) h e = rw (e.0, e.1) h
+    by (next.Ask b request) (move.Begin change) h e = absurd e
+    by (next.Ask b request) (move.HealBegin g kind) h e = absurd e
+    by (next.Ask b request) (move.End ok) h e = absurd e
+    by (next.Begin change) (move.Ask c asked) h e = absurd e
+    by (next.Begin change) (move.Begin begun) h e = rw e h
+    by (next.Begin change) (move.HealBegin g kind) h e = absurd e
+    by (next.Begin change) (move.End ok) h e = absurd e
+    by (next.HealBegin g kind) step h e = absurd (cc h)
+    by (next.End said) (move.Ask c asked) h e = absurd e
+    by (next.End said) (move.Begin change) h e = absurd e
+    by (next.End said) (move.HealBegin g kind) h e = absurd e
+    by (next.End said) (move.End ok) h e = rw e h
+    by (next.HealEnd g kind said) step h e = absurd (cc h)
+
+-- the test of a move passes the next line
+pub allowed_moves : AllowedMoves
+allowed_moves m s at step is = moves_of m.register (next_at m.stage at m) step s.base.outside (allowed_next m s at) is

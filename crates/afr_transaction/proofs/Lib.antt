@@ -1,4 +1,5 @@
 pub mod Allowed
 pub mod Kept
 pub mod Parts
+pub mod Requests
 pub mod Turned

@@ -1,5 +1,5 @@
 //! What holds of transactions and turns, for all of them at once: laws for those who prove over many lines.
-ghost use Rattle.afr_transaction.specs.Laws.{AllowedNext, StaysSound};
+ghost use Rattle.afr_transaction.specs.Laws.{AllowedMoves, AllowedNext, StaysSound};
 ghost use Rattle.afr_transaction.specs.Turn.{BeginsAnew, EachLineIsKept, GoesOn};
 
 use afr_discipline::{each_move_is_decided, each_note_stands};
@@ -8,6 +8,7 @@ use afr_discipline::{each_move_is_decided, each_note_stands};
 /// now, that stays so.
 pub fn a_transaction_stays_sound()
     ensures allowed { AllowedNext }
+    ensures moves { AllowedMoves }
     ensures stays { StaysSound }
 {}
 

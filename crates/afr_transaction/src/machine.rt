@@ -108,6 +108,13 @@ impl Transaction {
         &self.register
     }
 
+    /// What the transaction keeps at every moment, for those who prove over its value.
+    pub fn stays_sound(&self)
+        ensures { Sound self.now }
+    {
+        let _ = &self.register;
+    }
+
     fn closing(&self, at: u32) -> Next
         ensures { result ≡ next_at Stage.Closing at self.now }
     {

@@ -1,5 +1,5 @@
 //! The answers of the tests, and what a transaction of a cut makes of them.
-use afr_base::{AllMarks, BrickId, Gfid, Shape, What};
+use afr_base::{AllMarks, Gfid, Shape, What};
 use afr_lines::{Next, Request, Told};
 use afr_object::{Change, View};
 use afr_transaction::{Outcome, Transaction};
@@ -27,7 +27,9 @@ pub(crate) fn clean() -> Told {
 /// A copy that accuses all three bricks of having missed a change of the bytes.
 pub(crate) fn accusing() -> Told {
     let mut marks = AllMarks::zero();
-    marks.bytes.pending = [1, 1, 1, 0, 0];
+    marks.bytes.pending[0] = 1;
+    marks.bytes.pending[1] = 1;
+    marks.bytes.pending[2] = 1;
     Told::Seen(View {
         what: What::File,
         len: 7,
@@ -59,7 +61,13 @@ pub(crate) fn begins(transaction: &mut Transaction) {
 /// The request of the next line, if it goes to this brick.
 pub(crate) fn asks(transaction: &Transaction, b: u8) -> Option<Request> {
     match transaction.next(10) {
-        Ok(Next::Ask(BrickId(brick), request)) if brick == b => Some(request),
+        Ok(Next::Ask(brick, request)) => {
+            if brick.0 == b {
+                Some(request)
+            } else {
+                None
+            }
+        }
         _ => None,
     }
 }
