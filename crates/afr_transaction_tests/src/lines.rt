@@ -58,17 +58,18 @@ pub(crate) fn begins(transaction: &mut Transaction) {
     tells(transaction, Told::Done);
 }
 
+fn request_to(next: &Next, b: u8) -> Option<Request> {
+    match next {
+        Next::Ask(brick, request) => { if brick.0 == b { Some(*request) } else { None } }
+        _ => None,
+    }
+}
+
 /// The request of the next line, if it goes to this brick.
 pub(crate) fn asks(transaction: &Transaction, b: u8) -> Option<Request> {
     match transaction.next(10) {
-        Ok(Next::Ask(brick, request)) => {
-            if brick.0 == b {
-                Some(request)
-            } else {
-                None
-            }
-        }
-        _ => None,
+        Ok(next) => request_to(&next, b),
+        Err(_) => None,
     }
 }
 

@@ -21,7 +21,12 @@ fn a_cut_that_all_bricks_carry_out_is_acknowledged(rt: HostRuntime) {
     tells_three(&mut transaction, [Told::Done; 3]);
     assert!(rt; matches!(asks(&transaction, 0), Some(Request::Apply { attempt: 10 })));
     tells_three(&mut transaction, [Told::Done; 3]);
-    assert!(rt; matches!(asks(&transaction, 0), Some(Request::Post { attempt: 10, .. })));
+    assert!(rt;
+        matches!(
+            asks(&transaction, 0),
+            Some(Request::Post { attempt: 10, .. })
+        )
+    );
     tells_three(&mut transaction, [Told::Done; 3]);
     assert!(rt; matches!(asks(&transaction, 0), Some(Request::Unlock { .. })));
     tells_three(&mut transaction, [Told::Done; 3]);
@@ -39,7 +44,10 @@ fn a_brick_that_refuses_pre_op_is_left_out(rt: HostRuntime) {
 #[test]
 fn a_failed_unlock_is_asked_again(rt: HostRuntime) {
     let mut transaction = cuts();
-    tells_three(&mut transaction, [Told::Granted, Told::Failed, Told::Failed]);
+    tells_three(
+        &mut transaction,
+        [Told::Granted, Told::Failed, Told::Failed],
+    );
     assert!(rt; matches!(asks(&transaction, 0), Some(Request::Unlock { .. })));
     tells(&mut transaction, Told::Failed);
     assert!(rt; matches!(asks(&transaction, 0), Some(Request::Unlock { .. })));

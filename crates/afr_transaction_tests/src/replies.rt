@@ -8,7 +8,10 @@ use afr_transaction::{Outcome, Transaction};
 #[test]
 fn two_locks_that_fail_are_no_quorum(rt: HostRuntime) {
     let mut transaction = cuts();
-    tells_three(&mut transaction, [Told::NotConnected, Told::Failed, Told::Granted]);
+    tells_three(
+        &mut transaction,
+        [Told::NotConnected, Told::Failed, Told::Granted],
+    );
     assert!(rt; matches!(transaction.outcome(), Outcome::NoQuorum));
 }
 
