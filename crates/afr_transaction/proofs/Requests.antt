@@ -1,5 +1,5 @@
 -- What a request and its answer leave of what a transaction keeps.
-use Rattle.std.proofs.Common.{◌≡◌, ℕ, ◌<◌, ◌&&◌, ◌||◌, not, ◌==◌, Bool, true, false, List, [], refl, sym, ◌∙◌, ap, subst, arith, None, Some, if◌then◌else◌}
+use Rattle.std.proofs.Common.{◌⊎◌, ◌≡◌, ℕ, ◌<◌, ◌&&◌, ◌||◌, not, ◌==◌, Bool, true, false, List, [], refl, sym, ◌∙◌, ap, subst, arith, None, Some, if◌then◌else◌}
 use Rattle.std.proofs.lemmas.Bool.Decides.{eqb_tells}
 use Rattle.std.proofs.Common.{inl, inr}
 use Rattle.afr_base.specs.Bricks.{added, added_if, member, removed, is_nothing, IsWithin}
@@ -24,7 +24,7 @@ use Rattle.afr_discipline.specs.declared.register.Step.TheVariants as step
 use Rattle.afr_discipline.specs.Notes.{anew, counts, dropped, joined, noted_ask, noted_law, noted_inside, noted_outside, still_possible, broken_by, published, second_left, shown_if, stayed, stopped, with_held}
 use Rattle.afr_discipline.specs.Stands.{seen_as}
 use Rattle.afr_transaction.specs.Progress.{enough}
-use Rattle.afr_transaction.specs.Sound.{IsBase, Shown, OnLocks, HasBegun}
+use Rattle.afr_transaction.specs.Sound.{HasQuorum, IsBase, Shown, OnLocks, HasBegun}
 use Rattle.afr_transaction.proofs.Parts.{any_member, any_nothing, base_done, base_gone, base_left, base_pre, base_shown, no_or, none_at, shown_look, shown_loss, shown_none}
 use Rattle.afr_transaction.proofs.Allowed.{own_area}
 
@@ -299,3 +299,50 @@ module _ (change : Change) (r : Register) (b : ℕ) (small : b < r.shape.n) (bas
 
   pub unlock_base : (told : Told) → is_nothing r.held ≡ false → IsBase change (after_outside r b (request.Unlock Work (area_for change)) told)
   unlock_base told some = unlock_by (area_for change) (is_area r.area (area_for change)) (own_area r.area (area_for change) (base.of_held some)) told
+
+-- ---- what each request leaves of post-op, and of the views
+module _ (change : Change) (r : Register) (b : ℕ) where
+  posts_lock_by : (area : Area) (w s : Bool) (told : Told) → r.post ≡ [] → (locked_w w s r area b told).post ≡ []
+  posts_lock_by area true true told_of.Granted e = e
+  posts_lock_by area true true told_of.NotConnected e = e
+  posts_lock_by area true true told e = e
+  posts_lock_by area true false told_of.Granted e = e
+  posts_lock_by area true false told_of.NotConnected e = e
+  posts_lock_by area true false told e = e
+  posts_lock_by area false s told_of.Granted e = refl
+  posts_lock_by area false s told_of.NotConnected e = refl
+  posts_lock_by area false s told e = refl
+
+  pub posts_lock : (area : Area) (told : Told) → r.post ≡ [] → (after_outside r b (request.Lock Work area) told).post ≡ []
+  posts_lock area told e = posts_lock_by area (busy r.shape.n (seen_as r).law) (is_area r.area area) told e
+
+  pub posts_look : (g : Gfid) (told : Told) → r.post ≡ [] → (after_outside r b (request.Look g) told).post ≡ []
+  posts_look g told_of.NotConnected e = e
+  posts_look g told e = e
+
+  abbrev pub Quorum : Register → Type 0
+  Quorum q = HasQuorum change q.shape q.looked
+
+  pub quorum_pre : (g : Gfid) (kind : Kind) (told : Told) → Quorum r → Quorum (after_outside r b (request.Pre g kind) told)
+  quorum_pre g kind told_of.NotConnected h = h
+  quorum_pre g kind told h = h
+
+  pub quorum_apply : (q : ℕ) (told : Told) → Quorum r → Quorum (after_outside r b (request.Apply q) told)
+  quorum_apply q told_of.NotConnected h = h
+  quorum_apply q told h = h
+
+  pub quorum_post : (q : ℕ) (g : Gfid) (kind : Kind) (missed : List ℕ) (told : Told) → Quorum r → Quorum (after_outside r b (request.Post q g kind missed) told)
+  quorum_post q g kind missed told_of.NotConnected h = h
+  quorum_post q g kind missed told h = h
+
+  abbrev released_w : Bool → Area → Told → Register
+  released_w s area told = after_by (noted_outside r b (request.Unlock Work area) told) (if is_done told then (if s then record r { held = removed b r.held } else record r { second_held = second_left r area b }) else r) b told
+
+  posted_unlock_by : (area : Area) (s : Bool) (told : Told) → (r.post ≡ []) ⊎ Quorum r → ((released_w s area told).post ≡ []) ⊎ Quorum (released_w s area told)
+  posted_unlock_by area true told_of.Done h = h
+  posted_unlock_by area false told_of.Done h = h
+  posted_unlock_by area s told_of.NotConnected h = h
+  posted_unlock_by area s told h = h
+
+  pub posted_unlock : (area : Area) (told : Told) → (r.post ≡ []) ⊎ Quorum r → ((after_outside r b (request.Unlock Work area) told).post ≡ []) ⊎ Quorum (after_outside r b (request.Unlock Work area) told)
+  posted_unlock area told h = posted_unlock_by area (is_area r.area area) told h

@@ -1,5 +1,6 @@
 -- What holds of all transactions at once.
 use Rattle.std.specs.Prelude.{◌≡◌, ℕ, true, false}
+use Rattle.afr_base.specs.Majority.{is_majority}
 use Rattle.afr_lines.specs.declared.answer.Told.{Told}
 use Rattle.afr_lines.specs.declared.line.Next.{Next}
 use Rattle.afr_lines.specs.declared.line.Next.TheVariants as next
@@ -9,6 +10,8 @@ use Rattle.afr_discipline.specs.Inside.{may_move}
 use Rattle.afr_discipline.specs.Stands.{seen_as}
 use Rattle.afr_discipline.specs.declared.register.Move.{Move}
 use Rattle.afr_discipline.specs.declared.register.Move.TheVariants as move
+use Rattle.afr_transaction.specs.Outcome.{outcome_of}
+use Rattle.afr_transaction.specs.declared.reply.Outcome.TheVariants.{Acknowledged}
 use Rattle.afr_transaction.specs.Progress.{Progress, allowed, fed, is_over, next_at}
 use Rattle.afr_transaction.specs.Sound.{Sound}
 
@@ -32,3 +35,10 @@ AllowedMoves =
 -- whatever is told at the next line, the transaction stays sound
 abbrev pub StaysSound : Type 0
 StaysSound = (m : Progress) → Sound m → is_over m.stage m ≡ false → (told : Told) (at : ℕ) → Sound (fed m.stage told at m)
+
+-- the outcome is that the change is acknowledged exactly where a majority has done post-op
+abbrev pub AcknowledgedExactly : Type 0
+AcknowledgedExactly =
+    (m : Progress) → Sound m
+    → (is_majority m.register.shape.n m.register.post ≡ true → outcome_of m.change m.register ≡ Acknowledged)
+    × (outcome_of m.change m.register ≡ Acknowledged → is_majority m.register.shape.n m.register.post ≡ true)

@@ -1,7 +1,10 @@
 -- What a transaction keeps at every moment, whatever its bricks answer.
-use Rattle.std.specs.Prelude.{◌≡◌, ℕ, ◌≤◌, Bool, true, false, List, [], Option, Some, None, length, is_some}
+use Rattle.std.specs.Prelude.{◌⊎◌, ◌≡◌, ℕ, ◌≤◌, Bool, true, false, List, [], Option, Some, None, length, is_some}
 use Rattle.afr_base.specs.Bricks.{member, is_nothing, IsIn, IsWithin}
+use Rattle.afr_base.specs.Majority.{is_majority}
+use Rattle.afr_base.specs.declared.ids.Shape.{Shape}
 use Rattle.afr_object.specs.declared.change.Change.{Change}
+use Rattle.afr_choice.specs.Verdict.{good_copies, holders_of}
 use Rattle.afr_choice.specs.Looks.{view_at}
 use Rattle.afr_choice.specs.declared.looked.Looked.{Looked}
 use Rattle.afr_lines.specs.Areas.{area_for, kind_for}
@@ -79,6 +82,20 @@ During Applying m = HasBegun 3 m.change m.register × (enough m.register (kind_f
 During Posting m = HasBegun 4 m.change m.register × (enough m.register (kind_for m.change) m.register.done ≡ true)
 During Closing m = Unit {0}
 
+-- a majority was reached, a majority has a copy, and some copy is good
+pub record HasQuorum (change : Change) (shape : Shape) (looked : Looked) : Type 0 where
+  pub reached : is_majority shape.n looked.reached ≡ true
+  pub copies : is_majority shape.n (holders_of looked) ≡ true
+  pub clean : is_nothing (good_copies shape looked (kind_for change)) ≡ false
+
+-- post-op was done nowhere before a Begin, and an attempt begins only where the views allow it
+abbrev pub Posted : Stage → Progress → Type 0
+Posted Preparing m = HasQuorum m.change m.register.shape m.register.looked
+Posted Applying m = HasQuorum m.change m.register.shape m.register.looked
+Posted Posting m = HasQuorum m.change m.register.shape m.register.looked
+Posted Closing m = (m.register.post ≡ []) ⊎ HasQuorum m.change m.register.shape m.register.looked
+Posted stage m = m.register.post ≡ []
+
 -- somebody is left to ask
 abbrev pub Ready : Stage → Progress → Type 0
 Ready Beginning m = Unit {0}
@@ -95,4 +112,5 @@ pub record Sound (m : Progress) : Type 0 where
   pub suits : Suits m.change
   pub base : IsBase m.change m.register
   pub during : During m.stage m
+  pub posted : Posted m.stage m
   pub ready : Ready m.stage m

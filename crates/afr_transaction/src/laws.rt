@@ -1,5 +1,5 @@
 //! What holds of transactions and turns, for all of them at once: laws for those who prove over many lines.
-ghost use Rattle.afr_transaction.specs.Laws.{AllowedMoves, AllowedNext, StaysSound};
+ghost use Rattle.afr_transaction.specs.Laws.{AcknowledgedExactly, AllowedMoves, AllowedNext, StaysSound};
 ghost use Rattle.afr_transaction.specs.Turn.{BeginsAnew, EachLineIsKept, GoesOn};
 
 use afr_discipline::{each_move_is_decided, each_note_stands};
@@ -10,6 +10,7 @@ pub fn a_transaction_stays_sound()
     ensures allowed { AllowedNext }
     ensures moves { AllowedMoves }
     ensures stays { StaysSound }
+    ensures acknowledged { AcknowledgedExactly }
 {}
 
 /// A line of an actor whose register allows it is lawful, the register after it stands for one line more, and so do the
