@@ -1,0 +1,5 @@
+pub mod Laws
+pub mod Outcome
+pub mod Progress
+pub mod Sound
+pub mod Turn

@@ -1,0 +1,89 @@
+//! The change of a transaction: its object, its area, the kind that counts it, and the number of what it makes.
+ghost use Rattle.std.specs.Prelude.{◌≡◌, IfOk};
+ghost use Rattle.afr_lines.specs.Areas.{area_for, kind_for};
+ghost use Rattle.afr_object.specs.Tables.{object_of};
+ghost use Rattle.afr_transaction.specs.Progress.{numbered};
+
+use afr_base::{FIRST_ATTRIBUTE, Gfid, Kind, NoMemory};
+use afr_lines::Area;
+use afr_object::{Change, TryCopy};
+
+/// The area that a change locks.
+pub(crate) fn area_of(change: &Change) -> Area
+    ensures { result ≡ area_for change.now }
+{
+    match change {
+        Change::Write { gfid, at, bytes } => Area::Range {
+            gfid: *gfid,
+            from: u64::from(*at),
+            to: u64::from(*at).saturating_add(bytes.len() as u64),
+        },
+        Change::Cut { gfid, len } => Area::Range {
+            gfid: *gfid,
+            from: u64::from(*len),
+            to: FIRST_ATTRIBUTE,
+        },
+        Change::SetAttr { gfid, .. } => Area::Range {
+            gfid: *gfid,
+            from: FIRST_ATTRIBUTE,
+            to: FIRST_ATTRIBUTE + 1,
+        },
+        Change::Make { dir, name, .. } => Area::Name {
+            gfid: *dir,
+            name: Some(*name),
+        },
+        Change::Remove { dir, name, .. } => Area::Name {
+            gfid: *dir,
+            name: Some(*name),
+        },
+    }
+}
+
+/// The numbers that count a change.
+pub(crate) fn kind_of(change: &Change) -> Kind
+    ensures { result ≡ kind_for change.now }
+{
+    match change {
+        Change::Write { .. } => Kind::Bytes,
+        Change::Cut { .. } => Kind::Bytes,
+        Change::SetAttr { .. } => Kind::Attrs,
+        Change::Make { .. } => Kind::Names,
+        Change::Remove { .. } => Kind::Names,
+    }
+}
+
+/// The object that a change is of: for a new or a removed entry, its directory.
+pub(crate) fn object_of(change: &Change) -> Gfid
+    ensures { result ≡ object_of change.now }
+{
+    match change {
+        Change::Write { gfid, .. } => *gfid,
+        Change::Cut { gfid, .. } => *gfid,
+        Change::SetAttr { gfid, .. } => *gfid,
+        Change::Make { dir, .. } => *dir,
+        Change::Remove { dir, .. } => *dir,
+    }
+}
+
+/// The change as the Begin line at this position has it: a new object gets the position and 2 as its number.
+pub(crate) fn numbered(change: &Change, at: u32) -> Result<Change, NoMemory>
+    ensures { IfOk result (λ copy. copy ≡ numbered at change.now) }
+{
+    match change {
+        Change::Make {
+            dir,
+            name,
+            gfid: _,
+            what,
+        } => Ok(Change::Make {
+            dir: *dir,
+            name: *name,
+            gfid: Gfid(u128::from(at) + 2),
+            what: *what,
+        }),
+        Change::Write { .. } => change.copy(),
+        Change::Cut { .. } => change.copy(),
+        Change::SetAttr { .. } => change.copy(),
+        Change::Remove { .. } => change.copy(),
+    }
+}

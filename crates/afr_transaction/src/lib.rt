@@ -1,0 +1,19 @@
+//! One transaction of any change, from its first lock to its last unlock, over the register of the discipline.
+#![tactic(auto)]
+
+mod change;
+mod fop;
+mod laws;
+mod lock;
+mod lookup;
+mod machine;
+mod post_op;
+mod pre_op;
+mod reply;
+mod stage;
+mod unlock;
+
+pub use laws::{a_transaction_stays_sound, a_turn_keeps_the_discipline};
+pub use machine::Transaction;
+pub use reply::Outcome;
+pub use stage::{Asked, Stage};

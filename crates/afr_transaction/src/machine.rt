@@ -1,0 +1,171 @@
+//! One transaction: what it asks next, and what an answer leaves of it.
+ghost use Rattle.std.specs.Prelude.{[], ◌≡◌, ◌<◌, ◌≤◌, ◌+◌, ◌^◌, true, false, IfOk};
+ghost use Rattle.afr_base.specs.Bricks.{is_nothing};
+ghost use Rattle.afr_discipline.specs.Stands.{no_lines};
+ghost use Rattle.afr_discipline.specs.declared.register.Register.{Register};
+ghost use Rattle.afr_lines.specs.declared.answer.Told.{Told};
+ghost use Rattle.afr_moves.specs.Register.{span};
+ghost use Rattle.afr_transaction.specs.Outcome.{outcome_of};
+ghost use Rattle.afr_transaction.specs.Progress.{Progress, allowed, answered, asks, begun, fed, is_over, left, next_at, request_at};
+ghost use Rattle.afr_transaction.specs.Sound.{IsAsking, Sound, Suits};
+
+use crate::change::numbered;
+use crate::reply::{Outcome, outcome_of, reply_for};
+use crate::stage::{Asked, Stage, after, asked_after, left_of, request_of};
+use afr_base::{BrickSet, NoMemory, Shape};
+use afr_discipline::{Move, Register, fresh, note};
+use afr_lines::{Next, Request, Told};
+use afr_object::Change;
+use std::marker::Model;
+
+/// One transaction, of one change of one object.
+#[derive(Drop)]
+pub struct Transaction {
+    change: Change,
+    register: Register,
+    stage: Stage,
+    asked: Asked,
+}
+
+impl Model for Transaction {
+    ghost use Rattle.afr_transaction.specs.Progress.{Progress};
+    ghost use Rattle.afr_transaction.specs.Sound.{Sound};
+
+    ghost Value = { Progress };
+
+    ghost view = { λ m. record { change = m.change; register = m.register; stage = m.stage; asked = m.asked } };
+
+    ghost invariant = { λ m. Sound (record { change = m.change; register = m.register; stage = m.stage; asked = m.asked }) };
+}
+
+impl Transaction {
+    /// Nothing was asked yet. The number that a change gives a new object is put in by `next`.
+    pub fn new(shape: Shape, change: Change) -> Transaction
+        requires few { shape.n ≤ 5 }
+        requires some { 0 < shape.n }
+        requires suits { Suits change }
+        ensures value { result ≡ record { change = change; register = no_lines shape; stage = Stage.Locking; asked = record { lock_asked = []; locked_on = []; looked_at = [] } } }
+    {
+        Transaction {
+            change,
+            register: fresh(shape),
+            stage: Stage::Locking,
+            asked: Asked {
+                lock_asked: BrickSet::none(),
+                locked_on: BrickSet::none(),
+                looked_at: BrickSet::none(),
+            },
+        }
+    }
+
+    /// The next line, for this position of the log. Only the copy of the change in a Begin line takes memory.
+    pub fn next(&self, at: u32) -> Result<Next, NoMemory>
+        ensures value { IfOk result (λ next. next ≡ next_at self.now.stage at self.now) }
+        ensures allowed { IfOk result (λ next. allowed self.now.register next ≡ true) }
+    {
+        match self.stage {
+            Stage::Beginning => {
+                let change = numbered(&self.change, at)?;
+                Ok(Next::Begin(change))
+            }
+            Stage::Closing => Ok(self.closing(at)),
+            stage => Ok(self.asking(stage)),
+        }
+    }
+
+    /// The next line was written at this position, and this was told; of a Begin line nothing is told.
+    pub fn feed(&mut self, told: Told, at: u32)
+        requires more { is_over self.old.stage self.old ≡ false }
+        ensures value { self.new ≡ fed self.old.stage told at self.old }
+    {
+        match self.stage {
+            Stage::Beginning => self.begin(at),
+            _ => self.answer(told, at),
+        }
+    }
+
+    /// Whether no lock is left to release: the next line is the end of the work.
+    pub fn is_over(&self) -> bool
+        ensures { result ≡ is_over self.now.stage self.now }
+    {
+        match self.stage {
+            Stage::Closing => self.register.held.is_empty(),
+            _ => false,
+        }
+    }
+
+    /// What the bricks have done so far comes to; where the transaction is over, what it ends with.
+    pub fn outcome(&self) -> Outcome
+        ensures { result ≡ outcome_of self.now.change self.now.register }
+    {
+        outcome_of(&self.change, &self.register)
+    }
+
+    /// What the lines so far show.
+    pub fn register(&self) -> &Register
+        ensures { result.now ≡ self.now.register }
+    {
+        &self.register
+    }
+
+    /// What the transaction keeps at every moment, for those who prove over its value.
+    pub fn stays_sound(&self)
+        ensures { Sound self.now }
+    {
+        let _ = &self.register;
+    }
+
+    fn closing(&self, at: u32) -> Next
+        ensures { result ≡ next_at Stage.Closing at self.now }
+    {
+        if self.register.held.is_empty() {
+            Next::End(reply_for(outcome_of(&self.change, &self.register)))
+        } else {
+            self.asking(Stage::Closing)
+        }
+    }
+
+    fn asking(&self, stage: Stage) -> Next
+        requires some { is_nothing (left stage self.now) ≡ false }
+        ensures { result ≡ asks stage self.now }
+    {
+        Next::Ask(self.left(stage).lowest(), self.request(stage))
+    }
+
+    fn left(&self, stage: Stage) -> BrickSet
+        ensures { result ≡ left stage self.now }
+    {
+        left_of(stage, &self.register, &self.asked)
+    }
+
+    fn request(&self, stage: Stage) -> Request
+        ensures { result ≡ request_at stage self.now }
+    {
+        request_of(stage, &self.change, &self.register)
+    }
+
+    fn begin(&mut self, at: u32)
+        requires beginning { self.old.stage ≡ Stage.Beginning }
+        ensures { self.new ≡ begun at self.old }
+    {
+        note(
+            &mut self.register,
+            &Move::Begin(&self.change),
+            &Told::Done,
+            at,
+        );
+        self.stage = Stage::Preparing;
+    }
+
+    fn answer(&mut self, told: Told, at: u32)
+        requires asking { IsAsking self.old.stage self.old }
+        ensures { self.new ≡ answered self.old.stage told at self.old }
+    {
+        let stage = self.stage;
+        let b = self.left(stage).lowest();
+        let request = self.request(stage);
+        note(&mut self.register, &Move::Ask(b, &request), &told, at);
+        self.asked = asked_after(stage, b, told, &self.asked);
+        self.stage = after(stage, &self.change, &self.register, &self.asked);
+    }
+}

@@ -1,0 +1,56 @@
+//! What a transaction ends with.
+ghost use Rattle.std.specs.Prelude.{◌≡◌, ◌≤◌};
+ghost use Rattle.afr_transaction.specs.Outcome.{outcome_of, reply_for};
+
+use crate::change::kind_of;
+use afr_choice::{good, holders};
+use afr_discipline::Register;
+use afr_lines::{Good, Reply};
+use afr_object::{Change, View};
+
+/// How a transaction ends.
+#[derive(Clone, Copy, Debug)]
+pub enum Outcome {
+    /// A majority has done post-op.
+    Acknowledged,
+    /// Fewer than a majority answered the locks and the lookup.
+    NoQuorum,
+    /// Fewer than a majority have a copy.
+    FewCopies,
+    /// Each copy is accused, as these views show.
+    SplitBrain([Option<View>; 5]),
+    /// Too few bricks have done a phase, or the discipline allows no attempt.
+    Failed,
+}
+
+/// The outcome, by the sets of the register, in the order of the table of replies.
+pub(crate) fn outcome_of(change: &Change, r: &Register) -> Outcome
+    requires { r.now.shape.n ≤ 5 }
+    ensures { result ≡ outcome_of change.now r.now }
+{
+    let n = r.shape.n;
+    if !r.looked.reached.has_quorum(n) {
+        Outcome::NoQuorum
+    } else if !holders(&r.looked).has_quorum(n) {
+        Outcome::FewCopies
+    } else if good(&r.shape, &r.looked, kind_of(change)).is_empty() {
+        Outcome::SplitBrain(r.looked.views)
+    } else if r.post.has_quorum(n) {
+        Outcome::Acknowledged
+    } else {
+        Outcome::Failed
+    }
+}
+
+/// The reply of a work that is one transaction.
+pub(crate) fn reply_for(outcome: Outcome) -> Reply
+    ensures { result ≡ reply_for outcome }
+{
+    match outcome {
+        Outcome::Acknowledged => Reply::Ok(Good::Done),
+        Outcome::NoQuorum => Reply::NoQuorum,
+        Outcome::FewCopies => Reply::FewCopies,
+        Outcome::SplitBrain(views) => Reply::SplitBrain(views),
+        Outcome::Failed => Reply::Failed,
+    }
+}

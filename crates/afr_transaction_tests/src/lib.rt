@@ -1,0 +1,9 @@
+//! Tests of a transaction: answers in the order of its lines, and what it asks and ends with.
+#![tactic(auto)]
+
+#[cfg(test)]
+mod lines;
+#[cfg(test)]
+mod phases;
+#[cfg(test)]
+mod replies;
