@@ -1,0 +1,5 @@
+//! Worked logs that the laws speak of.
+#![tactic(auto)]
+
+#[cfg(test)]
+mod tests;
