@@ -40,7 +40,7 @@ pub(crate) fn area_of(change: &Change) -> Area
     }
 }
 
-/// Whether a change has an area: each one has, but a write of no bytes, and one that ends past all files.
+/// Whether a change has an area: each one has, but a write of no bytes and one that ends past 2^63.
 pub fn has_area(change: &Change) -> bool
     ensures yes { result ≡ true → Suits change.now }
     ensures no { result ≡ false → Suits change.now → ⊥ }
