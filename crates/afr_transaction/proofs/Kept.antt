@@ -229,16 +229,6 @@ sound_first shape change few some suits = record {
   ready = minus_nil (below shape.n) (nonempty (below shape.n) 0 (below_all shape.n 0 few some));
 }
 
--- somebody is left to ask
-pub ready_asks : (stage : Stage) (m : Progress) → Ready stage m → IsAsking stage m → is_nothing (left stage m) ≡ false
-ready_asks Locking m r e = r
-ready_asks Looking m r e = r
-ready_asks Beginning m r e = absurd e
-ready_asks Preparing m r e = r
-ready_asks Applying m r e = r
-ready_asks Posting m r e = r
-ready_asks Closing m r e = e
-
 -- what the code makes is what the answer makes
 pub fed_is : (m : Progress) (told : Told) (at b : ℕ) (q : Request) (x : Register) (stage : Stage) (s : Asked) → b ≡ lowest (left m.stage m) → q ≡ request_at m.stage m → x ≡ noted_ask m.register at b q told
     → s ≡ asked_by m.stage b told m.asked

@@ -1,8 +1,9 @@
 //! The change of a transaction: its object, its area, the kind that counts it, and the number of what it makes.
-ghost use Rattle.std.specs.Prelude.{◌≡◌, IfOk};
+ghost use Rattle.std.specs.Prelude.{◌≡◌, ◌<◌, ◌+◌, ◌-◌, ◌^◌, ◌&&◌, nat_le, nat_lt, min, true, false, IfOk};
 ghost use Rattle.afr_lines.specs.Areas.{area_for, kind_for};
 ghost use Rattle.afr_object.specs.Tables.{object_of};
 ghost use Rattle.afr_transaction.specs.Progress.{numbered};
+ghost use Rattle.afr_transaction.specs.Sound.{Suits};
 
 use afr_base::{FIRST_ATTRIBUTE, Gfid, Kind, NoMemory};
 use afr_lines::Area;
@@ -37,6 +38,29 @@ pub(crate) fn area_of(change: &Change) -> Area
             name: Some(*name),
         },
     }
+}
+
+/// Whether a change has an area: each one has, but a write of no bytes and one that ends past 2^63.
+pub fn has_area(change: &Change) -> bool
+    ensures yes { result ≡ true → Suits change.now }
+    ensures no { result ≡ false → Suits change.now → ⊥ }
+{
+    match change {
+        Change::Write { at, bytes, .. } => is_range(u64::from(*at), bytes.len() as u64),
+        Change::Cut { len, .. } => u64::from(*len) < FIRST_ATTRIBUTE,
+        Change::SetAttr { .. } => true,
+        Change::Make { .. } => true,
+        Change::Remove { .. } => true,
+    }
+}
+
+/// Whether this many bytes from there on are a range of a file's bytes.
+fn is_range(from: u64, len: u64) -> bool
+    requires { from < 2 ^ 32 }
+    ensures { result ≡ (nat_lt from (min (from + len) (2 ^ 64 - 1)) && nat_le (min (from + len) (2 ^ 64 - 1)) (2 ^ 63)) }
+{
+    let to = from.saturating_add(len);
+    from < to && to <= FIRST_ATTRIBUTE
 }
 
 /// The numbers that count a change.

@@ -13,6 +13,7 @@ mod reply;
 mod stage;
 mod unlock;
 
+pub use change::has_area;
 pub use laws::{a_transaction_stays_sound, a_turn_keeps_the_discipline};
 pub use machine::Transaction;
 pub use reply::Outcome;

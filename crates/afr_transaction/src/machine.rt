@@ -39,7 +39,7 @@ impl Model for Transaction {
 }
 
 impl Transaction {
-    /// Nothing was asked yet. The number that a change gives a new object is put in by `next`.
+    /// Nothing was asked yet. `has_area` tells which changes suit; `next` puts in the number of a new object.
     pub fn new(shape: Shape, change: Change) -> Transaction
         requires few { shape.n ≤ 5 }
         requires some { 0 < shape.n }

@@ -1,0 +1,48 @@
+//! What a change locks, and the number of what it makes.
+use crate::lines::{FILE, tells_three};
+use afr_base::{AllMarks, Gfid, NameId, Shape, What};
+use afr_lines::{Next, Told};
+use afr_object::{Change, List, View};
+use afr_transaction::{Transaction, has_area};
+
+#[test]
+fn a_write_of_no_bytes_has_no_area(rt: HostRuntime) {
+    let change = Change::Write {
+        gfid: FILE,
+        at: 0,
+        bytes: List::new(rt.alloc()),
+    };
+    assert!(rt; !has_area(&change));
+    assert!(rt; has_area(&Change::Cut { gfid: FILE, len: 5 }));
+}
+
+/// The number of a new file whose Begin line is at this position.
+fn number_at(at: u32) -> Option<Gfid> {
+    let shape = Shape {
+        n: 3,
+        arbiter: false,
+    };
+    let change = Change::Make {
+        dir: FILE,
+        name: NameId(1),
+        gfid: Gfid(0),
+        what: What::File,
+    };
+    let dir = Told::Seen(View {
+        what: What::Dir,
+        len: 0,
+        marks: AllMarks::zero(),
+    });
+    let mut transaction = Transaction::new(shape, change);
+    tells_three(&mut transaction, [Told::Granted; 3]);
+    tells_three(&mut transaction, [dir; 3]);
+    match transaction.next(at) {
+        Ok(Next::Begin(Change::Make { gfid, .. })) => Some(gfid),
+        _ => None,
+    }
+}
+
+#[test]
+fn a_new_file_takes_its_number_from_its_begin_line(rt: HostRuntime) {
+    assert!(rt; matches!(number_at(40), Some(Gfid(42))));
+}
