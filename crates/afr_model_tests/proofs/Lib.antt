@@ -5,3 +5,8 @@ pub mod Standing
 pub mod Refusals
 pub mod Skipping
 pub mod Skipped
+pub mod About
+pub mod Answered
+pub mod Replied
+pub mod Following
+pub mod Blamed

@@ -49,7 +49,8 @@ numbered : (of : Gfid) (w : Work) → has (looks_at of) w ≡ true → member (l
 numbered of [] looks = looks
 numbered of (x ∷ w) looks = numbered_step x.0 of (look_numbers w) (has (looks_at of) w) (numbered of w) looks
 
-from_members : (test : ℕ → Bool) (s : List ℕ) → list_all test s ≡ true → (k : ℕ) → member s k ≡ true → test k ≡ true
+-- a test that all members pass
+pub from_members : (test : ℕ → Bool) (s : List ℕ) → list_all test s ≡ true → (k : ℕ) → member s k ≡ true → test k ≡ true
 from_members test [] all k among = absurd (cc among)
 from_members test (x ∷ s) all k among = here (from_members test s (and_right (test x) (list_all test s) all) k) (x == k) refl among
   where

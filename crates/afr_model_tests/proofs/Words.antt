@@ -234,3 +234,11 @@ ready = at_each look_file (at_each (lock write_area) led_to_file)
 -- then the bytes were written on each
 abbrev pub written : List Line
 written = at_each (post 10 file Bytes []) (at_each (apply 10) (at_each (pre file Bytes) (begin write_change ∷ ready)))
+
+-- or on bricks 0 and 1 alone, where brick 2 failed its pre-op
+abbrev pub half_done : List Line
+half_done = at_two (apply 10) (ask 2 (request.Pre file Bytes) told.Failed ∷ at_two (pre file Bytes) (begin write_change ∷ ready))
+
+-- and these two accused it
+abbrev pub half_written : List Line
+half_written = at_two (post 10 file Bytes (2 ∷ [])) half_done
