@@ -10,3 +10,6 @@ pub mod Answered
 pub mod Replied
 pub mod Following
 pub mod Blamed
+pub mod HealWords
+pub mod Rounds
+pub mod HealReplies
