@@ -147,7 +147,7 @@ no_second_settling settling = passes settling.once
 -- ---- rounds
 abbrev pub is_failed_round : Reply → Bool
 is_failed_round reply.Failed = true
-is_failed_round other = false
+is_failed_round said = false
 
 -- a round whose index was given ends with ok
 pub a_given_index_ends_with_ok : IsHealing plan.shape (End healer (reply.Ok good.Done)) (round_of (heal_ends Bytes healed.Settled ∷ settled))

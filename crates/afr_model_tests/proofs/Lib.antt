@@ -13,3 +13,7 @@ pub mod Blamed
 pub mod HealWords
 pub mod Rounds
 pub mod HealReplies
+pub mod Splits
+pub mod Quiet
+pub mod Chosen
+pub mod Reports
