@@ -106,6 +106,10 @@ no_look_where_the_lock_failed looks = fails (looks.locked write_area refl)
 pub no_look_on_the_way : LooksHere plan writes root 0 (work_of led_to_file) → ⊥
 no_look_on_the_way looks = told_apart (is_object file) _ _ refl refl looks.object
 
+-- not under another lock than the command's
+pub no_look_under_another_lock : LooksHere plan creates root 0 (work_of (at_each (lock (Range root 0 5)) [])) → ⊥
+no_look_under_another_lock looks = fails (looks.locked (name_area new_name) refl)
+
 -- not after what the look would let be read
 pub no_look_after_the_read : LooksHere plan reads file 0 (work_of (ask 0 (request.ReadBytes file 0 5) told.Given ∷ at_each look_file led_to_file)) → ⊥
 no_look_after_the_read looks = told_apart is_given _ _ refl refl looks.unread

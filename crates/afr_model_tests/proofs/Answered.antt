@@ -16,12 +16,12 @@ use Rattle.afr_choice.specs.Verdict.{good_copies}
 use Rattle.afr_choice.specs.declared.looked.Looked.{Looked}
 use Rattle.afr_object.specs.declared.entry.View.{View}
 use Rattle.afr_model.specs.Moved.{len_in}
-use Rattle.afr_model.specs.Showing.{begins_attempt, has, is_faulted, looked_by, refuses_read}
+use Rattle.afr_model.specs.Showing.{At, Path, begins_attempt, has, is_faulted, looked_by, refuses_read}
 use Rattle.afr_model.specs.Answered.{IsAnswered, IsAsked, IsCaused, IsStat, answer}
 use Rattle.afr_model_tests.proofs.Means.{each_of_three, fails, from_none, from_some, is_none, passes, told_apart}
 use Rattle.afr_model_tests.proofs.Skipped.{a_write_skips_nothing}
 use Rattle.afr_model_tests.proofs.Skipping.{all_locked, all_looked, from_members}
-use Rattle.afr_model_tests.proofs.Words.{plan, work_of, file, file_entry, file_path, file_view, creates, reads, writes, write_area, write_change, led_to_file, ask, at_each, at_two, begin, pre, apply, post, lock, unlock, look_root, look_file, look_failed, ready, written}
+use Rattle.afr_model_tests.proofs.Words.{plan, work_of, file, file_entry, file_name, file_path, file_view, creates, reads, writes, write_area, write_change, led_to_file, ask, at_each, at_two, begin, pre, apply, post, lock, unlock, look_root, look_file, look_failed, ready, written}
 
 -- ---- tests of replies
 abbrev pub is_ok : Reply → Bool
@@ -35,6 +35,15 @@ is_no_quorum other = false
 abbrev pub is_stat_command : Command → Bool
 is_stat_command (command.Stat path) = true
 is_stat_command other = false
+
+abbrev pub is_ok_answer : Option Reply → Bool
+is_ok_answer (Some said) = is_ok said
+is_ok_answer None = false
+
+-- a path that has read no name
+abbrev pub is_at_the_root : Path → Bool
+is_at_the_root (At read entry) = read == 0
+is_at_the_root path = false
 
 -- ---- answers
 -- a write closed at each brick
@@ -128,3 +137,38 @@ no_quorum_after_asking_all = record {
 -- no-quorum that asked nobody
 pub no_quorum_that_asked_nobody : IsAnswered plan writes (work_of []) reply.NoQuorum → ⊥
 no_quorum_that_asked_nobody answered = fails (answered.asked refl 0 (omega arith))
+
+-- ---- further ends
+-- ok after one post-op
+pub no_ok_after_one_post : IsCaused plan writes (work_of (post 10 file Bytes [] 0 ∷ at_each (apply 10) (at_each (pre file Bytes) (begin write_change ∷ ready)))) (reply.Ok good.Done) → ⊥
+no_ok_after_one_post (IsCaused.Refuses refuses) = from_none _ refuses
+no_ok_after_one_post (IsCaused.Answers goes_on entry led answers) = told_apart is_ok_answer _ _ refl refl (sym answers)
+no_ok_after_one_post (IsCaused.Stats goes_on path stats entry led stat) = told_apart is_stat_command _ _ refl refl (sym stats)
+
+-- a write of no bytes answers at its path's end
+pub a_write_of_nothing_ends_at_the_file : IsCaused plan (command.Write file_path 0 []) (work_of led_to_file) (reply.Ok good.Done)
+a_write_of_nothing_ends_at_the_file = IsCaused.Answers refl file_entry refl refl
+
+-- and not before it
+pub a_write_of_nothing_does_not_end_on_its_way : IsCaused plan (command.Write file_path 0 []) (work_of (at_each look_root [])) (reply.Ok good.Done) → ⊥
+a_write_of_nothing_does_not_end_on_its_way (IsCaused.Refuses refuses) = from_none _ refuses
+a_write_of_nothing_does_not_end_on_its_way (IsCaused.Answers goes_on entry led answers) = told_apart is_at_the_root _ _ refl refl led
+a_write_of_nothing_does_not_end_on_its_way (IsCaused.Stats goes_on path stats entry led stat) = told_apart is_stat_command _ _ refl refl (sym stats)
+
+-- failed after the looks alone
+pub failed_at_once_has_no_cause : IsAnswered plan writes (work_of (at_each look_root [])) reply.Failed → ⊥
+failed_at_once_has_no_cause answered = cause (answered.failed refl)
+  where
+    cause : (has begins_attempt (work_of (at_each look_root [])) ≡ true) × (is_faulted (work_of (at_each look_root [])) ≡ true) ⊎ (has refuses_read (work_of (at_each look_root [])) ≡ true) → ⊥
+    cause (inl faulted) = fails faulted.0
+    cause (inr refused) = fails refused
+
+-- failed after a name that was refused
+pub a_refused_name_ends_a_write : IsAnswered plan writes (work_of (ask 0 (request.ReadName root file_name) told.Failed ∷ at_each look_root [])) reply.Failed
+a_refused_name_ends_a_write = record {
+  caused = IsCaused.Refuses refl;
+  asked = λ views. fails views;
+  failed = λ same. inr refl;
+  undisturbed = λ begun calm. fails begun;
+  whole = record { looked = all_looked 3 (work_of (ask 0 (request.ReadName root file_name) told.Failed ∷ at_each look_root [])) refl; locked = λ area part locked. fails locked; child = λ rmdir. fails rmdir; carried = λ change same. from_none _ same };
+}

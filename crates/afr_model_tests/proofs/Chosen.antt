@@ -46,8 +46,8 @@ pub a_stat_of_the_lowest : ReadsPicked lowest plan (ends (reply.Ok (good.Stat fi
 a_stat_of_the_lowest = (0, refl, refl)
 
 -- a length that brick 0 didn't show
-pub no_stat_of_another_length : ReadsPicked lowest plan (ends (reply.Ok (good.Stat file_entry 7))) (at_each look_file led_to_file) → ⊥
-no_stat_of_another_length picked = told_apart is_brick_0 _ _ refl refl (sym (picked.2 ∙ ap (λ (b : ℕ). len_in (view_at b (looked_by file (work_of (at_each look_file led_to_file))))) picked.1))
+pub no_stat_of_an_unpicked_length : ReadsPicked lowest plan (ends (reply.Ok (good.Stat file_entry 7))) (at_each look_file led_to_file) → ⊥
+no_stat_of_an_unpicked_length picked = told_apart is_brick_0 _ _ refl refl (sym (picked.2 ∙ ap (λ (b : ℕ). len_in (view_at b (looked_by file (work_of (at_each look_file led_to_file))))) picked.1))
 
 -- ---- heals
 -- a heal that raised and settled numbers has the lowest copy for its source

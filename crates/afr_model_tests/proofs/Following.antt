@@ -144,3 +144,7 @@ no_line_past_the_turns following = absurd (omega (arith, following.0))
 -- a line in place of the event that is due
 pub no_line_before_the_event : IsFollowing stopping (look_root 0) (at_each look_root []) → ⊥
 no_line_before_the_event following = the_event_is_due following.1.1
+
+-- so is a log with such a line
+pub a_log_past_the_turns : Follows (record plan { turns = 0 }) (look_root 0 ∷ []) → ⊥
+a_log_past_the_turns follows = no_line_past_the_turns follows.0

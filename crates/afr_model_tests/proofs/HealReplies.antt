@@ -12,13 +12,15 @@ use Rattle.afr_lines.specs.declared.reply.HealReply.{HealReply}
 use Rattle.afr_lines.specs.declared.reply.HealReply.TheVariants as healed
 use Rattle.afr_lines.specs.declared.reply.Reply.{Reply}
 use Rattle.afr_lines.specs.declared.reply.Reply.TheVariants as reply
+use Rattle.afr_lines.specs.declared.request.Area.TheVariants.{Range}
 use Rattle.afr_lines.specs.declared.request.Request.TheVariants as request
+use Rattle.afr_range_locks.specs.declared.domain.Domain.TheVariants as domain
 use Rattle.afr_model.specs.HealReplies.{IsHealAnswered, IsHealAsked, IsHealing, IsSettling, heal_reply}
 use Rattle.afr_model.specs.Healing.{changed_by, first_by, holders_in, less_at, source_of, whole_of}
 use Rattle.afr_model.specs.Moved.{moved_by}
 use Rattle.afr_model.specs.Showing.{among}
 use Rattle.afr_model.specs.Standing.{getting}
-use Rattle.afr_model_tests.proofs.HealWords.{attrs_healed, heal_ends, heal_lock, heal_look, heal_of, heals, index, less_0, less_1, less_2, listed, locked, moved, opened, raised, round_of, settle, settled, work_lock, wrote}
+use Rattle.afr_model_tests.proofs.HealWords.{attrs_healed, heal_ends, heal_lock, heal_look, heal_of, heals, index, less_0, less_1, less_2, listed, locked, moved, opened, raise, raised, round_of, settle, settled, shown, work_lock, wrote}
 use Rattle.afr_model_tests.proofs.Means.{each_of_three, fails, is_none, passes, told_apart}
 use Rattle.afr_model_tests.proofs.Skipping.{from_members}
 use Rattle.afr_model_tests.proofs.Words.{at_each, at_two, file, heal_ask, healer, other, plan}
@@ -45,6 +47,27 @@ a_later_accusation_shows_a_move = refl
 pub the_first_looks_show_no_move : moved_by plan.shape file Bytes (heal_of raised) ≡ None
 the_first_looks_show_no_move = refl
 
+-- later looks leave the first ones
+pub later_looks_leave_the_first : (first_by (heal_of moved)).looked ≡ (first_by (heal_of raised)).looked
+later_looks_leave_the_first = refl
+
+-- a brick that failed the first lock is missing
+pub a_failed_lock_is_missing : (first_by (heal_of (heal_lock Bytes told.Failed 0 ∷ attrs_healed))).missing ≡ 0 ∷ []
+a_failed_lock_is_missing = refl
+
+-- where brick 2 has no copy, the open operations of brick 0 stay
+pub without_all_holders_open_operations_stay : less_at plan.shape Bytes (heal_of (raise 1 ∷ heal_look told.NoObject 2 ∷ at_two (heal_look (told.Seen (wrote 2))) (heals Bytes ∷ locked Bytes attrs_healed))) 1 ≡ record { dirty = 0; pending = 0 ∷ 0 ∷ 0 ∷ 0 ∷ 0 ∷ [] }
+unfolding below
+without_all_holders_open_operations_stay = refl
+
+-- at the finish, with the whole locked, a copy of another length shows a move
+pub another_length_at_the_finish_shows_a_move : moved_by plan.shape file Bytes (heal_of (shown (heals Bytes ∷ at_each (work_lock Bytes told.Granted) raised))) ≡ Some 2
+another_length_at_the_finish_shows_a_move = refl
+
+-- before the finish it doesn't
+pub another_length_before_the_finish_does_not : moved_by plan.shape file Bytes (heal_of (shown (heals Bytes ∷ at_each (λ b. heal_ask b (request.Lock domain.Work (Range file 0 5)) told.Granted) raised))) ≡ None
+another_length_before_the_finish_does_not = refl
+
 -- ---- replies
 -- another heal holds the lock
 pub a_held_lock_is_busy : heal_reply plan.shape file Bytes (heal_of (heal_lock Bytes (told.Held other) 0 ∷ attrs_healed)) ≡ Some (healed.Busy other)
@@ -61,11 +84,11 @@ unfolding below
 zero_numbers_are_nothing = refl
 
 -- two copies accuse each other, and the third is accused
-pub accused_copies_are_split :
+pub accused_copies_answer_split :
     heal_reply plan.shape file Bytes (heal_of (heal_look told.NoObject 2 ∷ heal_look (told.Seen (wrote 0)) 1 ∷ heal_look (told.Seen (wrote 1)) 0 ∷ heals Bytes ∷ locked Bytes attrs_healed))
     ≡ Some (healed.Split (Some (wrote 1) ∷ Some (wrote 0) ∷ None ∷ None ∷ None ∷ []))
 unfolding below
-accused_copies_are_split = refl
+accused_copies_answer_split = refl
 
 -- each holder has settled
 pub three_settled_are_settled : heal_reply plan.shape file Bytes (heal_of settled) ≡ Some healed.Settled
@@ -128,6 +151,19 @@ a_busy_heal_may_ask_one_brick = record { caused = refl; failed = λ same. absurd
 -- a heal that answers short at once asked nobody
 pub short_at_once_asked_nobody : IsHealAnswered plan.shape file Bytes (heal_of attrs_healed) healed.Short → ⊥
 short_at_once_asked_nobody answered = fails ((answered.asked refl).locked 0 (omega arith))
+
+-- a settling that was told Failed ends with failed
+pub a_failed_settling_ends_with_failed : IsHealAnswered plan.shape file Bytes (heal_of (heal_ask 2 (request.Settle file Bytes less_2) told.Failed ∷ settle less_1 1 ∷ settle less_0 0 ∷ raised)) healed.Failed
+unfolding below
+a_failed_settling_ends_with_failed = record { caused = refl; failed = λ same. refl; asked = λ free. record {
+    locked = each_of_three _ refl;
+    worked = λ most b got. got;
+    looked = λ most b got. from_members (λ x. member (first_by (heal_of settled)).looked.reached x || member (first_by (heal_of settled)).missing x) (among (getting (whole_of file Bytes)) (heal_of settled)) refl b got;
+  } }
+
+-- failed, though no brick failed
+pub no_failed_without_a_failure : IsHealAnswered plan.shape file Bytes (heal_of (settle less_1 1 ∷ settle less_0 0 ∷ raised)) healed.Failed → ⊥
+no_failed_without_a_failure answered = fails (answered.failed refl)
 
 -- ---- settling
 -- brick 2 takes back what the first looks showed

@@ -10,9 +10,9 @@ use Rattle.afr_lines.specs.declared.reply.Good.TheVariants as good
 use Rattle.afr_lines.specs.declared.reply.Reply.TheVariants as reply
 use Rattle.afr_lines.specs.declared.request.Request.TheVariants as request
 use Rattle.afr_plan.specs.declared.command.Command.TheVariants as command
-use Rattle.afr_model.specs.Refusals.{refusal, too_large, by_list}
+use Rattle.afr_model.specs.Refusals.{refusal, too_large, by_list, both_locked}
 use Rattle.afr_model.specs.Showing.{Gave}
-use Rattle.afr_model_tests.proofs.Words.{plan, work_of, file, file_name, file_entry, new_name, child, child_area, child_found, creates, reads, removes, writes, write_area, name_area, led_to_file, name_line, ask, at_each, at_two, lock, lock_failed, look_root, look_file, look_failed, look_child, look_lacking, look_accusing, accusing_view, file_path, new_path}
+use Rattle.afr_model_tests.proofs.Words.{plan, work_of, file, file_name, file_entry, new_name, child, child_area, child_found, creates, reads, removes, writes, write_area, name_area, led_to_file, name_line, ask, at_each, at_two, lock, lock_failed, unlock, look_root, look_file, look_failed, look_child, look_lacking, look_accusing, accusing_view, file_path, new_path}
 
 -- ---- before the path's end
 -- a write that ends past the longest file
@@ -117,3 +117,20 @@ a_listed_name_is_not_empty = refl
 -- a list that showed none
 pub an_empty_list_goes_on : by_list (Gave (good.Names [])) ≡ None
 an_empty_list_goes_on = refl
+
+-- ---- a directory and its child
+-- where the name and the child are locked
+pub three_bricks_hold_both_locks : both_locked (Some (name_area new_name)) root child (work_of (at_each look_child (at_each (lock child_area) child_found))) ≡ 0 ∷ 1 ∷ 2 ∷ []
+three_bricks_hold_both_locks = refl
+
+-- a name released before the looks at the child isn't locked with it
+pub a_released_name_is_not_locked_with_its_child : both_locked (Some (name_area new_name)) root child (work_of (at_each look_child (unlock (name_area new_name) 0 ∷ at_each (lock child_area) child_found))) ≡ 1 ∷ 2 ∷ []
+a_released_name_is_not_locked_with_its_child = refl
+
+-- too few hold both
+pub one_brick_with_both_is_no_quorum : refusal plan removes (work_of (at_each look_child (unlock (name_area new_name) 1 ∷ unlock (name_area new_name) 0 ∷ at_each (lock child_area) child_found))) ≡ Some reply.NoQuorum
+one_brick_with_both_is_no_quorum = refl
+
+-- a file can't have names
+pub a_create_in_a_file_is_not_dir : refusal plan (command.Create (file_name ∷ new_name ∷ [])) (work_of led_to_file) ≡ Some reply.NotDir
+a_create_in_a_file_is_not_dir = refl

@@ -60,8 +60,8 @@ unfolding digits
 a_missed_write_leaves_two_good = refl
 
 -- each accuses another: none is
-pub accused_copies_are_split : verdict_line plan (looked_at plan all_accused (0 ∷ 1 ∷ 2 ∷ []) file) Bytes ≡ codes "data split\n"
-accused_copies_are_split = refl
+pub accused_copies_have_a_split_line : verdict_line plan (looked_at plan all_accused (0 ∷ 1 ∷ 2 ∷ []) file) Bytes ≡ codes "data split\n"
+accused_copies_have_a_split_line = refl
 
 -- a kind whose numbers are all 0 has no line
 pub a_clean_kind_has_no_line : verdict_line plan (looked_at plan half_written (0 ∷ 1 ∷ 2 ∷ []) file) Attrs ≡ []

@@ -1,15 +1,21 @@
 -- What an ended command has asked, and works that skip something.
 use Rattle.std.specs.Prelude.{◌≡◌, ℕ, ◌<◌, Bool, true, false, List, [], ◌∷◌, Option, Some, None, refl}
-use Rattle.std.proofs.Common.{arith}
+use Rattle.std.proofs.Common.{ap, arith, subst}
 use Rattle.afr_base.specs.declared.ids.Kind.TheVariants.{Bytes, Names}
 use Rattle.afr_object.specs.Tables.{root}
 use Rattle.afr_lines.specs.declared.answer.Told.TheVariants as told
 use Rattle.afr_lines.specs.declared.line.Line.{Line}
 use Rattle.afr_lines.specs.declared.request.Request.TheVariants as request
-use Rattle.afr_model.specs.Skipped.{AsksAll, IsCarried, IsChildLocked, IsLocked, IsLooked, SkipsNothing}
+use Rattle.afr_base.specs.declared.ids.What.TheVariants.{Dir}
+use Rattle.afr_object.specs.declared.change.Change.TheVariants as change
+use Rattle.afr_object.specs.declared.entry.Entry.{Entry}
+use Rattle.afr_lines.specs.declared.request.Area.{Area}
+use Rattle.afr_model.specs.Commands.{area_on}
+use Rattle.afr_model.specs.Showing.{At, Path, root_entry}
+use Rattle.afr_model.specs.Skipped.{takers, AsksAll, IsCarried, IsChildLocked, IsLocked, IsLooked, SkipsNothing}
 use Rattle.afr_model_tests.proofs.Means.{all_in, each_of_three, fails, passes, from_some, from_none}
 use Rattle.afr_model_tests.proofs.Skipping.{all_locked, all_looked}
-use Rattle.afr_model_tests.proofs.Words.{plan, work_of, file, new_name, child, child_area, child_found, reads, removes, writes, write_area, write_change, name_area, led_to_file, ask, at_each, at_two, begin, pre, apply, post, lock, lock_failed, look_root, look_file, look_failed, look_child, ready, written}
+use Rattle.afr_model_tests.proofs.Words.{plan, work_of, file, new_name, child, child_area, child_entry, child_found, child_listed, child_removed, file_entry, reads, removes, writes, write_area, write_change, name_area, led_to_file, ask, at_each, at_two, begin, pre, apply, post, lock, lock_failed, look_root, look_file, look_failed, look_child, ready, written}
 
 -- ---- every brick was asked where views stop a command
 -- the looks at the root, two of which failed
@@ -97,3 +103,38 @@ a_write_skips_nothing = record {
 -- a write that left out its lock at brick 2
 pub a_write_without_a_lock_skips : SkipsNothing plan writes (work_of (at_two look_file (at_two (lock write_area) led_to_file))) → ⊥
 a_write_without_a_lock_skips skips = two_locks_are_not_all (skips.locked write_area refl refl)
+
+-- ---- an rmdir
+-- its attempt begins at the bricks with both locks
+pub an_rmdir_begins_where_both_are_locked : takers removes root (At 1 child_entry) (work_of child_listed) ≡ 0 ∷ 1 ∷ 2 ∷ []
+an_rmdir_begins_where_both_are_locked = refl
+
+-- any other attempt at the holders
+pub a_write_begins_at_the_holders : takers writes file (At 1 file_entry) (work_of (look_file 0 ∷ at_each (lock write_area) led_to_file)) ≡ 0 ∷ []
+a_write_begins_at_the_holders = refl
+
+-- the entry at which a path stands
+abbrev pub entry_at : Path → Entry
+entry_at (At read entry) = entry
+entry_at path = root_entry
+
+-- the child of the rmdir is locked
+removed_child : (name : Area) → Some (name_area new_name) ≡ Some name → IsChildLocked plan root child name (work_of child_removed)
+removed_child name same = from_some (λ it. IsChildLocked plan root child it (work_of child_removed)) (name_area new_name) name (record { all = λ b held. held; looked = λ enough b held both. both }) same
+
+-- a whole rmdir
+pub an_rmdir_skips_nothing : SkipsNothing plan removes (work_of child_removed)
+an_rmdir_skips_nothing = record {
+  looked = all_looked 3 (work_of child_removed) refl;
+  locked = all_locked 3 (work_of child_removed) refl;
+  child = λ rmdir read dir found name at_dir at_child is area. of dir (ap entry_at at_dir) found (ap entry_at at_child) name area;
+  carried = λ begun same. from_some (λ it. IsCarried plan removes it (work_of child_removed)) (change.Remove root new_name Dir) begun (record { prepared_all = λ b taker. taker; applied_all = λ enough b did. did; posted_all = λ enough done b did. did }) same;
+}
+  where
+    of : (dir : Entry) → root_entry ≡ dir → (found : Entry) → child_entry ≡ found → (name : Area) → area_on dir.gfid removes ≡ Some name → IsChildLocked plan dir.gfid found.gfid name (work_of child_removed)
+    of dir at_dir found at_child name area = subst (λ (at : Entry). area_on at.gfid removes ≡ Some name → IsChildLocked plan at.gfid found.gfid name (work_of child_removed)) at_dir
+        (λ same. subst (λ (at : Entry). IsChildLocked plan root at.gfid name (work_of child_removed)) at_child (removed_child name same)) area
+
+-- an rmdir that found a directory and locked nothing of it
+pub an_rmdir_without_its_child_skips : SkipsNothing plan removes (work_of child_found) → ⊥
+an_rmdir_without_its_child_skips skips = fails ((skips.child refl 0 root_entry child_entry (name_area new_name) refl refl refl refl).all 0 refl)

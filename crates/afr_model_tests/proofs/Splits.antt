@@ -23,8 +23,8 @@ pub three_accused_copies_are_split : IsSplit plan all_accused (0 ∷ 1 ∷ 2 ∷
 three_accused_copies_are_split = refl
 
 -- so are two of them that are reached alone
-pub two_that_accuse_each_other_are_split : IsSplit plan accusing_each_other (0 ∷ 1 ∷ []) file Bytes
-two_that_accuse_each_other_are_split = refl
+pub two_accusing_copies_are_split : IsSplit plan accusing_each_other (0 ∷ 1 ∷ []) file Bytes
+two_accusing_copies_are_split = refl
 
 -- a third copy that nobody accuses is good
 pub a_third_good_copy_is_no_split : IsSplit plan accusing_each_other (0 ∷ 1 ∷ 2 ∷ []) file Bytes → ⊥

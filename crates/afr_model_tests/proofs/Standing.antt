@@ -13,7 +13,7 @@ use Rattle.afr_lines.specs.declared.request.Area.TheVariants.{Name, Range}
 use Rattle.afr_lines.specs.declared.request.Request.TheVariants as request
 use Rattle.afr_plan.specs.declared.plan.Plan.{Plan}
 use Rattle.afr_range_locks.specs.declared.domain.Domain.TheVariants.{Work as WorkDomain}
-use Rattle.afr_model.specs.Showing.{At, Untold, path_by, looked_by, among, root_entry}
+use Rattle.afr_model.specs.Showing.{At, NoName, path_by, looked_by, among, root_entry}
 use Rattle.afr_model.specs.Standing.{place_by, looks_here, area_here, up_to, since, asks_name, locks_any, asking, getting, holding, change_by, suffices}
 use Rattle.afr_model_tests.proofs.Means.{told_apart, is_object, is_area}
 use Rattle.afr_model_tests.proofs.Words.{plan, work_of, file, file_name, file_entry, new_name, child, child_area, child_entry, child_found, child_made, creates, removes, writes, write_area, write_change, name_area, led_to_file, name_line, ask, at_each, at_two, lock, lock_failed, lock_held, unlock, look_root, look_file, begin}
@@ -111,3 +111,12 @@ one_brick_does_not_suffice = refl
 
 pub two_without_a_good_copy_do_not : suffices plan.shape Bytes (looked_by file (work_of (look_file 2 ∷ []))) (0 ∷ 1 ∷ []) ≡ false
 two_without_a_good_copy_do_not = refl
+
+-- ---- where the first names have led
+-- a name that isn't there leads nowhere
+pub an_absent_name_leads_nowhere : place_by plan writes (work_of (name_line new_name ∷ at_each look_root [])) ≡ NoName
+an_absent_name_leads_nowhere = refl
+
+-- but a create stays in the directory of its last name
+pub a_create_stays_in_the_root : place_by plan creates (work_of (name_line new_name ∷ at_each look_root [])) ≡ At 0 root_entry
+a_create_stays_in_the_root = refl

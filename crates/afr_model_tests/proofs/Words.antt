@@ -5,7 +5,7 @@ use Rattle.afr_base.specs.declared.ids.ActorId.{ActorId}
 use Rattle.afr_base.specs.declared.ids.BrickId.{BrickId}
 use Rattle.afr_base.specs.declared.ids.Gfid.{Gfid}
 use Rattle.afr_base.specs.declared.ids.Kind.{Kind}
-use Rattle.afr_base.specs.declared.ids.Kind.TheVariants.{Bytes}
+use Rattle.afr_base.specs.declared.ids.Kind.TheVariants.{Bytes, Names}
 use Rattle.afr_base.specs.declared.ids.NameId.{NameId}
 use Rattle.afr_base.specs.declared.ids.What.TheVariants.{File, Dir}
 use Rattle.afr_object.specs.Tables.{root}
@@ -242,3 +242,12 @@ half_done = at_two (apply 10) (ask 2 (request.Pre file Bytes) told.Failed ∷ at
 -- and these two accused it
 abbrev pub half_written : List Line
 half_written = at_two (post 10 file Bytes (2 ∷ [])) half_done
+
+-- ---- an rmdir
+-- its child was locked, looked at and listed
+abbrev pub child_listed : List Line
+child_listed = ask 0 (request.List child) told.Given ∷ at_each look_child (at_each (lock child_area) child_found)
+
+-- and its name removed on each brick
+abbrev pub child_removed : List Line
+child_removed = at_each (post 19 root Names []) (at_each (apply 19) (at_each (pre root Names) (begin (change.Remove root new_name Dir) ∷ child_listed)))
