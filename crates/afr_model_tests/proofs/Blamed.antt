@@ -18,7 +18,7 @@ posts (Ask a b (request.Post attempt of kind missed) told took) = true
 posts line = false
 
 -- a log without a post-op accuses nobody
-none_blamed : (p : Plan) (log : List Line) → list_all (λ line. not (posts line)) log ≡ true → AreBlamed p log
+pub none_blamed : (p : Plan) (log : List Line) → list_all (λ line. not (posts line)) log ≡ true → AreBlamed p log
 none_blamed p [] calm = tt
 none_blamed p (line ∷ older) calm = (here line (and_left (not (posts line)) _ calm), none_blamed p older (and_right (not (posts line)) _ calm))
   where

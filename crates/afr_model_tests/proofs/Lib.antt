@@ -17,3 +17,4 @@ pub mod Splits
 pub mod Quiet
 pub mod Chosen
 pub mod Reports
+pub mod WholeLog
