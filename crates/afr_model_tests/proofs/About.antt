@@ -106,6 +106,10 @@ no_look_where_the_lock_failed looks = fails (looks.locked write_area refl)
 pub no_look_on_the_way : LooksHere plan writes root 0 (work_of led_to_file) → ⊥
 no_look_on_the_way looks = told_apart (is_object file) _ _ refl refl looks.object
 
+-- not before the command's lock
+pub no_look_before_the_lock : LooksHere plan creates root 0 (work_of []) → ⊥
+no_look_before_the_lock looks = fails (looks.locked (name_area new_name) refl)
+
 -- not under another lock than the command's
 pub no_look_under_another_lock : LooksHere plan creates root 0 (work_of (at_each (lock (Range root 0 5)) [])) → ⊥
 no_look_under_another_lock looks = fails (looks.locked (name_area new_name) refl)

@@ -16,12 +16,12 @@ use Rattle.afr_choice.specs.Verdict.{good_copies}
 use Rattle.afr_choice.specs.declared.looked.Looked.{Looked}
 use Rattle.afr_object.specs.declared.entry.View.{View}
 use Rattle.afr_model.specs.Moved.{len_in}
-use Rattle.afr_model.specs.Showing.{At, Path, begins_attempt, has, is_faulted, looked_by, refuses_read}
+use Rattle.afr_model.specs.Showing.{At, NotAsked, Path, Reading, begins_attempt, has, is_faulted, looked_by, refuses_read}
 use Rattle.afr_model.specs.Answered.{IsAnswered, IsAsked, IsCaused, IsStat, answer}
 use Rattle.afr_model_tests.proofs.Means.{each_of_three, fails, from_none, from_some, is_none, passes, told_apart}
 use Rattle.afr_model_tests.proofs.Skipped.{a_write_skips_nothing}
 use Rattle.afr_model_tests.proofs.Skipping.{all_locked, all_looked, from_members}
-use Rattle.afr_model_tests.proofs.Words.{plan, work_of, file, file_entry, file_name, file_path, file_view, creates, reads, writes, write_area, write_change, led_to_file, ask, at_each, at_two, begin, pre, apply, post, lock, unlock, look_root, look_file, look_failed, ready, written}
+use Rattle.afr_model_tests.proofs.Words.{child_area, child_entry, child_found, child_listed, look_child, name_area, name_line, new_name, removes, plan, work_of, file, file_entry, file_name, file_path, file_view, creates, reads, writes, write_area, write_change, led_to_file, ask, at_each, at_two, begin, pre, apply, post, lock, unlock, look_root, look_file, look_failed, ready, written}
 
 -- ---- tests of replies
 abbrev pub is_ok : Reply → Bool
@@ -70,6 +70,35 @@ a_write_of_bytes_is_asked = omega arith
 -- one of none begins nothing
 pub a_write_of_nothing_is_not : IsAsked plan (command.Write file_path 0 []) (work_of led_to_file) → ⊥
 a_write_of_nothing_is_not asked = absurd (omega (arith, asked))
+
+-- a create has found no such name
+pub a_create_of_a_free_name_is_asked : IsAsked plan creates (work_of (name_line new_name ∷ at_each look_root (at_each (lock (name_area new_name)) [])))
+a_create_of_a_free_name_is_asked = refl
+
+-- one that hasn't asked isn't ready
+pub a_create_that_asked_no_name_is_not : IsAsked plan creates (work_of (at_each look_root (at_each (lock (name_area new_name)) []))) → ⊥
+a_create_that_asked_no_name_is_not asked = told_apart is_at_the_root _ _ refl refl asked
+
+-- an unlink has found its name
+pub an_unlink_of_a_name_is_asked : IsAsked plan (command.Unlink file_path) (work_of led_to_file)
+an_unlink_of_a_name_is_asked = (file_entry, refl)
+
+-- one that hasn't asked isn't ready
+pub an_unlink_that_asked_no_name_is_not : IsAsked plan (command.Unlink file_path) (work_of (at_each look_root [])) → ⊥
+an_unlink_that_asked_no_name_is_not asked = told_apart is_at_the_root _ _ refl refl asked.1
+
+-- an rmdir has found its child without names
+pub an_rmdir_of_an_empty_child_is_asked : IsAsked plan removes (work_of child_listed)
+an_rmdir_of_an_empty_child_is_asked = ((child_entry, refl), refl)
+
+-- nothing was read
+abbrev pub is_unread : Reading → Bool
+is_unread NotAsked = true
+is_unread reading = false
+
+-- one that hasn't listed it isn't ready
+pub an_rmdir_that_listed_nothing_is_not : IsAsked plan removes (work_of (at_each look_child (at_each (lock child_area) child_found))) → ⊥
+an_rmdir_that_listed_nothing_is_not asked = told_apart is_unread _ _ refl refl asked.1
 
 -- ---- a stat
 -- the entry found and the length in a good view
@@ -154,6 +183,12 @@ pub a_write_of_nothing_does_not_end_on_its_way : IsCaused plan (command.Write fi
 a_write_of_nothing_does_not_end_on_its_way (IsCaused.Refuses refuses) = from_none _ refuses
 a_write_of_nothing_does_not_end_on_its_way (IsCaused.Answers goes_on entry led answers) = told_apart is_at_the_root _ _ refl refl led
 a_write_of_nothing_does_not_end_on_its_way (IsCaused.Stats goes_on path stats entry led stat) = told_apart is_stat_command _ _ refl refl (sym stats)
+
+-- a create of a free name has no reason to answer exists
+pub a_free_name_does_not_cause_exists : IsCaused plan creates (work_of (name_line new_name ∷ at_each look_root (at_each (lock (name_area new_name)) []))) reply.Exists → ⊥
+a_free_name_does_not_cause_exists (IsCaused.Refuses refuses) = from_none _ refuses
+a_free_name_does_not_cause_exists (IsCaused.Answers goes_on entry led answers) = from_none _ answers
+a_free_name_does_not_cause_exists (IsCaused.Stats goes_on path stats entry led stat) = told_apart is_stat_command _ _ refl refl (sym stats)
 
 -- failed after the looks alone
 pub failed_at_once_has_no_cause : IsAnswered plan writes (work_of (at_each look_root [])) reply.Failed → ⊥

@@ -15,6 +15,7 @@ use Rattle.afr_lines.specs.declared.answer.Told.TheVariants as told
 use Rattle.afr_lines.specs.declared.reply.Good.TheVariants as good
 use Rattle.afr_lines.specs.declared.reply.Reply.TheVariants as reply
 use Rattle.afr_lines.specs.declared.request.Request.TheVariants as request
+use Rattle.afr_plan.specs.declared.command.Command.TheVariants as command
 use Rattle.afr_plan.specs.declared.plan.Plan.{Plan}
 use Rattle.afr_plan.specs.declared.schedule.PlannedEvent.{PlannedEvent}
 use Rattle.afr_model.specs.Actors.{IsActor}
@@ -22,7 +23,7 @@ use Rattle.afr_model.specs.Commands.{path_of}
 use Rattle.afr_model.specs.Following.{Follows, IsFollowing, IsNextEvent, IsNextName, IsTurnOf, KeepsTo, KeepsToTask, Names, NoneDue}
 use Rattle.afr_model.specs.Showing.{At, Path, root_entry}
 use Rattle.afr_model_tests.proofs.Means.{fails, from_none, from_some, passes, told_apart}
-use Rattle.afr_model_tests.proofs.Words.{at_each, begin, brick, child, child_found, client, creates, ends, file, file_entry, file_name, heal_ask, healer, led_to_file, lock, look_root, name_area, name_line, new_name, object, plan, ready, removes, work_of, write_change, writes}
+use Rattle.afr_model_tests.proofs.Words.{at_each, begin, brick, child, child_found, client, creates, ends, file, file_entry, file_name, file_path, heal_ask, healer, led_to_file, lock, look_root, name_area, name_line, new_name, object, plan, ready, removes, work_of, write_change, writes}
 
 -- ---- names
 -- the path's next name, in the root
@@ -71,6 +72,19 @@ a_create_makes_no_directory names = told_apart makes_directory _ _ refl refl (sy
 -- an rmdir removes its name from the root, though its path stands at the child
 pub an_rmdir_removes_from_the_root : Names plan removes (work_of child_found) 15 (change.Remove root new_name Dir)
 an_rmdir_removes_from_the_root = record { object = root_entry; led = refl; named = refl }
+
+-- an unlink removes the name that its words name
+pub an_unlink_removes_its_name : Names plan (command.Unlink file_path) (work_of led_to_file) 4 (change.Remove root file_name File)
+an_unlink_removes_its_name = record { object = root_entry; led = refl; named = refl }
+
+-- the change removes the name of the file
+abbrev pub removes_file : Option Change → Bool
+removes_file (Some (change.Remove dir name what)) = name.0 == 0
+removes_file begun = false
+
+-- and no other
+pub an_unlink_removes_no_other_name : Names plan (command.Unlink file_path) (work_of led_to_file) 4 (change.Remove root new_name File) → ⊥
+an_unlink_removes_no_other_name names = told_apart removes_file _ _ refl refl names.named
 
 -- an attempt begins
 pub an_attempt_begins : KeepsTo plan writes (begin write_change) 10 (work_of ready)

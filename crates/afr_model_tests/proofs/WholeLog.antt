@@ -1,10 +1,11 @@
 -- A whole log that every definition admits: a client lists the root, and nothing is left to do.
-use Rattle.std.specs.Prelude.{◌≡◌, ℕ, ◌<◌, ◌≤◌, Bool, true, false, List, [], ◌∷◌, Some, None, codes, length, slice_get, refl}
+use Rattle.std.specs.Prelude.{◌≡◌, ℕ, ◌<◌, ◌≤◌, ◌==◌, Bool, true, false, List, [], ◌∷◌, Some, None, codes, length, slice_get, refl}
 use Rattle.std.specs.Fmt.{digits}
 use Rattle.std.proofs.Common.{arith, subst, sym, ◌∙◌}
 use Rattle.afr_base.specs.Bricks.{below}
 use Rattle.afr_object.specs.Tables.{root}
 use Rattle.afr_lines.specs.Work.{ended, is_killed, work}
+use Rattle.afr_lines.specs.declared.answer.Told.{Told}
 use Rattle.afr_lines.specs.declared.answer.Told.TheVariants as told
 use Rattle.afr_lines.specs.declared.line.Line.{Line}
 use Rattle.afr_lines.specs.declared.reply.Good.TheVariants as good
@@ -19,7 +20,7 @@ use Rattle.afr_model.specs.Blamed.{AreBlamed}
 use Rattle.afr_model.specs.Chosen.{IsChosen}
 use Rattle.afr_model.specs.Complete.{IsFinished}
 use Rattle.afr_model.specs.Following.{Follows, IsTurnOf, KeepsTo, KeepsToTask, NoneDue}
-use Rattle.afr_model.specs.Honest.{Honest}
+use Rattle.afr_model.specs.Honest.{Honest, Outcome}
 use Rattle.afr_model.specs.Replied.{IsOfTask, Replied}
 use Rattle.afr_model.specs.ReportHealers.{report_of}
 use Rattle.afr_model.specs.Showing.{root_entry}
@@ -28,7 +29,7 @@ use Rattle.afr_model_tests.proofs.Blamed.{none_blamed}
 use Rattle.afr_model_tests.proofs.Chosen.{lowest}
 use Rattle.afr_model_tests.proofs.Means.{fails, from_none, from_some, told_apart}
 use Rattle.afr_model_tests.proofs.Skipping.{all_looked}
-use Rattle.afr_model_tests.proofs.Words.{ask, at_each, client, ends, file_entry, file_name, look_root, plan_of, work_of}
+use Rattle.afr_model_tests.proofs.Words.{ask, at_each, client, dir_view, ends, file_entry, file_name, look_root, plan_of, work_of}
 
 -- the client lists the root; there is no healer
 abbrev pub lists : Command
@@ -69,6 +70,20 @@ a_list_follows_its_plan =
 pub a_list_is_honest : Honest listing whole
 unfolding below
 a_list_is_honest = (tt, (refl, (refl, (refl, (refl, tt)))))
+
+-- a look that was told a longer view than the root's
+abbrev pub long_look : Line
+long_look = ask 0 (request.Look root) (told.Seen (record dir_view { len = 7 }))
+
+-- an answer shows an empty object
+abbrev pub is_empty_view : Told → Bool
+is_empty_view (told.Seen view) = view.len == 0
+is_empty_view said = false
+
+-- isn't honest
+pub a_wrong_view_is_not_honest : Honest listing (long_look ∷ []) → ⊥
+unfolding below
+a_wrong_view_is_not_honest honest = told_apart (λ (outcome : Outcome). is_empty_view outcome.told) _ _ refl refl (sym honest.0)
 
 -- ---- the command
 -- a line of the client is of its only command
