@@ -18,3 +18,4 @@ pub mod Quiet
 pub mod Chosen
 pub mod Reports
 pub mod WholeLog
+pub mod WholeWrite
