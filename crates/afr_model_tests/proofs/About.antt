@@ -1,17 +1,14 @@
 -- The lines of a command: each one that is about what its words name, and some that aren't.
-use Rattle.std.specs.Prelude.{◌≡◌, ℕ, ◌==◌, ◌&&◌, Bool, true, false, List, [], ◌∷◌, Option, Some, None, refl}
+use Rattle.std.specs.Prelude.{◌≡◌, ℕ, ◌==◌, ◌&&◌, Bool, true, false, [], ◌∷◌, Option, Some, None, refl}
 use Rattle.std.proofs.Common.{sym}
 use Rattle.afr_base.specs.Bricks.{member}
-use Rattle.afr_base.specs.declared.ids.KeyId.{KeyId}
 use Rattle.afr_base.specs.declared.ids.Kind.TheVariants.{Bytes, Attrs, Names}
-use Rattle.afr_base.specs.declared.ids.What.TheVariants.{Dir, File}
+use Rattle.afr_base.specs.declared.ids.What.TheVariants.{File}
 use Rattle.afr_object.specs.Tables.{root}
 use Rattle.afr_object.specs.declared.change.Change.TheVariants as change
 use Rattle.afr_object.specs.declared.change.Repair.TheVariants.{CutTo}
 use Rattle.afr_lines.specs.declared.answer.Told.TheVariants as told
-use Rattle.afr_lines.specs.declared.line.Line.{Line}
 use Rattle.afr_lines.specs.declared.line.Line.TheVariants.{HealBegin}
-use Rattle.afr_lines.specs.declared.reply.Reply.{Reply}
 use Rattle.afr_lines.specs.declared.request.Area.TheVariants.{Name, Range}
 use Rattle.afr_lines.specs.declared.request.Request.{Request}
 use Rattle.afr_lines.specs.declared.request.Request.TheVariants as request
@@ -22,7 +19,7 @@ use Rattle.afr_lines.specs.Areas.{kind_for}
 use Rattle.afr_model.specs.Showing.{Path, At, Reading, NotAsked, among}
 use Rattle.afr_model.specs.Standing.{getting}
 use Rattle.afr_model_tests.proofs.Means.{fails, passes, from_some, from_none, is_area, is_none, is_object, told_apart}
-use Rattle.afr_model_tests.proofs.Words.{plan, work_of, file, file_entry, file_name, file_path, new_name, child, child_area, child_found, creates, reads, removes, writes, write_area, write_change, name_area, led_to_file, name_line, ask, at_each, at_two, begin, client, pre, apply, post, lock, lock_failed, unlock, look_root, look_file, look_failed, ready, written, dir_view, object}
+use Rattle.afr_model_tests.proofs.Words.{plan, work_of, file, file_entry, file_path, new_name, creates, reads, writes, write_area, write_change, name_area, led_to_file, name_line, ask, at_each, at_two, begin, client, pre, apply, lock, lock_failed, unlock, look_root, look_file, look_failed, ready, written, object}
 
 -- ---- which read may come
 -- a name is read after three looks

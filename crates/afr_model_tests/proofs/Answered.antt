@@ -1,5 +1,5 @@
 -- The end of a command: replies that have their cause, and some that have none.
-use Rattle.std.specs.Prelude.{◌≡◌, ◌⊎◌, ℕ, ◌==◌, Bool, true, false, List, [], ◌∷◌, Option, Some, None, refl}
+use Rattle.std.specs.Prelude.{◌≡◌, ◌⊎◌, ◌==◌, Bool, true, false, List, [], ◌∷◌, Option, Some, None, refl}
 use Rattle.std.proofs.Common.{arith, inl, inr, subst, sym}
 use Rattle.afr_base.specs.declared.ids.Kind.TheVariants.{Bytes}
 use Rattle.afr_lines.specs.declared.answer.Told.TheVariants as told
@@ -18,10 +18,10 @@ use Rattle.afr_object.specs.declared.entry.View.{View}
 use Rattle.afr_model.specs.Moved.{len_in}
 use Rattle.afr_model.specs.Showing.{At, NotAsked, Path, Reading, begins_attempt, has, is_faulted, looked_by, refuses_read}
 use Rattle.afr_model.specs.Answered.{IsAnswered, IsAsked, IsCaused, IsStat, answer}
-use Rattle.afr_model_tests.proofs.Means.{each_of_three, fails, from_none, from_some, is_none, passes, told_apart}
+use Rattle.afr_model_tests.proofs.Means.{each_of_three, fails, from_none, told_apart}
 use Rattle.afr_model_tests.proofs.Skipped.{a_write_skips_nothing}
-use Rattle.afr_model_tests.proofs.Skipping.{all_locked, all_looked, from_members}
-use Rattle.afr_model_tests.proofs.Words.{child_area, child_entry, child_found, child_listed, look_child, name_area, name_line, new_name, removes, plan, work_of, file, file_entry, file_name, file_path, file_view, creates, reads, writes, write_area, write_change, led_to_file, ask, at_each, at_two, begin, pre, apply, post, lock, unlock, look_root, look_file, look_failed, ready, written}
+use Rattle.afr_model_tests.proofs.Skipping.{all_looked, from_members}
+use Rattle.afr_model_tests.proofs.Words.{child_area, child_entry, child_found, child_listed, look_child, name_area, name_line, new_name, removes, plan, work_of, file, file_entry, file_name, file_path, file_view, creates, reads, writes, write_area, write_change, led_to_file, ask, at_each, begin, pre, apply, post, lock, unlock, look_root, look_file, look_failed, ready, written}
 
 -- ---- tests of replies
 abbrev pub is_ok : Reply → Bool

@@ -1,5 +1,5 @@
 -- Accusations that have their cause, and some that have none.
-use Rattle.std.specs.Prelude.{◌≡◌, ℕ, ◌&&◌, not, Bool, true, false, List, [], ◌∷◌, refl}
+use Rattle.std.specs.Prelude.{◌≡◌, not, Bool, true, false, List, [], ◌∷◌, refl}
 use Rattle.std.specs.List.{list_all}
 use Rattle.std.proofs.Common.{sym}
 use Rattle.afr_base.specs.Bricks.{and_left, and_right, below, is_nothing}
@@ -10,7 +10,7 @@ use Rattle.afr_lines.specs.declared.request.Request.TheVariants as request
 use Rattle.afr_plan.specs.declared.plan.Plan.{Plan}
 use Rattle.afr_model.specs.Blamed.{AreBlamed, Blames, IsBlaming}
 use Rattle.afr_model_tests.proofs.Means.{fails, passes, told_apart}
-use Rattle.afr_model_tests.proofs.Words.{apply, at_each, at_two, begin, file, half_done, half_written, plan, post, pre, ready, work_of, write_change, written}
+use Rattle.afr_model_tests.proofs.Words.{apply, at_each, at_two, begin, file, half_done, half_written, plan, post, pre, ready, work_of, write_change}
 
 -- a line is a post-op
 abbrev pub posts : Line → Bool

@@ -1,21 +1,19 @@
 -- Reads and heals whose copy the rules picked, and some whose copy they didn't; both rules pick the lowest good copy.
-use Rattle.std.specs.Prelude.{◌≡◌, ℕ, ◌==◌, Bool, true, false, List, [], ◌∷◌, Option, Some, None, refl}
+use Rattle.std.specs.Prelude.{◌≡◌, ℕ, ◌==◌, Bool, [], ◌∷◌, refl}
 use Rattle.std.proofs.Common.{ap, sym, ◌∙◌}
-use Rattle.afr_base.specs.declared.ids.Kind.TheVariants.{Bytes, Names}
+use Rattle.afr_base.specs.declared.ids.Kind.TheVariants.{Bytes}
 use Rattle.afr_object.specs.Tables.{root}
 use Rattle.afr_object.specs.declared.change.Repair.TheVariants.{CutTo}
 use Rattle.afr_lines.specs.declared.answer.Told.TheVariants as told
-use Rattle.afr_lines.specs.declared.line.Line.{Line}
 use Rattle.afr_lines.specs.declared.reply.Good.TheVariants as good
 use Rattle.afr_lines.specs.declared.reply.HealReply.TheVariants as healed
 use Rattle.afr_lines.specs.declared.reply.Reply.TheVariants as reply
 use Rattle.afr_lines.specs.declared.request.Request.TheVariants as request
-use Rattle.afr_model.specs.Chosen.{AllKeep, HasSource, IsChosen, Picks, ReadsPicked, SourcePicked, candidates_of}
+use Rattle.afr_model.specs.Chosen.{IsChosen, Picks, ReadsPicked, SourcePicked, candidates_of}
 use Rattle.afr_choice.specs.Looks.{view_at}
-use Rattle.afr_model.specs.Healing.{first_by}
 use Rattle.afr_model.specs.Moved.{len_in}
 use Rattle.afr_model.specs.Showing.{looked_by}
-use Rattle.afr_model_tests.proofs.HealWords.{attrs_healed, heal_ends, heal_of, listed, opened, raise, raised, settled}
+use Rattle.afr_model_tests.proofs.HealWords.{attrs_healed, heal_ends, opened, raised, settled}
 use Rattle.afr_model_tests.proofs.Means.{fails, told_apart}
 use Rattle.afr_model_tests.proofs.Words.{ask, at_each, at_two, ends, file, file_entry, file_name, heal_ask, led_to_file, look_failed, look_file, look_root, plan, work_of}
 

@@ -1,5 +1,5 @@
 -- Lines that are what the plan has for their moment, and some that aren't.
-use Rattle.std.specs.Prelude.{◌≡◌, ℕ, ◌<◌, ◌≤◌, ◌==◌, ◌&&◌, Bool, true, false, List, [], ◌∷◌, Option, Some, None, length, slice_get, refl}
+use Rattle.std.specs.Prelude.{◌≡◌, ℕ, ◌<◌, ◌≤◌, ◌==◌, Bool, false, [], ◌∷◌, Option, Some, None, slice_get, refl}
 use Rattle.std.proofs.Common.{ap, arith, subst, sym}
 use Rattle.afr_base.specs.declared.ids.Kind.TheVariants.{Bytes}
 use Rattle.afr_base.specs.declared.ids.NameId.{NameId}
@@ -8,7 +8,6 @@ use Rattle.afr_object.specs.Tables.{is_dir, root}
 use Rattle.afr_object.specs.declared.change.Change.{Change}
 use Rattle.afr_object.specs.declared.change.Change.TheVariants as change
 use Rattle.afr_lines.specs.declared.line.Event.TheVariants as event
-use Rattle.afr_lines.specs.declared.line.Line.{Line}
 use Rattle.afr_lines.specs.declared.line.Line.TheVariants.{Begin, HealBegin}
 use Rattle.afr_lines.specs.declared.line.Line.TheVariants as line_of
 use Rattle.afr_lines.specs.declared.answer.Told.TheVariants as told
@@ -22,8 +21,8 @@ use Rattle.afr_model.specs.Actors.{IsActor}
 use Rattle.afr_model.specs.Commands.{path_of}
 use Rattle.afr_model.specs.Following.{Follows, IsFollowing, IsNextEvent, IsNextName, IsTurnOf, KeepsTo, KeepsToTask, Names, NoneDue}
 use Rattle.afr_model.specs.Showing.{At, Path, root_entry}
-use Rattle.afr_model_tests.proofs.Means.{fails, from_none, from_some, passes, told_apart}
-use Rattle.afr_model_tests.proofs.Words.{at_each, begin, brick, child, child_found, client, creates, ends, file, file_entry, file_name, file_path, heal_ask, healer, led_to_file, lock, look_root, name_area, name_line, new_name, object, plan, ready, removes, work_of, write_change, writes}
+use Rattle.afr_model_tests.proofs.Means.{from_none, from_some, passes, told_apart}
+use Rattle.afr_model_tests.proofs.Words.{at_each, begin, brick, child_found, client, creates, ends, file, file_entry, file_name, file_path, heal_ask, healer, led_to_file, lock, look_root, name_area, name_line, new_name, object, plan, ready, removes, work_of, write_change, writes}
 
 -- ---- names
 -- the path's next name, in the root

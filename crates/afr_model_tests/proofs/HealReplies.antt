@@ -1,11 +1,10 @@
 -- The replies of heals and rounds: each with its cause, and some without.
-use Rattle.std.specs.Prelude.{◌≡◌, ℕ, ◌<◌, ◌==◌, ◌||◌, Bool, true, false, List, [], ◌∷◌, Option, Some, None, refl}
+use Rattle.std.specs.Prelude.{◌≡◌, ◌==◌, ◌||◌, Bool, true, false, [], ◌∷◌, Option, Some, None, refl}
 use Rattle.std.proofs.Common.{arith, sym}
 use Rattle.afr_base.specs.Bricks.{below, member}
 use Rattle.afr_base.specs.declared.ids.Kind.TheVariants.{Bytes, Attrs}
 use Rattle.afr_base.specs.declared.marks.Marks.{Marks}
 use Rattle.afr_lines.specs.declared.answer.Told.TheVariants as told
-use Rattle.afr_lines.specs.declared.line.Line.{Line}
 use Rattle.afr_lines.specs.declared.line.Line.TheVariants.{End}
 use Rattle.afr_lines.specs.declared.reply.Good.TheVariants as good
 use Rattle.afr_lines.specs.declared.reply.HealReply.{HealReply}
@@ -16,11 +15,11 @@ use Rattle.afr_lines.specs.declared.request.Area.TheVariants.{Range}
 use Rattle.afr_lines.specs.declared.request.Request.TheVariants as request
 use Rattle.afr_range_locks.specs.declared.domain.Domain.TheVariants as domain
 use Rattle.afr_model.specs.HealReplies.{IsHealAnswered, IsHealAsked, IsHealing, IsSettling, heal_reply}
-use Rattle.afr_model.specs.Healing.{changed_by, first_by, holders_in, less_at, source_of, whole_of}
+use Rattle.afr_model.specs.Healing.{changed_by, first_by, less_at, source_of, whole_of}
 use Rattle.afr_model.specs.Moved.{moved_by}
 use Rattle.afr_model.specs.Showing.{among}
 use Rattle.afr_model.specs.Standing.{getting}
-use Rattle.afr_model_tests.proofs.HealWords.{attrs_healed, heal_ends, heal_lock, heal_look, heal_of, heals, index, less_0, less_1, less_2, listed, locked, moved, opened, raise, raised, round_of, settle, settled, shown, work_lock, wrote}
+use Rattle.afr_model_tests.proofs.HealWords.{attrs_healed, heal_ends, heal_lock, heal_look, heal_of, heals, less_0, less_1, less_2, listed, locked, moved, opened, raise, raised, round_of, settle, settled, shown, work_lock, wrote}
 use Rattle.afr_model_tests.proofs.Means.{each_of_three, fails, is_none, passes, told_apart}
 use Rattle.afr_model_tests.proofs.Skipping.{from_members}
 use Rattle.afr_model_tests.proofs.Words.{at_each, at_two, file, heal_ask, healer, other, plan}
@@ -155,11 +154,15 @@ short_at_once_asked_nobody answered = fails ((answered.asked refl).locked 0 (ome
 -- a settling that was told Failed ends with failed
 pub a_failed_settling_ends_with_failed : IsHealAnswered plan.shape file Bytes (heal_of (heal_ask 2 (request.Settle file Bytes less_2) told.Failed ∷ settle less_1 1 ∷ settle less_0 0 ∷ raised)) healed.Failed
 unfolding below
-a_failed_settling_ends_with_failed = record { caused = refl; failed = λ same. refl; asked = λ free. record {
+a_failed_settling_ends_with_failed = record {
+  caused = refl;
+  failed = λ same. refl;
+  asked = λ free. record {
     locked = each_of_three _ refl;
     worked = λ most b got. got;
     looked = λ most b got. from_members (λ x. member (first_by (heal_of settled)).looked.reached x || member (first_by (heal_of settled)).missing x) (among (getting (whole_of file Bytes)) (heal_of settled)) refl b got;
-  } }
+  };
+}
 
 -- failed, though no brick failed
 pub no_failed_without_a_failure : IsHealAnswered plan.shape file Bytes (heal_of (settle less_1 1 ∷ settle less_0 0 ∷ raised)) healed.Failed → ⊥

@@ -1,7 +1,6 @@
 -- The words of the samples on heals: a round of brick 0 after a write that brick 2 missed.
-use Rattle.std.specs.Prelude.{ℕ, ◌∷◌, [], List, Option, Some, None}
+use Rattle.std.specs.Prelude.{ℕ, ◌∷◌, [], List}
 use Rattle.afr_base.specs.Marks.{closed_op, no_marks, zero_marks}
-use Rattle.afr_base.specs.declared.ids.Gfid.{Gfid}
 use Rattle.afr_base.specs.declared.ids.Kind.{Kind}
 use Rattle.afr_base.specs.declared.ids.Kind.TheVariants.{Bytes, Attrs}
 use Rattle.afr_base.specs.declared.ids.What.TheVariants.{File}
@@ -17,7 +16,7 @@ use Rattle.afr_lines.specs.declared.reply.HealReply.TheVariants as healed
 use Rattle.afr_lines.specs.declared.request.Request.TheVariants as request
 use Rattle.afr_range_locks.specs.declared.domain.Domain.TheVariants as domain
 use Rattle.afr_model.specs.Healing.{heal_by, whole_of}
-use Rattle.afr_model_tests.proofs.Words.{at_each, at_two, brick, file, file_view, half_written, heal_ask, healer}
+use Rattle.afr_model_tests.proofs.Words.{at_each, at_two, file, file_view, half_written, heal_ask, healer}
 
 -- ---- works
 -- the healer's present round, and its present heal

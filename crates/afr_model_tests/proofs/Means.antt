@@ -1,7 +1,7 @@
 -- The means of the samples: how two values are told apart, and how a fact of every brick is computed.
-use Rattle.std.specs.Prelude.{◌≡◌, ℕ, ◌<◌, ◌==◌, Bool, true, false, List, [], ◌∷◌, Option, Some, None}
+use Rattle.std.specs.Prelude.{◌≡◌, ℕ, ◌<◌, ◌==◌, Bool, true, false, List, Option, Some, None}
 use Rattle.std.proofs.Common.{ap, subst, sym, ◌∙◌}
-use Rattle.afr_base.specs.Bricks.{IsIn, is_nothing, minus, member, passes_below, from_table}
+use Rattle.afr_base.specs.Bricks.{IsIn, is_nothing, minus, passes_below, from_table}
 use Rattle.afr_base.specs.SetLemmas.{none_left}
 use Rattle.afr_base.specs.declared.ids.Gfid.{Gfid}
 use Rattle.afr_lines.specs.Overlap.{same_area}

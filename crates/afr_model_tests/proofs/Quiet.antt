@@ -1,17 +1,14 @@
 -- A round that nothing disturbed, and rounds that something did.
-use Rattle.std.specs.Prelude.{◌≡◌, ◌⊎◌, ℕ, ◌==◌, Bool, true, false, List, [], ◌∷◌, refl}
+use Rattle.std.specs.Prelude.{◌≡◌, ◌⊎◌, ℕ, ◌==◌, Bool, true, false, [], ◌∷◌, refl}
 use Rattle.std.proofs.Common.{arith, inl, inr, sym}
 use Rattle.afr_lines.specs.Work.{Work, work, is_killed}
 use Rattle.afr_lines.specs.declared.answer.Told.TheVariants as told
-use Rattle.afr_lines.specs.declared.line.Event.TheVariants as event
-use Rattle.afr_lines.specs.declared.line.Line.{Line}
-use Rattle.afr_lines.specs.declared.line.Line.TheVariants as line_of
 use Rattle.afr_lines.specs.declared.request.Request.TheVariants as request
 use Rattle.afr_model.specs.Actors.{IsActor}
 use Rattle.afr_model.specs.Quiet.{IsQuiet}
 use Rattle.afr_model_tests.proofs.HealWords.{index}
 use Rattle.afr_model_tests.proofs.Means.{fails, passes, told_apart}
-use Rattle.afr_model_tests.proofs.Words.{client, heal_ask, look_root, plan}
+use Rattle.afr_model_tests.proofs.Words.{heal_ask, look_root, plan}
 
 -- the healer of the plan
 healer_17 : IsActor plan 17

@@ -1,11 +1,7 @@
 -- Why a command can't go on: for each cause a work that has it, and one that goes on.
-use Rattle.std.specs.Prelude.{◌≡◌, ℕ, ◌==◌, ◌&&◌, Bool, true, false, List, [], ◌∷◌, Option, Some, None, replicate, refl}
-use Rattle.afr_base.specs.Marks.{no_marks, zero_marks}
-use Rattle.afr_base.specs.declared.ids.Gfid.{Gfid}
+use Rattle.std.specs.Prelude.{◌≡◌, [], ◌∷◌, Some, None, refl}
 use Rattle.afr_object.specs.Tables.{root}
-use Rattle.afr_object.specs.declared.entry.View.{View}
 use Rattle.afr_lines.specs.declared.answer.Told.TheVariants as told
-use Rattle.afr_lines.specs.declared.line.Line.{Line}
 use Rattle.afr_lines.specs.declared.reply.Good.TheVariants as good
 use Rattle.afr_lines.specs.declared.reply.Reply.TheVariants as reply
 use Rattle.afr_lines.specs.declared.request.Request.TheVariants as request

@@ -1,13 +1,12 @@
 -- Lines of a task, and a line of none.
-use Rattle.std.specs.Prelude.{◌≡◌, ◌≤◌, List, [], ◌∷◌, Some, refl}
+use Rattle.std.specs.Prelude.{[], ◌∷◌, refl}
 use Rattle.std.proofs.Common.{arith}
-use Rattle.afr_object.specs.Tables.{root}
 use Rattle.afr_object.specs.declared.change.Repair.TheVariants.{CutTo}
 use Rattle.afr_lines.specs.declared.answer.Told.TheVariants as told
 use Rattle.afr_lines.specs.declared.reply.Reply.TheVariants as reply
 use Rattle.afr_lines.specs.declared.request.Request.TheVariants as request
 use Rattle.afr_model.specs.Answered.{IsAbout}
-use Rattle.afr_model.specs.Replied.{IsOfTask, IsReplied, Replied}
+use Rattle.afr_model.specs.Replied.{IsOfTask, Replied}
 use Rattle.afr_model_tests.proofs.Answered.{no_quorum_that_asked_nobody}
 use Rattle.afr_model_tests.proofs.Means.{from_none, from_some}
 use Rattle.afr_model_tests.proofs.Words.{ask, client, ends, file, look_root, plan, work_of, writes}

@@ -1,9 +1,8 @@
 -- The texts of replies, objects, heals and rounds.
-use Rattle.std.specs.Prelude.{◌≡◌, ℕ, Bool, true, false, List, [], ◌∷◌, Option, Some, None, codes, refl}
+use Rattle.std.specs.Prelude.{◌≡◌, [], ◌∷◌, Some, None, codes, refl}
 use Rattle.std.specs.Fmt.{digits}
 use Rattle.hex.specs.Hex.{encode_with}
 use Rattle.uuid.specs.Text.{by_index}
-use Rattle.afr_base.specs.Bricks.{below}
 use Rattle.afr_base.specs.Text.{gfid_spelling}
 use Rattle.afr_base.specs.declared.ids.Kind.TheVariants.{Attrs, Bytes}
 use Rattle.afr_marks.specs.declared.attribute.Which.TheVariants.{Client, Dirty}
@@ -12,13 +11,13 @@ use Rattle.afr_lines.specs.declared.reply.HealReply.TheVariants as healed
 use Rattle.afr_lines.specs.declared.reply.Reply.TheVariants as reply
 use Rattle.afr_plan.specs.declared.plan.Words.{Words}
 use Rattle.afr_model.specs.ReportHealers.{heal_line, round_lines}
-use Rattle.afr_model.specs.ReportObjects.{mark_line, marked_on, one_if_split, verdict_line}
-use Rattle.afr_model.specs.ReportReplies.{actor_text, heal_text, reply_text}
+use Rattle.afr_model.specs.ReportObjects.{mark_line, one_if_split, verdict_line}
+use Rattle.afr_model.specs.ReportReplies.{heal_text, reply_text}
 use Rattle.afr_model.specs.Splits.{looked_at}
 use Rattle.afr_choice.specs.Looks.{view_at}
-use Rattle.afr_model_tests.proofs.HealWords.{heal_ends, wrote}
+use Rattle.afr_model_tests.proofs.HealWords.{heal_ends}
 use Rattle.afr_model_tests.proofs.Splits.{all_accused, accusing_each_other}
-use Rattle.afr_model_tests.proofs.Words.{brick, child_entry, file, file_entry, half_written, new_name, other, plan}
+use Rattle.afr_model_tests.proofs.Words.{brick, child_entry, file, file_entry, half_written, other, plan}
 
 -- the words of a plan: the names b and a, and the value red
 abbrev pub words : Words

@@ -1,5 +1,5 @@
 -- Rounds: the index first, then the heals of its list in order, and nothing else.
-use Rattle.std.specs.Prelude.{◌≡◌, ℕ, ◌==◌, Bool, true, false, List, [], ◌∷◌, Option, Some, None, refl}
+use Rattle.std.specs.Prelude.{◌≡◌, ◌==◌, Bool, true, false, [], ◌∷◌, Option, Some, None, refl}
 use Rattle.std.proofs.Common.{ap, sym, ◌∙◌}
 use Rattle.afr_base.specs.declared.ids.BrickId.{BrickId}
 use Rattle.afr_base.specs.declared.ids.Gfid.{Gfid}
@@ -14,10 +14,10 @@ use Rattle.afr_lines.specs.declared.reply.Good.TheVariants as good
 use Rattle.afr_lines.specs.declared.reply.HealReply.TheVariants as healed
 use Rattle.afr_lines.specs.declared.reply.Reply.TheVariants as reply
 use Rattle.afr_lines.specs.declared.request.Request.TheVariants as request
-use Rattle.afr_model.specs.Rounds.{IsHealed, IsOfHeal, KeepsToRound, heal_due, heals_of, listed_by}
+use Rattle.afr_model.specs.Rounds.{IsOfHeal, KeepsToRound, heals_of, listed_by}
 use Rattle.afr_model_tests.proofs.HealWords.{attrs_healed, heal_ends, heals, index, listed, round_of, settled}
 use Rattle.afr_model_tests.proofs.Means.{from_none, is_none, told_apart}
-use Rattle.afr_model_tests.proofs.Words.{begin, brick, file, file_name, half_written, heal_ask, healer, object, plan, write_change}
+use Rattle.afr_model_tests.proofs.Words.{begin, brick, file, file_name, half_written, heal_ask, healer, plan, write_change}
 
 -- ---- the list
 -- the write that brick 2 missed left a number on brick 0's copy of the file

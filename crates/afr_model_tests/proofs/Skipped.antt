@@ -1,10 +1,9 @@
 -- What an ended command has asked, and works that skip something.
-use Rattle.std.specs.Prelude.{◌≡◌, ℕ, ◌<◌, Bool, true, false, List, [], ◌∷◌, Option, Some, None, refl}
+use Rattle.std.specs.Prelude.{◌≡◌, [], ◌∷◌, Some, None, refl}
 use Rattle.std.proofs.Common.{ap, arith, subst}
-use Rattle.afr_base.specs.declared.ids.Kind.TheVariants.{Bytes, Names}
+use Rattle.afr_base.specs.declared.ids.Kind.TheVariants.{Bytes}
 use Rattle.afr_object.specs.Tables.{root}
 use Rattle.afr_lines.specs.declared.answer.Told.TheVariants as told
-use Rattle.afr_lines.specs.declared.line.Line.{Line}
 use Rattle.afr_lines.specs.declared.request.Request.TheVariants as request
 use Rattle.afr_base.specs.declared.ids.What.TheVariants.{Dir}
 use Rattle.afr_object.specs.declared.change.Change.TheVariants as change
@@ -13,9 +12,9 @@ use Rattle.afr_lines.specs.declared.request.Area.{Area}
 use Rattle.afr_model.specs.Commands.{area_on}
 use Rattle.afr_model.specs.Showing.{At, Path, root_entry}
 use Rattle.afr_model.specs.Skipped.{takers, AsksAll, IsCarried, IsChildLocked, IsLocked, IsLooked, SkipsNothing}
-use Rattle.afr_model_tests.proofs.Means.{all_in, each_of_three, fails, passes, from_some, from_none}
+use Rattle.afr_model_tests.proofs.Means.{each_of_three, fails, from_some}
 use Rattle.afr_model_tests.proofs.Skipping.{all_locked, all_looked}
-use Rattle.afr_model_tests.proofs.Words.{plan, work_of, file, new_name, child, child_area, child_entry, child_found, child_listed, child_removed, file_entry, reads, removes, writes, write_area, write_change, name_area, led_to_file, ask, at_each, at_two, begin, pre, apply, post, lock, lock_failed, look_root, look_file, look_failed, look_child, ready, written}
+use Rattle.afr_model_tests.proofs.Words.{plan, work_of, file, new_name, child, child_area, child_entry, child_found, child_listed, child_removed, file_entry, removes, writes, write_area, write_change, name_area, led_to_file, ask, at_each, at_two, begin, pre, apply, post, lock, look_root, look_file, look_failed, look_child, ready, written}
 
 -- ---- every brick was asked where views stop a command
 -- the looks at the root, two of which failed

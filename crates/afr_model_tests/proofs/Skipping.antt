@@ -1,8 +1,7 @@
 -- How a log is shown to skip nothing: what is to hold of each object and each area is computed for those that its lines name.
 use Rattle.std.specs.Prelude.{◌≡◌, ℕ, ◌==◌, ◌&&◌, ◌||◌, not, Bool, true, false, List, [], ◌∷◌, Option, Some, None, refl}
-use Rattle.std.proofs.Common.{arith, subst, sym, ap}
+use Rattle.std.proofs.Common.{subst, sym, ap}
 use Rattle.std.proofs.lemmas.Bool.{eqb-true}
-use Rattle.std.proofs.lemmas.Bool.Decides.{nat_tests}
 use Rattle.std.specs.List.{list_all}
 use Rattle.afr_base.specs.Bricks.{is_nothing, member, minus, passes_below, from_table, and_left, and_right}
 use Rattle.afr_base.specs.Majority.{is_majority}

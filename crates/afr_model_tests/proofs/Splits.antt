@@ -1,12 +1,10 @@
 -- Logs after which the bricks are split over a file, and logs after which they aren't.
-use Rattle.std.specs.Prelude.{◌≡◌, ℕ, Bool, true, false, List, [], ◌∷◌, refl}
+use Rattle.std.specs.Prelude.{List, [], ◌∷◌, refl}
 use Rattle.std.proofs.Common.{sym}
 use Rattle.afr_base.specs.declared.ids.Kind.TheVariants.{Attrs, Bytes}
 use Rattle.afr_lines.specs.declared.line.Line.{Line}
-use Rattle.afr_choice.specs.Verdict.{verdict_of}
-use Rattle.afr_choice.specs.declared.verdict.Verdict.TheVariants.{Short, Sources}
 use Rattle.afr_model.specs.ReportObjects.{is_split_verdict}
-use Rattle.afr_model.specs.Splits.{IsSplit, looked_at}
+use Rattle.afr_model.specs.Splits.{IsSplit}
 use Rattle.afr_model_tests.proofs.Means.{told_apart}
 use Rattle.afr_model_tests.proofs.Words.{file, plan, post}
 

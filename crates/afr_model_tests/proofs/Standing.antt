@@ -1,22 +1,14 @@
 -- Where a command stands: at which object it looks, what it locks there, and with which locks.
-use Rattle.std.specs.Prelude.{◌≡◌, ℕ, Bool, true, false, List, [], ◌∷◌, Option, Some, None, refl}
-use Rattle.std.proofs.Common.{ap}
-use Rattle.afr_base.specs.Bricks.{member}
-use Rattle.afr_base.specs.Marks.{no_marks}
-use Rattle.afr_base.specs.declared.ids.Kind.TheVariants.{Bytes, Names}
-use Rattle.afr_base.specs.declared.ids.What.TheVariants.{Dir}
+use Rattle.std.specs.Prelude.{◌≡◌, true, false, [], ◌∷◌, Some, None, refl}
+use Rattle.afr_base.specs.declared.ids.Kind.TheVariants.{Bytes}
 use Rattle.afr_object.specs.Tables.{root}
-use Rattle.afr_object.specs.declared.change.Change.TheVariants as change
 use Rattle.afr_lines.specs.declared.answer.Told.TheVariants as told
-use Rattle.afr_lines.specs.declared.line.Line.{Line}
 use Rattle.afr_lines.specs.declared.request.Area.TheVariants.{Name, Range}
 use Rattle.afr_lines.specs.declared.request.Request.TheVariants as request
-use Rattle.afr_plan.specs.declared.plan.Plan.{Plan}
-use Rattle.afr_range_locks.specs.declared.domain.Domain.TheVariants.{Work as WorkDomain}
 use Rattle.afr_model.specs.Showing.{At, NoName, path_by, looked_by, among, root_entry}
 use Rattle.afr_model.specs.Standing.{place_by, looks_here, area_here, up_to, since, asks_name, locks_any, asking, getting, holding, change_by, suffices}
 use Rattle.afr_model_tests.proofs.Means.{told_apart, is_object, is_area}
-use Rattle.afr_model_tests.proofs.Words.{plan, work_of, file, file_name, file_entry, new_name, child, child_area, child_entry, child_found, child_made, creates, removes, writes, write_area, write_change, name_area, led_to_file, name_line, ask, at_each, at_two, lock, lock_failed, lock_held, unlock, look_root, look_file, begin}
+use Rattle.afr_model_tests.proofs.Words.{plan, work_of, file, new_name, child, child_area, child_entry, child_found, child_made, creates, removes, writes, write_area, write_change, name_area, led_to_file, name_line, ask, at_each, at_two, lock, lock_failed, lock_held, unlock, look_root, look_file, begin}
 
 -- ---- the path
 -- after the name of an rmdir its place is still the root

@@ -1,5 +1,5 @@
 -- A whole log that every definition admits: a client lists the root, and nothing is left to do.
-use Rattle.std.specs.Prelude.{◌≡◌, ℕ, ◌<◌, ◌≤◌, ◌==◌, Bool, true, false, List, [], ◌∷◌, Some, None, codes, length, slice_get, refl}
+use Rattle.std.specs.Prelude.{◌≡◌, ℕ, ◌≤◌, ◌==◌, Bool, true, false, List, [], ◌∷◌, Some, codes, length, slice_get, refl}
 use Rattle.std.specs.Fmt.{digits}
 use Rattle.std.proofs.Common.{arith, subst, sym, ◌∙◌}
 use Rattle.afr_base.specs.Bricks.{below}
@@ -59,12 +59,19 @@ none_due older planned same = from_none planned same
 
 -- each line is what the plan has for its moment
 pub a_list_follows_its_plan : Follows listing whole
-a_list_follows_its_plan =
-    ((omega arith, (turn end_line (list_line ∷ at_each look_root []) refl refl tt, none_due (list_line ∷ at_each look_root []))),
-    ((omega arith, (turn list_line (at_each look_root []) refl refl tt, none_due (at_each look_root []))),
-    ((omega arith, (turn (look_root 2) (look_root 1 ∷ look_root 0 ∷ []) refl refl tt, none_due (look_root 1 ∷ look_root 0 ∷ []))),
-    ((omega arith, (turn (look_root 1) (look_root 0 ∷ []) refl refl tt, none_due (look_root 0 ∷ []))),
-    ((omega arith, (turn (look_root 0) [] refl refl tt, none_due [])), tt)))))
+a_list_follows_its_plan = (
+  (omega arith, (turn end_line (list_line ∷ at_each look_root []) refl refl tt, none_due (list_line ∷ at_each look_root []))),
+  (
+    (omega arith, (turn list_line (at_each look_root []) refl refl tt, none_due (at_each look_root []))),
+    (
+      (omega arith, (turn (look_root 2) (look_root 1 ∷ look_root 0 ∷ []) refl refl tt, none_due (look_root 1 ∷ look_root 0 ∷ []))),
+      (
+        (omega arith, (turn (look_root 1) (look_root 0 ∷ []) refl refl tt, none_due (look_root 0 ∷ []))),
+        ((omega arith, (turn (look_root 0) [] refl refl tt, none_due [])), tt),
+      ),
+    ),
+  ),
+)
 
 -- each line was told what its brick then gave
 pub a_list_is_honest : Honest listing whole
@@ -102,12 +109,19 @@ a_list_ends_with_what_was_shown = record {
 
 -- each line is of the command
 pub every_line_is_of_the_list : Replied listing whole
-every_line_is_of_the_list =
-    (task end_line (list_line ∷ at_each look_root []) refl a_list_ends_with_what_was_shown,
-    (task list_line (at_each look_root []) refl (record { unbegun = refl; goes_on = refl; answered = refl; good = refl }, record { object = root_entry; led = refl; named = refl }),
-    (task (look_root 2) (look_root 1 ∷ look_root 0 ∷ []) refl (record { unbegun = refl; unread = refl; object = refl; locked = λ area locks. from_none area locks }),
-    (task (look_root 1) (look_root 0 ∷ []) refl (record { unbegun = refl; unread = refl; object = refl; locked = λ area locks. from_none area locks }),
-    (task (look_root 0) [] refl (record { unbegun = refl; unread = refl; object = refl; locked = λ area locks. from_none area locks }), tt)))))
+every_line_is_of_the_list = (
+  task end_line (list_line ∷ at_each look_root []) refl a_list_ends_with_what_was_shown,
+  (
+    task list_line (at_each look_root []) refl (record { unbegun = refl; goes_on = refl; answered = refl; good = refl }, record { object = root_entry; led = refl; named = refl }),
+    (
+      task (look_root 2) (look_root 1 ∷ look_root 0 ∷ []) refl (record { unbegun = refl; unread = refl; object = refl; locked = λ area locks. from_none area locks }),
+      (
+        task (look_root 1) (look_root 0 ∷ []) refl (record { unbegun = refl; unread = refl; object = refl; locked = λ area locks. from_none area locks }),
+        (task (look_root 0) [] refl (record { unbegun = refl; unread = refl; object = refl; locked = λ area locks. from_none area locks }), tt),
+      ),
+    ),
+  ),
+)
 
 -- ---- the rest
 -- nobody is accused

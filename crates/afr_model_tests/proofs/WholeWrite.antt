@@ -1,15 +1,13 @@
 -- A whole log that every definition admits: a client writes into a file, one brick misses it, and the others accuse it.
-use Rattle.std.specs.Prelude.{◌≡◌, ℕ, ◌<◌, Bool, true, false, List, [], ◌∷◌, Some, None, codes, length, slice_get, refl}
+use Rattle.std.specs.Prelude.{◌≡◌, ℕ, true, false, List, [], ◌∷◌, Some, codes, length, slice_get, refl}
 use Rattle.std.specs.Fmt.{digits}
 use Rattle.hex.specs.Hex.{encode_with}
 use Rattle.uuid.specs.Text.{by_index}
 use Rattle.std.proofs.Common.{arith, sym, ◌∙◌}
 use Rattle.afr_base.specs.Bricks.{below, member}
 use Rattle.afr_base.specs.Text.{gfid_spelling}
-use Rattle.afr_base.specs.declared.ids.Gfid.{Gfid}
 use Rattle.afr_base.specs.declared.ids.Kind.TheVariants.{Bytes}
 use Rattle.afr_faults.specs.declared.fault.Fault.TheVariants.{Fail}
-use Rattle.afr_object.specs.Tables.{root}
 use Rattle.afr_lines.specs.Work.{Work, ended, is_killed, work}
 use Rattle.afr_lines.specs.declared.line.Line.{Line}
 use Rattle.afr_lines.specs.declared.reply.Good.TheVariants as good
@@ -19,12 +17,12 @@ use Rattle.afr_plan.specs.declared.plan.Plan.{Plan}
 use Rattle.afr_model.specs.Actors.{IsActor, script_of}
 use Rattle.afr_model.specs.Answered.{Counts, IsAbout, IsAnswered, IsCaused, LooksHere}
 use Rattle.afr_model.specs.Blamed.{AreBlamed, IsBlaming}
-use Rattle.afr_model.specs.Following.{Follows, IsTurnOf, KeepsTo, KeepsToTask, NoneDue}
+use Rattle.afr_model.specs.Following.{Follows, IsTurnOf, KeepsTo, KeepsToTask}
 use Rattle.afr_model.specs.Honest.{Honest}
 use Rattle.afr_model.specs.Replied.{IsOfTask, Replied}
 use Rattle.afr_model.specs.ReportHealers.{report_of}
 use Rattle.afr_model.specs.Showing.{NotAsked, among, begins_attempt, has, path_by, reading_by, root_entry}
-use Rattle.afr_model.specs.Skipped.{IsCarried, SkipsNothing}
+use Rattle.afr_model.specs.Skipped.{IsCarried}
 use Rattle.afr_model.specs.Standing.{area_here, change_by, getting, looks_here}
 use Rattle.afr_model_tests.proofs.Answered.{is_ok}
 use Rattle.afr_model_tests.proofs.Blamed.{none_blamed}
@@ -55,29 +53,70 @@ turn line older alive first keeps = record { actor = IsActor.Client (omega arith
 
 -- each line is what the plan has for its moment
 pub a_write_follows_its_plan : Follows failing whole
-a_write_follows_its_plan =
-    ((omega arith, (turn _ _ refl refl tt, λ planned same. from_none planned same)),
-    ((omega arith, (turn _ _ refl refl tt, λ planned same. from_none planned same)),
-    ((omega arith, (turn _ _ refl refl tt, λ planned same. from_none planned same)),
-    ((omega arith, (turn _ _ refl refl tt, λ planned same. from_none planned same)),
-    ((omega arith, (turn _ _ refl refl tt, λ planned same. from_none planned same)),
-    ((omega arith, (turn _ _ refl refl tt, λ planned same. from_none planned same)),
-    ((omega arith, (turn _ _ refl refl tt, λ planned same. from_none planned same)),
-    ((omega arith, (turn _ _ refl refl tt, λ planned same. from_none planned same)),
-    ((omega arith, (turn _ _ refl refl tt, λ planned same. from_none planned same)),
-    ((omega arith, (turn _ _ refl refl tt, λ planned same. from_none planned same)),
-    ((omega arith, (turn _ _ refl refl tt, λ planned same. from_none planned same)),
-    ((omega arith, (turn _ _ refl refl (refl, record { object = file_entry; led = refl; named = refl }), λ planned same. from_none planned same)),
-    ((omega arith, (turn _ _ refl refl tt, λ planned same. from_none planned same)),
-    ((omega arith, (turn _ _ refl refl tt, λ planned same. from_none planned same)),
-    ((omega arith, (turn _ _ refl refl tt, λ planned same. from_none planned same)),
-    ((omega arith, (turn _ _ refl refl tt, λ planned same. from_none planned same)),
-    ((omega arith, (turn _ _ refl refl tt, λ planned same. from_none planned same)),
-    ((omega arith, (turn _ _ refl refl tt, λ planned same. from_none planned same)),
-    ((omega arith, (turn _ _ refl refl (record { read = 0; object = root_entry; stands = refl; asked = refl; next = refl }), λ planned same. from_none planned same)),
-    ((omega arith, (turn _ _ refl refl tt, λ planned same. from_none planned same)),
-    ((omega arith, (turn _ _ refl refl tt, λ planned same. from_none planned same)),
-    ((omega arith, (turn _ _ refl refl tt, λ planned same. from_none planned same)), tt))))))))))))))))))))))
+a_write_follows_its_plan = (
+  (omega arith, (turn _ _ refl refl tt, λ planned same. from_none planned same)),
+  (
+    (omega arith, (turn _ _ refl refl tt, λ planned same. from_none planned same)),
+    (
+      (omega arith, (turn _ _ refl refl tt, λ planned same. from_none planned same)),
+      (
+        (omega arith, (turn _ _ refl refl tt, λ planned same. from_none planned same)),
+        (
+          (omega arith, (turn _ _ refl refl tt, λ planned same. from_none planned same)),
+          (
+            (omega arith, (turn _ _ refl refl tt, λ planned same. from_none planned same)),
+            (
+              (omega arith, (turn _ _ refl refl tt, λ planned same. from_none planned same)),
+              (
+                (omega arith, (turn _ _ refl refl tt, λ planned same. from_none planned same)),
+                (
+                  (omega arith, (turn _ _ refl refl tt, λ planned same. from_none planned same)),
+                  (
+                    (omega arith, (turn _ _ refl refl tt, λ planned same. from_none planned same)),
+                    (
+                      (omega arith, (turn _ _ refl refl tt, λ planned same. from_none planned same)),
+                      (
+                        (omega arith, (turn _ _ refl refl (refl, record { object = file_entry; led = refl; named = refl }), λ planned same. from_none planned same)),
+                        (
+                          (omega arith, (turn _ _ refl refl tt, λ planned same. from_none planned same)),
+                          (
+                            (omega arith, (turn _ _ refl refl tt, λ planned same. from_none planned same)),
+                            (
+                              (omega arith, (turn _ _ refl refl tt, λ planned same. from_none planned same)),
+                              (
+                                (omega arith, (turn _ _ refl refl tt, λ planned same. from_none planned same)),
+                                (
+                                  (omega arith, (turn _ _ refl refl tt, λ planned same. from_none planned same)),
+                                  (
+                                    (omega arith, (turn _ _ refl refl tt, λ planned same. from_none planned same)),
+                                    (
+                                      (omega arith, (turn _ _ refl refl (record { read = 0; object = root_entry; stands = refl; asked = refl; next = refl }), λ planned same. from_none planned same)),
+                                      (
+                                        (omega arith, (turn _ _ refl refl tt, λ planned same. from_none planned same)),
+                                        (
+                                          (omega arith, (turn _ _ refl refl tt, λ planned same. from_none planned same)),
+                                          ((omega arith, (turn _ _ refl refl tt, λ planned same. from_none planned same)), tt),
+                                        ),
+                                      ),
+                                    ),
+                                  ),
+                                ),
+                              ),
+                            ),
+                          ),
+                        ),
+                      ),
+                    ),
+                  ),
+                ),
+              ),
+            ),
+          ),
+        ),
+      ),
+    ),
+  ),
+)
 
 -- ---- the command
 -- a line of the client is of its only command
@@ -113,29 +152,70 @@ looks b w unbegun unread object area granted = record { unbegun = unbegun; unrea
 
 -- each line is of the command
 pub every_line_is_of_the_write : Replied failing whole
-every_line_is_of_the_write =
-    (task _ _ refl a_write_that_two_did_is_acknowledged,
-    (task _ _ refl tt,
-    (task _ _ refl tt,
-    (task _ _ refl tt,
-    (task _ _ refl (refl, counts _ refl),
-    (task _ _ refl (refl, counts _ refl),
-    (task _ _ refl refl,
-    (task _ _ refl refl,
-    (task _ _ refl (counts _ refl),
-    (task _ _ refl (counts _ refl),
-    (task _ _ refl (counts _ refl),
-    (task _ _ refl (refl, omega arith),
-    (task _ _ refl (looks _ _ refl refl refl refl refl),
-    (task _ _ refl (looks _ _ refl refl refl refl refl),
-    (task _ _ refl (looks _ _ refl refl refl refl refl),
-    (task _ _ refl (refl, refl),
-    (task _ _ refl (refl, refl),
-    (task _ _ refl (refl, refl),
-    (task _ _ refl (record { unbegun = refl; goes_on = refl; answered = refl; good = refl }),
-    (task _ _ refl (record { unbegun = refl; unread = refl; object = refl; locked = λ area locks. from_none area locks }),
-    (task _ _ refl (record { unbegun = refl; unread = refl; object = refl; locked = λ area locks. from_none area locks }),
-    (task _ _ refl (record { unbegun = refl; unread = refl; object = refl; locked = λ area locks. from_none area locks }), tt))))))))))))))))))))))
+every_line_is_of_the_write = (
+  task _ _ refl a_write_that_two_did_is_acknowledged,
+  (
+    task _ _ refl tt,
+    (
+      task _ _ refl tt,
+      (
+        task _ _ refl tt,
+        (
+          task _ _ refl (refl, counts _ refl),
+          (
+            task _ _ refl (refl, counts _ refl),
+            (
+              task _ _ refl refl,
+              (
+                task _ _ refl refl,
+                (
+                  task _ _ refl (counts _ refl),
+                  (
+                    task _ _ refl (counts _ refl),
+                    (
+                      task _ _ refl (counts _ refl),
+                      (
+                        task _ _ refl (refl, omega arith),
+                        (
+                          task _ _ refl (looks _ _ refl refl refl refl refl),
+                          (
+                            task _ _ refl (looks _ _ refl refl refl refl refl),
+                            (
+                              task _ _ refl (looks _ _ refl refl refl refl refl),
+                              (
+                                task _ _ refl (refl, refl),
+                                (
+                                  task _ _ refl (refl, refl),
+                                  (
+                                    task _ _ refl (refl, refl),
+                                    (
+                                      task _ _ refl (record { unbegun = refl; goes_on = refl; answered = refl; good = refl }),
+                                      (
+                                        task _ _ refl (record { unbegun = refl; unread = refl; object = refl; locked = λ area locks. from_none area locks }),
+                                        (
+                                          task _ _ refl (record { unbegun = refl; unread = refl; object = refl; locked = λ area locks. from_none area locks }),
+                                          (task _ _ refl (record { unbegun = refl; unread = refl; object = refl; locked = λ area locks. from_none area locks }), tt),
+                                        ),
+                                      ),
+                                    ),
+                                  ),
+                                ),
+                              ),
+                            ),
+                          ),
+                        ),
+                      ),
+                    ),
+                  ),
+                ),
+              ),
+            ),
+          ),
+        ),
+      ),
+    ),
+  ),
+)
 
 -- ---- the rest
 -- brick 2 is accused, and nobody else

@@ -29,7 +29,7 @@ use Rattle.afr_range_locks.specs.declared.domain.Domain.TheVariants.{Work as Wor
 use Rattle.afr_plan.specs.declared.command.Command.{Command}
 use Rattle.afr_plan.specs.declared.command.Command.TheVariants as command
 use Rattle.afr_plan.specs.declared.plan.Plan.{Plan}
-use Rattle.afr_model.specs.Showing.{is_fault, root_entry}
+use Rattle.afr_model.specs.Showing.{is_fault}
 use Rattle.afr_model.specs.State.{no_plan}
 
 -- ---- names
