@@ -1,9 +1,8 @@
 -- The end of a command: replies that have their cause, and some that have none.
-use Rattle.std.specs.Prelude.{◌≡◌, ◌⊎◌, ◌==◌, Bool, true, false, List, [], ◌∷◌, Option, Some, None, refl}
+use Rattle.std.specs.Prelude.{◌≡◌, ◌⊎◌, ◌==◌, Bool, true, false, [], ◌∷◌, Option, Some, None, refl}
 use Rattle.std.proofs.Common.{arith, inl, inr, subst, sym}
 use Rattle.afr_base.specs.declared.ids.Kind.TheVariants.{Bytes}
 use Rattle.afr_lines.specs.declared.answer.Told.TheVariants as told
-use Rattle.afr_lines.specs.declared.line.Line.{Line}
 use Rattle.afr_lines.specs.declared.reply.Good.TheVariants as good
 use Rattle.afr_lines.specs.declared.reply.Reply.{Reply}
 use Rattle.afr_lines.specs.declared.reply.Reply.TheVariants as reply
@@ -21,21 +20,25 @@ use Rattle.afr_model.specs.Answered.{IsAnswered, IsAsked, IsCaused, IsStat, answ
 use Rattle.afr_model_tests.proofs.Means.{each_of_three, fails, from_none, told_apart}
 use Rattle.afr_model_tests.proofs.Skipped.{a_write_skips_nothing}
 use Rattle.afr_model_tests.proofs.Skipping.{all_looked, from_members}
-use Rattle.afr_model_tests.proofs.Words.{child_area, child_entry, child_found, child_listed, look_child, name_area, name_line, new_name, removes, plan, work_of, file, file_entry, file_name, file_path, file_view, creates, reads, writes, write_area, write_change, led_to_file, ask, at_each, begin, pre, apply, post, lock, unlock, look_root, look_file, look_failed, ready, written}
+use Rattle.afr_model_tests.proofs.Words.{child_area, child_entry, child_found, child_listed, look_child, name_area, name_line, new_name, removes, plan, work_of, file, file_entry, file_name, file_path, file_view, creates, reads, writes, write_change, led_to_file, ask, at_each, begin, pre, apply, post, lock, look_root, look_file, look_failed, ready, written}
 
 -- ---- tests of replies
+-- the reply is ok
 abbrev pub is_ok : Reply → Bool
 is_ok (reply.Ok given) = true
 is_ok other = false
 
+-- the reply is no-quorum
 abbrev pub is_no_quorum : Reply → Bool
 is_no_quorum reply.NoQuorum = true
 is_no_quorum other = false
 
+-- the command is a stat
 abbrev pub is_stat_command : Command → Bool
 is_stat_command (command.Stat path) = true
 is_stat_command other = false
 
+-- the answer is ok
 abbrev pub is_ok_answer : Option Reply → Bool
 is_ok_answer (Some said) = is_ok said
 is_ok_answer None = false
@@ -132,10 +135,7 @@ nothing_causes_an_early_ok (IsCaused.Answers goes_on entry led answers) = from_n
 nothing_causes_an_early_ok (IsCaused.Stats goes_on path stats entry led stat) = told_apart is_stat_command _ _ refl refl (sym stats)
 
 -- ---- ends
--- a write closed at each brick, then unlocked
-abbrev pub done : List Line
-done = at_each (unlock write_area) written
-
+-- a write closed at each brick ends with ok
 pub a_closed_write_ends_with_ok : IsAnswered plan writes (work_of written) (reply.Ok good.Done)
 a_closed_write_ends_with_ok = record {
   caused = IsCaused.Answers refl file_entry refl refl;

@@ -1,5 +1,5 @@
 -- Accusations that have their cause, and some that have none.
-use Rattle.std.specs.Prelude.{◌≡◌, not, Bool, true, false, List, [], ◌∷◌, refl}
+use Rattle.std.specs.Prelude.{◌≡◌, not, Bool, true, false, List, [], ◌∷◌, ◌++◌, refl}
 use Rattle.std.specs.List.{list_all}
 use Rattle.std.proofs.Common.{sym}
 use Rattle.afr_base.specs.Bricks.{and_left, and_right, below, is_nothing}
@@ -23,6 +23,15 @@ none_blamed p [] calm = tt
 none_blamed p (line ∷ older) calm = (here line (and_left (not (posts line)) _ calm), none_blamed p older (and_right (not (posts line)) _ calm))
   where
     here : (line : Line) → not (posts line) ≡ true → Blames p line older
+    here (Ask a b (request.Post attempt of kind missed) told took) free = fails free
+    here line free = tt
+
+-- lines without a post-op accuse nobody further
+pub none_blamed_after : (p : Plan) (lines older : List Line) → list_all (λ line. not (posts line)) lines ≡ true → AreBlamed p older → AreBlamed p (lines ++ older)
+none_blamed_after p [] older calm blamed = blamed
+none_blamed_after p (line ∷ lines) older calm blamed = (here line (and_left (not (posts line)) _ calm), none_blamed_after p lines older (and_right (not (posts line)) _ calm) blamed)
+  where
+    here : (line : Line) → not (posts line) ≡ true → Blames p line (lines ++ older)
     here (Ask a b (request.Post attempt of kind missed) told took) free = fails free
     here line free = tt
 

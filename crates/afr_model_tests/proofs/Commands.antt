@@ -80,7 +80,7 @@ an_rmdir_asks_names = refl
 pub a_stat_asks_nothing : request_on file (command.Stat file_path) ≡ None
 a_stat_asks_nothing = refl
 
--- a stat of a file needs a good copy of bytes, and one of a directory a good copy of names
+-- a stat of a file needs a good copy of bytes
 pub a_stat_of_a_file_looks_for_bytes : kind_looked (command.Stat file_path) File ≡ Bytes
 a_stat_of_a_file_looks_for_bytes = refl
 

@@ -51,11 +51,12 @@ no_other_name next = told_apart is_file_name _ _ refl refl (subst (λ (read : �
 pub a_create_makes_the_file_9 : Names plan creates (work_of (name_line new_name ∷ at_each look_root (at_each (lock (name_area new_name)) []))) 7 (change.Make root new_name (object 9) File)
 a_create_makes_the_file_9 = record { object = root_entry; led = refl; named = refl }
 
--- the change makes the file 9 or the directory 9
+-- the change makes the object 9
 abbrev pub makes_9 : Option Change → Bool
 makes_9 (Some (change.Make dir name of what)) = of.0 == 9
 makes_9 other = false
 
+-- the change makes a directory
 abbrev pub makes_directory : Option Change → Bool
 makes_directory (Some (change.Make dir name of what)) = is_dir what
 makes_directory other = false
@@ -124,10 +125,11 @@ pub the_healer_asks_its_index : KeepsToTask plan 17 (heal_ask 0 request.Index to
 the_healer_asks_its_index = KeepsToTask.ToRound (omega arith) (brick 0) refl (refl, refl)
 
 -- ---- events
--- the plan with brick 2 stopped after three lines
+-- brick 2 is stopped after three lines
 abbrev pub stops : PlannedEvent
 stops = record { at = 3; event = event.Stop (brick 2) }
 
+-- the plan with that event
 abbrev pub stopping : Plan
 stopping = record plan { events = stops ∷ [] }
 
@@ -139,9 +141,11 @@ nothing_is_due_early planned same = from_some (λ it. 2 < it.at) stops planned (
 pub the_event_is_due : NoneDue stopping (at_each look_root []) → ⊥
 the_event_is_due none = absurd (omega (arith, none stops refl))
 
+-- it comes then
 pub it_comes_when_due : IsNextEvent stopping (event.Stop (brick 2)) (at_each look_root [])
 it_comes_when_due = record { planned = stops; next = refl; same = refl; due = omega arith }
 
+-- and not before
 pub it_does_not_come_early : IsNextEvent stopping (event.Stop (brick 2)) [] → ⊥
 it_does_not_come_early next = from_some (λ it. it.at ≤ 0 → ⊥) stops next.planned (λ early. absurd (omega (arith, early))) next.next next.due
 

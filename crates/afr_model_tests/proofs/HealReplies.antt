@@ -105,10 +105,12 @@ unfolding below
 a_later_accusation_is_moved = refl
 
 -- ---- ends of heals
+-- the reply is settled
 abbrev pub is_settled_reply : Option HealReply → Bool
 is_settled_reply (Some healed.Settled) = true
 is_settled_reply reply = false
 
+-- the reply is failed
 abbrev pub is_failed_reply : HealReply → Bool
 is_failed_reply healed.Failed = true
 is_failed_reply reply = false
@@ -184,6 +186,7 @@ pub no_second_settling : IsSettling plan.shape Bytes less_2 2 (heal_of (settle l
 no_second_settling settling = passes settling.once
 
 -- ---- rounds
+-- the round has failed
 abbrev pub is_failed_round : Reply → Bool
 is_failed_round reply.Failed = true
 is_failed_round said = false

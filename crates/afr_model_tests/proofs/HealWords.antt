@@ -19,10 +19,11 @@ use Rattle.afr_model.specs.Healing.{heal_by, whole_of}
 use Rattle.afr_model_tests.proofs.Words.{at_each, at_two, file, file_view, half_written, heal_ask, healer}
 
 -- ---- works
--- the healer's present round, and its present heal
+-- the healer's present round
 abbrev pub round_of : List Line → Work
 round_of log = work 17 log
 
+-- its present heal
 abbrev pub heal_of : List Line → Work
 heal_of log = heal_by (round_of log)
 
@@ -31,17 +32,19 @@ heal_of log = heal_by (round_of log)
 abbrev pub index : ℕ → Line
 index b = heal_ask b request.Index told.Given
 
--- the start of a heal, or of a later part of it, and its end
+-- the start of a heal, or of a later part of it
 abbrev pub heals : Kind → Line
 heals kind = HealBegin healer file kind
 
+-- the end of a heal
 abbrev pub heal_ends : Kind → HealReply → Line
 heal_ends kind said = HealEnd healer file kind said
 
--- the lock that keeps other heals out, and the one that keeps clients out
+-- the lock that keeps other heals out
 abbrev pub heal_lock : Kind → Told → ℕ → Line
 heal_lock kind said b = heal_ask b (request.Lock domain.Heal (whole_of file kind)) said
 
+-- the lock that keeps clients out
 abbrev pub work_lock : Kind → Told → ℕ → Line
 work_lock kind said b = heal_ask b (request.Lock domain.Work (whole_of file kind)) said
 
@@ -67,10 +70,11 @@ abbrev pub shown : List Line → List Line
 shown older = heal_look (told.Seen file_view) 2 ∷ at_two (heal_look (told.Seen (wrote 2))) older
 
 -- ---- a round
--- a heal locks on each brick, begins, and looks
+-- a heal locks on each brick
 abbrev pub locked : Kind → List Line → List Line
 locked kind older = at_each (work_lock kind told.Granted) (at_each (heal_lock kind told.Granted) older)
 
+-- then it begins and looks
 abbrev pub opened : Kind → List Line → List Line
 opened kind older = shown (heals kind ∷ locked kind older)
 
@@ -86,13 +90,15 @@ attrs_healed = heal_ends Attrs healed.Nothing ∷ opened Attrs listed
 abbrev pub raised : List Line
 raised = raise 2 ∷ raise 1 ∷ opened Bytes attrs_healed
 
--- what the looks and the heal's own pre-ops leave to take back
+-- what is taken back at brick 0
 abbrev pub less_0 : Marks
 less_0 = record { dirty = 0; pending = 0 ∷ 0 ∷ 1 ∷ 0 ∷ 0 ∷ [] }
 
+-- at brick 1, with the heal's pre-op
 abbrev pub less_1 : Marks
 less_1 = record { dirty = 1; pending = 0 ∷ 0 ∷ 1 ∷ 0 ∷ 0 ∷ [] }
 
+-- at brick 2, with the heal's pre-op
 abbrev pub less_2 : Marks
 less_2 = record { dirty = 1; pending = 0 ∷ 0 ∷ 0 ∷ 0 ∷ 0 ∷ [] }
 

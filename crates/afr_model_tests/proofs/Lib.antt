@@ -19,3 +19,4 @@ pub mod Chosen
 pub mod Reports
 pub mod WholeLog
 pub mod WholeWrite
+pub mod WholeRound

@@ -15,6 +15,7 @@ told_apart test one another first second same = absurd (cc (sym first ∙ ap tes
 pub fails : {A : Type 0} → false ≡ true → A
 fails same = absurd (cc same)
 
+-- a test that passes doesn't fail
 pub passes : {A : Type 0} → true ≡ false → A
 passes same = absurd (cc same)
 
@@ -33,6 +34,7 @@ from_some P one another first same = subst P (inside same) first
     inside : Some one ≡ Some another → one ≡ another
     inside equal = cc equal
 
+-- nothing isn't something
 pub from_none : {A B : Type 0} (one : A) → None ≡ Some one → B
 from_none one same = absurd (cc same)
 

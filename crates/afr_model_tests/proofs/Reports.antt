@@ -32,10 +32,11 @@ names_are_in_order = refl
 pub no_names_are_a_dash : reply_text words (reply.Ok (good.Names [])) ≡ codes "ok -"
 no_names_are_a_dash = refl
 
--- a value, and none
+-- a value
 pub a_value : reply_text words (reply.Ok (good.Value (Some (record { 0 = 0 })))) ≡ codes "ok red"
 a_value = refl
 
+-- no value is a dash
 pub no_value_is_a_dash : reply_text words (reply.Ok (good.Value None)) ≡ codes "ok -"
 no_value_is_a_dash = refl
 
@@ -43,11 +44,12 @@ no_value_is_a_dash = refl
 pub bytes_are_digits : reply_text words (reply.Ok (good.Bytes (104 ∷ 10 ∷ []))) ≡ codes "ok 680a"
 bytes_are_digits = refl
 
--- a stat of a file, and of a directory, which has no length
+-- a stat of a file
 pub a_stat_of_a_file : reply_text words (reply.Ok (good.Stat file_entry 5)) ≡ codes "ok file 00000000-0000-0001-0000-000000000001 5"
 unfolding gfid_spelling by_index digits
 a_stat_of_a_file = refl
 
+-- a stat of a directory, which has no length
 pub a_stat_of_a_directory : reply_text words (reply.Ok (good.Stat child_entry 0)) ≡ codes "ok dir 00000000-0000-0000-0000-000000000002"
 unfolding gfid_spelling by_index
 a_stat_of_a_directory = refl
@@ -79,6 +81,7 @@ a_zero_value_has_no_line = refl
 pub a_split_counts : one_if_split plan (looked_at plan all_accused (0 ∷ 1 ∷ 2 ∷ []) file) Bytes ≡ 1
 a_split_counts = refl
 
+-- a file with a good copy doesn't
 pub a_good_third_does_not : one_if_split plan (looked_at plan accusing_each_other (0 ∷ 1 ∷ 2 ∷ []) file) Bytes ≡ 0
 a_good_third_does_not = refl
 

@@ -85,6 +85,7 @@ abbrev pub is_of_root : Option Gfid → Bool
 is_of_root None = false
 is_of_root (Some of) = of.0 == 1
 
+-- the object of the heal that is due
 abbrev pub object_due : Option (Gfid × Kind) → Option Gfid
 object_due None = None
 object_due (Some (of, kind)) = Some of

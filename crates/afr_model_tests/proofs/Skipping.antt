@@ -22,6 +22,7 @@ use Rattle.afr_model.specs.Standing.{asking, getting, locks_area}
 use Rattle.afr_model_tests.proofs.Means.{all_in, fails}
 use Rattle.afr_model_tests.proofs.Words.{object}
 
+-- of two, the first of which fails
 or_right : (one another : Bool) → one ≡ false → (one || another) ≡ true → another ≡ true
 or_right false another first either = either
 or_right true another first either = absurd (cc first)
@@ -32,18 +33,22 @@ abbrev pub look_number : Line → List ℕ → List ℕ
 look_number (Ask a b (request.Look g) told took) s = g.0 ∷ s
 look_number line s = s
 
+-- the same of all lines
 abbrev pub look_numbers : Work → List ℕ
 look_numbers [] = []
 look_numbers (x ∷ w) = look_number x.0 (look_numbers w)
 
+-- either one, or more than the other
 either_more : (one another more : Bool) → (another ≡ true → more ≡ true) → (one || another) ≡ true → (one || more) ≡ true
 either_more true another more grows either = refl
 either_more false another more grows either = grows either
 
+-- a line that looks at an object has its number
 numbered_step : (line : Line) (of : Gfid) (s : List ℕ) (rest : Bool) → (rest ≡ true → member s of.0 ≡ true) → (looks_at of line || rest) ≡ true → member (look_number line s) of.0 ≡ true
 numbered_step (Ask a b (request.Look g) told took) of s rest more either = either_more (g.0 == of.0) rest (member s of.0) more either
 numbered_step line of s rest more either = more either
 
+-- so has a work that looks at it
 numbered : (of : Gfid) (w : Work) → has (looks_at of) w ≡ true → member (look_numbers w) of.0 ≡ true
 numbered of [] looks = looks
 numbered of (x ∷ w) looks = numbered_step x.0 of (look_numbers w) (has (looks_at of) w) (numbered of w) looks
@@ -72,19 +77,24 @@ abbrev pub lock_area : Line → List Area → List Area
 lock_area (Ask a b (request.Lock WorkDomain area) told took) areas = area ∷ areas
 lock_area line areas = areas
 
+-- the same of all lines
 abbrev pub lock_areas : Work → List Area
 lock_areas [] = []
 lock_areas (x ∷ w) = lock_area x.0 (lock_areas w)
 
+-- numbers that a test calls the same are the same
 same_number : (x y : ℕ) → (x == y) ≡ true → x ≡ y
 same_number x y equal = eqb-true x y equal
 
+-- an area of bytes by its numbers
 abbrev range_of : ℕ → ℕ → ℕ → Area
 range_of g from to = Range (object g) from to
 
+-- an area of names by its numbers
 abbrev name_of : ℕ → Option NameId → Area
 name_of g name = Name (object g) name
 
+-- areas that a test calls the same are the same
 same_area_is : (a b : Area) → same_area a b ≡ true → a ≡ b
 same_area_is (Range g from to) (Range h start stop) e =
     let first : ((g.0 == h.0) && (from == start)) ≡ true = and_left ((g.0 == h.0) && (from == start)) (to == stop) e in
@@ -106,6 +116,7 @@ same_area_is (Name g (Some n)) (Range h start stop) e = absurd (cc e)
 same_area_is (Name g None) (Name h (Some m)) e = fails (and_right (g.0 == h.0) false e)
 same_area_is (Name g (Some n)) (Name h None) e = fails (and_right (g.0 == h.0) false e)
 
+-- a line that locks an area has it among its areas, and so the area passes
 area_step : (test : Area → Bool) (line : Line) (areas : List Area) (area : Area) (rest : Bool) → (list_all test areas ≡ true → rest ≡ true → test area ≡ true)
     → list_all test (lock_area line areas) ≡ true → (locks_area area line || rest) ≡ true → test area ≡ true
 area_step test (Ask a b (request.Lock WorkDomain other) told took) areas area rest more all either = here (same_area area other) refl either
@@ -115,6 +126,7 @@ area_step test (Ask a b (request.Lock WorkDomain other) told took) areas area re
     here false equal one = more (and_right (test other) (list_all test areas) all) one
 area_step test line areas area rest more all either = more all either
 
+-- a test that the areas of all lines pass
 from_areas : (test : Area → Bool) (w : Work) → list_all test (lock_areas w) ≡ true → (area : Area) → has (locks_area area) w ≡ true → test area ≡ true
 from_areas test [] all area locked = fails locked
 from_areas test (x ∷ w) all area locked = area_step test x.0 (lock_areas w) area (has (locks_area area) w) (λ each more. from_areas test w each area more) all locked

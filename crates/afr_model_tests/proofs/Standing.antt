@@ -27,10 +27,11 @@ an_rmdir_looks_at_its_child = refl
 pub an_rmdir_does_not_look_back : looks_here removes (path_by plan (work_of child_found)) ≡ Some root → ⊥
 an_rmdir_does_not_look_back same = told_apart (is_object child) _ _ refl refl same
 
--- an rmdir locks the name in the root, and then all of the child
+-- an rmdir locks the name in the root
 pub an_rmdir_locks_the_name : area_here removes (At 0 root_entry) ≡ Some (name_area new_name)
 an_rmdir_locks_the_name = refl
 
+-- and then all of the child
 pub an_rmdir_locks_its_child : area_here removes (path_by plan (work_of child_found)) ≡ Some child_area
 an_rmdir_locks_its_child = refl
 
@@ -38,10 +39,11 @@ an_rmdir_locks_its_child = refl
 pub a_create_does_not_lock_the_root : area_here creates (At 0 root_entry) ≡ Some (Name root None) → ⊥
 a_create_does_not_lock_the_root same = told_apart (is_area (name_area new_name)) _ _ refl refl same
 
--- a write locks nothing on its way, and its range of the file at the path's end
+-- a write locks nothing on its way
 pub a_write_locks_nothing_on_its_way : area_here writes (At 0 root_entry) ≡ None
 a_write_locks_nothing_on_its_way = refl
 
+-- and its range of the file at the path's end
 pub a_write_locks_its_range : area_here writes (path_by plan (work_of led_to_file)) ≡ Some write_area
 a_write_locks_its_range = refl
 
@@ -54,10 +56,11 @@ held_then_granted_was_asked = refl
 pub failed_then_held_was_not : among (asking write_area) (work_of (lock_held write_area 0 ∷ lock_failed write_area 0 ∷ [])) ≡ []
 failed_then_held_was_not = refl
 
--- a lock that failed was asked, but not granted
+-- a lock that failed was asked
 pub a_failed_lock_was_asked : among (asking write_area) (work_of (lock_failed write_area 0 ∷ [])) ≡ 0 ∷ []
 a_failed_lock_was_asked = refl
 
+-- and not granted
 pub a_failed_lock_is_not_granted : among (getting write_area) (work_of (lock_failed write_area 0 ∷ [])) ≡ []
 a_failed_lock_is_not_granted = refl
 
@@ -65,14 +68,15 @@ a_failed_lock_is_not_granted = refl
 pub a_lock_elsewhere_does_not_count : among (getting write_area) (work_of (at_each (lock (Range file 0 6)) [])) ≡ []
 a_lock_elsewhere_does_not_count = refl
 
--- a lock is held until it is released
+-- a lock that was granted is held
 pub a_granted_lock_is_held : among (holding write_area) (work_of (at_two (lock write_area) [])) ≡ 0 ∷ 1 ∷ []
 a_granted_lock_is_held = refl
 
+-- a lock that was released isn't held
 pub a_released_lock_is_not : among (holding write_area) (work_of (unlock write_area 0 ∷ at_two (lock write_area) [])) ≡ 1 ∷ []
 a_released_lock_is_not = refl
 
--- or lost with its session
+-- nor is one that was lost with its session
 pub a_lost_lock_is_not : among (holding write_area) (work_of (ask 1 (request.Look file) told.NotConnected ∷ at_two (lock write_area) [])) ≡ 0 ∷ []
 a_lost_lock_is_not = refl
 
@@ -85,10 +89,11 @@ up_to_a_name = refl
 pub since_the_first_lock : since locks_any (work_of (lock write_area 0 ∷ led_to_file)) ≡ (lock write_area 0, led_to_file) ∷ []
 since_the_first_lock = refl
 
--- the change of a work is that of its last Begin, not of a command that has ended
+-- the change of a work is that of its last Begin
 pub the_change_of_a_work : change_by (work_of (begin write_change ∷ led_to_file)) ≡ Some write_change
 the_change_of_a_work = refl
 
+-- that of a command that has ended isn't the work's
 pub an_ended_change_is_not_of_it : change_by (work_of child_made) ≡ None
 an_ended_change_is_not_of_it = refl
 
@@ -97,10 +102,11 @@ an_ended_change_is_not_of_it = refl
 pub two_good_copies_suffice : suffices plan.shape Bytes (looked_by file (work_of (at_two look_file []))) (0 ∷ 1 ∷ []) ≡ true
 two_good_copies_suffice = refl
 
--- not one brick, nor two without a good copy
+-- one brick doesn't suffice
 pub one_brick_does_not_suffice : suffices plan.shape Bytes (looked_by file (work_of (at_two look_file []))) (0 ∷ []) ≡ false
 one_brick_does_not_suffice = refl
 
+-- nor two bricks without a good copy
 pub two_without_a_good_copy_do_not : suffices plan.shape Bytes (looked_by file (work_of (look_file 2 ∷ []))) (0 ∷ 1 ∷ []) ≡ false
 two_without_a_good_copy_do_not = refl
 

@@ -31,10 +31,11 @@ use Rattle.afr_model_tests.proofs.Means.{fails, from_none, from_some, told_apart
 use Rattle.afr_model_tests.proofs.Skipping.{all_looked}
 use Rattle.afr_model_tests.proofs.Words.{ask, at_each, client, dir_view, ends, file_entry, file_name, look_root, plan_of, work_of}
 
--- the client lists the root; there is no healer
+-- the client lists the root
 abbrev pub lists : Command
 lists = command.Ls []
 
+-- the plan of that command alone; there is no healer
 abbrev pub listing : Plan
 listing = record (plan_of lists) { healers = []; words = record { names = codes "f1" ∷ []; keys = []; values = [] } }
 
@@ -42,9 +43,11 @@ listing = record (plan_of lists) { healers = []; words = record { names = codes 
 abbrev pub list_line : Line
 list_line = ask 0 (request.List root) told.Given
 
+-- it gave the file's name
 abbrev pub end_line : Line
 end_line = ends (reply.Ok (good.Names ((file_name, file_entry) ∷ [])))
 
+-- the whole log
 abbrev pub whole : List Line
 whole = end_line ∷ list_line ∷ at_each look_root []
 

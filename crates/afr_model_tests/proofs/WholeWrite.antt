@@ -32,12 +32,13 @@ use Rattle.afr_model_tests.proofs.Words.{at_each, brick, client, ends, file, fil
 
 -- brick 2 fails the fourth request to it, which is the pre-op
 abbrev pub failing : Plan
-failing = record (plan_of writes) { healers = []; faults = record { brick = brick 2; at = 4; fault = Fail } ∷ []; words = record { names = codes "f1" ∷ []; keys = []; values = [] } }
+failing = record (plan_of writes) { faults = record { brick = brick 2; at = 4; fault = Fail } ∷ []; words = record { names = codes "f1" ∷ []; keys = []; values = [] } }
 
 -- the locks are released after the post-ops
 abbrev pub released : List Line
 released = at_each (unlock write_area) half_written
 
+-- the whole log
 abbrev pub whole : List Line
 whole = ends (reply.Ok good.Done) ∷ released
 
@@ -232,6 +233,6 @@ a_write_accuses_the_one_that_missed_it = (tt, (tt, (tt, (tt, (blaming_1, (blamin
 -- its report: the file needs heal, and two bricks accuse the third
 pub the_report_of_a_write :
     report_of failing whole
-    ≡ codes "afr replica 3\nlines 22\nc1 1 of 1\n1 write ok\nreach 0 1 2\nobjects 1\nobject 00000000-0000-0001-0000-000000000001\ndata good 0 1\nb0 trusted.afr.vol-client-2=0x000000010000000000000000\nb1 trusted.afr.vol-client-2=0x000000010000000000000000\nsplit-brain 0\n"
+    ≡ codes "afr replica 3\nlines 22\nc1 1 of 1\n1 write ok\nh1 0 of 1 unfinished\nreach 0 1 2\nobjects 1\nobject 00000000-0000-0001-0000-000000000001\ndata good 0 1\nb0 trusted.afr.vol-client-2=0x000000010000000000000000\nb1 trusted.afr.vol-client-2=0x000000010000000000000000\nsplit-brain 0\n"
 unfolding below digits encode_with gfid_spelling by_index
 the_report_of_a_write = refl

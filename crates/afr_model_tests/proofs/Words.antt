@@ -70,10 +70,11 @@ abbrev pub file_entry : Entry
 file_entry = record { gfid = file; what = File }
 
 -- ---- commands
--- the path to the file, and the one to a new name
+-- the path to the file
 abbrev pub file_path : List NameId
 file_path = file_name ∷ []
 
+-- the path to a new name
 abbrev pub new_path : List NameId
 new_path = new_name ∷ []
 
@@ -85,15 +86,16 @@ writes = command.Write file_path 0 (1 ∷ 2 ∷ 3 ∷ 4 ∷ 5 ∷ [])
 abbrev pub reads : Command
 reads = command.Read file_path 0 5
 
--- a new file, and a new directory
+-- a new file
 abbrev pub creates : Command
 creates = command.Create new_path
 
 -- ---- the plan
--- three bricks, one file, a client that writes, and a healer with a round of brick 0
+-- three bricks, one file, a client with one command, and a healer with a round of brick 0
 abbrev pub plan_of : Command → Plan
 plan_of first = record no_plan { shape = record { n = 3; arbiter = false }; files = 1; turns = 100; clients = (first ∷ []) ∷ []; healers = (brick 0 ∷ []) ∷ [] }
 
+-- the plan whose client writes
 abbrev pub plan : Plan
 plan = plan_of writes
 
@@ -114,17 +116,19 @@ at_each line older = line 2 ∷ line 1 ∷ line 0 ∷ older
 abbrev pub at_two : (ℕ → Line) → List Line → List Line
 at_two line older = line 1 ∷ line 0 ∷ older
 
--- what a look at an empty directory shows, and at an empty file
+-- what a look at an empty directory shows
 abbrev pub dir_view : View
 dir_view = record { what = Dir; len = 0; marks = no_marks }
 
+-- what a look at an empty file shows
 abbrev pub file_view : View
 file_view = record { what = File; len = 0; marks = no_marks }
 
--- a look at the root, and at the file
+-- a look at the root
 abbrev pub look_root : ℕ → Line
 look_root b = ask b (request.Look root) (told.Seen dir_view)
 
+-- a look at the file
 abbrev pub look_file : ℕ → Line
 look_file b = ask b (request.Look file) (told.Seen file_view)
 
@@ -136,10 +140,11 @@ look_failed of b = ask b (request.Look of) told.Failed
 abbrev pub look_lacking : Gfid → ℕ → Line
 look_lacking of b = ask b (request.Look of) told.NoObject
 
--- a view of the file with one write that this brick missed, and a look that shows it
+-- a view of the file with one write that this brick missed
 abbrev pub accusing_view : ℕ → View
 accusing_view accused = record file_view { marks = record no_marks { bytes = closed_op (accused ∷ []) zero_marks } }
 
+-- a look that shows it
 abbrev pub look_accusing : ℕ → ℕ → Line
 look_accusing accused b = ask b (request.Look file) (told.Seen (accusing_view accused))
 
@@ -147,13 +152,15 @@ look_accusing accused b = ask b (request.Look file) (told.Seen (accusing_view ac
 abbrev pub name_line : NameId → Line
 name_line name = ask 0 (request.ReadName root name) told.Given
 
--- a lock that was granted, one that failed, and one that another holds
+-- a lock that was granted
 abbrev pub lock : Area → ℕ → Line
 lock area b = ask b (request.Lock WorkDomain area) told.Granted
 
+-- a lock that failed
 abbrev pub lock_failed : Area → ℕ → Line
 lock_failed area b = ask b (request.Lock WorkDomain area) told.Failed
 
+-- a lock that another holds
 abbrev pub lock_held : Area → ℕ → Line
 lock_held area b = ask b (request.Lock WorkDomain area) (told.Held other)
 
@@ -161,14 +168,16 @@ lock_held area b = ask b (request.Lock WorkDomain area) (told.Held other)
 abbrev pub unlock : Area → ℕ → Line
 unlock area b = ask b (request.Unlock WorkDomain area) told.Done
 
--- the area of the write, and the name in the root that a create locks
+-- the area of the write
 abbrev pub write_area : Area
 write_area = Range file 0 5
 
+-- the name in the root that a create locks
 abbrev pub name_area : NameId → Area
 name_area name = Name root (Some name)
 
 -- ---- an attempt
+-- the change of the write
 abbrev pub write_change : Change
 write_change = change.Write file 0 (1 ∷ 2 ∷ 3 ∷ 4 ∷ 5 ∷ [])
 
@@ -176,13 +185,15 @@ write_change = change.Write file 0 (1 ∷ 2 ∷ 3 ∷ 4 ∷ 5 ∷ [])
 abbrev pub begin : Change → Line
 begin change = Begin client change
 
--- its pre-op, its operation, and its post-op that accuses these bricks
+-- its pre-op
 abbrev pub pre : Gfid → Kind → ℕ → Line
 pre of kind b = ask b (request.Pre of kind) told.Done
 
+-- its operation
 abbrev pub apply : ℕ → ℕ → Line
 apply attempt b = ask b (request.Apply attempt) told.Done
 
+-- its post-op, which accuses these bricks
 abbrev pub post : ℕ → Gfid → Kind → List ℕ → ℕ → Line
 post attempt of kind missed b = ask b (request.Post attempt of kind missed) told.Done
 
@@ -191,10 +202,11 @@ abbrev pub ends : Reply → Line
 ends reply = End client reply
 
 -- ---- a directory
--- the directory that an attempt at line 0 makes, and its entry
+-- the directory that an attempt at line 0 makes
 abbrev pub child : Gfid
 child = object 2
 
+-- its entry
 abbrev pub child_entry : Entry
 child_entry = record { gfid = child; what = Dir }
 
