@@ -20,3 +20,4 @@ pub mod Reports
 pub mod WholeLog
 pub mod WholeWrite
 pub mod WholeRound
+pub mod RoundReplies

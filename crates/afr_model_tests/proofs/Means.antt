@@ -52,3 +52,11 @@ is_object of (Some one) = one.0 == of.0
 abbrev pub is_area : Area → Option Area → Bool
 is_area area None = false
 is_area area (Some one) = same_area one area
+
+-- facts of two lines, the newer first, and what is known of those before them
+pub two : {A B C : Type 0} → A → B → C → A × (B × C)
+two newer older before = (newer, (older, before))
+
+-- the same of three lines
+pub three : {A B C D : Type 0} → A → B → C → D → A × (B × (C × D))
+three newest newer older before = (newest, (newer, (older, before)))

@@ -1,10 +1,10 @@
 -- A whole log that every definition admits: a client lists the root, and nothing is left to do.
-use Rattle.std.specs.Prelude.{◌≡◌, ℕ, ◌≤◌, ◌==◌, Bool, true, false, List, [], ◌∷◌, Some, codes, length, slice_get, refl}
+use Rattle.std.specs.Prelude.{◌≡◌, ℕ, ◌<◌, ◌≤◌, ◌==◌, Bool, true, false, List, [], ◌∷◌, Some, codes, length, slice_get, refl}
 use Rattle.std.specs.Fmt.{digits}
-use Rattle.std.proofs.Common.{arith, subst, sym, ◌∙◌}
+use Rattle.std.proofs.Common.{ap, arith, subst, sym, ◌∙◌}
 use Rattle.afr_base.specs.Bricks.{below}
 use Rattle.afr_object.specs.Tables.{root}
-use Rattle.afr_lines.specs.Work.{ended, is_killed, work}
+use Rattle.afr_lines.specs.Work.{Work, ended, is_killed, work}
 use Rattle.afr_lines.specs.declared.answer.Told.{Told}
 use Rattle.afr_lines.specs.declared.answer.Told.TheVariants as told
 use Rattle.afr_lines.specs.declared.line.Line.{Line}
@@ -15,7 +15,7 @@ use Rattle.afr_plan.specs.declared.command.Command.{Command}
 use Rattle.afr_plan.specs.declared.command.Command.TheVariants as command
 use Rattle.afr_plan.specs.declared.plan.Plan.{Plan}
 use Rattle.afr_model.specs.Actors.{IsActor, is_done, script_of}
-use Rattle.afr_model.specs.Answered.{IsAbout, IsAnswered, IsCaused}
+use Rattle.afr_model.specs.Answered.{IsAbout, IsAnswered, IsCaused, LooksHere}
 use Rattle.afr_model.specs.Blamed.{AreBlamed}
 use Rattle.afr_model.specs.Chosen.{IsChosen}
 use Rattle.afr_model.specs.Complete.{IsFinished}
@@ -23,11 +23,12 @@ use Rattle.afr_model.specs.Following.{Follows, IsTurnOf, KeepsTo, KeepsToTask, N
 use Rattle.afr_model.specs.Honest.{Honest, Outcome}
 use Rattle.afr_model.specs.Replied.{IsOfTask, Replied}
 use Rattle.afr_model.specs.ReportHealers.{report_of}
-use Rattle.afr_model.specs.Showing.{root_entry}
+use Rattle.afr_model.specs.Showing.{At, NotAsked, begins_attempt, has, path_by, reading_by, root_entry}
+use Rattle.afr_model.specs.Standing.{area_here, looks_here}
 use Rattle.afr_model_tests.proofs.Answered.{is_ok}
 use Rattle.afr_model_tests.proofs.Blamed.{none_blamed}
 use Rattle.afr_model_tests.proofs.Chosen.{lowest}
-use Rattle.afr_model_tests.proofs.Means.{fails, from_none, from_some, told_apart}
+use Rattle.afr_model_tests.proofs.Means.{fails, from_none, from_some, three, told_apart, two}
 use Rattle.afr_model_tests.proofs.Skipping.{all_looked}
 use Rattle.afr_model_tests.proofs.Words.{ask, at_each, client, dir_view, ends, file_entry, file_name, look_root, plan_of, work_of}
 
@@ -53,28 +54,13 @@ whole = end_line ∷ list_line ∷ at_each look_root []
 
 -- ---- the plan
 -- a line of the client's only command
-turn : (line : Line) (older : List Line) → is_killed 1 older ≡ false → slice_get (script_of listing 1) (ended 1 older) ≡ Some lists → KeepsTo listing lists line (length older) (work 1 older) → IsTurnOf listing 1 line older
-turn line older alive first keeps = record { actor = IsActor.Client (omega arith) (omega arith); alive = alive; keeps = KeepsToTask.ToCommand lists first keeps }
-
--- the plan has no event
-none_due : (older : List Line) → NoneDue listing older
-none_due older planned same = from_none planned same
+row : {line : Line} {older : List Line} → length older < 100 → is_killed 1 older ≡ false → slice_get (script_of listing 1) (ended 1 older) ≡ Some lists → KeepsTo listing lists line (length older) (work 1 older)
+    → (length older < 100) × (IsTurnOf listing 1 line older × NoneDue listing older)
+row few alive first keeps = (few, (record { actor = IsActor.Client (omega arith) (omega arith); alive = alive; keeps = KeepsToTask.ToCommand lists first keeps }, λ planned same. from_none planned same))
 
 -- each line is what the plan has for its moment
 pub a_list_follows_its_plan : Follows listing whole
-a_list_follows_its_plan = (
-  (omega arith, (turn end_line (list_line ∷ at_each look_root []) refl refl tt, none_due (list_line ∷ at_each look_root []))),
-  (
-    (omega arith, (turn list_line (at_each look_root []) refl refl tt, none_due (at_each look_root []))),
-    (
-      (omega arith, (turn (look_root 2) (look_root 1 ∷ look_root 0 ∷ []) refl refl tt, none_due (look_root 1 ∷ look_root 0 ∷ []))),
-      (
-        (omega arith, (turn (look_root 1) (look_root 0 ∷ []) refl refl tt, none_due (look_root 0 ∷ []))),
-        ((omega arith, (turn (look_root 0) [] refl refl tt, none_due [])), tt),
-      ),
-    ),
-  ),
-)
+a_list_follows_its_plan = two (row (omega arith) refl refl tt) (row (omega arith) refl refl tt) (three (row (omega arith) refl refl tt) (row (omega arith) refl refl tt) (row (omega arith) refl refl tt) tt)
 
 -- each line was told what its brick then gave
 pub a_list_is_honest : Honest listing whole
@@ -97,8 +83,12 @@ a_wrong_view_is_not_honest honest = told_apart (λ (outcome : Outcome). is_empty
 
 -- ---- the command
 -- a line of the client is of its only command
-task : (line : Line) (older : List Line) → slice_get (script_of listing 1) (ended 1 older) ≡ Some lists → IsAbout listing lists line (work 1 older) → IsOfTask listing client line older
-task line older first about = record { command = λ it same. from_some (λ c. IsAbout listing c line (work 1 older)) lists it about (sym first ∙ same); round = λ healer b same. absurd (omega (arith, healer)) }
+task : {line : Line} {older : List Line} → slice_get (script_of listing 1) (ended 1 older) ≡ Some lists → IsAbout listing lists line (work 1 older) → IsOfTask listing client line older
+task {line = line} {older = older} first about = record { command = λ it same. from_some (λ c. IsAbout listing c line (work 1 older)) lists it about (sym first ∙ same); round = λ healer b same. absurd (omega (arith, healer)) }
+
+-- a look at the root, where nothing is locked
+look : {b : ℕ} {w : Work} → has begins_attempt w ≡ false → reading_by listing w ≡ NotAsked → path_by listing w ≡ At 0 root_entry → LooksHere listing lists root b w
+look {b = b} {w = w} unbegun unread led = record { unbegun = unbegun; unread = unread; object = ap (looks_here lists) led; locked = λ area locks. from_none area (sym (ap (area_here lists) led) ∙ locks) }
 
 -- the list ends with what brick 0 showed
 pub a_list_ends_with_what_was_shown : IsAnswered listing lists (work_of (list_line ∷ at_each look_root [])) (reply.Ok (good.Names ((file_name, file_entry) ∷ [])))
@@ -110,21 +100,14 @@ a_list_ends_with_what_was_shown = record {
   whole = record { looked = all_looked 3 (work_of (list_line ∷ at_each look_root [])) refl; locked = λ area part locked. fails locked; child = λ rmdir. fails rmdir; carried = λ begun same. from_none begun same };
 }
 
+-- the root was looked at
+every_look_is_of_the_list : Replied listing (at_each look_root [])
+every_look_is_of_the_list = three (task refl (look refl refl refl)) (task refl (look refl refl refl)) (task refl (look refl refl refl)) tt
+
 -- each line is of the command
 pub every_line_is_of_the_list : Replied listing whole
-every_line_is_of_the_list = (
-  task end_line (list_line ∷ at_each look_root []) refl a_list_ends_with_what_was_shown,
-  (
-    task list_line (at_each look_root []) refl (record { unbegun = refl; goes_on = refl; answered = refl; good = refl }, record { object = root_entry; led = refl; named = refl }),
-    (
-      task (look_root 2) (look_root 1 ∷ look_root 0 ∷ []) refl (record { unbegun = refl; unread = refl; object = refl; locked = λ area locks. from_none area locks }),
-      (
-        task (look_root 1) (look_root 0 ∷ []) refl (record { unbegun = refl; unread = refl; object = refl; locked = λ area locks. from_none area locks }),
-        (task (look_root 0) [] refl (record { unbegun = refl; unread = refl; object = refl; locked = λ area locks. from_none area locks }), tt),
-      ),
-    ),
-  ),
-)
+every_line_is_of_the_list =
+    two (task refl a_list_ends_with_what_was_shown) (task refl (record { unbegun = refl; goes_on = refl; answered = refl; good = refl }, record { object = root_entry; led = refl; named = refl })) every_look_is_of_the_list
 
 -- ---- the rest
 -- nobody is accused
@@ -137,7 +120,7 @@ a_list_reads_the_lowest = record { of_reads = (tt, ((λ outsider. refl), (tt, (t
 
 -- nothing is left to do
 pub nothing_is_left : IsFinished listing whole
-nothing_is_left = record { events = none_due whole; done = λ a actor. of (λ x. is_done listing x whole ≡ true) refl a actor; ended = λ a actor alive. of (λ x. work x whole ≡ []) refl a actor }
+nothing_is_left = record { events = λ planned same. from_none planned same; done = λ a actor. of (λ x. is_done listing x whole ≡ true) refl a actor; ended = λ a actor alive. of (λ x. work x whole ≡ []) refl a actor }
   where
     one : (a : ℕ) → 1 ≤ a → a ≤ 1 → 1 ≡ a
     one a least most = omega (arith, least, most)

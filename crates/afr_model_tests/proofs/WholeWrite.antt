@@ -1,13 +1,16 @@
 -- A whole log that every definition admits: a client writes into a file, one brick misses it, and the others accuse it.
-use Rattle.std.specs.Prelude.{◌≡◌, ℕ, true, false, List, [], ◌∷◌, Some, codes, length, slice_get, refl}
+use Rattle.std.specs.Prelude.{◌≡◌, ℕ, ◌<◌, true, false, List, [], ◌∷◌, Some, codes, length, slice_get, refl}
 use Rattle.std.specs.Fmt.{digits}
 use Rattle.hex.specs.Hex.{encode_with}
 use Rattle.uuid.specs.Text.{by_index}
-use Rattle.std.proofs.Common.{arith, sym, ◌∙◌}
+use Rattle.std.proofs.Common.{ap, arith, sym, ◌∙◌}
+use Rattle.afr_lines.specs.declared.answer.Told.TheVariants as told
+use Rattle.afr_lines.specs.declared.request.Request.TheVariants as request
 use Rattle.afr_base.specs.Bricks.{below, member}
 use Rattle.afr_base.specs.Text.{gfid_spelling}
 use Rattle.afr_base.specs.declared.ids.Kind.TheVariants.{Bytes}
 use Rattle.afr_faults.specs.declared.fault.Fault.TheVariants.{Fail}
+use Rattle.afr_object.specs.Tables.{root}
 use Rattle.afr_lines.specs.Work.{Work, ended, is_killed, work}
 use Rattle.afr_lines.specs.declared.line.Line.{Line}
 use Rattle.afr_lines.specs.declared.reply.Good.TheVariants as good
@@ -17,22 +20,26 @@ use Rattle.afr_plan.specs.declared.plan.Plan.{Plan}
 use Rattle.afr_model.specs.Actors.{IsActor, script_of}
 use Rattle.afr_model.specs.Answered.{Counts, IsAbout, IsAnswered, IsCaused, LooksHere}
 use Rattle.afr_model.specs.Blamed.{AreBlamed, IsBlaming}
-use Rattle.afr_model.specs.Following.{Follows, IsTurnOf, KeepsTo, KeepsToTask}
+use Rattle.afr_model.specs.Following.{Follows, IsTurnOf, KeepsTo, KeepsToTask, NoneDue}
 use Rattle.afr_model.specs.Honest.{Honest}
 use Rattle.afr_model.specs.Replied.{IsOfTask, Replied}
 use Rattle.afr_model.specs.ReportHealers.{report_of}
-use Rattle.afr_model.specs.Showing.{NotAsked, among, begins_attempt, has, path_by, reading_by, root_entry}
+use Rattle.afr_model.specs.Showing.{At, NotAsked, among, begins_attempt, has, path_by, reading_by, root_entry}
 use Rattle.afr_model.specs.Skipped.{IsCarried}
 use Rattle.afr_model.specs.Standing.{area_here, change_by, getting, looks_here}
 use Rattle.afr_model_tests.proofs.Answered.{is_ok}
 use Rattle.afr_model_tests.proofs.Blamed.{none_blamed}
-use Rattle.afr_model_tests.proofs.Means.{fails, from_none, from_some, told_apart}
+use Rattle.afr_model_tests.proofs.Means.{fails, from_none, from_some, three, told_apart, two}
 use Rattle.afr_model_tests.proofs.Skipping.{all_locked, all_looked}
-use Rattle.afr_model_tests.proofs.Words.{at_each, brick, client, ends, file, file_entry, half_done, half_written, plan_of, post, unlock, work_of, write_area, write_change, writes}
+use Rattle.afr_model_tests.proofs.Words.{ask, at_each, at_two, begin, brick, client, ends, file, file_entry, half_done, half_written, led_to_file, plan_of, post, pre, ready, unlock, work_of, write_area, write_change, writes}
 
 -- brick 2 fails the fourth request to it, which is the pre-op
 abbrev pub failing : Plan
 failing = record (plan_of writes) { faults = record { brick = brick 2; at = 4; fault = Fail } ∷ []; words = record { names = codes "f1" ∷ []; keys = []; values = [] } }
+
+-- brick 2 refused its pre-op
+abbrev pub prepared : List Line
+prepared = ask 2 (request.Pre file Bytes) told.Failed ∷ at_two (pre file Bytes) (begin write_change ∷ ready)
 
 -- the locks are released after the post-ops
 abbrev pub released : List Line
@@ -45,84 +52,34 @@ whole = ends (reply.Ok good.Done) ∷ released
 -- each line was told what its brick then gave
 pub a_write_is_honest : Honest failing whole
 unfolding below
-a_write_is_honest = (tt, (refl, (refl, (refl, (refl, (refl, (refl, (refl, (refl, (refl, (refl, (tt, (refl, (refl, (refl, (refl, (refl, (refl, (refl, (refl, (refl, (refl, tt))))))))))))))))))))))
+a_write_is_honest = (tt, three refl refl refl (two refl refl (two refl refl (three refl refl refl (tt, three refl refl refl (three refl refl refl (refl, three refl refl refl tt)))))))
 
 -- ---- the plan
 -- a line of the client's only command
-turn : (line : Line) (older : List Line) → is_killed 1 older ≡ false → slice_get (script_of failing 1) (ended 1 older) ≡ Some writes → KeepsTo failing writes line (length older) (work 1 older) → IsTurnOf failing 1 line older
-turn line older alive first keeps = record { actor = IsActor.Client (omega arith) (omega arith); alive = alive; keeps = KeepsToTask.ToCommand writes first keeps }
+row : {line : Line} {older : List Line} → length older < 100 → is_killed 1 older ≡ false → slice_get (script_of failing 1) (ended 1 older) ≡ Some writes → KeepsTo failing writes line (length older) (work 1 older)
+    → (length older < 100) × (IsTurnOf failing 1 line older × NoneDue failing older)
+row few alive first keeps = (few, (record { actor = IsActor.Client (omega arith) (omega arith); alive = alive; keeps = KeepsToTask.ToCommand writes first keeps }, λ planned same. from_none planned same))
+
+-- the path was read as the plan has it
+led_follows : Follows failing led_to_file
+led_follows = (row (omega arith) refl refl (record { read = 0; object = root_entry; stands = refl; asked = refl; next = refl }), three (row (omega arith) refl refl tt) (row (omega arith) refl refl tt) (row (omega arith) refl refl tt) tt)
+
+-- so was the file locked and looked at
+ready_follows : Follows failing ready
+ready_follows = three (row (omega arith) refl refl tt) (row (omega arith) refl refl tt) (row (omega arith) refl refl tt) (three (row (omega arith) refl refl tt) (row (omega arith) refl refl tt) (row (omega arith) refl refl tt) led_follows)
+
+-- the change is the one that the words name
+prepared_follows : Follows failing prepared
+prepared_follows = three (row (omega arith) refl refl tt) (row (omega arith) refl refl tt) (row (omega arith) refl refl tt) (row (omega arith) refl refl (refl, record { object = file_entry; led = refl; named = refl }), ready_follows)
 
 -- each line is what the plan has for its moment
 pub a_write_follows_its_plan : Follows failing whole
-a_write_follows_its_plan = (
-  (omega arith, (turn _ _ refl refl tt, λ planned same. from_none planned same)),
-  (
-    (omega arith, (turn _ _ refl refl tt, λ planned same. from_none planned same)),
-    (
-      (omega arith, (turn _ _ refl refl tt, λ planned same. from_none planned same)),
-      (
-        (omega arith, (turn _ _ refl refl tt, λ planned same. from_none planned same)),
-        (
-          (omega arith, (turn _ _ refl refl tt, λ planned same. from_none planned same)),
-          (
-            (omega arith, (turn _ _ refl refl tt, λ planned same. from_none planned same)),
-            (
-              (omega arith, (turn _ _ refl refl tt, λ planned same. from_none planned same)),
-              (
-                (omega arith, (turn _ _ refl refl tt, λ planned same. from_none planned same)),
-                (
-                  (omega arith, (turn _ _ refl refl tt, λ planned same. from_none planned same)),
-                  (
-                    (omega arith, (turn _ _ refl refl tt, λ planned same. from_none planned same)),
-                    (
-                      (omega arith, (turn _ _ refl refl tt, λ planned same. from_none planned same)),
-                      (
-                        (omega arith, (turn _ _ refl refl (refl, record { object = file_entry; led = refl; named = refl }), λ planned same. from_none planned same)),
-                        (
-                          (omega arith, (turn _ _ refl refl tt, λ planned same. from_none planned same)),
-                          (
-                            (omega arith, (turn _ _ refl refl tt, λ planned same. from_none planned same)),
-                            (
-                              (omega arith, (turn _ _ refl refl tt, λ planned same. from_none planned same)),
-                              (
-                                (omega arith, (turn _ _ refl refl tt, λ planned same. from_none planned same)),
-                                (
-                                  (omega arith, (turn _ _ refl refl tt, λ planned same. from_none planned same)),
-                                  (
-                                    (omega arith, (turn _ _ refl refl tt, λ planned same. from_none planned same)),
-                                    (
-                                      (omega arith, (turn _ _ refl refl (record { read = 0; object = root_entry; stands = refl; asked = refl; next = refl }), λ planned same. from_none planned same)),
-                                      (
-                                        (omega arith, (turn _ _ refl refl tt, λ planned same. from_none planned same)),
-                                        (
-                                          (omega arith, (turn _ _ refl refl tt, λ planned same. from_none planned same)),
-                                          ((omega arith, (turn _ _ refl refl tt, λ planned same. from_none planned same)), tt),
-                                        ),
-                                      ),
-                                    ),
-                                  ),
-                                ),
-                              ),
-                            ),
-                          ),
-                        ),
-                      ),
-                    ),
-                  ),
-                ),
-              ),
-            ),
-          ),
-        ),
-      ),
-    ),
-  ),
-)
+a_write_follows_its_plan = (row (omega arith) refl refl tt, three (row (omega arith) refl refl tt) (row (omega arith) refl refl tt) (row (omega arith) refl refl tt) (two (row (omega arith) refl refl tt) (row (omega arith) refl refl tt) (two (row (omega arith) refl refl tt) (row (omega arith) refl refl tt) prepared_follows)))
 
 -- ---- the command
 -- a line of the client is of its only command
-task : (line : Line) (older : List Line) → slice_get (script_of failing 1) (ended 1 older) ≡ Some writes → IsAbout failing writes line (work 1 older) → IsOfTask failing client line older
-task line older first about = record { command = λ it same. from_some (λ c. IsAbout failing c line (work 1 older)) writes it about (sym first ∙ same); round = λ healer b same. absurd (omega (arith, healer)) }
+task : {line : Line} {older : List Line} → slice_get (script_of failing 1) (ended 1 older) ≡ Some writes → IsAbout failing writes line (work 1 older) → IsOfTask failing client line older
+task {line = line} {older = older} first about = record { command = λ it same. from_some (λ c. IsAbout failing c line (work 1 older)) writes it about (sym first ∙ same); round = λ healer b same. absurd (omega (arith, healer)) }
 
 -- the attempt went through its phases where it could
 carried : IsCarried failing writes write_change (work_of released)
@@ -144,79 +101,41 @@ a_write_that_two_did_is_acknowledged = record {
 }
 
 -- a pre-op, or what a post-op counts
-counts : (w : Work) → change_by w ≡ Some write_change → Counts file Bytes w
-counts w begun = record { change = write_change; begun = begun; object = refl; counted = refl }
+counts : {w : Work} → change_by w ≡ Some write_change → Counts file Bytes w
+counts begun = record { change = write_change; begun = begun; object = refl; counted = refl }
 
--- a look at the file, at a brick that granted its lock
-looks : (b : ℕ) (w : Work) → has begins_attempt w ≡ false → reading_by failing w ≡ NotAsked → looks_here writes (path_by failing w) ≡ Some file → area_here writes (path_by failing w) ≡ Some write_area → member (among (getting write_area) w) b ≡ true → LooksHere failing writes file b w
-looks b w unbegun unread object area granted = record { unbegun = unbegun; unread = unread; object = object; locked = λ it same. from_some (λ (held : Area). member (among (getting held) w) b ≡ true) write_area it granted (sym area ∙ same) }
+-- a look at the root on the way, where nothing is locked
+on_way : {b : ℕ} {w : Work} → has begins_attempt w ≡ false → reading_by failing w ≡ NotAsked → path_by failing w ≡ At 0 root_entry → LooksHere failing writes root b w
+on_way unbegun unread led = record { unbegun = unbegun; unread = unread; object = ap (looks_here writes) led; locked = λ area locks. from_none area (sym (ap (area_here writes) led) ∙ locks) }
+
+-- a look at the file, on a brick that granted its lock
+at_file : {b : ℕ} {w : Work} → has begins_attempt w ≡ false → reading_by failing w ≡ NotAsked → path_by failing w ≡ At 1 file_entry → member (among (getting write_area) w) b ≡ true → LooksHere failing writes file b w
+at_file {b = b} {w = w} unbegun unread led granted = record {
+  unbegun = unbegun;
+  unread = unread;
+  object = ap (looks_here writes) led;
+  locked = λ area same. from_some (λ (held : Area). member (among (getting held) w) b ≡ true) write_area area granted (sym (ap (area_here writes) led) ∙ same);
+}
+
+-- the path was read as the command may
+led_is_of_it : Replied failing led_to_file
+led_is_of_it = (task refl (record { unbegun = refl; goes_on = refl; answered = refl; good = refl }), three (task refl (on_way refl refl refl)) (task refl (on_way refl refl refl)) (task refl (on_way refl refl refl)) tt)
+
+-- the file was locked and looked at
+ready_is_of_it : Replied failing ready
+ready_is_of_it = three (task refl (at_file refl refl refl refl)) (task refl (at_file refl refl refl refl)) (task refl (at_file refl refl refl refl)) (three (task refl (refl, refl)) (task refl (refl, refl)) (task refl (refl, refl)) led_is_of_it)
+
+-- the attempt was prepared
+prepared_is_of_it : Replied failing prepared
+prepared_is_of_it = three (task refl (counts refl)) (task refl (counts refl)) (task refl (counts refl)) (task refl (refl, omega arith), ready_is_of_it)
+
+-- it was carried out and closed on two bricks
+closed_is_of_it : Replied failing half_written
+closed_is_of_it = two (task refl (refl, counts refl)) (task refl (refl, counts refl)) (two (task refl refl) (task refl refl) prepared_is_of_it)
 
 -- each line is of the command
 pub every_line_is_of_the_write : Replied failing whole
-every_line_is_of_the_write = (
-  task _ _ refl a_write_that_two_did_is_acknowledged,
-  (
-    task _ _ refl tt,
-    (
-      task _ _ refl tt,
-      (
-        task _ _ refl tt,
-        (
-          task _ _ refl (refl, counts _ refl),
-          (
-            task _ _ refl (refl, counts _ refl),
-            (
-              task _ _ refl refl,
-              (
-                task _ _ refl refl,
-                (
-                  task _ _ refl (counts _ refl),
-                  (
-                    task _ _ refl (counts _ refl),
-                    (
-                      task _ _ refl (counts _ refl),
-                      (
-                        task _ _ refl (refl, omega arith),
-                        (
-                          task _ _ refl (looks _ _ refl refl refl refl refl),
-                          (
-                            task _ _ refl (looks _ _ refl refl refl refl refl),
-                            (
-                              task _ _ refl (looks _ _ refl refl refl refl refl),
-                              (
-                                task _ _ refl (refl, refl),
-                                (
-                                  task _ _ refl (refl, refl),
-                                  (
-                                    task _ _ refl (refl, refl),
-                                    (
-                                      task _ _ refl (record { unbegun = refl; goes_on = refl; answered = refl; good = refl }),
-                                      (
-                                        task _ _ refl (record { unbegun = refl; unread = refl; object = refl; locked = λ area locks. from_none area locks }),
-                                        (
-                                          task _ _ refl (record { unbegun = refl; unread = refl; object = refl; locked = λ area locks. from_none area locks }),
-                                          (task _ _ refl (record { unbegun = refl; unread = refl; object = refl; locked = λ area locks. from_none area locks }), tt),
-                                        ),
-                                      ),
-                                    ),
-                                  ),
-                                ),
-                              ),
-                            ),
-                          ),
-                        ),
-                      ),
-                    ),
-                  ),
-                ),
-              ),
-            ),
-          ),
-        ),
-      ),
-    ),
-  ),
-)
+every_line_is_of_the_write = (task refl a_write_that_two_did_is_acknowledged, three (task refl tt) (task refl tt) (task refl tt) closed_is_of_it)
 
 -- ---- the rest
 -- brick 2 is accused, and nobody else
