@@ -70,16 +70,34 @@ task first heals = record { command = λ it same. from_none it same; round = λ 
 
 -- the lines of the first heal
 attributes_are_of_it : Replied failing (attributes_looked client_part.whole)
-attributes_are_of_it = three (task refl tt) (task refl tt) (task refl tt) (three (task refl tt) (task refl tt) (task refl tt) (three (task refl tt) (task refl tt) (task refl tt) (task refl tt, three (task refl tt) (task refl tt) (task refl tt) (three (task refl tt) (task refl tt) (task refl tt) (task refl tt, every_line_is_of_the_write)))))
+attributes_are_of_it =
+    three (task refl tt) (task refl tt) (task refl tt)
+    (three (task refl tt) (task refl tt) (task refl tt)
+    (three (task refl tt) (task refl tt) (task refl tt) (
+      task refl tt,
+      three (task refl tt) (task refl tt) (task refl tt)
+          (three (task refl tt) (task refl tt) (task refl tt) (task refl tt, every_line_is_of_the_write)),
+    )))
 
 -- those of the second, up to its settling
 bytes_are_of_it : Replied failing (bytes_copied client_part.whole)
-bytes_are_of_it = three (task refl tt) (task refl tt) (task refl tt) (two (task refl tt) (task refl tt) (three (task refl tt) (task refl tt) (task refl tt) (task refl tt, three (task refl tt) (task refl tt) (task refl tt) (three (task refl tt) (task refl tt) (task refl tt) (task refl the_attributes_had_nothing_to_heal, attributes_are_of_it)))))
+bytes_are_of_it =
+    three (task refl tt) (task refl tt) (task refl tt)
+    (two (task refl tt) (task refl tt)
+    (three (task refl tt) (task refl tt) (task refl tt) (
+      task refl tt,
+      three (task refl tt) (task refl tt) (task refl tt)
+          (three (task refl tt) (task refl tt) (task refl tt) (task refl the_attributes_had_nothing_to_heal, attributes_are_of_it)),
+    )))
 
 -- each line is of the round
 pub every_line_is_of_the_round : Replied failing whole
 unfolding below
-every_line_is_of_the_round = two (task refl refl) (task refl the_bytes_were_settled) (three (task refl tt) (task refl tt) (task refl tt) (three (task refl tt) (task refl tt) (task refl tt) (three (task refl (record { holder = refl; once = refl; seen = refl })) (task refl (record { holder = refl; once = refl; seen = refl })) (task refl (record { holder = refl; once = refl; seen = refl })) bytes_are_of_it)))
+every_line_is_of_the_round =
+    two (task refl refl) (task refl the_bytes_were_settled)
+    (three (task refl tt) (task refl tt) (task refl tt)
+    (three (task refl tt) (task refl tt) (task refl tt)
+    (three (task refl (record { holder = refl; once = refl; seen = refl })) (task refl (record { holder = refl; once = refl; seen = refl })) (task refl (record { holder = refl; once = refl; seen = refl })) bytes_are_of_it)))
 
 -- ---- the rest
 -- the round accuses nobody further

@@ -68,19 +68,38 @@ row few alive first keeps = (few, (record { actor = IsActor.Healer (omega arith)
 
 -- the index comes first, and then the heal of the attributes
 attributes_follow : Follows failing (opened Attrs (index 0 ∷ client_part.whole))
-attributes_follow = three (row (omega arith) refl refl (of_heal Attrs refl refl)) (row (omega arith) refl refl (of_heal Attrs refl refl)) (row (omega arith) refl refl (of_heal Attrs refl refl)) (row (omega arith) refl refl refl, three (row (omega arith) refl refl (of_heal Attrs refl refl)) (row (omega arith) refl refl (of_heal Attrs refl refl)) (row (omega arith) refl refl (of_heal Attrs refl refl)) (three (row (omega arith) refl refl (of_heal Attrs refl refl)) (row (omega arith) refl refl (of_heal Attrs refl refl)) (row (omega arith) refl refl (of_heal Attrs refl refl)) (row (omega arith) refl refl (refl, refl), a_write_follows_its_plan)))
+attributes_follow =
+    three (row (omega arith) refl refl (of_heal Attrs refl refl)) (row (omega arith) refl refl (of_heal Attrs refl refl)) (row (omega arith) refl refl (of_heal Attrs refl refl)) (
+      row (omega arith) refl refl refl,
+      three (row (omega arith) refl refl (of_heal Attrs refl refl)) (row (omega arith) refl refl (of_heal Attrs refl refl)) (row (omega arith) refl refl (of_heal Attrs refl refl))
+          (three (row (omega arith) refl refl (of_heal Attrs refl refl)) (row (omega arith) refl refl (of_heal Attrs refl refl)) (row (omega arith) refl refl (of_heal Attrs refl refl)) (row (omega arith) refl refl (refl, refl), a_write_follows_its_plan)),
+    )
 
 -- it ends, and that of the bytes comes next
 bytes_follow : Follows failing (opened Bytes (heal_ends Attrs healed.Nothing ∷ attributes_looked client_part.whole))
-bytes_follow = three (row (omega arith) refl refl (of_heal Bytes refl refl)) (row (omega arith) refl refl (of_heal Bytes refl refl)) (row (omega arith) refl refl (of_heal Bytes refl refl)) (row (omega arith) refl refl refl, three (row (omega arith) refl refl (of_heal Bytes refl refl)) (row (omega arith) refl refl (of_heal Bytes refl refl)) (row (omega arith) refl refl (of_heal Bytes refl refl)) (three (row (omega arith) refl refl (of_heal Bytes refl refl)) (row (omega arith) refl refl (of_heal Bytes refl refl)) (row (omega arith) refl refl (of_heal Bytes refl refl)) (row (omega arith) refl refl refl, three (row (omega arith) refl refl (of_heal Attrs refl refl)) (row (omega arith) refl refl (of_heal Attrs refl refl)) (row (omega arith) refl refl (of_heal Attrs refl refl)) (three (row (omega arith) refl refl (of_heal Attrs refl refl)) (row (omega arith) refl refl (of_heal Attrs refl refl)) (row (omega arith) refl refl (of_heal Attrs refl refl)) attributes_follow))))
+bytes_follow =
+    three (row (omega arith) refl refl (of_heal Bytes refl refl)) (row (omega arith) refl refl (of_heal Bytes refl refl)) (row (omega arith) refl refl (of_heal Bytes refl refl)) (
+      row (omega arith) refl refl refl,
+      three (row (omega arith) refl refl (of_heal Bytes refl refl)) (row (omega arith) refl refl (of_heal Bytes refl refl)) (row (omega arith) refl refl (of_heal Bytes refl refl))
+          (three (row (omega arith) refl refl (of_heal Bytes refl refl)) (row (omega arith) refl refl (of_heal Bytes refl refl)) (row (omega arith) refl refl (of_heal Bytes refl refl)) (
+            row (omega arith) refl refl refl,
+            three (row (omega arith) refl refl (of_heal Attrs refl refl)) (row (omega arith) refl refl (of_heal Attrs refl refl)) (row (omega arith) refl refl (of_heal Attrs refl refl))
+                (three (row (omega arith) refl refl (of_heal Attrs refl refl)) (row (omega arith) refl refl (of_heal Attrs refl refl)) (row (omega arith) refl refl (of_heal Attrs refl refl)) attributes_follow),
+          )),
+    )
 
 -- they are copied
 copies_follow : Follows failing (bytes_copied client_part.whole)
-copies_follow = three (row (omega arith) refl refl (of_heal Bytes refl refl)) (row (omega arith) refl refl (of_heal Bytes refl refl)) (row (omega arith) refl refl (of_heal Bytes refl refl)) (two (row (omega arith) refl refl (of_heal Bytes refl refl)) (row (omega arith) refl refl (of_heal Bytes refl refl)) bytes_follow)
+copies_follow =
+    three (row (omega arith) refl refl (of_heal Bytes refl refl)) (row (omega arith) refl refl (of_heal Bytes refl refl)) (row (omega arith) refl refl (of_heal Bytes refl refl))
+    (two (row (omega arith) refl refl (of_heal Bytes refl refl)) (row (omega arith) refl refl (of_heal Bytes refl refl)) bytes_follow)
 
 -- and settled
 settling_follows : Follows failing (bytes_settled client_part.whole)
-settling_follows = three (row (omega arith) refl refl (of_heal Bytes refl refl)) (row (omega arith) refl refl (of_heal Bytes refl refl)) (row (omega arith) refl refl (of_heal Bytes refl refl)) (three (row (omega arith) refl refl (of_heal Bytes refl refl)) (row (omega arith) refl refl (of_heal Bytes refl refl)) (row (omega arith) refl refl (of_heal Bytes refl refl)) (three (row (omega arith) refl refl (of_heal Bytes refl refl)) (row (omega arith) refl refl (of_heal Bytes refl refl)) (row (omega arith) refl refl (of_heal Bytes refl refl)) copies_follow))
+settling_follows =
+    three (row (omega arith) refl refl (of_heal Bytes refl refl)) (row (omega arith) refl refl (of_heal Bytes refl refl)) (row (omega arith) refl refl (of_heal Bytes refl refl))
+    (three (row (omega arith) refl refl (of_heal Bytes refl refl)) (row (omega arith) refl refl (of_heal Bytes refl refl)) (row (omega arith) refl refl (of_heal Bytes refl refl))
+    (three (row (omega arith) refl refl (of_heal Bytes refl refl)) (row (omega arith) refl refl (of_heal Bytes refl refl)) (row (omega arith) refl refl (of_heal Bytes refl refl)) copies_follow))
 
 -- each line is what the plan has for its moment
 pub a_round_follows_its_plan : Follows failing whole

@@ -62,19 +62,30 @@ row few alive first keeps = (few, (record { actor = IsActor.Client (omega arith)
 
 -- the path was read as the plan has it
 led_follows : Follows failing led_to_file
-led_follows = (row (omega arith) refl refl (record { read = 0; object = root_entry; stands = refl; asked = refl; next = refl }), three (row (omega arith) refl refl tt) (row (omega arith) refl refl tt) (row (omega arith) refl refl tt) tt)
+led_follows = (
+  row (omega arith) refl refl (record { read = 0; object = root_entry; stands = refl; asked = refl; next = refl }),
+  three (row (omega arith) refl refl tt) (row (omega arith) refl refl tt) (row (omega arith) refl refl tt) tt,
+)
 
 -- so was the file locked and looked at
 ready_follows : Follows failing ready
-ready_follows = three (row (omega arith) refl refl tt) (row (omega arith) refl refl tt) (row (omega arith) refl refl tt) (three (row (omega arith) refl refl tt) (row (omega arith) refl refl tt) (row (omega arith) refl refl tt) led_follows)
+ready_follows =
+    three (row (omega arith) refl refl tt) (row (omega arith) refl refl tt) (row (omega arith) refl refl tt)
+    (three (row (omega arith) refl refl tt) (row (omega arith) refl refl tt) (row (omega arith) refl refl tt) led_follows)
 
 -- the change is the one that the words name
 prepared_follows : Follows failing prepared
-prepared_follows = three (row (omega arith) refl refl tt) (row (omega arith) refl refl tt) (row (omega arith) refl refl tt) (row (omega arith) refl refl (refl, record { object = file_entry; led = refl; named = refl }), ready_follows)
+prepared_follows =
+    three (row (omega arith) refl refl tt) (row (omega arith) refl refl tt) (row (omega arith) refl refl tt) (row (omega arith) refl refl (refl, record { object = file_entry; led = refl; named = refl }), ready_follows)
 
 -- each line is what the plan has for its moment
 pub a_write_follows_its_plan : Follows failing whole
-a_write_follows_its_plan = (row (omega arith) refl refl tt, three (row (omega arith) refl refl tt) (row (omega arith) refl refl tt) (row (omega arith) refl refl tt) (two (row (omega arith) refl refl tt) (row (omega arith) refl refl tt) (two (row (omega arith) refl refl tt) (row (omega arith) refl refl tt) prepared_follows)))
+a_write_follows_its_plan = (
+  row (omega arith) refl refl tt,
+  three (row (omega arith) refl refl tt) (row (omega arith) refl refl tt) (row (omega arith) refl refl tt)
+      (two (row (omega arith) refl refl tt) (row (omega arith) refl refl tt)
+      (two (row (omega arith) refl refl tt) (row (omega arith) refl refl tt) prepared_follows)),
+)
 
 -- ---- the command
 -- a line of the client is of its only command
@@ -123,7 +134,9 @@ led_is_of_it = (task refl (record { unbegun = refl; goes_on = refl; answered = r
 
 -- the file was locked and looked at
 ready_is_of_it : Replied failing ready
-ready_is_of_it = three (task refl (at_file refl refl refl refl)) (task refl (at_file refl refl refl refl)) (task refl (at_file refl refl refl refl)) (three (task refl (refl, refl)) (task refl (refl, refl)) (task refl (refl, refl)) led_is_of_it)
+ready_is_of_it =
+    three (task refl (at_file refl refl refl refl)) (task refl (at_file refl refl refl refl)) (task refl (at_file refl refl refl refl))
+    (three (task refl (refl, refl)) (task refl (refl, refl)) (task refl (refl, refl)) led_is_of_it)
 
 -- the attempt was prepared
 prepared_is_of_it : Replied failing prepared
