@@ -51,7 +51,7 @@ pub later_looks_leave_the_first : (first_by (heal_of moved)).looked ≡ (first_b
 later_looks_leave_the_first = refl
 
 -- a brick that failed the first lock is missing
-pub a_failed_lock_is_missing : (first_by (heal_of (heal_lock Bytes told.Failed 0 ∷ attrs_healed))).missing ≡ 0 ∷ []
+pub a_failed_lock_is_missing : (first_by (heal_of (heal_lock told.Failed 0 ∷ attrs_healed))).missing ≡ 0 ∷ []
 a_failed_lock_is_missing = refl
 
 -- where brick 2 has no copy, the open operations of brick 0 stay
@@ -69,11 +69,11 @@ another_length_before_the_finish_does_not = refl
 
 -- ---- replies
 -- another heal holds the lock
-pub a_held_lock_is_busy : heal_reply plan.shape file Bytes (heal_of (heal_lock Bytes (told.Held other) 0 ∷ attrs_healed)) ≡ Some (healed.Busy other)
+pub a_held_lock_is_busy : heal_reply plan.shape file Bytes (heal_of (heal_lock (told.Held other) 0 ∷ attrs_healed)) ≡ Some (healed.Busy other)
 a_held_lock_is_busy = refl
 
 -- a majority can't be locked
-pub one_lock_of_three_is_short : heal_reply plan.shape file Bytes (heal_of (heal_lock Bytes told.Failed 2 ∷ heal_lock Bytes told.Failed 1 ∷ heal_lock Bytes told.Granted 0 ∷ attrs_healed)) ≡ Some healed.Short
+pub one_lock_of_three_is_short : heal_reply plan.shape file Bytes (heal_of (heal_lock told.Failed 2 ∷ heal_lock told.Failed 1 ∷ heal_lock told.Granted 0 ∷ attrs_healed)) ≡ Some healed.Short
 unfolding below
 one_lock_of_three_is_short = refl
 
@@ -124,11 +124,11 @@ a_settled_heal_asked_all = record {
 }
 
 -- brick 2 wasn't asked for the lock
-pub two_heal_locks_are_not_all : IsHealAsked plan.shape file Bytes (heal_of (at_two (heal_lock Bytes told.Granted) attrs_healed)) → ⊥
+pub two_heal_locks_are_not_all : IsHealAsked plan.shape file Bytes (heal_of (at_two (heal_lock told.Granted) attrs_healed)) → ⊥
 two_heal_locks_are_not_all asked = fails (asked.locked 2 (omega arith))
 
 -- brick 2 granted that and wasn't asked for the lock that keeps clients out
-pub two_work_locks_are_not_all : IsHealAsked plan.shape file Bytes (heal_of (at_two (work_lock Bytes told.Granted) (at_each (heal_lock Bytes told.Granted) attrs_healed))) → ⊥
+pub two_work_locks_are_not_all : IsHealAsked plan.shape file Bytes (heal_of (at_two (work_lock Bytes told.Granted) (at_each (heal_lock told.Granted) attrs_healed))) → ⊥
 two_work_locks_are_not_all asked = fails (asked.worked refl 2 refl)
 
 -- a heal that settled says so
@@ -146,7 +146,7 @@ unfolding below
 two_of_three_do_not_end_with_settled answered = told_apart is_settled_reply _ _ refl refl (sym answered.caused)
 
 -- a heal that finds another at it needs to ask no more
-pub a_busy_heal_may_ask_one_brick : IsHealAnswered plan.shape file Bytes (heal_of (heal_lock Bytes (told.Held other) 0 ∷ attrs_healed)) (healed.Busy other)
+pub a_busy_heal_may_ask_one_brick : IsHealAnswered plan.shape file Bytes (heal_of (heal_lock (told.Held other) 0 ∷ attrs_healed)) (healed.Busy other)
 a_busy_heal_may_ask_one_brick = record { caused = refl; failed = λ same. absurd (told_apart is_failed_reply _ _ refl refl (sym same)); asked = λ free. absurd (told_apart is_none _ _ refl refl (sym free)) }
 
 -- a heal that answers short at once asked nobody

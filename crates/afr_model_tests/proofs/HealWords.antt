@@ -40,9 +40,9 @@ heals kind = HealBegin healer file kind
 abbrev pub heal_ends : Kind → HealReply → Line
 heal_ends kind said = HealEnd healer file kind said
 
--- the lock that keeps other heals out
-abbrev pub heal_lock : Kind → Told → ℕ → Line
-heal_lock kind said b = heal_ask b (request.Lock domain.Heal (whole_of file kind)) said
+-- the lock that keeps other heals out, whatever is healed
+abbrev pub heal_lock : Told → ℕ → Line
+heal_lock said b = heal_ask b (request.Lock domain.Heal (whole_of file Bytes)) said
 
 -- the lock that keeps clients out
 abbrev pub work_lock : Kind → Told → ℕ → Line
@@ -72,7 +72,7 @@ shown older = heal_look (told.Seen file_view) 2 ∷ at_two (heal_look (told.Seen
 -- ---- a round
 -- a heal locks on each brick
 abbrev pub locked : Kind → List Line → List Line
-locked kind older = at_each (work_lock kind told.Granted) (at_each (heal_lock kind told.Granted) older)
+locked kind older = at_each (work_lock kind told.Granted) (at_each (heal_lock told.Granted) older)
 
 -- then it begins and looks
 abbrev pub opened : Kind → List Line → List Line

@@ -29,7 +29,7 @@ use Rattle.afr_model_tests.proofs.Words.{at_each, at_two, brick, file, heal_ask,
 -- ---- the round
 -- both locks of a heal are released
 abbrev pub freed : Kind → List Line → List Line
-freed kind older = at_each (λ b. heal_ask b (request.Unlock domain.Heal (whole_of file kind)) told.Done) (at_each (λ b. heal_ask b (request.Unlock domain.Work (whole_of file kind)) told.Done) older)
+freed kind older = at_each (λ b. heal_ask b (request.Unlock domain.Heal (whole_of file Bytes)) told.Done) (at_each (λ b. heal_ask b (request.Unlock domain.Work (whole_of file kind)) told.Done) older)
 
 -- the index was given, and the attributes had nothing to heal
 abbrev pub attributes_looked : List Line → List Line
