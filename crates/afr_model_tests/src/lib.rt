@@ -1,0 +1,2 @@
+//! Samples of what the definitions of a log admit and refuse.
+#![tactic(auto)]
