@@ -32,23 +32,26 @@ use Rattle.afr_plan.specs.declared.command.Command.TheVariants as command_of
 use Rattle.afr_plan.specs.declared.plan.Plan.{Plan}
 use Rattle.afr_model.specs.Tables.{Past, keeps_bytes, effect, carried, asked, step, holds, held_before}
 use Rattle.afr_model.specs.Actors.{script_of}
-use Rattle.afr_model.specs.Following.{Follows, IsFollowing, change_on}
+use Rattle.afr_model.specs.Commands.{change_named}
+use Rattle.afr_model.specs.Following.{Follows, IsFollowing, KeepsToTask, ToCommand, ToRound}
 use Rattle.afr_tables.specs.CopyLaws.{HasAll, EachCopy, stays_changed, stays_made, some_is, each_changed, each_made}
 use Rattle.afr_telling.specs.Plain.{IsPlain, IsShortWrite}
 use Rattle.afr_tables.specs.RepairLaws.{stays_mended, each_mended}
 
-short_write : (p : Plan) → IsPlain p → (a k : ℕ) (command : Command) (g : Gfid) (c : Change) → slice_get (script_of p a) k ≡ Some command → change_on g command ≡ Some c → IsShortWrite c
-short_write p plain a k command g c present named = go command (plain.commands a k command present).1 named
+short_write : (p : Plan) → IsPlain p → (a k at : ℕ) (command : Command) (g : Gfid) (c : Change) → slice_get (script_of p a) k ≡ Some command → change_named g at command ≡ Some c → IsShortWrite c
+short_write p plain a k at command g c present named = go command (plain.commands a k command present).1 named
   where
-    go : (x : Command) → IsFirstCommand (plain.commands a k command present).0 x → change_on g x ≡ Some c → IsShortWrite c
-    go (command_of.Write path at bytes) first e = subst IsShortWrite (some_is (Write g at bytes) c e) first.2
-    go (command_of.Read path at len) first e = absurd (cc e)
+    go : (x : Command) → IsFirstCommand (plain.commands a k command present).0 x → change_named g at x ≡ Some c → IsShortWrite c
+    go (command_of.Write path from bytes) first e = subst IsShortWrite (some_is (Write g from bytes) c e) first.2
+    go (command_of.Read path from len) first e = absurd (cc e)
     go other first e = absurd first
 
 begins_short : (p : Plan) → IsPlain p → (line : Line) (older : List Line) → IsFollowing p line older → (c : Change) → change_of line ≡ Some c → IsShortWrite c
-begins_short p plain (Begin a x) older f c e =
-    let turn = f.1.0 in
-    short_write p plain a.0 (ended a.0 older) turn.command turn.keeps.1.object c turn.present (turn.keeps.1.named ∙ e)
+begins_short p plain (Begin a x) older f c e = go f.1.0.keeps
+  where
+    go : KeepsToTask p a.0 (Begin a x) older → IsShortWrite c
+    go (ToCommand command present keeps) = short_write p plain a.0 (ended a.0 older) (length older) command keeps.1.object.gfid c present (keeps.1.named ∙ e)
+    go (ToRound healer b present keeps) = absurd keeps
 begins_short p plain line older f c e = absurd (cc e)
 
 -- every attempt of a plain plan is a write that ends within the longest file
