@@ -276,7 +276,7 @@ kept_turn p a at log x y bricks new actors started made line v actor one is busy
     moves = actor_moves p a at log x y bricks new line mine v.tables busy s
 
     before : IsBefore p a log
-    before = record { plain = v.runnable.plain; follows = v.follows; honest = v.honest; actor = actor; room = omega (arith, room, v.runnable.turns); command = moves.command; present = moves.present }
+    before = record { plain = v.runnable.plain; follows = v.follows; honest = v.honest; actor = actor; room = omega (arith, room, v.runnable.turns) }
 
     keeps : LineTells p a log line y.work
     keeps = line_keeps p a at log x y bricks new line v.tables v.few (LineTells p a log) busy
