@@ -42,7 +42,7 @@ use Rattle.afr_plan.specs.declared.plan.Plan.{Plan}
 use Rattle.afr_model.specs.Tables.{holds}
 use Rattle.afr_model.specs.Commands.{path_of, steps_of, request_on}
 use Rattle.afr_model.specs.Honest.{answer_by, copy_answer}
-use Rattle.afr_model.specs.Showing.{Path, At, path_by, looked_by, among, looking, has, looks_at, refuses_read, reading_by}
+use Rattle.afr_model.specs.Showing.{At, path_by, looked_by, among, looking, has, looks_at, refuses_read, reading_by}
 use Rattle.afr_model.specs.Standing.{place_by, looks_here, area_here}
 use Rattle.afr_model.specs.Refusals.{without_source, by_looks, refusal}
 use Rattle.afr_model.specs.Refusals as refusals

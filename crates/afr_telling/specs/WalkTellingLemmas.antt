@@ -39,12 +39,12 @@ use Rattle.afr_plan.specs.declared.command.Command.{Command}
 use Rattle.afr_plan.specs.declared.command.Command.TheVariants as command_of
 use Rattle.afr_plan.specs.declared.plan.Plan.{Plan}
 use Rattle.afr_model.specs.Tables.{holds, entry_in, entry_at}
-use Rattle.afr_model.specs.Commands.{path_of, is_on_name, is_rmdir, steps_of}
+use Rattle.afr_model.specs.Commands.{path_of, is_on_name, is_rmdir}
 use Rattle.afr_model.specs.Honest.{answer_by, copy_answer}
-use Rattle.afr_model.specs.Showing.{Path, At, NoName, Untold, NotAsked, path_by, looked_by, among, looking, has, looks_at, refuses_read, reading_by, begins_attempt}
-use Rattle.afr_model.specs.Standing.{place_by, looks_here, area_here, getting}
+use Rattle.afr_model.specs.Showing.{At, path_by, looked_by, among, looking, has, looks_at, refuses_read}
+use Rattle.afr_model.specs.Standing.{place_by, looks_here, area_here}
 use Rattle.afr_model.specs.Refusals.{without_source, by_looks, by_path, refusal}
-use Rattle.afr_model.specs.Skipped.{AsksAll, SkipsNothing}
+use Rattle.afr_model.specs.Skipped.{SkipsNothing}
 use Rattle.afr_model.specs.Answered.{MayRead, LooksHere, IsAbout}
 use Rattle.afr_lookup.specs.Looks.{left_to_look, heard_look, noted_look}
 use Rattle.afr_lookup.specs.Looks as looks

@@ -29,7 +29,7 @@ use Rattle.afr_telling.specs.Able.{WriteAble, LookupAble}
 use Rattle.afr_telling.specs.AbleLookup.{lookup_able_asks, lookup_able_serves, lookup_able_ends}
 use Rattle.afr_telling.specs.AbleServes.{write_able_serves, write_able_ends}
 use Rattle.afr_telling.specs.AbleWrite.{write_able_asks, write_able_begun}
-use Rattle.afr_telling.specs.AboutTellingLemmas.{begun_tells_asks, begun_tells_begun, write_about}
+use Rattle.afr_telling.specs.AboutTellingLemmas.{begun_tells_asks, begun_tells_begun, write_about, write_begin_about}
 use Rattle.afr_telling.specs.Bounded.{Bounded}
 use Rattle.afr_telling.specs.CanServe.{CanServe}
 use Rattle.afr_tables.specs.Fits.{FitsSums}
@@ -92,11 +92,11 @@ module _ (p : Plan) (a : ActorId) (log : List Line) (k : IsBefore p a log) where
   write_asked m at b r h able tells sound e exact = record {
     able = write_able_asks p a log at m b r h able sound e exact;
     tells = λ command present. rw (work_ask a log b r (told_by h) true) (record {
-      stands = (write_tells_asks p a log command m b r h at (tells command present).stands sound e (λ _. exact) above).tells;
+      stands = write_tells_asks p a log command m b r h at (tells command present).stands sound e (λ _. exact) above;
       begun = begun_tells_asks a log m b r h at (tells command present).begun e;
     });
     honest = honestly b r h served.0 exact;
-    replied = of_task (Ask a b r (told_by h) true) (λ command present. WRITE_ASKED_ABOUT);
+    replied = of_task (Ask a b r (told_by h) true) (λ command present. write_about p a (work a.0 log) command m b r (told_by h) true (tells command present).stands (tells command present).begun sound e);
     sums = fits_sums p a b r (told_by h) log served.1;
   }
     where
@@ -107,16 +107,16 @@ module _ (p : Plan) (a : ActorId) (log : List Line) (k : IsBefore p a log) where
   work_begin c = rw (self a.0) refl
 
   -- an attempt begins
-  pub write_begun : (m : write.Write) (at : ℕ) (c : Change) → WriteAble p log m → TellsWork p a.0 log (Write m) → write.next_of m ≡ next.Begin c → at ≡ length log
+  pub write_begun : (m : write.Write) (at : ℕ) (c : Change) → WriteAble p log m → TellsWork p a.0 log (Write m) → IsSound (Write m) → write.next_of m ≡ next.Begin c → at ≡ length log
       → LineTells p a log (Begin a c) (heard_work (heard.Begun at) (Write m))
-  write_begun m at c able tells e position = record {
+  write_begun m at c able tells sound e position = record {
     able = write_able_begun p a log at m c able e position;
     tells = λ command present. rw (work_begin c) (record {
       stands = write_tells_begun p a log command m c at (tells command present).stands e;
       begun = begun_tells_begun a log m c at (tells command present).begun e position;
     });
     honest = tt;
-    replied = of_task (Begin a c) (λ command present. WRITE_BEGUN_ABOUT);
+    replied = of_task (Begin a c) (λ command present. write_begin_about p a (work a.0 log) command m c (tells command present).stands (tells command present).begun sound e);
     sums = tt;
   }
 
@@ -159,7 +159,7 @@ module _ (p : Plan) (a : ActorId) (log : List Line) (k : IsBefore p a log) where
   told_handles at position Idle able tells sound = tt
   told_handles at position (Write m) able tells sound = record {
     asked = λ b r h e below exact. write_asked m at b r h able tells sound e exact;
-    begun = λ c e. write_begun m at c able tells e position;
+    begun = λ c e. write_begun m at c able tells sound e position;
     ended = λ said e. write_ended m said able tells e;
   }
   told_handles at position (Lookup m) able tells sound = record {

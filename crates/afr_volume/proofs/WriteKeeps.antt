@@ -24,7 +24,7 @@ use Rattle.afr_plan.specs.declared.command.Command.TheVariants as command
 use Rattle.afr_plan.specs.declared.plan.Plan.{Plan}
 use Rattle.afr_model.specs.Tables.{holds}
 use Rattle.afr_model.specs.Honest.{answer_by}
-use Rattle.afr_model.specs.Commands.{path_of, steps_of, change_on, change_named}
+use Rattle.afr_model.specs.Commands.{path_of, steps_of, change_on}
 use Rattle.afr_model.specs.Following.{KeepsTo}
 use Rattle.afr_model.specs.Showing.{Path, At, path_by, has, begins_attempt}
 use Rattle.afr_model.specs.Standing.{place_by}
