@@ -7,6 +7,7 @@ ghost use Rattle.afr_plan.specs.declared.schedule.Go.{Go};
 ghost use Rattle.afr_plan.specs.FirstPath.{IsFirstPath};
 ghost use Rattle.afr_model.specs.State.{no_volume, no_plan};
 ghost use Rattle.afr_model.specs.Actors.{IsActor, is_done};
+ghost use Rattle.afr_model.specs.Blamed.{AreBlamed};
 ghost use Rattle.afr_model.specs.Following.{Follows, NoneDue};
 ghost use Rattle.afr_model.specs.Honest.{Honest};
 ghost use Rattle.afr_model.specs.Replied.{Replied};
@@ -99,6 +100,7 @@ impl Volume {
         ensures follows { Follows self.new.plan self.new.log }
         ensures honest { Honest self.new.plan self.new.log }
         ensures replied { Replied self.new.plan self.new.log }
+        ensures blamed { AreBlamed self.new.plan self.new.log }
         ensures safe { IsAlwaysSafe self.new.plan self.new.log }
         ensures fresh { AreFresh self.new.plan self.new.log }
     {
@@ -209,6 +211,7 @@ impl Volume {
         ensures follows { Follows self.now.plan self.now.log }
         ensures honest { Honest self.now.plan self.now.log }
         ensures replied { Replied self.now.plan self.now.log }
+        ensures blamed { AreBlamed self.now.plan self.now.log }
         ensures sums { AreSums self.now.plan self.now.log }
         ensures safe { IsAlwaysSafe self.now.plan self.now.log }
         ensures fresh { AreFresh self.now.plan self.now.log }
