@@ -1,0 +1,6 @@
+mod EachLemmas
+mod FiveLemmas
+mod JoinedLemmas
+pub mod RisingLemmas
+mod ShownLemmas
+mod VerdictLemmas
