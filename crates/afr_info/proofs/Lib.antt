@@ -1,6 +1,5 @@
 mod EachLemmas
 mod FiveLemmas
-mod JoinedLemmas
 pub mod RisingLemmas
 mod ShownLemmas
 mod VerdictLemmas
