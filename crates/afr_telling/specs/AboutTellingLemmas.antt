@@ -1,7 +1,9 @@
--- Every line that a write or a read asks is about what its command names.
-use Rattle.std.proofs.Common.{◌≡◌, ℕ, ◌&&◌, Bool, true, false, not, List, ◌∷◌, Some, length, slice_get, refl, sym, ap, ◌∙◌, subst, if◌then◌else◌}
-use Rattle.afr_base.specs.Bricks.{below, lowest, minus, is_nothing}
+-- Every line of a write is about what its command names.
+use Rattle.std.proofs.Common.{◌≡◌, ℕ, ◌<◌, ◌==◌, ◌&&◌, nat_le, Bool, true, false, not, List, ◌∷◌, Some, length, refl, sym, ap, ◌∙◌, arith, subst, if◌then◌else◌}
+use Rattle.std.proofs.lemmas.Bool.Decides.{nat_tests}
+use Rattle.afr_base.specs.Bricks.{below, lowest, member, minus, is_nothing}
 use Rattle.afr_base.specs.Majority.{is_majority}
+use Rattle.afr_base.specs.SetLemmas.{lowest_left}
 use Rattle.afr_base.specs.declared.ids.ActorId.{ActorId}
 use Rattle.afr_base.specs.declared.ids.BrickId.{BrickId}
 use Rattle.afr_base.specs.declared.ids.Gfid.{Gfid}
@@ -10,48 +12,48 @@ use Rattle.afr_base.specs.declared.ids.NameId.{NameId}
 use Rattle.afr_base.specs.declared.ids.Shape.{Shape}
 use Rattle.afr_object.specs.Tables.{is_dir}
 use Rattle.afr_object.specs.declared.change.Change.{Change}
+use Rattle.afr_object.specs.declared.change.Change.TheVariants as change
 use Rattle.afr_choice.specs.Verdict.{holders_of, good_copies}
 use Rattle.afr_lines.specs.Areas.{area_for, kind_for}
 use Rattle.afr_lines.specs.Told.{told_by}
-use Rattle.afr_lines.specs.Work.{Work, work, ended}
+use Rattle.afr_lines.specs.Work.{Work, work}
 use Rattle.afr_lines.specs.declared.answer.Answer.{Answer}
 use Rattle.afr_lines.specs.declared.answer.Told.{Told}
+use Rattle.afr_lines.specs.declared.answer.Told.TheVariants.{NotConnected}
 use Rattle.afr_lines.specs.declared.line.Heard.TheVariants as heard
 use Rattle.afr_lines.specs.declared.line.Line.{Line}
 use Rattle.afr_lines.specs.declared.line.Line.TheVariants.{Ask, Begin}
 use Rattle.afr_lines.specs.declared.line.Next.{Next}
 use Rattle.afr_lines.specs.declared.line.Next.TheVariants as next
+use Rattle.afr_lines.specs.declared.request.Area.{Area}
 use Rattle.afr_lines.specs.declared.request.Request.{Request}
+use Rattle.afr_lines.specs.declared.request.Request.TheVariants as request
 use Rattle.afr_plan.specs.declared.command.Command.{Command}
 use Rattle.afr_plan.specs.declared.command.Command.TheVariants as command
 use Rattle.afr_plan.specs.declared.plan.Plan.{Plan}
-use Rattle.afr_model.specs.Actors.{script_of}
-use Rattle.afr_model.specs.Showing.{path_by}
-use Rattle.afr_model.specs.Replied.{IsAt, OfCommand, LocksNamed, CountsNamed, ClosesNamed, IsAbout}
-use Rattle.afr_lookup.specs.Lookup.{Lookup}
-use Rattle.afr_lookup.specs.Lookup as lookup
-use Rattle.afr_lookup.specs.Walk.{walk_from, next_in, walked, no_views}
+use Rattle.afr_model.specs.Answered.{Counts, IsAbout, LooksHere}
+use Rattle.afr_model.specs.Showing.{path_by, among, applied_at}
+use Rattle.afr_model.specs.Standing.{looks_here, area_here, getting}
+use Rattle.afr_lookup.specs.Looks.{left_to_look}
+use Rattle.afr_lookup.specs.Walk.{walk_from, next_in, walked, is_walking, no_views}
 use Rattle.afr_lookup.specs.Walk as walk
-use Rattle.afr_lookup.specs.declared.lookup.LookupJob.{LookupJob}
-use Rattle.afr_lookup.specs.declared.lookup.LookupJob.TheVariants.{Read}
-use Rattle.afr_lookup.specs.declared.lookup.LookupStage.{LookupStage}
-use Rattle.afr_lookup.specs.declared.lookup.LookupStage.TheVariants as read
 use Rattle.afr_lookup.specs.declared.stop.Stop.TheVariants.{IsDir, TooLarge}
 use Rattle.afr_lookup.specs.declared.walk.Walk.{Walk}
 use Rattle.afr_lookup.specs.declared.walk.WalkStep.{WalkStep}
 use Rattle.afr_lookup.specs.declared.walk.WalkStep.TheVariants as walking
 use Rattle.afr_write.specs.Change.{change_of_job, is_too_large, is_empty_write, needs_file}
 use Rattle.afr_write.specs.Phases.{left, noted, suffices, gone_on, advanced, Standing}
-use Rattle.afr_write.specs.Write.{Write, write_from, after_step, after_walk, request_at, next_brick, reply_for, next_at, next_of, at_standing, phase_heard, answered_at, begun_at, heard_by}
+use Rattle.afr_write.specs.Write.{Write, write_from, after_step, after_walk, request_at, next_brick, reply_for, next_at, next_of, at_standing, phase_heard, answered_at, begun_at, heard_by, IsStage, IsWrite}
 use Rattle.afr_write.specs.declared.change.WriteJob.{WriteJob}
 use Rattle.afr_write.specs.declared.stage.Outcome.TheVariants.{Acknowledged, Stopped}
 use Rattle.afr_write.specs.declared.stage.Transaction.{Transaction}
 use Rattle.afr_write.specs.declared.stage.WriteStage.{WriteStage}
 use Rattle.afr_write.specs.declared.stage.WriteStage.TheVariants.{Walking, Locking, Looking, Beginning, Preparing, Applying, Posting, Closing}
 use Rattle.afr_telling.specs.AboutTelling.{BegunTells}
-use Rattle.afr_telling.specs.ReadTelling.{TellsIn, ReadTells}
-use Rattle.afr_telling.specs.WalkTelling.{TellsAt, WalkTells}
-use Rattle.afr_telling.specs.WriteTelling.{IsThere, During, WritesHere, WriteTells}
+use Rattle.afr_telling.specs.WalkTellingLemmas.{walk_about}
+use Rattle.afr_telling.specs.WriteTelling.{written_range, IsThere, OnLooks, AreBegun, During, WritesHere, WriteTells}
+use Rattle.afr_telling.specs.WriteTellingOver.{area_there}
+use Rattle.afr_telling.specs.WriteTellingPhases.{allowed_there}
 
 -- ---- the attempt
 -- a walk leads to no attempt
@@ -182,86 +184,103 @@ begun_tells_begun a log m c at k says now = go m.stage says
     go other says = absurd (cc says)
 
 -- ---- what a line is about
--- the next line, where it is a request, is about what the command names
-abbrev pub AboutNext : Plan → ActorId → List Line → Told → Bool → Next → Type 0
-AboutNext p a log told took (next.Ask b r) = IsAbout p (Ask a b r told took) log
-AboutNext p a log told took other = Unit {0}
+-- the next line is about what the command names
+abbrev pub AboutNext : Plan → Command → ActorId → Work → Told → Bool → Next → Type 0
+AboutNext p command a lines told took (next.Ask b r) = IsAbout p command (Ask a b r told took) lines
+AboutNext p command a lines told took (next.Begin c) = IsAbout p command (Begin a c) lines
+AboutNext p command a lines told took other = Unit {0}
 
--- a fact of the command that stands in the script
-present_is : (p : Plan) (a : ActorId) (log : List Line) (command : Command) (Fact : Command → Type 0) → slice_get (script_of p a.0) (ended a.0 log) ≡ Some command → Fact command → OfCommand p a log Fact
-present_is p a log command Fact present h = λ other scripted. subst Fact (just command other (sym present ∙ scripted)) h
+not_past : (n : ℕ) → nat_le n n ≡ true
+not_past n = grind (arith, nat_tests)
+
+-- a write looks at the file that its path has led to
+looks_there : (p : Plan) (path : List NameId) (at : ℕ) (bytes : List ℕ) (w : Walk) (lines : Work) → IsThere p path at bytes w lines
+    → looks_here (command.Write path at bytes) (path_by p lines) ≡ Some w.object.gfid
+looks_there p path at bytes w lines k = rw (k.led, k.whole, not_past (length path)) refl
+
+-- a look comes where the path stands, at a brick that granted the lock
+look_about : (p : Plan) (path : List NameId) (at : ℕ) (bytes : List ℕ) (w : Walk) (t : Transaction) (lines : Work) → IsThere p path at bytes w lines
+    → OnLooks p.shape.n (written_range w.object.gfid at bytes) t lines → is_nothing (left_to_look t.looks) ≡ false
+    → LooksHere p (command.Write path at bytes) w.object.gfid (lowest (left_to_look t.looks)) lines
+look_about p path at bytes w t lines there k some = record {
+  unbegun = k.begun;
+  unread = there.unread;
+  object = looks_there p path at bytes w lines there;
+  locked = λ area here. subst (λ (area : Area). member (among (getting area) lines) (lowest (left_to_look t.looks)) ≡ true) (the_range area here)
+      (subst (λ (s : List ℕ). member s (lowest (left_to_look t.looks)) ≡ true) k.among_granted (lowest_left t.looks.among t.looks.asked some).1);
+}
   where
-    just : (c d : Command) → (Some c) ≡ Some d → c ≡ d
-    just c d e = cc e
+    the_range : (area : Area) → area_here (command.Write path at bytes) (path_by p lines) ≡ Some area → written_range w.object.gfid at bytes ≡ area
+    the_range area here = let own = area_there p path at bytes w lines there in cc (own, here)
 
--- a walk looks at the object that the path has led to
-walk_about : (p : Plan) (a : ActorId) (log : List Line) (command : Command) (w : Walk) (told : Told) (took : Bool) → WalkTells p command w (work a.0 log)
-    → IsAbout p (Ask a (next_in w).0 (next_in w).1 told took) log
-walk_about p a log command w told took k = go w.step k.step
+-- bytes that are some are more than none
+some_bytes : (n : ℕ) → (n == 0) ≡ false → 0 < n
+some_bytes n some = grind (arith, nat_tests, some)
+
+-- each line of a write, by its stage
+writes_about : (p : Plan) (a : ActorId) (lines : Work) (path : List NameId) (at : ℕ) (bytes : List ℕ) (m : Write) (told : Told) (took : Bool) → WritesHere p path at bytes m lines → (stage : WriteStage)
+    → During p path at bytes m.walk stage m.transaction lines → BegunTells stage m.transaction lines → IsStage m.walk m.transaction stage
+    → AboutNext p (command.Write path at bytes) a lines told took (next_at stage m)
+writes_about p a lines path at bytes m told took k stage during begun asking = go stage during begun asking
   where
-    go : (step : WalkStep) → TellsAt p command step w (work a.0 log) → IsAbout p (Ask a (walk.next_at step w).0 (walk.next_at step w).1 told took) log
-    go (walking.Looking s) t = λ other scripted. rw t.0 refl
-    go (walking.Naming b) t = tt
-    go walking.Arrived t = tt
-    go (walking.Stopped why views) t = tt
+    counts : AreBegun (change.Write m.walk.object.gfid at bytes) lines → Counts m.walk.object.gfid (kind_for m.change) lines
+    counts attempt = record { change = change.Write m.walk.object.gfid at bytes; begun = attempt.change_is; object = refl; counted = ap kind_for k.change }
 
--- each request of a write, by its stage
-writes_about : (p : Plan) (a : ActorId) (log : List Line) (path : List NameId) (at : ℕ) (bytes : List ℕ) (m : Write) (told : Told) (took : Bool) → WritesHere p path at bytes m (work a.0 log)
-    → slice_get (script_of p a.0) (ended a.0 log) ≡ Some (command.Write path at bytes) → (stage : WriteStage) → During p path at bytes m.walk stage m.transaction (work a.0 log)
-    → BegunTells stage m.transaction (work a.0 log) → AboutNext p a log told took (next_at stage m)
-writes_about p a log path at bytes m told took k present stage during begun = go stage during begun
-  where
-    lines : Work
-    lines = work a.0 log
-
-    written : Command
-    written = command.Write path at bytes
-
-    led : IsThere p path at bytes m.walk lines → IsAt (path_by p lines) m.walk.object.gfid
-    led there = rw there.led refl
-
-    counts : IsThere p path at bytes m.walk lines → CountsNamed p written m.walk.object.gfid (kind_for m.change) lines
-    counts there = record { led = led there; counted = rw k.change refl }
-
-    go : (stage : WriteStage) → During p path at bytes m.walk stage m.transaction lines → BegunTells stage m.transaction lines → AboutNext p a log told took (next_at stage m)
-    go Walking d begun = walk_about p a log written m.walk told took d.walks
-    go Locking d begun = present_is p a log written (λ (c : Command). LocksNamed p c (area_for m.change) lines) present (record {
-      object = m.walk.object.gfid;
-      change = m.change;
-      led = led d.0;
-      named = ap (λ (c : Change). Some c) (sym k.change);
-      covers = refl;
-    })
-    go Looking d begun = λ other scripted. led d.0
-    go Beginning d begun = tt
-    go Preparing d begun = present_is p a log written (λ (c : Command). CountsNamed p c m.walk.object.gfid (kind_for m.change) lines) present (counts d.0)
-    go Applying d begun = λ other scripted. begun
-    go Posting d begun = present_is p a log written
-        (λ (c : Command). ClosesNamed p c m.transaction.attempt m.walk.object.gfid (kind_for m.change) (minus (below m.walk.shape.n) m.transaction.done) lines) present
-        (record { begun = begun; counts = counts d.0; blamed = rw (k.shape, d.2.done) refl })
-    go (Closing outcome) d begun = closes (is_nothing m.transaction.held)
+    go : (stage : WriteStage) → During p path at bytes m.walk stage m.transaction lines → BegunTells stage m.transaction lines → IsStage m.walk m.transaction stage
+        → AboutNext p (command.Write path at bytes) a lines told took (next_at stage m)
+    go Walking d begun asking = walk_about p a lines (command.Write path at bytes) m.walk told took d.walks asking.0
+    go Locking d begun asking = (d.1.begun, area_there p path at bytes m.walk lines d.0 ∙ ap (λ (c : Change). Some (area_for c)) (sym k.change))
+    go Looking d begun asking = look_about p path at bytes m.walk m.transaction lines d.0 d.1 asking
+    go Beginning d begun asking = (allowed_there p path at bytes m.walk lines m.transaction d.0 d.1, some_bytes (length bytes) d.0.some)
+    go Preparing d begun asking = counts d.2.attempt
+    go Applying d begun asking = begun
+    go Posting d begun asking = (begun, counts d.2.attempt)
+    go (Closing outcome) d begun asking = closes (is_nothing m.transaction.held)
       where
-        closes : (f : Bool) → AboutNext p a log told took (if f then next.End (reply_for outcome) else next.Ask (next_brick (Closing outcome) m) (request_at (Closing outcome) m))
+        closes : (f : Bool) → AboutNext p (command.Write path at bytes) a lines told took (if f then next.End (reply_for outcome) else next.Ask (next_brick (Closing outcome) m) (request_at (Closing outcome) m))
         closes true = tt
         closes false = tt
 
+about_next : (p : Plan) (a : ActorId) (lines : Work) (command : Command) (m : Write) (told : Told) (took : Bool) → WriteTells p command m lines → BegunTells m.stage m.transaction lines
+    → IsWrite m.walk m.transaction m.stage → AboutNext p command a lines told took (next_of m)
+about_next p a lines (command.Write path at bytes) m told took k begun sound = writes_about p a lines path at bytes m told took k m.stage k.during begun sound.stage
+about_next p a lines other m told took k begun sound = absurd k
+
 -- a request of a write
-pub write_about : (p : Plan) (a : ActorId) (log : List Line) (command : Command) (m : Write) (b : BrickId) (r : Request) (told : Told) (took : Bool) → WriteTells p command m (work a.0 log)
-    → BegunTells m.stage m.transaction (work a.0 log) → next_of m ≡ next.Ask b r → slice_get (script_of p a.0) (ended a.0 log) ≡ Some command → IsAbout p (Ask a b r told took) log
-write_about p a log (command.Write path at bytes) m b r told took k begun says present =
-    subst (λ (x : Next). AboutNext p a log told took x) says (writes_about p a log path at bytes m told took k present m.stage k.during begun)
-write_about p a log other m b r told took k begun says present = absurd k
+pub write_about : (p : Plan) (a : ActorId) (lines : Work) (command : Command) (m : Write) (b : BrickId) (r : Request) (told : Told) (took : Bool) → WriteTells p command m lines
+    → BegunTells m.stage m.transaction lines → IsWrite m.walk m.transaction m.stage → next_of m ≡ next.Ask b r → IsAbout p command (Ask a b r told took) lines
+write_about p a lines command m b r told took k begun sound says = subst (λ (x : Next). AboutNext p command a lines told took x) says (about_next p a lines command m told took k begun sound)
 
--- a request of a read
-pub read_about : (p : Plan) (a : ActorId) (log : List Line) (command : Command) (m : Lookup) (b : BrickId) (r : Request) (told : Told) (took : Bool) → ReadTells p command m (work a.0 log)
-    → lookup.next_of m ≡ next.Ask b r → IsAbout p (Ask a b r told took) log
-read_about p a log command m b r told took k says = subst (λ (x : Next). AboutNext p a log told took x) says (go m.stage k.stage)
+-- the attempt of a write
+pub write_begin_about : (p : Plan) (a : ActorId) (lines : Work) (command : Command) (m : Write) (c : Change) → WriteTells p command m lines → BegunTells m.stage m.transaction lines
+    → IsWrite m.walk m.transaction m.stage → next_of m ≡ next.Begin c → IsAbout p command (Begin a c) lines
+write_begin_about p a lines command m c k begun sound says = subst (λ (x : Next). AboutNext p command a lines NotConnected true x) says (about_next p a lines command m NotConnected true k begun sound)
+
+-- ---- who is accused
+-- a post-op names the bricks that didn't do the operation
+abbrev pub BlamesNext : Plan → Work → Next → Type 0
+BlamesNext p lines (next.Ask b (request.Post attempt g kind missed)) = missed ≡ minus (below p.shape.n) (among applied_at lines)
+BlamesNext p lines other = Unit {0}
+
+writes_blame : (p : Plan) (path : List NameId) (at : ℕ) (bytes : List ℕ) (m : Write) (lines : Work) → WritesHere p path at bytes m lines → (stage : WriteStage)
+    → During p path at bytes m.walk stage m.transaction lines → BlamesNext p lines (next_at stage m)
+writes_blame p path at bytes m lines k Walking d = by_step m.walk.step
   where
-    copy : (x : BrickId) (job : LookupJob) → IsAbout p (Ask a x (lookup.request_of m.walk.object.gfid job) told took) log
-    copy x (Read at len) = tt
+    by_step : (step : WalkStep) → BlamesNext p lines (next.Ask (walk.next_at step m.walk).0 (walk.next_at step m.walk).1)
+    by_step (walking.Looking s) = tt
+    by_step (walking.Naming b) = tt
+    by_step walking.Arrived = tt
+    by_step (walking.Stopped why views) = tt
+writes_blame p path at bytes m lines k Posting d = rw (k.shape, d.2.done) refl
+writes_blame p path at bytes m lines k (Closing outcome) d = closes (is_nothing m.transaction.held)
+  where
+    closes : (f : Bool) → BlamesNext p lines (if f then next.End (reply_for outcome) else next.Ask (next_brick (Closing outcome) m) (request_at (Closing outcome) m))
+    closes true = tt
+    closes false = tt
+writes_blame p path at bytes m lines k other d = tt
 
-    go : (stage : LookupStage) → TellsIn p command k.len stage m.walk (work a.0 log) → AboutNext p a log told took (lookup.next_at stage m)
-    go read.Walking t = walk_about p a log command m.walk told took t
-    go (read.Looking s) t = λ other scripted. rw (t.0.path, t.1) refl
-    go (read.Reading x) t = copy x m.job
-    go (read.Ending said) t = tt
+-- the accused of a write's post-op
+pub write_blames : (p : Plan) (command : Command) (m : Write) (lines : Work) (b : BrickId) (attempt : ℕ) (g : Gfid) (kind : Kind) (missed : List ℕ) → WriteTells p command m lines
+    → next_of m ≡ next.Ask b (request.Post attempt g kind missed) → missed ≡ minus (below p.shape.n) (among applied_at lines)
+write_blames p (command.Write path at bytes) m lines b attempt g kind missed k says = subst (λ (x : Next). BlamesNext p lines x) says (writes_blame p path at bytes m lines k m.stage k.during)
+write_blames p other m lines b attempt g kind missed k says = absurd k

@@ -1,5 +1,5 @@
 -- What the lines of a work show of its transaction: the machine's sets are the folds of the lines.
-use Rattle.std.specs.Prelude.{◌≡◌, ℕ, ◌+◌, ◌<◌, ◌==◌, nat_lt, Bool, true, false, List, [], Some, length}
+use Rattle.std.specs.Prelude.{◌≡◌, ℕ, ◌+◌, ◌<◌, ◌==◌, nat_lt, Bool, true, false, List, [], Option, Some, length}
 use Rattle.afr_base.specs.Bricks.{member, is_nothing, IsIn}
 use Rattle.afr_base.specs.Majority.{is_majority}
 use Rattle.afr_base.specs.declared.ids.Gfid.{Gfid}
@@ -10,13 +10,19 @@ use Rattle.afr_choice.specs.Looks.{no_looks}
 use Rattle.afr_choice.specs.Verdict.{holders_of, good_copies}
 use Rattle.afr_choice.specs.declared.looked.Looked.{Looked}
 use Rattle.afr_object.specs.Tables.{is_dir}
+use Rattle.afr_object.specs.declared.change.Change.{Change}
 use Rattle.afr_object.specs.declared.change.Change.TheVariants as change
+use Rattle.afr_lines.specs.Areas.{area_for, object_of_area}
+use Rattle.afr_lines.specs.Overlap.{same_area}
 use Rattle.afr_lines.specs.Work.{Work}
+use Rattle.afr_lines.specs.declared.request.Area.{Area}
 use Rattle.afr_plan.specs.declared.command.Command.{Command}
 use Rattle.afr_plan.specs.declared.command.Command.TheVariants as command
 use Rattle.afr_plan.specs.declared.plan.Plan.{Plan}
-use Rattle.afr_model.specs.Showing.{At, path_by, looked_by, among, locking, granting, looking, preparing, prepared, applying, applied_at, posting, posted, has, looks_at, locks, begins_attempt}
-use Rattle.afr_model.specs.Replied.{reply_of, IsLooked, IsLocked, IsAt, IsCarried, kind_changed}
+use Rattle.afr_model.specs.Answered.{IsCaused}
+use Rattle.afr_model.specs.Showing.{At, NotAsked, path_by, reading_by, looked_by, among, looking, preparing, prepared, applying, applied_at, posting, posted, has, looks_at, locks, begins_attempt, refuses_read}
+use Rattle.afr_model.specs.Skipped.{SkipsNothing}
+use Rattle.afr_model.specs.Standing.{locks_area, asking, getting, change_by}
 use Rattle.afr_lookup.specs.declared.stop.Stop.TheVariants.{Failed}
 use Rattle.afr_lookup.specs.declared.walk.Walk.{Walk}
 use Rattle.afr_write.specs.Phases.{no_transaction}
@@ -26,28 +32,34 @@ use Rattle.afr_write.specs.declared.stage.Outcome.TheVariants.{Acknowledged, Sto
 use Rattle.afr_write.specs.declared.stage.Transaction.{Transaction}
 use Rattle.afr_write.specs.declared.stage.WriteStage.{WriteStage}
 use Rattle.afr_write.specs.declared.stage.WriteStage.TheVariants.{Walking, Locking, Looking, Beginning, Preparing, Applying, Posting, Closing}
-use Rattle.afr_telling.specs.WalkTelling.{WalkTells}
+use Rattle.afr_telling.specs.WalkTelling.{HasAskedAll, WalkTells}
 
--- another object than g was not locked, and where it was looked at, then at every brick
-pub record IsAside (n : ℕ) (h : Gfid) (lines : Work) : Type 0 where
-  pub unlocked : has (locks h) lines ≡ false
-  pub looked : has (looks_at h) lines ≡ true → (b : ℕ) → b < n → member (among (looking h) lines) b ≡ true
+-- the range that a write of these bytes locks
+abbrev pub written_range : Gfid → ℕ → List ℕ → Area
+written_range g at bytes = area_for (change.Write g at bytes)
 
--- the path has led to a file, there are bytes to write, not too many, and nothing but the file is locked
+-- no other area was locked, and another object that was looked at, was at every brick
+pub record IsAlone (n : ℕ) (area : Area) (lines : Work) : Type 0 where
+  pub unlocked : (other : Area) → same_area other area ≡ false → has (locks_area other) lines ≡ false
+  pub looked : (h : Gfid) → ((object_of_area area).0 == h.0) ≡ false → has (looks_at h) lines ≡ true → (b : ℕ) → b < n → member (among (looking h) lines) b ≡ true
+
+-- the path has led to a file, there are bytes to write, not too many, nothing was refused, and nothing but their range is locked
 pub record IsThere (p : Plan) (path : List NameId) (at : ℕ) (bytes : List ℕ) (w : Walk) (lines : Work) : Type 0 where
   pub led : path_by p lines ≡ At w.read w.object
   pub whole : w.read ≡ length path
   pub file : is_dir w.object.what ≡ false
   pub some : (length bytes == 0) ≡ false
   pub fits : nat_lt 1048576 (at + length bytes) ≡ false
-  pub others : (h : Gfid) → (w.object.gfid.0 == h.0) ≡ false → IsAside p.shape.n h lines
+  pub unrefused : has refuses_read lines ≡ false
+  pub unread : reading_by p lines ≡ NotAsked
+  pub alone : IsAlone p.shape.n (written_range w.object.gfid at bytes) lines
 
 -- while the locks are asked
-pub record OnLocks (g : Gfid) (t : Transaction) (lines : Work) : Type 0 where
-  pub locked : t.locked ≡ among (locking g) lines
-  pub granted : t.granted ≡ among (granting g) lines
-  pub unseen : looked_by g lines ≡ no_looks
-  pub unlooked : among (looking g) lines ≡ []
+pub record OnLocks (area : Area) (t : Transaction) (lines : Work) : Type 0 where
+  pub locked : t.locked ≡ among (asking area) lines
+  pub granted : t.granted ≡ among (getting area) lines
+  pub unseen : looked_by (object_of_area area) lines ≡ no_looks
+  pub unlooked : among (looking (object_of_area area)) lines ≡ []
   pub begun : has begins_attempt lines ≡ false
 
 -- a lock was asked, and at every brick
@@ -55,17 +67,17 @@ pub record AllLocked (n : ℕ) (is_locked : Bool) (asked : List ℕ) : Type 0 wh
   pub locked : is_locked ≡ true
   pub all : (b : ℕ) → b < n → member asked b ≡ true
 
--- every brick was asked for a lock on the object
-abbrev pub AreLocked : ℕ → Gfid → Work → Type 0
-AreLocked n g lines = AllLocked n (has (locks g) lines) (among (locking g) lines)
+-- every brick was asked for a lock of the area
+abbrev pub AreLocked : ℕ → Area → Work → Type 0
+AreLocked n area lines = AllLocked n (has (locks (object_of_area area)) lines) (among (asking area) lines)
 
 -- while the locked bricks are looked at
-pub record OnLooks (n : ℕ) (g : Gfid) (t : Transaction) (lines : Work) : Type 0 where
-  pub locked : AreLocked n g lines
-  pub majority : is_majority n (among (granting g) lines) ≡ true
-  pub among_granted : t.looks.among ≡ among (granting g) lines
-  pub asked : t.looks.asked ≡ among (looking g) lines
-  pub looked : t.looks.looked ≡ looked_by g lines
+pub record OnLooks (n : ℕ) (area : Area) (t : Transaction) (lines : Work) : Type 0 where
+  pub locked : AreLocked n area lines
+  pub majority : is_majority n (among (getting area) lines) ≡ true
+  pub among_granted : t.looks.among ≡ among (getting area) lines
+  pub asked : t.looks.asked ≡ among (looking (object_of_area area)) lines
+  pub looked : t.looks.looked ≡ looked_by (object_of_area area) lines
   pub begun : has begins_attempt lines ≡ false
 
 -- a majority granted the lock and was looked at, a majority answered, a majority has a copy, and one is good
@@ -82,9 +94,20 @@ pub record IsAllowed (shape : Shape) (t_looked : Looked) (is_locked : Bool) (ask
   pub allows : Allows shape granted looked_at looked
   pub seen : t_looked ≡ looked
 
--- the same, of the lines of the object
-abbrev pub AreAllowed : Shape → Gfid → Transaction → Work → Type 0
-AreAllowed shape g t lines = IsAllowed shape t.looks.looked (has (locks g) lines) (among (locking g) lines) (among (granting g) lines) (among (looking g) lines) (looked_by g lines)
+-- the same, of the lines of the area and its object
+abbrev pub AreAllowed : Shape → Area → Transaction → Work → Type 0
+AreAllowed shape area t lines =
+    IsAllowed shape t.looks.looked (has (locks (object_of_area area)) lines) (among (asking area) lines) (among (getting area) lines) (among (looking (object_of_area area)) lines)
+    (looked_by (object_of_area area) lines)
+
+-- an attempt was begun, and this is its change
+pub record IsBegun (change : Change) (is_begun : Bool) (changed : Option Change) : Type 0 where
+  pub begun : is_begun ≡ true
+  pub change_is : changed ≡ Some change
+
+-- the same, of the lines
+abbrev pub AreBegun : Change → Work → Type 0
+AreBegun change lines = IsBegun change (has begins_attempt lines) (change_by lines)
 
 -- the operation was asked nowhere
 pub record NoApply (lines : Work) : Type 0 where
@@ -97,14 +120,16 @@ pub record NoPost (lines : Work) : Type 0 where
   pub posted_none : among posted lines ≡ []
 
 -- while the pre-op is asked
-pub record OnPre (t : Transaction) (lines : Work) : Type 0 where
+pub record OnPre (change : Change) (t : Transaction) (lines : Work) : Type 0 where
+  pub attempt : AreBegun change lines
   pub asked : t.pre_asked ≡ among preparing lines
   pub did : t.pre ≡ among prepared lines
   pub unapplied : NoApply lines
   pub unposted : NoPost lines
 
 -- while the operation is asked
-pub record OnApply (g : Gfid) (t : Transaction) (lines : Work) : Type 0 where
+pub record OnApply (change : Change) (g : Gfid) (t : Transaction) (lines : Work) : Type 0 where
+  pub attempt : AreBegun change lines
   pub before : IsIn (holders_of (looked_by g lines)) (among preparing lines)
   pub pre : t.pre ≡ among prepared lines
   pub asked : t.apply_asked ≡ among applying lines
@@ -112,7 +137,8 @@ pub record OnApply (g : Gfid) (t : Transaction) (lines : Work) : Type 0 where
   pub unposted : NoPost lines
 
 -- while the post-op is asked
-pub record OnPost (g : Gfid) (t : Transaction) (lines : Work) : Type 0 where
+pub record OnPost (change : Change) (g : Gfid) (t : Transaction) (lines : Work) : Type 0 where
+  pub attempt : AreBegun change lines
   pub before : IsIn (holders_of (looked_by g lines)) (among preparing lines)
   pub pre : IsIn (among prepared lines) (among applying lines)
   pub done : t.done ≡ among applied_at lines
@@ -125,13 +151,12 @@ EndsAttempt Acknowledged = Unit {0}
 EndsAttempt (Stopped Failed views) = Unit {0}
 EndsAttempt other = ⊥
 
--- the reply has its cause, and nothing was skipped
+-- the reply has its cause, one by views has asked every brick, and nothing was skipped
 pub record IsOver (p : Plan) (command : Command) (outcome : Outcome) (lines : Work) : Type 0 where
-  pub caused : reply_of p command lines ≡ Some (reply_for outcome)
+  pub caused : IsCaused p command lines (reply_for outcome)
+  pub asked : HasAskedAll p command (reply_for outcome) lines
   pub begun : has begins_attempt lines ≡ true → EndsAttempt outcome
-  pub looked : IsLooked p.shape.n lines
-  pub locked : (g : Gfid) → has (locks g) lines ≡ true → IsLocked p.shape.n lines g
-  pub carried : has begins_attempt lines ≡ true → (g : Gfid) → IsAt (path_by p lines) g → IsCarried p.shape (kind_changed command) g lines
+  pub whole : SkipsNothing p command lines
 
 -- the walk goes on, of a command that is not too large
 pub record OnWalk (p : Plan) (path : List NameId) (at : ℕ) (bytes : List ℕ) (w : Walk) (t : Transaction) (lines : Work) : Type 0 where
@@ -139,15 +164,18 @@ pub record OnWalk (p : Plan) (path : List NameId) (at : ℕ) (bytes : List ℕ) 
   pub idle : t ≡ no_transaction
   pub fits : nat_lt 1048576 (at + length bytes) ≡ false
 
--- by the stage of the transaction
+-- by the stage of the transaction, whose change is a write of these bytes
 abbrev pub During : Plan → List NameId → ℕ → List ℕ → Walk → WriteStage → Transaction → Work → Type 0
 During p path at bytes w Walking t lines = OnWalk p path at bytes w t lines
-During p path at bytes w Locking t lines = IsThere p path at bytes w lines × OnLocks w.object.gfid t lines
-During p path at bytes w Looking t lines = IsThere p path at bytes w lines × OnLooks p.shape.n w.object.gfid t lines
-During p path at bytes w Beginning t lines = IsThere p path at bytes w lines × AreAllowed p.shape w.object.gfid t lines
-During p path at bytes w Preparing t lines = IsThere p path at bytes w lines × AreAllowed p.shape w.object.gfid t lines × OnPre t lines
-During p path at bytes w Applying t lines = IsThere p path at bytes w lines × AreAllowed p.shape w.object.gfid t lines × OnApply w.object.gfid t lines
-During p path at bytes w Posting t lines = IsThere p path at bytes w lines × AreAllowed p.shape w.object.gfid t lines × OnPost w.object.gfid t lines
+During p path at bytes w Locking t lines = IsThere p path at bytes w lines × OnLocks (written_range w.object.gfid at bytes) t lines
+During p path at bytes w Looking t lines = IsThere p path at bytes w lines × OnLooks p.shape.n (written_range w.object.gfid at bytes) t lines
+During p path at bytes w Beginning t lines = IsThere p path at bytes w lines × AreAllowed p.shape (written_range w.object.gfid at bytes) t lines
+During p path at bytes w Preparing t lines =
+    IsThere p path at bytes w lines × AreAllowed p.shape (written_range w.object.gfid at bytes) t lines × OnPre (change.Write w.object.gfid at bytes) t lines
+During p path at bytes w Applying t lines =
+    IsThere p path at bytes w lines × AreAllowed p.shape (written_range w.object.gfid at bytes) t lines × OnApply (change.Write w.object.gfid at bytes) w.object.gfid t lines
+During p path at bytes w Posting t lines =
+    IsThere p path at bytes w lines × AreAllowed p.shape (written_range w.object.gfid at bytes) t lines × OnPost (change.Write w.object.gfid at bytes) w.object.gfid t lines
 During p path at bytes w (Closing outcome) t lines = IsOver p (command.Write path at bytes) outcome lines
 
 -- a write's machine stands where the lines of its work show

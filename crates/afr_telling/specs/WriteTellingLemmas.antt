@@ -1,7 +1,8 @@
 -- A write stands where its lines show, line by line, until its reply.
-use Rattle.std.proofs.Common.{◌≡◌, ℕ, ◌+◌, ◌^◌, ◌-◌, ◌≤◌, ◌==◌, nat_lt, min, Bool, true, false, List, [], ◌∷◌, refl, sym, arith, length, None, if◌then◌else◌, subst}
+use Rattle.std.proofs.Common.{◌≡◌, ℕ, ◌+◌, ◌^◌, ◌-◌, ◌≤◌, ◌==◌, nat_lt, min, Bool, true, false, List, [], ◌∷◌, refl, sym, ap, ◌∙◌, arith, length, None, if◌then◌else◌, subst}
 use Rattle.std.proofs.lemmas.Bool.Decides.{nat_tests}
-use Rattle.afr_base.specs.Bricks.{lowest, minus, below, is_nothing}
+use Rattle.afr_base.specs.Bricks.{lowest, minus, below, member, is_nothing}
+use Rattle.afr_base.specs.SetLemmas.{lowest_left}
 use Rattle.afr_base.specs.declared.ids.ActorId.{ActorId}
 use Rattle.afr_base.specs.declared.ids.BrickId.{BrickId}
 use Rattle.afr_base.specs.declared.ids.Kind.{Kind}
@@ -11,7 +12,7 @@ use Rattle.afr_base.specs.declared.ids.Shape.{Shape}
 use Rattle.afr_object.specs.Tables.{is_dir, root}
 use Rattle.afr_object.specs.declared.change.Change.{Change}
 use Rattle.afr_object.specs.declared.change.Change.TheVariants as change
-use Rattle.afr_lines.specs.Areas.{area_for, kind_for, object_of_area}
+use Rattle.afr_lines.specs.Areas.{area_for, kind_for}
 use Rattle.afr_lines.specs.Told.{told_by}
 use Rattle.afr_lines.specs.Work.{Work, work}
 use Rattle.afr_lines.specs.declared.answer.Answer.{Answer}
@@ -28,7 +29,8 @@ use Rattle.afr_plan.specs.declared.command.Command.TheVariants as command
 use Rattle.afr_plan.specs.declared.plan.Plan.{Plan}
 use Rattle.afr_model.specs.Honest.{answer_by}
 use Rattle.afr_model.specs.Tables.{holds}
-use Rattle.afr_model.specs.Replied.{Answers, HasCause}
+use Rattle.afr_model.specs.Answered.{Refuses, Answers, IsAnswered}
+use Rattle.afr_model.specs.Showing.{At}
 use Rattle.afr_lookup.specs.Walk.{walk_from, walked, next_in, no_views}
 use Rattle.afr_lookup.specs.declared.stop.Stop.TheVariants.{IsDir, TooLarge}
 use Rattle.afr_lookup.specs.declared.walk.Walk.{Walk}
@@ -43,10 +45,11 @@ use Rattle.afr_write.specs.declared.stage.Transaction.{Transaction}
 use Rattle.afr_write.specs.declared.stage.WriteStage.{WriteStage}
 use Rattle.afr_write.specs.declared.stage.WriteStage.TheVariants.{Walking, Locking, Looking, Beginning, Preparing, Applying, Posting, Closing}
 use Rattle.afr_telling.specs.WalkTelling.{WalkTells, TellsAt, NamesAboveRoot}
-use Rattle.afr_telling.specs.WriteTelling.{During, WritesHere, WriteTells}
+use Rattle.afr_telling.specs.WriteTelling.{written_range, During, WritesHere, WriteTells}
 use Rattle.afr_telling.specs.WalkTellingLemmas.{walk_tells_begins, WalkAsks, walk_asks}
-use Rattle.afr_telling.specs.WriteTellingOver.{not_less, over_unlocked, over_answers}
-use Rattle.afr_telling.specs.WriteTellingLocks.{self, there_lock, there_look, lock_noted, locks_gone, look_noted, looks_gone}
+use Rattle.afr_telling.specs.WholePath.{walked_only_looked}
+use Rattle.afr_telling.specs.WriteTellingOver.{self, not_less, same_range_self, over_unlocked, over_answers}
+use Rattle.afr_telling.specs.WriteTellingLocks.{there_lock, there_look, lock_noted, locks_gone, look_noted, looks_gone}
 use Rattle.afr_telling.specs.WriteTellingPhases.{begun_next, pre_noted, pre_gone, apply_noted, apply_gone, post_noted, post_gone, unlock_over}
 
 -- ---- the walk
@@ -71,8 +74,9 @@ walk_left p path at bytes w t lines k idle fits = go w.step refl k.step
         whole = subst (λ (names : List NameId). w.read ≡ length names) k.path way.1
 
         arrived : (d : Bool) → is_dir w.object.what ≡ d → (e : Bool) → (length bytes == 0) ≡ e → During p path at bytes w (pick d e) t lines
-        arrived true h e i = over_unlocked p (command.Write path at bytes) lines (Stopped IsDir no_views) k.only way.4 (rw (fits, way.0, whole, not_less (length path), h) refl)
-        arrived false h true i = over_unlocked p (command.Write path at bytes) lines Acknowledged k.only way.4 (rw (fits, way.0, whole, not_less (length path), h, i) refl)
+        arrived true h e i = over_unlocked p path at bytes lines (Stopped IsDir no_views) (walked_only_looked p lines k.only) way.4 (Refuses (rw (fits, way.5, way.0, whole, not_less (length path), h) refl)) (λ views. absurd (cc views))
+        arrived false h true i = over_unlocked p path at bytes lines Acknowledged (walked_only_looked p lines k.only) way.4
+            (Answers (rw (fits, way.5, way.0, whole, not_less (length path), h, i) refl) w.object (way.0 ∙ ap (λ (n : ℕ). At n w.object) whole) (rw i refl)) (λ views. absurd (cc views))
         arrived false h false i = (
           record {
             led = way.0;
@@ -80,17 +84,19 @@ walk_left p path at bytes w t lines k idle fits = go w.step refl k.step
             file = h;
             some = i;
             fits = fits;
-            others = λ g other. record { unlocked = k.only.unlocked g; looked = λ seen b l. way.4 g seen (λ none. none) b l };
+            unrefused = way.5;
+            unread = k.only.unread;
+            alone = record { unlocked = λ other e. k.only.free other; looked = λ g other seen b l. way.4 g seen (λ none. none) b l };
           },
           record {
-            locked = rw (idle, k.only.locking_none w.object.gfid) refl;
-            granted = rw (idle, k.only.granting_none w.object.gfid) refl;
+            locked = rw (idle, k.only.asking_none (written_range w.object.gfid at bytes)) refl;
+            granted = rw (idle, k.only.getting_none (written_range w.object.gfid at bytes)) refl;
             unseen = way.2;
             unlooked = way.3;
             begun = k.only.begun;
           },
         )
-    go (walking.Stopped why views) e way = over_unlocked p (command.Write path at bytes) lines (Stopped why views) k.only way.1 (rw fits way.0)
+    go (walking.Stopped why views) e way = over_unlocked p path at bytes lines (Stopped why views) (walked_only_looked p lines k.only) way.1 (Refuses way.0) way.2
 
 -- a sum that 64 bits cannot count is too large, too
 end_large : (n : ℕ) → nat_lt 1048576 (min n (2 ^ 64 - 1)) ≡ nat_lt 1048576 n
@@ -102,13 +108,11 @@ writes_begin p path at bytes short = record { shape = refl; change = refl; durin
     walk : Walk
     walk = walk_from p.shape path
 
-    tells : WalkTells p (command.Write path at bytes) walk []
-    tells = walk_tells_begins p (command.Write path at bytes) short
-
     go : (f : Bool) → nat_lt 1048576 (at + length bytes) ≡ f
         → During p path at bytes walk (if f then Closing (Stopped TooLarge no_views) else after_walk walk (change.Write root at bytes)) no_transaction []
-    go true e = over_unlocked p (command.Write path at bytes) [] (Stopped TooLarge no_views) tells.only (λ g seen. absurd (cc seen)) (rw e refl)
-    go false e = walk_left p path at bytes walk no_transaction [] tells refl e
+    go true e = over_unlocked p path at bytes [] (Stopped TooLarge no_views) (record { begun = refl; unchanged = refl; unlocked = λ g. refl; free = λ area. refl }) (λ g seen. absurd (cc seen))
+        (Refuses (rw e refl)) (λ views. absurd (cc views))
+    go false e = walk_left p path at bytes walk no_transaction [] (walk_tells_begins p (command.Write path at bytes) (record { whole = refl; fits = rw e refl }) short) refl e
 
 -- a write that begins
 pub write_tells_begins : (p : Plan) (path : List NameId) (at : ℕ) (bytes : List ℕ) → length path ≤ 1 → WriteTells p (command.Write path at bytes) (write_from p.shape path (job.Write at bytes)) []
@@ -158,52 +162,55 @@ on_advance p path at bytes w lines stage t k gone = go (is_nothing (left p.shape
     go false e = k
 
 phase_moves : (p : Plan) (path : List NameId) (at : ℕ) (bytes : List ℕ) (m : Write) (a : ActorId) (h : Answer) (took : Bool) (older : List Line) (lines : Work) (stage : WriteStage) → IsPhase stage → p.shape.n ≤ 5
-    → m.change ≡ change.Write m.walk.object.gfid at bytes → During p path at bytes m.walk stage m.transaction lines → AfterPhase p path at bytes m a h took older lines stage p.shape Bytes
-phase_moves p path at bytes m a h took older lines Walking phase few c k = absurd phase
-phase_moves p path at bytes m a h took older lines Beginning phase few c k = absurd phase
-phase_moves p path at bytes m a h took older lines Locking phase few c k = on_advance p path at bytes m.walk _ Locking (noted Locking b h m.transaction) more
+    → m.change ≡ change.Write m.walk.object.gfid at bytes → is_nothing (left p.shape.n stage m.transaction) ≡ false → During p path at bytes m.walk stage m.transaction lines → AfterPhase p path at bytes m a h took older lines stage p.shape Bytes
+phase_moves p path at bytes m a h took older lines Walking phase few c some k = absurd phase
+phase_moves p path at bytes m a h took older lines Beginning phase few c some k = absurd phase
+phase_moves p path at bytes m a h took older lines Locking phase few c some k = on_advance p path at bytes m.walk _ Locking (noted Locking b h m.transaction) more
     (λ none. locks_gone p path at bytes m.walk _ (noted Locking b h m.transaction) few more.0 more.1 (rw (same, self m.walk.object.gfid.0) refl) none)
   where
     b : ℕ
     b = lowest (left p.shape.n Locking m.transaction)
 
-    same : object_of_area (area_for m.change) ≡ m.walk.object.gfid
-    same = rw c refl
+    same : area_for m.change ≡ written_range m.walk.object.gfid at bytes
+    same = ap area_for c
+
+    new : member m.transaction.locked b ≡ false
+    new = (lowest_left (below p.shape.n) m.transaction.locked some).0
 
     more : During p path at bytes m.walk Locking (noted Locking b h m.transaction) ((Ask a (record { 0 = b }) (request_at Locking m) (told_by h) took, older) ∷ lines)
     more = (
       there_lock p path at bytes m.walk lines a (record { 0 = b }) (area_for m.change) (told_by h) took older same k.0,
-      lock_noted m.walk.object.gfid m.transaction lines a b (area_for m.change) h took older same k.1,
+      lock_noted (area_for m.change) (written_range m.walk.object.gfid at bytes) m.transaction lines a b h took older same (same_range_self m.walk.object.gfid at _) new k.1,
     )
-phase_moves p path at bytes m a h took older lines Looking phase few c k = on_advance p path at bytes m.walk _ Looking (noted Looking b h m.transaction) more
+phase_moves p path at bytes m a h took older lines Looking phase few c some k = on_advance p path at bytes m.walk _ Looking (noted Looking b h m.transaction) more
     (λ none. looks_gone p path at bytes m.walk _ (noted Looking b h m.transaction) more.0 more.1 none)
   where
     b : ℕ
     b = lowest (left p.shape.n Looking m.transaction)
 
     more : During p path at bytes m.walk Looking (noted Looking b h m.transaction) ((Ask a (record { 0 = b }) (request_at Looking m) (told_by h) took, older) ∷ lines)
-    more = (there_look p path at bytes m.walk lines a (record { 0 = b }) (told_by h) took older k.0, look_noted p.shape.n m.walk.object.gfid m.transaction lines a h took older k.1)
-phase_moves p path at bytes m a h took older lines Preparing phase few c k = on_advance p path at bytes m.walk _ Preparing _ more (λ none. pre_gone p path at bytes m.walk _ _ more none)
+    more = (there_look p path at bytes m.walk lines a (record { 0 = b }) (told_by h) took older k.0, look_noted p.shape.n (written_range m.walk.object.gfid at bytes) m.transaction lines a h took older k.1)
+phase_moves p path at bytes m a h took older lines Preparing phase few c some k = on_advance p path at bytes m.walk _ Preparing _ more (λ none. pre_gone p path at bytes m.walk _ _ more none)
   where
     more : During p path at bytes m.walk Preparing (noted Preparing (lowest (left p.shape.n Preparing m.transaction)) h m.transaction)
         ((Ask a (record { 0 = lowest (left p.shape.n Preparing m.transaction) }) (request_at Preparing m) (told_by h) took, older) ∷ lines)
     more = pre_noted p path at bytes m.walk lines m.transaction a (lowest (left p.shape.n Preparing m.transaction)) m.walk.object.gfid (kind_for m.change) h took older k
-phase_moves p path at bytes m a h took older lines Applying phase few c k = on_advance p path at bytes m.walk _ Applying _ more (λ none. apply_gone p path at bytes m.walk _ _ more none)
+phase_moves p path at bytes m a h took older lines Applying phase few c some k = on_advance p path at bytes m.walk _ Applying _ more (λ none. apply_gone p path at bytes m.walk _ _ more none)
   where
     more : During p path at bytes m.walk Applying (noted Applying (lowest (left p.shape.n Applying m.transaction)) h m.transaction)
         ((Ask a (record { 0 = lowest (left p.shape.n Applying m.transaction) }) (request_at Applying m) (told_by h) took, older) ∷ lines)
     more = apply_noted p path at bytes m.walk lines m.transaction a (lowest (left p.shape.n Applying m.transaction)) m.transaction.attempt h took older k
-phase_moves p path at bytes m a h took older lines Posting phase few c k = on_advance p path at bytes m.walk _ Posting _ more (λ none. post_gone p path at bytes m.walk _ _ more none)
+phase_moves p path at bytes m a h took older lines Posting phase few c some k = on_advance p path at bytes m.walk _ Posting _ more (λ none. post_gone p path at bytes m.walk _ _ more none)
   where
     more : During p path at bytes m.walk Posting (noted Posting (lowest (left p.shape.n Posting m.transaction)) h m.transaction)
         ((Ask a (record { 0 = lowest (left p.shape.n Posting m.transaction) }) (request_at Posting m) (told_by h) took, older) ∷ lines)
     more = post_noted p path at bytes m.walk lines m.transaction a (lowest (left p.shape.n Posting m.transaction)) m.transaction.attempt m.walk.object.gfid (kind_for m.change)
         (minus (below m.walk.shape.n) m.transaction.done) h took older k
-phase_moves p path at bytes m a h took older lines (Closing outcome) phase few c k = on_advance p path at bytes m.walk _ (Closing outcome) (noted (Closing outcome) (lowest m.transaction.held) h m.transaction) more (λ none. more)
+phase_moves p path at bytes m a h took older lines (Closing outcome) phase few c some k = on_advance p path at bytes m.walk _ (Closing outcome) (noted (Closing outcome) (lowest m.transaction.held) h m.transaction) more (λ none. more)
   where
     more : During p path at bytes m.walk (Closing outcome) (noted (Closing outcome) (lowest m.transaction.held) h m.transaction)
         ((Ask a (record { 0 = lowest m.transaction.held }) (request_at (Closing outcome) m) (told_by h) took, older) ∷ lines)
-    more = unlock_over p path at bytes outcome lines a (record { 0 = lowest m.transaction.held }) domain.Work (area_for m.change) (told_by h) took older k
+    more = unlock_over p path at bytes lines a (record { 0 = lowest m.transaction.held }) domain.Work (area_for m.change) (told_by h) took older outcome k
 
 -- a phase's answer
 writes_phase : (p : Plan) (path : List NameId) (at : ℕ) (bytes : List ℕ) (m : Write) (a : ActorId) (h : Answer) (took : Bool) (older : List Line) (lines : Work) → WritesHere p path at bytes m lines → m.walk.shape.n ≤ 5
@@ -215,6 +222,7 @@ writes_phase p path at bytes m a h took older lines k few stage e phase asking =
   during = subst (λ (shape : Shape). AfterPhase p path at bytes m a h took older lines stage shape (kind_for m.change)) (sym k.shape)
       (subst (λ (kind : Kind). AfterPhase p path at bytes m a h took older lines stage p.shape kind) (sym kind_is)
       (phase_moves p path at bytes m a h took older lines stage phase (subst (λ (shape : Shape). shape.n ≤ 5) k.shape few) k.change
+      (subst (λ (shape : Shape). is_nothing (left shape.n stage m.transaction) ≡ false) k.shape asking)
       (subst (λ (stage : WriteStage). During p path at bytes m.walk stage m.transaction lines) e k.during)));
 })
   where
@@ -229,10 +237,9 @@ writes_phase p path at bytes m a h took older lines k few stage e phase asking =
 
 -- ---- what the volume is told
 
--- a line of the write: it stands as its lines show, and a name is read from a good copy
-pub record WriteAsks (p : Plan) (a : ActorId) (log : List Line) (command : Command) (m : Write) (b : BrickId) (r : Request) (h : Answer) (moment : ℕ) : Type 0 where
-  pub tells : WriteTells p command (heard_by (heard.Answer h moment) m) ((Ask a b r (told_by h) true, log) ∷ work a.0 log)
-  pub replied : HasCause p (Ask a b r (told_by h) true) log
+-- after a line of the write, it stands as its lines show
+abbrev pub WriteAsks : Plan → ActorId → List Line → Command → Write → BrickId → Request → Answer → ℕ → Type 0
+WriteAsks p a log command m b r h moment = WriteTells p command (heard_by (heard.Answer h moment) m) ((Ask a b r (told_by h) true, log) ∷ work a.0 log)
 
 writes_ask : (p : Plan) (a : ActorId) (log : List Line) (path : List NameId) (at : ℕ) (bytes : List ℕ) (m : Write) (b : BrickId) (r : Request) (h : Answer) (moment : ℕ)
     → WritesHere p path at bytes m (work a.0 log) → IsWrite m.walk m.transaction m.stage → next_of m ≡ next.Ask b r → (m.stage ≡ Walking → h ≡ answer_by None r (holds p log b.0) log) → NamesAboveRoot p log
@@ -254,10 +261,7 @@ writes_ask p a log path at bytes m b r h moment k sound says honest above = go m
 
     go : (stage : WriteStage) → m.stage ≡ stage → During p path at bytes m.walk stage m.transaction (work a.0 log) → IsStage m.walk m.transaction stage → next_at stage m ≡ next.Ask b r
         → WriteAsks p a log (command.Write path at bytes) m b r h moment
-    go Walking e during asking says = at_next (next_in m.walk).0 (next_in m.walk).1 says (record {
-      tells = by_stage Walking _ e (writes_walk p path at bytes m h (work a.0 log) _ k during.idle during.fits walks.tells);
-      replied = walks.replied;
-    })
+    go Walking e during asking says = at_next (next_in m.walk).0 (next_in m.walk).1 says (by_stage Walking _ e (writes_walk p path at bytes m h (work a.0 log) _ k during.idle during.fits walks.tells))
       where
         brick : (next_in m.walk).0 ≡ b
         brick = cc says
@@ -267,18 +271,18 @@ writes_ask p a log path at bytes m b r h moment k sound says honest above = go m
 
         walks : WalkAsks p a log (command.Write path at bytes) m.walk h
         walks = walk_asks p a log (command.Write path at bytes) m.walk h during.walks asking.0 sound.sound (rw (request, brick) (honest e)) above
-    go Locking e during asking says = at_next (next_brick Locking m) (request_at Locking m) says (record { tells = by_stage Locking _ e (phase Locking e tt asking); replied = tt })
-    go Looking e during asking says = at_next (next_brick Looking m) (request_at Looking m) says (record { tells = by_stage Looking _ e (phase Looking e tt asking); replied = tt })
+    go Locking e during asking says = at_next (next_brick Locking m) (request_at Locking m) says (by_stage Locking _ e (phase Locking e tt asking))
+    go Looking e during asking says = at_next (next_brick Looking m) (request_at Looking m) says (by_stage Looking _ e (phase Looking e tt asking))
     go Beginning e during asking says = absurd (cc says)
-    go Preparing e during asking says = at_next (next_brick Preparing m) (request_at Preparing m) says (record { tells = by_stage Preparing _ e (phase Preparing e tt asking); replied = tt })
-    go Applying e during asking says = at_next (next_brick Applying m) (request_at Applying m) says (record { tells = by_stage Applying _ e (phase Applying e tt asking); replied = tt })
-    go Posting e during asking says = at_next (next_brick Posting m) (request_at Posting m) says (record { tells = by_stage Posting _ e (phase Posting e tt asking); replied = tt })
+    go Preparing e during asking says = at_next (next_brick Preparing m) (request_at Preparing m) says (by_stage Preparing _ e (phase Preparing e tt asking))
+    go Applying e during asking says = at_next (next_brick Applying m) (request_at Applying m) says (by_stage Applying _ e (phase Applying e tt asking))
+    go Posting e during asking says = at_next (next_brick Posting m) (request_at Posting m) says (by_stage Posting _ e (phase Posting e tt asking))
     go (Closing outcome) e during asking says = closes (is_nothing m.transaction.held) refl says
       where
         closes : (f : Bool) → is_nothing m.transaction.held ≡ f → (if f then next.End (reply_for outcome) else next.Ask (next_brick (Closing outcome) m) (request_at (Closing outcome) m)) ≡ next.Ask b r
             → WriteAsks p a log (command.Write path at bytes) m b r h moment
         closes true none says = absurd (cc says)
-        closes false some says = at_next (next_brick (Closing outcome) m) (request_at (Closing outcome) m) says (record { tells = by_stage (Closing outcome) _ e (phase (Closing outcome) e tt some); replied = tt })
+        closes false some says = at_next (next_brick (Closing outcome) m) (request_at (Closing outcome) m) says (by_stage (Closing outcome) _ e (phase (Closing outcome) e tt some))
 
 -- a request of the write; while it walks, its answer is what the brick's tables give
 pub write_tells_asks : (p : Plan) (a : ActorId) (log : List Line) (command : Command) (m : Write) (b : BrickId) (r : Request) (h : Answer) (moment : ℕ)
@@ -292,7 +296,7 @@ writes_begun : (p : Plan) (path : List NameId) (at : ℕ) (bytes : List ℕ) (m 
     → next_of m ≡ next.Begin c → WritesHere p path at bytes (heard_by (heard.Begun moment) m) ((Begin a c, older) ∷ lines)
 writes_begun p path at bytes m a c moment older lines k says = subst (λ (stage : WriteStage). WritesHere p path at bytes (begun_at stage moment m) ((Begin a c, older) ∷ lines)) (sym (begins m.stage says))
     (let during : During p path at bytes m.walk Beginning m.transaction lines = subst (λ (stage : WriteStage). During p path at bytes m.walk stage m.transaction lines) (begins m.stage says) k.during in
-    record { shape = k.shape; change = k.change; during = begun_next p path at bytes m.walk lines m.transaction a c moment older during.0 during.1 })
+    record { shape = k.shape; change = k.change; during = begun_next p path at bytes m.walk lines m.transaction a c moment older (sym (own m.stage says) ∙ k.change) during.0 during.1 })
   where
     begins : (stage : WriteStage) → next_at stage m ≡ next.Begin c → stage ≡ Beginning
     begins Beginning says = refl
@@ -303,6 +307,15 @@ writes_begun p path at bytes m a c moment older lines k says = subst (λ (stage 
         closes false says = absurd (cc says)
     begins other says = absurd (cc says)
 
+    own : (stage : WriteStage) → next_at stage m ≡ next.Begin c → m.change ≡ c
+    own Beginning says = cc says
+    own (Closing outcome) says = closes (is_nothing m.transaction.held) says
+      where
+        closes : (f : Bool) → (if f then next.End (reply_for outcome) else next.Ask (next_brick (Closing outcome) m) (request_at (Closing outcome) m)) ≡ next.Begin c → m.change ≡ c
+        closes true says = absurd (cc says)
+        closes false says = absurd (cc says)
+    own other says = absurd (cc says)
+
 -- the attempt of a write begins
 pub write_tells_begun : (p : Plan) (a : ActorId) (log : List Line) (command : Command) (m : Write) (c : Change) (moment : ℕ) → WriteTells p command m (work a.0 log) → next_of m ≡ next.Begin c
     → WriteTells p command (heard_by (heard.Begun moment) m) ((Begin a c, log) ∷ work a.0 log)
@@ -310,20 +323,20 @@ write_tells_begun p a log (command.Write path at bytes) m c moment k says = writ
 write_tells_begun p a log other m c moment k says = absurd k
 
 writes_answer : (p : Plan) (path : List NameId) (at : ℕ) (bytes : List ℕ) (m : Write) (lines : Work) (said : Reply) → WritesHere p path at bytes m lines → next_of m ≡ next.End said → (said ≡ reply.Failed → ⊥)
-    → Answers p (command.Write path at bytes) lines said
+    → IsAnswered p (command.Write path at bytes) lines said
 writes_answer p path at bytes m lines said k says well = go m.stage k.during says
   where
-    go : (stage : WriteStage) → During p path at bytes m.walk stage m.transaction lines → next_at stage m ≡ next.End said → Answers p (command.Write path at bytes) lines said
+    go : (stage : WriteStage) → During p path at bytes m.walk stage m.transaction lines → next_at stage m ≡ next.End said → IsAnswered p (command.Write path at bytes) lines said
     go (Closing outcome) during says = closes (is_nothing m.transaction.held) says
       where
-        closes : (f : Bool) → (if f then next.End (reply_for outcome) else next.Ask (next_brick (Closing outcome) m) (request_at (Closing outcome) m)) ≡ next.End said → Answers p (command.Write path at bytes) lines said
+        closes : (f : Bool) → (if f then next.End (reply_for outcome) else next.Ask (next_brick (Closing outcome) m) (request_at (Closing outcome) m)) ≡ next.End said → IsAnswered p (command.Write path at bytes) lines said
         closes true says =
             let same : reply_for outcome ≡ said = cc says in
-            subst (λ (said : Reply). Answers p (command.Write path at bytes) lines said) same (over_answers p (command.Write path at bytes) lines outcome during (subst (λ (said : Reply). said ≡ reply.Failed → ⊥) (sym same) well))
+            subst (λ (said : Reply). IsAnswered p (command.Write path at bytes) lines said) same (over_answers p (command.Write path at bytes) lines outcome during (subst (λ (said : Reply). said ≡ reply.Failed → ⊥) (sym same) well))
         closes false says = absurd (cc says)
     go other during says = absurd (cc says)
 
 -- the reply of a write that hasn't failed has its cause, and nothing was skipped
-pub write_answers : (p : Plan) (command : Command) (m : Write) (lines : Work) (said : Reply) → WriteTells p command m lines → next_of m ≡ next.End said → (said ≡ reply.Failed → ⊥) → Answers p command lines said
+pub write_answers : (p : Plan) (command : Command) (m : Write) (lines : Work) (said : Reply) → WriteTells p command m lines → next_of m ≡ next.End said → (said ≡ reply.Failed → ⊥) → IsAnswered p command lines said
 write_answers p (command.Write path at bytes) m lines said k says well = writes_answer p path at bytes m lines said k says well
 write_answers p other m lines said k says well = absurd k

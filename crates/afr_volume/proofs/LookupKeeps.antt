@@ -1,5 +1,5 @@
 -- A read keeps to its command.
-use Rattle.std.proofs.Common.{Bool, List, ◌∷◌}
+use Rattle.std.proofs.Common.{Bool, List, ◌∷◌, length}
 use Rattle.afr_base.specs.declared.ids.ActorId.{ActorId}
 use Rattle.afr_base.specs.declared.ids.BrickId.{BrickId}
 use Rattle.afr_base.specs.declared.ids.Gfid.{Gfid}
@@ -25,12 +25,12 @@ read_is_free g (Read at len) = tt
 
 -- a line of a read keeps to the command, and the read goes on
 pub record LookupMoves (p : Plan) (a : ActorId) (log : List Line) (command : Command) (line : Line) (w : Walk) : Type 0 where
-  pub keeps : KeepsTo p command line (work a.0 log)
+  pub keeps : KeepsTo p command line (length log) (work a.0 log)
   pub walks : WalksOn p a.0 (line ∷ log) command w
 
 pub copy_moves : (p : Plan) (a : ActorId) (log : List Line) (command : Command) (w : Walk) (b : BrickId) (r : Request) (heard : Answer) (took : Bool) → NamesNothing r → WalksOn p a.0 log command w
     → LookupMoves p a log command (Ask a b r (told_by heard) took) w
 copy_moves p a log command w b r heard took h k = record {
-  keeps = free_ask p command a b r (told_by heard) took (work a.0 log) h;
+  keeps = free_ask p command a b r (told_by heard) took (length log) (work a.0 log) h;
   walks = walks_ask p a log command w b r (told_by heard) took h k;
 }

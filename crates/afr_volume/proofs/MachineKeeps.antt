@@ -1,5 +1,5 @@
 -- A line of an actor: its machine can still be served, its lines still tell where it stands, and the line was honest and has its cause.
-use Rattle.std.proofs.Common.{◌≡◌, ℕ, ◌<◌, true, List, ◌∷◌, refl, subst, length, Option, Some, None, slice_get}
+use Rattle.std.proofs.Common.{◌≡◌, ℕ, ◌<◌, true, List, ◌∷◌, arith, refl, subst, length, Option, Some, None, slice_get}
 use Rattle.std.specs.Prelude.{IfSome, slice_index}
 use Rattle.afr_base.specs.Marks.{marks_of}
 use Rattle.afr_base.specs.declared.ids.ActorId.{ActorId}
@@ -23,16 +23,17 @@ use Rattle.afr_model.specs.Tables.{holds}
 use Rattle.afr_model.specs.Actors.{IsActor, script_of}
 use Rattle.afr_model.specs.Following.{Follows}
 use Rattle.afr_model.specs.Honest.{Honest, IsHonest, answer_by}
-use Rattle.afr_model.specs.Replied.{IsReplied}
+use Rattle.afr_model.specs.Answered.{IsAbout}
+use Rattle.afr_model.specs.Replied.{IsOfTask, IsReplied}
 use Rattle.afr_telling.specs.Able.{WriteAble, LookupAble}
 use Rattle.afr_telling.specs.AbleLookup.{lookup_able_asks, lookup_able_serves, lookup_able_ends}
 use Rattle.afr_telling.specs.AbleServes.{write_able_serves, write_able_ends}
 use Rattle.afr_telling.specs.AbleWrite.{write_able_asks, write_able_begun}
-use Rattle.afr_telling.specs.AboutTellingLemmas.{begun_tells_asks, begun_tells_begun, write_about, read_about}
+use Rattle.afr_telling.specs.AboutTellingLemmas.{begun_tells_asks, begun_tells_begun, write_about, write_begin_about}
 use Rattle.afr_telling.specs.Bounded.{Bounded}
 use Rattle.afr_telling.specs.CanServe.{CanServe}
 use Rattle.afr_tables.specs.Fits.{FitsSums}
-use Rattle.afr_telling.specs.HonestLaws.{honest_ask}
+use Rattle.afr_telling.specs.HonestLaws.{lone_actor, honest_ask}
 use Rattle.afr_telling.specs.Plain.{IsPlain}
 use Rattle.afr_telling.specs.ReadTellingLemmas.{read_asks, read_answers}
 use Rattle.afr_telling.specs.NameLaws.{named_above}
@@ -63,8 +64,6 @@ pub record IsBefore (p : Plan) (a : ActorId) (log : List Line) : Type 0 where
   pub honest : Honest p log
   pub actor : IsActor p a.0
   pub room : length log < 4000000
-  pub command : Command
-  pub present : slice_get (script_of p a.0) (ended a.0 log) ≡ Some command
 
 -- a request that can be served closes no operation that isn't open
 fits_sums : (p : Plan) (a : ActorId) (b : BrickId) (r : Request) (told : Told) (log : List Line) → CanServe (holds p log b.0) r log → FitsSums p (Ask a b r told true) log
@@ -83,20 +82,21 @@ module _ (p : Plan) (a : ActorId) (log : List Line) (k : IsBefore p a log) where
   honestly : (b : BrickId) (r : Request) (h : Answer) → b.0 < p.shape.n → h ≡ answer_by None r (holds p log b.0) log → IsHonest p (Ask a b r (told_by h) true) log
   honestly b r h below exact = rw exact (honest_ask p k.plain log k.follows k.honest a b r k.actor below)
 
+  -- a line of a client is about what its present command names; a client has no rounds
+  of_task : (line : Line) → ((command : Command) → slice_get (script_of p a.0) (ended a.0 log) ≡ Some command → IsAbout p command line (work a.0 log)) → IsOfTask p a line log
+  of_task line about = record { command = about; round = λ healer b due. absurd (omega (arith, healer, lone_actor p k.plain a.0 k.actor)) }
+
   -- a line of a transaction
   pub write_asked : (m : write.Write) (at : ℕ) (b : BrickId) (r : Request) (h : Answer) → WriteAble p log m → TellsWork p a.0 log (Write m) → IsSound (Write m) → write.next_of m ≡ next.Ask b r
       → h ≡ answer_by None r (holds p log b.0) log → LineTells p a log (Ask a b r (told_by h) true) (heard_work (heard.Answer h at) (Write m))
   write_asked m at b r h able tells sound e exact = record {
     able = write_able_asks p a log at m b r h able sound e exact;
     tells = λ command present. rw (work_ask a log b r (told_by h) true) (record {
-      stands = (write_tells_asks p a log command m b r h at (tells command present).stands sound e (λ _. exact) above).tells;
+      stands = write_tells_asks p a log command m b r h at (tells command present).stands sound e (λ _. exact) above;
       begun = begun_tells_asks a log m b r h at (tells command present).begun e;
     });
     honest = honestly b r h served.0 exact;
-    replied = record {
-      caused = (write_tells_asks p a log k.command m b r h at (tells k.command k.present).stands sound e (λ _. exact) above).replied;
-      about = write_about p a log k.command m b r (told_by h) true (tells k.command k.present).stands (tells k.command k.present).begun e k.present;
-    };
+    replied = of_task (Ask a b r (told_by h) true) (λ command present. write_about p a (work a.0 log) command m b r (told_by h) true (tells command present).stands (tells command present).begun sound e);
     sums = fits_sums p a b r (told_by h) log served.1;
   }
     where
@@ -107,16 +107,16 @@ module _ (p : Plan) (a : ActorId) (log : List Line) (k : IsBefore p a log) where
   work_begin c = rw (self a.0) refl
 
   -- an attempt begins
-  pub write_begun : (m : write.Write) (at : ℕ) (c : Change) → WriteAble p log m → TellsWork p a.0 log (Write m) → write.next_of m ≡ next.Begin c → at ≡ length log
+  pub write_begun : (m : write.Write) (at : ℕ) (c : Change) → WriteAble p log m → TellsWork p a.0 log (Write m) → IsSound (Write m) → write.next_of m ≡ next.Begin c → at ≡ length log
       → LineTells p a log (Begin a c) (heard_work (heard.Begun at) (Write m))
-  write_begun m at c able tells e position = record {
+  write_begun m at c able tells sound e position = record {
     able = write_able_begun p a log at m c able e position;
     tells = λ command present. rw (work_begin c) (record {
       stands = write_tells_begun p a log command m c at (tells command present).stands e;
       begun = begun_tells_begun a log m c at (tells command present).begun e position;
     });
     honest = tt;
-    replied = record { caused = tt; about = tt };
+    replied = of_task (Begin a c) (λ command present. write_begin_about p a (work a.0 log) command m c (tells command present).stands (tells command present).begun sound e);
     sums = tt;
   }
 
@@ -126,7 +126,7 @@ module _ (p : Plan) (a : ActorId) (log : List Line) (k : IsBefore p a log) where
     able = tt;
     tells = tt;
     honest = tt;
-    replied = record { caused = λ command present. write_answers p command m (work a.0 log) said (tells command present).stands e (write_able_ends p log m said able e); about = tt };
+    replied = of_task (End a said) (λ command present. write_answers p command m (work a.0 log) said (tells command present).stands e (write_able_ends p log m said able e));
     sums = tt;
   }
 
@@ -135,12 +135,9 @@ module _ (p : Plan) (a : ActorId) (log : List Line) (k : IsBefore p a log) where
       → h ≡ answer_by None r (holds p log b.0) log → LineTells p a log (Ask a b r (told_by h) true) (heard_work (heard.Answer h at) (Lookup m))
   read_asked m at b r h able tells sound e exact = record {
     able = lookup_able_asks p a log at m b r h able sound e exact;
-    tells = λ command present. rw (work_ask a log b r (told_by h) true) ((read_asks p a log command m b r h at (tells command present) e sound exact above present).tells);
+    tells = λ command present. rw (work_ask a log b r (told_by h) true) ((read_asks p a log command m b r h at (tells command present) e sound exact above).tells);
     honest = honestly b r h served.0 exact;
-    replied = record {
-      caused = (read_asks p a log k.command m b r h at (tells k.command k.present) e sound exact above k.present).replied;
-      about = read_about p a log k.command m b r (told_by h) true (tells k.command k.present) e;
-    };
+    replied = of_task (Ask a b r (told_by h) true) (λ command present. (read_asks p a log command m b r h at (tells command present) e sound exact above).about);
     sums = fits_sums p a b r (told_by h) log served.1;
   }
     where
@@ -153,7 +150,7 @@ module _ (p : Plan) (a : ActorId) (log : List Line) (k : IsBefore p a log) where
     able = tt;
     tells = tt;
     honest = tt;
-    replied = record { caused = λ command present. read_answers p command m (work a.0 log) said (tells command present) e (lookup_able_ends p log m said able e); about = tt };
+    replied = of_task (End a said) (λ command present. read_answers p command m (work a.0 log) said (tells command present) e (lookup_able_ends p log m said able e));
     sums = tt;
   }
 
@@ -162,7 +159,7 @@ module _ (p : Plan) (a : ActorId) (log : List Line) (k : IsBefore p a log) where
   told_handles at position Idle able tells sound = tt
   told_handles at position (Write m) able tells sound = record {
     asked = λ b r h e below exact. write_asked m at b r h able tells sound e exact;
-    begun = λ c e. write_begun m at c able tells e position;
+    begun = λ c e. write_begun m at c able tells sound e position;
     ended = λ said e. write_ended m said able tells e;
   }
   told_handles at position (Lookup m) able tells sound = record {

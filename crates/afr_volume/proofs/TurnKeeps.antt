@@ -20,7 +20,8 @@ use Rattle.afr_brick.specs.State.{Copies}
 use Rattle.afr_plan.specs.declared.command.Command.{Command}
 use Rattle.afr_plan.specs.declared.plan.Plan.{Plan}
 use Rattle.afr_model.specs.Actors.{IsActor, script_of}
-use Rattle.afr_model.specs.Following.{Found, found_by, KeepsTo, IsTurnOf, NoneDue, IsDue, begins}
+use Rattle.afr_model.specs.Following.{KeepsTo, IsTurnOf, NoneDue, IsDue, ToCommand}
+use Rattle.afr_model.specs.Showing.{Path, path_by, has, begins_attempt}
 use Rattle.afr_model.specs.Report.{started_bricks}
 use Rattle.afr_lookup.specs.Lookup as lookup
 use Rattle.afr_lookup.specs.declared.lookup.LookupStage.{LookupStage}
@@ -89,7 +90,7 @@ other_ended a c line log (Begins x) e = refl
 other_ended a c line log (Ends r) e = rw e refl
 
 walks_other : (p : Plan) (c : ℕ) (line : Line) (log : List Line) (command : Command) (w : Walk) → work c (line ∷ log) ≡ work c log → WalksOn p c log command w → WalksOn p c (line ∷ log) command w
-walks_other p c line log command w e k = record { path = k.path; way = subst (λ (found : Found). IsOnWay w.step found w) (ap (found_by p) (sym e)) k.way }
+walks_other p c line log command w e k = record { whole = k.whole; path = k.path; way = subst (λ (path : Path). IsOnWay w.step path w) (ap (path_by p) (sym e)) k.way }
 
 carries_other : (p : Plan) (c : ℕ) (line : Line) (log : List Line) (x : ActorWork) → work c (line ∷ log) ≡ work c log → ended c (line ∷ log) ≡ ended c log → Carries p c log x → Carries p c (line ∷ log) x
 carries_other p c line log Idle e n k = e ∙ k
@@ -99,7 +100,7 @@ carries_other p c line log (Write m) e n k = record {
   does = record {
     walks = walks_other p c line log k.command m.walk e k.does.walks;
     change = k.does.change;
-    begun = subst (λ (attempts : ℕ). HasBegun m.stage attempts m.walk.step) (ap begins (sym e)) k.does.begun;
+    begun = subst (λ (begun : Bool). HasBegun m.stage begun m.walk.step) (ap (has begins_attempt) (sym e)) k.does.begun;
   };
 }
 carries_other p c line log (Lookup m) e n k = record { command = k.command; present = rw n k.present; does = walks_other p c line log k.command m.walk e k.does }
@@ -115,7 +116,7 @@ others p a c line log x w e k = record {
 pub record ActorMoves (p : Plan) (a : ActorId) (log : List Line) (line : Line) (y : Actor) (old new : List Copies) : Type 0 where
   pub command : Command
   pub present : slice_get (script_of p a.0) (ended a.0 log) ≡ Some command
-  pub keeps : KeepsTo p command line (work a.0 log)
+  pub keeps : KeepsTo p command line (length log) (work a.0 log)
   pub acting : IsActing p (line ∷ log) a.0 y
   pub wrote : Wrote a line
   pub tables : AreTables p (line ∷ log) new
@@ -124,7 +125,7 @@ pub record ActorMoves (p : Plan) (a : ActorId) (log : List Line) (line : Line) (
 module _ (p : Plan) (a : ActorId) (at : ℕ) (log : List Line) (x y : Actor) (old new : List Copies) (written : Line) (k : IsActing p log a.0 x) (t : AreTables p log old) where
   -- a request was asked, and its answer heard
   asked_moves : (b : BrickId) (r : Request) (s : Begun a at b r log x y old new written) (command : Command) → slice_get (script_of p a.0) (ended a.0 log) ≡ Some command
-      → KeepsTo p command (Ask a b r (told_by s.answer) true) (work a.0 log) → Carries p a.0 (Ask a b r (told_by s.answer) true ∷ log) (heard_work (heard.Answer s.answer at) x.work)
+      → KeepsTo p command (Ask a b r (told_by s.answer) true) (length log) (work a.0 log) → Carries p a.0 (Ask a b r (told_by s.answer) true ∷ log) (heard_work (heard.Answer s.answer at) x.work)
       → ActorMoves p a log written y old new
   asked_moves b r s command present keeps carries =
       subst (λ (l : Line). ActorMoves p a log l y old new) (sym s.is_line) (record {
@@ -142,7 +143,7 @@ module _ (p : Plan) (a : ActorId) (at : ℕ) (log : List Line) (x y : Actor) (ol
 
   -- an attempt was begun
   begun_moves : (c : Change) → (written ≡ Begin a c) × (y ≡ record x { work = heard_work (heard.Begun at) x.work }) × (new ≡ old) → (command : Command)
-      → slice_get (script_of p a.0) (ended a.0 log) ≡ Some command → KeepsTo p command (Begin a c) (work a.0 log) → Carries p a.0 (Begin a c ∷ log) (heard_work (heard.Begun at) x.work)
+      → slice_get (script_of p a.0) (ended a.0 log) ≡ Some command → KeepsTo p command (Begin a c) (length log) (work a.0 log) → Carries p a.0 (Begin a c ∷ log) (heard_work (heard.Begun at) x.work)
       → ActorMoves p a log written y old new
   begun_moves c s command present keeps carries =
       subst (λ (l : Line). ActorMoves p a log l y old new) (sym s.0) (record {
@@ -180,7 +181,7 @@ module _ (p : Plan) (a : ActorId) (at : ℕ) (log : List Line) (x y : Actor) (ol
       phase : (st : WriteStage) → m.stage ≡ st → IsAsking st → ((h : Answer) → write.answered_at st h m ≡ write.phase_heard st h m) → (b : BrickId) (r : Request) → NamesNothing r
           → Begun a at b r log x y old new written → ActorMoves p a log written y old new
       phase st f asking same b r free s =
-          asked_moves b r s c.command c.present (free_ask p c.command a b r (told_by s.answer) true (work a.0 log) free)
+          asked_moves b r s c.command c.present (free_ask p c.command a b r (told_by s.answer) true (length log) (work a.0 log) free)
           (carried st (Ask a b r (told_by s.answer) true) s.answer f refl
           (rw (same s.answer) (phase_moves p a log c.command m st b r s.answer (told_by s.answer) true f asking free c.does)))
 
@@ -250,7 +251,7 @@ kept_turn p a at log x y bricks new actors started made line v actor one is busy
   stays = each_one (λ (i : ℕ) (z : Actor). CurrentWork p (line ∷ log) z.work) actors (a.0 - 1) y lone small stays.work;
   started_is = v.started_is ∙ sym (wrote_started p.shape.n a line log moves.wrote);
   made_is = v.made_is ∙ sym (wrote_made a line log moves.wrote);
-  follows = ((room, wrote_due p a line log moves.wrote (record { actor = actor; alive = alive; command = moves.command; present = moves.present; keeps = moves.keeps }) none), v.follows);
+  follows = ((room, wrote_due p a line log moves.wrote (record { actor = actor; alive = alive; keeps = ToCommand moves.command moves.present moves.keeps }) none), v.follows);
   honest = (keeps.honest, v.honest);
   replied = (keeps.replied, v.replied);
   sums = (keeps.sums, v.sums);
@@ -275,7 +276,7 @@ kept_turn p a at log x y bricks new actors started made line v actor one is busy
     moves = actor_moves p a at log x y bricks new line mine v.tables busy s
 
     before : IsBefore p a log
-    before = record { plain = v.runnable.plain; follows = v.follows; honest = v.honest; actor = actor; room = omega (arith, room, v.runnable.turns); command = moves.command; present = moves.present }
+    before = record { plain = v.runnable.plain; follows = v.follows; honest = v.honest; actor = actor; room = omega (arith, room, v.runnable.turns) }
 
     keeps : LineTells p a log line y.work
     keeps = line_keeps p a at log x y bricks new line v.tables v.few (LineTells p a log) busy
@@ -303,7 +304,7 @@ readied p log a x z k (inr r) =
   where
     begins_with : (command : Command) (w : ActorWork) → slice_get (script_of p a) (ended a log) ≡ Some command → work a log ≡ [] → StartsWith p.shape command w → Carries p a log w
     begins_with (command.Write path at bytes) w present none e = rw e (record { command = command.Write path at bytes; present = present; does = write_begins p a log p.shape path at bytes none })
-    begins_with (command.Read path at len) w present none e = rw e (record { command = command.Read path at len; present = present; does = walk_begins p a log (command.Read path at len) p.shape none })
+    begins_with (command.Read path at len) w present none e = rw e (record { command = command.Read path at len; present = present; does = walk_begins p a log (command.Read path at len) p.shape refl none })
     begins_with other w present none e = absurd e
 
 pub kept_ready : (p : Plan) (log : List Line) (bricks : List Copies) (actors new : List Actor) (started : List ℕ) (made : ℕ) (a : ℕ) → 1 ≤ a → IsVolume p log bricks actors started made → ReadiedAt p a actors new

@@ -1,4 +1,4 @@
--- A walk keeps what its lines have found.
+-- A walk stands where its lines show.
 use Rattle.std.proofs.Common.{◌≡◌, ℕ, ◌+◌, ◌<◌, ◌≤◌, ◌==◌, Bool, true, false, List, [], ◌∷◌, refl, sym, ap, ◌∙◌, arith, length, Option, Some, None, slice_get, if◌then◌else◌, inl, inr, ◌⊎◌, ◌≢◌, subst}
 use Rattle.std.proofs.lemmas.Bool.Decides.{nat_tests, eqb_tells}
 use Rattle.std.proofs.lemmas.Option.{slice_get-get_or}
@@ -30,7 +30,9 @@ use Rattle.afr_plan.specs.declared.command.Command.{Command}
 use Rattle.afr_plan.specs.declared.plan.Plan.{Plan}
 use Rattle.afr_model.specs.Tables.{holds, entry_in}
 use Rattle.afr_model.specs.Honest.{answer_by, copy_answer}
-use Rattle.afr_model.specs.Following.{Found, found_by, found_after, at_root, path_of, KeepsTo}
+use Rattle.afr_model.specs.Commands.{path_of, is_on_name}
+use Rattle.afr_model.specs.Following.{KeepsTo}
+use Rattle.afr_model.specs.Showing.{Path, At, root_entry, path_after, path_by}
 use Rattle.afr_lookup.specs.Looks.{looks_at, left_to_look, heard_look}
 use Rattle.afr_lookup.specs.Walk.{walk_from, step_at, no_views, next_in, next_at, name_in, verdict_step, after_looks, named, walked, walked_at}
 use Rattle.afr_lookup.specs.declared.looks.Looks.{Looks}
@@ -38,7 +40,7 @@ use Rattle.afr_lookup.specs.declared.stop.Stop.TheVariants.{NotDir}
 use Rattle.afr_lookup.specs.declared.walk.Walk.{Walk}
 use Rattle.afr_lookup.specs.declared.walk.WalkStep.{WalkStep}
 use Rattle.afr_lookup.specs.declared.walk.WalkStep.TheVariants.{Looking, Naming, Arrived, Stopped}
-use Rattle.afr_volume.specs.Keeping.{found_at, IsOnWay, WalksOn}
+use Rattle.afr_volume.specs.Keeping.{stands_at, IsOnWay, WalksOn}
 
 pub self : (n : ℕ) → (n == n) ≡ true
 self n = grind (arith, nat_tests)
@@ -48,39 +50,40 @@ pub work_ask : (a : ActorId) (log : List Line) (b : BrickId) (r : Request) (told
     → work a.0 (Ask a b r told took ∷ log) ≡ (Ask a b r told took, log) ∷ work a.0 log
 work_ask a log b r told took = rw (self a.0) refl
 
--- a request that reads no name leaves what was found
+-- a request that reads no name leaves the path where it stands
 abbrev pub NamesNothing : Request → Type 0
 NamesNothing (ReadName g name) = ⊥
 NamesNothing r = Unit {0}
 
-pub found_same : (p : Plan) (a : ActorId) (b : BrickId) (r : Request) (told : Told) (took : Bool) (older : List Line) (found : Found) → NamesNothing r
-    → found_after p (Ask a b r told took) older found ≡ found
-found_same p a b (ReadName g name) told took older found h = absurd h
-found_same p a b r told took older found h = refl
+pub path_same : (p : Plan) (a : ActorId) (b : BrickId) (r : Request) (told : Told) (took : Bool) (older : List Line) (path : Path) → NamesNothing r
+    → path_after p (Ask a b r told took) older path ≡ path
+path_same p a b (ReadName g name) told took older path h = absurd h
+path_same p a b r told took older path h = refl
 
-pub free_ask : (p : Plan) (command : Command) (a : ActorId) (b : BrickId) (r : Request) (told : Told) (took : Bool) (w : Work) → NamesNothing r → KeepsTo p command (Ask a b r told took) w
-free_ask p command a b (ReadName g name) told took w h = absurd h
-free_ask p command a b r told took w h = tt
+pub free_ask : (p : Plan) (command : Command) (a : ActorId) (b : BrickId) (r : Request) (told : Told) (took : Bool) (at : ℕ) (w : Work) → NamesNothing r → KeepsTo p command (Ask a b r told took) at w
+free_ask p command a b (ReadName g name) told took at w h = absurd h
+free_ask p command a b r told took at w h = tt
 
--- what was found is the same after a line that reads no name
-pub found_ask : (p : Plan) (a : ActorId) (log : List Line) (b : BrickId) (r : Request) (told : Told) (took : Bool) → NamesNothing r
-    → found_by p (work a.0 (Ask a b r told took ∷ log)) ≡ found_by p (work a.0 log)
-found_ask p a log b r told took h = ap (found_by p) (work_ask a log b r told took) ∙ found_same p a b r told took log (found_by p (work a.0 log)) h
+-- the path stands where it did after a line that reads no name
+pub path_ask : (p : Plan) (a : ActorId) (log : List Line) (b : BrickId) (r : Request) (told : Told) (took : Bool) → NamesNothing r
+    → path_by p (work a.0 (Ask a b r told took ∷ log)) ≡ path_by p (work a.0 log)
+path_ask p a log b r told took h = ap (path_by p) (work_ask a log b r told took) ∙ path_same p a b r told took log (path_by p (work a.0 log)) h
 
 pub walks_ask : (p : Plan) (a : ActorId) (log : List Line) (command : Command) (w : Walk) (b : BrickId) (r : Request) (told : Told) (took : Bool) → NamesNothing r
     → WalksOn p a.0 log command w → WalksOn p a.0 (Ask a b r told took ∷ log) command w
 walks_ask p a log command w b r told took h k = record {
+  whole = k.whole;
   path = k.path;
-  way = subst (λ (found : Found). IsOnWay w.step found w) (sym (found_ask p a log b r told took h)) k.way;
+  way = subst (λ (path : Path). IsOnWay w.step path w) (sym (path_ask p a log b r told took h)) k.way;
 }
 
--- the step after some names, where these were found
-is_on_way : (shape : Shape) (names : ℕ) (found : Found) (w : Walk) → found ≡ found_at w → w.read ≤ length w.path → names ≡ length w.path
-    → IsOnWay (step_at shape names w.read w.object) found w
-is_on_way shape names found w e l k = go (w.read == names) (is_dir w.object.what) (eqb_tells w.read names)
+-- the step after some names, where the path has led to their object
+is_on_way : (shape : Shape) (names : ℕ) (path : Path) (w : Walk) → path ≡ stands_at w → w.read ≤ length w.path → names ≡ length w.path
+    → IsOnWay (step_at shape names w.read w.object) path w
+is_on_way shape names path w e l k = go (w.read == names) (is_dir w.object.what) (eqb_tells w.read names)
   where
     go : (f d : Bool) → (f ≡ true) × (w.read ≡ names) ⊎ (f ≡ false) × (w.read ≢ names)
-        → IsOnWay (if f then Arrived else (if d then Looking (looks_at w.object.gfid (below shape.n)) else Stopped NotDir no_views)) found w
+        → IsOnWay (if f then Arrived else (if d then Looking (looks_at w.object.gfid (below shape.n)) else Stopped NotDir no_views)) path w
     go true d (inl h) = (e, h.1 ∙ k)
     go true d (inr h) = absurd (cc h.0)
     go false d (inl h) = absurd (cc h.0)
@@ -88,23 +91,25 @@ is_on_way shape names found w e l k = go (w.read == names) (is_dir w.object.what
     go false false (inr h) = tt
 
 -- a walk that begins
-pub walk_begins : (p : Plan) (a : ℕ) (log : List Line) (command : Command) (shape : Shape) → work a log ≡ [] → WalksOn p a log command (walk_from shape (path_of command))
-walk_begins p a log command shape e = record {
+pub walk_begins : (p : Plan) (a : ℕ) (log : List Line) (command : Command) (shape : Shape) → is_on_name command ≡ false → work a log ≡ []
+    → WalksOn p a log command (walk_from shape (path_of command))
+walk_begins p a log command shape whole e = record {
+  whole = whole;
   path = refl;
-  way = rw e (is_on_way shape (length (path_of command)) at_root (walk_from shape (path_of command)) refl (omega arith) refl);
+  way = rw e (is_on_way shape (length (path_of command)) (At 0 root_entry) (walk_from shape (path_of command)) refl (omega arith) refl);
 }
 
-on_verdict : (v : Verdict) (views : List (Option View)) (found : Found) (w : Walk) → found ≡ found_at w → w.read < length w.path → IsOnWay (verdict_step v views) found w
-on_verdict Short views found w e l = tt
-on_verdict Bare views found w e l = tt
-on_verdict Split views found w e l = tt
-on_verdict (Sources s) views found w e l = (e, l)
+on_verdict : (v : Verdict) (views : List (Option View)) (path : Path) (w : Walk) → path ≡ stands_at w → w.read < length w.path → IsOnWay (verdict_step v views) path w
+on_verdict Short views path w e l = tt
+on_verdict Bare views path w e l = tt
+on_verdict Split views path w e l = tt
+on_verdict (Sources s) views path w e l = (e, l)
 
-on_looks : (shape : Shape) (s : Looks) (found : Found) (w : Walk) → found ≡ found_at w → w.read < length w.path → IsOnWay (after_looks shape s) found w
-on_looks shape s found w e l = go (is_nothing (left_to_look s))
+on_looks : (shape : Shape) (s : Looks) (path : Path) (w : Walk) → path ≡ stands_at w → w.read < length w.path → IsOnWay (after_looks shape s) path w
+on_looks shape s path w e l = go (is_nothing (left_to_look s))
   where
-    go : (f : Bool) → IsOnWay (if f then verdict_step (verdict_of shape s.looked Names) s.looked.views else Looking s) found w
-    go true = on_verdict (verdict_of shape s.looked Names) s.looked.views found w e l
+    go : (f : Bool) → IsOnWay (if f then verdict_step (verdict_of shape s.looked Names) s.looked.views else Looking s) path w
+    go true = on_verdict (verdict_of shape s.looked Names) s.looked.views path w e l
     go false = (e, l)
 
 -- what a brick answers of a name is what its copy has there
@@ -114,7 +119,7 @@ entry_given name (Some o) entry h = cc h
 
 -- a line of a walk keeps to the command, and the walk goes on as its lines show
 pub record WalkMoves (p : Plan) (a : ActorId) (log : List Line) (command : Command) (w : Walk) (b : BrickId) (r : Request) (heard : Answer) (took : Bool) : Type 0 where
-  pub keeps : KeepsTo p command (Ask a b r (told_by heard) took) (work a.0 log)
+  pub keeps : KeepsTo p command (Ask a b r (told_by heard) took) (length log) (work a.0 log)
   pub walks : WalksOn p a.0 (Ask a b r (told_by heard) took ∷ log) command (walked heard w)
 
 pub walk_moves : (p : Plan) (a : ActorId) (log : List Line) (command : Command) (w : Walk) (heard : Answer) (took : Bool) → WalksOn p a.0 log command w
@@ -128,36 +133,41 @@ walk_moves p a log command w heard took k given = go w.step refl k.way given
     by_step : (step : WalkStep) (heard : Answer) (line : Line) → w.step ≡ step → WalksOn p a.0 (line ∷ log) command (walked_at step heard w) → WalksOn p a.0 (line ∷ log) command (walked heard w)
     by_step step heard line e k = subst (λ (at : WalkStep). WalksOn p a.0 (line ∷ log) command (walked_at at heard w)) (sym e) k
 
-    go : (step : WalkStep) → w.step ≡ step → IsOnWay step (found_by p (work a.0 log)) w → heard ≡ answer_by None (next_at step w).1 (holds p log (next_at step w).0.0) log
+    go : (step : WalkStep) → w.step ≡ step → IsOnWay step (path_by p (work a.0 log)) w → heard ≡ answer_by None (next_at step w).1 (holds p log (next_at step w).0.0) log
         → WalkMoves p a log command w (next_at step w).0 (next_at step w).1 heard took
     go (Looking s) e way given = record {
       keeps = tt;
       walks = by_step (Looking s) heard (line_at (Looking s) heard) e (record {
+        whole = k.whole;
         path = k.path;
-        way = subst (λ (found : Found). IsOnWay (after_looks w.shape (heard_look heard s)) found (walked_at (Looking s) heard w))
-            (sym (found_ask p a log (next_at (Looking s) w).0 (Look w.object.gfid) (told_by heard) took tt))
-            (on_looks w.shape (heard_look heard s) (found_by p (work a.0 log)) (walked_at (Looking s) heard w) way.0 way.1);
+        way = subst (λ (path : Path). IsOnWay (after_looks w.shape (heard_look heard s)) path (walked_at (Looking s) heard w))
+            (sym (path_ask p a log (next_at (Looking s) w).0 (Look w.object.gfid) (told_by heard) took tt))
+            (on_looks w.shape (heard_look heard s) (path_by p (work a.0 log)) (walked_at (Looking s) heard w) way.0 way.1);
       });
     }
-    go (Naming b) e way given = record { keeps = (next_name, ap (λ (f : Found). f.object) way.0); walks = by_step (Naming b) heard (line heard) e (by_answer heard given) }
+    go (Naming b) e way given = record {
+      keeps = record { read = w.read; object = w.object; stands = way.0; asked = refl; next = next_name };
+      walks = by_step (Naming b) heard (line heard) e (by_answer heard given);
+    }
       where
-        next_name : slice_get (path_of command) (found_by p (work a.0 log)).read ≡ Some (name_in w)
-        next_name = rw (← k.path, ap (λ (f : Found). f.read) way.0) (slice_get-get_or w.path w.read (record { 0 = 0 }) way.1)
+        next_name : slice_get (path_of command) w.read ≡ Some (name_in w)
+        next_name = rw (← k.path) (slice_get-get_or w.path w.read (record { 0 = 0 }) way.1)
 
         line : Answer → Line
         line heard = Ask a b (ReadName w.object.gfid (name_in w)) (told_by heard) took
 
         by_answer : (heard : Answer) → heard ≡ answer_by None (ReadName w.object.gfid (name_in w)) (holds p log b.0) log → WalksOn p a.0 (line heard ∷ log) command (named heard w)
         by_answer (answer.Entry (Some entry)) given =
-            let found : found_by p (work a.0 (line (answer.Entry (Some entry)) ∷ log)) ≡ record { read = w.read + 1; object = Some entry.gfid } =
-            ap (found_by p) (work_ask a log b (ReadName w.object.gfid (name_in w)) (told_by (answer.Entry (Some entry))) took)
-            ∙ rw (entry_given (name_in w) (copy_at w.object.gfid (holds p log b.0)) (Some entry) given, ap (λ (f : Found). f.read) way.0) refl in
+            let led : path_by p (work a.0 (line (answer.Entry (Some entry)) ∷ log)) ≡ At (w.read + 1) entry =
+            ap (path_by p) (work_ask a log b (ReadName w.object.gfid (name_in w)) (told_by (answer.Entry (Some entry))) took)
+            ∙ rw (entry_given (name_in w) (copy_at w.object.gfid (holds p log b.0)) (Some entry) given, way.0) refl in
             record {
+              whole = k.whole;
               path = k.path;
-              way = rw found (is_on_way w.shape (length w.path) _ (named (answer.Entry (Some entry)) w) refl (omega (arith, way.1)) refl);
+              way = rw led (is_on_way w.shape (length w.path) (At (w.read + 1) entry) (named (answer.Entry (Some entry)) w) refl (omega (arith, way.1)) refl);
             }
-        by_answer (answer.Entry None) given = record { path = k.path; way = tt }
-        by_answer heard given = record { path = k.path; way = tt }
+        by_answer (answer.Entry None) given = record { whole = k.whole; path = k.path; way = tt }
+        by_answer heard given = record { whole = k.whole; path = k.path; way = tt }
     go Arrived e way given = record { keeps = tt; walks = by_step Arrived heard (line_at Arrived heard) e (walks_ask p a log command w (record { 0 = 0 }) Index (told_by heard) took tt k) }
     go (Stopped why views) e way given = record {
       keeps = tt;

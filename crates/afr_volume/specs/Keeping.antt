@@ -1,5 +1,5 @@
 -- What a volume keeps: its bricks, actors and counts are what the log says.
-use Rattle.std.specs.Prelude.{◌≡◌, ℕ, ◌+◌, ◌<◌, ◌≤◌, List, [], Some, length, slice_get}
+use Rattle.std.specs.Prelude.{◌≡◌, ℕ, ◌+◌, ◌<◌, ◌≤◌, Bool, false, List, [], Some, length, slice_get}
 use Rattle.afr_lines.specs.Log.{EachLine}
 use Rattle.afr_lines.specs.Work.{Work, work, ended, is_killed, events_made}
 use Rattle.afr_lines.specs.declared.line.Line.{Line}
@@ -9,7 +9,9 @@ use Rattle.afr_plan.specs.declared.plan.Plan.{Plan}
 use Rattle.afr_plan.specs.declared.schedule.Go.{Go}
 use Rattle.afr_model.specs.Tables.{keeps_bytes, holds}
 use Rattle.afr_model.specs.Actors.{IsActor, script_of}
-use Rattle.afr_model.specs.Following.{Found, found_by, path_of, change_on, begins, Follows}
+use Rattle.afr_model.specs.Commands.{path_of, is_on_name, change_on}
+use Rattle.afr_model.specs.Following.{Follows}
+use Rattle.afr_model.specs.Showing.{Path, At, path_by, has, begins_attempt}
 use Rattle.afr_model.specs.Report.{started_bricks}
 use Rattle.afr_model.specs.Honest.{Honest}
 use Rattle.afr_model.specs.Replied.{Replied}
@@ -31,35 +33,36 @@ use Rattle.afr_volume.specs.declared.actor.Actor.{Actor}
 use Rattle.afr_volume.specs.declared.actor.ActorWork.{ActorWork}
 use Rattle.afr_volume.specs.declared.actor.ActorWork.TheVariants.{Idle, Write, Lookup}
 
--- how far a walk has come, as its lines would show it
-abbrev pub found_at : Walk → Found
-found_at w = record { read = w.read; object = Some w.object.gfid }
+-- where a walk stands, as its lines would show it
+abbrev pub stands_at : Walk → Path
+stands_at w = At w.read w.object
 
 -- what is known of a walk at its step: the names that were read lead to its object, and some are left until it arrives
-abbrev pub IsOnWay : WalkStep → Found → Walk → Type 0
-IsOnWay (walking.Looking s) found w = (found ≡ found_at w) × (w.read < length w.path)
-IsOnWay (walking.Naming b) found w = (found ≡ found_at w) × (w.read < length w.path)
-IsOnWay walking.Arrived found w = (found ≡ found_at w) × (w.read ≡ length w.path)
-IsOnWay (walking.Stopped why views) found w = Unit {0}
+abbrev pub IsOnWay : WalkStep → Path → Walk → Type 0
+IsOnWay (walking.Looking s) path w = (path ≡ stands_at w) × (w.read < length w.path)
+IsOnWay (walking.Naming b) path w = (path ≡ stands_at w) × (w.read < length w.path)
+IsOnWay walking.Arrived path w = (path ≡ stands_at w) × (w.read ≡ length w.path)
+IsOnWay (walking.Stopped why views) path w = Unit {0}
 
--- a walk is that of the command, and has come as far as the lines of the work show
+-- a walk is that of the command, whose whole path leads to its object, and has come as far as the lines of the work show
 pub record WalksOn (p : Plan) (a : ℕ) (log : List Line) (command : Command) (w : Walk) : Type 0 where
+  pub whole : is_on_name command ≡ false
   pub path : w.path ≡ path_of command
-  pub way : IsOnWay w.step (found_by p (work a log)) w
+  pub way : IsOnWay w.step (path_by p (work a log)) w
 
 -- nothing was begun before the phases, and they come after the path
-abbrev pub HasBegun : WriteStage → ℕ → WalkStep → Type 0
-HasBegun stage.Walking attempts step = attempts ≡ 0
-HasBegun stage.Locking attempts step = (attempts ≡ 0) × (step ≡ walking.Arrived)
-HasBegun stage.Looking attempts step = (attempts ≡ 0) × (step ≡ walking.Arrived)
-HasBegun stage.Beginning attempts step = (attempts ≡ 0) × (step ≡ walking.Arrived)
-HasBegun other attempts step = Unit {0}
+abbrev pub HasBegun : WriteStage → Bool → WalkStep → Type 0
+HasBegun stage.Walking begun step = begun ≡ false
+HasBegun stage.Locking begun step = (begun ≡ false) × (step ≡ walking.Arrived)
+HasBegun stage.Looking begun step = (begun ≡ false) × (step ≡ walking.Arrived)
+HasBegun stage.Beginning begun step = (begun ≡ false) × (step ≡ walking.Arrived)
+HasBegun other begun step = Unit {0}
 
 -- a transaction is that of the command: its change is what the command names, and it is begun once
 pub record WritesOn (p : Plan) (a : ℕ) (log : List Line) (command : Command) (m : write.Write) : Type 0 where
   pub walks : WalksOn p a log command m.walk
   pub change : change_on m.walk.object.gfid command ≡ Some m.change
-  pub begun : HasBegun m.stage (begins (work a log)) m.walk.step
+  pub begun : HasBegun m.stage (has begins_attempt (work a log)) m.walk.step
 
 -- the actor's machine carries out its present command
 pub record CarriesOut (p : Plan) (a : ℕ) (log : List Line) (Does : Command → Type 0) : Type 0 where

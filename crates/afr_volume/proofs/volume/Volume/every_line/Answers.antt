@@ -16,3 +16,6 @@ returns-clause-honest c = rw (← c.self.view_is) c.self.invariant.honest
 
 pub returns-clause-fresh : goal.returns-clause-fresh
 returns-clause-fresh c = rw (← c.self.view_is) c.self.invariant.fresh
+
+pub returns-clause-replied : goal.returns-clause-replied
+returns-clause-replied c = rw (← c.self.view_is) c.self.invariant.replied
