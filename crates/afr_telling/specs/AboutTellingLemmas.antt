@@ -1,5 +1,5 @@
 -- Every line of a write is about what its command names.
-use Rattle.std.proofs.Common.{◌≡◌, ℕ, ◌<◌, ◌==◌, ◌&&◌, nat_le, Bool, true, false, not, List, ◌∷◌, Some, None, length, refl, sym, ap, ◌∙◌, arith, subst, if◌then◌else◌}
+use Rattle.std.proofs.Common.{◌≡◌, ℕ, ◌<◌, ◌==◌, ◌&&◌, nat_le, Bool, true, false, not, List, ◌∷◌, Some, length, refl, sym, ap, ◌∙◌, arith, subst, if◌then◌else◌}
 use Rattle.std.proofs.lemmas.Bool.Decides.{nat_tests}
 use Rattle.afr_base.specs.Bricks.{lowest, member, is_nothing}
 use Rattle.afr_base.specs.Majority.{is_majority}
@@ -31,12 +31,10 @@ use Rattle.afr_plan.specs.declared.command.Command.{Command}
 use Rattle.afr_plan.specs.declared.command.Command.TheVariants as command
 use Rattle.afr_plan.specs.declared.plan.Plan.{Plan}
 use Rattle.afr_model.specs.Answered.{Counts, IsAbout, LooksHere}
-use Rattle.afr_model.specs.Commands.{path_of}
 use Rattle.afr_model.specs.Showing.{path_by, among}
 use Rattle.afr_model.specs.Standing.{looks_here, area_here, getting}
 use Rattle.afr_lookup.specs.Looks.{left_to_look}
-use Rattle.afr_lookup.specs.Walk.{walk_from, next_in, walked, is_walking, no_views}
-use Rattle.afr_lookup.specs.Walk as walk
+use Rattle.afr_lookup.specs.Walk.{walked, no_views}
 use Rattle.afr_lookup.specs.declared.stop.Stop.TheVariants.{IsDir, TooLarge}
 use Rattle.afr_lookup.specs.declared.walk.Walk.{Walk}
 use Rattle.afr_lookup.specs.declared.walk.WalkStep.{WalkStep}
@@ -50,8 +48,7 @@ use Rattle.afr_write.specs.declared.stage.Transaction.{Transaction}
 use Rattle.afr_write.specs.declared.stage.WriteStage.{WriteStage}
 use Rattle.afr_write.specs.declared.stage.WriteStage.TheVariants.{Walking, Locking, Looking, Beginning, Preparing, Applying, Posting, Closing}
 use Rattle.afr_telling.specs.AboutTelling.{BegunTells}
-use Rattle.afr_telling.specs.WalkTelling.{TellsAt, WalkTells}
-use Rattle.afr_telling.specs.WalkTellingLemmas.{looks_on_path, locks_nothing_before}
+use Rattle.afr_telling.specs.WalkTellingLemmas.{walk_about}
 use Rattle.afr_telling.specs.WriteTelling.{written_range, IsThere, OnLooks, AreBegun, During, WritesHere, WriteTells}
 use Rattle.afr_telling.specs.WriteTellingOver.{area_there}
 use Rattle.afr_telling.specs.WriteTellingPhases.{allowed_there}
@@ -190,25 +187,6 @@ abbrev pub AboutNext : Plan → Command → ActorId → Work → Told → Bool �
 AboutNext p command a lines told took (next.Ask b r) = IsAbout p command (Ask a b r told took) lines
 AboutNext p command a lines told took (next.Begin c) = IsAbout p command (Begin a c) lines
 AboutNext p command a lines told took other = Unit {0}
-
--- a walk looks at the object that the path has led to, and reads a name of a good copy
-walk_about : (p : Plan) (a : ActorId) (lines : Work) (command : Command) (w : Walk) (told : Told) (took : Bool) → WalkTells p command w lines → is_walking w.step ≡ true
-    → IsAbout p command (Ask a (next_in w).0 (next_in w).1 told took) lines
-walk_about p a lines command w told took k goes = go w.step k.step goes
-  where
-    go : (step : WalkStep) → TellsAt p command step w lines → is_walking step ≡ true → IsAbout p command (Ask a (walk.next_at step w).0 (walk.next_at step w).1 told took) lines
-    go (walking.Looking s) t goes = record {
-      unbegun = k.only.begun;
-      unread = k.only.unread;
-      object = rw t.0 (looks_on_path command w.read w.object k.leads (omega (arith, before)));
-      locked = λ area here. let none : area_here command (path_by p lines) ≡ None = rw t.0 (locks_nothing_before command w.read w.object k.leads before) in absurd (cc (here, none));
-    }
-      where
-        before : w.read < length (path_of command)
-        before = subst (λ (names : List NameId). w.read < length names) k.path t.1
-    go (walking.Naming b) t goes = t.2
-    go walking.Arrived t goes = absurd (cc goes)
-    go (walking.Stopped why views) t goes = absurd (cc goes)
 
 not_past : (n : ℕ) → nat_le n n ≡ true
 not_past n = grind (arith, nat_tests)

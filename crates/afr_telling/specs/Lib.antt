@@ -32,6 +32,7 @@ pub mod ReadTelling
 pub mod ReadTellingLemmas
 pub mod WalkTelling
 pub mod WalkTellingLemmas
+pub mod WholePath
 pub mod WriteTelling
 pub mod WriteTellingLemmas
 pub mod WriteTellingLocks

@@ -60,7 +60,8 @@ use Rattle.afr_lookup.specs.declared.walk.WalkStep.{WalkStep}
 use Rattle.afr_lookup.specs.declared.walk.WalkStep.TheVariants as walking
 use Rattle.afr_telling.specs.WalkTelling.{LeadsWhole, AllLookedBut, Nothing, HasAskedAll, NamesAboveRoot, TellsAt, WalkTells}
 use Rattle.afr_telling.specs.ReadTelling.{IsAtFile, IsObject, HasAnswered, TellsIn, ReadTells}
-use Rattle.afr_telling.specs.WalkTellingLemmas.{place_is, looks_on_path, looked_skips, walked_only_looked, lowest_good, walk_tells_begins, walked_more, looked_more, looking_more, all_looked, WalkAsks, walk_asks}
+use Rattle.afr_telling.specs.WholePath.{place_is, looks_on_path, looked_skips, walked_only_looked}
+use Rattle.afr_telling.specs.WalkTellingLemmas.{lowest_good, walk_tells_begins, walked_more, looked_more, looking_more, all_looked, WalkAsks, walk_asks}
 use Rattle.afr_telling.specs.LinesShow.{same_gfid}
 
 -- ---- why a read can't go on, or what it answers
@@ -328,7 +329,7 @@ reads_named p command at len w b lines named (k, may, some, all) = record {
 }
 
 -- ---- a line of a read
--- what its lines show after it, and that it has to do with those before it
+-- what its lines show after it, and what it is about
 pub record ReadAsks (p : Plan) (a : ActorId) (log : List Line) (command : Command) (m : Lookup) (b : BrickId) (r : Request) (heard : Answer) (position : ℕ) : Type 0 where
   pub tells : ReadTells p command (heard_by (heard_of.Answer heard position) m) ((Ask a b r (told_by heard) true, log) ∷ work a.0 log)
   pub about : IsAbout p command (Ask a b r (told_by heard) true) (work a.0 log)

@@ -1,5 +1,5 @@
 -- The lines of a work show where its walk stands, and each name is read from a good copy.
-use Rattle.std.proofs.Common.{◌≡◌, ◌≢◌, ℕ, ◌+◌, ◌<◌, ◌≤◌, ◌==◌, ◌||◌, nat_lt, Bool, true, false, List, [], ◌∷◌, Option, Some, None, length, nat_le, refl, sym, ap, ◌∙◌, arith, subst, if◌then◌else◌, inl, inr, ◌⊎◌}
+use Rattle.std.proofs.Common.{◌≡◌, ◌≢◌, ℕ, ◌+◌, ◌<◌, ◌≤◌, ◌==◌, ◌||◌, nat_lt, Bool, true, false, List, [], ◌∷◌, Option, Some, None, length, refl, sym, ap, ◌∙◌, arith, subst, if◌then◌else◌, inl, inr, ◌⊎◌}
 use Rattle.std.specs.BTreeMap.{is_at}
 use Rattle.std.specs.Map.{lookup}
 use Rattle.std.proofs.lemmas.Bool.{eqb-true}
@@ -36,15 +36,13 @@ use Rattle.afr_lines.specs.declared.request.Request.TheVariants.{ReadName, Look}
 use Rattle.afr_lines.specs.declared.reply.Reply.{Reply}
 use Rattle.afr_lines.specs.declared.reply.Reply.TheVariants as reply
 use Rattle.afr_plan.specs.declared.command.Command.{Command}
-use Rattle.afr_plan.specs.declared.command.Command.TheVariants as command_of
 use Rattle.afr_plan.specs.declared.plan.Plan.{Plan}
 use Rattle.afr_model.specs.Tables.{holds, entry_in, entry_at}
-use Rattle.afr_model.specs.Commands.{path_of, is_on_name, is_rmdir}
+use Rattle.afr_model.specs.Commands.{path_of}
 use Rattle.afr_model.specs.Honest.{answer_by, copy_answer}
 use Rattle.afr_model.specs.Showing.{At, path_by, looked_by, among, looking, has, looks_at, refuses_read}
 use Rattle.afr_model.specs.Standing.{place_by, looks_here, area_here}
-use Rattle.afr_model.specs.Refusals.{without_source, by_looks, by_path, refusal}
-use Rattle.afr_model.specs.Skipped.{SkipsNothing}
+use Rattle.afr_model.specs.Refusals.{without_source, by_looks, refusal}
 use Rattle.afr_model.specs.Answered.{MayRead, LooksHere, IsAbout}
 use Rattle.afr_lookup.specs.Looks.{left_to_look, heard_look, noted_look}
 use Rattle.afr_lookup.specs.Looks as looks
@@ -54,7 +52,8 @@ use Rattle.afr_lookup.specs.declared.stop.Stop.TheVariants.{NotDir}
 use Rattle.afr_lookup.specs.declared.walk.Walk.{Walk}
 use Rattle.afr_lookup.specs.declared.walk.WalkStep.{WalkStep}
 use Rattle.afr_lookup.specs.declared.walk.WalkStep.TheVariants.{Looking, Naming, Arrived, Stopped}
-use Rattle.afr_telling.specs.WalkTelling.{LeadsWhole, HasOnlyLooked, HasOnlyWalked, AllLookedBut, Nothing, HasAskedAll, NamesAboveRoot, TellsAt, WalkTells}
+use Rattle.afr_telling.specs.WalkTelling.{LeadsWhole, HasOnlyWalked, AllLookedBut, Nothing, HasAskedAll, NamesAboveRoot, TellsAt, WalkTells}
+use Rattle.afr_telling.specs.WholePath.{place_is, looks_on_path, locks_nothing_before, refusal_by_path}
 use Rattle.afr_telling.specs.LinesShow.{self, look_shows-noted, same_gfid, unlooked, path_root}
 
 -- ---- the beginning
@@ -92,40 +91,6 @@ walk_tells_begins p command leads short = record {
     go true (inr h) = absurd (cc h.0)
     go false (inl h) = absurd (cc h.0)
     go false (inr h) = let other = h.1 in (refl, omega (arith, other), refl, refl, refl, refl, λ g l. absurd (cc l), refl)
-
--- ---- a command whose whole path leads to its object
-pub no_rmdir : (command : Command) → is_on_name command ≡ false → is_rmdir command ≡ false
-no_rmdir (command_of.Rmdir path) h = absurd (cc h)
-no_rmdir other h = refl
-
--- its place is where its path stands
-pub place_is : (p : Plan) (command : Command) (lines : Work) → LeadsWhole command → place_by p command lines ≡ path_by p lines
-place_is p command lines leads = rw leads.whole refl
-
--- it looks at each object on its path
-pub looks_on_path : (command : Command) (read : ℕ) (object : Entry) → LeadsWhole command → read ≤ length (path_of command) → looks_here command (At read object) ≡ Some object.gfid
-looks_on_path command read object leads l = let within : nat_le read (length (path_of command)) ≡ true = grind (arith, nat_tests, l) in rw (leads.whole, within) refl
-
--- and locks nothing before the path's end
-pub locks_nothing_before : (command : Command) (read : ℕ) (object : Entry) → LeadsWhole command → read < length (path_of command) → area_here command (At read object) ≡ None
-locks_nothing_before command read object leads l =
-    let before : (read == length (path_of command)) ≡ false = grind (arith, nat_tests, l) in rw (leads.whole, before, no_rmdir command leads.whole) refl
-
--- why it can't go on, where no read was refused
-pub refusal_by_path : (p : Plan) (command : Command) (lines : Work) → LeadsWhole command → has refuses_read lines ≡ false → refusal p command lines ≡ by_path p command (path_by p lines) lines
-refusal_by_path p command lines leads unrefused = rw (leads.fits, unrefused, leads.whole) refl
-
--- a work that has locked and begun nothing has skipped nothing, where it looked at every brick
-pub looked_skips : (p : Plan) (command : Command) (lines : Work) → LeadsWhole command → HasOnlyLooked lines → AllLookedBut p.shape.n Nothing lines → SkipsNothing p command lines
-looked_skips p command lines leads only all = record {
-  looked = λ g seen unlocked b l. all g seen (λ n. n) b l;
-  locked = λ area part asked. let none = only.free area in absurd (cc (asked, none));
-  child = λ removes read dir child name place path is area. let none = no_rmdir command leads.whole in absurd (cc (removes, none));
-  carried = λ change is. let none = only.unchanged in absurd (cc (is, none));
-}
-
-pub walked_only_looked : (p : Plan) (w : Work) → HasOnlyWalked p w → HasOnlyLooked w
-walked_only_looked p w k = record { begun = k.begun; unchanged = k.unchanged; unlocked = k.unlocked; free = k.free }
 
 -- ---- a line more
 -- a look and the reading of a name are lines of a walk
@@ -381,14 +346,25 @@ name_tells p a log command w b name heard lines k (at, l, good, all, only, unref
     by_copy (Some o) e = by_entry (lookup (is_at (name_cmp name)) o.names) (ap (entry_in name) e)
 
 -- ---- a line of a walk
--- what its lines show after it, and that it has to do with those before it
+-- it looks where the path stands, or reads a name of a good copy
+pub walk_about : (p : Plan) (a : ActorId) (lines : Work) (command : Command) (w : Walk) (told : Told) (took : Bool) → WalkTells p command w lines → is_walking w.step ≡ true
+    → IsAbout p command (Ask a (next_in w).0 (next_in w).1 told took) lines
+walk_about p a lines command w told took k goes = go w.step k.step goes
+  where
+    go : (step : WalkStep) → TellsAt p command step w lines → is_walking step ≡ true → IsAbout p command (Ask a (next_at step w).0 (next_at step w).1 told took) lines
+    go (Looking s) t goes = looks_on_way p command w (lowest (left_to_look s)) lines k t.0 t.1
+    go (Naming b) t goes = t.2
+    go Arrived t goes = absurd (cc goes)
+    go (Stopped why views) t goes = absurd (cc goes)
+
+-- what its lines show after it, and what it is about
 pub record WalkAsks (p : Plan) (a : ActorId) (log : List Line) (command : Command) (w : Walk) (heard : Answer) : Type 0 where
   pub tells : WalkTells p command (walked heard w) ((Ask a (next_in w).0 (next_in w).1 (told_by heard) true, log) ∷ work a.0 log)
   pub about : IsAbout p command (Ask a (next_in w).0 (next_in w).1 (told_by heard) true) (work a.0 log)
 
 pub walk_asks : (p : Plan) (a : ActorId) (log : List Line) (command : Command) (w : Walk) (heard : Answer) → WalkTells p command w (work a.0 log) → is_walking w.step ≡ true → IsWalk w
     → heard ≡ answer_by None (next_in w).1 (holds p log (next_in w).0.0) log → NamesAboveRoot p log → WalkAsks p a log command w heard
-walk_asks p a log command w heard k goes sound honest above = record { tells = by_step w.step refl k.step goes honest; about = by_about w.step k.step goes }
+walk_asks p a log command w heard k goes sound honest above = record { tells = by_step w.step refl k.step goes honest; about = walk_about p a (work a.0 log) command w (told_by heard) true k goes }
   where
     by_step : (step : WalkStep) → w.step ≡ step → TellsAt p command step w (work a.0 log) → is_walking step ≡ true → heard ≡ answer_by None (next_at step w).1 (holds p log (next_at step w).0.0) log
         → WalkTells p command (walked heard w) ((Ask a (next_at step w).0 (next_at step w).1 (told_by heard) true, log) ∷ work a.0 log)
@@ -403,9 +379,3 @@ walk_asks p a log command w heard k goes sound honest above = record { tells = b
         (name_tells p a log command w b (name_in w) heard (work a.0 log) k t honest above)
     by_step Arrived e t goes honest = absurd (cc goes)
     by_step (Stopped why views) e t goes honest = absurd (cc goes)
-
-    by_about : (step : WalkStep) → TellsAt p command step w (work a.0 log) → is_walking step ≡ true → IsAbout p command (Ask a (next_at step w).0 (next_at step w).1 (told_by heard) true) (work a.0 log)
-    by_about (Looking s) t goes = looks_on_way p command w (lowest (left_to_look s)) (work a.0 log) k t.0 t.1
-    by_about (Naming b) t goes = t.2
-    by_about Arrived t goes = absurd (cc goes)
-    by_about (Stopped why views) t goes = absurd (cc goes)

@@ -46,7 +46,8 @@ use Rattle.afr_write.specs.declared.stage.WriteStage.{WriteStage}
 use Rattle.afr_write.specs.declared.stage.WriteStage.TheVariants.{Walking, Locking, Looking, Beginning, Preparing, Applying, Posting, Closing}
 use Rattle.afr_telling.specs.WalkTelling.{WalkTells, TellsAt, NamesAboveRoot}
 use Rattle.afr_telling.specs.WriteTelling.{written_range, During, WritesHere, WriteTells}
-use Rattle.afr_telling.specs.WalkTellingLemmas.{walk_tells_begins, walked_only_looked, WalkAsks, walk_asks}
+use Rattle.afr_telling.specs.WalkTellingLemmas.{walk_tells_begins, WalkAsks, walk_asks}
+use Rattle.afr_telling.specs.WholePath.{walked_only_looked}
 use Rattle.afr_telling.specs.WriteTellingOver.{self, not_less, same_range_self, over_unlocked, over_answers}
 use Rattle.afr_telling.specs.WriteTellingLocks.{there_lock, there_look, lock_noted, locks_gone, look_noted, looks_gone}
 use Rattle.afr_telling.specs.WriteTellingPhases.{begun_next, pre_noted, pre_gone, apply_noted, apply_gone, post_noted, post_gone, unlock_over}
