@@ -1,6 +1,7 @@
 //! The volume: one log, and beside it the present state of bricks and actors.
 ghost use Rattle.std.specs.Prelude.{◌≡◌, ◌<◌, ◌≤◌, ℕ, Bool, Option, Some, None, OnOk, OnErr, true, false, IfOk, IsSome, length, reverse, slice_get, []};
 ghost use Rattle.afr_base.specs.Bricks.{member};
+ghost use Rattle.afr_brick.specs.State.{Copies};
 ghost use Rattle.afr_lines.specs.Log.{from_oldest};
 ghost use Rattle.afr_lines.specs.Work.{work, is_killed};
 ghost use Rattle.afr_plan.specs.declared.schedule.Go.{Go};
@@ -14,6 +15,7 @@ ghost use Rattle.afr_model.specs.Replied.{Replied};
 ghost use Rattle.afr_model.specs.Report.{started_bricks};
 ghost use Rattle.afr_model.specs.Safe.{AreFresh, IsAlwaysSafe};
 ghost use Rattle.afr_model.specs.Sums.{AreSums};
+ghost use Rattle.afr_model.specs.Tables.{holds, keeps_bytes};
 ghost use Rattle.afr_volume.specs.Turning.{Turns, Comes, due_of, if_due};
 
 use crate::actor::Actor;
@@ -197,6 +199,15 @@ impl Volume {
         ensures { result.now ≡ self.now.plan }
     {
         &self.plan
+    }
+
+    /// The bricks, by their numbers.
+    pub fn bricks(&self) -> &[Brick]
+        ensures few { length result.now ≡ self.now.plan.shape.n }
+        ensures tables { (b : ℕ) (x : Copies) → slice_get result.now b ≡ Some x → x ≡ record { keeps = keeps_bytes self.now.plan b; objects = holds self.now.plan self.now.log b } }
+        ensures started { (b : ℕ) → member (started_bricks self.now.plan.shape.n self.now.log) b ≡ true → b < self.now.plan.shape.n }
+    {
+        &self.bricks
     }
 
     /// The started bricks.
