@@ -1,5 +1,5 @@
 -- Each started brick is one of the volume's: a plan with nothing that goes wrong has no events.
-use Rattle.std.proofs.Common.{◌≡◌, ℕ, ◌<◌, List, [], ◌∷◌, Some, true, refl, ap, ◌∙◌, sym, slice_get, length, drop, reverse}
+use Rattle.std.proofs.Common.{◌≡◌, ℕ, ◌<◌, List, [], ◌∷◌, Some, true, refl, ap, ◌∙◌, sym, slice_get}
 use Rattle.afr_base.specs.Bricks.{below, member}
 use Rattle.afr_base.specs.SetLemmas.{within_below}
 use Rattle.afr_lines.specs.declared.line.Line.{Line}
