@@ -1,9 +1,8 @@
 -- The bricks of a volume hold the tables that its log has made.
-use Rattle.std.proofs.Common.{◌≡◌, ℕ, zero, suc, ◌<◌, List, [], ◌∷◌, Option, Some, true, refl, ap, ◌∙◌, arith, length, slice_get}
+use Rattle.std.proofs.Common.{◌≡◌, ℕ, zero, suc, ◌<◌, List, [], ◌∷◌, Some, true, refl, ap, ◌∙◌, arith, length, slice_get}
 use Rattle.std.specs.Option.{option_map}
 use Rattle.afr_base.specs.Bricks.{member}
 use Rattle.afr_brick.specs.State.{Copies}
-use Rattle.afr_object.specs.Tables.{Table}
 use Rattle.afr_lines.specs.declared.line.Line.{Line}
 use Rattle.afr_plan.specs.declared.plan.Plan.{Plan}
 use Rattle.afr_model.specs.Report.{started_bricks}
