@@ -41,7 +41,6 @@ use Rattle.afr_telling.specs.AboutTelling.{BegunTells}
 use Rattle.afr_telling.specs.BlameTelling.{missed_by, AreExcused}
 use Rattle.afr_telling.specs.WriteTelling.{written_range, During, WritesHere, WriteTells}
 
--- ---- who is accused
 -- a post-op accuses those that missed the operation
 abbrev pub BlamesNext : Plan → Work → Next → Type 0
 BlamesNext p lines (next.Ask b (request.Post attempt g kind missed)) = IsBlaming p attempt g kind missed b.0 lines
@@ -86,6 +85,7 @@ missed_why p path at bytes m lines d few k c is = apart (member (among applied_a
     apart false e false f h = absurd (cc h)
     apart false e true f h = by_lock e (within_below p.shape.n c f) (member (among (getting range) lines) c) refl
 
+-- each request of a write, by its stage
 writes_blame : (p : Plan) (path : List NameId) (at : ℕ) (bytes : List ℕ) (m : Write) (lines : Work) → WritesHere p path at bytes m lines → p.shape.n ≤ 5 → AreExcused lines → (stage : WriteStage)
     → During p path at bytes m.walk stage m.transaction lines → BegunTells stage m.transaction lines → IsStage m.walk m.transaction stage → BlamesNext p lines (next_at stage m)
 writes_blame p path at bytes m lines k few excused Walking d begun asking = walk_blames p lines m.walk

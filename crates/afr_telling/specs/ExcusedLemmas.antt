@@ -64,6 +64,7 @@ Fits (request.Pre g kind) told = is_done told ≡ false → is_miss told ≡ tru
 Fits (request.Apply attempt) told = is_done told ≡ false → is_miss told ≡ true
 Fits r told = Unit {0}
 
+-- a brick that refused missed what it was asked
 failed_fits : (r : Request) → Fits r told_of.Failed
 failed_fits (request.Lock domain area) = λ granted held. refl
 failed_fits (request.Look g) = λ seen. refl
@@ -71,6 +72,7 @@ failed_fits (request.Pre g kind) = λ done. refl
 failed_fits (request.Apply attempt) = λ done. refl
 failed_fits r = tt
 
+-- and one that wasn't reached
 unreached_fits : (r : Request) → Fits r told_of.NotConnected
 unreached_fits (request.Lock domain area) = λ granted held. refl
 unreached_fits (request.Look g) = λ seen. refl
@@ -119,6 +121,7 @@ honest_fits p a b r told took older honest = subst (λ (x : Told). Fits r x) (sy
     over false = unreached_fits r
 
 -- ---- those that missed something
+-- where no line passes, none comes since
 since_none : (test : Line → Bool) (w : Work) → has test w ≡ false → since test w ≡ []
 since_none test [] none = refl
 since_none test (x ∷ w) none = go (test x.0) refl (has test w) refl none
@@ -150,6 +153,7 @@ module _ (line : Line) (older : List Line) (lines : Work) where
       go true e = missing_grows line (missed_by lines) c m
       go false e = absurd (cc (subst (λ (w : Work). member (among missing w) c ≡ true) (since_none locks_any lines e) m))
 
+-- a brick that misses what it is asked from the first lock on has missed something
 missed_now : (a : ActorId) (b : BrickId) (r : Request) (told : Told) (took : Bool) (older : List Line) (lines : Work) → (has locks_any lines ≡ false → locks_any (Ask a b r told took) ≡ true) → is_miss told ≡ true
     → member (missed_by ((Ask a b r told took, older) ∷ lines)) b.0 ≡ true
 missed_now a b r told took older lines locked miss = go (has locks_any lines) refl
@@ -185,6 +189,7 @@ one_excused b asked did was now ok grows new k c m n = go ok refl (eqb_tells b c
     go true e (inr other) m n = grows c (k c (rw other.0 at m) (rw (e, other.0) at n))
     go false e (inr other) m n = grows c (k c (rw other.0 at m) (rw e at n))
 
+-- those that were asked for a lock of an area
 lock_excused : (area : Area) (a : ActorId) (b : BrickId) (r : Request) (told : Told) (took : Bool) (asked got was now : List ℕ) → Fits r told → Grows was now
     → (locks_any (Ask a b r told took) ≡ true → is_miss told ≡ true → member now b.0 ≡ true) → Excuses was asked got
     → Excuses now (asking area (Ask a b r told took) asked) (getting area (Ask a b r told took) got)
@@ -249,6 +254,7 @@ five_views g (x ∷ w) = go x.0 (looked_by g w) (five_views g w)
 abbrev pub Shows : List ℕ → List ℕ → Looked → Type 0
 Shows missed asked looked = (b : ℕ) → member asked b ≡ true → is_holder looked b ≡ false → member missed b ≡ true
 
+-- those that were looked at
 look_excused : (g : Gfid) (a : ActorId) (b : BrickId) (r : Request) (told : Told) (took : Bool) (asked : List ℕ) (looked : Looked) (was now : List ℕ) (locked : Bool) → Fits r told → Grows was now
     → b.0 < length looked.views → (locked ≡ true → is_miss told ≡ true → member now b.0 ≡ true) → (locked ≡ true → Shows was asked looked) → (locks g (Ask a b r told took) || locked) ≡ true
     → Shows now (looking g (Ask a b r told took) asked) (looked_after g (Ask a b r told took) looked)
@@ -276,11 +282,13 @@ ComesLocked (request.Pre g kind) lines = has locks_any lines ≡ true
 ComesLocked (request.Apply attempt) lines = has locks_any lines ≡ true
 ComesLocked r lines = Unit {0}
 
+-- those that were asked for the pre-op
 pre_excused : (a : ActorId) (b : BrickId) (r : Request) (told : Told) (took : Bool) (asked did was now : List ℕ) (lines : Work) → Fits r told → Grows was now → ComesLocked r lines
     → (has locks_any lines ≡ true → is_miss told ≡ true → member now b.0 ≡ true) → Excuses was asked did → Excuses now (preparing (Ask a b r told took) asked) (prepared (Ask a b r told took) did)
 pre_excused a b (request.Pre g kind) told took asked did was now lines fits grows locked new k = one_excused b.0 asked did was now (is_done told) grows (λ no. new locked (fits no)) k
 pre_excused a b r told took asked did was now lines fits grows locked new k = λ c m n. grows c (k c m n)
 
+-- those that were asked for the operation
 apply_excused : (a : ActorId) (b : BrickId) (r : Request) (told : Told) (took : Bool) (asked did was now : List ℕ) (lines : Work) → Fits r told → Grows was now → ComesLocked r lines
     → (has locks_any lines ≡ true → is_miss told ≡ true → member now b.0 ≡ true) → Excuses was asked did → Excuses now (applying (Ask a b r told took) asked) (applied_at (Ask a b r told took) did)
 apply_excused a b (request.Apply attempt) told took asked did was now lines fits grows locked new k = one_excused b.0 asked did was now (is_done told) grows (λ no. new locked (fits no)) k
@@ -336,6 +344,7 @@ walk_locked lines w = go w.step
     go walking.Arrived = tt
     go (walking.Stopped why views) = tt
 
+-- each request of a write, by its stage
 next_locked : (p : Plan) (path : List NameId) (at : ℕ) (bytes : List ℕ) (m : Write) (lines : Work) → (stage : WriteStage) → During p path at bytes m.walk stage m.transaction lines
     → NextLocked lines (next_at stage m)
 next_locked p path at bytes m lines Walking d = walk_locked lines m.walk
