@@ -10,7 +10,7 @@ use Rattle.afr_plan.specs.Judging.{first_fault}
 use Rattle.afr_plan.specs.Spells.{Spells}
 use Rattle.afr_model.specs.State.{State, no_volume}
 use Rattle.afr_model.specs.Ordered.{IsOrdered, Writes}
-use Rattle.afr_model.specs.Report.{report_of}
+use Rattle.afr_model.specs.ReportHealers.{report_of}
 use Rattle.afr_model.specs.Complete.{IsComplete}
 use Rattle.afr_cli.specs.Statuses.{AreDone, AreRun, IsText, IsRefused, IsRefusal, IsSpelled, StopsWriting, refusal_line, usage_line}
 

@@ -13,7 +13,7 @@ use Rattle.afr_plan.specs.Spells.{Spells}
 use Rattle.afr_model.specs.State.{State, no_volume}
 use Rattle.afr_model.specs.Actors.{IsActor, is_done}
 use Rattle.afr_model.specs.Complete.{IsComplete}
-use Rattle.afr_model.specs.Report.{report_of}
+use Rattle.afr_model.specs.ReportHealers.{report_of}
 
 -- the words are the command `run`, and no more
 abbrev pub AreRun : List (String Global) → Type 0

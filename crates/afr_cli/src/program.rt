@@ -3,6 +3,7 @@ ghost use Rattle.std.specs.Prelude.{◌≡◌, ◌≤◌, ◌⊎◌, ℕ, List, 
 ghost use Rattle.std.specs.Global.{Global};
 ghost use Rattle.afr_text.specs.Causes.{Rose};
 ghost use Rattle.afr_model.specs.State.{no_volume};
+ghost use Rattle.afr_model.specs.Blamed.{AreBlamed};
 ghost use Rattle.afr_model.specs.Complete.{IsComplete};
 ghost use Rattle.afr_model.specs.Following.{Follows};
 ghost use Rattle.afr_model.specs.Honest.{Honest};
@@ -71,6 +72,7 @@ pub fn afr_top<S: Source, K: Sink>(
     ensures ordered { IsOrdered volume.new.plan volume.new.log }
     ensures honest { Honest volume.new.plan volume.new.log }
     ensures replied { Replied volume.new.plan volume.new.log }
+    ensures blamed { AreBlamed volume.new.plan volume.new.log }
     ensures safe { IsAlwaysSafe volume.new.plan volume.new.log }
     ensures fresh { AreFresh volume.new.plan volume.new.log }
 {

@@ -7,7 +7,7 @@ ghost use Rattle.afr_plan.specs.FirstPath.{IsFirstPath};
 ghost use Rattle.afr_model.specs.State.{no_volume};
 ghost use Rattle.afr_model.specs.Complete.{IsComplete};
 ghost use Rattle.afr_model.specs.Ordered.{IsOrdered};
-ghost use Rattle.afr_model.specs.Report.{report_of};
+ghost use Rattle.afr_model.specs.ReportHealers.{report_of};
 ghost use Rattle.afr_cli.specs.Statuses.{AreDone, IsFull, IsWorkLeft};
 
 use crate::finished::all_done;

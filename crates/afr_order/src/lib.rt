@@ -2,6 +2,7 @@
 #![tactic(auto)]
 
 ghost use Rattle.std.specs.Prelude.{◌≡◌, OnOk, []};
+ghost use Rattle.afr_model.specs.Blamed.{AreBlamed};
 ghost use Rattle.afr_model.specs.Complete.{IsComplete};
 ghost use Rattle.afr_model.specs.Following.{Follows};
 ghost use Rattle.afr_model.specs.Honest.{Honest};
@@ -28,6 +29,7 @@ pub fn drive(volume: &mut Volume) -> Result<(), NoMemory>
     ensures follows { Follows volume.new.plan volume.new.log }
     ensures honest { Honest volume.new.plan volume.new.log }
     ensures replied { Replied volume.new.plan volume.new.log }
+    ensures blamed { AreBlamed volume.new.plan volume.new.log }
     ensures safe { IsAlwaysSafe volume.new.plan volume.new.log }
     ensures fresh { AreFresh volume.new.plan volume.new.log }
 {

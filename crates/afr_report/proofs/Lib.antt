@@ -1,3 +1,4 @@
 pub mod BrickLinesLemmas
 pub mod CommandLemmas
-pub mod RisingLemmas
+mod NamesLemmas
+mod VolumeLemmas

@@ -1,13 +1,18 @@
-//! The report of a run, as text: the volume, its clients and their replies, and the started bricks.
+//! The report of a run, as text: the volume, its clients and healers with what they got, and what needs heal.
 #![tactic(auto)]
 
 mod clients;
 mod events;
+mod healers;
+mod heals;
+mod names;
 mod numbers;
 mod of_volume;
+mod progress;
 mod replies;
 mod report;
+mod words;
 
 pub use events::started;
-pub use of_volume::report_text;
+pub use of_volume::{info_text, report_text};
 pub use report::print_report;

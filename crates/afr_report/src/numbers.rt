@@ -1,15 +1,8 @@
-//! Bytes as text, and the word that is added as it stands.
+//! Bytes as hexadecimal digits.
 ghost use Rattle.std.specs.Prelude.{◌≡◌, ◌++◌, OnOk, string_bytes};
-ghost use Rattle.afr_model.specs.Report.{hex_pair, hex_text};
+ghost use Rattle.afr_model.specs.ReportReplies.{hex_pair, hex_text};
 
 use afr_base::NoMemory;
-
-pub fn push_word(out: &mut String, word: &str) -> Result<(), NoMemory>
-    ensures ok { OnOk result (string_bytes out.new ≡ string_bytes out.old ++ word.now) }
-{
-    out.push_str(word)?;
-    Ok(())
-}
 
 /// Adds a byte as two lower-case hexadecimal digits.
 #[tactic(auto, using(std::proofs::lemmas::Fmt::hex_byte))]

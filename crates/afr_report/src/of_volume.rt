@@ -1,9 +1,10 @@
-//! The report of a volume.
+//! The report of a volume, and what needs heal in it.
 ghost use Rattle.std.specs.Prelude.{◌≡◌, IfOk, string_bytes};
-ghost use Rattle.afr_model.specs.Report.{report_of};
+ghost use Rattle.afr_model.specs.ReportHealers.{info_of, report_of};
 
 use crate::report::print_report;
 use afr_base::NoMemory;
+use afr_info::print_info;
 use afr_volume::Volume;
 use std::alloc::Global;
 
@@ -12,5 +13,21 @@ pub fn report_text(alloc: Global, volume: &Volume) -> Result<String, NoMemory>
     ensures ok { IfOk result (λ text. string_bytes text ≡ report_of volume.now.plan volume.now.log) }
 {
     volume.every_line();
-    print_report(alloc, volume.plan(), volume.lines(), volume.reach())
+    print_report(
+        alloc,
+        volume.plan(),
+        volume.lines(),
+        volume.reach(),
+        volume.bricks(),
+    )
+}
+
+/// What needs heal in the volume as it stands: the last part of its report.
+pub fn info_text(alloc: Global, volume: &Volume) -> Result<String, NoMemory>
+    ensures ok { IfOk result (λ text. string_bytes text ≡ info_of volume.now.plan volume.now.log) }
+{
+    volume.every_line();
+    let mut out = String::new(alloc);
+    print_info(&mut out, volume.plan(), volume.bricks(), volume.reach())?;
+    Ok(out)
 }

@@ -1,22 +1,28 @@
 //! The lines of the commands that have ended, with their replies.
 ghost use Rattle.std.specs.Prelude.{◌≡◌, ◌++◌, ◌<◌, OnOk, Some, string_bytes};
 ghost use Rattle.std.specs.Option.{option_copied};
-ghost use Rattle.afr_model.specs.Report.{bytes_text, command_line, good_text, reply_text, word_of};
+ghost use Rattle.afr_model.specs.Report.{command_line, word_of};
+ghost use Rattle.afr_model.specs.ReportReplies.{bytes_text, good_text, len_text, reply_text, stat_text, value_text, what_text};
 
-use crate::numbers::{push_hex, push_word};
-use afr_base::NoMemory;
+use crate::names::push_names;
+use crate::numbers::push_hex;
+use crate::words::push_word_at;
+use afr_base::{NoMemory, ValueId, What};
+use afr_info::{push_gfid, push_word};
 use afr_lines::{Good, Reply};
-use afr_plan::Command;
+use afr_object::Entry;
+use afr_plan::{Command, Words};
 
 /// Adds the line of the command that comes after `before` others of its client.
 pub fn push_command(
     out: &mut String,
+    words: &Words,
     before: usize,
     command: Option<&Command>,
     reply: &Reply,
 ) -> Result<(), NoMemory>
     requires room { before < usize.MAX }
-    ensures ok { OnOk result (string_bytes out.new ≡ string_bytes out.old ++ command_line before (option_copied command.entry) (Some reply.now)) }
+    ensures ok { OnOk result (string_bytes out.new ≡ string_bytes out.old ++ command_line words.now before (option_copied command.entry) (Some reply.now)) }
 {
     let Some(command) = command else {
         return Ok(());
@@ -24,7 +30,7 @@ pub fn push_command(
     let number = before + 1;
     let word = word(command);
     write!(out, "{number} {word} ")?;
-    push_reply(out, reply)?;
+    push_reply(out, words, reply)?;
     out.push_str("\n")?;
     Ok(())
 }
@@ -47,11 +53,12 @@ fn word(command: &Command) -> &'static str
     }
 }
 
-fn push_reply(out: &mut String, reply: &Reply) -> Result<(), NoMemory>
-    ensures ok { OnOk result (string_bytes out.new ≡ string_bytes out.old ++ reply_text reply.now) }
+/// Adds a reply, with what it gave.
+pub fn push_reply(out: &mut String, words: &Words, reply: &Reply) -> Result<(), NoMemory>
+    ensures ok { OnOk result (string_bytes out.new ≡ string_bytes out.old ++ reply_text words.now reply.now) }
 {
     match reply {
-        Reply::Ok(good) => push_good(out, good),
+        Reply::Ok(good) => push_good(out, words, good),
         Reply::NoEntry => push_word(out, "no-entry"),
         Reply::Exists => push_word(out, "exists"),
         Reply::NotDir => push_word(out, "not-dir"),
@@ -65,15 +72,15 @@ fn push_reply(out: &mut String, reply: &Reply) -> Result<(), NoMemory>
     }
 }
 
-fn push_good(out: &mut String, good: &Good) -> Result<(), NoMemory>
-    ensures ok { OnOk result (string_bytes out.new ≡ string_bytes out.old ++ good_text good.now) }
+fn push_good(out: &mut String, words: &Words, good: &Good) -> Result<(), NoMemory>
+    ensures ok { OnOk result (string_bytes out.new ≡ string_bytes out.old ++ good_text words.now good.now) }
 {
     match good {
-        Good::Bytes(bytes) => push_bytes(out, bytes.as_slice()),
         Good::Done => push_word(out, "ok"),
-        Good::Names(_) => push_word(out, "ok"),
-        Good::Value(_) => push_word(out, "ok"),
-        Good::Stat { .. } => push_word(out, "ok"),
+        Good::Bytes(bytes) => push_bytes(out, bytes.as_slice()),
+        Good::Names(names) => push_names(out, words, names),
+        Good::Value(value) => push_value(out, words, *value),
+        Good::Stat { entry, len } => push_stat(out, *entry, *len),
     }
 }
 
@@ -85,4 +92,48 @@ fn push_bytes(out: &mut String, bytes: &[u8]) -> Result<(), NoMemory>
     }
     out.push_str("ok ")?;
     push_hex(out, bytes)
+}
+
+fn push_value(out: &mut String, words: &Words, value: Option<ValueId>) -> Result<(), NoMemory>
+    ensures ok { OnOk result (string_bytes out.new ≡ string_bytes out.old ++ value_text words.now value) }
+{
+    let Some(value) = value else {
+        return push_word(out, "ok -");
+    };
+    out.push_str("ok ")?;
+    push_word_at(out, &words.values, value.0)
+}
+
+fn push_stat(out: &mut String, entry: Entry, len: u32) -> Result<(), NoMemory>
+    ensures ok { OnOk result (string_bytes out.new ≡ string_bytes out.old ++ stat_text entry len) }
+{
+    out.push_str(what_word(entry.what))?;
+    push_gfid(out, entry.gfid)?;
+    push_len(out, entry.what, len)
+}
+
+fn what_word(what: What) -> &'static str
+    ensures { result.now ≡ what_text what }
+{
+    match what {
+        What::File => "ok file ",
+        What::Dir => "ok dir ",
+    }
+}
+
+/// Adds the length of a file; a directory has none.
+fn push_len(out: &mut String, what: What, len: u32) -> Result<(), NoMemory>
+    ensures ok { OnOk result (string_bytes out.new ≡ string_bytes out.old ++ len_text what len) }
+{
+    match what {
+        What::File => push_spaced_number(out, len),
+        What::Dir => Ok(()),
+    }
+}
+
+fn push_spaced_number(out: &mut String, number: u32) -> Result<(), NoMemory>
+    ensures ok { OnOk result (string_bytes out.new ≡ string_bytes out.old ++ len_text What.File number) }
+{
+    write!(out, " {number}")?;
+    Ok(())
 }

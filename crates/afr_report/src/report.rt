@@ -1,34 +1,41 @@
-//! The whole report: the volume, the length of the log, the clients, the started bricks and the objects.
-ghost use Rattle.std.specs.Prelude.{◌≡◌, ◌++◌, ◌≤◌, IfOk, OnOk, codes, decimal, flat_map, length, reverse, string_bytes};
-ghost use Rattle.afr_model.specs.Report.{reach_text, report_of, started_bricks, volume_text};
-ghost use Rattle.afr_report.specs.Rising.{IsRising};
+//! The whole report: the volume, the length of the log, the clients, the healers, and what needs heal.
+ghost use Rattle.std.specs.Prelude.{◌≡◌, ◌++◌, ◌≤◌, IfOk, OnOk, length, reverse, string_bytes};
+ghost use Rattle.afr_info.specs.Shown.{HoldTables};
+ghost use Rattle.afr_model.specs.Report.{started_bricks, volume_text};
+ghost use Rattle.afr_model.specs.ReportHealers.{report_of};
 
 use crate::clients::push_clients;
+use crate::healers::push_healers;
 use afr_base::{BrickSet, NoMemory, Shape};
+use afr_brick::Brick;
+use afr_info::print_info;
 use afr_lines::Line;
 use afr_plan::Plan;
 use std::alloc::Global;
 
-/// The report of a plan and of its log, the oldest line first, in time proportional to the length
-/// of the log for each client.
+/// The report of a plan and of its log, the oldest line first, where the bricks hold the tables
+/// that the log has made. It takes time proportional to the length of the log for each client and
+/// healer, and beside it what the part on objects takes.
 pub fn print_report(
     alloc: Global,
     plan: &Plan,
     log: &[Line],
     started: BrickSet,
+    bricks: &[Brick],
 ) -> Result<String, NoMemory>
     requires few { plan.now.shape.n ≤ 5 }
     requires clients { length plan.now.clients ≤ 16 }
+    requires healers { length plan.now.healers ≤ 3 }
     requires started { started ≡ started_bricks plan.now.shape.n (reverse log.now) }
-    ensures ok { IfOk result (λ text. string_bytes text ≡ report_of plan.now (reverse log.now)) }
+    ensures ok { HoldTables plan.now (reverse log.now) started bricks.now → IfOk result (λ text. string_bytes text ≡ report_of plan.now (reverse log.now)) }
 {
     let mut out = String::new(alloc);
     let lines = log.len();
     push_volume(&mut out, plan.shape)?;
     write!(out, "lines {lines}\n")?;
-    push_clients(&mut out, plan.clients.as_slice(), log)?;
-    push_reach(&mut out, plan.shape.n, started)?;
-    out.push_str("objects 0\nsplit-brain 0\n")?;
+    push_clients(&mut out, &plan.words, plan.clients.as_slice(), log)?;
+    push_healers(&mut out, &plan.words, plan.healers.as_slice(), log)?;
+    print_info(&mut out, plan, bricks, started)?;
     Ok(out)
 }
 
@@ -38,34 +45,5 @@ fn push_volume(out: &mut String, shape: Shape) -> Result<(), NoMemory>
     let n = shape.n;
     let kind = if shape.arbiter { "arbiter" } else { "replica" };
     write!(out, "afr {kind} {n}\n")?;
-    Ok(())
-}
-
-fn push_reach(out: &mut String, n: u8, started: BrickSet) -> Result<(), NoMemory>
-    requires few { n ≤ 5 }
-    requires rising { IsRising 0 started }
-    ensures ok { OnOk result (string_bytes out.new ≡ string_bytes out.old ++ reach_text n started) }
-{
-    out.push_str("reach")?;
-    push_bricks(out, started)?;
-    if !started.has_quorum(n) {
-        out.push_str(" short")?;
-    }
-    out.push_str("\n")?;
-    Ok(())
-}
-
-/// Adds the numbers of the bricks, the lowest first.
-fn push_bricks(out: &mut String, bricks: BrickSet) -> Result<(), NoMemory>
-    requires rising { IsRising 0 bricks }
-    ensures ok { OnOk result (string_bytes out.new ≡ string_bytes out.old ++ flat_map (λ b. codes " " ++ decimal b) bricks) }
-{
-    let mut left = bricks;
-    while !left.is_empty() {
-        let brick = left.lowest();
-        let number = brick.0;
-        write!(out, " {number}")?;
-        left = left.without(brick);
-    }
     Ok(())
 }

@@ -1,163 +1,116 @@
-//! The texts of reports: each reply, a dead client, and bricks that are stopped.
-ghost use Rattle.std.specs.Prelude.{◌≡◌, ◌≤◌, IfOk, length, reverse};
-ghost use Rattle.afr_report.specs.BrickLines.{AreBrickLines};
+//! The texts of reports: each reply, the dead and the short, what heals give, objects with their values, and whole worked logs.
 
-use afr_base::{ActorId, BrickId, NoMemory, Shape};
-use afr_lines::{Event, Good, Line, Reply};
+use crate::made::{
+    dead_and_short, each_reply, one_client, plan_of, split_and_heals, two_readers, two_rounds,
+};
+use crate::reported::reports;
+use afr_base::NoMemory;
+use afr_lines::Line;
 use afr_object::List;
-use afr_plan::{Command, Plan, Script, Scripts, Words};
-use afr_report::{print_report, started};
+use afr_plan::{Plan, Rounds, Scripts};
+use afr_replay::Unfit;
+use afr_worked_logs::{Worked, log_of, plan_of as worked_plan};
 use std::alloc::Global;
 use std::test::Fail;
 
-/// A plan of three bricks for these clients, with nothing else in it.
-fn plan(alloc: Global, arbiter: bool, clients: Scripts) -> Plan
-    ensures few { result.shape.n ≡ 3 }
-    ensures clients { result.clients ≡ clients }
-{
-    Plan {
-        shape: Shape { n: 3, arbiter },
-        files: 0,
-        turns: 9,
-        clients,
-        healers: List::new(alloc),
-        faults: List::new(alloc),
-        events: List::new(alloc),
-        go: List::new(alloc),
-        words: Words {
-            names: List::new(alloc),
-            keys: List::new(alloc),
-            values: List::new(alloc),
-        },
-    }
-}
-
-fn read(alloc: Global) -> Command {
-    Command::Read {
-        path: List::new(alloc),
-        at: 0,
-        len: 5,
-    }
-}
-
-fn write(alloc: Global) -> Command {
-    Command::Write {
-        path: List::new(alloc),
-        at: 0,
-        bytes: List::new(alloc),
-    }
-}
-
-fn reads(alloc: Global, count: usize) -> Result<Script, NoMemory> {
-    let mut script = List::new(alloc);
-    for _ in 0..count {
-        script.push(read(alloc))?;
-    }
-    Ok(script)
-}
-
-/// One client's write and three reads.
-fn write_and_reads(alloc: Global) -> Result<Scripts, NoMemory>
-    ensures { IfOk result (λ clients. length clients ≤ 16) }
-{
-    let mut script = List::new(alloc);
-    script.push(write(alloc))?;
-    for _ in 0..3 {
-        script.push(read(alloc))?;
-    }
-    let mut clients = List::new(alloc);
-    clients.push(script)?;
-    Ok(clients)
-}
-
-/// One client's two reads and another's read.
-fn two_readers(alloc: Global) -> Result<Scripts, NoMemory>
-    ensures { IfOk result (λ clients. length clients ≤ 16) }
-{
-    let mut clients = List::new(alloc);
-    clients.push(reads(alloc, 2)?)?;
-    clients.push(reads(alloc, 1)?)?;
-    Ok(clients)
-}
-
-fn end(reply: Reply) -> Line
-    ensures { result ≡ Line.End (record { 0 = 1 }) reply }
-{
-    Line::End {
-        actor: ActorId(1),
-        reply,
-    }
-}
-
-fn event(event: Event) -> Line
-    ensures { result ≡ Line.Event event }
-{
-    Line::Event { event }
-}
-
-/// Whether the report has this text.
-fn reports(
+fn reports_made(
     alloc: Global,
-    arbiter: bool,
-    clients: Scripts,
-    log: &[Line],
+    plan: Result<Plan, NoMemory>,
+    log: Result<Vec<Line>, NoMemory>,
     text: &str,
-) -> Result<bool, NoMemory>
-    requires few { length clients ≤ 16 }
-    requires bricks { AreBrickLines (reverse log.now) }
-{
-    let plan = plan(alloc, arbiter, clients);
-    let report = print_report(alloc, &plan, log, started(3, log))?;
-    Ok(report.as_str() == text)
+) -> Result<bool, Unfit> {
+    reports(alloc, &plan?, &log?, text)
 }
 
-fn has_each_reply(alloc: Global) -> Result<bool, NoMemory> {
-    let clients = write_and_reads(alloc)?;
-    let hello = b"hello".to_vec(alloc)?;
-    let log = [
-        end(Reply::Ok(Good::Done)),
-        end(Reply::Ok(Good::Bytes(List::from_vec(hello)))),
-        end(Reply::Ok(Good::Bytes(List::new(alloc)))),
-        end(Reply::NoEntry),
-    ];
-    reports(
+fn clients_alone(alloc: Global, arbiter: bool, clients: Scripts) -> Result<Plan, NoMemory> {
+    plan_of(alloc, arbiter, clients, List::new(alloc))
+}
+
+fn has_each_reply(alloc: Global) -> Result<bool, Unfit> {
+    let plan = clients_alone(alloc, false, one_client(alloc, 9)?);
+    reports_made(
         alloc,
-        false,
-        clients,
-        &log,
-        "afr replica 3\nlines 4\nc1 4 of 4\n1 write ok\n2 read ok 68656c6c6f\n3 read ok -\n4 read no-entry\nreach 0 1 2\nobjects 0\nsplit-brain 0\n",
+        plan,
+        each_reply(alloc),
+        "afr replica 3\nlines 10\nc1 10 of 10\n1 write ok\n2 read ok 68656c6c6f\n3 read ok -\n4 read no-entry\n5 read ok early later\n6 read ok -\n7 read ok alice\n8 read ok -\n9 read ok file 00000000-0000-0001-0000-000000000002 70\n10 read ok dir 00000000-0000-0001-0000-000000000002\nreach 0 1 2\nobjects 0\nsplit-brain 0\n",
     )
 }
 
-fn shows_the_dead_and_the_short(alloc: Global) -> Result<bool, NoMemory> {
-    let clients = two_readers(alloc)?;
-    let log = [
-        event(Event::Stop(BrickId(0))),
-        event(Event::Stop(BrickId(2))),
-        end(Reply::FewCopies),
-        event(Event::Kill(ActorId(1))),
-    ];
-    reports(
+fn shows_the_dead_and_the_short(alloc: Global) -> Result<bool, Unfit> {
+    let plan = clients_alone(alloc, true, two_readers(alloc)?);
+    reports_made(
         alloc,
-        true,
-        clients,
-        &log,
+        plan,
+        dead_and_short(alloc),
         "afr arbiter 3\nlines 4\nc1 1 of 2 dead\n1 read few-copies\nc2 0 of 1 unfinished\nreach 1 short\nobjects 0\nsplit-brain 0\n",
     )
 }
 
+fn shows_heals_and_a_split(alloc: Global) -> Result<bool, Unfit> {
+    let healers: Rounds = two_rounds(alloc)?;
+    let plan = plan_of(alloc, false, List::new(alloc), healers);
+    reports_made(
+        alloc,
+        plan,
+        split_and_heals(alloc),
+        "afr replica 3\nlines 12\nh1 1 of 2 unfinished\n1 round ok\nentry 00000000-0000-0000-0000-000000000001 split\ndata 00000000-0000-0000-0000-000000000001 busy h2\nentry 00000000-0000-0000-0000-000000000001 moved 1\nreach 0 1 2\nobjects 1\nobject 00000000-0000-0000-0000-000000000001\nentry split\nb0 trusted.afr.vol-client-1=0x000000000000000000000001\nb0 trusted.afr.vol-client-2=0x000000000000000000000001\nb1 trusted.afr.vol-client-0=0x000000000000000000000001\nb1 trusted.afr.vol-client-2=0x000000000000000000000001\nb2 trusted.afr.dirty=0x000000000000000000000001\nsplit-brain 1\n",
+    )
+}
+
+/// Whether the worked log has this report.
+fn reports_worked(alloc: Global, worked: Worked, text: &str) -> bool {
+    let Ok(log) = log_of(alloc, worked) else {
+        return false;
+    };
+    let Ok(plan) = worked_plan(alloc, worked) else {
+        return false;
+    };
+    reports(alloc, &plan, &log, text) == Ok(true)
+}
+
 #[test]
 fn each_reply_has_its_line(rt: HostRuntime) -> Result<(), Fail> {
-    let holds = has_each_reply(rt.alloc()).ok().ok_or("memory")?;
+    let holds = has_each_reply(rt.alloc()) == Ok(true);
     assert!(rt; holds);
     Ok(())
 }
 
 #[test]
 fn a_dead_client_and_a_short_reach_show(rt: HostRuntime) -> Result<(), Fail> {
-    let holds = shows_the_dead_and_the_short(rt.alloc())
-        .ok()
-        .ok_or("memory")?;
+    let holds = shows_the_dead_and_the_short(rt.alloc()) == Ok(true);
     assert!(rt; holds);
+    Ok(())
+}
+
+#[test]
+fn heals_and_a_split_object_have_their_lines(rt: HostRuntime) -> Result<(), Fail> {
+    let holds = shows_heals_and_a_split(rt.alloc()) == Ok(true);
+    assert!(rt; holds);
+    Ok(())
+}
+
+#[test]
+fn a_worked_log_has_the_report_that_was_worked_out(rt: HostRuntime) -> Result<(), Fail> {
+    for (worked, text) in [
+        (
+            Worked::Arbiter,
+            "afr arbiter 3\nlines 55\nc1 3 of 3\n1 write ok\n2 write split-brain\n3 write ok\nreach 0 1\nobjects 1\nobject 00000000-0000-0001-0000-000000000001\ndata good 1\nb0 trusted.afr.vol-client-2=0x000000010000000000000000\nb1 trusted.afr.vol-client-0=0x000000010000000000000000\nb1 trusted.afr.vol-client-2=0x000000010000000000000000\nsplit-brain 0\n",
+        ),
+        (
+            Worked::LostAnswerThenHeal,
+            "afr replica 3\nlines 88\nc1 1 of 1\n1 write ok\nh1 1 of 1\n1 round ok\ndata 00000000-0000-0001-0000-000000000001 settled\nreach 0 1 2\nobjects 0\nsplit-brain 0\n",
+        ),
+        (
+            Worked::RemovedNameStaysRemoved,
+            "afr replica 3\nlines 70\nc1 1 of 1\n1 unlink ok\nc2 1 of 1\n1 stat no-entry\nh1 1 of 1\n1 round ok\nentry 00000000-0000-0000-0000-000000000001 settled\nreach 0 1 2\nobjects 0\nsplit-brain 0\n",
+        ),
+        (
+            Worked::StaleHealPiece,
+            "afr replica 3\nlines 82\nc1 2 of 2\n1 write ok\n2 write ok\nh1 1 of 1\n1 round ok\ndata 00000000-0000-0001-0000-000000000001 failed\nreach 0 1 2\nobjects 1\nobject 00000000-0000-0001-0000-000000000001\ndata good 0 1\nb0 trusted.afr.vol-client-2=0x000000020000000000000000\nb1 trusted.afr.vol-client-2=0x000000020000000000000000\nb2 trusted.afr.dirty=0x000000010000000000000000\nsplit-brain 0\n",
+        ),
+    ] {
+        let holds = reports_worked(rt.alloc(), worked, text);
+        assert!(rt; holds, "{worked:?}");
+    }
     Ok(())
 }

@@ -1,7 +1,7 @@
 -- Every line of a write is about what its command names.
 use Rattle.std.proofs.Common.{◌≡◌, ℕ, ◌<◌, ◌==◌, ◌&&◌, nat_le, Bool, true, false, not, List, ◌∷◌, Some, length, refl, sym, ap, ◌∙◌, arith, subst, if◌then◌else◌}
 use Rattle.std.proofs.lemmas.Bool.Decides.{nat_tests}
-use Rattle.afr_base.specs.Bricks.{below, lowest, member, minus, is_nothing}
+use Rattle.afr_base.specs.Bricks.{lowest, member, is_nothing}
 use Rattle.afr_base.specs.Majority.{is_majority}
 use Rattle.afr_base.specs.SetLemmas.{lowest_left}
 use Rattle.afr_base.specs.declared.ids.ActorId.{ActorId}
@@ -27,16 +27,14 @@ use Rattle.afr_lines.specs.declared.line.Next.{Next}
 use Rattle.afr_lines.specs.declared.line.Next.TheVariants as next
 use Rattle.afr_lines.specs.declared.request.Area.{Area}
 use Rattle.afr_lines.specs.declared.request.Request.{Request}
-use Rattle.afr_lines.specs.declared.request.Request.TheVariants as request
 use Rattle.afr_plan.specs.declared.command.Command.{Command}
 use Rattle.afr_plan.specs.declared.command.Command.TheVariants as command
 use Rattle.afr_plan.specs.declared.plan.Plan.{Plan}
 use Rattle.afr_model.specs.Answered.{Counts, IsAbout, LooksHere}
-use Rattle.afr_model.specs.Showing.{path_by, among, applied_at}
+use Rattle.afr_model.specs.Showing.{path_by, among}
 use Rattle.afr_model.specs.Standing.{looks_here, area_here, getting}
 use Rattle.afr_lookup.specs.Looks.{left_to_look}
-use Rattle.afr_lookup.specs.Walk.{walk_from, next_in, walked, is_walking, no_views}
-use Rattle.afr_lookup.specs.Walk as walk
+use Rattle.afr_lookup.specs.Walk.{walked, no_views}
 use Rattle.afr_lookup.specs.declared.stop.Stop.TheVariants.{IsDir, TooLarge}
 use Rattle.afr_lookup.specs.declared.walk.Walk.{Walk}
 use Rattle.afr_lookup.specs.declared.walk.WalkStep.{WalkStep}
@@ -255,32 +253,3 @@ write_about p a lines command m b r told took k begun sound says = subst (λ (x 
 pub write_begin_about : (p : Plan) (a : ActorId) (lines : Work) (command : Command) (m : Write) (c : Change) → WriteTells p command m lines → BegunTells m.stage m.transaction lines
     → IsWrite m.walk m.transaction m.stage → next_of m ≡ next.Begin c → IsAbout p command (Begin a c) lines
 write_begin_about p a lines command m c k begun sound says = subst (λ (x : Next). AboutNext p command a lines NotConnected true x) says (about_next p a lines command m NotConnected true k begun sound)
-
--- ---- who is accused
--- a post-op names the bricks that didn't do the operation
-abbrev pub BlamesNext : Plan → Work → Next → Type 0
-BlamesNext p lines (next.Ask b (request.Post attempt g kind missed)) = missed ≡ minus (below p.shape.n) (among applied_at lines)
-BlamesNext p lines other = Unit {0}
-
-writes_blame : (p : Plan) (path : List NameId) (at : ℕ) (bytes : List ℕ) (m : Write) (lines : Work) → WritesHere p path at bytes m lines → (stage : WriteStage)
-    → During p path at bytes m.walk stage m.transaction lines → BlamesNext p lines (next_at stage m)
-writes_blame p path at bytes m lines k Walking d = by_step m.walk.step
-  where
-    by_step : (step : WalkStep) → BlamesNext p lines (next.Ask (walk.next_at step m.walk).0 (walk.next_at step m.walk).1)
-    by_step (walking.Looking s) = tt
-    by_step (walking.Naming b) = tt
-    by_step walking.Arrived = tt
-    by_step (walking.Stopped why views) = tt
-writes_blame p path at bytes m lines k Posting d = rw (k.shape, d.2.done) refl
-writes_blame p path at bytes m lines k (Closing outcome) d = closes (is_nothing m.transaction.held)
-  where
-    closes : (f : Bool) → BlamesNext p lines (if f then next.End (reply_for outcome) else next.Ask (next_brick (Closing outcome) m) (request_at (Closing outcome) m))
-    closes true = tt
-    closes false = tt
-writes_blame p path at bytes m lines k other d = tt
-
--- the accused of a write's post-op
-pub write_blames : (p : Plan) (command : Command) (m : Write) (lines : Work) (b : BrickId) (attempt : ℕ) (g : Gfid) (kind : Kind) (missed : List ℕ) → WriteTells p command m lines
-    → next_of m ≡ next.Ask b (request.Post attempt g kind missed) → missed ≡ minus (below p.shape.n) (among applied_at lines)
-write_blames p (command.Write path at bytes) m lines b attempt g kind missed k says = subst (λ (x : Next). BlamesNext p lines x) says (writes_blame p path at bytes m lines k m.stage k.during)
-write_blames p other m lines b attempt g kind missed k says = absurd k

@@ -9,6 +9,8 @@ pub mod AbleWalk
 pub mod AbleWrite
 pub mod AboutTelling
 pub mod AboutTellingLemmas
+pub mod BlameTelling
+pub mod BlameTellingLemmas
 pub mod Bounded
 pub mod CanServe
 pub mod Current
@@ -21,6 +23,7 @@ pub mod CurrentSafe
 pub mod CurrentTables
 pub mod CurrentWalk
 pub mod CurrentWrite
+pub mod ExcusedLemmas
 pub mod HonestLaws
 pub mod LinesShow
 pub mod NameLaws

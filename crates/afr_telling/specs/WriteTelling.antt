@@ -22,7 +22,7 @@ use Rattle.afr_plan.specs.declared.plan.Plan.{Plan}
 use Rattle.afr_model.specs.Answered.{IsCaused}
 use Rattle.afr_model.specs.Showing.{At, NotAsked, path_by, reading_by, looked_by, among, looking, preparing, prepared, applying, applied_at, posting, posted, has, looks_at, locks, begins_attempt, refuses_read}
 use Rattle.afr_model.specs.Skipped.{SkipsNothing}
-use Rattle.afr_model.specs.Standing.{locks_area, asking, getting, change_by}
+use Rattle.afr_model.specs.Standing.{locks_area, asking, getting, change_by, suffices}
 use Rattle.afr_lookup.specs.declared.stop.Stop.TheVariants.{Failed}
 use Rattle.afr_lookup.specs.declared.walk.Walk.{Walk}
 use Rattle.afr_write.specs.Phases.{no_transaction}
@@ -137,11 +137,12 @@ pub record OnApply (change : Change) (g : Gfid) (t : Transaction) (lines : Work)
   pub unposted : NoPost lines
 
 -- while the post-op is asked
-pub record OnPost (change : Change) (g : Gfid) (t : Transaction) (lines : Work) : Type 0 where
+pub record OnPost (shape : Shape) (change : Change) (g : Gfid) (t : Transaction) (lines : Work) : Type 0 where
   pub attempt : AreBegun change lines
   pub before : IsIn (holders_of (looked_by g lines)) (among preparing lines)
   pub pre : IsIn (among prepared lines) (among applying lines)
   pub done : t.done ≡ among applied_at lines
+  pub enough : suffices shape Bytes (looked_by g lines) (among applied_at lines) ≡ true
   pub asked : t.post_asked ≡ among posting lines
   pub did : t.post ≡ among posted lines
 
@@ -175,7 +176,7 @@ During p path at bytes w Preparing t lines =
 During p path at bytes w Applying t lines =
     IsThere p path at bytes w lines × AreAllowed p.shape (written_range w.object.gfid at bytes) t lines × OnApply (change.Write w.object.gfid at bytes) w.object.gfid t lines
 During p path at bytes w Posting t lines =
-    IsThere p path at bytes w lines × AreAllowed p.shape (written_range w.object.gfid at bytes) t lines × OnPost (change.Write w.object.gfid at bytes) w.object.gfid t lines
+    IsThere p path at bytes w lines × AreAllowed p.shape (written_range w.object.gfid at bytes) t lines × OnPost p.shape (change.Write w.object.gfid at bytes) w.object.gfid t lines
 During p path at bytes w (Closing outcome) t lines = IsOver p (command.Write path at bytes) outcome lines
 
 -- a write's machine stands where the lines of its work show

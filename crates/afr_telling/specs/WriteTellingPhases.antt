@@ -163,8 +163,11 @@ apply_gone p path at bytes w lines t k none = go (suffices p.shape Bytes t t.don
     applied : IsIn (among prepared lines) (among applying lines)
     applied = subst (λ (s : List ℕ). IsIn s (among applying lines)) k.2.pre (subst (λ (s : List ℕ). IsIn t.pre s) k.2.asked (none_left t.pre t.apply_asked none))
 
+    enough : suffices p.shape Bytes t t.done ≡ true → told.suffices p.shape Bytes (looked_by w.object.gfid lines) (among applied_at lines) ≡ true
+    enough e = sym (same_suffices p.shape Bytes t t.done (looked_by w.object.gfid lines) (among applied_at lines) k.1.seen k.2.did) ∙ e
+
     go : (f : Bool) → suffices p.shape Bytes t t.done ≡ f → During p path at bytes w (pick f).stage (pick f).transaction lines
-    go true e = (k.0, k.1, record { attempt = k.2.attempt; before = k.2.before; pre = applied; done = k.2.did; asked = sym k.2.unposted.posting_none; did = sym k.2.unposted.posted_none })
+    go true e = (k.0, k.1, record { attempt = k.2.attempt; before = k.2.before; pre = applied; done = k.2.did; enough = enough e; asked = sym k.2.unposted.posting_none; did = sym k.2.unposted.posted_none })
     go false e = over_there p path at bytes w lines (Stopped Failed no_views) k.0 k.1.locked (λ most. k.1.allows.all_looked)
         (failed_there p path at bytes w lines t k.0 k.1 k.2.attempt (rw k.2.unposted.posted_none (none_most p.shape.n))) (λ begun. tt)
         (carried_there p path at bytes w lines k.0 k.2.attempt k.2.before (λ enough. applied) (λ enough more. short more))
@@ -184,6 +187,7 @@ post_noted p path at bytes w lines t a b attempt g kind missed h took older k = 
     before = k.2.before;
     pre = k.2.pre;
     done = k.2.done;
+    enough = k.2.enough;
     asked = ap (added b) k.2.asked;
     did = rw (done_told h, k.2.did) refl;
   },

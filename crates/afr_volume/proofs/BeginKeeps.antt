@@ -10,6 +10,7 @@ use Rattle.afr_model.specs.Actors.{script_of}
 use Rattle.afr_telling.specs.AboutTellingLemmas.{begun_tells_begins}
 use Rattle.afr_telling.specs.AbleLookup.{lookup_able_begins}
 use Rattle.afr_telling.specs.AbleWrite.{write_able_begins}
+use Rattle.afr_telling.specs.ExcusedLemmas.{excused_begins}
 use Rattle.afr_telling.specs.Plain.{IsPlain}
 use Rattle.afr_telling.specs.ReadTellingLemmas.{read_tells_begins}
 use Rattle.afr_telling.specs.WriteTellingLemmas.{write_tells_begins}
@@ -35,6 +36,7 @@ starts_tells : (p : Plan) (a : ℕ) (log : List Line) (names : ℕ) (c : Command
 starts_tells p a log names (command.Write path at bytes) w first e present none = rw e (λ c is. rw (some_same (command.Write path at bytes) c (sym present ∙ is), none) (record {
   stands = write_tells_begins p path at bytes (omega (arith, first.0));
   begun = begun_tells_begins p.shape path (job.Write at bytes) [];
+  excused = excused_begins;
 }))
 starts_tells p a log names (command.Read path at len) w first e present none = rw e (λ c is. rw (some_same (command.Read path at len) c (sym present ∙ is), none) (read_tells_begins p path at len (omega (arith, first.0))))
 starts_tells p a log names other w first e present none = absurd e

@@ -79,6 +79,7 @@ fresh_volume p log bricks actors count started first none opened idle_actors all
   follows = tt;
   honest = tt;
   replied = tt;
+  blamed = tt;
   sums = tt;
   current = current_nothing p;
   safe = all_current_is_safe p [] (current_nothing p);

@@ -12,3 +12,4 @@ pub mod WholeTurn
 pub mod Able
 pub mod ReadyLemmas
 pub mod Fresh
+mod StartedLemmas

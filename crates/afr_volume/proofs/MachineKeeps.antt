@@ -24,12 +24,15 @@ use Rattle.afr_model.specs.Actors.{IsActor, script_of}
 use Rattle.afr_model.specs.Following.{Follows}
 use Rattle.afr_model.specs.Honest.{Honest, IsHonest, answer_by}
 use Rattle.afr_model.specs.Answered.{IsAbout}
+use Rattle.afr_model.specs.Blamed.{Blames}
 use Rattle.afr_model.specs.Replied.{IsOfTask, IsReplied}
 use Rattle.afr_telling.specs.Able.{WriteAble, LookupAble}
 use Rattle.afr_telling.specs.AbleLookup.{lookup_able_asks, lookup_able_serves, lookup_able_ends}
 use Rattle.afr_telling.specs.AbleServes.{write_able_serves, write_able_ends}
 use Rattle.afr_telling.specs.AbleWrite.{write_able_asks, write_able_begun}
 use Rattle.afr_telling.specs.AboutTellingLemmas.{begun_tells_asks, begun_tells_begun, write_about, write_begin_about}
+use Rattle.afr_telling.specs.BlameTellingLemmas.{write_blames, read_blames}
+use Rattle.afr_telling.specs.ExcusedLemmas.{excused_asks, excused_begun}
 use Rattle.afr_telling.specs.Bounded.{Bounded}
 use Rattle.afr_telling.specs.CanServe.{CanServe}
 use Rattle.afr_tables.specs.Fits.{FitsSums}
@@ -43,7 +46,7 @@ use Rattle.afr_telling.specs.WriteTellingLemmas.{write_tells_asks, write_tells_b
 use Rattle.afr_lookup.specs.Lookup as lookup
 use Rattle.afr_write.specs.Write as write
 use Rattle.afr_volume.specs.Acting.{IsSound, heard_work}
-use Rattle.afr_volume.specs.Keeping.{AbleWork, TellsWork}
+use Rattle.afr_volume.specs.Keeping.{AbleWork, TellsWrite, TellsWork}
 use Rattle.afr_volume.specs.declared.actor.ActorWork.{ActorWork}
 use Rattle.afr_volume.specs.declared.actor.ActorWork.TheVariants.{Idle, Write, Lookup}
 use Rattle.afr_volume.proofs.LineKeeps.{Handles}
@@ -55,6 +58,7 @@ pub record LineTells (p : Plan) (a : ActorId) (log : List Line) (line : Line) (a
   pub tells : TellsWork p a.0 (line ∷ log) after
   pub honest : IsHonest p line log
   pub replied : IsReplied p line log
+  pub blamed : Blames p line log
   pub sums : FitsSums p line log
 
 -- what is known of the log and its actor before the line
@@ -64,6 +68,8 @@ pub record IsBefore (p : Plan) (a : ActorId) (log : List Line) : Type 0 where
   pub honest : Honest p log
   pub actor : IsActor p a.0
   pub room : length log < 4000000
+  pub command : Command
+  pub present : slice_get (script_of p a.0) (ended a.0 log) ≡ Some command
 
 -- a request that can be served closes no operation that isn't open
 fits_sums : (p : Plan) (a : ActorId) (b : BrickId) (r : Request) (told : Told) (log : List Line) → CanServe (holds p log b.0) r log → FitsSums p (Ask a b r told true) log
@@ -94,14 +100,25 @@ module _ (p : Plan) (a : ActorId) (log : List Line) (k : IsBefore p a log) where
     tells = λ command present. rw (work_ask a log b r (told_by h) true) (record {
       stands = write_tells_asks p a log command m b r h at (tells command present).stands sound e (λ _. exact) above;
       begun = begun_tells_asks a log m b r h at (tells command present).begun e;
+      excused = excused_asks p a log command m b r (told_by h) true (work a.0 log) (tells command present).stands e honest small (tells command present).excused;
     });
-    honest = honestly b r h served.0 exact;
+    honest = honest;
     replied = of_task (Ask a b r (told_by h) true) (λ command present. write_about p a (work a.0 log) command m b r (told_by h) true (tells command present).stands (tells command present).begun sound e);
+    blamed = write_blames p a log k.command m b r (told_by h) true now.stands now.begun sound now.excused k.plain.few e;
     sums = fits_sums p a b r (told_by h) log served.1;
   }
     where
       served : (b.0 < p.shape.n) × CanServe (holds p log b.0) r log
       served = write_able_serves p log m b r able bounded k.room sound e
+
+      honest : IsHonest p (Ask a b r (told_by h) true) log
+      honest = honestly b r h served.0 exact
+
+      small : b.0 < 5
+      small = omega (arith, served.0, k.plain.few)
+
+      now : TellsWrite p k.command m (work a.0 log)
+      now = tells k.command k.present
 
   work_begin : (c : Change) → work a.0 (Begin a c ∷ log) ≡ (Begin a c, log) ∷ work a.0 log
   work_begin c = rw (self a.0) refl
@@ -114,9 +131,11 @@ module _ (p : Plan) (a : ActorId) (log : List Line) (k : IsBefore p a log) where
     tells = λ command present. rw (work_begin c) (record {
       stands = write_tells_begun p a log command m c at (tells command present).stands e;
       begun = begun_tells_begun a log m c at (tells command present).begun e position;
+      excused = excused_begun a c log (work a.0 log) (tells command present).excused;
     });
     honest = tt;
     replied = of_task (Begin a c) (λ command present. write_begin_about p a (work a.0 log) command m c (tells command present).stands (tells command present).begun sound e);
+    blamed = tt;
     sums = tt;
   }
 
@@ -127,6 +146,7 @@ module _ (p : Plan) (a : ActorId) (log : List Line) (k : IsBefore p a log) where
     tells = tt;
     honest = tt;
     replied = of_task (End a said) (λ command present. write_answers p command m (work a.0 log) said (tells command present).stands e (write_able_ends p log m said able e));
+    blamed = tt;
     sums = tt;
   }
 
@@ -138,6 +158,7 @@ module _ (p : Plan) (a : ActorId) (log : List Line) (k : IsBefore p a log) where
     tells = λ command present. rw (work_ask a log b r (told_by h) true) ((read_asks p a log command m b r h at (tells command present) e sound exact above).tells);
     honest = honestly b r h served.0 exact;
     replied = of_task (Ask a b r (told_by h) true) (λ command present. (read_asks p a log command m b r h at (tells command present) e sound exact above).about);
+    blamed = read_blames p a log m b r (told_by h) true e;
     sums = fits_sums p a b r (told_by h) log served.1;
   }
     where
@@ -151,6 +172,7 @@ module _ (p : Plan) (a : ActorId) (log : List Line) (k : IsBefore p a log) where
     tells = tt;
     honest = tt;
     replied = of_task (End a said) (λ command present. read_answers p command m (work a.0 log) said (tells command present) e (lookup_able_ends p log m said able e));
+    blamed = tt;
     sums = tt;
   }
 

@@ -254,6 +254,7 @@ kept_turn p a at log x y bricks new actors started made line v actor one is busy
   follows = ((room, wrote_due p a line log moves.wrote (record { actor = actor; alive = alive; keeps = ToCommand moves.command moves.present moves.keeps }) none), v.follows);
   honest = (keeps.honest, v.honest);
   replied = (keeps.replied, v.replied);
+  blamed = (keeps.blamed, v.blamed);
   sums = (keeps.sums, v.sums);
   current = stays.all;
   safe = (all_current_is_safe p (line ∷ log) stays.all, v.safe);
@@ -276,7 +277,7 @@ kept_turn p a at log x y bricks new actors started made line v actor one is busy
     moves = actor_moves p a at log x y bricks new line mine v.tables busy s
 
     before : IsBefore p a log
-    before = record { plain = v.runnable.plain; follows = v.follows; honest = v.honest; actor = actor; room = omega (arith, room, v.runnable.turns) }
+    before = record { plain = v.runnable.plain; follows = v.follows; honest = v.honest; actor = actor; room = omega (arith, room, v.runnable.turns); command = moves.command; present = moves.present }
 
     keeps : LineTells p a log line y.work
     keeps = line_keeps p a at log x y bricks new line v.tables v.few (LineTells p a log) busy
@@ -324,6 +325,7 @@ kept_ready p log bricks actors new started made a one v r = record {
   follows = v.follows;
   honest = v.honest;
   replied = v.replied;
+  blamed = v.blamed;
   sums = v.sums;
   current = v.current;
   safe = v.safe;

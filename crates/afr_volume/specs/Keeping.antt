@@ -13,11 +13,13 @@ use Rattle.afr_model.specs.Commands.{path_of, is_on_name, change_on}
 use Rattle.afr_model.specs.Following.{Follows}
 use Rattle.afr_model.specs.Showing.{Path, At, path_by, has, begins_attempt}
 use Rattle.afr_model.specs.Report.{started_bricks}
+use Rattle.afr_model.specs.Blamed.{AreBlamed}
 use Rattle.afr_model.specs.Honest.{Honest}
 use Rattle.afr_model.specs.Replied.{Replied}
 use Rattle.afr_model.specs.Safe.{AreFresh, IsAlwaysSafe}
 use Rattle.afr_telling.specs.Able.{WriteAble, LookupAble}
 use Rattle.afr_telling.specs.AboutTelling.{BegunTells}
+use Rattle.afr_telling.specs.BlameTelling.{AreExcused}
 use Rattle.afr_telling.specs.Current.{AllCurrent, AreAnswered, LookupCurrent, WriteCurrent}
 use Rattle.afr_tables.specs.Fits.{FitsSums}
 use Rattle.afr_telling.specs.Plain.{IsPlain}
@@ -88,10 +90,11 @@ AbleWork p log Idle = Unit {0}
 AbleWork p log (Write m) = WriteAble p log m
 AbleWork p log (Lookup m) = LookupAble p log m
 
--- the lines of a work show where its transaction stands, and which attempt is its last
+-- the lines of a work show where its transaction stands, which attempt is its last, and who missed something
 pub record TellsWrite (p : Plan) (command : Command) (m : write.Write) (lines : Work) : Type 0 where
   pub stands : WriteTells p command m lines
   pub begun : BegunTells m.stage m.transaction lines
+  pub excused : AreExcused lines
 
 -- the lines of the actor's present work show where its machine stands
 abbrev pub TellsWork : Plan → ℕ → List Line → ActorWork → Type 0
@@ -128,6 +131,7 @@ pub record IsVolume (p : Plan) (log : List Line) (bricks : List Copies) (actors 
   pub follows : Follows p log
   pub honest : Honest p log
   pub replied : Replied p log
+  pub blamed : AreBlamed p log
   pub sums : EachLine (FitsSums p) log
   pub current : AllCurrent p log
   pub safe : IsAlwaysSafe p log

@@ -1,18 +1,21 @@
 //! The volume: one log, and beside it the present state of bricks and actors.
 ghost use Rattle.std.specs.Prelude.{◌≡◌, ◌<◌, ◌≤◌, ℕ, Bool, Option, Some, None, OnOk, OnErr, true, false, IfOk, IsSome, length, reverse, slice_get, []};
 ghost use Rattle.afr_base.specs.Bricks.{member};
+ghost use Rattle.afr_brick.specs.State.{Copies};
 ghost use Rattle.afr_lines.specs.Log.{from_oldest};
 ghost use Rattle.afr_lines.specs.Work.{work, is_killed};
 ghost use Rattle.afr_plan.specs.declared.schedule.Go.{Go};
 ghost use Rattle.afr_plan.specs.FirstPath.{IsFirstPath};
 ghost use Rattle.afr_model.specs.State.{no_volume, no_plan};
 ghost use Rattle.afr_model.specs.Actors.{IsActor, is_done};
+ghost use Rattle.afr_model.specs.Blamed.{AreBlamed};
 ghost use Rattle.afr_model.specs.Following.{Follows, NoneDue};
 ghost use Rattle.afr_model.specs.Honest.{Honest};
 ghost use Rattle.afr_model.specs.Replied.{Replied};
 ghost use Rattle.afr_model.specs.Report.{started_bricks};
 ghost use Rattle.afr_model.specs.Safe.{AreFresh, IsAlwaysSafe};
 ghost use Rattle.afr_model.specs.Sums.{AreSums};
+ghost use Rattle.afr_model.specs.Tables.{holds, keeps_bytes};
 ghost use Rattle.afr_volume.specs.Turning.{Turns, Comes, due_of, if_due};
 
 use crate::actor::Actor;
@@ -99,6 +102,7 @@ impl Volume {
         ensures follows { Follows self.new.plan self.new.log }
         ensures honest { Honest self.new.plan self.new.log }
         ensures replied { Replied self.new.plan self.new.log }
+        ensures blamed { AreBlamed self.new.plan self.new.log }
         ensures safe { IsAlwaysSafe self.new.plan self.new.log }
         ensures fresh { AreFresh self.new.plan self.new.log }
     {
@@ -197,6 +201,15 @@ impl Volume {
         &self.plan
     }
 
+    /// The bricks, by their numbers.
+    pub fn bricks(&self) -> &[Brick]
+        ensures few { length result.now ≡ self.now.plan.shape.n }
+        ensures tables { (b : ℕ) (x : Copies) → slice_get result.now b ≡ Some x → x ≡ record { keeps = keeps_bytes self.now.plan b; objects = holds self.now.plan self.now.log b } }
+        ensures started { (b : ℕ) → member (started_bricks self.now.plan.shape.n self.now.log) b ≡ true → b < self.now.plan.shape.n }
+    {
+        &self.bricks
+    }
+
     /// The started bricks.
     pub fn reach(&self) -> BrickSet
         ensures { result ≡ started_bricks self.now.plan.shape.n self.now.log }
@@ -209,6 +222,7 @@ impl Volume {
         ensures follows { Follows self.now.plan self.now.log }
         ensures honest { Honest self.now.plan self.now.log }
         ensures replied { Replied self.now.plan self.now.log }
+        ensures blamed { AreBlamed self.now.plan self.now.log }
         ensures sums { AreSums self.now.plan self.now.log }
         ensures safe { IsAlwaysSafe self.now.plan self.now.log }
         ensures fresh { AreFresh self.now.plan self.now.log }

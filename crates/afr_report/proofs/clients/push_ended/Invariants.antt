@@ -8,5 +8,5 @@ abbrev pub invariant-loop-line : goal.invariant-loop-line
 invariant-loop-line l = record {
   counts : l.before ≡ ended l.client.0 (reverse (take l.line-index l.log));
   small : l.before ≤ l.line-index;
-  text : string_bytes l.out ≡ string_bytes l.fn.out ++ ended_lines l.client.0 l.commands (reverse (take l.line-index l.log));
+  text : string_bytes l.out ≡ string_bytes l.fn.out ++ ended_lines l.words l.client.0 l.commands (reverse (take l.line-index l.log));
 }

@@ -1,6 +1,6 @@
 use Rattle.std.proofs.Common.{◌≡◌, ◌++◌, take}
 use Rattle.std.specs.Prelude.{string_bytes}
-use Rattle.afr_model.specs.Report.{hex_text}
+use Rattle.afr_model.specs.ReportReplies.{hex_text}
 use Rattle.afr_report.proofs.numbers.push_hex.Given as goal
 
 abbrev pub invariant-loop-byte : goal.invariant-loop-byte

@@ -19,3 +19,6 @@ returns-clause-fresh c = rw (← c.self.view_is) c.self.invariant.fresh
 
 pub returns-clause-replied : goal.returns-clause-replied
 returns-clause-replied c = rw (← c.self.view_is) c.self.invariant.replied
+
+pub returns-clause-blamed : goal.returns-clause-blamed
+returns-clause-blamed c = rw (← c.self.view_is) c.self.invariant.blamed

@@ -1,0 +1,5 @@
+mod EachLemmas
+mod FiveLemmas
+pub mod RisingLemmas
+mod ShownLemmas
+mod VerdictLemmas

@@ -1,0 +1,44 @@
+//! The started bricks and the objects on them, as they stand after a log.
+ghost use Rattle.std.specs.Prelude.{◌≡◌, ◌++◌, ◌≤◌, List, OnOk, string_bytes};
+ghost use Rattle.afr_lines.specs.declared.line.Line.{Line};
+ghost use Rattle.afr_model.specs.ReportHealers.{info_of};
+ghost use Rattle.afr_model.specs.Report.{started_bricks};
+ghost use Rattle.afr_info.specs.Rising.{IsRising};
+ghost use Rattle.afr_info.specs.Shown.{HoldTables, info_shown};
+
+use crate::objects::push_objects;
+use crate::reach::push_reach;
+use afr_base::{BrickSet, NoMemory};
+use afr_brick::Brick;
+use afr_plan::Plan;
+
+/// Adds what needs heal, where the bricks hold the tables that a log has made. It walks the objects
+/// of each started brick once, and takes O(log n) more for each object with a number above 0 on a
+/// brick of n objects. It doesn't read the log.
+pub fn print_info(
+    out: &mut String,
+    plan: &Plan,
+    bricks: &[Brick],
+    started: BrickSet,
+) -> Result<(), NoMemory>
+    requires few { plan.now.shape.n ≤ 5 }
+    requires rising { IsRising 0 started }
+    ensures ok { (log : List Line) → started ≡ started_bricks plan.now.shape.n log → HoldTables plan.now log started bricks.now
+        → OnOk result (string_bytes out.new ≡ string_bytes out.old ++ info_of plan.now log) }
+{
+    push_shown(out, plan, bricks, started)
+}
+
+fn push_shown(
+    out: &mut String,
+    plan: &Plan,
+    bricks: &[Brick],
+    started: BrickSet,
+) -> Result<(), NoMemory>
+    requires few { plan.now.shape.n ≤ 5 }
+    requires rising { IsRising 0 started }
+    ensures ok { OnOk result (string_bytes out.new ≡ string_bytes out.old ++ info_shown plan.now bricks.now started) }
+{
+    push_reach(out, plan.shape.n, started)?;
+    push_objects(out, plan, bricks, started)
+}

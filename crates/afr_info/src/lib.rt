@@ -1,0 +1,14 @@
+//! What needs heal, as text: the started bricks, and each object that may need heal with its verdicts and values.
+#![tactic(auto)]
+
+mod info;
+mod looking;
+mod marked;
+mod marks;
+mod objects;
+mod reach;
+mod text;
+mod verdicts;
+
+pub use info::print_info;
+pub use text::{kind_word, push_gfid, push_word};

@@ -1,0 +1,102 @@
+//! How far each healer has come, and its rounds that have ended, with their heals.
+ghost use Rattle.std.specs.Prelude.{◌≡◌, ◌++◌, ◌<◌, ◌≤◌, OnOk, Some, length, reverse, string_bytes};
+ghost use Rattle.afr_model.specs.ReportHealers.{healer_text, healers_text, rounds_lines};
+ghost use Rattle.afr_report.specs.Heals.{healer_head, round_with};
+
+use crate::heals::push_heal;
+use crate::progress::{Progress, progress_of, reply_by, standing};
+use crate::replies::push_reply;
+use afr_base::{ActorId, NoMemory};
+use afr_lines::{Line, Reply};
+use afr_plan::{RoundList, Words};
+
+/// Adds the texts of all healers. Healer 1 has the first rounds.
+pub fn push_healers(
+    out: &mut String,
+    words: &Words,
+    healers: &[RoundList],
+    log: &[Line],
+) -> Result<(), NoMemory>
+    requires few { length healers.now ≤ 3 }
+    ensures ok { OnOk result (string_bytes out.new ≡ string_bytes out.old ++ healers_text words.now 17 healers.now (reverse log.now)) }
+{
+    let mut healer = 17;
+    for rounds in healers {
+        push_healer(out, words, ActorId(healer), rounds, log)?;
+        healer += 1;
+    }
+    Ok(())
+}
+
+fn push_healer(
+    out: &mut String,
+    words: &Words,
+    healer: ActorId,
+    rounds: &RoundList,
+    log: &[Line],
+) -> Result<(), NoMemory>
+    requires healer { 16 < healer.0 }
+    ensures ok { OnOk result (string_bytes out.new ≡ string_bytes out.old ++ healer_text words.now healer.0 rounds.now (reverse log.now)) }
+{
+    let progress = progress_of(healer, log);
+    push_healer_head(out, healer, progress, rounds.len())?;
+    push_rounds(out, words, healer, log)
+}
+
+fn push_healer_head(
+    out: &mut String,
+    healer: ActorId,
+    progress: Progress,
+    rounds: usize,
+) -> Result<(), NoMemory>
+    requires healer { 16 < healer.0 }
+    ensures ok { OnOk result (string_bytes out.new ≡ string_bytes out.old ++ healer_head healer.0 progress.dead progress.done rounds) }
+{
+    let number = healer.0 - 16;
+    let Progress { done, dead } = progress;
+    let standing = standing(dead, done, rounds);
+    write!(out, "h{number} {done} of {rounds}{standing}\n")?;
+    Ok(())
+}
+
+/// Adds each round that has ended and its heals, in one pass over the log.
+fn push_rounds(
+    out: &mut String,
+    words: &Words,
+    healer: ActorId,
+    log: &[Line],
+) -> Result<(), NoMemory>
+    ensures ok { OnOk result (string_bytes out.new ≡ string_bytes out.old ++ rounds_lines words.now healer.0 (reverse log.now)) }
+{
+    let mut before = 0;
+    let mut heals = String::new(*out.allocator());
+    for line in log {
+        if let Some(reply) = reply_by(healer, line) {
+            push_round(out, words, before, reply, heals.as_str())?;
+            heals.clear();
+            before += 1;
+        } else {
+            push_heal(&mut heals, healer, line)?;
+        }
+    }
+    Ok(())
+}
+
+/// Adds the line of the round that comes after `before` others, and those of its heals.
+fn push_round(
+    out: &mut String,
+    words: &Words,
+    before: usize,
+    reply: &Reply,
+    heals: &str,
+) -> Result<(), NoMemory>
+    requires room { before < usize.MAX }
+    ensures ok { OnOk result (string_bytes out.new ≡ string_bytes out.old ++ round_with words.now before reply.now heals.now) }
+{
+    let number = before + 1;
+    write!(out, "{number} round ")?;
+    push_reply(out, words, reply)?;
+    out.push_str("\n")?;
+    out.push_str(heals)?;
+    Ok(())
+}

@@ -1,0 +1,69 @@
+//! How far an actor has come.
+ghost use Rattle.std.specs.Prelude.{◌≡◌, reverse};
+ghost use Rattle.std.specs.Option.{option_copied};
+ghost use Rattle.afr_lines.specs.Work.{ended, is_killed, kills, reply_by};
+ghost use Rattle.afr_model.specs.Report.{standing};
+
+use afr_base::ActorId;
+use afr_lines::{Event, Line, Reply};
+
+/// How many works of an actor have ended, and whether it was killed.
+#[derive(Clone, Copy)]
+pub struct Progress {
+    pub done: usize,
+    pub dead: bool,
+}
+
+/// How far the actor has come, in one pass over the log.
+pub fn progress_of(actor: ActorId, log: &[Line]) -> Progress
+    ensures done { result.done ≡ ended actor.0 (reverse log.now) }
+    ensures dead { result.dead ≡ is_killed actor.0 (reverse log.now) }
+{
+    let mut done = 0;
+    let mut dead = false;
+    for line in log {
+        if reply_by(actor, line).is_some() {
+            done += 1;
+        }
+        dead = kills(actor, line) || dead;
+    }
+    Progress { done, dead }
+}
+
+/// What stands behind the numbers of an actor that isn't done.
+pub fn standing(dead: bool, done: usize, works: usize) -> &'static str
+    ensures { result.now ≡ standing dead done works }
+{
+    if dead {
+        " dead"
+    } else if done < works {
+        " unfinished"
+    } else {
+        ""
+    }
+}
+
+/// What the line answers a work of the actor.
+pub fn reply_by(actor: ActorId, line: &Line) -> Option<&Reply>
+    ensures { option_copied result ≡ reply_by actor.0 line.now }
+{
+    match line {
+        Line::End { actor: by, reply } => { if *by == actor { Some(reply) } else { None } }
+        Line::Ask { .. } => None,
+        Line::Begin { .. } => None,
+        Line::HealBegin { .. } => None,
+        Line::HealEnd { .. } => None,
+        Line::Event { .. } => None,
+    }
+}
+
+fn kills(actor: ActorId, line: &Line) -> bool
+    ensures { result ≡ kills actor.0 line.now }
+{
+    match line {
+        Line::Event {
+            event: Event::Kill(killed),
+        } => *killed == actor,
+        _ => false,
+    }
+}

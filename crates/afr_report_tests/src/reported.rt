@@ -1,0 +1,76 @@
+//! The report of a plan and a log, over bricks that a replay of the log makes.
+ghost use Rattle.std.specs.Prelude.{◌≡◌, true, reverse};
+ghost use Rattle.afr_report.specs.BrickLines.{AreBrickLines, IsBrickEvent, IsBrickLine};
+
+use afr_base::BrickId;
+use afr_brick::Brick;
+use afr_lines::{Event, Line};
+use afr_plan::Plan;
+use afr_replay::{Unfit, tables};
+use afr_report::{print_report, started};
+use std::alloc::Global;
+
+/// Whether the report has this text.
+pub fn reports(alloc: Global, plan: &Plan, log: &[Line], text: &str) -> Result<bool, Unfit> {
+    if plan.shape.n > 5 || plan.clients.len() > 16 || plan.healers.len() > 3 {
+        return Ok(false);
+    }
+    if !has_brick_lines(log) {
+        return Ok(false);
+    }
+    let bricks = replayed(alloc, plan, log)?;
+    let started = started(plan.shape.n, log);
+    let report = print_report(alloc, plan, log, started, &bricks)?;
+    Ok(report.as_str() == text)
+}
+
+fn replayed(alloc: Global, plan: &Plan, log: &[Line]) -> Result<Vec<Brick>, Unfit> {
+    let mut bricks = Vec::new(alloc);
+    for brick in 0..plan.shape.n {
+        put(&mut bricks, tables(alloc, plan, log, BrickId(brick))?)?;
+    }
+    Ok(bricks)
+}
+
+fn put(bricks: &mut Vec<Brick>, brick: Brick) -> Result<(), Unfit> {
+    match bricks.push(brick) {
+        Ok(()) => Ok(()),
+        Err(_) => Err(Unfit::NoMemory),
+    }
+}
+
+fn has_brick_lines(log: &[Line]) -> bool
+    ensures { result ≡ true → AreBrickLines (reverse log.now) }
+{
+    for line in log {
+        if !is_brick_line(line) {
+            return false;
+        }
+    }
+    true
+}
+
+fn is_brick_line(line: &Line) -> bool
+    ensures { result ≡ true → IsBrickLine line.now }
+{
+    match line {
+        Line::Event { event } => is_brick_event(*event),
+        Line::Ask { .. } => true,
+        Line::Begin { .. } => true,
+        Line::HealBegin { .. } => true,
+        Line::End { .. } => true,
+        Line::HealEnd { .. } => true,
+    }
+}
+
+fn is_brick_event(event: Event) -> bool
+    ensures { result ≡ true → IsBrickEvent event }
+{
+    match event {
+        Event::Stop(brick) => brick.0 < 5,
+        Event::Start(brick) => brick.0 < 5,
+        Event::Cut(_, _) => true,
+        Event::Join(_, _) => true,
+        Event::Kill(_) => true,
+    }
+}
