@@ -1,3 +1,5 @@
+pub mod AboutLemmas
+pub mod NameLemmas
 pub mod LastLemmas
 pub mod SeenLemmas
 pub mod SetLemmas
