@@ -1,6 +1,7 @@
 pub mod Alike
 pub mod Answers
 pub mod About
+pub mod Ended
 pub mod Freshness
 pub mod Last
 pub mod Naming

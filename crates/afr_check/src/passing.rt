@@ -105,7 +105,7 @@ fn refuses_read(line: &Line) -> bool
     }
 }
 
-fn is_fault(told: Told) -> bool
+pub(crate) fn is_fault(told: Told) -> bool
     ensures { result ≡ is_fault told }
 {
     matches!(told, Told::Failed | Told::NotConnected)
