@@ -1,3 +1,6 @@
+pub mod AboutLemmas
+pub mod NameLemmas
+pub mod EndedLemmas
 pub mod LastLemmas
 pub mod SeenLemmas
 pub mod SetLemmas

@@ -1,6 +1,11 @@
 pub mod Alike
-pub mod Closing
+pub mod Answers
+pub mod About
+pub mod Ended
 pub mod Freshness
 pub mod Last
+pub mod Naming
+pub mod Passing
+pub mod Phases
 pub mod Readings
 pub mod Telling

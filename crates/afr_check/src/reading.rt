@@ -46,7 +46,7 @@ pub(crate) fn path_by(alloc: Global, plan: &Plan, log: &[Line], a: ActorId) -> R
     Ok(path)
 }
 
-fn at_root() -> Path
+pub(crate) fn at_root() -> Path
     ensures { path_seen result ≡ SpecAt 0 root_entry }
 {
     let object = Entry {
@@ -56,7 +56,7 @@ fn at_root() -> Path
     Path::At(0, object)
 }
 
-fn path_after(
+pub(crate) fn path_after(
     alloc: Global,
     plan: &Plan,
     path: Path,

@@ -1,13 +1,12 @@
-//! What the lines of an actor's present work show: its looks, and the bricks that did each phase.
+//! What the looks of an actor's present work show.
 ghost use Rattle.std.specs.Prelude.{◌≡◌, Bool, reverse, IfOk};
-ghost use Rattle.afr_base.specs.Bricks.{added_if};
-ghost use Rattle.afr_lines.specs.Areas.{object_of_area};
 ghost use Rattle.afr_lines.specs.Work.{work};
-ghost use Rattle.afr_model.specs.Showing.{among, granting, is_done, is_granted, look_shows, looked_after, looked_by, posted};
+ghost use Rattle.afr_model.specs.Showing.{look_shows, looked_after, looked_by};
 
-use afr_base::{ActorId, BrickId, BrickSet, Gfid};
+use crate::areas::object_of_area;
+use afr_base::{ActorId, BrickId, Gfid};
 use afr_choice::Looked;
-use afr_lines::{Area, Line, Request, Told};
+use afr_lines::{Line, Request, Told};
 use afr_range_locks::Domain;
 use afr_replay::{Unfit, is_end, is_of};
 
@@ -85,104 +84,4 @@ fn look_shows(b: BrickId, told: Told, looked: Looked) -> Result<Looked, Unfit>
         _ => looked.lose(b),
     }
     Ok(looked)
-}
-
-fn object_of_area(area: &Area) -> Gfid
-    ensures { result ≡ object_of_area area.now }
-{
-    match area {
-        Area::Range { gfid, .. } => *gfid,
-        Area::Name { gfid, .. } => *gfid,
-    }
-}
-
-/// The bricks that granted the last lock on the object that was asked of them.
-pub(crate) fn granting_by(log: &[Line], a: ActorId, g: Gfid) -> Result<BrickSet, Unfit>
-    ensures ok { IfOk result (λ bricks. bricks ≡ among (granting g) (work a.0 (reverse log.now))) }
-{
-    let mut bricks = BrickSet::none();
-    for line in log {
-        if is_of(a, line) {
-            bricks = if is_end(line) {
-                BrickSet::none()
-            } else {
-                granting(bricks, g, line)?
-            };
-        }
-    }
-    Ok(bricks)
-}
-
-fn granting(bricks: BrickSet, g: Gfid, line: &Line) -> Result<BrickSet, Unfit>
-    ensures ok { IfOk result (λ after. after ≡ granting g line.now bricks) }
-{
-    match line {
-        Line::Ask {
-            brick,
-            request: Request::Lock {
-                domain: Domain::Work,
-                area,
-            },
-            told,
-            ..
-        } => with_if(
-            bricks,
-            object_of_area(area) == g && is_granted(*told),
-            *brick,
-        ),
-        _ => Ok(bricks),
-    }
-}
-
-fn with_if(bricks: BrickSet, flag: bool, b: BrickId) -> Result<BrickSet, Unfit>
-    ensures ok { IfOk result (λ after. after ≡ added_if flag b.0 bricks) }
-{
-    if b.0 >= 5 {
-        return Err(Unfit::TooMuch);
-    }
-    Ok(bricks.with_if(flag, b))
-}
-
-/// The bricks that closed the attempt.
-pub(crate) fn posted_by(log: &[Line], a: ActorId) -> Result<BrickSet, Unfit>
-    ensures ok { IfOk result (λ bricks. bricks ≡ among posted (work a.0 (reverse log.now))) }
-{
-    let mut bricks = BrickSet::none();
-    for line in log {
-        if is_of(a, line) {
-            bricks = if is_end(line) {
-                BrickSet::none()
-            } else {
-                posted(bricks, line)?
-            };
-        }
-    }
-    Ok(bricks)
-}
-
-fn posted(bricks: BrickSet, line: &Line) -> Result<BrickSet, Unfit>
-    ensures ok { IfOk result (λ after. after ≡ posted line.now bricks) }
-{
-    match line {
-        Line::Ask {
-            brick,
-            request: Request::Post { .. },
-            told,
-            ..
-        } => with_if(bricks, is_done(*told), *brick),
-        Line::Begin { .. } => Ok(BrickSet::none()),
-        _ => Ok(bricks),
-    }
-}
-
-fn is_granted(told: Told) -> bool
-    ensures { result ≡ is_granted told }
-{
-    matches!(told, Told::Granted)
-}
-
-fn is_done(told: Told) -> bool
-    ensures { result ≡ is_done told }
-{
-    matches!(told, Told::Done)
 }

@@ -82,7 +82,7 @@ fn apply_told(brick: &Brick, attempt: u32, older: &[Line]) -> Told
 }
 
 /// The object that a change is of: for a name, its directory.
-fn object_of(change: &Change) -> Gfid
+pub(crate) fn object_of(change: &Change) -> Gfid
     ensures { result ≡ object_of change.now }
 {
     match change {

@@ -4,7 +4,8 @@ ghost use Rattle.afr_base.specs.Bricks.{IsWithin};
 
 use afr_base::{ActorId, AllMarks, BrickId, BrickSet, Gfid, Kind, NameId, Shape, What};
 use afr_check::{
-    accuses, fresh_in_each_cell, is_current, is_fresh_at, is_good_copy, is_honest, reply_of,
+    accuses, an_end_is_caused_and_ends_well, answer, fresh_in_each_cell, is_current, is_fresh_at,
+    is_good_copy, is_honest, refusal, reply_of,
 };
 use afr_faults::Fault;
 use afr_lines::{Area, Event, Good, Line, Reply, Request, Told};
@@ -438,15 +439,29 @@ fn a_post_op_without_a_pre_op_is_too_much(rt: HostRuntime) -> Result<(), Fail> {
     Ok(())
 }
 
-/// The reply to a write of the byte 7.
-fn replied(alloc: Global, log: &[Line]) -> Result<Option<Reply>, Fail> {
+/// A write of the byte 7.
+fn write_of_7(alloc: Global) -> Result<Command, Fail> {
     let mut path = List::new(alloc);
     path.push(NameId(0)).ok().ok_or("memory")?;
     let mut bytes = List::new(alloc);
     bytes.push(7u8).ok().ok_or("memory")?;
-    let command = Command::Write { path, at: 0, bytes };
+    Ok(Command::Write { path, at: 0, bytes })
+}
+
+/// The reply to such a write.
+fn replied(alloc: Global, log: &[Line]) -> Result<Option<Reply>, Fail> {
+    let command = write_of_7(alloc)?;
     let plan = plan(alloc);
     Ok(reply_of(alloc, &plan, &command, log, WRITER).ok().flatten())
+}
+
+/// Whether nothing refuses such a write, and it answers ok.
+fn goes_through(alloc: Global, log: &[Line]) -> Result<bool, Fail> {
+    let command = write_of_7(alloc)?;
+    let plan = plan(alloc);
+    let refused = refusal(alloc, &plan, &command, log, WRITER);
+    let answered = answer(alloc, &plan, &command, log, WRITER);
+    Ok(matches!(refused, Ok(None)) && matches!(answered, Ok(Some(Reply::Ok(Good::Done)))))
 }
 
 #[test]
@@ -458,6 +473,9 @@ fn a_write_is_ok_where_a_majority_closed_it(rt: HostRuntime) -> Result<(), Fail>
         Some(Reply::Ok(Good::Done))
     );
     assert!(rt; ok);
+    let through = goes_through(rt.alloc(), log.as_slice())?;
+    assert!(rt; through);
+    an_end_is_caused_and_ends_well();
     log.pop();
     let failed = matches!(replied(rt.alloc(), log.as_slice())?, Some(Reply::Failed));
     assert!(rt; failed);

@@ -28,6 +28,12 @@ pub enum Mistake {
     MergedOverAccusedNames,
     WentOnAfterTheSourceWasAccused,
     SettledBeyondWhatWasSeen,
+    ReadsAnotherRange,
+    ListsInPlaceOfReading,
+    TriesARefusedReadAgain,
+    LocksOnTheWay,
+    WalksPastAMissingMajority,
+    AnswersWithoutAsking,
 }
 
 /// The log of a worked plan.
@@ -43,6 +49,12 @@ pub fn worked_of(mistake: Mistake) -> Worked {
         Mistake::MergedOverAccusedNames => Worked::RemovedNameStaysRemoved,
         Mistake::WentOnAfterTheSourceWasAccused => Worked::LostAnswerThenHeal,
         Mistake::SettledBeyondWhatWasSeen => Worked::LostAnswerThenHeal,
+        Mistake::ReadsAnotherRange => Worked::WriteAndRead,
+        Mistake::ListsInPlaceOfReading => Worked::WriteAndRead,
+        Mistake::TriesARefusedReadAgain => Worked::WriteAndRead,
+        Mistake::LocksOnTheWay => Worked::WriteAndRead,
+        Mistake::WalksPastAMissingMajority => Worked::OneBrickAway,
+        Mistake::AnswersWithoutAsking => Worked::WriteAndRead,
     }
 }
 
@@ -75,5 +87,11 @@ fn changed(mistake: Mistake) -> &'static str {
             lost_answer_then_heal::WENT_ON_AFTER_THE_SOURCE_WAS_ACCUSED
         }
         Mistake::SettledBeyondWhatWasSeen => lost_answer_then_heal::SETTLED_BEYOND_WHAT_WAS_SEEN,
+        Mistake::ReadsAnotherRange => write_and_read::READS_ANOTHER_RANGE,
+        Mistake::ListsInPlaceOfReading => write_and_read::LISTS_IN_PLACE_OF_READING,
+        Mistake::TriesARefusedReadAgain => write_and_read::TRIES_A_REFUSED_READ_AGAIN,
+        Mistake::LocksOnTheWay => write_and_read::LOCKS_ON_THE_WAY,
+        Mistake::WalksPastAMissingMajority => one_brick_away::WALKS_PAST_A_MISSING_MAJORITY,
+        Mistake::AnswersWithoutAsking => write_and_read::ANSWERS_WITHOUT_ASKING,
     }
 }

@@ -25,3 +25,6 @@ pub(crate) const TRACE: &str = "\
 
 /// Brick 1 is looked at in place of its post-op, and the write is acknowledged all the same.
 pub(crate) const ACKNOWLEDGED_AFTER_ONE_POST: &str = "16 c1 b1 look f1 seen file 5 data 1 0 0 0";
+
+/// Brick 1 refuses its look at the root as well, and the name is read all the same.
+pub(crate) const WALKS_PAST_A_MISSING_MAJORITY: &str = "2 c1 b1 look g1 failed";

@@ -174,6 +174,7 @@ fn ended(
         Some("ok") => ended_ok(alloc, actor, words.next()),
         Some("no-entry") => Ok(end(actor, Reply::NoEntry)),
         Some("failed") => Ok(end(actor, Reply::Failed)),
+        Some("no-quorum") => Ok(end(actor, Reply::NoQuorum)),
         Some("split-brain") => ended_split(actor, words, older).ok_or(NoLog::NoLine),
         Some(kind) => heal_ended(actor, kind, words).ok_or(NoLog::NoLine),
         None => Err(NoLog::NoLine),

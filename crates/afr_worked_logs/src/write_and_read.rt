@@ -35,3 +35,18 @@ pub(crate) const TRACE: &str = "\
 31 c1 b0 read f1[0,5) ok
 32 c1 end ok 68656c6c6f
 ";
+
+/// The read asks for other bytes than the command names.
+pub(crate) const READS_ANOTHER_RANGE: &str = "31 c1 b0 read f1[1,6) ok";
+
+/// The command reads bytes, and a list is asked for.
+pub(crate) const LISTS_IN_PLACE_OF_READING: &str = "31 c1 b0 list f1 ok";
+
+/// Brick 0 refuses the read, in place of the last look, and is asked once more.
+pub(crate) const TRIES_A_REFUSED_READ_AGAIN: &str = "30 c1 b0 read f1[0,5) failed";
+
+/// A range of the root is locked, in place of reading the name.
+pub(crate) const LOCKS_ON_THE_WAY: &str = "3 c1 b0 lock g1[0,5) granted";
+
+/// The first command has no quorum before it has asked a brick.
+pub(crate) const ANSWERS_WITHOUT_ASKING: &str = "0 c1 end no-quorum";

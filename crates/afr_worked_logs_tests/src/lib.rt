@@ -2,4 +2,6 @@
 #![tactic(auto)]
 
 #[cfg(test)]
+mod strays;
+#[cfg(test)]
 mod tests;

@@ -1,7 +1,0 @@
-use Rattle.std.proofs.Common.{◌≡◌, take, reverse}
-use Rattle.afr_lines.specs.Work.{work}
-use Rattle.afr_model.specs.Showing.{among, granting}
-use Rattle.afr_check.proofs.showing.granting_by.Given as goal
-
-abbrev pub invariant-loop-line : goal.invariant-loop-line
-invariant-loop-line l = l.bricks ≡ among (granting l.g) (work l.a.0 (reverse (take l.line-index l.log)))
