@@ -1,7 +1,9 @@
-//! A walk of one name, from its first look to where the name leads.
-use afr_base::{AllMarks, BrickId, Gfid, NameId, Shape, What};
-use afr_lines::{Answer, Reply, Request};
-use afr_object::{Entry, View};
+//! A walk of one name, from its first look to the copy that the name is read from.
+ghost use Rattle.afr_walk.specs.Walk.{IsWalk};
+
+use afr_base::{AllMarks, BrickId, NameId, Shape, What};
+use afr_lines::{Answer, Reply};
+use afr_object::View;
 use afr_walk::{Stop, Walk, WalkStep, stop_reply};
 use std::alloc::Global;
 
@@ -13,8 +15,18 @@ fn clean() -> Answer {
     })
 }
 
-/// A walk of one name on three bricks, whose looks were answered by the first two alone.
-fn looked_at(alloc: Global) -> Option<Walk> {
+fn hears(walk: &mut Walk, answer: &Answer)
+    requires { IsWalk walk.old }
+    ensures { IsWalk walk.new }
+{
+    match walk.step {
+        WalkStep::Looking(_) => walk.hear(answer, 3),
+        _ => {}
+    }
+}
+
+/// A walk of one name on three bricks; the last two have answered its looks.
+fn looked_at(alloc: Global) -> Option<WalkStep> {
     let shape = Shape {
         n: 3,
         arbiter: false,
@@ -23,22 +35,15 @@ fn looked_at(alloc: Global) -> Option<Walk> {
     hears(&mut walk, &Answer::NotConnected);
     hears(&mut walk, &clean());
     hears(&mut walk, &clean());
-    Some(walk)
-}
-
-fn hears(walk: &mut Walk, answer: &Answer) {
-    if matches!(walk.step, WalkStep::Looking(_) | WalkStep::Naming(_)) {
-        walk.hear(answer, 3);
-    }
+    Some(walk.step)
 }
 
 #[test]
 fn a_name_is_read_at_the_lowest_good_copy(rt: HostRuntime) {
-    let walk = looked_at(rt.alloc());
-    assert!(rt;
-        matches!(
-            walk.map(|walk| walk.step),
-            Some(WalkStep::Naming(BrickId(1)))
-        )
-    );
+    assert!(rt; matches!(looked_at(rt.alloc()), Some(WalkStep::Naming(BrickId(1)))));
+}
+
+#[test]
+fn a_stop_has_its_reply(rt: HostRuntime) {
+    assert!(rt; matches!(stop_reply(Stop::NoQuorum), Reply::NoQuorum));
 }
