@@ -1,0 +1,4 @@
+pub mod LooksSame
+pub mod LooksMore
+pub mod Quiet
+pub mod Walking

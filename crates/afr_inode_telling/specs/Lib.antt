@@ -1,0 +1,5 @@
+pub mod Lines
+pub mod Looks
+pub mod WalkTelling
+pub mod ReadTelling
+pub mod ReadLaws

@@ -1,0 +1,6 @@
+//! What the lines of a work tell of the machine that wrote them: laws of walks and reads.
+#![tactic(auto)]
+
+mod reads;
+
+pub use reads::a_lookup_tells_its_lines;
