@@ -12,19 +12,16 @@ use Rattle.afr_choice.specs.declared.looked.Looked.{Looked}
 use Rattle.afr_choice.specs.declared.verdict.Verdict.{Verdict}
 use Rattle.afr_choice.specs.declared.verdict.Verdict.TheVariants.{Short, Bare, Split, Sources}
 use Rattle.afr_discipline.specs.Notes.{noted_ask}
-use Rattle.afr_discipline.specs.declared.register.Register.{Register}
 use Rattle.afr_lines.specs.Told.{told_by}
 use Rattle.afr_lines.specs.declared.answer.Answer.{Answer}
 use Rattle.afr_lines.specs.declared.answer.Answer.TheVariants as answer
 use Rattle.afr_lines.specs.declared.answer.Told.{Told}
-use Rattle.afr_lines.specs.declared.line.Next.{Next}
-use Rattle.afr_lines.specs.declared.line.Next.TheVariants as next
 use Rattle.afr_lines.specs.declared.reply.Good.TheVariants.{Bytes as BytesGood}
 use Rattle.afr_lines.specs.declared.reply.Reply.TheVariants.{Ok as OkReply, IsDir, NotDir}
 use Rattle.afr_lines.specs.declared.request.Request.{Request}
 use Rattle.afr_walk.specs.Free.{Allows, is_free}
 use Rattle.afr_walk.specs.Looks.{no_look, left_to_look, heard_look}
-use Rattle.afr_walk.specs.Walk.{next_in, noted, walked, walked_at, named, is_walking, IsWalk}
+use Rattle.afr_walk.specs.Walk.{next_in, noted, walked, walked_at, IsWalk}
 use Rattle.afr_walk.specs.declared.looks.Looks.{Looks}
 use Rattle.afr_walk.specs.declared.walk.Walk.{Walk}
 use Rattle.afr_walk.specs.declared.walk.WalkStep.{WalkStep}
@@ -33,7 +30,7 @@ use Rattle.afr_walk.proofs.FreeLemmas.{allows_free, allows_end}
 use Rattle.afr_walk.proofs.WalkLemmas.{HasLow, low, asks_allowed, asks_free, asked_below, heard_within, is_noted, is_walked, no_look_is}
 use Rattle.afr_inode_read.specs.Job.{kind_of, request_of}
 use Rattle.afr_inode_read.specs.Laws.{AllowedNext, NotesEach, StaysSound}
-use Rattle.afr_inode_read.specs.Lookup.{Lookup, IsLookup, IsStage, after_step, after_walk, answered, asked_at, at_object, from_copy, is_asking, next_at, object_judged, object_looked, stage_after, walk_after}
+use Rattle.afr_inode_read.specs.Lookup.{IsLookup, IsStage, after_step, after_walk, asked_at, at_object, from_copy, is_asking, next_at, object_judged, object_looked, stage_after, walk_after}
 use Rattle.afr_inode_read.specs.declared.job.Content.{Content}
 use Rattle.afr_inode_read.specs.declared.job.Content.TheVariants as content
 use Rattle.afr_inode_read.specs.declared.job.LookupJob.{LookupJob}

@@ -1,8 +1,8 @@
 -- What one more look does to looks that agree.
-use Rattle.std.proofs.Common.{◌≡◌, ◌≢◌, ℕ, zero, suc, ◌<◌, ◌≤◌, ◌==◌, ◌||◌, ◌&&◌, not, Bool, true, false, List, [], ◌∷◌, Option, None, Some, length, refl, sym, ap, ◌∙◌, subst, arith, inl, inr}
+use Rattle.std.proofs.Common.{◌≡◌, ◌≢◌, ℕ, zero, suc, ◌<◌, ◌≤◌, ◌==◌, ◌||◌, Bool, true, false, List, Option, None, Some, length, refl, sym, ◌∙◌, subst, arith}
 use Rattle.std.proofs.lemmas.Bool.Decides.{nat_tests}
 use Rattle.std.proofs.lemmas.Bool.{eqb-true}
-use Rattle.afr_base.specs.Bricks.{added, below, lowest, member, minus, removed, is_nothing}
+use Rattle.afr_base.specs.Bricks.{added, below, lowest, member, removed, is_nothing}
 use Rattle.afr_base.specs.SetLemmas.{member_added, member_removed, none_left, below_all}
 use Rattle.afr_object.specs.declared.entry.View.{View}
 use Rattle.afr_choice.specs.Looks.{no_looks, view_at, with_look, without_look}

@@ -1,9 +1,9 @@
 -- The lines of a work show where its walk stands, and each line is about the command.
-use Rattle.std.proofs.Common.{◌≡◌, ◌≢◌, ℕ, suc, ◌+◌, ◌<◌, ◌≤◌, ◌==◌, ◌||◌, ◌&&◌, nat_lt, nat_le, Bool, true, false, List, [], ◌∷◌, Option, Some, None, length, refl, sym, ap, ◌∙◌, subst, arith, if◌then◌else◌, inl, inr, ◌⊎◌}
+use Rattle.std.proofs.Common.{◌≡◌, ◌≢◌, ℕ, ◌+◌, ◌<◌, ◌≤◌, ◌==◌, nat_lt, nat_le, Bool, true, false, List, [], ◌∷◌, Option, Some, None, length, refl, sym, ap, ◌∙◌, subst, arith, if◌then◌else◌, inl, inr, ◌⊎◌}
 use Rattle.std.specs.BTreeMap.{is_at}
 use Rattle.std.specs.Map.{lookup}
 use Rattle.std.proofs.lemmas.Bool.Decides.{nat_tests, eqb_tells}
-use Rattle.afr_base.specs.Bricks.{added, lowest, is_nothing, member}
+use Rattle.afr_base.specs.Bricks.{lowest, is_nothing, member}
 use Rattle.afr_base.specs.SetLemmas.{lowest_in}
 use Rattle.afr_base.specs.declared.ids.ActorId.{ActorId}
 use Rattle.afr_base.specs.declared.ids.BrickId.{BrickId}
@@ -14,7 +14,6 @@ use Rattle.afr_base.specs.declared.ids.NameId.{NameId}
 use Rattle.afr_base.specs.declared.ids.Shape.{Shape}
 use Rattle.afr_object.specs.Tables.{is_dir, copy_at, name_cmp}
 use Rattle.afr_object.specs.declared.entry.Entry.{Entry}
-use Rattle.afr_object.specs.declared.entry.View.{View}
 use Rattle.afr_object.specs.declared.object.Object.{Object}
 use Rattle.afr_choice.specs.Verdict.{verdict_of, good_copies}
 use Rattle.afr_choice.specs.VerdictLemmas.{sources_say}
@@ -32,34 +31,31 @@ use Rattle.afr_lines.specs.declared.line.Line.TheVariants.{Ask}
 use Rattle.afr_lines.specs.declared.reply.Reply.{Reply}
 use Rattle.afr_lines.specs.declared.reply.Reply.TheVariants as reply
 use Rattle.afr_lines.specs.declared.request.Area.{Area}
-use Rattle.afr_lines.specs.declared.request.Request.{Request}
 use Rattle.afr_lines.specs.declared.request.Request.TheVariants.{Look, ReadName}
 use Rattle.afr_plan.specs.declared.command.Command.{Command}
 use Rattle.afr_plan.specs.declared.command.Command.TheVariants as command
 use Rattle.afr_plan.specs.declared.plan.Plan.{Plan}
-use Rattle.afr_model.specs.Answered.{IsAbout, LooksHere, MayRead, is_by_views}
+use Rattle.afr_model.specs.Answered.{IsAbout}
 use Rattle.afr_model.specs.Commands.{path_of, is_on_name, is_rmdir, steps_of}
 use Rattle.afr_model.specs.Honest.{copy_answer}
-use Rattle.afr_model.specs.Refusals.{or_else, read_refused, by_looks, by_path, refusal, too_large, without_source}
-use Rattle.afr_model.specs.Showing.{Path, At, among, has, looked_by, looking, looks_at, one_name, path_by, refuses_read}
+use Rattle.afr_model.specs.Refusals.{or_else, read_refused, by_looks, by_path, too_large, without_source}
+use Rattle.afr_model.specs.Showing.{Path, At, among, has, looked_by, looking, path_by, refuses_read}
 use Rattle.afr_model.specs.Skipped.{AsksAll}
 use Rattle.afr_model.specs.Standing.{area_here, looks_here, place_by}
 use Rattle.afr_model.specs.Tables.{entry_at, entry_in, holds}
-use Rattle.afr_walk.specs.Free.{is_free}
 use Rattle.afr_walk.specs.Looks.{no_look, left_to_look, heard_look, IsLooks}
-use Rattle.afr_walk.specs.Stops.{reply_of}
 use Rattle.afr_walk.specs.Walk.{root_entry, step_at, walk_from, is_walking, name_in, next_at, next_in, verdict_step, after_looks, named, noted, walked, walked_at, IsStep, IsWalk}
 use Rattle.afr_walk.specs.declared.looks.Looks.{Looks}
 use Rattle.afr_walk.specs.declared.stop.Stop.TheVariants as stop
 use Rattle.afr_walk.specs.declared.walk.Walk.{Walk}
 use Rattle.afr_walk.specs.declared.walk.WalkStep.{WalkStep}
 use Rattle.afr_walk.specs.declared.walk.WalkStep.TheVariants.{Looking, Naming, Arrived, Stopped}
-use Rattle.afr_walk.proofs.WalkLemmas.{asked_below}
-use Rattle.afr_inode_telling.specs.Lines.{CanAnswer, LookedAll, LookedBut, OnlyReads, gives_or_fails}
-use Rattle.afr_inode_telling.specs.Looks.{Agree, IsSource, LooksAgree}
+use Rattle.afr_inode_telling.specs.Lines.{CanAnswer, LookedAll, LookedBut, OnlyReads}
+use Rattle.afr_inode_telling.specs.Looks.{IsSource, LooksAgree}
 use Rattle.afr_inode_telling.specs.WalkTelling.{GoesOn, Stops, TellsAt, WalkTells}
-use Rattle.afr_inode_telling.proofs.LooksMore.{agree_first, agree_more, all_asked, looks_are}
-use Rattle.afr_inode_telling.proofs.Quiet.{all_from_but, begins_none, but_from_all, looked_but_more, looked_more, looking_more, plain_by}
+use Rattle.afr_inode_telling.proofs.LookHeard.{LookTells, look_known, look_line, only_more}
+use Rattle.afr_inode_telling.proofs.LooksMore.{agree_first}
+use Rattle.afr_inode_telling.proofs.Quiet.{begins_none, but_from_all}
 
 -- ---- small facts
 lt_test : (a b : ℕ) → a < b → nat_lt a b ≡ true
@@ -71,16 +67,8 @@ le_test a b h = grind (arith, nat_tests, h)
 differ_test : (a b : ℕ) → a < b → (a == b) ≡ false
 differ_test a b h = grind (arith, nat_tests, h)
 
-pair : (x y : Bool) → x ≡ true → y ≡ true → (x && y) ≡ true
-pair x y h k = rw (h, k) refl
-
--- a look or a read joins a work of looks and reads
-pub only_more : (n : ℕ) (a : ActorId) (b : BrickId) (request : Request) (told : Told) (took : Bool) (log : List Line) (w : Work) → b.0 < n → is_free request ≡ true → OnlyReads n w
-    → OnlyReads n ((Ask a b request told took, log) ∷ w)
-only_more n a b request told took log w low free k = (pair _ _ (lt_test b.0 n low) free, k)
-
 -- ---- where a command stands whose whole path is walked
-rmdir_none : (c : Command) → is_on_name c ≡ false → is_rmdir c ≡ false
+pub rmdir_none : (c : Command) → is_on_name c ≡ false → is_rmdir c ≡ false
 rmdir_none (command.Rmdir path) h = absurd (cc h)
 rmdir_none other h = refl
 
@@ -139,62 +127,41 @@ module _ (p : Plan) (c : Command) (names : List NameId) (few : p.shape.n ≤ 5) 
       let test = before_end c read whole (subst (λ (x : List NameId). read < length x) path l) in
       rw (at, test, dir) refl
 
-  unrefused_is : (w : Work) (next : Option Reply) → has refuses_read w ≡ false → or_else (read_refused w) next ≡ next
+  pub unrefused_is : (w : Work) (next : Option Reply) → has refuses_read w ≡ false → or_else (read_refused w) next ≡ next
   unrefused_is w next e = rw e refl
 
   -- ---- a look
   module _ (read : ℕ) (object : Entry) (lines : Work) (a : ActorId) (took : Bool) (log : List Line) (l : read < length names) (s : Looks) (told : Told) (looks : IsLooks n s) (goes : GoesOn p read object lines) (dir : is_dir object.what ≡ true) (agree : LooksAgree n object.gfid s lines) (but : LookedBut n object.gfid lines) where
-    abbrev asked : BrickId
-    asked = record { 0 = lowest (left_to_look n s) }
-
     abbrev after : Looks
     after = heard_look n told s
 
     abbrev more : Work
-    more = (Ask a asked (Look object.gfid) told took, log) ∷ lines
+    more = look_line p object a took log s told lines
 
-    pub look_goes : GoesOn p read object more
-    look_goes = record { only = only_more n a asked (Look object.gfid) told took log lines (asked_below n s looks.left) refl goes.only; unread = goes.unread; unrefused = goes.unrefused; path = goes.path }
-
-    pub look_agrees : LooksAgree n object.gfid after more
-    look_agrees =
-        subst (λ (x : List ℕ). Agree n after x (looked_by object.gfid more)) (sym (looking_more object.gfid a asked told took log lines))
-        (subst (λ (x : Looked). Agree n after (added asked.0 (among (looking object.gfid) lines)) x) (sym (looked_more object.gfid a asked told took log lines))
-        (agree_more n told s (among (looking object.gfid) lines) (looked_by object.gfid lines) few (asked_below n s looks.left) (plain_by n object.gfid lines few goes.only) agree))
-
-    pub look_but : LookedBut n object.gfid more
-    look_but = looked_but_more n object.gfid a asked told took log lines but
-
-    pub look_own : is_nothing (left_to_look n after) ≡ true → (b : ℕ) → b < n → member (among (looking object.gfid) more) b ≡ true
-    look_own over = all_asked n after (among (looking object.gfid) more) (looked_by object.gfid more) few over look_agrees
-
-    pub look_all : is_nothing (left_to_look n after) ≡ true → LookedAll n more
-    look_all over = all_from_but n object.gfid more look_but (look_own over)
-
-    pub look_same : is_nothing (left_to_look n after) ≡ true → after.looked ≡ looked_by object.gfid more
-    look_same over = looks_are n after (among (looking object.gfid) more) (looked_by object.gfid more) few over (plain_by n object.gfid more few look_goes.only) look_agrees
+    abbrev known : LookTells p read object (after) more
+    known = look_known p few read object lines a took log s told looks goes agree but
 
     look_stops : (over : is_nothing (left_to_look n after) ≡ true) (said : Reply) → without_source (verdict_of p.shape (looked_by object.gfid more) Names) (looked_by object.gfid more).views ≡ Some said → (said ≡ reply.Failed → ⊥) → Stops p c more said
     look_stops over said e other = record {
-      only = look_goes.only;
-      cause = unrefused_is more _ look_goes.unrefused ∙ on_way_dir read object more look_goes.path l dir ∙ e;
-      asked = λ h. asks_all read object more look_goes.path l (look_own over);
+      only = known.goes.only;
+      cause = unrefused_is more _ known.goes.unrefused ∙ on_way_dir read object more known.goes.path l dir ∙ e;
+      asked = λ h. asks_all read object more known.goes.path l (known.own over);
       failed = λ h. absurd (other h);
-      all = look_all over;
+      all = known.all over;
     }
 
     look_judged : (over : is_nothing (left_to_look n after) ≡ true) (v : Verdict) → verdict_of p.shape (looked_by object.gfid more) Names ≡ v → TellsAt p c (verdict_step v (looked_by object.gfid more).views) read object more
     look_judged over Short e = look_stops over reply.NoQuorum (ap (λ (v : Verdict). without_source v (looked_by object.gfid more).views) e) (λ h. cc h)
     look_judged over Bare e = look_stops over reply.FewCopies (ap (λ (v : Verdict). without_source v (looked_by object.gfid more).views) e) (λ h. cc h)
     look_judged over Split e = look_stops over (reply.SplitBrain (looked_by object.gfid more).views) (ap (λ (v : Verdict). without_source v (looked_by object.gfid more).views) e) (λ h. cc h)
-    look_judged over (Sources t) e = (look_goes, dir, is_source p object.gfid Names t more e, look_all over)
+    look_judged over (Sources t) e = (known.goes, dir, is_source p object.gfid Names t more e, known.all over)
 
     pub look_tells : TellsAt p c (after_looks p.shape after) read object more
     look_tells = go (is_nothing (left_to_look n after)) refl
       where
         go : (e : Bool) → is_nothing (left_to_look n after) ≡ e → TellsAt p c (if e then verdict_step (verdict_of p.shape after.looked Names) after.looked.views else Looking after) read object more
-        go true over = subst (λ (x : Looked). TellsAt p c (verdict_step (verdict_of p.shape x Names) x.views) read object more) (sym (look_same over)) (look_judged over (verdict_of p.shape (looked_by object.gfid more) Names) refl)
-        go false over = (look_goes, dir, look_agrees, look_but)
+        go true over = subst (λ (x : Looked). TellsAt p c (verdict_step (verdict_of p.shape x Names) x.views) read object more) (sym (known.same over)) (look_judged over (verdict_of p.shape (looked_by object.gfid more) Names) refl)
+        go false over = (known.goes, dir, known.agree, known.but)
 
   -- ---- a name
   -- what a line that reads a name leaves as it was

@@ -1,5 +1,5 @@
 -- A free line is allowed after free lines, and leaves the register one of free lines.
-use Rattle.std.proofs.Common.{◌≡◌, ℕ, zero, suc, ◌+◌, ◌^◌, ◌<◌, ◌≤◌, ◌&&◌, nat_lt, Bool, true, false, [], refl, sym, ap, ◌∙◌, subst, arith, inl, inr}
+use Rattle.std.proofs.Common.{◌≡◌, ℕ, zero, suc, ◌<◌, ◌&&◌, nat_lt, Bool, true, false, [], refl, ap, ◌∙◌, arith, inl, inr}
 use Rattle.std.proofs.lemmas.Bool.Decides.{nat_tests}
 use Rattle.afr_base.specs.Bricks.{member}
 use Rattle.afr_base.specs.declared.ids.BrickId.{BrickId}
@@ -11,14 +11,10 @@ use Rattle.afr_lines.specs.declared.reply.Reply.{Reply}
 use Rattle.afr_lines.specs.declared.request.Request.{Request}
 use Rattle.afr_lines.specs.declared.request.Request.TheVariants.{Look, ReadName, ReadBytes, ReadAttr, List as ListNames}
 use Rattle.afr_moves.specs.Keeps.{keeps_in}
-use Rattle.afr_moves.specs.Lines.{is_ok}
-use Rattle.afr_moves.specs.Register.{span}
 use Rattle.afr_moves.specs.Sets.{any}
-use Rattle.afr_discipline.specs.Inside.{may_move}
 use Rattle.afr_discipline.specs.Notes.{noted_ask}
 use Rattle.afr_discipline.specs.Stands.{no_lines, seen_as}
 use Rattle.afr_discipline.specs.Tests.{may_ask_outside, may_end}
-use Rattle.afr_discipline.specs.declared.register.Move.{Move}
 use Rattle.afr_discipline.specs.declared.register.Move.TheVariants as move
 use Rattle.afr_discipline.specs.declared.register.Register.{Register}
 use Rattle.afr_discipline.specs.declared.register.Step.TheVariants as step

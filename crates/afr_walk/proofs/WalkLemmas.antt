@@ -1,7 +1,7 @@
 -- Every step of a walk has somebody left to ask, and its register is one of free lines.
 use Rattle.std.proofs.Common.{◌≡◌, ℕ, ◌+◌, ◌<◌, ◌≤◌, ◌==◌, Bool, true, false, not, List, [], ◌∷◌, refl, arith, length, Option, Some, None, if◌then◌else◌, inl, inr, ◌⊎◌, ◌≢◌, ap, ◌∙◌}
 use Rattle.std.proofs.lemmas.Bool.Decides.{eqb_tells}
-use Rattle.afr_base.specs.Bricks.{below, lowest, minus, is_nothing, IsWithin}
+use Rattle.afr_base.specs.Bricks.{below, lowest, is_nothing, IsWithin}
 use Rattle.afr_base.specs.Majority.{is_majority}
 use Rattle.afr_base.specs.SetLemmas.{lowest_in, lowest_left, below_some, within_below, within_added_if, within_removed_if}
 use Rattle.afr_base.specs.declared.ids.Kind.{Kind}
@@ -11,7 +11,6 @@ use Rattle.afr_base.specs.declared.ids.Shape.{Shape}
 use Rattle.afr_object.specs.Tables.{is_dir}
 use Rattle.afr_object.specs.declared.entry.Entry.{Entry}
 use Rattle.afr_object.specs.declared.entry.View.{View}
-use Rattle.afr_choice.specs.Looks.{no_looks}
 use Rattle.afr_choice.specs.Verdict.{verdict_of, good_copies, copies_of}
 use Rattle.afr_choice.specs.VerdictLemmas.{good_are_holders, holders_are_reached}
 use Rattle.afr_choice.specs.declared.looked.Looked.{Looked}
@@ -24,7 +23,7 @@ use Rattle.afr_lines.specs.declared.answer.Told.{Told}
 use Rattle.afr_lines.specs.declared.answer.Told.TheVariants as told_of
 use Rattle.afr_lines.specs.declared.request.Request.{Request}
 use Rattle.afr_base.specs.declared.ids.BrickId.{BrickId}
-use Rattle.afr_walk.specs.Free.{AllowsAsk, IsFree, is_free}
+use Rattle.afr_walk.specs.Free.{AllowsAsk, is_free}
 use Rattle.afr_walk.specs.Looks.{no_look, left_to_look, noted_look, heard_look, IsLooks}
 use Rattle.afr_walk.specs.Walk.{root_entry, step_at, walk_from, is_walking, next_in, next_at, verdict_step, after_looks, named, noted, walked, walked_at, IsStep, IsWalk, IsChoice}
 use Rattle.afr_walk.specs.declared.looks.Looks.{Looks}

@@ -1,5 +1,4 @@
 use Rattle.std.proofs.Common.{◌≡◌, sym, ap, subst, ◌∙◌}
-use Rattle.afr_lines.specs.Told.{told_by}
 use Rattle.afr_lines.specs.declared.answer.Told.{Told}
 use Rattle.afr_walk.specs.Looks.{heard_look}
 use Rattle.afr_walk.specs.declared.looks.Looks.{Looks}

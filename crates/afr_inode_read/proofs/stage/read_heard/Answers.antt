@@ -1,5 +1,4 @@
 use Rattle.std.proofs.Common.{◌≡◌, true, sym, ap, subst, ◌∙◌}
-use Rattle.afr_lines.specs.Told.{told_by}
 use Rattle.afr_lines.specs.declared.answer.Told.{Told}
 use Rattle.afr_lines.specs.declared.reply.Reply.{Reply}
 use Rattle.afr_lines.specs.declared.request.Request.{Request}
@@ -7,7 +6,7 @@ use Rattle.afr_walk.specs.Free.{is_free}
 use Rattle.afr_walk.specs.Walk.{noted}
 use Rattle.afr_walk.specs.declared.walk.Walk.{Walk}
 use Rattle.afr_inode_read.specs.Job.{request_of}
-use Rattle.afr_inode_read.specs.Lookup.{IsLookup, stage_after, walk_after}
+use Rattle.afr_inode_read.specs.Lookup.{IsLookup, walk_after}
 use Rattle.afr_inode_read.specs.declared.job.LookupJob.TheVariants.{Ls}
 use Rattle.afr_inode_read.specs.declared.stage.LookupStage.TheVariants.{Reading, Ending}
 use Rattle.afr_inode_read.proofs.LookupLemmas.{free_request, read_kept}
