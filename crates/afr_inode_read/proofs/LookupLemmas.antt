@@ -27,7 +27,7 @@ use Rattle.afr_walk.specs.declared.walk.Walk.{Walk}
 use Rattle.afr_walk.specs.declared.walk.WalkStep.{WalkStep}
 use Rattle.afr_walk.specs.declared.walk.WalkStep.TheVariants as walking
 use Rattle.afr_walk.proofs.FreeLemmas.{allows_free, allows_end}
-use Rattle.afr_walk.proofs.WalkLemmas.{HasLow, low, asks_allowed, asks_free, asked_below, heard_within, is_noted, is_walked, no_look_is}
+use Rattle.afr_walk.proofs.WalkLemmas.{HasLow, low, asks_allowed, asks_free, asked_below, heard_within, is_noted, is_walked, no_look_is, walked_notes}
 use Rattle.afr_inode_read.specs.Job.{kind_of, request_of}
 use Rattle.afr_inode_read.specs.Laws.{AllowedNext, NotesEach, StaysSound}
 use Rattle.afr_inode_read.specs.Lookup.{IsLookup, IsStage, after_step, after_walk, asked_at, at_object, from_copy, is_asking, next_at, object_judged, object_looked, stage_after, walk_after}
@@ -125,14 +125,6 @@ pub stays_sound : StaysSound
 stays_sound m k h a at = kept m.stage a at m.job m.walk k h
 
 -- ---- the register
-walked_notes : (step : WalkStep) (a : Answer) (w : Walk) → (walked_at step a w).register ≡ w.register
-walked_notes (walking.Looking s) a w = refl
-walked_notes (walking.Naming b) (answer.Entry (Some entry)) w = refl
-walked_notes (walking.Naming b) (answer.Entry None) w = refl
-walked_notes (walking.Naming b) a w = refl
-walked_notes walking.Arrived a w = refl
-walked_notes (walking.Stopped why) a w = refl
-
 notes_at : (stage : LookupStage) (w : Walk) → is_asking stage ≡ true → (a : Answer) (at : ℕ)
     → (walk_after stage a at w).register ≡ noted_ask w.register at (asked_at stage w).0.0 (asked_at stage w).1 (told_by a)
 notes_at Walking w h a at = walked_notes w.step a (noted (next_in w) (told_by a) at w)

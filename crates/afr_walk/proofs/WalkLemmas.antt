@@ -159,3 +159,12 @@ is_walked heard at w k walks = is_walked_at w.step heard (noted (next_in w) (tol
 pub heard_is : (w x y : Walk) (heard : Answer) (told : Told) (asked : BrickId × Request) (at : ℕ) → told ≡ told_by heard → asked ≡ next_in w → x ≡ noted asked told at w → y ≡ walked_at x.step heard x → y ≡ walked heard at w
 heard_is w x y heard told asked at et ea ex ey =
     ey ∙ ap (λ (z : Walk). walked_at z.step heard z) (ex ∙ ap (λ (a : BrickId × Request). noted a told at w) ea ∙ ap (λ (t : Told). noted (next_in w) t at w) et)
+
+-- an answer moves the walk alone, and not its register
+pub walked_notes : (step : WalkStep) (a : Answer) (w : Walk) → (walked_at step a w).register ≡ w.register
+walked_notes (Looking s) a w = refl
+walked_notes (Naming b) (answer.Entry (Some entry)) w = refl
+walked_notes (Naming b) (answer.Entry None) w = refl
+walked_notes (Naming b) a w = refl
+walked_notes Arrived a w = refl
+walked_notes (Stopped why) a w = refl
