@@ -6,3 +6,5 @@ pub mod Walking
 pub mod Ended
 pub mod ReadsTell
 pub mod ReadsMore
+pub mod Untouched
+pub mod WalksEnd

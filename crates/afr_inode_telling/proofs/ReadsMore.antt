@@ -29,6 +29,7 @@ use Rattle.afr_lines.specs.declared.request.Request.TheVariants.{Look}
 use Rattle.afr_plan.specs.declared.command.Command.{Command}
 use Rattle.afr_plan.specs.declared.plan.Plan.{Plan}
 use Rattle.afr_model.specs.Answered.{Answers, IsAbout, IsAnswered, MayRead, answer, by_reading, is_by_views}
+use Rattle.afr_model.specs.Following.{KeepsTo}
 use Rattle.afr_model.specs.Commands.{path_of}
 use Rattle.afr_model.specs.Honest.{answer_by, copy_answer}
 use Rattle.afr_model.specs.Refusals.{by_looks, refusal}
@@ -52,13 +53,14 @@ use Rattle.afr_inode_read.specs.declared.stage.LookupStage.TheVariants.{Walking,
 use Rattle.afr_inode_read.proofs.LookupLemmas.{free_request}
 use Rattle.afr_inode_telling.specs.Lines.{CanAnswer, LookedAll, OnlyReads, gives_or_fails, is_look}
 use Rattle.afr_inode_telling.specs.Looks.{IsSource}
-use Rattle.afr_inode_telling.specs.ReadLaws.{ReadAbout, ReadEnds, ReadTellsMore}
+use Rattle.afr_inode_telling.specs.ReadLaws.{ReadAbout, ReadEnds, ReadFollows, ReadTellsMore}
 use Rattle.afr_inode_telling.specs.ReadTelling.{IsAtObject, IsNamed, ReadTells, TellsIn, command_of}
 use Rattle.afr_inode_telling.specs.WalkTelling.{WalkTells}
 use Rattle.afr_inode_telling.proofs.Ended.{answered_end, refused_end, refusal_here}
 use Rattle.afr_inode_telling.proofs.LookHeard.{only_more}
 use Rattle.afr_inode_telling.proofs.Quiet.{begins_none}
 use Rattle.afr_inode_telling.proofs.ReadsTell.{area_nowhere, large_none, look_tells, moved, path_is, place_at, refusal_at, refusal_looks, suited_is, whole_of}
+use Rattle.afr_inode_telling.proofs.WalksEnd.{walk_follows}
 use Rattle.afr_inode_telling.proofs.Walking.{looks_on_way, walk_about, walk_tells_more}
 
 -- ---- what a copy gives
@@ -295,6 +297,28 @@ about p m lines a b request told took sound k asks = go m.stage sound.ready k.st
     go Walking ready t e = by Walking ready t refl e
     go (Looking s) ready t e = by (Looking s) ready t refl e
     go (Reading x of) ready t e = by (Reading x of) ready t refl e
+    go (Ending said) ready t e = absurd (cc e)
+
+-- and keeps to it
+pub follows : ReadFollows
+follows p m lines a b request told took at sound k asks = go m.stage sound.ready k.stage asks
+  where
+    c : Command
+    c = command_of m.job m.walk.path
+
+    free : (g : Gfid) (of : Content) (x : BrickId) → KeepsTo p c (Ask a x (request_of g of) told took) at lines
+    free g (content.Bytes from len) x = tt
+    free g (content.Value key) x = tt
+    free g content.Names x = tt
+
+    by : (stage : LookupStage) → next.Ask (asked_at stage m.walk).0 (asked_at stage m.walk).1 ≡ next.Ask b request → KeepsTo p c (Ask a (asked_at stage m.walk).0 (asked_at stage m.walk).1 told took) at lines
+        → KeepsTo p c (Ask a b request told took) at lines
+    by stage e = asks_same (λ (b : BrickId) (r : Request). KeepsTo p c (Ask a b r told took) at lines) (asked_at stage m.walk).0 b (asked_at stage m.walk).1 request e
+
+    go : (stage : LookupStage) → IsStage m.walk.shape.n m.walk.step stage → TellsIn p m.job stage m.walk lines → next_at stage m.walk ≡ next.Ask b request → KeepsTo p c (Ask a b request told took) at lines
+    go Walking ready t e = by Walking e (walk_follows p c m.walk lines a told took at sound.sound ready t)
+    go (Looking s) ready t e = by (Looking s) e tt
+    go (Reading x of) ready t e = by (Reading x of) e (free m.walk.object.gfid of x)
     go (Ending said) ready t e = absurd (cc e)
 
 -- the reply is the command's answer

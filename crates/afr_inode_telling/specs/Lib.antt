@@ -1,5 +1,6 @@
 pub mod Lines
 pub mod Looks
 pub mod WalkTelling
+pub mod WalkLaws
 pub mod ReadTelling
 pub mod ReadLaws

@@ -14,6 +14,7 @@ use Rattle.afr_lines.specs.declared.reply.Reply.{Reply}
 use Rattle.afr_lines.specs.declared.request.Request.{Request}
 use Rattle.afr_plan.specs.declared.plan.Plan.{Plan}
 use Rattle.afr_model.specs.Answered.{IsAbout, IsAnswered}
+use Rattle.afr_model.specs.Following.{KeepsTo}
 use Rattle.afr_inode_read.specs.Lookup.{Lookup, IsLookup, answered, lookup_from, next_of}
 use Rattle.afr_inode_read.specs.declared.job.LookupJob.{LookupJob}
 use Rattle.afr_inode_telling.specs.Lines.{CanAnswer}
@@ -35,6 +36,12 @@ abbrev pub ReadAbout : Type 0
 ReadAbout =
     (p : Plan) (m : Lookup) (lines : Work) (a : ActorId) (b : BrickId) (request : Request) (told : Told) (took : Bool)
     → IsLookup m.walk m.stage → ReadTells p m lines → next_of m ≡ next.Ask b request → IsAbout p (command_of m.job m.walk.path) (Ask a b request told took) lines
+
+-- and keeps to them: names are read along its path
+abbrev pub ReadFollows : Type 0
+ReadFollows =
+    (p : Plan) (m : Lookup) (lines : Work) (a : ActorId) (b : BrickId) (request : Request) (told : Told) (took : Bool) (at : ℕ)
+    → IsLookup m.walk m.stage → ReadTells p m lines → next_of m ≡ next.Ask b request → KeepsTo p (command_of m.job m.walk.path) (Ask a b request told took) at lines
 
 -- the reply has its cause, one by views asked every brick, a failure was told by a brick, and nothing was skipped
 abbrev pub ReadEnds : Type 0

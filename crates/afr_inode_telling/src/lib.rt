@@ -2,5 +2,7 @@
 #![tactic(auto)]
 
 mod reads;
+mod walks;
 
 pub use reads::a_lookup_tells_its_lines;
+pub use walks::a_walk_tells_its_lines;

@@ -1,4 +1,4 @@
-use Rattle.afr_inode_telling.proofs.ReadsMore.{about, ends, tells_more}
+use Rattle.afr_inode_telling.proofs.ReadsMore.{about, ends, follows, tells_more}
 use Rattle.afr_inode_telling.proofs.ReadsTell.{begins}
 use Rattle.afr_inode_telling.proofs.reads.a_lookup_tells_its_lines.Goals as goal
 
@@ -13,3 +13,6 @@ returns-clause-about c = about
 
 pub returns-clause-ends : goal.returns-clause-ends
 returns-clause-ends c = ends
+
+pub returns-clause-follows : goal.returns-clause-follows
+returns-clause-follows c = follows
