@@ -8,3 +8,4 @@ pub mod ReadsTell
 pub mod ReadsMore
 pub mod Untouched
 pub mod WalksEnd
+pub mod ChangeWords
