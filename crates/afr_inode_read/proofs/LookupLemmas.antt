@@ -1,5 +1,5 @@
 -- A read has somebody left to ask, the discipline allows what it asks, and its register notes it.
-use Rattle.std.proofs.Common.{◌≡◌, ℕ, ◌<◌, ◌==◌, Bool, true, false, [], Some, None, refl, ap, ◌∙◌, if◌then◌else◌}
+use Rattle.std.proofs.Common.{◌≡◌, ℕ, ◌<◌, ◌==◌, Bool, true, false, [], refl, ap, ◌∙◌, if◌then◌else◌}
 use Rattle.afr_base.specs.Bricks.{lowest, is_nothing, IsWithin}
 use Rattle.afr_base.specs.declared.ids.BrickId.{BrickId}
 use Rattle.afr_base.specs.declared.ids.Gfid.{Gfid}
@@ -14,14 +14,13 @@ use Rattle.afr_choice.specs.declared.verdict.Verdict.TheVariants.{Short, Bare, S
 use Rattle.afr_discipline.specs.Notes.{noted_ask}
 use Rattle.afr_lines.specs.Told.{told_by}
 use Rattle.afr_lines.specs.declared.answer.Answer.{Answer}
-use Rattle.afr_lines.specs.declared.answer.Answer.TheVariants as answer
 use Rattle.afr_lines.specs.declared.answer.Told.{Told}
 use Rattle.afr_lines.specs.declared.reply.Good.TheVariants.{Bytes as BytesGood}
 use Rattle.afr_lines.specs.declared.reply.Reply.TheVariants.{Ok as OkReply, IsDir, NotDir}
 use Rattle.afr_lines.specs.declared.request.Request.{Request}
 use Rattle.afr_walk.specs.Free.{Allows, is_free}
 use Rattle.afr_walk.specs.Looks.{no_look, left_to_look, heard_look}
-use Rattle.afr_walk.specs.Walk.{next_in, noted, walked, walked_at, IsWalk}
+use Rattle.afr_walk.specs.Walk.{next_in, noted, walked, IsWalk}
 use Rattle.afr_walk.specs.declared.looks.Looks.{Looks}
 use Rattle.afr_walk.specs.declared.walk.Walk.{Walk}
 use Rattle.afr_walk.specs.declared.walk.WalkStep.{WalkStep}

@@ -1,14 +1,12 @@
 -- A write, a cut and a setattr at the object that their path has led to.
-use Rattle.std.proofs.Common.{◌≡◌, ℕ, suc, zero, ◌+◌, ◌<◌, ◌≤◌, ◌==◌, nat_lt, Bool, true, false, List, [], ◌∷◌, Option, Some, None, length, refl, sym, ap, ◌∙◌, subst, arith, if◌then◌else◌}
+use Rattle.std.proofs.Common.{◌≡◌, ℕ, ◌+◌, ◌==◌, nat_lt, Bool, true, false, [], Option, Some, None, length, refl, sym, ap, ◌∙◌, subst, arith, if◌then◌else◌}
 use Rattle.std.proofs.lemmas.Bool.Decides.{nat_tests}
-use Rattle.afr_base.specs.declared.ids.NameId.{NameId}
 use Rattle.afr_base.specs.declared.ids.Kind.{Kind}
 use Rattle.afr_base.specs.declared.ids.Kind.TheVariants.{Bytes, Attrs}
 use Rattle.afr_choice.specs.Verdict.{holders_of}
 use Rattle.afr_lines.specs.Areas.{area_for, kind_for}
 use Rattle.afr_lines.specs.Work.{Work}
 use Rattle.afr_lines.specs.declared.reply.Good.TheVariants as good
-use Rattle.afr_lines.specs.declared.reply.Reply.{Reply}
 use Rattle.afr_lines.specs.declared.reply.Reply.TheVariants as reply
 use Rattle.afr_lines.specs.declared.request.Area.{Area}
 use Rattle.afr_object.specs.Tables.{is_dir, object_of}
@@ -18,16 +16,13 @@ use Rattle.afr_object.specs.declared.entry.Entry.{Entry}
 use Rattle.afr_plan.specs.declared.command.Command.{Command}
 use Rattle.afr_plan.specs.declared.command.Command.TheVariants as command
 use Rattle.afr_plan.specs.declared.plan.Plan.{Plan}
-use Rattle.afr_model.specs.Answered.{Answers, IsAnswered, IsAsked, answer, by_posts, is_by_views}
-use Rattle.afr_model.specs.Commands.{area_on, change_named, change_on, is_on_name, is_rmdir, path_of, steps_of}
-use Rattle.afr_model.specs.Following.{Names}
-use Rattle.afr_model.specs.Refusals.{at_object, by_area, by_locks, by_path, or_else, read_refused, refusal, too_large}
-use Rattle.afr_model.specs.Showing.{Path, At, has, looked_by, path_by, refuses_read}
+use Rattle.afr_model.specs.Answered.{Answers, IsAsked, answer, by_posts, is_by_views}
+use Rattle.afr_model.specs.Commands.{area_on, change_named, is_on_name, is_rmdir, path_of, steps_of}
+use Rattle.afr_model.specs.Refusals.{at_object, by_area, by_locks, too_large}
+use Rattle.afr_model.specs.Showing.{Path, At, looked_by}
 use Rattle.afr_model.specs.Skipped.{takers}
 use Rattle.afr_model.specs.Standing.{area_here, looks_here, place_by}
-use Rattle.afr_walk.specs.declared.walk.Walk.{Walk}
-use Rattle.afr_inode_telling.specs.ChangeLaws.{ChangeStands, ChangesStand, DirectoryEnds, IsAtEnd, IsChangeOf, IsFor, LargeEnds, NothingEnds}
-use Rattle.afr_inode_telling.specs.WalkLaws.{HasArrived}
+use Rattle.afr_inode_telling.specs.ChangeLaws.{ChangesStand, DirectoryEnds, IsChangeOf, IsFor, LargeEnds, NothingEnds}
 use Rattle.afr_inode_telling.proofs.Ended.{answered_end, refused_end, refusal_end}
 use Rattle.afr_inode_telling.proofs.Walking.{looks_on_way, place_whole, rmdir_none, steps_whole}
 

@@ -1,5 +1,5 @@
 -- A work that only looks and reads has locked, begun and asked nothing else.
-use Rattle.std.proofs.Common.{◌≡◌, ℕ, ◌&&◌, nat_lt, Bool, true, false, List, [], ◌∷◌, None, refl, ◌∙◌}
+use Rattle.std.proofs.Common.{◌≡◌, ℕ, nat_lt, Bool, true, false, List, [], ◌∷◌, None, refl, ◌∙◌}
 use Rattle.afr_base.specs.declared.ids.ActorId.{ActorId}
 use Rattle.afr_base.specs.declared.ids.BrickId.{BrickId}
 use Rattle.afr_lines.specs.Work.{Work}
@@ -9,11 +9,11 @@ use Rattle.afr_lines.specs.declared.line.Line.TheVariants.{Ask}
 use Rattle.afr_lines.specs.declared.request.Area.{Area}
 use Rattle.afr_lines.specs.declared.request.Request.{Request}
 use Rattle.afr_lines.specs.declared.request.Request.TheVariants.{Look, ReadName, ReadBytes, ReadAttr, List as ListNames}
-use Rattle.afr_model.specs.Showing.{among, applied_at, applying, begun_by, begins_attempt, has, is_faulted, posted, posting, prepared, preparing}
+use Rattle.afr_model.specs.Showing.{among, applied_at, applying, begun_by, is_faulted, posted, posting, prepared, preparing}
 use Rattle.afr_model.specs.Standing.{asking, getting, locks_any}
 use Rattle.afr_walk.specs.Free.{is_free}
 use Rattle.afr_inode_telling.specs.Lines.{OnlyReads, reads}
-use Rattle.afr_inode_telling.specs.WalkLaws.{IsUntouched, ReadsTouchNothing}
+use Rattle.afr_inode_telling.specs.WalkLaws.{ReadsTouchNothing}
 use Rattle.afr_inode_telling.proofs.Quiet.{IsQuiet, and_right, area_none, begins_none, change_none, has_none, locks_none}
 
 -- a fold that no look and no read changes

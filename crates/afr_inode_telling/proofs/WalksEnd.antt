@@ -1,5 +1,5 @@
 -- What a walk reads follows its command's path, and what it leaves when it has ended.
-use Rattle.std.proofs.Common.{◌≡◌, ℕ, ◌<◌, Bool, true, false, List, ◌∷◌, Option, Some, None, length, slice_get, refl, sym, subst}
+use Rattle.std.proofs.Common.{◌≡◌, ℕ, Bool, true, List, Some, length, slice_get, refl, subst}
 use Rattle.std.proofs.lemmas.Option.{slice_get-get_or}
 use Rattle.afr_base.specs.declared.ids.ActorId.{ActorId}
 use Rattle.afr_base.specs.declared.ids.NameId.{NameId}
@@ -8,7 +8,6 @@ use Rattle.afr_lines.specs.declared.answer.Told.{Told}
 use Rattle.afr_lines.specs.declared.line.Line.TheVariants.{Ask}
 use Rattle.afr_plan.specs.declared.command.Command.{Command}
 use Rattle.afr_plan.specs.declared.plan.Plan.{Plan}
-use Rattle.afr_model.specs.Commands.{path_of}
 use Rattle.afr_model.specs.Following.{KeepsTo}
 use Rattle.afr_walk.specs.Walk.{IsStep, IsWalk, is_walking, name_in, next_at, next_in}
 use Rattle.afr_walk.specs.declared.walk.Walk.{Walk}

@@ -1,5 +1,5 @@
 -- What the words of a write, a cut and a setattr say, once their path has led to their object.
-use Rattle.std.specs.Prelude.{◌≡◌, ℕ, ◌==◌, Bool, true, false, List, [], Option, Some, None, length}
+use Rattle.std.specs.Prelude.{◌≡◌, ℕ, ◌==◌, true, false, List, [], Some, None, length}
 use Rattle.afr_base.specs.declared.ids.NameId.{NameId}
 use Rattle.afr_base.specs.declared.ids.What.{What}
 use Rattle.afr_choice.specs.Verdict.{holders_of}
