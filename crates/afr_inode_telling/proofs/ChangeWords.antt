@@ -6,9 +6,12 @@ use Rattle.afr_base.specs.declared.ids.Kind.TheVariants.{Bytes, Attrs}
 use Rattle.afr_choice.specs.Verdict.{holders_of}
 use Rattle.afr_lines.specs.Areas.{area_for, kind_for}
 use Rattle.afr_lines.specs.Work.{Work}
+use Rattle.afr_lines.specs.declared.line.Line.TheVariants.{Ask, Begin}
 use Rattle.afr_lines.specs.declared.reply.Good.TheVariants as good
 use Rattle.afr_lines.specs.declared.reply.Reply.TheVariants as reply
 use Rattle.afr_lines.specs.declared.request.Area.{Area}
+use Rattle.afr_lines.specs.declared.request.Request.TheVariants.{Lock, Unlock, Look, Pre, Apply, Post}
+use Rattle.afr_range_locks.specs.declared.domain.Domain.TheVariants.{Work as WorkDomain}
 use Rattle.afr_object.specs.Tables.{is_dir, object_of}
 use Rattle.afr_object.specs.declared.change.Change.{Change}
 use Rattle.afr_object.specs.declared.change.Change.TheVariants as change_of
@@ -22,7 +25,7 @@ use Rattle.afr_model.specs.Refusals.{at_object, by_area, by_locks, too_large}
 use Rattle.afr_model.specs.Showing.{Path, At, looked_by}
 use Rattle.afr_model.specs.Skipped.{takers}
 use Rattle.afr_model.specs.Standing.{area_here, looks_here, place_by}
-use Rattle.afr_inode_telling.specs.ChangeLaws.{ChangesStand, DirectoryEnds, IsChangeOf, IsFor, LargeEnds, NothingEnds}
+use Rattle.afr_inode_telling.specs.ChangeLaws.{ChangeKeepsPath, ChangesStand, DirectoryEnds, IsChangeOf, IsFor, LargeEnds, NothingEnds}
 use Rattle.afr_inode_telling.proofs.Ended.{answered_end, refused_end, refusal_end}
 use Rattle.afr_inode_telling.proofs.Walking.{looks_on_way, place_whole, rmdir_none, steps_whole}
 
@@ -115,6 +118,17 @@ stands p c object change w k there = record {
 
     named : (at : ℕ) → change_named object.gfid at c ≡ Some change
     named at = rw whole k.named
+
+-- ---- the path
+pub keeps_path : ChangeKeepsPath
+keeps_path p c object (Ask a b (Lock WorkDomain area) told took) older w h k = (record { led = k.led; unrefused = k.unrefused }, refl)
+keeps_path p c object (Ask a b (Unlock WorkDomain area) told took) older w h k = (record { led = k.led; unrefused = k.unrefused }, refl)
+keeps_path p c object (Ask a b (Look g) told took) older w h k = (record { led = k.led; unrefused = k.unrefused }, refl)
+keeps_path p c object (Ask a b (Pre g kind) told took) older w h k = (record { led = k.led; unrefused = k.unrefused }, refl)
+keeps_path p c object (Ask a b (Apply attempt) told took) older w h k = (record { led = k.led; unrefused = k.unrefused }, refl)
+keeps_path p c object (Ask a b (Post attempt g kind missed) told took) older w h k = (record { led = k.led; unrefused = k.unrefused }, refl)
+keeps_path p c object (Begin a change) older w h k = (record { led = k.led; unrefused = k.unrefused }, refl)
+keeps_path p c object line older w h k = absurd (cc h)
 
 -- ---- the ends without a transaction
 pub large : LargeEnds

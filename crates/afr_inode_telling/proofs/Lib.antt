@@ -9,4 +9,3 @@ pub mod ReadsMore
 pub mod Untouched
 pub mod WalksEnd
 pub mod ChangeWords
-pub mod ChangeTells

@@ -1,24 +1,28 @@
 -- What the words of a write, a cut and a setattr say, once their path has led to their object.
-use Rattle.std.specs.Prelude.{◌≡◌, ℕ, ◌==◌, true, false, List, [], Some, None, length}
+use Rattle.std.specs.Prelude.{◌≡◌, ℕ, ◌==◌, Bool, true, false, List, [], ◌∷◌, Some, None, length}
 use Rattle.afr_base.specs.declared.ids.NameId.{NameId}
 use Rattle.afr_base.specs.declared.ids.What.{What}
 use Rattle.afr_choice.specs.Verdict.{holders_of}
 use Rattle.afr_lines.specs.Areas.{area_for, kind_for}
 use Rattle.afr_lines.specs.Work.{Work}
+use Rattle.afr_lines.specs.declared.line.Line.{Line}
+use Rattle.afr_lines.specs.declared.line.Line.TheVariants.{Ask, Begin}
 use Rattle.afr_lines.specs.declared.reply.Good.TheVariants as good
 use Rattle.afr_lines.specs.declared.reply.Reply.{Reply}
 use Rattle.afr_lines.specs.declared.reply.Reply.TheVariants as reply
+use Rattle.afr_lines.specs.declared.request.Request.TheVariants.{Lock, Unlock, Look, Pre, Apply, Post}
 use Rattle.afr_object.specs.Tables.{is_dir, object_of}
 use Rattle.afr_object.specs.declared.change.Change.{Change}
 use Rattle.afr_object.specs.declared.entry.Entry.{Entry}
 use Rattle.afr_plan.specs.declared.command.Command.{Command}
 use Rattle.afr_plan.specs.declared.command.Command.TheVariants as command
 use Rattle.afr_plan.specs.declared.plan.Plan.{Plan}
+use Rattle.afr_range_locks.specs.declared.domain.Domain.TheVariants.{Work as WorkDomain}
 use Rattle.afr_model.specs.Answered.{IsAnswered, IsAsked, answer, by_posts}
 use Rattle.afr_model.specs.Commands.{area_on, change_on, is_on_name, path_of, steps_of}
 use Rattle.afr_model.specs.Following.{Names}
 use Rattle.afr_model.specs.Refusals.{by_locks, refusal, too_large}
-use Rattle.afr_model.specs.Showing.{At, has, looked_by, path_by, refuses_read}
+use Rattle.afr_model.specs.Showing.{At, has, looked_by, path_by, reading_by, refuses_read}
 use Rattle.afr_model.specs.Skipped.{takers}
 use Rattle.afr_model.specs.Standing.{area_here, looks_here, place_by}
 use Rattle.afr_walk.specs.declared.walk.Walk.{Walk}
@@ -73,3 +77,20 @@ NothingEnds =
     (p : Plan) (path : List NameId) (at : ℕ) (bytes : List ℕ) (w : Walk) (lines : Work)
     → HasArrived p (command.Write path at bytes) w lines → too_large (command.Write path at bytes) ≡ None → is_dir w.object.what ≡ false → (length bytes == 0) ≡ true
     → IsAnswered p (command.Write path at bytes) lines (reply.Ok good.Done)
+
+-- a line of a transaction: its locks and unlocks, its lookups, its attempt, and the phases of this
+abbrev pub is_of_change : Line → Bool
+is_of_change (Ask a b (Lock WorkDomain area) told took) = true
+is_of_change (Ask a b (Unlock WorkDomain area) told took) = true
+is_of_change (Ask a b (Look g) told took) = true
+is_of_change (Ask a b (Pre g kind) told took) = true
+is_of_change (Ask a b (Apply attempt) told took) = true
+is_of_change (Ask a b (Post attempt g kind missed) told took) = true
+is_of_change (Begin a change) = true
+is_of_change line = false
+
+-- such a line leads the path nowhere else, and reads nothing
+abbrev pub ChangeKeepsPath : Type 0
+ChangeKeepsPath =
+    (p : Plan) (c : Command) (object : Entry) (line : Line) (older : List Line) (w : Work) → is_of_change line ≡ true → IsAtEnd p c object w
+    → IsAtEnd p c object ((line, older) ∷ w) × (reading_by p ((line, older) ∷ w) ≡ reading_by p w)

@@ -3,6 +3,5 @@ pub mod Looks
 pub mod WalkTelling
 pub mod WalkLaws
 pub mod ChangeLaws
-pub mod ChangeTelling
 pub mod ReadTelling
 pub mod ReadLaws

@@ -12,3 +12,6 @@ returns-clause-directory c = words.directory
 
 pub returns-clause-nothing : goal.returns-clause-nothing
 returns-clause-nothing c = words.nothing
+
+pub returns-clause-path : goal.returns-clause-path
+returns-clause-path c = words.keeps_path
