@@ -1,0 +1,150 @@
+-- A read has somebody left to ask, the discipline allows what it asks, and its register notes it.
+use Rattle.std.proofs.Common.{◌≡◌, ℕ, ◌<◌, ◌==◌, Bool, true, false, [], refl, ap, ◌∙◌, if◌then◌else◌}
+use Rattle.afr_base.specs.Bricks.{lowest, is_nothing, IsWithin}
+use Rattle.afr_base.specs.declared.ids.BrickId.{BrickId}
+use Rattle.afr_base.specs.declared.ids.Gfid.{Gfid}
+use Rattle.afr_base.specs.declared.ids.Shape.{Shape}
+use Rattle.afr_base.specs.declared.ids.What.{What}
+use Rattle.afr_object.specs.Tables.{is_dir, is_file}
+use Rattle.afr_object.specs.declared.entry.Entry.{Entry}
+use Rattle.afr_choice.specs.Verdict.{verdict_of}
+use Rattle.afr_choice.specs.declared.looked.Looked.{Looked}
+use Rattle.afr_choice.specs.declared.verdict.Verdict.{Verdict}
+use Rattle.afr_choice.specs.declared.verdict.Verdict.TheVariants.{Short, Bare, Split, Sources}
+use Rattle.afr_discipline.specs.Notes.{noted_ask}
+use Rattle.afr_lines.specs.Told.{told_by}
+use Rattle.afr_lines.specs.declared.answer.Answer.{Answer}
+use Rattle.afr_lines.specs.declared.answer.Told.{Told}
+use Rattle.afr_lines.specs.declared.reply.Good.TheVariants.{Bytes as BytesGood}
+use Rattle.afr_lines.specs.declared.reply.Reply.TheVariants.{Ok as OkReply, IsDir, NotDir}
+use Rattle.afr_lines.specs.declared.request.Request.{Request}
+use Rattle.afr_walk.specs.Free.{Allows, is_free}
+use Rattle.afr_walk.specs.Looks.{no_look, left_to_look, heard_look}
+use Rattle.afr_walk.specs.Walk.{next_in, noted, walked, IsWalk}
+use Rattle.afr_walk.specs.declared.looks.Looks.{Looks}
+use Rattle.afr_walk.specs.declared.walk.Walk.{Walk}
+use Rattle.afr_walk.specs.declared.walk.WalkStep.{WalkStep}
+use Rattle.afr_walk.specs.declared.walk.WalkStep.TheVariants as walking
+use Rattle.afr_walk.proofs.FreeLemmas.{allows_free, allows_end}
+use Rattle.afr_walk.proofs.WalkLemmas.{HasLow, low, asks_allowed, asks_free, asked_below, heard_within, is_noted, is_walked, no_look_is, walked_notes}
+use Rattle.afr_inode_read.specs.Job.{kind_of, request_of}
+use Rattle.afr_inode_read.specs.Laws.{AllowedNext, NotesEach, StaysSound}
+use Rattle.afr_inode_read.specs.Lookup.{IsLookup, IsStage, after_step, after_walk, asked_at, at_object, from_copy, is_asking, next_at, object_judged, object_looked, stage_after, walk_after}
+use Rattle.afr_inode_read.specs.declared.job.Content.{Content}
+use Rattle.afr_inode_read.specs.declared.job.Content.TheVariants as content
+use Rattle.afr_inode_read.specs.declared.job.LookupJob.{LookupJob}
+use Rattle.afr_inode_read.specs.declared.job.LookupJob.TheVariants.{Read, GetAttr, Ls, Stat}
+use Rattle.afr_inode_read.specs.declared.stage.LookupStage.{LookupStage}
+use Rattle.afr_inode_read.specs.declared.stage.LookupStage.TheVariants.{Walking, Looking, Reading, Ending}
+
+-- ---- stages
+is_at_object : (n : ℕ) (step : WalkStep) (job : LookupJob) (what : What) → 0 < n → IsStage n step (at_object job what)
+is_at_object n step (Read at len) what some = go (is_dir what)
+  where
+    go : (d : Bool) → IsStage n step (if d then Ending IsDir else Looking no_look)
+    go true = tt
+    go false = no_look_is n some
+is_at_object n step Ls what some = go (is_file what)
+  where
+    go : (d : Bool) → IsStage n step (if d then Ending NotDir else Looking no_look)
+    go true = tt
+    go false = no_look_is n some
+is_at_object n step (GetAttr key) what some = no_look_is n some
+is_at_object n step Stat what some = no_look_is n some
+
+pub is_after_walk : (job : LookupJob) (w : Walk) → IsWalk w → IsLookup w (after_walk job w)
+is_after_walk job w k = record { sound = k; ready = go w.step }
+  where
+    go : (step : WalkStep) → IsStage w.shape.n step (after_step step job w)
+    go (walking.Looking s) = refl
+    go (walking.Naming b) = refl
+    go walking.Arrived = is_at_object w.shape.n walking.Arrived job w.object.what k.some
+    go (walking.Stopped why) = tt
+
+is_from_copy : (n : ℕ) (step : WalkStep) (job : LookupJob) (object : Entry) (looked : Looked) (b : BrickId) → b.0 < n → IsStage n step (from_copy job object looked b)
+is_from_copy n step (Read at len) object looked b l = go (len == 0)
+  where
+    go : (e : Bool) → IsStage n step (if e then Ending (OkReply (BytesGood [])) else Reading b (content.Bytes at len))
+    go true = tt
+    go false = l
+is_from_copy n step (GetAttr key) object looked b l = l
+is_from_copy n step Ls object looked b l = l
+is_from_copy n step Stat object looked b l = tt
+
+is_judged : (n : ℕ) (step : WalkStep) (job : LookupJob) (object : Entry) (v : Verdict) (looked : Looked) → HasLow n v → IsStage n step (object_judged job object v looked)
+is_judged n step job object Short looked h = tt
+is_judged n step job object Bare looked h = tt
+is_judged n step job object Split looked h = tt
+is_judged n step job object (Sources s) looked h = is_from_copy n step job object looked (record { 0 = lowest s }) h
+
+pub is_object_looked : (shape : Shape) (step : WalkStep) (job : LookupJob) (object : Entry) (s : Looks) → IsWithin shape.n s.looked.reached → IsStage shape.n step (object_looked shape job object s)
+is_object_looked shape step job object s within = go (is_nothing (left_to_look shape.n s)) refl
+  where
+    verdict : Verdict
+    verdict = verdict_of shape s.looked (kind_of job object.what)
+
+    go : (e : Bool) → is_nothing (left_to_look shape.n s) ≡ e → IsStage shape.n step (if e then object_judged job object verdict s.looked else Looking s)
+    go true k = is_judged shape.n step job object verdict s.looked (low shape s.looked (kind_of job object.what) within)
+    go false k = record { left = k; reached = within }
+
+-- ---- what is asked
+pub free_request : (g : Gfid) (of : Content) → is_free (request_of g of) ≡ true
+free_request g (content.Bytes at len) = refl
+free_request g (content.Value key) = refl
+free_request g content.Names = refl
+
+-- a read asks free requests of bricks of the volume
+pub asks_free_at : (stage : LookupStage) (w : Walk) → IsLookup w stage → is_asking stage ≡ true → (is_free (asked_at stage w).1 ≡ true) × ((asked_at stage w).0.0 < w.shape.n)
+asks_free_at Walking w k h = asks_free w k.sound k.ready
+asks_free_at (Looking s) w k h = (refl, asked_below w.shape.n s k.ready.left)
+asks_free_at (Reading b of) w k h = (free_request w.object.gfid of, k.ready)
+asks_free_at (Ending said) w k h = absurd (cc h)
+
+allowed_at : (stage : LookupStage) (w : Walk) → IsLookup w stage → Allows w.register (next_at stage w)
+allowed_at Walking w k = asks_allowed w k.sound k.ready
+allowed_at (Looking s) w k = let asks = asks_free_at (Looking s) w k refl in allows_free w.shape w.register (asked_at (Looking s) w).0 (asked_at (Looking s) w).1 k.sound.free asks.0 asks.1
+allowed_at (Reading b of) w k = let asks = asks_free_at (Reading b of) w k refl in allows_free w.shape w.register (asked_at (Reading b of) w).0 (asked_at (Reading b of) w).1 k.sound.free asks.0 asks.1
+allowed_at (Ending said) w k = allows_end w.shape w.register said k.sound.free
+
+-- whatever the bricks have answered so far, the next line is allowed
+pub allowed_next : AllowedNext
+allowed_next m k = allowed_at m.stage m.walk k
+
+-- ---- an answer
+pub kept : (stage : LookupStage) (a : Answer) (at : ℕ) (job : LookupJob) (w : Walk) → IsLookup w stage → is_asking stage ≡ true → IsLookup (walk_after stage a at w) (stage_after stage a job (walk_after stage a at w))
+kept Walking a at job w k h = is_after_walk job (walked a at w) (is_walked a at w k.sound k.ready)
+kept (Looking s) a at job w k h = record {
+  sound = is_noted (asked_at (Looking s) w) (told_by a) at w k.sound refl;
+  ready = is_object_looked w.shape w.step job w.object (heard_look w.shape.n (told_by a) s) (heard_within w.shape.n (told_by a) s k.ready);
+}
+kept (Reading b of) a at job w k h = record { sound = is_noted (asked_at (Reading b of) w) (told_by a) at w k.sound (free_request w.object.gfid of); ready = tt }
+kept (Ending said) a at job w k h = absurd (cc h)
+
+pub stays_sound : StaysSound
+stays_sound m k h a at = kept m.stage a at m.job m.walk k h
+
+-- ---- the register
+notes_at : (stage : LookupStage) (w : Walk) → is_asking stage ≡ true → (a : Answer) (at : ℕ)
+    → (walk_after stage a at w).register ≡ noted_ask w.register at (asked_at stage w).0.0 (asked_at stage w).1 (told_by a)
+notes_at Walking w h a at = walked_notes w.step a (noted (next_in w) (told_by a) at w)
+notes_at (Looking s) w h a at = refl
+notes_at (Reading b of) w h a at = refl
+notes_at (Ending said) w h a at = absurd (cc h)
+
+pub notes_each : NotesEach
+notes_each m h a at = notes_at m.stage m.walk h a at
+
+-- ---- what the code makes is what the answer makes
+pub noted_is : (w x : Walk) (b c : BrickId) (r : Request) (told heard : Told) (at : ℕ) → b.0 ≡ c.0 → told ≡ heard → x ≡ noted (b, r) told at w → x ≡ noted (c, r) heard at w
+noted_is w x b c r told heard at eb et ex = ex ∙ ap (λ (n : ℕ). noted (record { 0 = n }, r) told at w) eb ∙ ap (λ (t : Told). noted (c, r) t at w) et
+
+-- a noted look leaves the read where it stands
+pub look_kept : (w : Walk) (s : Looks) (a : Answer) (at : ℕ) → IsLookup w (Looking s) → IsLookup (walk_after (Looking s) a at w) (Looking s)
+look_kept w s a at k = record { sound = is_noted (asked_at (Looking s) w) (told_by a) at w k.sound refl; ready = k.ready }
+
+-- after the look it has somebody left to ask
+pub looked_kept : (w : Walk) (s : Looks) (a : Answer) (job : LookupJob) → IsLookup w (Looking s) → IsLookup w (stage_after (Looking s) a job w)
+looked_kept w s a job k = record { sound = k.sound; ready = is_object_looked w.shape w.step job w.object (heard_look w.shape.n (told_by a) s) (heard_within w.shape.n (told_by a) s k.ready) }
+
+pub read_kept : (w : Walk) (b : BrickId) (of : Content) (a : Answer) (at : ℕ) (job : LookupJob) → IsLookup w (Reading b of) → IsLookup (walk_after (Reading b of) a at w) (stage_after (Reading b of) a job w)
+read_kept w b of a at job k = record { sound = is_noted (asked_at (Reading b of) w) (told_by a) at w k.sound (free_request w.object.gfid of); ready = tt }

@@ -1,0 +1,155 @@
+//! The machine of one read: what it asks next, and what it makes of the answers.
+ghost use Rattle.std.specs.Prelude.{◌≡◌, ◌<◌, ◌≤◌, IfOk, not, true};
+ghost use Rattle.afr_inode_read.specs.Lookup.{IsLookup, answered, heard_by, is_asking, lookup_from, next_of};
+ghost use Rattle.afr_walk.specs.Free.{Allows};
+
+use crate::job::{LookupJob, request_of};
+use crate::stage::{LookupStage, left_by, stage_heard};
+use afr_base::{NameId, NoMemory, Shape};
+use afr_discipline::Register;
+use afr_lines::{Answer, Heard, Next, Reply, Request};
+use afr_object::{Load, TryCopy};
+use afr_walk::Walk;
+use std::alloc::Global;
+use std::marker::Model;
+use std::mem;
+
+/// A command that reads an object.
+#[derive(Drop)]
+pub struct LookupMachine {
+    alloc: Global,
+    walk: Walk,
+    job: LookupJob,
+    stage: LookupStage,
+}
+
+impl Model for LookupMachine {
+    ghost use Rattle.afr_inode_read.specs.Lookup.{Lookup, IsLookup};
+
+    ghost Value = { Lookup };
+
+    ghost view = { λ m. record { walk = m.walk; job = m.job; stage = m.stage } };
+
+    ghost invariant = { λ m. IsLookup m.walk m.stage };
+}
+
+impl LookupMachine {
+    pub fn new(
+        alloc: Global,
+        shape: Shape,
+        path: &[NameId],
+        job: LookupJob,
+    ) -> Result<LookupMachine, NoMemory>
+        requires few { shape.n ≤ 5 }
+        requires some { 0 < shape.n }
+        ensures value { IfOk result (λ machine. machine ≡ lookup_from shape path.now job) }
+    {
+        let walk = Walk::new(alloc, shape, path)?;
+        let stage = left_by(job, &walk);
+        Ok(LookupMachine {
+            alloc,
+            walk,
+            job,
+            stage,
+        })
+    }
+
+    /// Takes the memory of the coming move: a read needs none.
+    pub fn ready(&mut self) -> Result<(), NoMemory>
+        ensures { self.new ≡ self.old }
+    {
+        let _ = &self.walk;
+        Ok(())
+    }
+
+    /// The next line, whose position the log tells. Only the copy of the reply in an End line takes memory.
+    pub fn next(&self, _position: u32) -> Result<Next, NoMemory>
+        ensures value { IfOk result (λ next. next ≡ next_of self.now) }
+        ensures allowed { IfOk result (λ next. Allows self.now.walk.register next) }
+    {
+        let line = self.line()?;
+        self.stays_sound();
+        Ok(line)
+    }
+
+    /// A read carries no contents.
+    pub fn load(&self) -> Load<'_>
+        ensures { result ≡ Load.Nothing }
+    {
+        Load::Nothing
+    }
+
+    /// The line was written, and the brick has answered. An End line isn't fed.
+    pub fn feed(&mut self, heard: Heard)
+        requires { is_asking self.old.stage ≡ true }
+        ensures { self.new ≡ heard_by heard self.old }
+    {
+        match heard {
+            Heard::Answer(answer, at) => self.hear(answer, at),
+            Heard::Begun(_) => {}
+        }
+    }
+
+    /// Whether the next line is the end.
+    pub fn is_over(&self) -> bool
+        ensures { result ≡ not (is_asking self.now.stage) }
+    {
+        matches!(self.stage, LookupStage::Ending(_))
+    }
+
+    /// What the lines so far show.
+    pub fn register(&self) -> &Register
+        ensures { result.now ≡ self.now.walk.register }
+    {
+        &self.walk.register
+    }
+
+    /// What the machine keeps at every moment, for those who prove over its value.
+    pub fn stays_sound(&self)
+        ensures { IsLookup self.now.walk self.now.stage }
+    {
+        let _ = &self.walk;
+    }
+
+    fn line(&self) -> Result<Next, NoMemory>
+        ensures { IfOk result (λ next. next ≡ next_of self.now) }
+    {
+        match &self.stage {
+            LookupStage::Walking => Ok(self.walking()),
+            LookupStage::Looking(looks) => Ok(Next::Ask(
+                looks.next_brick(self.walk.shape.n),
+                Request::Look {
+                    gfid: self.walk.object.gfid,
+                },
+            )),
+            LookupStage::Reading(brick, content) => Ok(Next::Ask(
+                *brick,
+                request_of(self.walk.object.gfid, *content),
+            )),
+            LookupStage::Ending(reply) => ending(reply),
+        }
+    }
+
+    fn walking(&self) -> Next
+        requires { self.now.stage ≡ LookupStage.Walking }
+        ensures { result ≡ next_of self.now }
+    {
+        let (brick, request) = self.walk.next();
+        Next::Ask(brick, request)
+    }
+
+    fn hear(&mut self, answer: Answer, at: u32)
+        requires { is_asking self.old.stage ≡ true }
+        ensures { self.new ≡ answered answer at self.old }
+    {
+        let stage = mem::replace(&mut self.stage, LookupStage::Walking);
+        self.stage = stage_heard(self.alloc, &mut self.walk, self.job, stage, answer, at);
+    }
+}
+
+fn ending(reply: &Reply) -> Result<Next, NoMemory>
+    ensures { IfOk result (λ next. next ≡ Next.End reply.now) }
+{
+    let reply = reply.copy()?;
+    Ok(Next::End(reply))
+}

@@ -1,0 +1,235 @@
+//! The stages of a read, and what an answer makes of each.
+ghost use Rattle.std.specs.Prelude.{◌≡◌, ◌<◌, ◌≤◌, [], false, true};
+ghost use Rattle.afr_base.specs.Bricks.{is_nothing};
+ghost use Rattle.afr_inode_read.specs.Lookup.{IsLookup, after_walk, at_object, from_copy, is_asking, len_at, object_judged, object_looked, stage_after, walk_after};
+ghost use Rattle.afr_walk.specs.Walk.{IsChoice, IsWalk, is_walking};
+
+use crate::job::{Content, LookupJob, kind_of, reply_to, request_of};
+use afr_base::{BrickId, Shape, What};
+use afr_choice::{Looked, Verdict, judge};
+use afr_lines::{Answer, Good, Reply, Request, told_of};
+use afr_object::{Chunk, Entry};
+use afr_walk::{Looks, Walk, WalkStep, choose, stop_reply};
+use std::alloc::Global;
+
+/// Where a read stands.
+#[derive(Drop)]
+pub enum LookupStage {
+    /// The path is walked.
+    Walking,
+    /// The copies of the object are looked at.
+    Looking(Looks),
+    /// A good copy is read.
+    Reading(BrickId, Content),
+    Ending(Reply),
+}
+
+/// Where a walk leaves the read.
+pub(crate) fn left_by(job: LookupJob, walk: &Walk) -> LookupStage
+    requires { IsWalk walk.now }
+    ensures value { result ≡ after_walk job walk.now }
+    ensures kept { IsLookup walk.now result }
+{
+    match walk.step {
+        WalkStep::Looking(_) | WalkStep::Naming(_) => LookupStage::Walking,
+        WalkStep::Arrived => arrived(job, walk.object.what),
+        WalkStep::Stopped(stop) => LookupStage::Ending(stop_reply(stop)),
+    }
+}
+
+fn arrived(job: LookupJob, what: What) -> LookupStage
+    ensures { result ≡ at_object job what }
+{
+    match job {
+        LookupJob::Read { .. } => of_file(what),
+        LookupJob::Ls => of_dir(what),
+        LookupJob::GetAttr { .. } | LookupJob::Stat => LookupStage::Looking(Looks::new()),
+    }
+}
+
+fn of_file(what: What) -> LookupStage
+    ensures { result ≡ at_object (LookupJob.Read 0 0) what }
+{
+    match what {
+        What::File => LookupStage::Looking(Looks::new()),
+        What::Dir => LookupStage::Ending(Reply::IsDir),
+    }
+}
+
+fn of_dir(what: What) -> LookupStage
+    ensures { result ≡ at_object LookupJob.Ls what }
+{
+    match what {
+        What::Dir => LookupStage::Looking(Looks::new()),
+        What::File => LookupStage::Ending(Reply::NotDir),
+    }
+}
+
+/// The stage after an answer at this position, which the walk's register notes.
+pub(crate) fn stage_heard(
+    alloc: Global,
+    walk: &mut Walk,
+    job: LookupJob,
+    stage: LookupStage,
+    answer: Answer,
+    at: u32,
+) -> LookupStage
+    requires sound { IsLookup walk.old stage }
+    requires asking { is_asking stage ≡ true }
+    ensures walk { walk.new ≡ walk_after stage answer at walk.old }
+    ensures stage { result ≡ stage_after stage answer job (walk_after stage answer at walk.old) }
+    ensures kept { IsLookup walk.new result }
+{
+    match stage {
+        LookupStage::Walking => walk_heard(walk, job, &answer, at),
+        LookupStage::Looking(looks) => looks_heard(alloc, walk, job, looks, &answer, at),
+        LookupStage::Reading(brick, content) => read_heard(walk, brick, content, answer, at),
+        LookupStage::Ending(reply) => LookupStage::Ending(reply),
+    }
+}
+
+fn walk_heard(walk: &mut Walk, job: LookupJob, answer: &Answer, at: u32) -> LookupStage
+    requires { IsLookup walk.old LookupStage.Walking }
+    ensures walk { walk.new ≡ walk_after LookupStage.Walking answer.now at walk.old }
+    ensures stage { result ≡ after_walk job walk.new }
+    ensures kept { IsLookup walk.new result }
+{
+    walk.hear(answer, at);
+    left_by(job, walk)
+}
+
+fn looks_heard(
+    alloc: Global,
+    walk: &mut Walk,
+    job: LookupJob,
+    looks: Looks,
+    answer: &Answer,
+    at: u32,
+) -> LookupStage
+    requires { IsLookup walk.old (LookupStage.Looking looks) }
+    ensures walk { walk.new ≡ walk_after (LookupStage.Looking looks) answer.now at walk.old }
+    ensures stage { result ≡ stage_after (LookupStage.Looking looks) answer.now job walk.new }
+    ensures kept { IsLookup walk.new result }
+{
+    look_noted(walk, &looks, answer, at);
+    looked_on(alloc, walk, job, looks, answer)
+}
+
+fn look_noted(walk: &mut Walk, looks: &Looks, answer: &Answer, at: u32)
+    requires { IsLookup walk.old (LookupStage.Looking looks.now) }
+    ensures walk { walk.new ≡ walk_after (LookupStage.Looking looks.now) answer.now at walk.old }
+    ensures kept { IsLookup walk.new (LookupStage.Looking looks.now) }
+{
+    let told = told_of(answer);
+    let brick = looks.next_brick(walk.shape.n);
+    let request = Request::Look {
+        gfid: walk.object.gfid,
+    };
+    walk.note(brick, &request, &told, at);
+}
+
+fn looked_on(
+    alloc: Global,
+    walk: &Walk,
+    job: LookupJob,
+    looks: Looks,
+    answer: &Answer,
+) -> LookupStage
+    requires { IsLookup walk.now (LookupStage.Looking looks) }
+    ensures stage { result ≡ stage_after (LookupStage.Looking looks) answer.now job walk.now }
+    ensures kept { IsLookup walk.now result }
+{
+    let mut looks = looks;
+    looks.hear(walk.shape.n, &told_of(answer));
+    looked_at(alloc, walk.shape, job, walk.object, &looks)
+}
+
+/// The verdict comes when all were asked.
+fn looked_at(
+    alloc: Global,
+    shape: Shape,
+    job: LookupJob,
+    object: Entry,
+    looks: &Looks,
+) -> LookupStage
+    requires { shape.n ≤ 5 }
+    ensures { result ≡ object_looked shape job object looks.now }
+{
+    if !looks.is_over(shape.n) {
+        return LookupStage::Looking(*looks);
+    }
+    let kind = kind_of(job, object.what);
+    let verdict = judge(&shape, &looks.looked, kind);
+    judged(alloc, job, object, verdict, &looks.looked)
+}
+
+fn read_heard(
+    walk: &mut Walk,
+    brick: BrickId,
+    content: Content,
+    answer: Answer,
+    at: u32,
+) -> LookupStage
+    requires { IsLookup walk.old (LookupStage.Reading brick content) }
+    ensures walk { walk.new ≡ walk_after (LookupStage.Reading brick content) answer at walk.old }
+    ensures stage { result ≡ stage_after (LookupStage.Reading brick content) answer LookupJob.Ls walk.new }
+    ensures kept { IsLookup walk.new result }
+{
+    let told = told_of(&answer);
+    let request = request_of(walk.object.gfid, content);
+    walk.note(brick, &request, &told, at);
+    LookupStage::Ending(reply_to(answer))
+}
+
+fn judged(
+    alloc: Global,
+    job: LookupJob,
+    object: Entry,
+    verdict: Verdict,
+    looked: &Looked,
+) -> LookupStage
+    requires { IsChoice verdict }
+    ensures { result ≡ object_judged job object verdict looked.now }
+{
+    match verdict {
+        Verdict::Short => LookupStage::Ending(Reply::NoQuorum),
+        Verdict::Bare => LookupStage::Ending(Reply::FewCopies),
+        Verdict::Split => LookupStage::Ending(Reply::SplitBrain(looked.views)),
+        Verdict::Sources(sources) => reading(alloc, job, object, looked, choose(sources)),
+    }
+}
+
+fn reading(
+    alloc: Global,
+    job: LookupJob,
+    object: Entry,
+    looked: &Looked,
+    brick: BrickId,
+) -> LookupStage
+    requires { brick.0 < 5 }
+    ensures { result ≡ from_copy job object looked.now brick }
+{
+    match job {
+        LookupJob::Read { len: 0, .. } => {
+            LookupStage::Ending(Reply::Ok(Good::Bytes(Chunk::new(alloc))))
+        }
+        LookupJob::Read { at, len } => LookupStage::Reading(brick, Content::Bytes { at, len }),
+        LookupJob::GetAttr { key } => LookupStage::Reading(brick, Content::Value { key }),
+        LookupJob::Ls => LookupStage::Reading(brick, Content::Names),
+        LookupJob::Stat => LookupStage::Ending(Reply::Ok(Good::Stat {
+            entry: object,
+            len: len_at(looked, brick),
+        })),
+    }
+}
+
+/// The length that a brick showed.
+fn len_at(looked: &Looked, brick: BrickId) -> u32
+    requires { brick.0 < 5 }
+    ensures { result ≡ len_at brick.0 looked.now }
+{
+    match &looked.views[brick.0 as usize] {
+        Some(view) => view.len,
+        None => 0,
+    }
+}

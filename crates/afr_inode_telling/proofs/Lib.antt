@@ -1,0 +1,11 @@
+pub mod LooksSame
+pub mod LooksMore
+pub mod Quiet
+pub mod LookHeard
+pub mod Walking
+pub mod Ended
+pub mod ReadsTell
+pub mod ReadsMore
+pub mod Untouched
+pub mod WalksEnd
+pub mod ChangeWords

@@ -1,0 +1,170 @@
+-- Every step of a walk has somebody left to ask, and its register is one of free lines.
+use Rattle.std.proofs.Common.{◌≡◌, ℕ, ◌+◌, ◌<◌, ◌≤◌, ◌==◌, Bool, true, false, not, List, [], ◌∷◌, refl, arith, length, Option, Some, None, if◌then◌else◌, inl, inr, ◌⊎◌, ◌≢◌, ap, ◌∙◌}
+use Rattle.std.proofs.lemmas.Bool.Decides.{eqb_tells}
+use Rattle.afr_base.specs.Bricks.{below, lowest, is_nothing, IsWithin}
+use Rattle.afr_base.specs.Majority.{is_majority}
+use Rattle.afr_base.specs.SetLemmas.{lowest_in, lowest_left, below_some, within_below, within_added_if, within_removed_if}
+use Rattle.afr_base.specs.declared.ids.Kind.{Kind}
+use Rattle.afr_base.specs.declared.ids.Kind.TheVariants.{Names}
+use Rattle.afr_base.specs.declared.ids.NameId.{NameId}
+use Rattle.afr_base.specs.declared.ids.Shape.{Shape}
+use Rattle.afr_object.specs.Tables.{is_dir}
+use Rattle.afr_object.specs.declared.entry.Entry.{Entry}
+use Rattle.afr_object.specs.declared.entry.View.{View}
+use Rattle.afr_choice.specs.Verdict.{verdict_of, good_copies, copies_of}
+use Rattle.afr_choice.specs.VerdictLemmas.{good_are_holders, holders_are_reached}
+use Rattle.afr_choice.specs.declared.looked.Looked.{Looked}
+use Rattle.afr_choice.specs.declared.verdict.Verdict.{Verdict}
+use Rattle.afr_choice.specs.declared.verdict.Verdict.TheVariants.{Short, Bare, Split, Sources}
+use Rattle.afr_lines.specs.Told.{told_by}
+use Rattle.afr_lines.specs.declared.answer.Answer.{Answer}
+use Rattle.afr_lines.specs.declared.answer.Answer.TheVariants as answer
+use Rattle.afr_lines.specs.declared.answer.Told.{Told}
+use Rattle.afr_lines.specs.declared.answer.Told.TheVariants as told_of
+use Rattle.afr_lines.specs.declared.request.Request.{Request}
+use Rattle.afr_base.specs.declared.ids.BrickId.{BrickId}
+use Rattle.afr_walk.specs.Free.{AllowsAsk, is_free}
+use Rattle.afr_walk.specs.Looks.{no_look, left_to_look, noted_look, heard_look, IsLooks}
+use Rattle.afr_walk.specs.Walk.{root_entry, step_at, walk_from, is_walking, next_in, next_at, verdict_step, after_looks, named, noted, walked, walked_at, IsStep, IsWalk, IsChoice}
+use Rattle.afr_walk.specs.declared.looks.Looks.{Looks}
+use Rattle.afr_walk.specs.declared.stop.Stop.TheVariants.{NotDir}
+use Rattle.afr_walk.specs.declared.walk.Walk.{Walk}
+use Rattle.afr_walk.specs.declared.walk.WalkStep.{WalkStep}
+use Rattle.afr_walk.specs.declared.walk.WalkStep.TheVariants.{Looking, Naming, Arrived, Stopped}
+use Rattle.afr_walk.proofs.FreeLemmas.{allows_free, stays_free}
+
+-- ---- looks
+-- nobody was asked, and there is some brick
+pub no_look_is : (n : ℕ) → 0 < n → IsLooks n no_look
+no_look_is n some = record { left = below_some n some; reached = λ b m. absurd (cc m) }
+
+-- the brick that is asked is one of the volume
+pub asked_below : (n : ℕ) (s : Looks) → is_nothing (left_to_look n s) ≡ false → lowest (left_to_look n s) < n
+asked_below n s left = within_below n _ (lowest_left (below n) s.asked left).1
+
+reached_more : (n b : ℕ) (told : Told) (looked : Looked) → b < n → IsWithin n looked.reached → IsWithin n (noted_look b told looked).reached
+reached_more n b (told_of.Seen view) looked l h = within_added_if n b looked.reached true l h
+reached_more n b told_of.NoObject looked l h = within_added_if n b looked.reached true l h
+reached_more n b told looked l h = within_removed_if n b looked.reached true h
+
+-- those that answered are bricks of the volume
+pub heard_within : (n : ℕ) (told : Told) (s : Looks) → IsLooks n s → IsWithin n (heard_look n told s).looked.reached
+heard_within n told s k = reached_more n (lowest (left_to_look n s)) told s.looked (asked_below n s k.left) k.reached
+
+-- ---- verdicts
+-- a verdict with sources has one
+pub choice : (shape : Shape) (looked : Looked) (kind : Kind) → IsChoice (verdict_of shape looked kind)
+choice shape looked kind = go (is_majority shape.n looked.reached) (is_nothing (copies_of shape looked kind)) (good_copies shape looked kind)
+  where
+    go : (a b : Bool) (t : List ℕ) → IsChoice (if not a then Short else (if b then Bare else (if is_nothing t then Split else Sources t)))
+    go false b t = tt
+    go true true t = tt
+    go true false [] = tt
+    go true false (x ∷ xs) = refl
+
+-- the lowest of the sources is a brick below n
+abbrev pub HasLow : ℕ → Verdict → Type 0
+HasLow n (Sources s) = lowest s < n
+HasLow n other = Unit {0}
+
+pub low : (shape : Shape) (looked : Looked) (kind : Kind) → IsWithin shape.n looked.reached → HasLow shape.n (verdict_of shape looked kind)
+low shape looked kind within = go (is_majority shape.n looked.reached) (is_nothing (copies_of shape looked kind)) (good_copies shape looked kind)
+    (λ b m. within b (holders_are_reached looked b (good_are_holders shape looked kind b m)))
+  where
+    go : (a b : Bool) (t : List ℕ) → IsWithin shape.n t → HasLow shape.n (if not a then Short else (if b then Bare else (if is_nothing t then Split else Sources t)))
+    go false b t w = tt
+    go true true t w = tt
+    go true false [] w = tt
+    go true false (x ∷ xs) w = w x (lowest_in (x ∷ xs) refl)
+
+-- ---- steps
+pub is_step_at : (n names read : ℕ) (object : Entry) → 0 < n → read ≤ names → IsStep n names read (step_at names read object)
+is_step_at n names read object some within = go (read == names) (is_dir object.what) (eqb_tells read names)
+  where
+    go : (e d : Bool) → (e ≡ true) × (read ≡ names) ⊎ (e ≡ false) × (read ≢ names) → IsStep n names read (if e then Arrived else (if d then Looking no_look else Stopped NotDir))
+    go true d (inl h) = h.1
+    go true d (inr h) = absurd (cc h.0)
+    go false d (inl h) = absurd (cc h.0)
+    go false true (inr h) = let other = h.1 in (no_look_is n some, omega (arith, within, other))
+    go false false (inr h) = tt
+
+is_verdict_step : (n names read : ℕ) (v : Verdict) (views : List (Option View)) → read < names → HasLow n v → IsStep n names read (verdict_step v views)
+is_verdict_step n names read Short views l h = tt
+is_verdict_step n names read Bare views l h = tt
+is_verdict_step n names read Split views l h = tt
+is_verdict_step n names read (Sources s) views l h = (h, l)
+
+pub is_after_looks : (shape : Shape) (names read : ℕ) (s : Looks) → IsWithin shape.n s.looked.reached → read < names → IsStep shape.n names read (after_looks shape s)
+is_after_looks shape names read s within l = go (is_nothing (left_to_look shape.n s)) refl
+  where
+    go : (e : Bool) → is_nothing (left_to_look shape.n s) ≡ e → IsStep shape.n names read (if e then verdict_step (verdict_of shape s.looked Names) s.looked.views else Looking s)
+    go true k = is_verdict_step shape.n names read (verdict_of shape s.looked Names) s.looked.views l (low shape s.looked Names within)
+    go false k = (record { left = k; reached = within }, l)
+
+-- ---- walks
+pub is_walk_from : (shape : Shape) (path : List NameId) → shape.n ≤ 5 → 0 < shape.n → IsWalk (walk_from shape path)
+is_walk_from shape path few some = record {
+  few = few;
+  some = some;
+  within = omega arith;
+  step = is_step_at shape.n (length path) 0 root_entry some (omega arith);
+  free = inl refl;
+}
+
+-- a line of free requests leaves a walk one
+pub is_noted : (asked : BrickId × Request) (told : Told) (at : ℕ) (w : Walk) → IsWalk w → is_free asked.1 ≡ true → IsWalk (noted asked told at w)
+is_noted asked told at w k h = record { few = k.few; some = k.some; within = k.within; step = k.step; free = stays_free w.shape w.register at asked.0.0 asked.1 told k.free h }
+
+is_named : (heard : Answer) (w : Walk) → w.read < length w.path → IsWalk w → IsWalk (named heard w)
+is_named (answer.Entry (Some entry)) w l k = record {
+  few = k.few;
+  some = k.some;
+  within = omega (arith, l);
+  step = is_step_at w.shape.n (length w.path) (w.read + 1) entry k.some (omega (arith, l));
+  free = k.free;
+}
+is_named (answer.Entry None) w l k = record { few = k.few; some = k.some; within = k.within; step = tt; free = k.free }
+is_named heard w l k = record { few = k.few; some = k.some; within = k.within; step = tt; free = k.free }
+
+-- what a walk asks is a free request to a brick of the volume
+pub asks_free : (w : Walk) → IsWalk w → is_walking w.step ≡ true → (is_free (next_in w).1 ≡ true) × ((next_in w).0.0 < w.shape.n)
+asks_free w k walks = go w.step k.step walks
+  where
+    go : (step : WalkStep) → IsStep w.shape.n (length w.path) w.read step → is_walking step ≡ true → (is_free (next_at step w).1 ≡ true) × ((next_at step w).0.0 < w.shape.n)
+    go (Looking s) i h = (refl, asked_below w.shape.n s i.0.left)
+    go (Naming b) i h = (refl, i.0)
+    go Arrived i h = absurd (cc h)
+    go (Stopped why) i h = absurd (cc h)
+
+-- and so the discipline allows it
+pub asks_allowed : (w : Walk) → IsWalk w → is_walking w.step ≡ true → AllowsAsk w.register (next_in w).0 (next_in w).1
+asks_allowed w k walks = let asks = asks_free w k walks in allows_free w.shape w.register (next_in w).0 (next_in w).1 k.free asks.0 asks.1
+
+pub is_walked_at : (step : WalkStep) (heard : Answer) (w : Walk) → IsWalk w → IsStep w.shape.n (length w.path) w.read step → IsWalk (walked_at step heard w)
+is_walked_at (Looking s) heard w k i = record {
+  few = k.few;
+  some = k.some;
+  within = k.within;
+  step = is_after_looks w.shape (length w.path) w.read (heard_look w.shape.n (told_by heard) s) (heard_within w.shape.n (told_by heard) s i.0) i.1;
+  free = k.free;
+}
+is_walked_at (Naming b) heard w k i = is_named heard w i.1 k
+is_walked_at Arrived heard w k i = k
+is_walked_at (Stopped why) heard w k i = k
+
+pub is_walked : (heard : Answer) (at : ℕ) (w : Walk) → IsWalk w → is_walking w.step ≡ true → IsWalk (walked heard at w)
+is_walked heard at w k walks = is_walked_at w.step heard (noted (next_in w) (told_by heard) at w) (is_noted (next_in w) (told_by heard) at w k (asks_free w k walks).0) k.step
+
+-- what the code makes is what the answer makes
+pub heard_is : (w x y : Walk) (heard : Answer) (told : Told) (asked : BrickId × Request) (at : ℕ) → told ≡ told_by heard → asked ≡ next_in w → x ≡ noted asked told at w → y ≡ walked_at x.step heard x → y ≡ walked heard at w
+heard_is w x y heard told asked at et ea ex ey =
+    ey ∙ ap (λ (z : Walk). walked_at z.step heard z) (ex ∙ ap (λ (a : BrickId × Request). noted a told at w) ea ∙ ap (λ (t : Told). noted (next_in w) t at w) et)
+
+-- an answer moves the walk alone, and not its register
+pub walked_notes : (step : WalkStep) (a : Answer) (w : Walk) → (walked_at step a w).register ≡ w.register
+walked_notes (Looking s) a w = refl
+walked_notes (Naming b) (answer.Entry (Some entry)) w = refl
+walked_notes (Naming b) (answer.Entry None) w = refl
+walked_notes (Naming b) a w = refl
+walked_notes Arrived a w = refl
+walked_notes (Stopped why) a w = refl

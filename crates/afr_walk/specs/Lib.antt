@@ -1,0 +1,4 @@
+pub mod Free
+pub mod Looks
+pub mod Stops
+pub mod Walk

@@ -1,0 +1,217 @@
+//! Walking a path: each name is read from a good copy of the directory that the names before it lead to.
+ghost use Rattle.std.specs.Prelude.{◌≡◌, ◌<◌, ◌≤◌, ◌+◌, IfOk, length, false, true};
+ghost use Rattle.afr_base.specs.Bricks.{is_nothing};
+ghost use Rattle.afr_discipline.specs.Notes.{noted_ask};
+ghost use Rattle.afr_walk.specs.Free.{AllowsAsk, IsFree, is_free};
+ghost use Rattle.afr_walk.specs.Looks.{IsLooks, heard_look, left_to_look};
+ghost use Rattle.afr_walk.specs.Walk.{IsChoice, IsStep, IsWalk, after_looks, is_walking, named, next_in, noted, step_at, verdict_step, walk_from, walked, walked_at};
+
+use crate::looks::Looks;
+use crate::stop::Stop;
+use crate::verdicts::choose;
+use afr_base::{BrickId, Gfid, Kind, NameId, NoMemory, Shape, What};
+use afr_choice::{Verdict, judge};
+use afr_discipline::{Move, Register, fresh, note};
+use afr_lines::{Answer, Request, Told, told_of};
+use afr_object::{Entry, List, View};
+use std::alloc::Global;
+
+/// Where a walk stands.
+#[derive(Clone, Copy, Debug)]
+pub enum WalkStep {
+    /// The bricks are looked at, for the directory that was reached.
+    Looking(Looks),
+    /// A good copy is asked for the next name.
+    Naming(BrickId),
+    /// The path leads to the object.
+    Arrived,
+    /// The walk has ended early.
+    Stopped(Stop),
+}
+
+/// A path on its way from the root.
+#[derive(Drop)]
+pub struct Walk {
+    pub shape: Shape,
+    pub path: List<NameId>,
+    /// How many names were read.
+    pub read: usize,
+    /// The object that they lead to.
+    pub object: Entry,
+    pub step: WalkStep,
+    /// What the lines so far show.
+    pub register: Register,
+}
+
+impl Walk {
+    /// Nobody was asked yet; a path of no names leads to the root.
+    pub fn new(alloc: Global, shape: Shape, path: &[NameId]) -> Result<Walk, NoMemory>
+        requires few { shape.n ≤ 5 }
+        requires some { 0 < shape.n }
+        ensures ok { IfOk result (λ walk. walk ≡ walk_from shape path.now) }
+        ensures kept { IfOk result (λ walk. IsWalk walk) }
+    {
+        let mut names = List::new(alloc);
+        for name in path {
+            names.push(*name)?;
+        }
+        let root = Entry {
+            gfid: Gfid(1),
+            what: What::Dir,
+        };
+        Ok(Walk {
+            shape,
+            step: step_from(names.len(), 0, root),
+            path: names,
+            read: 0,
+            object: root,
+            register: fresh(shape),
+        })
+    }
+
+    /// What is asked next, while the walk goes on.
+    pub fn next(&self) -> (BrickId, Request)
+        requires walk { IsWalk self.now }
+        requires walking { is_walking self.now.step ≡ true }
+        ensures value { result ≡ next_in self.now }
+        ensures allowed { AllowsAsk self.now.register result.0 result.1 }
+        ensures small { result.0.0 < 5 }
+    {
+        self.asked()
+    }
+
+    /// The brick has answered at this position.
+    pub fn hear(&mut self, answer: &Answer, at: u32)
+        requires walk { IsWalk self.old }
+        requires walking { is_walking self.old.step ≡ true }
+        ensures value { self.new ≡ walked answer.now at self.old }
+        ensures kept { IsWalk self.new }
+    {
+        let told = told_of(answer);
+        let (brick, request) = self.next();
+        self.note(brick, &request, &told, at);
+        self.go_on(answer);
+    }
+
+    /// A look or a read of the same work was told this, at this position.
+    pub fn note(&mut self, brick: BrickId, request: &Request, told: &Told, at: u32)
+        requires walk { IsWalk self.old }
+        requires small { brick.0 < 5 }
+        requires free { is_free request.now ≡ true }
+        ensures value { self.new ≡ noted (brick, request.now) told.now at self.old }
+        ensures kept { IsWalk self.new }
+    {
+        note_free(self.shape, &mut self.register, brick, request, told, at);
+    }
+
+    fn asked(&self) -> (BrickId, Request)
+        requires walk { IsWalk self.now }
+        requires walking { is_walking self.now.step ≡ true }
+        ensures { result ≡ next_in self.now }
+    {
+        match self.step {
+            WalkStep::Looking(looks) => (
+                looks.next_brick(self.shape.n),
+                Request::Look {
+                    gfid: self.object.gfid,
+                },
+            ),
+            WalkStep::Naming(brick) => (
+                brick,
+                Request::ReadName {
+                    gfid: self.object.gfid,
+                    name: *self.path.item(self.read),
+                },
+            ),
+            _ => unreachable!(),
+        }
+    }
+
+    fn go_on(&mut self, answer: &Answer)
+        requires walk { IsWalk self.old }
+        ensures value { self.new ≡ walked_at self.old.step answer.now self.old }
+        ensures kept { IsWalk self.new }
+    {
+        match self.step {
+            WalkStep::Looking(looks) => {
+                self.step = look_heard(self.shape, looks, &told_of(answer));
+            }
+            WalkStep::Naming(_) => self.name_heard(answer),
+            _ => {}
+        }
+    }
+
+    fn name_heard(&mut self, answer: &Answer)
+        requires { self.old.read < length self.old.path }
+        ensures { self.new ≡ named answer.now self.old }
+    {
+        match answer {
+            Answer::Entry(Some(entry)) => {
+                let names = self.path.len();
+                self.read += 1;
+                self.object = *entry;
+                self.step = step_from(names, self.read, *entry);
+            }
+            Answer::Entry(None) => self.step = WalkStep::Stopped(Stop::NoEntry),
+            _ => self.step = WalkStep::Stopped(Stop::Failed),
+        }
+    }
+}
+
+fn note_free(
+    shape: Shape,
+    register: &mut Register,
+    brick: BrickId,
+    request: &Request,
+    told: &Told,
+    at: u32,
+)
+    requires free { IsFree shape register.old }
+    requires few { shape.n ≤ 5 }
+    requires small { brick.0 < 5 }
+    requires asks { is_free request.now ≡ true }
+    ensures value { register.new ≡ noted_ask register.old at brick.0 request.now told.now }
+    ensures kept { IsFree shape register.new }
+{
+    note(register, &Move::Ask(brick, request), told, at);
+}
+
+fn step_from(names: usize, read: usize, object: Entry) -> WalkStep
+    ensures { result ≡ step_at names read object }
+{
+    if read == names {
+        return WalkStep::Arrived;
+    }
+    match object.what {
+        What::Dir => WalkStep::Looking(Looks::new()),
+        What::File => WalkStep::Stopped(Stop::NotDir),
+    }
+}
+
+fn look_heard(shape: Shape, looks: Looks, told: &Told) -> WalkStep
+    requires few { shape.n ≤ 5 }
+    requires left { is_nothing (left_to_look shape.n looks) ≡ false }
+    ensures { result ≡ after_looks shape (heard_look shape.n told.now looks) }
+{
+    let mut looks = looks;
+    looks.hear(shape.n, told);
+    if !looks.is_over(shape.n) {
+        return WalkStep::Looking(looks);
+    }
+    judged(
+        judge(&shape, &looks.looked, Kind::Names),
+        looks.looked.views,
+    )
+}
+
+fn judged(verdict: Verdict, views: [Option<View>; 5]) -> WalkStep
+    requires { IsChoice verdict }
+    ensures { result ≡ verdict_step verdict views }
+{
+    match verdict {
+        Verdict::Short => WalkStep::Stopped(Stop::NoQuorum),
+        Verdict::Bare => WalkStep::Stopped(Stop::FewCopies),
+        Verdict::Split => WalkStep::Stopped(Stop::SplitBrain(views)),
+        Verdict::Sources(sources) => WalkStep::Naming(choose(sources)),
+    }
+}
