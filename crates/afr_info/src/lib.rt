@@ -7,8 +7,6 @@ mod marked;
 mod marks;
 mod objects;
 mod reach;
-mod text;
 mod verdicts;
 
 pub use info::print_info;
-pub use text::{kind_word, push_gfid, push_word};

@@ -7,12 +7,12 @@ ghost use Rattle.afr_info.specs.Shown.{counted_shown, lines_shown, object_text, 
 use crate::looking::look;
 use crate::marked::marked;
 use crate::marks::push_all_marks;
-use crate::text::push_gfid;
 use crate::verdicts::push_verdict;
 use afr_base::{BrickSet, Gfid, Kind, NoMemory, What};
 use afr_brick::Brick;
 use afr_choice::Looked;
 use afr_plan::Plan;
+use afr_replies::push_gfid;
 
 /// Adds how many objects may need heal, each of them, and how many kinds are split.
 pub fn push_objects(

@@ -6,10 +6,10 @@ ghost use Rattle.afr_info.specs.Shown.{HasRising};
 
 use crate::looking::is_clean;
 use crate::reach::push_bricks;
-use crate::text::{kind_word, push_word};
 use afr_base::{BrickSet, Kind, NoMemory};
 use afr_choice::{Looked, Verdict, judge};
 use afr_plan::Plan;
+use afr_replies::{kind_word, push_word};
 
 /// Adds the line of a kind, where it has a number above 0, and gives how many of them are split.
 pub fn push_verdict(

@@ -1,4 +1,3 @@
 pub mod BrickLinesLemmas
 pub mod CommandLemmas
-mod NamesLemmas
 mod VolumeLemmas

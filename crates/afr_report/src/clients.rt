@@ -3,8 +3,8 @@ ghost use Rattle.std.specs.Prelude.{◌≡◌, ◌++◌, ◌≤◌, OnOk, length
 ghost use Rattle.std.specs.Option.{option_copied};
 ghost use Rattle.afr_model.specs.Report.{client_head, client_text, clients_text, ended_lines};
 
+use crate::commands::push_command;
 use crate::progress::{Progress, progress_of, reply_by, standing};
-use crate::replies::push_command;
 use afr_base::{ActorId, NoMemory};
 use afr_lines::Line;
 use afr_plan::{Command, Script, Words};

@@ -5,10 +5,10 @@ ghost use Rattle.afr_report.specs.Heals.{healer_head, round_with};
 
 use crate::heals::push_heal;
 use crate::progress::{Progress, progress_of, reply_by, standing};
-use crate::replies::push_reply;
 use afr_base::{ActorId, NoMemory};
 use afr_lines::{Line, Reply};
 use afr_plan::{RoundList, Words};
+use afr_replies::push_reply;
 
 /// Adds the texts of all healers. Healer 1 has the first rounds.
 pub fn push_healers(

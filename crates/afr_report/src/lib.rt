@@ -2,16 +2,13 @@
 #![tactic(auto)]
 
 mod clients;
+mod commands;
 mod events;
 mod healers;
 mod heals;
-mod names;
-mod numbers;
 mod of_volume;
 mod progress;
-mod replies;
 mod report;
-mod words;
 
 pub use events::started;
 pub use of_volume::{info_text, report_text};
