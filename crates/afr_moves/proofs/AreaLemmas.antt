@@ -3,13 +3,10 @@ use Rattle.afr_moves.specs.Lines.{range_of, name_of}
 use Rattle.afr_lines.specs.Overlap.{same_area}
 use Rattle.std.proofs.Common.{◌≡◌, ℕ, Bool, true, false, ◌&&◌, ap, arith}
 use Rattle.std.specs.Prelude.{Option, None, Some, ◌==◌}
-use Rattle.std.proofs.lemmas.Bool.Decides.{nat_tests}
 use Rattle.afr_lines.specs.declared.request.Area.{Area}
 use Rattle.afr_lines.specs.declared.request.Area.TheVariants.{Range, Name}
 use Rattle.afr_moves.specs.Rules.{is_area}
-
-same_yes : (x y : ℕ) → (x == y) ≡ true → x ≡ y
-same_yes x y e = grind (arith, nat_tests)
+use Rattle.std.proofs.lemmas.Bool.{eqb-true, and_parts}
 
 pub same_area_is : (a b : Area) → same_area a b ≡ true → a ≡ b
 same_area_is (Range g from to) (Range h start stop) e = three g.0 h.0 from start to stop (all_three (g.0 == h.0) (from == start) (to == stop) e)
@@ -18,21 +15,15 @@ same_area_is (Range g from to) (Range h start stop) e = three g.0 h.0 from start
     all_three x y z e = grind arith
 
     three : (g h from start to stop : ℕ) → ((g == h) ≡ true) × ((from == start) ≡ true) × ((to == stop) ≡ true) → range_of g from to ≡ range_of h start stop
-    three g h from start to stop w = λ i. range_of (same_yes g h w.0 i) (same_yes from start w.1 i) (same_yes to stop w.2 i)
-same_area_is (Name g None) (Name h None) e = two g.0 h.0 (both (g.0 == h.0) true e).0
+    three g h from start to stop w = λ i. range_of (eqb-true g h w.0 i) (eqb-true from start w.1 i) (eqb-true to stop w.2 i)
+same_area_is (Name g None) (Name h None) e = two g.0 h.0 (and_parts (g.0 == h.0) true e).0
   where
-    both : (x y : Bool) → (x && y) ≡ true → (x ≡ true) × (y ≡ true)
-    both x y e = grind arith
-
     two : (g h : ℕ) → (g == h) ≡ true → name_of g None ≡ name_of h None
-    two g h w = λ i. name_of (same_yes g h w i) None
-same_area_is (Name g (Some n)) (Name h (Some m)) e = two g.0 h.0 n.0 m.0 (both (g.0 == h.0) (n.0 == m.0) e)
+    two g h w = λ i. name_of (eqb-true g h w i) None
+same_area_is (Name g (Some n)) (Name h (Some m)) e = two g.0 h.0 n.0 m.0 (and_parts (g.0 == h.0) (n.0 == m.0) e)
   where
-    both : (x y : Bool) → (x && y) ≡ true → (x ≡ true) × (y ≡ true)
-    both x y e = grind arith
-
     two : (g h n m : ℕ) → ((g == h) ≡ true) × ((n == m) ≡ true) → name_of g (Some (record { 0 = n })) ≡ name_of h (Some (record { 0 = m }))
-    two g h n m w = λ i. name_of (same_yes g h w.0 i) (Some (record { 0 = same_yes n m w.1 i }))
+    two g h n m w = λ i. name_of (eqb-true g h w.0 i) (Some (record { 0 = eqb-true n m w.1 i }))
 same_area_is (Range g from to) (Name h None) e = absurd (cc e)
 same_area_is (Range g from to) (Name h (Some m)) e = absurd (cc e)
 same_area_is (Name g None) (Range h start stop) e = absurd (cc e)

@@ -6,12 +6,8 @@ use Rattle.std.proofs.lemmas.Bool.Decides.{nat_tests}
 use Rattle.afr_lines.specs.declared.line.Line.{Line}
 use Rattle.afr_lines.specs.Log.{from_oldest}
 use Rattle.afr_moves.specs.Past.{Log, before}
-
-same_self : (b : ℕ) → (b == b) ≡ true
-same_self b = grind (arith, nat_tests)
-
-same_no : (p t : ℕ) → p < t → (p == t) ≡ false
-same_no p t h = grind (arith, nat_tests)
+use Rattle.afr_moves.proofs.Tests.{same_self, same_no}
+use Rattle.std.proofs.lemmas.Bool.{eqb-true, ltb-true, ltb-false}
 
 -- these are the first lines of a log
 abbrev pub IsPast : Log → List Line → Type 0
@@ -45,26 +41,17 @@ pub past_at : (L : Log) (older : List Line) → IsPast L older → (q : ℕ) →
 past_at L [] h q low = absurd (omega arith)
 past_at L (line ∷ older) h q low = go (q == length older) refl (λ less. past_at L older h.1 q less)
   where
-    equal : (q n : ℕ) → (q == n) ≡ true → q ≡ n
-    equal q n e = grind (arith, nat_tests)
-
     less : (q n : ℕ) → (q == n) ≡ false → q < suc n → q < n
     less q n e low = grind (arith, nat_tests)
 
     go : (new : Bool) → (q == length older) ≡ new → (q < length older → L q ≡ from_oldest q older) → L q ≡ (if new then Some line else from_oldest q older)
-    go true e rest = rw (equal q (length older) e) h.0
+    go true e rest = rw (eqb-true q (length older) e) h.0
     go false e rest = rest (less q (length older) e low)
 
 -- the lines before a position are those of the list
 pub before_past : (L : Log) (older : List Line) → IsPast L older → (q : ℕ) → before L (length older) q ≡ from_oldest q older
 before_past L older h q = go (nat_lt q (length older)) refl
   where
-    less : (q n : ℕ) → nat_lt q n ≡ true → q < n
-    less q n e = grind (arith, nat_tests)
-
-    more : (q n : ℕ) → nat_lt q n ≡ false → n ≤ q
-    more q n e = grind (arith, nat_tests)
-
     go : (hit : Bool) → nat_lt q (length older) ≡ hit → (if hit then L q else None) ≡ from_oldest q older
-    go true e = past_at L older h q (less q (length older) e)
-    go false e = sym (none_at older q (more q (length older) e))
+    go true e = past_at L older h q (ltb-true q (length older) e)
+    go false e = sym (none_at older q (ltb-false q (length older) e))

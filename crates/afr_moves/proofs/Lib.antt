@@ -1,3 +1,4 @@
+pub mod Tests
 pub mod AreaLemmas
 pub mod ByPosition
 pub mod Places

@@ -1,0 +1,111 @@
+-- Tests of numbers, kinds and sets of bricks: what they decide.
+use Rattle.std.proofs.Common.{◌≡◌, ℕ, zero, suc, ◌<◌, ◌&&◌, ◌==◌, Bool, true, false, refl, sym, subst, arith, max, ◌⊎◌, inl, inr}
+use Rattle.std.proofs.lemmas.Bool.{or_cases, or_left, or_right, and_from}
+use Rattle.std.proofs.lemmas.Bool.Decides.{nat_tests}
+use Rattle.afr_base.specs.Bricks.{and_left, and_right}
+use Rattle.afr_base.specs.Kinds.{same_kind}
+use Rattle.afr_base.specs.Majority.{IsMajority, is_most}
+use Rattle.afr_base.specs.declared.ids.Kind.{Kind}
+use Rattle.afr_base.specs.declared.ids.Kind.TheVariants.{Bytes, Attrs, Names}
+use Rattle.afr_base.specs.declared.ids.What.{What}
+use Rattle.afr_base.specs.declared.ids.What.TheVariants.{File, Dir}
+use Rattle.afr_moves.specs.Cells.{what_code}
+use Rattle.afr_moves.specs.Register.{all}
+use Rattle.afr_moves.specs.Sets.{any, with, without}
+
+-- ---- numbers
+pub same_self : (n : ℕ) → (n == n) ≡ true
+same_self n = grind (arith, nat_tests)
+
+pub same_no : (p t : ℕ) → p < t → (p == t) ≡ false
+same_no p t h = grind (arith, nat_tests)
+
+pub turned : (a b : ℕ) → (a == b) ≡ (b == a)
+turned a b = grind (arith, nat_tests)
+
+pub positive : (m : ℕ) → (m ≡ 0 → ⊥) → (q : ℕ) × (m ≡ suc q)
+positive zero h = absurd (h refl)
+positive (suc q) h = (q, refl)
+
+pub max_cases : (x y : ℕ) → (max x y ≡ x) ⊎ (max x y ≡ y)
+max_cases x y = grind arith
+
+pub three_cases : (a b : ℕ) → (a < b) ⊎ (a ≡ b) ⊎ (b < a)
+three_cases a b = grind arith
+
+pub first_equal : (g h : ℕ) (y : Bool) → ((g == h) && y) ≡ true → g ≡ h
+first_equal g h y e = grind (arith, nat_tests)
+
+-- ---- kinds, and what an object is
+pub same_kind_yes : (a b : Kind) → same_kind a b ≡ true → a ≡ b
+same_kind_yes Bytes Bytes h = refl
+same_kind_yes Attrs Attrs h = refl
+same_kind_yes Names Names h = refl
+same_kind_yes Bytes Attrs h = absurd (cc h)
+same_kind_yes Bytes Names h = absurd (cc h)
+same_kind_yes Attrs Bytes h = absurd (cc h)
+same_kind_yes Attrs Names h = absurd (cc h)
+same_kind_yes Names Bytes h = absurd (cc h)
+same_kind_yes Names Attrs h = absurd (cc h)
+
+pub same_kind_self : (kind : Kind) → same_kind kind kind ≡ true
+same_kind_self Bytes = refl
+same_kind_self Attrs = refl
+same_kind_self Names = refl
+
+pub what_same : (x y : What) → what_code x ≡ what_code y → x ≡ y
+what_same File File e = refl
+what_same Dir Dir e = refl
+what_same File Dir e = absurd (omega (arith, e))
+what_same Dir File e = absurd (omega (arith, e))
+
+-- ---- sets
+pub with_more : (set : ℕ → Bool) (b x : ℕ) → set x ≡ true → with set b x ≡ true
+with_more set b x h = grind (arith, nat_tests)
+
+pub with_self : (set : ℕ → Bool) (b : ℕ) → with set b b ≡ true
+with_self set b = grind (arith, nat_tests)
+
+pub with_cases : (set : ℕ → Bool) (b x : ℕ) → with set b x ≡ true → (x ≡ b) ⊎ (set x ≡ true)
+with_cases set b x h = grind (arith, nat_tests)
+
+pub with_false : (set : ℕ → Bool) (b x : ℕ) → with set b x ≡ false → (x ≡ b → ⊥) × (set x ≡ false)
+with_false set b x h = grind (arith, nat_tests)
+
+pub without_in : (set : ℕ → Bool) (b x : ℕ) → without set b x ≡ true → set x ≡ true
+without_in set b x h = grind (arith, nat_tests)
+
+-- ---- most, some and all of the bricks
+pub most_yes : (n : ℕ) (p : ℕ → Bool) → is_most n p ≡ true → IsMajority n p
+most_yes n p h = grind (arith, nat_tests, h)
+
+pub most_no : (n : ℕ) (p : ℕ → Bool) → IsMajority n p → is_most n p ≡ true
+most_no n p h = grind (arith, nat_tests, h)
+
+pub some_yes : (n : ℕ) (p : ℕ → Bool) → any n p ≡ true → (s : ℕ) × (s < n) × (p s ≡ true)
+some_yes zero p h = absurd (cc h)
+some_yes (suc n) p h = elim (or_cases (p n) (any n p) h) [
+  | inl here ↦ (n, omega arith, here)
+  | inr rest ↦ (let w = some_yes n p rest in (w.0, omega (arith, w.1), w.2))
+]
+
+cases_last : (k n : ℕ) → k < suc n → (k < n) ⊎ (k ≡ n)
+cases_last k n l = grind arith
+
+pub some_no : (n : ℕ) (p : ℕ → Bool) (s : ℕ) → s < n → p s ≡ true → any n p ≡ true
+some_no zero p s l h = absurd (omega arith)
+some_no (suc n) p s l h = elim (cases_last s n l) [
+  | inl before ↦ or_right (p n) (any n p) (some_no n p s before h)
+  | inr here ↦ or_left (p n) (any n p) (subst (λ (k : ℕ). p k ≡ true) here h)
+]
+
+pub all_yes : (n : ℕ) (p : ℕ → Bool) → all n p ≡ true → (x : ℕ) → x < n → p x ≡ true
+all_yes zero p h x l = absurd (omega arith)
+all_yes (suc n) p h x l = elim (cases_last x n l) [
+  | inl before ↦ all_yes n p (and_right (p n) (all n p) h) x before
+  | inr here ↦ subst (λ (k : ℕ). p k ≡ true) (sym here) (and_left (p n) (all n p) h)
+]
+
+pub all_no : (n : ℕ) (p : ℕ → Bool) → ((x : ℕ) → x < n → p x ≡ true) → all n p ≡ true
+all_no zero p h = refl
+all_no (suc n) p h = and_from (p n) (all n p) (h n (omega arith)) (all_no n p (λ x l. h x (omega (arith, l))))
