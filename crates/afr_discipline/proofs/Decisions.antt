@@ -1,6 +1,6 @@
 -- The test of a move outside a heal is true exactly where the discipline allows the move.
 use Rattle.std.proofs.Common.{◌≡◌, ℕ, suc, ◌+◌, ◌^◌, ◌<◌, ◌≤◌, ◌&&◌, ◌||◌, not, ◌==◌, nat_le, nat_lt, Bool, true, false, List, refl, sym, ◌∙◌, ap, arith, Option, None, Some, ◌⊎◌, inl, inr, length}
-use Rattle.std.proofs.lemmas.Bool.{eqb-true}
+use Rattle.std.proofs.lemmas.Bool.{eqb-true, and_parts, and_from, not-true, not_from_false, eq-eqb, leb-true, ltb-true, lt-ltb}
 use Rattle.std.proofs.lemmas.Bool.Decides.{nat_tests}
 use Rattle.afr_base.specs.Majority.{is_most}
 use Rattle.afr_base.specs.Bricks.{member, minus, below, is_nothing, lowest}
@@ -31,7 +31,8 @@ use Rattle.afr_moves.specs.Keeps.{keeps_in}
 use Rattle.afr_discipline.specs.Stands.{seen_as}
 use Rattle.afr_discipline.proofs.StandsLemmas.{filled}
 use Rattle.afr_discipline.specs.Tests.{carried, ends_low, fits_view, has_name, is_heal_area, last_posted, lies_in, may_apply, may_ask_outside, may_begin, may_end, may_move_outside, may_open, may_post, may_pre, misses, once, plane_in, same_flag}
-use Rattle.afr_discipline.proofs.Decides.{both, pair, denied, deny, most_yes, most_no, equal, at_most, le_test, less, lt_test, all_yes, all_no, posted_yes, posted_no, work_yes, work_no, once_yes, once_no, carried_yes, carried_no, plane_yes, plane_no}
+use Rattle.afr_discipline.proofs.Decides.{le_test, posted_yes, posted_no, work_yes, work_no, once_yes, once_no, carried_yes, carried_no, plane_yes, plane_no}
+use Rattle.afr_moves.proofs.Tests.{all_yes, all_no, most_yes, most_no, some_number}
 
 -- the change lies in the area
 name_yes : (name : Option NameId) (m : NameId) → has_name name m ≡ true → (name ≡ None) ⊎ (name ≡ Some m)
@@ -40,27 +41,27 @@ name_yes (Some k) m h = inr (ap (λ (i : ℕ). Some (record { 0 = i })) (eqb-tru
 
 name_no : (name : Option NameId) (m : NameId) → (name ≡ None) ⊎ (name ≡ Some m) → has_name name m ≡ true
 name_no name m (inl e) = rw e refl
-name_no name m (inr e) = rw e (equal m.0 m.0 refl)
+name_no name m (inr e) = rw e (eq-eqb m.0 m.0 refl)
 
 lies_yes : (area : Option Area) (change : Change) → lies_in area change ≡ true → LiesIn area change
 lies_yes None change h = absurd (cc h)
 lies_yes (Some (Range g from to)) (Write k at bytes) h =
-    let w = both _ (nat_le to (2 ^ 63)) h in
-    let v = both _ (nat_le (at + length bytes) to) w.0 in
-    let u = both (g.0 == k.0) (nat_le from at) v.0 in
-    (eqb-true g.0 k.0 u.0, at_most from at u.1, at_most (at + length bytes) to v.1, at_most to (2 ^ 63) w.1)
+    let w = and_parts _ (nat_le to (2 ^ 63)) h in
+    let v = and_parts _ (nat_le (at + length bytes) to) w.0 in
+    let u = and_parts (g.0 == k.0) (nat_le from at) v.0 in
+    (eqb-true g.0 k.0 u.0, leb-true from at u.1, leb-true (at + length bytes) to v.1, leb-true to (2 ^ 63) w.1)
 lies_yes (Some (Range g from to)) (Cut k len) h =
-    let w = both _ (to == 2 ^ 63) h in
-    let v = both (g.0 == k.0) (nat_le from len) w.0 in
-    (eqb-true g.0 k.0 v.0, at_most from len v.1, eqb-true to (2 ^ 63) w.1)
+    let w = and_parts _ (to == 2 ^ 63) h in
+    let v = and_parts (g.0 == k.0) (nat_le from len) w.0 in
+    (eqb-true g.0 k.0 v.0, leb-true from len v.1, eqb-true to (2 ^ 63) w.1)
 lies_yes (Some (Range g from to)) (SetAttr k key value) h =
-    let w = both _ (to == 2 ^ 63 + 1) h in
-    let v = both (g.0 == k.0) (from == 2 ^ 63) w.0 in
+    let w = and_parts _ (to == 2 ^ 63 + 1) h in
+    let v = and_parts (g.0 == k.0) (from == 2 ^ 63) w.0 in
     (eqb-true g.0 k.0 v.0, eqb-true from (2 ^ 63) v.1, eqb-true to (2 ^ 63 + 1) w.1)
 lies_yes (Some (Range g from to)) (Make k m new what) h = absurd (cc h)
 lies_yes (Some (Range g from to)) (Remove k m what) h = absurd (cc h)
-lies_yes (Some (Name g name)) (Make k m new what) h = let w = both (g.0 == k.0) (has_name name m) h in (eqb-true g.0 k.0 w.0, name_yes name m w.1)
-lies_yes (Some (Name g name)) (Remove k m what) h = let w = both (g.0 == k.0) (has_name name m) h in (eqb-true g.0 k.0 w.0, name_yes name m w.1)
+lies_yes (Some (Name g name)) (Make k m new what) h = let w = and_parts (g.0 == k.0) (has_name name m) h in (eqb-true g.0 k.0 w.0, name_yes name m w.1)
+lies_yes (Some (Name g name)) (Remove k m what) h = let w = and_parts (g.0 == k.0) (has_name name m) h in (eqb-true g.0 k.0 w.0, name_yes name m w.1)
 lies_yes (Some (Name g name)) (Write k at bytes) h = absurd (cc h)
 lies_yes (Some (Name g name)) (Cut k len) h = absurd (cc h)
 lies_yes (Some (Name g name)) (SetAttr k key value) h = absurd (cc h)
@@ -68,21 +69,21 @@ lies_yes (Some (Name g name)) (SetAttr k key value) h = absurd (cc h)
 lies_no : (area : Option Area) (change : Change) → LiesIn area change → lies_in area change ≡ true
 lies_no None change h = absurd h
 lies_no (Some (Range g from to)) (Write k at bytes) h =
-    pair _ (nat_le to (2 ^ 63)) (pair _ (nat_le (at + length bytes) to) (pair (g.0 == k.0) (nat_le from at) (equal g.0 k.0 h.0) (le_test from at h.1)) (le_test (at + length bytes) to h.2)) (le_test to (2 ^ 63) h.3)
+    and_from _ (nat_le to (2 ^ 63)) (and_from _ (nat_le (at + length bytes) to) (and_from (g.0 == k.0) (nat_le from at) (eq-eqb g.0 k.0 h.0) (le_test from at h.1)) (le_test (at + length bytes) to h.2)) (le_test to (2 ^ 63) h.3)
 lies_no (Some (Range g from to)) (Cut k len) h =
-    pair _ (to == 2 ^ 63) (pair (g.0 == k.0) (nat_le from len) (equal g.0 k.0 h.0) (le_test from len h.1)) (equal to (2 ^ 63) h.2)
+    and_from _ (to == 2 ^ 63) (and_from (g.0 == k.0) (nat_le from len) (eq-eqb g.0 k.0 h.0) (le_test from len h.1)) (eq-eqb to (2 ^ 63) h.2)
 lies_no (Some (Range g from to)) (SetAttr k key value) h =
-    pair _ (to == 2 ^ 63 + 1) (pair (g.0 == k.0) (from == 2 ^ 63) (equal g.0 k.0 h.0) (equal from (2 ^ 63) h.1)) (equal to (2 ^ 63 + 1) h.2)
+    and_from _ (to == 2 ^ 63 + 1) (and_from (g.0 == k.0) (from == 2 ^ 63) (eq-eqb g.0 k.0 h.0) (eq-eqb from (2 ^ 63) h.1)) (eq-eqb to (2 ^ 63 + 1) h.2)
 lies_no (Some (Range g from to)) (Make k m new what) h = absurd h
 lies_no (Some (Range g from to)) (Remove k m what) h = absurd h
-lies_no (Some (Name g name)) (Make k m new what) h = pair (g.0 == k.0) (has_name name m) (equal g.0 k.0 h.0) (name_no name m h.1)
-lies_no (Some (Name g name)) (Remove k m what) h = pair (g.0 == k.0) (has_name name m) (equal g.0 k.0 h.0) (name_no name m h.1)
+lies_no (Some (Name g name)) (Make k m new what) h = and_from (g.0 == k.0) (has_name name m) (eq-eqb g.0 k.0 h.0) (name_no name m h.1)
+lies_no (Some (Name g name)) (Remove k m what) h = and_from (g.0 == k.0) (has_name name m) (eq-eqb g.0 k.0 h.0) (name_no name m h.1)
 lies_no (Some (Name g name)) (Write k at bytes) h = absurd h
 lies_no (Some (Name g name)) (Cut k len) h = absurd h
 lies_no (Some (Name g name)) (SetAttr k key value) h = absurd h
 
 low_yes : (change : Change) → ends_low change ≡ true → EndsLow change
-low_yes (Write k at bytes) h = at_most (at + length bytes) 1048576 h
+low_yes (Write k at bytes) h = leb-true (at + length bytes) 1048576 h
 low_yes (Cut k len) h = tt
 low_yes (SetAttr k key value) h = tt
 low_yes (Make k m new what) h = tt
@@ -104,16 +105,16 @@ fit_yes shown change view h e = let k : fits_view (Some view) change ≡ true = 
 
 begin_yes : (n : ℕ) (keeps : ℕ → Kind → Bool) (r : Exact) (change : Change) → r.law.heal ≡ false → may_begin n keeps r change ≡ true → MayBegin n keeps r change
 begin_yes n keeps r change out h =
-    let a = both _ (carried n keeps (plane_kind change) r.views (holder r.views)) h in
-    let b = both _ (is_most n r.reached) a.0 in
-    let c = both _ (all n (λ x. fits_view (r.views x) change)) b.0 in
-    let d = both _ (ends_low change) c.0 in
-    let e = both _ (lies_in r.law.area change) d.0 in
-    let f = both (r.law.number == 0) (not r.unlocked) e.0 in
+    let a = and_parts _ (carried n keeps (plane_kind change) r.views (holder r.views)) h in
+    let b = and_parts _ (is_most n r.reached) a.0 in
+    let c = and_parts _ (all n (λ x. fits_view (r.views x) change)) b.0 in
+    let d = and_parts _ (ends_low change) c.0 in
+    let e = and_parts _ (lies_in r.law.area change) d.0 in
+    let f = and_parts (r.law.number == 0) (not r.unlocked) e.0 in
     record {
       outside = out;
       first = eqb-true r.law.number 0 f.0;
-      open_still = denied r.unlocked f.1;
+      open_still = not-true r.unlocked f.1;
       lies = lies_yes r.law.area change e.1;
       low = low_yes change d.1;
       fits = λ x view l shown. fit_yes (r.views x) change view (all_yes n (λ x. fits_view (r.views x) change) c.1 x l) shown;
@@ -123,11 +124,11 @@ begin_yes n keeps r change out h =
 
 begin_no : (n : ℕ) (keeps : ℕ → Kind → Bool) (r : Exact) (change : Change) → MayBegin n keeps r change → may_begin n keeps r change ≡ true
 begin_no n keeps r change m =
-    pair _ (carried n keeps (plane_kind change) r.views (holder r.views))
-    (pair _ (is_most n r.reached)
-    (pair _ (all n (λ x. fits_view (r.views x) change))
-    (pair _ (ends_low change)
-    (pair _ (lies_in r.law.area change) (pair (r.law.number == 0) (not r.unlocked) (equal r.law.number 0 m.first) (deny r.unlocked m.open_still)) (lies_no r.law.area change m.lies))
+    and_from _ (carried n keeps (plane_kind change) r.views (holder r.views))
+    (and_from _ (is_most n r.reached)
+    (and_from _ (all n (λ x. fits_view (r.views x) change))
+    (and_from _ (ends_low change)
+    (and_from _ (lies_in r.law.area change) (and_from (r.law.number == 0) (not r.unlocked) (eq-eqb r.law.number 0 m.first) (not_from_false r.unlocked m.open_still)) (lies_no r.law.area change m.lies))
     (low_no change m.low))
     (all_no n (λ x. fits_view (r.views x) change) (λ x l. fit_no (r.views x) change (λ view shown. m.fits x view l shown))))
     (most_no n r.reached m.reached))
@@ -136,35 +137,28 @@ begin_no n keeps r change m =
 not_zero : (k : ℕ) → not (k == 0) ≡ true → k ≡ 0 → ⊥
 not_zero k h e = let w : not (0 == 0) ≡ true = rw e at h in absurd (cc w)
 
-is_more : (k : ℕ) → (k ≡ 0 → ⊥) → not (k == 0) ≡ true
-is_more k h = go (k == 0) refl
-  where
-    go : (x : Bool) → (k == 0) ≡ x → not x ≡ true
-    go true e = absurd (h (eqb-true k 0 e))
-    go false e = refl
-
 pre_yes : (n : ℕ) (r : Exact) (b g : ℕ) (kind : Kind) → r.law.heal ≡ false → may_pre r b g kind ≡ true → MayPre n r b g kind
 pre_yes n r b g kind out h =
-    let x = both _ (once r Pres b) h in
-    let y = both _ (holder r.views b) x.0 in
-    let z = both (not (r.law.number == 0)) (plane_in r.law.area g kind) y.0 in
+    let x = and_parts _ (once r Pres b) h in
+    let y = and_parts _ (holder r.views b) x.0 in
+    let z = and_parts (not (r.law.number == 0)) (plane_in r.law.area g kind) y.0 in
     record { outside = out; begun_already = not_zero r.law.number z.0; plane = plane_yes r.law.area g kind z.1; holds = y.1; turn = once_yes r Pres b x.1 }
 
 pre_no : (n : ℕ) (r : Exact) (b g : ℕ) (kind : Kind) → MayPre n r b g kind → may_pre r b g kind ≡ true
 pre_no n r b g kind m =
-    pair _ (once r Pres b) (pair _ (holder r.views b) (pair (not (r.law.number == 0)) (plane_in r.law.area g kind) (is_more r.law.number m.begun_already) (plane_no r.law.area g kind m.plane)) m.holds) (once_no r Pres b m.turn)
+    and_from _ (once r Pres b) (and_from _ (holder r.views b) (and_from (not (r.law.number == 0)) (plane_in r.law.area g kind) (some_number r.law.number m.begun_already) (plane_no r.law.area g kind m.plane)) m.holds) (once_no r Pres b m.turn)
 
 apply_yes : (n : ℕ) (keeps : ℕ → Kind → Bool) (r : Exact) (b q : ℕ) → r.law.heal ≡ false → may_apply n keeps r b q ≡ true → MayApply n keeps r b q
 apply_yes n keeps r b q out h =
-    let x = both _ (once r Applies b) h in
-    let y = both _ (carried n keeps (kind_in r.law.area) r.views r.law.pre) x.0 in
-    let z = both (r.law.number == suc q) (r.law.pre b) y.0 in
+    let x = and_parts _ (once r Applies b) h in
+    let y = and_parts _ (carried n keeps (kind_in r.law.area) r.views r.law.pre) x.0 in
+    let z = and_parts (r.law.number == suc q) (r.law.pre b) y.0 in
     record { outside = out; own = eqb-true r.law.number (suc q) z.0; ready = z.1; enough = carried_yes n keeps (kind_in r.law.area) r.views r.law.pre y.1; turn = once_yes r Applies b x.1 }
 
 apply_no : (n : ℕ) (keeps : ℕ → Kind → Bool) (r : Exact) (b q : ℕ) → MayApply n keeps r b q → may_apply n keeps r b q ≡ true
 apply_no n keeps r b q m =
-    pair _ (once r Applies b)
-    (pair _ (carried n keeps (kind_in r.law.area) r.views r.law.pre) (pair (r.law.number == suc q) (r.law.pre b) (equal r.law.number (suc q) m.own) m.ready) (carried_no n keeps (kind_in r.law.area) r.views r.law.pre m.enough))
+    and_from _ (once r Applies b)
+    (and_from _ (carried n keeps (kind_in r.law.area) r.views r.law.pre) (and_from (r.law.number == suc q) (r.law.pre b) (eq-eqb r.law.number (suc q) m.own) m.ready) (carried_no n keeps (kind_in r.law.area) r.views r.law.pre m.enough))
     (once_no r Applies b m.turn)
 
 same_flag_yes : (x y : Bool) → same_flag x y ≡ true → x ≡ y
@@ -179,7 +173,7 @@ same_flag_no false false h = refl
 
 misses_yes : (n : ℕ) (done : ℕ → Bool) (missed : List ℕ) → n ≤ 5 → misses n done missed ≡ true → (c : ℕ) → member missed c ≡ (nat_lt c n && not (done c))
 misses_yes n done missed few h c =
-    let w = both (is_nothing (minus missed (below 5))) (all 5 (λ c. same_flag (member missed c) (nat_lt c n && not (done c)))) h in
+    let w = and_parts (is_nothing (minus missed (below 5))) (all 5 (λ c. same_flag (member missed c) (nat_lt c n && not (done c)))) h in
     elim (cases c) [
       | inl small ↦ same_flag_yes (member missed c) (nat_lt c n && not (done c)) (all_yes 5 (λ c. same_flag (member missed c) (nat_lt c n && not (done c))) w.1 c small)
       | inr large ↦ beyond (member missed c) refl w.0 (λ l. absurd (omega (arith, l, large))) (nat_lt c n) (over c large)
@@ -198,7 +192,7 @@ misses_yes n done missed few h c =
 
 misses_no : (n : ℕ) (done : ℕ → Bool) (missed : List ℕ) → n ≤ 5 → ((c : ℕ) → member missed c ≡ (nat_lt c n && not (done c))) → misses n done missed ≡ true
 misses_no n done missed few h =
-    pair (is_nothing (minus missed (below 5))) (all 5 (λ c. same_flag (member missed c) (nat_lt c n && not (done c))))
+    and_from (is_nothing (minus missed (below 5))) (all 5 (λ c. same_flag (member missed c) (nat_lt c n && not (done c))))
     (none (is_nothing (minus missed (below 5))) refl)
     (all_no 5 (λ c. same_flag (member missed c) (nat_lt c n && not (done c))) (λ c l. same_flag_no (member missed c) (nat_lt c n && not (done c)) (h c)))
   where
@@ -208,17 +202,17 @@ misses_no n done missed few h =
         let w = lowest_left missed (below 5) e in
         let c : ℕ = lowest (minus missed (below 5)) in
         let k : (nat_lt c n && not (done c)) ≡ true = sym (h c) ∙ w.1 in
-        let l : c < n = less c n (both (nat_lt c n) (not (done c)) k).0 in
+        let l : c < n = ltb-true c n (and_parts (nat_lt c n) (not (done c)) k).0 in
         let m : member (below 5) c ≡ true = below_all 5 c (omega arith) (omega (arith, l, few)) in
         absurd (cc (w.0, m))
 
 post_yes : (n : ℕ) (keeps : ℕ → Kind → Bool) (r : Exact) (b q g : ℕ) (kind : Kind) (missed : List ℕ) → n ≤ 5 → r.law.heal ≡ false → may_post n keeps r b q g kind missed ≡ true → MayPost n keeps r b q g kind (member missed)
 post_yes n keeps r b q g kind missed few out h =
-    let u = both _ (misses n r.law.done missed) h in
-    let v = both _ (once r Posts b) u.0 in
-    let x = both _ (carried n keeps kind r.views r.law.done) v.0 in
-    let y = both _ (r.law.done b) x.0 in
-    let z = both (r.law.number == suc q) (plane_in r.law.area g kind) y.0 in
+    let u = and_parts _ (misses n r.law.done missed) h in
+    let v = and_parts _ (once r Posts b) u.0 in
+    let x = and_parts _ (carried n keeps kind r.views r.law.done) v.0 in
+    let y = and_parts _ (r.law.done b) x.0 in
+    let z = and_parts (r.law.number == suc q) (plane_in r.law.area g kind) y.0 in
     record {
       outside = out;
       own = eqb-true r.law.number (suc q) z.0;
@@ -231,10 +225,10 @@ post_yes n keeps r b q g kind missed few out h =
 
 post_no : (n : ℕ) (keeps : ℕ → Kind → Bool) (r : Exact) (b q g : ℕ) (kind : Kind) (missed : List ℕ) → n ≤ 5 → MayPost n keeps r b q g kind (member missed) → may_post n keeps r b q g kind missed ≡ true
 post_no n keeps r b q g kind missed few m =
-    pair _ (misses n r.law.done missed)
-    (pair _ (once r Posts b)
-    (pair _ (carried n keeps kind r.views r.law.done)
-    (pair _ (r.law.done b) (pair (r.law.number == suc q) (plane_in r.law.area g kind) (equal r.law.number (suc q) m.own) (plane_no r.law.area g kind m.plane)) m.ready)
+    and_from _ (misses n r.law.done missed)
+    (and_from _ (once r Posts b)
+    (and_from _ (carried n keeps kind r.views r.law.done)
+    (and_from _ (r.law.done b) (and_from (r.law.number == suc q) (plane_in r.law.area g kind) (eq-eqb r.law.number (suc q) m.own) (plane_no r.law.area g kind m.plane)) m.ready)
     (carried_no n keeps kind r.views r.law.done m.enough))
     (once_no r Posts b m.turn))
     (misses_no n r.law.done missed few m.exact)
@@ -258,13 +252,13 @@ first_yes HealUnlocks h = absurd (cc h)
 heal_area_yes : (area : Area) → is_heal_area area ≡ true → (g : ℕ) × (area ≡ heal_area g)
 heal_area_yes (Name g name) h = absurd (cc h)
 heal_area_yes (Range g from to) h =
-    let w = both (from == 0) (to == 2 ^ 63) h in
+    let w = and_parts (from == 0) (to == 2 ^ 63) h in
     (g.0, ap (λ (i : ℕ). Range g i to) (eqb-true from 0 w.0) ∙ ap (λ (i : ℕ). Range g 0 i) (eqb-true to (2 ^ 63) w.1))
 
 open_yes : (r : Exact) (b : ℕ) (area : Area) → may_open r b area ≡ true → MayOpen r b area
 open_yes r b area h =
-    let w = both _ (is_heal_area area) h in
-    let v = both (same_step r.step Untouched) (b == 0) w.0 in
+    let w = and_parts _ (is_heal_area area) h in
+    let v = and_parts (same_step r.step Untouched) (b == 0) w.0 in
     let a = heal_area_yes area w.1 in
     record { first = first_yes r.step v.0; lowest = eqb-true b 0 v.1; g = a.0; range = a.1 }
 
@@ -278,7 +272,7 @@ ask_yes n keeps r b (Pre g kind) few out h = pre_yes n r b g.0 kind out h
 ask_yes n keeps r b (Apply q) few out h = apply_yes n keeps r b q out h
 ask_yes n keeps r b (Post q g kind missed) few out h = post_yes n keeps r b q g.0 kind missed few out h
 ask_yes n keeps r b (Mend repair) few out h = absurd (cc h)
-ask_yes n keeps r b (Settle g kind less) few out h = absurd (cc h)
+ask_yes n keeps r b (Settle g kind ltb-true) few out h = absurd (cc h)
 ask_yes n keeps r b (Unlock domain area) few out h = tt
 ask_yes n keeps r b (Look g) few out h = tt
 ask_yes n keeps r b (ReadBytes g at len) few out h = tt
@@ -295,7 +289,7 @@ ask_no n keeps r b (Pre g kind) few m = pre_no n r b g.0 kind m
 ask_no n keeps r b (Apply q) few m = apply_no n keeps r b q m
 ask_no n keeps r b (Post q g kind missed) few m = post_no n keeps r b q g.0 kind missed few m
 ask_no n keeps r b (Mend repair) few m = absurd m
-ask_no n keeps r b (Settle g kind less) few m = absurd m
+ask_no n keeps r b (Settle g kind ltb-true) few m = absurd m
 ask_no n keeps r b (Unlock domain area) few m = refl
 ask_no n keeps r b (Look g) few m = refl
 ask_no n keeps r b (ReadBytes g at len) few m = refl
@@ -315,9 +309,9 @@ asked_no n keeps r b request few out (inr m) = absurd (in_no_heal n keeps r b re
 
 end_yes : (n : ℕ) (r : Exact) (ok : Bool) → r.law.heal ≡ false → may_end n r ok ≡ true → MayEnd n r ok
 end_yes n r ok out h =
-    let x = both _ (not ok || last_posted n r.law) h in
-    let y = both (not (busy n r.law)) (not (any n r.law.healing)) x.0 in
-    record { outside = out; free = denied (busy n r.law) y.0; healed = denied (any n r.law.healing) y.1; posted = λ said. posted_yes n r.law (told ok (last_posted n r.law) x.1 said) }
+    let x = and_parts _ (not ok || last_posted n r.law) h in
+    let y = and_parts (not (busy n r.law)) (not (any n r.law.healing)) x.0 in
+    record { outside = out; free = not-true (busy n r.law) y.0; healed = not-true (any n r.law.healing) y.1; posted = λ said. posted_yes n r.law (told ok (last_posted n r.law) x.1 said) }
   where
     told : (a b : Bool) → (not a || b) ≡ true → a ≡ true → b ≡ true
     told true b h k = h
@@ -325,7 +319,7 @@ end_yes n r ok out h =
 
 end_no : (n : ℕ) (r : Exact) (ok : Bool) → MayEnd n r ok → may_end n r ok ≡ true
 end_no n r ok m =
-    pair _ (not ok || last_posted n r.law) (pair (not (busy n r.law)) (not (any n r.law.healing)) (deny (busy n r.law) m.free) (deny (any n r.law.healing) m.healed)) (told ok (last_posted n r.law) (λ said. posted_no n r.law (m.posted said)))
+    and_from _ (not ok || last_posted n r.law) (and_from (not (busy n r.law)) (not (any n r.law.healing)) (not_from_false (busy n r.law) m.free) (not_from_false (any n r.law.healing) m.healed)) (told ok (last_posted n r.law) (λ said. posted_no n r.law (m.posted said)))
   where
     told : (a b : Bool) → (a ≡ true → b ≡ true) → (not a || b) ≡ true
     told true b h = h refl
@@ -337,8 +331,8 @@ finished n r ok out (inr m) = absurd (cc (out, m.inside))
 
 pub decided : (n : ℕ) (keeps : ℕ → Kind → Bool) (r : Exact) (step : Move) → n ≤ 5 → r.law.heal ≡ false → IffTrue (may_move_outside n keeps r step) (MayMove n keeps r step)
 decided n keeps r (move.Ask b request) few out = record {
-  yes = λ h. (let w = both (nat_lt b.0 n) (may_ask_outside n keeps r b.0 request.now) h in (less b.0 n w.0, inl (out, ask_yes n keeps r b.0 request.now few out w.1)));
-  complete = λ m. pair (nat_lt b.0 n) (may_ask_outside n keeps r b.0 request.now) (lt_test b.0 n m.0) (asked_no n keeps r b.0 request.now few out m.1);
+  yes = λ h. (let w = and_parts (nat_lt b.0 n) (may_ask_outside n keeps r b.0 request.now) h in (ltb-true b.0 n w.0, inl (out, ask_yes n keeps r b.0 request.now few out w.1)));
+  complete = λ m. and_from (nat_lt b.0 n) (may_ask_outside n keeps r b.0 request.now) (lt-ltb b.0 n m.0) (asked_no n keeps r b.0 request.now few out m.1);
 }
 decided n keeps r (move.Begin change) few out = record { yes = λ h. begin_yes n keeps r change.now out h; complete = λ m. begin_no n keeps r change.now m }
 decided n keeps r (move.HealBegin g kind) few out = record { yes = λ h. absurd (cc h); complete = λ m. absurd (cc (out, m.inside)) }
@@ -352,5 +346,5 @@ asks_unseen p r b (Pre g kind) = refl
 asks_unseen p r b (Apply q) = refl
 asks_unseen p r b (Post q g kind missed) = refl
 asks_unseen p r b (Mend repair) = refl
-asks_unseen p r b (Settle g kind less) = refl
+asks_unseen p r b (Settle g kind ltb-true) = refl
 asks_unseen p r b _ = refl

@@ -13,39 +13,22 @@ use Rattle.afr_moves.specs.Sets.{empty, with, without}
 use Rattle.afr_moves.specs.Note.{put}
 use Rattle.afr_discipline.specs.Notes.{picked}
 use Rattle.afr_discipline.specs.Stands.{reads_of, views_of}
-
--- the two sides of a test of numbers change places
-turned : (a b : ℕ) → (a == b) ≡ (b == a)
-turned a b = grind (arith, nat_tests)
-
--- a number is itself
-itself : (a : ℕ) → (a == a) ≡ true
-itself a = grind (arith, nat_tests)
+use Rattle.afr_moves.proofs.Tests.{same_self, turned, or_choice, and_choice}
 
 -- ---- one brick more or less
--- one more is a choice of two tests
-more : (e f : Bool) → (if e then true else f) ≡ (e || f)
-more true f = refl
-more false f = refl
-
--- one less is both of two tests
-fewer : (e f : Bool) → (if e then false else f) ≡ (not e && f)
-fewer true f = refl
-fewer false f = refl
-
 -- the test of a set and one more brick is that of the set with it
 pub with_added : (b : ℕ) (s : List ℕ) → with (member s) b ≡ member (added b s)
 with_added b s = fun_ext (λ x. at x)
   where
     at : (x : ℕ) → (if x == b then true else member s x) ≡ member (added b s) x
-    at x = ap (λ (e : Bool). if e then true else member s x) (turned x b) ∙ more (b == x) (member s x) ∙ sym (member_added b s x)
+    at x = ap (λ (e : Bool). if e then true else member s x) (turned x b) ∙ or_choice (b == x) (member s x) ∙ sym (member_added b s x)
 
 -- the test of a set and one brick less is that of the set without it
 pub without_removed : (b : ℕ) (s : List ℕ) → without (member s) b ≡ member (removed b s)
 without_removed b s = fun_ext (λ x. at x)
   where
     at : (x : ℕ) → (if x == b then false else member s x) ≡ member (removed b s) x
-    at x = ap (λ (e : Bool). if e then false else member s x) (turned x b) ∙ fewer (b == x) (member s x) ∙ sym (member_removed b s x)
+    at x = ap (λ (e : Bool). if e then false else member s x) (turned x b) ∙ and_choice (b == x) (member s x) ∙ sym (member_removed b s x)
 
 -- the same where the flag is set
 pub with_added_if : (flag : Bool) (b : ℕ) (s : List ℕ) → (if flag then with (member s) b else member s) ≡ member (added_if flag b s)
@@ -108,7 +91,7 @@ others flag b x s h = member_added_if flag b s x ∙ ap (λ (e : Bool). (flag &&
 
 -- a brick that was not in the set is there where the flag is set
 here : (flag : Bool) (b : ℕ) (s : List ℕ) → member s b ≡ false → member (added_if flag b s) b ≡ flag
-here flag b s h = member_added_if flag b s b ∙ ap (λ (e : Bool). (flag && e) || member s b) (itself b) ∙ ap (λ (m : Bool). (flag && true) || m) h ∙ on flag
+here flag b s h = member_added_if flag b s b ∙ ap (λ (e : Bool). (flag && e) || member s b) (same_self b) ∙ ap (λ (m : Bool). (flag && true) || m) h ∙ on flag
 
 -- of the five, the first where it passes
 abbrev upto_first : Bool → List ℕ

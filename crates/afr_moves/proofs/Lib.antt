@@ -1,4 +1,5 @@
 pub mod Tests
+pub mod Changes
 pub mod AreaLemmas
 pub mod ByPosition
 pub mod Places

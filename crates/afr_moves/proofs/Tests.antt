@@ -1,5 +1,5 @@
--- Tests of numbers, kinds and sets of bricks: what they decide.
-use Rattle.std.proofs.Common.{◌≡◌, ℕ, zero, suc, ◌<◌, ◌&&◌, ◌==◌, Bool, true, false, refl, sym, subst, arith, max, ◌⊎◌, inl, inr}
+-- What tests of numbers, kinds and sets of bricks decide.
+use Rattle.std.proofs.Common.{◌≡◌, ℕ, zero, suc, ◌<◌, ◌&&◌, ◌||◌, not, ◌==◌, if◌then◌else◌, Bool, true, false, refl, sym, subst, arith, max, ◌⊎◌, inl, inr}
 use Rattle.std.proofs.lemmas.Bool.{or_cases, or_left, or_right, and_from}
 use Rattle.std.proofs.lemmas.Bool.Decides.{nat_tests}
 use Rattle.afr_base.specs.Bricks.{and_left, and_right}
@@ -10,7 +10,7 @@ use Rattle.afr_base.specs.declared.ids.Kind.TheVariants.{Bytes, Attrs, Names}
 use Rattle.afr_base.specs.declared.ids.What.{What}
 use Rattle.afr_base.specs.declared.ids.What.TheVariants.{File, Dir}
 use Rattle.afr_moves.specs.Cells.{what_code}
-use Rattle.afr_moves.specs.Register.{all}
+use Rattle.afr_moves.specs.Register.{Step, WorkLocks, all, same_step}
 use Rattle.afr_moves.specs.Sets.{any, with, without}
 
 -- ---- numbers
@@ -36,7 +36,27 @@ three_cases a b = grind arith
 pub first_equal : (g h : ℕ) (y : Bool) → ((g == h) && y) ≡ true → g ≡ h
 first_equal g h y e = grind (arith, nat_tests)
 
--- ---- kinds, and what an object is
+pub some_number : (m : ℕ) → (m ≡ 0 → ⊥) → not (m == 0) ≡ true
+some_number zero h = absurd (h refl)
+some_number (suc m) h = grind (arith, nat_tests)
+
+pub no_number : (m q : ℕ) → (m == 0) ≡ true → m ≡ suc q → ⊥
+no_number m q e f = grind (arith, nat_tests)
+
+-- ---- tests of tests
+pub four_parts : (x y z w : Bool) → (x && y && z && w) ≡ true → (x ≡ true) × (y ≡ true) × (z ≡ true) × (w ≡ true)
+four_parts x y z w e = grind arith
+
+-- a choice of true or a test is one of two, a choice of false or a test is both
+pub or_choice : (e f : Bool) → (if e then true else f) ≡ (e || f)
+or_choice true f = refl
+or_choice false f = refl
+
+pub and_choice : (e f : Bool) → (if e then false else f) ≡ (not e && f)
+and_choice true f = refl
+and_choice false f = refl
+
+-- ---- kinds, steps, and what an object is
 pub same_kind_yes : (a b : Kind) → same_kind a b ≡ true → a ≡ b
 same_kind_yes Bytes Bytes h = refl
 same_kind_yes Attrs Attrs h = refl
@@ -58,6 +78,18 @@ what_same File File e = refl
 what_same Dir Dir e = refl
 what_same File Dir e = absurd (omega (arith, e))
 what_same Dir File e = absurd (omega (arith, e))
+
+pub what_some : (what : What) → (j : ℕ) × (what_code what ≡ suc j)
+what_some File = (0, refl)
+what_some Dir = (1, refl)
+
+pub some_what : (what : What) → (what_code what == 0) ≡ false
+some_what File = refl
+some_what Dir = refl
+
+pub work_locks : (step : Step) → same_step step WorkLocks ≡ true → step ≡ WorkLocks
+work_locks WorkLocks h = refl
+work_locks _ h = absurd (cc h)
 
 -- ---- sets
 pub with_more : (set : ℕ → Bool) (b x : ℕ) → set x ≡ true → with set b x ≡ true
