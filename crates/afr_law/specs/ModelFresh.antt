@@ -6,6 +6,7 @@ use Rattle.afr_base.specs.declared.ids.Gfid.{Gfid}
 use Rattle.afr_base.specs.declared.ids.Kind.{Kind}
 use Rattle.afr_base.specs.declared.ids.Kind.TheVariants.{Bytes, Attrs, Names}
 use Rattle.afr_base.specs.Keeping.{keeps}
+use Rattle.afr_choice.specs.Verdict.{good_copies}
 use Rattle.afr_lines.specs.Log.{EachLine, before, from_oldest}
 use Rattle.afr_lines.specs.Work.{Work, work}
 use Rattle.afr_lines.specs.declared.answer.Told.{Told}
@@ -17,7 +18,6 @@ use Rattle.afr_plan.specs.declared.plan.Plan.{Plan}
 use Rattle.afr_model.specs.Attempts.{IsNoOlder}
 use Rattle.afr_model.specs.Cells.{Cell, object_of_cell, kind_of_cell}
 use Rattle.afr_model.specs.Honest.{Honest}
-use Rattle.afr_model.specs.Replied.{FromGood}
 use Rattle.afr_model.specs.Safe.{IsFresh, names_cell}
 use Rattle.afr_model.specs.Showing.{looked_by}
 use Rattle.afr_law.specs.Exactly.{IsLawfulExactly}
@@ -56,7 +56,7 @@ ModelReadsAreFresh = (p : Plan) (log : List Line) → p.shape.n ≤ 5 → Honest
 -- a majority answered the work's last looks at the object, and brick b is a good copy by them
 pub record IsLet (p : Plan) (b : ℕ) (g : Gfid) (kind : Kind) (w : Work) : Type 0 where
   pub answered : is_majority p.shape.n (looked_by g w).reached ≡ true
-  pub good : FromGood p b g kind w
+  pub good : member (good_copies p.shape (looked_by g w) kind) b ≡ true
 
 -- the last looks of its work let a read line read what it names
 abbrev pub IsLetRead : Plan → Line → List Line → Type 0

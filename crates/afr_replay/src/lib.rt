@@ -14,7 +14,7 @@ mod works;
 
 pub use attempts::{change_at, first_reply, is_acknowledged};
 pub use cell::{Cell, Value, is_within, leaves, touches};
-pub use locks::{conflict, locks_held};
+pub use locks::{conflict, locks_held, same_area};
 pub use replay::tables;
 pub use sessions::{Place, is_joined, is_linked, is_started, next_place, opens, opens_with};
 pub use sums::{dirty, has_copy, pending};

@@ -108,7 +108,8 @@ fn same_domain(one: Domain, other: Domain) -> bool
     }
 }
 
-fn same_area(one: &Area, other: &Area) -> bool
+/// Whether two areas are the same.
+pub fn same_area(one: &Area, other: &Area) -> bool
     ensures { result ≡ same_area one.now other.now }
 {
     match one {

@@ -1,9 +1,11 @@
 -- Reads of honest and lawful logs of the model are fresh where looks let them.
 use Rattle.std.proofs.Common.{◌≡◌, ℕ, ◌-◌, ◌*◌, ◌<◌, ◌≤◌, Bool, true, false, ◌&&◌, refl, sym, ◌∙◌, subst, arith, List, [], ◌∷◌, length, length-drop, ◌==◌, true≢false}
-use Rattle.std.specs.Prelude.{None, Some, nat_lt}
+use Rattle.std.specs.Prelude.{nat_lt}
 use Rattle.std.proofs.lemmas.Bool.Decides.{nat_tests}
 use Rattle.afr_base.specs.Bricks.{member, and_left, and_right}
-use Rattle.afr_base.specs.Majority.{count_below, is_majority}
+use Rattle.afr_base.specs.Majority.{count_below}
+use Rattle.afr_base.specs.declared.ids.ActorId.{ActorId}
+use Rattle.afr_base.specs.declared.ids.BrickId.{BrickId}
 use Rattle.afr_base.specs.declared.ids.Gfid.{Gfid}
 use Rattle.afr_base.specs.declared.ids.Kind.{Kind}
 use Rattle.afr_base.specs.declared.ids.Kind.TheVariants.{Bytes, Attrs, Names}
@@ -14,17 +16,19 @@ use Rattle.afr_choice.specs.declared.looked.Looked.{Looked}
 use Rattle.afr_choice.specs.VerdictLemmas.{good_below, member_good, nobody_accuses}
 use Rattle.afr_lines.specs.Log.{EachLine, before}
 use Rattle.afr_lines.specs.Work.{Work, work}
+use Rattle.afr_lines.specs.declared.answer.Told.{Told}
 use Rattle.afr_lines.specs.declared.answer.Told.TheVariants.{Given}
 use Rattle.afr_lines.specs.declared.line.Line.{Line}
 use Rattle.afr_lines.specs.declared.line.Line.TheVariants.{Ask}
+use Rattle.afr_lines.specs.declared.request.Request.{Request}
 use Rattle.afr_lines.specs.declared.request.Request.TheVariants as request
+use Rattle.afr_plan.specs.declared.command.Command.{Command}
 use Rattle.afr_plan.specs.declared.plan.Plan.{Plan}
+use Rattle.afr_model.specs.Answered.{IsAbout, MayRead}
 use Rattle.afr_model.specs.Attempts.{IsNoOlder}
 use Rattle.afr_model.specs.Cells.{Cell, object_of_cell, kind_of_cell}
 use Rattle.afr_model.specs.Cells as model
 use Rattle.afr_model.specs.Honest.{Honest as IsHonestLog, fault_in}
-use Rattle.afr_model.specs.Replied.{FromGood, by_looks}
-use Rattle.afr_lines.specs.declared.reply.Reply.TheVariants as reply
 use Rattle.afr_model.specs.Safe.{AreFresh, log_before, names_cell}
 use Rattle.afr_model.specs.Showing.{looked_by}
 use Rattle.afr_law.proofs.Model.Cells.{kind_cell, object_cell, below_length}
@@ -190,13 +194,18 @@ pub exact_fresh : ModelExactReadsFresh
 exact_fresh p log five short honest lawful = (let weak = weakly_lawful p log five short honest lawful in (model_fresh_since p log five honest weak, model_fresh_by_looks p log five honest weak))
 
 -- ---- for whoever asks
--- where the last looks give no reply of their own, a majority answered them; so a good copy by them is let
-pub let_by_looks : (p : Plan) (b : ℕ) (g : Gfid) (kind : Kind) (w : Work) → by_looks p.shape kind (looked_by g w) ≡ None → FromGood p b g kind w → IsLet p b g kind w
-let_by_looks p b g kind w none good = record { answered = go (is_majority p.shape.n (looked_by g w).reached) refl; good = good }
-  where
-    go : (most : Bool) → is_majority p.shape.n (looked_by g w).reached ≡ most → is_majority p.shape.n (looked_by g w).reached ≡ true
-    go true e = e
-    go false e = (let short : by_looks p.shape kind (looked_by g w) ≡ Some reply.NoQuorum = rw e refl in absurd (cc (short, none)))
+-- a read that its command may make is let by the last looks
+pub let_by_command : (p : Plan) (c : Command) (g : Gfid) (kind : Kind) (b : ℕ) (w : Work) → MayRead p c g kind b w → IsLet p b g kind w
+let_by_command p c g kind b w m = record { answered = m.answered; good = m.good }
+
+-- so is a request that is about its actor's command
+pub let_about : (p : Plan) (c : Command) (a : ActorId) (b : BrickId) (r : Request) (told : Told) (took : Bool) (older : List Line)
+    → IsAbout p c (Ask a b r told took) (work a.0 older) → IsLetRead p (Ask a b r told took) older
+let_about p c a b (request.ReadBytes g at len) told took older h = let_by_command p c g Bytes b.0 (work a.0 older) h.0
+let_about p c a b (request.ReadName g name) told took older h = let_by_command p c g Names b.0 (work a.0 older) h
+let_about p c a b (request.List g) told took older h = let_by_command p c g Names b.0 (work a.0 older) h.0
+let_about p c a b (request.ReadAttr g key) told took older h = let_by_command p c g Attrs b.0 (work a.0 older) h.0
+let_about p c a b r told took older h = tt
 
 -- where the looks of their works let all reads, all reads are fresh
 pub all_fresh : (p : Plan) (log : List Line) → EachLine (IsFreshByLooks p) log → EachLine (IsLetRead p) log → AreFresh p log
