@@ -25,13 +25,14 @@ use Rattle.afr_tables.specs.Codes.{value_code}
 use Rattle.afr_moves.specs.Discipline.{EndsWork, HasRead}
 use Rattle.afr_law.proofs.Discipline.Known.{entry_of}
 use Rattle.afr_moves.specs.Lines.{ask_by}
-use Rattle.afr_tables.proofs.Entries.{cases_lt}
 use Rattle.afr_tables.proofs.Entries.{entry_some}
 use Rattle.afr_moves.specs.Past.{Beginning, value}
 use Rattle.afr_moves.specs.Positions.{by_position}
-use Rattle.afr_law.proofs.Model.Positions.{newest_at, older_at, past_whole}
+use Rattle.afr_moves.proofs.ByPosition.{newest_at, older_at, past_whole}
 use Rattle.afr_audit.specs.Judged.{Showed, WasGiven, read_by}
 use Rattle.afr_audit.specs.declared.reads.NameRead.{NameRead}
+use Rattle.std.proofs.lemmas.Bool.{cases_lt, eqb-true}
+use Rattle.afr_moves.proofs.Tests.{same_self}
 
 -- ---- a line that read a name
 read_if : (own : Bool) (b : BrickId) (dir : Gfid) (name : NameId) (read : NameRead) → (if own then Some (record { brick = b; dir = dir; name = name }) else None) ≡ Some read → (own ≡ true) × (read ≡ record { brick = b; dir = dir; name = name })
@@ -42,18 +43,12 @@ read_if false b dir name read e = absurd (cc e)
 read_line : (a : ℕ) (line : Line) (read : NameRead) → read_by a line ≡ Some read → line ≡ ask_by a read.brick.0 (ReadName read.dir read.name) Given true
 read_line a (Ask x b (ReadName dir name) Given true) read e = same (read_if (x.0 == a) b dir name read e)
   where
-    equal : (m n : ℕ) → (m == n) ≡ true → m ≡ n
-    equal m n k = grind (arith, nat_tests)
-
     same : ((x.0 == a) ≡ true) × (read ≡ record { brick = b; dir = dir; name = name }) → Ask x b (ReadName dir name) Given true ≡ ask_by a read.brick.0 (ReadName read.dir read.name) Given true
-    same w = (λ i. ask_by (equal x.0 a w.0 i) (sym w.1 i).brick.0 (ReadName (sym w.1 i).dir (sym w.1 i).name) Given true)
+    same w = (λ i. ask_by (eqb-true x.0 a w.0 i) (sym w.1 i).brick.0 (ReadName (sym w.1 i).dir (sym w.1 i).name) Given true)
 read_line a line read e = absurd (cc e)
 
 reads_itself : (a b dir name : ℕ) → read_by a (ask_by a b (ReadName (record { 0 = dir }) (record { 0 = name })) Given true) ≡ Some (record { brick = record { 0 = b }; dir = record { 0 = dir }; name = record { 0 = name } })
-reads_itself a b dir name = rw (self a) refl
-  where
-    self : (n : ℕ) → (n == n) ≡ true
-    self n = grind (arith, nat_tests)
+reads_itself a b dir name = rw (same_self a) refl
 
 ends_it : (a : ℕ) (line : Line) → ends_work a line ≡ true → EndsWork a (Some line)
 ends_it a (End x reply) e = grind (arith, nat_tests)

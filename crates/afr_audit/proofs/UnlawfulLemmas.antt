@@ -9,9 +9,9 @@ use Rattle.afr_lines.specs.declared.line.Line.{Line}
 use Rattle.afr_model.specs.Honest.{Honest, IsHonest}
 use Rattle.afr_plan.specs.declared.plan.Plan.{Plan}
 use Rattle.afr_law.specs.Exactly.{IsLawfulExactly}
-use Rattle.afr_tables.proofs.Entries.{cases_lt}
 use Rattle.afr_audit.specs.Judged.{KeepsDiscipline}
 use Rattle.afr_audit.specs.Unlawful.{KeepsUpTo, PassesNone}
+use Rattle.std.proofs.lemmas.Bool.{cases_lt}
 
 -- as many lines stand before a position as it says
 pub length_before : (log : List Line) (at : ℕ) → at ≤ length log → length (reverse (take at log)) ≡ at

@@ -1,4 +1,3 @@
-pub mod Positions
 pub mod Sessions
 pub mod Locks
 pub mod Mended

@@ -11,14 +11,10 @@ use Rattle.afr_lines.specs.declared.line.Line.TheVariants.{Begin, HealBegin, End
 use Rattle.afr_plan.specs.declared.plan.Plan.{Plan}
 use Rattle.afr_model.specs.Cells.{Cell, object_of_cell, kind_of_cell, value_of}
 use Rattle.afr_model.specs.Honest.{Honest}
-use Rattle.afr_model.specs.Sums.{dirty_of, pending_of}
 use Rattle.afr_base.specs.Kinds.{same_kind}
 use Rattle.afr_lines.specs.Areas.{kind_for}
 use Rattle.afr_law.specs.ModelLaw.{IsLawful}
-
--- on every brick all the numbers of the object and kind are 0
-abbrev pub IsClear : Plan → List Line → Gfid → Kind → Type 0
-IsClear p log g kind = (x : ℕ) → x < p.shape.n → (dirty_of p log x g kind ≡ 0) × ((c : ℕ) → c < p.shape.n → pending_of p log x c g kind ≡ 0)
+use Rattle.afr_tables.specs.Clear.{IsClear}
 
 -- where all numbers are 0, all bricks that keep such cells have the same value; an arbiter keeps no bytes
 abbrev pub AreAlike : Plan → List Line → Type 0

@@ -2,7 +2,6 @@
 use Rattle.std.specs.Prelude.{◌≡◌, ℕ, ◌<◌, ◌≤◌, true, List, length, Some}
 use Rattle.afr_base.specs.declared.ids.ActorId.{ActorId}
 use Rattle.afr_base.specs.declared.ids.BrickId.{BrickId}
-use Rattle.afr_brick.specs.State.{CanApply, CanPost, CanPre, CanRepair, CanSettle, IsInOrder}
 use Rattle.afr_tables.specs.Fits.{FitsSums}
 use Rattle.afr_lines.specs.Log.{EachLine, change_at}
 use Rattle.afr_lines.specs.declared.line.Line.{Line}
@@ -11,27 +10,13 @@ use Rattle.afr_lines.specs.declared.request.Request.{Request}
 use Rattle.afr_lines.specs.declared.request.Request.TheVariants.{Apply, Mend, Post, Pre, Settle}
 use Rattle.afr_model.specs.Honest.{Honest, IsHonest}
 use Rattle.afr_model.specs.Sums.{AreSums, has_object}
-use Rattle.afr_model.specs.Tables.{carried, held_before, holds}
 use Rattle.afr_object.specs.Repairs.{repaired}
 use Rattle.afr_object.specs.Tables.{object_of}
 use Rattle.afr_object.specs.declared.change.Change.{Change}
-use Rattle.afr_object.specs.declared.change.Repair.{Repair}
 use Rattle.afr_plan.specs.declared.plan.Plan.{Plan}
 use Rattle.afr_law.specs.Exactly.{IsLawfulExactly}
 use Rattle.afr_law.specs.ModelNext.{IsNext, MayAskNext, is_carried}
-
--- a repair can be made with what its reads showed: a piece ends within the longest file, and attributes and names stand in order
-abbrev pub CanMend : Plan → List Line → ℕ → Repair → Type 0
-CanMend p log b repair = CanRepair repair (carried (held_before p log) log repair) (holds p log b) × IsInOrder (carried (held_before p log) log repair)
-
--- brick b can carry the request out after this log: numbers can rise and fall as it asks, and what is written ends within the longest file
-abbrev pub CanCarry : Plan → List Line → ℕ → Request → Type 0
-CanCarry p log b (Pre g kind) = CanPre kind g (holds p log b)
-CanCarry p log b (Post attempt g kind missed) = CanPost kind g (holds p log b)
-CanCarry p log b (Apply attempt) = (change : Change) → change_at attempt log ≡ Some change → CanApply change (holds p log b)
-CanCarry p log b (Mend repair) = CanMend p log b repair
-CanCarry p log b (Settle g kind less) = CanSettle kind less g (holds p log b)
-CanCarry p log b request = Unit {0}
+use Rattle.afr_tables.specs.Carrying.{CanCarry}
 
 -- what the line's brick carried out, it could
 abbrev pub Fits : Plan → Line → List Line → Type 0

@@ -19,9 +19,7 @@ use Rattle.afr_brick.specs.TablesLemmas.{copy_at-changed, copy_at-made}
 use Rattle.afr_moves.specs.Cells.{what_code}
 use Rattle.afr_tables.specs.Codes.{kind_code, kind_in}
 use Rattle.afr_moves.specs.Past.{keep, object}
-
-pub gfid_is : (g q : Gfid) → g.0 ≡ q.0 → g ≡ q
-gfid_is g q e = ap (λ (n : ℕ). record { 0 = n }) e
+use Rattle.afr_moves.proofs.Tests.{some_what}
 
 -- a change of a copy that leaves the kind
 pub kind_changed : (f : Object → Object) → ((o : Object) → (f o).what ≡ o.what) → (g : Gfid) (t : Table) (q : ℕ) → kind_in (changed f g (copy_at g t) t) q ≡ kind_in t q
@@ -93,10 +91,6 @@ kind_applied keeps (Make dir name g what) t q = go (copy_at dir t) refl
   where
     f : Object → Object
     f = with_names (λ names. insert_entry name_cmp names name (record { gfid = g; what = what }))
-
-    some_what : (w : What) → (what_code w == 0) ≡ false
-    some_what File = refl
-    some_what Dir = refl
 
     go : (o : Option Object) → copy_at dir t ≡ o → kind_in (linked dir name g what o t) q ≡ keep (kind_in t q) (if kind_code o == 0 then 0 else made_by q (Make dir name g what))
     go None e = keep_none _ true

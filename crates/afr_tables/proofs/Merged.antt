@@ -17,6 +17,7 @@ use Rattle.afr_tables.proofs.Names.{AreAbove, AreRising, by_order, lookup_named,
 use Rattle.afr_tables.proofs.Entries.{entry_some, entry_same}
 use Rattle.afr_moves.specs.Past.{keep, named_kind}
 use Rattle.afr_tables.proofs.Copies.{kind_made}
+use Rattle.afr_moves.proofs.Tests.{same_no}
 
 -- names of a directory, with what they lead to
 abbrev pub NameTable : Type 0
@@ -230,11 +231,8 @@ named_more (suc n) x more g h low =
     below : (n k : ℕ) → k < suc n → (n ≡ k → ⊥) → k < n
     below n k low apart = grind (arith, low, apart)
 
-    unequal : (m k : ℕ) → m < k → (m == k) ≡ false
-    unequal m k low = grind (arith, nat_tests)
-
     nothing : (m : ℕ) → m < x.0.0 → led m (x ∷ more) ≡ 0
-    nothing m less = led_more x more m ∙ rw (unequal m x.0.0 less) (led_none m more x.0.0 (omega (arith, less)) h)
+    nothing m less = led_more x more m ∙ rw (same_no m x.0.0 less) (led_none m more x.0.0 (omega (arith, less)) h)
 
     keep_none : (k : ℕ) → keep k 0 ≡ k
     keep_none zero = refl

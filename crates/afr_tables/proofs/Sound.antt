@@ -21,20 +21,18 @@ use Rattle.afr_brick.specs.TablesLemmas.{same_gfid, copy_at-changed, copy_at-mad
 use Rattle.afr_tables.proofs.Names.{AreRising, rising_inserted, rising_removed}
 use Rattle.afr_tables.specs.Ends.{EndsInTime}
 use Rattle.afr_tables.proofs.Merged.{NameTable, AreBelow, below_inserted, below_removed}
+use Rattle.std.proofs.lemmas.Option.{same_Some}
 
 -- ---- what holds of every copy
 abbrev pub EachCopy : (Object → Type 0) → Table → Type 0
 EachCopy P t = (g : Gfid) (o : Object) → copy_at g t ≡ Some o → P o
-
-some_is : (x y : Object) → Some x ≡ Some y → x ≡ y
-some_is x y e = cc e
 
 pub each_changed : (P : Object → Type 0) (f : Object → Object) → ((o : Object) → P o → P (f o)) → (g : Gfid) (t : Table) → EachCopy P t → EachCopy P (changed f g (copy_at g t) t)
 each_changed P f keep g t all q w h = split (g.0 == q.0) (sym (copy_at-changed f g q t) ∙ h)
   where
     mapped : (o : Option Object) → copy_at g t ≡ o → option_map f o ≡ Some w → P w
     mapped None e k = absurd (cc k)
-    mapped (Some o) e k = subst P (some_is (f o) w k) (keep o (all g o e))
+    mapped (Some o) e k = subst P (same_Some (f o) w k) (keep o (all g o e))
 
     split : (same : Bool) → (if same then option_map f (copy_at g t) else copy_at q t) ≡ Some w → P w
     split true k = mapped (copy_at g t) refl k
@@ -45,7 +43,7 @@ each_made P new g what t all q w h = split (is_some (copy_at g t)) (g.0 == q.0) 
   where
     split : (there same : Bool) → (if there then copy_at q t else (if same then Some (new_object what) else copy_at q t)) ≡ Some w → P w
     split true same k = all q w k
-    split false true k = subst P (some_is (new_object what) w k) (new what)
+    split false true k = subst P (same_Some (new_object what) w k) (new what)
     split false false k = all q w k
 
 pub each_all_made : (P : Object → Type 0) → ((what : What) → P (new_object what)) → (names : NameTable) (t : Table) → EachCopy P t → EachCopy P (all_made names t)
@@ -140,7 +138,7 @@ module _ (n : ℕ) where
   sound_root q w h = split (q.0 == 1) (subst (λ (b : Bool). (if b then Some (new_object Dir) else None) ≡ Some w) (same_gfid q root) h)
     where
       split : (same : Bool) → (if same then Some (new_object Dir) else None) ≡ Some w → IsSound n w
-      split true k = subst (IsSound n) (some_is (new_object Dir) w k) (sound_new Dir)
+      split true k = subst (IsSound n) (same_Some (new_object Dir) w k) (sound_new Dir)
       split false k = absurd (cc k)
 
   -- opening files are sound

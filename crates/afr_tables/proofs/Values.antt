@@ -24,7 +24,7 @@ use Rattle.afr_model.specs.Cells.{IsByte, IsAttr, IsEntry, value_if, value_in}
 use Rattle.afr_moves.specs.Cells.{Cell, Byte, Attr, Entry, object_of, kind_of, what_code, entry_code, fits, is_cell, touches, leaves}
 use Rattle.afr_tables.specs.Codes.{kind_code, value_code, cell_by, kind_in, code_in}
 use Rattle.afr_tables.proofs.Names.{AreRising, lookup_named, lookup_removed}
-use Rattle.afr_tables.proofs.Entries.{cases_lt}
+use Rattle.std.proofs.lemmas.Bool.{cases_lt}
 
 -- what a copy has in a cell, as a number
 abbrev pub code_of : Cell → Option Object → ℕ
@@ -60,7 +60,7 @@ code_left f g t cell same = code_changed f g t cell ∙ go (g.0 == object_of cel
     go true = of_copy (copy_of t (object_of cell)) ∙ sym (code_is t cell)
     go false = refl
 
-none_past : (i : ℕ) → byte_at i [] ≡ 0
+pub none_past : (i : ℕ) → byte_at i [] ≡ 0
 none_past zero = refl
 none_past (suc i) = refl
 

@@ -5,3 +5,5 @@ pub mod RepairLaws
 pub mod TableLaws
 pub mod Fits
 pub mod SumLaws
+pub mod Carrying
+pub mod Clear

@@ -1,6 +1,6 @@
 -- The numbers of a copy are sums over the log.
 use Rattle.std.proofs.Common.{◌≡◌, ℕ, ◌+◌, ◌<◌, ◌≤◌, ◌==◌, ◌&&◌, Bool, true, false, List, [], ◌∷◌, refl, sym, ap, ◌∙◌, subst, arith, length, Option, Some, None, ◌⊎◌, inl, inr, if◌then◌else◌}
-use Rattle.std.proofs.lemmas.Bool.Decides.{eqb_tells, nat_tests}
+use Rattle.std.proofs.lemmas.Bool.Decides.{eqb_tells}
 use Rattle.std.specs.Prelude.{is_some, slice_index}
 use Rattle.std.specs.Option.{option_map}
 use Rattle.std.specs.BTreeMap.{insert_entry}
@@ -35,6 +35,8 @@ use Rattle.afr_model.specs.Tables.{keeps_bytes, effect, carried, holds, held_bef
 use Rattle.afr_tables.specs.Fits.{FitsSums}
 use Rattle.afr_tables.specs.CopyLaws.{gfid_is}
 use Rattle.afr_tables.specs.TableLaws.{zeros, numbers_below, five_pending}
+use Rattle.std.proofs.lemmas.Bool.{eqb-true}
+use Rattle.afr_moves.proofs.Tests.{same_kind_yes}
 
 -- ---- the numbers at one brick
 -- the numbers of one kind; a brick that lacks the object has none
@@ -206,20 +208,6 @@ all_true true true false d e h = absurd (cc h)
 all_true true false c d e h = absurd (cc h)
 all_true false b c d e h = absurd (cc h)
 
-kind_is : (k kind : Kind) → same_kind k kind ≡ true → k ≡ kind
-kind_is Bytes Bytes h = refl
-kind_is Bytes Attrs h = absurd (cc h)
-kind_is Bytes Names h = absurd (cc h)
-kind_is Attrs Bytes h = absurd (cc h)
-kind_is Attrs Attrs h = refl
-kind_is Attrs Names h = absurd (cc h)
-kind_is Names Bytes h = absurd (cc h)
-kind_is Names Attrs h = absurd (cc h)
-kind_is Names Names h = refl
-
-number_is : (a b : ℕ) → (a == b) ≡ true → a ≡ b
-number_is a b h = grind (arith, nat_tests, h)
-
 -- a fact of the copy that a line counts at is a fact of the numbers there
 of_counted : (p : Plan) (x : ℕ) (g : Gfid) (kind : Kind) (y : ℕ) (h : Gfid) (k : Kind) (took : Bool) (older : List Line) (R : Marks → Type 0)
     → (took ≡ true → (o : Object) → copy_at h (holds p older y) ≡ Some o → R (marks_of k o.marks)) → counts p x g kind y h k took older ≡ true → R (now_at p older x g kind)
@@ -232,11 +220,11 @@ of_counted p x g kind y h k took older R fact counted = there (copy_at g (holds 
     there None e has = absurd (cc has)
     there (Some o) e has =
         let moved : copy_at h (holds p older y) ≡ Some o =
-        ap (λ (q : Gfid). copy_at q (holds p older y)) (gfid_is h g (number_is h.0 g.0 parts.2)) ∙ ap (λ (b : ℕ). copy_at g (holds p older b)) (number_is y x parts.1) ∙ e in
-        subst (λ (q : Kind). R (marks_of q o.marks)) (kind_is k kind parts.3) (fact parts.0 o moved)
+        ap (λ (q : Gfid). copy_at q (holds p older y)) (gfid_is h g (eqb-true h.0 g.0 parts.2)) ∙ ap (λ (b : ℕ). copy_at g (holds p older b)) (eqb-true y x parts.1) ∙ e in
+        subst (λ (q : Kind). R (marks_of q o.marks)) (same_kind_yes k kind parts.3) (fact parts.0 o moved)
 
 -- the numbers before and after, by whether the line counts
-pre_dirty : (c : Bool) (new old : Marks) → new ≡ (if c then dirtied old else old) → new.dirty + (0 + 0) ≡ old.dirty + (if c then 1 else 0)
+pub pre_dirty : (c : Bool) (new old : Marks) → new ≡ (if c then dirtied old else old) → new.dirty + (0 + 0) ≡ old.dirty + (if c then 1 else 0)
 pre_dirty true new old e = omega (arith, ap (λ (m : Marks). m.dirty) e)
 pre_dirty false new old e = omega (arith, ap (λ (m : Marks). m.dirty) e)
 
@@ -248,7 +236,7 @@ settle_dirty : (c : Bool) (less new old : Marks) → new ≡ (if c then taken_ba
 settle_dirty true less new old e fits = omega (arith, ap (λ (m : Marks). m.dirty) e, fits refl)
 settle_dirty false less new old e fits = omega (arith, ap (λ (m : Marks). m.dirty) e)
 
-same_dirty : (new old : Marks) → new ≡ old → new.dirty + (0 + 0) ≡ old.dirty + 0
+pub same_dirty : (new old : Marks) → new ≡ old → new.dirty + (0 + 0) ≡ old.dirty + 0
 same_dirty new old e = omega (arith, ap (λ (m : Marks). m.dirty) e)
 
 pub pre_pending : (c : Bool) (at : ℕ) (new old : Marks) → new ≡ (if c then dirtied old else old) → slice_index new.pending at + 0 ≡ slice_index old.pending at + 0

@@ -1,6 +1,6 @@
 -- What holds of every copy after a log: it stays, and its numbers are no more than the lines.
 use Rattle.std.proofs.Common.{◌≡◌, ℕ, zero, suc, ◌+◌, ◌≤◌, ◌==◌, Bool, true, false, cond, List, [], ◌∷◌, refl, ◌∙◌, subst, arith, length, Option, Some, None, get_or, if◌then◌else◌, ◌&&◌}
-use Rattle.std.specs.Prelude.{is_some, slice_index, slice_get, option_and_then}
+use Rattle.std.specs.Prelude.{is_some, slice_index}
 use Rattle.std.specs.BTreeMap.{is_at, insert_entry}
 use Rattle.afr_base.specs.Bricks.{member}
 use Rattle.afr_base.specs.Marks.{zero_marks, no_marks, marks_of, with_marks, dirtied, closed_op, taken_back, plus_missed}
@@ -20,10 +20,9 @@ use Rattle.afr_object.specs.declared.change.Change.TheVariants.{Write, Cut, SetA
 use Rattle.afr_object.specs.declared.change.Repair.{Repair}
 use Rattle.afr_object.specs.declared.entry.Entry.{Entry}
 use Rattle.afr_object.specs.declared.object.Object.{Object}
-use Rattle.afr_lines.specs.Log.{from_oldest, change_of, change_at}
-use Rattle.afr_lines.specs.Work.{ended}
+use Rattle.afr_lines.specs.Log.{change_at}
 use Rattle.afr_lines.specs.declared.line.Line.{Line}
-use Rattle.afr_lines.specs.declared.line.Line.TheVariants.{Ask, Begin}
+use Rattle.afr_lines.specs.declared.line.Line.TheVariants.{Ask}
 use Rattle.afr_lines.specs.declared.request.Request.{Request}
 use Rattle.afr_lines.specs.declared.request.Request.TheVariants.{Apply, Mend, Pre, Post, Settle}
 use Rattle.afr_plan.specs.declared.plan.Plan.{Plan}

@@ -1,6 +1,6 @@
 -- All copies of one cell are equal where nothing is recorded against them, from facts about the lines that touch it.
 use Rattle.std.proofs.Common.{◌≡◌, ℕ, zero, suc, ◌<◌, ◌≤◌, ◌⊎◌, inl, inr, refl, sym, ap, ◌∙◌, subst, arith}
-use Rattle.afr_tables.proofs.Entries.{cases_lt}
+use Rattle.std.proofs.lemmas.Bool.{cases_lt}
 
 -- what became of the last number m on a copy, at a moment when nothing is recorded
 pub data Fate (IsCopy : ℕ → Type 0) (Value : Type 0) (stamp : ℕ → ℕ → ℕ) (value : ℕ → ℕ → Value) (Acts : ℕ → ℕ → ℕ → Type 0) (Leaves : ℕ → Value → Type 0) (t m : ℕ) : Type 0 where

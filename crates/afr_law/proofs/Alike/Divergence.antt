@@ -18,11 +18,10 @@ use Rattle.afr_moves.specs.Tally.{tally}
 use Rattle.afr_moves.specs.Rules.{Register, in_force, register, PlaneIs, MayPre, MayRaise, MayApply, MayMend, Sink, Lawful, opened, present}
 use Rattle.afr_law.specs.Alike.{Unrecorded, Alike}
 use Rattle.afr_moves.specs.Lines.{ask_by, pre_on, post_on}
-use Rattle.afr_tables.proofs.Entries.{cases_lt}
-use Rattle.afr_law.proofs.Safety.Locks.{cases_le, held_from, excluded}
+use Rattle.afr_law.proofs.Safety.Locks.{held_from, excluded}
 use Rattle.afr_law.proofs.Safety.Numbers.{Prepared}
 use Rattle.afr_law.proofs.Safety.Acts.{Act, acts_apart, Working, working, may_ask, mend_covers}
-use Rattle.afr_law.proofs.Heals.Looks.{SettleLine, positive, look_acts, OwnPre, FirstAt, Viewing, mends_plane, heal_overlap, mend_works, settle_works}
+use Rattle.afr_law.proofs.Heals.Looks.{SettleLine, look_acts, OwnPre, FirstAt, Viewing, mends_plane, heal_overlap, mend_works, settle_works}
 use Rattle.afr_law.proofs.Heals.Marks.{ready}
 use Rattle.afr_law.proofs.Heals.EachLine.{viewings}
 use Rattle.afr_law.proofs.Safety.CellLemmas.{begins, PostedAt}
@@ -32,9 +31,8 @@ use Rattle.afr_law.proofs.Alike.Tallies.{present_tallied}
 use Rattle.afr_law.proofs.Alike.Raises.{plane_one, no_piece, raise, PostBack, Swept, OwnOf, Why, ByPost, BySweep, ByOwn, raises_at, pre_act, look_act, present_start, sweep_piece, line_of, taken_back}
 use Rattle.afr_law.proofs.Alike.Copies.{Fate, Everywhere, Overtaken, Brought as BroughtOn, Copies, alike}
 use Rattle.afr_law.proofs.Alike.Traces.{plane_of, brought_by, brought_is, Leaves, ByRepair, number_past, one, writes, LastTouch, LastMade, LastMended, last_touch}
-
-cases_eq : (a b : ℕ) → (a ≡ b) ⊎ (a ≡ b → ⊥)
-cases_eq a b = grind arith
+use Rattle.std.proofs.lemmas.Bool.{cases_lt, cases_eq}
+use Rattle.afr_moves.proofs.Tests.{three_cases, positive}
 
 module _ (n : ℕ) (files : Beginning) (faults : ℕ → ℕ → Option Fault) (log : Log) (honest : Honest files faults log) (lawful : Lawful n files.keeps log) (shown : DirtyTracked files log) where
   -- the register of a numbered line is no fresh one
@@ -168,7 +166,7 @@ module _ (n : ℕ) (files : Beginning) (faults : ℕ → ℕ → Option Fault) (
               after = (
                   let act = pre_act n files.keeps files faults log honest lawful shown b g kind u a m plane pre in
                   let look = look_act n files.keeps files faults log honest lawful shown b g kind back.0 w act.cell act.real act.object_is act.kind_is in
-                  elim (cases_le m w.first.h) [
+                  elim (three_cases m w.first.h) [
                     | inl under ↦ under
                     | inr (inl equal) ↦ absurd (let piece = sweep_piece n files.keeps files faults log honest lawful shown b g kind back.0 w in no_piece (log m) w.a piece.g g piece.kind kind (ap log equal ∙ piece.is) plane)
                     | inr (inr over) ↦ absurd (let soon = acts_apart files faults log honest act.cell w.first.h m b w.first.look.l pre.p look act.act over in omega (arith, soon, early, pre.after))
@@ -212,7 +210,7 @@ module _ (n : ℕ) (files : Beginning) (faults : ℕ → ℕ → Option Fault) (
         -- the heal that took the raise back settled there after this line
         later : (v : ℕ) (w : Swept n files.keeps files faults log honest lawful shown b g kind v) → own.p < v → u < v
         later v w past =
-            elim (cases_le u v) [
+            elim (three_cases u v) [
               | inl under ↦ under
               | inr (inl same) ↦ absurd (let line : log v ≡ Some (ask_by a b (Mend repair) told true) = subst (λ j. log j ≡ Some (ask_by a b (Mend repair) told true)) same is in cc (line, w.is))
               | inr (inr over) ↦ absurd (first.none may.unsettled may.healing work.live v (omega (arith, own.later, past)) over (moved (line_of n files.keeps files faults log honest lawful shown b g kind v w)))
@@ -314,7 +312,7 @@ module _ (n : ℕ) (files : Beginning) (faults : ℕ → ℕ → Option Fault) (
                       let its = (view_at v w.a).firsts brought.s f.0 f.1 in
                       let i = its.own w.may.inside sink.raised in
                       let low : r.start ≤ i.p = omega (arith, its.start_is, one_start, its.look.after, i.later) in
-                      elim (cases_le i.p u) [
+                      elim (three_cases i.p u) [
                         | inl before_u ↦ (
                             let asked = (present_tallied n files.keeps files faults log honest lawful u a may.begun_already).raises i.p brought.s (present n log v w.a).object (present n log v w.a).kind Done true (i.is ∙ ap (λ j. Some (ask_by j brought.s (pre_on (present n log v w.a).object (present n log v w.a).kind) Done true)) (sym actor)) before_u (λ none. omega (arith, none, first.start_is)) low in
                             true≢false (sym asked ∙ aside)

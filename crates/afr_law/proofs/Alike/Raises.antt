@@ -21,32 +21,22 @@ use Rattle.afr_law.specs.Dirty.{raising, raised, lowering, lowered, dirty, NoneB
 use Rattle.afr_moves.specs.Honest.{HonestLine, Honest, view_marks, plane_kind, asked}
 use Rattle.afr_moves.specs.Rules.{PlaneIs, SomeCell, MayPre, MayPost, MaySettle, Full, one_if, Lawful, present, opened, register, in_force}
 use Rattle.afr_moves.specs.Lines.{ask_by, begin_by, heal_begin_by, look_at, pre_on, post_on, settle_on}
-use Rattle.afr_law.proofs.Safety.Locks.{cases_le, same_self, same_yes}
 use Rattle.afr_law.proofs.Safety.Numbers.{Prepared, Piece}
 use Rattle.afr_law.proofs.Safety.Acts.{Act, acts_apart, Working, working, acting, may_ask}
-use Rattle.afr_law.proofs.Heals.Looks.{SettleLine, same_kind_eq, positive, look_acts, OwnPre, FirstAt, Viewing, done_finds, settle_works}
+use Rattle.afr_law.proofs.Heals.Looks.{SettleLine, look_acts, OwnPre, FirstAt, Viewing, done_finds, settle_works}
 use Rattle.afr_law.proofs.Heals.Marks.{ready}
 use Rattle.afr_law.proofs.Heals.EachLine.{viewings}
-use Rattle.afr_law.proofs.Safety.CellLemmas.{same_kind_self}
 use Rattle.afr_law.proofs.Alike.Since.{since}
 use Rattle.afr_law.proofs.Alike.Tallies.{present_tallied}
 use Rattle.afr_law.proofs.Alike.Units.{Step, Still, Raises, Lowers, Takes, TakesOwn, clears, single, seen, gone, covers_all}
-
-four : (y k o s : Bool) → (y && k && o && s) ≡ true → (y ≡ true) × (k ≡ true) × (o ≡ true) × (s ≡ true)
-four y k o s e = grind arith
+use Rattle.afr_moves.proofs.Tests.{same_self, three_cases, same_kind_self, four_parts, same_kind_yes, positive}
+use Rattle.std.proofs.lemmas.Bool.{eqb-true, or_cases, ltb-true}
 
 all_four : (y k o s : Bool) → y ≡ true → k ≡ true → o ≡ true → s ≡ true → (y && k && o && s) ≡ true
 all_four y k o s p q r u = rw (p, q, r, u) refl
 
 equal_is : (x p : ℕ) → (x == p) ≡ true → p ≡ x
 equal_is x p e = grind (arith, nat_tests)
-
-less_is : (x l : ℕ) → nat_lt x l ≡ true → x < l
-less_is x l e = grind (arith, nat_tests)
-
-either : (a b : Bool) → (a || b) ≡ true → (a ≡ true) ⊎ (b ≡ true)
-either true b e = inl refl
-either false b e = inr e
 
 -- an attempt has one object and kind
 pub plane_one : (line : Option Line) (g h : ℕ) (k l : Kind) → PlaneIs line g k → PlaneIs line h l → (g ≡ h) × (k ≡ l)
@@ -225,7 +215,7 @@ module _ (n : ℕ) (keeps : ℕ → Kind → Bool) (files : Beginning) (faults :
           own : (mine : Bool) → (present n log t a).raised x ≡ mine → Stepped t
           own false e = record {
             step = Takes l (omega (arith, f.past)) none (up_same t none) (λ none_below. omega (arith, fell, amount, saw none_below, no_bit ((present n log t a).raised x) e));
-            why = λ p k. BySweep w (less_is p l k);
+            why = λ p k. BySweep w (ltb-true p l k);
             named = λ p k. absurd (true≢false (sym k));
             sight = λ p u k. (w, k.0, k.1);
           }
@@ -233,8 +223,8 @@ module _ (n : ℕ) (keeps : ℕ → Kind → Bool) (files : Beginning) (faults :
               let o : OwnOf t w = f.own may.inside e in
               record {
                 step = TakesOwn l o.p (omega (arith, o.later)) o.past (raises_at o.p a (present n log t a).object (present n log t a).kind o.is (sym may.object_same) (sym may.kind_same)) none (up_same t none) (λ none_below. omega (arith, fell, amount, saw none_below, bit ((present n log t a).raised x) e));
-                why = λ p k. elim (either (nat_lt p l) (p == o.p) k) [
-                  | inl under ↦ BySweep w (less_is p l under)
+                why = λ p k. elim (or_cases (nat_lt p l) (p == o.p) k) [
+                  | inl under ↦ BySweep w (ltb-true p l under)
                   | inr same ↦ ByOwn w o (equal_is p o.p same)
                 ];
                 named = λ p k. NamedOwn w o (equal_is p o.p k);
@@ -276,8 +266,8 @@ module _ (n : ℕ) (keeps : ℕ → Kind → Bool) (files : Beginning) (faults :
           pick : (hit : Bool) → ((y.0 == x) && took && (h.0 == g) && same_kind k kind) ≡ hit → Stepped t
           pick false e = still t quiet (down_by t 0 there (rw (is, e) refl) ∙ none t)
           pick true e = (
-              let w = four (y.0 == x) took (h.0 == g) (same_kind k kind) e in
-              posted t a.0 q missed told (is ∙ (λ i. Some (ask_by a.0 (same_yes y.0 x w.0 i) (post_on q (same_yes h.0 g w.2 i) (same_kind_eq k kind w.3 i) missed) told (w.1 i)))) there quiet (rw (is, e) refl)
+              let w = four_parts (y.0 == x) took (h.0 == g) (same_kind k kind) e in
+              posted t a.0 q missed told (is ∙ (λ i. Some (ask_by a.0 (eqb-true y.0 x w.0 i) (post_on q (eqb-true h.0 g w.2 i) (same_kind_yes k kind w.3 i) missed) told (w.1 i)))) there quiet (rw (is, e) refl)
               )
       go (Some (Ask a y (Settle h k less) told took)) is there = pick ((y.0 == x) && took && (h.0 == g) && same_kind k kind) refl
         where
@@ -290,8 +280,8 @@ module _ (n : ℕ) (keeps : ℕ → Kind → Bool) (files : Beginning) (faults :
           pick : (hit : Bool) → ((y.0 == x) && took && (h.0 == g) && same_kind k kind) ≡ hit → Stepped t
           pick false e = still t quiet (down_by t 0 there (rw (is, e) refl) ∙ none t)
           pick true e = (
-              let w = four (y.0 == x) took (h.0 == g) (same_kind k kind) e in
-              swept t a.0 less told (is ∙ (λ i. Some (ask_by a.0 (same_yes y.0 x w.0 i) (settle_on (same_yes h.0 g w.2 i) (same_kind_eq k kind w.3 i) less) told (w.1 i)))) there quiet (rw (is, e) refl)
+              let w = four_parts (y.0 == x) took (h.0 == g) (same_kind k kind) e in
+              swept t a.0 less told (is ∙ (λ i. Some (ask_by a.0 (eqb-true y.0 x w.0 i) (settle_on (eqb-true h.0 g w.2 i) (same_kind_yes k kind w.3 i) less) told (w.1 i)))) there quiet (rw (is, e) refl)
               )
       go _ is there = still t (rw (there, is) refl) (down_by t 0 there (rw is refl) ∙ none t)
         where
@@ -369,7 +359,7 @@ module _ (n : ℕ) (keeps : ℕ → Kind → Bool) (files : Beginning) (faults :
       let l = s.first.look.l in
       let look_one = look_act t s pre.cell pre.real pre.object_is pre.kind_is in
       let look_two = look_act t s post.cell post.real post.object_is post.kind_is in
-      elim (cases_le w.q h) [
+      elim (three_cases w.q h) [
         | inl less ↦ (let soon = acts_apart files faults log honest post.cell w.q h x u l post.act look_two less in omega (arith, soon, late, s.first.look.after))
         | inr (inl same) ↦ (let piece = sweep_piece t s in no_piece (log w.q) s.a piece.g g piece.kind kind (ap log same ∙ piece.is) w.plane)
         | inr (inr more) ↦ (let soon = acts_apart files faults log honest pre.cell h w.q x l w.pre.p look_one pre.act more in omega (arith, soon, early, w.here, w.pre.after))
@@ -427,7 +417,7 @@ module _ (n : ℕ) (keeps : ℕ → Kind → Bool) (files : Beginning) (faults :
   stands t p u mine less saw = go (clears raise up down u (stepped u).step p) refl ((stepped t).sight p u saw)
     where
       against : (w : Swept t) → p < w.first.look.l → w.first.look.l ≤ u → Why u p → ⊥
-      against w early low (ByPost k) = no_straddle u p t k w early (past (cases_le w.first.look.l u))
+      against w early low (ByPost k) = no_straddle u p t k w early (past (three_cases w.first.look.l u))
         where
           past : (w.first.look.l < u) ⊎ (w.first.look.l ≡ u) ⊎ (u < w.first.look.l) → w.first.look.l < u
           past (inl under) = under

@@ -17,21 +17,16 @@ use Rattle.afr_moves.specs.Honest.{Honest}
 use Rattle.afr_moves.specs.Tally.{Tally, blank, note_tally, in_tally, tally}
 use Rattle.afr_moves.specs.Rules.{Register, fresh, begun, is_area, locking, note_ask, dropping, note, piece, in_force, register, MayAsk, MayMend, Lawful, opened, present, looked, viewed, busy, second_of, second_freed}
 use Rattle.afr_moves.specs.Lines.{ask_by, pre_on, post_on}
-use Rattle.afr_tables.proofs.Entries.{cases_lt}
 use Rattle.afr_law.proofs.Safety.Acts.{last_rises}
 use Rattle.afr_law.proofs.Safety.Standing.{Noted, noted, Grants, Waits, Frees, Tries, HealGrants, HealWaits, HealFrees, HealTries, Looks, Pres, Applies, Posts, Mends, Settles, Same}
 use Rattle.afr_law.proofs.Safety.Registers.{Own, Asks, Begins, HealBegins, Ends, HealEnds, registers_at, MayOf}
 use Rattle.afr_law.proofs.Alike.Since.{follows_asked, follows_dropped}
+use Rattle.std.proofs.lemmas.Bool.{cases_lt}
+use Rattle.afr_moves.proofs.Tests.{with_more, with_self}
 
 -- the tally in force at the line
 abbrev pub present_tally : Log → ℕ → ℕ → Tally
 present_tally log t a = in_tally (opened log t a) (tally log t a)
-
-with_self : (set : ℕ → Bool) (b : ℕ) → with set b b ≡ true
-with_self set b = grind (arith, nat_tests)
-
-with_more : (set : ℕ → Bool) (b x : ℕ) → set x ≡ true → with set b x ≡ true
-with_more set b x h = grind (arith, nat_tests)
 
 -- a request changes the number only to 0, by beginning a transaction or a piece
 number_asked : (n : ℕ) (r : Register) (b : ℕ) (request : Request) (told : Told) → ((note_ask n r b request told).number ≡ r.number) ⊎ ((note_ask n r b request told).number ≡ 0)

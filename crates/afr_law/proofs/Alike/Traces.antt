@@ -15,12 +15,13 @@ use Rattle.afr_moves.specs.Past.{Beginning, Log, before, last, changes, mends, t
 use Rattle.afr_moves.specs.Honest.{Honest}
 use Rattle.afr_moves.specs.Rules.{Register, PlaneIs, MayMend, ReadOf, Contents, EachRead, Lawful, present}
 use Rattle.afr_moves.specs.Lines.{ask_by, begin_by, heal_begin_by}
-use Rattle.afr_law.proofs.Safety.Locks.{before_is, cases_le}
+use Rattle.afr_law.proofs.Safety.Locks.{before_is}
 use Rattle.afr_law.proofs.Safety.Acts.{Act, act_later, may_ask, apply_acts}
 use Rattle.afr_law.proofs.Heals.Looks.{mend_works, mend_acts}
 use Rattle.afr_law.proofs.Safety.Touches.{Touched, touched, Not, Made, Mended, stamp_next, value_next, values_at}
 use Rattle.afr_law.proofs.Safety.CellLemmas.{begins, change_plane}
 use Rattle.afr_law.proofs.Alike.Tallies.{present_tallied}
+use Rattle.afr_moves.proofs.Tests.{three_cases}
 
 -- a line that changes a cell is a Begin
 begin_of : (line : Option Line) (cell : Cell) → changes line cell ≡ true → (a : ℕ) × (change : Change) × (line ≡ Some (begin_by a change)) × (touches change cell ≡ true)
@@ -98,7 +99,7 @@ module _ (n : ℕ) (files : Beginning) (faults : ℕ → ℕ → Option Fault) (
       let actor : c ≡ a = ap heal_actor (sym its ∙ is) in
       let line_two : log x ≡ Some (ask_by a d (Mend other) said true) = other_line ∙ ap (λ y. Some (ask_by y d (Mend other) said true)) actor in
       let number_two : (present n log x a).number ≡ suc m = subst (λ y. (present n log x y).number ≡ suc m) actor other_number in
-      let same : repair ≡ other = elim (cases_le u x) [
+      let same : repair ≡ other = elim (three_cases u x) [
         | inl less ↦ one_repair u x a b d m repair other told said line line_two number number_two less
         | inr (inl here) ↦ (let moved : log x ≡ Some (ask_by a b (Mend repair) told true) = subst (λ j. log j ≡ Some (ask_by a b (Mend repair) told true)) here line in cc (moved, line_two))
         | inr (inr more) ↦ sym (one_repair x u a d b m other repair said told line_two line number_two number more)

@@ -3,7 +3,10 @@ use Rattle.std.proofs.Common.{◌≡◌, ℕ, zero, suc, ◌+◌, ◌-◌, ◌<�
 use Rattle.std.specs.Prelude.{◌==◌, nat_lt, if◌then◌else◌}
 use Rattle.std.proofs.lemmas.Bool.Decides.{nat_tests}
 use Rattle.afr_base.specs.Majority.{count_below}
-use Rattle.afr_tables.proofs.Entries.{cases_lt}
+use Rattle.std.proofs.lemmas.Bool.{cases_lt, lt-ltb, le-ltb}
+use Rattle.afr_base.specs.Bricks.{and_left}
+use Rattle.afr_moves.proofs.Tests.{same_self, same_no}
+use Rattle.afr_base.specs.SetLemmas.{count_same}
 
 -- up to t no sum is below 0
 abbrev pub Covered : (raised lowered : ℕ → ℕ) → ℕ → Type 0
@@ -49,23 +52,8 @@ or_out true true c = refl
 or_out true false c = refl
 or_out false b c = refl
 
-front : (x y : Bool) → (x && y) ≡ true → x ≡ true
-front x y e = grind arith
-
-self : (p : ℕ) → (p == p) ≡ true
-self p = grind (arith, nat_tests)
-
-differ : (p t : ℕ) → p < t → (p == t) ≡ false
-differ p t h = grind (arith, nat_tests)
-
 differ_over : (p t : ℕ) → t < p → (p == t) ≡ false
 differ_over p t h = grind (arith, nat_tests)
-
-lt_yes : (x l : ℕ) → x < l → nat_lt x l ≡ true
-lt_yes x l h = grind (arith, nat_tests)
-
-lt_no : (x l : ℕ) → l ≤ x → nat_lt x l ≡ false
-lt_no x l h = grind (arith, nat_tests)
 
 -- one for true
 abbrev bit : Bool → ℕ
@@ -80,10 +68,6 @@ unfoldable pub live : (ℕ → Bool) → (ℕ → ℕ → Bool) → ℕ → ℕ 
 live raise back zero p = false
 live raise back (suc t) p = if p == t then raise t else (live raise back t p && not (back t p))
 
-count_same : (n : ℕ) (f g : ℕ → Bool) → ((p : ℕ) → p < n → f p ≡ g p) → count_below n f ≡ count_below n g
-count_same zero f g same = refl
-count_same (suc n) f g same = (let here : f n ≡ g n = same n (omega arith) in let rest = count_same n f g (λ p less. same p (omega (arith, less))) in rw (here, rest) refl)
-
 one_out : (n : ℕ) (f : ℕ → Bool) (p : ℕ) → p < n → f p ≡ true → count_below n f ≡ suc (count_below n (λ x. f x && not (x == p)))
 one_out zero f p less e = absurd (omega (arith, less))
 one_out (suc n) f p less e =
@@ -95,9 +79,9 @@ one_out (suc n) f p less e =
           )
       | inr last ↦ (
           let here : p ≡ n = omega (arith, less, last) in
-          let hit : (n == p) ≡ true = subst (λ k. (n == k) ≡ true) (sym here) (self n) in
+          let hit : (n == p) ≡ true = subst (λ k. (n == k) ≡ true) (sym here) (same_self n) in
           let mine : f n ≡ true = subst (λ k. f k ≡ true) here e in
-          let rest : count_below n f ≡ count_below n (λ x. f x && not (x == p)) = count_same n f (λ x. f x && not (x == p)) (λ x below. sym (rw (differ x p (omega (arith, below, last))) (keep_not (f x)))) in
+          let rest : count_below n f ≡ count_below n (λ x. f x && not (x == p)) = count_same n f (λ x. f x && not (x == p)) (λ x below. sym (rw (same_no x p (omega (arith, below, last))) (keep_not (f x)))) in
           rw (hit, mine) (omega (arith, rest))
           )
     ]
@@ -108,13 +92,13 @@ split_at (suc n) l f low =
     elim (cases_lt n l) [
       | inl last ↦ (
           let e : l ≡ suc n = omega (arith, low, last) in
-          let none : count_below (suc n) (λ x. f x && not (nat_lt x l)) ≡ count_below (suc n) (λ x. false) = count_same (suc n) (λ x. f x && not (nat_lt x l)) (λ x. false) (λ x below. rw (lt_yes x l (omega (arith, below, e))) (drop (f x))) in
+          let none : count_below (suc n) (λ x. f x && not (nat_lt x l)) ≡ count_below (suc n) (λ x. false) = count_same (suc n) (λ x. f x && not (nat_lt x l)) (λ x. false) (λ x below. rw (lt-ltb x l (omega (arith, below, e))) (drop (f x))) in
           let whole : count_below l f ≡ count_below (suc n) f = ap (λ k. count_below k f) e in
           omega (arith, none, nothing (suc n), whole)
           )
       | inr early ↦ (
           let rest = split_at n l f early in
-          let same : (f n && not (nat_lt n l)) ≡ f n = rw (lt_no n l early) (keep_not (f n)) in
+          let same : (f n && not (nat_lt n l)) ≡ f n = rw (le-ltb n l early) (keep_not (f n)) in
           rw same (omega (arith, rest))
           )
     ]
@@ -139,11 +123,11 @@ none_in (suc n) f e p less = go (f n) refl (λ early fewer. none_in n f fewer p 
 module _ (raise : ℕ → Bool) (back : ℕ → ℕ → Bool) where
   live_last : (t : ℕ) → live raise back (suc t) t ≡ raise t
   unfolding live
-  live_last t = rw (self t) refl
+  live_last t = rw (same_self t) refl
 
   live_next : (t p : ℕ) → p < t → live raise back (suc t) p ≡ (live raise back t p && not (back t p))
   unfolding live
-  live_next t p less = rw (differ p t less) refl
+  live_next t p less = rw (same_no p t less) refl
 
   count_next : (t : ℕ) → count_below (suc t) (live raise back (suc t)) ≡ (if raise t then 1 else 0) + count_below t (λ p. live raise back t p && not (back t p))
   count_next t =
@@ -154,7 +138,7 @@ module _ (raise : ℕ → Bool) (back : ℕ → ℕ → Bool) where
   live_raise zero p less e = absurd (omega (arith, less))
   live_raise (suc t) p less e =
       elim (cases_lt p t) [
-        | inl early ↦ live_raise t p early (front (live raise back t p) (not (back t p)) (sym (live_next t p early) ∙ e))
+        | inl early ↦ live_raise t p early (and_left (live raise back t p) (not (back t p)) (sym (live_next t p early) ∙ e))
         | inr last ↦ (let same : t ≡ p = omega (arith, less, last) in subst (λ k. raise k ≡ true) same (sym (live_last t) ∙ subst (λ k. live raise back (suc t) k ≡ true) (sym same) e))
       ]
 
@@ -239,13 +223,13 @@ module _ (raise : ℕ → Bool) (raised lowered : ℕ → ℕ) (begins : (raised
           go (Still none up down) is sum = omega (arith, sum, count (raise t) false none, stay raise back t, up, down, now)
           go (Raises some up down) is sum = omega (arith, sum, count (raise t) true some, stay raise back t, up, down, now)
           go (Lowers p less mine none up down) is sum =
-              omega (arith, sum, count (raise t) false none, one_out t (live raise back t) p less (standing (Lowers p less mine none up down) is p less mine (self p)), up, down, now)
+              omega (arith, sum, count (raise t) false none, one_out t (live raise back t) p less (standing (Lowers p less mine none up down) is p less mine (same_self p)), up, down, now)
           go (Takes l low none up down) is sum =
               omega (arith, sum, count (raise t) false none, split_at t l (live raise back t) low, old (Takes l low none up down) is l low (λ p v below at. (below, at)), before l low, up, down (covered l low), now)
           go (TakesOwn l p low less mine none up down) is sum = (
               let s : Step raise raised lowered t = TakesOwn l p low less mine none up down in
               let under : l ≤ t = omega (arith, low, less) in
-              let still : (live raise back t p && not (nat_lt p l)) ≡ true = rw (standing s is p less mine (self p), lt_no p l low) refl in
+              let still : (live raise back t p && not (nat_lt p l)) ≡ true = rw (standing s is p less mine (same_self p), le-ltb p l low) refl in
               let each = count_same t (λ x. live raise back t x && not (nat_lt x l || (x == p))) (λ x. (live raise back t x && not (nat_lt x l)) && not (x == p)) (λ x below. or_out (live raise back t x) (nat_lt x l) (x == p)) in
               let out = one_out t (λ x. live raise back t x && not (nat_lt x l)) p less still in
               let was = old s is l under (λ p v below at. (below, at)) in

@@ -13,14 +13,15 @@ use Rattle.afr_lines.specs.declared.request.Request.TheVariants.{Post}
 use Rattle.afr_base.specs.Kinds.{same_kind}
 use Rattle.afr_law.proofs.Safety.Acts.{may_ask, working}
 use Rattle.afr_law.specs.Causes.{AccusationsHaveCauses, Cause}
-use Rattle.afr_law.proofs.Heals.Looks.{same_kind_eq}
 use Rattle.afr_moves.specs.Honest.{Answers, Honest, HonestAsk, HonestLine, Tells, asked}
 use Rattle.afr_moves.specs.Rules.{Lawful, MayPost, PlaneIs, present}
 use Rattle.afr_moves.specs.Lines.{ask_by, begin_by, post_on}
-use Rattle.afr_law.proofs.Safety.Locks.{same_yes}
 use Rattle.afr_law.proofs.Freshness.Misses.{not_done}
 use Rattle.afr_moves.specs.Past.{Beginning, Log, holds, joined, named, opening, pending, posts}
 use Rattle.afr_law.proofs.Safety.Steps.{honest_whole, lawful_whole}
+use Rattle.std.proofs.lemmas.Bool.{eqb-true}
+use Rattle.afr_moves.proofs.Tests.{same_kind_yes}
+use Rattle.afr_tables.specs.SumLaws.{all_true}
 
 -- a post-op on the object and kind that names c
 record NamedLine (x c g : ℕ) (kind : Kind) (line : Option Line) : Type 0 where
@@ -33,18 +34,15 @@ record NamedLine (x c g : ℕ) (kind : Kind) (line : Option Line) : Type 0 where
 
 names_line : (x c g : ℕ) (kind : Kind) (line : Option Line) → named x c g kind line ≡ true → NamedLine x c g kind line
 names_line x c g kind (Some (Ask a y (Post q h k missed) told took)) e =
-    let w = five (y.0 == x) took (h.0 == g) (same_kind k kind) (member missed c) e in
+    let w = all_true (y.0 == x) took (h.0 == g) (same_kind k kind) (member missed c) e in
     record {
       a = a.0;
       q = q;
       missed = missed;
       told = told;
-      is = λ i. Some (ask_by a.0 (same_yes y.0 x w.0 i) (post_on q (same_yes h.0 g w.2 i) (same_kind_eq k kind w.3 i) missed) told (w.1 i));
+      is = λ i. Some (ask_by a.0 (eqb-true y.0 x w.0 i) (post_on q (eqb-true h.0 g w.2 i) (same_kind_yes k kind w.3 i) missed) told (w.1 i));
       within = w.4;
     }
-  where
-    five : (y t h k m : Bool) → (y && t && h && k && m) ≡ true → (y ≡ true) × (t ≡ true) × (h ≡ true) × (k ≡ true) × (m ≡ true)
-    five y t h k m e = grind arith
 names_line x c g kind _ e = absurd (true≢false (sym e))
 
 -- a brick with the object was told that it did it, or that its answer was lost

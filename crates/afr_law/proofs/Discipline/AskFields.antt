@@ -12,6 +12,7 @@ use Rattle.std.proofs.lemmas.Bool.Decides.{nat_tests}
 use Rattle.std.specs.Prelude.{Option, Some, if◌then◌else◌, ◌==◌}
 use Rattle.afr_moves.specs.Rules as weak
 use Rattle.afr_moves.specs.Rules.{Register, busy, is_area, is_none}
+use Rattle.afr_moves.proofs.Tests.{with_cases, without_in}
 
 -- what lock requests leave as it is
 pub record Rest (w s : Register) : Type 0 where
@@ -37,16 +38,6 @@ pub record WorkLocked (n : ℕ) (w s : Register) (b : ℕ) (area : Area) (gone :
   pub held : (x : ℕ) → s.held x ≡ true → (x ≡ b) ⊎ (w.held x ≡ true)
   pub lost : gone ≡ true → s.held b ≡ false
   pub healing : (x : ℕ) → w.healing x ≡ true → ((gone ≡ true) × (x ≡ b)) ⊎ (s.healing x ≡ true)
-
-pub with_or : (set : ℕ → Bool) (b x : ℕ) → with set b x ≡ true → (x ≡ b) ⊎ (set x ≡ true)
-with_or set b x h = go (x == b) refl h
-  where
-    go : (hit : Bool) → (x == b) ≡ hit → (if hit then true else set x) ≡ true → (x ≡ b) ⊎ (set x ≡ true)
-    go true e h = inl (grind (arith, nat_tests))
-    go false e h = inr h
-
-pub without_in : (set : ℕ → Bool) (b x : ℕ) → without set b x ≡ true → set x ≡ true
-without_in set b x h = grind (arith, nat_tests)
 
 without_here : (set : ℕ → Bool) (b : ℕ) → without set b b ≡ false
 without_here set b = grind (arith, nat_tests)
@@ -74,9 +65,9 @@ grabs n w b area told = go told
     plain false e = record { rest = record { kind = refl; start = refl; first = refl; raised = refl; mended = refl; settled = refl }; area_now = inl refl; object = refl; held = λ x h. absurd (cc h); healing = refl }
 
     grant : (some own : Bool) → busy n w ≡ some → Grabs n w (if some && not own then record w { second = Some area; second_held = with w.second_held b } else (let k = if some then record w { second = weak.second_of w area } else weak.begun w area in record k { held = with k.held b })) b area
-    grant true true e = record { rest = record { kind = refl; start = refl; first = refl; raised = refl; mended = refl; settled = refl }; area_now = inr (e, refl); object = refl; held = λ x h. with_or w.held b x h; healing = refl }
+    grant true true e = record { rest = record { kind = refl; start = refl; first = refl; raised = refl; mended = refl; settled = refl }; area_now = inr (e, refl); object = refl; held = λ x h. with_cases w.held b x h; healing = refl }
     grant true false e = record { rest = record { kind = refl; start = refl; first = refl; raised = refl; mended = refl; settled = refl }; area_now = inr (e, refl); object = refl; held = λ x h. inr h; healing = refl }
-    grant false own e = record { rest = record { kind = refl; start = refl; first = refl; raised = refl; mended = refl; settled = refl }; area_now = inl refl; object = refl; held = λ x h. elim (with_or empty b x h) [ inl here ↦ inl here | inr none ↦ absurd (cc none) ]; healing = refl }
+    grant false own e = record { rest = record { kind = refl; start = refl; first = refl; raised = refl; mended = refl; settled = refl }; area_now = inl refl; object = refl; held = λ x h. elim (with_cases empty b x h) [ inl here ↦ inl here | inr none ↦ absurd (cc none) ]; healing = refl }
 
     go : (d : Told) → Grabs n w (weak.note_ask n w b (Lock Work area) d) b area
     go Granted = grant (busy n w) (is_area w.area area) refl

@@ -10,12 +10,12 @@ use Rattle.afr_lines.specs.declared.request.Request.{Request}
 use Rattle.afr_lines.specs.declared.request.Request.TheVariants.{Apply, Index, List, Lock, Look, Mend, Post, Pre, ReadAttr, ReadAttrs, ReadBytes, ReadName, Settle, Unlock}
 use Rattle.afr_object.specs.declared.entry.View.{View}
 use Rattle.afr_range_locks.specs.declared.domain.Domain.TheVariants.{Heal, Work}
-use Rattle.std.proofs.Common.{Bool, arith, false, inl, inr, not, refl, subst, sym, true, true≢false, ℕ, ◌&&◌, ◌∙◌, ◌≡◌, ◌⊎◌}
-use Rattle.std.proofs.lemmas.Bool.Decides.{nat_tests}
+use Rattle.std.proofs.Common.{Bool, false, inl, inr, not, refl, subst, sym, true, true≢false, ℕ, ◌&&◌, ◌∙◌, ◌≡◌, ◌⊎◌}
 use Rattle.std.specs.Prelude.{Option, Some, if◌then◌else◌, ◌==◌}
 use Rattle.afr_moves.specs.Rules as weak
 use Rattle.afr_moves.specs.Rules.{Register}
 use Rattle.afr_law.proofs.Safety.Standing.{Noted, noted, Grants, Waits, Frees, Tries, HealGrants, HealWaits, HealFrees, HealTries, Looks, Pres, Applies, Posts, Mends, Settles, Same}
+use Rattle.afr_moves.proofs.Tests.{without_in}
 
 -- the request is for a lock of a heal
 abbrev pub IsHealLock : Request → Type 0
@@ -129,11 +129,8 @@ pub record Less (w s : Register) : Type 0 where
 same_less : (w : Register) → Less w w
 same_less w = record { number = refl; seen = refl; closed = refl; held = λ x h. h }
 
-without_less : (set : ℕ → Bool) (b x : ℕ) → without set b x ≡ true → set x ≡ true
-without_less set b x h = grind (arith, nat_tests)
-
 dropped_less : (w s : Register) (gone : Bool) (b : ℕ) → Less w s → Less w (weak.dropping gone b s)
-dropped_less w s true b l = record { number = l.number; seen = l.seen; closed = l.closed; held = λ x h. l.held x (without_less s.held b x h) }
+dropped_less w s true b l = record { number = l.number; seen = l.seen; closed = l.closed; held = λ x h. l.held x (without_in s.held b x h) }
 dropped_less w s false b l = l
 
 -- looks, reads and changing requests of a heal

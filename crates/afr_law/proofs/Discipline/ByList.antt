@@ -4,7 +4,7 @@ use Rattle.afr_base.specs.declared.ids.Kind.{Kind}
 use Rattle.afr_base.specs.declared.ids.What.{What}
 use Rattle.afr_law.proofs.Safety.Agree.{place_same, value_same}
 use Rattle.afr_moves.specs.Past.{Beginning, Log, is_of, opens, place}
-use Rattle.afr_law.proofs.Model.Positions.{IsPast, none_at, past_at, past_whole}
+use Rattle.afr_moves.proofs.ByPosition.{IsPast, none_at, past_at, past_whole}
 use Rattle.afr_moves.specs.Positions.{by_position}
 use Rattle.afr_lines.specs.declared.line.Line.{Line}
 use Rattle.afr_lines.specs.declared.line.Line.TheVariants.{Ask, Begin, End, Event, HealBegin, HealEnd}
@@ -16,6 +16,7 @@ use Rattle.std.specs.Prelude.{None, Option, Some, nat_lt, ◌==◌}
 use Rattle.std.specs.Prelude.{List as Seq}
 use Rattle.afr_moves.specs.Cells.{Entry}
 use Rattle.afr_moves.specs.Discipline.{exact, exact_after, present, in_force, MayExactly, HasRead, EndsWork, MakesKnown, BeginsKnown, NumbersInRange, LawfulExactly}
+use Rattle.std.proofs.lemmas.Bool.{eqb-true, ltb-true}
 
 module _ (log other : Log) (m : ℕ) (agree : (u : ℕ) → u < m → log u ≡ other u) where
   pub exact_same : (n : ℕ) (keeps : ℕ → Kind → Bool) (a t : ℕ) → t ≤ m → exact n keeps log t a ≡ exact n keeps other t a
@@ -72,14 +73,11 @@ at_each n files L (line ∷ older) past lawful t low = go (t == length older) re
       known_same (by_position older) L (length older) agree files (L (length older)) (subst (BeginsKnown files (by_position older) (length older)) (sym past.0) (lawful.0).2),
     )
 
-    equal : (q m : ℕ) → (q == m) ≡ true → q ≡ m
-    equal q m e = grind (arith, nat_tests)
-
     less : (q m : ℕ) → (q == m) ≡ false → q < suc m → q < m
     less q m e low = grind (arith, nat_tests)
 
     go : (new : Bool) → (t == length older) ≡ new → (t < length older → NumbersInRange (L t) × MayExactly n files.keeps (present n files.keeps L t) (L t) × BeginsKnown files L t (L t)) → NumbersInRange (L t) × MayExactly n files.keeps (present n files.keeps L t) (L t) × BeginsKnown files L t (L t)
-    go true e rest = subst (λ (u : ℕ). NumbersInRange (L u) × MayExactly n files.keeps (present n files.keeps L u) (L u) × BeginsKnown files L u (L u)) (sym (equal t (length older) e)) here
+    go true e rest = subst (λ (u : ℕ). NumbersInRange (L u) × MayExactly n files.keeps (present n files.keeps L u) (L u) × BeginsKnown files L u (L u)) (sym (eqb-true t (length older) e)) here
     go false e rest = rest (less t (length older) e low)
 
 -- so a list whose lines keep the discipline, each by those before it, is lawful by its positions
@@ -93,12 +91,9 @@ exactly_lawful n files log lawful = record {
     each : (t : ℕ) → NumbersInRange (by_position log t) × MayExactly n files.keeps (present n files.keeps (by_position log) t) (by_position log t) × BeginsKnown files (by_position log) t (by_position log t)
     each t = go (nat_lt t (length log)) refl
       where
-        under : (q m : ℕ) → nat_lt q m ≡ true → q < m
-        under q m e = grind (arith, nat_tests)
-
         past_it : (q m : ℕ) → nat_lt q m ≡ false → m ≤ q
         past_it q m e = grind (arith, nat_tests)
 
         go : (inside : Bool) → nat_lt t (length log) ≡ inside → NumbersInRange (by_position log t) × MayExactly n files.keeps (present n files.keeps (by_position log) t) (by_position log t) × BeginsKnown files (by_position log) t (by_position log t)
-        go true e = at_each n files (by_position log) log (past_whole log) lawful t (under t (length log) e)
+        go true e = at_each n files (by_position log) log (past_whole log) lawful t (ltb-true t (length log) e)
         go false e = subst (λ (l : Option Line). NumbersInRange l × MayExactly n files.keeps (present n files.keeps (by_position log) t) l × BeginsKnown files (by_position log) t l) (sym (none_at log t (past_it t (length log) e))) (tt, tt, tt)

@@ -10,7 +10,6 @@ use Rattle.afr_moves.specs.Steps.{may_heal}
 use Rattle.afr_moves.specs.Transaction.{LiesIn, Outside}
 use Rattle.afr_moves.specs.Rules.{begun, fits_change}
 use Rattle.afr_moves.specs.Lines.{ask_by, begin_by, look_at}
-use Rattle.afr_law.proofs.Safety.Locks.{same_yes}
 use Rattle.afr_moves.specs.Past.{Log, is_gone, is_of}
 use Rattle.afr_law.proofs.Discipline.Projection.{along, along_now}
 use Rattle.afr_lines.specs.declared.answer.Told.{Told}
@@ -24,6 +23,7 @@ use Rattle.std.proofs.Common.{Bool, ap, arith, false, inl, inr, refl, subst, suc
 use Rattle.std.specs.Prelude.{None, Option, Some, if◌then◌else◌}
 use Rattle.afr_moves.specs.Rules as weak
 use Rattle.afr_moves.specs.Discipline.{note, exact, present, MayExactly, MayAskExactly, MovesExactly}
+use Rattle.std.proofs.lemmas.Bool.{eqb-true}
 
 -- a look that was told Seen was carried out
 abbrev pub Shown : Log → Type 0
@@ -67,8 +67,8 @@ module _ (n : ℕ) (keeps : ℕ → Kind → Bool) (log : Log) (shown : Shown lo
 
   own_clean : (t a : ℕ) (r : Exact) (line : Option Line) → log t ≡ line → is_of a line ≡ true → Clean n log t a r → MayExactly n keeps (λ x. r) line → Clean n log (suc t) a (note n keeps r t line)
   own_clean t a r None is mine clean may = λ out. clear_next n log t a r.unlocked r.law.closed r.law.area r.views r.law.seen r.law.number (clean out)
-  own_clean t a r (Some (Ask x b request told took)) is mine clean may = asked_clean t a b.0 request told took r (is ∙ ap (λ k. Some (ask_by k b.0 request told took)) (same_yes x.0 a mine)) clean may.1
-  own_clean t a r (Some (Begin x change)) is mine clean may = λ out. lies_area n log t a change r (is ∙ ap (λ k. Some (begin_by k change)) (same_yes x.0 a mine)) (clean out) may.lies may.fits
+  own_clean t a r (Some (Ask x b request told took)) is mine clean may = asked_clean t a b.0 request told took r (is ∙ ap (λ k. Some (ask_by k b.0 request told took)) (eqb-true x.0 a mine)) clean may.1
+  own_clean t a r (Some (Begin x change)) is mine clean may = λ out. lies_area n log t a change r (is ∙ ap (λ k. Some (begin_by k change)) (eqb-true x.0 a mine)) (clean out) may.lies may.fits
   own_clean t a r (Some (HealBegin x g kind)) is mine clean may = λ out. absurd (true≢false (sym may.inside ∙ out))
   own_clean t a r (Some (HealEnd x g kind reply)) is mine clean may = λ out. clear_fresh n log (suc t) a
   own_clean t a r (Some (End x reply)) is mine clean may = λ out. clear_next n log t a r.unlocked r.law.closed r.law.area r.views r.law.seen r.law.number (clean out)

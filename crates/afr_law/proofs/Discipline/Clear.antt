@@ -23,6 +23,8 @@ use Rattle.std.proofs.lemmas.Bool.Decides.{nat_tests}
 use Rattle.std.specs.Prelude.{None, Option, Some, if◌then◌else◌, ◌==◌}
 use Rattle.afr_moves.specs.Rules as weak
 use Rattle.afr_moves.specs.Rules.{Register}
+use Rattle.afr_base.specs.Bricks.{and_left}
+use Rattle.afr_moves.proofs.Tests.{with_more, with_self, no_number}
 
 -- what the views and the Begin of a transaction stand on
 pub record Looked (log : Log) (t a x : ℕ) (seen : Bool) (area : Option Area) (number : ℕ) (view : View) : Type 0 where
@@ -82,18 +84,6 @@ put_cases views b x new view e = go (x == b) refl e
     go true k f = inl (grind (arith, nat_tests), f)
     go false k f = inr f
 
-pub with_more : (set : ℕ → Bool) (b x : ℕ) → set x ≡ true → with set b x ≡ true
-with_more set b x h = grind (arith, nat_tests)
-
-pub with_here : (set : ℕ → Bool) (b : ℕ) → with set b b ≡ true
-with_here set b = grind (arith, nat_tests)
-
-no_number : (m q : ℕ) → (m == 0) ≡ true → m ≡ suc q → ⊥
-no_number m q e f = grind (arith, nat_tests)
-
-first_of_two : (x y : Bool) → (x && y) ≡ true → x ≡ true
-first_of_two x y e = grind arith
-
 module _ (n : ℕ) (log : Log) (t a b : ℕ) (r : Exact) (c : ClearOf n log t a r r.law) where
   next : ClearOf n log (suc t) a r r.law
   next = clear_next n log t a r.unlocked r.law.closed r.law.area r.views r.law.seen r.law.number c
@@ -109,7 +99,7 @@ module _ (n : ℕ) (log : Log) (t a b : ℕ) (r : Exact) (c : ClearOf n log t a 
       more x v w = record { counted = with_more r.law.seen b x w.counted; l = w.l; g = w.g; past = omega (arith, w.past); is = w.is; on = w.on; before = w.before }
 
       none : (q : ℕ) → r.law.number ≡ suc q → ⊥
-      none q k = no_number r.law.number q (first_of_two (r.law.number == 0) (r.law.held b) e) k
+      none q k = no_number r.law.number q (and_left (r.law.number == 0) (r.law.held b) e) k
 
       go : (on : Bool) → is_on r.law.area g ≡ on → Clear n log (suc t) a r.unlocked r.law.closed r.law.area (if on then put r.views b (Some view) else r.views) (with r.law.seen b) r.law.number
       go false f = record {
@@ -125,7 +115,7 @@ module _ (n : ℕ) (log : Log) (t a b : ℕ) (r : Exact) (c : ClearOf n log t a 
           | inl w ↦ (let same : view ≡ v = cc (w.1) in
               subst (λ (u : View). Looked log (suc t) a x (with r.law.seen b x) r.law.area r.law.number u) same
               (subst (λ y. Looked log (suc t) a y (with r.law.seen b y) r.law.area r.law.number view) (sym w.0)
-              (record { counted = with_here r.law.seen b; l = t; g = g; past = omega arith; is = is; on = f; before = λ q k. absurd (none q k) })))
+              (record { counted = with_self r.law.seen b; l = t; g = g; past = omega arith; is = is; on = f; before = λ q k. absurd (none q k) })))
           | inr old ↦ more x v (c.looks x v old)
         ];
         begun = λ q k. absurd (none q k);
@@ -140,7 +130,7 @@ module _ (n : ℕ) (log : Log) (t a b : ℕ) (r : Exact) (c : ClearOf n log t a 
     open_still = c.open_still;
     valid = c.valid;
     looks = λ x v k. elim (put_cases r.views b x None v k) [ inl w ↦ absurd (cc (w.1)) | inr old ↦ next.looks x v old ];
-    begun = λ q k. absurd (no_number r.law.number q (first_of_two (r.law.number == 0) (r.law.held b) e) k);
+    begun = λ q k. absurd (no_number r.law.number q (and_left (r.law.number == 0) (r.law.held b) e) k);
   }
 
 -- the area of a new transaction

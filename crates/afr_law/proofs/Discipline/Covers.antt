@@ -1,7 +1,7 @@
 -- The present area of an actor covers each request that changes something.
 use Rattle.std.proofs.Common.{Bool, ap, arith, false, inl, inr, refl, subst, sym, true, true≢false, ℕ, ◌+◌, ◌<◌, ◌∙◌, ◌≡◌, ◌≤◌}
 use Rattle.std.proofs.lemmas.Bool.Decides.{nat_tests}
-use Rattle.std.specs.Prelude.{None, Option, Some, if◌then◌else◌, nat_lt, option_and_then, ◌==◌, ◌^◌}
+use Rattle.std.specs.Prelude.{None, Option, Some, if◌then◌else◌, nat_lt, option_and_then, ◌^◌}
 use Rattle.afr_base.specs.declared.ids.Kind.{Kind}
 use Rattle.afr_base.specs.declared.ids.Kind.TheVariants.{Attrs, Bytes, Names}
 use Rattle.afr_lines.specs.Log.{change_of}
@@ -22,12 +22,15 @@ use Rattle.afr_moves.specs.Steps.{mends_at, onward, pres_at, settles_at}
 use Rattle.afr_moves.specs.Transaction.{LiesIn, Outside}
 use Rattle.afr_law.proofs.Discipline.Cleans.{Shown, clean_now}
 use Rattle.afr_law.proofs.Discipline.Inner.{turn_in, turn_low}
-use Rattle.afr_law.proofs.Discipline.Stages.{first_2, mend_far, onward_far}
+use Rattle.afr_law.proofs.Discipline.Stages.{mend_far, onward_far}
 use Rattle.afr_law.proofs.Discipline.Transactions.{lies_plane}
-use Rattle.afr_law.proofs.Heals.Areas.{AreasIn, areas_now, kind_is, part_area}
+use Rattle.afr_law.proofs.Heals.Areas.{AreasIn, areas_now, part_area}
 use Rattle.afr_law.proofs.Heals.Mended.{mend_fits}
 use Rattle.afr_law.proofs.Heals.Pieces.{PiecesIn, ShortLooks, pieces_now}
 use Rattle.afr_law.proofs.Heals.Conditions.{mend_test, mend_turn, onward_kind, onward_object, pre_onward, pre_turn, settle_onward, settle_turn}
+use Rattle.afr_moves.proofs.Tests.{same_kind_yes}
+use Rattle.afr_base.specs.Bricks.{and_left}
+use Rattle.std.proofs.lemmas.Bool.{eqb-true}
 
 -- the change of the attempt that the request carries out, by positions
 abbrev pub change_there : Log → Request → Option Change
@@ -82,9 +85,6 @@ low_kind g from to low = go (nat_lt from (2 ^ 63)) (grind (arith, nat_tests))
     go true e = refl
     go false e = absurd (true≢false (sym e))
 
-gfid_is : (g h : ℕ) → (g == h) ≡ true → g ≡ h
-gfid_is g h e = grind (arith, nat_tests)
-
 module _ (n : ℕ) (keeps : ℕ → Kind → Bool) (log : Log) (shown : Shown log) (looks : ShortLooks log) (moves : MovesExactly n keeps log) (t a b : ℕ) where
   -- the register in force
   abbrev here : Exact
@@ -100,8 +100,8 @@ module _ (n : ℕ) (keeps : ℕ → Kind → Bool) (log : Log) (shown : Shown lo
 
     whole : (g : ℕ) (kind : Kind) → onward n keeps here m.source g kind ≡ true → rank here.step ≤ 11 → (here.phase ≡ Piece → ⊥) → here.law.area ≡ Some (whole_area g kind)
     whole g kind on low other =
-        let object : g ≡ here.law.object = gfid_is g here.law.object (onward_object n keeps here m.source g kind on) in
-        let same : kind ≡ here.law.kind = kind_is kind here.law.kind (onward_kind n keeps here m.source g kind on) in
+        let object : g ≡ here.law.object = eqb-true g here.law.object (onward_object n keeps here m.source g kind on) in
+        let same : kind ≡ here.law.kind = same_kind_yes kind here.law.kind (onward_kind n keeps here m.source g kind on) in
         part (onward_far n keeps here m.source g kind on) low ∙ ap Some (whole_part here.law.object here.law.kind here.upto here.phase other) ∙ (λ i. Some (whole_area (sym object i) (sym same i)))
 
   by_whole : (request : Request) (change : Option Change) (area mine : Area) → here.law.area ≡ Some area → here.law.area ≡ Some mine → Covers area request change → Covers mine request change
@@ -127,16 +127,16 @@ module _ (n : ℕ) (keeps : ℕ → Kind → Bool) (log : Log) (shown : Shown lo
       ((f.0, sym (low_kind here.law.object here.upto (here.upto + span) (omega (arith, room)))), (sym f.0, omega (arith, f.3), omega (arith, f.3, f.4), omega (arith, room)))
   mend_covers (PutAttrs g read) m mine is =
       let test = mend_test n keeps here m.source b (PutAttrs g read) m.allowed in
-      let on : onward n keeps here m.source g.0 Attrs ≡ true = first_2 _ _ test in
+      let on : onward n keeps here m.source g.0 Attrs ≡ true = and_left _ _ test in
       let low : rank here.step ≤ 10 = turn_low n keeps here m.source Mends b (mend_turn n keeps here m.source b (PutAttrs g read) m.allowed) in
-      let same : Attrs ≡ here.law.kind = kind_is Attrs here.law.kind (onward_kind n keeps here m.source g.0 Attrs on) in
+      let same : Attrs ≡ here.law.kind = same_kind_yes Attrs here.law.kind (onward_kind n keeps here m.source g.0 Attrs on) in
       let first = first_part here.law.kind here.phase (areas (Mend (PutAttrs g read)) m).bytes (λ e. cc (same ∙ e)) in
       by_whole (Mend (PutAttrs g read)) None (whole_area g.0 Attrs) mine (whole (Mend (PutAttrs g read)) m g.0 Attrs on (omega (arith, low)) first) is ((refl, refl), (refl, refl, refl))
   mend_covers (PutNames g reads) m mine is =
       let test = mend_test n keeps here m.source b (PutNames g reads) m.allowed in
-      let on : onward n keeps here m.source g.0 Names ≡ true = first_2 _ _ (first_2 _ _ test) in
+      let on : onward n keeps here m.source g.0 Names ≡ true = and_left _ _ (and_left _ _ test) in
       let low : rank here.step ≤ 10 = turn_low n keeps here m.source Mends b (mend_turn n keeps here m.source b (PutNames g reads) m.allowed) in
-      let same : Names ≡ here.law.kind = kind_is Names here.law.kind (onward_kind n keeps here m.source g.0 Names on) in
+      let same : Names ≡ here.law.kind = same_kind_yes Names here.law.kind (onward_kind n keeps here m.source g.0 Names on) in
       let first = first_part here.law.kind here.phase (areas (Mend (PutNames g reads)) m).bytes (λ e. cc (same ∙ e)) in
       by_whole (Mend (PutNames g reads)) None (whole_area g.0 Names) mine (whole (Mend (PutNames g reads)) m g.0 Names on (omega (arith, low)) first) is ((refl, refl), (refl, refl))
 

@@ -7,13 +7,12 @@ use Rattle.afr_moves.specs.Note.{answers, breaks, left_in_heal, left_outside, ne
 use Rattle.afr_moves.specs.Register.{Exact, Finish, HealLocks, HealPres, Looks, Open, Opening, Phase, Piece, Step, Unlocks, WorkLocks, holder, is_finish, is_opening, rank, same_step, untouched, whole_area}
 use Rattle.afr_moves.specs.Steps.{after_unlocks, is_lowest, is_next, locks_at, may_heal, may_heal_work}
 use Rattle.afr_moves.specs.Transaction.{Outside}
-use Rattle.afr_law.proofs.Discipline.Inner.{Inner, inner_asked, inner_begin, lock_held, or_right}
+use Rattle.afr_law.proofs.Discipline.Inner.{Inner, inner_asked, inner_begin, lock_held}
 use Rattle.afr_moves.specs.Rules.{no_views, unlocked}
 use Rattle.afr_moves.specs.Lines.{ask_by}
 use Rattle.afr_moves.specs.Past.{Log, held, is_gone, last}
 use Rattle.afr_law.proofs.Discipline.Projection.{along_now}
 use Rattle.afr_moves.specs.Sets.{empty}
-use Rattle.afr_law.proofs.Discipline.Stages.{first_2, or_false, rank_is}
 use Rattle.afr_law.proofs.Discipline.StagesAlong.{StageOf, stage_now}
 use Rattle.afr_lines.specs.declared.answer.Told.{Told}
 use Rattle.afr_lines.specs.declared.answer.Told.TheVariants.{Seen}
@@ -30,6 +29,8 @@ use Rattle.std.specs.Prelude.{None, Option, Some, if◌then◌else◌, ◌==◌}
 use Rattle.afr_moves.specs.Rules as weak
 use Rattle.afr_moves.specs.Rules.{Register, is_area, is_none}
 use Rattle.afr_moves.specs.Discipline.{note, present, MayExactly, MayAskExactly, MovesExactly}
+use Rattle.std.proofs.lemmas.Bool.{or_parts, eqb-true}
+use Rattle.afr_base.specs.Bricks.{and_left}
 
 -- nothing was looked at before the first looks, and a first view is of a brick that answered
 pub record Firsts (heal : Bool) (step : Step) (phase : Phase) (first_reached : ℕ → Bool) (first_views : ℕ → Option View) : Type 0 where
@@ -77,14 +78,14 @@ module _ (n : ℕ) (keeps : ℕ → Kind → Bool) (r : Exact) (t b : ℕ) (told
           → (if freeing then (if last then Finish else Piece) else r.phase) ≡ Opening → r.first_reached x ≡ false
       go wait p heal q true v true e first = absurd (cc first)
       go wait p heal q true v false e first = absurd (cc first)
-      go true p heal q false v last e first = (let k : rank r.step ≡ 6 = rank_is (rank r.step) 6 p in f.early inside (omega (arith, k)) first x)
-      go false p true q false v last e first = (let k : rank r.step ≡ 5 = rank_is (rank r.step) 5 q in f.early inside (omega (arith, k)) first x)
-      go false p false q false v last e first = absurd (true≢false (sym (first_2 _ _ (first_2 _ _ (first_2 _ _ (first_2 _ _ (first_2 _ _ e))))) ∙ v))
+      go true p heal q false v last e first = (let k : rank r.step ≡ 6 = eqb-true (rank r.step) 6 p in f.early inside (omega (arith, k)) first x)
+      go false p true q false v last e first = (let k : rank r.step ≡ 5 = eqb-true (rank r.step) 5 q in f.early inside (omega (arith, k)) first x)
+      go false p false q false v last e first = absurd (true≢false (sym (and_left _ _ (and_left _ _ (and_left _ _ (and_left _ _ (and_left _ _ e))))) ∙ v))
 
   pub firsts_in : (request : Request) → InHeal n keeps r b request → In request
   firsts_in (Lock Heal area) (Goes m) = record {
     out = λ e. absurd (true≢false e);
-    early = λ e low. (let k : rank r.step ≡ 5 = rank_is (rank r.step) 5 (first_2 _ _ (first_2 _ _ m.allowed)) in f.early inside (omega (arith, k)));
+    early = λ e low. (let k : rank r.step ≡ 5 = eqb-true (rank r.step) 5 (and_left _ _ (and_left _ _ m.allowed)) in f.early inside (omega (arith, k)));
     reached = f.reached;
   }
   firsts_in (Lock Work area) (Goes m) = record { out = λ e. absurd (true≢false e); early = λ e low first x. work m.source area m.allowed first x; reached = f.reached }
@@ -150,7 +151,7 @@ in_heal_inner : (n : ℕ) (keeps : ℕ → Kind → Bool) (r : Exact) (t b : ℕ
     → Inner n (left_in_heal n r t b request told).step (left_in_heal n r t b request told).phase (left_in_heal n r t b request told).asked (left_in_heal n r t b request told).first_reached
     (weak.dropping (is_gone told) b (weak.note_ask n r.law b request told)).number (weak.dropping (is_gone told) b (weak.note_ask n r.law b request told)).held
     (weak.dropping (is_gone told) b (weak.note_ask n r.law b request told)).seen (weak.dropping (is_gone told) b (weak.note_ask n r.law b request told)).closed
-in_heal_inner n keeps r t b request told s whole inside (Gives i broken free) un = absurd (true≢false (sym broken ∙ or_false r.broken (breaks r request told) un))
+in_heal_inner n keeps r t b request told s whole inside (Gives i broken free) un = absurd (true≢false (sym broken ∙ (or_parts r.broken (breaks r request told) un).0))
 in_heal_inner n keeps r t b request told s whole inside (Goes m) un = (
     let i = whole inside m.whole in
     inner_asked n keeps r t b told inside i request m.source m.allowed
@@ -160,12 +161,12 @@ in_heal_inner n keeps r t b request told s whole inside (Goes m) un = (
       within = λ far. absurd (omega (arith, far));
       under = λ far. absurd (omega (arith, far));
       waits = λ e later x below h. lock_held n keeps r b area i (λ low. (s.early inside low).0) later m.source (subst (λ q. may_heal n keeps r m.source b q ≡ true) what m.allowed)
-          told (subst (λ q. breaks r q told ≡ false) what (or_right r.broken (breaks r request told) un)) x below h;
+          told (subst (λ q. breaks r q told ≡ false) what (or_parts r.broken (breaks r request told) un).1) x below h;
     })
     )
 
 asked_inner : (n : ℕ) (keeps : ℕ → Kind → Bool) (r : Exact) (t a b : ℕ) (request : Request) (told : Told) (took : Bool) → StageOf r → Whole n r → MayAskExactly n keeps r b request → Whole n (note n keeps r t (Some (ask_by a b request told took)))
-asked_inner n keeps r t a b request told took s whole may on un = go r.law.heal refl may (or_false _ _ un)
+asked_inner n keeps r t a b request told took s whole may on un = go r.law.heal refl may (or_parts _ _ un).0
   where
     k : Kept request r.law (weak.dropping (is_gone told) b (weak.note_ask n r.law b request told))
     k = kept_dropped request r.law (weak.note_ask n r.law b request told) (is_gone told) b (kept n r.law b request told)

@@ -30,15 +30,13 @@ use Rattle.afr_lines.specs.declared.request.Request.TheVariants.{Apply, Lock, Me
 use Rattle.afr_object.specs.declared.change.Repair.{Repair}
 use Rattle.afr_object.specs.declared.change.Repair.TheVariants.{Copy, CutTo, PutAttrs, PutNames}
 use Rattle.afr_range_locks.specs.declared.domain.Domain.TheVariants.{Heal, Work}
-use Rattle.std.proofs.Common.{Bool, arith, false, inl, inr, refl, subst, sym, true≢false, ℕ, ◌<◌, ◌||◌, ◌≡◌}
+use Rattle.std.proofs.Common.{Bool, arith, inl, inr, refl, subst, sym, true≢false, ℕ, ◌<◌, ◌≡◌}
 use Rattle.std.specs.Prelude.{None, Option, Some}
 use Rattle.afr_moves.specs.Rules as weak
 use Rattle.afr_moves.specs.Rules.{Register, CoversAll, Lawful, heal_area}
 use Rattle.afr_law.proofs.Heals.Mended.{IsWide}
 use Rattle.afr_moves.specs.Honest.{Honest}
-
-no_lock : (x y : Bool) → (x || y) ≡ false → x ≡ false
-no_lock x y e = grind arith
+use Rattle.std.proofs.lemmas.Bool.{or_parts}
 
 module _ (n : ℕ) (keeps : ℕ → Kind → Bool) (log : Log) (honest : Honestly log) (wide : Wide log) (fives : Fives log) (moves : MovesExactly n keeps log) where
   ask_weak : (t a b : ℕ) (request : Request) (told : Told) (took : Bool) → log t ≡ Some (ask_by a b request told took) → b < n → MayAskExactly n keeps (present n keeps log t a) b request
@@ -98,8 +96,8 @@ module _ (n : ℕ) (keeps : ℕ → Kind → Bool) (log : Log) (honest : Honestl
   may_weak t (Some (Ask a b request told took)) is may = (may.0, ask_weak t a.0 b.0 request told took is may.0 may.1)
   may_weak t (Some (Begin a change)) is may = weak_begin n keeps log t a.0 (present n keeps log t a.0) (clean_now n keeps log honest.shown moves t a.0 may.outside) change may
   may_weak t (Some (HealBegin a g kind)) is may = begin_weak t a.0 g.0 kind may
-  may_weak t (Some (End a reply)) is may = record { outside = may.outside; free = no_lock _ _ may.free; posted = may.posted }
-  may_weak t (Some (HealEnd a g kind reply)) is may = record { inside = may.inside; free = no_lock _ _ may.free }
+  may_weak t (Some (End a reply)) is may = record { outside = may.outside; free = (or_parts _ _ may.free).0; posted = may.posted }
+  may_weak t (Some (HealEnd a g kind reply)) is may = record { inside = may.inside; free = (or_parts _ _ may.free).0 }
   may_weak t (Some (Event e)) is may = tt
 
   pub moves_imply : Lawful n keeps log

@@ -9,7 +9,7 @@ use Rattle.afr_moves.specs.Honest.{asked, asks}
 use Rattle.afr_moves.specs.Lines.{look_at}
 use Rattle.afr_moves.specs.Past.{held, holds, is_gone}
 use Rattle.afr_moves.specs.Sets.{any, empty, with, without}
-use Rattle.afr_law.proofs.Discipline.Stages.{first_2, mend_far, onward_far, rank_is, second_2, settles_far, waits_is}
+use Rattle.afr_law.proofs.Discipline.Stages.{mend_far, onward_far, settles_far}
 use Rattle.afr_lines.specs.declared.answer.Told.{Told}
 use Rattle.afr_lines.specs.declared.answer.Told.TheVariants.{Done, Failed, Granted, NotConnected}
 use Rattle.afr_lines.specs.declared.request.Area.{Area}
@@ -19,9 +19,12 @@ use Rattle.afr_lines.specs.Overlap.{same_area}
 use Rattle.afr_range_locks.specs.declared.domain.Domain.TheVariants.{Heal, Work}
 use Rattle.std.proofs.Common.{Bool, ap, arith, false, inl, inr, not, refl, suc, sym, true, true≢false, zero, ℕ, ◌&&◌, ◌<◌, ◌||◌, ◌∙◌, ◌≡◌, ◌≤◌, ◌⊎◌}
 use Rattle.std.proofs.lemmas.Bool.Decides.{nat_tests}
-use Rattle.std.specs.Prelude.{Some, if◌then◌else◌, nat_le, ◌==◌}
+use Rattle.std.specs.Prelude.{Some, if◌then◌else◌, ◌==◌}
 use Rattle.afr_moves.specs.Rules as weak
 use Rattle.afr_moves.specs.Rules.{Register, busy, is_area}
+use Rattle.std.proofs.lemmas.Bool.{or_parts, eqb-true, leb-true}
+use Rattle.afr_base.specs.Bricks.{and_left, and_right}
+use Rattle.afr_moves.proofs.Tests.{work_locks}
 
 -- from the looks to the settling of a heal: it has a number, the area is open, and the bricks of the first looks are locked
 pub record Inner (n : ℕ) (step : Step) (phase : Phase) (asked first_reached : ℕ → Bool) (number : ℕ) (held seen closed : ℕ → Bool) : Type 0 where
@@ -97,20 +100,14 @@ any_false (suc n) set x low h e = go (λ less. any_false n set x less h (grind a
     go rest true f = (let same : x ≡ n = grind (arith, nat_tests) in true≢false (sym h ∙ rw same (grind arith)))
     go rest false f = (let other : x ≡ n → ⊥ = λ k. grind (arith, nat_tests) in rest (omega (arith, other)))
 
-low_of : (m k : ℕ) → nat_le m k ≡ true → m ≤ k
-low_of m k e = grind (arith, nat_tests)
-
 up_to : (m k : ℕ) → m ≤ k → k ≤ 11 → m ≤ 11
 up_to m k low end = omega (arith, low, end)
 
 pub turn_low : (n : ℕ) (keeps : ℕ → Kind → Bool) (r : Exact) (s : ℕ) (step : Step) (b : ℕ) → turn n keeps r s step b ≡ true → rank r.step ≤ rank step
-turn_low n keeps r s step b e = low_of (rank r.step) (rank step) (first_2 _ _ (first_2 _ _ (first_2 _ _ e)))
+turn_low n keeps r s step b e = leb-true (rank r.step) (rank step) (and_left _ _ (and_left _ _ (and_left _ _ e)))
 
 pub turn_in : (n : ℕ) (keeps : ℕ → Kind → Bool) (r : Exact) (s : ℕ) (step : Step) (b : ℕ) → turn n keeps r s step b ≡ true → set_of n keeps r s step b ≡ true
-turn_in n keeps r s step b e = second_2 _ _ (first_2 _ _ (first_2 _ _ e))
-
-pub or_right : (x y : Bool) → (x || y) ≡ false → y ≡ false
-or_right x y e = grind arith
+turn_in n keeps r s step b e = and_right _ _ (and_left _ _ (and_left _ _ e))
 
 module _ (n : ℕ) (keeps : ℕ → Kind → Bool) (r : Exact) (t b : ℕ) (told : Told) (inside : r.law.heal ≡ true) (i : Inner n r.step r.phase r.asked r.first_reached r.law.number r.law.held r.law.seen r.law.closed) where
   abbrev pub Now : Request → Register
@@ -138,7 +135,7 @@ module _ (n : ℕ) (keeps : ℕ → Kind → Bool) (r : Exact) (t b : ℕ) (told
 
       go : (hit : Bool) → (x == b) ≡ hit → (if hit then answers told else r.first_reached x) ≡ true → (r.first_reached x ≡ true) ⊎ (r.law.held x ≡ true)
       go false k m = inl m
-      go true k m = (let same : x ≡ b = grind (arith, nat_tests) in inr (rw same (opening_held r.phase f (turn_in n keeps r source Looks b (second_2 _ _ (first_2 _ _ e))))))
+      go true k m = (let same : x ≡ b = grind (arith, nat_tests) in inr (rw same (opening_held r.phase f (turn_in n keeps r source Looks b (and_right _ _ (and_left _ _ e))))))
 
   number_freed : (own : Bool) (area : Area) → (if own then record r.law { closed = with r.law.closed b; held = without r.law.held b } else record r.law { second_held = weak.second_freed r.law area b }).number ≡ r.law.number
   number_freed true area = refl
@@ -170,18 +167,18 @@ module _ (n : ℕ) (keeps : ℕ → Kind → Bool) (r : Exact) (t b : ℕ) (told
     waits = λ k. absurd (cc k);
   }
   inner_asked (Look g) source e lock = (
-      let at : rank r.step ≡ 7 = rank_is (rank r.step) 7 (first_2 _ _ (first_2 _ _ e)) in
+      let at : rank r.step ≡ 7 = eqb-true (rank r.step) 7 (and_left _ _ (and_left _ _ e)) in
       inner_on n r.step Looks r.phase r.phase r.asked (left_in_heal n r t b (Look g) told).asked r.first_reached (left_in_heal n r t b (Look g) told).first_reached r.law (Now (Look g)) (omega (arith, at)) (omega (arith, at)) (omega arith)
       (quiet_after n r.law b (Look g) told inside tt) (look_first source g.0 e (is_opening r.phase) refl) i
       )
-  inner_asked (ReadBytes g at len) source e lock = plain (ReadBytes g at len) Reads (left_in_heal n r t b (ReadBytes g at len) told).asked tt (onward_far n keeps r source g.0 Bytes (first_2 _ _ (first_2 _ _ (first_2 _ _ e)))) (up_to (rank r.step) 8 (turn_low n keeps r source Reads b (second_2 _ _ (first_2 _ _ (first_2 _ _ e)))) (omega arith)) (omega arith)
-  inner_asked (ReadAttrs g) source e lock = plain (ReadAttrs g) Reads (left_in_heal n r t b (ReadAttrs g) told).asked tt (onward_far n keeps r source g.0 Attrs (first_2 _ _ e)) (up_to (rank r.step) 8 (turn_low n keeps r source Reads b (second_2 _ _ e)) (omega arith)) (omega arith)
-  inner_asked (List g) source e lock = plain (List g) Reads (left_in_heal n r t b (List g) told).asked tt (onward_far n keeps r source g.0 Names (first_2 _ _ e)) (up_to (rank r.step) 8 (turn_low n keeps r source Reads b (second_2 _ _ e)) (omega arith)) (omega arith)
-  inner_asked (Pre g kind) source e lock = plain (Pre g kind) HealPres (left_in_heal n r t b (Pre g kind) told).asked tt (onward_far n keeps r source g.0 kind (first_2 _ _ (first_2 _ _ e))) (up_to (rank r.step) 9 (turn_low n keeps r source HealPres b (second_2 _ _ e)) (omega arith)) (omega arith)
-  inner_asked (Mend repair) source e lock = plain (Mend repair) Mends (left_in_heal n r t b (Mend repair) told).asked tt (mend_far n keeps r source repair (first_2 _ _ (first_2 _ _ e))) (up_to (rank r.step) 10 (turn_low n keeps r source Mends b (second_2 _ _ e)) (omega arith)) (omega arith)
-  inner_asked (Settle g kind less) source e lock = plain (Settle g kind less) Settles (left_in_heal n r t b (Settle g kind less) told).asked tt (onward_far n keeps r source g.0 kind (first_2 _ _ (first_2 _ _ (first_2 _ _ e)))) (up_to (rank r.step) 11 (turn_low n keeps r source Settles b (second_2 _ _ (first_2 _ _ e))) (omega arith)) (omega arith)
-  inner_asked (Unlock Work area) source e lock = freed (Unlock Work area) Unlocks (left_in_heal n r t b (Unlock Work area) told).asked (settles_far n keeps r source (second_2 _ _ (first_2 _ _ (first_2 _ _ e)))) (omega arith) (number_dropped (is_gone told) (weak.note_ask n r.law b (Unlock Work area) told) ∙ number_unlock area told)
-  inner_asked (Unlock Heal area) source e lock = freed (Unlock Heal area) HealUnlocks (left_in_heal n r t b (Unlock Heal area) told).asked (settles_far n keeps r source (second_2 _ _ (first_2 _ _ (first_2 _ _ (first_2 _ _ (first_2 _ _ e)))))) (omega arith) (number_dropped (is_gone told) (weak.note_ask n r.law b (Unlock Heal area) told) ∙ number_heal_unlock area told)
+  inner_asked (ReadBytes g at len) source e lock = plain (ReadBytes g at len) Reads (left_in_heal n r t b (ReadBytes g at len) told).asked tt (onward_far n keeps r source g.0 Bytes (and_left _ _ (and_left _ _ (and_left _ _ e)))) (up_to (rank r.step) 8 (turn_low n keeps r source Reads b (and_right _ _ (and_left _ _ (and_left _ _ e)))) (omega arith)) (omega arith)
+  inner_asked (ReadAttrs g) source e lock = plain (ReadAttrs g) Reads (left_in_heal n r t b (ReadAttrs g) told).asked tt (onward_far n keeps r source g.0 Attrs (and_left _ _ e)) (up_to (rank r.step) 8 (turn_low n keeps r source Reads b (and_right _ _ e)) (omega arith)) (omega arith)
+  inner_asked (List g) source e lock = plain (List g) Reads (left_in_heal n r t b (List g) told).asked tt (onward_far n keeps r source g.0 Names (and_left _ _ e)) (up_to (rank r.step) 8 (turn_low n keeps r source Reads b (and_right _ _ e)) (omega arith)) (omega arith)
+  inner_asked (Pre g kind) source e lock = plain (Pre g kind) HealPres (left_in_heal n r t b (Pre g kind) told).asked tt (onward_far n keeps r source g.0 kind (and_left _ _ (and_left _ _ e))) (up_to (rank r.step) 9 (turn_low n keeps r source HealPres b (and_right _ _ e)) (omega arith)) (omega arith)
+  inner_asked (Mend repair) source e lock = plain (Mend repair) Mends (left_in_heal n r t b (Mend repair) told).asked tt (mend_far n keeps r source repair (and_left _ _ (and_left _ _ e))) (up_to (rank r.step) 10 (turn_low n keeps r source Mends b (and_right _ _ e)) (omega arith)) (omega arith)
+  inner_asked (Settle g kind less) source e lock = plain (Settle g kind less) Settles (left_in_heal n r t b (Settle g kind less) told).asked tt (onward_far n keeps r source g.0 kind (and_left _ _ (and_left _ _ (and_left _ _ e)))) (up_to (rank r.step) 11 (turn_low n keeps r source Settles b (and_right _ _ (and_left _ _ e))) (omega arith)) (omega arith)
+  inner_asked (Unlock Work area) source e lock = freed (Unlock Work area) Unlocks (left_in_heal n r t b (Unlock Work area) told).asked (settles_far n keeps r source (and_right _ _ (and_left _ _ (and_left _ _ e)))) (omega arith) (number_dropped (is_gone told) (weak.note_ask n r.law b (Unlock Work area) told) ∙ number_unlock area told)
+  inner_asked (Unlock Heal area) source e lock = freed (Unlock Heal area) HealUnlocks (left_in_heal n r t b (Unlock Heal area) told).asked (settles_far n keeps r source (and_right _ _ (and_left _ _ (and_left _ _ (and_left _ _ (and_left _ _ e)))))) (omega arith) (number_dropped (is_gone told) (weak.note_ask n r.law b (Unlock Heal area) told) ∙ number_heal_unlock area told)
   inner_asked (Apply q) source e lock = absurd (true≢false (sym e))
   inner_asked (Post q g kind missed) source e lock = absurd (true≢false (sym e))
   inner_asked (ReadName g name) source e lock = absurd (true≢false (sym e))
@@ -201,7 +198,7 @@ module _ (n : ℕ) (keeps : ℕ → Kind → Bool) (r : Exact) (b : ℕ) (area :
   asked_held x below h = go (same_step r.step WorkLocks) refl h
     where
       go : (at : Bool) → same_step r.step WorkLocks ≡ at → (if at then r.asked else empty) x ≡ true → r.law.held x ≡ true
-      go true e k = (let is : r.step ≡ WorkLocks = waits_is r.step e in i.waits is (λ f. later (same_phase is ∙ f)) x below k)
+      go true e k = (let is : r.step ≡ WorkLocks = work_locks r.step e in i.waits is (λ f. later (same_phase is ∙ f)) x below k)
       go false e k = absurd (true≢false (sym k))
 
   own_or_idle : (busy n r.law ≡ false) ⊎ (is_area r.law.area area ≡ true)
@@ -210,18 +207,15 @@ module _ (n : ℕ) (keeps : ℕ → Kind → Bool) (r : Exact) (b : ℕ) (area :
       go : (wait heal : Bool) → same_step r.step HealLocks ≡ heal → (if wait then is_area r.law.area area && is_lowest (locks_at r r.phase) r.asked b
           else if heal then is_next n r source area && is_lowest r.law.healing empty b
           else after_unlocks n r area source && not (is_finish r.phase) && is_lowest r.first_reached empty b) ≡ true → (busy n r.law ≡ false) ⊎ (is_area r.law.area area ≡ true)
-      go true heal f e = inr (first_2 _ _ e)
-      go false true f e = (let five : rank r.step ≡ 5 = rank_is (rank r.step) 5 f in absurd (later (heal_phase five ∙ early (omega (arith, five)))))
-      go false false f e = inl (not_true (busy n r.law) (second_2 _ _ (first_2 _ _ (first_2 _ _ (first_2 _ _ (first_2 _ _ e))))))
+      go true heal f e = inr (and_left _ _ e)
+      go false true f e = (let five : rank r.step ≡ 5 = eqb-true (rank r.step) 5 f in absurd (later (heal_phase five ∙ early (omega (arith, five)))))
+      go false false f e = inl (not_true (busy n r.law) (and_right _ _ (and_left _ _ (and_left _ _ (and_left _ _ (and_left _ _ e))))))
         where
           not_true : (x : Bool) → not x ≡ true → x ≡ false
           not_true x e = grind arith
 
-  no_any : (x y : Bool) → (x || y) ≡ false → x ≡ false
-  no_any x y e = grind arith
-
   idle_none : (x : ℕ) → x < n → busy n r.law ≡ false → asked_in r WorkLocks x ≡ true → ⊥
-  idle_none x below idle h = any_false n r.law.held x below (asked_held x below h) (no_any (any n r.law.held) (any n r.law.second_held) idle)
+  idle_none x below idle h = any_false n r.law.held x below (asked_held x below h) (or_parts (any n r.law.held) (any n r.law.second_held) idle).0
 
   waiting_held : (x : ℕ) → x < n → (some : Bool) → busy n r.law ≡ some → asked_in r WorkLocks x ≡ true → (if some then record r.law { second = weak.second_of r.law area } else weak.begun r.law area).held x ≡ true
   waiting_held x below true e h = asked_held x below h

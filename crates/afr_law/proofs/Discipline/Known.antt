@@ -30,8 +30,8 @@ use Rattle.afr_law.specs.ModelLaw.{IsKnown, IsRead, MakesKnown, NamesReads, WasS
 use Rattle.afr_tables.proofs.Entries.{entry_same, entry_some}
 use Rattle.afr_moves.specs.Past.{Log}
 use Rattle.afr_moves.specs.Positions.{by_position}
-use Rattle.afr_law.proofs.Model.Positions.{past_whole}
-use Rattle.afr_law.proofs.Discipline.Stages.{first_2, mend_far, second_2}
+use Rattle.afr_moves.proofs.ByPosition.{past_whole}
+use Rattle.afr_law.proofs.Discipline.Stages.{mend_far}
 use Rattle.afr_lines.specs.Log.{from_oldest}
 use Rattle.afr_lines.specs.declared.answer.Told.TheVariants.{Given}
 use Rattle.afr_lines.specs.declared.line.Line.{Line}
@@ -51,6 +51,8 @@ use Rattle.afr_plan.specs.declared.plan.Plan.{Plan}
 use Rattle.std.proofs.Common.{Bool, [], ap, arith, inl, inr, length, refl, subst, suc, sym, true, ℕ, ◌+◌, ◌<◌, ◌∙◌, ◌∷◌, ◌≡◌, ◌≤◌}
 use Rattle.std.specs.Prelude.{None, Option, Some}
 use Rattle.std.specs.Prelude.{List as Seq}
+use Rattle.afr_base.specs.Bricks.{and_left, and_right}
+use Rattle.afr_moves.proofs.Tests.{what_same}
 
 -- ---- what is made
 -- a write that ends where the discipline says ends in time
@@ -73,16 +75,10 @@ none_of (Some o) e = absurd (some o.what e)
 new_here : (files m : ℕ) (g : Gfid) → m ≤ 4000000 → g.0 ≡ m + 2 → copy_at g (opening files) ≡ None
 new_here files m g short e = none_of (copy_at g (opening files)) (opening_none files g.0 (λ k. omega (arith, e, k)) (omega (arith, e, short)))
 
-same_what : (x y : What) → what_code x ≡ what_code y → x ≡ y
-same_what File File e = refl
-same_what Dir Dir e = refl
-same_what File Dir e = absurd (omega (arith, e))
-same_what Dir File e = absurd (omega (arith, e))
-
 -- the entry that has this code
 pub entry_of : (x : Option NameEntry) (g : Gfid) (what : What) → value_code (IsEntry x) ≡ entry_code g.0 what → x ≡ Some (record { gfid = g; what = what })
 entry_of None g what e = absurd (entry_some g.0 what (sym e))
-entry_of (Some y) g what e = (let w = entry_same y.gfid.0 g.0 y.what what e in λ i. Some (record { gfid = record { 0 = w.0 i }; what = same_what y.what what w.1 i }))
+entry_of (Some y) g what e = (let w = entry_same y.gfid.0 g.0 y.what what e in λ i. Some (record { gfid = record { 0 = w.0 i }; what = what_same y.what what w.1 i }))
 
 entry_there : (dir name : ℕ) (o : Option Object) (g : Gfid) (what : What) → code_of (Entry dir name) o ≡ entry_code g.0 what → entry_in (record { 0 = name }) o ≡ Some (record { gfid = g; what = what })
 entry_there dir name None g what e = absurd (entry_some g.0 what (sym e))
@@ -136,8 +132,8 @@ module _ (n : ℕ) (keeps : ℕ → Kind → Bool) (log : Log) (moves : MovesExa
 
     each_named : (g : Gfid) → read_for now.law.object now.law.kind now.upto ≡ List g → (k : ℕ) (from : Seq (Option ℕ)) → same_reads now.reads k from ≡ true → EachRead (IsRead older (List g)) from
     each_named g same k [] e = tt
-    each_named g same k (None ∷ from) e = each_named g same (suc k) from (second_2 _ _ e)
-    each_named g same k (Some p ∷ from) e = (read_named k p (List g) (read_is (now.reads k) (Some p) (first_2 _ _ e)) same, each_named g same (suc k) from (second_2 _ _ e))
+    each_named g same k (None ∷ from) e = each_named g same (suc k) from (and_right _ _ e)
+    each_named g same k (Some p ∷ from) e = (read_named k p (List g) (read_is (now.reads k) (Some p) (and_left _ _ e)) same, each_named g same (suc k) from (and_right _ _ e))
 
   pub names_reads : (b : ℕ) (repair : Repair) → IsWide repair → MayHeal n keeps now b (Mend repair) → NamesReads repair older
   names_reads b (CutTo g len) wide m = tt

@@ -23,11 +23,11 @@ use Rattle.afr_moves.specs.Rules as weak
 use Rattle.afr_moves.specs.Rules.{Register, begun, busy, heal_area, is_area, second_of}
 use Rattle.afr_moves.specs.Steps.{after_unlocks, is_lowest, is_next, is_whole, locks_at, may_heal_work}
 use Rattle.afr_law.proofs.Discipline.Projection.{along}
-use Rattle.afr_law.proofs.Discipline.Stages.{first_2, second_2}
 use Rattle.afr_law.proofs.Heals.Conditions.{heal_lock_area}
 use Rattle.afr_law.proofs.Safety.Standing.{Applies, Frees, Grants, HealFrees, HealGrants, HealTries, HealWaits, Looks, Mends, Noted, Posts, Pres, Same, Settles, Tries, Waits, noted}
 use Rattle.afr_moves.specs.Sets.{empty, with, without}
 use Rattle.afr_object.specs.declared.entry.View.{View}
+use Rattle.afr_base.specs.Bricks.{and_left, and_right}
 
 -- the area of the register has a number in it
 abbrev pub AreaHas : Option Area → Type 0
@@ -143,9 +143,9 @@ module _ (n : ℕ) (keeps : ℕ → Kind → Bool) (r : Exact) (b : ℕ) (h : Ar
       go : (wait heal : Bool) → (if wait then is_area r.law.area area && is_lowest (locks_at r r.phase) r.asked b
           else if heal then is_next n r source area && is_lowest r.law.healing empty b
           else after_unlocks n r area source && not (is_finish r.phase) && is_lowest r.first_reached empty b) ≡ true → HasNumber area
-      go true heal m = h area (is_area_is r.law.area area (first_2 _ _ m))
-      go false true m = is_whole_has area r.law.object (second_2 _ _ (first_2 _ _ m))
-      go false false m = part (nat_lt r.upto (len_of (r.first_views source))) (second_2 _ _ (first_2 _ _ (first_2 _ _ m)))
+      go true heal m = h area (is_area_is r.law.area area (and_left _ _ m))
+      go false true m = is_whole_has area r.law.object (and_right _ _ (and_left _ _ m))
+      go false false m = part (nat_lt r.upto (len_of (r.first_views source))) (and_right _ _ (and_left _ _ (and_left _ _ m)))
 
   pub lock_has : (domain : Domain) (area : Area) → MayAskExactly n keeps r b (Lock domain area) → HasNumber area
   lock_has Work area (inl k) = valid_has area (k.1).valid

@@ -1,8 +1,6 @@
 -- A transaction asks each brick for one Post.
 use Rattle.afr_base.specs.declared.ids.Kind.{Kind}
-use Rattle.afr_law.proofs.Discipline.AskFields.{with_or}
 use Rattle.afr_law.proofs.Discipline.Asks.{IsHealLock, heal_asked, heal_dropped, kept, kept_dropped, lock_number}
-use Rattle.afr_law.proofs.Discipline.Clear.{with_here, with_more}
 use Rattle.afr_moves.specs.Discipline.{MayAskExactly, MayExactly, MovesExactly, note, present}
 use Rattle.afr_moves.specs.Heal.{Gives, Goes}
 use Rattle.afr_moves.specs.Note.{breaks, left_in_heal, left_outside, stay}
@@ -26,6 +24,7 @@ use Rattle.std.specs.Prelude.{None, Option, Some, if◌then◌else◌}
 use Rattle.afr_moves.specs.Past.{Log, is_gone, last}
 use Rattle.afr_moves.specs.Rules as weak
 use Rattle.afr_moves.specs.Rules.{Register, busy, no_views}
+use Rattle.afr_moves.proofs.Tests.{with_more, with_self, with_cases}
 
 abbrev Posted : Exact → Tally → Type 0
 Posted r k = r.law.heal ≡ false → (r.law.number ≡ 0 → ⊥) → (x : ℕ) → k.posts x ≡ true → (r.step ≡ Posts) × (r.asked x ≡ true)
@@ -82,8 +81,8 @@ module _ (n : ℕ) (keeps : ℕ → Kind → Bool) (r : Exact) (k : Tally) (b : 
   left_posted (Apply q) told may other = λ some x m. absurd (no_post (Apply q) told Applies (omega arith) may.turn.order some x m)
   left_posted (Post q g kind missed) told may other = λ some x m. (
     refl,
-    elim (with_or k.posts b x m) [
-      | inl here ↦ subst (λ y. with (asked_in r Posts) b y ≡ true) (sym here) (with_here (asked_in r Posts) b)
+    elim (with_cases k.posts b x m) [
+      | inl here ↦ subst (λ y. with (asked_in r Posts) b y ≡ true) (sym here) (with_self (asked_in r Posts) b)
       | inr was ↦ (let w = old (Post q g kind missed) told some x was in with_more (asked_in r Posts) b x (ap (λ (f : ℕ → Bool). f x) (asked_now r Posts w.0) ∙ w.1))
     ],
   )

@@ -2,7 +2,6 @@
 use Rattle.afr_base.specs.declared.ids.Kind.{Kind}
 use Rattle.afr_moves.specs.Register.{Exact, Untouched, untouched}
 use Rattle.afr_moves.specs.Lines.{is_ok}
-use Rattle.afr_law.proofs.Safety.Locks.{same_yes}
 use Rattle.afr_moves.specs.Past.{Log, is_of, last, opens, place}
 use Rattle.afr_moves.specs.Tally.{Tally, blank, in_tally, note_tally, tally, tally_after}
 use Rattle.afr_lines.specs.declared.line.Line.{Line}
@@ -14,6 +13,7 @@ use Rattle.afr_moves.specs.Rules.{Register}
 use Rattle.afr_moves.specs.Discipline.{note, in_force, exact_after, exact, present, MayExactly, MayAskExactly, MovesExactly}
 use Rattle.afr_moves.specs.Transaction.{MayBegin, MayEnd}
 use Rattle.afr_moves.specs.Heal.{MayHealBegin, MayHealEnd}
+use Rattle.std.proofs.lemmas.Bool.{eqb-true}
 
 -- the law's register after a line is what the law notes
 note_law : (n : ℕ) (keeps : ℕ → Kind → Bool) (r : Exact) (t : ℕ) (line : Option Line) → (note n keeps r t line).law ≡ weak.note n r.law t line
@@ -47,11 +47,11 @@ module _ (n : ℕ) (keeps : ℕ → Kind → Bool) (log : Log) where
   -- a line of the actor is a move of its register
   pub same_actor : (t a : ℕ) (line : Option Line) → is_of a line ≡ true → MayExactly n keeps (present n keeps log t) line → MayExactly n keeps (λ x. present n keeps log t a) line
   same_actor t a None mine may = may
-  same_actor t a (Some (Ask x b request told took)) mine may = (may.0, subst (λ k. MayAskExactly n keeps (present n keeps log t k) b.0 request) (same_yes x.0 a mine) may.1)
-  same_actor t a (Some (Begin x change)) mine may = subst (λ k. MayBegin n keeps (present n keeps log t k) change) (same_yes x.0 a mine) may
-  same_actor t a (Some (HealBegin x g kind)) mine may = subst (λ k. MayHealBegin n (present n keeps log t k) g.0 kind) (same_yes x.0 a mine) may
-  same_actor t a (Some (End x reply)) mine may = subst (λ k. MayEnd n (present n keeps log t k) (is_ok reply)) (same_yes x.0 a mine) may
-  same_actor t a (Some (HealEnd x g kind reply)) mine may = subst (λ k. MayHealEnd n (present n keeps log t k)) (same_yes x.0 a mine) may
+  same_actor t a (Some (Ask x b request told took)) mine may = (may.0, subst (λ k. MayAskExactly n keeps (present n keeps log t k) b.0 request) (eqb-true x.0 a mine) may.1)
+  same_actor t a (Some (Begin x change)) mine may = subst (λ k. MayBegin n keeps (present n keeps log t k) change) (eqb-true x.0 a mine) may
+  same_actor t a (Some (HealBegin x g kind)) mine may = subst (λ k. MayHealBegin n (present n keeps log t k) g.0 kind) (eqb-true x.0 a mine) may
+  same_actor t a (Some (End x reply)) mine may = subst (λ k. MayEnd n (present n keeps log t k) (is_ok reply)) (eqb-true x.0 a mine) may
+  same_actor t a (Some (HealEnd x g kind reply)) mine may = subst (λ k. MayHealEnd n (present n keeps log t k)) (eqb-true x.0 a mine) may
   same_actor t a (Some (Event e)) mine may = may
 
 module _ (n : ℕ) (keeps : ℕ → Kind → Bool) (log : Log) (moves : MovesExactly n keeps log) (P : ℕ → ℕ → Exact → Type 0) (start : (t a : ℕ) → P t a untouched)

@@ -22,6 +22,9 @@ use Rattle.std.specs.Prelude.{if◌then◌else◌, nat_le, nat_lt, ◌==◌}
 use Rattle.afr_moves.specs.Rules as weak
 use Rattle.afr_moves.specs.Rules.{Register, busy, is_area}
 use Rattle.afr_moves.specs.Register.{Exact, Step, Phase, Untouched, HealLocks, WorkLocks, Looks, Reads, HealPres, Mends, Settles, Unlocks, HealUnlocks, Opening, Piece, Finish, rank, same_step, is_finish, len_of, piece_area, whole_area}
+use Rattle.std.proofs.lemmas.Bool.{or_parts, eqb-true}
+use Rattle.afr_base.specs.Bricks.{and_left, and_right}
+use Rattle.afr_moves.proofs.Tests.{work_locks}
 
 -- number and start by the step: no start outside a heal and before its first HealBegin, no number while Work locks are asked
 pub record Stage (heal : Bool) (step : Step) (phase : Phase) (broken : Bool) (start number : ℕ) : Type 0 where
@@ -44,9 +47,6 @@ stage_fresh = record {
   numbered = λ e. absurd (cc e);
 }
 
-pub or_false : (x y : Bool) → (x || y) ≡ false → x ≡ false
-or_false x y e = grind arith
-
 pub stage_more : (heal : Bool) (step : Step) (phase : Phase) (broken more : Bool) (start number : ℕ) → Stage heal step phase broken start number → Stage heal step phase (broken || more) start number
 stage_more heal step phase broken more start number s = record {
   outside = s.outside;
@@ -55,7 +55,7 @@ stage_more heal step phase broken more start number s = record {
   waiting = s.waiting;
   opening = s.opening;
   later = s.later;
-  numbered = λ e k. s.numbered e (or_false broken more k);
+  numbered = λ e k. s.numbered e (or_parts broken more k).0;
 }
 
 -- a step after the first looks, with the same number
@@ -96,12 +96,6 @@ second_of_five x y z u v e = grind arith
 far_of : (m : ℕ) → nat_le 7 m ≡ true → 7 ≤ m
 far_of m e = grind (arith, nat_tests)
 
-pub rank_is : (m k : ℕ) → (m == k) ≡ true → m ≡ k
-rank_is m k e = grind (arith, nat_tests)
-
-pub first_2 : (x y : Bool) → (x && y) ≡ true → x ≡ true
-first_2 x y e = grind arith
-
 pub onward_far : (n : ℕ) (keeps : ℕ → Kind → Bool) (r : Exact) (s g : ℕ) (kind : Kind) → onward n keeps r s g kind ≡ true → 7 ≤ rank r.step
 onward_far n keeps r s g kind e = far_of (rank r.step) (second_of_five (goes_on n keeps r s) (nat_le 7 (rank r.step)) (passed n keeps r s Looks) (g == r.law.object) (same_kind kind r.law.kind) e)
 
@@ -111,19 +105,11 @@ settles_far n keeps r s e = far_of (rank r.step) (deep (nat_le 7 (rank r.step)) 
     deep : (x y z u v w : Bool) → (((((x && y) && z) && u) && v) && w) ≡ true → x ≡ true
     deep x y z u v w e = grind arith
 
-pub second_2 : (x y : Bool) → (x && y) ≡ true → y ≡ true
-second_2 x y e = grind arith
-
--- the rank tells the step
-pub waits_is : (x : Step) → same_step x WorkLocks ≡ true → x ≡ WorkLocks
-waits_is WorkLocks e = refl
-waits_is _ e = absurd (true≢false (sym e))
-
 pub mend_far : (n : ℕ) (keeps : ℕ → Kind → Bool) (r : Exact) (source : ℕ) (repair : Repair) → may_mend n keeps r source repair ≡ true → 7 ≤ rank r.step
-mend_far n keeps r source (CutTo g len) e = onward_far n keeps r source g.0 Bytes (first_2 _ _ (first_2 _ _ e))
-mend_far n keeps r source (Copy g at some read) e = onward_far n keeps r source g.0 Bytes (first_2 _ _ (first_2 _ _ (first_2 _ _ (first_2 _ _ e))))
-mend_far n keeps r source (PutAttrs g read) e = onward_far n keeps r source g.0 Attrs (first_2 _ _ e)
-mend_far n keeps r source (PutNames g reads) e = onward_far n keeps r source g.0 Names (first_2 _ _ (first_2 _ _ e))
+mend_far n keeps r source (CutTo g len) e = onward_far n keeps r source g.0 Bytes (and_left _ _ (and_left _ _ e))
+mend_far n keeps r source (Copy g at some read) e = onward_far n keeps r source g.0 Bytes (and_left _ _ (and_left _ _ (and_left _ _ (and_left _ _ e))))
+mend_far n keeps r source (PutAttrs g read) e = onward_far n keeps r source g.0 Attrs (and_left _ _ e)
+mend_far n keeps r source (PutNames g reads) e = onward_far n keeps r source g.0 Names (and_left _ _ (and_left _ _ e))
 
 -- the weak register and the step after a request in a heal
 module _ (n : ℕ) (keeps : ℕ → Kind → Bool) (r : Exact) (t b : ℕ) (told : Told) (inside : r.law.heal ≡ true) (s : Stage true r.step r.phase r.broken r.law.start r.law.number) where
@@ -195,7 +181,7 @@ module _ (n : ℕ) (keeps : ℕ → Kind → Bool) (r : Exact) (t b : ℕ) (told
           → Stage true WorkLocks (if freeing then (if last then Finish else Piece) else r.phase) r.broken (After (Lock Work area)).start (After (Lock Work area)).number
       go true p heal q true v last e = absurd (apart (rank r.step) v p)
       go true p heal q false v last e = (
-          let at : r.step ≡ WorkLocks = waits_is r.step p in
+          let at : r.step ≡ WorkLocks = work_locks r.step p in
           wait_stage area r.phase (λ first. s.opening refl at first) s.later (was_zero area (s.waiting refl at))
           )
       go false p true q true v last e = absurd (five (rank r.step) v q)
@@ -203,7 +189,7 @@ module _ (n : ℕ) (keeps : ℕ → Kind → Bool) (r : Exact) (t b : ℕ) (told
           five : (m : ℕ) → (m == 12) ≡ true → (m == 5) ≡ true → ⊥
           five m e f = grind (arith, nat_tests)
       go false p true q false v last e = (
-          let w = s.early refl (let k : rank r.step ≡ 5 = rank_is (rank r.step) 5 q in omega (arith, k)) in
+          let w = s.early refl (let k : rank r.step ≡ 5 = eqb-true (rank r.step) 5 q in omega (arith, k)) in
           wait_stage area r.phase (λ first. w.1) s.later (was_zero area w.2)
           )
       go false p false q false v last e = absurd (none (not (busy n r.law)) (same_kind r.law.kind Bytes) (if nat_lt r.upto (len_of (r.first_views source)) then same_area (piece_area r.law.object r.upto) area else last) (not (is_finish r.phase)) (is_lowest r.first_reached empty b) e)
@@ -212,7 +198,7 @@ module _ (n : ℕ) (keeps : ℕ → Kind → Bool) (r : Exact) (t b : ℕ) (told
           none x y z u v e = true≢false (sym e)
       go false p false q true v last e = (
           let idle : busy n r.law ≡ false = not_true (busy n r.law) (free (not (busy n r.law)) (same_kind r.law.kind Bytes) (if nat_lt r.upto (len_of (r.first_views source)) then same_area (piece_area r.law.object r.upto) area else last) (not (is_finish r.phase)) (is_lowest r.first_reached empty b) e) in
-          let begun_once : r.law.start ≡ 0 → ⊥ = s.numbered refl whole (let k : rank r.step ≡ 12 = rank_is (rank r.step) 12 v in omega (arith, k)) in
+          let begun_once : r.law.start ≡ 0 → ⊥ = s.numbered refl whole (let k : rank r.step ≡ 12 = eqb-true (rank r.step) 12 v in omega (arith, k)) in
           wait_stage area (if last then Finish else Piece) (λ first. absurd (not_opening last first)) (λ f z. begun_once z) (free_number area idle)
           )
         where
@@ -227,17 +213,17 @@ module _ (n : ℕ) (keeps : ℕ → Kind → Bool) (r : Exact) (t b : ℕ) (told
           not_opening false e = cc e
 
   pub staged : (request : Request) → InHeal n keeps r b request → Staged request
-  staged (Lock Heal area) (Goes m) = heal_lock (Lock Heal area) (rank_is (rank r.step) 5 (first_2 _ _ (first_2 _ _ m.allowed)))
+  staged (Lock Heal area) (Goes m) = heal_lock (Lock Heal area) (eqb-true (rank r.step) 5 (and_left _ _ (and_left _ _ m.allowed)))
   staged (Lock Work area) (Goes m) = work_lock m.source area m.whole m.allowed
-  staged (Unlock Work area) (Goes m) = on (Unlock Work area) Unlocks (omega arith) (λ e. settles_far n keeps r m.source (second_2 _ _ (first_2 _ _ (first_2 _ _ m.allowed))))
-  staged (Unlock Heal area) (Goes m) = on (Unlock Heal area) HealUnlocks (omega arith) (λ e. settles_far n keeps r m.source (second_2 _ _ (first_2 _ _ (first_2 _ _ (first_2 _ _ (first_2 _ _ m.allowed))))))
-  staged (Look g) (Goes m) = on (Look g) Looks (omega arith) (λ e. let k : rank r.step ≡ 7 = rank_is (rank r.step) 7 (first_2 _ _ (first_2 _ _ m.allowed)) in omega (arith, k))
-  staged (ReadBytes g at len) (Goes m) = on (ReadBytes g at len) Reads (omega arith) (λ e. onward_far n keeps r m.source g.0 Bytes (first_2 _ _ (first_2 _ _ (first_2 _ _ m.allowed))))
-  staged (ReadAttrs g) (Goes m) = on (ReadAttrs g) Reads (omega arith) (λ e. onward_far n keeps r m.source g.0 Attrs (first_2 _ _ m.allowed))
-  staged (List g) (Goes m) = on (List g) Reads (omega arith) (λ e. onward_far n keeps r m.source g.0 Names (first_2 _ _ m.allowed))
-  staged (Pre g kind) (Goes m) = on (Pre g kind) HealPres (omega arith) (λ e. onward_far n keeps r m.source g.0 kind (first_2 _ _ (first_2 _ _ m.allowed)))
-  staged (Mend repair) (Goes m) = on (Mend repair) Mends (omega arith) (λ e. mend_far n keeps r m.source repair (first_2 _ _ (first_2 _ _ m.allowed)))
-  staged (Settle g kind less) (Goes m) = on (Settle g kind less) Settles (omega arith) (λ e. onward_far n keeps r m.source g.0 kind (first_2 _ _ (first_2 _ _ (first_2 _ _ m.allowed))))
+  staged (Unlock Work area) (Goes m) = on (Unlock Work area) Unlocks (omega arith) (λ e. settles_far n keeps r m.source (and_right _ _ (and_left _ _ (and_left _ _ m.allowed))))
+  staged (Unlock Heal area) (Goes m) = on (Unlock Heal area) HealUnlocks (omega arith) (λ e. settles_far n keeps r m.source (and_right _ _ (and_left _ _ (and_left _ _ (and_left _ _ (and_left _ _ m.allowed))))))
+  staged (Look g) (Goes m) = on (Look g) Looks (omega arith) (λ e. let k : rank r.step ≡ 7 = eqb-true (rank r.step) 7 (and_left _ _ (and_left _ _ m.allowed)) in omega (arith, k))
+  staged (ReadBytes g at len) (Goes m) = on (ReadBytes g at len) Reads (omega arith) (λ e. onward_far n keeps r m.source g.0 Bytes (and_left _ _ (and_left _ _ (and_left _ _ m.allowed))))
+  staged (ReadAttrs g) (Goes m) = on (ReadAttrs g) Reads (omega arith) (λ e. onward_far n keeps r m.source g.0 Attrs (and_left _ _ m.allowed))
+  staged (List g) (Goes m) = on (List g) Reads (omega arith) (λ e. onward_far n keeps r m.source g.0 Names (and_left _ _ m.allowed))
+  staged (Pre g kind) (Goes m) = on (Pre g kind) HealPres (omega arith) (λ e. onward_far n keeps r m.source g.0 kind (and_left _ _ (and_left _ _ m.allowed)))
+  staged (Mend repair) (Goes m) = on (Mend repair) Mends (omega arith) (λ e. mend_far n keeps r m.source repair (and_left _ _ (and_left _ _ m.allowed)))
+  staged (Settle g kind less) (Goes m) = on (Settle g kind less) Settles (omega arith) (λ e. onward_far n keeps r m.source g.0 kind (and_left _ _ (and_left _ _ (and_left _ _ m.allowed))))
   staged (Unlock Work area) (Gives i broken k) = on (Unlock Work area) Unlocks (omega arith) (λ e. absurd (true≢false (sym broken ∙ e)))
   staged (Unlock Heal area) (Gives i broken k) = on (Unlock Heal area) HealUnlocks (omega arith) (λ e. absurd (true≢false (sym broken ∙ e)))
   staged (Apply q) (Goes m) = absurd (true≢false (sym m.allowed))

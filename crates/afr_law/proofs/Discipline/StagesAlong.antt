@@ -24,8 +24,9 @@ use Rattle.std.specs.Prelude.{None, Option, Some, if◌then◌else◌, ◌==◌}
 use Rattle.afr_moves.specs.Rules as weak
 use Rattle.afr_moves.specs.Rules.{Register, busy, is_area}
 use Rattle.afr_moves.specs.Transaction.{Outside, MayBegin}
-use Rattle.afr_moves.specs.Register.{Exact, Step, Phase, Untouched, Open, Pres, Applies, Posts, HealLocks, WorkLocks, Looks, Reads, HealPres, Mends, Settles, Unlocks, HealUnlocks, same_step}
+use Rattle.afr_moves.specs.Register.{Exact, Step, Phase, Untouched, Open, Pres, Applies, Posts, HealLocks, Looks}
 use Rattle.afr_moves.specs.Discipline.{note, present, MayExactly, MayAskExactly, MovesExactly}
+use Rattle.afr_law.proofs.Discipline.Untouched.{some_step}
 
 -- the same of a register
 abbrev pub StageOf : Exact → Type 0
@@ -46,22 +47,6 @@ module _ (n : ℕ) (keeps : ℕ → Kind → Bool) (r : Exact) (t b : ℕ) (told
     later = λ f z. absurd (f (same ∙ (s.outside out).1));
     numbered = λ f g h. absurd (true≢false (sym f ∙ off));
   })
-
-  some_step : (step : Step) → (if same_step step Untouched then Open else step) ≡ Untouched → ⊥
-  some_step Untouched e = cc e
-  some_step Open e = cc e
-  some_step Pres e = cc e
-  some_step Applies e = cc e
-  some_step Posts e = cc e
-  some_step HealLocks e = cc e
-  some_step WorkLocks e = cc e
-  some_step Looks e = cc e
-  some_step Reads e = cc e
-  some_step HealPres e = cc e
-  some_step Mends e = cc e
-  some_step Settles e = cc e
-  some_step Unlocks e = cc e
-  some_step HealUnlocks e = cc e
 
   now : (request : Request) → Kept request r.law (gone_after request)
   now request = kept_dropped request r.law (weak.note_ask n r.law b request told) (is_gone told) b (kept n r.law b request told)

@@ -15,7 +15,7 @@ use Rattle.afr_lines.specs.declared.request.Area.TheVariants.{Name, Range}
 use Rattle.afr_object.specs.declared.change.Change.{Change}
 use Rattle.afr_object.specs.declared.change.Change.TheVariants.{Cut, Make, Remove, SetAttr, Write}
 use Rattle.afr_object.specs.declared.entry.View.{View}
-use Rattle.std.proofs.Common.{Bool, ap, arith, false, inl, inr, length, not, refl, subst, suc, sym, true, true≢false, zero, ℕ, ◌&&◌, ◌+◌, ◌<◌, ◌∙◌, ◌≡◌, ◌≤◌, ◌⊎◌}
+use Rattle.std.proofs.Common.{Bool, ap, arith, false, inl, inr, length, not, refl, subst, sym, true, true≢false, ℕ, ◌&&◌, ◌+◌, ◌<◌, ◌∙◌, ◌≡◌, ◌≤◌, ◌⊎◌}
 use Rattle.std.proofs.lemmas.Bool.Decides.{nat_tests}
 use Rattle.std.specs.Prelude.{None, Option, Some, if◌then◌else◌, nat_le, nat_lt, ◌==◌, ◌^◌}
 use Rattle.afr_moves.specs.Rules as weak
@@ -93,10 +93,6 @@ held_view views b h = go (views b) refl h
     go : (v : Option View) → views b ≡ v → not (weak.is_none v) ≡ true → (view : View) × (views b ≡ Some view)
     go None e k = absurd (cc k)
     go (Some view) e k = (view, e)
-
-number_is : (m : ℕ) → (m ≡ 0 → ⊥) → (q : ℕ) × (m ≡ suc q)
-number_is zero h = absurd (h refl)
-number_is (suc q) h = (q, refl)
 
 -- an area has a cell of each object and kind that lies in it
 lies_some : (area : Area) (change : Change) → IsArea area → LiesIn (Some area) change → weak.SomeCell (Some area) change

@@ -26,7 +26,7 @@ abbrev IsStill : Exact → Type 0
 IsStill r = r.step ≡ Untouched → r ≡ untouched
 
 -- a line of an actor leaves its register touched, or is an end
-some_step : (step : Step) → (if same_step step Untouched then Open else step) ≡ Untouched → ⊥
+pub some_step : (step : Step) → (if same_step step Untouched then Open else step) ≡ Untouched → ⊥
 some_step Untouched e = cc e
 some_step Open e = cc e
 some_step Pres e = cc e

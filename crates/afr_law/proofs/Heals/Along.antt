@@ -10,7 +10,6 @@ use Rattle.afr_moves.specs.Transaction.{MayOpen, Outside}
 use Rattle.afr_law.proofs.Heals.Opening.{opens_here}
 use Rattle.afr_moves.specs.Rules.{opened}
 use Rattle.afr_moves.specs.Lines.{ask_by, heal_begin_by}
-use Rattle.afr_law.proofs.Safety.Locks.{same_yes}
 use Rattle.afr_law.proofs.Discipline.Projection.{tally_at, together_now}
 use Rattle.afr_moves.specs.Tally.{Tally, blank, in_tally, note_tally, tally}
 use Rattle.afr_law.proofs.Discipline.Untouched.{still_now}
@@ -21,11 +20,12 @@ use Rattle.afr_lines.specs.declared.request.Area.{Area}
 use Rattle.afr_lines.specs.declared.request.Request.{Request}
 use Rattle.afr_lines.specs.declared.request.Request.TheVariants.{Lock}
 use Rattle.afr_range_locks.specs.declared.domain.Domain.TheVariants.{Heal, Work}
-use Rattle.std.proofs.Common.{Bool, ap, arith, false, inl, inr, refl, subst, suc, sym, true, true≢false, ℕ, ◌&&◌, ◌<◌, ◌||◌, ◌∙◌, ◌≡◌}
+use Rattle.std.proofs.Common.{Bool, ap, false, inl, inr, refl, subst, suc, sym, true, true≢false, ℕ, ◌&&◌, ◌<◌, ◌||◌, ◌∙◌, ◌≡◌}
 use Rattle.std.specs.Prelude.{None, Option, Some, if◌then◌else◌}
 use Rattle.afr_moves.specs.Rules as weak
 use Rattle.afr_moves.specs.Rules.{Register, heal_area}
 use Rattle.afr_moves.specs.Past.{Log, is_of, is_gone, last}
+use Rattle.std.proofs.lemmas.Bool.{or_parts, eqb-true}
 
 -- what a line of a heal leaves of its register
 abbrev pub healed_by : ℕ → (ℕ → Kind → Bool) → Exact → ℕ → ℕ → ℕ → Request → Told → Bool → Exact
@@ -57,17 +57,11 @@ module _ (n : ℕ) (keeps : ℕ → Kind → Bool) (log : Log) (moves : MovesExa
   abbrev pub Healing : ℕ → ℕ → Exact → Tally → Type 0
   Healing t a r k = r.law.heal ≡ true → r.broken ≡ false → G t a r k
 
-  or_first : (x y : Bool) → (x || y) ≡ false → x ≡ false
-  or_first x y e = grind arith
-
-  or_next : (x y : Bool) → (x || y) ≡ false → y ≡ false
-  or_next x y e = grind arith
-
   in_heal : (t a b : ℕ) (request : Request) (told : Told) (took : Bool) → log t ≡ Some (ask_by a b request told took) → b < n → (present n keeps log t a).law.heal ≡ true → InHeal n keeps (present n keeps log t a) b request
       → Healing t a (present n keeps log t a) (tally_at log t a)
       → Healing (suc t) a (healed_by n keeps (present n keeps log t a) t a b request told took) (note_tally (last log t a) (tally_at log t a) (Some (ask_by a b request told took)))
-  in_heal t a b request told took is below inside (Goes m) p on whole = ask t a b request told took is below m (or_next _ _ (or_first _ _ whole)) (p inside m.whole)
-  in_heal t a b request told took is below inside (Gives i broken k) p on whole = absurd (true≢false (sym broken ∙ or_first _ _ (or_first _ _ whole)))
+  in_heal t a b request told took is below inside (Goes m) p on whole = ask t a b request told took is below m (or_parts _ _ (or_parts _ _ whole).0).1 (p inside m.whole)
+  in_heal t a b request told took is below inside (Gives i broken k) p on whole = absurd (true≢false (sym broken ∙ (or_parts _ _ (or_parts _ _ whole).0).0))
 
   IsHealLockAt : Request → Type 0
   IsHealLockAt request = (area : Area) × (request ≡ Lock Heal area)
@@ -117,9 +111,9 @@ module _ (n : ℕ) (keeps : ℕ → Kind → Bool) (log : Log) (moves : MovesExa
   own_line : (t a : ℕ) (line : Option Line) → log t ≡ line → is_of a line ≡ true → Healing t a (present n keeps log t a) (tally_at log t a) → MayExactly n keeps (λ x. present n keeps log t a) line
       → Healing (suc t) a (note n keeps (present n keeps log t a) t line) (note_tally (last log t a) (tally_at log t a) line)
   own_line t a None is mine p may = absurd (true≢false (sym mine))
-  own_line t a (Some (Ask x b request told took)) is mine p may = asked t a b.0 request told took (is ∙ ap (λ k. Some (ask_by k b.0 request told took)) (same_yes x.0 a mine)) may.0 may.1 p
+  own_line t a (Some (Ask x b request told took)) is mine p may = asked t a b.0 request told took (is ∙ ap (λ k. Some (ask_by k b.0 request told took)) (eqb-true x.0 a mine)) may.0 may.1 p
   own_line t a (Some (Begin x change)) is mine p may = λ on whole. absurd (true≢false (sym on ∙ may.outside))
-  own_line t a (Some (HealBegin x g kind)) is mine p may = λ on whole. begin t a g.0 kind (is ∙ ap (λ k. Some (heal_begin_by k g.0 kind)) (same_yes x.0 a mine)) may (p may.inside may.whole)
+  own_line t a (Some (HealBegin x g kind)) is mine p may = λ on whole. begin t a g.0 kind (is ∙ ap (λ k. Some (heal_begin_by k g.0 kind)) (eqb-true x.0 a mine)) may (p may.inside may.whole)
   own_line t a (Some (HealEnd x g kind reply)) is mine p may = λ on whole. absurd (true≢false (sym on))
   own_line t a (Some (End x reply)) is mine p may = λ on whole. absurd (true≢false (sym on ∙ may.outside))
   own_line t a (Some (Event e)) is mine p may = absurd (true≢false (sym mine))

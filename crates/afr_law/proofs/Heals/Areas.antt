@@ -15,21 +15,21 @@ use Rattle.afr_moves.specs.Lines.{heal_begin_by}
 use Rattle.afr_moves.specs.Sets.{with}
 use Rattle.afr_law.proofs.Discipline.Stages.{mend_far, onward_far}
 use Rattle.afr_law.proofs.Discipline.StagesAlong.{StageOf, stage_now}
-use Rattle.afr_moves.proofs.AreaLemmas.{same_area_is}
+use Rattle.afr_moves.proofs.AreaLemmas.{same_area_is, is_area_is}
 use Rattle.afr_lines.specs.declared.answer.Told.{Told}
 use Rattle.afr_lines.specs.declared.answer.Told.TheVariants.{Done, NotConnected, Seen}
 use Rattle.afr_lines.specs.declared.request.Area.{Area}
 use Rattle.afr_lines.specs.declared.request.Request.{Request}
 use Rattle.afr_lines.specs.declared.request.Request.TheVariants.{Apply, Index, List, Lock, Look, Mend, Post, Pre, ReadAttr, ReadAttrs, ReadBytes, ReadName, Settle, Unlock}
 use Rattle.afr_lines.specs.Overlap.{same_area}
-use Rattle.afr_base.specs.Kinds.{same_kind}
 use Rattle.afr_range_locks.specs.declared.domain.Domain.TheVariants.{Heal, Work}
 use Rattle.std.proofs.Common.{Bool, ap, arith, false, inl, inr, refl, subst, sym, true, true≢false, ℕ, ◌∙◌, ◌≡◌, ◌≤◌, ◌⊎◌}
 use Rattle.std.proofs.lemmas.Bool.Decides.{nat_tests}
-use Rattle.std.specs.Prelude.{None, Option, Some, if◌then◌else◌, nat_lt}
+use Rattle.std.specs.Prelude.{Option, Some, if◌then◌else◌, nat_lt}
 use Rattle.afr_moves.specs.Rules as weak
 use Rattle.afr_moves.specs.Rules.{Register, is_area, heal_area, busy}
 use Rattle.afr_moves.specs.Past.{Log, is_gone}
+use Rattle.afr_moves.proofs.Tests.{same_kind_yes}
 
 -- the whole of a kind at first and at last, and a piece between
 abbrev pub part_area : ℕ → Kind → ℕ → Phase → Area
@@ -45,17 +45,6 @@ pub record Areas (step : Step) (phase : Phase) (kind : Kind) (object upto : ℕ)
 abbrev pub AreasIn : Exact → Register → Type 0
 AreasIn r w = Areas r.step r.phase w.kind w.object r.upto w.area
 
-pub kind_is : (x y : Kind) → same_kind x y ≡ true → x ≡ y
-kind_is Bytes Bytes e = refl
-kind_is Attrs Attrs e = refl
-kind_is Names Names e = refl
-kind_is Bytes Attrs e = absurd (true≢false (sym e))
-kind_is Bytes Names e = absurd (true≢false (sym e))
-kind_is Attrs Bytes e = absurd (true≢false (sym e))
-kind_is Attrs Names e = absurd (true≢false (sym e))
-kind_is Names Bytes e = absurd (true≢false (sym e))
-kind_is Names Attrs e = absurd (true≢false (sym e))
-
 -- a piece is not the whole
 pub piece_apart : (g upto : ℕ) → same_area (whole_area g Bytes) (piece_area g upto) ≡ false
 piece_apart g upto = grind (arith, nat_tests)
@@ -64,10 +53,6 @@ pub opening_or : (p : Phase) → (p ≡ Opening) ⊎ (p ≡ Opening → ⊥)
 opening_or Opening = inl refl
 opening_or Piece = inr (λ e. cc e)
 opening_or Finish = inr (λ e. cc e)
-
-own_area : (mine : Option Area) (area : Area) → is_area mine area ≡ true → mine ≡ Some area
-own_area None area e = absurd (true≢false (sym e))
-own_area (Some mine) area e = ap Some (same_area_is mine area e)
 
 module _ (n : ℕ) (keeps : ℕ → Kind → Bool) (r : Exact) (t b : ℕ) (inside : r.law.heal ≡ true) (s : StageOf r) (h : AreasIn r r.law) where
   abbrev AreasAfter : Request → Told → Type 0
@@ -119,12 +104,12 @@ module _ (n : ℕ) (keeps : ℕ → Kind → Bool) (r : Exact) (t b : ℕ) (insi
       })
 
       go : WorkPlace n keeps r source b area → AreasAfter (Lock Work area) told
-      go (Waits at same_phase own lock fresh) = (let six : rank r.step ≡ 6 = ap rank at in stays (omega (arith, six)) (λ later. own_area r.law.area area own) same_phase)
+      go (Waits at same_phase own lock fresh) = (let six : rank r.step ≡ 6 = ap rank at in stays (omega (arith, six)) (λ later. is_area_is r.law.area area own) same_phase)
       go (Starts five same_phase lock) = stays (omega (arith, five)) (λ later. absurd (later (s.early inside (omega (arith, five))).0)) same_phase
       go (Resumes twelve same_phase idle bytes unfinished lock chosen) = pick (nat_lt r.upto (len_of (r.first_views source))) chosen
         where
           is_bytes : r.law.kind ≡ Bytes
-          is_bytes = kind_is r.law.kind Bytes bytes
+          is_bytes = same_kind_yes r.law.kind Bytes bytes
 
           pick : (more : Bool) → (if more then same_area (piece_area r.law.object r.upto) area else same_area (whole_area r.law.object Bytes) area) ≡ true → AreasAfter (Lock Work area) told
           pick true k = (

@@ -7,7 +7,6 @@ use Rattle.afr_moves.specs.Note.{breaks, fails, given, left_in_heal, put}
 use Rattle.afr_moves.specs.Register.{Exact, HealPres, Mends, Reads, Settles, Step, rank, span}
 use Rattle.afr_moves.specs.Steps.{may_heal}
 use Rattle.afr_law.proofs.Heals.Along.{healing_now}
-use Rattle.afr_law.proofs.Heals.Areas.{kind_is}
 use Rattle.afr_law.proofs.Heals.Holds.{fails_gone, kept_law}
 use Rattle.afr_law.proofs.Heals.Reads.{readings_now}
 use Rattle.afr_law.proofs.Heals.Conditions.{attrs_onward, attrs_turn, bytes_onward, bytes_turn, list_onward, list_turn, look_step, mend_test, mend_turn, onward_kind, onward_object, pre_onward, pre_turn, settle_onward, settle_turn}
@@ -15,10 +14,9 @@ use Rattle.afr_law.proofs.Discipline.Inner.{turn_low}
 use Rattle.afr_moves.specs.Rules as weak
 use Rattle.afr_moves.specs.Rules.{Register}
 use Rattle.afr_moves.specs.Lines.{ask_by}
-use Rattle.afr_law.proofs.Safety.Locks.{same_yes}
 use Rattle.afr_moves.specs.Past.{Log, is_gone}
 use Rattle.afr_moves.specs.Sets.{with}
-use Rattle.afr_law.proofs.Discipline.Stages.{first_2, mend_far, onward_far, second_2}
+use Rattle.afr_law.proofs.Discipline.Stages.{mend_far, onward_far}
 use Rattle.afr_lines.specs.declared.answer.Told.{Told}
 use Rattle.afr_lines.specs.declared.answer.Told.TheVariants.{Done, Failed, Given, NotConnected}
 use Rattle.afr_lines.specs.declared.request.Request.{Request}
@@ -27,6 +25,9 @@ use Rattle.afr_range_locks.specs.declared.domain.Domain.TheVariants.{Heal, Work}
 use Rattle.std.proofs.Common.{Bool, ap, arith, false, inl, inr, refl, subst, sym, true, true≢false, ℕ, ◌∙◌, ◌≡◌, ◌≤◌, ◌⊎◌}
 use Rattle.std.proofs.lemmas.Bool.Decides.{nat_tests}
 use Rattle.std.specs.Prelude.{None, Option, Some, if◌then◌else◌, ◌==◌}
+use Rattle.std.proofs.lemmas.Bool.{eqb-true}
+use Rattle.afr_moves.proofs.Tests.{same_kind_yes}
+use Rattle.afr_base.specs.Bricks.{and_left, and_right}
 
 -- what a part of a heal of this kind reads of its object
 abbrev pub read_for : ℕ → Kind → ℕ → Request
@@ -83,24 +84,24 @@ module _ (n : ℕ) (keeps : ℕ → Kind → Bool) (log : Log) (t a b : ℕ) (r 
   bytes_for : (source : ℕ) (g : Gfid) (at len : ℕ) → may_heal n keeps r source b (ReadBytes g at len) ≡ true → ReadBytes g at len ≡ read_for r.law.object r.law.kind r.upto
   bytes_for source g at len e = (
       let o = bytes_onward n keeps r source b g at len e in
-      let object : g.0 ≡ r.law.object = same_yes g.0 r.law.object (onward_object n keeps r source g.0 Bytes o) in
-      let place : at ≡ r.upto = same_yes at r.upto (second_2 _ _ (first_2 _ _ e)) in
-      let long : len ≡ span = same_yes len span (second_2 _ _ e) in
-      for_kind (ReadBytes g at len) Bytes (kind_is Bytes r.law.kind (onward_kind n keeps r source g.0 Bytes o)) (λ i. ReadBytes (record { 0 = object i }) (place i) (long i))
+      let object : g.0 ≡ r.law.object = eqb-true g.0 r.law.object (onward_object n keeps r source g.0 Bytes o) in
+      let place : at ≡ r.upto = eqb-true at r.upto (and_right _ _ (and_left _ _ e)) in
+      let long : len ≡ span = eqb-true len span (and_right _ _ e) in
+      for_kind (ReadBytes g at len) Bytes (same_kind_yes Bytes r.law.kind (onward_kind n keeps r source g.0 Bytes o)) (λ i. ReadBytes (record { 0 = object i }) (place i) (long i))
       )
 
   attrs_for : (source : ℕ) (g : Gfid) → may_heal n keeps r source b (ReadAttrs g) ≡ true → ReadAttrs g ≡ read_for r.law.object r.law.kind r.upto
   attrs_for source g e = (
       let o = attrs_onward n keeps r source b g e in
-      let object : g.0 ≡ r.law.object = same_yes g.0 r.law.object (onward_object n keeps r source g.0 Attrs o) in
-      for_kind (ReadAttrs g) Attrs (kind_is Attrs r.law.kind (onward_kind n keeps r source g.0 Attrs o)) (λ i. ReadAttrs (record { 0 = object i }))
+      let object : g.0 ≡ r.law.object = eqb-true g.0 r.law.object (onward_object n keeps r source g.0 Attrs o) in
+      for_kind (ReadAttrs g) Attrs (same_kind_yes Attrs r.law.kind (onward_kind n keeps r source g.0 Attrs o)) (λ i. ReadAttrs (record { 0 = object i }))
       )
 
   list_for : (source : ℕ) (g : Gfid) → may_heal n keeps r source b (List g) ≡ true → List g ≡ read_for r.law.object r.law.kind r.upto
   list_for source g e = (
       let o = list_onward n keeps r source b g e in
-      let object : g.0 ≡ r.law.object = same_yes g.0 r.law.object (onward_object n keeps r source g.0 Names o) in
-      for_kind (List g) Names (kind_is Names r.law.kind (onward_kind n keeps r source g.0 Names o)) (λ i. List (record { 0 = object i }))
+      let object : g.0 ≡ r.law.object = eqb-true g.0 r.law.object (onward_object n keeps r source g.0 Names o) in
+      for_kind (List g) Names (same_kind_yes Names r.law.kind (onward_kind n keeps r source g.0 Names o)) (λ i. List (record { 0 = object i }))
       )
 
   pub wanted_asked : (request : Request) (told : Told) (took : Bool) (source : ℕ) → log t ≡ Some (ask_by a b request told took) → may_heal n keeps r source b request ≡ true → breaks r request told ≡ false → WantedAfter request told

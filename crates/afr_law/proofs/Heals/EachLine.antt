@@ -21,17 +21,17 @@ use Rattle.afr_moves.specs.Past.{Beginning, Log, born, held, holds, touch, over,
 use Rattle.afr_moves.specs.Honest.{HonestAsk, HonestLine, Honest, finds, asked}
 use Rattle.afr_moves.specs.Rules.{MayPre, Register, fresh, CoversAll, MayBegin, MayMend, begun, is_area, looked, viewed, looking, put_view, is_none, locking, area_object, piece, note_ask, dropping, note, register, MayAsk, MayHealLock, MayHealBegin, Lawful, opened, present, busy, second_of, second_freed}
 use Rattle.afr_moves.specs.Cells.{fits, object_of}
-use Rattle.afr_tables.proofs.Entries.{cases_lt}
-use Rattle.afr_law.proofs.Safety.Locks.{same_self, same_yes}
-use Rattle.afr_law.proofs.Safety.Standing.{SeenAt, with_cases, with_false, without_true, Plain, Noted, noted, Grants, Waits, Frees, Tries, HealGrants, HealWaits, HealFrees, HealTries, Looks, Pres, Applies, Posts, Mends, Settles, Same}
+use Rattle.afr_law.proofs.Safety.Standing.{SeenAt, without_true, Plain, Noted, noted, Grants, Waits, Frees, Tries, HealGrants, HealWaits, HealFrees, HealTries, Looks, Pres, Applies, Posts, Mends, Settles, Same}
 use Rattle.afr_law.proofs.Safety.Registers.{Own, Asks, Begins, HealBegins, Ends, HealEnds, standing, registers_at, MayOf}
 use Rattle.afr_law.proofs.Safety.Numbers.{carried_out, force_fresh}
 use Rattle.afr_law.proofs.Safety.Acts.{Working, working, all_covers}
 use Rattle.afr_law.proofs.Safety.Touches.{stamp_next}
 use Rattle.afr_law.proofs.Safety.Objects.{holds_fits}
 use Rattle.afr_moves.specs.Lines.{ask_by, begin_by, heal_begin_by, look_at, pre_on, settle_on}
-use Rattle.afr_law.proofs.Heals.Looks.{SettleLine, settle_line, unsettled, OwnPre, positive, LookAt, ViewedAt, FirstAt, Viewing, viewing_fresh, viewing_dropped, Quiet, viewing_next, done_finds, mends_plane, stamp_rises}
+use Rattle.afr_law.proofs.Heals.Looks.{SettleLine, settle_line, unsettled, OwnPre, LookAt, ViewedAt, FirstAt, Viewing, viewing_fresh, viewing_dropped, Quiet, viewing_next, done_finds, mends_plane, stamp_rises}
 use Rattle.afr_law.proofs.Heals.Marks.{no_start, quiet_foreign, Ready, ready, quiet_own}
+use Rattle.std.proofs.lemmas.Bool.{cases_lt, eqb-true}
+use Rattle.afr_moves.proofs.Tests.{same_self, with_cases, with_false, positive}
 
 module _ (n : ℕ) (keeps : ℕ → Kind → Bool) (files : Beginning) (faults : ℕ → ℕ → Option Fault) (log : Log) (honest : Honest files faults log) (lawful : Lawful n keeps log) where
   viewing_begun : (t a : ℕ) (area : Area) (r : Register) → Viewing files log t a r → Viewing files log t a (begun r area)
@@ -104,7 +104,7 @@ module _ (n : ℕ) (keeps : ℕ → Kind → Bool) (files : Beginning) (faults :
       put_cases views x v e = pick (x == b) refl e
         where
           pick : (hit : Bool) → (x == b) ≡ hit → (if hit then Some view else views x) ≡ Some v → ((x ≡ b) × (view ≡ v)) ⊎ (views x ≡ Some v)
-          pick true h k = inl (same_yes x b h, cc k)
+          pick true h k = inl (eqb-true x b h, cc k)
           pick false h k = inr k
 
       see : r.heal ≡ true → (hit : Bool) → (not (r.number == 0) && r.seen b && not (r.closed b) && (g == r.object) && r.healing b && not (r.settled b)) ≡ hit
@@ -131,7 +131,7 @@ module _ (n : ℕ) (keeps : ℕ → Kind → Bool) (files : Beginning) (faults :
               look : LookAt log a b h.0 r.object view lock.mine
               look = record {
                 l = t;
-                is = at ∙ ap (λ o. Some (ask_by a b (look_at o) (Seen view) true)) (same_yes g r.object f.3);
+                is = at ∙ ap (λ o. Some (ask_by a b (look_at o) (Seen view) true)) (eqb-true g r.object f.3);
                 after = (w.numbers.newest h.0 h.1).0;
                 p = lock.p;
                 grant = lock.grant;
@@ -198,7 +198,7 @@ module _ (n : ℕ) (keeps : ℕ → Kind → Bool) (files : Beginning) (faults :
                   firsts false q x v k = s.firsts x v k
                   firsts true q x v k =
                       elim (put_cases r.first x v k) [
-                        | inl k ↦ subst (λ y. FirstAt files log (suc t) a y r.start r.object r.kind (r.settled y) (r.healing y) r.heal (r.raised y) v) (sym k.0) (subst (FirstAt files log (suc t) a b r.start r.object r.kind (r.settled b) (r.healing b) r.heal (r.raised b)) k.1 (first_now (same_yes r.number r.start (and_first (r.number == r.start) (is_none (r.first b)) q)) (and_second (r.number == r.start) (is_none (r.first b)) q)))
+                        | inl k ↦ subst (λ y. FirstAt files log (suc t) a y r.start r.object r.kind (r.settled y) (r.healing y) r.heal (r.raised y) v) (sym k.0) (subst (FirstAt files log (suc t) a b r.start r.object r.kind (r.settled b) (r.healing b) r.heal (r.raised b)) k.1 (first_now (eqb-true r.number r.start (and_first (r.number == r.start) (is_none (r.first b)) q)) (and_second (r.number == r.start) (is_none (r.first b)) q)))
                         | inr old ↦ s.firsts x v old
                       ]
                     where
@@ -366,7 +366,7 @@ module _ (n : ℕ) (keeps : ℕ → Kind → Bool) (files : Beginning) (faults :
           mended at k v c cell i true q hit = (
             w.viewing.began k.inside k.begun_already,
             w.numbers.since i hit,
-            λ fit. (let two = both (c == b) (mends repair cell) q in let low : r.number ≤ stamp files log (suc t) c cell = subst (λ y. r.number ≤ stamp files log (suc t) y cell) (sym (same_yes c b two.0)) (mend_stamps t a b repair r cell at w k.begun_already two.1 fit) in omega (arith, low, hit)),
+            λ fit. (let two = both (c == b) (mends repair cell) q in let low : r.number ≤ stamp files log (suc t) c cell = subst (λ y. r.number ≤ stamp files log (suc t) y cell) (sym (eqb-true c b two.0)) (mend_stamps t a b repair r cell at w k.begun_already two.1 fit) in omega (arith, low, hit)),
           )
             where
               both : (x y : Bool) → (x && y) ≡ true → (x ≡ true) × (y ≡ true)

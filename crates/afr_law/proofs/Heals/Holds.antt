@@ -2,8 +2,7 @@
 use Rattle.afr_base.specs.declared.ids.Kind.{Kind}
 use Rattle.afr_base.specs.declared.ids.Kind.TheVariants.{Attrs, Bytes, Names}
 use Rattle.afr_base.specs.declared.marks.Marks.{Marks}
-use Rattle.afr_law.proofs.Discipline.AskFields.{frees_heal, frees_work, sees, with_or, without_in, without_or, work_locked}
-use Rattle.afr_law.proofs.Discipline.Clear.{with_here, with_more}
+use Rattle.afr_law.proofs.Discipline.AskFields.{frees_heal, frees_work, sees, without_or, work_locked}
 use Rattle.afr_moves.specs.Discipline.{MovesExactly, note, present}
 use Rattle.afr_moves.specs.Heal.{MayHealBegin}
 use Rattle.afr_moves.specs.Note.{breaks, fails, is_given, left_in_heal, next_phase, put}
@@ -32,6 +31,7 @@ use Rattle.std.specs.Prelude.{Some, if◌then◌else◌, ◌==◌}
 use Rattle.afr_moves.specs.Rules as weak
 use Rattle.afr_moves.specs.Rules.{Register, is_area, heal_area}
 use Rattle.afr_moves.specs.Past.{Log, is_gone}
+use Rattle.afr_moves.proofs.Tests.{with_more, with_self, with_cases, without_in}
 
 -- the last part of a heal, which settles
 abbrev pub is_last : Kind → Phase → Bool
@@ -268,7 +268,7 @@ module _ (n : ℕ) (keeps : ℕ → Kind → Bool) (r : Exact) (t a b : ℕ) (be
       go Done k = record {
         within = λ m. h.within (omega (arith, low));
         reached = λ m. h.reached (omega (arith, low));
-        settled = λ x m. (last, omega arith, λ z. elim (with_or r.law.settled b x m) [ inl here ↦ subst (λ y. with (asked_in r Settles) b y ≡ true) (sym here) (with_here (asked_in r Settles) b) | inr was ↦ with_more (asked_in r Settles) b x (old x was) ]);
+        settled = λ x m. (last, omega arith, λ z. elim (with_cases r.law.settled b x m) [ inl here ↦ subst (λ y. with (asked_in r Settles) b y ≡ true) (sym here) (with_self (asked_in r Settles) b) | inr was ↦ with_more (asked_in r Settles) b x (old x was) ]);
       }
       go NotConnected k = absurd (true≢false k)
       go Failed k = absurd (true≢false k)

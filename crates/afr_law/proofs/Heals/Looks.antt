@@ -3,9 +3,8 @@ use Rattle.afr_base.specs.Kinds.{same_kind}
 use Rattle.afr_faults.specs.declared.fault.Fault.TheVariants.{Fail, Lost}
 use Rattle.afr_faults.specs.declared.fault.Fault.{Fault}
 use Rattle.afr_lines.specs.Overlap.{overlap}
-use Rattle.std.proofs.Common.{◌≡◌, ℕ, zero, suc, ◌+◌, ◌^◌, ◌<◌, ◌≤◌, Bool, true, false, ◌&&◌, ◌||◌, not, ◌⊎◌, inl, inr, refl, ◌∙◌, subst, arith, true≢false}
+use Rattle.std.proofs.Common.{◌≡◌, ℕ, suc, ◌+◌, ◌^◌, ◌<◌, ◌≤◌, Bool, true, false, ◌&&◌, ◌||◌, not, ◌⊎◌, inl, inr, refl, ◌∙◌, subst, arith, true≢false}
 use Rattle.std.specs.Prelude.{Option, None, Some, ◌==◌}
-use Rattle.std.proofs.lemmas.Bool.Decides.{nat_tests}
 use Rattle.afr_base.specs.declared.ids.Kind.{Kind}
 use Rattle.afr_object.specs.declared.entry.View.{View}
 use Rattle.afr_base.specs.declared.marks.Marks.{Marks}
@@ -23,17 +22,18 @@ use Rattle.afr_moves.specs.Past.{Beginning, Log, born, held, ends, last, holds, 
 use Rattle.afr_moves.specs.Honest.{HonestAsk, Honest, finds, Tells, Answers}
 use Rattle.afr_moves.specs.Rules.{Register, fresh, CoversAll, MayMend, MaySettle, repair_kind, heal_area, dropping, Lawful, present}
 use Rattle.afr_moves.specs.Cells.{fits, is_cell, object_of, kind_of, Byte, Attr, Entry}
-use Rattle.afr_base.specs.declared.ids.Kind.TheVariants.{Bytes, Attrs, Names}
 use Rattle.afr_object.specs.declared.change.Repair.TheVariants.{CutTo, Copy, PutAttrs, PutNames}
 use Rattle.std.specs.Prelude.{nat_le, nat_lt}
-use Rattle.afr_law.proofs.Safety.Locks.{Grant, same_self, same_yes}
-use Rattle.afr_tables.proofs.Entries.{cases_lt}
+use Rattle.afr_law.proofs.Safety.Locks.{Grant}
 use Rattle.afr_law.proofs.Safety.Standing.{without_true}
 use Rattle.afr_law.proofs.Safety.Numbers.{last_asked}
 use Rattle.afr_law.proofs.Safety.Acts.{Act, act_later, acts_apart, Working, working, acting, may_ask, mend_covers, all_covers, apply_acts}
 use Rattle.afr_law.proofs.Safety.Rising.{rises_once}
 use Rattle.afr_law.proofs.Safety.Touches.{Touched, touched, Not, Made, Mended, stamp_next, stamp_start}
 use Rattle.afr_moves.specs.Lines.{ask_by, look_at, pre_on, settle_on}
+use Rattle.std.proofs.lemmas.Bool.{cases_lt, eqb-true}
+use Rattle.afr_moves.proofs.Tests.{same_self, first_equal, same_kind_yes, positive, four_parts}
+use Rattle.afr_base.specs.Bricks.{and_left}
 
 -- a Settle line that a brick with the object carried out
 pub record SettleLine (files : Beginning) (log : Log) (t x g : ℕ) (kind : Kind) : Type 0 where
@@ -43,17 +43,6 @@ pub record SettleLine (files : Beginning) (log : Log) (t x g : ℕ) (kind : Kind
   pub is : log t ≡ Some (ask_by a x (settle_on g kind less) told true)
   pub there : holds files log t x g ≡ true
 
-pub same_kind_eq : (k l : Kind) → same_kind k l ≡ true → k ≡ l
-same_kind_eq Bytes Bytes e = refl
-same_kind_eq Attrs Attrs e = refl
-same_kind_eq Names Names e = refl
-same_kind_eq Bytes Attrs e = absurd (cc e)
-same_kind_eq Bytes Names e = absurd (cc e)
-same_kind_eq Attrs Bytes e = absurd (cc e)
-same_kind_eq Attrs Names e = absurd (cc e)
-same_kind_eq Names Bytes e = absurd (cc e)
-same_kind_eq Names Attrs e = absurd (cc e)
-
 pub settle_line : (files : Beginning) (log : Log) (t x g : ℕ) (kind : Kind) → ((c : ℕ) → settled files log (suc t) x c g kind ≡ settled files log t x c g kind) ⊎ SettleLine files log t x g kind
 unfolding settled
 settle_line files log t x g kind = here (holds files log t x g) refl
@@ -61,27 +50,20 @@ settle_line files log t x g kind = here (holds files log t x g) refl
     none : (m : ℕ) → 0 + m ≡ m
     none m = omega arith
 
-    four : (y k o s : Bool) → (y && k && o && s) ≡ true → (y ≡ true) × (k ≡ true) × (o ≡ true) × (s ≡ true)
-    four y k o s e = grind arith
-
     go : (line : Option Line) → log t ≡ line → holds files log t x g ≡ true → ((c : ℕ) → settled files log (suc t) x c g kind ≡ settled files log t x c g kind) ⊎ SettleLine files log t x g kind
     go (Some (Ask a y (Settle h k less) told took)) is there = pick ((y.0 == x) && took && (h.0 == g) && same_kind k kind) refl
       where
         pick : (hit : Bool) → ((y.0 == x) && took && (h.0 == g) && same_kind k kind) ≡ hit → ((c : ℕ) → settled files log (suc t) x c g kind ≡ settled files log t x c g kind) ⊎ SettleLine files log t x g kind
         pick false e = inl (λ c. rw (there, is, e) (none (settled files log t x c g kind)))
         pick true e = (
-            let w = four (y.0 == x) took (h.0 == g) (same_kind k kind) e in
-            inr (record { a = a.0; less = less; told = told; is = is ∙ (λ i. Some (ask_by a.0 (same_yes y.0 x w.0 i) (settle_on (same_yes h.0 g w.2 i) (same_kind_eq k kind w.3 i) less) told (w.1 i))); there = there })
+            let w = four_parts (y.0 == x) took (h.0 == g) (same_kind k kind) e in
+            inr (record { a = a.0; less = less; told = told; is = is ∙ (λ i. Some (ask_by a.0 (eqb-true y.0 x w.0 i) (settle_on (eqb-true h.0 g w.2 i) (same_kind_yes k kind w.3 i) less) told (w.1 i))); there = there })
             )
     go _ is there = inl (λ c. rw (there, is) (none (settled files log t x c g kind)))
 
     here : (has_it : Bool) → holds files log t x g ≡ has_it → ((c : ℕ) → settled files log (suc t) x c g kind ≡ settled files log t x c g kind) ⊎ SettleLine files log t x g kind
     here true e = go (log t) refl e
     here false e = inl (λ c. rw e (none (settled files log t x c g kind)))
-
-pub positive : (m : ℕ) → (m ≡ 0 → ⊥) → (q : ℕ) × (m ≡ suc q)
-positive zero h = absurd (h refl)
-positive (suc q) h = (q, refl)
 
 -- a look of a heal under its lock
 pub record LookAt (log : Log) (a x h object : ℕ) (view : View) (mine : Area) : Type 0 where
@@ -230,18 +212,12 @@ done_finds files log t a b request took true None h = go (finds files log t b re
     go true e k = refl
     go false e k = absurd (cc k)
 
-pub and_equal : (g h : ℕ) (y : Bool) → ((g == h) && y) ≡ true → g ≡ h
-and_equal g h y e = grind (arith, nat_tests)
-
-pub and_front : (x y : Bool) → (x && y) ≡ true → x ≡ true
-and_front x y e = grind arith
-
 -- a repair changes cells of its object and kind
 pub mends_plane : (repair : Repair) (cell : Cell) → mends repair cell ≡ true → (repaired repair ≡ object_of cell) × (repair_kind repair ≡ kind_of cell)
-mends_plane (CutTo g len) (Byte h i) e = (and_equal g.0 h (nat_le len i) (and_front ((g.0 == h) && nat_le len i) (nat_lt i (2 ^ 63)) e), refl)
-mends_plane (Copy g at span read) (Byte h i) e = (and_equal g.0 h (nat_le at i) (and_front ((g.0 == h) && nat_le at i) (nat_lt i (at + span)) (and_front ((g.0 == h) && nat_le at i && nat_lt i (at + span)) (nat_lt i (2 ^ 63)) e)), refl)
-mends_plane (PutAttrs g read) (Attr h k) e = (same_yes g.0 h e, refl)
-mends_plane (PutNames g reads) (Entry h m) e = (same_yes g.0 h e, refl)
+mends_plane (CutTo g len) (Byte h i) e = (first_equal g.0 h (nat_le len i) (and_left ((g.0 == h) && nat_le len i) (nat_lt i (2 ^ 63)) e), refl)
+mends_plane (Copy g at span read) (Byte h i) e = (first_equal g.0 h (nat_le at i) (and_left ((g.0 == h) && nat_le at i) (nat_lt i (at + span)) (and_left ((g.0 == h) && nat_le at i && nat_lt i (at + span)) (nat_lt i (2 ^ 63)) e)), refl)
+mends_plane (PutAttrs g read) (Attr h k) e = (eqb-true g.0 h e, refl)
+mends_plane (PutNames g reads) (Entry h m) e = (eqb-true g.0 h e, refl)
 mends_plane _ (Byte h i) e = absurd (cc e)
 mends_plane _ (Attr h i) e = absurd (cc e)
 mends_plane _ (Entry h i) e = absurd (cc e)

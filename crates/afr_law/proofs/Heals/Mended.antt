@@ -3,13 +3,10 @@ use Rattle.afr_base.specs.declared.ids.Kind.{Kind}
 use Rattle.afr_base.specs.declared.ids.Kind.TheVariants.{Attrs, Bytes, Names}
 use Rattle.afr_moves.specs.Register.{Exact, Finish, Mends, Opening, Phase, Piece, Step, is_opening, len_of, rank, span}
 use Rattle.afr_moves.specs.Steps.{may_mend, mends_at, same_read, same_reads}
-use Rattle.afr_law.proofs.Heals.Areas.{kind_is}
 use Rattle.afr_law.proofs.Heals.Raises.{raise_set}
 use Rattle.afr_law.proofs.Heals.Conditions.{onward_kind, onward_object}
 use Rattle.afr_moves.specs.Lines.{cut_to}
-use Rattle.afr_law.proofs.Safety.Locks.{same_yes}
 use Rattle.afr_moves.specs.Past.{mends, place}
-use Rattle.afr_law.proofs.Discipline.Stages.{first_2, second_2}
 use Rattle.afr_moves.specs.Tally.{Tally}
 use Rattle.afr_object.specs.declared.change.Repair.{Repair}
 use Rattle.afr_object.specs.declared.change.Repair.TheVariants.{Copy, CutTo, PutAttrs, PutNames}
@@ -19,6 +16,9 @@ use Rattle.std.specs.Prelude.{None, Option, Some}
 use Rattle.afr_moves.specs.Rules.{Register}
 use Rattle.std.specs.Prelude.{List as Seq}
 use Rattle.afr_moves.specs.Cells.{Cell, Byte, Attr, Entry, is_cell, object_of, kind_of}
+use Rattle.std.proofs.lemmas.Bool.{eqb-true}
+use Rattle.afr_moves.proofs.Tests.{same_kind_yes}
+use Rattle.afr_base.specs.Bricks.{and_left, and_right}
 
 -- the array of reads has one place a brick
 abbrev pub IsWide : Repair → Type 0
@@ -34,7 +34,7 @@ Fits object kind phase upto views reads s (PutNames g from) = (g.0 ≡ object) �
 
 pub read_is : (mine : Option ℕ) (other : Option ℕ) → same_read mine other ≡ true → mine ≡ other
 read_is None None e = refl
-read_is (Some x) (Some y) e = ap Some (same_yes x y e)
+read_is (Some x) (Some y) e = ap Some (eqb-true x y e)
 read_is None (Some y) e = absurd (true≢false (sym e))
 read_is (Some x) None e = absurd (true≢false (sym e))
 
@@ -43,8 +43,8 @@ reads_is reads k [] [] e f l = refl
 reads_is reads k [] (y ∷ ys) e f l = absurd (omega (arith, l))
 reads_is reads k (x ∷ xs) [] e f l = absurd (omega (arith, l))
 reads_is reads k (x ∷ xs) (y ∷ ys) e f l = (
-    let head : x ≡ y = sym (read_is (reads k) x (first_2 _ _ e)) ∙ read_is (reads k) y (first_2 _ _ f) in
-    let tail : xs ≡ ys = reads_is reads (suc k) xs ys (second_2 _ _ e) (second_2 _ _ f) (omega (arith, l)) in
+    let head : x ≡ y = sym (read_is (reads k) x (and_left _ _ e)) ∙ read_is (reads k) y (and_left _ _ f) in
+    let tail : xs ≡ ys = reads_is reads (suc k) xs ys (and_right _ _ e) (and_right _ _ f) (omega (arith, l)) in
     λ i. head i ∷ tail i
     )
 
@@ -82,26 +82,26 @@ opening_not_is Finish e = λ k. cc k
 
 pub mend_fits : (n : ℕ) (keeps : ℕ → Kind → Bool) (r : Exact) (s : ℕ) (repair : Repair) → may_mend n keeps r s repair ≡ true → IsWide repair → Fits r.law.object r.law.kind r.phase r.upto r.first_views r.reads s repair
 mend_fits n keeps r s (CutTo g len) e wide = (
-    let o = first_2 _ _ (first_2 _ _ e) in
-    (same_yes g.0 r.law.object (onward_object n keeps r s g.0 Bytes o), sym (kind_is Bytes r.law.kind (onward_kind n keeps r s g.0 Bytes o)), is_opening_is r.phase (second_2 _ _ (first_2 _ _ e)), same_yes len (len_of (r.first_views s)) (second_2 _ _ e))
+    let o = and_left _ _ (and_left _ _ e) in
+    (eqb-true g.0 r.law.object (onward_object n keeps r s g.0 Bytes o), sym (same_kind_yes Bytes r.law.kind (onward_kind n keeps r s g.0 Bytes o)), is_opening_is r.phase (and_right _ _ (and_left _ _ e)), eqb-true len (len_of (r.first_views s)) (and_right _ _ e))
     )
 mend_fits n keeps r s (Copy g at some read) e wide = (
-    let o = first_2 _ _ (first_2 _ _ (first_2 _ _ (first_2 _ _ e))) in (
-      same_yes g.0 r.law.object (onward_object n keeps r s g.0 Bytes o),
-      sym (kind_is Bytes r.law.kind (onward_kind n keeps r s g.0 Bytes o)),
-      opening_not_is r.phase (second_2 _ _ (first_2 _ _ (first_2 _ _ (first_2 _ _ e)))),
-      same_yes at r.upto (second_2 _ _ (first_2 _ _ (first_2 _ _ e))),
-      same_yes some span (second_2 _ _ (first_2 _ _ e)),
-      read_is (r.reads s) (Some read) (second_2 _ _ e),
+    let o = and_left _ _ (and_left _ _ (and_left _ _ (and_left _ _ e))) in (
+      eqb-true g.0 r.law.object (onward_object n keeps r s g.0 Bytes o),
+      sym (same_kind_yes Bytes r.law.kind (onward_kind n keeps r s g.0 Bytes o)),
+      opening_not_is r.phase (and_right _ _ (and_left _ _ (and_left _ _ (and_left _ _ e)))),
+      eqb-true at r.upto (and_right _ _ (and_left _ _ (and_left _ _ e))),
+      eqb-true some span (and_right _ _ (and_left _ _ e)),
+      read_is (r.reads s) (Some read) (and_right _ _ e),
     )
     )
 mend_fits n keeps r s (PutAttrs g read) e wide = (
-    let o = first_2 _ _ e in
-    (same_yes g.0 r.law.object (onward_object n keeps r s g.0 Attrs o), sym (kind_is Attrs r.law.kind (onward_kind n keeps r s g.0 Attrs o)), read_is (r.reads s) (Some read) (second_2 _ _ e))
+    let o = and_left _ _ e in
+    (eqb-true g.0 r.law.object (onward_object n keeps r s g.0 Attrs o), sym (same_kind_yes Attrs r.law.kind (onward_kind n keeps r s g.0 Attrs o)), read_is (r.reads s) (Some read) (and_right _ _ e))
     )
 mend_fits n keeps r s (PutNames g from) e wide = (
-    let o = first_2 _ _ (first_2 _ _ e) in
-    (same_yes g.0 r.law.object (onward_object n keeps r s g.0 Names o), sym (kind_is Names r.law.kind (onward_kind n keeps r s g.0 Names o)), second_2 _ _ (first_2 _ _ e), wide)
+    let o = and_left _ _ (and_left _ _ e) in
+    (eqb-true g.0 r.law.object (onward_object n keeps r s g.0 Names o), sym (same_kind_yes Names r.law.kind (onward_kind n keeps r s g.0 Names o)), and_right _ _ (and_left _ _ e), wide)
     )
 
 -- past the Mends of the first part each byte from the length of the source on, then piece by piece; else past the Mends each cell

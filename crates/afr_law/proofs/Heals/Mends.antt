@@ -6,7 +6,6 @@ use Rattle.afr_moves.specs.Register.{Applies, Exact, Finish, HealLocks, HealPres
 use Rattle.afr_moves.specs.Steps.{may_heal, mends_at, mends_over}
 use Rattle.afr_law.proofs.Heals.Areas.{AreasIn, opening_or}
 use Rattle.afr_law.proofs.Heals.Raises.{raise_set}
-use Rattle.afr_law.proofs.Heals.Sights.{equal_true}
 use Rattle.afr_law.proofs.Heals.Conditions.{asked_is, mends_passed, over_at, passed_over}
 use Rattle.afr_moves.specs.Sets.{with}
 use Rattle.afr_moves.specs.Tally.{Tally, give}
@@ -24,6 +23,7 @@ use Rattle.afr_moves.specs.Rules as weak
 use Rattle.afr_moves.specs.Rules.{Register, heal_area}
 use Rattle.afr_moves.specs.Cells.{Cell, Byte, Attr, Entry, is_cell, object_of, kind_of}
 use Rattle.afr_law.proofs.Heals.Mended.{Mended, Brought, Fits, MendedIn, mends_set, unmended_yet}
+use Rattle.std.proofs.lemmas.Bool.{eq-eqb}
 
 -- what the tally has after a request
 abbrev pub tally_after_ask : ℕ → Tally → ℕ → Request → Tally
@@ -75,13 +75,13 @@ module _ (object : ℕ) (kind : Kind) (phase : Phase) (upto : ℕ) (views : ℕ 
   copies (PutNames h from) f o c later low high real = absurd (cc (c ∙ f.1))
 
   attrs : (rep : Repair) → Fits object kind phase upto views reads s rep → g ≡ object → Attrs ≡ kind → mends rep (Attr g i) ≡ true
-  attrs (PutAttrs h read) f o c = equal_true h.0 g (f.0 ∙ sym o)
+  attrs (PutAttrs h read) f o c = eq-eqb h.0 g (f.0 ∙ sym o)
   attrs (CutTo h len) f o c = absurd (cc (c ∙ f.1))
   attrs (Copy h at some read) f o c = absurd (cc (c ∙ f.1))
   attrs (PutNames h from) f o c = absurd (cc (c ∙ f.1))
 
   names : (rep : Repair) → Fits object kind phase upto views reads s rep → g ≡ object → Names ≡ kind → mends rep (Entry g i) ≡ true
-  names (PutNames h from) f o c = equal_true h.0 g (f.0 ∙ sym o)
+  names (PutNames h from) f o c = eq-eqb h.0 g (f.0 ∙ sym o)
   names (CutTo h len) f o c = absurd (cc (c ∙ f.1))
   names (Copy h at some read) f o c = absurd (cc (c ∙ f.1))
   names (PutAttrs h read) f o c = absurd (cc (c ∙ f.1))

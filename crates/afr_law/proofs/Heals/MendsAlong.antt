@@ -1,20 +1,18 @@
 -- A Mend brings each copy the same, and so along all lines of a heal.
 use Rattle.afr_base.specs.declared.ids.Kind.{Kind}
 use Rattle.afr_base.specs.declared.ids.Kind.TheVariants.{Bytes}
-use Rattle.afr_law.proofs.Discipline.AskFields.{with_or}
 use Rattle.afr_moves.specs.Note.{fails}
 use Rattle.afr_moves.specs.Register.{Exact, Finish, Mends, asked_in, len_of, rank}
 use Rattle.afr_moves.specs.Steps.{may_heal}
 use Rattle.afr_law.proofs.Heals.Areas.{AreasIn}
 use Rattle.afr_law.proofs.Heals.Mends.{MendedAfter, bool_or, mends_is}
 use Rattle.afr_law.proofs.Heals.Raises.{raise_set}
-use Rattle.afr_law.proofs.Heals.Sights.{equal_true}
 use Rattle.afr_law.proofs.Heals.Conditions.{asked_is, mend_test, mend_turn}
 use Rattle.afr_law.proofs.Discipline.Inner.{turn_in, turn_low}
 use Rattle.afr_moves.specs.Rules.{fresh}
 use Rattle.afr_moves.specs.Lines.{ask_by}
 use Rattle.afr_moves.specs.Sets.{with}
-use Rattle.afr_law.proofs.Discipline.Stages.{first_2, mend_far, second_2}
+use Rattle.afr_law.proofs.Discipline.Stages.{mend_far}
 use Rattle.afr_law.proofs.Discipline.StagesAlong.{StageOf}
 use Rattle.afr_moves.specs.Tally.{Tally, give}
 use Rattle.afr_lines.specs.declared.answer.Told.{Told}
@@ -29,6 +27,9 @@ use Rattle.afr_moves.specs.Rules as weak
 use Rattle.afr_moves.specs.Rules.{Register, heal_area}
 use Rattle.afr_moves.specs.Cells.{Cell, Byte, Attr, Entry}
 use Rattle.afr_law.proofs.Heals.Mended.{Mended, Pending, Brought, Fits, MendedIn, IsWide, fits_one, mend_fits, mends_finish}
+use Rattle.std.proofs.lemmas.Bool.{eq-eqb}
+use Rattle.afr_base.specs.Bricks.{and_left, and_right}
+use Rattle.afr_moves.proofs.Tests.{with_cases}
 
 -- each PutNames of the log has one place a brick
 abbrev pub Wide : Log → Type 0
@@ -46,7 +47,7 @@ module _ (n : ℕ) (keeps : ℕ → Kind → Bool) (t b : ℕ) (r : Exact) (k : 
     low = turn_low n keeps r source Mends b (mend_turn n keeps r source b repair e)
 
     fits_at : (s : ℕ) → (r.possible s && may_heal n keeps r s b (Mend repair)) ≡ true → Fits r.law.object r.law.kind r.phase r.upto r.first_views r.reads s repair
-    fits_at s p = mend_fits n keeps r s repair (mend_test n keeps r s b repair (second_2 (r.possible s) (may_heal n keeps r s b (Mend repair)) p)) wide
+    fits_at s p = mend_fits n keeps r s repair (mend_test n keeps r s b repair (and_right (r.possible s) (may_heal n keeps r s b (Mend repair)) p)) wide
 
     same_repair : (rep : Repair) → k.repair ≡ Some rep → rep ≡ repair
     same_repair rep m = fits_one r.law.object r.law.kind r.phase r.upto r.first_views r.reads source rep repair ((h.repaired_so far low rep m).1 source possible) (mend_fits n keeps r source repair (mend_test n keeps r source b repair e) wide)
@@ -70,7 +71,7 @@ module _ (n : ℕ) (keeps : ℕ → Kind → Bool) (t b : ℕ) (r : Exact) (k : 
       repaired_so = λ f l rep m. (omega arith, λ s p. subst (λ x. Fits r.law.object r.law.kind r.phase r.upto r.first_views r.reads s x) (rep_is repair rep m) (fits_at s p));
       finish_none = λ f m. absurd (not_finish m);
       asked_mended = λ at x m. record { rep = repair; is = refl; brings = brought x m };
-      covered = λ s x p below q cell real o c m z. h.covered s x (first_2 _ _ p) below q cell real o c (before (len_of (r.first_views s)) cell m) (was_zero x cell z);
+      covered = λ s x p below q cell real o c m z. h.covered s x (and_left _ _ p) below q cell real o c (before (len_of (r.first_views s)) cell m) (was_zero x cell z);
       finished = λ m s p. absurd (not_finish m);
       no_settling = λ m at. omega (arith, at);
       level = λ s x p below q cell. levels s x p below q cell (bool_or (mends repair cell));
@@ -117,7 +118,7 @@ module _ (n : ℕ) (keeps : ℕ → Kind → Bool) (t b : ℕ) (r : Exact) (k : 
           | inl m ↦ inl (le _ r.law.number (mended x cell) (given_yes cell c ∙ number_is) (brought x m cell c))
           | inr m ↦ inr (record { at = refl; unasked = m; rep = repair; is = refl; brings = c })
         ]
-        levels s x p below q cell (inr c) = elim (h.level s x (first_2 _ _ p) below q cell) [
+        levels s x p below q cell (inr c) = elim (h.level s x (and_left _ _ p) below q cell) [
           | inl fine ↦ inl (le_from _ (k.given cell) (r.law.mended x cell) (mended x cell) (given_no cell c) (elim (grows x cell) [ inl same ↦ same | inr now ↦ absurd (true≢false (sym now.1 ∙ c)) ]) fine)
           | inr w ↦ absurd (true≢false (sym w.brings ∙ ap (λ y. mends y cell) (same_repair w.rep w.is) ∙ c))
         ]
@@ -135,8 +136,8 @@ module _ (n : ℕ) (keeps : ℕ → Kind → Bool) (t b : ℕ) (r : Exact) (k : 
             go false brings = inl refl
 
         new : (x : ℕ) → with (asked_in r Mends) b x ≡ true → ((cell : Cell) → mends repair cell ≡ true → (if (x == b) && mends repair cell then r.law.number else r.law.mended x cell) ≡ r.law.number) ⊎ (asked_in r Mends x ≡ true)
-        new x m = elim (with_or (asked_in r Mends) b x m) [
-          | inl here ↦ inl (λ cell c. both r.law.number (r.law.mended x cell) (x == b) (mends repair cell) (equal_true x b here) c)
+        new x m = elim (with_cases (asked_in r Mends) b x m) [
+          | inl here ↦ inl (λ cell c. both r.law.number (r.law.mended x cell) (x == b) (mends repair cell) (eq-eqb x b here) c)
           | inr was ↦ inr was
         ]
           where

@@ -10,7 +10,7 @@ use Rattle.afr_moves.specs.Register.{Exact, Finish, HealLocks, HealPres, HealUnl
 use Rattle.afr_moves.specs.Steps.{may_heal, mends_over, settles_at}
 use Rattle.afr_law.proofs.Discipline.Firsts.{firsts_now}
 use Rattle.afr_law.proofs.Heals.Along.{healed_by, healing_now, opened_by}
-use Rattle.afr_law.proofs.Heals.Areas.{AreasIn, areas_now, kind_is, opening_or, piece_apart}
+use Rattle.afr_law.proofs.Heals.Areas.{AreasIn, areas_now, opening_or, piece_apart}
 use Rattle.afr_law.proofs.Heals.Holds.{kept_law}
 use Rattle.afr_law.proofs.Heals.Mends.{after_mends, first_part, later_part, tally_after_ask}
 use Rattle.afr_law.proofs.Heals.Raises.{pres_opening, raise_set}
@@ -21,7 +21,7 @@ use Rattle.afr_moves.specs.Rules.{fresh, no_views}
 use Rattle.afr_moves.specs.Lines.{ask_by, heal_begin_by, look_at, pre_on, settle_on}
 use Rattle.afr_law.proofs.Discipline.Projection.{tally_at}
 use Rattle.afr_moves.specs.Sets.{empty, with}
-use Rattle.afr_law.proofs.Discipline.Stages.{first_2, mend_far, onward_far, second_2, settles_far}
+use Rattle.afr_law.proofs.Discipline.Stages.{mend_far, onward_far, settles_far}
 use Rattle.afr_law.proofs.Discipline.StagesAlong.{StageOf, stage_now}
 use Rattle.afr_moves.proofs.AreaLemmas.{same_area_is}
 use Rattle.afr_moves.specs.Tally.{Tally, blank, note_tally}
@@ -44,16 +44,18 @@ use Rattle.afr_moves.specs.Rules.{Register, heal_area}
 use Rattle.afr_moves.specs.Cells.{Cell, Byte, Attr, Entry}
 use Rattle.afr_law.proofs.Heals.Mended.{Mended, Brought, MendedIn, IsWide, unmended_yet}
 use Rattle.afr_law.proofs.Heals.MendsAlong.{Wide, MendAfter, mend_told}
+use Rattle.afr_moves.proofs.Tests.{same_kind_yes}
+use Rattle.afr_base.specs.Bricks.{and_left, and_right}
 
 module _ (n : ℕ) (keeps : ℕ → Kind → Bool) (t b : ℕ) (r : Exact) (k : Tally) (number : ℕ) (number_is : number ≡ r.law.number) (some_number : 7 ≤ rank r.step → r.law.number ≡ 0 → ⊥) (s : StageOf r) (inside : r.law.heal ≡ true) (areas : AreasIn r r.law) (h : MendedIn n keeps r r.law k) where
   abbrev pub Then : Request → Told → Type 0
   Then request told = MendAfter n keeps t b r k number number_is some_number s inside areas h request told (tally_after_ask number k b request)
 
   less : (request : Request) (s : ℕ) → (r.possible s && may_heal n keeps r s b request) ≡ true → r.possible s ≡ true
-  less request s p = first_2 _ _ p
+  less request s p = and_left _ _ p
 
   allows : (request : Request) (s : ℕ) → (r.possible s && may_heal n keeps r s b request) ≡ true → may_heal n keeps r s b request ≡ true
-  allows request s p = second_2 _ _ p
+  allows request s p = and_right _ _ p
 
   bytes_later : (r.phase ≡ Opening → ⊥) → r.law.kind ≡ Bytes
   bytes_later = areas.bytes
@@ -113,7 +115,7 @@ module _ (n : ℕ) (keeps : ℕ → Kind → Bool) (t b : ℕ) (r : Exact) (k : 
           let next = weak.dropping (is_gone told) b (weak.note_ask n r.law b (Lock Work area) told) in
           let l = left_in_heal n r t b (Lock Work area) told in
           later_part n keeps t 0 b r k number number_is some_number areas h WorkLocks (next_phase r area) next.kind l.asked (λ s. r.possible s && may_heal n keeps r s b (Lock Work area)) r.reads next.object next.number next.mended k.raises (inr (omega (arith, twelve))) (λ m. later (same_area (whole_area r.law.object Bytes) area) (sym same ∙ m))
-          (kind_is r.law.kind Bytes bytes) w.rest.kind w.object w.rest.mended (λ at. omega (arith, at, twelve)) (omega arith) (λ f. absurd (omega (arith, f))) (λ f. absurd (omega (arith, f))) (less (Lock Work area)) (λ m s p. finishes m s p twelve)
+          (same_kind_yes r.law.kind Bytes bytes) w.rest.kind w.object w.rest.mended (λ at. omega (arith, at, twelve)) (omega arith) (λ f. absurd (omega (arith, f))) (λ f. absurd (omega (arith, f))) (less (Lock Work area)) (λ m s p. finishes m s p twelve)
           )
         where
           later : (last : Bool) → (if last then Finish else Piece) ≡ Opening → ⊥

@@ -1,5 +1,5 @@
 -- The Pre and the Mend of a heal are moves of the weak discipline.
-use Rattle.afr_base.specs.Majority.{IsMajority, count_below, is_most}
+use Rattle.afr_base.specs.Majority.{is_most}
 use Rattle.afr_base.specs.declared.ids.Kind.{Kind}
 use Rattle.afr_base.specs.declared.ids.Kind.TheVariants.{Attrs, Bytes, Names}
 use Rattle.afr_moves.specs.Discipline.{MovesExactly, present}
@@ -11,13 +11,11 @@ use Rattle.afr_law.proofs.Heals.Mends.{bool_or}
 use Rattle.afr_law.proofs.Heals.Raises.{RaisesIn, raise_set, raises_now}
 use Rattle.afr_law.proofs.Heals.Reads.{readings_now}
 use Rattle.afr_law.proofs.Heals.Sights.{sights_now}
-use Rattle.afr_law.proofs.Heals.Conditions.{all_below}
 use Rattle.afr_law.proofs.Heals.Views.{SightsIn}
 use Rattle.afr_moves.specs.Honest.{view_marks}
 use Rattle.afr_moves.specs.Lines.{ask_by}
 use Rattle.afr_moves.specs.Past.{Log, holds}
 use Rattle.afr_law.proofs.Discipline.Projection.{goes_tally, tally_at}
-use Rattle.afr_law.proofs.Discipline.Stages.{first_2, second_2}
 use Rattle.afr_moves.specs.Tally.{Tally, tally}
 use Rattle.afr_law.proofs.Discipline.Transactions.{held_view}
 use Rattle.afr_lines.specs.declared.answer.Told.TheVariants.{Given}
@@ -26,13 +24,15 @@ use Rattle.afr_object.specs.declared.change.Repair.TheVariants.{Copy, CutTo, Put
 use Rattle.afr_object.specs.declared.entry.View.{View}
 use Rattle.std.proofs.Common.{Bool, [], ap, arith, false, inl, inr, not, refl, subst, suc, sym, true, ℕ, ◌<◌, ◌∙◌, ◌∷◌, ◌≡◌, ◌≤◌, ◌⊎◌}
 use Rattle.std.proofs.lemmas.Bool.Decides.{nat_tests}
-use Rattle.std.specs.Prelude.{None, Option, Some, nat_lt, slice_index, ◌*◌, ◌==◌, ◌^◌}
+use Rattle.std.specs.Prelude.{None, Option, Some, nat_lt, slice_index, ◌==◌, ◌^◌}
 use Rattle.afr_moves.specs.Rules as weak
 use Rattle.afr_moves.specs.Rules.{Register, CoversAll}
 use Rattle.std.specs.Prelude.{List as Seq}
 use Rattle.afr_moves.specs.Cells.{Byte, Attr, Entry, covers}
 use Rattle.afr_law.proofs.Heals.MendsAlong.{Wide}
 use Rattle.afr_law.proofs.Heals.Mended.{Fits, read_is}
+use Rattle.afr_moves.proofs.Tests.{all_yes, most_yes}
+use Rattle.afr_base.specs.Bricks.{and_left, and_right}
 
 -- the whole of a kind covers each of its cells
 pub whole_covers : (g : ℕ) (kind : Kind) → CoversAll (Some (whole_area g kind)) g kind
@@ -74,27 +74,21 @@ fits_covers object kind phase upto views reads s (PutNames g from) bytes unfinis
 
 -- what a good copy is
 good_holds : (n : ℕ) (keeps : ℕ → Kind → Bool) (kind : Kind) (views : ℕ → Option View) (s : ℕ) → good n keeps kind views s ≡ true → (holder views s ≡ true) × (keeps s kind ≡ true) × (unaccused n kind views s ≡ true)
-good_holds n keeps kind views s e = (first_2 _ _ (first_2 _ _ e), second_2 _ _ (first_2 _ _ e), second_2 _ _ e)
+good_holds n keeps kind views s e = (and_left _ _ (and_left _ _ e), and_right _ _ (and_left _ _ e), and_right _ _ e)
 
 not_accused : (n : ℕ) (kind : Kind) (views : ℕ → Option View) (s x : ℕ) (v : View) → unaccused n kind views s ≡ true → x < n → views x ≡ Some v → slice_index (view_marks v kind).pending s ≡ 0
-not_accused n kind views s x v e low is = zero (slice_index (view_marks v kind).pending s) (subst (λ (o : Option View). not (accuses kind o s) ≡ true) is (all_below n (λ y. not (accuses kind (views y) s)) e x low))
+not_accused n kind views s x v e low is = zero (slice_index (view_marks v kind).pending s) (subst (λ (o : Option View). not (accuses kind o s) ≡ true) is (all_yes n (λ y. not (accuses kind (views y) s)) e x low))
   where
     zero : (m : ℕ) → not (not (m == 0)) ≡ true → m ≡ 0
     zero m k = grind (arith, nat_tests)
 
-most_is : (n : ℕ) (set : ℕ → Bool) → is_most n set ≡ true → IsMajority n set
-most_is n set e = more n (2 * count_below n set) e
-  where
-    more : (m k : ℕ) → nat_lt m k ≡ true → m < k
-    more m k e = grind (arith, nat_tests)
-
 not_self : (keeps : ℕ → Kind → Bool) (views : ℕ → Option View) (s : ℕ) (kind : Kind) → (kind ≡ Names → ⊥) → raise_set keeps views s kind s ≡ true → ⊥
 not_self keeps views s Names other e = other refl
-not_self keeps views s Bytes other e = apart s (second_2 _ _ (first_2 _ _ e))
+not_self keeps views s Bytes other e = apart s (and_right _ _ (and_left _ _ e))
   where
     apart : (s : ℕ) → not (s == s) ≡ true → ⊥
     apart s e = grind (arith, nat_tests)
-not_self keeps views s Attrs other e = apart s (second_2 _ _ e)
+not_self keeps views s Attrs other e = apart s (and_right _ _ e)
   where
     apart : (s : ℕ) → not (s == s) ≡ true → ⊥
     apart s e = grind (arith, nat_tests)
@@ -127,7 +121,7 @@ module _ (n : ℕ) (keeps : ℕ → Kind → Bool) (log : Log) (honest : Honestl
         → ((at.law.kind ≡ Names → ⊥) → at.possible s ≡ true) → weak.Views n keeps log t a at.law s
     views_of s below low most is_good later possible = record {
       among = holder at.first_views;
-      majority = most_is n (holder at.first_views) most;
+      majority = most_yes n (holder at.first_views) most;
       member = (good_holds n keeps at.law.kind at.first_views s is_good).0;
       below = below;
       copy = (good_holds n keeps at.law.kind at.first_views s is_good).1;
@@ -165,10 +159,10 @@ module _ (n : ℕ) (keeps : ℕ → Kind → Bool) (log : Log) (honest : Honestl
 
     pub each_read : (k : ℕ) (from : Seq (Option ℕ)) → rank at.step ≤ 11 → at.law.kind ≡ Names → at.phase ≡ Opening → is_most n (holder at.first_views) ≡ true → same_reads at.reads k from ≡ true → weak.EachRead (weak.ReadOf n keeps log t a at.law) from
     each_read k [] low names first most e = tt
-    each_read k (None ∷ from) low names first most e = each_read (suc k) from low names first most (second_2 _ _ e)
+    each_read k (None ∷ from) low names first most e = each_read (suc k) from low names first most (and_right _ _ e)
     each_read k (Some p ∷ from) low names first most e = (
-        let is : at.reads k ≡ Some p = read_is (at.reads k) (Some p) (first_2 _ _ e) in
+        let is : at.reads k ≡ Some p = read_is (at.reads k) (Some p) (and_left _ _ e) in
         let w = (readings_now n keeps log moves t a inside whole far k p is).1 in
         let is_good : good n keeps at.law.kind at.first_views k ≡ true = subst (λ c. good n keeps c at.first_views k ≡ true) (sym names) (w.good_copy names) in
-        (read_of k p low is (views_of k w.below low most is_good (λ later. absurd (later first)) (λ other. absurd (other names))), each_read (suc k) from low names first most (second_2 _ _ e))
+        (read_of k p low is (views_of k w.below low most is_good (λ later. absurd (later first)) (λ other. absurd (other names))), each_read (suc k) from low names first most (and_right _ _ e))
         )

@@ -1,6 +1,5 @@
 -- The pieces of a data heal lie one after the other, and each ends where the longest file does or below.
 use Rattle.std.proofs.Common.{Bool, ap, arith, false, refl, suc, sym, true, true≢false, ℕ, ◌∙◌, ◌≡◌, ◌≤◌, ◌<◌, ◌+◌, ◌*◌}
-use Rattle.std.proofs.lemmas.Bool.Decides.{nat_tests}
 use Rattle.std.specs.Prelude.{Option, Some, if◌then◌else◌, nat_lt, ◌==◌}
 use Rattle.afr_base.specs.declared.ids.Gfid.{Gfid}
 use Rattle.afr_base.specs.declared.ids.Kind.{Kind}
@@ -22,6 +21,7 @@ use Rattle.afr_law.proofs.Heals.Conditions.{Resumes, Starts, Waits, WorkPlace, a
 use Rattle.afr_law.proofs.Discipline.Inner.{turn_low}
 use Rattle.afr_moves.specs.Lines.{ask_by, look_at}
 use Rattle.afr_moves.specs.Past.{Log}
+use Rattle.std.proofs.lemmas.Bool.{ltb-true}
 
 -- no view shows more than the longest file, pieces begin at multiples of their length, and the present one fits
 pub record Pieces (step : Step) (phase : Phase) (upto : ℕ) (first_views : ℕ → Option View) : Type 0 where
@@ -37,9 +37,6 @@ PiecesIn r = Pieces r.step r.phase r.upto r.first_views
 -- each look shows a length of at most the longest file's
 abbrev pub ShortLooks : Log → Type 0
 ShortLooks log = (t a x g : ℕ) (view : View) (took : Bool) → log t ≡ Some (ask_by a x (look_at g) (Seen view) took) → view.len ≤ 1048576
-
-less_is : (x l : ℕ) → nat_lt x l ≡ true → x < l
-less_is x l e = grind (arith, nat_tests)
 
 module _ (n : ℕ) (keeps : ℕ → Kind → Bool) (r : Exact) (t b : ℕ) (h : PiecesIn r) where
   abbrev PiecesAfter : Request → Told → Type 0
@@ -65,7 +62,7 @@ module _ (n : ℕ) (keeps : ℕ → Kind → Bool) (r : Exact) (t b : ℕ) (h : 
       go (Resumes twelve same idle bytes unfinished lock chosen) = pick (nat_lt r.upto (len_of (r.first_views source))) refl chosen
         where
           pick : (more : Bool) → nat_lt r.upto (len_of (r.first_views source)) ≡ more → (if more then same_area (piece_area r.law.object r.upto) area else same_area (whole_area r.law.object Bytes) area) ≡ true → PiecesAfter (Lock Work area) told
-          pick true is k = to (next_phase r area) refl (λ e. last r.upto h.count (len_of (r.first_views source)) h.even (less_is r.upto (len_of (r.first_views source)) is) (h.short source))
+          pick true is k = to (next_phase r area) refl (λ e. last r.upto h.count (len_of (r.first_views source)) h.even (ltb-true r.upto (len_of (r.first_views source)) is) (h.short source))
           pick false is k = to Finish (same ∙ ap (λ (x : Bool). if x then Finish else Piece) k) (λ e. absurd (cc e))
 
   freed : (flag : Bool) → Pieces Unlocks r.phase (if flag then r.upto + span else r.upto) r.first_views

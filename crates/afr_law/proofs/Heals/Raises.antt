@@ -1,8 +1,7 @@
 -- The bricks whose dirty numbers a heal raised: exactly those that it will change.
 use Rattle.afr_base.specs.declared.ids.Kind.{Kind}
 use Rattle.afr_base.specs.declared.ids.Kind.TheVariants.{Attrs, Bytes, Names}
-use Rattle.afr_law.proofs.Discipline.AskFields.{WorkLocked, frees_heal, frees_work, heal_locked, sees, with_or, work_locked}
-use Rattle.afr_law.proofs.Discipline.Clear.{with_here, with_more}
+use Rattle.afr_law.proofs.Discipline.AskFields.{WorkLocked, frees_heal, frees_work, heal_locked, sees, work_locked}
 use Rattle.afr_moves.specs.Discipline.{MovesExactly, note, present}
 use Rattle.afr_moves.specs.Heal.{MayHeal, MayHealBegin}
 use Rattle.afr_moves.specs.Note.{breaks, fails, left_in_heal, next_phase, put, view_of}
@@ -18,10 +17,8 @@ use Rattle.afr_law.proofs.Heals.Views.{SightsIn}
 use Rattle.afr_law.proofs.Discipline.Inner.{turn_in, turn_low}
 use Rattle.afr_moves.specs.Rules.{fresh}
 use Rattle.afr_moves.specs.Lines.{ask_by, heal_begin_by, look_at, pre_on}
-use Rattle.afr_law.proofs.Safety.Locks.{same_yes}
 use Rattle.afr_law.proofs.Discipline.Projection.{tally_at}
 use Rattle.afr_moves.specs.Sets.{with}
-use Rattle.afr_law.proofs.Discipline.Stages.{first_2, second_2}
 use Rattle.afr_law.proofs.Discipline.StagesAlong.{StageOf, stage_now}
 use Rattle.afr_moves.specs.Tally.{Tally, blank, note_tally}
 use Rattle.afr_law.proofs.Discipline.Transactions.{held_view}
@@ -39,6 +36,9 @@ use Rattle.std.specs.Prelude.{Option, Some, if◌then◌else◌, nat_le, ◌==�
 use Rattle.afr_moves.specs.Past.{Log, is_gone, last}
 use Rattle.afr_moves.specs.Rules as weak
 use Rattle.afr_moves.specs.Rules.{Register, heal_area}
+use Rattle.std.proofs.lemmas.Bool.{eqb-true}
+use Rattle.afr_base.specs.Bricks.{and_left, and_right}
+use Rattle.afr_moves.proofs.Tests.{with_more, with_self, with_cases}
 
 -- the bricks that a heal from s changes
 abbrev pub raise_set : (ℕ → Kind → Bool) → (ℕ → Option View) → ℕ → Kind → ℕ → Bool
@@ -165,27 +165,27 @@ module _ (n : ℕ) (keeps : ℕ → Kind → Bool) (log : Log) (honest : Honestl
       ]
 
   less_possible : (request : Request) (s : ℕ) → still_possible request s ≡ true → r.possible s ≡ true
-  less_possible request s e = first_2 _ _ e
+  less_possible request s e = and_left _ _ e
 
   pre_raises : (g : ℕ) (kind : Kind) (told : Told) (took : Bool) (source : ℕ) → log t ≡ Some (ask_by a b (pre_on g kind) told took) → may_heal n keeps r source b (pre_on g kind) ≡ true → fails told ≡ false → RaisesAfter (pre_on g kind) told (with k.raises b)
   pre_raises g kind told took source is e ok = subst (λ d. RaisesAfter (pre_on g kind) d (with k.raises b)) (sym done) (record {
-    asked_raised = λ at x m. elim (with_or (asked_in r HealPres) b x m) [
-      | inl here ↦ subst (λ y. with r.law.raised b y ≡ true) (sym here) (with_here r.law.raised b)
+    asked_raised = λ at x m. elim (with_cases (asked_in r HealPres) b x m) [
+      | inl here ↦ subst (λ y. with r.law.raised b y ≡ true) (sym here) (with_self r.law.raised b)
       | inr was ↦ (let w = asked_is r HealPres x was in with_more r.law.raised b x (h.asked_raised (pres_is r.step w.0) x w.1))
     ];
     all_raised = λ m. elim m [ inl later ↦ absurd (later first) | inr far ↦ absurd (omega (arith, far)) ];
-    aside = λ s x m p. elim (with_or k.raises b x m) [
-      | inl here ↦ subst (λ y. raise_set keeps r.first_views s r.law.kind y ≡ true) (sym here) (sym (pres_set keeps r s r.law.kind r.phase b first) ∙ turn_in n keeps r s HealPres b (pre_turn n keeps r s b g kind (second_2 _ _ p)))
+    aside = λ s x m p. elim (with_cases k.raises b x m) [
+      | inl here ↦ subst (λ y. raise_set keeps r.first_views s r.law.kind y ≡ true) (sym here) (sym (pres_set keeps r s r.law.kind r.phase b first) ∙ turn_in n keeps r s HealPres b (pre_turn n keeps r s b g kind (and_right _ _ p)))
       | inr was ↦ h.aside s x was (less_possible (pre_on g kind) s p)
     ];
-    counted = λ x m. elim (with_or r.law.raised b x m) [
-      | inl here ↦ subst (λ y. with k.raises b y ≡ true) (sym here) (with_here k.raises b)
+    counted = λ x m. elim (with_cases r.law.raised b x m) [
+      | inl here ↦ subst (λ y. with k.raises b y ≡ true) (sym here) (with_self k.raises b)
       | inr was ↦ with_more k.raises b x (h.counted x was)
     ];
     once = λ p low x m. (
       refl,
-      elim (with_or k.raises b x m) [
-        | inl here ↦ subst (λ y. with (asked_in r HealPres) b y ≡ true) (sym here) (with_here (asked_in r HealPres) b)
+      elim (with_cases k.raises b x m) [
+        | inl here ↦ subst (λ y. with (asked_in r HealPres) b y ≡ true) (sym here) (with_self (asked_in r HealPres) b)
         | inr was ↦ (let w = h.once first under x was in with_more (asked_in r HealPres) b x (ap (λ (c : ℕ → Bool). c x) (asked_now r HealPres w.0) ∙ w.1))
       ],
     );
@@ -201,12 +201,12 @@ module _ (n : ℕ) (keeps : ℕ → Kind → Bool) (log : Log) (honest : Honestl
       under = turn_low n keeps r source HealPres b (pre_turn n keeps r source b g kind e)
 
       holds : (kind : Kind) → raise_set keeps r.first_views source kind b ≡ true → holder r.first_views b ≡ true
-      holds Bytes m = first_2 _ _ (first_2 _ _ m)
-      holds Attrs m = first_2 _ _ m
+      holds Bytes m = and_left _ _ (and_left _ _ m)
+      holds Attrs m = and_left _ _ m
       holds Names m = m
 
       object_same : g ≡ r.law.object
-      object_same = same_yes g r.law.object (onward_object n keeps r source g kind (pre_onward n keeps r source b g kind e))
+      object_same = eqb-true g r.law.object (onward_object n keeps r source g kind (pre_onward n keeps r source b g kind e))
 
       done : told ≡ Done
       done = (
@@ -292,7 +292,7 @@ module _ (n : ℕ) (keeps : ℕ → Kind → Bool) (log : Log) (honest : Honestl
   raises_asked (Mend repair) told took source is e un = mend told
     where
       less : (s : ℕ) → still_possible (Mend repair) s ≡ true → (r.possible s ≡ true) × (pres_over n keeps r s ≡ true)
-      less s p = (less_possible (Mend repair) s p, mend_pres n keeps r s b repair (second_2 (r.possible s) (may_heal n keeps r s b (Mend repair)) p))
+      less s p = (less_possible (Mend repair) s p, mend_pres n keeps r s b repair (and_right (r.possible s) (may_heal n keeps r s b (Mend repair)) p))
 
       mend : (d : Told) → RaisesAfter (Mend repair) d k.raises
       mend Done = late_raises Mends r.law.kind (with (asked_in r Mends) b) (still_possible (Mend repair)) r.law.raised (omega arith) refl refl less
@@ -302,7 +302,7 @@ module _ (n : ℕ) (keeps : ℕ → Kind → Bool) (log : Log) (honest : Honestl
   raises_asked (Settle g kind less) told took source is e un = settle told
     where
       over_now : (s : ℕ) → still_possible (Settle g kind less) s ≡ true → (r.possible s ≡ true) × (pres_over n keeps r s ≡ true)
-      over_now s p = (less_possible (Settle g kind less) s p, mends_pres n keeps r s (settle_mends n keeps r s b g.0 kind less (second_2 (r.possible s) (may_heal n keeps r s b (Settle g kind less)) p)))
+      over_now s p = (less_possible (Settle g kind less) s p, mends_pres n keeps r s (settle_mends n keeps r s b g.0 kind less (and_right (r.possible s) (may_heal n keeps r s b (Settle g kind less)) p)))
 
       settle : (d : Told) → RaisesAfter (Settle g kind less) d k.raises
       settle Done = late_raises Settles r.law.kind (with (asked_in r Settles) b) (still_possible (Settle g kind less)) r.law.raised (omega arith) refl refl over_now
@@ -315,7 +315,7 @@ module _ (n : ℕ) (keeps : ℕ → Kind → Bool) (log : Log) (honest : Honestl
       let l = left_in_heal n r t b (Unlock Work area) told in
       subst (λ (w : Register). Raises n keeps Unlocks r.phase w.kind l.asked (still_possible (Unlock Work area)) r.first_views w.raised k.raises) (sym (kept_law (is_gone told) b w un))
       (late_raises Unlocks w.kind l.asked (still_possible (Unlock Work area)) w.raised (omega arith) f.rest.kind f.rest.raised
-      (λ s p. (less_possible (Unlock Work area) s p, mends_pres n keeps r s (settles_mends n keeps r s (unlock_over n keeps r s b area (second_2 (r.possible s) (may_heal n keeps r s b (Unlock Work area)) p))))))
+      (λ s p. (less_possible (Unlock Work area) s p, mends_pres n keeps r s (settles_mends n keeps r s (unlock_over n keeps r s b area (and_right (r.possible s) (may_heal n keeps r s b (Unlock Work area)) p))))))
       )
   raises_asked (Unlock Heal area) told took source is e un = (
       let f = frees_heal n r.law b area told in
@@ -323,7 +323,7 @@ module _ (n : ℕ) (keeps : ℕ → Kind → Bool) (log : Log) (honest : Honestl
       let l = left_in_heal n r t b (Unlock Heal area) told in
       subst (λ (w : Register). Raises n keeps HealUnlocks r.phase w.kind l.asked (still_possible (Unlock Heal area)) r.first_views w.raised k.raises) (sym (kept_law (is_gone told) b w un))
       (late_raises HealUnlocks w.kind l.asked (still_possible (Unlock Heal area)) w.raised (omega arith) f.rest.kind f.rest.raised
-      (λ s p. (less_possible (Unlock Heal area) s p, mends_pres n keeps r s (settles_mends n keeps r s (heal_unlock_over n keeps r s b area (second_2 (r.possible s) (may_heal n keeps r s b (Unlock Heal area)) p))))))
+      (λ s p. (less_possible (Unlock Heal area) s p, mends_pres n keeps r s (settles_mends n keeps r s (heal_unlock_over n keeps r s b area (and_right (r.possible s) (may_heal n keeps r s b (Unlock Heal area)) p))))))
       )
   raises_asked (Apply q) told took source is e un = absurd (true≢false (sym e))
   raises_asked (Post q g kind missed) told took source is e un = absurd (true≢false (sym e))

@@ -8,22 +8,21 @@ use Rattle.afr_moves.specs.Register.{Exact, Finish, Opening, Phase, Piece, Settl
 use Rattle.afr_moves.specs.Steps.{changed, may_heal, onward, raised, settles_at, takes, turn}
 use Rattle.afr_law.proofs.Discipline.Firsts.{firsts_now}
 use Rattle.afr_law.proofs.Heals.Answers.{Honestly}
-use Rattle.afr_law.proofs.Heals.Areas.{AreasIn, areas_now, kind_is, part_area}
+use Rattle.afr_law.proofs.Heals.Areas.{AreasIn, areas_now, part_area}
 use Rattle.afr_law.proofs.Heals.Holds.{holds_now, is_last, settles_last}
 use Rattle.afr_law.proofs.Heals.Mends.{bool_or}
 use Rattle.afr_law.proofs.Heals.MendsNow.{mended_asked, mended_now, numbers_now}
 use Rattle.afr_law.proofs.Heals.Raises.{RaisesIn, late_raises, raise_set, raises_now}
 use Rattle.afr_law.proofs.Heals.Sights.{sights_now}
-use Rattle.afr_law.proofs.Heals.Conditions.{all_below, asked_now, mends_pres, onward_kind, onward_object, settle_mends, settle_onward, settle_takes, settle_turn, settles_is, turn_fresh}
-use Rattle.afr_law.proofs.Heals.Works.{changed_set, pending_past, source_or, takes_one, tests_equal}
+use Rattle.afr_law.proofs.Heals.Conditions.{asked_now, mends_pres, onward_kind, onward_object, settle_mends, settle_onward, settle_takes, settle_turn, settles_is, turn_fresh}
+use Rattle.afr_law.proofs.Heals.Works.{changed_set, pending_past, source_or, takes_one}
 use Rattle.afr_moves.specs.Honest.{view_marks}
 use Rattle.afr_law.proofs.Discipline.Inner.{turn_in, turn_low}
 use Rattle.afr_moves.specs.Lines.{ask_by, settle_on}
-use Rattle.afr_law.proofs.Safety.Locks.{same_yes}
 use Rattle.afr_moves.specs.Past.{Log}
 use Rattle.afr_law.proofs.Discipline.Projection.{tally_at}
 use Rattle.afr_moves.specs.Sets.{empty}
-use Rattle.afr_law.proofs.Discipline.Stages.{first_2, onward_far, second_2}
+use Rattle.afr_law.proofs.Discipline.Stages.{onward_far}
 use Rattle.afr_law.proofs.Discipline.StagesAlong.{stage_now}
 use Rattle.afr_moves.specs.Tally.{Tally}
 use Rattle.afr_lines.specs.declared.answer.Told.{Told}
@@ -31,7 +30,6 @@ use Rattle.afr_lines.specs.declared.answer.Told.TheVariants.{Granted}
 use Rattle.afr_lines.specs.declared.request.Area.{Area}
 use Rattle.afr_object.specs.declared.entry.View.{View}
 use Rattle.std.proofs.Common.{Bool, ap, arith, false, inl, inr, length, refl, subst, sym, true, true≢false, ℕ, ◌&&◌, ◌+◌, ◌<◌, ◌∙◌, ◌≡◌, ◌≤◌, ◌⊎◌}
-use Rattle.std.proofs.lemmas.Bool.Decides.{nat_tests}
 use Rattle.std.specs.Prelude.{Option, Some, if◌then◌else◌, nat_lt, slice_index, ◌==◌}
 use Rattle.afr_moves.specs.Rules as weak
 use Rattle.afr_moves.specs.Rules.{Register, CoversAll, some_read}
@@ -39,6 +37,9 @@ use Rattle.afr_moves.specs.Cells.{Cell, Byte, Attr, Entry, is_cell, object_of, k
 use Rattle.afr_law.proofs.Heals.MendsAlong.{Wide}
 use Rattle.afr_law.proofs.Heals.Mended.{Mended, Brought}
 use Rattle.afr_law.proofs.Heals.Moves.{tally_here, first_view, whole_covers}
+use Rattle.std.proofs.lemmas.Bool.{eqb-true, cases_lt, and_from}
+use Rattle.afr_moves.proofs.Tests.{all_yes, same_kind_yes}
+use Rattle.afr_base.specs.Bricks.{and_left, and_right}
 
 -- the numbers of a settling are for five bricks
 abbrev pub Fives : Log → Type 0
@@ -86,20 +87,6 @@ last_finish Bytes Piece e c = absurd (true≢false (sym e))
 last_finish Attrs phase e c = absurd (cc c)
 last_finish Names phase e c = absurd (cc c)
 
-five_or : (c : ℕ) → (c < 5) ⊎ (5 ≤ c)
-five_or c = go (nat_lt c 5) refl
-  where
-    go : (low : Bool) → nat_lt c 5 ≡ low → (c < 5) ⊎ (5 ≤ c)
-    go true e = inl (grind (arith, nat_tests))
-    go false e = inr (grind (arith, nat_tests))
-
-split_at : (i m : ℕ) → (i < m) ⊎ (m ≤ i)
-split_at i m = go (nat_lt i m) refl
-  where
-    go : (low : Bool) → nat_lt i m ≡ low → (i < m) ⊎ (m ≤ i)
-    go true q = inl (grind (arith, nat_tests))
-    go false q = inr (grind (arith, nat_tests))
-
 module _ (n : ℕ) (keeps : ℕ → Kind → Bool) (log : Log) (honest : Honestly log) (wide : Wide log) (moves : MovesExactly n keeps log) (t a b : ℕ) (below : b < n) where
   abbrev pub here : Exact
   here = present n keeps log t a
@@ -130,13 +117,10 @@ module _ (n : ℕ) (keeps : ℕ → Kind → Bool) (log : Log) (honest : Honestl
     areas = areas_now n keeps log moves t a m.inside m.whole
 
     object : g ≡ here.law.object
-    object = same_yes g here.law.object (onward_object n keeps here m.source g here.law.kind onwards)
+    object = eqb-true g here.law.object (onward_object n keeps here m.source g here.law.kind onwards)
 
     source_holds : (here.possible m.source && may_heal n keeps here m.source b (settle_on g here.law.kind less)) ≡ true
-    source_holds = both_hold _ _ m.possible m.allowed
-      where
-        both_hold : (x y : Bool) → x ≡ true → y ≡ true → (x && y) ≡ true
-        both_hold x y p q = grind arith
+    source_holds = and_from _ _ m.possible m.allowed
 
     -- what is mended where the settling begins
     done : Mended n keeps Settles here.phase here.law.kind (asked_in here Settles) (λ s. here.possible s && may_heal n keeps here s b (settle_on g here.law.kind less)) here.first_views here.reads here.upto here.law.object here.law.number here.law.mended (tally_at log t a)
@@ -149,11 +133,11 @@ module _ (n : ℕ) (keeps : ℕ → Kind → Bool) (log : Log) (honest : Honestl
     raised_all : (x : ℕ) → x < n → raise_set keeps here.first_views m.source here.law.kind x ≡ true → here.law.raised x ≡ true
     raised_all x low_x q = (late_raises n keeps log honest t a b here (tally_at log t a) below m.inside (stage_now n keeps log moves t a) areas (sights_now n keeps log honest moves t a m.inside m.whole) raises Settles here.law.kind empty
         (λ s. here.possible s && may_heal n keeps here s b (settle_on g here.law.kind less)) here.law.raised (omega arith) refl refl
-        (λ s p. (first_2 _ _ p, mends_pres n keeps here s (settle_mends n keeps here s b g here.law.kind less (second_2 (here.possible s) (may_heal n keeps here s b (settle_on g here.law.kind less)) p))))).all_raised
+        (λ s p. (and_left _ _ p, mends_pres n keeps here s (settle_mends n keeps here s b g here.law.kind less (and_right (here.possible s) (may_heal n keeps here s b (settle_on g here.law.kind less)) p))))).all_raised
         (inr (omega arith)) m.source x source_holds low_x q
 
     all_brought : (cell : Cell) → kind_of cell ≡ here.law.kind → Brought Settles here.phase here.upto (len_of (here.first_views m.source)) cell
-    all_brought (Byte o i) c = elim (split_at i (len_of (here.first_views m.source))) [
+    all_brought (Byte o i) c = elim (cases_lt i (len_of (here.first_views m.source))) [
       | inr high ↦ inl (inr (omega arith), high)
       | inl under ↦ inr (let up = done.finished (last_finish here.law.kind here.phase last c) m.source source_holds in omega (arith, up, under))
     ]
@@ -171,9 +155,9 @@ module _ (n : ℕ) (keeps : ℕ → Kind → Bool) (log : Log) (honest : Honestl
 
     exact : (c : ℕ) → (slice_index less.pending c ≡ 0)
         ⊎ ((slice_index less.pending c ≡ slice_index (view_marks view.0 here.law.kind).pending c) × (keeps c here.law.kind ≡ true → (cell : Cell) → is_cell cell ≡ true → object_of cell ≡ g → kind_of cell ≡ here.law.kind → (here.law.mended c cell ≡ 0) → ⊥))
-    exact c = elim (five_or c) [
+    exact c = elim (cases_lt c 5) [
       | inr past ↦ inl (pending_past less.pending c five past)
-      | inl under ↦ elim (takes_one n here m.source here.law.kind less view.0 c (tests_equal _ _ (all_below 5 (λ x. slice_index less.pending x == (if nat_lt x n && changed here m.source here.law.kind x then slice_index (view_marks view.0 here.law.kind).pending x else 0)) (first_2 _ _ taken) c under))) [
+      | inl under ↦ elim (takes_one n here m.source here.law.kind less view.0 c (eqb-true _ _ (all_yes 5 (λ x. slice_index less.pending x == (if nat_lt x n && changed here m.source here.law.kind x then slice_index (view_marks view.0 here.law.kind).pending x else 0)) (and_left _ _ taken) c under))) [
         | inl none ↦ inl none
         | inr w ↦ inr (w.0, λ copy cell real o k. whole_copy c w.1 (changed_set keeps here m.source here.law.kind c copy w.2) cell real (o ∙ object) k)
       ]
@@ -187,13 +171,13 @@ module _ (n : ℕ) (keeps : ℕ → Kind → Bool) (log : Log) (honest : Honestl
     }
 
     full : all n (holder here.first_views) ≡ true → weak.Full n keeps log t a here.law
-    full e = record { s = m.source; sinks = λ c low_c copy. elim (source_or keeps here.first_views m.source here.law.kind c copy (all_below n (holder here.first_views) e c low_c)) [ inl own ↦ inl own | inr set ↦ inr (sink_of c low_c set) ] }
+    full e = record { s = m.source; sinks = λ c low_c copy. elim (source_or keeps here.first_views m.source here.law.kind c copy (all_yes n (holder here.first_views) e c low_c)) [ inl own ↦ inl own | inr set ↦ inr (sink_of c low_c set) ] }
 
     raised_same : raised keeps here m.source here.law.kind b ≡ here.law.raised b
     raised_same = same_bool _ _ (λ e. raised_all b below (raised_set keeps here m.source here.law.kind b e holds)) (λ e. set_raised keeps here m.source here.law.kind b (raises.aside m.source b (raises.counted b e) m.possible))
 
     cleaned : (less.dirty ≡ 0) ⊎ ((less.dirty ≡ (view_marks view.0 here.law.kind).dirty + weak.one_if (here.law.raised b)) × weak.Full n keeps log t a here.law)
-    cleaned = go (all n (holder here.first_views)) refl (tests_equal _ _ (second_2 _ _ taken))
+    cleaned = go (all n (holder here.first_views)) refl (eqb-true _ _ (and_right _ _ taken))
       where
         go : (whole : Bool) → all n (holder here.first_views) ≡ whole → less.dirty ≡ (if whole then (view_marks view.0 here.law.kind).dirty + (if raised keeps here m.source here.law.kind b then 1 else 0) else 0)
             → (less.dirty ≡ 0) ⊎ ((less.dirty ≡ (view_marks view.0 here.law.kind).dirty + weak.one_if (here.law.raised b)) × weak.Full n keeps log t a here.law)
@@ -234,6 +218,6 @@ module _ (n : ℕ) (keeps : ℕ → Kind → Bool) (log : Log) (honest : Honestl
 
   pub settle_works : (g : ℕ) (kind : Kind) (less : Marks) → length less.pending ≡ 5 → MayHeal n keeps here b (settle_on g kind less) → weak.MaySettle n keeps log t a here.law b g kind less
   settle_works g kind less five m = (
-      let same : kind ≡ here.law.kind = kind_is kind here.law.kind (onward_kind n keeps here m.source g kind (settle_onward n keeps here m.source b g kind less m.allowed)) in
+      let same : kind ≡ here.law.kind = same_kind_yes kind here.law.kind (onward_kind n keeps here m.source g kind (settle_onward n keeps here m.source b g kind less m.allowed)) in
       subst (λ c. weak.MaySettle n keeps log t a here.law b g c less) (sym same) (settle_own g less five (subst (λ c. MayHeal n keeps here b (settle_on g c less)) same m))
       )

@@ -2,7 +2,7 @@
 use Rattle.afr_base.specs.Majority.{is_most}
 use Rattle.afr_base.specs.declared.ids.Kind.{Kind}
 use Rattle.afr_base.specs.declared.ids.Kind.TheVariants.{Attrs, Bytes, Names}
-use Rattle.afr_law.proofs.Discipline.AskFields.{WorkLocked, frees_heal, frees_work, heal_locked, with_or, work_locked}
+use Rattle.afr_law.proofs.Discipline.AskFields.{WorkLocked, frees_heal, frees_work, heal_locked, work_locked}
 use Rattle.afr_moves.specs.Discipline.{MovesExactly, note, present}
 use Rattle.afr_moves.specs.Heal.{MayHealBegin}
 use Rattle.afr_moves.specs.Note.{breaks, fails, left_in_heal, next_phase, put}
@@ -14,14 +14,12 @@ use Rattle.afr_law.proofs.Heals.Answers.{Honestly}
 use Rattle.afr_law.proofs.Heals.Areas.{opening_or}
 use Rattle.afr_law.proofs.Heals.Holds.{HoldsIn, fails_gone, holds_now, kept_law}
 use Rattle.afr_law.proofs.Heals.Conditions.{Resumes, Starts, Waits, WorkPlace, asked_now, attrs_onward, attrs_turn, bytes_onward, bytes_turn, heal_lock_area, heal_lock_step, heal_unlock_goes, heal_unlock_over, list_onward, list_turn, look_object, look_step, look_turn, looks_is, mend_goes, mend_pres, mend_test, mend_turn, mends_pres, onward_goes, onward_looks, pre_onward, pre_turn, pres_looks, settle_onward, settle_turn, settles_mends, turn_fresh, unlock_goes, unlock_over, work_place}
-use Rattle.afr_law.proofs.Heals.Views.{SeenAt, Sights, SightsIn, after_looks, here_or, later_not, later_seen, none_view, opening_not, opening_seen, put_other, seen_next, with_false}
+use Rattle.afr_law.proofs.Heals.Views.{SeenAt, Sights, SightsIn, after_looks, here_or, later_not, later_seen, none_view, opening_not, opening_seen, put_other, seen_next}
 use Rattle.afr_law.proofs.Discipline.Inner.{Inner, turn_in, turn_low}
 use Rattle.afr_moves.specs.Rules.{fresh}
 use Rattle.afr_moves.specs.Lines.{ask_by, heal_begin_by, look_at}
-use Rattle.afr_law.proofs.Safety.Locks.{same_yes}
 use Rattle.afr_moves.specs.Past.{Log, holds, is_gone}
 use Rattle.afr_moves.specs.Sets.{with}
-use Rattle.afr_law.proofs.Discipline.Stages.{second_2}
 use Rattle.afr_law.proofs.Discipline.StagesAlong.{StageOf, stage_now}
 use Rattle.afr_moves.proofs.AreaLemmas.{same_area_is}
 use Rattle.afr_law.proofs.Discipline.Transactions.{held_view}
@@ -33,21 +31,16 @@ use Rattle.afr_lines.specs.declared.request.Request.TheVariants.{Apply, Index, L
 use Rattle.afr_lines.specs.Overlap.{same_area}
 use Rattle.afr_object.specs.declared.entry.View.{View}
 use Rattle.afr_range_locks.specs.declared.domain.Domain.TheVariants.{Heal, Work}
-use Rattle.std.proofs.Common.{Bool, ap, arith, false, inl, inr, not, refl, subst, suc, sym, true, true≢false, zero, ℕ, ◌&&◌, ◌<◌, ◌∙◌, ◌≡◌, ◌≤◌, ◌⊎◌}
-use Rattle.std.proofs.lemmas.Bool.Decides.{nat_tests}
+use Rattle.std.proofs.Common.{Bool, ap, arith, false, inl, inr, not, refl, subst, suc, sym, true, true≢false, ℕ, ◌&&◌, ◌<◌, ◌∙◌, ◌≡◌, ◌≤◌, ◌⊎◌}
 use Rattle.std.specs.Prelude.{None, Option, Some, if◌then◌else◌, ◌==◌}
 use Rattle.afr_moves.specs.Rules as weak
 use Rattle.afr_moves.specs.Rules.{Register, is_none, heal_area}
-
-nonzero : (m : ℕ) → (m ≡ 0 → ⊥) → not (m == 0) ≡ true
-nonzero zero h = absurd (h refl)
-nonzero (suc m) h = grind (arith, nat_tests)
+use Rattle.std.proofs.lemmas.Bool.{eqb-true, eq-eqb, and_from}
+use Rattle.afr_moves.proofs.Tests.{with_false, some_number, with_cases}
+use Rattle.afr_base.specs.Bricks.{and_right}
 
 six_true : (u v w x y z : Bool) → u ≡ true → v ≡ true → w ≡ true → x ≡ true → y ≡ true → z ≡ true → (u && v && w && x && y && z) ≡ true
 six_true u v w x y z a b c d e f = grind arith
-
-pub equal_true : (m k : ℕ) → m ≡ k → (m == k) ≡ true
-equal_true m k e = grind (arith, nat_tests)
 
 pub not_opening : (p : Phase) → (p ≡ Opening → ⊥) → is_opening p ≡ false
 not_opening Opening k = absurd (k refl)
@@ -86,7 +79,7 @@ module _ (n : ℕ) (keeps : ℕ → Kind → Bool) (log : Log) (honest : Honestl
         go false e = refl
 
     sure : (not (r.law.number == 0) && r.law.seen b && not (r.law.closed b) && (g == r.law.object) && r.law.healing b && not (r.law.settled b)) ≡ true
-    sure = six_true _ _ _ _ _ _ (nonzero r.law.number (i.numbers (omega (arith, seven)))) is_locked.0 (ap not (i.open_still (omega (arith, seven)) (omega (arith, seven)) b)) (look_object n keeps r source b g may) is_locked.1 unsettled
+    sure = six_true _ _ _ _ _ _ (some_number r.law.number (i.numbers (omega (arith, seven)))) is_locked.0 (ap not (i.open_still (omega (arith, seven)) (omega (arith, seven)) b)) (look_object n keeps r source b g may) is_locked.1 unsettled
 
     pub views_law : (view : View) → weak.looking r.law b g view ≡ record r.law { view = put r.law.view b (Some view); first = if (r.law.number == r.law.start) && is_none (r.law.first b) then put r.law.first b (Some view) else r.law.first }
     views_law view =
@@ -97,7 +90,7 @@ module _ (n : ℕ) (keeps : ℕ → Kind → Bool) (log : Log) (honest : Honestl
     at = looks_is r.step seven
 
     object_is : g ≡ r.law.object
-    object_is = same_yes g r.law.object (look_object n keeps r source b g may)
+    object_is = eqb-true g r.law.object (look_object n keeps r source b g may)
 
     unasked : r.asked b ≡ false
     unasked = ap (λ (c : ℕ → Bool). c b) (sym (asked_now r Looks at)) ∙ turn_fresh n keeps r source Looks b (look_turn n keeps r source b g may)
@@ -117,17 +110,14 @@ module _ (n : ℕ) (keeps : ℕ → Kind → Bool) (log : Log) (honest : Honestl
         go : (c : Bool) → ((r.law.number == r.law.start) && is_none (r.law.first b)) ≡ c → (if c then put r.law.first b (Some view) else r.law.first) x ≡ Some v
         go false l = e
         go true l = elim (here_or b x) [
-          | inl here ↦ absurd (true≢false (sym (second_2 (r.law.number == r.law.start) (is_none (r.law.first b)) l) ∙ ap is_none (ap r.law.first (sym here) ∙ e)))
+          | inl here ↦ absurd (true≢false (sym (and_right (r.law.number == r.law.start) (is_none (r.law.first b)) l) ∙ ap is_none (ap r.law.first (sym here) ∙ e)))
           | inr other ↦ put_other r.law.first b x (Some view) other ∙ e
         ]
-
-    both_true : (x y : Bool) → x ≡ true → y ≡ true → (x && y) ≡ true
-    both_true x y p q = grind arith
 
     shown_as : (view : View) (took : Bool) → log t ≡ Some (ask_by a b (look_at g) (Seen view) took) → (r.phase ≡ Opening) ⊎ (r.phase ≡ Opening → ⊥)
         → ShownAs view (with (asked_in r Looks) b) (if is_opening r.phase then put r.first_views b (Some view) else r.first_views) (saw_first view)
     shown_as view took is (inl e) = (
-        let fresh : ((r.law.number == r.law.start) && is_none (r.law.first b)) ≡ true = both_true _ _ (equal_true r.law.number r.law.start (h.started e (omega (arith, seven)))) (ap is_none (h.untaken e at b unasked)) in
+        let fresh : ((r.law.number == r.law.start) && is_none (r.law.first b)) ≡ true = and_from _ _ (eq-eqb r.law.number r.law.start (h.started e (omega (arith, seven)))) (ap is_none (h.untaken e at b unasked)) in
         subst (λ (x : ℕ → Bool). ShownAs view (with x b) (if is_opening r.phase then put r.first_views b (Some view) else r.first_views) (saw_first view)) (sym (asked_now r Looks at))
         (subst (λ (p : Phase). ShownAs view (with r.asked b) (if is_opening p then put r.first_views b (Some view) else r.first_views) (saw_first view)) (sym e)
         (subst (λ (x : Bool). ShownAs view (with r.asked b) (put r.first_views b (Some view)) (if x then put r.law.first b (Some view) else r.law.first)) (sym fresh) (opening_seen n keeps log t a b r at h e view (line_seen view took is))))
@@ -170,7 +160,7 @@ module _ (n : ℕ) (keeps : ℕ → Kind → Bool) (log : Log) (honest : Honestl
     grown x e = ap (λ (c : ℕ → Bool). c x) (sym (asked_now r Looks at)) ∙ (with_false (asked_in r Looks) b x e).1
 
     other : (x : ℕ) → (x ≡ b → ⊥) → with (asked_in r Looks) b x ≡ true → r.asked x ≡ true
-    other x ne e = elim (with_or (asked_in r Looks) b x e) [ inl here ↦ absurd (ne here) | inr was ↦ ap (λ (c : ℕ → Bool). c x) (sym (asked_now r Looks at)) ∙ was ]
+    other x ne e = elim (with_cases (asked_in r Looks) b x e) [ inl here ↦ absurd (ne here) | inr was ↦ ap (λ (c : ℕ → Bool). c x) (sym (asked_now r Looks at)) ∙ was ]
 
     stayed : (x : ℕ) → asked_in r Looks x ≡ false → r.asked x ≡ false
     stayed x e = ap (λ (c : ℕ → Bool). c x) (sym (asked_now r Looks at)) ∙ e

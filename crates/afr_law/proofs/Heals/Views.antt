@@ -1,7 +1,6 @@
 -- The views of a heal: those of the first looks, and those of the present ones, as the register of the law has them.
 use Rattle.afr_base.specs.Majority.{is_most}
 use Rattle.afr_base.specs.declared.ids.Kind.{Kind}
-use Rattle.afr_law.proofs.Discipline.AskFields.{with_or}
 use Rattle.afr_law.proofs.Discipline.Clear.{put_cases}
 use Rattle.afr_moves.specs.Note.{put}
 use Rattle.afr_moves.specs.Register.{Exact, Finish, Looks, Opening, Phase, Piece, Step, asked_in, holder, rank}
@@ -19,6 +18,7 @@ use Rattle.std.proofs.Common.{Bool, ap, arith, false, inl, inr, not, refl, subst
 use Rattle.std.proofs.lemmas.Bool.Decides.{nat_tests}
 use Rattle.std.specs.Prelude.{None, Option, Some, if◌then◌else◌, nat_le, ◌==◌}
 use Rattle.afr_moves.specs.Rules.{Register, is_none}
+use Rattle.afr_moves.proofs.Tests.{with_false, with_cases}
 
 -- a look of the actor showed the object there
 pub record SeenAt (log : Log) (t a x object : ℕ) : Type 0 where
@@ -138,10 +138,6 @@ put_none f b x v = go (x == b)
     go true e = absurd (cc e)
     go false e = e
 
--- a brick in a set that grows by b
-pub with_false : (set : ℕ → Bool) (b x : ℕ) → with set b x ≡ false → (x ≡ b → ⊥) × (set x ≡ false)
-with_false set b x e = (λ k. grind (arith, nat_tests), grind (arith, nat_tests))
-
 holder_some : (views : ℕ → Option View) (x : ℕ) (v : View) → views x ≡ Some v → holder views x ≡ true
 holder_some views x v e = rw e refl
 
@@ -207,7 +203,7 @@ module _ (n : ℕ) (keeps : ℕ → Kind → Bool) (log : Log) (t a b : ℕ) (r 
     origin = origin_next;
     again = λ l m x asks holds. elim (here_or b x) [
       | inl here ↦ holder_some (put r.views b (Some view)) x view (ap (λ y. put r.views b (Some view) y) here ∙ put_same r.views b (Some view))
-      | inr other ↦ elim (with_or r.asked b x asks) [
+      | inr other ↦ elim (with_cases r.asked b x asks) [
         | inl here ↦ absurd (other here)
         | inr was ↦ ap (λ (o : Option View). not (is_none o)) (put_other r.views b x (Some view) other) ∙ h.again later at x was holds
       ]

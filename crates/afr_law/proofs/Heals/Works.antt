@@ -9,7 +9,7 @@ use Rattle.afr_moves.specs.Register.{Exact, Finish, HealPres, Mends, Opening, ho
 use Rattle.afr_moves.specs.Steps.{changed, goes_on, may_heal, may_mend, mends_at, turn}
 use Rattle.afr_law.proofs.Discipline.Firsts.{firsts_now}
 use Rattle.afr_law.proofs.Heals.Answers.{Honestly}
-use Rattle.afr_law.proofs.Heals.Areas.{AreasIn, areas_now, kind_is, opening_or}
+use Rattle.afr_law.proofs.Heals.Areas.{AreasIn, areas_now, opening_or}
 use Rattle.afr_law.proofs.Heals.Holds.{holds_now}
 use Rattle.afr_law.proofs.Heals.MendsNow.{mended_now}
 use Rattle.afr_law.proofs.Heals.Raises.{late_raises, pres_opening, pres_set, raise_set, raises_now}
@@ -19,11 +19,10 @@ use Rattle.afr_law.proofs.Heals.Conditions.{asked_now, goes_enough, goes_good, g
 use Rattle.afr_moves.specs.Honest.{view_marks}
 use Rattle.afr_law.proofs.Discipline.Inner.{turn_in, turn_low}
 use Rattle.afr_moves.specs.Lines.{pre_on}
-use Rattle.afr_law.proofs.Safety.Locks.{same_yes}
 use Rattle.afr_moves.specs.Past.{Log, holds, place, repaired}
 use Rattle.afr_law.proofs.Discipline.Projection.{tally_at}
 use Rattle.afr_moves.specs.Sets.{empty}
-use Rattle.afr_law.proofs.Discipline.Stages.{first_2, mend_far, onward_far, second_2}
+use Rattle.afr_law.proofs.Discipline.Stages.{mend_far, onward_far}
 use Rattle.afr_law.proofs.Discipline.StagesAlong.{stage_now}
 use Rattle.afr_moves.specs.Tally.{Tally, tally}
 use Rattle.afr_law.proofs.Discipline.Transactions.{held_view}
@@ -43,12 +42,12 @@ use Rattle.afr_law.proofs.Heals.MendsAlong.{Wide}
 use Rattle.afr_law.proofs.Heals.Mended.{Fits, IsWide, fits_one, mend_fits, mends_set, mends_finish}
 use Rattle.afr_law.proofs.Heals.Moves.{tally_here, first_view, views_of, read_of, each_read, fits_covers}
 use Rattle.std.proofs.lemmas.List.{get_or_past}
+use Rattle.std.proofs.lemmas.Bool.{eqb-true, and_from}
+use Rattle.afr_moves.proofs.Tests.{same_kind_yes}
+use Rattle.afr_base.specs.Bricks.{and_left, and_right}
 
 pub pending_past : (xs : Seq ℕ) (c : ℕ) → length xs ≡ 5 → 5 ≤ c → slice_index xs c ≡ 0
 pending_past xs c five far = get_or_past xs c 0 (omega (arith, five, far))
-
-pub tests_equal : (x y : ℕ) → (x == y) ≡ true → x ≡ y
-tests_equal x y e = grind (arith, nat_tests)
 
 -- what is taken back for a holder that the heal changes, and for no other
 pub takes_one : (n : ℕ) (r : Exact) (s : ℕ) (kind : Kind) (less : Marks) (view : View) (c : ℕ) → slice_index less.pending c ≡ (if nat_lt c n && changed r s kind c then slice_index (view_marks view kind).pending c else 0)
@@ -65,10 +64,7 @@ takes_one n r s kind less view c e = go (nat_lt c n) refl (changed r s kind c) r
     go false p hit q m = inl m
 
 pub changed_set : (keeps : ℕ → Kind → Bool) (r : Exact) (s : ℕ) (kind : Kind) (c : ℕ) → keeps c kind ≡ true → changed r s kind c ≡ true → raise_set keeps r.first_views s kind c ≡ true
-changed_set keeps r s Bytes c k e = both _ _ e k
-  where
-    both : (x y : Bool) → x ≡ true → y ≡ true → (x && y) ≡ true
-    both x y p q = grind arith
+changed_set keeps r s Bytes c k e = and_from _ _ e k
 changed_set keeps r s Attrs c k e = e
 changed_set keeps r s Names c k e = e
 
@@ -81,7 +77,7 @@ source_or keeps views s Bytes c k e = go (c == s) refl
     all_three x y z p q r = grind arith
 
     go : (hit : Bool) → (c == s) ≡ hit → ((c ≡ s) × (Bytes ≡ Names → ⊥)) ⊎ ((holder views c && not (c == s) && keeps c Bytes) ≡ true)
-    go true m = inl (tests_equal c s m, λ q. cc q)
+    go true m = inl (eqb-true c s m, λ q. cc q)
     go false m = inr (all_three _ _ _ e m k)
 source_or keeps views s Attrs c k e = go (c == s) refl
   where
@@ -89,7 +85,7 @@ source_or keeps views s Attrs c k e = go (c == s) refl
     both x y p q = grind arith
 
     go : (hit : Bool) → (c == s) ≡ hit → ((c ≡ s) × (Attrs ≡ Names → ⊥)) ⊎ ((holder views c && not (c == s)) ≡ true)
-    go true m = inl (tests_equal c s m, λ q. cc q)
+    go true m = inl (eqb-true c s m, λ q. cc q)
     go false m = inr (both _ _ e m)
 
 module _ (n : ℕ) (keeps : ℕ → Kind → Bool) (log : Log) (honest : Honestly log) (wide : Wide log) (moves : MovesExactly n keeps log) (t a b : ℕ) (below : b < n) where
@@ -110,15 +106,12 @@ module _ (n : ℕ) (keeps : ℕ → Kind → Bool) (log : Log) (honest : Honestl
       )
 
   set_holds : (s : ℕ) (kind : Kind) → raise_set keeps now.first_views s kind b ≡ true → holder now.first_views b ≡ true
-  set_holds s Bytes e = first_2 _ _ (first_2 _ _ e)
-  set_holds s Attrs e = first_2 _ _ e
+  set_holds s Bytes e = and_left _ _ (and_left _ _ e)
+  set_holds s Attrs e = and_left _ _ e
   set_holds s Names e = e
 
-  both_true : (x y : Bool) → x ≡ true → y ≡ true → (x && y) ≡ true
-  both_true x y p q = grind arith
-
   still : (request : Request) (s : ℕ) → now.possible s ≡ true → may_heal n keeps now s b request ≡ true → (now.possible s && may_heal n keeps now s b request) ≡ true
-  still request s p e = both_true _ _ p e
+  still request s p e = and_from _ _ p e
 
   false_of : (x : Bool) → (x ≡ true → ⊥) → x ≡ false
   false_of true h = absurd (h refl)
@@ -142,8 +135,8 @@ module _ (n : ℕ) (keeps : ℕ → Kind → Bool) (log : Log) (honest : Honestl
         open_still = w.open_still;
         plane = λ q out e. absurd (true≢false (sym m.inside ∙ out));
         within = λ inside. record {
-          object_same = same_yes g now.law.object (onward_object n keeps now m.source g kind o);
-          kind_same = kind_is kind now.law.kind (onward_kind n keeps now m.source g kind o);
+          object_same = eqb-true g now.law.object (onward_object n keeps now m.source g kind o);
+          kind_same = same_kind_yes kind now.law.kind (onward_kind n keeps now m.source g kind o);
           first_piece = (sights_now n keeps log honest moves t a m.inside m.whole).started first far;
           view = v.0;
           looked = v.1;
@@ -242,7 +235,7 @@ module _ (n : ℕ) (keeps : ℕ → Kind → Bool) (log : Log) (honest : Honestl
 
       carried : (rep : Repair) → may_mend n keeps now m.source rep ≡ true → Fits now.law.object now.law.kind now.phase now.upto now.first_views now.reads m.source rep → weak.Contents n keeps log t a now.law rep
       carried (CutTo g len) e f = (
-          let v = held_view now.first_views m.source (first_2 _ _ (first_2 _ _ (goes_good n keeps now m.source goes))) in
+          let v = held_view now.first_views m.source (and_left _ _ (and_left _ _ (goes_good n keeps now m.source goes))) in
           let sights = sights_now n keeps log honest moves t a m.inside m.whole in
           record {
             s = m.source;
@@ -254,11 +247,11 @@ module _ (n : ℕ) (keeps : ℕ → Kind → Bool) (log : Log) (honest : Honestl
           )
       carried (Copy g place some read) e f = read_of n keeps log honest wide moves t a m.inside m.whole far m.source read (omega (arith, low)) f.5 (source_views (λ later. read_late m.source read f.5))
       carried (PutAttrs g read) e f = read_of n keeps log honest wide moves t a m.inside m.whole far m.source read (omega (arith, low)) f.2 (source_views (λ later. read_late m.source read f.2))
-      carried (PutNames g from) e f = (each_read n keeps log honest wide moves t a m.inside m.whole far 0 from (omega (arith, low)) f.1 (opening_of f.1) most f.2, second_2 _ _ e)
+      carried (PutNames g from) e f = (each_read n keeps log honest wide moves t a m.inside m.whole far 0 from (omega (arith, low)) f.1 (opening_of f.1) most f.2, and_right _ _ e)
 
       raised_here : now.law.raised b ≡ true
       raised_here = (late_raises n keeps log honest t a b now (tally_at log t a) below m.inside (stage_now n keeps log moves t a) areas (sights_now n keeps log honest moves t a m.inside m.whole) (raises_now n keeps log honest moves t a m.inside m.whole) Mends now.law.kind empty
-          (λ s. now.possible s && may_heal n keeps now s b (Mend repair)) now.law.raised (omega arith) refl refl (λ s p. (first_2 _ _ p, mend_pres n keeps now s b repair (second_2 (now.possible s) (may_heal n keeps now s b (Mend repair)) p)))).all_raised
+          (λ s. now.possible s && may_heal n keeps now s b (Mend repair)) now.law.raised (omega arith) refl refl (λ s p. (and_left _ _ p, mend_pres n keeps now s b repair (and_right (now.possible s) (may_heal n keeps now s b (Mend repair)) p)))).all_raised
           (inr (omega arith)) m.source b (still (Mend repair) m.source m.possible m.allowed) below in_set
 
       one_repair : (rep : Option Repair) → (tally log t a).repair ≡ rep → (rep ≡ None) ⊎ (rep ≡ Some repair)

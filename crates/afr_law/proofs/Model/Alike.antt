@@ -20,7 +20,7 @@ use Rattle.afr_law.specs.Alike.{Unrecorded, Alike}
 use Rattle.afr_law.proofs.Alike.Divergence.{undiverged}
 use Rattle.afr_moves.specs.Honest.{Honest}
 use Rattle.afr_moves.specs.Positions.{by_position}
-use Rattle.afr_law.proofs.Model.Positions.{IsPast, past_whole}
+use Rattle.afr_moves.proofs.ByPosition.{IsPast, past_whole}
 use Rattle.afr_law.proofs.Model.Cells.{kind_cell, object_cell, value_sort, code_same}
 use Rattle.afr_law.proofs.Model.Dirty.{dirty_is, looks_track}
 use Rattle.afr_law.specs.Beginning.{start_of}
@@ -28,8 +28,9 @@ use Rattle.afr_law.proofs.Model.Places.{nothing_far}
 use Rattle.afr_law.proofs.Model.Safe.{value_same}
 use Rattle.afr_law.proofs.Model.Settles.{all_honest, all_lawful, take_within, within_before}
 use Rattle.afr_law.proofs.Model.Sums.{pending_is}
-use Rattle.afr_law.specs.ModelAlike.{IsClear, AreAlike, AreAlikeAtRest, ModelNothingDiverges}
+use Rattle.afr_law.specs.ModelAlike.{AreAlike, AreAlikeAtRest, ModelNothingDiverges}
 use Rattle.afr_law.proofs.Model.SoundLog.{LawfulBelow, lawful_below, name_limit}
+use Rattle.afr_tables.specs.Clear.{IsClear}
 
 -- ---- one moment
 module _ (p : Plan) (n : ℕ) (L : Log) (five : p.shape.n ≤ 5) (older : List Line) (h : IsPast L older) (lawful : LawfulBelow p n older) where

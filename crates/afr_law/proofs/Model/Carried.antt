@@ -22,7 +22,7 @@ use Rattle.afr_moves.specs.Cells.{Cell, Byte, Attr, Entry, kind_of, is_cell}
 use Rattle.afr_tables.specs.Codes.{kind_in, code_in, kept_by}
 use Rattle.afr_moves.specs.Rules.{Register, ReadOf, EachRead, Contents, repair_kind}
 use Rattle.afr_moves.specs.Past.{Log, before, brick_of, kind_at, most, value, values}
-use Rattle.afr_law.proofs.Model.Positions.{IsPast, before_past}
+use Rattle.afr_moves.proofs.ByPosition.{IsPast, before_past}
 use Rattle.afr_moves.specs.Positions.{by_position}
 use Rattle.afr_law.proofs.Safety.Touches.{values_at}
 use Rattle.afr_law.proofs.Model.SoundLog.{AllSound, shown_sound, carried_sound}

@@ -1,13 +1,9 @@
 -- In honest and lawful logs of the model each accusation has its cause.
-use Rattle.std.proofs.Common.{◌≡◌, ℕ, ◌<◌, true, refl, sym, ◌∙◌, subst, arith, List, [], ◌∷◌, length}
+use Rattle.std.proofs.Common.{◌≡◌, ℕ, ◌<◌, true, sym, ◌∙◌, subst, arith, List, [], ◌∷◌, length}
 use Rattle.std.specs.Prelude.{nat_lt}
 use Rattle.std.proofs.lemmas.Bool.Decides.{nat_tests}
-use Rattle.afr_base.specs.declared.ids.Gfid.{Gfid}
 use Rattle.afr_base.specs.declared.ids.Kind.{Kind}
 use Rattle.afr_object.specs.Tables.{object_of}
-use Rattle.afr_object.specs.declared.change.Change.{Change}
-use Rattle.afr_object.specs.declared.change.Change.TheVariants.{Write, Cut, SetAttr, Make, Remove}
-use Rattle.afr_lines.specs.Areas.{kind_for}
 use Rattle.afr_lines.specs.Log.{EveryPrefix}
 use Rattle.afr_lines.specs.declared.line.Line.{Line}
 use Rattle.afr_plan.specs.declared.plan.Plan.{Plan}
@@ -20,29 +16,13 @@ use Rattle.afr_law.proofs.Model.SoundLog.{LawfulBelow, lawful_below, name_limit}
 use Rattle.afr_law.proofs.Model.Sums.{pending_is}
 use Rattle.afr_law.proofs.Causes.Posted.{has_cause}
 use Rattle.afr_law.specs.Causes.{Cause}
-use Rattle.afr_moves.specs.Honest.{Honest, plane_kind}
+use Rattle.afr_moves.specs.Honest.{Honest}
 use Rattle.afr_law.specs.ModelCauses.{HaveCauses, ModelAccusationsHaveCauses, ModelExactAccusations}
-use Rattle.afr_moves.specs.Past.{Log, object, pending}
+use Rattle.afr_moves.specs.Past.{Log, pending}
 use Rattle.afr_moves.specs.Positions.{by_position}
-use Rattle.afr_law.proofs.Model.Positions.{IsPast, past_at, past_whole}
-
--- the object and the kind of a change
-object_is : (c : Change) → object c ≡ (object_of c).0
-object_is (Write g at bytes) = refl
-object_is (Cut g len) = refl
-object_is (SetAttr g key value) = refl
-object_is (Make dir name g what) = refl
-object_is (Remove dir name what) = refl
-
-kind_is : (c : Change) → plane_kind c ≡ kind_for c
-kind_is (Write g at bytes) = refl
-kind_is (Cut g len) = refl
-kind_is (SetAttr g key value) = refl
-kind_is (Make dir name g what) = refl
-kind_is (Remove dir name what) = refl
-
-gfid_is : (g h : Gfid) → g.0 ≡ h.0 → g ≡ h
-gfid_is g h e = λ i. record { 0 = e i }
+use Rattle.afr_moves.proofs.ByPosition.{IsPast, past_at, past_whole}
+use Rattle.afr_tables.specs.CopyLaws.{gfid_is}
+use Rattle.afr_moves.proofs.Changes.{object_same, kind_same}
 
 some_is : (m : ℕ) → nat_lt 0 m ≡ true → 0 < m
 some_is m e = grind (arith, nat_tests)
@@ -63,8 +43,8 @@ module _ (p : Plan) (n : ℕ) (L : Log) (all : (t x c g : ℕ) (kind : Kind) →
         change = w.change;
         earlier = w.earlier;
         begun = sym (past_at L older h w.q (omega (arith, w.earlier, w.past))) ∙ w.begun;
-        object_same = gfid_is (object_of w.change) g (sym (object_is w.change) ∙ w.object_same);
-        kind_same = sym (kind_is w.change) ∙ w.kind_same;
+        object_same = gfid_is (object_of w.change) g (sym (object_same w.change) ∙ w.object_same);
+        kind_same = sym (kind_same w.change) ∙ w.kind_same;
         not_done = λ m other early is. w.not_done m other.0 early (past_at L older h m (omega (arith, early, w.past)) ∙ is);
       }
 

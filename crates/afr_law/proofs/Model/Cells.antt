@@ -4,8 +4,6 @@ use Rattle.std.specs.Prelude.{nat_le, nat_lt}
 use Rattle.std.specs.Option.{option_map}
 use Rattle.std.proofs.lemmas.Bool.Decides.{nat_tests}
 use Rattle.afr_base.specs.declared.ids.ValueId.{ValueId}
-use Rattle.afr_base.specs.declared.ids.What.{What}
-use Rattle.afr_base.specs.declared.ids.What.TheVariants.{File, Dir}
 use Rattle.afr_object.specs.declared.change.Change.{Change}
 use Rattle.afr_object.specs.declared.change.Change.TheVariants.{Write, Cut, SetAttr, Make, Remove}
 use Rattle.afr_object.specs.declared.entry.Entry.{Entry as NameEntry}
@@ -18,14 +16,15 @@ use Rattle.afr_lines.specs.declared.reply.Reply.{Reply}
 use Rattle.afr_model.specs.Attempts.{first_reply, earlier, IsAcknowledged}
 use Rattle.afr_model.specs.Cells.{Value, IsByte, IsAttr, IsEntry, value_if, nothing_in, object_of_cell, kind_of_cell}
 use Rattle.afr_model.specs.Cells as model
-use Rattle.afr_moves.specs.Cells.{object_of, kind_of, entry_code, what_code, is_cell, touches, leaves}
+use Rattle.afr_moves.specs.Cells.{object_of, kind_of, entry_code, is_cell, touches, leaves}
 use Rattle.afr_tables.specs.Codes.{value_code, cell_by, cell_of}
 use Rattle.afr_moves.specs.Lines.{is_ok}
 use Rattle.afr_tables.proofs.Entries.{entry_same, entry_some}
 use Rattle.afr_moves.specs.Past.{Log}
-use Rattle.afr_law.proofs.Model.Positions.{IsPast, past_at, none_at}
+use Rattle.afr_moves.proofs.ByPosition.{IsPast, past_at, none_at}
 use Rattle.afr_law.specs.Safe.{end_of, or_else, outcome, Acknowledged}
-use Rattle.afr_tables.proofs.Entries.{cases_lt}
+use Rattle.std.proofs.lemmas.Bool.{cases_lt}
+use Rattle.afr_moves.proofs.Tests.{what_same}
 
 -- ---- cells
 pub kind_cell : (cell : model.Cell) → kind_of (cell_of cell) ≡ kind_of_cell cell
@@ -125,16 +124,10 @@ leaves_sort (Remove dir name what) (model.Name h n) = tt
 value_is : (v w : ValueId) → v.0 + 1 ≡ w.0 + 1 → v ≡ w
 value_is v w e = (let same : v.0 ≡ w.0 = omega (arith, e) in ap (λ (n : ℕ). record { 0 = n }) same)
 
-what_is : (v w : What) → what_code v ≡ what_code w → v ≡ w
-what_is File File e = refl
-what_is Dir Dir e = refl
-what_is File Dir e = absurd (omega (arith, e))
-what_is Dir File e = absurd (omega (arith, e))
-
 entry_is : (v w : NameEntry) → entry_code v.gfid.0 v.what ≡ entry_code w.gfid.0 w.what → v ≡ w
 entry_is v w e =
     let s = entry_same v.gfid.0 w.gfid.0 v.what w.what e in
-    let t : v.what ≡ w.what = what_is v.what w.what s.1 in
+    let t : v.what ≡ w.what = what_same v.what w.what s.1 in
     λ i. record { gfid = record { 0 = s.0 i }; what = t i }
 
 -- two values of a cell with one number are the same

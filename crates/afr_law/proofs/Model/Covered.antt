@@ -34,12 +34,12 @@ use Rattle.afr_law.proofs.Discipline.Covers.{change_there, covers_now}
 use Rattle.afr_law.proofs.Discipline.Lockable.{forced_has, lock_has}
 use Rattle.afr_law.proofs.Discipline.Projection.{present_law}
 use Rattle.afr_law.proofs.Heals.Answers.{honestly}
-use Rattle.afr_law.proofs.Heals.Looks.{mend_works, positive, settle_works}
+use Rattle.afr_law.proofs.Heals.Looks.{mend_works, settle_works}
 use Rattle.afr_law.proofs.Heals.Pieces.{ShortLooks}
 use Rattle.afr_law.proofs.Model.Discipline.{exactly_below, weakly_lawful}
 use Rattle.afr_law.proofs.Model.Locks.{In, held_in, line_for}
 use Rattle.afr_law.proofs.Model.Next.{comes}
-use Rattle.afr_law.proofs.Model.Positions.{IsPast, past_at, past_whole}
+use Rattle.afr_moves.proofs.ByPosition.{IsPast, past_at, past_whole}
 use Rattle.afr_law.proofs.Model.Repairs.{ends_each, short_looks}
 use Rattle.afr_law.proofs.Model.Settles.{all_honest, all_lawful, take_within}
 use Rattle.afr_law.proofs.Model.SoundLog.{LawfulBelow}
@@ -49,6 +49,7 @@ use Rattle.afr_tables.specs.Codes.{kept_by}
 use Rattle.afr_law.specs.Exactly.{IsLawfulExactly, name_bound}
 use Rattle.afr_law.specs.ModelCovered.{ModelCarriedCovered, ModelNextCovered, ModelNextLocks, change_for}
 use Rattle.afr_law.specs.ModelNext.{IsNext, asking}
+use Rattle.afr_moves.proofs.Tests.{positive}
 
 -- ---- by positions
 -- a lock of actor a on brick b that is held at t

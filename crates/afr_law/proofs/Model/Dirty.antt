@@ -22,28 +22,20 @@ use Rattle.afr_model.specs.Honest.{Honest as IsHonestLog, IsHonest, Outcome, ove
 use Rattle.afr_base.specs.Kinds.{same_kind}
 use Rattle.afr_model.specs.Sums.{has_object, sum_over, opens_op, closes_op, settles_dirty, dirty_of}
 use Rattle.afr_model.specs.Tables.{holds, held_before, carried, effect, keeps_bytes}
-use Rattle.afr_tables.specs.SumLaws.{now_at, counts, numbers_asked, numbers_same, numbers_effect, numbers_mended, at_first}
+use Rattle.afr_tables.specs.SumLaws.{now_at, counts, numbers_asked, numbers_same, numbers_effect, numbers_mended, at_first, pre_dirty, same_dirty}
 use Rattle.afr_law.specs.Dirty.{raising, raised, lowering, lowered, dirty, NoneBelow, TracksDirty, DirtyTracked}
 use Rattle.afr_moves.specs.Honest.{view_marks}
-use Rattle.afr_tables.proofs.Entries.{cases_lt}
 use Rattle.afr_moves.specs.Past.{Log}
 use Rattle.afr_moves.specs.Positions.{by_position}
-use Rattle.afr_law.proofs.Model.Positions.{IsPast, past_whole, none_at}
+use Rattle.afr_moves.proofs.ByPosition.{IsPast, past_whole, none_at}
 use Rattle.afr_law.specs.Beginning.{start_of}
-use Rattle.afr_law.proofs.Model.Sums.{holds_is}
+use Rattle.afr_law.proofs.Model.Sums.{holds_is, no_post, no_settle}
 use Rattle.afr_law.proofs.Model.SoundLog.{LawfulBelow}
+use Rattle.std.proofs.lemmas.Bool.{cases_lt}
 
 -- one where a test holds
 abbrev one_if : Bool → ℕ
 one_if b = if b then 1 else 0
-
-no_raise : (b : Bool) (n m : ℕ) → (if b && false then n else m) ≡ m
-no_raise true n m = refl
-no_raise false n m = refl
-
-no_fall : (b : Bool) (n : ℕ) → (if b then n else n) ≡ n
-no_fall true n = refl
-no_fall false n = refl
 
 -- ---- sums
 module _ (p : Plan) (n : ℕ) (L : Log) (x : ℕ) (g : Gfid) (kind : Kind) where
@@ -63,8 +55,8 @@ module _ (p : Plan) (n : ℕ) (L : Log) (x : ℕ) (g : Gfid) (kind : Kind) where
       go false true false obj kin = refl
       go false false true obj kin = refl
       go false false false obj kin = refl
-  pre_line (Ask a y r told took) older = no_raise (has_object p older g x) _ _
-  pre_line line older = no_raise (has_object p older g x) _ _
+  pre_line (Ask a y r told took) older = no_post (has_object p older g x) _ _
+  pre_line line older = no_post (has_object p older g x) _ _
 
   -- what raises the dirty number is the sum of the pre-ops
   pub raised_is : (older : List Line) → IsPast L older → LawfulBelow p n older → raised (start_of p n) L (length older) x g.0 kind ≡ sum_over (opens_op p x g kind) older
@@ -109,8 +101,8 @@ module _ (p : Plan) (n : ℕ) (L : Log) (x : ℕ) (g : Gfid) (kind : Kind) where
       go false true false obj kin n = refl
       go false false true obj kin n = refl
       go false false false obj kin n = refl
-  fall_line (Ask a y r told took) older = no_fall (has_object p older g x) _
-  fall_line line older = no_fall (has_object p older g x) _
+  fall_line (Ask a y r told took) older = no_settle (has_object p older g x) _
+  fall_line line older = no_settle (has_object p older g x) _
 
   -- what lowers it is the sum of the post-ops and of what was settled
   pub lowered_is : (older : List Line) → IsPast L older → LawfulBelow p n older → lowered (start_of p n) L (length older) x g.0 kind ≡ sum_over (closes_op p x g kind) older + sum_over (settles_dirty p x g kind) older
@@ -125,10 +117,6 @@ module _ (p : Plan) (n : ℕ) (L : Log) (x : ℕ) (g : Gfid) (kind : Kind) where
   dirty_is older h lawful = λ i. raised_is older h lawful i - lowered_is older h lawful i
 
   -- ---- copies
-  pre_dirty : (c : Bool) (new old : Marks) → new ≡ (if c then dirtied old else old) → new.dirty + (0 + 0) ≡ old.dirty + (if c then 1 else 0)
-  pre_dirty true new old e = omega (arith, ap (λ (m : Marks). m.dirty) e)
-  pre_dirty false new old e = omega (arith, ap (λ (m : Marks). m.dirty) e)
-
   post_dirty : (c : Bool) (missed : List ℕ) (new old : Marks) → new ≡ (if c then closed_op missed old else old) → (if c then 1 else 0) + 0 ≤ old.dirty + 0 → new.dirty + ((if c then 1 else 0) + 0) ≡ old.dirty + 0
   post_dirty true missed new old e low = omega (arith, ap (λ (m : Marks). m.dirty) e, low)
   post_dirty false missed new old e low = omega (arith, ap (λ (m : Marks). m.dirty) e)
@@ -136,9 +124,6 @@ module _ (p : Plan) (n : ℕ) (L : Log) (x : ℕ) (g : Gfid) (kind : Kind) where
   settle_dirty : (c : Bool) (less new old : Marks) → new ≡ (if c then taken_back less old else old) → 0 + (if c then less.dirty else 0) ≤ old.dirty + 0 → new.dirty + (0 + (if c then less.dirty else 0)) ≡ old.dirty + 0
   settle_dirty true less new old e low = omega (arith, ap (λ (m : Marks). m.dirty) e, low)
   settle_dirty false less new old e low = omega (arith, ap (λ (m : Marks). m.dirty) e)
-
-  same_dirty : (new old : Marks) → new ≡ old → new.dirty + (0 + 0) ≡ old.dirty + 0
-  same_dirty new old e = omega (arith, ap (λ (m : Marks). m.dirty) e)
 
   line_dirty : (line : Line) (older : List Line) → falls line older ≤ (now_at p older x g kind).dirty + opens_op p x g kind line older
       → (now_at p (line ∷ older) x g kind).dirty + falls line older ≡ (now_at p older x g kind).dirty + opens_op p x g kind line older

@@ -3,7 +3,7 @@ use Rattle.afr_law.proofs.Model.Alike.{model_alike}
 use Rattle.afr_law.proofs.Model.Honest.{honest_ask}
 use Rattle.afr_law.specs.Beginning.{start_of}
 use Rattle.afr_law.proofs.Model.Safe.{model_safe}
-use Rattle.afr_law.proofs.Model.Settles.{honest_at, make_known, member_below, take_within, within_before}
+use Rattle.afr_law.proofs.Model.Settles.{honest_at, make_known, take_within, within_before}
 use Rattle.afr_law.proofs.Model.SoundLog.{LawfulBelow, NameIsBelow}
 use Rattle.afr_tables.proofs.Sound.{NameFits}
 use Rattle.afr_law.proofs.Model.Sums.{TakeWithin}
@@ -17,11 +17,10 @@ use Rattle.afr_law.specs.Exactly.{IsLawfulExactly, name_bound}
 use Rattle.afr_moves.specs.Honest.{Honest, HonestLine}
 use Rattle.afr_law.proofs.Discipline.Implies.{implies}
 use Rattle.afr_moves.specs.Rules.{Lawful, Register, present}
-use Rattle.afr_tables.proofs.Entries.{cases_lt}
 use Rattle.afr_law.specs.ModelExact.{ModelExactIsAlike, ModelExactIsSafe}
 use Rattle.afr_law.specs.ModelLaw.{IsKnown, IsLawful, IsLawfulLine}
 use Rattle.afr_moves.specs.Past.{Log}
-use Rattle.afr_law.proofs.Model.Positions.{IsPast, none_at, past_at, past_whole}
+use Rattle.afr_moves.proofs.ByPosition.{IsPast, none_at, past_at, past_whole}
 use Rattle.afr_moves.specs.Positions.{by_position}
 use Rattle.afr_law.proofs.Discipline.Projection.{present_law}
 use Rattle.afr_law.proofs.Discipline.SameMoves.{may_next}
@@ -35,11 +34,13 @@ use Rattle.afr_object.specs.declared.change.Change.TheVariants.{Cut, Make, Remov
 use Rattle.afr_plan.specs.declared.plan.Plan.{Plan}
 use Rattle.std.proofs.Common.{List, [], arith, inl, inr, length, subst, suc, sym, ℕ, ◌<◌, ◌^◌, ◌∷◌, ◌≡◌, ◌≤◌}
 use Rattle.std.specs.Prelude.{Some}
+use Rattle.std.proofs.lemmas.Bool.{cases_lt}
+use Rattle.afr_base.specs.SetLemmas.{below_all}
 
 -- the newest line is honest by positions: a request went to a brick of the plan, and what is made is known
 newest_told : (p : Plan) (n : ℕ) (five : p.shape.n ≤ 5) (L : Log) (older : List Line) → IsPast L older → LawfulBelow p n older → TakeWithin p older → (line : Line) → L (length older) ≡ Some line → IsKnown p line older
     → IsExactLine p.shape.n (start_of p n) line older → IsHonest p line older → HonestLine (start_of p n) (fault_in p.faults) L (length older) (Some line)
-newest_told p n five L older h below within (Ask a b r told took) is known here said = honest_ask p n L a b r told took older (member_below p.shape.n b.0 five (here.1).0) is h below within said
+newest_told p n five L older h below within (Ask a b r told took) is known here said = honest_ask p n L a b r told took older (below_all p.shape.n b.0 five (here.1).0) is h below within said
 newest_told p n five L older h below within (Begin a c) is known here said = make_known p n L older h below c known.1
 newest_told p n five L older h below within (HealBegin a g kind) is known here said = tt
 newest_told p n five L older h below within (End a reply) is known here said = tt

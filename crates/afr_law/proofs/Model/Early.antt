@@ -24,7 +24,7 @@ use Rattle.afr_tables.specs.Codes.{value_code, cell_of, kept_by}
 use Rattle.afr_law.specs.FreshReads.{NoOlder}
 use Rattle.afr_law.specs.FreshReads as fresh
 use Rattle.afr_moves.specs.Past.{Log, changes, leaves_of, value}
-use Rattle.afr_law.proofs.Model.Positions.{IsPast, past_at}
+use Rattle.afr_moves.proofs.ByPosition.{IsPast, past_at}
 
 -- ---- the first lines of a log
 module _ (p : Plan) (n : ℕ) (L : Log) where

@@ -36,7 +36,6 @@ use Rattle.afr_law.specs.Beginning.{start_of}
 use Rattle.afr_law.proofs.Model.Settles.{all_honest, all_lawful, posts_later, take_within}
 use Rattle.afr_law.proofs.Model.SoundLog.{LawfulBelow}
 use Rattle.afr_law.proofs.Model.Sums.{pending_is}
-use Rattle.afr_law.proofs.Safety.CellLemmas.{same_kind_self}
 use Rattle.afr_tables.specs.Codes.{kept_by}
 use Rattle.afr_law.specs.Dirty.{lowered, raised}
 use Rattle.afr_moves.specs.ByList.{IsExactLine, IsExactlyLawful}
@@ -48,13 +47,14 @@ use Rattle.afr_law.proofs.Heals.EachLine.{viewings}
 use Rattle.afr_moves.specs.Honest.{Honest, view_marks}
 use Rattle.afr_moves.specs.Rules.{Lawful, present}
 use Rattle.afr_moves.specs.Lines.{ask_by, settle_on}
-use Rattle.afr_tables.proofs.Entries.{cases_lt}
-use Rattle.afr_law.proofs.Safety.Locks.{same_self}
-use Rattle.afr_law.specs.ModelFits.{CanCarry, CanMend, Fits, ModelExactSums}
+use Rattle.afr_law.specs.ModelFits.{Fits, ModelExactSums}
 use Rattle.afr_moves.specs.Past.{Beginning, Log, pending, settled}
-use Rattle.afr_law.proofs.Model.Positions.{IsPast, none_at, past_whole}
+use Rattle.afr_moves.proofs.ByPosition.{IsPast, none_at, past_whole}
 use Rattle.afr_moves.specs.Positions.{by_position}
 use Rattle.afr_law.proofs.Alike.Raises.{none_below}
+use Rattle.std.proofs.lemmas.Bool.{cases_lt}
+use Rattle.afr_moves.proofs.Tests.{same_self, same_kind_self}
+use Rattle.afr_tables.specs.Carrying.{CanMend, CanCarry}
 
 -- ---- by positions
 -- a look shows what its brick holds against each of five

@@ -20,7 +20,6 @@ use Rattle.afr_model.specs.Sums.{has_object}
 use Rattle.afr_object.specs.Repairs as repairs
 use Rattle.afr_object.specs.Tables.{object_of}
 use Rattle.afr_object.specs.declared.change.Change.{Change}
-use Rattle.afr_object.specs.declared.change.Change.TheVariants.{Cut, Make, Remove, SetAttr, Write}
 use Rattle.afr_object.specs.declared.change.Repair.{Repair}
 use Rattle.afr_object.specs.declared.change.Repair.TheVariants.{Copy, CutTo, PutAttrs, PutNames}
 use Rattle.afr_object.specs.declared.entry.View.{View}
@@ -36,19 +35,22 @@ use Rattle.afr_law.proofs.Model.Sums.{holds_is}
 use Rattle.afr_tables.specs.Codes.{kept_by}
 use Rattle.afr_law.specs.Exactly.{IsLawfulExactly, name_bound}
 use Rattle.afr_law.proofs.Heals.Answers.{holds_later, still_there}
-use Rattle.afr_law.proofs.Heals.Looks.{done_finds, positive}
+use Rattle.afr_law.proofs.Heals.Looks.{done_finds}
 use Rattle.afr_law.proofs.Heals.Marks.{Ready, ready}
 use Rattle.afr_law.proofs.Heals.EachLine.{viewings}
 use Rattle.afr_moves.specs.Honest.{Honest, HonestLine, asked, plane_kind}
 use Rattle.afr_moves.specs.Rules.{FitAt, Lawful, MayApply, MayMend, MayPost, MayPre, MayRaise, MaySettle, PlaneIs, present}
 use Rattle.afr_moves.specs.Lines.{ask_by, begin_by, post_on, pre_on, settle_on}
-use Rattle.afr_law.specs.ModelFits.{CanCarry, HasCopy, ModelNextCarries, ModelNextFound}
+use Rattle.afr_law.specs.ModelFits.{HasCopy, ModelNextCarries, ModelNextFound}
 use Rattle.afr_law.specs.ModelNext.{is_carried}
 use Rattle.afr_law.proofs.Safety.Numbers.{Prepared}
 use Rattle.afr_moves.specs.Past.{Beginning, Log, holds, joined, object, opening, repaired}
 use Rattle.afr_moves.specs.Positions.{by_position}
-use Rattle.afr_law.proofs.Model.Positions.{past_at, past_whole}
+use Rattle.afr_moves.proofs.ByPosition.{past_at, past_whole}
 use Rattle.afr_law.proofs.Alike.Raises.{plane_object, plane_one}
+use Rattle.afr_moves.proofs.Tests.{positive}
+use Rattle.afr_moves.proofs.Changes.{object_same}
+use Rattle.afr_tables.specs.Carrying.{CanCarry}
 
 -- ---- by positions
 module _ (n : ℕ) (keeps : ℕ → Kind → Bool) (files : Beginning) (faults : ℕ → ℕ → Option Fault) (log : Log) (honest : Honest files faults log) (lawful : Lawful n keeps log) where
@@ -114,13 +116,6 @@ module _ (n : ℕ) (keeps : ℕ → Kind → Bool) (files : Beginning) (faults :
       subst (λ (o : ℕ). holds files log t b o ≡ true) (sym may.object_same) (first_there t a b may.view may.seen)
 
 -- ---- in the list
-object_is : (c : Change) → object c ≡ (object_of c).0
-object_is (Write g at bytes) = refl
-object_is (Cut g len) = refl
-object_is (SetAttr g key value) = refl
-object_is (Make dir name g what) = refl
-object_is (Remove dir name what) = refl
-
 repaired_is : (r : Repair) → repaired r ≡ (repairs.repaired r).0
 repaired_is (CutTo g len) = refl
 repaired_is (Copy g at span read) = refl
@@ -158,7 +153,7 @@ module _ (p : Plan) (n : ℕ) (five : p.shape.n ≤ 5) (log : List Line) (a : Ac
       let change = w.1.0 in (
         change,
         ap (option_and_then change_of) (sym (past_at (L r) log (past_whole (asks r ∷ log)).1 q w.0) ∙ w.1.1),
-        there r below honest (object_of change) (subst (λ (o : ℕ). holds (start_of p n) (L r) (length log) b.0 o ≡ true) (object_is change) w.1.2),
+        there r below honest (object_of change) (subst (λ (o : ℕ). holds (start_of p n) (L r) (length log) b.0 o ≡ true) (object_same change) w.1.2),
       )
   copy_by (Post q g kind missed) below honest =
       let r = Post q g kind missed in

@@ -44,13 +44,13 @@ use Rattle.afr_law.proofs.Freshness.Fresh.{fresh_read}
 use Rattle.afr_law.specs.FreshReads.{LooksLet, NoOlder}
 use Rattle.afr_moves.specs.Honest.{Honest}
 use Rattle.afr_moves.specs.Lines.{ask_by}
-use Rattle.afr_law.proofs.Safety.Locks.{same_yes}
 use Rattle.afr_law.specs.ModelFresh.{IsLetBy, IsFreshSince, ModelReadsAreFresh, IsLet, IsLetRead, IsFreshByLooks, ModelWorksReadFresh, ModelExactReadsFresh}
 use Rattle.afr_law.specs.ModelLaw.{IsLawfulLine}
 use Rattle.afr_moves.specs.Past.{Log}
 use Rattle.afr_moves.specs.Positions.{by_position}
-use Rattle.afr_law.proofs.Model.Positions.{IsPast, past_whole, past_at}
+use Rattle.afr_moves.proofs.ByPosition.{IsPast, past_whole, past_at}
 use Rattle.afr_law.proofs.Model.Early.{Early, early_begun, early_drop, far_no_older, no_older_is}
+use Rattle.std.proofs.lemmas.Bool.{eqb-true}
 
 -- ---- one read
 module _ (p : Plan) (n : ℕ) (L : Log) (five : p.shape.n ≤ 5)
@@ -129,7 +129,7 @@ module _ (p : Plan) (n : ℕ) (L : Log) (five : p.shape.n ≤ 5)
 
     -- of the object that a test names
     of_same : (a b : ℕ) → b < p.shape.n → (g : Gfid) (cell : Cell) → (g.0 == (object_of_cell cell).0) ≡ true → IsLet p b g (kind_of_cell cell) (work a older) → IsNoOlder p older (log_before (work a older) older) b cell
-    of_same a b low g cell e w = cell_fresh a b low cell (subst (λ (o : Gfid). IsLet p b o (kind_of_cell cell) (work a older)) (λ i. record { 0 = same_yes g.0 (object_of_cell cell).0 e i }) w)
+    of_same a b low g cell e w = cell_fresh a b low cell (subst (λ (o : Gfid). IsLet p b o (kind_of_cell cell) (work a older)) (λ i. record { 0 = eqb-true g.0 (object_of_cell cell).0 e i }) w)
 
     fresh_by_looks : (line : Line) → IsLawfulLine p line older → IsFreshByLooks p line older
     fresh_by_looks (Ask a b (request.ReadBytes g at len) Given took) here = λ w client cell. by_cell cell w

@@ -41,13 +41,13 @@ use Rattle.afr_tables.specs.Codes.{kind_code, code_in, kept_by}
 use Rattle.afr_moves.specs.Past.{Log, before, joined, opening as opens_session, object, object_of_line, repaired, kind_at, value}
 use Rattle.afr_moves.specs.Past as past
 use Rattle.afr_moves.specs.Honest.{asks, asked, Shows, finds, begins_attempt, Answers, Tells, HonestAsk, HonestLine}
-use Rattle.afr_law.proofs.Model.Positions.{IsPast, before_past}
+use Rattle.afr_moves.proofs.ByPosition.{IsPast, before_past}
 use Rattle.afr_law.proofs.Safety.CellHistory.{untouched_value}
 use Rattle.afr_law.proofs.Model.Sessions.{joined_is, opening_is}
 use Rattle.afr_law.proofs.Model.Locks.{free_way, taken_way}
 use Rattle.afr_law.proofs.Model.Tables.{kind_is, code_is_value}
 use Rattle.afr_law.proofs.Model.SoundLog.{LawfulBelow}
-use Rattle.afr_tables.proofs.Values.{linked_left, content_names, code_of}
+use Rattle.afr_tables.proofs.Values.{linked_left, content_names, code_of, none_past}
 use Rattle.afr_law.proofs.Model.Sums.{TakeWithin, holds_is, pending_is, copy_pending}
 use Rattle.afr_law.specs.Beginning.{start_of}
 
@@ -73,10 +73,6 @@ asked_is L b (line ∷ older) h = (λ i. (if asks b (h.0 i) then 1 else 0) + ask
 pub no_bytes : (files g i : ℕ) → code_in (opening files) (Byte g i) ≡ 0
 no_bytes zero g i = of_test _
   where
-    none_past : (i : ℕ) → byte_at i [] ≡ 0
-    none_past zero = refl
-    none_past (suc i) = refl
-
     of_test : (is : Bool) → code_of (Byte g i) (if is then Some (Rattle.afr_object.specs.Tables.new_object Rattle.afr_base.specs.declared.ids.What.TheVariants.Dir) else None) ≡ 0
     of_test true = none_past i
     of_test false = refl

@@ -1,9 +1,8 @@
 -- In honest and lawful logs of the model a gfid names objects of one kind.
-use Rattle.std.proofs.Common.{◌≡◌, ℕ, suc, refl, sym, ◌∙◌, ap, arith, List, length, Option, None, Some}
+use Rattle.std.proofs.Common.{◌≡◌, ℕ, refl, sym, ◌∙◌, ap, List, length, Option, None, Some}
 use Rattle.afr_base.specs.declared.ids.Gfid.{Gfid}
 use Rattle.afr_base.specs.declared.ids.NameId.{NameId}
-use Rattle.afr_base.specs.declared.ids.What.{What}
-use Rattle.afr_base.specs.declared.ids.What.TheVariants.{Dir, File}
+use Rattle.afr_base.specs.declared.ids.What.TheVariants.{Dir}
 use Rattle.afr_lines.specs.declared.line.Line.{Line}
 use Rattle.afr_model.specs.Cells.{IsEntry}
 use Rattle.afr_model.specs.Honest.{fault_in}
@@ -29,17 +28,8 @@ use Rattle.afr_law.specs.ModelKinds.{Before, IsOneKind, ModelNextLooks, ModelOne
 use Rattle.afr_law.proofs.Safety.Objects.{entry_born, from_values, kind_born}
 use Rattle.afr_moves.specs.Past.{Log, born, kind_at, value}
 use Rattle.afr_moves.specs.Positions.{by_position}
-use Rattle.afr_law.proofs.Model.Positions.{past_whole}
-
-what_some : (what : What) → (j : ℕ) × (what_code what ≡ suc j)
-what_some File = (0, refl)
-what_some Dir = (1, refl)
-
-what_same : (x y : What) → what_code x ≡ what_code y → x ≡ y
-what_same File File e = refl
-what_same Dir Dir e = refl
-what_same File Dir e = absurd (omega (arith, e))
-what_same Dir File e = absurd (omega (arith, e))
+use Rattle.afr_moves.proofs.ByPosition.{past_whole}
+use Rattle.afr_moves.proofs.Tests.{what_same, what_some}
 
 -- the tables of a brick at a moment, by positions
 record Moment (p : Plan) (n : ℕ) (L : Log) (t : Table) : Type 0 where

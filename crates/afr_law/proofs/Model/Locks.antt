@@ -1,7 +1,6 @@
 -- The locks by positions are those of the list of lines.
 use Rattle.std.proofs.Common.{◌≡◌, ℕ, ◌<◌, Bool, true, false, ◌&&◌, ◌||◌, not, ◌⊎◌, inl, inr, refl, sym, ◌∙◌, ap, subst, arith, List, [], ◌∷◌, ◌++◌, length, filter, true≢false}
 use Rattle.std.specs.Prelude.{Option, None, Some, ◌==◌, if◌then◌else◌}
-use Rattle.std.proofs.lemmas.Bool.Decides.{nat_tests}
 use Rattle.afr_base.specs.declared.ids.ActorId.{ActorId}
 use Rattle.afr_base.specs.declared.ids.NameId.{NameId}
 use Rattle.afr_range_locks.specs.declared.domain.Domain.{Domain}
@@ -19,9 +18,11 @@ use Rattle.afr_lines.specs.Overlap.{same_area, overlap}
 use Rattle.afr_model.specs.Locks.{releases, outlives, granted_by_line, locks_held}
 use Rattle.afr_model.specs.Sessions.{ends_session}
 use Rattle.afr_moves.specs.Past.{Log, before, held, grants, frees, unlocks, blocks}
-use Rattle.afr_law.proofs.Model.Positions.{IsPast}
+use Rattle.afr_moves.proofs.ByPosition.{IsPast}
 use Rattle.afr_law.proofs.Model.Sessions.{ends_same}
-use Rattle.afr_law.proofs.Safety.Locks.{step_cases, step_true, same_no, same_yes, same_self, before_is, held_past}
+use Rattle.afr_law.proofs.Safety.Locks.{step_cases, step_true, before_is, held_past}
+use Rattle.afr_moves.proofs.Tests.{same_self, same_no, turned}
+use Rattle.std.proofs.lemmas.Bool.{eqb-true}
 
 -- a lock of a list
 abbrev pub In : HeldLock Area → List (HeldLock Area) → Type 0
@@ -67,20 +68,17 @@ domain_turned Work Heal = refl
 domain_turned Heal Work = refl
 domain_turned Heal Heal = refl
 
-number_turned : (n m : ℕ) → (n == m) ≡ (m == n)
-number_turned n m = grind (arith, nat_tests)
-
 name_turned : (n m : Option NameId) → same_name n m ≡ same_name m n
 name_turned None None = refl
 name_turned None (Some m) = refl
 name_turned (Some n) None = refl
-name_turned (Some n) (Some m) = number_turned n.0 m.0
+name_turned (Some n) (Some m) = turned n.0 m.0
 
 area_turned : (a b : Area) → same_area a b ≡ same_area b a
-area_turned (Range g from to) (Range h start end) = λ i. number_turned g.0 h.0 i && number_turned from start i && number_turned to end i
+area_turned (Range g from to) (Range h start end) = λ i. turned g.0 h.0 i && turned from start i && turned to end i
 area_turned (Range g from to) (Name h m) = refl
 area_turned (Name g n) (Range h start end) = refl
-area_turned (Name g n) (Name h m) = λ i. number_turned g.0 h.0 i && name_turned n m i
+area_turned (Name g n) (Name h m) = λ i. turned g.0 h.0 i && name_turned n m i
 
 -- the line that granted a lock on brick b
 abbrev pub line_for : ℕ → HeldLock Area → Bool → Line
@@ -113,7 +111,7 @@ frees_is b lock took line = (λ i. ends_same lock.owner.0 b line i || unlocks lo
 -- the lock of a line that grants one
 granted_line : (b : ℕ) (line : Line) → grants b (Some line) ≡ true → (lock : HeldLock Area) × (took : Bool) × (line ≡ line_for b lock took) × In lock (granted_by_line b line)
 granted_line b (Ask x y (Lock domain area) Granted took) h =
-    (record { owner = x; domain = domain; area = area }, took, ap (λ (n : ℕ). Ask x (record { 0 = n }) (Lock domain area) Granted took) (same_yes y.0 b h), rw h (inl refl))
+    (record { owner = x; domain = domain; area = area }, took, ap (λ (n : ℕ). Ask x (record { 0 = n }) (Lock domain area) Granted took) (eqb-true y.0 b h), rw h (inl refl))
 granted_line b _ h = absurd (true≢false (sym h))
 
 granted_back : (b : ℕ) (line : Line) (lock : HeldLock Area) → In lock (granted_by_line b line) → (took : Bool) × (line ≡ line_for b lock took) × (grants b (Some line) ≡ true)
@@ -122,7 +120,7 @@ granted_back b (Ask x y (Lock domain area) Granted took) lock h = go (y.0 == b) 
     go : (hit : Bool) → (y.0 == b) ≡ hit → In lock (if hit then record { owner = x; domain = domain; area = area } ∷ [] else []) → (t : Bool) × (Ask x y (Lock domain area) Granted took ≡ line_for b lock t) × ((y.0 == b) ≡ true)
     go false e k = absurd k
     go true e (inr k) = absurd k
-    go true e (inl k) = (took, (λ i. Ask (sym k i).owner (record { 0 = same_yes y.0 b e i }) (Lock (sym k i).domain (sym k i).area) Granted took), e)
+    go true e (inl k) = (took, (λ i. Ask (sym k i).owner (record { 0 = eqb-true y.0 b e i }) (Lock (sym k i).domain (sym k i).area) Granted took), e)
 granted_back b _ lock h = absurd h
 
 module _ (L : Log) where
@@ -132,7 +130,7 @@ module _ (L : Log) where
   held_in b [] h p k = absurd (true≢false (sym k))
   held_in b (line ∷ older) h p k =
       elim (step_cases (p == length older) (grants b (L (length older))) (held L (length older) b p) (frees b (before L (length older) p) (L (length older))) k) [
-        | inl w ↦ new (granted_line b line (ap (grants b) (sym h.0) ∙ w.1)) (same_yes p (length older) w.0)
+        | inl w ↦ new (granted_line b line (ap (grants b) (sym h.0) ∙ w.1)) (eqb-true p (length older) w.0)
         | inr w ↦ old (held_in b older h.1 p w.1) (held_past L (length older) b p w.1) w.2
       ]
     where

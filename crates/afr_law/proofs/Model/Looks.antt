@@ -24,9 +24,9 @@ use Rattle.afr_model.specs.Showing.{look_shows, looked_after, looked_by}
 use Rattle.afr_law.proofs.Model.Cells.{below_length}
 use Rattle.afr_law.specs.FreshReads.{ShowsNoMiss}
 use Rattle.afr_moves.specs.Lines.{ask_by}
-use Rattle.afr_law.proofs.Safety.Locks.{same_yes}
 use Rattle.afr_law.specs.ModelFresh.{IsClearLook}
-use Rattle.afr_law.proofs.Model.Positions.{newest_at, older_at}
+use Rattle.afr_moves.proofs.ByPosition.{newest_at, older_at}
+use Rattle.std.proofs.lemmas.Bool.{eqb-true}
 
 -- there is a place for each brick's view
 five_shown : (c : ℕ) (told : Told) (looked : Looked) → length looked.views ≡ 5 → length (look_shows c told looked).views ≡ 5
@@ -90,7 +90,7 @@ module _ (a x : ℕ) (g : Gfid) (kind : Kind) (b : ℕ) (small : x < 5) where
 
   own_look : (c : ℕ) (view : Option View) (looked : Looked) → length looked.views ≡ 5 → (c == x) ≡ true → IsClearBy (with_look c view looked) → shown_missed kind b view ≡ false
   own_look c view looked five e w =
-      let same : c ≡ x = same_yes c x e in
+      let same : c ≡ x = eqb-true c x e in
       let here : view_at x (with_look x view looked) ≡ view = view_after_look x view looked (omega (arith, small, five)) in
       let shown : shown_missed kind b (view_at x (with_look x view looked)) ≡ false = subst (λ (d : ℕ). shown_missed kind b (view_at x (with_look d view looked)) ≡ false) same w.clear in
       ap (shown_missed kind b) (sym here) ∙ shown
@@ -100,9 +100,9 @@ module _ (a x : ℕ) (g : Gfid) (kind : Kind) (b : ℕ) (small : x < 5) where
 
   -- a look's answer, or what was shown before it
   by_answer : (c : ℕ) (told : Told) (looked : Looked) → length looked.views ≡ 5 → (here : Bool) → (c == x) ≡ here → IsClearBy (look_shows c told looked) → ((c ≡ x) × ShowsNoMiss kind b told) ⊎ IsClearBy looked
-  by_answer c (Seen view) looked five true e w = inl (same_yes c x e, no_miss _ (own_look c (Some view) looked five e w))
+  by_answer c (Seen view) looked five true e w = inl (eqb-true c x e, no_miss _ (own_look c (Some view) looked five e w))
   by_answer c (Seen view) looked five false e w = inr (other_look c (Some view) looked e w)
-  by_answer c NoObject looked five true e w = inl (same_yes c x e, tt)
+  by_answer c NoObject looked five true e w = inl (eqb-true c x e, tt)
   by_answer c NoObject looked five false e w = inr (other_look c None looked e w)
   by_answer c told looked five here e w = inr (other_loss c looked w)
 
@@ -130,14 +130,14 @@ module _ (a x : ℕ) (g : Gfid) (kind : Kind) (b : ℕ) (small : x < 5) where
         position = length older;
         told = told;
         took = took;
-        line = newest_at line older ∙ (λ i. Some (ask_by (same_yes y.0 a mine i) (at.0 i) (request.Look (record { 0 = object i })) told took));
+        line = newest_at line older ∙ (λ i. Some (ask_by (eqb-true y.0 a mine i) (at.0 i) (request.Look (record { 0 = object i })) told took));
         after = low;
         clear = at.1;
       }
 
       go : (hit : Bool) → (h.0 == g.0) ≡ hit → IsClearBy (if hit then look_shows z.0 told looked else looked) → IsClearLook (line ∷ older) a since x g kind b
       go true e w = elim (by_answer z.0 told looked five (z.0 == x) refl w) [
-        | inl here ↦ new (same_yes h.0 g.0 e) here
+        | inl here ↦ new (eqb-true h.0 g.0 e) here
         | inr was ↦ older_look line older since (before was)
       ]
       go false e w = older_look line older since (before w)

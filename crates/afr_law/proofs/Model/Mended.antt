@@ -30,6 +30,7 @@ use Rattle.afr_moves.specs.Past.{Log, brick_of, keep, left_by, mends, most, name
 use Rattle.afr_tables.proofs.Copies.{kind_changed, keep_none, what_bytes, what_names}
 use Rattle.afr_tables.proofs.Merged.{NameTable, AreBelow, led, last_named, kind_all_made, named_is}
 use Rattle.afr_tables.proofs.Values.{code_of, copy_of, code_changed, code_made, code_left, no_touch, content_names, others_bytes, bytes_changed, names_changed, group_bytes, group_cut, taken_byte}
+use Rattle.afr_moves.proofs.Tests.{some_what}
 
 -- what a key leads to, as a number
 abbrev pub keyed : ℕ → List (KeyId × ValueId) → ℕ
@@ -53,10 +54,6 @@ Carries n past shown repair contents = ⊥
 abbrev pub named_by : ℕ → Log → (ℕ → ℕ → Cell → ℕ) → ℕ → Repair → ℕ
 named_by n past shown q (PutNames g reads) = named_kind n (λ m. most (λ r. shown r (brick_of (past r)) (Entry g.0 m)) reads) q
 named_by n past shown q repair = 0
-
-some_what : (w : What) → (what_code w == 0) ≡ false
-some_what File = refl
-some_what Dir = refl
 
 kind_renamed : (names : NameTable) (g : Gfid) (t : Table) (q : ℕ) → kind_in (renamed names g (copy_at g t) t) q ≡ keep (kind_in t q) (if kind_in t g.0 == 0 then 0 else last_named q names)
 kind_renamed names g t q = go (copy_at g t) refl

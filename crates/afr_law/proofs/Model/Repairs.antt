@@ -52,13 +52,14 @@ use Rattle.afr_law.proofs.Heals.Pieces.{ShortLooks, pieces_now}
 use Rattle.afr_law.proofs.Heals.Conditions.{mend_test, mend_turn}
 use Rattle.afr_law.proofs.Discipline.Covers.{piece_is}
 use Rattle.afr_law.proofs.Discipline.Inner.{turn_in, turn_low}
-use Rattle.afr_tables.proofs.Entries.{cases_lt}
-use Rattle.afr_law.specs.ModelFits.{CanMend, ModelNextFits}
+use Rattle.afr_law.specs.ModelFits.{ModelNextFits}
 use Rattle.afr_law.specs.ModelLaw.{IsKnown, IsLawful, IsRead, NamesReads}
 use Rattle.afr_tables.proofs.Names.{AreAbove, AreRising}
 use Rattle.afr_moves.specs.Past.{Log}
-use Rattle.afr_law.proofs.Model.Positions.{IsPast, none_at, past_whole}
+use Rattle.afr_moves.proofs.ByPosition.{IsPast, none_at, past_whole}
 use Rattle.afr_moves.specs.Positions.{by_position}
+use Rattle.std.proofs.lemmas.Bool.{cases_lt}
+use Rattle.afr_tables.specs.Carrying.{CanMend}
 
 -- ---- lists in order
 less_cmp : (n x : ℕ) → n < x → nat_cmp n x ≡ Less

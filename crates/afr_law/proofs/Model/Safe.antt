@@ -1,5 +1,5 @@
 -- Honest and lawful logs of the model are safe at every moment.
-use Rattle.std.proofs.Common.{◌≡◌, ℕ, suc, ◌*◌, ◌<◌, ◌≤◌, Bool, true, false, ◌&&◌, ◌||◌, not, refl, sym, ◌∙◌, ap, subst, arith, List, [], ◌∷◌, length, Option, None, Some, ◌==◌, true≢false}
+use Rattle.std.proofs.Common.{◌≡◌, ℕ, suc, ◌*◌, ◌<◌, ◌≤◌, Bool, true, false, ◌||◌, not, refl, sym, ◌∙◌, ap, subst, arith, List, [], ◌∷◌, length, Option, None, Some, ◌==◌, true≢false}
 use Rattle.std.specs.Prelude.{nat_lt, option_and_then}
 use Rattle.std.specs.List.{list_any}
 use Rattle.std.proofs.lemmas.Bool.Decides.{nat_tests}
@@ -29,7 +29,7 @@ use Rattle.afr_law.specs.Safe.{Safe, Good, Current, Acknowledged}
 use Rattle.afr_law.specs.Safe as law
 use Rattle.afr_law.proofs.Safety.CellHistory.{safe}
 use Rattle.afr_moves.specs.Positions.{by_position}
-use Rattle.afr_law.proofs.Model.Positions.{IsPast, past_whole, past_at}
+use Rattle.afr_moves.proofs.ByPosition.{IsPast, past_whole, past_at}
 use Rattle.afr_law.proofs.Model.Cells.{kind_cell, object_cell, cell_back, touches_same, leaves_same, value_sort, leaves_sort, code_same, acknowledged_is, below_length}
 use Rattle.afr_law.specs.Beginning.{start_of}
 use Rattle.afr_law.proofs.Model.Places.{far_current}
@@ -38,26 +38,18 @@ use Rattle.afr_law.proofs.Model.Settles.{all_honest, all_lawful, take_within, wi
 use Rattle.afr_law.proofs.Model.Sums.{holds_is, pending_is}
 use Rattle.afr_law.proofs.Model.Tables.{code_is_value}
 use Rattle.afr_law.specs.ModelLaw.{ModelLawfulIsSafe}
+use Rattle.std.proofs.lemmas.Bool.{eqb-true}
+use Rattle.afr_moves.proofs.Tests.{four_parts}
 
 -- ---- tests
-four : (a b c d : Bool) → (a && b && c && d) ≡ true → (a ≡ true) × (b ≡ true) × (c ≡ true) × (d ≡ true)
-four true true true true e = (refl, refl, refl, refl)
-four true true true false e = absurd (true≢false (sym e))
-four true true false d e = absurd (true≢false (sym e))
-four true false c d e = absurd (true≢false (sym e))
-four false b c d e = absurd (true≢false (sym e))
-
 none_of : (f : ℕ → Bool) (s : List ℕ) → list_any f s ≡ false → (x : ℕ) → member s x ≡ true → f x ≡ false
 none_of f [] e x m = absurd (true≢false (sym m))
 none_of f (y ∷ s) e x m = go (f y) refl (list_any f s) refl e (y == x) refl m (λ k n. none_of f s k x n)
   where
-    same : (y x : ℕ) → (y == x) ≡ true → y ≡ x
-    same y x k = grind (arith, nat_tests)
-
     go : (one : Bool) → f y ≡ one → (more : Bool) → list_any f s ≡ more → (one || more) ≡ false → (here : Bool) → (y == x) ≡ here → (here || member s x) ≡ true → (list_any f s ≡ false → member s x ≡ true → f x ≡ false) → f x ≡ false
     go true g more h k here l m rest = absurd (true≢false k)
     go false g true h k here l m rest = absurd (true≢false k)
-    go false g false h k true l m rest = ap f (sym (same y x l)) ∙ g
+    go false g false h k true l m rest = ap f (sym (eqb-true y x l)) ∙ g
     go false g false h k false l m rest = rest h m
 
 -- ---- one moment
@@ -103,7 +95,7 @@ module _ (p : Plan) (n : ℕ) (L : Log) (five : p.shape.n ≤ 5) (older : List L
   good_is among within b cell good kept =
       let g = object_of_cell cell in
       let kind = kind_of_cell cell in
-      let w = four (member among b) (has_object p older g b) (keeps p.shape kind b) (not (list_any (λ x. accuses p older g kind x b) among)) good in
+      let w = four_parts (member among b) (has_object p older g b) (keeps p.shape kind b) (not (list_any (λ x. accuses p older g kind x b) among)) good in
       record {
         below = within b w.0;
         member = w.0;
@@ -129,7 +121,7 @@ module _ (p : Plan) (n : ℕ) (L : Log) (five : p.shape.n ≤ 5) (older : List L
       kind = kind_of_cell cell
 
       parts : (member among b ≡ true) × (has_object p older g b ≡ true) × (keeps p.shape kind b ≡ true) × (not (list_any (λ x. accuses p older g kind x b) among) ≡ true)
-      parts = four (member among b) (has_object p older g b) (keeps p.shape kind b) (not (list_any (λ x. accuses p older g kind x b) among)) good
+      parts = four_parts (member among b) (has_object p older g b) (keeps p.shape kind b) (not (list_any (λ x. accuses p older g kind x b) among)) good
 
       kept : kept_by p b kind ≡ true
       kept = (let low : nat_lt b 5 ≡ true = small b p.shape.n (within b parts.0) five in rw low parts.2)

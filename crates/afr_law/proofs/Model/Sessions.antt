@@ -9,42 +9,14 @@ use Rattle.afr_lines.specs.declared.line.Event.TheVariants as event
 use Rattle.afr_lines.specs.declared.line.Line.{Line}
 use Rattle.afr_lines.specs.declared.line.Line.TheVariants.{Ask, Begin, HealBegin, End, HealEnd}
 use Rattle.afr_lines.specs.declared.line.Line.TheVariants as line_of
-use Rattle.afr_lines.specs.declared.request.Request.TheVariants.{Lock}
-use Rattle.afr_lines.specs.Work as work
 use Rattle.afr_plan.specs.declared.plan.Plan.{Plan}
-use Rattle.afr_range_locks.specs.declared.domain.Domain.TheVariants.{Work, Heal}
 use Rattle.afr_model.specs.Report.{started_bricks}
-use Rattle.afr_lines.specs.Places.{Place, Fresh, Indexed, Between, Within, next_place, place_of}
+use Rattle.afr_lines.specs.Places.{place_of}
 use Rattle.afr_model.specs.Sessions.{is_linked, opens_with, ends_session, is_joined}
-use Rattle.afr_lines.specs.Places as session
 use Rattle.afr_model.specs.Sessions as model
-use Rattle.afr_moves.specs.Past.{Log, is_of, place, place_after, opens, started, started_after, linked, linked_after, opening, joined, ends}
-use Rattle.afr_law.proofs.Model.Positions.{IsPast}
-
-pub of_same : (a : ℕ) (line : Line) → is_of a (Some line) ≡ work.is_of a line
-of_same a (Ask x b request told took) = refl
-of_same a (Begin x change) = refl
-of_same a (HealBegin x g kind) = refl
-of_same a (End x reply) = refl
-of_same a (HealEnd x g kind reply) = refl
-of_same a (line_of.Event e) = refl
-
-heal_lock_same : (line : Line) → Rattle.afr_moves.specs.Past.is_heal_lock (Some line) ≡ session.is_heal_lock line
-heal_lock_same (Ask x b (Lock Heal area) told took) = refl
-heal_lock_same (Ask x b (Lock Work area) told took) = refl
-heal_lock_same (Ask x b _ told took) = refl
-heal_lock_same (Begin x change) = refl
-heal_lock_same (HealBegin x g kind) = refl
-heal_lock_same (End x reply) = refl
-heal_lock_same (HealEnd x g kind reply) = refl
-heal_lock_same (line_of.Event e) = refl
-
-pub opens_same : (p : Place) (line : Line) → opens p (Some line) ≡ session.opens p line
-unfolding opens
-opens_same Fresh line = refl
-opens_same Indexed line = heal_lock_same line
-opens_same Between line = heal_lock_same line
-opens_same Within line = refl
+use Rattle.afr_moves.specs.Past.{Log, started, started_after, linked, linked_after, opening, joined, ends}
+use Rattle.afr_moves.proofs.ByPosition.{IsPast}
+use Rattle.afr_moves.proofs.Places.{of_same, opens_same, place_is}
 
 pub ends_same : (a b : ℕ) (line : Line) → ends a b (Some line) ≡ ends_session a b line
 unfolding ends
@@ -70,15 +42,6 @@ ends_same a b (End x reply) = refl
 ends_same a b (HealEnd x g kind reply) = refl
 
 module _ (L : Log) where
-  pub place_is : (a : ℕ) (older : List Line) → IsPast L older → place L (length older) a ≡ place_of a older
-  unfolding place
-  place_is a [] h = refl
-  place_is a (line ∷ older) h = rw (h.0, of_same a line, place_is a older h.1) (go (work.is_of a line))
-    where
-      go : (mine : Bool) → place_after mine (place_of a older) (Some line) ≡ (if mine then next_place (place_of a older) line else place_of a older)
-      go true = refl
-      go false = refl
-
   linked_one : (a b : ℕ) (line : Line) (was : Bool) → linked_after was a b (Some line) ≡ model.linked_by a b line was
   linked_one a b (line_of.Event (event.Stop y)) was = refl
   linked_one a b (line_of.Event (event.Start y)) was = refl
@@ -124,7 +87,7 @@ module _ (L : Log) where
   pub opening_is : (p : Plan) (a b : ℕ) → member (below p.shape.n) b ≡ true → (line : Line) (older : List Line) → L (length older) ≡ Some line → IsPast L older → opening L (length older) a b ≡ opens_with p a b line older
   unfolding opening
   opening_is p a b low line older is h =
-      rw (is, of_same a line, place_is a older h, opens_same (place_of a older) line, started_is p.shape.n b low older h, linked_is a b older h) refl
+      rw (is, of_same a line, place_is L a older h, opens_same (place_of a older) line, started_is p.shape.n b low older h, linked_is a b older h) refl
 
   pub joined_is : (p : Plan) (a b : ℕ) → member (below p.shape.n) b ≡ true → (older : List Line) → IsPast L older → joined L (length older) a b ≡ is_joined p a b older
   unfolding joined

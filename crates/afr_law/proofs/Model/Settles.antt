@@ -1,8 +1,7 @@
 -- A Settle line of an honest and lawful log takes back no more than there is; so the numbers of copies are the sums of lines.
 use Rattle.std.proofs.Common.{◌≡◌, ℕ, suc, zero, ◌<◌, ◌≤◌, Bool, true, false, ◌||◌, inl, inr, refl, sym, ◌∙◌, ap, subst, arith, List, [], ◌∷◌, length, filter, Option, None, Some, ◌==◌, if◌then◌else◌, true≢false}
-use Rattle.std.specs.Prelude.{nat_lt, slice_index}
-use Rattle.std.proofs.lemmas.Bool.Decides.{nat_tests}
-use Rattle.afr_base.specs.Bricks.{member, below, all_five, from_table}
+use Rattle.std.specs.Prelude.{slice_index}
+use Rattle.afr_base.specs.Bricks.{member}
 use Rattle.afr_base.specs.declared.ids.Gfid.{Gfid}
 use Rattle.afr_base.specs.declared.ids.Kind.{Kind}
 use Rattle.afr_base.specs.declared.marks.Marks.{Marks}
@@ -19,18 +18,16 @@ use Rattle.afr_tables.specs.SumLaws.{all_true}
 use Rattle.afr_law.proofs.Safety.Acts.{may_ask}
 use Rattle.afr_law.proofs.Safety.CellLemmas.{posts_rise, shows_at}
 use Rattle.afr_tables.specs.Codes.{kept_by, kind_code, value_code}
-use Rattle.afr_law.proofs.Heals.Looks.{same_kind_eq, settle_works}
+use Rattle.afr_law.proofs.Heals.Looks.{settle_works}
 use Rattle.afr_law.proofs.Heals.Marks.{ready}
 use Rattle.afr_law.proofs.Heals.EachLine.{viewings}
 use Rattle.afr_moves.specs.Honest.{asked, HonestLine, Honest, KnownMake, Shows}
 use Rattle.afr_law.specs.Law.{MayNext}
 use Rattle.afr_moves.specs.Rules.{May, Lawful, opened, present}
 use Rattle.afr_moves.specs.Lines.{ask_by, settle_on}
-use Rattle.afr_tables.proofs.Entries.{cases_lt}
-use Rattle.afr_law.proofs.Safety.Locks.{same_yes}
 use Rattle.afr_moves.specs.Past.{Beginning, Log, before, joined, opening, pending, posts, settled}
 use Rattle.afr_moves.specs.Positions.{by_position}
-use Rattle.afr_law.proofs.Model.Positions.{IsPast, past_whole, before_past, none_at}
+use Rattle.afr_moves.proofs.ByPosition.{IsPast, past_whole, before_past, none_at}
 use Rattle.afr_law.proofs.Safety.Steps.{may_here}
 use Rattle.afr_law.proofs.Model.Honest.{honest_ask, small_of}
 use Rattle.afr_law.specs.Beginning.{start_of}
@@ -47,15 +44,15 @@ use Rattle.afr_model.specs.Cells.{IsEntry}
 use Rattle.afr_model.specs.Tables.{entry_in, held_before}
 use Rattle.afr_law.proofs.Model.Sums.{TakesWithin, TakeWithin, now_pending, pending_is}
 use Rattle.afr_law.specs.ModelLaw.{IsLawfulLine, MakesKnown}
+use Rattle.std.proofs.lemmas.Bool.{cases_lt, eqb-true}
+use Rattle.afr_moves.proofs.Tests.{same_kind_yes}
+use Rattle.afr_base.specs.SetLemmas.{below_all}
 
 -- ---- bricks of the plan
 in_filter : (test : ℕ → Bool) (xs : List ℕ) (b : ℕ) → test b ≡ true → member xs b ≡ true → member (filter test xs) b ≡ true
 in_filter test [] b t m = absurd (true≢false (sym m))
 in_filter test (x ∷ xs) b t m = go (x == b) refl m (in_filter test xs b t)
   where
-    same : (x b : ℕ) → (x == b) ≡ true → x ≡ b
-    same x b k = grind (arith, nat_tests)
-
     keep : (hit : Bool) → member (filter test xs) b ≡ true → member (if hit then x ∷ filter test xs else filter test xs) b ≡ true
     keep true k = or_true (x == b) k
       where
@@ -65,12 +62,8 @@ in_filter test (x ∷ xs) b t m = go (x == b) refl m (in_filter test xs b t)
     keep false k = k
 
     go : (here : Bool) → (x == b) ≡ here → (here || member xs b) ≡ true → (member xs b ≡ true → member (filter test xs) b ≡ true) → member (if test x then x ∷ filter test xs else filter test xs) b ≡ true
-    go true e m rest = (let hit : test x ≡ true = ap test (same x b e) ∙ t in rw (hit, e) refl)
+    go true e m rest = (let hit : test x ≡ true = ap test (eqb-true x b e) ∙ t in rw (hit, e) refl)
     go false e m rest = keep (test x) (rest m)
-
-pub member_below : (n b : ℕ) → n ≤ 5 → b < n → member (below n) b ≡ true
-unfolding below
-member_below n b five low = in_filter (λ x. nat_lt x n) all_five b (grind (arith, nat_tests)) (from_table 5 (member all_five) refl b (omega (arith, low, five)))
 
 -- ---- the marks at a Settle line
 pub posts_later : (files : Beginning) (log : Log) (g : ℕ) (kind : Kind) (x c l t : ℕ) → l ≤ t → posts files log l x c g kind ≤ posts files log t x c g kind
@@ -140,7 +133,7 @@ module _ (p : Plan) (n : ℕ) (L : Log) (five : p.shape.n ≤ 5) where
       newest = may_here p.shape.n (kept_by p) L (length older) line (subst (λ (past : Log). MayNext p.shape.n (kept_by p) past (length older) line) (same_past older h.1) lawful.0.0.0) h.0
 
   honest_newest : (older : List Line) → IsPast L older → LawfulBelow p n older → TakeWithin p older → (line : Line) → L (length older) ≡ Some line → IsLawfulLine p line older → IsHonest p line older → HonestLine (start_of p n) (fault_in p.faults) L (length older) (Some line)
-  honest_newest older h lawful within (Ask a b r told took) is here said = honest_ask p n L a b r told took older (member_below p.shape.n b.0 five here.0.0) is h lawful within said
+  honest_newest older h lawful within (Ask a b r told took) is here said = honest_ask p n L a b r told took older (below_all p.shape.n b.0 five here.0.0) is h lawful within said
   honest_newest older h lawful within (Begin a c) is here said = make_known p n L older h lawful c here.1.1
   honest_newest older h lawful within (HealBegin a g kind) is here said = tt
   honest_newest older h lawful within (End a reply) is here said = tt
@@ -184,7 +177,7 @@ module _ (p : Plan) (n : ℕ) (five : p.shape.n ≤ 5) where
       let M = by_position (Ask a y (Settle h k less) told took ∷ older) in
       let past = past_whole (Ask a y (Settle h k less) told took ∷ older) in
       let w = all_true took (y.0 == x) (h.0 == g.0) (same_kind k kind) (has_object p older g x) counted in
-      let is : M (length older) ≡ Some (ask_by a.0 x (settle_on g.0 kind less) told true) = past.0 ∙ (λ i. Some (ask_by a.0 (same_yes y.0 x w.1 i) (settle_on (same_yes h.0 g.0 w.2 i) (same_kind_eq k kind w.3 i) less) told (w.0 i))) in
+      let is : M (length older) ≡ Some (ask_by a.0 x (settle_on g.0 kind less) told true) = past.0 ∙ (λ i. Some (ask_by a.0 (eqb-true y.0 x w.1 i) (settle_on (eqb-true h.0 g.0 w.2 i) (same_kind_yes k kind w.3 i) less) told (w.0 i))) in
       let low = settle_within p.shape.n (start_of p n) (fault_in p.faults) M (all_honest (Ask a y (Settle h k less) told took ∷ older) lawful honest within) (all_lawful (Ask a y (Settle h k less) told took ∷ older) lawful) (length older) a.0 x g.0 kind less told is c kept in
       omega (arith, low, pending_is p n M x c g kind older past.1 lawful.1, now_pending p x c g kind (small_of p c kind kept) kept older within)
       )

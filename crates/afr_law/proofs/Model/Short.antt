@@ -39,6 +39,7 @@ use Rattle.afr_plan.specs.declared.plan.Plan.{Plan}
 use Rattle.afr_tables.proofs.Sound.{EachCopy, each_all_made, each_changed, each_made}
 use Rattle.afr_moves.specs.Transaction.{EndsLow}
 use Rattle.afr_law.specs.ModelLaw.{IsKnown, IsLawful, IsRead, NamesReads}
+use Rattle.std.proofs.lemmas.Option.{same_Some}
 
 -- ---- attributes in order
 -- every key comes after number m
@@ -148,14 +149,11 @@ short_mended keeps (PutAttrs g read) (Attrs attrs) t fit all = each_changed IsSh
 short_mended keeps (PutNames g reads) (Names names) t fit all = short_renamed names g t all
 short_mended keeps repair contents t fit all = all
 
-some_same : (x y : Object) → Some x ≡ Some y → x ≡ y
-some_same x y e = cc e
-
 short_root : EachCopy IsShort ((root, new_object Dir) ∷ [])
 short_root q w h = split (q.0 == 1) (subst (λ (b : Bool). (if b then Some (new_object Dir) else None) ≡ Some w) (same_gfid q root) h)
   where
     split : (same : Bool) → (if same then Some (new_object Dir) else None) ≡ Some w → IsShort w
-    split true k = subst IsShort (some_same (new_object Dir) w k) (short_new Dir)
+    split true k = subst IsShort (same_Some (new_object Dir) w k) (short_new Dir)
     split false k = absurd (cc k)
 
 short_opening : (files : ℕ) → EachCopy IsShort (opening files)

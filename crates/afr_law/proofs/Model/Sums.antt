@@ -23,7 +23,7 @@ use Rattle.afr_moves.specs.Cells.{what_code}
 use Rattle.afr_tables.specs.Codes.{kind_code, kept_by}
 use Rattle.afr_moves.specs.Past.{Log, Beginning, kind_at, named, taken, posts, settled, pending}
 use Rattle.afr_moves.specs.Past as past
-use Rattle.afr_law.proofs.Model.Positions.{IsPast}
+use Rattle.afr_moves.proofs.ByPosition.{IsPast}
 use Rattle.afr_law.proofs.Model.Tables.{kind_is}
 use Rattle.afr_law.proofs.Model.SoundLog.{LawfulBelow}
 use Rattle.afr_law.specs.Beginning.{start_of}
@@ -44,11 +44,11 @@ holds_is p n L b older h lawful g = ap (λ (k : ℕ). not (k == 0)) (kind_is p n
 abbrev one_if : Bool → ℕ
 one_if b = if b then 1 else 0
 
-no_post : (b : Bool) (n m : ℕ) → (if b && false then n else m) ≡ m
+pub no_post : (b : Bool) (n m : ℕ) → (if b && false then n else m) ≡ m
 no_post true n m = refl
 no_post false n m = refl
 
-no_settle : (b : Bool) (n : ℕ) → (if b then n else n) ≡ n
+pub no_settle : (b : Bool) (n : ℕ) → (if b then n else n) ≡ n
 no_settle true n = refl
 no_settle false n = refl
 

@@ -31,7 +31,7 @@ use Rattle.afr_law.proofs.Safety.Touches.{kind_next, value_next, begin_kinds, be
 use Rattle.afr_moves.specs.Rules.{in_force, register}
 use Rattle.afr_law.proofs.Safety.Agree.{last_same}
 use Rattle.afr_tables.proofs.Names.{AreRising}
-use Rattle.afr_law.proofs.Model.Positions.{IsPast, past_at, before_past}
+use Rattle.afr_moves.proofs.ByPosition.{IsPast, past_at, before_past}
 use Rattle.afr_moves.specs.Positions.{by_position}
 use Rattle.afr_tables.proofs.Copies.{kind_changed, kind_applied, made_by, keep_none}
 use Rattle.afr_tables.proofs.Values.{code_left, code_applied}

@@ -22,12 +22,12 @@ use Rattle.afr_moves.specs.Honest.{Honest}
 use Rattle.afr_moves.specs.Rules.{Register, fresh, MayBegin, MayHealEnd, LastPosted, begun, is_area, looked, viewed, put_view, is_none, locking, area_object, note_ask, dropping, note, in_force, register, MayAsk, MayLock, MayHealLock, MayHealBegin, Lawful, opened, present, busy, second_of, second_freed}
 use Rattle.std.specs.Prelude.{nat_lt}
 use Rattle.afr_law.specs.Safe.{end_of, or_else, outcome, Acknowledged}
-use Rattle.afr_tables.proofs.Entries.{cases_lt}
-use Rattle.afr_law.proofs.Safety.Locks.{same_self}
 use Rattle.afr_law.proofs.Safety.Standing.{Noted, noted, Grants, Waits, Frees, Tries, HealGrants, HealWaits, HealFrees, HealTries, Looks, Pres, Applies, Posts, Mends, Settles, Same}
 use Rattle.afr_law.proofs.Safety.Registers.{MayOf, registers_at, Own, Asks, Begins, HealBegins, Ends, HealEnds}
 use Rattle.afr_law.proofs.Safety.Numbers.{Recorded, Numbered, numbered_fresh, numbered_next, numbered_own, force_fresh, last_foreign}
 use Rattle.afr_moves.specs.Lines.{ask_by, begin_by, heal_begin_by, end_by, heal_end_by, is_ok}
+use Rattle.std.proofs.lemmas.Bool.{cases_lt}
+use Rattle.afr_moves.proofs.Tests.{same_self}
 
 -- Post lines at a majority
 pub record Fixed (n : ℕ) (log : Log) (t a q : ℕ) : Type 0 where

@@ -19,11 +19,11 @@ use Rattle.afr_moves.specs.Honest.{HonestAsk, HonestLine, Honest, asked}
 use Rattle.afr_moves.specs.Rules.{Register, CoveredBy, CoversAll, CoversMend, PlaneIs, MayApply, MayPost, in_force, register, May, MayAsk, Lawful, opened, present}
 use Rattle.afr_moves.specs.Cells.{touches, is_cell, object_of, kind_of}
 use Rattle.afr_law.proofs.Safety.Locks.{Locked, apart_others}
-use Rattle.afr_tables.proofs.Entries.{cases_lt}
 use Rattle.afr_law.proofs.Safety.Standing.{Standing}
 use Rattle.afr_law.proofs.Safety.Registers.{standing}
 use Rattle.afr_law.proofs.Safety.Numbers.{Applied, Numbered, numbered, last_asked}
 use Rattle.afr_moves.specs.Lines.{ask_by, post_on}
+use Rattle.std.proofs.lemmas.Bool.{cases_lt, cases_eq}
 
 -- suc of a number stands in `last` from its line on
 last_cases : (log : Log) (t a : ℕ) → (last log (suc t) a ≡ last log t a) ⊎ (last log (suc t) a ≡ suc t)
@@ -87,9 +87,6 @@ acts_apart files faults log honest cell n m b t u one two less =
           )
       | inr other ↦ apart_others files faults log honest cell n m one.a two.a b t u one.locked two.locked other less
     ]
-  where
-    cases_eq : (x y : ℕ) → (x ≡ y) ⊎ (x ≡ y → ⊥)
-    cases_eq x y = grind arith
 
 live_took : (files : Beginning) (log : Log) (t a b : ℕ) (request : Request) (told : Told) (live : Bool) (fault : Option Fault) → HonestAsk files log t a b request told true live fault → live ≡ true
 live_took files log t a b request told false fault h = absurd (cc h.1)

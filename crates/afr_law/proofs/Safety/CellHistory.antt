@@ -27,10 +27,10 @@ use Rattle.afr_object.specs.declared.change.Change.TheVariants.{Write, Cut}
 use Rattle.afr_moves.specs.Cells.{fits, is_cell, touches}
 use Rattle.afr_law.specs.Safe.{Acknowledged, Current, Opening, Left, Good, Safe}
 use Rattle.afr_law.proofs.Safety.Core.{History, Clean, one_cell, one_read, reached, stamp_rises}
-use Rattle.afr_law.proofs.Safety.Locks.{before_is, same_self}
+use Rattle.afr_law.proofs.Safety.Locks.{before_is}
 use Rattle.afr_law.proofs.Safety.Numbers.{Recorded, Piece}
 use Rattle.afr_law.proofs.Safety.Acts.{Act, act_later, acts_apart, working, may_ask, mend_covers, apply_acts, post_acts, post_exact, post_plane}
-use Rattle.afr_law.proofs.Heals.Looks.{positive, SettleLine, settle_line, Viewing, done_finds, mends_plane, mend_works, mend_acts, settle_works}
+use Rattle.afr_law.proofs.Heals.Looks.{SettleLine, settle_line, Viewing, done_finds, mends_plane, mend_works, mend_acts, settle_works}
 use Rattle.afr_law.proofs.Heals.Marks.{ready}
 use Rattle.afr_law.proofs.Heals.EachLine.{viewings}
 use Rattle.afr_law.proofs.Safety.Touches.{Touched, touched, Not, Made, Mended, stamp_next, value_next, values_at}
@@ -38,7 +38,8 @@ use Rattle.afr_law.proofs.Safety.Objects.{holds_fits, unfit_nowhere, seen_born, 
 use Rattle.afr_base.specs.Majority.{majorities_share, IsMajority}
 use Rattle.afr_law.proofs.Safety.Acks.{Fixed, acknowledged_fixed}
 use Rattle.afr_moves.specs.Lines.{ask_by, post_on, settle_on, cut_to}
-use Rattle.afr_law.proofs.Safety.CellLemmas.{PostedAt, change_plane, same_kind_self, post_here, leaves_at, IsOriginAt, origin_later, CountsAt, posts_rise, begins, no_marks, LooksCell, looks_act, shows_at, most_is, WrittenAt, cut_zero}
+use Rattle.afr_law.proofs.Safety.CellLemmas.{PostedAt, change_plane, post_here, leaves_at, IsOriginAt, origin_later, CountsAt, posts_rise, begins, no_marks, LooksCell, looks_act, shows_at, most_is, WrittenAt, cut_zero}
+use Rattle.afr_moves.proofs.Tests.{same_self, same_kind_self, positive}
 
 module _ (n : ℕ) (files : Beginning) (faults : ℕ → ℕ → Option Fault) (log : Log) (honest : Honest files faults log) (lawful : Lawful n files.keeps log) (cell : Cell) (real : is_cell cell ≡ true) (fit : fits (born files log (object_of cell)) cell ≡ true) where
   finds_at : (t a b : ℕ) (request : Request) → log t ≡ Some (ask_by a b request Done true) → finds files log t b request ≡ true

@@ -1,5 +1,4 @@
 -- Changes, repairs, looks and marks of one cell.
-use Rattle.afr_base.specs.Kinds.{same_kind}
 use Rattle.afr_faults.specs.declared.fault.Fault.TheVariants.{Fail, Lost}
 use Rattle.afr_faults.specs.declared.fault.Fault.{Fault}
 use Rattle.std.proofs.Common.{◌≡◌, ℕ, zero, suc, ◌+◌, ◌^◌, ◌<◌, ◌≤◌, Bool, true, false, ◌&&◌, ◌⊎◌, inl, inr, refl, sym, ◌∙◌, subst, arith, true≢false}
@@ -18,7 +17,7 @@ use Rattle.afr_moves.specs.Past.{Beginning, Log, holds, touch, stamp, leaves_of,
 use Rattle.afr_moves.specs.Honest.{HonestAsk, Shows, plane_kind, Tells}
 use Rattle.afr_moves.specs.Rules.{PlaneIs, some_read, EachRead}
 use Rattle.afr_moves.specs.Cells.{object_of, kind_of, Byte, Attr, Entry}
-use Rattle.afr_base.specs.declared.ids.Kind.TheVariants.{Bytes, Attrs, Names}
+use Rattle.afr_base.specs.declared.ids.Kind.TheVariants.{Bytes}
 use Rattle.std.specs.Prelude.{nat_le, nat_lt, length, List as Seq, [], ◌∷◌, max}
 use Rattle.afr_object.specs.declared.change.Change.TheVariants.{Write, Cut, SetAttr, Make, Remove}
 use Rattle.afr_moves.specs.Cells.{touches}
@@ -28,6 +27,8 @@ use Rattle.afr_law.proofs.Heals.Looks.{LookAt, look_acts}
 use Rattle.afr_law.proofs.Safety.Touches.{begin_cells}
 use Rattle.afr_base.specs.Majority.{IsMajority}
 use Rattle.afr_moves.specs.Lines.{ask_by, look_at, post_on, cut_to}
+use Rattle.afr_base.specs.Bricks.{and_left}
+use Rattle.afr_moves.proofs.Tests.{first_equal, max_cases}
 
 -- a Post of an attempt that touches the cell
 pub record PostedAt (files : Beginning) (log : Log) (cell : Cell) (q x p : ℕ) : Type 0 where
@@ -40,28 +41,17 @@ pub record PostedAt (files : Beginning) (log : Log) (cell : Cell) (q x p : ℕ) 
   pub touch : changes (log q) cell ≡ true
   pub held_there : holds files log p x (object_of cell) ≡ true
 
-pub and_equal : (g h : ℕ) (y : Bool) → ((g == h) && y) ≡ true → g ≡ h
-and_equal g h y e = grind (arith, nat_tests)
-
-pub and_front : (x y : Bool) → (x && y) ≡ true → x ≡ true
-and_front x y e = grind arith
-
 -- a change touches cells of its object and kind
 pub change_plane : (change : Change) (cell : Cell) → touches change cell ≡ true → (object change ≡ object_of cell) × (plane_kind change ≡ kind_of cell)
 unfolding touches
-change_plane (Write g at bytes) (Byte h i) e = (and_equal g.0 h (nat_le at i) (and_front ((g.0 == h) && nat_le at i) (nat_lt i (at + length bytes)) (and_front ((g.0 == h) && nat_le at i && nat_lt i (at + length bytes)) (nat_lt i (2 ^ 63)) e)), refl)
-change_plane (Cut g len) (Byte h i) e = (and_equal g.0 h (nat_le len i) (and_front ((g.0 == h) && nat_le len i) (nat_lt i (2 ^ 63)) e), refl)
-change_plane (SetAttr g key v) (Attr h k) e = (and_equal g.0 h (key.0 == k) e, refl)
-change_plane (Make dir name g what) (Entry h m) e = (and_equal dir.0 h (name.0 == m) e, refl)
-change_plane (Remove dir name what) (Entry h m) e = (and_equal dir.0 h (name.0 == m) e, refl)
+change_plane (Write g at bytes) (Byte h i) e = (first_equal g.0 h (nat_le at i) (and_left ((g.0 == h) && nat_le at i) (nat_lt i (at + length bytes)) (and_left ((g.0 == h) && nat_le at i && nat_lt i (at + length bytes)) (nat_lt i (2 ^ 63)) e)), refl)
+change_plane (Cut g len) (Byte h i) e = (first_equal g.0 h (nat_le len i) (and_left ((g.0 == h) && nat_le len i) (nat_lt i (2 ^ 63)) e), refl)
+change_plane (SetAttr g key v) (Attr h k) e = (first_equal g.0 h (key.0 == k) e, refl)
+change_plane (Make dir name g what) (Entry h m) e = (first_equal dir.0 h (name.0 == m) e, refl)
+change_plane (Remove dir name what) (Entry h m) e = (first_equal dir.0 h (name.0 == m) e, refl)
 change_plane _ (Byte h i) e = absurd (cc e)
 change_plane _ (Attr h i) e = absurd (cc e)
 change_plane _ (Entry h i) e = absurd (cc e)
-
-pub same_kind_self : (kind : Kind) → same_kind kind kind ≡ true
-same_kind_self Bytes = refl
-same_kind_self Attrs = refl
-same_kind_self Names = refl
 
 -- the plane of an attempt that touches the cell is the cell's
 pub post_here : (line : Option Line) (cell : Cell) (g : ℕ) (kind : Kind) → PlaneIs line g kind → changes line cell ≡ true → (g ≡ object_of cell) × (kind ≡ kind_of cell) × (object_of_line line ≡ object_of cell)
@@ -130,9 +120,6 @@ most_none shown (Some r ∷ reads) none = absurd (true≢false none)
 
 pub max_zero : (x y : ℕ) → y ≡ 0 → max x y ≡ x
 max_zero x y e = omega arith
-
-pub max_cases : (x y : ℕ) → (max x y ≡ x) ⊎ (max x y ≡ y)
-max_cases x y = grind arith
 
 -- the greatest of some reads is one of them
 pub most_is : (P : ℕ → Type 0) (shown : ℕ → ℕ) (reads : Seq (Option ℕ)) → EachRead P reads → some_read reads ≡ true → (r : ℕ) × P r × (most shown reads ≡ shown r)

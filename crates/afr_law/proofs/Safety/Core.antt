@@ -1,6 +1,8 @@
 -- Safety of one cell, from facts about the lines that touch it. Numbers are positions of Begin and HealBegin lines.
 use Rattle.std.proofs.Common.{◌≡◌, ℕ, zero, suc, ◌+◌, ◌-◌, ◌<◌, ◌≤◌, Bool, true, ◌⊎◌, inl, inr, refl, sym, ◌∙◌, subst, arith}
 use Rattle.afr_base.specs.Majority.{majorities_share, IsMajority}
+use Rattle.afr_moves.proofs.Tests.{three_cases}
+use Rattle.std.proofs.lemmas.Bool.{cases_lt}
 
 -- a majority of bricks, none of which accuses `source` at the looks of number h; the marks that were taken back there are those that were at h
 pub record Clean (bricks : ℕ) (Looks : ℕ → ℕ → ℕ → Type 0) (posts settled : ℕ → ℕ → ℕ → ℕ) (h source : ℕ) : Type 0 where
@@ -46,12 +48,6 @@ pub record History : Type 1 where
       ⊎ ((l : ℕ) × (h : ℕ) × Looks h x l × (l ≤ t) × (settled (suc t) x c ≡ settled t x c + (posts l x c - settled l x c)) × (settled t x c ≡ settled l x c) × (h < stamp t c))
   -- acknowledgement
   pub counted : (q : ℕ) → Counts q → (among : ℕ → Bool) × IsMajority bricks among × ((x : ℕ) → x < bricks → among x ≡ true → (p : ℕ) × Posted q x p)
-
-cases_lt : (a b : ℕ) → (a < b) ⊎ (b ≤ a)
-cases_lt a b = grind arith
-
-cases_le : (a b : ℕ) → (a < b) ⊎ (a ≡ b) ⊎ (b < a)
-cases_le a b = grind arith
 
 module _ (H : History) where
   -- a number is on the cell only after a line that put it there
@@ -196,7 +192,7 @@ module _ (H : History) where
     from = was.from;
     legal = later (suc t) r was.from (omega (arith, high)) was.legal;
     same = value ∙ was.same;
-    newest = λ q counts under. elim (cases_le q h) [
+    newest = λ q counts under. elim (three_cases q h) [
       | inl less ↦ was.newest q counts (omega (arith, source_reached h s q clean copy below counts less, stamp_rises s copy h r low))
       | inr (inl same) ↦ absurd (other (subst H.Counts same counts))
       | inr (inr more) ↦ absurd (omega (arith, under, stamp, more))

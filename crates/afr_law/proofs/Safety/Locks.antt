@@ -1,5 +1,4 @@
 -- A lock that is held keeps others out, from its Lock line on.
-use Rattle.afr_tables.proofs.Entries.{cases_lt}
 use Rattle.afr_faults.specs.declared.fault.Fault.TheVariants.{Fail, Lost}
 use Rattle.afr_faults.specs.declared.fault.Fault.{Fault}
 use Rattle.afr_range_locks.specs.Locks.{same_domain}
@@ -17,6 +16,8 @@ use Rattle.afr_moves.specs.Past.{Beginning, Log, before, held, grants, frees, bl
 use Rattle.afr_moves.specs.Honest.{HonestAsk, HonestLine, Honest, asked}
 use Rattle.afr_law.proofs.Safety.Areas.{overlap-covers}
 use Rattle.afr_moves.specs.Lines.{ask_by}
+use Rattle.std.proofs.lemmas.Bool.{cases_lt, eqb-true, ne_eqb}
+use Rattle.afr_moves.proofs.Tests.{same_self, same_no, three_cases}
 
 -- the line at p granted this lock
 pub record Grant (log : Log) (p a b : ℕ) (domain : Domain) (area : Area) : Type 0 where
@@ -35,18 +36,9 @@ step_true same g h f p q r = rw (p, q, r) refl
 pub or_none : (x y : Bool) → x ≡ false → y ≡ false → (x || y) ≡ false
 or_none x y p q = rw (p, q) refl
 
-pub same_no : (p t : ℕ) → p < t → (p == t) ≡ false
-same_no p t h = grind (arith, nat_tests)
-
 -- a line before t
 pub before_is : (log : Log) (t q : ℕ) → q < t → before log t q ≡ log q
 before_is log t q h = (let hit : nat_lt q t ≡ true = grind (arith, nat_tests) in rw hit refl)
-
-pub same_self : (b : ℕ) → (b == b) ≡ true
-same_self b = grind (arith, nat_tests)
-
-pub same_yes : (p t : ℕ) → (p == t) ≡ true → p ≡ t
-same_yes p t h = grind (arith, nat_tests)
 
 cases_le_last : (u t : ℕ) → u ≤ suc t → (u ≤ t) ⊎ (u ≡ suc t)
 cases_le_last u t h = grind arith
@@ -55,16 +47,13 @@ pub and_not : (x y : Bool) → (x && not y) ≡ true → y ≡ false
 and_not x true e = grind arith
 and_not x false e = refl
 
-pub cases_le : (a b : ℕ) → (a < b) ⊎ (a ≡ b) ⊎ (b < a)
-cases_le a b = grind arith
-
 module _ (log : Log) where
   pub held_past : (t b p : ℕ) → held log t b p ≡ true → p < t
   unfolding held
   held_past zero b p h = cc
   held_past (suc t) b p h =
       elim (step_cases (p == t) (grants b (log t)) (held log t b p) (frees b (before log t p) (log t)) h) [
-        | inl w ↦ omega (arith, same_yes p t w.0)
+        | inl w ↦ omega (arith, eqb-true p t w.0)
         | inr w ↦ omega (arith, held_past t b p w.1)
       ]
 
@@ -72,7 +61,7 @@ module _ (log : Log) where
   unfolding held
   held_before t b p h past =
       elim (step_cases (p == t) (grants b (log t)) (held log t b p) (frees b (before log t p) (log t)) h) [
-        | inl w ↦ absurd (omega (arith, same_yes p t w.0))
+        | inl w ↦ absurd (omega (arith, eqb-true p t w.0))
         | inr w ↦ w.1
       ]
 
@@ -106,9 +95,6 @@ granted_alone files log t a b d e took true None h = h.0
 pub no_way : (d a : Bool) (o : Bool) → (d && not a && o) ≡ false → d ≡ true → a ≡ false → o ≡ true → ⊥
 no_way d a o e p q r = grind arith
 
-pub other_no : (a c : ℕ) → (a ≡ c → ⊥) → (a == c) ≡ false
-other_no a c h = grind (arith, nat_tests)
-
 min_both : (t u : ℕ) → (t ≤ u) ⊎ (u ≤ t)
 min_both t u = grind arith
 
@@ -131,12 +117,12 @@ module _ (files : Beginning) (faults : ℕ → ℕ → Option Fault) (log : Log)
       let line : HonestLine files faults log q (Some (ask_by c b (Lock domain other) Granted second.took)) = subst (HonestLine files faults log q) second.is (honest q) in
       let none : blocks c domain other (log p) ≡ false = granted_alone files log q c b domain other second.took (joined log q c b || opening log q c b) (faults b (suc (asked log q b))) line p was in
       let none_here : blocks c domain other (Some (ask_by a b (Lock domain area) Granted grant.took)) ≡ false = subst (λ l. blocks c domain other l ≡ false) grant.is none in
-      no_way (same_domain domain domain) (a == c) (overlap other area) none_here self (other_no a c apart) over
+      no_way (same_domain domain domain) (a == c) (overlap other area) none_here self (ne_eqb a c apart) over
 
   pub excluded : (domain : Domain) → same_domain domain domain ≡ true → (t b p q a c : ℕ) (area other : Area) → Grant log p a b domain area → Grant log q c b domain other → overlap other area ≡ true → overlap area other ≡ true → (a ≡ c → ⊥)
       → held log t b p ≡ true → held log t b q ≡ true → ⊥
   excluded domain self t b p q a c area other grant second over under apart h k =
-      elim (cases_le p q) [
+      elim (three_cases p q) [
         | inl less ↦ later_excluded domain self t b p q a c area other grant second over apart h k less
         | inr (inl same) ↦ apart (same_owner domain p q a c b area other grant second same)
         | inr (inr more) ↦ later_excluded domain self t b q p c a other area second grant under (λ e. apart (sym e)) k h more

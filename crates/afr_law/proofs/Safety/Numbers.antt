@@ -4,7 +4,7 @@ use Rattle.afr_lines.specs.declared.reply.Reply.{Reply}
 use Rattle.std.specs.Prelude.{List as Seq}
 use Rattle.afr_faults.specs.declared.fault.Fault.TheVariants.{Fail, Lost}
 use Rattle.afr_faults.specs.declared.fault.Fault.{Fault}
-use Rattle.afr_base.specs.Bricks.{member}
+use Rattle.afr_base.specs.Bricks.{member, and_left}
 use Rattle.std.proofs.Common.{◌≡◌, ℕ, suc, ◌<◌, ◌≤◌, Bool, true, false, ◌&&◌, ◌||◌, not, inl, inr, refl, sym, ap, ◌∙◌, subst, arith, true≢false}
 use Rattle.std.specs.Prelude.{Option, None, Some, ◌==◌, if◌then◌else◌}
 use Rattle.std.proofs.lemmas.Bool.Decides.{nat_tests}
@@ -24,10 +24,10 @@ use Rattle.afr_moves.specs.Cells.{Cell}
 use Rattle.afr_moves.specs.Past.{Beginning, Log, held, last, last_after, joined, opening, is_of, is_gone}
 use Rattle.afr_moves.specs.Honest.{HonestAsk, HonestLine, Honest, asked}
 use Rattle.afr_moves.specs.Rules.{Register, fresh, CoveredBy, SomeCell, PlaneIs, SeenFit, MayApply, MayPost, MayPre, MayBegin, begun, is_area, looked, viewed, looking, put_view, is_none, unlocked, released, locking, area_object, mend_cells, piece, note_ask, dropping, note, in_force, register, MayAsk, MayHealLock, MayHealBegin, Lawful, busy, second_of, second_freed}
-use Rattle.afr_law.proofs.Safety.Locks.{same_self}
-use Rattle.afr_law.proofs.Safety.Standing.{Noted, noted, Grants, Waits, Frees, Tries, HealGrants, HealWaits, HealFrees, HealTries, Looks, Pres, Applies, Posts, Mends, Settles, Same, with_cases}
+use Rattle.afr_law.proofs.Safety.Standing.{Noted, noted, Grants, Waits, Frees, Tries, HealGrants, HealWaits, HealFrees, HealTries, Looks, Pres, Applies, Posts, Mends, Settles, Same}
 use Rattle.afr_law.proofs.Safety.Registers.{Own, Asks, Begins, HealBegins, Ends, HealEnds, registers, MayOf}
 use Rattle.afr_moves.specs.Lines.{ask_by, begin_by, heal_begin_by, end_by, heal_end_by, pre_on, post_on}
+use Rattle.afr_moves.proofs.Tests.{same_self, with_cases}
 
 pub record Attempt (log : Log) (a q : ℕ) (area : Option Area) (pre : ℕ → Bool) : Type 0 where
   pub change : Change
@@ -62,9 +62,6 @@ pub record Prepared (log : Log) (t a x q : ℕ) : Type 0 where
 
 prepared_later : (log : Log) (t a x q : ℕ) → Prepared log t a x q → Prepared log (suc t) a x q
 prepared_later log t a x q w = record { p = w.p; g = w.g; kind = w.kind; is = w.is; after = w.after; past = omega (arith, w.past); newest = w.newest; plane = w.plane }
-
-with_more : (set : ℕ → Bool) (b x : ℕ) → set x ≡ true → with set b x ≡ true
-with_more set b x h = grind (arith, nat_tests)
 
 -- a HealBegin line of the actor
 pub record Piece (log : Log) (a h : ℕ) : Type 0 where
@@ -180,16 +177,13 @@ numbered_looking log t a b g seen r s = go r.heal
     more : (x : ℕ) → r.seen x ≡ true → with r.seen b x ≡ true
     more x h = grind (arith, nat_tests)
 
-    zero_is : (x y : Bool) → (x && y) ≡ true → x ≡ true
-    zero_is x y e = grind arith
-
     no_number : (m q : ℕ) → (m == 0) ≡ true → m ≡ suc q → ⊥
     no_number m q e f = grind (arith, nat_tests)
 
     add : (hit : Bool) → ((r.number == 0) && r.held b) ≡ hit → Numbered log t a (if hit then record r { seen = with r.seen b } else r)
     add true h = record {
       newest = s.newest;
-      attempt = λ q out e. absurd (no_number r.number q (zero_is (r.number == 0) (r.held b) h) e);
+      attempt = λ q out e. absurd (no_number r.number q (and_left (r.number == 0) (r.held b) h) e);
       piece = s.piece;
       since = s.since;
       ready = λ x k. more x (s.ready x k);

@@ -4,7 +4,6 @@ use Rattle.afr_faults.specs.declared.fault.Fault.TheVariants.{Fail, Lost}
 use Rattle.afr_faults.specs.declared.fault.Fault.{Fault}
 use Rattle.std.proofs.Common.{◌≡◌, ℕ, zero, suc, ◌+◌, ◌<◌, Bool, true, false, ◌&&◌, ◌||◌, not, ◌⊎◌, inl, inr, refl, sym, ap, ◌∙◌, subst, arith, true≢false}
 use Rattle.std.specs.Prelude.{Option, None, Some, ◌==◌, if◌then◌else◌}
-use Rattle.std.proofs.lemmas.Bool.Decides.{nat_tests}
 use Rattle.afr_object.specs.declared.entry.View.{View}
 use Rattle.afr_object.specs.declared.change.Repair.{Repair}
 use Rattle.afr_object.specs.declared.change.Change.{Change}
@@ -23,10 +22,11 @@ use Rattle.afr_moves.specs.Rules.{fresh, SeenFit, fits_change}
 use Rattle.afr_moves.specs.Cells.{what_code, entry_code, fits, touches, leaves, object_of, Byte, Attr, Entry}
 use Rattle.afr_object.specs.declared.change.Repair.TheVariants.{CutTo, Copy, PutAttrs, PutNames}
 use Rattle.std.specs.Prelude.{nat_le, nat_lt, max, ◌-◌, List as Seq, [], ◌∷◌}
-use Rattle.afr_law.proofs.Safety.Locks.{before_is, same_self, same_yes}
-use Rattle.afr_tables.proofs.Entries.{cases_lt}
+use Rattle.afr_law.proofs.Safety.Locks.{before_is}
 use Rattle.afr_law.proofs.Safety.Touches.{Touched, touched, Not, Made, Mended, kind_next, begin_kinds}
 use Rattle.afr_moves.specs.Lines.{ask_by, begin_by, look_at, make_in}
+use Rattle.std.proofs.lemmas.Bool.{cases_lt, eqb-true}
+use Rattle.afr_moves.proofs.Tests.{same_self, max_cases, what_some}
 
 -- an entry's value is nothing, the opening one, or what an attempt before it leaves on the cell
 abbrev pub From : Beginning → Log → Cell → ℕ → ℕ → Type 0
@@ -36,9 +36,6 @@ from_later : (files : Beginning) (log : Log) (cell : Cell) (t v : ℕ) → From 
 from_later files log cell t v (inl e) = inl e
 from_later files log cell t v (inr (inl e)) = inr (inl e)
 from_later files log cell t v (inr (inr w)) = inr (inr (w.0, omega (arith, w.1), w.2, w.3))
-
-max_cases : (x y : ℕ) → (max x y ≡ x) ⊎ (max x y ≡ y)
-max_cases x y = grind arith
 
 from_most : (files : Beginning) (log : Log) (cell : Cell) (t : ℕ) (shown : ℕ → ℕ) → ((r : ℕ) → From files log cell t (shown r)) → (reads : Seq (Option ℕ)) → From files log cell t (most shown reads)
 from_most files log cell t shown each [] = inl refl
@@ -84,15 +81,15 @@ named_from (suc n) entries g k e = go (entries n == entry_code g File) refl (ent
   where
     go : (file : Bool) → (entries n == entry_code g File) ≡ file → (dir : Bool) → (entries n == entry_code g Dir) ≡ dir → (if file then 1 else if dir then 2 else named_kind n entries g) ≡ suc k
         → (named_kind n entries g ≡ suc k → (m : ℕ) × (what : What) × (entries m ≡ entry_code g what) × (what_code what ≡ suc k)) → (m : ℕ) × (what : What) × (entries m ≡ entry_code g what) × (what_code what ≡ suc k)
-    go true f dir d e rest = (n, File, same_yes (entries n) (entry_code g File) f, e)
-    go false f true d e rest = (n, Dir, same_yes (entries n) (entry_code g Dir) d, e)
+    go true f dir d e rest = (n, File, eqb-true (entries n) (entry_code g File) f, e)
+    go false f true d e rest = (n, Dir, eqb-true (entries n) (entry_code g Dir) d, e)
     go false f false d e rest = rest e
 
 made_line : (line : Option Line) (g k : ℕ) → made g line ≡ suc k → (x : ℕ) × (dir : ℕ) × (name : ℕ) × (what : What) × (line ≡ Some (begin_by x (make_in dir name g what))) × (what_code what ≡ suc k)
 made_line (Some (Begin x (Make dir name h what))) g k e = go (h.0 == g) refl e
   where
     go : (hit : Bool) → (h.0 == g) ≡ hit → (if hit then what_code what else 0) ≡ suc k → (y : ℕ) × (d : ℕ) × (m : ℕ) × (w : What) × (Some (begin_by x.0 (make_in dir.0 name.0 h.0 what)) ≡ Some (begin_by y (make_in d m g w))) × (what_code w ≡ suc k)
-    go true f h = (x.0, dir.0, name.0, what, ap (λ j. Some (begin_by x.0 (make_in dir.0 name.0 j what))) (same_yes _ g f), h)
+    go true f h = (x.0, dir.0, name.0, what, ap (λ j. Some (begin_by x.0 (make_in dir.0 name.0 j what))) (eqb-true _ g f), h)
     go false f h = absurd (omega (arith, h))
 made_line _ g k e = absurd (omega (arith, e))
 
@@ -205,10 +202,6 @@ module _ (files : Beginning) (faults : ℕ → ℕ → Option Fault) (log : Log)
       go zero e = zero_unfit cell
       go (suc k) e = subst (λ j. fits j cell ≡ false) (kind_born t b (object_of cell) k e) unfit
 
-  what_some : (what : What) → (j : ℕ) × (what_code what ≡ suc j)
-  what_some File = (0, refl)
-  what_some Dir = (1, refl)
-
   shows_what : (t a b g : ℕ) (view : View) (live : Bool) (fault : Option Fault) → HonestAsk files log t a b (look_at g) (Seen view) true live fault → Shows files log t b g view
   shows_what t a b g view false fault h = absurd (cc h.0)
   shows_what t a b g view true (Some Fail) h = absurd (cc h.0)
@@ -226,12 +219,6 @@ module _ (files : Beginning) (faults : ℕ → ℕ → Option Fault) (log : Log)
       let k = what_some w.view.what in
       let same : born files log (object change) ≡ what_code w.view.what = kind_born w.l x (object change) k.0 (sym shows.what ∙ k.1) ∙ sym k.1 in
       subst (λ j. fits_change j change ≡ true) (sym same) w.fit
-
-first_equal : (g h : ℕ) (y : Bool) → ((g == h) && y) ≡ true → g ≡ h
-first_equal g h y e = grind (arith, nat_tests)
-
-front_of : (x y : Bool) → (x && y) ≡ true → x ≡ true
-front_of x y e = grind arith
 
 pub change_fits : (k : ℕ) (change : Change) (cell : Cell) → fits_change k change ≡ true → touches change cell ≡ true → fits k cell ≡ true
 unfolding touches

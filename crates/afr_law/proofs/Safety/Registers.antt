@@ -22,9 +22,11 @@ use Rattle.afr_moves.specs.Sets.{with}
 use Rattle.afr_moves.specs.Past.{Beginning, Log, ends, unlocks, joined, opening, opens, place, is_of, is_gone}
 use Rattle.afr_moves.specs.Honest.{HonestAsk, HonestLine, Honest, asked}
 use Rattle.afr_moves.specs.Rules.{Register, fresh, is_area, locking, piece, note_ask, dropping, note, in_force, register_after, register, May, MayAsk, Lawful, opened, present, busy}
-use Rattle.afr_law.proofs.Safety.Locks.{Grant, held_on, held_new, same_yes}
+use Rattle.afr_law.proofs.Safety.Locks.{Grant, held_on, held_new}
 use Rattle.afr_moves.specs.Lines.{ask_by, begin_by, heal_begin_by, end_by, heal_end_by, look_at, pre_on, post_on, settle_on}
-use Rattle.afr_law.proofs.Safety.Standing.{KeepsLocks, Noted, Grants, Waits, Frees, Tries, HealGrants, HealWaits, HealFrees, HealTries, Looks, Pres, Applies, Posts, Mends, Settles, Same, noted, HeldAt, Standing, standing_fresh, standing_next, with_cases, standing_dropped, standing_granted, standing_looking, Onward, Goes, New, onward, FairUnlock, standing_heal_freed, standing_heal_tried, standing_locking, locking_area, standing_heal_locking, keeps_all, lock_keeps, look_keeps, pre_keeps, apply_keeps, post_keeps, mend_keeps, settle_keeps, standing_released, standing_tried}
+use Rattle.afr_law.proofs.Safety.Standing.{KeepsLocks, Noted, Grants, Waits, Frees, Tries, HealGrants, HealWaits, HealFrees, HealTries, Looks, Pres, Applies, Posts, Mends, Settles, Same, noted, HeldAt, Standing, standing_fresh, standing_next, standing_dropped, standing_granted, standing_looking, Onward, Goes, New, onward, FairUnlock, standing_heal_freed, standing_heal_tried, standing_locking, locking_area, standing_heal_locking, keeps_all, lock_keeps, look_keeps, pre_keeps, apply_keeps, post_keeps, mend_keeps, settle_keeps, standing_released, standing_tried}
+use Rattle.std.proofs.lemmas.Bool.{eqb-true}
+use Rattle.afr_moves.proofs.Tests.{with_cases}
 
 pub standing_asked : (n : ℕ) (keeps : ℕ → Kind → Bool) (log : Log) (t a b : ℕ) (request : Request) (told : Told) (took first : Bool) (r : Register)
     → log t ≡ Some (ask_by a b request told took) → Onward log t a first r → MayAsk n keeps log t a first r b request → FairUnlock request told took
@@ -131,11 +133,11 @@ own_line log t a h = go (log t) refl h
   where
     go : (line : Option Line) → log t ≡ line → is_of a line ≡ true → Own log t a
     go None e h = absurd (cc h)
-    go (Some (Ask x b request told took)) e h = Asks b.0 request told took (e ∙ ap (λ y. Some (ask_by y b.0 request told took)) (same_yes x.0 a h))
-    go (Some (Begin x change)) e h = Begins change (e ∙ ap (λ y. Some (begin_by y change)) (same_yes x.0 a h))
-    go (Some (HealBegin x g kind)) e h = HealBegins g.0 kind (e ∙ ap (λ y. Some (heal_begin_by y g.0 kind)) (same_yes x.0 a h))
-    go (Some (End x reply)) e h = Ends reply (e ∙ ap (λ y. Some (end_by y reply)) (same_yes x.0 a h))
-    go (Some (HealEnd x g kind reply)) e h = HealEnds g.0 kind reply (e ∙ ap (λ y. Some (heal_end_by y g.0 kind reply)) (same_yes x.0 a h))
+    go (Some (Ask x b request told took)) e h = Asks b.0 request told took (e ∙ ap (λ y. Some (ask_by y b.0 request told took)) (eqb-true x.0 a h))
+    go (Some (Begin x change)) e h = Begins change (e ∙ ap (λ y. Some (begin_by y change)) (eqb-true x.0 a h))
+    go (Some (HealBegin x g kind)) e h = HealBegins g.0 kind (e ∙ ap (λ y. Some (heal_begin_by y g.0 kind)) (eqb-true x.0 a h))
+    go (Some (End x reply)) e h = Ends reply (e ∙ ap (λ y. Some (end_by y reply)) (eqb-true x.0 a h))
+    go (Some (HealEnd x g kind reply)) e h = HealEnds g.0 kind reply (e ∙ ap (λ y. Some (heal_end_by y g.0 kind reply)) (eqb-true x.0 a h))
     go (Some (Event event)) e h = absurd (cc h)
 
 -- a Begin or HealBegin line comes after the locks

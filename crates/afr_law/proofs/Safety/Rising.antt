@@ -1,6 +1,6 @@
 -- The stamps of one cell on one brick rise.
 use Rattle.std.proofs.Common.{◌≡◌, ℕ, zero, suc, ◌<◌, ◌≤◌, ◌⊎◌, inl, inr, sym, ◌∙◌, subst, arith}
-use Rattle.afr_tables.proofs.Entries.{cases_lt}
+use Rattle.std.proofs.lemmas.Bool.{cases_lt}
 
 module _ (stamp : ℕ → ℕ) (Acts : ℕ → ℕ → Type 0) (later : (n t : ℕ) → Acts n t → n < t) (apart : (n m t u : ℕ) → Acts n t → Acts m u → n < m → t < m) (start : stamp 0 ≡ 0)
     (step : (t : ℕ) → (stamp (suc t) ≡ stamp t) ⊎ ((n : ℕ) × Acts n t × (stamp (suc t) ≡ suc n))) where

@@ -20,8 +20,10 @@ use Rattle.afr_lines.specs.declared.answer.Told.TheVariants.{Granted, Seen, Done
 use Rattle.afr_moves.specs.Sets.{with, without, empty}
 use Rattle.afr_moves.specs.Past.{Log, held, unlocks, joined, is_gone}
 use Rattle.afr_moves.specs.Rules.{Register, fresh, begun, is_area, looked, viewed, looking, put_view, is_none, unlocked, released, locking, granting, heal_area, area_object, mend_cells, note_ask, dropping, MayHealLock, busy, second_of, second_freed}
-use Rattle.afr_law.proofs.Safety.Locks.{Grant, held_on, other_no}
+use Rattle.afr_law.proofs.Safety.Locks.{Grant, held_on}
 use Rattle.afr_moves.specs.Lines.{ask_by, look_at, pre_on, post_on, settle_on}
+use Rattle.std.proofs.lemmas.Bool.{ne_eqb}
+use Rattle.afr_moves.proofs.Tests.{with_cases, with_false, no_number}
 
 -- no lock of this domain is given up by the request
 pub KeepsLocks : Domain → Request → Type 0
@@ -142,13 +144,6 @@ standing_next log t a r s back still = record {
   healing = λ x h. held_next log t a x Heal r.start (Some (heal_area r.object)) (s.healing x h) (record { back = back x; still = λ mine e. still x Heal mine });
 }
 
--- one brick more, or less
-pub with_cases : (set : ℕ → Bool) (b x : ℕ) → with set b x ≡ true → (x ≡ b) ⊎ (set x ≡ true)
-with_cases set b x h = grind (arith, nat_tests)
-
-pub with_false : (set : ℕ → Bool) (b x : ℕ) → with set b x ≡ false → (x ≡ b → ⊥) × (set x ≡ false)
-with_false set b x h = grind (arith, nat_tests)
-
 pub without_true : (set : ℕ → Bool) (b x : ℕ) → without set b x ≡ true → (x ≡ b → ⊥) × (set x ≡ true)
 without_true set b x h = grind (arith, nat_tests)
 
@@ -187,7 +182,7 @@ standing_looked log t a b r s = go (r.number == 0) (r.held b) refl refl
               is = h.is;
               grant = h.grant;
               past = h.past;
-              before = λ q number. absurd (none r.number q e number);
+              before = λ q number. absurd (no_number r.number q e number);
               on = λ open_still live. h.on live;
             })
             | inr other ↦ s.under x other
@@ -195,9 +190,6 @@ standing_looked log t a b r s = go (r.number == 0) (r.held b) refl refl
           healing = s.healing;
         }
         )
-      where
-        none : (m q : ℕ) → (m == 0) ≡ true → m ≡ suc q → ⊥
-        none m q e f = grind (arith, nat_tests)
 
 pub standing_looking : (log : Log) (t a b g : ℕ) (view : View) (r : Register) → Standing log t a r → Standing log t a (looking r b g view)
 standing_looking log t a b g view r s = go r.heal
@@ -227,7 +219,7 @@ pub unlocks_at : (log : Log) (t a b x : ℕ) (domain other : Domain) (area mine 
     → (same_area mine area ≡ false) ⊎ ((x ≡ b → ⊥) ⊎ (took ≡ false)) → unlocks a x domain mine (log t) ≡ false
 unlocks_at log t a b x domain other area mine told took is why = rw is (elim why [
   | inl e ↦ part (same_domain domain other) (same_area mine area) (a == a) (b == x) took (inl e)
-  | inr (inl e) ↦ part (same_domain domain other) (same_area mine area) (a == a) (b == x) took (inr (inl (other_no b x (λ k. e (sym k)))))
+  | inr (inl e) ↦ part (same_domain domain other) (same_area mine area) (a == a) (b == x) took (inr (inl (ne_eqb b x (λ k. e (sym k)))))
   | inr (inr e) ↦ part (same_domain domain other) (same_area mine area) (a == a) (b == x) took (inr (inr e))
 ])
   where

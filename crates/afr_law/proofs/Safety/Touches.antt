@@ -11,9 +11,8 @@ use Rattle.afr_moves.specs.Cells.{Cell}
 use Rattle.afr_moves.specs.Past.{Beginning, Tables, tables, after, keep, makes, kind_at, choose, left_by, values, value, last, Log, before, touch, over, stamp, changes, mends, target}
 use Rattle.afr_moves.specs.Cells.{fits, object_of}
 use Rattle.std.specs.Prelude.{nat_le, nat_lt}
-use Rattle.afr_law.proofs.Safety.Locks.{same_yes}
-use Rattle.afr_tables.proofs.Entries.{cases_lt}
 use Rattle.afr_moves.specs.Lines.{ask_by}
+use Rattle.std.proofs.lemmas.Bool.{cases_lt, eqb-true, ltb-true}
 
 -- how a line touches a cell
 pub data Touched (files : Beginning) (log : Log) (t b : ℕ) (cell : Cell) : Type 0 where
@@ -25,11 +24,8 @@ pub data Touched (files : Beginning) (log : Log) (t b : ℕ) (cell : Cell) : Typ
 pub changes_before : (log : Log) (t q : ℕ) (cell : Cell) → changes (before log t q) cell ≡ true → (q < t) × (changes (log q) cell ≡ true)
 changes_before log t q cell e = go (nat_lt q t) refl e
   where
-    less : (q t : ℕ) → nat_lt q t ≡ true → q < t
-    less q t h = grind (arith, nat_tests)
-
     go : (hit : Bool) → nat_lt q t ≡ hit → changes (if hit then log q else None) cell ≡ true → (q < t) × (changes (log q) cell ≡ true)
-    go true h k = (less q t h, k)
+    go true h k = (ltb-true q t h, k)
     go false h k = absurd (true≢false (sym k))
 
 pub touched : (files : Beginning) (log : Log) (t b : ℕ) (cell : Cell) → Touched files log t b cell
@@ -45,7 +41,7 @@ touched files log t b cell = here (fits (kind_at files log t b (object_of cell))
         pick false e = Not (rw (h, is, e) refl)
         pick true e = (
             let w = three (y.0 == b) took (changes (before log t q) cell) e in
-            Made a.0 q told (is ∙ (λ i. Some (ask_by a.0 (same_yes y.0 b w.0 i) (Apply q) told (w.1 i)))) (changes_before log t q cell w.2).0 (changes_before log t q cell w.2).1 (rw (h, is, e) refl)
+            Made a.0 q told (is ∙ (λ i. Some (ask_by a.0 (eqb-true y.0 b w.0 i) (Apply q) told (w.1 i)))) (changes_before log t q cell w.2).0 (changes_before log t q cell w.2).1 (rw (h, is, e) refl)
             )
     go (Some (Ask a y (Mend repair) told took)) is h = pick ((y.0 == b) && took && mends repair cell) refl
       where
@@ -53,7 +49,7 @@ touched files log t b cell = here (fits (kind_at files log t b (object_of cell))
         pick false e = Not (rw (h, is, e) refl)
         pick true e = (
             let w = three (y.0 == b) took (mends repair cell) e in
-            Mended a.0 repair told (is ∙ (λ i. Some (ask_by a.0 (same_yes y.0 b w.0 i) (Mend repair) told (w.1 i)))) w.2 (rw (h, is, e) refl)
+            Mended a.0 repair told (is ∙ (λ i. Some (ask_by a.0 (eqb-true y.0 b w.0 i) (Mend repair) told (w.1 i)))) w.2 (rw (h, is, e) refl)
             )
     go _ is h = Not (rw (h, is) refl)
 

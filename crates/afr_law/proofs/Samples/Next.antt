@@ -34,10 +34,11 @@ use Rattle.afr_moves.specs.Heal.{Gives, Goes}
 use Rattle.afr_moves.specs.Ranges.{Each, IsWord}
 use Rattle.afr_law.specs.Exactly.{IsLawfulExactly}
 use Rattle.afr_moves.specs.Rules.{fits_change}
-use Rattle.afr_law.specs.ModelFits.{CanCarry, HasCopy}
+use Rattle.afr_law.specs.ModelFits.{HasCopy}
 use Rattle.afr_law.specs.ModelNext.{IsNext, MayAskNext, answered, is_carried}
 use Rattle.afr_moves.specs.Past.{opens, place}
 use Rattle.afr_moves.specs.Positions.{by_position}
+use Rattle.afr_tables.specs.Carrying.{CanCarry}
 
 -- one brick, and one opening file
 abbrev plan : Plan
