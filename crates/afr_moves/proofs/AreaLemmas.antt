@@ -7,13 +7,11 @@ use Rattle.afr_lines.specs.declared.request.Area.{Area}
 use Rattle.afr_lines.specs.declared.request.Area.TheVariants.{Range, Name}
 use Rattle.afr_moves.specs.Rules.{is_area}
 use Rattle.std.proofs.lemmas.Bool.{eqb-true, and_parts}
+use Rattle.afr_moves.proofs.Tests.{three_parts}
 
 pub same_area_is : (a b : Area) → same_area a b ≡ true → a ≡ b
-same_area_is (Range g from to) (Range h start stop) e = three g.0 h.0 from start to stop (all_three (g.0 == h.0) (from == start) (to == stop) e)
+same_area_is (Range g from to) (Range h start stop) e = three g.0 h.0 from start to stop (three_parts (g.0 == h.0) (from == start) (to == stop) e)
   where
-    all_three : (x y z : Bool) → (x && y && z) ≡ true → (x ≡ true) × (y ≡ true) × (z ≡ true)
-    all_three x y z e = grind arith
-
     three : (g h from start to stop : ℕ) → ((g == h) ≡ true) × ((from == start) ≡ true) × ((to == stop) ≡ true) → range_of g from to ≡ range_of h start stop
     three g h from start to stop w = λ i. range_of (eqb-true g h w.0 i) (eqb-true from start w.1 i) (eqb-true to stop w.2 i)
 same_area_is (Name g None) (Name h None) e = two g.0 h.0 (and_parts (g.0 == h.0) true e).0

@@ -1,6 +1,6 @@
 -- What tests of numbers, kinds and sets of bricks decide.
 use Rattle.std.proofs.Common.{◌≡◌, ℕ, zero, suc, ◌<◌, ◌&&◌, ◌||◌, not, ◌==◌, if◌then◌else◌, Bool, true, false, refl, sym, subst, arith, max, ◌⊎◌, inl, inr}
-use Rattle.std.proofs.lemmas.Bool.{or_cases, or_left, or_right, and_from}
+use Rattle.std.proofs.lemmas.Bool.{eqb-true, or_cases, or_left, or_right, and_from}
 use Rattle.std.proofs.lemmas.Bool.Decides.{nat_tests}
 use Rattle.afr_base.specs.Bricks.{and_left, and_right}
 use Rattle.afr_base.specs.Kinds.{same_kind}
@@ -10,8 +10,10 @@ use Rattle.afr_base.specs.declared.ids.Kind.TheVariants.{Bytes, Attrs, Names}
 use Rattle.afr_base.specs.declared.ids.What.{What}
 use Rattle.afr_base.specs.declared.ids.What.TheVariants.{File, Dir}
 use Rattle.afr_moves.specs.Cells.{what_code}
-use Rattle.afr_moves.specs.Register.{Step, WorkLocks, all, same_step}
+use Rattle.afr_moves.specs.Register.{Finish, Opening, Piece, Step, WorkLocks, all, same_step}
 use Rattle.afr_moves.specs.Sets.{any, with, without}
+use Rattle.afr_moves.specs.Note.{put}
+use Rattle.std.specs.Prelude.{Option, Some}
 
 -- ---- numbers
 pub same_self : (n : ℕ) → (n == n) ≡ true
@@ -46,6 +48,9 @@ no_number m q e f = grind (arith, nat_tests)
 -- ---- tests of tests
 pub four_parts : (x y z w : Bool) → (x && y && z && w) ≡ true → (x ≡ true) × (y ≡ true) × (z ≡ true) × (w ≡ true)
 four_parts x y z w e = grind arith
+
+pub three_parts : (x y z : Bool) → (x && y && z) ≡ true → (x ≡ true) × (y ≡ true) × (z ≡ true)
+three_parts x y z e = grind arith
 
 -- a choice of true or a test is one of two, a choice of false or a test is both
 pub or_choice : (e f : Bool) → (if e then true else f) ≡ (e || f)
@@ -90,6 +95,18 @@ some_what Dir = refl
 pub work_locks : (step : Step) → same_step step WorkLocks ≡ true → step ≡ WorkLocks
 work_locks WorkLocks h = refl
 work_locks _ h = absurd (cc h)
+
+pub next_not_opening : (last : Bool) → (if last then Finish else Piece) ≡ Opening → ⊥
+next_not_opening true e = cc e
+next_not_opening false e = cc e
+
+-- ---- what is put in a place
+pub put_read : (f : ℕ → Option ℕ) (b x p : ℕ) (new : Option ℕ) → put f b new x ≡ Some p → ((x ≡ b) × (new ≡ Some p)) ⊎ (f x ≡ Some p)
+put_read f b x p new e = go (x == b) refl e
+  where
+    go : (hit : Bool) → (x == b) ≡ hit → (if hit then new else f x) ≡ Some p → ((x ≡ b) × (new ≡ Some p)) ⊎ (f x ≡ Some p)
+    go true k l = inl (eqb-true x b k, l)
+    go false k l = inr l
 
 -- ---- sets
 pub with_more : (set : ℕ → Bool) (b x : ℕ) → set x ≡ true → with set b x ≡ true

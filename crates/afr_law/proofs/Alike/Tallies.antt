@@ -1,7 +1,6 @@
 -- What a tally says of the lines since the number, and since the start of the heal.
 use Rattle.std.proofs.Common.{◌≡◌, ℕ, suc, ◌<◌, ◌≤◌, Bool, true, false, ◌&&◌, not, ◌⊎◌, inl, inr, refl, sym, ap, ◌∙◌, subst, arith, true≢false}
 use Rattle.std.specs.Prelude.{Option, None, Some, ◌==◌, if◌then◌else◌, List as Seq}
-use Rattle.std.proofs.lemmas.Bool.Decides.{nat_tests}
 use Rattle.afr_base.specs.declared.ids.Kind.{Kind}
 use Rattle.afr_faults.specs.declared.fault.Fault.{Fault}
 use Rattle.afr_object.specs.declared.entry.View.{View}
@@ -22,7 +21,7 @@ use Rattle.afr_law.proofs.Safety.Standing.{Noted, noted, Grants, Waits, Frees, T
 use Rattle.afr_law.proofs.Safety.Registers.{Own, Asks, Begins, HealBegins, Ends, HealEnds, registers_at, MayOf}
 use Rattle.afr_law.proofs.Alike.Since.{follows_asked, follows_dropped}
 use Rattle.std.proofs.lemmas.Bool.{cases_lt}
-use Rattle.afr_moves.proofs.Tests.{with_more, with_self}
+use Rattle.afr_moves.proofs.Tests.{with_more, with_self, same_self}
 
 -- the tally in force at the line
 abbrev pub present_tally : Log → ℕ → ℕ → Tally
@@ -213,26 +212,11 @@ module _ (n : ℕ) (keeps : ℕ → Kind → Bool) (files : Beginning) (faults :
       go false = w
 
   own_is : (t a : ℕ) → Own log t a → is_of a (log t) ≡ true
-  own_is t a (Asks b request told took is) = rw is (self a)
-    where
-      self : (x : ℕ) → (x == x) ≡ true
-      self x = grind (arith, nat_tests)
-  own_is t a (Begins change is) = rw is (self a)
-    where
-      self : (x : ℕ) → (x == x) ≡ true
-      self x = grind (arith, nat_tests)
-  own_is t a (HealBegins g kind is) = rw is (self a)
-    where
-      self : (x : ℕ) → (x == x) ≡ true
-      self x = grind (arith, nat_tests)
-  own_is t a (Ends reply is) = rw is (self a)
-    where
-      self : (x : ℕ) → (x == x) ≡ true
-      self x = grind (arith, nat_tests)
-  own_is t a (HealEnds g kind reply is) = rw is (self a)
-    where
-      self : (x : ℕ) → (x == x) ≡ true
-      self x = grind (arith, nat_tests)
+  own_is t a (Asks b request told took is) = rw is (same_self a)
+  own_is t a (Begins change is) = rw is (same_self a)
+  own_is t a (HealBegins g kind is) = rw is (same_self a)
+  own_is t a (Ends reply is) = rw is (same_self a)
+  own_is t a (HealEnds g kind reply is) = rw is (same_self a)
 
   -- the tally in force at the line of a numbered register is that before it
   tally_now : (t a : ℕ) → ((present n log t a).number ≡ 0 → ⊥) → present_tally log t a ≡ tally log t a

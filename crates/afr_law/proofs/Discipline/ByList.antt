@@ -16,7 +16,7 @@ use Rattle.std.specs.Prelude.{None, Option, Some, nat_lt, ◌==◌}
 use Rattle.std.specs.Prelude.{List as Seq}
 use Rattle.afr_moves.specs.Cells.{Entry}
 use Rattle.afr_moves.specs.Discipline.{exact, exact_after, present, in_force, MayExactly, HasRead, EndsWork, MakesKnown, BeginsKnown, NumbersInRange, LawfulExactly}
-use Rattle.std.proofs.lemmas.Bool.{eqb-true, ltb-true}
+use Rattle.std.proofs.lemmas.Bool.{eqb-true, ltb-true, ltb-false}
 
 module _ (log other : Log) (m : ℕ) (agree : (u : ℕ) → u < m → log u ≡ other u) where
   pub exact_same : (n : ℕ) (keeps : ℕ → Kind → Bool) (a t : ℕ) → t ≤ m → exact n keeps log t a ≡ exact n keeps other t a
@@ -91,9 +91,6 @@ exactly_lawful n files log lawful = record {
     each : (t : ℕ) → NumbersInRange (by_position log t) × MayExactly n files.keeps (present n files.keeps (by_position log) t) (by_position log t) × BeginsKnown files (by_position log) t (by_position log t)
     each t = go (nat_lt t (length log)) refl
       where
-        past_it : (q m : ℕ) → nat_lt q m ≡ false → m ≤ q
-        past_it q m e = grind (arith, nat_tests)
-
         go : (inside : Bool) → nat_lt t (length log) ≡ inside → NumbersInRange (by_position log t) × MayExactly n files.keeps (present n files.keeps (by_position log) t) (by_position log t) × BeginsKnown files (by_position log) t (by_position log t)
         go true e = at_each n files (by_position log) log (past_whole log) lawful t (ltb-true t (length log) e)
-        go false e = subst (λ (l : Option Line). NumbersInRange l × MayExactly n files.keeps (present n files.keeps (by_position log) t) l × BeginsKnown files (by_position log) t l) (sym (none_at log t (past_it t (length log) e))) (tt, tt, tt)
+        go false e = subst (λ (l : Option Line). NumbersInRange l × MayExactly n files.keeps (present n files.keeps (by_position log) t) l × BeginsKnown files (by_position log) t l) (sym (none_at log t (ltb-false t (length log) e))) (tt, tt, tt)

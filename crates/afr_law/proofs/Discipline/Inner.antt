@@ -22,7 +22,7 @@ use Rattle.std.proofs.lemmas.Bool.Decides.{nat_tests}
 use Rattle.std.specs.Prelude.{Some, if◌then◌else◌, ◌==◌}
 use Rattle.afr_moves.specs.Rules as weak
 use Rattle.afr_moves.specs.Rules.{Register, busy, is_area}
-use Rattle.std.proofs.lemmas.Bool.{or_parts, eqb-true, leb-true}
+use Rattle.std.proofs.lemmas.Bool.{or_parts, eqb-true, leb-true, not-true}
 use Rattle.afr_base.specs.Bricks.{and_left, and_right}
 use Rattle.afr_moves.proofs.Tests.{work_locks}
 
@@ -209,10 +209,7 @@ module _ (n : ℕ) (keeps : ℕ → Kind → Bool) (r : Exact) (b : ℕ) (area :
           else after_unlocks n r area source && not (is_finish r.phase) && is_lowest r.first_reached empty b) ≡ true → (busy n r.law ≡ false) ⊎ (is_area r.law.area area ≡ true)
       go true heal f e = inr (and_left _ _ e)
       go false true f e = (let five : rank r.step ≡ 5 = eqb-true (rank r.step) 5 f in absurd (later (heal_phase five ∙ early (omega (arith, five)))))
-      go false false f e = inl (not_true (busy n r.law) (and_right _ _ (and_left _ _ (and_left _ _ (and_left _ _ (and_left _ _ e))))))
-        where
-          not_true : (x : Bool) → not x ≡ true → x ≡ false
-          not_true x e = grind arith
+      go false false f e = inl (not-true (busy n r.law) (and_right _ _ (and_left _ _ (and_left _ _ (and_left _ _ (and_left _ _ e))))))
 
   idle_none : (x : ℕ) → x < n → busy n r.law ≡ false → asked_in r WorkLocks x ≡ true → ⊥
   idle_none x below idle h = any_false n r.law.held x below (asked_held x below h) (or_parts (any n r.law.held) (any n r.law.second_held) idle).0

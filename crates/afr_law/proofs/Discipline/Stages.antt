@@ -22,9 +22,9 @@ use Rattle.std.specs.Prelude.{if◌then◌else◌, nat_le, nat_lt, ◌==◌}
 use Rattle.afr_moves.specs.Rules as weak
 use Rattle.afr_moves.specs.Rules.{Register, busy, is_area}
 use Rattle.afr_moves.specs.Register.{Exact, Step, Phase, Untouched, HealLocks, WorkLocks, Looks, Reads, HealPres, Mends, Settles, Unlocks, HealUnlocks, Opening, Piece, Finish, rank, same_step, is_finish, len_of, piece_area, whole_area}
-use Rattle.std.proofs.lemmas.Bool.{or_parts, eqb-true}
+use Rattle.std.proofs.lemmas.Bool.{or_parts, eqb-true, not-true, leb-true}
 use Rattle.afr_base.specs.Bricks.{and_left, and_right}
-use Rattle.afr_moves.proofs.Tests.{work_locks}
+use Rattle.afr_moves.proofs.Tests.{work_locks, next_not_opening}
 
 -- number and start by the step: no start outside a heal and before its first HealBegin, no number while Work locks are asked
 pub record Stage (heal : Bool) (step : Step) (phase : Phase) (broken : Bool) (start number : ℕ) : Type 0 where
@@ -93,14 +93,11 @@ stage_kept step phase broken start number now count e f s = record {
 second_of_five : (x y z u v : Bool) → ((x && (y && z)) && u && v) ≡ true → y ≡ true
 second_of_five x y z u v e = grind arith
 
-far_of : (m : ℕ) → nat_le 7 m ≡ true → 7 ≤ m
-far_of m e = grind (arith, nat_tests)
-
 pub onward_far : (n : ℕ) (keeps : ℕ → Kind → Bool) (r : Exact) (s g : ℕ) (kind : Kind) → onward n keeps r s g kind ≡ true → 7 ≤ rank r.step
-onward_far n keeps r s g kind e = far_of (rank r.step) (second_of_five (goes_on n keeps r s) (nat_le 7 (rank r.step)) (passed n keeps r s Looks) (g == r.law.object) (same_kind kind r.law.kind) e)
+onward_far n keeps r s g kind e = leb-true 7 (rank r.step) (second_of_five (goes_on n keeps r s) (nat_le 7 (rank r.step)) (passed n keeps r s Looks) (g == r.law.object) (same_kind kind r.law.kind) e)
 
 pub settles_far : (n : ℕ) (keeps : ℕ → Kind → Bool) (r : Exact) (s : ℕ) → settles_over n keeps r s ≡ true → 7 ≤ rank r.step
-settles_far n keeps r s e = far_of (rank r.step) (deep (nat_le 7 (rank r.step)) (passed n keeps r s Looks) (passed n keeps r s Reads) (passed n keeps r s HealPres) (passed n keeps r s Mends) (passed n keeps r s Settles) e)
+settles_far n keeps r s e = leb-true 7 (rank r.step) (deep (nat_le 7 (rank r.step)) (passed n keeps r s Looks) (passed n keeps r s Reads) (passed n keeps r s HealPres) (passed n keeps r s Mends) (passed n keeps r s Settles) e)
   where
     deep : (x y z u v w : Bool) → (((((x && y) && z) && u) && v) && w) ≡ true → x ≡ true
     deep x y z u v w e = grind arith
@@ -197,20 +194,13 @@ module _ (n : ℕ) (keeps : ℕ → Kind → Bool) (r : Exact) (t b : ℕ) (told
           none : (x y z u v : Bool) → ((false && x && y && z) && u && v) ≡ true → ⊥
           none x y z u v e = true≢false (sym e)
       go false p false q true v last e = (
-          let idle : busy n r.law ≡ false = not_true (busy n r.law) (free (not (busy n r.law)) (same_kind r.law.kind Bytes) (if nat_lt r.upto (len_of (r.first_views source)) then same_area (piece_area r.law.object r.upto) area else last) (not (is_finish r.phase)) (is_lowest r.first_reached empty b) e) in
+          let idle : busy n r.law ≡ false = not-true (busy n r.law) (free (not (busy n r.law)) (same_kind r.law.kind Bytes) (if nat_lt r.upto (len_of (r.first_views source)) then same_area (piece_area r.law.object r.upto) area else last) (not (is_finish r.phase)) (is_lowest r.first_reached empty b) e) in
           let begun_once : r.law.start ≡ 0 → ⊥ = s.numbered refl whole (let k : rank r.step ≡ 12 = eqb-true (rank r.step) 12 v in omega (arith, k)) in
-          wait_stage area (if last then Finish else Piece) (λ first. absurd (not_opening last first)) (λ f z. begun_once z) (free_number area idle)
+          wait_stage area (if last then Finish else Piece) (λ first. absurd (next_not_opening last first)) (λ f z. begun_once z) (free_number area idle)
           )
         where
           free : (x y z u v : Bool) → ((true && x && y && z) && u && v) ≡ true → x ≡ true
           free x y z u v e = grind arith
-
-          not_true : (x : Bool) → not x ≡ true → x ≡ false
-          not_true x e = grind arith
-
-          not_opening : (last : Bool) → (if last then Finish else Piece) ≡ Opening → ⊥
-          not_opening true e = cc e
-          not_opening false e = cc e
 
   pub staged : (request : Request) → InHeal n keeps r b request → Staged request
   staged (Lock Heal area) (Goes m) = heal_lock (Lock Heal area) (eqb-true (rank r.step) 5 (and_left _ _ (and_left _ _ m.allowed)))

@@ -22,11 +22,10 @@ use Rattle.afr_lines.specs.declared.answer.Told.TheVariants.{Done, Failed, Given
 use Rattle.afr_lines.specs.declared.request.Request.{Request}
 use Rattle.afr_lines.specs.declared.request.Request.TheVariants.{Apply, Index, List, Lock, Look, Mend, Post, Pre, ReadAttr, ReadAttrs, ReadBytes, ReadName, Settle, Unlock}
 use Rattle.afr_range_locks.specs.declared.domain.Domain.TheVariants.{Heal, Work}
-use Rattle.std.proofs.Common.{Bool, ap, arith, false, inl, inr, refl, subst, sym, true, true≢false, ℕ, ◌∙◌, ◌≡◌, ◌≤◌, ◌⊎◌}
-use Rattle.std.proofs.lemmas.Bool.Decides.{nat_tests}
-use Rattle.std.specs.Prelude.{None, Option, Some, if◌then◌else◌, ◌==◌}
+use Rattle.std.proofs.Common.{Bool, ap, arith, false, inl, inr, refl, subst, sym, true, true≢false, ℕ, ◌∙◌, ◌≡◌, ◌≤◌}
+use Rattle.std.specs.Prelude.{None, Option, Some}
 use Rattle.std.proofs.lemmas.Bool.{eqb-true}
-use Rattle.afr_moves.proofs.Tests.{same_kind_yes}
+use Rattle.afr_moves.proofs.Tests.{same_kind_yes, put_read}
 use Rattle.afr_base.specs.Bricks.{and_left, and_right}
 
 -- what a part of a heal of this kind reads of its object
@@ -57,25 +56,18 @@ module _ (n : ℕ) (keeps : ℕ → Kind → Bool) (log : Log) (t a b : ℕ) (r 
   goes : (next : Step) (w : Register) → 7 ≤ rank r.step → rank r.step ≤ 11 → w.object ≡ r.law.object → w.kind ≡ r.law.kind → Wanted log a next w.object w.kind r.upto r.reads
   goes next w far low object kind f l x p e = subst (λ g. WasRead log a g w.kind r.upto x p) (sym object) (subst (λ c. WasRead log a r.law.object c r.upto x p) (sym kind) (h far low x p e))
 
-  put_read : (f : ℕ → Option ℕ) (x p : ℕ) (new : Option ℕ) → put f b new x ≡ Some p → ((x ≡ b) × (new ≡ Some p)) ⊎ (f x ≡ Some p)
-  put_read f x p new e = go (x == b) refl e
-    where
-      go : (hit : Bool) → (x == b) ≡ hit → (if hit then new else f x) ≡ Some p → ((x ≡ b) × (new ≡ Some p)) ⊎ (f x ≡ Some p)
-      go true k l = inl (grind (arith, nat_tests), l)
-      go false k l = inr l
-
   -- a read
   reads : (request : Request) (told : Told) (took : Bool) → log t ≡ Some (ask_by a b request told took) → 7 ≤ rank r.step → rank r.step ≤ 8 → fails told ≡ false → request ≡ read_for r.law.object r.law.kind r.upto
       → Wanted log a Reads (weak.dropping (is_gone told) b r.law).object (weak.dropping (is_gone told) b r.law).kind r.upto (put r.reads b (given told t))
   reads request told took is far low ok same = subst (λ (w : Register). Wanted log a Reads w.object w.kind r.upto (put r.reads b (given told t))) (sym (kept_law (is_gone told) b r.law (fails_gone told ok))) (noted told is)
     where
       noted : (d : Told) → log t ≡ Some (ask_by a b request d took) → Wanted log a Reads r.law.object r.law.kind r.upto (put r.reads b (given d t))
-      noted Given at f l x p e = elim (put_read r.reads x p (Some t) e) [
+      noted Given at f l x p e = elim (put_read r.reads b x p (Some t) e) [
         | inl w ↦ (let now : t ≡ p = cc (w.1) in subst (λ q. WasRead log a r.law.object r.law.kind r.upto x q) now
             (subst (λ y. WasRead log a r.law.object r.law.kind r.upto y t) (sym w.0) (record { took = took; is = at ∙ ap (λ q. Some (ask_by a b q Given took)) same })))
         | inr old ↦ h far (omega (arith, low)) x p old
       ]
-      noted _ at f l x p e = elim (put_read r.reads x p None e) [ inl w ↦ absurd (cc (w.1)) | inr old ↦ h far (omega (arith, low)) x p old ]
+      noted _ at f l x p e = elim (put_read r.reads b x p None e) [ inl w ↦ absurd (cc (w.1)) | inr old ↦ h far (omega (arith, low)) x p old ]
 
   -- a read of the object and kind
   for_kind : (request : Request) (kind : Kind) → kind ≡ r.law.kind → request ≡ read_for r.law.object kind r.upto → request ≡ read_for r.law.object r.law.kind r.upto

@@ -19,11 +19,10 @@ use Rattle.afr_object.specs.declared.change.Repair.{Repair}
 use Rattle.afr_object.specs.declared.change.Repair.TheVariants.{Copy, CutTo, PutAttrs, PutNames}
 use Rattle.afr_range_locks.specs.declared.domain.Domain.TheVariants.{Heal, Work}
 use Rattle.std.proofs.Common.{Bool, ap, arith, false, not, refl, sym, true, true≢false, ℕ, ◌&&◌, ◌<◌, ◌||◌, ◌∙◌, ◌≡◌, ◌≤◌}
-use Rattle.std.proofs.lemmas.Bool.Decides.{nat_tests}
-use Rattle.std.specs.Prelude.{if◌then◌else◌, nat_le, nat_lt, ◌==◌}
+use Rattle.std.specs.Prelude.{if◌then◌else◌, nat_lt, ◌==◌}
 use Rattle.afr_moves.specs.Rules.{busy, is_area, heal_area}
 use Rattle.afr_moves.proofs.Tests.{same_self, all_yes, work_locks}
-use Rattle.std.proofs.lemmas.Bool.{not-true, le-ltb, eqb-true}
+use Rattle.std.proofs.lemmas.Bool.{not-true, le-ltb, eqb-true, leb-true}
 use Rattle.afr_base.specs.Bricks.{and_left, and_right}
 
 pub or_true : (x y : Bool) → (x || y) ≡ true → x ≡ false → y ≡ true
@@ -128,10 +127,7 @@ module _ (n : ℕ) (keeps : ℕ → Kind → Bool) (r : Exact) (s : ℕ) where
   mend_goes (PutNames g reads) e = onward_goes g.0 Names (and_left _ _ (and_left _ _ e))
 
   pub looks_far : looks_over n keeps r s ≡ true → 7 ≤ rank r.step
-  looks_far e = far (rank r.step) (and_left _ _ e)
-    where
-      far : (m : ℕ) → nat_le 7 m ≡ true → 7 ≤ m
-      far m e = grind (arith, nat_tests)
+  looks_far e = leb-true 7 (rank r.step) (and_left _ _ e)
 
   pub looks_passed : looks_over n keeps r s ≡ true → passed n keeps r s Looks ≡ true
   looks_passed e = and_right _ _ e

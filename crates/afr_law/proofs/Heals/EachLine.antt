@@ -30,8 +30,9 @@ use Rattle.afr_law.proofs.Safety.Objects.{holds_fits}
 use Rattle.afr_moves.specs.Lines.{ask_by, begin_by, heal_begin_by, look_at, pre_on, settle_on}
 use Rattle.afr_law.proofs.Heals.Looks.{SettleLine, settle_line, unsettled, OwnPre, LookAt, ViewedAt, FirstAt, Viewing, viewing_fresh, viewing_dropped, Quiet, viewing_next, done_finds, mends_plane, stamp_rises}
 use Rattle.afr_law.proofs.Heals.Marks.{no_start, quiet_foreign, Ready, ready, quiet_own}
-use Rattle.std.proofs.lemmas.Bool.{cases_lt, eqb-true}
+use Rattle.std.proofs.lemmas.Bool.{cases_lt, eqb-true, eqb-false}
 use Rattle.afr_moves.proofs.Tests.{same_self, with_cases, with_false, positive}
+use Rattle.afr_base.specs.Bricks.{and_left, and_right}
 
 module _ (n : ℕ) (keeps : ℕ → Kind → Bool) (files : Beginning) (faults : ℕ → ℕ → Option Fault) (log : Log) (honest : Honest files faults log) (lawful : Lawful n keeps log) where
   viewing_begun : (t a : ℕ) (area : Area) (r : Register) → Viewing files log t a r → Viewing files log t a (begun r area)
@@ -112,15 +113,12 @@ module _ (n : ℕ) (keeps : ℕ → Kind → Bool) (files : Beginning) (faults :
       see heal false e = s
       see heal true e = build (six (r.number == 0) (r.seen b) (r.closed b) (g == r.object) (r.healing b) (r.settled b) e)
         where
-          zero_no : (m : ℕ) → (m == 0) ≡ false → m ≡ 0 → ⊥
-          zero_no m e f = grind (arith, nat_tests)
-
           build : ((r.number == 0) ≡ false) × (r.seen b ≡ true) × (r.closed b ≡ false) × ((g == r.object) ≡ true) × (r.healing b ≡ true) × (r.settled b ≡ false)
               → Viewing files log (suc t) a (record r { view = put_view r.view b view; first = if (r.number == r.start) && is_none (r.first b) then put_view r.first b view else r.first })
           build f = done ((r.number == r.start) && is_none (r.first b)) refl
             where
               h : (q : ℕ) × (r.number ≡ suc q)
-              h = positive r.number (zero_no r.number f.0)
+              h = positive r.number (eqb-false r.number 0 f.0)
 
               work : Working n keeps files faults log honest lawful t a b (present n log t a)
               work = working n keeps files faults log honest lawful t a b (look_at g) (Seen view) h.0 at (ap (λ (q : Register). q.number) force ∙ h.1)
@@ -188,7 +186,7 @@ module _ (n : ℕ) (keeps : ℕ → Kind → Bool) (files : Beginning) (faults :
                 raised_first = λ x inside mine. still_first new x (s.raised_first x inside mine);
                 began = s.began;
                 seen_began = λ x v k. elim (put_cases r.view x v k) [
-                  | inl k ↦ s.began heal (zero_no r.number f.0)
+                  | inl k ↦ s.began heal (eqb-false r.number 0 f.0)
                   | inr old ↦ s.seen_began x v old
                 ];
                 steady = s.steady;
@@ -198,15 +196,9 @@ module _ (n : ℕ) (keeps : ℕ → Kind → Bool) (files : Beginning) (faults :
                   firsts false q x v k = s.firsts x v k
                   firsts true q x v k =
                       elim (put_cases r.first x v k) [
-                        | inl k ↦ subst (λ y. FirstAt files log (suc t) a y r.start r.object r.kind (r.settled y) (r.healing y) r.heal (r.raised y) v) (sym k.0) (subst (FirstAt files log (suc t) a b r.start r.object r.kind (r.settled b) (r.healing b) r.heal (r.raised b)) k.1 (first_now (eqb-true r.number r.start (and_first (r.number == r.start) (is_none (r.first b)) q)) (and_second (r.number == r.start) (is_none (r.first b)) q)))
+                        | inl k ↦ subst (λ y. FirstAt files log (suc t) a y r.start r.object r.kind (r.settled y) (r.healing y) r.heal (r.raised y) v) (sym k.0) (subst (FirstAt files log (suc t) a b r.start r.object r.kind (r.settled b) (r.healing b) r.heal (r.raised b)) k.1 (first_now (eqb-true r.number r.start (and_left (r.number == r.start) (is_none (r.first b)) q)) (and_right (r.number == r.start) (is_none (r.first b)) q)))
                         | inr old ↦ s.firsts x v old
                       ]
-                    where
-                      and_first : (x y : Bool) → (x && y) ≡ true → x ≡ true
-                      and_first x y e = grind arith
-
-                      and_second : (x y : Bool) → (x && y) ≡ true → y ≡ true
-                      and_second x y e = grind arith
 
       go : (heal : Bool) → r.heal ≡ heal → Viewing files log (suc t) a (if heal then viewed r b g view else looked r b)
       go true e = see e (not (r.number == 0) && r.seen b && not (r.closed b) && (g == r.object) && r.healing b && not (r.settled b)) refl
@@ -419,9 +411,6 @@ module _ (n : ℕ) (keeps : ℕ → Kind → Bool) (files : Beginning) (faults :
       zero_is : (m : ℕ) → (m == 0) ≡ true → m ≡ 0
       zero_is m e = grind (arith, nat_tests)
 
-      zero_no : (m : ℕ) → (m == 0) ≡ false → m ≡ 0 → ⊥
-      zero_no m e f = grind (arith, nat_tests)
-
       go : (new : Bool) → (r.start == 0) ≡ new → Viewing files log (suc t) a (record r { number = suc t; seen = r.held; closed = empty; kind = kind; start = if new then suc t else r.start; view = λ x. None })
       go true e = record {
         views = λ x view k. absurd (cc);
@@ -439,13 +428,13 @@ module _ (n : ℕ) (keeps : ℕ → Kind → Bool) (files : Beginning) (faults :
         wholly = λ h k l. absurd (omega (arith, k, l, w.numbers.start_past));
         mended = v.mended;
         raised_first = v.raised_first;
-        began = λ inside some none. zero_no r.start e none;
+        began = λ inside some none. eqb-false r.start 0 e none;
         seen_began = λ x view k. absurd (cc);
         steady = λ h x inside number seen heal un live c. here h x number c;
       }
         where
           old_kind : kind ≡ r.kind
-          old_kind = elim may.kind_same [ inl none ↦ absurd (zero_no r.start e none) | inr k ↦ k ]
+          old_kind = elim may.kind_same [ inl none ↦ absurd (eqb-false r.start 0 e none) | inr k ↦ k ]
 
   pub viewings : (t a : ℕ) → Viewing files log t a (register n log t a)
   viewings =

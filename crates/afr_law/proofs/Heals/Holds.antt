@@ -31,7 +31,7 @@ use Rattle.std.specs.Prelude.{Some, if◌then◌else◌, ◌==◌}
 use Rattle.afr_moves.specs.Rules as weak
 use Rattle.afr_moves.specs.Rules.{Register, is_area, heal_area}
 use Rattle.afr_moves.specs.Past.{Log, is_gone}
-use Rattle.afr_moves.proofs.Tests.{with_more, with_self, with_cases, without_in}
+use Rattle.afr_moves.proofs.Tests.{with_more, with_self, with_cases, without_in, next_not_opening}
 
 -- the last part of a heal, which settles
 abbrev pub is_last : Kind → Phase → Bool
@@ -166,15 +166,11 @@ module _ (n : ℕ) (keeps : ℕ → Kind → Bool) (r : Exact) (t a b : ℕ) (be
       waits : rank r.step ≤ 6 → r.law.healing b ≡ true → next_phase r area ≡ r.phase → HoldsAfter (Lock Work area) told
       waits low heals same = work_lock area told (omega (arith, low)) heals (λ x m. (let far : 11 ≤ rank r.step = (h.settled x m).1 in absurd (omega (arith, far, low)))) (λ gone x m. early_reached low (sym same ∙ first gone) x m)
 
-      later : (last : Bool) → (if last then Finish else Piece) ≡ Opening → ⊥
-      later true k = cc k
-      later false k = cc k
-
       go : WorkPlace n keeps r source b area → HoldsAfter (Lock Work area) told
       go (Waits at same own lock fresh) = (let six : rank r.step ≡ 6 = ap rank at in waits (omega (arith, six)) (locks_healing r.phase (omega (arith, six)) lock) same)
       go (Starts five same lock) = waits (omega (arith, five)) lock same
       go (Resumes twelve same idle bytes unfinished lock next) = work_lock area told (omega (arith, twelve)) (h.reached (omega (arith, twelve)) b below lock) (λ x m. not_last r.law.kind r.phase bytes (rw unfinished refl) (h.settled x m).0)
-          (λ gone x m. later (same_area (whole_area r.law.object Bytes) area) (sym same ∙ first gone))
+          (λ gone x m. next_not_opening (same_area (whole_area r.law.object Bytes) area) (sym same ∙ first gone))
 
   -- a look
   look : (g : ℕ) (told : Told) (source : ℕ) → may_heal n keeps r source b (look_at g) ≡ true → breaks r (look_at g) told ≡ false → HoldsAfter (look_at g) told

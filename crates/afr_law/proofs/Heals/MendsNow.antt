@@ -44,8 +44,9 @@ use Rattle.afr_moves.specs.Rules.{Register, heal_area}
 use Rattle.afr_moves.specs.Cells.{Cell, Byte, Attr, Entry}
 use Rattle.afr_law.proofs.Heals.Mended.{Mended, Brought, MendedIn, IsWide, unmended_yet}
 use Rattle.afr_law.proofs.Heals.MendsAlong.{Wide, MendAfter, mend_told}
-use Rattle.afr_moves.proofs.Tests.{same_kind_yes}
+use Rattle.afr_moves.proofs.Tests.{same_kind_yes, next_not_opening}
 use Rattle.afr_base.specs.Bricks.{and_left, and_right}
+use Rattle.std.proofs.lemmas.Bool.{ltb-false}
 
 module _ (n : ℕ) (keeps : ℕ → Kind → Bool) (t b : ℕ) (r : Exact) (k : Tally) (number : ℕ) (number_is : number ≡ r.law.number) (some_number : 7 ≤ rank r.step → r.law.number ≡ 0 → ⊥) (s : StageOf r) (inside : r.law.heal ≡ true) (areas : AreasIn r r.law) (h : MendedIn n keeps r r.law k) where
   abbrev pub Then : Request → Told → Type 0
@@ -91,12 +92,9 @@ module _ (n : ℕ) (keeps : ℕ → Kind → Bool) (t b : ℕ) (r : Exact) (k : 
       finishes : next_phase r area ≡ Finish → (s : ℕ) → (r.possible s && may_heal n keeps r s b (Lock Work area)) ≡ true → rank r.step ≡ 12 → len_of (r.first_views s) ≤ r.upto
       finishes m s p twelve = chosen (work_place n keeps r s b area (allows (Lock Work area) s p))
         where
-          enough : (x y : ℕ) → nat_lt x y ≡ false → y ≤ x
-          enough x y q = grind (arith, nat_tests)
-
           pick : (more : Bool) → nat_lt r.upto (len_of (r.first_views s)) ≡ more → (if more then same_area (piece_area r.law.object r.upto) area else same_area (whole_area r.law.object Bytes) area) ≡ true
               → next_phase r area ≡ (if same_area (whole_area r.law.object Bytes) area then Finish else Piece) → len_of (r.first_views s) ≤ r.upto
-          pick false q c same = enough r.upto (len_of (r.first_views s)) q
+          pick false q c same = ltb-false r.upto (len_of (r.first_views s)) q
           pick true q c same = (
               let is : piece_area r.law.object r.upto ≡ area = same_area_is (piece_area r.law.object r.upto) area c in
               let piece : next_phase r area ≡ Piece = same ∙ ap (λ (x : Area). if same_area (whole_area r.law.object Bytes) x then Finish else Piece) (sym is) ∙ ap (λ (x : Bool). if x then Finish else Piece) (piece_apart r.law.object r.upto) in
@@ -114,13 +112,9 @@ module _ (n : ℕ) (keeps : ℕ → Kind → Bool) (t b : ℕ) (r : Exact) (k : 
       go (Resumes twelve same idle bytes unfinished lock choice) = (
           let next = weak.dropping (is_gone told) b (weak.note_ask n r.law b (Lock Work area) told) in
           let l = left_in_heal n r t b (Lock Work area) told in
-          later_part n keeps t 0 b r k number number_is some_number areas h WorkLocks (next_phase r area) next.kind l.asked (λ s. r.possible s && may_heal n keeps r s b (Lock Work area)) r.reads next.object next.number next.mended k.raises (inr (omega (arith, twelve))) (λ m. later (same_area (whole_area r.law.object Bytes) area) (sym same ∙ m))
+          later_part n keeps t 0 b r k number number_is some_number areas h WorkLocks (next_phase r area) next.kind l.asked (λ s. r.possible s && may_heal n keeps r s b (Lock Work area)) r.reads next.object next.number next.mended k.raises (inr (omega (arith, twelve))) (λ m. next_not_opening (same_area (whole_area r.law.object Bytes) area) (sym same ∙ m))
           (same_kind_yes r.law.kind Bytes bytes) w.rest.kind w.object w.rest.mended (λ at. omega (arith, at, twelve)) (omega arith) (λ f. absurd (omega (arith, f))) (λ f. absurd (omega (arith, f))) (less (Lock Work area)) (λ m s p. finishes m s p twelve)
           )
-        where
-          later : (last : Bool) → (if last then Finish else Piece) ≡ Opening → ⊥
-          later true k = cc k
-          later false k = cc k
 
   lock : (area : Area) (told : Told) (source : ℕ) → may_heal n keeps r source b (Lock Heal area) ≡ true → Then (Lock Heal area) told
   lock area told source e = (

@@ -38,7 +38,7 @@ use Rattle.afr_moves.specs.Rules as weak
 use Rattle.afr_moves.specs.Rules.{Register, heal_area}
 use Rattle.std.proofs.lemmas.Bool.{eqb-true}
 use Rattle.afr_base.specs.Bricks.{and_left, and_right}
-use Rattle.afr_moves.proofs.Tests.{with_more, with_self, with_cases}
+use Rattle.afr_moves.proofs.Tests.{with_more, with_self, with_cases, next_not_opening}
 
 -- the bricks that a heal from s changes
 abbrev pub raise_set : (ℕ → Kind → Bool) → (ℕ → Option View) → ℕ → Kind → ℕ → Bool
@@ -249,11 +249,7 @@ module _ (n : ℕ) (keeps : ℕ → Kind → Bool) (log : Log) (honest : Honestl
       go (Waits at same own lock fresh) = (let six : rank r.step ≡ 6 = ap rank at in stays (omega (arith, six)) same)
       go (Starts five same lock) = stays (omega (arith, five)) same
       go (Resumes twelve same idle bytes unfinished lock chosen) = in_later WorkLocks (next_phase r area) (weak.dropping (is_gone told) b (weak.note_ask n r.law b (Lock Work area) told)).kind (left_in_heal n r t b (Lock Work area) told).asked (still_possible (Lock Work area)) (weak.dropping (is_gone told) b (weak.note_ask n r.law b (Lock Work area) told)).raised
-          (inr (omega (arith, twelve))) (λ k. later (same_area (whole_area r.law.object Bytes) area) (sym same ∙ k)) (λ at. omega (arith, at)) w.rest.kind w.rest.raised (less_possible (Lock Work area))
-        where
-          later : (last : Bool) → (if last then Finish else Piece) ≡ Opening → ⊥
-          later true k = cc k
-          later false k = cc k
+          (inr (omega (arith, twelve))) (λ k. next_not_opening (same_area (whole_area r.law.object Bytes) area) (sym same ∙ k)) (λ at. omega (arith, at)) w.rest.kind w.rest.raised (less_possible (Lock Work area))
 
   look_raises : (g : ℕ) (told : Told) (source : ℕ) → may_heal n keeps r source b (look_at g) ≡ true → RaisesAfter (look_at g) told k.raises
   look_raises g told source e = elim (opening_or r.phase) [

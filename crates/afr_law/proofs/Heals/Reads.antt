@@ -21,12 +21,12 @@ use Rattle.afr_lines.specs.declared.request.Request.{Request}
 use Rattle.afr_lines.specs.declared.request.Request.TheVariants.{Apply, Index, List, Lock, Look, Mend, Post, Pre, ReadAttr, ReadAttrs, ReadBytes, ReadName, Settle, Unlock}
 use Rattle.afr_object.specs.declared.entry.View.{View}
 use Rattle.afr_range_locks.specs.declared.domain.Domain.TheVariants.{Heal, Work}
-use Rattle.std.proofs.Common.{Bool, arith, false, inl, inr, refl, subst, suc, sym, true, true≢false, ℕ, ◌<◌, ◌≡◌, ◌≤◌, ◌⊎◌}
-use Rattle.std.proofs.lemmas.Bool.Decides.{nat_tests}
-use Rattle.std.specs.Prelude.{None, Option, Some, if◌then◌else◌, ◌==◌}
+use Rattle.std.proofs.Common.{Bool, arith, false, inl, inr, refl, subst, suc, sym, true, true≢false, ℕ, ◌<◌, ◌≡◌, ◌≤◌}
+use Rattle.std.specs.Prelude.{None, Option, Some}
 use Rattle.afr_moves.specs.Note.{given}
 use Rattle.afr_moves.specs.Rules as weak
 use Rattle.afr_moves.specs.Rules.{Register}
+use Rattle.afr_moves.proofs.Tests.{put_read}
 
 -- the line of a read
 pub record ReadLine (n : ℕ) (keeps : ℕ → Kind → Bool) (log : Log) (t a : ℕ) (kind : Kind) (number : ℕ) (first_views : ℕ → Option View) (x p : ℕ) : Type 0 where
@@ -57,13 +57,6 @@ module _ (n : ℕ) (keeps : ℕ → Kind → Bool) (log : Log) (t a b : ℕ) (r 
   goes : (next : Step) (w : Register) → 8 ≤ rank next → 7 ≤ rank r.step → w.kind ≡ r.law.kind → w.number ≡ r.law.number → Readings n keeps log (suc t) a next w.kind w.number r.first_views r.reads
   goes next w late far kind number k x p e = (late, subst (λ m. ReadLine n keeps log (suc t) a w.kind m r.first_views x p) (sym number) (subst (λ c. ReadLine n keeps log (suc t) a c r.law.number r.first_views x p) (sym kind) (read_next n keeps log t a r.law.kind r.law.number r.first_views x p (h far x p e).1)))
 
-  put_read : (f : ℕ → Option ℕ) (x p : ℕ) (new : Option ℕ) → put f b new x ≡ Some p → ((x ≡ b) × (new ≡ Some p)) ⊎ (f x ≡ Some p)
-  put_read f x p new e = go (x == b) refl e
-    where
-      go : (hit : Bool) → (x == b) ≡ hit → (if hit then new else f x) ≡ Some p → ((x ≡ b) × (new ≡ Some p)) ⊎ (f x ≡ Some p)
-      go true k l = inl (grind (arith, nat_tests), l)
-      go false k l = inr l
-
   -- a read
   reads : (request : Request) (told : Told) (took : Bool) → log t ≡ Some (ask_by a b request told took) → 7 ≤ rank r.step → fails told ≡ false → (r.law.kind ≡ Names → good n keeps Names r.first_views b ≡ true)
       → Readings n keeps log (suc t) a Reads (weak.dropping (is_gone told) b r.law).kind (weak.dropping (is_gone told) b r.law).number r.first_views (put r.reads b (given told t))
@@ -72,13 +65,13 @@ module _ (n : ℕ) (keeps : ℕ → Kind → Bool) (log : Log) (t a b : ℕ) (r 
       noted : (d : Told) → log t ≡ Some (ask_by a b request d took) → Readings n keeps log (suc t) a Reads r.law.kind r.law.number r.first_views (put r.reads b (given d t))
       noted Given at k x p e = (
         omega arith,
-        elim (put_read r.reads x p (Some t) e) [
+        elim (put_read r.reads b x p (Some t) e) [
           | inl w ↦ (let same : t ≡ p = cc (w.1) in subst (λ q. ReadLine n keeps log (suc t) a r.law.kind r.law.number r.first_views x q) same
               (subst (λ y. ReadLine n keeps log (suc t) a r.law.kind r.law.number r.first_views y t) (sym w.0) (record { below = below; past = omega arith; since = past; request = request; took = took; is = at; good_copy = copy })))
           | inr old ↦ read_next n keeps log t a r.law.kind r.law.number r.first_views x p (h far x p old).1
         ],
       )
-      noted _ at k x p e = (omega arith, elim (put_read r.reads x p None e) [ inl w ↦ absurd (cc (w.1)) | inr old ↦ read_next n keeps log t a r.law.kind r.law.number r.first_views x p (h far x p old).1 ])
+      noted _ at k x p e = (omega arith, elim (put_read r.reads b x p None e) [ inl w ↦ absurd (cc (w.1)) | inr old ↦ read_next n keeps log t a r.law.kind r.law.number r.first_views x p (h far x p old).1 ])
 
   good_here : (source : ℕ) (kind : Kind) (phase : Phase) → reads_at n keeps r source kind phase b ≡ true → kind ≡ Names → good n keeps Names r.first_views b ≡ true
   good_here source Names phase e k = e

@@ -36,7 +36,7 @@ use Rattle.std.specs.Prelude.{None, Option, Some, if◌then◌else◌, ◌==◌}
 use Rattle.afr_moves.specs.Rules as weak
 use Rattle.afr_moves.specs.Rules.{Register, is_none, heal_area}
 use Rattle.std.proofs.lemmas.Bool.{eqb-true, eq-eqb, and_from}
-use Rattle.afr_moves.proofs.Tests.{with_false, some_number, with_cases}
+use Rattle.afr_moves.proofs.Tests.{with_false, some_number, with_cases, next_not_opening}
 use Rattle.afr_base.specs.Bricks.{and_right}
 
 six_true : (u v w x y z : Bool) → u ≡ true → v ≡ true → w ≡ true → x ≡ true → y ≡ true → z ≡ true → (u && v && w && x && y && z) ≡ true
@@ -211,11 +211,7 @@ module _ (n : ℕ) (keeps : ℕ → Kind → Bool) (log : Log) (honest : Honestl
       go (Waits at same own lock fresh) = (let six : rank r.step ≡ 6 = ap rank at in stays (omega (arith, six)) same)
       go (Starts five same lock) = stays (omega (arith, five)) same
       go (Resumes twelve same idle bytes unfinished lock chosen) = before_looks WorkLocks (next_phase r area) (left_in_heal n r t b (Lock Work area) told).asked (weak.dropping (is_gone told) b (weak.note_ask n r.law b (Lock Work area) told)) (omega arith) w.object w.rest.first
-          (λ k. absurd (later (same_area (whole_area r.law.object Bytes) area) (sym same ∙ k))) (λ k. h.enough (inr (omega (arith, twelve))))
-        where
-          later : (last : Bool) → (if last then Finish else Piece) ≡ Opening → ⊥
-          later true k = cc k
-          later false k = cc k
+          (λ k. absurd (next_not_opening (same_area (whole_area r.law.object Bytes) area) (sym same ∙ k))) (λ k. h.enough (inr (omega (arith, twelve))))
 
   lock_sights : (area : Area) (told : Told) (source : ℕ) → may_heal n keeps r source b (Lock Heal area) ≡ true → SightsAfter (Lock Heal area) told
   lock_sights area told source e = (

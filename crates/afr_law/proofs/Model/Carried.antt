@@ -1,5 +1,5 @@
 -- What a repair carries is what the values by positions say at its reads.
-use Rattle.std.proofs.Common.{◌≡◌, ℕ, suc, zero, ◌+◌, ◌-◌, ◌<◌, ◌≤◌, ◌^◌, max, Bool, true, false, ◌&&◌, ◌==◌, not, true≢false, refl, sym, ◌∙◌, ap, subst, arith, List, [], ◌∷◌, length, Option, None, Some, if◌then◌else◌, take, drop, length-take, length-drop, ltb}
+use Rattle.std.proofs.Common.{◌≡◌, ℕ, ◌+◌, ◌-◌, ◌<◌, ◌≤◌, ◌^◌, max, Bool, true, false, ◌&&◌, ◌==◌, not, true≢false, refl, sym, ◌∙◌, ap, subst, arith, List, [], ◌∷◌, length, Option, None, Some, if◌then◌else◌, take, drop, length-take, length-drop, ltb}
 use Rattle.std.specs.Prelude.{nat_lt}
 use Rattle.std.proofs.lemmas.Bool.Decides.{nat_tests}
 use Rattle.std.proofs.lemmas.List.{get_or_past, get_or-drop}
@@ -29,7 +29,7 @@ use Rattle.afr_law.proofs.Model.SoundLog.{AllSound, shown_sound, carried_sound}
 use Rattle.afr_law.proofs.Model.Mended.{Carries, keyed, piece_byte}
 use Rattle.afr_tables.proofs.Merged.{AllRise, led, most_led, led_merged}
 use Rattle.afr_law.specs.Beginning.{start_of}
-use Rattle.afr_tables.proofs.Values.{code_of}
+use Rattle.afr_tables.proofs.Values.{code_of, none_past}
 use Rattle.afr_law.specs.ModelLaw.{IsRead, NamesReads}
 
 -- a brick that keeps bytes carries them out
@@ -103,10 +103,6 @@ module _ (p : Plan) (n : ℕ) (L : Log) (older : List Line) (h : IsPast L older)
     where
       of_copy : (o : Option Object) → byte_at i (content_in o) ≡ code_of (Byte g.0 i) o
       of_copy None = none_past i
-        where
-          none_past : (i : ℕ) → byte_at i [] ≡ 0
-          none_past zero = refl
-          none_past (suc i) = refl
       of_copy (Some o) = refl
 
   short_carried : (g : Gfid) (at span k : ℕ) → IsRead older (request.ReadBytes g at span) k → length (bytes_shown (held_before p older) k (from_oldest k older)) ≤ span

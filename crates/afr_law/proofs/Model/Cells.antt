@@ -23,7 +23,7 @@ use Rattle.afr_tables.proofs.Entries.{entry_same, entry_some}
 use Rattle.afr_moves.specs.Past.{Log}
 use Rattle.afr_moves.proofs.ByPosition.{IsPast, past_at, none_at}
 use Rattle.afr_law.specs.Safe.{end_of, or_else, outcome, Acknowledged}
-use Rattle.std.proofs.lemmas.Bool.{cases_lt}
+use Rattle.std.proofs.lemmas.Bool.{cases_lt, ltb-false}
 use Rattle.afr_moves.proofs.Tests.{what_same}
 
 -- ---- cells
@@ -177,16 +177,13 @@ outcome_is L a q (line ∷ older) h = (λ i. or_else (outcome_is L a q older h.1
     either None other = refl
     either (Some reply) other = refl
 
-    less : (q n : ℕ) → nat_lt q n ≡ false → n ≤ q
-    less q n e = grind (arith, nat_tests)
-
     early : (older : List Line) → length older ≤ q → first_reply a q older ≡ None
     early [] low = refl
     early (x ∷ older) low = (let no : nat_lt q (length older) ≡ false = grind (arith, nat_tests) in rw no refl)
 
     go : (since : Bool) → nat_lt q (length older) ≡ since → or_else (option_map is_ok (first_reply a q older)) (if since then end_of a (Some line) else None) ≡ option_map is_ok (if since then earlier (first_reply a q older) (reply_by a line) else None)
     go true e = ap (or_else (option_map is_ok (first_reply a q older))) (after line) ∙ either (first_reply a q older) (reply_by a line)
-    go false e = rw (early older (less q (length older) e)) refl
+    go false e = rw (early older (ltb-false q (length older) e)) refl
 
 -- a position with a line is one of the list's
 pub below_length : (older : List Line) (q : ℕ) (line : Line) → from_oldest q older ≡ Some line → q < length older

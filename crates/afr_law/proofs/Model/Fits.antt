@@ -55,6 +55,7 @@ use Rattle.afr_law.proofs.Alike.Raises.{none_below}
 use Rattle.std.proofs.lemmas.Bool.{cases_lt}
 use Rattle.afr_moves.proofs.Tests.{same_self, same_kind_self}
 use Rattle.afr_tables.specs.Carrying.{CanMend, CanCarry}
+use Rattle.std.proofs.lemmas.Option.{same_Some}
 
 -- ---- by positions
 -- a look shows what its brick holds against each of five
@@ -172,10 +173,7 @@ fits_sums p n five (line ∷ older) below honest = (let before = fits_sums p n f
 
 -- ---- the discipline in full
 line_low : (n : ℕ) (files : Beginning) (line : Line) (older : List Line) (c : Change) → IsExactLine n files line older → change_of line ≡ Some c → EndsLow c
-line_low n files (Begin a x) older c here e = subst EndsLow (same x c e) here.1.low
-  where
-    same : (x y : Change) → Some x ≡ Some y → x ≡ y
-    same x y e = cc e
+line_low n files (Begin a x) older c here e = subst EndsLow (same_Some x c e) here.1.low
 line_low n files (Ask a b r told took) older c here e = absurd (cc e)
 line_low n files (HealBegin a g kind) older c here e = absurd (cc e)
 line_low n files (End a reply) older c here e = absurd (cc e)

@@ -38,7 +38,7 @@ use Rattle.afr_law.proofs.Model.Settles.{all_honest, all_lawful, take_within, wi
 use Rattle.afr_law.proofs.Model.Sums.{holds_is, pending_is}
 use Rattle.afr_law.proofs.Model.Tables.{code_is_value}
 use Rattle.afr_law.specs.ModelLaw.{ModelLawfulIsSafe}
-use Rattle.std.proofs.lemmas.Bool.{eqb-true}
+use Rattle.std.proofs.lemmas.Bool.{eqb-true, ltb-true, not-true}
 use Rattle.afr_moves.proofs.Tests.{four_parts}
 
 -- ---- tests
@@ -101,15 +101,11 @@ module _ (p : Plan) (n : ℕ) (L : Log) (five : p.shape.n ≤ 5) (older : List L
         member = w.0;
         holder = holds_is p n L b older h lawful g.0 ∙ w.1;
         copy = kept;
-        unaccused = λ x low m. pending_is p n L x b g kind older h lawful ∙ zero_is (pending_of p older x b g kind) (none_of (λ x. accuses p older g kind x b) among (negated _ w.3) x m);
+        unaccused = λ x low m. pending_is p n L x b g kind older h lawful ∙ zero_is (pending_of p older x b g kind) (none_of (λ x. accuses p older g kind x b) among (not-true _ w.3) x m);
       }
     where
       zero_is : (n : ℕ) → nat_lt 0 n ≡ false → n ≡ 0
       zero_is n e = grind (arith, nat_tests)
-
-      negated : (x : Bool) → not x ≡ true → x ≡ false
-      negated true e = absurd (true≢false (sym e))
-      negated false e = refl
 
   pub safe_is : Safe p.shape.n (kept_by p) (start_of p n) L (length older) → IsSafe p older
   safe_is all among within majority b cell good = go (is_cell (cell_of cell)) refl
@@ -130,10 +126,7 @@ module _ (p : Plan) (n : ℕ) (L : Log) (five : p.shape.n ≤ 5) (older : List L
           small b n l f = grind (arith, nat_tests)
 
       many : IsMajority p.shape.n (member among)
-      many = most p.shape.n (2 * count_below p.shape.n (member among)) majority
-        where
-          most : (n m : ℕ) → nat_lt n m ≡ true → n < m
-          most n m e = grind (arith, nat_tests)
+      many = ltb-true p.shape.n (2 * count_below p.shape.n (member among)) majority
 
       real_is : is_cell (cell_of cell) ≡ true → IsCurrent p older b cell
       real_is real =

@@ -28,6 +28,7 @@ use Rattle.afr_tables.proofs.Merged.{AreBelow, AllBelow, below_merged, rising_me
 use Rattle.afr_tables.proofs.Sound.{EachCopy, IsSound, NameFits, CarriesSound, each_changed, sound_applied, sound_mended, sound_opening}
 use Rattle.afr_tables.specs.Ends.{EndsInTime}
 use Rattle.afr_law.specs.ModelLaw.{IsRead, NamesReads, IsKnown, IsLawful, IsLawfulLine}
+use Rattle.std.proofs.lemmas.Option.{same_Some}
 
 -- a line that makes a new name makes one below n
 abbrev pub NameIsBelow : ℕ → Line → Type 0
@@ -81,10 +82,7 @@ abbrev pub Fits : ℕ → Change → Type 0
 Fits n c = EndsInTime c × NameFits n c
 
 line_ends : (p : Plan) (n : ℕ) (line : Line) (older : List Line) (c : Change) → IsKnown p line older → NameIsBelow n line → change_of line ≡ Some c → Fits n c
-line_ends p n (Begin a x) older c known low e = subst (Fits n) (same x c e) (known.0, low)
-  where
-    same : (x y : Change) → Some x ≡ Some y → x ≡ y
-    same x y e = cc e
+line_ends p n (Begin a x) older c known low e = subst (Fits n) (same_Some x c e) (known.0, low)
 line_ends p n (Ask a b r told took) older c known low e = absurd (cc e)
 line_ends p n (HealBegin a g kind) older c known low e = absurd (cc e)
 line_ends p n (End a reply) older c known low e = absurd (cc e)

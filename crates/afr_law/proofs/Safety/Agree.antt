@@ -1,7 +1,6 @@
 -- What stands at a position depends on the lines before it alone.
 use Rattle.std.proofs.Common.{◌≡◌, ℕ, zero, suc, ◌+◌, ◌-◌, ◌<◌, ◌≤◌, Bool, true, false, ◌&&◌, ◌||◌, not, refl, sym, ap, ◌∙◌, subst, arith}
 use Rattle.std.specs.Prelude.{None, ◌==◌, if◌then◌else◌, nat_lt, nat_le}
-use Rattle.std.proofs.lemmas.Bool.Decides.{nat_tests}
 use Rattle.afr_base.specs.declared.ids.Kind.{Kind}
 use Rattle.afr_moves.specs.Cells.{fits, Cell, object_of, kind_of}
 use Rattle.afr_moves.specs.Past.{Beginning, kind_at, Log, before, is_of, ends, place, place_after, opens, started, started_after, linked, linked_after, opening, joined, grants, frees, held, last, last_after, holds, touch_of, touch, over, stamp, values, value, named, posts, taken, settled, changes, leaves_of, Tables, tables, after}
@@ -11,16 +10,14 @@ use Rattle.afr_moves.specs.Rules.{register, register_after}
 use Rattle.afr_moves.specs.Tally.{tally, tally_after}
 use Rattle.afr_law.specs.Dirty.{raising, raised, lowering, lowered}
 use Rattle.afr_law.specs.Alike.{Alike}
+use Rattle.std.proofs.lemmas.Bool.{ltb-true}
 
 module _ (log other : Log) (m : ℕ) (agree : (u : ℕ) → u < m → log u ≡ other u) where
   pub before_at : (t : ℕ) → t ≤ m → (q : ℕ) → before log t q ≡ before other t q
   before_at t h q = go (nat_lt q t) refl
     where
-      less : (q t : ℕ) → nat_lt q t ≡ true → q < t
-      less q t e = grind (arith, nat_tests)
-
       go : (hit : Bool) → nat_lt q t ≡ hit → (if hit then log q else None) ≡ (if hit then other q else None)
-      go true e = agree q (let l = less q t e in omega (arith, l, h))
+      go true e = agree q (let l = ltb-true q t e in omega (arith, l, h))
       go false e = refl
 
   pub before_same : (t : ℕ) → t ≤ m → before log t ≡ before other t

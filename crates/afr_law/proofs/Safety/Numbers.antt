@@ -27,7 +27,7 @@ use Rattle.afr_moves.specs.Rules.{Register, fresh, CoveredBy, SomeCell, PlaneIs,
 use Rattle.afr_law.proofs.Safety.Standing.{Noted, noted, Grants, Waits, Frees, Tries, HealGrants, HealWaits, HealFrees, HealTries, Looks, Pres, Applies, Posts, Mends, Settles, Same}
 use Rattle.afr_law.proofs.Safety.Registers.{Own, Asks, Begins, HealBegins, Ends, HealEnds, registers, MayOf}
 use Rattle.afr_moves.specs.Lines.{ask_by, begin_by, heal_begin_by, end_by, heal_end_by, pre_on, post_on}
-use Rattle.afr_moves.proofs.Tests.{same_self, with_cases}
+use Rattle.afr_moves.proofs.Tests.{same_self, with_cases, no_number}
 
 pub record Attempt (log : Log) (a q : ℕ) (area : Option Area) (pre : ℕ → Bool) : Type 0 where
   pub change : Change
@@ -176,9 +176,6 @@ numbered_looking log t a b g seen r s = go r.heal
   where
     more : (x : ℕ) → r.seen x ≡ true → with r.seen b x ≡ true
     more x h = grind (arith, nat_tests)
-
-    no_number : (m q : ℕ) → (m == 0) ≡ true → m ≡ suc q → ⊥
-    no_number m q e f = grind (arith, nat_tests)
 
     add : (hit : Bool) → ((r.number == 0) && r.held b) ≡ hit → Numbered log t a (if hit then record r { seen = with r.seen b } else r)
     add true h = record {

@@ -13,6 +13,7 @@ use Rattle.afr_moves.specs.Cells.{fits, object_of}
 use Rattle.std.specs.Prelude.{nat_le, nat_lt}
 use Rattle.afr_moves.specs.Lines.{ask_by}
 use Rattle.std.proofs.lemmas.Bool.{cases_lt, eqb-true, ltb-true}
+use Rattle.afr_moves.proofs.Tests.{three_parts}
 
 -- how a line touches a cell
 pub data Touched (files : Beginning) (log : Log) (t b : ℕ) (cell : Cell) : Type 0 where
@@ -31,16 +32,13 @@ changes_before log t q cell e = go (nat_lt q t) refl e
 pub touched : (files : Beginning) (log : Log) (t b : ℕ) (cell : Cell) → Touched files log t b cell
 touched files log t b cell = here (fits (kind_at files log t b (object_of cell)) cell) refl
   where
-    three : (x y z : Bool) → (x && y && z) ≡ true → (x ≡ true) × (y ≡ true) × (z ≡ true)
-    three x y z h = grind arith
-
     go : (line : Option Line) → log t ≡ line → fits (kind_at files log t b (object_of cell)) cell ≡ true → Touched files log t b cell
     go (Some (Ask a y (Apply q) told took)) is h = pick ((y.0 == b) && took && changes (before log t q) cell) refl
       where
         pick : (hit : Bool) → ((y.0 == b) && took && changes (before log t q) cell) ≡ hit → Touched files log t b cell
         pick false e = Not (rw (h, is, e) refl)
         pick true e = (
-            let w = three (y.0 == b) took (changes (before log t q) cell) e in
+            let w = three_parts (y.0 == b) took (changes (before log t q) cell) e in
             Made a.0 q told (is ∙ (λ i. Some (ask_by a.0 (eqb-true y.0 b w.0 i) (Apply q) told (w.1 i)))) (changes_before log t q cell w.2).0 (changes_before log t q cell w.2).1 (rw (h, is, e) refl)
             )
     go (Some (Ask a y (Mend repair) told took)) is h = pick ((y.0 == b) && took && mends repair cell) refl
@@ -48,7 +46,7 @@ touched files log t b cell = here (fits (kind_at files log t b (object_of cell))
         pick : (hit : Bool) → ((y.0 == b) && took && mends repair cell) ≡ hit → Touched files log t b cell
         pick false e = Not (rw (h, is, e) refl)
         pick true e = (
-            let w = three (y.0 == b) took (mends repair cell) e in
+            let w = three_parts (y.0 == b) took (mends repair cell) e in
             Mended a.0 repair told (is ∙ (λ i. Some (ask_by a.0 (eqb-true y.0 b w.0 i) (Mend repair) told (w.1 i)))) w.2 (rw (h, is, e) refl)
             )
     go _ is h = Not (rw (h, is) refl)
