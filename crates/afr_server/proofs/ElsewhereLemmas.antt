@@ -1,5 +1,5 @@
 -- A server of a log is the server of the log with a line that isn't addressed to it.
-use Rattle.std.proofs.Common.{◌≡◌, ℕ, Bool, true, false, List, [], ◌∷◌, refl, sym, ap, ◌∙◌, if◌then◌else◌, ◌==◌, ◌&&◌, not}
+use Rattle.std.proofs.Common.{◌≡◌, ℕ, Bool, true, false, List, [], ◌∷◌, refl, sym, ap, ◌∙◌, if◌then◌else◌, ◌==◌, ◌&&◌}
 use Rattle.afr_base.specs.Bricks.{member}
 use Rattle.afr_base.specs.declared.ids.ActorId.{ActorId}
 use Rattle.afr_base.specs.declared.ids.BrickId.{BrickId}
@@ -35,6 +35,7 @@ use Rattle.afr_server.specs.Log.{IsServed, names_in, ranges_in}
 use Rattle.afr_server.specs.NextLine.{is_elsewhere}
 use Rattle.afr_server.specs.Outcome.{link_served}
 use Rattle.afr_server.specs.Serving.{Serving}
+use Rattle.std.proofs.lemmas.Bool.{not-true}
 
 -- such a line neither grants nor releases nor ends anything on brick b
 pub record LeavesAlone (p : Plan) (b : ℕ) (line : Line) (older : List Line) : Type 0 where
@@ -45,10 +46,6 @@ pub record LeavesAlone (p : Plan) (b : ℕ) (line : Line) (older : List Line) : 
   pub counts : (n : ℕ) → one_more b line n ≡ n
   pub starts : (s : List ℕ) → started_by line s ≡ s
   pub links : (x : ℕ) → is_linked x b (line ∷ older) ≡ is_linked x b older
-
-is_other : (u : Bool) → not u ≡ true → u ≡ false
-is_other true h = absurd (cc)
-is_other false h = refl
 
 none : (u v : Bool) → (u && false && v) ≡ false
 none true v = refl
@@ -93,7 +90,7 @@ tables_other p a y r told false b older past t h = refl
 
 alone : (p : Plan) (b : ℕ) (line : Line) (older : List Line) → is_elsewhere b line ≡ true → LeavesAlone p b line older
 alone p b (Ask a y r told took) older h =
-    let e = is_other (y.0 == b) h in
+    let e = not-true (y.0 == b) h in
     record {
       releases = λ lock. releases_other a y r told took b lock e;
       ends = λ x. ends_other x a y r told took b e;

@@ -29,6 +29,7 @@ use Rattle.afr_server.proofs.LockLemmas.{locks_next, names-filter, ranges-filter
 use Rattle.afr_server.proofs.ListLemmas.{filter_true}
 use Rattle.afr_server.specs.Log.{IsLinked, IsServed, names_in, ranges_in}
 use Rattle.afr_server.specs.Serving.{Serving}
+use Rattle.afr_moves.proofs.Tests.{and_choice, or_choice}
 
 -- ---- locks
 none : (u : Bool) → not (u && false) ≡ true
@@ -139,17 +140,9 @@ link_event p log (Kill a) b x l was =
     }
 
 -- ---- started bricks
-by_test : (q m : Bool) → (if q then false else m) ≡ (not q && m)
-by_test true m = refl
-by_test false m = refl
-
-or_test : (q m : Bool) → (if q then true else m) ≡ (q || m)
-or_test true m = refl
-or_test false m = refl
-
 started_event : (event : Event) (b : ℕ) (s : List ℕ) → started_past event b (member s b) ≡ member (started_after event s) b
-started_event (Stop y) b s = rw (member_removed y.0 s b) (by_test (y.0 == b) (member s b))
-started_event (Start y) b s = rw (member_added y.0 s b) (or_test (y.0 == b) (member s b))
+started_event (Stop y) b s = rw (member_removed y.0 s b) (and_choice (y.0 == b) (member s b))
+started_event (Start y) b s = rw (member_added y.0 s b) (or_choice (y.0 == b) (member s b))
 started_event (Cut a y) b s = refl
 started_event (Join a y) b s = refl
 started_event (Kill a) b s = refl

@@ -11,7 +11,6 @@ use Rattle.afr_lines.specs.declared.request.Request.{Request}
 use Rattle.afr_lines.specs.declared.request.Request.TheVariants.{Lock, Unlock}
 use Rattle.afr_lines.specs.declared.request.Area.{Area}
 use Rattle.afr_range_locks.specs.declared.domain.Domain.{Domain}
-use Rattle.afr_server.proofs.ListLemmas.{self}
 use Rattle.afr_server.proofs.RequestLemmas.{by_locks}
 use Rattle.afr_name_locks.specs.Names.{name_lock, same_dir_name}
 use Rattle.afr_name_locks.specs.declared.names.DirName.{DirName}
@@ -24,6 +23,7 @@ use Rattle.afr_session.specs.declared.link.Link.{Link}
 use Rattle.afr_server.specs.Outcome.{link_served}
 use Rattle.afr_server.specs.Carried.{joined_by, names_after, ranges_after}
 use Rattle.afr_server.specs.Serving.{AreOwned, IsGuarded}
+use Rattle.afr_moves.proofs.Tests.{same_self}
 
 pub owned_grows : {A : Type 0} (links links' : Links) (held : List (HeldLock A)) → ((x : ℕ) → (link_of x links).live ≡ true → (link_of x links').live ≡ true) → AreOwned links held → AreOwned links' held
 owned_grows links links' [] more o = tt
@@ -131,11 +131,11 @@ guard_carry a request way first started links links' r r' n n' each live er en g
     rw (er, en) (owned_after links' a request way r n here (guard_count a.0 first started links links' each g))
   where
     here : (link_of a.0 links').live ≡ true
-    here = rw (each a.0, self a.0) live
+    here = rw (each a.0, same_self a.0) live
 
 -- ---- what is already so
 pub cut_gone : (a : ActorId) (links links' : Links) → Does (Cut a.0) links links' → links' ≡ links → (link_of a.0 links).live ≡ false
-cut_gone a links links' d same = let e = d.links a.0 in ap (λ (l : Link). l.live) (rw (same, self a.0) at e)
+cut_gone a links links' d same = let e = d.links a.0 in ap (λ (l : Link). l.live) (rw (same, same_self a.0) at e)
 
 pub stop_gone : (links links' : Links) (x : ℕ) → Does Stop links links' → links' ≡ links → (link_of x links).live ≡ false
 stop_gone links links' x d same = let e = d.links x in ap (λ (l : Link). l.live) (rw same at e)

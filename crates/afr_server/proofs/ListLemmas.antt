@@ -1,10 +1,6 @@
 -- Filters of lists, and tests that are always or never true.
-use Rattle.std.proofs.Common.{◌≡◌, ℕ, Bool, true, false, List, [], ◌∷◌, refl, ap, arith, if◌then◌else◌, ◌==◌, ◌&&◌}
-use Rattle.std.proofs.lemmas.Bool.Decides.{nat_tests}
+use Rattle.std.proofs.Common.{◌≡◌, Bool, true, false, List, [], ◌∷◌, refl, ap, if◌then◌else◌, ◌&&◌}
 use Rattle.std.specs.List.{filter}
-
-pub self : (n : ℕ) → (n == n) ≡ true
-self n = grind (arith, nat_tests)
 
 pub never : (u v : Bool) → (u && v && false) ≡ false
 never true true = refl

@@ -40,11 +40,12 @@ use Rattle.afr_range_locks.specs.Locks.{conflicts, first_conflict, is_lock, over
 use Rattle.afr_range_locks.specs.declared.domain.Domain.{Domain}
 use Rattle.afr_range_locks.specs.declared.held.HeldLock.{HeldLock}
 use Rattle.afr_range_locks.specs.declared.ranges.ObjectRange.{ObjectRange}
-use Rattle.afr_server.proofs.ListLemmas.{filter_and, filter_true, never, self}
+use Rattle.afr_server.proofs.ListLemmas.{filter_and, filter_true, never}
 use Rattle.afr_server.proofs.RequestLemmas.{by_locks}
 use Rattle.afr_server.specs.Carried.{joined_by, names_after, ranges_after}
 use Rattle.afr_server.specs.Log.{name_before, names_in, range_before, ranges_in}
 use Rattle.afr_server.specs.Outcome.{is_carried, is_lost, locks_served}
+use Rattle.afr_moves.proofs.Tests.{same_self}
 
 -- ---- ranges
 pub ranges-filter : (P : HeldLock Area → Bool) (Q : HeldLock ObjectRange → Bool) → ((o : ActorId) (d : Domain) (g : Gfid) (from to : ℕ) → P (record { owner = o; domain = d; area = Range g from to }) ≡ Q (range_lock o d g from to)) → (held : List (HeldLock Area)) → ranges_in (filter P held) ≡ filter Q (ranges_in held)
@@ -207,7 +208,7 @@ ranges_lost_plain a b r held kept =
     (ranges-filter (outlives (Ask a b r told_of.NotConnected true) b.0) (λ lock. not (lock.owner.0 == a.0)) (λ o d g from to. rw (kept (record { owner = o; domain = d; area = Range g from to })) (gone a.0 o.0 b.0)) held)
 
 ranges_without_joined : (a : ActorId) (domain : Domain) (g : Gfid) (from to : ℕ) (way : Option ActorId) (held : List (HeldLock ObjectRange)) → without_owner a (joined_by way (range_lock a domain g from to) held) ≡ without_owner a held
-ranges_without_joined a domain g from to None held = filter-append (λ lock. not (lock.owner.0 == a.0)) held (range_lock a domain g from to ∷ []) ∙ rw (self a.0) (append-nil (without_owner a held))
+ranges_without_joined a domain g from to None held = filter-append (λ lock. not (lock.owner.0 == a.0)) held (range_lock a domain g from to ∷ []) ∙ rw (same_self a.0) (append-nil (without_owner a held))
 ranges_without_joined a domain g from to (Some owner) held = refl
 
 ranges_lost_lock : (a : ActorId) (b : BrickId) (domain : Domain) (area : Area) (way : Option ActorId) (held : List (HeldLock Area)) → ranges_in (locks_next (Ask a b (Lock domain area) told_of.NotConnected true) b.0 held) ≡ without_owner a (ranges_after a (Lock domain area) way (ranges_in held))
@@ -244,7 +245,7 @@ names_lost_plain a b r held kept =
     (names-filter (outlives (Ask a b r told_of.NotConnected true) b.0) (λ lock. not (lock.owner.0 == a.0)) (λ o d g name. rw (kept (record { owner = o; domain = d; area = Name g name })) (gone a.0 o.0 b.0)) held)
 
 names_without_joined : (a : ActorId) (domain : Domain) (g : Gfid) (name : Option NameId) (way : Option ActorId) (held : List (HeldLock DirName)) → without_owner a (joined_by way (name_lock a domain g name) held) ≡ without_owner a held
-names_without_joined a domain g name None held = filter-append (λ lock. not (lock.owner.0 == a.0)) held (name_lock a domain g name ∷ []) ∙ rw (self a.0) (append-nil (without_owner a held))
+names_without_joined a domain g name None held = filter-append (λ lock. not (lock.owner.0 == a.0)) held (name_lock a domain g name ∷ []) ∙ rw (same_self a.0) (append-nil (without_owner a held))
 names_without_joined a domain g name (Some owner) held = refl
 
 names_lost_lock : (a : ActorId) (b : BrickId) (domain : Domain) (area : Area) (way : Option ActorId) (held : List (HeldLock Area)) → names_in (locks_next (Ask a b (Lock domain area) told_of.NotConnected true) b.0 held) ≡ without_owner a (names_after a (Lock domain area) way (names_in held))
@@ -279,7 +280,7 @@ told_same : (a : ActorId) (b : BrickId) (r : Request) (told : Told) (held : List
 told_same a b r told held kept none heard = same_locks (Ask a b r told true) b.0 held kept (λ x. ends_heard x b.0 a b r told true heard) none
 
 told_granted : (a : ActorId) (b : BrickId) (domain : Domain) (area : Area) (held : List (HeldLock Area)) → locks_next (Ask a b (Lock domain area) told_of.Granted true) b.0 held ≡ held ++ (record { owner = a; domain = domain; area = area }) ∷ []
-told_granted a b domain area held = rw (self b.0, filter_true (outlives (Ask a b (Lock domain area) told_of.Granted true) b.0) held (λ lock. refl)) refl
+told_granted a b domain area held = rw (same_self b.0, filter_true (outlives (Ask a b (Lock domain area) told_of.Granted true) b.0) held (λ lock. refl)) refl
 
 released : (o : ℕ) (x : Bool) (b : ℕ) → (not (true && (b == b) && x) && true) ≡ not x
 released o true b = grind (arith, nat_tests)

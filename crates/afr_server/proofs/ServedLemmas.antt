@@ -35,10 +35,11 @@ use Rattle.afr_server.specs.declared.server.Asked.{Asked}
 use Rattle.afr_server.specs.Carried.{Brings, names_after, ranges_after}
 use Rattle.afr_server.proofs.LinkLemmas.{joined_reached, link_line}
 use Rattle.afr_server.proofs.LockLemmas.{answers_heard, ends_heard, is_unheard, names-conflict, names_served, ranges-conflict, ranges_served}
-use Rattle.afr_server.proofs.ListLemmas.{never, self}
+use Rattle.afr_server.proofs.ListLemmas.{never}
 use Rattle.afr_server.specs.Log.{Finds, IsServed}
 use Rattle.afr_server.specs.Outcome.{Serves, is_carried, is_lost, locks_served}
 use Rattle.afr_server.specs.Serving.{Serving, in_way, is_epoch}
+use Rattle.afr_moves.proofs.Tests.{same_self}
 
 -- ---- what the server goes by is what the log says
 same_lock : (p : Plan) (log : List Line) (b : ℕ) (s : Serving) (a : ActorId) (domain : Domain) (area : Area) → IsServed p log b s → in_the_way a (Lock domain area) b log ≡ in_way a (Lock domain area) s
@@ -70,7 +71,7 @@ ends_line x y a b r true None said h = ends_heard x y a b r said true h ∙ sym 
 
 ends_here : (x : ℕ) (a : ActorId) (b : BrickId) (r : Request) (live : Bool) (fault : Option Fault) (said : Told) → is_unheard said ≡ false
     → ends_session x b.0 (Ask a b r (over_session live fault said).told (over_session live fault said).took) ≡ ((a.0 == x) && is_lost live fault)
-ends_here x a b r live fault said h = ends_line x b.0 a b r live fault said h ∙ ap (λ (u : Bool). (a.0 == x) && u && is_lost live fault) (self b.0) ∙ dropped (a.0 == x) (is_lost live fault)
+ends_here x a b r live fault said h = ends_line x b.0 a b r live fault said h ∙ ap (λ (u : Bool). (a.0 == x) && u && is_lost live fault) (same_self b.0) ∙ dropped (a.0 == x) (is_lost live fault)
   where
     dropped : (u v : Bool) → (u && true && v) ≡ (u && v)
     dropped true v = refl
@@ -80,7 +81,7 @@ ends_here x a b r live fault said h = ends_line x b.0 a b r live fault said h �
 tables_line : (keeps k : Bool) (b : ℕ) (took : Bool) (r : Request) (log : List Line) (past : Past) (old new : Copies) (t : Table) → old.keeps ≡ k → old.objects ≡ t
     → new ≡ (if took then record { keeps = old.keeps; objects = asked old.keeps r log past old.objects } else old)
     → new.objects ≡ (if took then (if b == b then asked k r log past t else t) else t)
-tables_line keeps k b true r log past old new t ek et e = rw (self b, ← ek, ← et) (ap (λ (c : Copies). c.objects) e)
+tables_line keeps k b true r log past old new t ek et e = rw (same_self b, ← ek, ← et) (ap (λ (c : Copies). c.objects) e)
 tables_line keeps k b false r log past old new t ek et e = ap (λ (c : Copies). c.objects) e ∙ et
 
 keeps_line : (took : Bool) (o : Table) (old new : Copies) → new ≡ (if took then record { keeps = old.keeps; objects = o } else old) → new.keeps ≡ old.keeps
@@ -105,7 +106,7 @@ after_line p log a b r load first live s s' given o v is took opened brings c =
       started = c.started ∙ v.started;
       links = λ x small. rw (c.links x) (link_line p log (Ask a b r o.told o.took) a.0 b.0 x first (is_lost live (next_fault s.faults)) s.links.started (link_of x s.links) (λ x. refl) opened
           (λ x. rw is (ends_here x a b r live (next_fault s.faults) (told_by (answer_by (in_way a r s) r s.copies.objects log)) (answers_heard (in_way a r s) r s.copies.objects log))) (λ x. refl) v.started (v.links x small));
-      requests = rw (c.faults, self b.0) (ap (λ (n : ℕ). n + 1) v.requests);
+      requests = rw (c.faults, same_self b.0) (ap (λ (n : ℕ). n + 1) v.requests);
       planned = λ k. rw c.faults (v.planned k);
     }
 
@@ -162,4 +163,4 @@ pub served_first : (p : Plan) (log : List Line) (a : ActorId) (b : BrickId) (r :
 served_first p log a b r load s s' given small v opened brings c = served p log a b r load true (is_reached s.links.started (link_of a.0 s.links)) s s' given v live opened brings c
   where
     live : is_live p a b.0 (Ask a b r (told_by given.answer) given.took) log ≡ is_reached s.links.started (link_of a.0 s.links)
-    live = rw (opened, self a.0, v.started, (v.links a.0 small).up) (opens_now (is_joined p a.0 b.0 log) (member (started_bricks p.shape.n log) b.0) (is_linked a.0 b.0 log) (joined_reached p a.0 b.0 log))
+    live = rw (opened, same_self a.0, v.started, (v.links a.0 small).up) (opens_now (is_joined p a.0 b.0 log) (member (started_bricks p.shape.n log) b.0) (is_linked a.0 b.0 log) (joined_reached p a.0 b.0 log))
