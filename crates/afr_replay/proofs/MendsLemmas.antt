@@ -17,6 +17,7 @@ use Rattle.afr_lines.specs.declared.request.Request.{Request}
 use Rattle.afr_lines.specs.declared.request.Request.TheVariants as request
 use Rattle.afr_model.specs.Tables.{Past, all_names_shown, attrs_shown, bytes_shown, names_shown}
 use Rattle.afr_replay.specs.Mends.{asked_by, attrs_among, bytes_in, names_among, names_by, shown_by, shown_of}
+use Rattle.std.proofs.lemmas.Option.{same_Some}
 
 -- the bytes, the attributes and the names that a line showed
 pub bytes_shown_is : (past : Past) (k : ℕ) (line : Option Line) → bytes_in (shown_by past k line) ≡ bytes_shown past k line
@@ -59,12 +60,9 @@ pub none_in_order : {K : Type 0} (cmp : K → K → Ordering) → IsStrictlySort
 unfolding IsStrictlySortedBy
 none_in_order cmp = tt
 
-is_one : {A : Type 0} (x y : A) → Some x ≡ Some y → x ≡ y
-is_one x y e = cc e
-
 -- what a line showed is what its request shows
 pub shown_asked : (past : Past) (k : ℕ) (line : Line) (y : BrickId) (r : Request) → asked_by line ≡ Some (y, r) → shown_by past k (Some line) ≡ shown_of r (past k y.0)
-shown_asked past k (Ask a x q told took) y r e = ap (λ (z : BrickId × Request). shown_of z.1 (past k z.0.0)) (is_one (x, q) (y, r) e)
+shown_asked past k (Ask a x q told took) y r e = ap (λ (z : BrickId × Request). shown_of z.1 (past k z.0.0)) (same_Some (x, q) (y, r) e)
 shown_asked past k line y r e = absurd (cc)
 
 pub shown_unasked : (past : Past) (k : ℕ) (line : Line) → asked_by line ≡ None → shown_by past k (Some line) ≡ Nothing

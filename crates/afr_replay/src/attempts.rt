@@ -12,23 +12,23 @@ use afr_object::Change;
 
 /// The line at a position.
 #[tactic(auto, using(crate::proofs::LogLemmas::from_oldest_reverse))]
-fn line_at(log: &[Line], k: usize) -> Option<&Line>
-    ensures { option_copied result ≡ from_oldest k (reverse log.now) }
+fn line_at(log: &[Line], position: usize) -> Option<&Line>
+    ensures { option_copied result ≡ from_oldest position (reverse log.now) }
 {
-    item_at(log, k)
+    item_at(log, position)
 }
 
-fn item_at(log: &[Line], k: usize) -> Option<&Line>
-    ensures { option_copied result ≡ slice_get log.now k }
+fn item_at(log: &[Line], position: usize) -> Option<&Line>
+    ensures { option_copied result ≡ slice_get log.now position }
 {
-    log.get(k)
+    log.get(position)
 }
 
 /// The change of the attempt that begins at a position.
-pub fn change_at(log: &[Line], k: usize) -> Option<&Change>
-    ensures { option_copied result ≡ change_at k (reverse log.now) }
+pub fn change_at(log: &[Line], position: usize) -> Option<&Change>
+    ensures { option_copied result ≡ change_at position (reverse log.now) }
 {
-    match line_at(log, k) {
+    match line_at(log, position) {
         Some(line) => change_of(line),
         None => None,
     }
@@ -57,13 +57,13 @@ fn reply_by(a: ActorId, line: &Line) -> Option<&Reply>
 }
 
 /// The reply of the actor's first End line after a position.
-pub fn first_reply(log: &[Line], a: ActorId, q: usize) -> Option<&Reply>
-    ensures { option_copied result ≡ first_reply a.0 q (reverse log.now) }
+pub fn first_reply(log: &[Line], a: ActorId, attempt: usize) -> Option<&Reply>
+    ensures { option_copied result ≡ first_reply a.0 attempt (reverse log.now) }
 {
     let mut found = None;
     let mut position = 0;
     for line in log {
-        found = if q < position {
+        found = if attempt < position {
             earlier(found, reply_by(a, line))
         } else {
             None
@@ -85,26 +85,26 @@ fn earlier<'a>(first: Option<&'a Reply>, later: Option<&'a Reply>) -> Option<&'a
 
 /// Whether an attempt begins at the position, and its actor's first End line after it says ok.
 #[tactic(auto, using(crate::proofs::AcknowledgedLemmas::acknowledged_both_ways))]
-pub fn is_acknowledged(log: &[Line], q: usize) -> bool
-    ensures { (result ≡ true) ↔ IsAcknowledged (reverse log.now) q }
+pub fn is_acknowledged(log: &[Line], attempt: usize) -> bool
+    ensures { (result ≡ true) ↔ IsAcknowledged (reverse log.now) attempt }
 {
-    acknowledged(log, q)
+    acknowledged(log, attempt)
 }
 
-fn acknowledged(log: &[Line], q: usize) -> bool
-    ensures { result ≡ is_acknowledged (reverse log.now) q }
+fn acknowledged(log: &[Line], attempt: usize) -> bool
+    ensures { result ≡ is_acknowledged (reverse log.now) attempt }
 {
-    match line_at(log, q) {
-        Some(line) => begins_well(line, log, q),
+    match line_at(log, attempt) {
+        Some(line) => begins_well(line, log, attempt),
         None => false,
     }
 }
 
-fn begins_well(line: &Line, log: &[Line], q: usize) -> bool
-    ensures { result ≡ begins_well (Some line.now) (reverse log.now) q }
+fn begins_well(line: &Line, log: &[Line], attempt: usize) -> bool
+    ensures { result ≡ begins_well (Some line.now) (reverse log.now) attempt }
 {
     match line {
-        Line::Begin { actor, .. } => says_ok(first_reply(log, *actor, q)),
+        Line::Begin { actor, .. } => says_ok(first_reply(log, *actor, attempt)),
         _ => false,
     }
 }

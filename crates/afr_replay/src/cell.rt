@@ -46,11 +46,11 @@ fn write_touches(gfid: Gfid, at: u32, bytes: &Chunk, cell: Cell) -> bool
     }
 }
 
-/// Whether a place is one of the `n` places from `at` on.
-pub fn is_within(at: u32, n: usize, i: u32) -> bool
-    ensures { result ≡ is_within at n i }
+/// Whether a place is one of so many places from `at` on.
+pub fn is_within(at: u32, count: usize, place: u32) -> bool
+    ensures { result ≡ is_within at count place }
 {
-    at <= i && ((i - at) as usize) < n
+    at <= place && ((place - at) as usize) < count
 }
 
 fn cut_touches(gfid: Gfid, len: u32, cell: Cell) -> bool
@@ -118,10 +118,10 @@ fn write_leaves(at: u32, bytes: &Chunk, cell: Cell) -> Value
 }
 
 /// The byte at a place, or 0 past the end.
-pub(crate) fn byte_at(bytes: &[u8], i: u32) -> u8
-    ensures { result ≡ byte_at i bytes.now }
+pub(crate) fn byte_at(bytes: &[u8], place: u32) -> u8
+    ensures { result ≡ byte_at place bytes.now }
 {
-    match bytes.get(i as usize) {
+    match bytes.get(place as usize) {
         Some(byte) => *byte,
         None => 0,
     }

@@ -10,13 +10,11 @@ ghost use Rattle.afr_object.specs.Tables.{name_cmp};
 ghost use Rattle.afr_replay.specs.Mends.{asked_by, attrs_among, bytes_in, contents_seen, names_among, repair_of, shown_of};
 
 use crate::unfit::Unfit;
-use afr_base::{BrickId, Gfid, NameId, NoMemory, What};
+use afr_base::{BrickId, Gfid, LONGEST_FILE, NameId, NoMemory, What};
 use afr_brick::{Brick, Refused};
 use afr_lines::{Line, Request};
 use afr_object::{AttrList, Chunk, Entry, List, Load, NameList, Repair, SortedMap};
 use std::alloc::Global;
-
-const FILE_LIMIT: u32 = 1_048_576;
 
 /// What a read showed, or what a repair brings.
 #[derive(Drop)]
@@ -65,8 +63,8 @@ fn can_mend(brick: &Brick, repair: &Repair, brought: &Brought) -> bool
             Brought::Nothing => true,
             Brought::Bytes(bytes) => {
                 brick.look(*gfid).is_none()
-                    || (*span <= FILE_LIMIT
-                        && *at <= FILE_LIMIT - *span
+                    || (*span <= LONGEST_FILE
+                        && *at <= LONGEST_FILE - *span
                         && bytes.len() <= *span as usize)
             }
             Brought::Attrs(_) => true,

@@ -12,17 +12,14 @@ ghost use Rattle.afr_model.specs.Tables.{all_names_shown, asked, carried, effect
 use crate::attempts::change_at;
 use crate::mends::{Brought, asked_by, attrs_only, bytes_only, mend, merge, repair_of, shown_of};
 use crate::unfit::Unfit;
-use afr_base::{BrickId, BrickSet, Gfid, Kind, Marks, NameId, NoMemory};
+use afr_base::{
+    BrickId, BrickSet, Gfid, Kind, LONGEST_FILE, Marks, NameId, NoMemory, OPENING_GFIDS,
+};
 use afr_brick::{Brick, Refused};
 use afr_lines::{Line, Request};
 use afr_object::{Change, Repair, SortedMap};
 use afr_plan::Plan;
 use std::alloc::Global;
-
-/// The gfid of the first opening file is one more.
-const OPENING: u128 = 0x1_0000_0000_0000_0000;
-
-const FILE_LIMIT: usize = 1_048_576;
 
 /// The brick after the log, in as many steps as the log has lines. What a repair of it carries is
 /// shown by a replay of what came before each line that it names.
@@ -121,17 +118,17 @@ fn names_by(alloc: Global, plan: &Plan, older: &[Line], read: Option<u32>) -> Re
 
 /// What a line showed of the brick that it asked.
 #[cycle(tables)]
-fn shown(alloc: Global, plan: &Plan, older: &[Line], k: usize) -> Result<Brought, Unfit>
-    ensures ok { IfOk result (λ brought. contents_seen brought ≡ shown_by (held_before plan.now (reverse older.now)) k (from_oldest k (reverse older.now))) }
+fn shown(alloc: Global, plan: &Plan, older: &[Line], position: usize) -> Result<Brought, Unfit>
+    ensures ok { IfOk result (λ brought. contents_seen brought ≡ shown_by (held_before plan.now (reverse older.now)) position (from_oldest position (reverse older.now))) }
     ensures order { IfOk result (λ brought. IsInOrder (contents_seen brought)) }
     ensures too_much { result ≡ Err Unfit.TooMuch → ((y : ℕ) → Fits plan.now (reverse older.now) y) → ⊥ }
 {
-    if k >= older.len() {
+    if position >= older.len() {
         return Ok(Brought::Nothing);
     }
-    match asked_by(&older[k]) {
+    match asked_by(&older[position]) {
         Some((y, request)) => {
-            let brick = tables(alloc, plan, &older[..k], y)?;
+            let brick = tables(alloc, plan, &older[..position], y)?;
             Ok(shown_of(alloc, &brick, request)?)
         }
         None => Ok(Brought::Nothing),
@@ -166,7 +163,7 @@ pub(crate) fn opened(alloc: Global, plan: &Plan, b: BrickId) -> Result<Brick, No
     let arbiter = plan.shape.arbiter && b.0 == 2;
     let mut brick = Brick::empty(alloc, arbiter)?;
     for i in 0..plan.files {
-        brick.add_opening_file(NameId(i), Gfid(OPENING + u128::from(i) + 1))?;
+        brick.add_opening_file(NameId(i), Gfid(OPENING_GFIDS + u128::from(i) + 1))?;
     }
     Ok(brick)
 }
@@ -286,7 +283,7 @@ fn fits(brick: &Brick, change: &Change) -> bool
     match change {
         Change::Write { gfid, at, bytes } => {
             brick.look(*gfid).is_none()
-                || (bytes.len() <= FILE_LIMIT && *at as usize <= FILE_LIMIT - bytes.len())
+                || (*at <= LONGEST_FILE && bytes.len() <= (LONGEST_FILE - *at) as usize)
         }
         Change::Cut { .. } => true,
         Change::SetAttr { .. } => true,

@@ -41,11 +41,11 @@ pub(crate) fn value_on(brick: &Brick, cell: Cell) -> Result<Value, Unfit>
 }
 
 #[tactic(auto, using(crate::proofs::CopyLemmas::byte_read, crate::proofs::CopyLemmas::byte_absent))]
-fn byte_on(brick: &Brick, g: Gfid, i: u32) -> Result<Value, Unfit>
-    ensures ok { IfOk result (λ value. value_seen value ≡ value_if (SpecByte g i) (copy_at g brick.now.objects)) }
+fn byte_on(brick: &Brick, g: Gfid, place: u32) -> Result<Value, Unfit>
+    ensures ok { IfOk result (λ value. value_seen value ≡ value_if (SpecByte g place) (copy_at g brick.now.objects)) }
     ensures never { result ≢ Err Unfit.TooMuch }
 {
-    match brick.read_bytes(g, i, 1) {
+    match brick.read_bytes(g, place, 1) {
         Ok(bytes) => Ok(Value::Byte(byte_at(bytes.as_slice(), 0))),
         Err(Refused::NoObject) => Ok(Value::Byte(0)),
         Err(Refused::NoMemory) => Err(Unfit::NoMemory),

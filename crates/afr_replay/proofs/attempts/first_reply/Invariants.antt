@@ -6,5 +6,5 @@ use Rattle.afr_replay.proofs.attempts.first_reply.Given as goal
 abbrev pub invariant-loop-line : goal.invariant-loop-line
 invariant-loop-line l = record {
   position : l.position ≡ l.line-index;
-  found : option_copied l.found ≡ first_reply l.a.0 l.q (reverse (take l.line-index l.log));
+  found : option_copied l.found ≡ first_reply l.a.0 l.attempt (reverse (take l.line-index l.log));
 }

@@ -27,25 +27,25 @@ names_shown-loop-i-preserved t c =
     rw (c.in_ok-merge.ensures.ok, c.in_ok-brought.ensures.ok, c.loop-i.invariant, before, after)
     (sym (merged_read (held_before c.args.plan.now (reverse c.args.older.now)) (reverse c.args.older.now) c.args.reads.now (length c.args.reads.now - 1 - c.loop-i.i) (omega arith)))
 
-pub shown-returns-then-k-older-clause-ok : goal.shown-returns-then-k-older-clause-ok
-shown-returns-then-k-older-clause-ok t c = rw (from_oldest_reverse c.args.older.now c.args.k, slice_get_past c.args.older.now c.args.k c.if-k-older.true) refl
+pub shown-returns-then-position-older-clause-ok : goal.shown-returns-then-position-older-clause-ok
+shown-returns-then-position-older-clause-ok t c = rw (from_oldest_reverse c.args.older.now c.args.position, slice_get_past c.args.older.now c.args.position c.if-position-older.true) refl
 
 pub shown-returns-in_err-brick-in-Some-clause-too_much : goal.shown-returns-in_err-brick-in-Some-clause-too_much
 shown-returns-in_err-brick-in-Some-clause-too_much t c = λ e fits.
     let told = rw e at c.from_residual.ensures.1 in
-    c.in_err-brick-in-Some.ensures.too_much (ap Err (sym told)) (fits_before c.args.plan.now c.args.older.now c.args.k c.in-Some.y.0 (fits c.in-Some.y.0))
+    c.in_err-brick-in-Some.ensures.too_much (ap Err (sym told)) (fits_before c.args.plan.now c.args.older.now c.args.position c.in-Some.y.0 (fits c.in-Some.y.0))
 
 pub shown-returns-in_ok-shown_of-in-Some-clause-ok : goal.shown-returns-in_ok-shown_of-in-Some-clause-ok
 shown-returns-in_ok-shown_of-in-Some-clause-ok t c =
     let h = c.in-Some.ensures in
-    let asks = shown_asked (held_before c.args.plan.now (reverse c.args.older.now)) c.args.k c.index-older-k.result c.in-Some.y c.in-Some.request.now (sym h) in
-    rw (from_oldest_reverse c.args.older.now c.args.k, slice_get-get_or c.args.older.now c.args.k c.index-older-k.result c.if-k-older.false, ← c.index-older-k.is)
+    let asks = shown_asked (held_before c.args.plan.now (reverse c.args.older.now)) c.args.position c.index-older-position.result c.in-Some.y c.in-Some.request.now (sym h) in
+    rw (from_oldest_reverse c.args.older.now c.args.position, slice_get-get_or c.args.older.now c.args.position c.index-older-position.result c.if-position-older.false, ← c.index-older-position.is)
     (c.in_ok-shown_of-in-Some.ensures.ok
     ∙ ap (λ (x : Copies). shown_of c.in-Some.request.now x.objects) c.in_ok-brick-in-Some.ensures.ok
-    ∙ sym (ap (shown_of c.in-Some.request.now) (held_before_is c.args.plan.now c.args.older.now c.args.k c.in-Some.y.0 c.if-k-older.false))
+    ∙ sym (ap (shown_of c.in-Some.request.now) (held_before_is c.args.plan.now c.args.older.now c.args.position c.in-Some.y.0 c.if-position-older.false))
     ∙ sym asks)
 
 pub shown-returns-in-None-clause-ok : goal.shown-returns-in-None-clause-ok
 shown-returns-in-None-clause-ok t c =
-    rw (from_oldest_reverse c.args.older.now c.args.k, slice_get-get_or c.args.older.now c.args.k c.index-older-k.result c.if-k-older.false, ← c.index-older-k.is)
-    (sym (shown_unasked (held_before c.args.plan.now (reverse c.args.older.now)) c.args.k c.index-older-k.result (sym c.in-None.ensures)))
+    rw (from_oldest_reverse c.args.older.now c.args.position, slice_get-get_or c.args.older.now c.args.position c.index-older-position.result c.if-position-older.false, ← c.index-older-position.is)
+    (sym (shown_unasked (held_before c.args.plan.now (reverse c.args.older.now)) c.args.position c.index-older-position.result (sym c.in-None.ensures)))
