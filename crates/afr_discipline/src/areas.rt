@@ -8,12 +8,9 @@ ghost use Rattle.afr_base.specs.Kinds.{same_kind};
 ghost use Rattle.afr_name_locks.specs.Names.{same_name};
 ghost use Rattle.afr_discipline.specs.Tests.{ends_low, has_name, is_heal_area, is_valid, lies_at, lies_in, plane_in};
 
-use afr_base::{Gfid, Kind, NameId};
+use afr_base::{FIRST_ATTRIBUTE, Gfid, Kind, LONGEST_FILE, NameId};
 use afr_lines::Area;
 use afr_object::Change;
-
-/// Where the bytes of a file end, and its attributes begin.
-pub(crate) const ATTRS: u64 = 1 << 63;
 
 pub(crate) fn is_same_kind(one: Kind, other: Kind) -> bool
     ensures { result ≡ same_kind one other }
@@ -75,7 +72,8 @@ pub(crate) fn is_an_area(area: Area) -> bool
 {
     match area {
         Area::Range { gfid: _, from, to } => {
-            from < to && (to <= ATTRS || (from == ATTRS && to == ATTRS + 1))
+            from < to
+                && (to <= FIRST_ATTRIBUTE || (from == FIRST_ATTRIBUTE && to == FIRST_ATTRIBUTE + 1))
         }
         Area::Name { .. } => true,
     }
@@ -86,7 +84,7 @@ pub(crate) fn is_of_heals(area: Area) -> bool
     ensures { result ≡ is_heal_area area }
 {
     match area {
-        Area::Range { gfid: _, from, to } => from == 0 && to == ATTRS,
+        Area::Range { gfid: _, from, to } => from == 0 && to == FIRST_ATTRIBUTE,
         Area::Name { .. } => false,
     }
 }
@@ -112,7 +110,7 @@ fn kind_of(area: Area) -> Kind
 fn kind_from(from: u64) -> Kind
     ensures { result ≡ (if nat_lt from (2 ^ 63) then Kind.Bytes else Kind.Attrs) }
 {
-    if from < ATTRS {
+    if from < FIRST_ATTRIBUTE {
         Kind::Bytes
     } else {
         Kind::Attrs
@@ -164,7 +162,8 @@ pub(crate) fn is_low(change: &Change) -> bool
     ensures { result ≡ ends_low change.now }
 {
     match change {
-        Change::Write { at, bytes, .. } => end_of(*at, bytes.as_slice()) <= 1_048_576,
+        Change::Write { at, bytes, .. } => end_of(*at, bytes.as_slice())
+            <= u128::from(LONGEST_FILE),
         _ => true,
     }
 }
@@ -202,10 +201,14 @@ fn is_within_range(g: Gfid, from: u64, to: u64, change: &Change) -> bool
             g.0 == gfid.0
                 && from <= u64::from(*at)
                 && end_of(*at, bytes.as_slice()) <= u128::from(to)
-                && to <= ATTRS
+                && to <= FIRST_ATTRIBUTE
         }
-        Change::Cut { gfid, len } => g.0 == gfid.0 && from <= u64::from(*len) && to == ATTRS,
-        Change::SetAttr { gfid, .. } => g.0 == gfid.0 && from == ATTRS && to == ATTRS + 1,
+        Change::Cut { gfid, len } => g.0 == gfid.0
+            && from <= u64::from(*len)
+            && to == FIRST_ATTRIBUTE,
+        Change::SetAttr { gfid, .. } => g.0 == gfid.0
+            && from == FIRST_ATTRIBUTE
+            && to == FIRST_ATTRIBUTE + 1,
         Change::Make { .. } | Change::Remove { .. } => false,
     }
 }

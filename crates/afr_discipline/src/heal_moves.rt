@@ -10,14 +10,14 @@ ghost use Rattle.afr_base.specs.Kinds.{same_kind};
 ghost use Rattle.afr_moves.specs.Keeps.{keeps_in};
 ghost use Rattle.afr_discipline.specs.Stands.{phase_of, seen_as, step_of, views_of};
 
-use crate::areas::{ATTRS, is_same_area, is_same_kind, is_the_area};
+use crate::areas::{is_same_area, is_same_kind, is_the_area};
 use crate::heal_sets::{is_locked, is_over, is_turn};
 use crate::heals::{has_read, has_settled, is_going_on, is_onward, len_at};
 use crate::of_five::all_of;
 use crate::outside::is_busy;
 use crate::register::{Phase, Register, Step};
 use crate::steps::{is_same_step, rank};
-use afr_base::{BrickId, BrickSet, Gfid, Kind};
+use afr_base::{BrickId, BrickSet, FIRST_ATTRIBUTE, Gfid, HEAL_BLOCK, Kind};
 use afr_lines::{Area, Request};
 use afr_range_locks::Domain;
 
@@ -28,12 +28,12 @@ pub(crate) fn whole(g: Gfid, kind: Kind) -> Area
         Kind::Bytes => Area::Range {
             gfid: g,
             from: 0,
-            to: ATTRS,
+            to: FIRST_ATTRIBUTE,
         },
         Kind::Attrs => Area::Range {
             gfid: g,
-            from: ATTRS,
-            to: ATTRS + 1,
+            from: FIRST_ATTRIBUTE,
+            to: FIRST_ATTRIBUTE + 1,
         },
         Kind::Names => Area::Name {
             gfid: g,
@@ -48,7 +48,7 @@ fn piece(g: Gfid, at: u32) -> Area
     Area::Range {
         gfid: g,
         from: u64::from(at),
-        to: u64::from(at) + 131_072,
+        to: u64::from(at) + u64::from(HEAL_BLOCK),
     }
 }
 
@@ -58,7 +58,7 @@ fn heal_range(g: Gfid) -> Area
     Area::Range {
         gfid: g,
         from: 0,
-        to: ATTRS,
+        to: FIRST_ATTRIBUTE,
     }
 }
 
@@ -251,7 +251,7 @@ pub(crate) fn may_read_bytes(
     requires small { b.0 < 5 }
     ensures { result ≡ may_heal register.now.shape.n (keeps_in register.now.shape) (seen_as register.now) s.0 b.0 (Request.ReadBytes g at len) }
 {
-    may_read(register, s, b, g, Kind::Bytes) && at == register.upto && len == 131_072
+    may_read(register, s, b, g, Kind::Bytes) && at == register.upto && len == HEAL_BLOCK
 }
 
 pub(crate) fn may_raise_in_heal(

@@ -10,7 +10,7 @@ ghost use Rattle.afr_discipline.specs.Five.{has_read};
 use crate::heal_sets::is_turn;
 use crate::heals::{has_raised, is_onward, len_at};
 use crate::register::{Phase, Register, Step};
-use afr_base::{BrickId, Gfid, Kind};
+use afr_base::{BrickId, Gfid, HEAL_BLOCK, Kind};
 use afr_lines::Request;
 use afr_object::Repair;
 
@@ -95,7 +95,7 @@ fn may_copy(register: &Register, s: BrickId, g: Gfid, at: u32, span: u32, read: 
     is_onward(register, s, g, Kind::Bytes)
         && !is_in_opening(register.phase)
         && at == register.upto
-        && span == 131_072
+        && span == HEAL_BLOCK
         && is_same_read(read_at(&register.reads, s), Some(read))
 }
 

@@ -12,19 +12,26 @@ use crate::register::{Register, Step};
 use afr_base::{BrickId, BrickSet};
 
 /// The lowest of the five below `n` that passes.
-fn found_of(n: u8, a: bool, b: bool, c: bool, d: bool, e: bool) -> Option<BrickId>
+fn found_of(
+    n: u8,
+    first: bool,
+    second: bool,
+    third: bool,
+    fourth: bool,
+    fifth: bool,
+) -> Option<BrickId>
     requires { n ≤ 5 }
-    ensures { (test : ℕ → Bool) → Gives test a b c d e → result ≡ brick_of (find n test) }
+    ensures { (test : ℕ → Bool) → Gives test first second third fourth fifth → result ≡ brick_of (find n test) }
 {
-    if 0 < n && a {
+    if 0 < n && first {
         Some(BrickId(0))
-    } else if 1 < n && b {
+    } else if 1 < n && second {
         Some(BrickId(1))
-    } else if 2 < n && c {
+    } else if 2 < n && third {
         Some(BrickId(2))
-    } else if 3 < n && d {
+    } else if 3 < n && fourth {
         Some(BrickId(3))
-    } else if 4 < n && e {
+    } else if 4 < n && fifth {
         Some(BrickId(4))
     } else {
         None

@@ -14,12 +14,9 @@ use crate::heal_reads::is_in_opening;
 use crate::note_steps::{entered, noted_outside, shown, shown_if};
 use crate::register::{Phase, Register, Step};
 use crate::steps::{is_same_step, rank};
-use afr_base::{BrickId, BrickSet, Kind};
+use afr_base::{BrickId, BrickSet, HEAL_BLOCK, Kind};
 use afr_lines::{Area, Request, Told};
 use afr_range_locks::Domain;
-
-/// The length of a piece.
-const SPAN: u32 = 131_072;
 
 fn is_piece(phase: Phase) -> bool
     ensures { result ≡ is_piece (phase_of phase) }
@@ -71,7 +68,7 @@ fn upto_after(register: &Register) -> u32
     ensures { result ≡ upto_after register.now }
 {
     if is_piece(register.phase) && rank(register.step) < rank(Step::Unlocks) {
-        register.upto + SPAN
+        register.upto + HEAL_BLOCK
     } else {
         register.upto
     }
@@ -173,15 +170,15 @@ fn broken_by(register: &Register, request: &Request, told: &Told) -> bool
     }
 }
 
-fn picked(a: bool, b: bool, c: bool, d: bool, e: bool) -> BrickSet
-    ensures { result ≡ picked a b c d e }
+fn picked(first: bool, second: bool, third: bool, fourth: bool, fifth: bool) -> BrickSet
+    ensures { result ≡ picked first second third fourth fifth }
 {
     BrickSet::none()
-        .with_if(a, BrickId(0))
-        .with_if(b, BrickId(1))
-        .with_if(c, BrickId(2))
-        .with_if(d, BrickId(3))
-        .with_if(e, BrickId(4))
+        .with_if(first, BrickId(0))
+        .with_if(second, BrickId(1))
+        .with_if(third, BrickId(2))
+        .with_if(fourth, BrickId(3))
+        .with_if(fifth, BrickId(4))
 }
 
 /// The copies that may still be the source.
