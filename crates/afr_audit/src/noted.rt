@@ -8,13 +8,10 @@ ghost use Rattle.afr_audit.specs.Followed.{AsksOneOfFive};
 ghost use Rattle.afr_moves.specs.Keeps.{keeps_in};
 
 use crate::unjudged::Unjudged;
-use afr_base::{BrickId, Gfid, Kind};
+use afr_base::{BrickId, Gfid, HEAL_BLOCK, Kind};
 use afr_discipline::{Move, Register, fresh, note};
 use afr_lines::{Line, Request, Told};
 use afr_object::Change;
-
-/// The length of a piece of a heal of bytes.
-const PIECE: u32 = 131_072;
 
 fn note_ask(register: &mut Register, brick: BrickId, request: &Request, told: &Told, at: u32)
     requires few { register.old.shape.n ≤ 5 }
@@ -87,7 +84,7 @@ fn asks_one_of_five(line: &Line) -> bool
 fn has_room(register: &Register) -> bool
     ensures { (result ≡ true) ↔ (register.now.upto + span < 2 ^ 32 - 1) }
 {
-    register.upto < u32::MAX - PIECE
+    register.upto < u32::MAX - HEAL_BLOCK
 }
 
 /// The register at the first line of a work or a heal is that of no line.
