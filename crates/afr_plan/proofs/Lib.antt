@@ -1,1 +1,2 @@
 pub mod FirstPathLemmas
+pub mod Digits

@@ -1,5 +1,7 @@
 //! The limits of a plan: the greatest value that each number, length or total may have.
 
+use afr_base::{LONGEST_FILE, LONGEST_WRITE, MOST_CLIENTS, MOST_HEALERS};
+
 /// The bricks of either shape.
 pub const BRICKS: u8 = 3;
 
@@ -12,9 +14,9 @@ pub const FILES: u32 = 1000;
 /// Turns, the turns of an order, the requests to a brick and the positions in a log.
 pub const TURNS: u32 = 4_000_000;
 
-pub const CLIENTS: u8 = 16;
+pub const CLIENTS: u8 = MOST_CLIENTS as u8;
 
-pub const HEALERS: u8 = 3;
+pub const HEALERS: u8 = MOST_HEALERS as u8;
 
 /// The names of a path.
 pub const PATH: u32 = 16;
@@ -23,10 +25,10 @@ pub const PATH: u32 = 16;
 pub const WORD: usize = 255;
 
 /// The bytes of a file, and each offset in one.
-pub const FILE: u32 = 1_048_576;
+pub const FILE: u32 = LONGEST_FILE;
 
 /// The bytes of one write or one read.
-pub const PIECE: u32 = 65_536;
+pub const PIECE: u32 = LONGEST_WRITE;
 
 /// The commands of all clients together.
 pub const COMMANDS: u32 = 16_384;

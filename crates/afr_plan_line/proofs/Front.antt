@@ -1,14 +1,13 @@
 -- Reading from the front of a list.
 use Rattle.std.proofs.Common.{◌≡◌, ℕ, ◌+◌, ◌<◌, ◌≤◌, List, [], ◌∷◌, length, drop, get_or, None, refl, ap, arith, drop-cons, suc, Bool, true, false, cond, zero, take, take_while}
 use Rattle.std.specs.Char.{digit_value}
-use Rattle.std.specs.Int.{IsInRange}
 use Rattle.std.specs.Str.Parse.{AllDigits}
 use Rattle.std.proofs.lemmas.Str.Parse.{digit_from_value}
 use Rattle.std.proofs.lemmas.Str.{digit_value_digit}
 use Rattle.std.proofs.lemmas.List.Sums.{take_while-cons}
-use Rattle.std.proofs.lemmas.Bool.Decides.{nat_tests}
 use Rattle.afr_plan.specs.Bytes.{digit}
 use Rattle.afr_plan.specs.Reading.{after}
+use Rattle.afr_plan.proofs.Digits.{digit_value_of}
 
 no_more : (w : ℕ) (ws xs : List ℕ) → length xs ≡ 0 → after (w ∷ ws) xs ≡ None
 no_more w ws [] e = refl
@@ -26,9 +25,6 @@ pub digit_at : (ds : List ℕ) (i : ℕ) → i < length ds → AllDigits 10 ds �
 digit_at [] i l a = absurd (omega arith)
 digit_at (d ∷ ds) zero l a = a.0
 digit_at (d ∷ ds) (suc i) l a = digit_at ds i (omega arith) a.1
-
-digit_value_of : (b : ℕ) → digit b ≡ true → digit_value b < 10
-digit_value_of b h = let r : IsInRange 48 57 b = (grind (arith, nat_tests, h), grind (arith, nat_tests, h)) in omega (arith, digit_value_digit b r, r.1)
 
 pub front_digits : (xs : List ℕ) → AllDigits 10 (take_while digit xs)
 front_digits [] = tt

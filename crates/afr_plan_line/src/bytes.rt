@@ -9,46 +9,46 @@ ghost use Rattle.afr_plan.specs.Bytes as spec;
 ghost use Rattle.afr_plan.specs.Data as datum;
 ghost use Rattle.afr_plan.specs.Reading.{after, front, run_of, number_at, small_at, key_at};
 
-fn is_digit(b: u8) -> bool
-    ensures { result ≡ digit b }
+fn is_digit(byte: u8) -> bool
+    ensures { result ≡ digit byte }
 {
-    b'0' <= b && b <= b'9'
+    b'0' <= byte && byte <= b'9'
 }
 
-fn is_letter(b: u8) -> bool
-    ensures { result ≡ letter b }
+fn is_letter(byte: u8) -> bool
+    ensures { result ≡ letter byte }
 {
-    (b'a' <= b && b <= b'z') || (b'A' <= b && b <= b'Z')
+    (b'a' <= byte && byte <= b'z') || (b'A' <= byte && byte <= b'Z')
 }
 
-fn is_name_byte(b: u8) -> bool
-    ensures { result ≡ name_byte b }
+fn is_name_byte(byte: u8) -> bool
+    ensures { result ≡ name_byte byte }
 {
-    is_letter(b) || is_digit(b) || b == b'.' || b == b'_' || b == b'-'
+    is_letter(byte) || is_digit(byte) || byte == b'.' || byte == b'_' || byte == b'-'
 }
 
-fn is_path_byte(b: u8) -> bool
-    ensures { result ≡ path_byte b }
+fn is_path_byte(byte: u8) -> bool
+    ensures { result ≡ path_byte byte }
 {
-    is_name_byte(b) || b == b'/'
+    is_name_byte(byte) || byte == b'/'
 }
 
-fn is_key_byte(b: u8) -> bool
-    ensures { result ≡ key_byte b }
+fn is_key_byte(byte: u8) -> bool
+    ensures { result ≡ key_byte byte }
 {
-    is_letter(b) || is_digit(b) || b == b'.' || b == b'_'
+    is_letter(byte) || is_digit(byte) || byte == b'.' || byte == b'_'
 }
 
-pub(crate) fn is_hex_digit(b: u8) -> bool
-    ensures { result ≡ spec.hex_digit b }
+pub(crate) fn is_hex_digit(byte: u8) -> bool
+    ensures { result ≡ spec.hex_digit byte }
 {
-    is_digit(b) || (b'a' <= b && b <= b'f')
+    is_digit(byte) || (b'a' <= byte && byte <= b'f')
 }
 
-fn is_text_byte(b: u8) -> bool
-    ensures { result ≡ text_byte b }
+fn is_text_byte(byte: u8) -> bool
+    ensures { result ≡ text_byte byte }
 {
-    b' ' <= b && b <= b'~' && b != b'"'
+    b' ' <= byte && byte <= b'~' && byte != b'"'
 }
 
 /// Whether no byte is other than from a space to a tilde.
@@ -180,14 +180,14 @@ pub(crate) fn hex_digits(bytes: &[u8]) -> (&[u8], &[u8])
     (&bytes[..count], &bytes[count..])
 }
 
-fn hex_value(d: u8) -> u8
-    ensures value { result ≡ datum.hex_value d }
+fn hex_value(byte: u8) -> u8
+    ensures value { result ≡ datum.hex_value byte }
     ensures small { result < 16 }
 {
-    if is_digit(d) {
-        d - b'0'
-    } else if is_hex_digit(d) {
-        d - b'a' + 10
+    if is_digit(byte) {
+        byte - b'0'
+    } else if is_hex_digit(byte) {
+        byte - b'a' + 10
     } else {
         0
     }

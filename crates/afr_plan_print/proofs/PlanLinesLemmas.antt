@@ -1,5 +1,5 @@
 -- The lines of the plan that lines give are those lines.
-use Rattle.std.proofs.Common.{◌≡◌, ℕ, ◌+◌, ◌-◌, ◌<◌, ◌≤◌, List, [], ◌∷◌, ◌++◌, length, refl, sym, ap, subst, ◌∙◌, arith, Bool, true, false, ◌||◌, cond, suc, map, append_assoc, reverse, ◌⊎◌, inl, inr, codes}
+use Rattle.std.proofs.Common.{◌≡◌, ℕ, ◌+◌, ◌-◌, ◌<◌, ◌≤◌, List, [], ◌∷◌, ◌++◌, length, refl, sym, ap, subst, ◌∙◌, arith, Bool, true, false, cond, suc, map, append_assoc, reverse, ◌⊎◌, inl, inr, codes}
 use Rattle.std.specs.Prelude.{count_by, nat_lt, nat_le}
 use Rattle.std.specs.List.{list_all}
 use Rattle.std.proofs.lemmas.Bool.Decides.{nat_tests}
@@ -26,6 +26,7 @@ use Rattle.afr_plan_print.specs.PrintedPlan.{said_command, said_round, said_faul
 use Rattle.afr_plan_print.proofs.StageLemmas.{may, stage, rises, in_script, in_rounds, past_turns}
 use Rattle.afr_plan_print.proofs.WordPlaceLemmas.{Within, within_self, within_command, IsWorkAscii, command_found}
 use Rattle.afr_plan_print.proofs.PrintedPathLemmas.{ascii, AreAscii, path_ascii, named_path_ascii}
+use Rattle.std.proofs.lemmas.Bool.{or_parts, both_ways}
 
 -- ---- groups of lines
 group_more : {A : Type 0} (head : ℕ → Said) (line : A → Said) (i : ℕ) (gs : List (List A)) → group_lines head line i (gs ++ [] ∷ []) ≡ group_lines head line i gs ++ head (i + length gs) ∷ []
@@ -108,14 +109,6 @@ healer-cons : (x : Said) (xs : List Said) → count_by is_healer (x ∷ xs) ≡ 
 healer-cons x xs = sum_by-cons (λ y. cond {A = ℕ} (is_healer y) 1 0) x xs
 
 -- ---- actors and events as they were said
-or_left : (a b : Bool) → (a || b) ≡ false → a ≡ false
-or_left true b h = h
-or_left false b h = refl
-
-or_right : (a b : Bool) → (a || b) ≡ false → b ≡ false
-or_right true b h = absurd (cc)
-or_right false b h = h
-
 who_again : (before : List Said) (who : Who) → is_who_beyond who ≡ false → lacks_who before who ≡ false → said_who (actor_of who) ≡ who
 who_again before (OfClient i) b h = let t : nat_le i 16 ≡ true = grind (arith, nat_tests) in rw t refl
 who_again before (OfHealer j) b h =
@@ -126,8 +119,8 @@ who_again before (OfHealer j) b h =
 happening_again : (before : List Said) (event : Happening) → is_event_beyond event ≡ false → is_event_disordered before event ≡ false → happening_of (event_of event) ≡ event
 happening_again before (Stop brick) b h = refl
 happening_again before (Start brick) b h = refl
-happening_again before (Cut who brick) b h = ap (λ (t : Who). Cut t brick) (who_again before who (or_left _ _ b) (or_left _ _ h))
-happening_again before (Join who brick) b h = ap (λ (t : Who). Join t brick) (who_again before who (or_left _ _ b) (or_left _ _ h))
+happening_again before (Cut who brick) b h = ap (λ (t : Who). Cut t brick) (who_again before who (or_parts _ _ b).0 (or_parts _ _ h).0)
+happening_again before (Join who brick) b h = ap (λ (t : Who). Join t brick) (who_again before who (or_parts _ _ b).0 (or_parts _ _ h).0)
 happening_again before (Kill who) b h = ap Kill (who_again before who b h)
 
 -- ---- one line more
@@ -298,8 +291,8 @@ shape_more newest older p (Command path w) h m b d a l n = command_next newest o
 shape_more newest older p (Healer j) h m b d a l n = healer_next newest older p h j m d
 shape_more newest older p (Round brick) h m b d a l n = round_next newest older p h brick m
 shape_more newest older p (Faulty brick at fault) h m b d a l n = fault_next newest older p h brick at fault m
-shape_more newest older p (At at event) h m b d a l n = event_next newest older p h at event m (or_right (nat_lt 4000000 at) (is_event_beyond event) b) (or_right _ (is_event_disordered (newest ∷ older) event) d)
-shape_more newest older p (Go who count) h m b d a l n = order_next newest older p h who count m (or_left (is_who_beyond who) (is_count_beyond count) b) d
+shape_more newest older p (At at event) h m b d a l n = event_next newest older p h at event m (or_parts (nat_lt 4000000 at) (is_event_beyond event) b).1 (or_parts _ (is_event_disordered (newest ∷ older) event) d).1
+shape_more newest older p (Go who count) h m b d a l n = order_next newest older p h who count m (or_parts (is_who_beyond who) (is_count_beyond count) b).0 d
 shape_more newest older p End h m b d a l n = absurd (n refl)
 shape_more newest older p s h m b d a l n = absurd (omega (arith, l))
 
@@ -375,27 +368,24 @@ no_head_work : (w : Work) → (is_one_of (codes "afr" ∷ []) (work_word w) ≡ 
 no_head_work (Write at bytes) = (refl, refl, refl, refl)
 no_head_work w = (refl, refl, refl, refl)
 
-never : {b : Bool} → b ≡ false → b ≡ true → ⊥
-never f t = let e : true ≡ false = sym t ∙ f in (cc)
-
 is_afr : (s : Said) → is_word s (codes "afr") ≡ true → s ≡ Afr
 is_afr Afr h = refl
-is_afr (Command path w) h = absurd (never (no_head_work w).0 h)
+is_afr (Command path w) h = absurd (both_ways _ (no_head_work w).0 h)
 is_afr s h = absurd (cc)
 
 is_volume : (s : Said) → is_word s (codes "volume") ≡ true → (arbiter : Bool) × (s ≡ Volume arbiter)
 is_volume (Volume arbiter) h = (arbiter, refl)
-is_volume (Command path w) h = absurd (never (no_head_work w).1 h)
+is_volume (Command path w) h = absurd (both_ways _ (no_head_work w).1 h)
 is_volume s h = absurd (cc)
 
 is_files : (s : Said) → is_word s (codes "files") ≡ true → (k : ℕ) × (s ≡ Files k)
 is_files (Files k) h = (k, refl)
-is_files (Command path w) h = absurd (never (no_head_work w).2 h)
+is_files (Command path w) h = absurd (both_ways _ (no_head_work w).2 h)
 is_files s h = absurd (cc)
 
 is_turns : (s : Said) → is_word s (codes "turns") ≡ true → (t : ℕ) × (s ≡ Turns t)
 is_turns (Turns t) h = (t, refl)
-is_turns (Command path w) h = absurd (never (no_head_work w).3 h)
+is_turns (Command path w) h = absurd (both_ways _ (no_head_work w).3 h)
 is_turns s h = absurd (cc)
 
 head_shape : (t k : ℕ) (arbiter : Bool) → Shape (Turns t) (Files k ∷ Volume arbiter ∷ Afr ∷ []) (plan_of (Turns t ∷ Files k ∷ Volume arbiter ∷ Afr ∷ []))

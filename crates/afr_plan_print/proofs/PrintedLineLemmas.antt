@@ -18,16 +18,9 @@ use Rattle.afr_plan_print.specs.PrintedLine.{path_text, who_text, event_text, sh
 use Rattle.afr_plan_print.proofs.PrintedNumberLemmas.{number_is, small_is}
 use Rattle.afr_plan_print.proofs.PrintedPathLemmas.{path_is, named_path_is}
 use Rattle.afr_plan_print.proofs.PrintedDataLemmas.{data_is, data_spells, plain_data}
+use Rattle.std.proofs.lemmas.Bool.{or_parts}
 
 -- ---- parts of a line
-or_left : (a b : Bool) → (a || b) ≡ false → a ≡ false
-or_left true b h = h
-or_left false b h = refl
-
-or_right : (a b : Bool) → (a || b) ≡ false → b ≡ false
-or_right true b h = absurd (cc)
-or_right false b h = h
-
 then_is : (word w v text : List ℕ) → w ≡ word ++ v → v ≡ text → w ≡ word ++ text
 then_is word w v text e f = e ∙ ap (λ (t : List ℕ). word ++ t) f
 
@@ -52,8 +45,8 @@ session_is : (word w : List ℕ) (who : Who) (brick : ℕ) → WordThen word (Bo
 session_is word w who brick h b =
     let part = h.1 in
     then_is word w h.0 _ h.2
-    (both_are h.0 part.0 part.1 _ _ part.4 (who_is part.0 who part.2 (or_left (is_who_beyond who) (is_brick_beyond brick) b))
-    (then_is (codes " ") part.1 part.3.0 _ part.3.2 (brick_is part.3.0 brick part.3.1 (or_right (is_who_beyond who) (is_brick_beyond brick) b))))
+    (both_are h.0 part.0 part.1 _ _ part.4 (who_is part.0 who part.2 (or_parts (is_who_beyond who) (is_brick_beyond brick) b).0)
+    (then_is (codes " ") part.1 part.3.0 _ part.3.2 (brick_is part.3.0 brick part.3.1 (or_parts (is_who_beyond who) (is_brick_beyond brick) b).1)))
 
 happening_is : (w : List ℕ) (event : Happening) → IsHappening w event → is_event_beyond event ≡ false → w ≡ event_text event
 happening_is w (Stop brick) h b = then_is (codes "stop ") w h.0 _ h.2 (brick_is h.0 brick h.1 b)
@@ -93,8 +86,8 @@ numbers_after : (v : List ℕ) (at len : ℕ) → WordThen (codes " ") (Both IsN
 numbers_after v at len h b =
     let part = h.1 in
     then_is (codes " ") v h.0 _ h.2
-    (both_are h.0 part.0 part.1 _ _ part.4 (most_is part.0 at 1048576 part.2 (or_left (nat_lt 1048576 at) (nat_lt 65536 len) b) (omega arith))
-    (number_after part.1 len 65536 part.3 (or_right (nat_lt 1048576 at) (nat_lt 65536 len) b) (omega arith)))
+    (both_are h.0 part.0 part.1 _ _ part.4 (most_is part.0 at 1048576 part.2 (or_parts (nat_lt 1048576 at) (nat_lt 65536 len) b).0 (omega arith))
+    (number_after part.1 len 65536 part.3 (or_parts (nat_lt 1048576 at) (nat_lt 65536 len) b).1 (omega arith)))
 
 key_after : (v key : List ℕ) → WordThen (codes " ") IsKey v key → v ≡ codes " " ++ key
 key_after v key h = then_is (codes " ") v h.0 _ h.2 h.1.0
@@ -146,11 +139,11 @@ write_printed : (line : List ℕ) (path : List (List ℕ)) (at : ℕ) (bytes : L
 write_printed line path at bytes h p b =
     let part = h.1 in
     let place = part.3.1 in
-    let few : length bytes ≤ 65536 = (let f = or_right (nat_lt 1048576 at) (nat_lt 65536 (length bytes)) b in grind (arith, nat_tests, f)) in
+    let few : length bytes ≤ 65536 = (let f = (or_parts (nat_lt 1048576 at) (nat_lt 65536 (length bytes)) b).1 in grind (arith, nat_tests, f)) in
     let d = place.3.0 in
     let data_word = data_is d bytes place.3.1 few in
     let path_same : part.0 ≡ path_text path = path_is part.0 path part.2 in
-    let at_same : place.0 ≡ decimal at = most_is place.0 at 1048576 place.2 (or_left (nat_lt 1048576 at) (nat_lt 65536 (length bytes)) b) (omega arith) in
+    let at_same : place.0 ≡ decimal at = most_is place.0 at 1048576 place.2 (or_parts (nat_lt 1048576 at) (nat_lt 65536 (length bytes)) b).0 (omega arith) in
     let whole : line ≡ codes "write " ++ (path_text path ++ (codes " " ++ (decimal at ++ (codes " " ++ d)))) =
     then_is (codes "write ") line h.0 _ h.2
     (both_are h.0 part.0 part.1 _ _ part.4 path_same
@@ -187,24 +180,24 @@ fault_line_is line brick at fault h b =
     let part = h.1 in
     let place = part.3.1 in
     then_is (codes "fault ") line h.0 _ h.2
-    (both_are h.0 part.0 part.1 _ _ part.4 (brick_is part.0 brick part.2 (or_left (is_brick_beyond brick) (is_count_beyond at) b))
+    (both_are h.0 part.0 part.1 _ _ part.4 (brick_is part.0 brick part.2 (or_parts (is_brick_beyond brick) (is_count_beyond at) b).0)
     (then_is (codes " ") part.1 part.3.0 _ part.3.2
-    (both_are part.3.0 place.0 place.1 _ _ place.4 (count_is place.0 at place.2 (or_right (is_brick_beyond brick) (is_count_beyond at) b))
+    (both_are part.3.0 place.0 place.1 _ _ place.4 (count_is place.0 at place.2 (or_parts (is_brick_beyond brick) (is_count_beyond at) b).1)
     (then_is (codes " ") place.1 place.3.0 _ place.3.2 (fault_is place.3.0 fault place.3.1)))))
 
 event_line_is : (line : List ℕ) (at : ℕ) (event : Happening) → IsSaid line (At at event) → (nat_lt 4000000 at || is_event_beyond event) ≡ false → line ≡ line_text (At at event)
 event_line_is line at event h b =
     let part = h.1 in
     then_is (codes "at ") line h.0 _ h.2
-    (both_are h.0 part.0 part.1 _ _ part.4 (most_is part.0 at 4000000 part.2 (or_left (nat_lt 4000000 at) (is_event_beyond event) b) (omega arith))
-    (then_is (codes " ") part.1 part.3.0 _ part.3.2 (happening_is part.3.0 event part.3.1 (or_right (nat_lt 4000000 at) (is_event_beyond event) b))))
+    (both_are h.0 part.0 part.1 _ _ part.4 (most_is part.0 at 4000000 part.2 (or_parts (nat_lt 4000000 at) (is_event_beyond event) b).0 (omega arith))
+    (then_is (codes " ") part.1 part.3.0 _ part.3.2 (happening_is part.3.0 event part.3.1 (or_parts (nat_lt 4000000 at) (is_event_beyond event) b).1)))
 
 order_line_is : (line : List ℕ) (who : Who) (count : ℕ) → IsSaid line (Go who count) → (is_who_beyond who || is_count_beyond count) ≡ false → line ≡ line_text (Go who count)
 order_line_is line who count h b =
     let part = h.1 in
     then_is (codes "go ") line h.0 _ h.2
-    (both_are h.0 part.0 part.1 _ _ part.4 (who_is part.0 who part.2 (or_left (is_who_beyond who) (is_count_beyond count) b))
-    (then_is (codes " ") part.1 part.3.0 _ part.3.2 (count_is part.3.0 count part.3.1 (or_right (is_who_beyond who) (is_count_beyond count) b))))
+    (both_are h.0 part.0 part.1 _ _ part.4 (who_is part.0 who part.2 (or_parts (is_who_beyond who) (is_count_beyond count) b).0)
+    (then_is (codes " ") part.1 part.3.0 _ part.3.2 (count_is part.3.0 count part.3.1 (or_parts (is_who_beyond who) (is_count_beyond count) b).1)))
 
 -- a line within the limits is printed so
 pub said_printed : (line : List ℕ) (s : Said) → IsSaid line s → list_all plain line ≡ true → is_beyond s ≡ false → IsPrinted line s
@@ -213,7 +206,7 @@ said_printed line (Volume arbiter) h p b = as_it_stands line (Volume arbiter) h 
 said_printed line (Files k) h p b = as_it_stands line (Files k) h p (then_is (codes "files ") line h.0 _ h.2 (most_is h.0 k 1000 h.1 b (omega arith)))
 said_printed line (Turns t) h p b = as_it_stands line (Turns t) h p (then_is (codes "turns ") line h.0 _ h.2 (count_is h.0 t h.1 b))
 said_printed line (Client i) h p b = as_it_stands line (Client i) h p (then_is (codes "client ") line h.0 _ h.2 (most_is h.0 i 16 h.1 b (omega arith)))
-said_printed line (Command path w) h p b = command_printed line path w h p (or_right (is_path_beyond path) (is_work_beyond w) b)
+said_printed line (Command path w) h p b = command_printed line path w h p (or_parts (is_path_beyond path) (is_work_beyond w) b).1
 said_printed line (Healer j) h p b = as_it_stands line (Healer j) h p (then_is (codes "healer ") line h.0 _ h.2 (most_is h.0 j 3 h.1 b (omega arith)))
 said_printed line (Round brick) h p b = as_it_stands line (Round brick) h p (then_is (codes "round ") line h.0 _ h.2 (brick_is h.0 brick h.1 b))
 said_printed line (Faulty brick at fault) h p b = as_it_stands line (Faulty brick at fault) h p (fault_line_is line brick at fault h b)

@@ -1,19 +1,14 @@
 -- A number that is read is spelled as it is printed.
 use Rattle.std.proofs.Common.{◌≡◌, ℕ, ◌<◌, ◌^◌, List, [], ◌∷◌, length, get_or, refl, sym, ap, ◌∙◌, arith, true, ◌==◌, not, subst, suc, zero}
 use Rattle.std.specs.Prelude.{decimal}
-use Rattle.std.specs.Char.{digit_value}
-use Rattle.std.specs.Int.{IsInRange}
 use Rattle.std.specs.Str.Parse.{AllDigits, digits_value}
 use Rattle.std.specs.List.{list_all}
-use Rattle.std.proofs.lemmas.Str.{digit_value_digit}
 use Rattle.std.proofs.lemmas.Str.Parse.{IsNumeralModel, numerals_by_value, tells_digits, digit_from_value}
 use Rattle.std.proofs.lemmas.Fmt.{decimal-digits_value, decimal_is_IsNumeral, decimal_digit, first_decimal}
 use Rattle.std.proofs.lemmas.Bool.Decides.{nat_tests}
 use Rattle.afr_plan.specs.Bytes.{digit, plain, is_numeral}
 use Rattle.afr_plan.specs.Spelling.{IsNumber, IsSmall, IsRun}
-
-digit_value_of : (b : ℕ) → digit b ≡ true → digit_value b < 10
-digit_value_of b h = let r : IsInRange 48 57 b = (grind (arith, nat_tests, h), grind (arith, nat_tests, h)) in omega (arith, digit_value_digit b r, r.1)
+use Rattle.afr_plan.proofs.Digits.{digit_value_of}
 
 all_digits : (ds : List ℕ) → list_all digit ds ≡ true → AllDigits 10 ds
 all_digits [] h = tt

@@ -1,5 +1,5 @@
 -- A path that is read is spelled as it is printed.
-use Rattle.std.proofs.Common.{◌≡◌, ℕ, List, [], ◌∷◌, ◌++◌, refl, sym, ap, ◌∙◌, arith, Bool, true, false, ◌&&◌, ◌==◌, cond, subst}
+use Rattle.std.proofs.Common.{◌≡◌, ℕ, List, [], ◌∷◌, ◌++◌, refl, sym, ap, ◌∙◌, arith, Bool, true, false, ◌==◌, cond, subst}
 use Rattle.std.specs.Prelude.{nat_lt}
 use Rattle.std.specs.List.{list_all}
 use Rattle.std.proofs.lemmas.Bool.Decides.{nat_tests}
@@ -7,6 +7,7 @@ use Rattle.afr_plan.specs.Bytes.{path_byte}
 use Rattle.afr_plan.specs.Paths.{in_first, pieces, names_in, is_path, is_named_path, has_names}
 use Rattle.afr_plan.specs.Spelling.{IsPath, IsNamedPath, IsRun}
 use Rattle.afr_plan_print.specs.PrintedLine.{slashed, path_text}
+use Rattle.afr_base.specs.Bricks.{and_left}
 
 -- ---- the pieces between slashes, put together again
 front_piece : (b : ℕ) (ps : List (List ℕ)) (rest : List ℕ) → slashed ps ≡ 47 ∷ rest → slashed (in_first b ps) ≡ 47 ∷ b ∷ rest
@@ -43,10 +44,6 @@ run_path w x names h e =
 
 pub path_is : (w : List ℕ) (names : List (List ℕ)) → IsPath w names → w ≡ path_text names
 path_is w names h = run_path w h.0 names h.1 h.2
-
-and_left : (a b : Bool) → (a && b) ≡ true → a ≡ true
-and_left true b h = refl
-and_left false b h = h
 
 pub named_path_is : (w : List ℕ) (names : List (List ℕ)) → IsNamedPath w names → w ≡ path_text names
 named_path_is w names h = run_path w h.0 names (h.1.0, h.1.1, and_left (is_path w) (has_names (names_in w)) h.1.2) h.2

@@ -1,5 +1,5 @@
 -- What is read is spelled so, and what is spelled so is read.
-use Rattle.std.proofs.Common.{◌≡◌, ◌⊎◌, inl, inr, ℕ, List, [], ◌∷◌, ◌++◌, length, drop, Option, Some, None, refl, sym, ap, subst, ◌∙◌, Bool, true, false, ◌==◌, cond, ◌&&◌, take_while, append_assoc}
+use Rattle.std.proofs.Common.{◌≡◌, ◌⊎◌, inl, inr, ℕ, List, [], ◌∷◌, ◌++◌, length, drop, Option, Some, None, refl, sym, ap, subst, ◌∙◌, Bool, true, false, ◌==◌, cond, take_while, append_assoc}
 use Rattle.std.specs.List.{list_all}
 use Rattle.std.proofs.lemmas.List.{take-append-drop, append-nil, drop_at}
 use Rattle.std.proofs.lemmas.List.Sums.{take_while-cons}
@@ -9,6 +9,7 @@ use Rattle.afr_plan.specs.Paths.{names_in, is_path, is_named_path}
 use Rattle.afr_plan.specs.Reading.{◌>>=◌, after, front, checked, Reader, give, give_as, as_a, all_used, whole, pair, then_pair, word, word_then, both, run_of, or_else, either, key_at, path_at, named_path_at, number_at, small_at, text_at}
 use Rattle.afr_plan.specs.Spelling.{IsRun, As, IsKey, IsPath, IsNamedPath, IsNumber, IsSmall, IsText, WordThen, Both, Word, Either}
 use Rattle.afr_plan_line.proofs.Front.{front_take}
+use Rattle.afr_base.specs.Bricks.{and_left, and_right}
 
 -- the rest doesn't begin with a byte that passes
 abbrev pub Stops : (ℕ → Bool) → List ℕ → Type 0
@@ -25,14 +26,6 @@ pub record Again {A : Type 0} (r : Reader A) (S : List ℕ → A → Type 0) (Ne
 
 abbrev pub Any : List ℕ → Type 0
 Any rest = Unit {0}
-
-and_left : (a b : Bool) → (a && b) ≡ true → a ≡ true
-and_left true b h = refl
-and_left false b h = h
-
-and_right : (a b : Bool) → (a && b) ≡ true → b ≡ true
-and_right true b h = h
-and_right false b h = absurd (cc)
 
 pub bind_some : {A B : Type 0} (o : Option A) (f : A → Option B) (y : B) → (o >>= f) ≡ Some y → (x : A) × (o ≡ Some x) × (f x ≡ Some y)
 bind_some None f y e = absurd (cc)
