@@ -122,6 +122,6 @@ marks_in kind (Some view) = marks_of kind view.marks
 -- what is taken back at brick b: what the first looks showed against the holders that changed; and, where every brick of the volume held the object, what they showed as open, with the heal's own pre-op
 abbrev pub less_at : Shape → Kind → Work → ℕ → Marks
 less_at shape kind w b = record {
-    dirty = if is_nothing (minus (below shape.n) (holders_in w)) then (marks_in kind (view_at b (first_by w).looked)).dirty + (if member (among prepared w) b then 1 else 0) else 0;
-    pending = kept_of 0 (changed_by shape kind w) (marks_in kind (view_at b (first_by w).looked)).pending;
-  }
+  dirty = if is_nothing (minus (below shape.n) (holders_in w)) then (marks_in kind (view_at b (first_by w).looked)).dirty + (if member (among prepared w) b then 1 else 0) else 0;
+  pending = kept_of 0 (changed_by shape kind w) (marks_in kind (view_at b (first_by w).looked)).pending;
+}

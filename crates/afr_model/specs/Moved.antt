@@ -61,4 +61,4 @@ abbrev pub moved_by : Shape → Gfid → Kind → Work → Option ℕ
 moved_by shape g kind w =
     if not (nat_lt 1 (pieces w)) || not (is_nothing (minus (first_by w).looked.reached (looked_by g w).reached)) then None
     else or_brick (accuser kind (source_of shape kind w) (looked_by g w))
-      (if is_whole_by (whole_of g kind) w then unlike (source_of shape kind w) (minus (copies_of shape (first_by w).looked kind) (source_of shape kind w ∷ [])) (looked_by g w) else None)
+    (if is_whole_by (whole_of g kind) w then unlike (source_of shape kind w) (minus (copies_of shape (first_by w).looked kind) (source_of shape kind w ∷ [])) (looked_by g w) else None)
