@@ -1,4 +1,4 @@
-//! Answers and events.
+//! The texts of answers and events.
 ghost use Rattle.std.specs.Prelude.{◌≡◌, ◌++◌, OnOk, codes, decimal, string_bytes};
 ghost use Rattle.afr_model.specs.ReportReplies.{actor_text};
 ghost use Rattle.afr_trace.specs.Answers.{event_text, told_text};

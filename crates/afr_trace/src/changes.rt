@@ -1,4 +1,4 @@
-//! Changes.
+//! The texts of changes.
 ghost use Rattle.std.specs.Prelude.{◌≡◌, ◌++◌, OnOk, codes, decimal, string_bytes};
 ghost use Rattle.afr_trace.specs.Changes.{change_text, make_word, remove_word};
 ghost use Rattle.afr_trace.specs.Objects.{object_text};

@@ -1,4 +1,4 @@
-//! The lines of a log.
+//! The text of each line of a log.
 ghost use Rattle.std.specs.Prelude.{◌≡◌, ◌++◌, OnOk, codes, decimal, string_bytes};
 ghost use Rattle.afr_model.specs.ReportReplies.{actor_text, heal_text, reply_text};
 ghost use Rattle.afr_trace.specs.Answers.{event_text};

@@ -1,4 +1,4 @@
-//! Objects, names, ranges, and what a lock covers.
+//! The texts of objects and names, of ranges, and of what a lock covers.
 ghost use Rattle.std.specs.Prelude.{◌≡◌, ◌++◌, OnOk, codes, decimal, string_bytes};
 ghost use Rattle.afr_trace.specs.Objects.{area_text, is_opening, key_text, lock_range_text, name_text, object_text, range_text};
 

@@ -1,4 +1,4 @@
-//! Repairs, and the numbers that a heal takes back.
+//! The texts of repairs, and of the numbers that a heal takes back.
 ghost use Rattle.std.specs.Prelude.{◌≡◌, ◌++◌, OnOk, codes, decimal, flat_map, string_bytes, take};
 ghost use Rattle.afr_trace.specs.Numbers.{given, with_commas};
 ghost use Rattle.afr_trace.specs.Objects.{object_text};

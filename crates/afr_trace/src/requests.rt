@@ -1,4 +1,4 @@
-//! Requests.
+//! The texts of requests.
 ghost use Rattle.std.specs.Prelude.{◌≡◌, ◌++◌, OnOk, codes, decimal, string_bytes};
 ghost use Rattle.afr_model.specs.ReportReplies.{kind_text};
 ghost use Rattle.afr_trace.specs.Numbers.{bricks_text};
