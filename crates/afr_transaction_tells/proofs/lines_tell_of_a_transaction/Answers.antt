@@ -1,0 +1,9 @@
+use Rattle.afr_transaction_tells.proofs.First.{tells_first}
+use Rattle.afr_transaction_tells.proofs.Kept.{tells_kept}
+use Rattle.afr_transaction_tells.proofs.lines_tell_of_a_transaction.Goals as goal
+
+pub returns-clause-first : goal.returns-clause-first
+returns-clause-first c = tells_first
+
+pub returns-clause-kept : goal.returns-clause-kept
+returns-clause-kept c = tells_kept
