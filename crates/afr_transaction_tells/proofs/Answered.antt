@@ -235,7 +235,7 @@ module _ (p : Plan) (w : Work) (m : Progress) (a : ActorId) (told : Told) (took 
 
   -- ---- an unlock
   unlocked_more : OnUnlocks p.shape m.change r.looked m.asked.looked_at w → OnUnlocks p.shape m.change r.looked m.asked.looked_at (more Closing)
-  unlocked_more (TooFew idle locked looks few) = TooFew idle locked (record { shows = looks.shows; at = looks.at }) few
+  unlocked_more (TooFew idle locked looks unseen few) = TooFew idle locked (record { shows = looks.shows; at = looks.at }) unseen few
   unlocked_more (Unfit idle locked looks majority looked_all unfit) = Unfit idle locked (record { shows = looks.shows; at = looks.at }) majority looked_all unfit
   unlocked_more (Tried u whole) = Tried (record { attempt = u.attempt; allows = u.allows; looks = record { shows = u.looks.shows; at = u.looks.at } }) whole
 

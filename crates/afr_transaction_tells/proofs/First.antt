@@ -17,7 +17,7 @@ use Rattle.afr_transaction_tells.specs.Tells.{During}
 use Rattle.afr_transaction_tells.proofs.Small.{no_number}
 
 -- where no line asks for a lock, nobody was asked, nobody granted one, and no area was locked
-none_asked : (area : Area) (w : Work) → has locks_any w ≡ false → among (asking area) w ≡ []
+pub none_asked : (area : Area) (w : Work) → has locks_any w ≡ false → among (asking area) w ≡ []
 none_asked area [] none = refl
 none_asked area (x ∷ w) none = by x.0 (among (asking area) w) (no_or _ (has locks_any w) none).0 ∙ none_asked area w (no_or _ (has locks_any w) none).1
   where

@@ -64,7 +64,7 @@ module _ (p : Plan) (w : Work) (x : Progress) (shape_is : x.register.shape ≡ p
         still = k.open_still;
         held_on = λ b m n. k.same b ∙ subst (λ (s : List ℕ). member s b ≡ true) (sym sets.granted) m;
       })
-      majority e false f = stands Closing (TooFew d.idle (record { locked = unseen.locked; all = all_asked e }) (record { shows = d.shows ∙ sym unseen.unseen; at = d.at ∙ sym unseen.unlooked }) (majority_is false f))
+      majority e false f = stands Closing (TooFew d.idle (record { locked = unseen.locked; all = all_asked e }) (record { shows = d.shows ∙ sym unseen.unseen; at = d.at ∙ sym unseen.unlooked }) d.shows (majority_is false f))
 
       go : (e : Bool) → is_nothing (left Locking x) ≡ e → Tells p w (on_stage (if e then gone_on Locking x.change x.register x.asked else Locking) x)
       go true e = majority e (is_majority x.register.shape.n x.asked.locked_on) refl

@@ -5,3 +5,7 @@ pub mod GoneOn
 pub mod Answered
 pub mod Kept
 pub mod First
+pub mod Excused
+pub mod About
+pub mod Calm
+pub mod Over

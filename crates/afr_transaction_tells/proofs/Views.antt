@@ -31,7 +31,7 @@ all_at (suc n) p h x l = elim (eqb_tells x n) [
   | inr w ↦ all_at n p (both (p n) (all n p) h).1 x (let d = w.1 in grind (arith, d, l))
 ]
 
-all_of : (n : ℕ) (p : ℕ → Bool) → ((x : ℕ) → x < n → p x ≡ true) → all n p ≡ true
+pub all_of : (n : ℕ) (p : ℕ → Bool) → ((x : ℕ) → x < n → p x ≡ true) → all n p ≡ true
 all_of zero p h = refl
 all_of (suc n) p h = pair (p n) (all n p) (h n (omega arith)) (all_of n p (λ x l. h x (omega (arith, l))))
 

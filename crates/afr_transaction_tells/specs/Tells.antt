@@ -168,7 +168,7 @@ lookups_allow shape change looked =
 
 -- why only unlocks are left: too few locks, lookups that don't allow the change, or an attempt that has gone as far as it could
 pub data OnUnlocks (shape : Shape) (change : Change) (shown : Looked) (looked_at : List ℕ) (w : Work) : Type 0 where
-  TooFew : AreIdle w → AreLocked shape.n (object_of change) (area_for change) w → AreLooks (object_of change) shown looked_at w
+  TooFew : AreIdle w → AreLocked shape.n (object_of change) (area_for change) w → AreLooks (object_of change) shown looked_at w → shown ≡ no_looks
       → is_majority shape.n (among (getting (area_for change)) w) ≡ false → OnUnlocks shape change shown looked_at w
   Unfit : AreIdle w → AreLocked shape.n (object_of change) (area_for change) w → AreLooks (object_of change) shown looked_at w
       → is_majority shape.n (among (getting (area_for change)) w) ≡ true → IsIn (among (getting (area_for change)) w) (among (looking (object_of change)) w)
