@@ -10,3 +10,4 @@ pub mod About
 pub mod Calm
 pub mod Over
 pub mod HonestFits
+pub mod ReadsLemmas
