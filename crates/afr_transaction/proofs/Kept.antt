@@ -24,10 +24,10 @@ use Rattle.afr_moves.specs.Keeps.{keeps_in}
 use Rattle.afr_discipline.specs.Stands.{no_lines, step_of, views_of}
 use Rattle.afr_transaction.specs.declared.stage.Stage.{Stage}
 use Rattle.afr_transaction.specs.declared.stage.Stage.TheVariants.{Locking, Looking, Beginning, Preparing, Applying, Posting, Closing}
-use Rattle.afr_transaction.specs.Progress.{Progress, left, request_at, gone_on, after, answered, asked_by, asks, next_at, sets_after, on_stage, begun, enough, fed, is_over, may_start, number_in}
+use Rattle.afr_transaction.specs.Progress.{Progress, left, request_at, gone_on, after, answered, asked_by, asks, next_at, sets_after, on_stage, starting, begun, enough, fed, is_over, may_start, number_in}
 use Rattle.afr_transaction.specs.Laws.{StaysSound}
 use Rattle.afr_transaction.specs.declared.stage.Asked.{Asked}
-use Rattle.afr_transaction.specs.Sound.{Posted, IsBase, Suits, HasBegun, During, IsAsking, Ready, Sound}
+use Rattle.afr_transaction.specs.Sound.{Posted, IsBase, IsUnused, Suits, HasBegun, During, IsAsking, Ready, Sound}
 use Rattle.afr_transaction.proofs.Parts.{both, denied, holder_is, holder_shows, nonempty, shown_none, some_of_most}
 use Rattle.afr_transaction.proofs.Quorum.{quorum_there}
 use Rattle.afr_transaction.proofs.Requests.{posts_lock, posts_look, quorum_pre, quorum_apply, quorum_post, posted_unlock, after_outside, noted_is, lock_kept, look_base, look_area, pre_base, pre_begun, apply_base, apply_begun, apply_enough, post_base, post_begun, post_enough, unlock_base}
@@ -207,27 +207,34 @@ kept_begin m s is at = go m.stage is s.during
     go Posting e d = absurd (cc e)
     go Closing e d = absurd (cc e)
 
--- the first line has everybody to ask
-pub sound_first : (shape : Shape) (change : Change) → shape.n ≤ 5 → 0 < shape.n → Suits change → Sound (record { change = change; register = no_lines shape; stage = Locking; asked = record { lock_asked = []; locked_on = []; looked_at = [] } })
-sound_first shape change few some suits = record {
-  suits = suits;
-  base = record {
-    few = few;
-    outside = refl;
-    no_second = refl;
-    none_second = refl;
-    none_healing = refl;
-    held_within = λ b m. absurd (cc m);
-    shown = shown_none shape.n;
-    pre_within = λ b m. absurd (cc m);
-    done_within = λ b m. absurd (cc m);
-    no_bytes = refl;
-    of_held = λ h. absurd (cc h);
-  };
-  during = (record { first = refl; open_still = refl; same = λ b. refl; among = λ b m. absurd (cc m); within = λ b m. absurd (cc m) }, refl);
-  posted = refl;
-  ready = minus_nil (below shape.n) (nonempty (below shape.n) 0 (below_all shape.n 0 few some));
-}
+-- at its first lock it has everybody to ask, whatever the work's free lines were
+pub sound_first : (r : Register) (change : Change) → IsUnused r → r.shape.n ≤ 5 → 0 < r.shape.n → Suits change → Sound (starting change r)
+sound_first r change unused few some suits = by unused
+  where
+    among : (x : Step) (shape : Shape) → shape.n ≤ 5 → 0 < shape.n → Sound (starting change (record (no_lines shape) { step = x }))
+    among x shape few some = record {
+      suits = suits;
+      base = record {
+        few = few;
+        outside = refl;
+        no_second = refl;
+        none_second = refl;
+        none_healing = refl;
+        held_within = λ b m. absurd (cc m);
+        shown = shown_none shape.n;
+        pre_within = λ b m. absurd (cc m);
+        done_within = λ b m. absurd (cc m);
+        no_bytes = refl;
+        of_held = λ h. absurd (cc h);
+      };
+      during = (record { first = refl; open_still = refl; same = λ b. refl; among = λ b m. absurd (cc m); within = λ b m. absurd (cc m) }, refl);
+      posted = refl;
+      ready = minus_nil (below shape.n) (nonempty (below shape.n) 0 (below_all shape.n 0 few some));
+    }
+
+    by : IsUnused r → Sound (starting change r)
+    by (inl e) = subst (λ (q : Register). Sound (starting change q)) (sym e) (among step.Untouched r.shape few some)
+    by (inr e) = subst (λ (q : Register). Sound (starting change q)) (sym e) (among step.Open r.shape few some)
 
 -- what the code makes is what the answer makes
 pub fed_is : (m : Progress) (told : Told) (at b : ℕ) (q : Request) (x : Register) (stage : Stage) (s : Asked) → b ≡ lowest (left m.stage m) → q ≡ request_at m.stage m → x ≡ noted_ask m.register at b q told

@@ -1,10 +1,12 @@
 -- How far a transaction is, what it asks next, and what an answer leaves of it.
-use Rattle.std.specs.Prelude.{ℕ, ◌+◌, not, ◌&&◌, nat_lt, Bool, false, List, [], Option, Some, None, if◌then◌else◌}
+use Rattle.std.specs.Prelude.{◌≡◌, ℕ, ◌+◌, not, ◌&&◌, nat_lt, Bool, true, false, List, [], Option, Some, None, if◌then◌else◌}
 use Rattle.afr_base.specs.Bricks.{added, added_if, below, lowest, member, minus, is_nothing}
 use Rattle.afr_base.specs.Majority.{is_majority}
 use Rattle.afr_base.specs.declared.ids.Kind.{Kind}
 use Rattle.afr_object.specs.Tables.{object_of}
 use Rattle.afr_object.specs.declared.change.Change.{Change}
+use Rattle.afr_object.specs.declared.change.Load.{Load}
+use Rattle.afr_object.specs.declared.change.Load.TheVariants as load
 use Rattle.afr_object.specs.declared.change.Change.TheVariants.{Write, Cut, SetAttr, Make, Remove}
 use Rattle.afr_choice.specs.Verdict.{holders_of}
 use Rattle.afr_range_locks.specs.declared.domain.Domain.TheVariants.{Work}
@@ -33,6 +35,10 @@ pub record Progress : Type 0 where
   pub register : Register
   pub stage : Stage
   pub asked : Asked
+
+-- a transaction of which nothing was asked, in a work with this register
+abbrev pub starting : Change → Register → Progress
+starting change r = record { change = change; register = r; stage = Locking; asked = record { lock_asked = []; locked_on = []; looked_at = [] } }
 
 -- the number of an attempt
 abbrev pub number_in : Option ℕ → ℕ
@@ -84,6 +90,18 @@ asks stage m = next.Ask (record { 0 = lowest (left stage m) }) (request_at stage
 abbrev pub is_over : Stage → Progress → Bool
 is_over Closing m = is_nothing m.register.held
 is_over stage m = false
+
+-- the next line gives the attempt its number
+abbrev pub is_beginning : Stage → Bool
+is_beginning Beginning = true
+is_beginning stage = false
+
+-- the contents that go with the next request: the change, where the operation is asked for
+abbrev pub CarriesAt : Stage → Load → Change → Type 0
+CarriesAt Applying (load.Change carried) change = carried.now ≡ change
+CarriesAt Applying other change = ⊥
+CarriesAt stage load.Nothing change = Unit {0}
+CarriesAt stage other change = ⊥
 
 -- the next line, if it is written at this position
 abbrev pub next_at : Stage → ℕ → Progress → Next

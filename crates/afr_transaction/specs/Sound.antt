@@ -10,10 +10,11 @@ use Rattle.afr_choice.specs.declared.looked.Looked.{Looked}
 use Rattle.afr_lines.specs.Areas.{area_for, kind_for}
 use Rattle.afr_lines.specs.declared.request.Area.{Area}
 use Rattle.afr_moves.specs.Register.{area_kind, rank}
-use Rattle.afr_discipline.specs.Stands.{step_of}
+use Rattle.afr_discipline.specs.Stands.{no_lines, step_of}
 use Rattle.afr_discipline.specs.Tests.{is_valid}
 use Rattle.afr_discipline.specs.declared.register.Register.{Register}
 use Rattle.afr_discipline.specs.declared.register.Step.{Step}
+use Rattle.afr_discipline.specs.declared.register.Step.TheVariants as step
 use Rattle.afr_transaction.specs.declared.stage.Stage.{Stage}
 use Rattle.afr_transaction.specs.declared.stage.Stage.TheVariants.{Locking, Looking, Beginning, Preparing, Applying, Posting, Closing}
 use Rattle.afr_transaction.specs.Progress.{Progress, left, enough, may_start}
@@ -22,6 +23,10 @@ use Rattle.afr_transaction.specs.Progress.{Progress, left, enough, may_start}
 pub record Suits (change : Change) : Type 0 where
   pub valid : is_valid (area_for change) ≡ true
   pub kind : area_kind (area_for change) ≡ kind_for change
+
+-- the work has no line yet, or only looks and reads without a lock, which leave nothing but that they were
+abbrev pub IsUnused : Register → Type 0
+IsUnused r = (r ≡ no_lines r.shape) ⊎ (r ≡ record (no_lines r.shape) { step = step.Open })
 
 -- what the bricks showed: five places, of bricks below n that were reached
 pub record Shown (n : ℕ) (looked : Looked) : Type 0 where

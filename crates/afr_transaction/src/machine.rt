@@ -6,8 +6,8 @@ ghost use Rattle.afr_discipline.specs.declared.register.Register.{Register};
 ghost use Rattle.afr_lines.specs.declared.answer.Told.{Told};
 ghost use Rattle.afr_moves.specs.Register.{span};
 ghost use Rattle.afr_transaction.specs.Outcome.{outcome_of};
-ghost use Rattle.afr_transaction.specs.Progress.{Progress, allowed, answered, asks, begun, fed, is_over, left, next_at, request_at};
-ghost use Rattle.afr_transaction.specs.Sound.{IsAsking, Sound, Suits};
+ghost use Rattle.afr_transaction.specs.Progress.{CarriesAt, Progress, allowed, answered, asks, begun, fed, is_beginning, is_over, left, next_at, request_at, starting};
+ghost use Rattle.afr_transaction.specs.Sound.{IsAsking, IsUnused, Sound, Suits};
 
 use crate::change::numbered;
 use crate::reply::{Outcome, outcome_of, reply_for};
@@ -15,7 +15,7 @@ use crate::stage::{Asked, Stage, after, asked_after, left_of, request_of};
 use afr_base::{BrickSet, NoMemory, Shape};
 use afr_discipline::{Move, Register, fresh, note};
 use afr_lines::{Next, Request, Told};
-use afr_object::Change;
+use afr_object::{Change, Load};
 use std::marker::Model;
 
 /// One transaction, of one change of one object.
@@ -46,9 +46,20 @@ impl Transaction {
         requires suits { Suits change }
         ensures value { result ≡ record { change = change; register = no_lines shape; stage = Stage.Locking; asked = record { lock_asked = []; locked_on = []; looked_at = [] } } }
     {
+        Transaction::continuing(fresh(shape), change)
+    }
+
+    /// The work has looked and read without a lock so far, as on a path that leads to the object, and this is its register.
+    pub fn continuing(register: Register, change: Change) -> Transaction
+        requires unused { IsUnused register }
+        requires few { register.shape.n ≤ 5 }
+        requires some { 0 < register.shape.n }
+        requires suits { Suits change }
+        ensures value { result ≡ starting change register }
+    {
         Transaction {
             change,
-            register: fresh(shape),
+            register,
             stage: Stage::Locking,
             asked: Asked {
                 lock_asked: BrickSet::none(),
@@ -71,6 +82,23 @@ impl Transaction {
             Stage::Closing => Ok(self.closing(at)),
             stage => Ok(self.asking(stage)),
         }
+    }
+
+    /// The change, where the operation is asked for next.
+    pub fn load(&self) -> Load<'_>
+        ensures { CarriesAt self.now.stage result self.now.change }
+    {
+        match self.stage {
+            Stage::Applying => Load::Change(&self.change),
+            _ => Load::Nothing,
+        }
+    }
+
+    /// Whether the next line is a Begin line.
+    pub fn is_beginning(&self) -> bool
+        ensures { result ≡ is_beginning self.now.stage }
+    {
+        matches!(self.stage, Stage::Beginning)
     }
 
     /// The next line was written at this position, and this was told; of a Begin line nothing is told.

@@ -1,8 +1,8 @@
 //! What a change locks, and the number of what it makes.
-use crate::lines::{FILE, tells_three};
+use crate::lines::{FILE, begins, cuts, tells_three};
 use afr_base::{AllMarks, Gfid, NameId, Shape, What};
 use afr_lines::{Next, Told};
-use afr_object::{Change, List, View};
+use afr_object::{Change, List, Load, View};
 use afr_transaction::{Transaction, has_area};
 
 #[test]
@@ -45,4 +45,22 @@ fn number_at(at: u32) -> Option<Gfid> {
 #[test]
 fn a_new_file_takes_its_number_from_its_begin_line(rt: HostRuntime) {
     assert!(rt; matches!(number_at(40), Some(Gfid(42))));
+}
+
+/// What goes with the request after all three bricks have done pre-op.
+fn carries_the_cut(transaction: &Transaction) -> bool {
+    matches!(
+        transaction.load(),
+        Load::Change(Change::Cut { gfid: FILE, len: 5 })
+    )
+}
+
+#[test]
+fn the_operation_carries_the_change(rt: HostRuntime) {
+    let before = cuts();
+    let mut transaction = Transaction::continuing(*before.register(), Change::Cut { gfid: FILE, len: 5 });
+    begins(&mut transaction);
+    assert!(rt; !carries_the_cut(&transaction));
+    tells_three(&mut transaction, [Told::Done; 3]);
+    assert!(rt; carries_the_cut(&transaction) && !transaction.is_beginning());
 }

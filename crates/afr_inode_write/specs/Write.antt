@@ -1,0 +1,134 @@
+-- A write, step by step.
+use Rattle.std.specs.Prelude.{◌≡◌, ℕ, ◌&&◌, Bool, true, false, List, if◌then◌else◌}
+use Rattle.afr_base.specs.declared.ids.NameId.{NameId}
+use Rattle.afr_base.specs.declared.ids.Shape.{Shape}
+use Rattle.afr_object.specs.Tables.{is_dir, object_of}
+use Rattle.afr_object.specs.declared.change.Load.{Load}
+use Rattle.afr_object.specs.declared.change.Load.TheVariants as load
+use Rattle.afr_object.specs.declared.entry.Entry.{Entry}
+use Rattle.afr_lines.specs.Told.{told_by}
+use Rattle.afr_lines.specs.declared.answer.Answer.{Answer}
+use Rattle.afr_lines.specs.declared.answer.Told.{Told}
+use Rattle.afr_lines.specs.declared.line.Heard.{Heard}
+use Rattle.afr_lines.specs.declared.line.Heard.TheVariants as heard
+use Rattle.afr_lines.specs.declared.line.Next.{Next}
+use Rattle.afr_lines.specs.declared.line.Next.TheVariants as next
+use Rattle.afr_lines.specs.declared.reply.Good.TheVariants as good
+use Rattle.afr_lines.specs.declared.reply.Reply.TheVariants as reply
+use Rattle.afr_discipline.specs.declared.register.Register.{Register}
+use Rattle.afr_walk.specs.Stops.{reply_of}
+use Rattle.afr_walk.specs.Walk.{walk_from, next_in, walked, is_walking, IsWalk}
+use Rattle.afr_walk.specs.declared.walk.Walk.{Walk}
+use Rattle.afr_walk.specs.declared.walk.WalkStep.{WalkStep}
+use Rattle.afr_walk.specs.declared.walk.WalkStep.TheVariants as walking
+use Rattle.afr_transaction.specs.Progress as transaction
+use Rattle.afr_transaction.specs.Progress.{Progress, CarriesAt, fed, is_beginning, starting}
+use Rattle.afr_transaction.specs.Sound.{Sound}
+use Rattle.afr_inode_write.specs.Job.{IsJob, change_of, is_empty, is_of_bytes, is_too_large}
+use Rattle.afr_inode_write.specs.declared.job.WriteJob.{WriteJob}
+use Rattle.afr_inode_write.specs.declared.stage.WriteStage.{WriteStage}
+use Rattle.afr_inode_write.specs.declared.stage.WriteStage.TheVariants.{Walking, Changing, Ending}
+
+-- a write: its path on the way, and where it stands
+pub record Write : Type 0 where
+  pub walk : Walk
+  pub stage : WriteStage
+
+-- the object is found: a directory has no bytes, a write of none is done, and all else begins its transaction
+abbrev pub at_object : Entry → Register → WriteJob → WriteStage
+at_object object register job =
+    if is_of_bytes job && is_dir object.what then Ending reply.IsDir
+    else (if is_empty job then Ending (reply.Ok good.Done) else Changing (starting (change_of object.gfid job) register))
+
+-- where a step of the walk leaves the write
+abbrev pub after_step : WalkStep → WriteJob → Walk → WriteStage
+after_step (walking.Looking s) job w = Walking job
+after_step (walking.Naming b) job w = Walking job
+after_step walking.Arrived job w = at_object w.object w.register job
+after_step (walking.Stopped why) job w = Ending (reply_of why)
+
+-- where the walk leaves it
+abbrev pub after_walk : WriteJob → Walk → WriteStage
+after_walk job w = after_step w.step job w
+
+-- what is too large ends before anything is asked
+abbrev pub first_stage : WriteJob → Walk → WriteStage
+first_stage job w = if is_too_large job then Ending reply.TooLarge else after_walk job w
+
+-- a write that begins
+abbrev pub write_from : Shape → List NameId → WriteJob → Write
+write_from shape path job = record { walk = walk_from shape path; stage = first_stage job (walk_from shape path) }
+
+-- the next line, if it is written at this position
+abbrev pub next_at : ℕ → WriteStage → Walk → Next
+next_at at (Walking job) w = next.Ask (next_in w).0 (next_in w).1
+next_at at (Changing t) w = transaction.next_at t.stage at t
+next_at at (Ending said) w = next.End said
+
+-- what a write does next
+abbrev pub next_of : ℕ → Write → Next
+next_of at m = next_at at m.stage m.walk
+
+-- whether the next line is the end
+abbrev pub is_over : WriteStage → Bool
+is_over (Walking job) = false
+is_over (Changing t) = transaction.is_over t.stage t
+is_over (Ending said) = true
+
+-- what the lines so far show
+abbrev pub register_at : WriteStage → Walk → Register
+register_at (Changing t) w = t.register
+register_at stage w = w.register
+
+-- the same of a whole write
+abbrev pub register_of : Write → Register
+register_of m = register_at m.stage m.walk
+
+-- the contents that go with the next request
+abbrev pub CarriesNext : WriteStage → Load → Type 0
+CarriesNext (Changing t) carried = CarriesAt t.stage carried t.change
+CarriesNext stage carried = carried ≡ load.Nothing
+
+-- the transaction has its answer, where it has asked
+abbrev pub told_to : Told → ℕ → Progress → Progress
+told_to told at t = if is_beginning t.stage then t else fed t.stage told at t
+
+-- the transaction's attempt has its number, where it begins
+abbrev pub begun_in : ℕ → Progress → Progress
+begun_in at t = if is_beginning t.stage then transaction.begun at t else t
+
+-- an answer moves the walk, while there is one
+abbrev pub walk_after : WriteStage → Answer → ℕ → Walk → Walk
+walk_after (Walking job) a at w = walked a at w
+walk_after stage a at w = w
+
+-- the stage after an answer, by the walk that it has moved
+abbrev pub stage_after : WriteStage → Answer → ℕ → Walk → WriteStage
+stage_after (Walking job) a at w = after_walk job w
+stage_after (Changing t) a at w = Changing (told_to (told_by a) at t)
+stage_after (Ending said) a at w = Ending said
+
+-- the write after an answer at this position
+abbrev pub answered : Answer → ℕ → Write → Write
+answered a at m = record { walk = walk_after m.stage a at m.walk; stage = stage_after m.stage a at (walk_after m.stage a at m.walk) }
+
+-- the stage after a Begin line
+abbrev pub stage_begun : WriteStage → ℕ → WriteStage
+stage_begun (Changing t) at = Changing (begun_in at t)
+stage_begun stage at = stage
+
+-- the write after its line was written and answered
+abbrev pub heard_by : Heard → Write → Write
+heard_by (heard.Answer a at) m = answered a at m
+heard_by (heard.Begun at) m = record m { stage = stage_begun m.stage at }
+
+-- the path is on its way with a job that fits, or the transaction is sound and changes what the path has led to
+abbrev pub IsStage : Walk → WriteStage → Type 0
+IsStage w (Walking job) = (is_walking w.step ≡ true) × IsJob job
+IsStage w (Changing t) = Sound t × (object_of t.change ≡ w.object.gfid)
+IsStage w (Ending said) = Unit {0}
+
+-- what every write keeps
+pub record IsWrite (walk : Walk) (stage : WriteStage) : Type 0 where
+  pub sound : IsWalk walk
+  pub ready : IsStage walk stage

@@ -1,0 +1,159 @@
+//! The machine of one write, cut or change of an attribute: what it asks next, and what it makes of the answers.
+ghost use Rattle.std.specs.Prelude.{◌≡◌, ◌<◌, ◌≤◌, IfOk, false, true};
+ghost use Rattle.afr_inode_write.specs.Write.{CarriesNext, IsWrite, answered, heard_by, is_over, next_of, register_of, stage_begun, write_from};
+ghost use Rattle.afr_walk.specs.Free.{Allows};
+ghost use Rattle.afr_walk.specs.Walk.{IsWalk, is_walking, next_in};
+
+use crate::job::WriteJob;
+use crate::stage::{WriteStage, first, stage_begun, stage_heard};
+use afr_base::{NameId, NoMemory, Shape};
+use afr_discipline::Register;
+use afr_lines::{Answer, Heard, Next, Reply};
+use afr_object::{Load, TryCopy};
+use afr_walk::Walk;
+use std::alloc::Global;
+use std::marker::Model;
+use std::mem;
+
+/// A command that changes an object.
+#[derive(Drop)]
+pub struct WriteMachine {
+    walk: Walk,
+    stage: WriteStage,
+}
+
+impl Model for WriteMachine {
+    ghost use Rattle.afr_inode_write.specs.Write.{Write, IsWrite};
+
+    ghost Value = { Write };
+
+    ghost view = { λ m. record { walk = m.walk; stage = m.stage } };
+
+    ghost invariant = { λ m. IsWrite m.walk m.stage };
+}
+
+impl WriteMachine {
+    pub fn new(
+        alloc: Global,
+        shape: Shape,
+        path: &[NameId],
+        job: WriteJob,
+    ) -> Result<WriteMachine, NoMemory>
+        requires few { shape.n ≤ 5 }
+        requires some { 0 < shape.n }
+        ensures value { IfOk result (λ machine. machine ≡ write_from shape path.now job) }
+    {
+        let walk = Walk::new(alloc, shape, path)?;
+        let stage = first(job, &walk);
+        Ok(WriteMachine { walk, stage })
+    }
+
+    /// Takes the memory of the coming move: `next` takes it, before anything changes.
+    pub fn ready(&mut self) -> Result<(), NoMemory>
+        ensures { self.new ≡ self.old }
+    {
+        let _ = &self.walk;
+        Ok(())
+    }
+
+    /// The next line, for this position of the log. Only what a Begin or End line copies takes memory.
+    pub fn next(&self, position: u32) -> Result<Next, NoMemory>
+        ensures value { IfOk result (λ next. next ≡ next_of position self.now) }
+        ensures allowed { IfOk result (λ next. Allows (register_of self.now) next) }
+    {
+        let line = self.line(position)?;
+        self.stays_sound();
+        Ok(line)
+    }
+
+    /// The change, where the operation is asked for next.
+    pub fn load(&self) -> Load<'_>
+        ensures { CarriesNext self.now.stage result }
+    {
+        match &self.stage {
+            WriteStage::Changing(transaction) => transaction.load(),
+            _ => Load::Nothing,
+        }
+    }
+
+    /// The line was written, and the brick has answered. An End line isn't fed.
+    pub fn feed(&mut self, heard: Heard)
+        requires { is_over self.old.stage ≡ false }
+        ensures { self.new ≡ heard_by heard self.old }
+    {
+        match heard {
+            Heard::Answer(answer, at) => self.hear(&answer, at),
+            Heard::Begun(at) => self.begin(at),
+        }
+    }
+
+    /// Whether the next line is the end.
+    pub fn is_over(&self) -> bool
+        ensures { result ≡ is_over self.now.stage }
+    {
+        match &self.stage {
+            WriteStage::Walking(_) => false,
+            WriteStage::Changing(transaction) => transaction.is_over(),
+            WriteStage::Ending(_) => true,
+        }
+    }
+
+    /// What the lines so far show.
+    pub fn register(&self) -> &Register
+        ensures { result.now ≡ register_of self.now }
+    {
+        match &self.stage {
+            WriteStage::Changing(transaction) => transaction.register(),
+            _ => &self.walk.register,
+        }
+    }
+
+    /// What the machine keeps at every moment, for those who prove over its value.
+    pub fn stays_sound(&self)
+        ensures { IsWrite self.now.walk self.now.stage }
+    {
+        let _ = &self.walk;
+    }
+
+    fn line(&self, position: u32) -> Result<Next, NoMemory>
+        ensures { IfOk result (λ next. next ≡ next_of position self.now) }
+    {
+        match &self.stage {
+            WriteStage::Walking(_) => Ok(walking(&self.walk)),
+            WriteStage::Changing(transaction) => transaction.next(position),
+            WriteStage::Ending(reply) => ending(reply),
+        }
+    }
+
+    fn hear(&mut self, answer: &Answer, at: u32)
+        requires { is_over self.old.stage ≡ false }
+        ensures { self.new ≡ answered answer.now at self.old }
+    {
+        let stage = mem::replace(&mut self.stage, WriteStage::Ending(Reply::Failed));
+        self.stage = stage_heard(&mut self.walk, stage, answer, at);
+    }
+
+    fn begin(&mut self, at: u32)
+        requires { is_over self.old.stage ≡ false }
+        ensures { self.new ≡ record self.old { stage = stage_begun self.old.stage at } }
+    {
+        let stage = mem::replace(&mut self.stage, WriteStage::Ending(Reply::Failed));
+        self.stage = stage_begun(stage, at);
+    }
+}
+
+fn walking(walk: &Walk) -> Next
+    requires walk { IsWalk walk.now }
+    requires walking { is_walking walk.now.step ≡ true }
+    ensures { result ≡ Next.Ask (next_in walk.now).0 (next_in walk.now).1 }
+{
+    let (brick, request) = walk.next();
+    Next::Ask(brick, request)
+}
+
+fn ending(reply: &Reply) -> Result<Next, NoMemory>
+    ensures { IfOk result (λ next. next ≡ Next.End reply.now) }
+{
+    let reply = reply.copy()?;
+    Ok(Next::End(reply))
+}
