@@ -1,0 +1,11 @@
+pub mod Small
+pub mod Views
+pub mod Leaves
+pub mod GoneOn
+pub mod Answered
+pub mod Kept
+pub mod First
+pub mod Excused
+pub mod About
+pub mod Calm
+pub mod Over

@@ -1,0 +1,4 @@
+pub mod About
+pub mod Fits
+pub mod Laws
+pub mod Tells

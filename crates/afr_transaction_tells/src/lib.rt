@@ -1,0 +1,34 @@
+//! What the lines of a work show of its transaction, whatever its bricks answer.
+#![tactic(auto)]
+
+ghost use Rattle.afr_transaction_tells.specs.Laws.{AboutNext, AsksAllForLocks, BlamesKept, CalmFirst, CalmKept, EndsAnswered, ExcusedFirst, ExcusedKept, FailedByBrick, RepliesExactly, SkipsNone, TellsFirst, TellsKept, UndisturbedIsDone};
+
+/// The sets of a transaction are the folds of its lines, from the first to the last.
+pub fn lines_tell_of_a_transaction()
+    ensures first { TellsFirst }
+    ensures kept { TellsKept }
+    ensures about { AboutNext }
+{}
+
+/// A post-op accuses exactly those that missed its operation, each of which was told so since the first lock.
+pub fn a_post_op_has_its_cause()
+    ensures first { ExcusedFirst }
+    ensures kept { ExcusedKept }
+    ensures blames { BlamesKept }
+{}
+
+/// Where nothing of an attempt was told a fault, all that were asked for a phase did it.
+pub fn a_calm_attempt_is_done()
+    ensures first { CalmFirst }
+    ensures kept { CalmKept }
+    ensures undisturbed { UndisturbedIsDone }
+    ensures failed { FailedByBrick }
+{}
+
+/// Once only unlocks are left, the reply is what the lines refuse or answer, and nothing was skipped.
+pub fn a_transaction_ends_with_its_cause()
+    ensures replies { RepliesExactly }
+    ensures asks { AsksAllForLocks }
+    ensures skips { SkipsNone }
+    ensures answered { EndsAnswered }
+{}
