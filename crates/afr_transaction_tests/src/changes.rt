@@ -1,6 +1,7 @@
 //! What a change locks, and the number of what it makes.
-use crate::lines::{FILE, begins, cuts, tells_three};
+use crate::lines::{FILE, begins, tells_three};
 use afr_base::{AllMarks, Gfid, NameId, Shape, What};
+use afr_discipline::fresh;
 use afr_lines::{Next, Told};
 use afr_object::{Change, List, Load, View};
 use afr_transaction::{Transaction, has_area};
@@ -57,8 +58,11 @@ fn carries_the_cut(transaction: &Transaction) -> bool {
 
 #[test]
 fn the_operation_carries_the_change(rt: HostRuntime) {
-    let before = cuts();
-    let mut transaction = Transaction::continuing(*before.register(), Change::Cut { gfid: FILE, len: 5 });
+    let shape = Shape {
+        n: 3,
+        arbiter: false,
+    };
+    let mut transaction = Transaction::continuing(fresh(shape), Change::Cut { gfid: FILE, len: 5 });
     begins(&mut transaction);
     assert!(rt; !carries_the_cut(&transaction));
     tells_three(&mut transaction, [Told::Done; 3]);
