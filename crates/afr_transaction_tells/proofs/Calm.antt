@@ -24,7 +24,7 @@ use Rattle.afr_transaction_tells.specs.Laws.{CalmFirst, CalmKept, IsNextLine}
 use Rattle.afr_transaction_tells.specs.Tells.{During, Tells}
 
 -- a phase comes after the Begin line
-abbrev ComesBegun : Request → Work → Type 0
+abbrev pub ComesBegun : Request → Work → Type 0
 ComesBegun (request.Pre g kind) w = has begins_attempt w ≡ true
 ComesBegun (request.Apply attempt) w = has begins_attempt w ≡ true
 ComesBegun (request.Post attempt g kind missed) w = has begins_attempt w ≡ true
@@ -39,7 +39,7 @@ did true told e fits none = go (is_done told) refl
     go true f = refl
     go false f = let fault = fits f in absurd (cc (fault, none))
 
-calm_ask : (a : ActorId) (b : BrickId) (asked : Request) (told : Told) (took : Bool) (older : List Line) (w : Work) → ComesBegun asked w → FitsPhase asked told → IsCalm w → IsCalm ((Ask a b asked told took, older) ∷ w)
+pub calm_ask : (a : ActorId) (b : BrickId) (asked : Request) (told : Told) (took : Bool) (older : List Line) (w : Work) → ComesBegun asked w → FitsPhase asked told → IsCalm w → IsCalm ((Ask a b asked told took, older) ∷ w)
 calm_ask a b (request.Pre g kind) told took older w begun fits k none =
     let parts = no_or (has begins_attempt w && is_fault told) (is_faulted w) none in
     let all = k parts.1 in

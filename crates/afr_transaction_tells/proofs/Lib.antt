@@ -9,3 +9,5 @@ pub mod Excused
 pub mod About
 pub mod Calm
 pub mod Over
+pub mod HonestFits
+pub mod ReadsLemmas

@@ -2,18 +2,21 @@
 use Rattle.std.specs.Prelude.{◌≡◌, ℕ, ◌<◌, ◌==◌, Bool, true, false, List, [], ◌∷◌, Some, None, length}
 use Rattle.afr_base.specs.Bricks.{member}
 use Rattle.afr_base.specs.declared.ids.ActorId.{ActorId}
+use Rattle.afr_base.specs.declared.ids.BrickId.{BrickId}
 use Rattle.afr_base.specs.declared.ids.Gfid.{Gfid}
 use Rattle.afr_object.specs.Tables.{object_of}
 use Rattle.afr_choice.specs.Looks.{no_looks}
 use Rattle.afr_lines.specs.Areas.{area_for, kind_for}
 use Rattle.afr_lines.specs.Work.{Work}
 use Rattle.afr_lines.specs.declared.answer.Told.{Told}
+use Rattle.afr_lines.specs.declared.answer.Told.TheVariants as told_of
 use Rattle.afr_lines.specs.declared.line.Line.{Line}
 use Rattle.afr_lines.specs.declared.line.Line.TheVariants.{Ask, Begin}
 use Rattle.afr_lines.specs.declared.line.Next.{Next}
 use Rattle.afr_lines.specs.declared.line.Next.TheVariants as next
 use Rattle.afr_lines.specs.declared.reply.Good.TheVariants as good
 use Rattle.afr_lines.specs.declared.reply.Reply.TheVariants as reply
+use Rattle.afr_lines.specs.declared.request.Request.{Request}
 use Rattle.afr_plan.specs.declared.command.Command.{Command}
 use Rattle.afr_plan.specs.declared.plan.Plan.{Plan}
 use Rattle.afr_transaction.specs.Outcome.{reply_of}
@@ -22,12 +25,13 @@ use Rattle.afr_transaction.specs.Sound.{Sound}
 use Rattle.afr_transaction.specs.declared.stage.Stage.TheVariants.{Locking, Closing}
 use Rattle.afr_model.specs.Answered.{IsAbout, IsAnswered, by_posts}
 use Rattle.afr_model.specs.Commands.{is_rmdir}
+use Rattle.afr_model.specs.Honest.{IsHonest}
 use Rattle.afr_model.specs.Refusals.{by_locks, or_else}
 use Rattle.afr_model.specs.Showing.{among, begins_attempt, has, is_faulted, looked_by, looking, looks_at}
 use Rattle.afr_model.specs.Skipped.{SkipsNothing}
 use Rattle.afr_model.specs.Standing.{asking, locks_any}
 use Rattle.afr_transaction_tells.specs.About.{BlamesNext, IsFitting, Led, LedToEnd}
-use Rattle.afr_transaction_tells.specs.Fits.{AreExcused, IsCalm, LineFits, LineFitsPhase}
+use Rattle.afr_transaction_tells.specs.Fits.{AreExcused, FitsPhase, IsCalm, LineFits, LineFitsPhase}
 use Rattle.afr_transaction_tells.specs.Tells.{AreIdle, Tells}
 
 -- a transaction has asked nothing yet, and the lines are those of the walk before it: no lock, no attempt, and another object that was looked at, was at every brick
@@ -79,6 +83,15 @@ ExcusedKept =
 -- so it is of the lines before the first lock
 abbrev pub ExcusedFirst : Type 0
 ExcusedFirst = (w : Work) → has locks_any w ≡ false → AreIdle w → AreExcused w
+
+-- what is honestly told fits what was asked
+abbrev pub HonestFits : Type 0
+HonestFits = (p : Plan) (line : Line) (older : List Line) → IsHonest p line older → LineFits line
+
+-- and at a brick that has the object, a phase was done, or failed
+abbrev pub HonestPhases : Type 0
+HonestPhases =
+    (p : Plan) (a : ActorId) (b : BrickId) (asked : Request) (told : Told) (took : Bool) (older : List Line) → IsHonest p (Ask a b asked told took) older → (told ≡ told_of.NoObject → ⊥) → FitsPhase asked told
 
 -- where nothing of the attempt was told a fault, all that were asked did it, also after one line more
 abbrev pub CalmKept : Type 0

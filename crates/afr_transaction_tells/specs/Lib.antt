@@ -1,4 +1,5 @@
 pub mod About
 pub mod Fits
 pub mod Laws
+pub mod Reads
 pub mod Tells

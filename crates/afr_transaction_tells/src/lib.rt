@@ -1,7 +1,8 @@
 //! What the lines of a work show of its transaction, whatever its bricks answer.
 #![tactic(auto)]
 
-ghost use Rattle.afr_transaction_tells.specs.Laws.{AboutNext, AsksAllForLocks, BlamesKept, CalmFirst, CalmKept, EndsAnswered, ExcusedFirst, ExcusedKept, FailedByBrick, RepliesExactly, SkipsNone, TellsFirst, TellsKept, UndisturbedIsDone};
+ghost use Rattle.afr_transaction_tells.specs.Laws.{AboutNext, AsksAllForLocks, BlamesKept, CalmFirst, CalmKept, EndsAnswered, ExcusedFirst, ExcusedKept, FailedByBrick, HonestFits, HonestPhases, RepliesExactly, SkipsNone, TellsFirst, TellsKept, UndisturbedIsDone};
+ghost use Rattle.afr_transaction_tells.specs.Reads.{ReadsKept};
 
 /// The sets of a transaction are the folds of its lines, from the first to the last.
 pub fn lines_tell_of_a_transaction()
@@ -23,6 +24,17 @@ pub fn a_calm_attempt_is_done()
     ensures kept { CalmKept }
     ensures undisturbed { UndisturbedIsDone }
     ensures failed { FailedByBrick }
+{}
+
+/// What an honest brick tells is what both of the above ask of its answers, if it has the object where it is asked for a phase.
+pub fn an_honest_answer_fits()
+    ensures fits { HonestFits }
+    ensures phases { HonestPhases }
+{}
+
+/// A work may read between its lookups and its Begin line, as a name under its lock: all that is said here of its lines goes on to hold.
+pub fn a_read_changes_no_transaction()
+    ensures { ReadsKept }
 {}
 
 /// Once only unlocks are left, the reply is what the lines refuse or answer, and nothing was skipped.
