@@ -37,10 +37,8 @@ use Rattle.afr_model.specs.Showing.{Path, At, given_by, has, is_fault, looked_by
 use Rattle.afr_model.specs.Standing.{area_here, looks_here}
 use Rattle.afr_model.specs.Tables.{holds}
 use Rattle.afr_walk.specs.Looks.{left_to_look, heard_look, IsLooks}
-use Rattle.afr_walk.specs.Walk.{next_in, noted, walked, walked_at}
+use Rattle.afr_walk.specs.Walk.{next_in, noted, walked}
 use Rattle.afr_walk.specs.declared.walk.Walk.{Walk}
-use Rattle.afr_walk.specs.declared.walk.WalkStep.{WalkStep}
-use Rattle.afr_walk.specs.declared.walk.WalkStep.TheVariants as walking
 use Rattle.afr_walk.proofs.WalkLemmas.{is_walked}
 use Rattle.afr_inode_read.specs.Job.{kind_of, reply_to, request_of}
 use Rattle.afr_inode_read.specs.Lookup.{Lookup, IsLookup, IsStage, asked_at, is_asking, next_at, object_looked, stage_after, walk_after}
@@ -61,7 +59,7 @@ use Rattle.afr_inode_telling.proofs.LookHeard.{only_more}
 use Rattle.afr_inode_telling.proofs.Quiet.{begins_none}
 use Rattle.afr_inode_telling.proofs.ReadsTell.{area_nowhere, large_none, look_tells, moved, path_is, place_at, refusal_at, refusal_looks, suited_is, whole_of}
 use Rattle.afr_inode_telling.proofs.WalksEnd.{walk_follows}
-use Rattle.afr_inode_telling.proofs.Walking.{looks_on_way, walk_about, walk_tells_more}
+use Rattle.afr_inode_telling.proofs.Walking.{looks_on_way, path_kept, walk_about, walk_tells_more}
 
 -- ---- what a copy gives
 abbrev gives : Content → Object → Answer
@@ -197,17 +195,6 @@ module _ (p : Plan) (few : p.shape.n ≤ 5) (job : LookupJob) (w : Walk) (lines 
       go told e h = absurd (cc h)
 
 -- ---- a line of a read
-path_kept : (heard : Answer) (at : ℕ) (w : Walk) → (walked heard at w).path ≡ w.path
-path_kept heard at w = go w.step heard
-  where
-    go : (step : WalkStep) (heard : Answer) → (walked_at step heard (noted (next_in w) (told_by heard) at w)).path ≡ w.path
-    go (walking.Looking s) heard = refl
-    go (walking.Naming b) (answer_of.Entry (Some entry)) = refl
-    go (walking.Naming b) (answer_of.Entry None) = refl
-    go (walking.Naming b) heard = refl
-    go walking.Arrived heard = refl
-    go (walking.Stopped why) heard = refl
-
 -- the next line is this one
 pub asks_same : (P : BrickId → Request → Type 0) (b c : BrickId) (r q : Request) → next.Ask b r ≡ next.Ask c q → P b r → P c q
 asks_same P b c r q e h = subst (λ (x : Request). P c x) (ap request_in e) (subst (λ (x : BrickId). P x r) (ap brick_in e) h)

@@ -295,6 +295,18 @@ walk_tells_more p c w lines a heard took log at sound walks k can = by w.step wa
     by Arrived h i t can = absurd (cc h)
     by (Stopped why) h i t can = absurd (cc h)
 
+-- an answer leaves the path
+pub path_kept : (heard : Answer) (at : ℕ) (w : Walk) → (walked heard at w).path ≡ w.path
+path_kept heard at w = go w.step heard
+  where
+    go : (step : WalkStep) (heard : Answer) → (walked_at step heard (noted (next_in w) (told_by heard) at w)).path ≡ w.path
+    go (Looking s) heard = refl
+    go (Naming b) (answer.Entry (Some entry)) = refl
+    go (Naming b) (answer.Entry None) = refl
+    go (Naming b) heard = refl
+    go Arrived heard = refl
+    go (Stopped why) heard = refl
+
 -- no lines show a walk that begins
 pub walk_tells_first : (p : Plan) (c : Command) (names : List NameId) → is_on_name c ≡ false → names ≡ path_of c → WalkTells p c (walk_from p.shape names) []
 walk_tells_first p c names whole path = record { shape = refl; path = path; whole = whole; step = go (0 == length names) }

@@ -1,0 +1,2 @@
+pub mod WriteTelling
+pub mod WriteLaws
