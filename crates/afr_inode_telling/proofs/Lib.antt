@@ -9,3 +9,4 @@ pub mod ReadsMore
 pub mod Untouched
 pub mod WalksEnd
 pub mod ChangeWords
+pub mod HonestReads

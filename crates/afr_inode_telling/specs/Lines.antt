@@ -1,18 +1,20 @@
 -- The lines of a work that only looks and reads, and what its bricks may tell.
 use Rattle.std.specs.Prelude.{◌≡◌, ℕ, ◌<◌, ◌==◌, ◌&&◌, nat_lt, Bool, true, false, List, [], ◌∷◌, None}
 use Rattle.afr_base.specs.Bricks.{member}
+use Rattle.afr_base.specs.declared.ids.ActorId.{ActorId}
+use Rattle.afr_base.specs.declared.ids.BrickId.{BrickId}
 use Rattle.afr_base.specs.declared.ids.Gfid.{Gfid}
 use Rattle.afr_lines.specs.Told.{told_by}
 use Rattle.afr_lines.specs.Work.{Work}
 use Rattle.afr_lines.specs.declared.answer.Answer.{Answer}
 use Rattle.afr_lines.specs.declared.answer.Told.{Told}
-use Rattle.afr_lines.specs.declared.answer.Told.TheVariants.{Given, NotConnected, Failed}
+use Rattle.afr_lines.specs.declared.answer.Told.TheVariants.{Given, NoObject, NotConnected, Failed}
 use Rattle.afr_lines.specs.declared.line.Line.{Line}
 use Rattle.afr_lines.specs.declared.line.Line.TheVariants.{Ask}
 use Rattle.afr_lines.specs.declared.request.Request.{Request}
 use Rattle.afr_lines.specs.declared.request.Request.TheVariants.{Look}
 use Rattle.afr_plan.specs.declared.plan.Plan.{Plan}
-use Rattle.afr_model.specs.Honest.{answer_by}
+use Rattle.afr_model.specs.Honest.{IsHonest, answer_by}
 use Rattle.afr_model.specs.Showing.{among, has, looking, looks_at}
 use Rattle.afr_model.specs.Tables.{holds}
 use Rattle.afr_walk.specs.Free.{is_free}
@@ -51,3 +53,9 @@ gives_or_fails other = false
 pub record CanAnswer (p : Plan) (b : ℕ) (request : Request) (log : List Line) (heard : Answer) : Type 0 where
   pub given : told_by heard ≡ Given → heard ≡ answer_by None request (holds p log b) log
   pub told : is_look request ≡ false → gives_or_fails (told_by heard) ≡ true
+
+-- what is honestly told of a read of an object that the brick has is so
+abbrev pub HonestReads : Type 0
+HonestReads =
+    (p : Plan) (a : ActorId) (b : BrickId) (request : Request) (told : Told) (took : Bool) (older : List Line)
+    → IsHonest p (Ask a b request told took) older → is_free request ≡ true → is_look request ≡ false → (told ≡ NoObject → ⊥) → gives_or_fails told ≡ true

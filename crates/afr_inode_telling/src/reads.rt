@@ -1,4 +1,5 @@
 //! A read and the lines of its work: each line is about the command, and the reply is the command's answer.
+ghost use Rattle.afr_inode_telling.specs.Lines.{HonestReads};
 ghost use Rattle.afr_inode_telling.specs.ReadLaws.{ReadAbout, ReadBegins, ReadEnds, ReadFollows, ReadTellsMore};
 
 /// The lines of a read's work show where it stands, whatever the bricks answer: from its first line to its end, each line
@@ -9,4 +10,9 @@ pub fn a_lookup_tells_its_lines()
     ensures about { ReadAbout }
     ensures follows { ReadFollows }
     ensures ends { ReadEnds }
+{}
+
+/// What an honest brick tells of a read is what the above asks of its answers, if it has the object.
+pub fn an_honest_read_fits()
+    ensures { HonestReads }
 {}
