@@ -5,14 +5,14 @@ use Rattle.std.specs.Io.KnownBytes.{Appends, Consumes, IsAtEnd}
 use Rattle.afr_text.specs.Parts.{AppendsFront, CameMore}
 use Rattle.afr_plan.specs.declared.plan.Plan.{Plan}
 use Rattle.afr_plan.specs.declared.plan.PlanFault.{PlanFault}
-use Rattle.afr_plan.specs.FirstPath.{IsFirstPath}
 use Rattle.afr_plan.specs.Judging.{first_fault}
+use Rattle.afr_plan.specs.Runnable.{IsRunnable}
 use Rattle.afr_plan.specs.Spells.{Spells}
 use Rattle.afr_model.specs.State.{State, no_volume}
 use Rattle.afr_model.specs.Ordered.{IsOrdered, Writes}
 use Rattle.afr_model.specs.ReportHealers.{report_of}
 use Rattle.afr_model.specs.Complete.{IsComplete}
-use Rattle.afr_cli.specs.Statuses.{AreDone, AreRun, IsText, IsRefused, IsRefusal, IsSpelled, StopsWriting, refusal_line, usage_line}
+use Rattle.afr_cli.specs.Statuses.{AreRun, IsOver, IsText, IsRefused, IsRefusal, IsSpelled, StopsWriting, refusal_line, usage_line}
 
 -- before a plan was handed in nothing was written, in any order
 pub nothing_ordered : (v : State) → v ≡ no_volume → IsOrdered v.plan v.log
@@ -31,9 +31,9 @@ module _ {S : Type 0} (words : List (String Global)) (left : S → Option (List 
       → AppendsFront taken taken' (refusal_line fault) → StopsWriting words left source source' taken taken' now
   stops_at_refusal fault run cause none front = record { text = refusal_line fault; known = IsText.Refusal run fault cause none; front = front }
 
-  pub stops_at_report : AreRun words → IsSpelled (left source) (left source') now.plan → IsComplete now.plan now.log → AreDone now.plan now.log
+  pub stops_at_report : AreRun words → IsSpelled (left source) (left source') now.plan → IsComplete now.plan now.log → IsOver now.plan now.log
       → AppendsFront taken taken' (report_of now.plan now.log) → StopsWriting words left source source' taken taken' now
-  stops_at_report run spelled complete done front = record { text = report_of now.plan now.log; known = IsText.Report run spelled complete done; front = front }
+  stops_at_report run spelled complete over front = record { text = report_of now.plan now.log; known = IsText.Report run spelled complete over; front = front }
 
 module _ (left left' : Option (List ℕ)) (fault : PlanFault) where
   pub is_faulty : (bytes seen : List ℕ) → seen ≡ bytes → Consumes left left' bytes → IsAtEnd left' → length bytes ≤ 16777216
@@ -41,7 +41,7 @@ module _ (left left' : Option (List ℕ)) (fault : PlanFault) where
   is_faulty bytes seen e came end few why = inl (record { bytes = bytes; read = record { came = came; end = end; few = few }; first = rw (← e) why.0; none = rw (← e) why.1 })
 
   pub is_ahead : (bytes seen : List ℕ) (plan : Plan) → seen ≡ bytes → Consumes left left' bytes → IsAtEnd left' → length bytes ≤ 16777216
-      → Spells seen plan → (IsFirstPath plan → ⊥) → fault ≡ record { line = 0; code = 10 } → IsRefused left left' fault
+      → Spells seen plan → (IsRunnable plan → ⊥) → fault ≡ record { line = 0; code = 10 } → IsRefused left left' fault
   is_ahead bytes seen plan e came end few spells ahead why = inr (inl (why, record { bytes = bytes; read = record { came = came; end = end; few = few }; plan = plan; spells = rw (← e) spells; ahead = ahead }))
 
   pub is_long : CameMore left left' 16777216 → fault ≡ record { line = 0; code = 0 } → IsRefused left left' fault
@@ -52,8 +52,8 @@ module _ (left left' : Option (List ℕ)) (fault : PlanFault) where
 
 module _ (left left' : Option (List ℕ)) (bytes seen : List ℕ) (plan : Plan) where
   -- what was read to its end spells the plan
-  pub is_spelled : seen ≡ bytes → Consumes left left' bytes → IsAtEnd left' → length bytes ≤ 16777216 → Spells seen plan → IsFirstPath plan → IsSpelled left left' plan
-  is_spelled e came end few spells first = record { bytes = bytes; read = record { came = came; end = end; few = few }; spells = rw (← e) spells; first = first }
+  pub is_spelled : seen ≡ bytes → Consumes left left' bytes → IsAtEnd left' → length bytes ≤ 16777216 → Spells seen plan → IsRunnable plan → IsSpelled left left' plan
+  is_spelled e came end few spells runnable = record { bytes = bytes; read = record { came = came; end = end; few = few }; spells = rw (← e) spells; runnable = runnable }
 
 module _ (left left' : Option (List ℕ)) (plan : Plan) (spelled : IsSpelled left left' plan) where
   -- the plan that was spelled is the one that was run

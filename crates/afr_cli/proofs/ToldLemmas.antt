@@ -4,8 +4,8 @@ use Rattle.std.specs.Io.KnownBytes.{Appends}
 use Rattle.afr_text.specs.Parts.{CameMore}
 use Rattle.afr_plan.specs.declared.plan.Plan.{Plan}
 use Rattle.afr_plan.specs.declared.plan.PlanFault.{PlanFault}
-use Rattle.afr_plan.specs.FirstPath.{IsFirstPath}
 use Rattle.afr_plan.specs.Judging.{first_fault}
+use Rattle.afr_plan.specs.Runnable.{IsRunnable}
 use Rattle.afr_plan.specs.Spells.{Spells}
 use Rattle.afr_plan_read.proofs.PlanLemmas.{faulty-spells, same-plan}
 use Rattle.afr_cli.specs.Statuses.{HasFault, IsAhead, IsFaulty, IsRefused, IsRefusal, IsSpelled, WasRead, refusal_line}
@@ -44,7 +44,7 @@ module _ (bytes : List ℕ) (left' : Option (List ℕ)) where
   faulty_unspelled fault plan (HasFault.Long more) s = omega (arith, more, spelled_few bytes left' plan s)
   faulty_unspelled fault plan (HasFault.Faulty few f first) s = faulty-spells bytes f plan first (spelled_bytes bytes left' plan s)
   faulty_unspelled fault plan (HasFault.Ahead few other spells ahead) s =
-      ahead (rw (same-plan bytes other plan spells (spelled_bytes bytes left' plan s)) s.first)
+      ahead (rw (same-plan bytes other plan spells (spelled_bytes bytes left' plan s)) s.runnable)
 
   -- they are refused with that fault alone
   one_fault : (fault other : PlanFault) → HasFault bytes fault → IsRefused (Some bytes) left' other → other ≡ fault
@@ -59,10 +59,10 @@ module _ (bytes : List ℕ) (left' : Option (List ℕ)) where
   one_fault fault other (HasFault.Ahead few plan spells ahead) (inr (inr (e, long))) = absurd (omega (arith, few, more_bytes bytes left' long))
 
   -- bytes that spell a plan that can be run have no fault
-  spelled_whole : (fault : PlanFault) (plan : Plan) → length bytes ≤ 16777216 → Spells bytes plan → IsFirstPath plan → IsRefused (Some bytes) left' fault → ⊥
-  spelled_whole fault plan few spells first (inl r) = faulty-spells bytes fault plan (faulty_first fault r) spells
-  spelled_whole fault plan few spells first (inr (inl (e, r))) = r.ahead (rw (same-plan bytes r.plan plan (ahead_spells r) spells) first)
-  spelled_whole fault plan few spells first (inr (inr (e, long))) = omega (arith, few, more_bytes bytes left' long)
+  spelled_whole : (fault : PlanFault) (plan : Plan) → length bytes ≤ 16777216 → Spells bytes plan → IsRunnable plan → IsRefused (Some bytes) left' fault → ⊥
+  spelled_whole fault plan few spells runnable (inl r) = faulty-spells bytes fault plan (faulty_first fault r) spells
+  spelled_whole fault plan few spells runnable (inr (inl (e, r))) = r.ahead (rw (same-plan bytes r.plan plan (ahead_spells r) spells) runnable)
+  spelled_whole fault plan few spells runnable (inr (inr (e, long))) = omega (arith, few, more_bytes bytes left' long)
 
 module _ (bytes : List ℕ) (left left' taken taken' : Option (List ℕ)) (status : ℕ) (plan : Plan) (told : left ≡ Some bytes) where
   -- a fault is refused, unless the sink failed or memory was wanting
@@ -79,13 +79,13 @@ module _ (bytes : List ℕ) (left left' taken taken' : Option (List ℕ)) (statu
   refuses fault wrong (inr (inr (inr (inr (inr seven))))) ok refused read unfinished = absurd (faulty_unspelled bytes left' fault plan wrong (rw (← told) (unfinished seven)))
 
   -- a plan that is spelled is run, unless the sink failed or memory was wanting
-  pub runs : (other : Plan) → length bytes ≤ 16777216 → Spells bytes other → IsFirstPath other
+  pub runs : (other : Plan) → length bytes ≤ 16777216 → Spells bytes other → IsRunnable other
       → (status ≡ 0) ⊎ (status ≡ 3) ⊎ (status ≡ 4) ⊎ (status ≡ 5) ⊎ (status ≡ 6) ⊎ (status ≡ 7)
       → (status ≡ 3 → IsRefusal left left' taken taken') → (status ≡ 4 → ⊥)
       → (status ≡ 0) ⊎ (status ≡ 7) ⊎ (status ≡ 5) ⊎ (status ≡ 6)
-  runs other few spells first (inl zero) refused read = inl zero
-  runs other few spells first (inr (inl three)) refused read = let r = refused three in absurd (spelled_whole bytes left' r.fault other few spells first (rw (← told) r.cause))
-  runs other few spells first (inr (inr (inl four))) refused read = absurd (read four)
-  runs other few spells first (inr (inr (inr (inl five)))) refused read = inr (inr (inl five))
-  runs other few spells first (inr (inr (inr (inr (inl six))))) refused read = inr (inr (inr six))
-  runs other few spells first (inr (inr (inr (inr (inr seven))))) refused read = inr (inl seven)
+  runs other few spells runnable (inl zero) refused read = inl zero
+  runs other few spells runnable (inr (inl three)) refused read = let r = refused three in absurd (spelled_whole bytes left' r.fault other few spells runnable (rw (← told) r.cause))
+  runs other few spells runnable (inr (inr (inl four))) refused read = absurd (read four)
+  runs other few spells runnable (inr (inr (inr (inl five)))) refused read = inr (inr (inl five))
+  runs other few spells runnable (inr (inr (inr (inr (inl six))))) refused read = inr (inr (inr six))
+  runs other few spells runnable (inr (inr (inr (inr (inr seven))))) refused read = inr (inl seven)

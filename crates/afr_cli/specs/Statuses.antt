@@ -7,8 +7,8 @@ use Rattle.afr_text.specs.Parts.{AppendsFront, CameMore}
 use Rattle.afr_lines.specs.declared.line.Line.{Line}
 use Rattle.afr_plan.specs.declared.plan.Plan.{Plan}
 use Rattle.afr_plan.specs.declared.plan.PlanFault.{PlanFault}
-use Rattle.afr_plan.specs.FirstPath.{IsFirstPath}
 use Rattle.afr_plan.specs.Judging.{first_fault}
+use Rattle.afr_plan.specs.Runnable.{IsRunnable}
 use Rattle.afr_plan.specs.Spells.{Spells}
 use Rattle.afr_model.specs.State.{State, no_volume}
 use Rattle.afr_model.specs.Actors.{IsActor, is_done}
@@ -53,7 +53,7 @@ pub record IsSpelled (left now : Option (List ℕ)) (plan : Plan) : Type 0 where
   pub bytes : List ℕ
   pub read : WasRead left now bytes
   pub spells : Spells bytes plan
-  pub first : IsFirstPath plan
+  pub runnable : IsRunnable plan
 
 -- what the source gave spells the plan, and the sink took the report, to its end
 pub record Reports (left left' taken taken' : Option (List ℕ)) (now : State) : Type 0 where
@@ -74,6 +74,10 @@ pub record IsWorkLeft (p : Plan) (log : List Line) : Type 0 where
 abbrev pub IsFull : Plan → List Line → Type 0
 IsFull p log = length log ≡ p.turns
 
+-- a run is over: all work is done, or the log is full while a living actor has work left
+abbrev pub IsOver : Plan → List Line → Type 0
+IsOver p log = AreDone p log ⊎ (IsFull p log × IsWorkLeft p log)
+
 -- the source was read to its end, and has this first fault; so it spells no plan
 pub record IsFaulty (left now : Option (List ℕ)) (fault : PlanFault) : Type 0 where
   pub bytes : List ℕ
@@ -87,7 +91,7 @@ pub record IsAhead (left now : Option (List ℕ)) : Type 0 where
   pub read : WasRead left now bytes
   pub plan : Plan
   pub spells : Spells bytes plan
-  pub ahead : IsFirstPath plan → ⊥
+  pub ahead : IsRunnable plan → ⊥
 
 -- the source has this first fault; or it spells a plan that can't be run yet, at line 0 with code 10; or it is longer than 16 MiB, at line 0 with code 0
 abbrev pub IsRefused : Option (List ℕ) → Option (List ℕ) → PlanFault → Type 0
@@ -99,13 +103,13 @@ pub record IsRefusal (left left' taken taken' : Option (List ℕ)) : Type 0 wher
   pub cause : IsRefused left left' fault
   pub line : Appends taken taken' (refusal_line fault)
 
--- a text of the program, and why it was to be written: the usage, a refusal, or the report of the volume
+-- a text of the program, and why it was to be written: the usage, a refusal, or the report of a run that is over
 pub data IsText {S : Type 0} (words : List (String Global)) (left : S → Option (List ℕ)) (source source' : S) (now : State) : List ℕ → Type 0 where
   Usage : (AreRun words → ⊥) → source' ≡ source → now ≡ no_volume
       → IsText words left source source' now usage_line
   Refusal : AreRun words → (fault : PlanFault) → IsRefused (left source) (left source') fault → now ≡ no_volume
       → IsText words left source source' now (refusal_line fault)
-  Report : AreRun words → IsSpelled (left source) (left source') now.plan → IsComplete now.plan now.log → AreDone now.plan now.log
+  Report : AreRun words → IsSpelled (left source) (left source') now.plan → IsComplete now.plan now.log → IsOver now.plan now.log
       → IsText words left source source' now (report_of now.plan now.log)
 
 -- the sink took a front of the text that was to be written
@@ -124,4 +128,4 @@ pub record AreGiven (words : List (String Global)) (left : Option (List ℕ)) (f
 pub data HasFault (bytes : List ℕ) : PlanFault → Type 0 where
   Long : 16777216 < length bytes → HasFault bytes (record { line = 0; code = 0 })
   Faulty : length bytes ≤ 16777216 → (fault : PlanFault) → first_fault bytes ≡ Some fault → HasFault bytes fault
-  Ahead : length bytes ≤ 16777216 → (plan : Plan) → Spells bytes plan → (IsFirstPath plan → ⊥) → HasFault bytes (record { line = 0; code = 10 })
+  Ahead : length bytes ≤ 16777216 → (plan : Plan) → Spells bytes plan → (IsRunnable plan → ⊥) → HasFault bytes (record { line = 0; code = 10 })

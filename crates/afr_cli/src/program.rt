@@ -2,6 +2,10 @@
 ghost use Rattle.std.specs.Prelude.{◌≡◌, ◌≤◌, ◌⊎◌, ℕ, List, String, length};
 ghost use Rattle.std.specs.Global.{Global};
 ghost use Rattle.afr_text.specs.Causes.{Rose};
+ghost use Rattle.afr_law.specs.Exactly.{IsLawfulExactly};
+ghost use Rattle.afr_law.specs.ModelAlike.{AreAlike};
+ghost use Rattle.afr_law.specs.ModelCauses.{HaveCauses};
+ghost use Rattle.afr_lines.specs.Log.{EveryPrefix};
 ghost use Rattle.afr_model.specs.State.{no_volume};
 ghost use Rattle.afr_model.specs.Blamed.{AreBlamed};
 ghost use Rattle.afr_model.specs.Complete.{IsComplete};
@@ -13,7 +17,7 @@ ghost use Rattle.afr_model.specs.Safe.{AreFresh, IsAlwaysSafe};
 ghost use Rattle.std.specs.Io.KnownBytes.{Appends};
 ghost use Rattle.afr_plan.specs.declared.plan.Plan.{Plan};
 ghost use Rattle.afr_plan.specs.declared.plan.PlanFault.{PlanFault};
-ghost use Rattle.afr_plan.specs.FirstPath.{IsFirstPath};
+ghost use Rattle.afr_plan.specs.Runnable.{IsRunnable};
 ghost use Rattle.afr_plan.specs.Spells.{Spells};
 ghost use Rattle.afr_cli.specs.Statuses.{AreRun, AreDone, HasFault, AreGiven, IsFull, IsRefusal, IsSpelled, IsWorkLeft, Reports, StopsWriting, refusal_line, usage_line};
 
@@ -28,8 +32,8 @@ use std::alloc::Global;
 
 /// Serves the words, and answers the status. It ends with 2 where the words are no form that it
 /// serves, 3 where the plan is refused, 4 where the source failed, 5 where the sink failed, 6 where
-/// memory was wanting, and with 7 where the log was full before all work was done; then nothing is
-/// written.
+/// memory was wanting, and with 7 where the log was full before all work was done; the report of a
+/// full log is written too.
 #[tactic(auto, using(crate::proofs::StatusLemmas::nothing_ordered, crate::proofs::StatusLemmas::stops_at_usage))]
 pub fn afr_top<S: Source, K: Sink>(
     alloc: Global,
@@ -40,10 +44,10 @@ pub fn afr_top<S: Source, K: Sink>(
 ) -> u8
     requires fresh { volume.old ≡ no_volume }
 
-    // A plan was run, and where all work was done its report is written.
+    // A plan was run, and its report is written.
     ensures ok { result ≡ 0 → Reports (S.left source.old) (S.left source.new) (K.taken sink.old) (K.taken sink.new) volume.new
         × IsComplete volume.new.plan volume.new.log × AreDone volume.new.plan volume.new.log }
-    ensures unfinished { result ≡ 7 → IsSpelled (S.left source.old) (S.left source.new) volume.new.plan × (sink.new ≡ sink.old)
+    ensures unfinished { result ≡ 7 → Reports (S.left source.old) (S.left source.new) (K.taken sink.old) (K.taken sink.new) volume.new
         × IsFull volume.new.plan volume.new.log × IsWorkLeft volume.new.plan volume.new.log }
 
     // No plan was run.
@@ -61,7 +65,7 @@ pub fn afr_top<S: Source, K: Sink>(
         → HasFault bytes fault
         → ((result ≡ 3) × Appends (K.taken sink.old) (K.taken sink.new) (refusal_line fault)) ⊎ (result ≡ 5) ⊎ (result ≡ 6) }
     ensures spelled { (bytes : List ℕ) (plan : Plan) → AreGiven words.now (S.left source.old) (S.faults source.old) (S.faults source.new) bytes
-        → length bytes ≤ 16777216 → Spells bytes plan → IsFirstPath plan
+        → length bytes ≤ 16777216 → Spells bytes plan → IsRunnable plan
         → (result ≡ 0) ⊎ (result ≡ 7) ⊎ (result ≡ 5) ⊎ (result ≡ 6) }
 
     // At every status.
@@ -71,10 +75,13 @@ pub fn afr_top<S: Source, K: Sink>(
     ensures follows { Follows volume.new.plan volume.new.log }
     ensures ordered { IsOrdered volume.new.plan volume.new.log }
     ensures honest { Honest volume.new.plan volume.new.log }
+    ensures lawful { IsLawfulExactly volume.new.plan volume.new.log }
     ensures replied { Replied volume.new.plan volume.new.log }
     ensures blamed { AreBlamed volume.new.plan volume.new.log }
     ensures safe { IsAlwaysSafe volume.new.plan volume.new.log }
     ensures fresh { AreFresh volume.new.plan volume.new.log }
+    ensures causes { EveryPrefix (HaveCauses volume.new.plan) volume.new.log }
+    ensures alike { EveryPrefix (AreAlike volume.new.plan) volume.new.log }
 {
     let status = if is_run(words) {
         read_and_run(alloc, source, sink, volume)
@@ -100,7 +107,7 @@ fn read_and_run<S: Source, K: Sink>(
     requires fresh { volume.old ≡ no_volume }
     ensures ok { result ≡ 0 → Reports (S.left source.old) (S.left source.new) (K.taken sink.old) (K.taken sink.new) volume.new
         × IsComplete volume.new.plan volume.new.log × AreDone volume.new.plan volume.new.log }
-    ensures unfinished { result ≡ 7 → IsSpelled (S.left source.old) (S.left source.new) volume.new.plan × (sink.new ≡ sink.old)
+    ensures unfinished { result ≡ 7 → Reports (S.left source.old) (S.left source.new) (K.taken sink.old) (K.taken sink.new) volume.new
         × IsFull volume.new.plan volume.new.log × IsWorkLeft volume.new.plan volume.new.log }
     ensures refused { result ≡ 3 → IsRefusal (S.left source.old) (S.left source.new) (K.taken sink.old) (K.taken sink.new) × (volume.new ≡ no_volume) }
     ensures read { result ≡ 4 → Rose (S.faults source.old) (S.faults source.new) × (sink.new ≡ sink.old) × (volume.new ≡ no_volume) }

@@ -2,7 +2,7 @@
 ghost use Rattle.std.specs.Prelude.{◌≡◌, Err, IfOk};
 ghost use Rattle.afr_text.specs.Causes.{Rose};
 ghost use Rattle.afr_plan.specs.declared.plan.PlanFault.{PlanFault};
-ghost use Rattle.afr_plan.specs.FirstPath.{IsFirstPath};
+ghost use Rattle.afr_plan.specs.Runnable.{IsRunnable};
 ghost use Rattle.afr_cli.specs.Statuses.{IsRefused, IsSpelled};
 
 use crate::status::WholePlan;
@@ -25,7 +25,7 @@ pub enum Unread {
 /// Reads the source to its end, as a plan that the volume can run.
 pub fn read_runnable<S: Source>(alloc: Global, source: &mut S) -> Result<Plan, Unread>
     ensures ok { IfOk result (λ plan. IsSpelled (S.left source.old) (S.left source.new) plan) }
-    ensures first { IfOk result (λ plan. IsFirstPath plan) }
+    ensures runnable { IfOk result (λ plan. IsRunnable plan) }
     ensures refused { (fault : PlanFault) → result ≡ Err (Unread.Refused fault) → IsRefused (S.left source.old) (S.left source.new) fault }
     ensures read { result ≡ Err Unread.ReadFault → Rose (S.faults source.old) (S.faults source.new) }
 {

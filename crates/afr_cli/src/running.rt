@@ -3,12 +3,12 @@ ghost use Rattle.std.specs.Prelude.{◌≡◌, ◌≢◌, ◌⊎◌, ◌≤◌, 
 ghost use Rattle.std.specs.Io.KnownBytes.{Appends};
 ghost use Rattle.afr_text.specs.Causes.{Rose};
 ghost use Rattle.afr_text.specs.Parts.{AppendsFront};
-ghost use Rattle.afr_plan.specs.FirstPath.{IsFirstPath};
+ghost use Rattle.afr_plan.specs.Runnable.{IsRunnable};
 ghost use Rattle.afr_model.specs.State.{no_volume};
 ghost use Rattle.afr_model.specs.Complete.{IsComplete};
 ghost use Rattle.afr_model.specs.Ordered.{IsOrdered};
 ghost use Rattle.afr_model.specs.ReportHealers.{report_of};
-ghost use Rattle.afr_cli.specs.Statuses.{AreDone, IsFull, IsWorkLeft};
+ghost use Rattle.afr_cli.specs.Statuses.{AreDone, IsFull, IsOver, IsWorkLeft};
 
 use crate::finished::all_done;
 use crate::messages::answer;
@@ -20,21 +20,21 @@ use afr_text::Sink;
 use afr_volume::Volume;
 use std::alloc::Global;
 
-/// Runs a plan and writes its report. Where the log got full in the middle of the work nothing is
-/// written: the report has no word yet for what a transaction leaves that was cut off.
+/// Runs a plan and writes its report, also where the log got full in the middle of the work.
 #[tactic(auto, using(crate::proofs::StatusLemmas::nothing_ordered))]
 pub fn run_plan<K: Sink>(alloc: Global, plan: Plan, sink: &mut K, volume: &mut Volume) -> u8
-    requires first { IsFirstPath plan }
+    requires runnable { IsRunnable plan }
     requires fresh { volume.old ≡ no_volume }
     ensures few { (result ≡ 0) ⊎ (result ≡ 5) ⊎ (result ≡ 6) ⊎ (result ≡ 7) }
     ensures plan { (volume.new ≡ no_volume) ⊎ (volume.new.plan ≡ plan) }
     ensures ran { result ≢ 6 → volume.new.plan ≡ plan }
     ensures ordered { IsOrdered volume.new.plan volume.new.log }
     ensures ok { result ≡ 0 → IsComplete volume.new.plan volume.new.log × AreDone volume.new.plan volume.new.log }
-    ensures unfinished { result ≡ 7 → (sink.new ≡ sink.old) × IsFull volume.new.plan volume.new.log × IsWorkLeft volume.new.plan volume.new.log }
+    ensures unfinished { result ≡ 7 → Appends (K.taken sink.old) (K.taken sink.new) (report_of volume.new.plan volume.new.log)
+        × IsFull volume.new.plan volume.new.log × IsWorkLeft volume.new.plan volume.new.log }
     ensures report { result ≡ 0 → Appends (K.taken sink.old) (K.taken sink.new) (report_of volume.new.plan volume.new.log) }
     ensures write { result ≡ 5 → Rose (K.faults sink.old) (K.faults sink.new) × AppendsFront (K.taken sink.old) (K.taken sink.new) (report_of volume.new.plan volume.new.log)
-        × IsComplete volume.new.plan volume.new.log × AreDone volume.new.plan volume.new.log }
+        × IsComplete volume.new.plan volume.new.log × IsOver volume.new.plan volume.new.log }
     ensures memory { result ≡ 6 → sink.new ≡ sink.old }
 {
     if volume.set_up(plan).is_err() {
@@ -43,12 +43,26 @@ pub fn run_plan<K: Sink>(alloc: Global, plan: Plan, sink: &mut K, volume: &mut V
     if drive(volume).is_err() {
         return Status::NoMemory as u8;
     }
-    if is_unfinished(volume) {
-        return Status::Unfinished as u8;
-    }
+    let status = status_after(volume);
     match report_text(alloc, volume) {
-        Ok(text) => answer(sink, text.as_bytes(), Status::Done as u8),
+        Ok(text) => answer(sink, text.as_bytes(), status),
         Err(_) => Status::NoMemory as u8,
+    }
+}
+
+/// The status of a run that is over, where its report is written to its end.
+fn status_after(volume: &Volume) -> u8
+    requires few { length volume.now.plan.healers ≤ 16 }
+    requires complete { IsComplete volume.now.plan volume.now.log }
+    ensures two { (result ≡ 0) ⊎ (result ≡ 7) }
+    ensures done { result ≡ 0 → AreDone volume.now.plan volume.now.log }
+    ensures unfinished { result ≡ 7 → IsFull volume.now.plan volume.now.log × IsWorkLeft volume.now.plan volume.now.log }
+    ensures over { IsOver volume.now.plan volume.now.log }
+{
+    if is_unfinished(volume) {
+        Status::Unfinished as u8
+    } else {
+        Status::Done as u8
     }
 }
 

@@ -19,7 +19,7 @@ use Rattle.afr_object.specs.Tables.{Table, copy_at, view_of}
 use Rattle.afr_object.specs.declared.entry.View.{View}
 use Rattle.afr_lines.specs.declared.line.Line.{Line}
 use Rattle.afr_plan.specs.declared.plan.Plan.{Plan}
-use Rattle.afr_brick.specs.State.{Copies}
+use Rattle.afr_server.specs.Serving.{Serving}
 use Rattle.afr_model.specs.Healing.{marks_in}
 use Rattle.afr_model.specs.Report.{reach_text}
 use Rattle.afr_model.specs.ReportObjects.{joined_into, mark_line, marks_lines, splits_of, verdict_line}
@@ -27,36 +27,36 @@ use Rattle.afr_model.specs.Tables.{holds}
 use Rattle.afr_info.specs.Rising.{IsRising}
 
 -- the tables of a brick that is there
-abbrev pub table_of : Copies → Table
-table_of brick = brick.objects
+abbrev pub table_of : Serving → Table
+table_of server = server.copies.objects
 
 -- each of these bricks stands at its number, with the tables that the log has made
-abbrev pub HoldTables : Plan → List Line → List ℕ → List Copies → Type 0
-HoldTables p log among bricks = (b : ℕ) → member among b ≡ true → option_map table_of (slice_get bricks b) ≡ Some (holds p log b)
+abbrev pub HoldTables : Plan → List Line → List ℕ → List Serving → Type 0
+HoldTables p log among servers = (b : ℕ) → member among b ≡ true → option_map table_of (slice_get servers b) ≡ Some (holds p log b)
 
 -- ---- what bricks show
 -- the view that a brick has of an object
-abbrev pub view_in : Gfid → Option Copies → Option View
+abbrev pub view_in : Gfid → Option Serving → Option View
 view_in g None = None
-view_in g (Some brick) = option_map view_of (copy_at g brick.objects)
+view_in g (Some server) = option_map view_of (copy_at g server.copies.objects)
 
 -- the view that the brick of this number has, if it is of the set
-abbrev pub view_shown : List Copies → List ℕ → Gfid → ℕ → Option View
-view_shown bricks among g b = if member among b then view_in g (slice_get bricks b) else None
+abbrev pub view_shown : List Serving → List ℕ → Gfid → ℕ → Option View
+view_shown servers among g b = if member among b then view_in g (slice_get servers b) else None
 
 -- the views that looks at these bricks would show
-abbrev pub shown : List Copies → List ℕ → Gfid → Looked
-shown bricks among g = record { reached = among; views = map (view_shown bricks among g) all_five }
+abbrev pub shown : List Serving → List ℕ → Gfid → Looked
+shown servers among g = record { reached = among; views = map (view_shown servers among g) all_five }
 
 -- the objects of a brick with a number above 0
-abbrev pub index_in : Option Copies → List (Gfid × What)
+abbrev pub index_in : Option Serving → List (Gfid × What)
 index_in None = []
-index_in (Some brick) = index_of brick.objects
+index_in (Some server) = index_of server.copies.objects
 
 -- the objects with a number above 0 on one of the bricks
-abbrev pub marked_in : List Copies → List ℕ → List (Gfid × What)
-marked_in bricks [] = []
-marked_in bricks (b ∷ more) = joined_into (marked_in bricks more) (index_in (slice_get bricks b))
+abbrev pub marked_in : List Serving → List ℕ → List (Gfid × What)
+marked_in servers [] = []
+marked_in servers (b ∷ more) = joined_into (marked_in servers more) (index_in (slice_get servers b))
 
 -- a brick has the object, with a number of the kind above 0
 abbrev pub is_marked_at : Kind → Looked → ℕ → Bool
@@ -84,23 +84,23 @@ object_text p looked among g =
     ++ flat_map (marks_lines p looked) among
 
 -- each object of a list
-abbrev pub lines_shown : Plan → List Copies → List ℕ → List (Gfid × What) → List ℕ
-lines_shown p bricks among objects = flat_map (λ x. object_text p (shown bricks among x.0) among x.0) objects
+abbrev pub lines_shown : Plan → List Serving → List ℕ → List (Gfid × What) → List ℕ
+lines_shown p servers among objects = flat_map (λ x. object_text p (shown servers among x.0) among x.0) objects
 
 -- how many kinds of them are split
-abbrev pub splits_shown : Plan → List Copies → List ℕ → List (Gfid × What) → ℕ
-splits_shown p bricks among [] = 0
-splits_shown p bricks among (x ∷ more) = splits_of p (shown bricks among x.0) + splits_shown p bricks among more
+abbrev pub splits_shown : Plan → List Serving → List ℕ → List (Gfid × What) → ℕ
+splits_shown p servers among [] = 0
+splits_shown p servers among (x ∷ more) = splits_of p (shown servers among x.0) + splits_shown p servers among more
 
 -- a list of objects, with its length and the number of splits
-abbrev pub counted_shown : Plan → List Copies → List ℕ → List (Gfid × What) → List ℕ
-counted_shown p bricks among objects =
-    codes "objects " ++ decimal (length objects) ++ codes "\n" ++ lines_shown p bricks among objects ++ codes "split-brain " ++ decimal (splits_shown p bricks among objects) ++ codes "\n"
+abbrev pub counted_shown : Plan → List Serving → List ℕ → List (Gfid × What) → List ℕ
+counted_shown p servers among objects =
+    codes "objects " ++ decimal (length objects) ++ codes "\n" ++ lines_shown p servers among objects ++ codes "split-brain " ++ decimal (splits_shown p servers among objects) ++ codes "\n"
 
 -- the objects that may need heal
-abbrev pub objects_shown : Plan → List Copies → List ℕ → List ℕ
-objects_shown p bricks among = counted_shown p bricks among (marked_in bricks among)
+abbrev pub objects_shown : Plan → List Serving → List ℕ → List ℕ
+objects_shown p servers among = counted_shown p servers among (marked_in servers among)
 
 -- the started bricks, and the objects on them
-abbrev pub info_shown : Plan → List Copies → List ℕ → List ℕ
-info_shown p bricks started = reach_text p.shape.n started ++ objects_shown p bricks started
+abbrev pub info_shown : Plan → List Serving → List ℕ → List ℕ
+info_shown p servers started = reach_text p.shape.n started ++ objects_shown p servers started

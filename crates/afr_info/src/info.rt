@@ -9,36 +9,37 @@ ghost use Rattle.afr_info.specs.Shown.{HoldTables, info_shown};
 use crate::objects::push_objects;
 use crate::reach::push_reach;
 use afr_base::{BrickSet, NoMemory};
-use afr_brick::Brick;
 use afr_plan::Plan;
+use afr_server::Server;
 
-/// Adds what needs heal, where the bricks hold the tables that a log has made. It walks the objects
-/// of each started brick once, and takes O(log n) more for each object with a number above 0 on a
-/// brick of n objects. It doesn't read the log.
+/// Adds what needs heal, where the servers' bricks hold the tables that a log has made. It walks the
+/// objects of each started brick once, and takes O(log n) more for each object with a number above 0
+/// on a brick of n objects. It doesn't read the log, and asks nothing of the servers: no request is
+/// counted.
 pub fn print_info(
     out: &mut String,
     plan: &Plan,
-    bricks: &[Brick],
+    servers: &[Server],
     started: BrickSet,
 ) -> Result<(), NoMemory>
     requires few { plan.now.shape.n ≤ 5 }
     requires rising { IsRising 0 started }
-    ensures ok { (log : List Line) → started ≡ started_bricks plan.now.shape.n log → HoldTables plan.now log started bricks.now
+    ensures ok { (log : List Line) → started ≡ started_bricks plan.now.shape.n log → HoldTables plan.now log started servers.now
         → OnOk result (string_bytes out.new ≡ string_bytes out.old ++ info_of plan.now log) }
 {
-    push_shown(out, plan, bricks, started)
+    push_shown(out, plan, servers, started)
 }
 
 fn push_shown(
     out: &mut String,
     plan: &Plan,
-    bricks: &[Brick],
+    servers: &[Server],
     started: BrickSet,
 ) -> Result<(), NoMemory>
     requires few { plan.now.shape.n ≤ 5 }
     requires rising { IsRising 0 started }
-    ensures ok { OnOk result (string_bytes out.new ≡ string_bytes out.old ++ info_shown plan.now bricks.now started) }
+    ensures ok { OnOk result (string_bytes out.new ≡ string_bytes out.old ++ info_shown plan.now servers.now started) }
 {
     push_reach(out, plan.shape.n, started)?;
-    push_objects(out, plan, bricks, started)
+    push_objects(out, plan, servers, started)
 }

@@ -4,35 +4,35 @@ ghost use Rattle.afr_model.specs.HealReplies.{is_clean};
 ghost use Rattle.afr_info.specs.Shown.{is_marked_at, shown, view_shown};
 
 use afr_base::{BrickId, BrickSet, Gfid, Kind};
-use afr_brick::Brick;
 use afr_choice::Looked;
 use afr_object::View;
+use afr_server::Server;
 
 /// What looks at these bricks would show, in O(log n) for n objects of a brick.
-pub fn look(bricks: &[Brick], among: BrickSet, gfid: Gfid) -> Looked
-    ensures { result ≡ shown bricks.now among gfid }
+pub fn look(servers: &[Server], among: BrickSet, gfid: Gfid) -> Looked
+    ensures { result ≡ shown servers.now among gfid }
 {
     Looked {
         reached: among,
         views: [
-            view(bricks, among, gfid, BrickId(0)),
-            view(bricks, among, gfid, BrickId(1)),
-            view(bricks, among, gfid, BrickId(2)),
-            view(bricks, among, gfid, BrickId(3)),
-            view(bricks, among, gfid, BrickId(4)),
+            view(servers, among, gfid, BrickId(0)),
+            view(servers, among, gfid, BrickId(1)),
+            view(servers, among, gfid, BrickId(2)),
+            view(servers, among, gfid, BrickId(3)),
+            view(servers, among, gfid, BrickId(4)),
         ],
     }
 }
 
-fn view(bricks: &[Brick], among: BrickSet, gfid: Gfid, brick: BrickId) -> Option<View>
+fn view(servers: &[Server], among: BrickSet, gfid: Gfid, brick: BrickId) -> Option<View>
     requires { brick.0 < 5 }
-    ensures { result ≡ view_shown bricks.now among gfid brick.0 }
+    ensures { result ≡ view_shown servers.now among gfid brick.0 }
 {
     if !among.has(brick) {
         return None;
     }
-    match bricks.get(brick.0 as usize) {
-        Some(brick) => brick.look(gfid),
+    match servers.get(brick.0 as usize) {
+        Some(server) => server.brick().look(gfid),
         None => None,
     }
 }

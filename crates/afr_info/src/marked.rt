@@ -5,33 +5,33 @@ ghost use Rattle.afr_info.specs.Rising.{IsRising};
 ghost use Rattle.afr_info.specs.Shown.{index_in, marked_in};
 
 use afr_base::{BrickId, BrickSet, Gfid, NoMemory, What};
-use afr_brick::Brick;
 use afr_index::Index;
 use afr_object::{IndexList, List};
+use afr_server::Server;
 use std::alloc::Global;
 
 /// The objects in rising gfid, each once. It walks the objects of each brick once, and takes
 /// O(log m) for each of the m objects with a number above 0.
-pub fn marked(alloc: Global, bricks: &[Brick], among: BrickSet) -> Result<Index, NoMemory>
+pub fn marked(alloc: Global, servers: &[Server], among: BrickSet) -> Result<Index, NoMemory>
     requires rising { IsRising 0 among }
-    ensures ok { IfOk result (λ index. index ≡ marked_in bricks.now among) }
+    ensures ok { IfOk result (λ index. index ≡ marked_in servers.now among) }
 {
     if among.is_empty() {
         return Ok(Index::new(alloc));
     }
     let brick = among.lowest();
-    let mut index = marked(alloc, bricks, among.without(brick))?;
-    let list = index_of(alloc, bricks, brick)?;
+    let mut index = marked(alloc, servers, among.without(brick))?;
+    let list = index_of(alloc, servers, brick)?;
     join(&mut index, list.as_slice())?;
     Ok(index)
 }
 
 /// The objects with a number above 0 on a brick; none where there is no such brick.
-fn index_of(alloc: Global, bricks: &[Brick], brick: BrickId) -> Result<IndexList, NoMemory>
-    ensures ok { IfOk result (λ list. list ≡ index_in (slice_get bricks.now brick.0)) }
+fn index_of(alloc: Global, servers: &[Server], brick: BrickId) -> Result<IndexList, NoMemory>
+    ensures ok { IfOk result (λ list. list ≡ index_in (slice_get servers.now brick.0)) }
 {
-    match bricks.get(brick.0 as usize) {
-        Some(brick) => brick.index(),
+    match servers.get(brick.0 as usize) {
+        Some(server) => server.brick().index(),
         None => Ok(List::new(alloc)),
     }
 }

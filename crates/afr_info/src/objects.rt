@@ -9,42 +9,42 @@ use crate::marked::marked;
 use crate::marks::push_all_marks;
 use crate::verdicts::push_verdict;
 use afr_base::{BrickSet, Gfid, Kind, NoMemory, What};
-use afr_brick::Brick;
 use afr_choice::Looked;
 use afr_plan::Plan;
 use afr_replies::push_gfid;
+use afr_server::Server;
 
 /// Adds how many objects may need heal, each of them, and how many kinds are split.
 pub fn push_objects(
     out: &mut String,
     plan: &Plan,
-    bricks: &[Brick],
+    servers: &[Server],
     among: BrickSet,
 ) -> Result<(), NoMemory>
     requires few { plan.now.shape.n ≤ 5 }
     requires rising { IsRising 0 among }
-    ensures ok { OnOk result (string_bytes out.new ≡ string_bytes out.old ++ objects_shown plan.now bricks.now among) }
+    ensures ok { OnOk result (string_bytes out.new ≡ string_bytes out.old ++ objects_shown plan.now servers.now among) }
 {
-    let index = marked(*out.allocator(), bricks, among)?;
+    let index = marked(*out.allocator(), servers, among)?;
     let objects = index.list()?;
-    push_counted(out, plan, bricks, among, objects.as_slice())?;
+    push_counted(out, plan, servers, among, objects.as_slice())?;
     Ok(())
 }
 
 fn push_counted(
     out: &mut String,
     plan: &Plan,
-    bricks: &[Brick],
+    servers: &[Server],
     among: BrickSet,
     objects: &[(Gfid, What)],
 ) -> Result<(), NoMemory>
     requires few { plan.now.shape.n ≤ 5 }
     requires rising { IsRising 0 among }
-    ensures ok { OnOk result (string_bytes out.new ≡ string_bytes out.old ++ counted_shown plan.now bricks.now among objects.now) }
+    ensures ok { OnOk result (string_bytes out.new ≡ string_bytes out.old ++ counted_shown plan.now servers.now among objects.now) }
 {
     let count = objects.len();
     write!(out, "objects {count}\n")?;
-    let splits = push_each(out, plan, bricks, among, objects)?;
+    let splits = push_each(out, plan, servers, among, objects)?;
     write!(out, "split-brain {splits}\n")?;
     Ok(())
 }
@@ -53,19 +53,19 @@ fn push_counted(
 fn push_each(
     out: &mut String,
     plan: &Plan,
-    bricks: &[Brick],
+    servers: &[Server],
     among: BrickSet,
     objects: &[(Gfid, What)],
 ) -> Result<usize, NoMemory>
     requires few { plan.now.shape.n ≤ 5 }
     requires rising { IsRising 0 among }
-    ensures ok { OnOk result (string_bytes out.new ≡ string_bytes out.old ++ lines_shown plan.now bricks.now among objects.now) }
-    ensures splits { IfOk result (λ count. count ≡ splits_shown plan.now bricks.now among objects.now) }
+    ensures ok { OnOk result (string_bytes out.new ≡ string_bytes out.old ++ lines_shown plan.now servers.now among objects.now) }
+    ensures splits { IfOk result (λ count. count ≡ splits_shown plan.now servers.now among objects.now) }
 {
     let mut splits = 0;
     for object in objects {
         let (gfid, _) = *object;
-        splits += push_looked(out, plan, bricks, among, gfid)?;
+        splits += push_looked(out, plan, servers, among, gfid)?;
     }
     Ok(splits)
 }
@@ -74,17 +74,17 @@ fn push_each(
 fn push_looked(
     out: &mut String,
     plan: &Plan,
-    bricks: &[Brick],
+    servers: &[Server],
     among: BrickSet,
     gfid: Gfid,
 ) -> Result<usize, NoMemory>
     requires few { plan.now.shape.n ≤ 5 }
     requires rising { IsRising 0 among }
-    ensures ok { OnOk result (string_bytes out.new ≡ string_bytes out.old ++ object_text plan.now (shown bricks.now among gfid) among gfid) }
-    ensures splits { IfOk result (λ count. count ≡ splits_of plan.now (shown bricks.now among gfid)) }
+    ensures ok { OnOk result (string_bytes out.new ≡ string_bytes out.old ++ object_text plan.now (shown servers.now among gfid) among gfid) }
+    ensures splits { IfOk result (λ count. count ≡ splits_of plan.now (shown servers.now among gfid)) }
     ensures few { IfOk result (λ count. count ≤ 3) }
 {
-    push_object(out, plan, &look(bricks, among, gfid), among, gfid)
+    push_object(out, plan, &look(servers, among, gfid), among, gfid)
 }
 
 /// Adds one object, and gives how many of its kinds are split.

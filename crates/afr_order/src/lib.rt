@@ -2,6 +2,10 @@
 #![tactic(auto)]
 
 ghost use Rattle.std.specs.Prelude.{◌≡◌, OnOk, []};
+ghost use Rattle.afr_law.specs.Exactly.{IsLawfulExactly};
+ghost use Rattle.afr_law.specs.ModelAlike.{AreAlike};
+ghost use Rattle.afr_law.specs.ModelCauses.{HaveCauses};
+ghost use Rattle.afr_lines.specs.Log.{EveryPrefix};
 ghost use Rattle.afr_model.specs.Blamed.{AreBlamed};
 ghost use Rattle.afr_model.specs.Complete.{IsComplete};
 ghost use Rattle.afr_model.specs.Following.{Follows};
@@ -28,10 +32,13 @@ pub fn drive(volume: &mut Volume) -> Result<(), NoMemory>
     ensures ordered { IsOrdered volume.new.plan volume.new.log }
     ensures follows { Follows volume.new.plan volume.new.log }
     ensures honest { Honest volume.new.plan volume.new.log }
+    ensures lawful { IsLawfulExactly volume.new.plan volume.new.log }
     ensures replied { Replied volume.new.plan volume.new.log }
     ensures blamed { AreBlamed volume.new.plan volume.new.log }
     ensures safe { IsAlwaysSafe volume.new.plan volume.new.log }
     ensures fresh { AreFresh volume.new.plan volume.new.log }
+    ensures causes { EveryPrefix (HaveCauses volume.new.plan) volume.new.log }
+    ensures alike { EveryPrefix (AreAlike volume.new.plan) volume.new.log }
 {
     let driven = take_all(volume);
     volume.every_line();

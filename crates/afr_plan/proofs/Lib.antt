@@ -1,2 +1,2 @@
-pub mod FirstPathLemmas
+pub mod RunnableLemmas
 pub mod Digits

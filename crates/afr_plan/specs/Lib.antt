@@ -13,5 +13,5 @@ pub mod Judging
 pub mod Names
 pub mod PlanOf
 pub mod Spells
-pub mod FirstPath
-pub mod FirstPathTests
+pub mod Runnable
+pub mod RunnableTests

@@ -1,111 +1,121 @@
 //! Which plans the volume can run so far.
 ghost use Rattle.std.specs.Prelude.{◌≡◌, ◌↔◌, IsTrue};
 ghost use Rattle.std.specs.List.{list_all};
-ghost use Rattle.afr_plan.specs.FirstPath.{IsFirstPath};
-ghost use Rattle.afr_plan.specs.FirstPathTests as first;
+ghost use Rattle.afr_plan.specs.Runnable.{IsRunnable, runs_yet};
+ghost use Rattle.afr_plan.specs.RunnableTests as tests;
 
-use crate::command::{Command, NamePath, Script};
+use crate::command::{Command, Script};
 use crate::limits;
 use crate::plan::Plan;
-use afr_base::NameId;
+use crate::schedule::{Go, PlannedEvent};
+use afr_base::ActorId;
+use afr_lines::Event;
 
-/// Whether each name of a path is one of so many.
-fn are_numbered(names: usize, path: &[NameId]) -> bool
-    ensures { result ≡ first.are_numbered names path.now }
-{
-    path.iter().all(|id| (id.0 as usize) < names)
-}
-
-/// Whether a path leads to a file in the root.
-fn is_in_root(names: usize, path: &NamePath) -> bool
-    ensures { result ≡ first.is_in_root names path.now }
-{
-    path.len() == 1 && are_numbered(names, path.as_slice())
-}
-
-/// Whether a command is a write or a read of a file in the root, within the file's limits.
-fn is_first_command(names: usize, command: &Command) -> bool
-    ensures { result ≡ first.is_first_command names command.now }
+/// Whether a command is one that is run: those that make, take away or list names come later.
+fn runs_yet(command: &Command) -> bool
+    ensures { result ≡ runs_yet command.now }
 {
     match command {
-        Command::Write { path, at, bytes } => {
-            is_in_root(names, path)
-                && (*at as usize).saturating_add(bytes.len()) <= limits::FILE as usize
-        }
-        Command::Read { path, at, len } => {
-            is_in_root(names, path) && *at <= limits::FILE && *len <= limits::PIECE
-        }
-        Command::Cut { path: _, len: _ } => false,
-        Command::Create { path: _ } => false,
-        Command::Mkdir { path: _ } => false,
-        Command::Unlink { path: _ } => false,
-        Command::Rmdir { path: _ } => false,
-        Command::Ls { path: _ } => false,
-        Command::Stat { path: _ } => false,
-        Command::SetAttr {
-            path: _,
-            key: _,
-            value: _,
-        } => false,
-        Command::GetAttr { path: _, key: _ } => false,
+        Command::Write { .. } => true,
+        Command::Cut { .. } => true,
+        Command::Read { .. } => true,
+        Command::Create { .. } => false,
+        Command::Mkdir { .. } => false,
+        Command::Unlink { .. } => false,
+        Command::Rmdir { .. } => false,
+        Command::Ls { .. } => false,
+        Command::Stat { .. } => true,
+        Command::SetAttr { .. } => true,
+        Command::GetAttr { .. } => true,
     }
 }
 
-fn are_first_commands(names: usize, script: &[Command]) -> bool
-    ensures { result ≡ list_all (first.is_first_command names) script.now }
+fn are_run_yet(script: &[Command]) -> bool
+    ensures { result ≡ list_all runs_yet script.now }
 {
-    script
+    script.iter().all(|command| runs_yet(command))
+}
+
+fn is_runnable_script(script: &Script) -> bool
+    ensures { result ≡ tests.is_runnable_script script.now }
+{
+    script.len() <= limits::COMMANDS as usize && are_run_yet(script.as_slice())
+}
+
+fn are_runnable_scripts(scripts: &[Script]) -> bool
+    ensures { result ≡ list_all tests.is_runnable_script scripts.now }
+{
+    scripts.iter().all(|script| is_runnable_script(script))
+}
+
+/// Whether an actor is one of so many clients.
+fn is_one_of(clients: usize, actor: ActorId) -> bool
+    ensures { result ≡ tests.is_one_of clients actor.0 }
+{
+    1 <= actor.0 && actor.0 as usize <= clients
+}
+
+/// Whether an event names no actor but one of so many clients, and no brick but one of so many.
+fn is_about_volume(n: u8, clients: usize, event: Event) -> bool
+    ensures { result ≡ tests.is_about_volume n clients event }
+{
+    match event {
+        Event::Stop(brick) => brick.0 < n,
+        Event::Start(brick) => brick.0 < n,
+        Event::Cut(actor, brick) => is_one_of(clients, actor) && brick.0 < n,
+        Event::Join(actor, brick) => is_one_of(clients, actor) && brick.0 < n,
+        Event::Kill(actor) => is_one_of(clients, actor),
+    }
+}
+
+fn are_runnable_events(n: u8, clients: usize, events: &[PlannedEvent]) -> bool
+    ensures { result ≡ list_all (tests.is_runnable_event n clients) events.now }
+{
+    events
         .iter()
-        .all(|command| is_first_command(names, command))
+        .all(|planned| is_about_volume(n, clients, planned.event))
 }
 
-fn is_first_script(names: usize, script: &Script) -> bool
-    ensures { result ≡ first.is_first_script names script.now }
+fn are_runnable_orders(clients: usize, orders: &[Go]) -> bool
+    ensures { result ≡ list_all (tests.is_runnable_order clients) orders.now }
 {
-    script.len() <= limits::COMMANDS as usize && are_first_commands(names, script.as_slice())
-}
-
-fn are_first_scripts(names: usize, scripts: &[Script]) -> bool
-    ensures { result ≡ list_all (first.is_first_script names) scripts.now }
-{
-    scripts.iter().all(|script| is_first_script(names, script))
+    orders.iter().all(|order| is_one_of(clients, order.actor))
 }
 
 /// Whether the numbers of a plan are within their limits.
-fn has_first_numbers(plan: &Plan) -> bool
-    ensures { result ≡ first.has_first_numbers plan.now }
+fn has_runnable_numbers(plan: &Plan) -> bool
+    ensures { result ≡ tests.has_runnable_numbers plan.now }
 {
     plan.shape.n == limits::BRICKS
         && !plan.shape.arbiter
         && plan.files <= limits::FILES
         && plan.turns >= 1
         && plan.turns <= limits::TURNS
-        && plan.clients.len() <= 1
+        && plan.clients.len() <= limits::CLIENTS as usize
         && plan.files as usize <= plan.words.names.len()
 }
 
-/// Whether nothing is planned beside the clients' scripts.
-fn is_undisturbed(plan: &Plan) -> bool
-    ensures { result ≡ first.is_undisturbed plan.now }
+/// Whether a plan has no healers, and no event or order for one.
+fn has_clients_alone(plan: &Plan) -> bool
+    ensures { result ≡ tests.has_clients_alone plan.now }
 {
     plan.healers.len() == 0
-        && plan.faults.len() == 0
-        && plan.events.len() == 0
-        && plan.go.len() == 0
+        && are_runnable_events(plan.shape.n, plan.clients.len(), plan.events.as_slice())
+        && are_runnable_orders(plan.clients.len(), plan.go.as_slice())
 }
 
-fn is_first_path(plan: &Plan) -> bool
-    ensures { result ≡ first.is_first_path plan.now }
+fn is_runnable(plan: &Plan) -> bool
+    ensures { result ≡ tests.is_runnable plan.now }
 {
-    has_first_numbers(plan)
-        && (is_undisturbed(plan)
-            && are_first_scripts(plan.words.names.len(), plan.clients.as_slice()))
+    has_runnable_numbers(plan)
+        && (has_clients_alone(plan) && are_runnable_scripts(plan.clients.as_slice()))
 }
 
-/// Whether the volume can run a plan as far as it is built: three bricks, at most one client, and
-/// writes and reads of files in the root, with nothing that goes wrong.
+/// Whether the volume can run a plan as far as it is built: three bricks and clients without
+/// healers, whose commands work on objects that are there. Bricks may stop and start, requests
+/// fail and answers get lost, and clients may be cut off and killed.
 pub fn is_runnable_yet(plan: &Plan) -> bool
-    ensures { IsTrue result ↔ IsFirstPath plan.now }
+    ensures { IsTrue result ↔ IsRunnable plan.now }
 {
-    is_first_path(plan)
+    is_runnable(plan)
 }

@@ -1,6 +1,8 @@
-//! The numbers of a line, as a program has them, are in the ranges that the discipline asks for.
+//! The numbers of a line, and of what it is made of, as a program has them, are in the ranges that the discipline asks for.
 #![tactic(auto)]
 
 mod ranges;
 
-pub use ranges::fits_its_types;
+pub use ranges::{
+    actor_fits_its_type, brick_fits_its_type, fits_its_types, request_fits_its_types,
+};

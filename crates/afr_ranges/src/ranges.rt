@@ -31,6 +31,20 @@ fn gfid_fits(gfid: Gfid)
     let _n = gfid.0;
 }
 
+/// The number of an actor is in its range.
+pub fn actor_fits_its_type(actor: ActorId)
+    ensures { IsShort actor.0 }
+{
+    short_fits(actor.0);
+}
+
+/// The number of a brick is in its range.
+pub fn brick_fits_its_type(brick: BrickId)
+    ensures { IsByte brick.0 }
+{
+    byte_fits(brick.0);
+}
+
 fn place_fits(n: u64)
     ensures { n < 2 ^ 64 }
 {
@@ -207,7 +221,8 @@ fn change_fits(change: &Change)
     }
 }
 
-fn request_fits(request: &Request)
+/// Each number of a request is in its range, before the line that asks for it is there.
+pub fn request_fits_its_types(request: &Request)
     ensures { RequestInRange request.now }
 {
     match request {
@@ -336,7 +351,7 @@ pub fn fits_its_types(line: &Line)
         } => {
             short_fits(actor.0);
             byte_fits(brick.0);
-            request_fits(request);
+            request_fits_its_types(request);
             told_fits(told);
         }
         Line::Begin { actor, change } => {

@@ -18,7 +18,7 @@ pub fn report_text(alloc: Global, volume: &Volume) -> Result<String, NoMemory>
         volume.plan(),
         volume.lines(),
         volume.reach(),
-        volume.bricks(),
+        volume.servers(),
     )
 }
 
@@ -28,6 +28,6 @@ pub fn info_text(alloc: Global, volume: &Volume) -> Result<String, NoMemory>
 {
     volume.every_line();
     let mut out = String::new(alloc);
-    print_info(&mut out, volume.plan(), volume.bricks(), volume.reach())?;
+    print_info(&mut out, volume.plan(), volume.servers(), volume.reach())?;
     Ok(out)
 }

@@ -7,27 +7,27 @@ ghost use Rattle.afr_model.specs.ReportHealers.{report_of};
 use crate::clients::push_clients;
 use crate::healers::push_healers;
 use afr_base::{BrickSet, NoMemory, Shape};
-use afr_brick::Brick;
 use afr_info::print_info;
 use afr_lines::Line;
 use afr_plan::Plan;
+use afr_server::Server;
 use std::alloc::Global;
 
-/// The report of a plan and of its log, the oldest line first, where the bricks hold the tables
-/// that the log has made. It takes time proportional to the length of the log for each client and
+/// The report of a plan and of its log, the oldest line first, where the servers' bricks hold the
+/// tables that the log has made. It takes time proportional to the length of the log for each client and
 /// healer, and beside it what the part on objects takes.
 pub fn print_report(
     alloc: Global,
     plan: &Plan,
     log: &[Line],
     started: BrickSet,
-    bricks: &[Brick],
+    servers: &[Server],
 ) -> Result<String, NoMemory>
     requires few { plan.now.shape.n ≤ 5 }
     requires clients { length plan.now.clients ≤ 16 }
     requires healers { length plan.now.healers ≤ 3 }
     requires started { started ≡ started_bricks plan.now.shape.n (reverse log.now) }
-    ensures ok { HoldTables plan.now (reverse log.now) started bricks.now → IfOk result (λ text. string_bytes text ≡ report_of plan.now (reverse log.now)) }
+    ensures ok { HoldTables plan.now (reverse log.now) started servers.now → IfOk result (λ text. string_bytes text ≡ report_of plan.now (reverse log.now)) }
 {
     let mut out = String::new(alloc);
     let lines = log.len();
@@ -35,7 +35,7 @@ pub fn print_report(
     write!(out, "lines {lines}\n")?;
     push_clients(&mut out, &plan.words, plan.clients.as_slice(), log)?;
     push_healers(&mut out, &plan.words, plan.healers.as_slice(), log)?;
-    print_info(&mut out, plan, bricks, started)?;
+    print_info(&mut out, plan, servers, started)?;
     Ok(out)
 }
 

@@ -1,13 +1,14 @@
-//! The report of a plan and a log, over bricks that a replay of the log makes.
+//! The report of a plan and a log, over servers whose bricks a replay of the log makes.
 ghost use Rattle.std.specs.Prelude.{◌≡◌, true, reverse};
 ghost use Rattle.afr_report.specs.BrickLines.{AreBrickLines, IsBrickEvent, IsBrickLine};
 
 use afr_base::BrickId;
-use afr_brick::Brick;
+use afr_faults::FaultPlan;
 use afr_lines::{Event, Line};
 use afr_plan::Plan;
 use afr_replay::{Unfit, tables};
 use afr_report::{print_report, started};
+use afr_server::Server;
 use std::alloc::Global;
 
 /// Whether the report has this text.
@@ -18,22 +19,26 @@ pub fn reports(alloc: Global, plan: &Plan, log: &[Line], text: &str) -> Result<b
     if !has_brick_lines(log) {
         return Ok(false);
     }
-    let bricks = replayed(alloc, plan, log)?;
+    let servers = replayed(alloc, plan, log)?;
     let started = started(plan.shape.n, log);
-    let report = print_report(alloc, plan, log, started, &bricks)?;
+    let report = print_report(alloc, plan, log, started, &servers)?;
     Ok(report.as_str() == text)
 }
 
-fn replayed(alloc: Global, plan: &Plan, log: &[Line]) -> Result<Vec<Brick>, Unfit> {
-    let mut bricks = Vec::new(alloc);
+fn replayed(alloc: Global, plan: &Plan, log: &[Line]) -> Result<Vec<Server>, Unfit> {
+    let mut servers = Vec::new(alloc);
     for brick in 0..plan.shape.n {
-        put(&mut bricks, tables(alloc, plan, log, BrickId(brick))?)?;
+        let brick = tables(alloc, plan, log, BrickId(brick))?;
+        put(
+            &mut servers,
+            Server::new(alloc, brick, FaultPlan::new(alloc)),
+        )?;
     }
-    Ok(bricks)
+    Ok(servers)
 }
 
-fn put(bricks: &mut Vec<Brick>, brick: Brick) -> Result<(), Unfit> {
-    match bricks.push(brick) {
+fn put(servers: &mut Vec<Server>, server: Server) -> Result<(), Unfit> {
+    match servers.push(server) {
         Ok(()) => Ok(()),
         Err(_) => Err(Unfit::NoMemory),
     }

@@ -1,15 +1,12 @@
-pub mod LogLemmas
-pub mod WalkKeeps
-pub mod WriteKeeps
-pub mod LookupKeeps
-pub mod BrickKeeps
-pub mod LineKeeps
-pub mod BeginKeeps
-pub mod MachineKeeps
-pub mod CurrentKeeps
-pub mod TurnKeeps
-pub mod WholeTurn
-pub mod Able
-pub mod ReadyLemmas
-pub mod Fresh
-mod StartedLemmas
+mod LogLemmas
+mod LineKeeps
+mod Before
+mod AskKeeps
+mod WriteKeeps
+mod TurnKeeps
+mod EventKeeps
+mod FreshReads
+mod Opening
+mod ReadyLemmas
+mod WholeTurn
+mod Runs

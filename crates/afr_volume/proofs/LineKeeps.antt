@@ -1,95 +1,140 @@
--- What a line keeps, by what its machine writes.
-use Rattle.std.proofs.Common.{◌≡◌, ℕ, ◌+◌, ◌<◌, true, List, refl, sym, ap, ◌∙◌, arith, subst, length, None}
-use Rattle.std.proofs.lemmas.Option.{slice_get_within}
+-- What one line of a client keeps, and what it leaves of the other actors.
+use Rattle.std.proofs.Common.{◌≡◌, ◌≢◌, ◌∙◌, ℕ, ◌+◌, ◌<◌, ◌≤◌, ◌==◌, Bool, true, false, List, [], ◌∷◌, refl, sym, ap, arith, subst, length, Some, slice_get}
+use Rattle.std.proofs.lemmas.Bool.Decides.{nat_tests}
 use Rattle.afr_base.specs.declared.ids.ActorId.{ActorId}
 use Rattle.afr_base.specs.declared.ids.BrickId.{BrickId}
-use Rattle.afr_object.specs.declared.change.Change.{Change}
-use Rattle.afr_lines.specs.Told.{told_by}
-use Rattle.afr_lines.specs.declared.answer.Answer.{Answer}
-use Rattle.afr_lines.specs.declared.line.Heard.TheVariants as heard
+use Rattle.afr_discipline.specs.declared.register.Register.{Register}
+use Rattle.afr_law.specs.Exactly.{IsLawfulExactly}
+use Rattle.afr_lines.specs.Places.{Place, next_place, place_of}
+use Rattle.afr_lines.specs.Work.{Work as Lines, ended, events_made, is_killed, is_of, work}
+use Rattle.afr_lines.specs.declared.answer.Told.{Told}
 use Rattle.afr_lines.specs.declared.line.Line.{Line}
 use Rattle.afr_lines.specs.declared.line.Line.TheVariants.{Ask, Begin, End}
-use Rattle.afr_lines.specs.declared.line.Next.{Next}
-use Rattle.afr_lines.specs.declared.line.Next.TheVariants as next
 use Rattle.afr_lines.specs.declared.reply.Reply.{Reply}
 use Rattle.afr_lines.specs.declared.request.Request.{Request}
-use Rattle.afr_brick.specs.State.{Copies}
+use Rattle.afr_model.specs.Actors.{script_of}
+use Rattle.afr_model.specs.Answered.{IsAbout}
+use Rattle.afr_model.specs.Blamed.{Blames}
+use Rattle.afr_model.specs.Following.{IsDue, IsTurnOf, KeepsToTask, NoneDue}
+use Rattle.afr_model.specs.Honest.{IsHonest}
+use Rattle.afr_model.specs.Replied.{IsOfTask, IsReplied}
+use Rattle.afr_object.specs.declared.change.Change.{Change}
+use Rattle.afr_plan.specs.declared.command.Command.{Command}
 use Rattle.afr_plan.specs.declared.plan.Plan.{Plan}
-use Rattle.afr_model.specs.Tables.{holds}
-use Rattle.afr_model.specs.Honest.{answer_by}
-use Rattle.afr_lookup.specs.Lookup as lookup
-use Rattle.afr_lookup.specs.declared.lookup.LookupStage.{LookupStage}
-use Rattle.afr_lookup.specs.declared.lookup.LookupStage.TheVariants as reading
-use Rattle.afr_write.specs.Write as write
-use Rattle.afr_volume.specs.Acting.{IsBusy, next_of_work, heard_work, Begun, SteppedBy, Stepped}
+use Rattle.afr_server.specs.Serving.{Serving}
+use Rattle.afr_servers.specs.Log.{AreFound, AreServed}
+use Rattle.afr_servers.specs.declared.epochs.Epochs.{Epochs}
+use Rattle.afr_transaction.specs.Turn.{Stood}
+use Rattle.afr_works.specs.Work.{register_of}
+use Rattle.afr_works.specs.declared.work.Work.{Work}
+use Rattle.afr_works.specs.declared.work.Work.TheVariants.{Idle, Lookup, Write}
+use Rattle.afr_works_tell.specs.WorkTelling.{WorkTells}
+use Rattle.afr_volume.specs.Keeping.{Carries, CarriesOut, IsActing, IsBetween, IsInSession, IsNoted}
 use Rattle.afr_volume.specs.declared.actor.Actor.{Actor}
-use Rattle.afr_volume.specs.declared.actor.ActorWork.{ActorWork}
-use Rattle.afr_volume.specs.declared.actor.ActorWork.TheVariants.{Idle, Write, Lookup}
-use Rattle.afr_volume.proofs.BrickKeeps.{AreTables, given}
 
--- a read begins no attempt
-pub reads_begin_nothing : (m : lookup.Lookup) (c : Change) → lookup.next_of m ≡ next.Begin c → ⊥
-reads_begin_nothing m c e = go m.stage e
-  where
-    go : (stage : LookupStage) → lookup.next_at stage m ≡ next.Begin c → ⊥
-    go reading.Walking e = absurd (cc e)
-    go (reading.Looking s) e = absurd (cc e)
-    go (reading.Reading b) e = absurd (cc e)
-    go (reading.Ending r) e = absurd (cc e)
+-- ---- the lines that clients write
+pub data Wrote (a : ActorId) : Line → Type 0 where
+  Asks : (b : BrickId) (r : Request) (told : Told) (took : Bool) → Wrote a (Ask a b r told took)
+  Begins : (c : Change) → Wrote a (Begin a c)
+  Ends : (r : Reply) → Wrote a (End a r)
 
--- what each line of a transaction keeps
-pub record WriteHandles (p : Plan) (a : ActorId) (at : ℕ) (log : List Line) (Keeps : Line → ActorWork → Type 0) (m : write.Write) : Type 0 where
-  pub asked : (b : BrickId) (r : Request) (h : Answer) → write.next_of m ≡ next.Ask b r → b.0 < p.shape.n → h ≡ answer_by None r (holds p log b.0) log
-      → Keeps (Ask a b r (told_by h) true) (heard_work (heard.Answer h at) (Write m))
-  pub begun : (c : Change) → write.next_of m ≡ next.Begin c → Keeps (Begin a c) (heard_work (heard.Begun at) (Write m))
-  pub ended : (said : Reply) → write.next_of m ≡ next.End said → Keeps (End a said) Idle
+pub self : (n : ℕ) → (n == n) ≡ true
+self n = grind (arith, nat_tests)
 
--- what each line of a read keeps
-pub record ReadHandles (p : Plan) (a : ActorId) (at : ℕ) (log : List Line) (Keeps : Line → ActorWork → Type 0) (m : lookup.Lookup) : Type 0 where
-  pub asked : (b : BrickId) (r : Request) (h : Answer) → lookup.next_of m ≡ next.Ask b r → b.0 < p.shape.n → h ≡ answer_by None r (holds p log b.0) log
-      → Keeps (Ask a b r (told_by h) true) (heard_work (heard.Answer h at) (Lookup m))
-  pub ended : (said : Reply) → lookup.next_of m ≡ next.End said → Keeps (End a said) Idle
+pub wrote_own : (a : ActorId) (line : Line) → Wrote a line → is_of a.0 line ≡ true
+wrote_own a line (Asks b r told took) = self a.0
+wrote_own a line (Begins c) = self a.0
+wrote_own a line (Ends r) = self a.0
 
--- the same of a work
-abbrev pub Handles : Plan → ActorId → ℕ → List Line → (Line → ActorWork → Type 0) → ActorWork → Type 0
-Handles p a at log Keeps Idle = Unit {0}
-Handles p a at log Keeps (Write m) = WriteHandles p a at log Keeps m
-Handles p a at log Keeps (Lookup m) = ReadHandles p a at log Keeps m
+pub wrote_due : (p : Plan) (a : ActorId) (line : Line) (log : List Line) → Wrote a line → IsTurnOf p a.0 line log → NoneDue p log → IsDue p line log
+wrote_due p a line log (Asks b r told took) t n = (t, n)
+wrote_due p a line log (Begins c) t n = (t, n)
+wrote_due p a line log (Ends r) t n = (t, n)
 
-module _ (p : Plan) (a : ActorId) (at : ℕ) (log : List Line) (x y : Actor) (old new : List Copies) (written : Line) (t : AreTables p log old) (few : length old ≡ p.shape.n) (Keeps : Line → ActorWork → Type 0) where
-  asked_keeps : (b : BrickId) (r : Request) (w : ActorWork) → x.work ≡ w → (s : Begun a at b r log x y old new written)
-      → (b.0 < p.shape.n → s.answer ≡ answer_by None r (holds p log b.0) log → Keeps (Ask a b r (told_by s.answer) true) (heard_work (heard.Answer s.answer at) w)) → Keeps written y.work
-  asked_keeps b r w e s keeps =
-      let is_work : y.work ≡ heard_work (heard.Answer s.answer at) w = ap (λ (z : Actor). z.work) s.becomes ∙ ap (heard_work (heard.Answer s.answer at)) e in
-      let below : b.0 < p.shape.n = omega (arith, few, slice_get_within old b.0 s.served.0 s.served.2) in
-      subst (λ (l : Line). Keeps l y.work) (sym s.is_line) (subst (λ (after : ActorWork). Keeps (Ask a b r (told_by s.answer) true) after) (sym is_work) (keeps below (given p log b.0 r old new s.answer t s.served)))
+pub wrote_made : (a : ActorId) (line : Line) (log : List Line) → Wrote a line → events_made (line ∷ log) ≡ events_made log
+wrote_made a line log (Asks b r told took) = refl
+wrote_made a line log (Begins c) = refl
+wrote_made a line log (Ends r) = refl
 
-  begun_keeps : (c : Change) (w : ActorWork) → x.work ≡ w → (written ≡ Begin a c) × (y ≡ record x { work = heard_work (heard.Begun at) x.work }) × (new ≡ old)
-      → Keeps (Begin a c) (heard_work (heard.Begun at) w) → Keeps written y.work
-  begun_keeps c w e s keeps =
-      let is_work : y.work ≡ heard_work (heard.Begun at) w = ap (λ (z : Actor). z.work) s.1 ∙ ap (heard_work (heard.Begun at)) e in
-      subst (λ (l : Line). Keeps l y.work) (sym s.0) (subst (λ (after : ActorWork). Keeps (Begin a c) after) (sym is_work) keeps)
+pub wrote_killed : (a : ActorId) (c : ℕ) (line : Line) (log : List Line) → Wrote a line → is_killed c (line ∷ log) ≡ is_killed c log
+wrote_killed a c line log (Asks b r told took) = refl
+wrote_killed a c line log (Begins x) = refl
+wrote_killed a c line log (Ends r) = refl
 
-  ended_keeps : (said : Reply) → (written ≡ End a said) × (y ≡ record x { ended = x.ended + 1; work = Idle }) × (new ≡ old) → Keeps (End a said) Idle → Keeps written y.work
-  ended_keeps said s keeps = subst (λ (l : Line). Keeps l y.work) (sym s.0) (subst (λ (after : ActorWork). Keeps (End a said) after) (sym (ap (λ (z : Actor). z.work) s.1)) keeps)
+-- ---- the other actors
+other_work : (a : ActorId) (c : ℕ) (line : Line) (log : List Line) → Wrote a line → (a.0 == c) ≡ false → work c (line ∷ log) ≡ work c log
+other_work a c line log (Asks b r told took) e = rw e refl
+other_work a c line log (Begins x) e = rw e refl
+other_work a c line log (Ends r) e = rw e refl
 
-  write_line : (m : write.Write) → x.work ≡ Write m → WriteHandles p a at log Keeps m → (n : Next) → write.next_of m ≡ n → SteppedBy a at log x y old new written n → Keeps written y.work
-  write_line m e h (next.Ask b r) is s = asked_keeps b r (Write m) e s (h.asked b r s.answer is)
-  write_line m e h (next.Begin c) is s = begun_keeps c (Write m) e s (h.begun c is)
-  write_line m e h (next.End said) is s = ended_keeps said s (h.ended said is)
-  write_line m e h other is s = absurd s
+other_place : (a : ActorId) (c : ℕ) (line : Line) (log : List Line) → Wrote a line → (a.0 == c) ≡ false → place_of c (line ∷ log) ≡ place_of c log
+other_place a c line log (Asks b r told took) e = rw e refl
+other_place a c line log (Begins x) e = rw e refl
+other_place a c line log (Ends r) e = rw e refl
 
-  read_line : (m : lookup.Lookup) → x.work ≡ Lookup m → ReadHandles p a at log Keeps m → (n : Next) → lookup.next_of m ≡ n → SteppedBy a at log x y old new written n → Keeps written y.work
-  read_line m e h (next.Ask b r) is s = asked_keeps b r (Lookup m) e s (h.asked b r s.answer is)
-  read_line m e h (next.Begin c) is s = absurd (reads_begin_nothing m c is)
-  read_line m e h (next.End said) is s = ended_keeps said s (h.ended said is)
-  read_line m e h other is s = absurd s
+other_ended : (a : ActorId) (c : ℕ) (line : Line) (log : List Line) → Wrote a line → (a.0 == c) ≡ false → ended c (line ∷ log) ≡ ended c log
+other_ended a c line log (Asks b r told took) e = refl
+other_ended a c line log (Begins x) e = refl
+other_ended a c line log (Ends r) e = rw e refl
 
-  -- one line of an actor whose command has begun
-  pub line_keeps : IsBusy x.work → Handles p a at log Keeps x.work → Stepped a at log x y old new written → Keeps written y.work
-  line_keeps busy h s = go x.work refl busy h s
-    where
-      go : (w : ActorWork) → x.work ≡ w → IsBusy w → Handles p a at log Keeps w → SteppedBy a at log x y old new written (next_of_work w) → Keeps written y.work
-      go Idle e busy h s = absurd busy
-      go (Write m) e busy h s = write_line m e h (write.next_of m) refl s
-      go (Lookup m) e busy h s = read_line m e h (lookup.next_of m) refl s
+-- what an actor is at goes over a line that changes neither its work nor its place
+module _ (p : Plan) (c : ℕ) (line : Line) (log : List Line) (old new : List Serving)
+    (same_work : work c (line ∷ log) ≡ work c log) (same_place : place_of c (line ∷ log) ≡ place_of c log) (same_ended : ended c (line ∷ log) ≡ ended c log)
+    (stands : (r : Register) → Stood p.shape c log r → Stood p.shape c (line ∷ log) r) (found : (epochs : Epochs) → AreFound c epochs old → AreFound c epochs new) where
+  noted_on : (met : Bool) (r : Register) → IsNoted met p.shape c log r → IsNoted met p.shape c (line ∷ log) r
+  noted_on true r k = (same_place ∙ k.0, stands r k.1)
+  noted_on false r k = (same_place ∙ k.0, k.1)
+
+  session_on : (met : Bool) (epochs : Epochs) → IsInSession met c epochs old → IsInSession met c epochs new
+  session_on true epochs k = found epochs k
+  session_on false epochs k = tt
+
+  carries_on : (met : Bool) (epochs : Epochs) (w : Work) → CarriesOut p c log met epochs old w → CarriesOut p c (line ∷ log) met epochs new w
+  carries_on met epochs w k = record {
+    command = k.command;
+    present = rw same_ended k.present;
+    sound = k.sound;
+    five = k.five;
+    shape = k.shape;
+    noted = noted_on met (register_of w) k.noted;
+    sessions = session_on met epochs k.sessions;
+    tells = subst (WorkTells p k.command w) (sym same_work) k.tells;
+  }
+
+  pub stays : (met : Bool) (epochs : Epochs) (w : Work) → Carries p c log met epochs old w → Carries p c (line ∷ log) met epochs new w
+  stays met epochs Idle k = record { unmet = k.unmet; fresh = same_place ∙ k.fresh; none = same_work ∙ k.none }
+  stays met epochs (Lookup m) k = carries_on met epochs (Lookup m) k
+  stays met epochs (Write m) k = carries_on met epochs (Write m) k
+
+-- every other actor is as it was after a line
+pub others_stay : (p : Plan) (a : ActorId) (c : ℕ) (line : Line) (log : List Line) (old new : List Serving) (x : Actor) → Wrote a line → (a.0 == c) ≡ false
+    → ((r : Register) → Stood p.shape c log r → Stood p.shape c (line ∷ log) r) → ((epochs : Epochs) → AreFound c epochs old → AreFound c epochs new) → IsActing p log c old x → IsActing p (line ∷ log) c new x
+others_stay p a c line log old new x w e stands found k = record {
+  ended_is = k.ended_is ∙ sym (other_ended a c line log w e);
+  killed_is = k.killed_is ∙ sym (wrote_killed a c line log w);
+  carries = stays p c line log old new (other_work a c line log w e) (other_place a c line log w e) (other_ended a c line log w e) stands found x.met x.epochs x.work k.carries;
+}
+
+-- ---- one line
+-- what the line of a client keeps
+pub record LineKeeps (p : Plan) (a : ActorId) (log : List Line) (line : Line) (y : Actor) (old new : List Serving) : Type 0 where
+  pub honest : IsHonest p line log
+  pub lawful : IsLawfulExactly p (line ∷ log)
+  pub served : AreServed p (line ∷ log) new
+  pub keeps : KeepsToTask p a.0 line log
+  pub replied : IsReplied p line log
+  pub blamed : Blames p line log
+  pub wrote : Wrote a line
+  pub acting : IsActing p (line ∷ log) a.0 new y
+  pub stands : (c : ℕ) (r : Register) → (a.0 ≡ c → ⊥) → Stood p.shape c log r → Stood p.shape c (line ∷ log) r
+  pub found : (c : ℕ) (epochs : Epochs) → c ≢ a.0 → AreFound c epochs old → AreFound c epochs new
+
+some_same : (c d : Command) → Some c ≡ Some d → c ≡ d
+some_same c d e = cc e
+
+-- a line of a client is about what its present command names; a client has no rounds
+pub of_client : (p : Plan) (a : ActorId) (line : Line) (log : List Line) (command : Command) → a.0 ≤ 16 → slice_get (script_of p a.0) (ended a.0 log) ≡ Some command → IsAbout p command line (work a.0 log) → IsOfTask p a line log
+of_client p a line log command client present about = record {
+  command = λ c is. subst (λ (c : Command). IsAbout p c line (work a.0 log)) (some_same command c (sym present ∙ is)) about;
+  round = λ healer b due. absurd (omega (arith, healer, client));
+}

@@ -1,9 +1,9 @@
 -- The log as the code keeps it, the oldest line first, and as contracts see it.
-use Rattle.std.proofs.Common.{◌≡◌, ℕ, ◌-◌, ◌==◌, List, [], ◌∷◌, ◌++◌, refl, ap, ◌∙◌, Some, arith, zero, suc, reverse, slice_get, option_and_then, if◌then◌else◌, false, length-append}
+use Rattle.std.proofs.Common.{◌≡◌, ℕ, ◌-◌, ◌==◌, List, [], ◌∷◌, ◌++◌, refl, ap, ◌∙◌, Some, arith, zero, suc, reverse, slice_get, if◌then◌else◌, false, length-append}
 use Rattle.std.proofs.lemmas.Bool.Decides.{nat_tests}
 use Rattle.std.proofs.lemmas.List.{reverse-append}
 use Rattle.std.proofs.lemmas.Grind.{reverse_onto}
-use Rattle.afr_lines.specs.Log.{from_oldest, change_of, change_at}
+use Rattle.afr_lines.specs.Log.{from_oldest}
 use Rattle.afr_lines.specs.declared.line.Line.{Line}
 
 -- the newest line of a log that is kept oldest first
@@ -26,6 +26,3 @@ from_oldest-reverse (x ∷ xs) (suc k) = ap (from_oldest (suc k)) (reverse_onto 
 
     pred : suc k - 1 ≡ k
     pred = omega arith
-
-pub change_at-reverse : (xs : List Line) (k : ℕ) → change_at k (reverse xs) ≡ option_and_then change_of (slice_get xs k)
-change_at-reverse xs k = ap (option_and_then change_of) (from_oldest-reverse xs k)

@@ -1,27 +1,30 @@
 -- A whole turn: its premises from what the volume keeps, and what it leaves.
-use Rattle.std.proofs.Common.{◌≡◌, ◌∙◌, ℕ, ◌+◌, ◌-◌, ◌<◌, ◌≤◌, ◌||◌, Bool, true, false, List, [], ◌∷◌, ◌++◌, refl, sym, ap, arith, subst, length, Option, Some, None, slice_get, set, reverse, get_or, nat_le, nat_lt, if◌then◌else◌}
+use Rattle.std.proofs.Common.{◌≡◌, ◌∙◌, ℕ, zero, suc, ◌+◌, ◌-◌, ◌<◌, ◌≤◌, ◌||◌, Bool, true, false, List, [], ◌∷◌, ◌++◌, refl, sym, ap, arith, subst, length, Option, Some, None, slice_get, set, reverse, get_or, nat_le, nat_lt, if◌then◌else◌}
 use Rattle.std.proofs.lemmas.Bool.Decides.{nat_tests}
 use Rattle.std.proofs.lemmas.List.{length-reverse}
-use Rattle.std.proofs.lemmas.Option.{slice_get_within, slice_get-get_or}
+use Rattle.std.proofs.lemmas.Option.{slice_get_within}
 use Rattle.afr_base.specs.declared.ids.ActorId.{ActorId}
 use Rattle.afr_lines.specs.Work.{work, ended, is_killed, is_of, ends_work, events_made}
 use Rattle.afr_lines.specs.declared.line.Line.{Line}
-use Rattle.afr_brick.specs.State.{Copies}
+use Rattle.afr_server.specs.Serving.{Serving}
+use Rattle.afr_servers.specs.declared.epochs.Epochs.{Epochs}
+use Rattle.afr_works.specs.Work.{IsBusy}
+use Rattle.afr_works.specs.declared.work.Work.{Work}
+use Rattle.afr_works.specs.declared.work.Work.TheVariants.{Idle, Lookup, Write}
 use Rattle.afr_plan.specs.declared.plan.Plan.{Plan}
-use Rattle.afr_model.specs.Actors.{IsActor, Client, Healer, is_done, works_of, script_of}
+use Rattle.afr_model.specs.Actors.{IsActor, is_done, works_of, script_of}
 use Rattle.afr_model.specs.Following.{NoneDue}
-use Rattle.afr_volume.specs.Acting.{IsBusy, IsSound}
+use Rattle.afr_volume.specs.Acting.{CanStep, Stepped}
 use Rattle.afr_volume.specs.Keeping.{Carries, IsActing, IsVolume}
-use Rattle.afr_volume.specs.Starting.{idle_actor}
+use Rattle.afr_volume.specs.Laws.{BeginLaws, Laws}
 use Rattle.afr_volume.specs.Turning.{Turns, AddsLine, waits_for, Readies, ReadiedAt, StepsAt, due_of, if_due}
 use Rattle.afr_volume.specs.declared.actor.Actor.{Actor}
-use Rattle.afr_volume.specs.declared.actor.ActorWork.{ActorWork}
-use Rattle.afr_volume.specs.declared.actor.ActorWork.TheVariants.{Idle, Write, Lookup}
 use Rattle.afr_volume.specs.declared.turned.Turned.{Turned}
 use Rattle.afr_volume.specs.declared.turned.Turned.TheVariants.{Moved, Waits}
 use Rattle.afr_volume.proofs.LogLemmas.{reverse_push}
-use Rattle.afr_volume.proofs.BrickKeeps.{got_same}
-use Rattle.afr_volume.proofs.TurnKeeps.{kept_turn, kept_ready, actor_moves, wrote_own, ActorMoves}
+use Rattle.afr_volume.proofs.Before.{IsBefore, client_is}
+use Rattle.afr_volume.proofs.LineKeeps.{LineKeeps, wrote_own}
+use Rattle.afr_volume.proofs.TurnKeeps.{before_turn, can_step, got_same, kept_ready, kept_turn, line_keeps}
 use Rattle.std.proofs.Common.{inl, inr}
 
 -- ---- the premises
@@ -31,11 +34,6 @@ or_false false y h = (refl, h)
 
 pub not_killed : (p : Plan) (a : ℕ) (log : List Line) → is_done p a log ≡ false → is_killed a log ≡ false
 not_killed p a log h = (or_false (is_killed a log) _ h).0
-
--- every actor is a client, as long as there are no healers
-pub is_client : (p : Plan) (a : ℕ) → p.healers ≡ [] → IsActor p a → (1 ≤ a) × (a ≤ length p.clients)
-is_client p a none (Client low high) = (low, high)
-is_client p a none (Healer low high) = let e : length p.healers ≡ 0 = ap length none in absurd (omega (arith, low, high, e))
 
 pub work_left : (p : Plan) (a : ℕ) (log : List Line) → a ≤ 16 → is_done p a log ≡ false → ended a log < length (script_of p a)
 work_left p a log small h =
@@ -66,70 +64,77 @@ ended_le a (line ∷ older) = go (ends_work a line) (ended_le a older)
 
 same_ended : (p : Plan) (a : ℕ) (x z : Actor) → Readies p a x z → z.ended ≡ x.ended
 same_ended p a x z (inl e) = ap (λ (y : Actor). y.ended) e
-same_ended p a x z (inr r) = ap (λ (y : Actor). y.ended) r.5
+same_ended p a x z (inr r) = ap (λ (y : Actor). y.ended) r.3
 
 -- an actor that was made ready has a command, and its count can rise
-pub busy_at : (p : Plan) (a : ℕ) (log : List Line) (bricks : List Copies) (actors readied : List Actor) (started : List ℕ) (made : ℕ) → 1 ≤ a → IsVolume p log bricks actors started made → ReadiedAt p a actors readied
+pub busy_at : (p : Plan) (a : ℕ) (log : List Line) (servers : List Serving) (actors readied : List Actor) (made : ℕ) → 1 ≤ a → IsVolume p log servers actors made → ReadiedAt p a actors readied
     → (x : Actor) → slice_get readied (a - 1) ≡ Some x → IsBusy x.work × (x.ended < 4294967295)
-busy_at p a log bricks actors readied started made one v r x is =
+busy_at p a log servers actors readied made one v r x is =
     let same : x ≡ r.after = got_same actors (a - 1) r.after x (slice_get_within actors (a - 1) r.before r.was) (rw r.set_is at is) in
     let acting = v.each (a - 1) r.before r.was in
-    let e : (a - 1) + 1 ≡ a = omega arith in
+    let e : (a - 1) + 1 ≡ a = omega (arith, one) in
     let count : r.before.ended ≡ ended a log = rw e at acting.ended_is in
     (subst (λ (y : Actor). IsBusy y.work) (sym same) r.busy, rw same (omega (arith, same_ended p a r.before r.after r.readies, count, ended_le a log, v.room, v.runnable.turns)))
 
--- ---- the turn
-pub record Took (p : Plan) (a : ActorId) (items added : List Line) (bricks : List Copies) (actors : List Actor) (started : List ℕ) (made : ℕ) (line : Line) : Type 0 where
-  pub volume : IsVolume p (reverse added) bricks actors started made
-  pub own : is_of a.0 line ≡ true
-  pub log : reverse added ≡ line ∷ reverse items
+-- the plan has a brick where it has a client
+pub some_brick : (p : Plan) (log : List Line) (servers : List Serving) (actors : List Actor) (made : ℕ) (a : ℕ) → IsVolume p log servers actors made → IsActor p a → 0 < p.shape.n
+some_brick p log servers actors made a v actor = let low = (client_is p a v.runnable actor).0 in let high = (client_is p a v.runnable actor).1 in v.runnable.some (omega (arith, low, high))
 
-pub took : (p : Plan) (a : ActorId) (at : ℕ) (items seen added : List Line) (actors readied new_actors : List Actor) (bricks new_bricks : List Copies) (started : List ℕ) (made : ℕ) (line : Line)
-    → IsVolume p (reverse items) bricks actors started made → IsActor p a.0 → is_done p a.0 (reverse items) ≡ false → length items < p.turns → due_of (record { plan = p; log = reverse items }) ≡ None
-    → seen ≡ items → at ≡ length items → ReadiedAt p a.0 actors readied → StepsAt a at (reverse seen) readied new_actors bricks new_bricks line → added ≡ items ++ line ∷ []
-    → Took p a items added new_bricks new_actors started made line
-took p a at items seen added actors readied new_actors bricks new_bricks started made line v actor left room none same position r s grown = record {
-  volume = rw (grown, reverse_push items line, s.set_is) kept;
-  own = wrote_own a line moves.wrote;
-  log = rw grown (reverse_push items line);
-}
-  where
-    one : 1 ≤ a.0
-    one = (is_client p a.0 v.runnable.plain.healers actor).0
+module _ (laws : Laws) (starts : BeginLaws) (p : Plan) (a : ActorId) (items : List Line) (actors readied : List Actor) (servers : List Serving) (made : ℕ) (v : IsVolume p (reverse items) servers actors made) (actor : IsActor p a.0) (room : length items < p.turns)
+    (r : ReadiedAt p a.0 actors readied) where
+  one : 1 ≤ a.0
+  one = (client_is p a.0 v.runnable actor).0
 
-    ready_volume : IsVolume p (reverse items) bricks readied started made
-    ready_volume = kept_ready p (reverse items) bricks actors readied started made a.0 one v r
+  pub ready_volume : IsVolume p (reverse items) servers readied made
+  ready_volume = kept_ready starts p (reverse items) servers actors readied made a.0 one (some_brick p (reverse items) servers actors made a.0 v actor) v r
 
-    few : length (reverse items) < p.turns
-    few = omega (arith, length-reverse items, room)
+  few : length (reverse items) < p.turns
+  few = omega (arith, length-reverse items, room)
 
-    busy : IsBusy s.before.work
-    busy = (busy_at p a.0 (reverse items) bricks actors readied started made one v r s.before s.was).0
+  pub busy : (x : Actor) → slice_get readied (a.0 - 1) ≡ Some x → IsBusy x.work × (x.ended < 4294967295)
+  busy = busy_at p a.0 (reverse items) servers actors readied made one v r
 
-    same_actor : s.before ≡ r.after
-    same_actor = got_same actors (a.0 - 1) r.after s.before (slice_get_within actors (a.0 - 1) r.before r.was) (rw r.set_is at s.was)
+  before : IsBefore p a (reverse items) servers
+  before = before_turn p a (reverse items) servers actors made v actor few
 
-    sound : IsSound s.before.work
-    sound = subst (λ (x : Actor). IsSound x.work) (sym same_actor) r.sound
+  mine : (x : Actor) → slice_get readied (a.0 - 1) ≡ Some x → IsActing p (reverse items) a.0 servers x
+  mine x is = let e : (a.0 - 1) + 1 ≡ a.0 = omega (arith, one) in subst (λ (c : ℕ). IsActing p (reverse items) c servers x) e (ready_volume.each (a.0 - 1) x is)
 
-    mine : IsActing p (reverse items) a.0 s.before
-    mine = let e : (a.0 - 1) + 1 ≡ a.0 = omega (arith, one) in subst (λ (c : ℕ). IsActing p (reverse items) c s.before) e (ready_volume.each (a.0 - 1) s.before s.was)
+  -- what the bricks need for the line is there
+  pub steps : (at : ℕ) → at ≡ length items → (x : Actor) → slice_get readied (a.0 - 1) ≡ Some x → CanStep a at x servers
+  steps at position x is = subst (λ (at : ℕ). CanStep a at x servers) (length-reverse items ∙ sym position) (can_step laws p a (reverse items) servers before x (busy x is).0 (mine x is))
 
-    moves : ActorMoves p a (reverse items) line s.after bricks new_bricks
-    moves = actor_moves p a at (reverse items) s.before s.after bricks new_bricks line mine ready_volume.tables busy (rw same at s.steps)
+  -- ---- the turn
+  pub record Took (added : List Line) (new_servers : List Serving) (new_actors : List Actor) (line : Line) : Type 0 where
+    pub volume : IsVolume p (reverse added) new_servers new_actors made
+    pub own : is_of a.0 line ≡ true
+    pub log : reverse added ≡ line ∷ reverse items
 
-    kept : IsVolume p (line ∷ reverse items) new_bricks (set readied (a.0 - 1) s.after) started made
-    kept = kept_turn p a at (reverse items) s.before s.after bricks new_bricks readied started made line ready_volume actor one s.was busy sound (not_killed p a.0 (reverse items) left) few
-        (none_due p (reverse items) few none) (position ∙ sym (length-reverse items)) (rw same at s.steps)
+  pub took : (at : ℕ) (added : List Line) (new_actors : List Actor) (new_servers : List Serving) (line : Line) → is_done p a.0 (reverse items) ≡ false → due_of (record { plan = p; log = reverse items }) ≡ None → at ≡ length items
+      → StepsAt a at readied new_actors servers new_servers line → added ≡ items ++ line ∷ [] → Took added new_servers new_actors line
+  took at added new_actors new_servers line left none position s grown = record {
+    volume = rw (grown, reverse_push items line, s.set_is) kept;
+    own = wrote_own a line keeps.wrote;
+    log = rw grown (reverse_push items line);
+  }
+    where
+      stepped : Stepped a (length (reverse items)) s.before s.after servers new_servers line
+      stepped = subst (λ (at : ℕ). Stepped a at s.before s.after servers new_servers line) (position ∙ sym (length-reverse items)) s.steps
+
+      keeps : LineKeeps p a (reverse items) line s.after servers new_servers
+      keeps = line_keeps laws p a (reverse items) servers before s.before s.after new_servers line (busy s.before s.was).0 (mine s.before s.was) stepped
+
+      kept : IsVolume p (line ∷ reverse items) new_servers (set readied (a.0 - 1) s.after) made
+      kept = kept_turn laws p a (reverse items) s.before s.after servers new_servers readied made line ready_volume actor s.was (busy s.before s.was).0 (not_killed p a.0 (reverse items) left) few
+          (none_due p (reverse items) few none) stepped
 
 -- what a turn answers by the line that it added
-pub turned : (p : Plan) (a : ActorId) (items added : List Line) (bricks : List Copies) (actors : List Actor) (started : List ℕ) (made : ℕ) (line : Line) (waits : Option ActorId) (answer : Turned)
-    → Took p a items added bricks actors started made line → waits_for line ≡ waits → ((owner : ActorId) → waits ≡ Some owner → answer ≡ Waits owner) → (waits ≡ None → answer ≡ Moved)
-    → Turns a (record { plan = p; log = reverse items }) answer (record { plan = p; log = reverse added })
-turned p a items added bricks actors started made line waits answer t w some none = go waits w some none
+pub turned : (p : Plan) (a : ActorId) (items added : List Line) (line : Line) (waits : Option ActorId) (answer : Turned) → is_of a.0 line ≡ true → reverse added ≡ line ∷ reverse items → waits_for line ≡ waits
+    → ((owner : ActorId) → waits ≡ Some owner → answer ≡ Waits owner) → (waits ≡ None → answer ≡ Moved) → Turns a (record { plan = p; log = reverse items }) answer (record { plan = p; log = reverse added })
+turned p a items added line waits answer own grown w some none = go waits w some none
   where
     adds : (waits : Option ActorId) → waits_for line ≡ waits → AddsLine a (record { plan = p; log = reverse items }) waits (record { plan = p; log = reverse added })
-    adds waits w = record { line = line; own = t.own; waiting = w; added = ap (λ (log : List Line). record { plan = p; log = log }) t.log }
+    adds waits w = record { line = line; own = own; waiting = w; added = ap (λ (log : List Line). record { plan = p; log = log }) grown }
 
     go : (waits : Option ActorId) → waits_for line ≡ waits → ((owner : ActorId) → waits ≡ Some owner → answer ≡ Waits owner) → (waits ≡ None → answer ≡ Moved)
         → Turns a (record { plan = p; log = reverse items }) answer (record { plan = p; log = reverse added })
@@ -137,34 +142,35 @@ turned p a items added bricks actors started made line waits answer t w some non
     go None w some none = subst (λ (t : Turned). Turns a (record { plan = p; log = reverse items }) t (record { plan = p; log = reverse added })) (sym (none refl)) (adds None w)
 
 -- ---- an actor that has ended all its works has no present one
-with_command : (p : Plan) (a : ℕ) (log : List Line) (w : ActorWork) → length (script_of p a) ≤ ended a log → Carries p a log w → work a log ≡ []
-with_command p a log Idle few k = k
-with_command p a log (Write m) few k = absurd (omega (arith, few, slice_get_within (script_of p a) (ended a log) k.command k.present))
-with_command p a log (Lookup m) few k = absurd (omega (arith, few, slice_get_within (script_of p a) (ended a log) k.command k.present))
+with_command : (p : Plan) (a : ℕ) (log : List Line) (met : Bool) (epochs : Epochs) (servers : List Serving) (w : Work) → length (script_of p a) ≤ ended a log → Carries p a log met epochs servers w → work a log ≡ []
+with_command p a log met epochs servers Idle few k = k.none
+with_command p a log met epochs servers (Write m) few k = absurd (omega (arith, few, slice_get_within (script_of p a) (ended a log) k.command k.present))
+with_command p a log met epochs servers (Lookup m) few k = absurd (omega (arith, few, slice_get_within (script_of p a) (ended a log) k.command k.present))
 
-pub settled : (p : Plan) (log : List Line) (bricks : List Copies) (actors : List Actor) (started : List ℕ) (made : ℕ) → IsVolume p log bricks actors started made
-    → (a : ℕ) → IsActor p a → is_done p a log ≡ true → is_killed a log ≡ false → work a log ≡ []
-settled p log bricks actors started made v a actor done alive = with_command p a log x.work few mine.carries
+some_actor : (actors : List Actor) (i : ℕ) → i < length actors → (x : Actor) × (slice_get actors i ≡ Some x)
+some_actor [] i small = absurd (omega (arith, small))
+some_actor (x ∷ actors) zero small = (x, refl)
+some_actor (x ∷ actors) (suc i) small = some_actor actors i (omega (arith, small))
+
+pub settled : (p : Plan) (log : List Line) (servers : List Serving) (actors : List Actor) (made : ℕ) → IsVolume p log servers actors made → (a : ℕ) → IsActor p a → is_done p a log ≡ true → is_killed a log ≡ false → work a log ≡ []
+settled p log servers actors made v a actor done alive = with_command p a log x.0.met x.0.epochs servers x.0.work few mine.carries
   where
-    bounds : (1 ≤ a) × (a ≤ length p.clients)
-    bounds = is_client p a v.runnable.plain.healers actor
+    bounds : (1 ≤ a) × (a ≤ length p.clients) × (a ≤ 16)
+    bounds = client_is p a v.runnable actor
 
     one : (a - 1) + 1 ≡ a
     one = let low = bounds.0 in omega (arith, low)
 
-    x : Actor
-    x = get_or actors (a - 1) idle_actor
+    x : (x : Actor) × (slice_get actors (a - 1) ≡ Some x)
+    x = let low = bounds.0 in let high = bounds.1 in some_actor actors (a - 1) (omega (arith, low, high, v.same))
 
-    is_x : slice_get actors (a - 1) ≡ Some x
-    is_x = let low = bounds.0 in let high = bounds.1 in slice_get-get_or actors (a - 1) idle_actor (omega (arith, low, high, v.same))
-
-    mine : IsActing p log a x
-    mine = subst (λ (c : ℕ). IsActing p log c x) one (v.each (a - 1) x is_x)
+    mine : IsActing p log a servers x.0
+    mine = subst (λ (c : ℕ). IsActing p log c servers x.0) one (v.each (a - 1) x.0 x.1)
 
     few : length (script_of p a) ≤ ended a log
     few =
         let d : nat_le (works_of p a) (ended a log) ≡ true = rw alive at done in
-        let high = bounds.1 in
-        let small : nat_lt 16 a ≡ false = grind (arith, nat_tests, high, v.runnable.plain.one) in
+        let most = bounds.2 in
+        let small : nat_lt 16 a ≡ false = grind (arith, nat_tests, most) in
         let m : nat_le (length (script_of p a)) (ended a log) ≡ true = rw small at d in
         grind (arith, nat_tests, m)

@@ -1,79 +1,98 @@
--- One line of an actor: what its machine would write next, and what it makes of the answer.
-use Rattle.std.specs.Prelude.{◌≡◌, ℕ, ◌+◌, true, List}
+-- One line of an actor: what its work would write next, what the bricks make of it, and what it makes of the answer.
+use Rattle.std.specs.Prelude.{◌≡◌, ℕ, ◌+◌, ◌-◌, ◌<◌, ◌^◌, Bool, true, false, List, length, if◌then◌else◌}
 use Rattle.afr_base.specs.declared.ids.ActorId.{ActorId}
 use Rattle.afr_base.specs.declared.ids.BrickId.{BrickId}
-use Rattle.afr_base.specs.declared.ids.Shape.{Shape}
-use Rattle.afr_lines.specs.Told.{told_by}
-use Rattle.afr_lines.specs.declared.answer.Answer.{Answer}
-use Rattle.afr_lines.specs.declared.line.Heard.{Heard}
+use Rattle.afr_faults.specs.Planned.{next_fault}
 use Rattle.afr_lines.specs.declared.line.Heard.TheVariants as heard
 use Rattle.afr_lines.specs.declared.line.Line.{Line}
 use Rattle.afr_lines.specs.declared.line.Line.TheVariants as line
 use Rattle.afr_lines.specs.declared.line.Next.{Next}
 use Rattle.afr_lines.specs.declared.line.Next.TheVariants as next
-use Rattle.afr_lines.specs.declared.reply.Reply.TheVariants.{Failed}
 use Rattle.afr_lines.specs.declared.request.Request.{Request}
-use Rattle.afr_brick.specs.State.{Copies}
-use Rattle.afr_plan.specs.declared.command.Command.{Command}
-use Rattle.afr_plan.specs.declared.command.Command.TheVariants as command
-use Rattle.afr_lookup.specs.Lookup as lookup
-use Rattle.afr_lookup.specs.declared.lookup.LookupJob.TheVariants.{Read}
-use Rattle.afr_write.specs.Write as write
-use Rattle.afr_write.specs.declared.change.WriteJob.TheVariants as job
-use Rattle.afr_volume.specs.Serve.{ServedAt, CanServeAt}
+use Rattle.afr_moves.specs.Ranges.{InRange, RequestInRange}
+use Rattle.afr_object.specs.declared.change.Change.{Change}
+use Rattle.afr_object.specs.declared.change.Load.{Load}
+use Rattle.afr_lines.specs.declared.reply.Reply.{Reply}
+use Rattle.afr_server.specs.Carried.{CanCarryOut, CanLock}
+use Rattle.afr_server.specs.Covered.{IsUnderLocks}
+use Rattle.afr_server.specs.NextLine.{told_line}
+use Rattle.afr_server.specs.Outcome.{is_carried}
+use Rattle.afr_server.specs.Serving.{HasEpoch, Serving, has_session, is_met}
+use Rattle.afr_server.specs.declared.server.Asked.{Asked}
+use Rattle.afr_servers.specs.Calls.{AsksFirst, AsksOne, At, MeetsAll}
+use Rattle.afr_servers.specs.Found.{epoch_at}
+use Rattle.afr_servers.specs.declared.epochs.Epochs.{Epochs}
+use Rattle.afr_works.specs.Work.{CarriesNext, heard_by, next_of}
+use Rattle.afr_works.specs.declared.work.Work.TheVariants.{Idle}
 use Rattle.afr_volume.specs.declared.actor.Actor.{Actor}
-use Rattle.afr_volume.specs.declared.actor.ActorWork.{ActorWork}
-use Rattle.afr_volume.specs.declared.actor.ActorWork.TheVariants.{Idle, Write, Lookup}
 
--- the machine of a command that begins
-abbrev pub StartsWith : Shape → Command → ActorWork → Type 0
-StartsWith shape (command.Write path at bytes) work = work ≡ Write (write.write_from shape path (job.Write at bytes))
-StartsWith shape (command.Read path at len) work = work ≡ Lookup (lookup.lookup_from shape path (Read at len))
-StartsWith shape other work = ⊥
+-- whether a request of the actor has a live session: one that its work's first line met, or one that this line meets
+abbrev pub has_live : Bool → ActorId → Epochs → ℕ → Serving → Bool
+has_live true a epochs b s = has_session (epoch_at b epochs) a s
+has_live false a epochs b s = is_met a s
 
--- a command has begun
-abbrev pub IsBusy : ActorWork → Type 0
-IsBusy Idle = ⊥
-IsBusy (Write m) = Unit {0}
-IsBusy (Lookup m) = Unit {0}
+-- what the bricks need for a request: the one that is asked is there, has counts left, can carry it out, and sees the actor's locks
+pub record CanAsk (a : ActorId) (x : Actor) (b : BrickId) (request : Request) (servers : List Serving) : Type 0 where
+  pub there : b.0 < length servers
+  pub count : At b.0 servers (λ s. s.faults.requests < 2 ^ 32 - 1)
+  pub lock : CanLock request
+  pub can : (load : Load) → CarriesNext x.work load → At b.0 servers (λ s. is_carried (has_live x.met a x.epochs b.0 s) (next_fault s.faults) ≡ true → CanCarryOut request load s.copies.objects)
+  pub covered : (load : Load) → CarriesNext x.work load → At b.0 servers (λ s. is_carried (has_live x.met a x.epochs b.0 s) (next_fault s.faults) ≡ true → IsUnderLocks a request load s)
 
--- what a machine keeps at every moment: somebody is left to ask
-abbrev pub IsSound : ActorWork → Type 0
-IsSound Idle = Unit {0}
-IsSound (Write m) = write.IsWrite m.walk m.transaction m.stage
-IsSound (Lookup m) = lookup.IsLookup m.walk m.stage
+-- what they need for the actor's next line
+pub record CanStep (a : ActorId) (at : ℕ) (x : Actor) (servers : List Serving) : Type 0 where
+  pub known : a.0 < 20
+  pub room : (b : ℕ) → At b servers (HasEpoch a)
+  pub asks : (b : BrickId) (request : Request) → next_of at x.work ≡ next.Ask b request → RequestInRange request → CanAsk a x b request servers
 
--- the next line of a work
-abbrev pub next_of_work : ActorWork → Next
-next_of_work Idle = next.End Failed
-next_of_work (Write m) = write.next_of m
-next_of_work (Lookup m) = lookup.next_of m
+-- the brick served the request over a session that the work has met, or the work's first line met all bricks
+abbrev pub ServesNext : Bool → ActorId → BrickId → Request → Load → Epochs → List Serving → List Serving → Epochs → Asked → Type 0
+ServesNext true a b request load old bricks after new given = (new ≡ old) × AsksOne a old b.0 request load bricks after given
+ServesNext false a b request load old bricks after new given = AsksFirst a b.0 request load bricks after new given
 
--- the work after its line
-abbrev pub heard_work : Heard → ActorWork → ActorWork
-heard_work h Idle = Idle
-heard_work h (Write m) = Write (write.heard_by h m)
-heard_work h (Lookup m) = Lookup (lookup.heard_by h m)
+-- so the request was served, with the contents that the work brings
+pub record IsServed (a : ActorId) (x : Actor) (b : BrickId) (request : Request) (old new : List Serving) (epochs : Epochs) (given : Asked) : Type 0 where
+  pub load : Load
+  pub carries : CarriesNext x.work load
+  pub served : ServesNext x.met a b request load x.epochs old new epochs given
 
--- what the next line asks can be carried out
-abbrev pub CanAsk : List Copies → List Line → Next → Type 0
-CanAsk bricks older (next.Ask brick request) = CanServeAt bricks brick.0 request older
-CanAsk bricks older other = Unit {0}
+-- a request was asked, and its answer heard
+pub record IsAsked (a : ActorId) (at : ℕ) (b : BrickId) (request : Request) (x y : Actor) (old new : List Serving) (written : Line) : Type 0 where
+  pub given : Asked
+  pub epochs : Epochs
+  pub fits : RequestInRange request
+  pub served : IsServed a x b request old new epochs given
+  pub is_line : written ≡ told_line a b request given
+  pub becomes : y ≡ record { ended = x.ended; killed = x.killed; met = true; epochs = epochs; work = heard_by (heard.Answer given.answer at) x.work }
 
--- a request was carried out, and its answer was heard
-pub record Begun (a : ActorId) (at : ℕ) (brick : BrickId) (request : Request) (older : List Line) (x y : Actor) (old new : List Copies) (written : Line) : Type 0 where
-  pub answer : Answer
-  pub served : ServedAt brick.0 request older old new answer
-  pub is_line : written ≡ line.Ask a brick request (told_by answer) true
-  pub becomes : y ≡ record x { work = heard_work (heard.Answer answer at) x.work }
+-- all bricks were met, where the line is the work's first
+abbrev pub MeetsNext : Bool → ActorId → Epochs → List Serving → List Serving → Epochs → Type 0
+MeetsNext true a old bricks after new = (new ≡ old) × (after ≡ bricks)
+MeetsNext false a old bricks after new = MeetsAll a bricks after new
 
--- one line of an actor, by what its machine would write next
-abbrev pub SteppedBy : ActorId → ℕ → List Line → Actor → Actor → List Copies → List Copies → Line → Next → Type 0
-SteppedBy a at older x y old new written (next.Ask brick request) = Begun a at brick request older x y old new written
-SteppedBy a at older x y old new written (next.Begin change) = (written ≡ line.Begin a change) × (y ≡ record x { work = heard_work (heard.Begun at) x.work }) × (new ≡ old)
-SteppedBy a at older x y old new written (next.End reply) = (written ≡ line.End a reply) × (y ≡ record x { ended = x.ended + 1; work = Idle }) × (new ≡ old)
-SteppedBy a at older x y old new written other = ⊥
+-- an attempt was begun
+pub record IsBegun (a : ActorId) (at : ℕ) (change : Change) (x y : Actor) (old new : List Serving) (written : Line) : Type 0 where
+  pub epochs : Epochs
+  pub met : MeetsNext x.met a x.epochs old new epochs
+  pub is_line : written ≡ line.Begin a change
+  pub fits : InRange written
+  pub becomes : y ≡ record { ended = x.ended; killed = x.killed; met = true; epochs = epochs; work = heard_by (heard.Begun at) x.work }
+
+-- a work was ended
+pub record IsEnded (a : ActorId) (said : Reply) (x y : Actor) (old new : List Serving) (written : Line) : Type 0 where
+  pub epochs : Epochs
+  pub met : MeetsNext x.met a x.epochs old new epochs
+  pub is_line : written ≡ line.End a said
+  pub fits : InRange written
+  pub becomes : y ≡ record { ended = x.ended + 1; killed = x.killed; met = false; epochs = epochs; work = Idle }
 
 -- one line of an actor, by what its work would write next
-abbrev pub Stepped : ActorId → ℕ → List Line → Actor → Actor → List Copies → List Copies → Line → Type 0
-Stepped a at older x y old new written = SteppedBy a at older x y old new written (next_of_work x.work)
+abbrev pub SteppedBy : ActorId → ℕ → Actor → Actor → List Serving → List Serving → Line → Next → Type 0
+SteppedBy a at x y old new written (next.Ask b request) = IsAsked a at b request x y old new written
+SteppedBy a at x y old new written (next.Begin change) = IsBegun a at change x y old new written
+SteppedBy a at x y old new written (next.End said) = IsEnded a said x y old new written
+SteppedBy a at x y old new written other = ⊥
+
+-- one line of an actor whose work has begun
+abbrev pub Stepped : ActorId → ℕ → Actor → Actor → List Serving → List Serving → Line → Type 0
+Stepped a at x y old new written = SteppedBy a at x y old new written (next_of at x.work)

@@ -1,4 +1,4 @@
-pub mod Serve
+pub mod Laws
 pub mod Acting
 pub mod Keeping
 pub mod Turning

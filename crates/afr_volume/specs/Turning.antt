@@ -1,9 +1,10 @@
 -- What a turn and an event do to a volume.
-use Rattle.std.specs.Prelude.{◌≡◌, ◌⊎◌, ℕ, ◌-◌, true, false, List, ◌∷◌, Option, Some, None, length, slice_get, slice_set, nat_le, nat_lt, if◌then◌else◌}
+use Rattle.std.specs.Prelude.{◌≡◌, ◌⊎◌, ◌||◌, ℕ, ◌+◌, ◌≤◌, ◌-◌, true, false, List, ◌∷◌, Option, Some, None, length, slice_get, slice_set, nat_le, nat_lt, if◌then◌else◌}
 use Rattle.afr_base.specs.declared.ids.ActorId.{ActorId}
-use Rattle.afr_lines.specs.Work.{is_of, events_made}
+use Rattle.afr_lines.specs.Work.{is_of, events_made, kills}
 use Rattle.afr_lines.specs.declared.answer.Told.TheVariants.{Held}
 use Rattle.afr_lines.specs.declared.line.Event.{Event}
+use Rattle.afr_lines.specs.declared.line.Event.TheVariants.{Kill}
 use Rattle.afr_lines.specs.declared.line.Line.{Line}
 use Rattle.afr_lines.specs.declared.line.Line.TheVariants.{Ask}
 use Rattle.afr_lines.specs.declared.line.Line.TheVariants as line_of
@@ -11,14 +12,15 @@ use Rattle.afr_lines.specs.declared.request.Request.TheVariants.{Lock}
 use Rattle.afr_range_locks.specs.declared.domain.Domain.TheVariants.{Work}
 use Rattle.afr_plan.specs.declared.plan.Plan.{Plan}
 use Rattle.afr_plan.specs.declared.schedule.PlannedEvent.{PlannedEvent}
-use Rattle.afr_brick.specs.State.{Copies}
+use Rattle.afr_server.specs.Serving.{Serving}
 use Rattle.afr_plan.specs.declared.command.Command.{Command}
 use Rattle.afr_model.specs.State.{State}
 use Rattle.afr_model.specs.Actors.{is_done, script_of}
-use Rattle.afr_volume.specs.Acting.{IsBusy, IsSound, StartsWith, Stepped}
+use Rattle.afr_works.specs.Begin.{work_from}
+use Rattle.afr_works.specs.Work.{IsBusy, IsWork}
+use Rattle.afr_works.specs.declared.work.Work.TheVariants.{Idle}
+use Rattle.afr_volume.specs.Acting.{Stepped}
 use Rattle.afr_volume.specs.declared.actor.Actor.{Actor}
-use Rattle.afr_volume.specs.declared.actor.ActorWork.{ActorWork}
-use Rattle.afr_volume.specs.declared.actor.ActorWork.TheVariants.{Idle}
 use Rattle.afr_volume.specs.declared.turned.Turned.{Turned}
 use Rattle.afr_volume.specs.declared.turned.Turned.TheVariants.{Moved, Waits, Ended, Full}
 
@@ -56,11 +58,11 @@ pub record Comes (old new : State) : Type 0 where
   pub is_due : due_of old ≡ Some event
   pub added : new ≡ record old { log = line_of.Event event ∷ old.log }
 
--- an actor has the machine of its present command: it had it, or the command begins
+-- an actor has the work of its present command: it had it, or the command begins
 abbrev pub Readies : Plan → ℕ → Actor → Actor → Type 0
 Readies p a x z =
     (z ≡ x)
-    ⊎ ((x.work ≡ Idle) × (command : Command) × (slice_get (script_of p a) x.ended ≡ Some command) × (w : ActorWork) × StartsWith p.shape command w × (z ≡ record x { work = w }))
+    ⊎ ((x.work ≡ Idle) × (command : Command) × (slice_get (script_of p a) x.ended ≡ Some command) × (z ≡ record x { work = work_from p.shape command }))
 
 -- the same of one actor among all
 pub record ReadiedAt (p : Plan) (a : ℕ) (old new : List Actor) : Type 0 where
@@ -69,13 +71,23 @@ pub record ReadiedAt (p : Plan) (a : ℕ) (old new : List Actor) : Type 0 where
   pub was : slice_get old (a - 1) ≡ Some before
   pub readies : Readies p a before after
   pub busy : IsBusy after.work
-  pub sound : IsSound after.work
+  pub sound : IsWork after.work
   pub set_is : new ≡ slice_set old (a - 1) after
 
 -- one line of one actor among all, whose command has begun
-pub record StepsAt (a : ActorId) (at : ℕ) (older : List Line) (old new : List Actor) (bricks after_bricks : List Copies) (written : Line) : Type 0 where
+pub record StepsAt (a : ActorId) (at : ℕ) (old new : List Actor) (bricks after_bricks : List Serving) (written : Line) : Type 0 where
   pub before : Actor
   pub after : Actor
   pub was : slice_get old (a.0 - 1) ≡ Some before
-  pub steps : Stepped a at older before after bricks after_bricks written
+  pub steps : Stepped a at before after bricks after_bricks written
   pub set_is : new ≡ slice_set old (a.0 - 1) after
+
+-- an event names an actor that is there, where it kills one
+abbrev pub HasVictim : Event → List Actor → Type 0
+HasVictim (Kill a) actors = (1 ≤ a.0) × (a.0 ≤ length actors)
+HasVictim event actors = Unit {0}
+
+-- the actors after an event: the one that it kills is dead from then on
+pub record KillsIn (event : Event) (old new : List Actor) : Type 0 where
+  pub count : length new ≡ length old
+  pub each : (i : ℕ) (x y : Actor) → slice_get old i ≡ Some x → slice_get new i ≡ Some y → y ≡ record x { killed = kills (i + 1) (line_of.Event event) || x.killed }

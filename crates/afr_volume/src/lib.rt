@@ -1,8 +1,8 @@
-//! The volume: the log, the bricks and the actors. A turn or an event adds one line.
+//! The volume: the log, the bricks behind their servers, and the actors. A turn or an event adds one line.
 #![tactic(auto)]
 
 mod actor;
-mod serve;
+mod laws;
 mod set_up;
 mod turned;
 mod turns;

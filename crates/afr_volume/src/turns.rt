@@ -1,23 +1,21 @@
 //! One actor among all takes a turn.
 ghost use Rattle.std.specs.Prelude.{◌≡◌, ◌-◌, ◌<◌, ◌≤◌, ◌+◌, ◌^◌, ℕ, true, false, IfOk, OnOk, OnErr, Option, Some, None, slice_get, reverse, length, vec_len, vec_capacity, ◌++◌, ◌∷◌, []};
-ghost use Rattle.std.specs.Option.{option_copied};
-ghost use Rattle.afr_lines.specs.declared.line.Line.{Line};
 ghost use Rattle.afr_plan.specs.declared.command.Command.{Command};
-ghost use Rattle.afr_plan.specs.FirstPath.{IsFirstCommand};
 ghost use Rattle.afr_model.specs.Actors.{script_of};
 ghost use Rattle.afr_volume.specs.declared.actor.Actor.{Actor};
-ghost use Rattle.afr_volume.specs.declared.actor.ActorWork.{ActorWork};
-ghost use Rattle.afr_volume.specs.declared.actor.ActorWork.TheVariants.{Idle};
-ghost use Rattle.afr_volume.specs.Acting.{IsBusy, CanAsk, next_of_work};
-ghost use Rattle.afr_volume.specs.Turning.{ReadiedAt, StepsAt, waits_for};
+ghost use Rattle.afr_volume.specs.Acting.{CanStep};
+ghost use Rattle.afr_volume.specs.Turning.{HasVictim, KillsIn, ReadiedAt, StepsAt, waits_for};
+ghost use Rattle.afr_works.specs.Begin.{has_machine};
+ghost use Rattle.afr_works.specs.Work.{IsBusy};
 
-use crate::actor::{Actor, ActorWork, make_ready, step, work_for};
+use crate::actor::{Actor, step};
 use crate::turned::Turned;
 use afr_base::{ActorId, NoMemory};
-use afr_brick::Brick;
-use afr_lines::{Line, Request, Told};
+use afr_lines::{Event, Line, Request, Told};
 use afr_plan::Plan;
 use afr_range_locks::Domain;
+use afr_servers::Servers;
+use afr_works::work_for;
 use std::alloc::Global;
 
 /// An actor that has work left has the machine of its present command.
@@ -33,49 +31,47 @@ pub(crate) fn ready_actor(
     requires within { a.0 - 1 < length actors.old.items }
     requires client { a.0 - 1 < length plan.now.clients }
     requires left { (x : Actor) → slice_get actors.old.items (a.0 - 1) ≡ Some x → x.ended < length (script_of plan.now a.0) }
-    requires commands { (k : ℕ) (command : Command) → slice_get (script_of plan.now a.0) k ≡ Some command → (names : ℕ) × IsFirstCommand names command }
+    requires commands { (k : ℕ) (command : Command) → slice_get (script_of plan.now a.0) k ≡ Some command → has_machine command ≡ true }
     ensures ok { OnOk result (ReadiedAt plan.now a.0 actors.old.items actors.new.items) }
     ensures err { OnErr result (actors.new.items ≡ actors.old.items) }
 {
     let at = a.0 as usize - 1;
-    if is_busy(&actors[at].work) {
-        return make_ready(&mut actors[at].work);
+    if !actors[at].work.is_idle() {
+        actors[at].work.stays_sound();
+        return Ok(());
     }
     let script = plan.clients.item(at);
     let command = script.item(actors[at].ended as usize);
-    let mut work = work_for(alloc, plan.shape, command)?;
-    make_ready(&mut work)?;
+    let work = work_for(alloc, plan.shape, command)?;
     actors[at].work = work;
     Ok(())
-}
-
-fn is_busy(work: &ActorWork) -> bool
-    ensures yes { result ≡ true → IsBusy work.now }
-    ensures no { result ≡ false → work.now ≡ Idle }
-{
-    match work {
-        ActorWork::Idle => false,
-        ActorWork::Write(_) => true,
-        ActorWork::Lookup(_) => true,
-    }
 }
 
 /// One line of an actor whose command has begun.
 pub(crate) fn step_actor(
     a: ActorId,
     actors: &mut Vec<Actor>,
-    bricks: &mut Vec<Brick>,
-    log: &[Line],
+    servers: &mut Servers,
     position: u32,
 ) -> Result<Line, NoMemory>
     requires one { 1 ≤ a.0 }
     requires within { a.0 - 1 < length actors.old.items }
     requires busy { (x : Actor) → slice_get actors.old.items (a.0 - 1) ≡ Some x → IsBusy x.work × (x.ended < 2 ^ 32 - 1) }
-    requires can { (x : Actor) → slice_get actors.old.items (a.0 - 1) ≡ Some x → CanAsk bricks.old.items (reverse log.now) (next_of_work x.work) }
-    ensures ok { IfOk result (λ line. StepsAt a position (reverse log.now) actors.old.items actors.new.items bricks.old.items bricks.new.items line) }
-    ensures err { OnErr result ((actors.new.items ≡ actors.old.items) × (bricks.new.items ≡ bricks.old.items)) }
+    requires can { (x : Actor) → slice_get actors.old.items (a.0 - 1) ≡ Some x → CanStep a position x servers.old }
+    ensures ok { IfOk result (λ line. StepsAt a position actors.old.items actors.new.items servers.old servers.new line) }
+    ensures err { OnErr result ((actors.new.items ≡ actors.old.items) × (servers.new ≡ servers.old)) }
 {
-    step(&mut actors[a.0 as usize - 1], a, bricks, log, position)
+    step(&mut actors[a.0 as usize - 1], a, servers, position)
+}
+
+/// The actor that an event kills is dead from then on.
+pub(crate) fn kill(actors: &mut Vec<Actor>, event: Event)
+    requires { HasVictim event actors.old.items }
+    ensures { KillsIn event actors.old.items actors.new.items }
+{
+    if let Event::Kill(a) = event {
+        actors[a.0 as usize - 1].killed = true;
+    }
 }
 
 /// What a turn answers by its line.

@@ -1,12 +1,13 @@
-//! The volume: one log, and beside it the present state of bricks and actors.
-ghost use Rattle.std.specs.Prelude.{◌≡◌, ◌<◌, ◌≤◌, ℕ, Bool, Option, Some, None, OnOk, OnErr, true, false, IfOk, IsSome, length, reverse, slice_get, []};
+//! The volume: one log, and beside it the present state of servers and actors.
+ghost use Rattle.std.specs.Prelude.{◌≡◌, ◌<◌, ◌≤◌, ℕ, Some, None, OnOk, OnErr, IfOk, IsSome, false, length, reverse, slice_get, true, []};
 ghost use Rattle.afr_base.specs.Bricks.{member};
-ghost use Rattle.afr_brick.specs.State.{Copies};
-ghost use Rattle.afr_lines.specs.Log.{from_oldest};
-ghost use Rattle.afr_lines.specs.Work.{work, is_killed};
+ghost use Rattle.afr_law.specs.Exactly.{IsLawfulExactly};
+ghost use Rattle.afr_law.specs.ModelAlike.{AreAlike};
+ghost use Rattle.afr_law.specs.ModelCauses.{HaveCauses};
+ghost use Rattle.afr_lines.specs.Log.{EveryPrefix, from_oldest};
+ghost use Rattle.afr_lines.specs.Work.{is_killed, work};
+ghost use Rattle.afr_plan.specs.Runnable.{IsRunnable};
 ghost use Rattle.afr_plan.specs.declared.schedule.Go.{Go};
-ghost use Rattle.afr_plan.specs.FirstPath.{IsFirstPath};
-ghost use Rattle.afr_model.specs.State.{no_volume, no_plan};
 ghost use Rattle.afr_model.specs.Actors.{IsActor, is_done};
 ghost use Rattle.afr_model.specs.Blamed.{AreBlamed};
 ghost use Rattle.afr_model.specs.Following.{Follows, NoneDue};
@@ -14,19 +15,25 @@ ghost use Rattle.afr_model.specs.Honest.{Honest};
 ghost use Rattle.afr_model.specs.Replied.{Replied};
 ghost use Rattle.afr_model.specs.Report.{started_bricks};
 ghost use Rattle.afr_model.specs.Safe.{AreFresh, IsAlwaysSafe};
+ghost use Rattle.afr_model.specs.State.{no_plan, no_volume};
 ghost use Rattle.afr_model.specs.Sums.{AreSums};
 ghost use Rattle.afr_model.specs.Tables.{holds, keeps_bytes};
-ghost use Rattle.afr_volume.specs.Turning.{Turns, Comes, due_of, if_due};
+ghost use Rattle.afr_server.specs.Serving.{Serving};
+ghost use Rattle.afr_volume.specs.Turning.{Comes, Turns, due_of, if_due};
 
 use crate::actor::Actor;
-use crate::set_up::{all_actors, all_bricks};
+use crate::laws::laws;
+use crate::set_up::all_actors;
 use crate::turned::Turned;
-use crate::turns::{add_line, answer_of, ready_actor, step_actor, turned_by};
+use crate::turns::{add_line, answer_of, kill, ready_actor, step_actor, turned_by};
 use afr_base::{ActorId, BrickSet, NoMemory, Shape};
-use afr_brick::Brick;
+use afr_law::{accusations_have_causes, lawful_is_safe, lawful_lines_fit, nothing_diverges_unrecorded, reads_are_fresh};
 use afr_lines::{Event, Line};
 use afr_object::List;
 use afr_plan::{Plan, Words};
+use afr_ranges::fits_its_types;
+use afr_server::Server;
+use afr_servers::Servers;
 use std::alloc::Global;
 use std::marker::Model;
 
@@ -36,9 +43,8 @@ pub struct Volume {
     alloc: Global,
     plan: Plan,
     log: Vec<Line>,
-    bricks: Vec<Brick>,
+    servers: Servers,
     actors: Vec<Actor>,
-    started: BrickSet,
     /// How many events of the plan have come.
     made: u32,
 }
@@ -52,7 +58,7 @@ impl Model for Volume {
 
     ghost view = { λ v. record { plan = v.plan; log = reverse v.log.items } };
 
-    ghost invariant = { λ v. IsVolume v.plan (reverse v.log.items) v.bricks.items v.actors.items v.started v.made };
+    ghost invariant = { λ v. IsVolume v.plan (reverse v.log.items) v.servers v.actors.items v.made };
 }
 
 impl Volume {
@@ -64,27 +70,26 @@ impl Volume {
             alloc,
             plan: empty_plan(alloc),
             log: Vec::new(alloc),
-            bricks: Vec::new(alloc),
+            servers: Servers::empty(alloc),
             actors: Vec::new(alloc),
-            started: BrickSet::all(0),
             made: 0,
         }
     }
 
     /// Takes a plan over. The bricks have its opening files, and no actor has begun.
     pub fn set_up(&mut self, plan: Plan) -> Result<(), NoMemory>
-        requires first { IsFirstPath plan }
+        requires runs { IsRunnable plan }
         ensures ok { OnOk result (self.new ≡ record { plan = plan; log = [] }) }
         ensures err { OnErr result (self.new ≡ self.old) }
     {
-        let bricks = all_bricks(self.alloc, &plan)?;
+        laws();
+        let servers = Servers::new(self.alloc, &plan)?;
         let actors = all_actors(self.alloc, plan.clients.len())?;
         *self = Volume {
             alloc: self.alloc,
             log: Vec::new(self.alloc),
-            started: BrickSet::all(plan.shape.n),
             plan,
-            bricks,
+            servers,
             actors,
             made: 0,
         };
@@ -101,10 +106,13 @@ impl Volume {
         ensures err { OnErr result (self.new ≡ self.old) }
         ensures follows { Follows self.new.plan self.new.log }
         ensures honest { Honest self.new.plan self.new.log }
+        ensures lawful { IsLawfulExactly self.new.plan self.new.log }
         ensures replied { Replied self.new.plan self.new.log }
         ensures blamed { AreBlamed self.new.plan self.new.log }
         ensures safe { IsAlwaysSafe self.new.plan self.new.log }
         ensures fresh { AreFresh self.new.plan self.new.log }
+        ensures causes { EveryPrefix (HaveCauses self.new.plan) self.new.log }
+        ensures alike { EveryPrefix (AreAlike self.new.plan) self.new.log }
     {
         let turned = self.take_turn(a);
         self.every_line();
@@ -123,10 +131,11 @@ impl Volume {
         if self.log.len() >= self.plan.turns as usize {
             return Ok(Turned::Full);
         }
+        laws();
         self.log.try_reserve(1)?;
         ready_actor(self.alloc, &self.plan, a, &mut self.actors)?;
         let position = self.log.len() as u32;
-        let line = step_actor(a, &mut self.actors, &mut self.bricks, &self.log, position)?;
+        let line = step_actor(a, &mut self.actors, &mut self.servers, position)?;
         let waits = turned_by(&line);
         add_line(&mut self.log, line);
         Ok(answer_of(waits))
@@ -141,15 +150,14 @@ impl Volume {
         let Some(event) = self.due() else {
             unreachable!()
         };
+        laws();
         self.log.try_reserve(1)?;
-        match event {
-            Event::Stop(b) => self.started = self.started.without(b),
-            Event::Start(b) => self.started = self.started.with(b),
-            Event::Kill(a) => self.actors[a.0 as usize - 1].killed = true,
-            _ => {}
-        }
+        let happened = Line::Event { event };
+        fits_its_types(&happened);
+        self.servers.event(&event);
+        kill(&mut self.actors, event);
         self.made += 1;
-        add_line(&mut self.log, Line::Event { event });
+        add_line(&mut self.log, happened);
         Ok(())
     }
 
@@ -201,31 +209,35 @@ impl Volume {
         &self.plan
     }
 
-    /// The bricks, by their numbers.
-    pub fn bricks(&self) -> &[Brick]
+    /// The bricks behind their servers, by their numbers.
+    pub fn servers(&self) -> &[Server]
         ensures few { length result.now ≡ self.now.plan.shape.n }
-        ensures tables { (b : ℕ) (x : Copies) → slice_get result.now b ≡ Some x → x ≡ record { keeps = keeps_bytes self.now.plan b; objects = holds self.now.plan self.now.log b } }
+        ensures tables { (b : ℕ) (s : Serving) → slice_get result.now b ≡ Some s → s.copies ≡ record { keeps = keeps_bytes self.now.plan b; objects = holds self.now.plan self.now.log b } }
         ensures started { (b : ℕ) → member (started_bricks self.now.plan.shape.n self.now.log) b ≡ true → b < self.now.plan.shape.n }
     {
-        &self.bricks
+        self.servers.servers()
     }
 
     /// The started bricks.
     pub fn reach(&self) -> BrickSet
         ensures { result ≡ started_bricks self.now.plan.shape.n self.now.log }
     {
-        self.started
+        laws();
+        self.servers.started()
     }
 
     /// What the volume keeps of its log at every moment.
     pub fn every_line(&self)
         ensures follows { Follows self.now.plan self.now.log }
         ensures honest { Honest self.now.plan self.now.log }
+        ensures lawful { IsLawfulExactly self.now.plan self.now.log }
         ensures replied { Replied self.now.plan self.now.log }
         ensures blamed { AreBlamed self.now.plan self.now.log }
         ensures sums { AreSums self.now.plan self.now.log }
         ensures safe { IsAlwaysSafe self.now.plan self.now.log }
         ensures fresh { AreFresh self.now.plan self.now.log }
+        ensures causes { EveryPrefix (HaveCauses self.now.plan) self.now.log }
+        ensures alike { EveryPrefix (AreAlike self.now.plan) self.now.log }
         ensures room { length self.now.log ≤ self.now.plan.turns }
         ensures few { self.now.plan.shape.n ≤ 5 }
         ensures clients { length self.now.plan.clients ≤ 16 }
@@ -234,6 +246,11 @@ impl Volume {
         ensures settled { (a : ℕ) → IsActor self.now.plan a → is_done self.now.plan a self.now.log ≡ true → is_killed a self.now.log ≡ false → work a self.now.log ≡ [] }
     {
         let _ = &self.log;
+        lawful_is_safe();
+        nothing_diverges_unrecorded();
+        reads_are_fresh();
+        accusations_have_causes();
+        lawful_lines_fit();
     }
 }
 

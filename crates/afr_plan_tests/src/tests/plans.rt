@@ -102,19 +102,24 @@ fn words_are_numbered_by_first_sight(rt: HostRuntime) -> Result<(), Fail> {
 }
 
 #[test]
-fn one_client_that_reads_and_writes_can_be_run(rt: HostRuntime) -> Result<(), Fail> {
+fn clients_of_what_is_there_can_be_run(rt: HostRuntime) -> Result<(), Fail> {
     for (rest, want) in [
         ("", true),
         ("client 1\nwrite /f1 0 hex:00ff\nread /f1 3 10\n", true),
-        ("client 1\nwrite /f1 1048576 \"x\"\n", false),
-        ("client 1\nread / 0 1\n", false),
-        ("client 1\nread /a/b 0 1\n", false),
+        ("client 1\nwrite /f1 1048576 \"x\"\n", true),
+        ("client 1\nread / 0 1\nread /a/b 0 1\n", true),
+        ("client 1\ncut /f1 3\nstat /f1\n", true),
+        ("client 1\nsetattr / owner me\ngetattr / owner\n", true),
+        ("client 1\ncreate /a\n", false),
+        ("client 1\nmkdir /a\n", false),
+        ("client 1\nunlink /a\n", false),
+        ("client 1\nrmdir /a\n", false),
         ("client 1\nls /\n", false),
-        ("client 1\nclient 2\n", false),
+        ("client 1\nclient 2\nstat /\n", true),
         ("healer 1\n", false),
-        ("fault 0 1 fail\n", false),
-        ("at 0 stop 1\n", false),
-        ("client 1\ngo c1 1\n", false),
+        ("fault 0 1 fail\nfault 1 2 lost\n", true),
+        ("client 1\nat 0 stop 1\nat 1 cut c1 0\nat 2 kill c1\n", true),
+        ("client 1\ngo c1 1\n", true),
     ] {
         let text = format!(in rt.alloc(); "{HEAD}{rest}end\n")?;
         assert!(rt;

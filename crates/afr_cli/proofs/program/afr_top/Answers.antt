@@ -16,13 +16,13 @@ returns-clause-write g c = elim c.if-is_run.branch [
 pub returns-clause-faulty : goal.returns-clause-faulty
 returns-clause-faulty g c = λ bytes fault asked wrong. elim c.if-is_run.branch [
   | then-is_run w ↦ let r = w.read_and_run-status.ensures in
-      rw (w.status-is, w.sink-is) (refuses bytes _ _ _ _ _ _ asked.told fault wrong r.few (λ e. (r.ok e).0.spelled) (λ e. (r.refused e).0) (λ e. asked.sound (rw w.source-is (r.read e).0)) (λ e. (r.unfinished e).0))
+      rw (w.status-is, w.sink-is) (refuses bytes _ _ _ _ _ _ asked.told fault wrong r.few (λ e. (r.ok e).0.spelled) (λ e. (r.refused e).0) (λ e. asked.sound (rw w.source-is (r.read e).0)) (λ e. (r.unfinished e).0.spelled))
   | else-is_run w ↦ absurd (search rules)
 ]
 
 pub returns-clause-spelled : goal.returns-clause-spelled
-returns-clause-spelled g c = λ bytes plan asked few spells first. elim c.if-is_run.branch [
+returns-clause-spelled g c = λ bytes plan asked few spells runnable. elim c.if-is_run.branch [
   | then-is_run w ↦ let r = w.read_and_run-status.ensures in
-      rw w.status-is (runs bytes _ _ _ _ _ plan asked.told plan few spells first r.few (λ e. (r.refused e).0) (λ e. asked.sound (rw w.source-is (r.read e).0)))
+      rw w.status-is (runs bytes _ _ _ _ _ plan asked.told plan few spells runnable r.few (λ e. (r.refused e).0) (λ e. asked.sound (rw w.source-is (r.read e).0)))
   | else-is_run w ↦ absurd (search rules)
 ]

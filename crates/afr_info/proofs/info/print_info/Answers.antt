@@ -6,5 +6,5 @@ pub returns : goal.returns
 returns c = record {
   ok = λ log e hold.
       subst (λ (t : List ℕ). OnOk c.push_shown.result (string_bytes c.push_shown.new.out ≡ string_bytes c.args.out.now ++ t))
-      (info_is c.args.plan.now log c.args.bricks.now c.args.started e hold) c.push_shown.ensures.ok;
+      (info_is c.args.plan.now log c.args.servers.now c.args.started e hold) c.push_shown.ensures.ok;
 }

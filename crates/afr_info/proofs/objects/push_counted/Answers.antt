@@ -6,7 +6,7 @@ use Rattle.afr_info.proofs.objects.push_counted.Goals as goal
 
 pub returns : goal.returns
 returns c =
-    let lines : List ℕ = lines_shown c.args.plan.now c.args.bricks.now c.args.among c.args.objects.now in
+    let lines : List ℕ = lines_shown c.args.plan.now c.args.servers.now c.args.among c.args.objects.now in
     let first : List ℕ = codes "objects " ++ decimal (length c.args.objects.now) ++ codes "\n" in
     record {
       ok =

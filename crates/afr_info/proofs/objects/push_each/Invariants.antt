@@ -5,7 +5,7 @@ use Rattle.afr_info.proofs.objects.push_each.Given as goal
 
 abbrev pub invariant-loop-object : goal.invariant-loop-object
 invariant-loop-object l = record {
-  text : string_bytes l.out ++ lines_shown l.plan l.bricks l.among (drop l.object-index l.objects) ≡ string_bytes l.fn.out ++ lines_shown l.plan l.bricks l.among l.objects;
-  counted : l.splits + splits_shown l.plan l.bricks l.among (drop l.object-index l.objects) ≡ splits_shown l.plan l.bricks l.among l.objects;
+  text : string_bytes l.out ++ lines_shown l.plan l.servers l.among (drop l.object-index l.objects) ≡ string_bytes l.fn.out ++ lines_shown l.plan l.servers l.among l.objects;
+  counted : l.splits + splits_shown l.plan l.servers l.among (drop l.object-index l.objects) ≡ splits_shown l.plan l.servers l.among l.objects;
   few : l.splits ≤ 3 * l.object-index;
 }

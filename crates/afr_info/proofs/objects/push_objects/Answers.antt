@@ -6,9 +6,9 @@ use Rattle.afr_info.proofs.objects.push_objects.Goals as goal
 
 pub returns : goal.returns
 returns c =
-    let listed : c.as_slice.result.now ≡ marked_in c.args.bricks.now c.args.among = c.as_slice.ensures ∙ c.in_ok-objects.ensures.ok ∙ c.in_ok-index.ensures.ok in
+    let listed : c.as_slice.result.now ≡ marked_in c.args.servers.now c.args.among = c.as_slice.ensures ∙ c.in_ok-objects.ensures.ok ∙ c.in_ok-index.ensures.ok in
     record {
       ok =
           c.in_ok-push_counted.ensures.ok
-          ∙ ap (λ (objects : List (Gfid × What)). string_bytes c.args.out.now ++ counted_shown c.args.plan.now c.args.bricks.now c.args.among objects) listed;
+          ∙ ap (λ (objects : List (Gfid × What)). string_bytes c.args.out.now ++ counted_shown c.args.plan.now c.args.servers.now c.args.among objects) listed;
     }

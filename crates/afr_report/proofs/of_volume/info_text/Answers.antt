@@ -14,8 +14,8 @@ print_info-requires-clause-rising c =
 pub returns : goal.returns
 returns c =
     let held =
-    handed_out c.args.volume.now.plan c.plan.result.now c.args.volume.now.log c.args.volume.now.log c.reach.result c.bricks.result.now
-    c.plan.ensures refl c.reach.ensures c.bricks.ensures.few c.bricks.ensures.tables c.bricks.ensures.started in
+    handed_out c.args.volume.now.plan c.plan.result.now c.args.volume.now.log c.args.volume.now.log c.reach.result c.servers.result.now
+    c.plan.ensures refl c.reach.ensures c.servers.ensures.few c.servers.ensures.tables c.servers.ensures.started in
     let started = c.reach.ensures ∙ ap (λ (p : Plan). started_bricks p.shape.n c.args.volume.now.log) (sym c.plan.ensures) in
     record {
       ok =

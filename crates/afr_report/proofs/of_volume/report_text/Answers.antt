@@ -8,8 +8,8 @@ use Rattle.afr_report.proofs.of_volume.report_text.Goals as goal
 pub returns : goal.returns
 returns c =
     let held =
-    handed_out c.args.volume.now.plan c.plan.result.now c.args.volume.now.log (reverse c.lines.result.now) c.reach.result c.bricks.result.now
-    c.plan.ensures c.lines.ensures c.reach.ensures c.bricks.ensures.few c.bricks.ensures.tables c.bricks.ensures.started in
+    handed_out c.args.volume.now.plan c.plan.result.now c.args.volume.now.log (reverse c.lines.result.now) c.reach.result c.servers.result.now
+    c.plan.ensures c.lines.ensures c.reach.ensures c.servers.ensures.few c.servers.ensures.tables c.servers.ensures.started in
     record {
       ok =
           subst (λ (p : Plan). IfOk c.print_report.result (λ text. string_bytes text ≡ report_of p c.args.volume.now.log)) c.plan.ensures

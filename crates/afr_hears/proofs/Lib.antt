@@ -1,0 +1,5 @@
+pub mod Seen
+pub mod Stood
+pub mod Told
+pub mod Hearing
+pub mod Bringing

@@ -1,0 +1,6 @@
+pub mod Asked
+pub mod Begun
+pub mod Ended
+pub mod Happened
+pub mod Ready
+pub mod Standing

@@ -1,0 +1,9 @@
+pub mod PlaceLemmas
+pub mod OpeningLemmas
+pub mod MeetingLemmas
+pub mod EventLemmas
+pub mod StartedLemmas
+pub mod FoundLemmas
+pub mod NextLemmas
+pub mod RisingLemmas
+pub mod NeedsLemmas

@@ -1,0 +1,7 @@
+pub mod Found
+pub mod Opening
+pub mod Calls
+pub mod Started
+pub mod Log
+pub mod NextLine
+pub mod Needs

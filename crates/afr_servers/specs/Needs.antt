@@ -1,0 +1,131 @@
+-- What a request needs of its server follows from what the log says of it, and what a read is given is what the log has.
+use Rattle.std.specs.Prelude.{◌≡◌, ℕ, ◌<◌, ◌≤◌, ◌-◌, ◌^◌, Bool, true, false, List, Option, None, length}
+use Rattle.afr_base.specs.Bricks.{IsWithin, member}
+use Rattle.afr_base.specs.declared.ids.ActorId.{ActorId}
+use Rattle.afr_base.specs.declared.ids.BrickId.{BrickId}
+use Rattle.afr_faults.specs.Planned.{next_fault}
+use Rattle.afr_lines.specs.Log.{change_at}
+use Rattle.afr_lines.specs.Places.{opens, place_of}
+use Rattle.afr_lines.specs.Told.{told_by}
+use Rattle.afr_lines.specs.declared.answer.Told.TheVariants.{Given, NotConnected}
+use Rattle.afr_lines.specs.declared.line.Line.{Line}
+use Rattle.afr_lines.specs.declared.line.Line.TheVariants.{Ask}
+use Rattle.afr_lines.specs.declared.request.Area.{Area}
+use Rattle.afr_lines.specs.declared.request.Request.{Request}
+use Rattle.afr_lines.specs.declared.request.Request.TheVariants as request
+use Rattle.afr_model.specs.Honest.{answer_by, outcome_of}
+use Rattle.afr_model.specs.Locks.{locks_held}
+use Rattle.afr_model.specs.Report.{started_bricks}
+use Rattle.afr_model.specs.Tables.{held_before, holds}
+use Rattle.afr_moves.specs.Covering.{HasItsLocks, HasNumber}
+use Rattle.afr_object.specs.declared.change.Change.{Change}
+use Rattle.afr_object.specs.declared.change.Load.{Load}
+use Rattle.afr_plan.specs.declared.plan.Plan.{Plan}
+use Rattle.afr_range_locks.specs.declared.domain.Domain.{Domain}
+use Rattle.afr_server.specs.declared.server.Asked.{Asked}
+use Rattle.afr_server.specs.Carried.{Brings, CanCarryOut, CanLock}
+use Rattle.afr_server.specs.Covered.{IsUnderLocks}
+use Rattle.afr_server.specs.Outcome.{is_carried}
+use Rattle.afr_server.specs.Serving.{HasEpoch, Serving, has_session, is_met}
+use Rattle.afr_tables.specs.Carrying.{CanCarry}
+use Rattle.afr_servers.specs.Calls.{AsksFirst, AsksOne, At}
+use Rattle.afr_servers.specs.Found.{epoch_at}
+use Rattle.afr_servers.specs.Log.{AreFound, AreServed}
+use Rattle.afr_servers.specs.Started.{started_in}
+use Rattle.afr_servers.specs.declared.epochs.Epochs.{Epochs}
+
+-- a request that is not told yet
+abbrev pub asking : ActorId → BrickId → Request → Line
+asking a b request = Ask a b request NotConnected false
+
+-- whether the brick would carry the request out next, by the log
+abbrev pub would_carry : Plan → ActorId → BrickId → Request → List Line → Bool
+would_carry p a b request log = (outcome_of p a b.0 request (asking a b request) log).took
+
+-- the change that a request carries out: that of an operation's attempt
+abbrev pub change_for : Request → List Line → Option Change
+change_for (request.Apply attempt) log = change_at attempt log
+change_for other log = None
+
+-- a server carries the request out exactly where the log says so: within a work, over the epoch that its actor found
+abbrev pub CarriesByTheLog : Type 0
+CarriesByTheLog =
+    (p : Plan) (log : List Line) (a : ActorId) (epochs : Epochs) (b : BrickId) (request : Request) (servers : List Serving)
+    → a.0 < 20 → AreServed p log servers → AreFound a.0 epochs servers → opens (place_of a.0 log) (asking a b request) ≡ false
+    → At b.0 servers (λ s. is_carried (has_session (epoch_at b.0 epochs) a s) (next_fault s.faults) ≡ would_carry p a b request log)
+
+-- and at the first line of a work or of a heal
+abbrev pub CarriesFirstByTheLog : Type 0
+CarriesFirstByTheLog =
+    (p : Plan) (log : List Line) (a : ActorId) (b : BrickId) (request : Request) (servers : List Serving)
+    → a.0 < 20 → AreServed p log servers → opens (place_of a.0 log) (asking a b request) ≡ true
+    → At b.0 servers (λ s. is_carried (is_met a s) (next_fault s.faults) ≡ would_carry p a b request log)
+
+-- what the log's tables can carry out with what the load brings, the server's can
+abbrev pub CanServe : Type 0
+CanServe =
+    (p : Plan) (log : List Line) (b : BrickId) (request : Request) (load : Load) (servers : List Serving)
+    → AreServed p log servers → CanCarry p log b.0 request → Brings request load log (held_before p log)
+    → At b.0 servers (λ s. CanCarryOut request load s.copies.objects)
+
+-- what is covered by the log's locks is covered by the server's
+abbrev pub IsCoveredThere : Type 0
+IsCoveredThere =
+    (p : Plan) (log : List Line) (a : ActorId) (b : BrickId) (request : Request) (load : Load) (servers : List Serving)
+    → AreServed p log servers → HasItsLocks (locks_held b.0 log) a request (change_for request log) → Brings request load log (held_before p log)
+    → At b.0 servers (IsUnderLocks a request load)
+
+-- one more request can be counted
+abbrev pub CanCount : Serving → Type 0
+CanCount s = s.faults.requests < 2 ^ 32 - 1
+
+-- after fewer than 4,000,000 lines one more request can be counted, and every actor can be given an epoch
+abbrev pub HasRoom : Type 0
+HasRoom =
+    (p : Plan) (log : List Line) (b : ℕ) (servers : List Serving) → AreServed p log servers → length log < 4000000
+    → At b servers (λ s. CanCount s × ((a : ActorId) → a.0 < 20 → HasEpoch a s))
+
+-- an area that has a number can be locked
+abbrev pub RangesCanBeLocked : Type 0
+RangesCanBeLocked = (domain : Domain) (area : Area) → HasNumber area → CanLock (request.Lock domain area)
+
+-- what a request needs of its server, in the log's words
+pub record NeedsAreMet : Type 0 where
+  pub carries : CarriesByTheLog
+  pub carries_first : CarriesFirstByTheLog
+  pub can : CanServe
+  pub covered : IsCoveredThere
+  pub room : HasRoom
+  pub lock : RangesCanBeLocked
+
+-- whether a request reads what a copy or the index holds
+abbrev pub is_read : Request → Bool
+is_read (request.ReadBytes g at len) = true
+is_read (request.ReadName g name) = true
+is_read (request.List g) = true
+is_read (request.ReadAttr g key) = true
+is_read (request.ReadAttrs g) = true
+is_read request.Index = true
+is_read other = false
+
+-- what was read on brick b is what the log's tables have there
+abbrev pub IsRead : Plan → List Line → BrickId → Request → Asked → Type 0
+IsRead p log b request given = is_read request ≡ true → told_by given.answer ≡ Given → given.answer ≡ answer_by None request (holds p log b.0) log
+
+-- what a read is given is what its brick's tables have after the log, within a work and at its first line
+pub record AnswersAreRead : Type 0 where
+  pub within :
+      (p : Plan) (log : List Line) (a : ActorId) (epochs : Epochs) (b : BrickId) (request : Request) (load : Load) (old new : List Serving) (given : Asked)
+      → AreServed p log old → AsksOne a epochs b.0 request load old new given → IsRead p log b request given
+  pub first :
+      (p : Plan) (log : List Line) (a : ActorId) (epochs : Epochs) (b : BrickId) (request : Request) (load : Load) (old new : List Serving) (given : Asked)
+      → AreServed p log old → AsksFirst a b.0 request load old new epochs given → IsRead p log b request given
+
+-- a server is started where the log says so; where events name bricks of the volume alone, the started servers are the started bricks
+pub record StartedAreKnown : Type 0 where
+  pub each :
+      (p : Plan) (log : List Line) (b : ℕ) (servers : List Serving)
+      → AreServed p log servers → At b servers (λ s. s.links.started ≡ member (started_bricks p.shape.n log) b)
+  pub all :
+      (p : Plan) (log : List Line) (servers : List Serving) → p.shape.n ≤ 5
+      → AreServed p log servers → IsWithin p.shape.n (started_bricks p.shape.n log) → started_in servers ≡ started_bricks p.shape.n log

@@ -1,0 +1,70 @@
+//! One brick is asked.
+ghost use Rattle.std.specs.Prelude.{◌≡◌, ℕ, ◌-◌, ◌^◌, ◌<◌, ◌≤◌, true, length, IfOk, OnErr};
+ghost use Rattle.afr_faults.specs.Planned.{next_fault};
+ghost use Rattle.afr_server.specs.Carried.{CanCarryOut, CanLock};
+ghost use Rattle.afr_server.specs.Covered.{IsUnderLocks};
+ghost use Rattle.afr_server.specs.Outcome.{is_carried};
+ghost use Rattle.afr_server.specs.Serving.{HasEpoch, has_session, is_met};
+ghost use Rattle.afr_servers.specs.Calls.{AsksFirst, AsksOne, At};
+ghost use Rattle.afr_servers.specs.Found.{epoch_at};
+
+use crate::epochs::Epochs;
+use crate::meeting::meet_between;
+use afr_base::{ActorId, BrickId, NoMemory};
+use afr_lines::Request;
+use afr_object::Load;
+use afr_server::{Asked, Server};
+
+/// A request within a work, over the epoch that its actor found at the brick.
+pub(crate) fn ask_one(
+    servers: &mut Vec<Server>,
+    actor: ActorId,
+    epochs: &Epochs,
+    brick: BrickId,
+    request: &Request,
+    load: Load<'_>,
+) -> Result<Asked, NoMemory>
+    requires known { actor.0 < 20 }
+    requires few { length servers.old.items ≤ 5 }
+    requires there { brick.0 < length servers.old.items }
+    requires count { At brick.0 servers.old.items (λ s. s.faults.requests < 2 ^ 32 - 1) }
+    requires lock { CanLock request.now }
+    requires can { At brick.0 servers.old.items (λ s. is_carried (has_session (epoch_at brick.0 epochs.now) actor s) (next_fault s.faults) ≡ true → CanCarryOut request.now load s.copies.objects) }
+    requires covered { At brick.0 servers.old.items (λ s. is_carried (has_session (epoch_at brick.0 epochs.now) actor s) (next_fault s.faults) ≡ true → IsUnderLocks actor request.now load s) }
+    ensures ok { IfOk result (λ given. AsksOne actor epochs.now brick.0 request.now load.entry servers.old.items servers.new.items given) }
+    ensures err { OnErr result (servers.new.items ≡ servers.old.items) }
+{
+    let epoch = epochs.of[brick.0 as usize];
+    let asked = servers[brick.0 as usize].ask(actor, epoch, request, load)?;
+    Ok(asked)
+}
+
+/// The first line of a work: one brick is asked, and once its memory is there the others meet the
+/// actor, which takes none.
+pub(crate) fn ask_one_first(
+    servers: &mut Vec<Server>,
+    actor: ActorId,
+    brick: BrickId,
+    request: &Request,
+    load: Load<'_>,
+) -> Result<(Epochs, Asked), NoMemory>
+    requires known { actor.0 < 20 }
+    requires few { length servers.old.items ≤ 5 }
+    requires there { brick.0 < length servers.old.items }
+    requires count { At brick.0 servers.old.items (λ s. s.faults.requests < 2 ^ 32 - 1) }
+    requires room { (y : ℕ) → At y servers.old.items (HasEpoch actor) }
+    requires lock { CanLock request.now }
+    requires can { At brick.0 servers.old.items (λ s. is_carried (is_met actor s) (next_fault s.faults) ≡ true → CanCarryOut request.now load s.copies.objects) }
+    requires covered { At brick.0 servers.old.items (λ s. is_carried (is_met actor s) (next_fault s.faults) ≡ true → IsUnderLocks actor request.now load s) }
+    ensures ok { IfOk result (λ given. AsksFirst actor brick.0 request.now load.entry servers.old.items servers.new.items given.0 given.1) }
+    ensures err { OnErr result (servers.new.items ≡ servers.old.items) }
+{
+    let at = brick.0 as usize;
+    let (epoch, asked) = servers[at].ask_first(actor, request, load)?;
+    let mut epochs = Epochs::none();
+    epochs.of[at] = epoch;
+    let epochs = meet_between(servers, actor, 0, at, epochs);
+    let bricks = servers.len();
+    let epochs = meet_between(servers, actor, at + 1, bricks, epochs);
+    Ok((epochs, asked))
+}

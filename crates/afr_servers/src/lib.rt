@@ -1,0 +1,15 @@
+//! The servers of a volume together: a request goes to one brick, the first line of a work meets them all, and an event comes to each.
+#![tactic(auto)]
+
+mod asking;
+mod epochs;
+mod events;
+mod laws;
+mod meeting;
+mod opening;
+mod servers;
+mod started;
+
+pub use epochs::Epochs;
+pub use laws::servers_follow_their_log;
+pub use servers::Servers;

@@ -1,0 +1,120 @@
+-- An event keeps what a volume keeps.
+use Rattle.std.proofs.Common.{◌≡◌, ◌∙◌, ℕ, zero, suc, ◌+◌, ◌-◌, ◌<◌, ◌≤◌, ◌==◌, ◌||◌, ◌⊎◌, Bool, true, false, List, [], ◌∷◌, ◌++◌, reverse, refl, sym, ap, arith, subst, length, Option, Some, None, slice_get, get_or, if◌then◌else◌, nat_lt, nat_le}
+use Rattle.std.proofs.lemmas.Bool.Decides.{nat_tests}
+use Rattle.std.proofs.lemmas.Option.{slice_get-get_or, slice_get_within}
+use Rattle.afr_base.specs.Bricks.{IsWithin}
+use Rattle.afr_base.specs.SetLemmas.{within_added_if, within_below, within_removed_if}
+use Rattle.afr_base.specs.declared.ids.ActorId.{ActorId}
+use Rattle.afr_lines.specs.Work.{events_made, is_event, is_killed, kills}
+use Rattle.afr_lines.specs.declared.line.Event.{Event}
+use Rattle.afr_lines.specs.declared.line.Event.TheVariants.{Cut, Join, Kill, Start, Stop}
+use Rattle.afr_lines.specs.declared.line.Line.{Line}
+use Rattle.afr_lines.specs.declared.line.Line.TheVariants as line_of
+use Rattle.afr_model.specs.Following.{Follows, IsNextEvent}
+use Rattle.afr_model.specs.Report.{started_after, started_bricks}
+use Rattle.afr_model.specs.State.{State}
+use Rattle.afr_moves.specs.Ranges.{InRange}
+use Rattle.afr_next.specs.Happened.{EventKeepsAll}
+use Rattle.afr_plan.specs.declared.plan.Plan.{Plan}
+use Rattle.afr_plan.specs.declared.schedule.PlannedEvent.{PlannedEvent}
+use Rattle.afr_server.specs.Serving.{Serving}
+use Rattle.afr_servers.specs.Calls.{MeetsEach}
+use Rattle.afr_servers.specs.Log.{AreFound, AreServed}
+use Rattle.afr_servers.specs.NextLine.{EventAreServed}
+use Rattle.afr_servers.specs.declared.epochs.Epochs.{Epochs}
+use Rattle.afr_volume.specs.Keeping.{CanRun, IsActing, IsEventOf, IsVolume}
+use Rattle.afr_volume.specs.Turning.{KillsIn, due_of, if_due}
+use Rattle.afr_volume.specs.declared.actor.Actor.{Actor}
+use Rattle.afr_volume.specs.Laws.{EventLaws}
+use Rattle.afr_volume.proofs.LineKeeps.{stays}
+use Rattle.afr_volume.proofs.LogLemmas.{reverse_push}
+
+-- ---- the event that is due
+pub record IsDueNow (s : State) (event : Event) : Type 0 where
+  pub room : length s.log < s.plan.turns
+  pub planned : PlannedEvent
+  pub next : slice_get s.plan.events (events_made s.log) ≡ Some planned
+  pub same : planned.event ≡ event
+  pub come : planned.at ≤ length s.log
+
+due_in : (s : State) (event : Event) (next : Option PlannedEvent) → length s.log < s.plan.turns → slice_get s.plan.events (events_made s.log) ≡ next → if_due (length s.log) next ≡ Some event → IsDueNow s event
+due_in s event None room e k = absurd (cc k)
+due_in s event (Some planned) room e k = by_time (nat_le planned.at (length s.log)) refl k
+  where
+    by_time : (time : Bool) → nat_le planned.at (length s.log) ≡ time → (if time then Some planned.event else None) ≡ Some event → IsDueNow s event
+    by_time false f k = absurd (cc k)
+    by_time true f k = record { room = room; planned = planned; next = e; same = cc k; come = grind (arith, nat_tests, f) }
+
+pub due_gives : (s : State) (event : Event) → due_of s ≡ Some event → IsDueNow s event
+due_gives s event k = by_room (nat_lt (length s.log) s.plan.turns) refl k
+  where
+    by_room : (room : Bool) → nat_lt (length s.log) s.plan.turns ≡ room → (if room then if_due (length s.log) (slice_get s.plan.events (events_made s.log)) else None) ≡ Some event → IsDueNow s event
+    by_room false f k = absurd (cc k)
+    by_room true f k = due_in s event (slice_get s.plan.events (events_made s.log)) (grind (arith, nat_tests, f)) refl k
+
+pub few_events : (log : List Line) → events_made log ≤ length log
+few_events [] = omega arith
+few_events (line ∷ older) = by_event (is_event line) (few_events older)
+  where
+    by_event : (flag : Bool) → events_made older ≤ length older → (if flag then events_made older + 1 else events_made older) ≤ length (line ∷ older)
+    by_event true h = omega (arith, h)
+    by_event false h = omega (arith, h)
+
+-- ---- the actors
+module _ (p : Plan) (c : ℕ) (event : Event) (log : List Line) (old new : List Serving) (laws : EventKeepsAll) (fits : InRange (line_of.Event event)) (found : (epochs : Epochs) → AreFound c epochs old → AreFound c epochs new) where
+  pub still_acting : (x y : Actor) → y ≡ record x { killed = kills c (line_of.Event event) || x.killed } → IsActing p log c old x → IsActing p (line_of.Event event ∷ log) c new y
+  still_acting x y e k = subst (λ (z : Actor). IsActing p (line_of.Event event ∷ log) c new z) (sym e) (record {
+    ended_is = k.ended_is;
+    killed_is = ap (λ (dead : Bool). kills c (line_of.Event event) || dead) k.killed_is;
+    carries = stays p c (line_of.Event event) log old new refl refl refl ((laws p log event fits).stand c) found x.met x.epochs x.work k.carries;
+  })
+
+-- ---- the whole volume
+pub kept_event : (happened : EventKeepsAll) (comes : EventAreServed) (p : Plan) (log : List Line) (servers new : List Serving) (actors after : List Actor) (made : ℕ) (event : Event)
+    → IsVolume p log servers actors made → InRange (line_of.Event event) → IsDueNow (record { plan = p; log = log }) event → MeetsEach event servers new → KillsIn event actors after → IsVolume p (line_of.Event event ∷ log) new after (made + 1)
+kept_event happened comes p log servers new actors after made event v fits due meets kills = record {
+  runnable = v.runnable;
+  room = due.room;
+  served = served.0;
+  same = kills.count ∙ v.same;
+  each = each;
+  made_is = ap (λ (n : ℕ). n + 1) v.made_is;
+  follows = ((due.room, record { planned = due.planned; next = due.next; same = due.same; due = due.come }), v.follows);
+  honest = (tt, v.honest);
+  lawful = (happened p log event fits).lawful v.lawful;
+  replied = (tt, v.replied);
+  blamed = (tt, v.blamed);
+}
+  where
+    served : AreServed p (line_of.Event event ∷ log) new × ((c : ℕ) (its : Epochs) → AreFound c its servers → AreFound c its new)
+    served = comes p log event servers new v.runnable.few v.served meets
+
+    each : (i : ℕ) (y : Actor) → slice_get after i ≡ Some y → IsActing p (line_of.Event event ∷ log) (i + 1) new y
+    each i y h =
+        let there = slice_get-get_or actors i y (omega (arith, slice_get_within after i y h, kills.count)) in
+        still_acting p (i + 1) event log servers new happened fits (served.1 (i + 1)) (get_or actors i y) y (kills.each i (get_or actors i y) y there h) (v.each i (get_or actors i y) there)
+
+-- the same of the log as the code keeps it
+pub happened : (laws : EventLaws) (p : Plan) (items added : List Line) (servers new : List Serving) (actors after : List Actor) (made : ℕ) (event : Event)
+    → IsVolume p (reverse items) servers actors made → InRange (line_of.Event event) → due_of (record { plan = p; log = reverse items }) ≡ Some event → MeetsEach event servers new → KillsIn event actors after → added ≡ items ++ line_of.Event event ∷ []
+    → IsVolume p (reverse added) new after (made + 1)
+happened laws p items added servers new actors after made event v fits due meets kills grown =
+    rw (grown, reverse_push items (line_of.Event event))
+    (kept_event laws.happened laws.comes p (reverse items) servers new actors after made event v fits (due_gives (record { plan = p; log = reverse items }) event due) meets kills)
+
+-- ---- the started bricks
+start_within : (p : Plan) (event : Event) (s : List ℕ) → IsEventOf p event → IsWithin p.shape.n s → IsWithin p.shape.n (started_after event s)
+start_within p (Stop b) s k h = within_removed_if p.shape.n b.0 s true h
+start_within p (Start b) s k h = within_added_if p.shape.n b.0 s true k h
+start_within p (Cut a b) s k h = h
+start_within p (Join a b) s k h = h
+start_within p (Kill a) s k h = h
+
+pub started_within : (p : Plan) (log : List Line) → CanRun p → Follows p log → IsWithin p.shape.n (started_bricks p.shape.n log)
+started_within p [] run f = within_below p.shape.n
+started_within p (line_of.Ask a b asked told took ∷ older) run f = started_within p older run f.1
+started_within p (line_of.Begin a change ∷ older) run f = started_within p older run f.1
+started_within p (line_of.HealBegin a g kind ∷ older) run f = started_within p older run f.1
+started_within p (line_of.End a said ∷ older) run f = started_within p older run f.1
+started_within p (line_of.HealEnd a g kind said ∷ older) run f = started_within p older run f.1
+started_within p (line_of.Event event ∷ older) run f = start_within p event (started_bricks p.shape.n older) (subst (IsEventOf p) f.0.1.same (run.events (events_made older) f.0.1.planned f.0.1.next)) (started_within p older run f.1)

@@ -1,0 +1,34 @@
+-- What a volume keeps before its first line.
+use Rattle.std.proofs.Common.{◌≡◌, ◌∙◌, ℕ, zero, suc, ◌+◌, ◌-◌, ◌<◌, ◌≤◌, List, [], ◌∷◌, sym, ap, refl, arith, subst, length, Some, slice_get}
+use Rattle.afr_lines.specs.declared.line.Line.{Line}
+use Rattle.afr_plan.specs.Runnable.{IsRunnable}
+use Rattle.afr_plan.specs.declared.plan.Plan.{Plan}
+use Rattle.afr_server.specs.Serving.{Serving}
+use Rattle.afr_servers.specs.NextLine.{NewAreServed}
+use Rattle.afr_servers.specs.Opening.{AreNew}
+use Rattle.afr_volume.specs.Keeping.{CanRun, IsActing, IsVolume}
+use Rattle.afr_volume.specs.Starting.{AreNewActors, IsNewActor}
+use Rattle.afr_volume.specs.declared.actor.Actor.{Actor}
+
+-- an actor that has begun nothing stands for no line
+opens_idle : (p : Plan) (servers : List Serving) (a : ℕ) (x : Actor) → IsNewActor x → IsActing p [] a servers x
+opens_idle p servers a x k = record {
+  ended_is = k.ended;
+  killed_is = k.killed;
+  carries = rw k.idle (record { unmet = k.met; fresh = refl; none = refl });
+}
+
+pub fresh_volume : (laws : NewAreServed) (p : Plan) (log : List Line) (servers : List Serving) (actors : List Actor) → CanRun p → log ≡ [] → AreNew p servers → AreNewActors (length p.clients) actors → IsVolume p log servers actors 0
+fresh_volume laws p log servers actors run none opened idle = rw none (record {
+  runnable = run;
+  room = omega arith;
+  served = laws p servers run.few opened;
+  same = idle.many;
+  each = λ i x h. opens_idle p servers (i + 1) x (idle.each i x h);
+  made_is = refl;
+  follows = tt;
+  honest = tt;
+  lawful = tt;
+  replied = tt;
+  blamed = tt;
+})

@@ -1,0 +1,69 @@
+-- A plan that is run so far is one that the volume can run.
+use Rattle.std.proofs.Common.{◌≡◌, ◌∙◌, ◌⊎◌, ap, inl, inr, sym, None, Option, ℕ, zero, suc, ◌+◌, ◌-◌, ◌<◌, ◌≤◌, Bool, true, false, List, [], ◌∷◌, refl, arith, subst, length, Some, slice_get, get_or}
+use Rattle.std.proofs.lemmas.List.Elements.{All-get_or}
+use Rattle.std.proofs.lemmas.Option.{get_or_from_slice_get, slice_get_cases, slice_get_within, unwrap_or-slice_get}
+use Rattle.std.specs.Option.{unwrap_or}
+use Rattle.std.specs.List.{All}
+use Rattle.afr_lines.specs.declared.line.Event.{Event}
+use Rattle.afr_lines.specs.declared.line.Event.TheVariants.{Cut, Join, Kill, Start, Stop}
+use Rattle.afr_model.specs.Actors.{Client, IsActor, script_of}
+use Rattle.afr_plan.specs.Runnable.{IsAboutVolume, IsOneOf, IsRunnable, IsRunnableScript, runs_yet}
+use Rattle.afr_plan.specs.declared.command.Command.{Command}
+use Rattle.afr_plan.specs.declared.command.Command.TheVariants as command
+use Rattle.afr_plan.specs.declared.plan.Plan.{Plan}
+use Rattle.afr_plan.specs.declared.schedule.Go.{Go}
+use Rattle.afr_plan.specs.declared.schedule.PlannedEvent.{PlannedEvent}
+use Rattle.afr_works.specs.Begin.{has_machine}
+use Rattle.afr_volume.specs.Keeping.{CanRun, IsEventOf}
+
+all_at : {A : Type 0} (P : A → Type 0) (xs : List A) (i : ℕ) (x : A) → All P xs → slice_get xs i ≡ Some x → P x
+all_at P xs i x all is = subst P (get_or_from_slice_get xs i x x is) (All-get_or P xs i x (slice_get_within xs i x is) all)
+
+-- what a client's script has is run
+commands_at : (p : Plan) (a i : ℕ) (c : Command) → All IsRunnableScript p.clients → slice_get (script_of p a) i ≡ Some c → runs_yet c ≡ true
+commands_at p a i c all is = by_script (slice_get_cases p.clients (a - 1)).1
+  where
+    script_there : (script : List Command) → slice_get p.clients (a - 1) ≡ Some script → script_of p a ≡ script
+    script_there script own = get_or_from_slice_get p.clients (a - 1) script [] own
+
+    script_past : slice_get p.clients (a - 1) ≡ None → script_of p a ≡ []
+    script_past past = sym (unwrap_or-slice_get p.clients (a - 1) []) ∙ ap (λ (o : Option (List Command)). unwrap_or o []) past
+
+    no_item : (i : ℕ) → slice_get [] i ≡ Some c → ⊥
+    no_item i e = cc e
+
+    by_script : ((script : List Command) × (a - 1 < length p.clients) × (slice_get p.clients (a - 1) ≡ Some script) × (get_or p.clients (a - 1) script ≡ script)) ⊎ ((length p.clients ≤ a - 1) × (slice_get p.clients (a - 1) ≡ None)) → runs_yet c ≡ true
+    by_script (inl k) = all_at (λ (c : Command). runs_yet c ≡ true) k.0 i c (all_at IsRunnableScript p.clients (a - 1) k.0 all k.2).commands (rw (script_there k.0 k.2) at is)
+    by_script (inr k) = absurd (no_item i (rw (script_past k.1) at is))
+
+machine_for : (c : Command) → runs_yet c ≡ true → has_machine c ≡ true
+machine_for (command.Write path at bytes) e = refl
+machine_for (command.Cut path len) e = refl
+machine_for (command.Read path at len) e = refl
+machine_for (command.Create path) e = absurd (cc e)
+machine_for (command.Mkdir path) e = absurd (cc e)
+machine_for (command.Unlink path) e = absurd (cc e)
+machine_for (command.Rmdir path) e = absurd (cc e)
+machine_for (command.Ls path) e = absurd (cc e)
+machine_for (command.Stat path) e = refl
+machine_for (command.SetAttr path key value) e = refl
+machine_for (command.GetAttr path key) e = refl
+
+event_of : (p : Plan) (e : Event) → IsAboutVolume p.shape.n (length p.clients) e → IsEventOf p e
+event_of p (Stop b) k = k
+event_of p (Start b) k = k
+event_of p (Cut a b) k = k.0
+event_of p (Join a b) k = k.0
+event_of p (Kill a) k = k
+
+pub can_run : (p : Plan) → IsRunnable p → CanRun p
+can_run p k = record {
+  few = omega (arith, k.bricks);
+  some = λ h. omega (arith, k.bricks);
+  turns = k.turns;
+  clients = k.clients;
+  healers = k.healers;
+  commands = λ a i c is. machine_for c (commands_at p a i c k.scripts is);
+  events = λ i planned is. event_of p planned.event (all_at (λ (x : PlannedEvent). IsAboutVolume p.shape.n (length p.clients) x.event) p.events i planned k.events is);
+  orders = λ i go is. let client = all_at (λ (x : Go). IsOneOf (length p.clients) x.actor.0) p.go i go k.go is in Client client.0 client.1;
+}

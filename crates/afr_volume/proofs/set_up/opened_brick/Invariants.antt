@@ -1,6 +1,0 @@
-use Rattle.std.proofs.Common.{◌≡◌, not}
-use Rattle.afr_object.specs.Tables.{opening}
-use Rattle.afr_volume.proofs.set_up.opened_brick.Given as goal
-
-abbrev pub invariant-loop-i : goal.invariant-loop-i
-invariant-loop-i l = l.brick ≡ record { keeps = not l.arbiter; objects = opening l.i }

@@ -1,0 +1,76 @@
+-- The laws that turns and events rest on.
+use Rattle.afr_transaction.specs.Turn.{BeginsAnew, GoesOn}
+use Rattle.afr_next.specs.Asked.{AllowedMayBeAsked, AnsweredIsLawful, AskedIsNoted}
+use Rattle.afr_next.specs.Begun.{AllowedMayBegin}
+use Rattle.afr_next.specs.Ended.{AllowedMayEnd}
+use Rattle.afr_next.specs.Happened.{EventKeepsAll}
+use Rattle.afr_next.specs.Ready.{NextIsReady}
+use Rattle.afr_hears.specs.Hears.{LookupBrings, LookupHears, WriteBrings, WriteHears, WriteMakesNothing}
+use Rattle.afr_servers.specs.Needs.{AnswersAreRead, NeedsAreMet}
+use Rattle.afr_servers.specs.NextLine.{AskedAreServed, EventAreServed, FirstAreServed, MetAreServed, WrittenAreServed}
+use Rattle.afr_works.specs.Laws.{AllowedNext, AsksLow, AsksMore, BeginsFresh, BeginsMore, BeginsWithFive, KeepsFive, KeepsFiveBegun, NotesBegin, NotesEach, StaysOutside, StaysSound}
+use Rattle.afr_works_tell.specs.WorkLaws.{BlamedLines, WorkAbout, WorkBegins, WorkBegun, WorkEnds, WorkTellsMore}
+
+-- the register in force at a line, and what it allows
+pub record NextLaws : Type 0 where
+  pub anew : BeginsAnew
+  pub goes_on : GoesOn
+  pub asks : AllowedMayBeAsked
+  pub noted : AskedIsNoted
+  pub lawful : AnsweredIsLawful
+  pub begins : AllowedMayBegin
+  pub ends : AllowedMayEnd
+  pub ready : NextIsReady
+
+-- what a machine writes next, and what becomes of it
+pub record WorkLaws : Type 0 where
+  pub allowed : AllowedNext
+  pub stays : StaysSound
+  pub asks_more : AsksMore
+  pub begins_more : BeginsMore
+  pub notes : NotesEach
+  pub notes_begin : NotesBegin
+  pub outside : StaysOutside
+  pub low : AsksLow
+  pub five : KeepsFive
+  pub five_begun : KeepsFiveBegun
+
+-- what its lines tell, and what it hears
+pub record TellingLaws : Type 0 where
+  pub more : WorkTellsMore
+  pub begun : WorkBegun
+  pub about : WorkAbout
+  pub blamed : BlamedLines
+  pub ends : WorkEnds
+  pub lookup_hears : LookupHears
+  pub write_hears : WriteHears
+  pub lookup_brings : LookupBrings
+  pub write_brings : WriteBrings
+  pub makes_nothing : WriteMakesNothing
+
+-- what the servers need and make of it
+pub record ServerLaws : Type 0 where
+  pub asked : AskedAreServed
+  pub first : FirstAreServed
+  pub written : WrittenAreServed
+  pub met : MetAreServed
+  pub needs : NeedsAreMet
+  pub answers : AnswersAreRead
+
+-- how a work begins
+pub record BeginLaws : Type 0 where
+  pub fresh : BeginsFresh
+  pub five : BeginsWithFive
+  pub tells : WorkBegins
+
+-- what an event leaves of the log and of the servers
+pub record EventLaws : Type 0 where
+  pub happened : EventKeepsAll
+  pub comes : EventAreServed
+
+-- all laws of a turn
+pub record Laws : Type 0 where
+  pub next : NextLaws
+  pub work : WorkLaws
+  pub telling : TellingLaws
+  pub servers : ServerLaws

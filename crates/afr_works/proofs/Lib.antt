@@ -1,0 +1,2 @@
+pub mod FiveLemmas
+pub mod WorkLemmas

@@ -1,0 +1,245 @@
+-- A work has somebody left to ask, the discipline allows what it asks, and its register notes it.
+use Rattle.std.proofs.Common.{◌≡◌, ℕ, ◌<◌, ◌≤◌, ◌==◌, nat_lt, not, Bool, true, false, List, length, refl, ap, subst, arith, inl, inr, if◌then◌else◌}
+use Rattle.std.proofs.lemmas.Bool.Decides.{nat_tests}
+use Rattle.afr_base.specs.Bricks.{is_nothing}
+use Rattle.afr_base.specs.declared.ids.BrickId.{BrickId}
+use Rattle.afr_base.specs.declared.ids.NameId.{NameId}
+use Rattle.afr_base.specs.declared.ids.Shape.{Shape}
+use Rattle.afr_object.specs.declared.change.Change.{Change}
+use Rattle.afr_lines.specs.Told.{told_by}
+use Rattle.afr_lines.specs.declared.answer.Answer.{Answer}
+use Rattle.afr_lines.specs.declared.line.Heard.TheVariants as heard
+use Rattle.afr_lines.specs.declared.line.Next.{Next}
+use Rattle.afr_lines.specs.declared.line.Next.TheVariants as next
+use Rattle.afr_lines.specs.declared.reply.Reply.TheVariants as reply
+use Rattle.afr_lines.specs.declared.request.Request.{Request}
+use Rattle.afr_plan.specs.declared.command.Command.TheVariants as command
+use Rattle.afr_moves.specs.Keeps.{keeps_in}
+use Rattle.afr_discipline.specs.Notes.{noted_ask}
+use Rattle.afr_discipline.specs.Stands.{no_lines, seen_as}
+use Rattle.afr_discipline.specs.Tests.{may_ask_outside}
+use Rattle.afr_discipline.specs.declared.register.Register.{Register}
+use Rattle.afr_walk.specs.Free.{IsFree}
+use Rattle.afr_walk.specs.Looks.{no_look}
+use Rattle.afr_walk.specs.Walk.{IsWalk, next_in, root_entry, walk_from}
+use Rattle.afr_walk.specs.declared.walk.Walk.{Walk}
+use Rattle.afr_walk.specs.declared.walk.WalkStep.TheVariants as walking
+use Rattle.afr_walk.proofs.FreeLemmas.{allows_end, shape_is}
+use Rattle.afr_walk.proofs.WalkLemmas.{asks_free}
+use Rattle.afr_transaction.specs.Outcome.{reply_of}
+use Rattle.afr_transaction.specs.Progress as progress
+use Rattle.afr_transaction.specs.Progress.{Progress, asks}
+use Rattle.afr_transaction.specs.Sound.{Sound}
+use Rattle.afr_transaction.specs.declared.stage.Stage.{Stage}
+use Rattle.afr_transaction.specs.declared.stage.Stage.TheVariants.{Closing}
+use Rattle.afr_transaction.proofs.Allowed.{allowed_next as transaction_allowed}
+use Rattle.afr_transaction.proofs.Parts.{both}
+use Rattle.afr_inode_read.specs.Lookup as lookup
+use Rattle.afr_inode_read.specs.Lookup.{Lookup as LookupValue, IsLookup, asked_at}
+use Rattle.afr_inode_read.specs.declared.stage.LookupStage.{LookupStage}
+use Rattle.afr_inode_read.specs.declared.stage.LookupStage.TheVariants as reading
+use Rattle.afr_inode_read.proofs.LookupLemmas as read
+use Rattle.afr_inode_write.specs.Job.{is_too_large}
+use Rattle.afr_inode_write.specs.Write as write
+use Rattle.afr_inode_write.specs.Write.{Write as WriteValue, IsStage, IsWrite, after_step, after_walk, first_stage, register_at}
+use Rattle.afr_inode_write.specs.declared.job.WriteJob.{WriteJob}
+use Rattle.afr_inode_write.specs.declared.job.WriteJob.TheVariants as job
+use Rattle.afr_inode_write.specs.declared.stage.WriteStage.{WriteStage}
+use Rattle.afr_inode_write.specs.declared.stage.WriteStage.TheVariants as writing
+use Rattle.afr_inode_write.proofs.WriteLemmas as write_lemmas
+use Rattle.afr_works.specs.Laws.{AllowedNext, AsksLow, AsksMore, BeginsFresh, BeginsMore, HasFew, NotesBegin, NotesEach, StaysOutside, StaysSound}
+use Rattle.afr_works.specs.Work.{idle_register}
+use Rattle.afr_works.specs.declared.work.Work.TheVariants.{Idle, Lookup, Write}
+
+-- ---- the first register
+after_first : (b : Bool) (j : WriteJob) (w : Walk) → register_at (after_step (if b then walking.Arrived else walking.Looking no_look) j (record w { object = root_entry })) w ≡ w.register
+after_first true (job.Write at bytes) w = refl
+after_first true (job.Cut len) w = refl
+after_first true (job.SetAttr key value) w = refl
+after_first false j w = refl
+
+first_register : (shape : Shape) (path : List NameId) (j : WriteJob) → write.register_of (write.write_from shape path j) ≡ no_lines shape
+first_register shape path j = go (is_too_large j)
+  where
+    w : Walk
+    w = walk_from shape path
+
+    go : (large : Bool) → register_at (if large then writing.Ending reply.TooLarge else after_walk j w) w ≡ no_lines shape
+    go true = refl
+    go false = after_first (0 == length path) j w
+
+-- a work that begins has the register of no lines
+pub begins_fresh : BeginsFresh
+begins_fresh shape (command.Write path at bytes) h = first_register shape path (job.Write at bytes)
+begins_fresh shape (command.Cut path len) h = first_register shape path (job.Cut len)
+begins_fresh shape (command.SetAttr path key value) h = first_register shape path (job.SetAttr key value)
+begins_fresh shape (command.Read path at len) h = refl
+begins_fresh shape (command.GetAttr path key) h = refl
+begins_fresh shape (command.Ls path) h = refl
+begins_fresh shape (command.Stat path) h = refl
+begins_fresh shape other h = absurd (cc h)
+
+-- ---- what is asked
+-- whatever the bricks have answered so far, the next line is allowed
+pub allowed_next : AllowedNext
+allowed_next Idle k at = allows_end (record { n = 1; arbiter = false }) idle_register reply.Failed (inl refl)
+allowed_next (Lookup m) k at = read.allowed_next m k
+allowed_next (Write m) k at = write_lemmas.allowed_next m k at
+
+-- what holds of one request holds of the same request
+pub ask_same : (P : BrickId → Request → Type 0) (b c : BrickId) (r q : Request) → next.Ask b r ≡ next.Ask c q → P b r → P c q
+ask_same P b c r q e h = subst (λ (x : Request). P c x) (ap request_in e) (subst (λ (x : BrickId). P x r) (ap brick_in e) h)
+  where
+    brick_in : Next → BrickId
+    brick_in (next.Ask d s) = d
+    brick_in other = b
+
+    request_in : Next → Request
+    request_in (next.Ask d s) = s
+    request_in other = r
+
+-- a read that asks somebody asks what its stage names
+pub asking_at : (stage : LookupStage) (w : Walk) (b : BrickId) (request : Request) → lookup.next_at stage w ≡ next.Ask b request
+    → (lookup.is_asking stage ≡ true) × (next.Ask (asked_at stage w).0 (asked_at stage w).1 ≡ next.Ask b request)
+asking_at reading.Walking w b request e = (refl, e)
+asking_at (reading.Looking s) w b request e = (refl, e)
+asking_at (reading.Reading x of) w b request e = (refl, e)
+asking_at (reading.Ending said) w b request e = absurd (cc e)
+
+-- a read begins nothing
+pub never_begins : (stage : LookupStage) (w : Walk) (change : Change) → lookup.next_at stage w ≡ next.Begin change → ⊥
+never_begins reading.Walking w change e = cc e
+never_begins (reading.Looking s) w change e = cc e
+never_begins (reading.Reading x of) w change e = cc e
+never_begins (reading.Ending said) w change e = cc e
+
+-- ---- more is left
+transaction_asks : (stage : Stage) (t : Progress) (at : ℕ) (b : BrickId) (request : Request) → progress.next_at stage at t ≡ next.Ask b request → progress.is_over stage t ≡ false
+transaction_asks Closing t at b request e = go (is_nothing t.register.held) e
+  where
+    go : (none : Bool) → (if none then next.End (reply_of t.change t.register) else asks Closing t) ≡ next.Ask b request → none ≡ false
+    go true e = absurd (cc e)
+    go false e = refl
+transaction_asks stage t at b request e = refl
+
+transaction_begins : (stage : Stage) (t : Progress) (at : ℕ) (change : Change) → progress.next_at stage at t ≡ next.Begin change → progress.is_over stage t ≡ false
+transaction_begins Closing t at change e = go (is_nothing t.register.held) e
+  where
+    go : (none : Bool) → (if none then next.End (reply_of t.change t.register) else asks Closing t) ≡ next.Begin change → none ≡ false
+    go true e = absurd (cc e)
+    go false e = refl
+transaction_begins stage t at change e = refl
+
+write_asks : (stage : WriteStage) (w : Walk) (at : ℕ) (b : BrickId) (request : Request) → write.next_at at stage w ≡ next.Ask b request → write.is_over stage ≡ false
+write_asks (writing.Walking j) w at b request e = refl
+write_asks (writing.Changing t) w at b request e = transaction_asks t.stage t at b request e
+write_asks (writing.Ending said) w at b request e = absurd (cc e)
+
+write_begins : (stage : WriteStage) (w : Walk) (at : ℕ) (change : Change) → write.next_at at stage w ≡ next.Begin change → write.is_over stage ≡ false
+write_begins (writing.Walking j) w at change e = refl
+write_begins (writing.Changing t) w at change e = transaction_begins t.stage t at change e
+write_begins (writing.Ending said) w at change e = absurd (cc e)
+
+-- where the next line is a request, more is left than the end
+pub asks_more : AsksMore
+asks_more Idle at b request e = absurd (cc e)
+asks_more (Lookup m) at b request e = ap not (asking_at m.stage m.walk b request e).0
+asks_more (Write m) at b request e = write_asks m.stage m.walk at b request e
+
+-- and where it is a Begin line
+pub begins_more : BeginsMore
+begins_more Idle at change e = absurd (cc e)
+begins_more (Lookup m) at change e = absurd (never_begins m.stage m.walk change e)
+begins_more (Write m) at change e = write_begins m.stage m.walk at change e
+
+-- ---- what is heard
+asking : (b : Bool) → not b ≡ false → b ≡ true
+asking true h = refl
+asking false h = absurd (cc h)
+
+-- whatever is heard of the next line, a work stays sound
+pub stays_sound : StaysSound
+stays_sound Idle k more of = tt
+stays_sound (Lookup m) k more (heard.Answer a at) = read.stays_sound m k (asking (lookup.is_asking m.stage) more) a at
+stays_sound (Lookup m) k more (heard.Begun at) = k
+stays_sound (Write m) k more of = write_lemmas.stays_sound m k more of
+
+-- ---- the register
+read_notes : (m : LookupValue) (at : ℕ) (b : BrickId) (request : Request) → lookup.next_of m ≡ next.Ask b request → (a : Answer) → (lookup.answered a at m).walk.register ≡ noted_ask m.walk.register at b.0 request (told_by a)
+read_notes m at b request e a =
+    let asks_it = asking_at m.stage m.walk b request e in
+    ask_same (λ (x : BrickId) (q : Request). (lookup.answered a at m).walk.register ≡ noted_ask m.walk.register at x.0 q (told_by a)) (asked_at m.stage m.walk).0 b (asked_at m.stage m.walk).1 request asks_it.1
+    (read.notes_each m asks_it.0 a at)
+
+-- the register notes each request, and what was told
+pub notes_each : NotesEach
+notes_each Idle at b request e a = absurd (cc e)
+notes_each (Lookup m) at b request e a = read_notes m at b request e a
+notes_each (Write m) at b request e a = write_lemmas.notes_each m at b request e a
+
+-- and the number of each attempt
+pub notes_begin : NotesBegin
+notes_begin Idle at change e = absurd (cc e)
+notes_begin (Lookup m) at change e = absurd (never_begins m.stage m.walk change e)
+notes_begin (Write m) at change e = write_lemmas.notes_begin m at change e
+
+-- ---- few bricks, and no heal
+walk_few : (w : Walk) → IsWalk w → w.register.shape.n ≤ 5
+walk_few w k = rw (shape_is w.shape w.register k.free) k.few
+
+write_few : (stage : WriteStage) (w : Walk) → IsWrite w stage → (register_at stage w).shape.n ≤ 5
+write_few (writing.Walking j) w k = walk_few w k.sound
+write_few (writing.Changing t) w k = k.ready.0.base.few
+write_few (writing.Ending said) w k = walk_few w k.sound
+
+-- the volume has five bricks at most
+pub has_few : HasFew
+has_few Idle k = omega arith
+has_few (Lookup m) k = walk_few m.walk k.sound
+has_few (Write m) k = write_few m.stage m.walk k
+
+free_outside : (shape : Shape) (r : Register) → IsFree shape r → r.inside ≡ false
+free_outside shape r (inl e) = ap (λ (x : Register). x.inside) e
+free_outside shape r (inr e) = ap (λ (x : Register). x.inside) e
+
+write_outside : (stage : WriteStage) (w : Walk) → IsWrite w stage → (register_at stage w).inside ≡ false
+write_outside (writing.Walking j) w k = free_outside w.shape w.register k.sound.free
+write_outside (writing.Changing t) w k = k.ready.0.base.outside
+write_outside (writing.Ending said) w k = free_outside w.shape w.register k.sound.free
+
+-- a client's work is no heal
+pub stays_outside : StaysOutside
+stays_outside Idle k = refl
+stays_outside (Lookup m) k = free_outside m.walk.shape m.walk.register k.sound.free
+stays_outside (Write m) k = write_outside m.stage m.walk k
+
+-- ---- who is asked
+below_five : (b n : ℕ) → b < n → n ≤ 5 → b < 5
+below_five b n l few = omega (arith, l, few)
+
+tested_below : (b n : ℕ) → nat_lt b n ≡ true → b < n
+tested_below b n h = grind (arith, nat_tests, h)
+
+read_low : (m : LookupValue) → IsLookup m.walk m.stage → (b : BrickId) (request : Request) → lookup.next_of m ≡ next.Ask b request → b.0 < 5
+read_low m k b request e =
+    let asks_it = asking_at m.stage m.walk b request e in
+    ask_same (λ (x : BrickId) (q : Request). x.0 < 5) (asked_at m.stage m.walk).0 b (asked_at m.stage m.walk).1 request asks_it.1
+    (below_five (asked_at m.stage m.walk).0.0 m.walk.shape.n (read.asks_free_at m.stage m.walk k asks_it.0).1 k.sound.few)
+
+transaction_low : (t : Progress) → Sound t → (at : ℕ) (b : BrickId) (request : Request) → progress.next_at t.stage at t ≡ next.Ask b request → b.0 < 5
+transaction_low t k at b request e =
+    let allows : progress.allowed t.register (next.Ask b request) ≡ true = subst (λ (line : Next). progress.allowed t.register line ≡ true) e (transaction_allowed t k at) in
+    let low = both (nat_lt b.0 t.register.shape.n) (may_ask_outside t.register.shape.n (keeps_in t.register.shape) (seen_as t.register) b.0 request) allows in
+    below_five b.0 t.register.shape.n (tested_below b.0 t.register.shape.n low.0) k.base.few
+
+write_low : (stage : WriteStage) (w : Walk) → IsWrite w stage → (at : ℕ) (b : BrickId) (request : Request) → write.next_at at stage w ≡ next.Ask b request → b.0 < 5
+write_low (writing.Walking j) w k at b request e =
+    ask_same (λ (x : BrickId) (q : Request). x.0 < 5) (next_in w).0 b (next_in w).1 request e (below_five (next_in w).0.0 w.shape.n (asks_free w k.sound k.ready.0).1 k.sound.few)
+write_low (writing.Changing t) w k at b request e = transaction_low t k.ready.0 at b request e
+write_low (writing.Ending said) w k at b request e = absurd (cc e)
+
+-- a request goes to one of the five bricks
+pub asks_low : AsksLow
+asks_low Idle k at b request e = absurd (cc e)
+asks_low (Lookup m) k at b request e = read_low m k b request e
+asks_low (Write m) k at b request e = write_low m.stage m.walk k at b request e

@@ -1,0 +1,24 @@
+//! What holds of all works at once: laws for those who prove over many lines.
+ghost use Rattle.afr_works.specs.Laws.{AllowedNext, AsksLow, AsksMore, BeginsFresh, BeginsMore, BeginsWithFive, HasFew, KeepsFive, KeepsFiveBegun, NotesBegin, NotesEach, StaysOutside, StaysSound};
+
+/// Whatever the bricks have answered so far, the next line is one that the discipline allows; whatever they answer now,
+/// that stays so, and the register notes it.
+pub fn a_work_stays_sound()
+    ensures fresh { BeginsFresh }
+    ensures allowed { AllowedNext }
+    ensures stays { StaysSound }
+    ensures asks_more { AsksMore }
+    ensures begins_more { BeginsMore }
+    ensures notes { NotesEach }
+    ensures notes_begin { NotesBegin }
+    ensures few { HasFew }
+    ensures outside { StaysOutside }
+    ensures low { AsksLow }
+{}
+
+/// Each list of a work's register goes on to have five places.
+pub fn a_work_keeps_five_places()
+    ensures first { BeginsWithFive }
+    ensures asked { KeepsFive }
+    ensures begun { KeepsFiveBegun }
+{}

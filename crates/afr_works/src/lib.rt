@@ -1,0 +1,10 @@
+//! A client's present work: one type over the machines that carry out its commands.
+#![tactic(auto)]
+
+mod begin;
+mod laws;
+mod work;
+
+pub use begin::{has_machine, work_for};
+pub use laws::{a_work_keeps_five_places, a_work_stays_sound};
+pub use work::Work;

@@ -1,0 +1,65 @@
+-- What holds of all works and their lines.
+use Rattle.std.specs.Prelude.{◌≡◌, ℕ, ◌<◌, ◌≤◌, Bool, true, List, [], ◌∷◌, length}
+use Rattle.afr_base.specs.declared.ids.ActorId.{ActorId}
+use Rattle.afr_base.specs.declared.ids.BrickId.{BrickId}
+use Rattle.afr_lines.specs.Told.{told_by}
+use Rattle.afr_lines.specs.Work.{work, Work as Lines}
+use Rattle.afr_lines.specs.declared.answer.Answer.{Answer}
+use Rattle.afr_lines.specs.declared.answer.Told.{Told}
+use Rattle.afr_lines.specs.declared.line.Heard.TheVariants as heard_of
+use Rattle.afr_lines.specs.declared.line.Line.{Line}
+use Rattle.afr_lines.specs.declared.line.Line.TheVariants.{Ask, Begin, End}
+use Rattle.afr_lines.specs.declared.line.Next.TheVariants as next
+use Rattle.afr_lines.specs.declared.reply.Reply.{Reply}
+use Rattle.afr_lines.specs.declared.request.Request.{Request}
+use Rattle.afr_object.specs.declared.change.Change.{Change}
+use Rattle.afr_plan.specs.declared.command.Command.{Command}
+use Rattle.afr_plan.specs.declared.plan.Plan.{Plan}
+use Rattle.afr_model.specs.Answered.{IsAbout, IsAnswered}
+use Rattle.afr_model.specs.Blamed.{Blames}
+use Rattle.afr_model.specs.Following.{KeepsTo}
+use Rattle.afr_transaction_tells.specs.About.{BlamesNext}
+use Rattle.afr_transaction_tells.specs.Laws.{IsNextLine}
+use Rattle.afr_works.specs.Begin.{has_machine, work_from}
+use Rattle.afr_works.specs.Work.{IsWork, heard_by, next_of}
+use Rattle.afr_works.specs.declared.work.Work.{Work}
+use Rattle.afr_works_tell.specs.WorkTelling.{WorkHears, WorkTells}
+
+-- no lines show a work that begins
+abbrev pub WorkBegins : Type 0
+WorkBegins = (p : Plan) (c : Command) → p.shape.n ≤ 5 → 0 < p.shape.n → has_machine c ≡ true → WorkTells p c (work_from p.shape c) []
+
+-- after one line more, whatever was told, the lines show where the work stands then
+abbrev pub WorkTellsMore : Type 0
+WorkTellsMore =
+    (p : Plan) (c : Command) (w : Work) (lines : Lines) (a : ActorId) (b : BrickId) (request : Request) (heard : Answer) (took : Bool) (log : List Line)
+    → IsWork w → WorkTells p c w lines → next_of (length log) w ≡ next.Ask b request → WorkHears w p b.0 request log heard
+    → WorkTells p c (heard_by (heard_of.Answer heard (length log)) w) ((Ask a b request (told_by heard) took, log) ∷ lines)
+
+-- and so after the Begin line
+abbrev pub WorkBegun : Type 0
+WorkBegun =
+    (p : Plan) (c : Command) (w : Work) (lines : Lines) (a : ActorId) (change : Change) (log : List Line)
+    → IsWork w → WorkTells p c w lines → next_of (length log) w ≡ next.Begin change → WorkTells p c (heard_by (heard_of.Begun (length log)) w) ((Begin a change, log) ∷ lines)
+
+-- the next line is about what the words of the command name, and keeps to them
+abbrev pub WorkAbout : Type 0
+WorkAbout =
+    (p : Plan) (c : Command) (w : Work) (lines : Lines) (a : ActorId) (told : Told) (line : Line) (log : List Line)
+    → IsWork w → WorkTells p c w lines → IsNextLine a (next_of (length log) w) told line → IsAbout p c line lines × KeepsTo p c line (length log) lines
+
+-- each post-op accuses exactly those that missed the operation, with the cause
+abbrev pub WorkBlames : Type 0
+WorkBlames = (p : Plan) (c : Command) (w : Work) (lines : Lines) (at : ℕ) → IsWork w → WorkTells p c w lines → BlamesNext p lines (next_of at w)
+
+-- so does the line itself, in the log
+abbrev pub BlamedLines : Type 0
+BlamedLines =
+    (p : Plan) (c : Command) (w : Work) (a : ActorId) (told : Told) (line : Line) (log : List Line)
+    → IsWork w → WorkTells p c w (work a.0 log) → IsNextLine a (next_of (length log) w) told line → Blames p line log
+
+-- the reply has its cause, one by views asked every brick, a failure was told by a brick, an undisturbed change is acknowledged, and nothing was skipped
+abbrev pub WorkEnds : Type 0
+WorkEnds =
+    (p : Plan) (c : Command) (w : Work) (lines : Lines) (at : ℕ) (said : Reply) → IsWork w → WorkTells p c w lines → next_of at w ≡ next.End said
+    → IsAnswered p c lines said × ((a : ActorId) → KeepsTo p c (End a said) at lines)

@@ -1,0 +1,25 @@
+-- What the lines of a client's present work show of it, and what its bricks may tell.
+use Rattle.std.specs.Prelude.{◌≡◌, ℕ, List}
+use Rattle.afr_lines.specs.Work.{Work as Lines}
+use Rattle.afr_lines.specs.declared.answer.Answer.{Answer}
+use Rattle.afr_lines.specs.declared.line.Line.{Line}
+use Rattle.afr_lines.specs.declared.request.Request.{Request}
+use Rattle.afr_plan.specs.declared.command.Command.{Command}
+use Rattle.afr_plan.specs.declared.plan.Plan.{Plan}
+use Rattle.afr_inode_telling.specs.Lines.{CanAnswer}
+use Rattle.afr_inode_telling.specs.ReadTelling.{ReadTells, command_of}
+use Rattle.afr_write_telling.specs.WriteTelling.{CanHear, WriteTells}
+use Rattle.afr_works.specs.declared.work.Work.{Work}
+use Rattle.afr_works.specs.declared.work.Work.TheVariants.{Idle, Lookup, Write}
+
+-- the lines of a work show where the machine of its command stands; a client that has no work has no command
+abbrev pub WorkTells : Plan → Command → Work → Lines → Type 0
+WorkTells p c Idle lines = ⊥
+WorkTells p c (Lookup m) lines = (c ≡ command_of m.job m.walk.path) × ReadTells p m lines
+WorkTells p c (Write m) lines = WriteTells p c m lines
+
+-- what a brick may answer to the next request
+abbrev pub WorkHears : Work → Plan → ℕ → Request → List Line → Answer → Type 0
+WorkHears Idle p b request log heard = ⊥
+WorkHears (Lookup m) p b request log heard = CanAnswer p b request log heard
+WorkHears (Write m) p b request log heard = CanHear m.stage p m.walk.object b request log heard

@@ -1,0 +1,161 @@
+//! Works of a client at the root, from their commands to their ends.
+use afr_base::{AllMarks, BrickId, Gfid, KeyId, Shape, ValueId, What};
+use afr_lines::{Answer, Good, Next, Reply, Request};
+use afr_object::{Change, List, Load, View};
+use afr_plan::Command;
+use afr_works::{Work, has_machine, work_for};
+use std::alloc::Global;
+
+const ROOT: Gfid = Gfid(1);
+
+fn seen() -> Answer {
+    Answer::Seen(View {
+        what: What::Dir,
+        len: 5,
+        marks: AllMarks::zero(),
+    })
+}
+
+fn on_three(alloc: Global, command: &Command) -> Option<Work> {
+    let shape = Shape {
+        n: 3,
+        arbiter: false,
+    };
+    if has_machine(command) {
+        work_for(alloc, shape, command).ok()
+    } else {
+        None
+    }
+}
+
+fn next_of(work: &Work) -> Option<Next> {
+    match work {
+        Work::Idle => None,
+        _ => work.next(9).ok(),
+    }
+}
+
+fn hears_one(work: &mut Work, answer: Answer) {
+    if !work.is_over() {
+        work.hear(answer, 3);
+    }
+}
+
+fn all_done(work: &mut Work) {
+    hears_one(work, Answer::Done);
+    hears_one(work, Answer::Done);
+    hears_one(work, Answer::Done);
+}
+
+fn all_seen(work: &mut Work) {
+    hears_one(work, seen());
+    hears_one(work, seen());
+    hears_one(work, seen());
+}
+
+fn all_granted(work: &mut Work) {
+    hears_one(work, Answer::Granted);
+    hears_one(work, Answer::Granted);
+    hears_one(work, Answer::Granted);
+}
+
+fn begins(work: &mut Work) {
+    if !work.is_over() {
+        work.begun(10);
+    }
+}
+
+fn carries_the_attribute(work: &Work) -> bool {
+    matches!(
+        work.load(),
+        Load::Change(Change::SetAttr { gfid: ROOT, .. })
+    )
+}
+
+#[test]
+fn a_client_is_idle_at_first(rt: HostRuntime) {
+    let work = Work::Idle;
+    assert!(rt; work.is_idle());
+    assert!(rt; work.is_over());
+}
+
+#[test]
+fn an_unlink_has_no_machine(rt: HostRuntime) {
+    let path = List::new(rt.alloc());
+    assert!(rt; !has_machine(&Command::Unlink { path }));
+}
+
+/// What a stat of the root asks first, and what it answers.
+fn stat_of_the_root(alloc: Global) -> Option<(Next, Next)> {
+    let path = List::new(alloc);
+    let mut work = on_three(alloc, &Command::Stat { path })?;
+    let first = next_of(&work)?;
+    all_seen(&mut work);
+    let last = next_of(&work)?;
+    Some((first, last))
+}
+
+#[test]
+fn a_stat_looks_and_ends(rt: HostRuntime) {
+    assert!(rt;
+        matches!(
+            stat_of_the_root(rt.alloc()),
+            Some((
+                Next::Ask(BrickId(0), Request::Look { gfid: ROOT }),
+                Next::End(Reply::Ok(Good::Stat { len: 5, .. }))
+            ))
+        )
+    );
+}
+
+/// An attribute of the root on its way to every brick.
+fn attribute_of_the_root(alloc: Global) -> Option<Work> {
+    let command = Command::SetAttr {
+        path: List::new(alloc),
+        key: KeyId(1),
+        value: ValueId(2),
+    };
+    on_three(alloc, &command)
+}
+
+/// Whether its operation carried it, and what it answers.
+fn carried_out(alloc: Global) -> Option<(bool, Next)> {
+    let mut work = attribute_of_the_root(alloc)?;
+    all_granted(&mut work);
+    all_seen(&mut work);
+    begins(&mut work);
+    all_done(&mut work);
+    let carried = carries_the_attribute(&work);
+    all_done(&mut work);
+    all_done(&mut work);
+    all_done(&mut work);
+    let next = next_of(&work)?;
+    Some((carried, next))
+}
+
+#[test]
+fn an_attribute_is_carried_to_every_brick(rt: HostRuntime) {
+    assert!(rt;
+        matches!(
+            carried_out(rt.alloc()),
+            Some((true, Next::End(Reply::Ok(Good::Done))))
+        )
+    );
+}
+
+fn bricks_of(work: &Work) -> u8 {
+    work.stays_sound();
+    match work {
+        Work::Idle => 0,
+        _ => work.register().shape.n,
+    }
+}
+
+#[test]
+fn the_register_is_of_the_volume(rt: HostRuntime) {
+    let bricks = match attribute_of_the_root(rt.alloc()) {
+        Some(work) => bricks_of(&work),
+        None => 0,
+    };
+    assert!(rt; bricks == 3);
+}
