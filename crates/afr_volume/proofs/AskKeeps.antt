@@ -1,19 +1,17 @@
 -- A request of an actor: the line is honest, lawful and the plan's, and the actor's work stands for it.
-use Rattle.std.proofs.Common.{◌≡◌, ◌≢◌, ◌∙◌, ℕ, zero, suc, ◌+◌, ◌-◌, ◌<◌, ◌≤◌, ◌==◌, ◌&&◌, Bool, true, false, not, List, [], ◌∷◌, refl, sym, ap, arith, subst, length, Some, None, slice_get, Option}
+use Rattle.std.proofs.Common.{◌≡◌, Bool, true, false, List, ◌∷◌, refl, sym, ap, subst, length, Some, None, Option}
 use Rattle.afr_base.specs.declared.ids.ActorId.{ActorId}
 use Rattle.afr_base.specs.declared.ids.BrickId.{BrickId}
 use Rattle.afr_discipline.specs.Notes.{noted_ask}
-use Rattle.afr_discipline.specs.Stands.{HasFive}
 use Rattle.afr_discipline.specs.declared.register.Register.{Register}
 use Rattle.afr_faults.specs.declared.fault.Fault.{Fault}
 use Rattle.afr_faults.specs.declared.fault.Fault.TheVariants.{Fail, Lost}
 use Rattle.afr_hears.specs.Hears.{IsHeard}
 use Rattle.afr_law.specs.Exactly.{IsLawfulExactly}
 use Rattle.afr_law.specs.ModelNext.{asking}
-use Rattle.afr_lines.specs.Places.{Place, Fresh, Within, next_place, opens, place_of}
+use Rattle.afr_lines.specs.Places.{Fresh, Within, next_place, place_of}
 use Rattle.afr_lines.specs.Told.{told_by}
-use Rattle.afr_lines.specs.Work.{Work as Lines, is_of, work}
-use Rattle.afr_lines.specs.declared.answer.Answer.{Answer}
+use Rattle.afr_lines.specs.Work.{Work as Lines, work}
 use Rattle.afr_lines.specs.declared.answer.Answer.TheVariants as answer_of
 use Rattle.afr_lines.specs.declared.answer.Told.{Told}
 use Rattle.afr_lines.specs.declared.answer.Told.TheVariants as told_of
@@ -43,7 +41,7 @@ use Rattle.afr_servers.specs.declared.epochs.Epochs.{Epochs}
 use Rattle.afr_transaction.specs.Turn.{Stood}
 use Rattle.afr_walk.specs.Free.{is_free}
 use Rattle.afr_transaction_tells.specs.Laws.{IsNextLine}
-use Rattle.afr_works.specs.Work.{CarriesNext, IsWork, heard_by, next_of, register_of}
+use Rattle.afr_works.specs.Work.{IsWork, heard_by, next_of, register_of}
 use Rattle.afr_works.specs.declared.work.Work.{Work}
 use Rattle.afr_works.specs.declared.work.Work.TheVariants.{Idle, Lookup, Write}
 use Rattle.afr_works_tell.specs.WorkTelling.{WorkHears, WorkTells}

@@ -1,17 +1,14 @@
 -- What is known of the log and of an actor's work before its next line.
-use Rattle.std.proofs.Common.{◌≡◌, ◌∙◌, ℕ, zero, suc, ◌+◌, ◌-◌, ◌<◌, ◌≤◌, ◌==◌, ◌^◌, Bool, true, false, not, List, [], ◌∷◌, refl, sym, ap, arith, subst, length, Some, slice_get}
+use Rattle.std.proofs.Common.{◌≡◌, ◌∙◌, ℕ, ◌<◌, ◌≤◌, Bool, true, false, not, List, refl, sym, ap, arith, subst, length, Some, slice_get}
 use Rattle.afr_base.specs.declared.ids.ActorId.{ActorId}
 use Rattle.afr_base.specs.declared.ids.BrickId.{BrickId}
 use Rattle.afr_faults.specs.Planned.{next_fault}
-use Rattle.afr_discipline.specs.Stands.{no_lines}
 use Rattle.afr_discipline.specs.declared.register.Register.{Register}
 use Rattle.afr_law.specs.Exactly.{IsLawfulExactly}
 use Rattle.afr_law.specs.ModelCovered as law
 use Rattle.afr_law.specs.ModelNext.{MayAskNext, asking}
 use Rattle.afr_law.specs.ModelNext as law_next
-use Rattle.afr_lines.specs.Log.{change_at}
-use Rattle.afr_lines.specs.Places.{Place, Fresh, Within, opens, place_of}
-use Rattle.afr_lines.specs.Work.{work}
+use Rattle.afr_lines.specs.Places.{Place, opens, place_of}
 use Rattle.afr_lines.specs.declared.line.Line.{Line}
 use Rattle.afr_lines.specs.declared.line.Next.TheVariants as next
 use Rattle.afr_lines.specs.declared.request.Request.{Request}
@@ -23,7 +20,6 @@ use Rattle.afr_model.specs.Tables.{held_before}
 use Rattle.afr_moves.specs.Covering.{HasItsLocks}
 use Rattle.afr_moves.specs.Ranges.{RequestInRange}
 use Rattle.afr_object.specs.declared.change.Load.{Load}
-use Rattle.afr_object.specs.declared.change.Load.TheVariants as load
 use Rattle.afr_plan.specs.declared.plan.Plan.{Plan}
 use Rattle.afr_next.specs.Ready.{IsReady}
 use Rattle.afr_server.specs.Carried.{Brings, CanLock}
@@ -38,7 +34,6 @@ use Rattle.afr_walk.specs.Free.{AllowsAsk}
 use Rattle.afr_works.specs.Work.{CarriesNext, next_of, register_of}
 use Rattle.afr_works.specs.declared.work.Work.{Work}
 use Rattle.afr_works.specs.declared.work.Work.TheVariants.{Idle, Lookup, Write}
-use Rattle.afr_works_tell.specs.WorkTelling.{WorkTells}
 use Rattle.afr_volume.specs.Acting.{CanAsk, has_live}
 use Rattle.afr_volume.specs.Keeping.{CanRun, CarriesOut, IsInSession, IsNoted}
 use Rattle.afr_volume.specs.declared.actor.Actor.{Actor}

@@ -1,16 +1,15 @@
 -- An event keeps what a volume keeps.
-use Rattle.std.proofs.Common.{◌≡◌, ◌∙◌, ℕ, zero, suc, ◌+◌, ◌-◌, ◌<◌, ◌≤◌, ◌==◌, ◌||◌, ◌⊎◌, Bool, true, false, List, [], ◌∷◌, ◌++◌, reverse, refl, sym, ap, arith, subst, length, Option, Some, None, slice_get, get_or, if◌then◌else◌, nat_lt, nat_le}
+use Rattle.std.proofs.Common.{◌≡◌, ◌∙◌, ℕ, ◌+◌, ◌<◌, ◌≤◌, ◌||◌, Bool, true, false, List, [], ◌∷◌, ◌++◌, reverse, refl, sym, ap, arith, subst, length, Option, Some, None, slice_get, get_or, if◌then◌else◌, nat_lt, nat_le}
 use Rattle.std.proofs.lemmas.Bool.Decides.{nat_tests}
 use Rattle.std.proofs.lemmas.Option.{slice_get-get_or, slice_get_within}
 use Rattle.afr_base.specs.Bricks.{IsWithin}
 use Rattle.afr_base.specs.SetLemmas.{within_added_if, within_below, within_removed_if}
-use Rattle.afr_base.specs.declared.ids.ActorId.{ActorId}
-use Rattle.afr_lines.specs.Work.{events_made, is_event, is_killed, kills}
+use Rattle.afr_lines.specs.Work.{events_made, is_event, kills}
 use Rattle.afr_lines.specs.declared.line.Event.{Event}
 use Rattle.afr_lines.specs.declared.line.Event.TheVariants.{Cut, Join, Kill, Start, Stop}
 use Rattle.afr_lines.specs.declared.line.Line.{Line}
 use Rattle.afr_lines.specs.declared.line.Line.TheVariants as line_of
-use Rattle.afr_model.specs.Following.{Follows, IsNextEvent}
+use Rattle.afr_model.specs.Following.{Follows}
 use Rattle.afr_model.specs.Report.{started_after, started_bricks}
 use Rattle.afr_model.specs.State.{State}
 use Rattle.afr_moves.specs.Ranges.{InRange}

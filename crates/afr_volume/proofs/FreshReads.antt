@@ -1,5 +1,5 @@
 -- Each read is fresh: it is one that its looks let, as its command's lines show.
-use Rattle.std.proofs.Common.{◌≡◌, ℕ, ◌≤◌, Bool, true, List, [], ◌∷◌, arith, Some}
+use Rattle.std.proofs.Common.{◌≡◌, ℕ, Bool, true, List, [], ◌∷◌, arith}
 use Rattle.std.proofs.lemmas.Bool.Decides.{nat_tests}
 use Rattle.std.specs.Prelude.{nat_le}
 use Rattle.afr_base.specs.declared.ids.ActorId.{ActorId}
@@ -8,7 +8,7 @@ use Rattle.afr_base.specs.declared.ids.Gfid.{Gfid}
 use Rattle.afr_base.specs.declared.ids.Kind.{Kind}
 use Rattle.afr_law.specs.ModelFresh.{IsFreshByLooks, IsLet, IsLetRead}
 use Rattle.afr_lines.specs.Log.{EachLine}
-use Rattle.afr_lines.specs.Work.{Work as Lines, ended, work}
+use Rattle.afr_lines.specs.Work.{Work as Lines, work}
 use Rattle.afr_lines.specs.declared.answer.Told.{Told}
 use Rattle.afr_lines.specs.declared.answer.Told.TheVariants.{Done, Failed, Given, Granted, Held, NoObject, NotConnected, Seen}
 use Rattle.afr_lines.specs.declared.line.Line.{Line}

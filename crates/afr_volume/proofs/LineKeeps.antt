@@ -1,12 +1,12 @@
 -- What one line of a client keeps, and what it leaves of the other actors.
-use Rattle.std.proofs.Common.{◌≡◌, ◌≢◌, ◌∙◌, ℕ, ◌+◌, ◌<◌, ◌≤◌, ◌==◌, Bool, true, false, List, [], ◌∷◌, refl, sym, ap, arith, subst, length, Some, slice_get}
+use Rattle.std.proofs.Common.{◌≡◌, ◌≢◌, ◌∙◌, ℕ, ◌≤◌, ◌==◌, Bool, true, false, List, ◌∷◌, refl, sym, arith, subst, Some, slice_get}
 use Rattle.std.proofs.lemmas.Bool.Decides.{nat_tests}
 use Rattle.afr_base.specs.declared.ids.ActorId.{ActorId}
 use Rattle.afr_base.specs.declared.ids.BrickId.{BrickId}
 use Rattle.afr_discipline.specs.declared.register.Register.{Register}
 use Rattle.afr_law.specs.Exactly.{IsLawfulExactly}
-use Rattle.afr_lines.specs.Places.{Place, next_place, place_of}
-use Rattle.afr_lines.specs.Work.{Work as Lines, ended, events_made, is_killed, is_of, work}
+use Rattle.afr_lines.specs.Places.{place_of}
+use Rattle.afr_lines.specs.Work.{ended, events_made, is_killed, is_of, work}
 use Rattle.afr_lines.specs.declared.answer.Told.{Told}
 use Rattle.afr_lines.specs.declared.line.Line.{Line}
 use Rattle.afr_lines.specs.declared.line.Line.TheVariants.{Ask, Begin, End}
@@ -29,7 +29,7 @@ use Rattle.afr_works.specs.Work.{register_of}
 use Rattle.afr_works.specs.declared.work.Work.{Work}
 use Rattle.afr_works.specs.declared.work.Work.TheVariants.{Idle, Lookup, Write}
 use Rattle.afr_works_tell.specs.WorkTelling.{WorkTells}
-use Rattle.afr_volume.specs.Keeping.{Carries, CarriesOut, IsActing, IsBetween, IsInSession, IsNoted}
+use Rattle.afr_volume.specs.Keeping.{Carries, CarriesOut, IsActing, IsInSession, IsNoted}
 use Rattle.afr_volume.specs.declared.actor.Actor.{Actor}
 
 -- ---- the lines that clients write

@@ -1,7 +1,6 @@
 -- What a volume keeps before its first line.
-use Rattle.std.proofs.Common.{◌≡◌, ◌∙◌, ℕ, zero, suc, ◌+◌, ◌-◌, ◌<◌, ◌≤◌, List, [], ◌∷◌, sym, ap, refl, arith, subst, length, Some, slice_get}
+use Rattle.std.proofs.Common.{◌≡◌, ℕ, ◌+◌, List, [], refl, arith, length}
 use Rattle.afr_lines.specs.declared.line.Line.{Line}
-use Rattle.afr_plan.specs.Runnable.{IsRunnable}
 use Rattle.afr_plan.specs.declared.plan.Plan.{Plan}
 use Rattle.afr_server.specs.Serving.{Serving}
 use Rattle.afr_servers.specs.NextLine.{NewAreServed}

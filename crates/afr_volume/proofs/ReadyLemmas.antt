@@ -1,5 +1,5 @@
 -- An actor that is made ready for its turn.
-use Rattle.std.proofs.Common.{◌≡◌, ◌∙◌, ℕ, zero, suc, ◌∷◌, ◌-◌, ◌<◌, Bool, true, false, List, [], sym, ap, refl, subst, length, Some, slice_get, set, get_or, inl, inr}
+use Rattle.std.proofs.Common.{◌≡◌, ◌∙◌, ℕ, zero, suc, ◌∷◌, ◌-◌, ◌<◌, true, false, List, [], sym, ap, refl, subst, length, Some, slice_get, set, get_or, inl, inr}
 use Rattle.std.proofs.lemmas.Option.{slice_get-get_or, get_or_from_slice_get}
 use Rattle.afr_plan.specs.declared.command.Command.{Command}
 use Rattle.afr_plan.specs.declared.command.Command.TheVariants as command
@@ -72,8 +72,12 @@ begins_next p a l seen counted x script c w small e g f idle own present has is 
   before = x;
   after = record { ended = x.ended; killed = x.killed; met = x.met; epochs = x.epochs; work = w };
   was = found_at l (a - 1) x small f;
-  readies = inr (subst (λ (y : Actor). y.work ≡ Idle) (same_at l (a - 1) seen x small e f) (idle_is seen.work idle), c,
-      subst (λ (commands : List Command). slice_get commands x.ended ≡ Some c) (sym (script_is p a script own)) (subst (λ (y : Actor). slice_get script y.ended ≡ Some c) (same_at l (a - 1) counted x small g f) present), ap (λ (w : Work). record { ended = x.ended; killed = x.killed; met = x.met; epochs = x.epochs; work = w }) is);
+  readies = inr (
+    subst (λ (y : Actor). y.work ≡ Idle) (same_at l (a - 1) seen x small e f) (idle_is seen.work idle),
+    c,
+    subst (λ (commands : List Command). slice_get commands x.ended ≡ Some c) (sym (script_is p a script own)) (subst (λ (y : Actor). slice_get script y.ended ≡ Some c) (same_at l (a - 1) counted x small g f) present),
+    ap (λ (w : Work). record { ended = x.ended; killed = x.killed; met = x.met; epochs = x.epochs; work = w }) is,
+  );
   busy = subst IsBusy (sym is) (busy_from p c has);
   sound = sound;
   set_is = refl;

@@ -1,12 +1,12 @@
 -- A plan that is run so far is one that the volume can run.
-use Rattle.std.proofs.Common.{◌≡◌, ◌∙◌, ◌⊎◌, ap, inl, inr, sym, None, Option, ℕ, zero, suc, ◌+◌, ◌-◌, ◌<◌, ◌≤◌, Bool, true, false, List, [], ◌∷◌, refl, arith, subst, length, Some, slice_get, get_or}
+use Rattle.std.proofs.Common.{◌≡◌, ◌∙◌, ◌⊎◌, ap, inl, inr, sym, None, Option, ℕ, ◌-◌, ◌<◌, ◌≤◌, true, List, [], refl, arith, subst, length, Some, slice_get, get_or}
 use Rattle.std.proofs.lemmas.List.Elements.{All-get_or}
 use Rattle.std.proofs.lemmas.Option.{get_or_from_slice_get, slice_get_cases, slice_get_within, unwrap_or-slice_get}
 use Rattle.std.specs.Option.{unwrap_or}
 use Rattle.std.specs.List.{All}
 use Rattle.afr_lines.specs.declared.line.Event.{Event}
 use Rattle.afr_lines.specs.declared.line.Event.TheVariants.{Cut, Join, Kill, Start, Stop}
-use Rattle.afr_model.specs.Actors.{Client, IsActor, script_of}
+use Rattle.afr_model.specs.Actors.{Client, script_of}
 use Rattle.afr_plan.specs.Runnable.{IsAboutVolume, IsOneOf, IsRunnable, IsRunnableScript, runs_yet}
 use Rattle.afr_plan.specs.declared.command.Command.{Command}
 use Rattle.afr_plan.specs.declared.command.Command.TheVariants as command

@@ -3,18 +3,16 @@ use Rattle.std.proofs.Common.{◌≡◌, ◌≢◌, ◌∙◌, ℕ, zero, suc, �
 use Rattle.std.proofs.lemmas.Bool.Decides.{eqb_tells}
 use Rattle.std.proofs.lemmas.Option.{slice_get_within}
 use Rattle.afr_base.specs.declared.ids.ActorId.{ActorId}
-use Rattle.afr_lines.specs.Places.{Fresh, place_of}
-use Rattle.afr_lines.specs.Work.{ended, events_made, is_killed, work}
+use Rattle.afr_lines.specs.Work.{ended, is_killed}
 use Rattle.afr_lines.specs.declared.line.Line.{Line}
 use Rattle.afr_lines.specs.declared.line.Next.{Next}
 use Rattle.afr_lines.specs.declared.line.Next.TheVariants as next
 use Rattle.afr_model.specs.Actors.{IsActor, script_of}
-use Rattle.afr_model.specs.Following.{IsTurnOf, NoneDue}
+use Rattle.afr_model.specs.Following.{NoneDue}
 use Rattle.afr_plan.specs.declared.command.Command.{Command}
 use Rattle.afr_plan.specs.declared.plan.Plan.{Plan}
 use Rattle.afr_server.specs.Serving.{Serving}
 use Rattle.afr_servers.specs.declared.epochs.Epochs.{Epochs}
-use Rattle.afr_transaction.specs.Turn.{Stood}
 use Rattle.afr_works.specs.Begin.{has_machine, work_from}
 use Rattle.afr_works.specs.Work.{IsBusy, IsWork, next_of}
 use Rattle.afr_works.specs.declared.work.Work.{Work}

@@ -1,5 +1,5 @@
 -- A Begin or End line of an actor: it is lawful and the plan's, and the actor's work stands for it.
-use Rattle.std.proofs.Common.{◌≡◌, ◌≢◌, ◌∙◌, ℕ, ◌+◌, ◌-◌, ◌<◌, ◌≤◌, ◌==◌, Bool, true, false, List, [], ◌∷◌, refl, sym, ap, subst, length, Some, slice_get}
+use Rattle.std.proofs.Common.{◌≡◌, ℕ, ◌+◌, ◌==◌, Bool, true, false, List, ◌∷◌, refl, sym, ap, subst, length}
 use Rattle.afr_base.specs.declared.ids.ActorId.{ActorId}
 use Rattle.afr_discipline.specs.Notes.{noted_begin}
 use Rattle.afr_inode_read.specs.Lookup as reading
@@ -8,7 +8,6 @@ use Rattle.afr_inode_read.specs.declared.stage.LookupStage.{LookupStage}
 use Rattle.afr_inode_read.specs.declared.stage.LookupStage.TheVariants.{Ending, Looking, Reading, Walking}
 use Rattle.afr_lines.specs.Places.{Fresh, Within, next_place, place_of}
 use Rattle.afr_lines.specs.Work.{is_of, work}
-use Rattle.afr_lines.specs.declared.answer.Told.{Told}
 use Rattle.afr_lines.specs.declared.answer.Told.TheVariants as told_of
 use Rattle.afr_lines.specs.declared.line.Heard.TheVariants as heard_of
 use Rattle.afr_lines.specs.declared.line.Line.{Line}
@@ -21,7 +20,6 @@ use Rattle.afr_model.specs.Following.{KeepsTo, ToCommand}
 use Rattle.afr_moves.specs.Ranges.{InRange}
 use Rattle.afr_object.specs.declared.change.Change.{Change}
 use Rattle.afr_object.specs.declared.change.Change.TheVariants as change_of
-use Rattle.afr_plan.specs.declared.command.Command.{Command}
 use Rattle.afr_plan.specs.declared.plan.Plan.{Plan}
 use Rattle.afr_hears.specs.Hears.{MakesNothing}
 use Rattle.afr_next.specs.Begun.{HasNewGfid}

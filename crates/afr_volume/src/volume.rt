@@ -27,7 +27,10 @@ use crate::set_up::all_actors;
 use crate::turned::Turned;
 use crate::turns::{add_line, answer_of, kill, ready_actor, step_actor, turned_by};
 use afr_base::{ActorId, BrickSet, NoMemory, Shape};
-use afr_law::{accusations_have_causes, lawful_is_safe, lawful_lines_fit, nothing_diverges_unrecorded, reads_are_fresh};
+use afr_law::{
+    accusations_have_causes, lawful_is_safe, lawful_lines_fit, nothing_diverges_unrecorded,
+    reads_are_fresh,
+};
 use afr_lines::{Event, Line};
 use afr_object::List;
 use afr_plan::{Plan, Words};

@@ -1,4 +1,3 @@
-use Rattle.std.proofs.Common.{refl}
 use Rattle.afr_volume.proofs.actor.ask.Goals as goal
 
 pub ask-requires-clause-can : goal.ask-requires-clause-can

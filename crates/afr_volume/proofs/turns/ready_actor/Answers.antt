@@ -1,4 +1,4 @@
-use Rattle.std.proofs.Common.{◌≡◌, ◌∙◌, ap, false, sym, true}
+use Rattle.std.proofs.Common.{◌∙◌, sym}
 use Rattle.afr_volume.proofs.ReadyLemmas.{begins_next, found_at, script_is, still_busy}
 use Rattle.afr_volume.proofs.turns.ready_actor.Goals as goal
 

@@ -1,4 +1,4 @@
-use Rattle.std.proofs.Common.{◌<◌, ℕ, reverse, true}
+use Rattle.std.proofs.Common.{reverse}
 use Rattle.afr_volume.proofs.EventKeeps.{started_within}
 use Rattle.afr_volume.proofs.volume.Volume.servers.Goals as goal
 

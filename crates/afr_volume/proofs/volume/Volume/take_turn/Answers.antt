@@ -1,8 +1,6 @@
-use Rattle.std.proofs.Common.{◌≡◌, ◌<◌, ◌∙◌, arith, false, length, reverse, sym}
-use Rattle.std.proofs.lemmas.List.{length-reverse}
+use Rattle.std.proofs.Common.{◌∙◌, arith, sym}
 use Rattle.std.proofs.lemmas.Bool.Decides.{nat_tests}
-use Rattle.afr_model.specs.Actors.{IsActor}
-use Rattle.afr_volume.proofs.WholeTurn.{Took, busy, ready_volume, steps, took, turned}
+use Rattle.afr_volume.proofs.WholeTurn.{busy, ready_volume, steps, took, turned}
 use Rattle.afr_volume.proofs.volume.Volume.take_turn.Goals as goal
 
 pub step_actor-requires-clause-busy : goal.step_actor-requires-clause-busy
@@ -31,9 +29,9 @@ invariant_of-self-2 c =
 pub returns-clause-ok : goal.returns-clause-ok
 returns-clause-ok c =
     let t =
-        took c.laws.ensures.turns c.laws.ensures.begins c.self.inside.plan c.args.a c.self.inside.log.items c.self.inside.actors.items c.ready_actor.new.actors.items c.self.inside.servers c.self.inside.made c.self.invariant (rw (← c.self.view_is) at c.requires.actor)
-        (grind (arith, nat_tests, c.if-len-self.false, c.len.ensures)) c.in_ok-ready_actor.ensures.ok c.len-position.result c.add_line.new.log.items c.step_actor.new.actors.items c.step_actor.new.servers c.in_ok-line.line
-        (rw (← c.self.view_is) at (sym c.is_done.ensures ∙ c.if-is_done.false)) (rw (← c.self.view_is) at c.requires.none) (c.len-position.ensures ∙ c.in_ok-try_reserve.ensures.len ∙ grind (arith, nat_tests, c.len.ensures)) c.in_ok-line.ensures.ok
-        (rw (← c.in_ok-try_reserve.ensures.items) c.add_line.ensures) in
+    took c.laws.ensures.turns c.laws.ensures.begins c.self.inside.plan c.args.a c.self.inside.log.items c.self.inside.actors.items c.ready_actor.new.actors.items c.self.inside.servers c.self.inside.made c.self.invariant (rw (← c.self.view_is) at c.requires.actor)
+    (grind (arith, nat_tests, c.if-len-self.false, c.len.ensures)) c.in_ok-ready_actor.ensures.ok c.len-position.result c.add_line.new.log.items c.step_actor.new.actors.items c.step_actor.new.servers c.in_ok-line.line
+    (rw (← c.self.view_is) at (sym c.is_done.ensures ∙ c.if-is_done.false)) (rw (← c.self.view_is) at c.requires.none) (c.len-position.ensures ∙ c.in_ok-try_reserve.ensures.len ∙ grind (arith, nat_tests, c.len.ensures)) c.in_ok-line.ensures.ok
+    (rw (← c.in_ok-try_reserve.ensures.items) c.add_line.ensures) in
     rw (← c.self.view_is)
     (turned c.self.inside.plan c.args.a c.self.inside.log.items c.add_line.new.log.items c.in_ok-line.line c.turned_by-waits.result c.answer_of.result t.own t.log (sym c.turned_by-waits.ensures) c.answer_of.ensures.some c.answer_of.ensures.none)
