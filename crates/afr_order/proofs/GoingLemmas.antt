@@ -1,5 +1,5 @@
 -- Turns after turns, and what one turn does to the log.
-use Rattle.std.proofs.Common.{◌≡◌, ℕ, ◌≤◌, Bool, true, false, Option, Some, None, List, [], ◌∷◌, ◌++◌, length, refl, sym, ◌∙◌, ap, arith, append_assoc}
+use Rattle.std.proofs.Common.{◌≡◌, ℕ, zero, suc, ◌≤◌, Bool, true, false, Option, Some, None, List, [], ◌∷◌, ◌++◌, length, replicate, refl, sym, ◌∙◌, ap, arith, append_assoc}
 use Rattle.std.proofs.lemmas.List.{append-nil}
 use Rattle.afr_base.specs.declared.ids.ActorId.{ActorId}
 use Rattle.afr_lines.specs.declared.line.Line.{Line}
@@ -29,6 +29,11 @@ pub takes_then : (a b c : State) (xs ys : List ℕ) → Goes a b → Takes a.pla
 takes_then a b c xs ys g f s =
     let k : Takes a.plan ys b.log c.log = rw g.plan at s in
     record { written = λ before w. rw (← append_assoc before xs ys) (k.written (before ++ xs) (f.written before w)) }
+
+-- an actor that is done is passed over, as often as its turn comes
+pub takes_passes : (p : Plan) (log : List Line) (a n : ℕ) → is_done p a log ≡ true → Takes p (replicate n a) log log
+takes_passes p log a zero d = takes_none p log
+takes_passes p log a (suc n) d = record { written = λ before w. rw (append_assoc before (a ∷ []) (replicate n a)) at ((takes_passes p log a n d).written (before ++ a ∷ []) (PassesOver before log a w d)) }
 
 pub front_of : (p : Plan) (old new : List Line) (xs ys : List ℕ) → Takes p xs old new → TakesFront p (xs ++ ys) old new
 front_of p old new xs ys t = record { front = xs; later = ys; whole = refl; taken = t }

@@ -1,5 +1,5 @@
 -- The turns of orders and of rows of actors, one after the other.
-use Rattle.std.proofs.Common.{◌≡◌, ℕ, zero, suc, ◌+◌, Some, List, [], ◌∷◌, ◌++◌, refl, sym, ◌∙◌, ap, arith, append_assoc, add-one, add-zero, zero-add, suc-add, ◌≤◌, ◌-◌, replicate, take, drop}
+use Rattle.std.proofs.Common.{◌≡◌, ℕ, zero, suc, ◌+◌, Some, List, [], ◌∷◌, ◌++◌, refl, sym, ◌∙◌, ap, arith, append_assoc, add-one, add-zero, zero-add, suc-add, ◌≤◌, ◌-◌, true, length, replicate, take, drop}
 use Rattle.std.specs.Prelude.{slice_get}
 use Rattle.std.specs.List.{range_with_len}
 use Rattle.std.proofs.lemmas.List.{append-nil, replicate-append-replicate, take-append-drop}
@@ -9,8 +9,9 @@ use Rattle.afr_plan.specs.declared.schedule.Go.{Go}
 use Rattle.afr_model.specs.Ordered.{IsOrdered, actors_of, ordered_turns, passes}
 use Rattle.afr_model.specs.Ordered.Writes.{Nothing}
 use Rattle.afr_model.specs.State.{State}
+use Rattle.afr_model.specs.Actors.{is_done}
 use Rattle.afr_order.specs.Going.{Goes, Takes, TakesFront}
-use Rattle.afr_order.proofs.GoingLemmas.{front_more, front_then, takes_then}
+use Rattle.afr_order.proofs.GoingLemmas.{front_more, front_then, takes_then, takes_passes}
 
 pub range_suc : (a n j : ℕ) → a + n ≡ j → range_with_len a (suc n) ≡ range_with_len a n ++ j ∷ []
 range_suc a zero j e = let f : a ≡ j = omega (arith, e) in ap (λ (x : ℕ). x ∷ []) f
@@ -52,6 +53,14 @@ pub front_of_replicate : (p : Plan) (old new : List Line) (a i n : ℕ) → i �
 front_of_replicate p old new a i n h t =
     let e : replicate i a ++ replicate (n - i) a ≡ replicate n a = replicate-append-replicate i (n - i) a ∙ ap (λ x. replicate x a) (omega (arith, h)) in
     rw e at (front_more p old new (replicate i a) (replicate (n - i) a) t)
+
+-- where some of an actor's turns are taken and it is done, all of them are
+pub takes_rest : (a b c : State) (x i n : ℕ) → Goes a b → Takes a.plan (replicate i x) a.log b.log → Goes b c → length c.log ≤ length b.log → is_done c.plan x c.log ≡ true → i ≤ n → Takes a.plan (replicate n x) a.log c.log
+takes_rest a b c x i n g t f l done within =
+    let same : c ≡ b = f.same l in
+    let d : is_done b.plan x b.log ≡ true = rw same at done in
+    let e : replicate i x ++ replicate (n - i) x ≡ replicate n x = replicate-append-replicate i (n - i) x ∙ ap (λ k. replicate k x) (omega (arith, within)) in
+    rw same (rw e at (takes_then a b b (replicate i x) (replicate (n - i) x) g t (takes_passes b.plan b.log x (n - i) d)))
 
 pub ordered_of : (p : Plan) (old log : List Line) (rounds : ℕ) → old ≡ [] → TakesFront p (ordered_turns p.go ++ passes rounds (actors_of p)) old log → IsOrdered p log
 ordered_of p old log rounds e t = record { turns = t.front; later = t.later; rounds = rounds; stated = t.whole; written = t.taken.written [] (rw e Nothing) }

@@ -43,7 +43,8 @@ pub(crate) fn take_turn(volume: &mut Volume, a: ActorId) -> Result<bool, NoMemor
     Ok(goes_on(turned))
 }
 
-/// So many turns of one actor. It answers whether the log had room.
+/// So many turns of one actor, which end early where it is done: each that is left would be passed
+/// over. It answers whether the log had room.
 pub(crate) fn take_turns(volume: &mut Volume, a: ActorId, count: u32) -> Result<bool, NoMemory>
     requires actor { IsActor volume.old.plan a.0 }
     ensures goes { Goes volume.old volume.new }
@@ -51,8 +52,12 @@ pub(crate) fn take_turns(volume: &mut Volume, a: ActorId, count: u32) -> Result<
     ensures ok { IfOk result (λ on. Ends (replicate count a.0) volume.old on volume.new) }
 {
     for _taken in 0..count {
+        let before = volume.len();
         if !take_turn(volume, a)? {
             return Ok(false);
+        }
+        if volume.len() == before {
+            return Ok(true);
         }
     }
     Ok(true)

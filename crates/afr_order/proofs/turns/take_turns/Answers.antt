@@ -1,7 +1,7 @@
-use Rattle.std.proofs.Common.{[], ◌∷◌, ◌+◌, ◌≡◌, true, arith, replicate}
+use Rattle.std.proofs.Common.{[], ◌∷◌, ◌+◌, ◌≡◌, ◌≤◌, true, Ok, length, ap, arith, replicate}
 use Rattle.std.proofs.lemmas.Grind.{common_steps}
-use Rattle.afr_order.proofs.GoingLemmas.{goes_then, takes_then, front_then, ends_true}
-use Rattle.afr_order.proofs.OrderLemmas.{replicate_more, front_of_replicate}
+use Rattle.afr_order.proofs.GoingLemmas.{goes_then, takes_then, front_then, front_whole, ends_true}
+use Rattle.afr_order.proofs.OrderLemmas.{replicate_more, front_of_replicate, takes_rest}
 use Rattle.afr_order.proofs.turns.take_turns.Goals as goal
 
 pub take_turn-requires : goal.take_turn-requires
@@ -16,6 +16,16 @@ pub returns-then-not-branch-clause-front : goal.returns-then-not-branch-clause-f
 returns-then-not-branch-clause-front c =
     front_of_replicate c.args.volume.now.plan c.args.volume.now.log c.take_turn.new.volume.log c.args.a.0 (c.loop-taken._taken + 1) c.args.count (omega arith)
     (rw replicate_more (front_then c.args.volume.now c.loop-taken.volume c.take_turn.new.volume (replicate c.loop-taken._taken c.args.a.0) (c.args.a.0 ∷ []) c.loop-taken.invariant.goes c.loop-taken.invariant.taken c.take_turn.ensures.front))
+
+-- the turn added no line, so the actor is done, and all further turns are passed over
+pub returns-then-len-before-clause-ok : goal.returns-then-len-before-clause-ok
+returns-then-len-before-clause-ok c =
+    let on : c.in_ok-take_turn.field-0 ≡ true = grind (arith, common_steps) in
+    let same : length c.take_turn.new.volume.log ≤ length c.loop-taken.volume.log = grind (arith, common_steps) in
+    takes_rest c.args.volume.now c.loop-taken.volume c.take_turn.new.volume c.args.a.0 c.loop-taken._taken c.args.count c.loop-taken.invariant.goes c.loop-taken.invariant.taken c.take_turn.ensures.goes same (c.in_ok-take_turn.ensures.done (ap Ok on) same) (omega arith)
+
+pub returns-then-len-before-clause-front : goal.returns-then-len-before-clause-front
+returns-then-len-before-clause-front c = front_whole c.args.volume.now.plan c.args.volume.now.log c.take_turn.new.volume.log (replicate c.args.count c.args.a.0) (returns-then-len-before-clause-ok c)
 
 pub loop-taken-preserved : goal.loop-taken-preserved
 loop-taken-preserved c =
