@@ -23,8 +23,8 @@ use afr_volume::Volume;
 
 /// Runs the plan that the volume was set up with, until every actor is done or the log is full.
 /// First come the orders of the plan, then passes over all actors in rising order: clients, then
-/// healers. Before each turn, and at the end, all due events come. It takes one turn for each line,
-/// and each pass asks each actor once more.
+/// healers. Before each turn, and at the end, all due events come. It takes one turn for each line;
+/// an order asks its actor at most once more, and a pass each actor.
 pub fn drive(volume: &mut Volume) -> Result<(), NoMemory>
     requires fresh { volume.old.log ≡ [] }
     ensures plan { volume.new.plan ≡ volume.old.plan }
