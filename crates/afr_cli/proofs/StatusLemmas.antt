@@ -1,5 +1,6 @@
 -- What a fault, a refusal and the want of a plan give.
-use Rattle.std.proofs.Common.{◌≡◌, Bool, true, false, IsTrue, ◌≤◌, ◌⊎◌, ℕ, List, [], Option, Some, Global, length, refl, inl, inr}
+use Rattle.std.proofs.Common.{◌≡◌, ◌≢◌, ◌∙◌, sym, Bool, true, false, IsTrue, ◌≤◌, ◌⊎◌, ℕ, List, [], Option, Some, Global, length, refl, inl, inr}
+use Rattle.std.proofs.lemmas.Bool.{cases_eq}
 use Rattle.std.specs.Prelude.{String}
 use Rattle.std.specs.Io.KnownBytes.{Appends, Consumes, IsAtEnd}
 use Rattle.afr_text.specs.Parts.{AppendsFront, CameMore}
@@ -10,9 +11,10 @@ use Rattle.afr_plan.specs.Runnable.{IsRunnable}
 use Rattle.afr_plan.specs.Spells.{Spells}
 use Rattle.afr_model.specs.State.{State, no_volume}
 use Rattle.afr_model.specs.Ordered.{IsOrdered, Writes}
-use Rattle.afr_model.specs.ReportHealers.{report_of}
 use Rattle.afr_model.specs.Complete.{IsComplete}
-use Rattle.afr_cli.specs.Statuses.{AreRun, IsOver, IsText, IsRefused, IsRefusal, IsSpelled, StopsWriting, refusal_line, usage_line}
+use Rattle.afr_cli.specs.Forms.{AreForm, AskFor, text_of}
+use Rattle.afr_cli.specs.declared.words.Form.{Form}
+use Rattle.afr_cli.specs.Statuses.{IsOver, IsText, IsRefused, IsRefusal, IsSpelled, Reports, StopsWriting, refusal_line, usage_line}
 
 -- before a plan was handed in nothing was written, in any order
 pub nothing_ordered : (v : State) → v ≡ no_volume → IsOrdered v.plan v.log
@@ -23,17 +25,33 @@ pub untold : (b : Bool) (P : Type 0) → (P → IsTrue b) → b ≡ false → P 
 untold true P t e h = absurd (cc)
 untold false P t e h = let wrong : false ≡ true = t h in absurd (cc)
 
+-- a text that was written with its status s has no other but 5
+pub other_status : (r s n : ℕ) (A : Type 0) → (r ≢ 5 → (r ≡ s) × A) → (n ≡ 5 → ⊥) → (n ≡ s → ⊥) → r ≡ n → ⊥
+other_status r s n A whole not_5 not_s e = not_s (sym e ∙ (whole (λ five. not_5 (sym e ∙ five))).0)
+
+-- and has s or 5
+pub its_status : (r s : ℕ) (A : Type 0) → (r ≢ 5 → (r ≡ s) × A) → (r ≡ s) ⊎ (r ≡ 5)
+its_status r s A whole = elim (cases_eq r 5) [
+  | inl five ↦ inr five
+  | inr other ↦ inl (whole other).0
+]
+
 module _ {S : Type 0} (words : List (String Global)) (left : S → Option (List ℕ)) (source source' : S) (taken taken' : Option (List ℕ)) (now : State) where
-  pub stops_at_usage : (AreRun words → ⊥) → source' ≡ source → now ≡ no_volume → AppendsFront taken taken' usage_line → StopsWriting words left source source' taken taken' now
+  pub stops_at_usage : (AreForm words → ⊥) → source' ≡ source → now ≡ no_volume → AppendsFront taken taken' usage_line → StopsWriting words left source source' taken taken' now
   stops_at_usage other same none front = record { text = usage_line; known = IsText.Usage other same none; front = front }
 
-  pub stops_at_refusal : (fault : PlanFault) → AreRun words → IsRefused (left source) (left source') fault → now ≡ no_volume
+  pub stops_at_refusal : (fault : PlanFault) → AreForm words → IsRefused (left source) (left source') fault → now ≡ no_volume
       → AppendsFront taken taken' (refusal_line fault) → StopsWriting words left source source' taken taken' now
   stops_at_refusal fault run cause none front = record { text = refusal_line fault; known = IsText.Refusal run fault cause none; front = front }
 
-  pub stops_at_report : AreRun words → IsSpelled (left source) (left source') now.plan → IsComplete now.plan now.log → IsOver now.plan now.log
-      → AppendsFront taken taken' (report_of now.plan now.log) → StopsWriting words left source source' taken taken' now
-  stops_at_report run spelled complete over front = record { text = report_of now.plan now.log; known = IsText.Report run spelled complete over; front = front }
+  pub stops_at_text : (form : Form) → AskFor words form → IsSpelled (left source) (left source') now.plan → IsComplete now.plan now.log → IsOver now.plan now.log
+      → AppendsFront taken taken' (text_of form now.plan now.log) → StopsWriting words left source source' taken taken' now
+  stops_at_text form asked spelled complete over front = record { text = text_of form now.plan now.log; known = IsText.Report form asked spelled complete over; front = front }
+
+-- a form's text was written of the plan that was spelled
+pub reports : (words : List (String Global)) (form : Form) (left left' taken taken' : Option (List ℕ)) (now : State)
+    → AskFor words form → IsSpelled left left' now.plan → Appends taken taken' (text_of form now.plan now.log) → Reports words left left' taken taken' now
+reports words form left left' taken taken' now asked spelled text = record { form = form; asked = asked; spelled = spelled; text = text }
 
 module _ (left left' : Option (List ℕ)) (fault : PlanFault) where
   pub is_faulty : (bytes seen : List ℕ) → seen ≡ bytes → Consumes left left' bytes → IsAtEnd left' → length bytes ≤ 16777216

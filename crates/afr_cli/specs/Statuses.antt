@@ -13,11 +13,8 @@ use Rattle.afr_plan.specs.Spells.{Spells}
 use Rattle.afr_model.specs.State.{State, no_volume}
 use Rattle.afr_model.specs.Actors.{IsActor, is_done}
 use Rattle.afr_model.specs.Complete.{IsComplete}
-use Rattle.afr_model.specs.ReportHealers.{report_of}
-
--- the words are the command `run`, and no more
-abbrev pub AreRun : List (String Global) → Type 0
-AreRun words = map string_bytes words ≡ codes "run" ∷ []
+use Rattle.afr_cli.specs.Forms.{AreForm, AskFor, text_of}
+use Rattle.afr_cli.specs.declared.words.Form.{Form}
 
 -- the line that tells how the program is called
 abbrev pub usage_line : List ℕ
@@ -55,10 +52,12 @@ pub record IsSpelled (left now : Option (List ℕ)) (plan : Plan) : Type 0 where
   pub spells : Spells bytes plan
   pub runnable : IsRunnable plan
 
--- what the source gave spells the plan, and the sink took the report, to its end
-pub record Reports (left left' taken taken' : Option (List ℕ)) (now : State) : Type 0 where
+-- the words ask for a form, what the source gave spells the plan, and the sink took the form's text, to its end
+pub record Reports (words : List (String Global)) (left left' taken taken' : Option (List ℕ)) (now : State) : Type 0 where
+  pub form : Form
+  pub asked : AskFor words form
   pub spelled : IsSpelled left left' now.plan
-  pub report : Appends taken taken' (report_of now.plan now.log)
+  pub text : Appends taken taken' (text_of form now.plan now.log)
 
 -- each actor was killed or has ended all its works
 abbrev pub AreDone : Plan → List Line → Type 0
@@ -103,14 +102,14 @@ pub record IsRefusal (left left' taken taken' : Option (List ℕ)) : Type 0 wher
   pub cause : IsRefused left left' fault
   pub line : Appends taken taken' (refusal_line fault)
 
--- a text of the program, and why it was to be written: the usage, a refusal, or the report of a run that is over
+-- a text of the program, and why it was to be written: the usage, a refusal, or the form's text of a run that is over
 pub data IsText {S : Type 0} (words : List (String Global)) (left : S → Option (List ℕ)) (source source' : S) (now : State) : List ℕ → Type 0 where
-  Usage : (AreRun words → ⊥) → source' ≡ source → now ≡ no_volume
+  Usage : (AreForm words → ⊥) → source' ≡ source → now ≡ no_volume
       → IsText words left source source' now usage_line
-  Refusal : AreRun words → (fault : PlanFault) → IsRefused (left source) (left source') fault → now ≡ no_volume
+  Refusal : AreForm words → (fault : PlanFault) → IsRefused (left source) (left source') fault → now ≡ no_volume
       → IsText words left source source' now (refusal_line fault)
-  Report : AreRun words → IsSpelled (left source) (left source') now.plan → IsComplete now.plan now.log → IsOver now.plan now.log
-      → IsText words left source source' now (report_of now.plan now.log)
+  Report : (form : Form) → AskFor words form → IsSpelled (left source) (left source') now.plan → IsComplete now.plan now.log → IsOver now.plan now.log
+      → IsText words left source source' now (text_of form now.plan now.log)
 
 -- the sink took a front of the text that was to be written
 pub record StopsWriting {S : Type 0} (words : List (String Global)) (left : S → Option (List ℕ)) (source source' : S) (taken taken' : Option (List ℕ)) (now : State) : Type 0 where
@@ -118,9 +117,9 @@ pub record StopsWriting {S : Type 0} (words : List (String Global)) (left : S �
   pub known : IsText words left source source' now text
   pub front : AppendsFront taken taken' text
 
--- the words are `run`, the source tells these bytes, and no read of it failed
+-- the words ask for a form, the source tells these bytes, and no read of it failed
 pub record AreGiven (words : List (String Global)) (left : Option (List ℕ)) (faults faults' : ℕ) (bytes : List ℕ) : Type 0 where
-  pub run : AreRun words
+  pub asked : AreForm words
   pub told : left ≡ Some bytes
   pub sound : Rose faults faults' → ⊥
 

@@ -19,21 +19,22 @@ ghost use Rattle.afr_plan.specs.declared.plan.Plan.{Plan};
 ghost use Rattle.afr_plan.specs.declared.plan.PlanFault.{PlanFault};
 ghost use Rattle.afr_plan.specs.Runnable.{IsRunnable};
 ghost use Rattle.afr_plan.specs.Spells.{Spells};
-ghost use Rattle.afr_cli.specs.Statuses.{AreRun, AreDone, HasFault, AreGiven, IsFull, IsRefusal, IsSpelled, IsWorkLeft, Reports, StopsWriting, refusal_line, usage_line};
+ghost use Rattle.afr_cli.specs.Forms.{AreForm, AskFor, text_of};
+ghost use Rattle.afr_cli.specs.Statuses.{AreDone, HasFault, AreGiven, IsFull, IsRefusal, IsSpelled, IsWorkLeft, Reports, StopsWriting, refusal_line, usage_line};
 
 use crate::messages::{answer, refuse};
 use crate::reading::{Unread, read_runnable};
 use crate::running::run_plan;
 use crate::status::Status;
-use crate::words::is_run;
+use crate::words::{Form, form_of};
 use afr_text::{Sink, Source};
 use afr_volume::Volume;
 use std::alloc::Global;
 
 /// Serves the words, and answers the status. It ends with 2 where the words are no form that it
 /// serves, 3 where the plan is refused, 4 where the source failed, 5 where the sink failed, 6 where
-/// memory was wanting, and with 7 where the log was full before all work was done; the report of a
-/// full log is written too.
+/// memory was wanting, and with 7 where the log was full before all work was done; the text of the
+/// form is written of a full log too.
 #[tactic(auto, using(crate::proofs::StatusLemmas::nothing_ordered, crate::proofs::StatusLemmas::stops_at_usage))]
 pub fn afr_top<S: Source, K: Sink>(
     alloc: Global,
@@ -44,14 +45,14 @@ pub fn afr_top<S: Source, K: Sink>(
 ) -> u8
     requires fresh { volume.old ≡ no_volume }
 
-    // A plan was run, and its report is written.
-    ensures ok { result ≡ 0 → Reports (S.left source.old) (S.left source.new) (K.taken sink.old) (K.taken sink.new) volume.new
+    // A plan was run, and the text of the form is written.
+    ensures ok { result ≡ 0 → Reports words.now (S.left source.old) (S.left source.new) (K.taken sink.old) (K.taken sink.new) volume.new
         × IsComplete volume.new.plan volume.new.log × AreDone volume.new.plan volume.new.log }
-    ensures unfinished { result ≡ 7 → Reports (S.left source.old) (S.left source.new) (K.taken sink.old) (K.taken sink.new) volume.new
+    ensures unfinished { result ≡ 7 → Reports words.now (S.left source.old) (S.left source.new) (K.taken sink.old) (K.taken sink.new) volume.new
         × IsFull volume.new.plan volume.new.log × IsWorkLeft volume.new.plan volume.new.log }
 
     // No plan was run.
-    ensures usage { result ≡ 2 → (AreRun words.now → ⊥) × Appends (K.taken sink.old) (K.taken sink.new) usage_line × (source.new ≡ source.old) × (volume.new ≡ no_volume) }
+    ensures usage { result ≡ 2 → (AreForm words.now → ⊥) × Appends (K.taken sink.old) (K.taken sink.new) usage_line × (source.new ≡ source.old) × (volume.new ≡ no_volume) }
     ensures refused { result ≡ 3 → IsRefusal (S.left source.old) (S.left source.new) (K.taken sink.old) (K.taken sink.new) × (volume.new ≡ no_volume) }
     ensures read { result ≡ 4 → Rose (S.faults source.old) (S.faults source.new) × (sink.new ≡ sink.old) × (volume.new ≡ no_volume) }
 
@@ -60,7 +61,7 @@ pub fn afr_top<S: Source, K: Sink>(
         × StopsWriting words.now S.left source.old source.new (K.taken sink.old) (K.taken sink.new) volume.new }
     ensures memory { result ≡ 6 → sink.new ≡ sink.old }
 
-    // The words are `run`, the source tells its bytes, and no read failed.
+    // The words ask for a form, the source tells its bytes, and no read failed.
     ensures faulty { (bytes : List ℕ) (fault : PlanFault) → AreGiven words.now (S.left source.old) (S.faults source.old) (S.faults source.new) bytes
         → HasFault bytes fault
         → ((result ≡ 3) × Appends (K.taken sink.old) (K.taken sink.new) (refusal_line fault)) ⊎ (result ≡ 5) ⊎ (result ≡ 6) }
@@ -70,7 +71,7 @@ pub fn afr_top<S: Source, K: Sink>(
 
     // At every status.
     ensures plan { (volume.new ≡ no_volume) ⊎ IsSpelled (S.left source.old) (S.left source.new) volume.new.plan }
-    ensures others { (AreRun words.now → ⊥) → (result ≡ 2) ⊎ (result ≡ 5) }
+    ensures others { (AreForm words.now → ⊥) → (result ≡ 2) ⊎ (result ≡ 5) }
     ensures few { (result ≡ 0) ⊎ (result ≡ 2) ⊎ (result ≡ 3) ⊎ (result ≡ 4) ⊎ (result ≡ 5) ⊎ (result ≡ 6) ⊎ (result ≡ 7) }
     ensures follows { Follows volume.new.plan volume.new.log }
     ensures ordered { IsOrdered volume.new.plan volume.new.log }
@@ -83,43 +84,43 @@ pub fn afr_top<S: Source, K: Sink>(
     ensures causes { EveryPrefix (HaveCauses volume.new.plan) volume.new.log }
     ensures alike { EveryPrefix (AreAlike volume.new.plan) volume.new.log }
 {
-    let status = if is_run(words) {
-        read_and_run(alloc, source, sink, volume)
-    } else {
-        answer(
+    let status = match form_of(words) {
+        Some(form) => read_and_run(alloc, form, source, sink, volume),
+        None => answer(
             sink,
             b"usage: afr run | trace | info | gen N | live\n",
             Status::Usage as u8,
-        )
+        ),
     };
     volume.every_line();
     status
 }
 
-/// Reads a plan from the source, and runs it.
+/// Reads a plan from the source, and runs it; then the form's text is written.
 #[tactic(auto, using(crate::proofs::StatusLemmas::nothing_ordered))]
 fn read_and_run<S: Source, K: Sink>(
     alloc: Global,
+    form: Form,
     source: &mut S,
     sink: &mut K,
     volume: &mut Volume,
 ) -> u8
     requires fresh { volume.old ≡ no_volume }
-    ensures ok { result ≡ 0 → Reports (S.left source.old) (S.left source.new) (K.taken sink.old) (K.taken sink.new) volume.new
+    ensures ok { result ≡ 0 → IsSpelled (S.left source.old) (S.left source.new) volume.new.plan × Appends (K.taken sink.old) (K.taken sink.new) (text_of form volume.new.plan volume.new.log)
         × IsComplete volume.new.plan volume.new.log × AreDone volume.new.plan volume.new.log }
-    ensures unfinished { result ≡ 7 → Reports (S.left source.old) (S.left source.new) (K.taken sink.old) (K.taken sink.new) volume.new
+    ensures unfinished { result ≡ 7 → IsSpelled (S.left source.old) (S.left source.new) volume.new.plan × Appends (K.taken sink.old) (K.taken sink.new) (text_of form volume.new.plan volume.new.log)
         × IsFull volume.new.plan volume.new.log × IsWorkLeft volume.new.plan volume.new.log }
     ensures refused { result ≡ 3 → IsRefusal (S.left source.old) (S.left source.new) (K.taken sink.old) (K.taken sink.new) × (volume.new ≡ no_volume) }
     ensures read { result ≡ 4 → Rose (S.faults source.old) (S.faults source.new) × (sink.new ≡ sink.old) × (volume.new ≡ no_volume) }
     ensures write { result ≡ 5 → Rose (K.faults sink.old) (K.faults sink.new)
-        × ((words : List (String Global)) → AreRun words → StopsWriting words S.left source.old source.new (K.taken sink.old) (K.taken sink.new) volume.new) }
+        × ((words : List (String Global)) → AskFor words form → StopsWriting words S.left source.old source.new (K.taken sink.old) (K.taken sink.new) volume.new) }
     ensures memory { result ≡ 6 → sink.new ≡ sink.old }
     ensures plan { (volume.new ≡ no_volume) ⊎ IsSpelled (S.left source.old) (S.left source.new) volume.new.plan }
     ensures few { (result ≡ 0) ⊎ (result ≡ 3) ⊎ (result ≡ 4) ⊎ (result ≡ 5) ⊎ (result ≡ 6) ⊎ (result ≡ 7) }
     ensures ordered { IsOrdered volume.new.plan volume.new.log }
 {
     match read_runnable(alloc, source) {
-        Ok(plan) => run_plan(alloc, plan, sink, volume),
+        Ok(plan) => run_plan(alloc, form, plan, sink, volume),
         Err(Unread::Refused(fault)) => refuse(alloc, sink, fault),
         Err(Unread::ReadFault) => Status::ReadFault as u8,
         Err(Unread::NoMemory) => Status::NoMemory as u8,

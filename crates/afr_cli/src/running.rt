@@ -1,5 +1,5 @@
-//! A plan from its start to its report.
-ghost use Rattle.std.specs.Prelude.{◌≡◌, ◌≢◌, ◌⊎◌, ◌≤◌, length, true, false};
+//! A plan from its start to what is written of it.
+ghost use Rattle.std.specs.Prelude.{◌≡◌, ◌≢◌, ◌⊎◌, ◌≤◌, IfOk, length, string_bytes, true, false};
 ghost use Rattle.std.specs.Io.KnownBytes.{Appends};
 ghost use Rattle.afr_text.specs.Causes.{Rose};
 ghost use Rattle.afr_text.specs.Parts.{AppendsFront};
@@ -7,22 +7,30 @@ ghost use Rattle.afr_plan.specs.Runnable.{IsRunnable};
 ghost use Rattle.afr_model.specs.State.{no_volume};
 ghost use Rattle.afr_model.specs.Complete.{IsComplete};
 ghost use Rattle.afr_model.specs.Ordered.{IsOrdered};
-ghost use Rattle.afr_model.specs.ReportHealers.{report_of};
+ghost use Rattle.afr_cli.specs.Forms.{text_of};
 ghost use Rattle.afr_cli.specs.Statuses.{AreDone, IsFull, IsOver, IsWorkLeft};
 
 use crate::finished::all_done;
 use crate::messages::answer;
 use crate::status::Status;
+use crate::words::Form;
+use afr_base::NoMemory;
 use afr_order::drive;
 use afr_plan::Plan;
-use afr_report::report_text;
+use afr_report::{info_text, report_text, trace_text};
 use afr_text::Sink;
 use afr_volume::Volume;
 use std::alloc::Global;
 
-/// Runs a plan and writes its report, also where the log got full in the middle of the work.
+/// Runs a plan and writes the text of the form, also where the log got full in the middle of the work.
 #[tactic(auto, using(crate::proofs::StatusLemmas::nothing_ordered))]
-pub fn run_plan<K: Sink>(alloc: Global, plan: Plan, sink: &mut K, volume: &mut Volume) -> u8
+pub fn run_plan<K: Sink>(
+    alloc: Global,
+    form: Form,
+    plan: Plan,
+    sink: &mut K,
+    volume: &mut Volume,
+) -> u8
     requires runnable { IsRunnable plan }
     requires fresh { volume.old ≡ no_volume }
     ensures few { (result ≡ 0) ⊎ (result ≡ 5) ⊎ (result ≡ 6) ⊎ (result ≡ 7) }
@@ -30,10 +38,10 @@ pub fn run_plan<K: Sink>(alloc: Global, plan: Plan, sink: &mut K, volume: &mut V
     ensures ran { result ≢ 6 → volume.new.plan ≡ plan }
     ensures ordered { IsOrdered volume.new.plan volume.new.log }
     ensures ok { result ≡ 0 → IsComplete volume.new.plan volume.new.log × AreDone volume.new.plan volume.new.log }
-    ensures unfinished { result ≡ 7 → Appends (K.taken sink.old) (K.taken sink.new) (report_of volume.new.plan volume.new.log)
+    ensures unfinished { result ≡ 7 → Appends (K.taken sink.old) (K.taken sink.new) (text_of form volume.new.plan volume.new.log)
         × IsFull volume.new.plan volume.new.log × IsWorkLeft volume.new.plan volume.new.log }
-    ensures report { result ≡ 0 → Appends (K.taken sink.old) (K.taken sink.new) (report_of volume.new.plan volume.new.log) }
-    ensures write { result ≡ 5 → Rose (K.faults sink.old) (K.faults sink.new) × AppendsFront (K.taken sink.old) (K.taken sink.new) (report_of volume.new.plan volume.new.log)
+    ensures text { result ≡ 0 → Appends (K.taken sink.old) (K.taken sink.new) (text_of form volume.new.plan volume.new.log) }
+    ensures write { result ≡ 5 → Rose (K.faults sink.old) (K.faults sink.new) × AppendsFront (K.taken sink.old) (K.taken sink.new) (text_of form volume.new.plan volume.new.log)
         × IsComplete volume.new.plan volume.new.log × IsOver volume.new.plan volume.new.log }
     ensures memory { result ≡ 6 → sink.new ≡ sink.old }
 {
@@ -44,13 +52,24 @@ pub fn run_plan<K: Sink>(alloc: Global, plan: Plan, sink: &mut K, volume: &mut V
         return Status::NoMemory as u8;
     }
     let status = status_after(volume);
-    match report_text(alloc, volume) {
+    match text_of(alloc, form, volume) {
         Ok(text) => answer(sink, text.as_bytes(), status),
         Err(_) => Status::NoMemory as u8,
     }
 }
 
-/// The status of a run that is over, where its report is written to its end.
+/// The text that the form writes of the volume as it stands.
+fn text_of(alloc: Global, form: Form, volume: &Volume) -> Result<String, NoMemory>
+    ensures ok { IfOk result (λ text. string_bytes text ≡ text_of form volume.now.plan volume.now.log) }
+{
+    match form {
+        Form::Run => report_text(alloc, volume),
+        Form::Trace => trace_text(alloc, volume),
+        Form::Info => info_text(alloc, volume),
+    }
+}
+
+/// The status of a run that is over, where its text is written to its end.
 fn status_after(volume: &Volume) -> u8
     requires few { length volume.now.plan.healers ≤ 16 }
     requires complete { IsComplete volume.now.plan volume.now.log }

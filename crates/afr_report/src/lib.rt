@@ -1,4 +1,5 @@
-//! The report of a run, as text: the volume, its clients and healers with what they got, and what needs heal.
+//! The report of a run, as text: the volume, its clients and healers with what they got, and what needs heal;
+//! and what else is written of a volume.
 #![tactic(auto)]
 
 mod clients;
@@ -11,5 +12,5 @@ mod progress;
 mod report;
 
 pub use events::started;
-pub use of_volume::{info_text, report_text};
+pub use of_volume::{info_text, report_text, trace_text};
 pub use report::print_report;

@@ -1,10 +1,12 @@
-//! The report of a volume, and what needs heal in it.
+//! The report of a volume, what needs heal in it, and its trace.
 ghost use Rattle.std.specs.Prelude.{◌≡◌, IfOk, string_bytes};
 ghost use Rattle.afr_model.specs.ReportHealers.{info_of, report_of};
+ghost use Rattle.afr_trace.specs.Lines.{trace_of};
 
 use crate::report::print_report;
 use afr_base::NoMemory;
 use afr_info::print_info;
+use afr_trace::print_trace;
 use afr_volume::Volume;
 use std::alloc::Global;
 
@@ -30,4 +32,11 @@ pub fn info_text(alloc: Global, volume: &Volume) -> Result<String, NoMemory>
     let mut out = String::new(alloc);
     print_info(&mut out, volume.plan(), volume.servers(), volume.reach())?;
     Ok(out)
+}
+
+/// The trace of the volume's log as it stands: a text line for each of its lines.
+pub fn trace_text(alloc: Global, volume: &Volume) -> Result<String, NoMemory>
+    ensures ok { IfOk result (λ text. string_bytes text ≡ trace_of volume.now.plan volume.now.log) }
+{
+    print_trace(alloc, volume.plan(), volume.lines())
 }

@@ -1,0 +1,13 @@
+use Rattle.std.proofs.Common.{◌≡◌, IfOk, List, string_bytes, subst}
+use Rattle.afr_lines.specs.declared.line.Line.{Line}
+use Rattle.afr_plan.specs.declared.plan.Plan.{Plan}
+use Rattle.afr_trace.specs.Lines.{trace_of}
+use Rattle.afr_report.proofs.of_volume.trace_text.Goals as goal
+
+pub returns : goal.returns
+returns c = record {
+  ok =
+      subst (λ (p : Plan). IfOk c.print_trace.result (λ text. string_bytes text ≡ trace_of p c.args.volume.now.log)) c.plan.ensures
+      (subst (λ (log : List Line). IfOk c.print_trace.result (λ text. string_bytes text ≡ trace_of c.plan.result.now log)) c.lines.ensures
+      c.print_trace.ensures.ok);
+}
