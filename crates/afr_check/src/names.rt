@@ -52,7 +52,7 @@ fn of_name(
     requires named { is_on_name command.now ≡ true }
     ensures ok { IfOk result (λ reply. reply ≡ or_else (by_area plan.now.shape Kind.Names (area_on dir.gfid command.now) (work a.0 (reverse log.now))) (by_name plan.now command.now dir (path_by plan.now (work a.0 (reverse log.now))) (work a.0 (reverse log.now)))) }
 {
-    let refused = by_area(plan, Kind::Names, area_on(dir.gfid, command), log, a)?;
+    let refused = by_area(alloc, plan, Kind::Names, area_on(dir.gfid, command), log, a)?;
     if let Some(reply) = refused {
         return Ok(Some(reply));
     }
@@ -213,7 +213,7 @@ fn within_child(
     ensures ok { IfOk result (λ reply. reply ≡ or_else (by_views plan.now.shape Kind.Names (looked_by child.gfid (work a.0 (reverse log.now)))) (by_list (reading_by plan.now (work a.0 (reverse log.now))))) }
 {
     let looked = looked_by(log, a, child.gfid)?;
-    if let Some(reply) = by_views(plan.shape, Kind::Names, &looked) {
+    if let Some(reply) = by_views(alloc, plan.shape, Kind::Names, &looked)? {
         return Ok(Some(reply));
     }
     let reading = reading_by(alloc, plan, log, a)?;

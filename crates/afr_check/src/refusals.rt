@@ -77,7 +77,7 @@ fn by_path(
         Path::Untold => Ok(Some(Reply::Failed)),
         Path::At(read, object) => {
             if read < steps_of(command) {
-                on_way(plan, object, log, a)
+                on_way(alloc, plan, object, log, a)
             } else {
                 at_end(alloc, plan, command, object, log, a)
             }
@@ -86,12 +86,18 @@ fn by_path(
 }
 
 /// An object before the path's end: a file, or a directory without a good copy.
-fn on_way(plan: &Plan, object: Entry, log: &[Line], a: ActorId) -> Result<Option<Reply>, Unfit>
+fn on_way(
+    alloc: Global,
+    plan: &Plan,
+    object: Entry,
+    log: &[Line],
+    a: ActorId,
+) -> Result<Option<Reply>, Unfit>
     requires few { plan.now.shape.n ≤ 5 }
     ensures ok { IfOk result (λ reply. reply ≡ on_way plan.now.shape object (work a.0 (reverse log.now))) }
 {
     match object.what {
-        What::Dir => by_last_looks(plan, Kind::Names, object.gfid, log, a),
+        What::Dir => by_last_looks(alloc, plan, Kind::Names, object.gfid, log, a),
         What::File => Ok(Some(Reply::NotDir)),
     }
 }
@@ -111,12 +117,13 @@ fn at_end(
     if is_on_name(command) {
         in_directory(alloc, plan, command, object, log, a)
     } else {
-        at_object(plan, command, object, log, a)
+        at_object(alloc, plan, command, object, log, a)
     }
 }
 
 /// A lookup or a change of the object that the path has led to.
 fn at_object(
+    alloc: Global,
     plan: &Plan,
     command: &Command,
     object: Entry,
@@ -128,17 +135,25 @@ fn at_object(
 {
     let area = area_on(object.gfid, command);
     match command {
-        Command::Write { .. } => to_file(plan, object, area, log, a),
-        Command::Cut { .. } => to_file(plan, object, area, log, a),
-        Command::SetAttr { .. } => by_area(plan, Kind::Attrs, area, log, a),
-        Command::Read { .. } => of_file(plan, object, log, a),
-        Command::Ls { .. } => of_directory(plan, object, log, a),
-        _ => by_last_looks(plan, kind_looked(command, object.what), object.gfid, log, a),
+        Command::Write { .. } => to_file(alloc, plan, object, area, log, a),
+        Command::Cut { .. } => to_file(alloc, plan, object, area, log, a),
+        Command::SetAttr { .. } => by_area(alloc, plan, Kind::Attrs, area, log, a),
+        Command::Read { .. } => of_file(alloc, plan, object, log, a),
+        Command::Ls { .. } => of_directory(alloc, plan, object, log, a),
+        _ => by_last_looks(
+            alloc,
+            plan,
+            kind_looked(command, object.what),
+            object.gfid,
+            log,
+            a,
+        ),
     }
 }
 
 /// A change of bytes.
 fn to_file(
+    alloc: Global,
     plan: &Plan,
     object: Entry,
     area: Option<Area>,
@@ -150,22 +165,29 @@ fn to_file(
 {
     match object.what {
         What::Dir => Ok(Some(Reply::IsDir)),
-        What::File => by_area(plan, Kind::Bytes, area, log, a),
+        What::File => by_area(alloc, plan, Kind::Bytes, area, log, a),
     }
 }
 
 /// A read of bytes.
-fn of_file(plan: &Plan, object: Entry, log: &[Line], a: ActorId) -> Result<Option<Reply>, Unfit>
+fn of_file(
+    alloc: Global,
+    plan: &Plan,
+    object: Entry,
+    log: &[Line],
+    a: ActorId,
+) -> Result<Option<Reply>, Unfit>
     requires few { plan.now.shape.n ≤ 5 }
     ensures ok { IfOk result (λ reply. reply ≡ if is_dir object.what then Some Reply.IsDir else by_looks plan.now.shape Kind.Bytes (looked_by object.gfid (work a.0 (reverse log.now)))) }
 {
     match object.what {
         What::Dir => Ok(Some(Reply::IsDir)),
-        What::File => by_last_looks(plan, Kind::Bytes, object.gfid, log, a),
+        What::File => by_last_looks(alloc, plan, Kind::Bytes, object.gfid, log, a),
     }
 }
 
 fn of_directory(
+    alloc: Global,
     plan: &Plan,
     object: Entry,
     log: &[Line],
@@ -176,6 +198,6 @@ fn of_directory(
 {
     match object.what {
         What::File => Ok(Some(Reply::NotDir)),
-        What::Dir => by_last_looks(plan, Kind::Names, object.gfid, log, a),
+        What::Dir => by_last_looks(alloc, plan, Kind::Names, object.gfid, log, a),
     }
 }

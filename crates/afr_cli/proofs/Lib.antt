@@ -2,4 +2,3 @@
 pub mod ActorLemmas
 pub mod StatusLemmas
 pub mod ToldLemmas
-pub mod WordLemmas

@@ -1,6 +1,5 @@
 -- What a fault, a refusal and the want of a plan give.
 use Rattle.std.proofs.Common.{◌≡◌, ◌≢◌, ◌∙◌, sym, Bool, true, false, IsTrue, ◌≤◌, ◌⊎◌, ℕ, List, [], Option, Some, Global, length, refl, inl, inr}
-use Rattle.std.proofs.lemmas.Bool.{cases_eq}
 use Rattle.std.specs.Prelude.{String}
 use Rattle.std.specs.Io.KnownBytes.{Appends, Consumes, IsAtEnd}
 use Rattle.afr_text.specs.Parts.{AppendsFront, CameMore}
@@ -12,8 +11,9 @@ use Rattle.afr_plan.specs.Spells.{Spells}
 use Rattle.afr_model.specs.State.{State, no_volume}
 use Rattle.afr_model.specs.Ordered.{IsOrdered, Writes}
 use Rattle.afr_model.specs.Complete.{IsComplete}
-use Rattle.afr_cli.specs.Forms.{AreForm, AskFor, text_of}
-use Rattle.afr_cli.specs.declared.words.Form.{Form}
+use Rattle.afr_words.specs.Forms.{AreForm, AskFor}
+use Rattle.afr_words.specs.declared.form.Form.{Form}
+use Rattle.afr_cli.specs.Forms.{text_of}
 use Rattle.afr_cli.specs.Statuses.{IsOver, IsText, IsRefused, IsRefusal, IsSpelled, Reports, StopsWriting, refusal_line, usage_line}
 
 -- before a plan was handed in nothing was written, in any order
@@ -28,13 +28,6 @@ untold false P t e h = let wrong : false ≡ true = t h in absurd (cc)
 -- a text that was written with its status s has no other but 5
 pub other_status : (r s n : ℕ) (A : Type 0) → (r ≢ 5 → (r ≡ s) × A) → (n ≡ 5 → ⊥) → (n ≡ s → ⊥) → r ≡ n → ⊥
 other_status r s n A whole not_5 not_s e = not_s (sym e ∙ (whole (λ five. not_5 (sym e ∙ five))).0)
-
--- and has s or 5
-pub its_status : (r s : ℕ) (A : Type 0) → (r ≢ 5 → (r ≡ s) × A) → (r ≡ s) ⊎ (r ≡ 5)
-its_status r s A whole = elim (cases_eq r 5) [
-  | inl five ↦ inr five
-  | inr other ↦ inl (whole other).0
-]
 
 module _ {S : Type 0} (words : List (String Global)) (left : S → Option (List ℕ)) (source source' : S) (taken taken' : Option (List ℕ)) (now : State) where
   pub stops_at_usage : (AreForm words → ⊥) → source' ≡ source → now ≡ no_volume → AppendsFront taken taken' usage_line → StopsWriting words left source source' taken taken' now

@@ -1,5 +1,5 @@
 -- What each status of the program says.
-use Rattle.std.specs.Prelude.{◌≡◌, ◌<◌, ◌≤◌, ◌⊎◌, ℕ, true, false, List, [], ◌∷◌, ◌++◌, ◌==◌, if◌then◌else◌, Option, Some, String, codes, decimal, length, map, string_bytes}
+use Rattle.std.specs.Prelude.{◌≡◌, ◌<◌, ◌≤◌, ◌⊎◌, ℕ, true, false, List, ◌++◌, ◌==◌, if◌then◌else◌, Option, Some, String, codes, decimal, length}
 use Rattle.std.specs.Global.{Global}
 use Rattle.std.specs.Io.KnownBytes.{Appends, Consumes, IsAtEnd}
 use Rattle.afr_text.specs.Causes.{Rose}
@@ -13,8 +13,9 @@ use Rattle.afr_plan.specs.Spells.{Spells}
 use Rattle.afr_model.specs.State.{State, no_volume}
 use Rattle.afr_model.specs.Actors.{IsActor, is_done}
 use Rattle.afr_model.specs.Complete.{IsComplete}
-use Rattle.afr_cli.specs.Forms.{AreForm, AskFor, text_of}
-use Rattle.afr_cli.specs.declared.words.Form.{Form}
+use Rattle.afr_words.specs.Forms.{AreForm, AskFor}
+use Rattle.afr_words.specs.declared.form.Form.{Form}
+use Rattle.afr_cli.specs.Forms.{text_of}
 
 -- the line that tells how the program is called
 abbrev pub usage_line : List ℕ

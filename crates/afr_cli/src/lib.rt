@@ -7,6 +7,5 @@ mod program;
 mod reading;
 mod running;
 mod status;
-mod words;
 
 pub use program::afr_top;

@@ -19,16 +19,17 @@ ghost use Rattle.afr_plan.specs.declared.plan.Plan.{Plan};
 ghost use Rattle.afr_plan.specs.declared.plan.PlanFault.{PlanFault};
 ghost use Rattle.afr_plan.specs.Runnable.{IsRunnable};
 ghost use Rattle.afr_plan.specs.Spells.{Spells};
-ghost use Rattle.afr_cli.specs.Forms.{AreForm, AskFor, text_of};
+ghost use Rattle.afr_words.specs.Forms.{AreForm, AreRefused, AskFor};
+ghost use Rattle.afr_cli.specs.Forms.{text_of};
 ghost use Rattle.afr_cli.specs.Statuses.{AreDone, HasFault, AreGiven, IsFull, IsRefusal, IsSpelled, IsWorkLeft, Reports, StopsWriting, refusal_line, usage_line};
 
 use crate::messages::{answer, refuse};
 use crate::reading::{Unread, read_runnable};
 use crate::running::run_plan;
 use crate::status::Status;
-use crate::words::{Form, form_of};
 use afr_text::{Sink, Source};
 use afr_volume::Volume;
+use afr_words::{Form, form_of};
 use std::alloc::Global;
 
 /// Serves the words, and answers the status. It ends with 2 where the words are no form that it
@@ -71,7 +72,8 @@ pub fn afr_top<S: Source, K: Sink>(
 
     // At every status.
     ensures plan { (volume.new ≡ no_volume) ⊎ IsSpelled (S.left source.old) (S.left source.new) volume.new.plan }
-    ensures others { (AreForm words.now → ⊥) → (result ≡ 2) ⊎ (result ≡ 5) }
+    ensures others { (AreForm words.now → ⊥) → (result ≡ 2) ⊎ (result ≡ 5) ⊎ (result ≡ 6) }
+    ensures bare { AreRefused words.now → (result ≡ 2) ⊎ (result ≡ 5) }
     ensures few { (result ≡ 0) ⊎ (result ≡ 2) ⊎ (result ≡ 3) ⊎ (result ≡ 4) ⊎ (result ≡ 5) ⊎ (result ≡ 6) ⊎ (result ≡ 7) }
     ensures follows { Follows volume.new.plan volume.new.log }
     ensures ordered { IsOrdered volume.new.plan volume.new.log }
@@ -84,13 +86,14 @@ pub fn afr_top<S: Source, K: Sink>(
     ensures causes { EveryPrefix (HaveCauses volume.new.plan) volume.new.log }
     ensures alike { EveryPrefix (AreAlike volume.new.plan) volume.new.log }
 {
-    let status = match form_of(words) {
-        Some(form) => read_and_run(alloc, form, source, sink, volume),
-        None => answer(
+    let status = match form_of(alloc, words) {
+        Ok(Some(form)) => read_and_run(alloc, form, source, sink, volume),
+        Ok(None) => answer(
             sink,
             b"usage: afr run | trace | info | gen N | live\n",
             Status::Usage as u8,
         ),
+        Err(_) => Status::NoMemory as u8,
     };
     volume.every_line();
     status

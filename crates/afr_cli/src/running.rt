@@ -13,13 +13,13 @@ ghost use Rattle.afr_cli.specs.Statuses.{AreDone, IsFull, IsOver, IsWorkLeft};
 use crate::finished::all_done;
 use crate::messages::answer;
 use crate::status::Status;
-use crate::words::Form;
 use afr_base::NoMemory;
 use afr_order::drive;
 use afr_plan::Plan;
 use afr_report::{info_text, report_text, trace_text};
 use afr_text::Sink;
 use afr_volume::Volume;
+use afr_words::Form;
 use std::alloc::Global;
 
 /// Runs a plan and writes the text of the form, also where the log got full in the middle of the work.

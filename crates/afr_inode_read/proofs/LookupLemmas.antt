@@ -1,5 +1,5 @@
 -- A read has somebody left to ask, the discipline allows what it asks, and its register notes it.
-use Rattle.std.proofs.Common.{◌≡◌, ℕ, ◌<◌, ◌==◌, Bool, true, false, [], refl, ap, ◌∙◌, if◌then◌else◌}
+use Rattle.std.proofs.Common.{subst, sym, ◌≡◌, ℕ, ◌<◌, ◌==◌, Bool, true, false, [], refl, ap, ◌∙◌, if◌then◌else◌}
 use Rattle.afr_base.specs.Bricks.{lowest, is_nothing, IsWithin}
 use Rattle.afr_base.specs.declared.ids.BrickId.{BrickId}
 use Rattle.afr_base.specs.declared.ids.Gfid.{Gfid}
@@ -20,7 +20,7 @@ use Rattle.afr_lines.specs.declared.reply.Reply.TheVariants.{Ok as OkReply, IsDi
 use Rattle.afr_lines.specs.declared.request.Request.{Request}
 use Rattle.afr_walk.specs.Free.{Allows, is_free}
 use Rattle.afr_walk.specs.Looks.{no_look, left_to_look, heard_look}
-use Rattle.afr_walk.specs.Walk.{next_in, noted, walked, IsWalk}
+use Rattle.afr_walk.specs.Walk.{is_walking, next_in, noted, walked, IsWalk}
 use Rattle.afr_walk.specs.declared.looks.Looks.{Looks}
 use Rattle.afr_walk.specs.declared.walk.Walk.{Walk}
 use Rattle.afr_walk.specs.declared.walk.WalkStep.{WalkStep}
@@ -60,6 +60,13 @@ is_after_walk job w k = record { sound = k; ready = go w.step }
     go (walking.Naming b) = refl
     go walking.Arrived = is_at_object w.shape.n walking.Arrived job w.object.what k.some
     go (walking.Stopped why) = tt
+
+-- while the walk goes on, the read waits
+pub waits : (step : WalkStep) (job : LookupJob) (w : Walk) → is_walking step ≡ true → after_step step job w ≡ Walking
+waits (walking.Looking s) job w h = refl
+waits (walking.Naming b) job w h = refl
+waits walking.Arrived job w h = absurd (cc h)
+waits (walking.Stopped why) job w h = absurd (cc h)
 
 is_from_copy : (n : ℕ) (step : WalkStep) (job : LookupJob) (object : Entry) (looked : Looked) (b : BrickId) → b.0 < n → IsStage n step (from_copy job object looked b)
 is_from_copy n step (Read at len) object looked b l = go (len == 0)
@@ -145,6 +152,20 @@ look_kept w s a at k = record { sound = is_noted (asked_at (Looking s) w) (told_
 -- after the look it has somebody left to ask
 pub looked_kept : (w : Walk) (s : Looks) (a : Answer) (job : LookupJob) → IsLookup w (Looking s) → IsLookup w (stage_after (Looking s) a job w)
 looked_kept w s a job k = record { sound = k.sound; ready = is_object_looked w.shape w.step job w.object (heard_look w.shape.n (told_by a) s) (heard_within w.shape.n (told_by a) s k.ready) }
+
+-- while a brick is left to look at, the read goes on looking
+pub looks_on : (w : Walk) (s t : Looks) (told : Told) → IsLookup w (Looking s) → t ≡ heard_look w.shape.n told s → is_nothing (left_to_look w.shape.n t) ≡ false → IsLookup w (Looking t)
+looks_on w s t told k e more = record {
+  sound = k.sound;
+  ready = record { left = more; reached = subst (λ (x : Looks). IsWithin w.shape.n x.looked.reached) (sym e) (heard_within w.shape.n told s k.ready) };
+}
+
+-- when all were asked, the verdict comes
+pub looks_end : (w : Walk) (s t : Looks) (told : Told) (job : LookupJob) (stage : LookupStage) → IsLookup w (Looking s) → t ≡ heard_look w.shape.n told s → stage ≡ object_looked w.shape job w.object t → IsLookup w stage
+looks_end w s t told job stage k e of = record {
+  sound = k.sound;
+  ready = subst (λ (x : LookupStage). IsStage w.shape.n w.step x) (sym of) (is_object_looked w.shape w.step job w.object t (subst (λ (x : Looks). IsWithin w.shape.n x.looked.reached) (sym e) (heard_within w.shape.n told s k.ready)));
+}
 
 pub read_kept : (w : Walk) (b : BrickId) (of : Content) (a : Answer) (at : ℕ) (job : LookupJob) → IsLookup w (Reading b of) → IsLookup (walk_after (Reading b of) a at w) (stage_after (Reading b of) a job w)
 read_kept w b of a at job k = record { sound = is_noted (asked_at (Reading b of) w) (told_by a) at w k.sound (free_request w.object.gfid of); ready = tt }

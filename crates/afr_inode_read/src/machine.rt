@@ -7,12 +7,11 @@ use crate::job::{LookupJob, request_of};
 use crate::stage::{LookupStage, left_by, stage_heard};
 use afr_base::{NameId, NoMemory, Shape};
 use afr_discipline::Register;
-use afr_lines::{Answer, Heard, Next, Reply, Request};
-use afr_object::{Load, TryCopy};
+use afr_lines::{Answer, Heard, KeptReply, Next, Request};
+use afr_object::Load;
 use afr_walk::Walk;
 use std::alloc::Global;
 use std::marker::Model;
-use std::mem;
 
 /// A command that reads an object.
 #[derive(Drop)]
@@ -126,7 +125,7 @@ impl LookupMachine {
                 *brick,
                 request_of(self.walk.object.gfid, *content),
             )),
-            LookupStage::Ending(reply) => ending(reply),
+            LookupStage::Ending(reply) => ending(self.alloc, reply),
         }
     }
 
@@ -142,14 +141,20 @@ impl LookupMachine {
         requires { is_asking self.old.stage ≡ true }
         ensures { self.new ≡ answered answer at self.old }
     {
-        let stage = mem::replace(&mut self.stage, LookupStage::Walking);
-        self.stage = stage_heard(self.alloc, &mut self.walk, self.job, stage, answer, at);
+        stage_heard(
+            self.alloc,
+            &mut self.walk,
+            self.job,
+            &mut self.stage,
+            answer,
+            at,
+        );
     }
 }
 
-fn ending(reply: &Reply) -> Result<Next, NoMemory>
+fn ending(alloc: Global, reply: &KeptReply) -> Result<Next, NoMemory>
     ensures { IfOk result (λ next. next ≡ Next.End reply.now) }
 {
-    let reply = reply.copy()?;
+    let reply = reply.to_reply(alloc)?;
     Ok(Next::End(reply))
 }

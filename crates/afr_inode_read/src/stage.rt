@@ -1,13 +1,14 @@
 //! The stages of a read, and what an answer makes of each.
-ghost use Rattle.std.specs.Prelude.{◌≡◌, ◌<◌, ◌≤◌, [], false, true};
+ghost use Rattle.std.specs.Prelude.{◌≡◌, ◌<◌, ◌≤◌, [], false, not, true};
 ghost use Rattle.afr_base.specs.Bricks.{is_nothing};
 ghost use Rattle.afr_inode_read.specs.Lookup.{IsLookup, after_walk, at_object, from_copy, is_asking, len_at, object_judged, object_looked, stage_after, walk_after};
+ghost use Rattle.afr_walk.specs.Looks.{left_to_look};
 ghost use Rattle.afr_walk.specs.Walk.{IsChoice, IsWalk, is_walking};
 
 use crate::job::{Content, LookupJob, kind_of, reply_to, request_of};
 use afr_base::{BrickId, Shape, What};
 use afr_choice::{Looked, Verdict, judge};
-use afr_lines::{Answer, Good, Reply, Request, told_of};
+use afr_lines::{Answer, Good, KeptReply, Reply, Request, told_of};
 use afr_object::{Chunk, Entry};
 use afr_walk::{Looks, Walk, WalkStep, choose, stop_reply};
 use std::alloc::Global;
@@ -21,7 +22,7 @@ pub enum LookupStage {
     Looking(Looks),
     /// A good copy is read.
     Reading(BrickId, Content),
-    Ending(Reply),
+    Ending(KeptReply),
 }
 
 /// Where a walk leaves the read.
@@ -30,11 +31,17 @@ pub(crate) fn left_by(job: LookupJob, walk: &Walk) -> LookupStage
     ensures value { result ≡ after_walk job walk.now }
     ensures kept { IsLookup walk.now result }
 {
-    match walk.step {
+    match &walk.step {
         WalkStep::Looking(_) | WalkStep::Naming(_) => LookupStage::Walking,
         WalkStep::Arrived => arrived(job, walk.object.what),
         WalkStep::Stopped(stop) => LookupStage::Ending(stop_reply(stop)),
     }
+}
+
+fn ending(reply: Reply) -> LookupStage
+    ensures { result ≡ LookupStage.Ending reply }
+{
+    LookupStage::Ending(KeptReply::new(reply))
 }
 
 fn arrived(job: LookupJob, what: What) -> LookupStage
@@ -52,7 +59,7 @@ fn of_file(what: What) -> LookupStage
 {
     match what {
         What::File => LookupStage::Looking(Looks::new()),
-        What::Dir => LookupStage::Ending(Reply::IsDir),
+        What::Dir => ending(Reply::IsDir),
     }
 }
 
@@ -61,58 +68,55 @@ fn of_dir(what: What) -> LookupStage
 {
     match what {
         What::Dir => LookupStage::Looking(Looks::new()),
-        What::File => LookupStage::Ending(Reply::NotDir),
+        What::File => ending(Reply::NotDir),
     }
 }
 
-/// The stage after an answer at this position, which the walk's register notes.
+/// The stage hears an answer at this position, which the walk's register notes. It is written anew only where the walk, the
+/// looks or the read have ended.
 pub(crate) fn stage_heard(
     alloc: Global,
     walk: &mut Walk,
     job: LookupJob,
-    stage: LookupStage,
+    stage: &mut LookupStage,
     answer: Answer,
     at: u32,
-) -> LookupStage
-    requires sound { IsLookup walk.old stage }
-    requires asking { is_asking stage ≡ true }
-    ensures walk { walk.new ≡ walk_after stage answer at walk.old }
-    ensures stage { result ≡ stage_after stage answer job (walk_after stage answer at walk.old) }
-    ensures kept { IsLookup walk.new result }
+)
+    requires sound { IsLookup walk.old stage.old }
+    requires asking { is_asking stage.old ≡ true }
+    ensures walk { walk.new ≡ walk_after stage.old answer at walk.old }
+    ensures stage { stage.new ≡ stage_after stage.old answer job (walk_after stage.old answer at walk.old) }
+    ensures kept { IsLookup walk.new stage.new }
 {
     match stage {
-        LookupStage::Walking => walk_heard(walk, job, &answer, at),
-        LookupStage::Looking(looks) => looks_heard(alloc, walk, job, looks, &answer, at),
-        LookupStage::Reading(brick, content) => read_heard(walk, brick, content, answer, at),
-        LookupStage::Ending(reply) => LookupStage::Ending(reply),
+        LookupStage::Walking => {
+            walk.hear(&answer, at);
+            if has_ended(walk) {
+                *stage = left_by(job, walk);
+            }
+        }
+        LookupStage::Looking(looks) => {
+            look_noted(walk, looks, &answer, at);
+            looks.hear(walk.shape.n, &told_of(&answer));
+            if looks.is_over(walk.shape.n) {
+                *stage = looked_at(alloc, walk.shape, job, walk.object, looks);
+            }
+        }
+        LookupStage::Reading(brick, content) => {
+            *stage = read_heard(walk, *brick, *content, answer, at);
+        }
+        LookupStage::Ending(_) => {}
     }
 }
 
-fn walk_heard(walk: &mut Walk, job: LookupJob, answer: &Answer, at: u32) -> LookupStage
-    requires { IsLookup walk.old LookupStage.Walking }
-    ensures walk { walk.new ≡ walk_after LookupStage.Walking answer.now at walk.old }
-    ensures stage { result ≡ after_walk job walk.new }
-    ensures kept { IsLookup walk.new result }
+/// Whether a walk has led to its object, or has stopped.
+fn has_ended(walk: &Walk) -> bool
+    ensures { result ≡ not (is_walking walk.now.step) }
 {
-    walk.hear(answer, at);
-    left_by(job, walk)
-}
-
-fn looks_heard(
-    alloc: Global,
-    walk: &mut Walk,
-    job: LookupJob,
-    looks: Looks,
-    answer: &Answer,
-    at: u32,
-) -> LookupStage
-    requires { IsLookup walk.old (LookupStage.Looking looks) }
-    ensures walk { walk.new ≡ walk_after (LookupStage.Looking looks) answer.now at walk.old }
-    ensures stage { result ≡ stage_after (LookupStage.Looking looks) answer.now job walk.new }
-    ensures kept { IsLookup walk.new result }
-{
-    look_noted(walk, &looks, answer, at);
-    looked_on(alloc, walk, job, looks, answer)
+    match &walk.step {
+        WalkStep::Looking(_) | WalkStep::Naming(_) => false,
+        WalkStep::Arrived | WalkStep::Stopped(_) => true,
+    }
 }
 
 fn look_noted(walk: &mut Walk, looks: &Looks, answer: &Answer, at: u32)
@@ -128,23 +132,7 @@ fn look_noted(walk: &mut Walk, looks: &Looks, answer: &Answer, at: u32)
     walk.note(brick, &request, &told, at);
 }
 
-fn looked_on(
-    alloc: Global,
-    walk: &Walk,
-    job: LookupJob,
-    looks: Looks,
-    answer: &Answer,
-) -> LookupStage
-    requires { IsLookup walk.now (LookupStage.Looking looks) }
-    ensures stage { result ≡ stage_after (LookupStage.Looking looks) answer.now job walk.now }
-    ensures kept { IsLookup walk.now result }
-{
-    let mut looks = looks;
-    looks.hear(walk.shape.n, &told_of(answer));
-    looked_at(alloc, walk.shape, job, walk.object, &looks)
-}
-
-/// The verdict comes when all were asked.
+/// The verdict, where all were asked.
 fn looked_at(
     alloc: Global,
     shape: Shape,
@@ -152,12 +140,10 @@ fn looked_at(
     object: Entry,
     looks: &Looks,
 ) -> LookupStage
-    requires { shape.n ≤ 5 }
+    requires few { shape.n ≤ 5 }
+    requires over { is_nothing (left_to_look shape.n looks.now) ≡ true }
     ensures { result ≡ object_looked shape job object looks.now }
 {
-    if !looks.is_over(shape.n) {
-        return LookupStage::Looking(*looks);
-    }
     let kind = kind_of(job, object.what);
     let verdict = judge(&shape, &looks.looked, kind);
     judged(alloc, job, object, verdict, &looks.looked)
@@ -178,7 +164,7 @@ fn read_heard(
     let told = told_of(&answer);
     let request = request_of(walk.object.gfid, content);
     walk.note(brick, &request, &told, at);
-    LookupStage::Ending(reply_to(answer))
+    ending(reply_to(answer))
 }
 
 fn judged(
@@ -192,9 +178,9 @@ fn judged(
     ensures { result ≡ object_judged job object verdict looked.now }
 {
     match verdict {
-        Verdict::Short => LookupStage::Ending(Reply::NoQuorum),
-        Verdict::Bare => LookupStage::Ending(Reply::FewCopies),
-        Verdict::Split => LookupStage::Ending(Reply::SplitBrain(looked.views)),
+        Verdict::Short => ending(Reply::NoQuorum),
+        Verdict::Bare => ending(Reply::FewCopies),
+        Verdict::Split => LookupStage::Ending(KeptReply::split(&looked.views)),
         Verdict::Sources(sources) => reading(alloc, job, object, looked, choose(sources)),
     }
 }
@@ -210,13 +196,11 @@ fn reading(
     ensures { result ≡ from_copy job object looked.now brick }
 {
     match job {
-        LookupJob::Read { len: 0, .. } => {
-            LookupStage::Ending(Reply::Ok(Good::Bytes(Chunk::new(alloc))))
-        }
+        LookupJob::Read { len: 0, .. } => { ending(Reply::Ok(Good::Bytes(Chunk::new(alloc)))) }
         LookupJob::Read { at, len } => LookupStage::Reading(brick, Content::Bytes { at, len }),
         LookupJob::GetAttr { key } => LookupStage::Reading(brick, Content::Value { key }),
         LookupJob::Ls => LookupStage::Reading(brick, Content::Names),
-        LookupJob::Stat => LookupStage::Ending(Reply::Ok(Good::Stat {
+        LookupJob::Stat => ending(Reply::Ok(Good::Stat {
             entry: object,
             len: len_at(looked, brick),
         })),

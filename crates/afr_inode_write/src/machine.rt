@@ -8,16 +8,16 @@ use crate::job::WriteJob;
 use crate::stage::{WriteStage, first, stage_begun, stage_heard};
 use afr_base::{NameId, NoMemory, Shape};
 use afr_discipline::Register;
-use afr_lines::{Answer, Heard, Next, Reply};
-use afr_object::{Load, TryCopy};
+use afr_lines::{Answer, Heard, KeptReply, Next};
+use afr_object::Load;
 use afr_walk::Walk;
 use std::alloc::Global;
 use std::marker::Model;
-use std::mem;
 
 /// A command that changes an object.
 #[derive(Drop)]
 pub struct WriteMachine {
+    alloc: Global,
     walk: Walk,
     stage: WriteStage,
 }
@@ -45,7 +45,7 @@ impl WriteMachine {
     {
         let walk = Walk::new(alloc, shape, path)?;
         let stage = first(job, &walk);
-        Ok(WriteMachine { walk, stage })
+        Ok(WriteMachine { alloc, walk, stage })
     }
 
     /// Takes the memory of the coming move: `next` takes it, before anything changes.
@@ -81,9 +81,9 @@ impl WriteMachine {
         requires { is_over self.old.stage ≡ false }
         ensures { self.new ≡ heard_by heard self.old }
     {
-        match heard {
-            Heard::Answer(answer, at) => self.hear(&answer, at),
-            Heard::Begun(at) => self.begin(at),
+        match &heard {
+            Heard::Answer(answer, at) => self.hear(answer, *at),
+            Heard::Begun(at) => self.begin(*at),
         }
     }
 
@@ -120,8 +120,8 @@ impl WriteMachine {
     {
         match &self.stage {
             WriteStage::Walking(_) => Ok(walking(&self.walk)),
-            WriteStage::Changing(transaction) => transaction.next(position),
-            WriteStage::Ending(reply) => ending(reply),
+            WriteStage::Changing(transaction) => transaction.next(self.alloc, position),
+            WriteStage::Ending(reply) => ending(self.alloc, reply),
         }
     }
 
@@ -129,16 +129,14 @@ impl WriteMachine {
         requires { is_over self.old.stage ≡ false }
         ensures { self.new ≡ answered answer.now at self.old }
     {
-        let stage = mem::replace(&mut self.stage, WriteStage::Ending(Reply::Failed));
-        self.stage = stage_heard(&mut self.walk, stage, answer, at);
+        stage_heard(&mut self.walk, &mut self.stage, answer, at);
     }
 
     fn begin(&mut self, at: u32)
         requires { is_over self.old.stage ≡ false }
         ensures { self.new ≡ record self.old { stage = stage_begun self.old.stage at } }
     {
-        let stage = mem::replace(&mut self.stage, WriteStage::Ending(Reply::Failed));
-        self.stage = stage_begun(stage, at);
+        stage_begun(&mut self.stage, at);
     }
 }
 
@@ -151,9 +149,9 @@ fn walking(walk: &Walk) -> Next
     Next::Ask(brick, request)
 }
 
-fn ending(reply: &Reply) -> Result<Next, NoMemory>
+fn ending(alloc: Global, reply: &KeptReply) -> Result<Next, NoMemory>
     ensures { IfOk result (λ next. next ≡ Next.End reply.now) }
 {
-    let reply = reply.copy()?;
+    let reply = reply.to_reply(alloc)?;
     Ok(Next::End(reply))
 }

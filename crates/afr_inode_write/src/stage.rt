@@ -1,20 +1,21 @@
 //! The stages of a write, and what an answer makes of each.
-ghost use Rattle.std.specs.Prelude.{◌≡◌, ◌<◌, ◌≤◌, false};
+ghost use Rattle.std.specs.Prelude.{◌≡◌, ◌<◌, ◌≤◌, false, not};
 ghost use Rattle.afr_inode_write.specs.Job.{IsJob, change_of, is_empty};
 ghost use Rattle.afr_inode_write.specs.Write.{IsWrite, after_walk, at_object, begun_in, first_stage, is_over, stage_after, stage_begun, told_to, walk_after};
 ghost use Rattle.afr_object.specs.Tables.{is_dir};
 ghost use Rattle.afr_transaction.specs.Progress as progress;
 ghost use Rattle.afr_transaction.specs.Progress.{starting};
 ghost use Rattle.afr_transaction.specs.Sound.{IsUnused};
-ghost use Rattle.afr_walk.specs.Walk.{IsWalk};
+ghost use Rattle.afr_walk.specs.Walk.{IsWalk, is_walking};
 
 use crate::job::{WriteJob, change_of, is_empty, is_of_bytes, is_too_large};
 use afr_base::{Gfid, What};
 use afr_discipline::Register;
-use afr_lines::{Answer, Good, Reply, Told, told_of};
+use afr_lines::{Answer, Good, KeptReply, Reply, Told, told_of};
 use afr_object::Entry;
 use afr_transaction::Transaction;
 use afr_walk::{Walk, WalkStep, stop_reply};
+use std::mem;
 
 /// Where a write stands.
 #[derive(Drop)]
@@ -23,7 +24,7 @@ pub enum WriteStage {
     Walking(WriteJob),
     /// What the path has led to is changed.
     Changing(Transaction),
-    Ending(Reply),
+    Ending(KeptReply),
 }
 
 /// Where a write begins: what is too large ends before anything is asked.
@@ -33,7 +34,7 @@ pub(crate) fn first(job: WriteJob, walk: &Walk) -> WriteStage
     ensures kept { IsWrite walk.now result }
 {
     if is_too_large(&job) {
-        return WriteStage::Ending(Reply::TooLarge);
+        return ending(Reply::TooLarge);
     }
     left_by(job, walk)
 }
@@ -45,11 +46,28 @@ fn left_by(job: WriteJob, walk: &Walk) -> WriteStage
     ensures value { result ≡ after_walk job walk.now }
     ensures kept { IsWrite walk.now result }
 {
-    match walk.step {
+    match &walk.step {
         WalkStep::Looking(_) | WalkStep::Naming(_) => WriteStage::Walking(job),
         WalkStep::Arrived => arrived(job, walk.object, walk.register),
         WalkStep::Stopped(stop) => WriteStage::Ending(stop_reply(stop)),
     }
+}
+
+/// The stage after the walk. It stands apart, so that only the answer that ends a walk pays for a frame that holds a stage.
+#[inline(never)]
+fn leave(job: WriteJob, walk: &Walk, stage: &mut WriteStage)
+    requires walk { IsWalk walk.now }
+    requires fits { IsJob job }
+    ensures value { stage.new ≡ after_walk job walk.now }
+    ensures kept { IsWrite walk.now stage.new }
+{
+    *stage = left_by(job, walk);
+}
+
+fn ending(reply: Reply) -> WriteStage
+    ensures { result ≡ WriteStage.Ending reply }
+{
+    WriteStage::Ending(KeptReply::new(reply))
 }
 
 fn arrived(job: WriteJob, object: Entry, register: Register) -> WriteStage
@@ -60,10 +78,10 @@ fn arrived(job: WriteJob, object: Entry, register: Register) -> WriteStage
     ensures { result ≡ at_object object register job }
 {
     if is_of_bytes(&job) && is_directory(object.what) {
-        return WriteStage::Ending(Reply::IsDir);
+        return ending(Reply::IsDir);
     }
     if is_empty(&job) {
-        return WriteStage::Ending(Reply::Ok(Good::Done));
+        return ending(Reply::Ok(Good::Done));
     }
     WriteStage::Changing(begins(job, object.gfid, register))
 }
@@ -88,66 +106,61 @@ fn begins(job: WriteJob, gfid: Gfid, register: Register) -> Transaction
     Transaction::continuing(register, change_of(gfid, job))
 }
 
-/// The stage after an answer at this position, which the register of the walk or of the transaction notes.
-pub(crate) fn stage_heard(
-    walk: &mut Walk,
-    stage: WriteStage,
-    answer: &Answer,
-    at: u32,
-) -> WriteStage
-    requires sound { IsWrite walk.old stage }
-    requires more { is_over stage ≡ false }
-    ensures walk { walk.new ≡ walk_after stage answer.now at walk.old }
-    ensures stage { result ≡ stage_after stage answer.now at (walk_after stage answer.now at walk.old) }
-    ensures kept { IsWrite walk.new result }
+/// The stage hears an answer at this position, which the register of the walk or of the transaction notes. It is written
+/// anew only where the walk has ended.
+pub(crate) fn stage_heard(walk: &mut Walk, stage: &mut WriteStage, answer: &Answer, at: u32)
+    requires sound { IsWrite walk.old stage.old }
+    requires more { is_over stage.old ≡ false }
+    ensures walk { walk.new ≡ walk_after stage.old answer.now at walk.old }
+    ensures stage { stage.new ≡ stage_after stage.old answer.now at (walk_after stage.old answer.now at walk.old) }
+    ensures kept { IsWrite walk.new stage.new }
 {
     match stage {
-        WriteStage::Walking(job) => walk_heard(walk, job, answer, at),
-        WriteStage::Changing(transaction) => {
-            WriteStage::Changing(heard(transaction, told_of(answer), at))
+        WriteStage::Walking(job) => {
+            walk.hear(answer, at);
+            if has_ended(walk) {
+                let job = mem::replace(job, WriteJob::Cut { len: 0 });
+                leave(job, walk, stage);
+            }
         }
-        WriteStage::Ending(reply) => WriteStage::Ending(reply),
+        WriteStage::Changing(transaction) => heard(transaction, told_of(answer), at),
+        WriteStage::Ending(_) => {}
     }
 }
 
-fn walk_heard(walk: &mut Walk, job: WriteJob, answer: &Answer, at: u32) -> WriteStage
-    requires { IsWrite walk.old (WriteStage.Walking job) }
-    ensures walk { walk.new ≡ walk_after (WriteStage.Walking job) answer.now at walk.old }
-    ensures stage { result ≡ after_walk job walk.new }
-    ensures kept { IsWrite walk.new result }
+/// Whether a walk has led to its object, or has stopped.
+fn has_ended(walk: &Walk) -> bool
+    ensures { result ≡ not (is_walking walk.now.step) }
 {
-    walk.hear(answer, at);
-    left_by(job, walk)
+    match &walk.step {
+        WalkStep::Looking(_) | WalkStep::Naming(_) => false,
+        WalkStep::Arrived | WalkStep::Stopped(_) => true,
+    }
 }
 
-fn heard(transaction: Transaction, told: Told, at: u32) -> Transaction
-    requires { progress.is_over transaction.stage transaction ≡ false }
-    ensures { result ≡ told_to told at transaction }
+fn heard(transaction: &mut Transaction, told: Told, at: u32)
+    requires { progress.is_over transaction.old.stage transaction.old ≡ false }
+    ensures { transaction.new ≡ told_to told at transaction.old }
 {
-    let mut transaction = transaction;
     if !transaction.is_beginning() {
         transaction.feed(told, at);
     }
-    transaction
 }
 
-/// The stage after a Begin line at this position.
-pub(crate) fn stage_begun(stage: WriteStage, at: u32) -> WriteStage
-    ensures { result ≡ stage_begun stage at }
+/// The stage hears of a Begin line at this position.
+pub(crate) fn stage_begun(stage: &mut WriteStage, at: u32)
+    ensures { stage.new ≡ stage_begun stage.old at }
 {
     match stage {
-        WriteStage::Walking(job) => WriteStage::Walking(job),
-        WriteStage::Changing(transaction) => WriteStage::Changing(begun(transaction, at)),
-        WriteStage::Ending(reply) => WriteStage::Ending(reply),
+        WriteStage::Changing(transaction) => begun(transaction, at),
+        _ => {}
     }
 }
 
-fn begun(transaction: Transaction, at: u32) -> Transaction
-    ensures { result ≡ begun_in at transaction }
+fn begun(transaction: &mut Transaction, at: u32)
+    ensures { transaction.new ≡ begun_in at transaction.old }
 {
-    let mut transaction = transaction;
     if transaction.is_beginning() {
         transaction.feed(Told::Done, at);
     }
-    transaction
 }

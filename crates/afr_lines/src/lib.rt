@@ -2,11 +2,13 @@
 #![tactic(auto)]
 
 mod answer;
+mod kept_reply;
 mod line;
 mod reply;
 mod request;
 
 pub use answer::{Answer, Told, told_of};
+pub use kept_reply::KeptReply;
 pub use line::{Event, Heard, Line, Next};
 pub use reply::{Good, HealReply, Reply};
 pub use request::{Area, Request};

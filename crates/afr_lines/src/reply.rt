@@ -2,7 +2,7 @@
 ghost use Rattle.std.specs.Prelude.{◌≡◌, IfOk};
 
 use afr_base::{ActorId, BrickId, NoMemory, ValueId};
-use afr_object::{Chunk, Entry, NameList, TryCopy, View};
+use afr_object::{Chunk, Entry, NameList, TryCopy, Views};
 
 /// What a command that was carried out gives.
 #[derive(Debug, Drop)]
@@ -25,17 +25,17 @@ pub enum Reply {
     NotEmpty,
     NoQuorum,
     FewCopies,
-    SplitBrain([Option<View>; 5]),
+    SplitBrain(Views),
     Failed,
     TooLarge,
 }
 
 /// The end of a heal of one kind of one object.
-#[derive(Clone, Copy, Debug)]
+#[derive(Debug, Drop)]
 pub enum HealReply {
     Nothing,
     Settled,
-    Split([Option<View>; 5]),
+    Split(Views),
     Busy(ActorId),
     Short,
     Moved(BrickId),
@@ -68,7 +68,7 @@ impl TryCopy for Reply {
             Reply::NotEmpty => Ok(Reply::NotEmpty),
             Reply::NoQuorum => Ok(Reply::NoQuorum),
             Reply::FewCopies => Ok(Reply::FewCopies),
-            Reply::SplitBrain(views) => Ok(Reply::SplitBrain(*views)),
+            Reply::SplitBrain(views) => copy_split(views),
             Reply::Failed => Ok(Reply::Failed),
             Reply::TooLarge => Ok(Reply::TooLarge),
         }
@@ -87,6 +87,13 @@ fn copy_names(names: &NameList) -> Result<Good, NoMemory>
 {
     let names = names.copy()?;
     Ok(Good::Names(names))
+}
+
+fn copy_split(views: &Views) -> Result<Reply, NoMemory>
+    ensures ok { IfOk result (λ reply. reply ≡ Reply.SplitBrain views.now) }
+{
+    let views = views.copy()?;
+    Ok(Reply::SplitBrain(views))
 }
 
 fn copy_ok(good: &Good) -> Result<Reply, NoMemory>

@@ -7,6 +7,7 @@ mod list;
 mod object;
 mod sorted_map;
 mod try_copy;
+mod views;
 
 pub use change::{Change, Load, Repair};
 pub use entry::{AttrList, Chunk, Entry, IndexList, NameList, View};
@@ -14,3 +15,4 @@ pub use list::List;
 pub use object::Object;
 pub use sorted_map::SortedMap;
 pub use try_copy::TryCopy;
+pub use views::Views;

@@ -4,14 +4,15 @@ use Rattle.std.specs.List.{All}
 use Rattle.afr_lines.specs.declared.line.Event.{Event}
 use Rattle.afr_lines.specs.declared.line.Event.TheVariants as event
 use Rattle.afr_plan.specs.declared.command.Command.{Command}
-use Rattle.afr_plan.specs.declared.command.Command.TheVariants.{Write, Cut, Read, Stat, SetAttr, GetAttr}
+use Rattle.afr_plan.specs.declared.command.Command.TheVariants.{Write, Cut, Read, Ls, Stat, SetAttr, GetAttr}
 use Rattle.afr_plan.specs.declared.plan.Plan.{Plan}
 
--- a command that works on an object that is there: no name is made or taken away, and none is listed
+-- a command that works on an object that is there: no name is made or taken away
 abbrev pub runs_yet : Command → Bool
 runs_yet (Write path at bytes) = true
 runs_yet (Cut path len) = true
 runs_yet (Read path at len) = true
+runs_yet (Ls path) = true
 runs_yet (Stat path) = true
 runs_yet (SetAttr path key value) = true
 runs_yet (GetAttr path key) = true

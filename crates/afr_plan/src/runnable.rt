@@ -11,7 +11,7 @@ use crate::schedule::{Go, PlannedEvent};
 use afr_base::ActorId;
 use afr_lines::Event;
 
-/// Whether a command is one that is run: those that make, take away or list names come later.
+/// Whether a command is one that is run: those that make or take away names come later.
 fn runs_yet(command: &Command) -> bool
     ensures { result ≡ runs_yet command.now }
 {
@@ -23,7 +23,7 @@ fn runs_yet(command: &Command) -> bool
         Command::Mkdir { .. } => false,
         Command::Unlink { .. } => false,
         Command::Rmdir { .. } => false,
-        Command::Ls { .. } => false,
+        Command::Ls { .. } => true,
         Command::Stat { .. } => true,
         Command::SetAttr { .. } => true,
         Command::GetAttr { .. } => true,

@@ -321,7 +321,7 @@ fn reply_fits(reply: &Reply)
 {
     match reply {
         Reply::Ok(good) => good_fits(good),
-        Reply::SplitBrain(views) => views_fit(views),
+        Reply::SplitBrain(views) => views_fit(views.as_array()),
         _ => {}
     }
 }
@@ -330,7 +330,7 @@ fn heal_reply_fits(reply: &HealReply)
     ensures { HealReplyInRange reply.now }
 {
     match reply {
-        HealReply::Split(views) => views_fit(views),
+        HealReply::Split(views) => views_fit(views.as_array()),
         HealReply::Busy(owner) => short_fits(owner.0),
         HealReply::Moved(brick) => byte_fits(brick.0),
         _ => {}

@@ -1,1 +1,2 @@
-mod NamesLemmas
+mod NumberLemmas
+mod OrderLemmas

@@ -2,6 +2,7 @@
 ghost use Rattle.std.specs.Prelude.{◌≡◌, ◌++◌, OnOk, codes, decimal, string_bytes};
 ghost use Rattle.afr_model.specs.ReportReplies.{actor_text, heal_text};
 
+use crate::numbers::push_number;
 use crate::text::push_word;
 use afr_base::{ActorId, BrickId, NoMemory};
 use afr_lines::HealReply;
@@ -34,18 +35,16 @@ pub fn push_actor(out: &mut String, actor: ActorId) -> Result<(), NoMemory>
 {
     let number = actor.0;
     if 16 < number {
-        let number = number - 16;
-        write!(out, "h{number}")?;
-        return Ok(());
+        out.push('h')?;
+        return push_number(out, u64::from(number - 16));
     }
-    write!(out, "c{number}")?;
-    Ok(())
+    out.push('c')?;
+    push_number(out, u64::from(number))
 }
 
 fn push_moved(out: &mut String, brick: BrickId) -> Result<(), NoMemory>
     ensures ok { OnOk result (string_bytes out.new ≡ string_bytes out.old ++ (codes "moved " ++ decimal brick.0)) }
 {
-    let number = brick.0;
-    write!(out, "moved {number}")?;
-    Ok(())
+    out.push_str("moved ")?;
+    push_number(out, u64::from(brick.0))
 }

@@ -1,35 +1,48 @@
-//! Bytes as hexadecimal digits.
-ghost use Rattle.std.specs.Prelude.{◌≡◌, ◌++◌, ◌<◌, OnOk, string_bytes};
-ghost use Rattle.afr_model.specs.ReportReplies.{hex_digit, hex_pair, hex_text};
+//! Numbers in decimal digits, and bytes in hexadecimal ones.
+ghost use Rattle.std.specs.Prelude.{◌≡◌, ◌++◌, ◌<◌, OnOk, decimal, string_bytes};
+ghost use Rattle.afr_model.specs.ReportReplies.{hex_text};
 
 use afr_base::NoMemory;
+use itoa::Buffer;
+
+/// Adds a number in decimal digits. It is much quicker than `write!`.
+pub fn push_number(out: &mut String, number: u64) -> Result<(), NoMemory>
+    ensures ok { OnOk result (string_bytes out.new ≡ string_bytes out.old ++ decimal number) }
+{
+    if number < 10 {
+        return push_digit(out, number as u8);
+    }
+    let mut buffer = Buffer::new();
+    out.push_str(buffer.format(number))?;
+    Ok(())
+}
+
+/// Adds a number of any size in decimal digits.
+pub fn push_long_number(out: &mut String, number: u128) -> Result<(), NoMemory>
+    ensures ok { OnOk result (string_bytes out.new ≡ string_bytes out.old ++ decimal number) }
+{
+    if number < 10 {
+        return push_digit(out, number as u8);
+    }
+    let mut buffer = Buffer::new();
+    out.push_str(buffer.format(number))?;
+    Ok(())
+}
+
+#[tactic(auto, using(crate::proofs::NumberLemmas::one_digit))]
+fn push_digit(out: &mut String, number: u8) -> Result<(), NoMemory>
+    requires { number < 10 }
+    ensures ok { OnOk result (string_bytes out.new ≡ string_bytes out.old ++ decimal number) }
+{
+    out.push(char::from(b'0' + number))?;
+    Ok(())
+}
 
 /// Adds each byte as two lower-case hexadecimal digits, with nothing between them.
 pub fn push_hex(out: &mut String, bytes: &[u8]) -> Result<(), NoMemory>
     ensures ok { OnOk result (string_bytes out.new ≡ string_bytes out.old ++ hex_text bytes.now) }
 {
-    for byte in bytes {
-        push_hex_byte(out, *byte)?;
-    }
+    let digits = hex::encode(*out.allocator(), bytes)?;
+    out.push_str(digits.as_str())?;
     Ok(())
-}
-
-fn push_hex_byte(out: &mut String, byte: u8) -> Result<(), NoMemory>
-    ensures ok { OnOk result (string_bytes out.new ≡ string_bytes out.old ++ hex_pair byte) }
-{
-    out.push(hex_digit(byte / 16))?;
-    out.push(hex_digit(byte % 16))?;
-    Ok(())
-}
-
-fn hex_digit(half: u8) -> char
-    requires half { half < 16 }
-    ensures digit { result ≡ hex_digit half }
-    ensures ascii { result < 128 }
-{
-    if half < 10 {
-        char::from(b'0' + half)
-    } else {
-        char::from(b'a' - 10 + half)
-    }
 }

@@ -3,7 +3,7 @@ ghost use Rattle.std.specs.Prelude.{◌≡◌, ◌++◌, OnOk, string_bytes};
 ghost use Rattle.afr_model.specs.ReportReplies.{bytes_text, good_text, len_text, reply_text, stat_text, value_text, what_text};
 
 use crate::names::push_names;
-use crate::numbers::push_hex;
+use crate::numbers::{push_hex, push_number};
 use crate::text::{push_gfid, push_word};
 use crate::words::push_word_at;
 use afr_base::{NoMemory, ValueId, What};
@@ -92,6 +92,6 @@ fn push_len(out: &mut String, what: What, len: u32) -> Result<(), NoMemory>
 fn push_spaced_number(out: &mut String, number: u32) -> Result<(), NoMemory>
     ensures ok { OnOk result (string_bytes out.new ≡ string_bytes out.old ++ len_text What.File number) }
 {
-    write!(out, " {number}")?;
-    Ok(())
+    out.push(' ')?;
+    push_number(out, u64::from(number))
 }

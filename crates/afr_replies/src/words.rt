@@ -1,11 +1,9 @@
 //! The words of a plan as text.
-ghost use Rattle.std.specs.Prelude.{◌≡◌, ◌++◌, [], IfOk, OnOk, slice_index_or, string_bytes};
+ghost use Rattle.std.specs.Prelude.{◌≡◌, ◌++◌, [], OnOk, slice_index_or, string_bytes};
 
 use crate::text::push_word;
 use afr_base::NoMemory;
-use afr_object::{List, TryCopy};
-use afr_plan::{Word, WordList};
-use std::alloc::Global;
+use afr_plan::WordList;
 
 /// Adds bytes as they stand. Each word of a plan that was read is ASCII; bytes that aren't UTF-8
 /// fit no text, and are answered as if memory ran out.
@@ -29,11 +27,11 @@ pub fn push_word_at(out: &mut String, words: &WordList, place: u32) -> Result<()
 }
 
 /// The word at a place; an empty one where there is none.
-pub fn word_at(alloc: Global, words: &WordList, place: u32) -> Result<Word, NoMemory>
-    ensures ok { IfOk result (λ word. word ≡ slice_index_or words.now place []) }
+pub fn word_at(words: &WordList, place: u32) -> &[u8]
+    ensures { result.now ≡ slice_index_or words.now place [] }
 {
     match words.as_slice().get(place as usize) {
-        Some(word) => word.copy(),
-        None => Ok(List::new(alloc)),
+        Some(word) => word.as_slice(),
+        None => &[],
     }
 }

@@ -1,3 +1,5 @@
 pub mod BrickLinesLemmas
 pub mod CommandLemmas
+mod OwnLemmas
+mod PlacesLemmas
 mod VolumeLemmas

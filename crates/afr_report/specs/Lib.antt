@@ -1,2 +1,3 @@
 pub mod BrickLines
 pub mod Heals
+pub mod Own

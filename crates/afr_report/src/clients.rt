@@ -1,12 +1,15 @@
 //! How far each client has come, and its commands that have ended.
-ghost use Rattle.std.specs.Prelude.{◌≡◌, ◌++◌, ◌≤◌, OnOk, length, reverse, slice_get, string_bytes};
+ghost use Rattle.std.specs.Prelude.{◌≡◌, ◌++◌, ◌<◌, ◌≤◌, OnOk, length, reverse, slice_get, string_bytes};
 ghost use Rattle.std.specs.Option.{option_copied};
 ghost use Rattle.afr_model.specs.Report.{client_head, client_text, clients_text, ended_lines};
+ghost use Rattle.afr_report.specs.Own.{lines_at, places};
 
 use crate::commands::push_command;
+use crate::own::{line_at, own_places};
 use crate::progress::{Progress, progress_of, reply_by, standing};
 use afr_base::{ActorId, NoMemory};
 use afr_lines::Line;
+use afr_object::List;
 use afr_plan::{Command, Script, Words};
 
 /// Adds the texts of all clients. Client 1 has the first script.
@@ -14,14 +17,16 @@ pub fn push_clients(
     out: &mut String,
     words: &Words,
     scripts: &[Script],
+    lists: &[List<u32>],
     log: &[Line],
 ) -> Result<(), NoMemory>
     requires few { length scripts.now ≤ 16 }
+    requires lists { lists.now ≡ places (reverse log.now) }
     ensures ok { OnOk result (string_bytes out.new ≡ string_bytes out.old ++ clients_text words.now 1 scripts.now (reverse log.now)) }
 {
     let mut client = 1;
     for script in scripts {
-        push_client(out, words, ActorId(client), script.as_slice(), log)?;
+        push_client(out, words, ActorId(client), script.as_slice(), lists, log)?;
         client += 1;
     }
     Ok(())
@@ -32,13 +37,31 @@ fn push_client(
     words: &Words,
     client: ActorId,
     commands: &[Command],
+    lists: &[List<u32>],
     log: &[Line],
 ) -> Result<(), NoMemory>
+    requires small { client.0 < 20 }
+    requires lists { lists.now ≡ places (reverse log.now) }
     ensures ok { OnOk result (string_bytes out.new ≡ string_bytes out.old ++ client_text words.now client.0 commands.now (reverse log.now)) }
 {
-    let progress = progress_of(client, log);
+    let own = own_places(lists, client);
+    push_client_at(out, words, client, commands, own, log)
+}
+
+/// Adds the text of a client by the lines at these positions of the log.
+fn push_client_at(
+    out: &mut String,
+    words: &Words,
+    client: ActorId,
+    commands: &[Command],
+    own: &[u32],
+    log: &[Line],
+) -> Result<(), NoMemory>
+    ensures ok { OnOk result (string_bytes out.new ≡ string_bytes out.old ++ client_text words.now client.0 commands.now (lines_at log.now (reverse own.now))) }
+{
+    let progress = progress_of(client, own, log);
     push_client_head(out, client, progress, commands.len())?;
-    push_ended(out, words, client, commands, log)
+    push_ended(out, words, client, commands, own, log)
 }
 
 fn push_client_head(
@@ -62,15 +85,18 @@ fn push_ended(
     words: &Words,
     client: ActorId,
     commands: &[Command],
+    own: &[u32],
     log: &[Line],
 ) -> Result<(), NoMemory>
-    ensures ok { OnOk result (string_bytes out.new ≡ string_bytes out.old ++ ended_lines words.now client.0 commands.now (reverse log.now)) }
+    ensures ok { OnOk result (string_bytes out.new ≡ string_bytes out.old ++ ended_lines words.now client.0 commands.now (lines_at log.now (reverse own.now))) }
 {
     let mut before = 0;
-    for line in log {
-        if let Some(reply) = reply_by(client, line) {
-            push_command(out, words, before, command_after(before, commands), reply)?;
-            before += 1;
+    for at in own {
+        if let Some(line) = line_at(log, *at) {
+            if let Some(reply) = reply_by(client, line) {
+                push_command(out, words, before, command_after(before, commands), reply)?;
+                before += 1;
+            }
         }
     }
     Ok(())

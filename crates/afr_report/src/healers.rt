@@ -2,11 +2,14 @@
 ghost use Rattle.std.specs.Prelude.{◌≡◌, ◌++◌, ◌<◌, ◌≤◌, OnOk, Some, length, reverse, string_bytes};
 ghost use Rattle.afr_model.specs.ReportHealers.{healer_text, healers_text, rounds_lines};
 ghost use Rattle.afr_report.specs.Heals.{healer_head, round_with};
+ghost use Rattle.afr_report.specs.Own.{lines_at, places};
 
 use crate::heals::push_heal;
+use crate::own::{line_at, own_places};
 use crate::progress::{Progress, progress_of, reply_by, standing};
 use afr_base::{ActorId, NoMemory};
 use afr_lines::{Line, Reply};
+use afr_object::List;
 use afr_plan::{RoundList, Words};
 use afr_replies::push_reply;
 
@@ -15,14 +18,16 @@ pub fn push_healers(
     out: &mut String,
     words: &Words,
     healers: &[RoundList],
+    lists: &[List<u32>],
     log: &[Line],
 ) -> Result<(), NoMemory>
     requires few { length healers.now ≤ 3 }
+    requires lists { lists.now ≡ places (reverse log.now) }
     ensures ok { OnOk result (string_bytes out.new ≡ string_bytes out.old ++ healers_text words.now 17 healers.now (reverse log.now)) }
 {
     let mut healer = 17;
     for rounds in healers {
-        push_healer(out, words, ActorId(healer), rounds, log)?;
+        push_healer(out, words, ActorId(healer), rounds, lists, log)?;
         healer += 1;
     }
     Ok(())
@@ -33,14 +38,33 @@ fn push_healer(
     words: &Words,
     healer: ActorId,
     rounds: &RoundList,
+    lists: &[List<u32>],
     log: &[Line],
 ) -> Result<(), NoMemory>
     requires healer { 16 < healer.0 }
+    requires small { healer.0 < 20 }
+    requires lists { lists.now ≡ places (reverse log.now) }
     ensures ok { OnOk result (string_bytes out.new ≡ string_bytes out.old ++ healer_text words.now healer.0 rounds.now (reverse log.now)) }
 {
-    let progress = progress_of(healer, log);
+    let own = own_places(lists, healer);
+    push_healer_at(out, words, healer, rounds, own, log)
+}
+
+/// Adds the text of a healer by the lines at these positions of the log.
+fn push_healer_at(
+    out: &mut String,
+    words: &Words,
+    healer: ActorId,
+    rounds: &RoundList,
+    own: &[u32],
+    log: &[Line],
+) -> Result<(), NoMemory>
+    requires healer { 16 < healer.0 }
+    ensures ok { OnOk result (string_bytes out.new ≡ string_bytes out.old ++ healer_text words.now healer.0 rounds.now (lines_at log.now (reverse own.now))) }
+{
+    let progress = progress_of(healer, own, log);
     push_healer_head(out, healer, progress, rounds.len())?;
-    push_rounds(out, words, healer, log)
+    push_rounds(out, words, healer, own, log)
 }
 
 fn push_healer_head(
@@ -59,24 +83,27 @@ fn push_healer_head(
     Ok(())
 }
 
-/// Adds each round that has ended and its heals, in one pass over the log.
+/// Adds each round that has ended and its heals, by the lines at these positions of the log.
 fn push_rounds(
     out: &mut String,
     words: &Words,
     healer: ActorId,
+    own: &[u32],
     log: &[Line],
 ) -> Result<(), NoMemory>
-    ensures ok { OnOk result (string_bytes out.new ≡ string_bytes out.old ++ rounds_lines words.now healer.0 (reverse log.now)) }
+    ensures ok { OnOk result (string_bytes out.new ≡ string_bytes out.old ++ rounds_lines words.now healer.0 (lines_at log.now (reverse own.now))) }
 {
     let mut before = 0;
     let mut heals = String::new(*out.allocator());
-    for line in log {
-        if let Some(reply) = reply_by(healer, line) {
-            push_round(out, words, before, reply, heals.as_str())?;
-            heals.clear();
-            before += 1;
-        } else {
-            push_heal(&mut heals, healer, line)?;
+    for at in own {
+        if let Some(line) = line_at(log, *at) {
+            if let Some(reply) = reply_by(healer, line) {
+                push_round(out, words, before, reply, heals.as_str())?;
+                heals.clear();
+                before += 1;
+            } else {
+                push_heal(&mut heals, healer, line)?;
+            }
         }
     }
     Ok(())

@@ -8,6 +8,7 @@ mod events;
 mod healers;
 mod heals;
 mod of_volume;
+mod own;
 mod progress;
 mod report;
 

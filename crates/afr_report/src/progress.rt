@@ -3,7 +3,9 @@ ghost use Rattle.std.specs.Prelude.{◌≡◌, reverse};
 ghost use Rattle.std.specs.Option.{option_copied};
 ghost use Rattle.afr_lines.specs.Work.{ended, is_killed, kills, reply_by};
 ghost use Rattle.afr_model.specs.Report.{standing};
+ghost use Rattle.afr_report.specs.Own.{lines_at};
 
+use crate::own::line_at;
 use afr_base::ActorId;
 use afr_lines::{Event, Line, Reply};
 
@@ -14,18 +16,20 @@ pub struct Progress {
     pub dead: bool,
 }
 
-/// How far the actor has come, in one pass over the log.
-pub fn progress_of(actor: ActorId, log: &[Line]) -> Progress
-    ensures done { result.done ≡ ended actor.0 (reverse log.now) }
-    ensures dead { result.dead ≡ is_killed actor.0 (reverse log.now) }
+/// How far the actor has come by the lines at these positions of the log.
+pub fn progress_of(actor: ActorId, own: &[u32], log: &[Line]) -> Progress
+    ensures done { result.done ≡ ended actor.0 (lines_at log.now (reverse own.now)) }
+    ensures dead { result.dead ≡ is_killed actor.0 (lines_at log.now (reverse own.now)) }
 {
     let mut done = 0;
     let mut dead = false;
-    for line in log {
-        if reply_by(actor, line).is_some() {
-            done += 1;
+    for at in own {
+        if let Some(line) = line_at(log, *at) {
+            if reply_by(actor, line).is_some() {
+                done += 1;
+            }
+            dead = kills(actor, line) || dead;
         }
-        dead = kills(actor, line) || dead;
     }
     Progress { done, dead }
 }

@@ -6,6 +6,7 @@ ghost use Rattle.afr_model.specs.ReportHealers.{report_of};
 
 use crate::clients::push_clients;
 use crate::healers::push_healers;
+use crate::own::places;
 use afr_base::{BrickSet, NoMemory, Shape};
 use afr_info::print_info;
 use afr_lines::Line;
@@ -14,8 +15,8 @@ use afr_server::Server;
 use std::alloc::Global;
 
 /// The report of a plan and of its log, the oldest line first, where the servers' bricks hold the
-/// tables that the log has made. It takes time proportional to the length of the log for each client and
-/// healer, and beside it what the part on objects takes.
+/// tables that the log has made. It goes over the log once, then over the lines that it prints, and
+/// beside it takes what the part on objects takes.
 pub fn print_report(
     alloc: Global,
     plan: &Plan,
@@ -33,8 +34,21 @@ pub fn print_report(
     let lines = log.len();
     push_volume(&mut out, plan.shape)?;
     write!(out, "lines {lines}\n")?;
-    push_clients(&mut out, &plan.words, plan.clients.as_slice(), log)?;
-    push_healers(&mut out, &plan.words, plan.healers.as_slice(), log)?;
+    let lists = places(alloc, log)?;
+    push_clients(
+        &mut out,
+        &plan.words,
+        plan.clients.as_slice(),
+        lists.as_slice(),
+        log,
+    )?;
+    push_healers(
+        &mut out,
+        &plan.words,
+        plan.healers.as_slice(),
+        lists.as_slice(),
+        log,
+    )?;
     print_info(&mut out, plan, servers, started)?;
     Ok(out)
 }

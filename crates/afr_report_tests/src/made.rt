@@ -2,7 +2,7 @@
 
 use afr_base::{ActorId, BrickId, BrickSet, Gfid, Kind, NameId, NoMemory, Shape, ValueId, What};
 use afr_lines::{Event, Good, HealReply, Line, Reply, Request, Told};
-use afr_object::{Entry, List, NameList};
+use afr_object::{Entry, List, NameList, Views};
 use afr_plan::{Command, Plan, RoundList, Rounds, Script, Scripts, Word, WordList, Words};
 use std::alloc::Global;
 
@@ -205,7 +205,11 @@ pub fn split_and_heals(alloc: Global) -> Result<Vec<Line>, NoMemory> {
         accuse(1, others_of_1),
         pre(2),
         heal_end(17, Kind::Attrs, HealReply::Nothing),
-        heal_end(17, Kind::Names, HealReply::Split([None; 5])),
+        heal_end(
+            17,
+            Kind::Names,
+            HealReply::Split(Views::new(alloc, &[None; 5])?),
+        ),
         heal_end(18, Kind::Names, HealReply::Failed),
         heal_end(17, Kind::Bytes, HealReply::Busy(ActorId(18))),
         heal_end(17, Kind::Names, HealReply::Moved(BrickId(1))),

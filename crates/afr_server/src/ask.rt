@@ -139,6 +139,7 @@ impl Server {
     }
 
     /// The request is carried out, its answer is lost, and the session ends.
+    #[inline(never)]
     fn lose(
         &mut self,
         actor: ActorId,

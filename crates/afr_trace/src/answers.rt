@@ -5,7 +5,7 @@ ghost use Rattle.afr_trace.specs.Answers.{event_text, told_text};
 
 use afr_base::{ActorId, BrickId, NoMemory};
 use afr_lines::{Event, Told};
-use afr_replies::{push_actor, push_word};
+use afr_replies::{push_actor, push_number, push_word};
 
 /// Adds an answer; `took` says whether the brick carried the request out.
 pub fn push_told(out: &mut String, told: &Told, took: bool) -> Result<(), NoMemory>
@@ -39,9 +39,8 @@ pub fn push_event(out: &mut String, event: Event) -> Result<(), NoMemory>
 fn push_with_brick(out: &mut String, word: &str, brick: BrickId) -> Result<(), NoMemory>
     ensures ok { OnOk result (string_bytes out.new ≡ string_bytes out.old ++ (word.now ++ decimal brick.0)) }
 {
-    let brick = brick.0;
-    write!(out, "{word}{brick}")?;
-    Ok(())
+    out.push_str(word)?;
+    push_number(out, u64::from(brick.0))
 }
 
 fn push_with_actor(out: &mut String, word: &str, actor: ActorId) -> Result<(), NoMemory>

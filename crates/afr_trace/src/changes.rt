@@ -7,7 +7,7 @@ use crate::objects::{push_key, push_name, push_object};
 use afr_base::{Gfid, KeyId, NameId, NoMemory, ValueId, What};
 use afr_object::Change;
 use afr_plan::Plan;
-use afr_replies::push_word_at;
+use afr_replies::{push_number, push_word_at};
 
 /// Adds a change. Of a write there are the offset and the length, and not the bytes.
 pub fn push_change(out: &mut String, plan: &Plan, change: &Change) -> Result<(), NoMemory>
@@ -38,8 +38,10 @@ fn push_write(
 {
     out.push_str("write ")?;
     push_object(out, plan, gfid)?;
-    write!(out, " {at} {len}")?;
-    Ok(())
+    out.push(' ')?;
+    push_number(out, u64::from(at))?;
+    out.push(' ')?;
+    push_number(out, len as u64)
 }
 
 /// Adds a cut, which a client's change and a repair write alike.
@@ -48,8 +50,8 @@ pub fn push_cut(out: &mut String, plan: &Plan, gfid: Gfid, len: u32) -> Result<(
 {
     out.push_str("cut ")?;
     push_object(out, plan, gfid)?;
-    write!(out, " {len}")?;
-    Ok(())
+    out.push(' ')?;
+    push_number(out, u64::from(len))
 }
 
 fn push_set_attr(
@@ -63,7 +65,7 @@ fn push_set_attr(
 {
     out.push_str("setattr ")?;
     push_key(out, plan, gfid, key)?;
-    out.push_str(" ")?;
+    out.push(' ')?;
     push_word_at(out, &plan.words.values, value.0)
 }
 
@@ -79,7 +81,7 @@ fn push_make(
 {
     out.push_str(make_word(what))?;
     push_name(out, plan, dir, name)?;
-    out.push_str(" ")?;
+    out.push(' ')?;
     push_object(out, plan, gfid)
 }
 

@@ -13,7 +13,7 @@ use afr_base::{ActorId, BrickId, Gfid, Kind, NoMemory};
 use afr_lines::{Event, HealReply, Line, Reply, Request, Told};
 use afr_object::Change;
 use afr_plan::Plan;
-use afr_replies::{kind_word, push_actor, push_heal_reply, push_reply};
+use afr_replies::{kind_word, push_actor, push_heal_reply, push_number, push_reply};
 
 /// Adds the text of the line at a position, which is the number of the lines before it.
 pub fn push_line(
@@ -24,9 +24,10 @@ pub fn push_line(
 ) -> Result<(), NoMemory>
     ensures ok { OnOk result (string_bytes out.new ≡ string_bytes out.old ++ line_text plan.now position line.now) }
 {
-    write!(out, "{position} ")?;
+    push_number(out, position as u64)?;
+    out.push(' ')?;
     push_said(out, plan, line)?;
-    out.push_str("\n")?;
+    out.push('\n')?;
     Ok(())
 }
 
@@ -65,11 +66,12 @@ fn push_ask(
 ) -> Result<(), NoMemory>
     ensures ok { OnOk result (string_bytes out.new ≡ string_bytes out.old ++ said_text plan.now (Line.Ask actor brick request.now told.now took)) }
 {
-    let brick = brick.0;
     push_actor(out, actor)?;
-    write!(out, " b{brick} ")?;
+    out.push_str(" b")?;
+    push_number(out, u64::from(brick.0))?;
+    out.push(' ')?;
     push_request(out, plan, request)?;
-    out.push_str(" ")?;
+    out.push(' ')?;
     push_told(out, told, took)
 }
 

@@ -4,7 +4,7 @@ ghost use Rattle.afr_base.specs.Bricks.{all_five, member};
 ghost use Rattle.afr_trace.specs.Numbers.{bricks_text, comma, given, with_commas};
 
 use afr_base::{BrickId, BrickSet, NoMemory};
-use afr_replies::push_word;
+use afr_replies::{push_number, push_word};
 
 /// Adds the numbers that there are, with commas between them; nothing where there are none.
 pub fn push_given(out: &mut String, numbers: &[Option<u32>]) -> Result<(), NoMemory>
@@ -48,8 +48,7 @@ fn push_next(out: &mut String, first: bool, number: u32) -> Result<(), NoMemory>
     ensures ok { OnOk result (string_bytes out.new ≡ string_bytes out.old ++ (comma first ++ decimal number)) }
 {
     if !first {
-        out.push_str(",")?;
+        out.push(',')?;
     }
-    write!(out, "{number}")?;
-    Ok(())
+    push_number(out, u64::from(number))
 }

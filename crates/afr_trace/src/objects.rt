@@ -5,7 +5,7 @@ ghost use Rattle.afr_trace.specs.Objects.{area_text, is_opening, key_text, lock_
 use afr_base::{FIRST_ATTRIBUTE, Gfid, KeyId, NameId, NoMemory, OPENING_GFIDS};
 use afr_lines::Area;
 use afr_plan::Plan;
-use afr_replies::push_word_at;
+use afr_replies::{push_long_number, push_number, push_word_at};
 
 /// Adds an object: an opening file by its number, any other by its gfid.
 pub fn push_object(out: &mut String, plan: &Plan, gfid: Gfid) -> Result<(), NoMemory>
@@ -13,12 +13,11 @@ pub fn push_object(out: &mut String, plan: &Plan, gfid: Gfid) -> Result<(), NoMe
 {
     let number = gfid.0;
     if is_opening(plan, number) {
-        let file = number - OPENING_GFIDS;
-        write!(out, "f{file}")?;
-        return Ok(());
+        out.push('f')?;
+        return push_long_number(out, number - OPENING_GFIDS);
     }
-    write!(out, "g{number}")?;
-    Ok(())
+    out.push('g')?;
+    push_long_number(out, number)
 }
 
 fn is_opening(plan: &Plan, number: u128) -> bool
@@ -32,7 +31,7 @@ pub fn push_name(out: &mut String, plan: &Plan, dir: Gfid, name: NameId) -> Resu
     ensures ok { OnOk result (string_bytes out.new ≡ string_bytes out.old ++ name_text plan.now dir name) }
 {
     push_object(out, plan, dir)?;
-    out.push_str("/")?;
+    out.push('/')?;
     push_word_at(out, &plan.words.names, name.0)
 }
 
@@ -41,7 +40,7 @@ pub fn push_key(out: &mut String, plan: &Plan, gfid: Gfid, key: KeyId) -> Result
     ensures ok { OnOk result (string_bytes out.new ≡ string_bytes out.old ++ key_text plan.now gfid key) }
 {
     push_object(out, plan, gfid)?;
-    out.push_str(" ")?;
+    out.push(' ')?;
     push_word_at(out, &plan.words.keys, key.0)
 }
 
@@ -56,7 +55,11 @@ pub fn push_range(
     ensures ok { OnOk result (string_bytes out.new ≡ string_bytes out.old ++ range_text plan.now gfid from to) }
 {
     push_object(out, plan, gfid)?;
-    write!(out, "[{from},{to})")?;
+    out.push('[')?;
+    push_number(out, from)?;
+    out.push(',')?;
+    push_number(out, to)?;
+    out.push(')')?;
     Ok(())
 }
 
@@ -112,6 +115,8 @@ fn push_unended(out: &mut String, plan: &Plan, gfid: Gfid, from: u64) -> Result<
     ensures ok { OnOk result (string_bytes out.new ≡ string_bytes out.old ++ (object_text plan.now gfid ++ codes "[" ++ decimal from ++ codes ",end)")) }
 {
     push_object(out, plan, gfid)?;
-    write!(out, "[{from},end)")?;
+    out.push('[')?;
+    push_number(out, from)?;
+    out.push_str(",end)")?;
     Ok(())
 }

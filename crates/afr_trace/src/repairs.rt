@@ -10,6 +10,7 @@ use crate::objects::{push_object, push_range};
 use afr_base::{Gfid, Marks, NoMemory};
 use afr_object::Repair;
 use afr_plan::Plan;
+use afr_replies::push_number;
 
 /// Adds a repair, with the positions of the reads that it takes its contents from.
 pub fn push_repair(out: &mut String, plan: &Plan, repair: &Repair) -> Result<(), NoMemory>
@@ -41,8 +42,8 @@ fn push_copy(
     let from = u64::from(at);
     out.push_str("copy ")?;
     push_range(out, plan, gfid, from, from + u64::from(span))?;
-    write!(out, " from {read}")?;
-    Ok(())
+    out.push_str(" from ")?;
+    push_number(out, u64::from(read))
 }
 
 fn push_put_attrs(out: &mut String, plan: &Plan, gfid: Gfid, read: u32) -> Result<(), NoMemory>
@@ -50,8 +51,8 @@ fn push_put_attrs(out: &mut String, plan: &Plan, gfid: Gfid, read: u32) -> Resul
 {
     out.push_str("put-attrs ")?;
     push_object(out, plan, gfid)?;
-    write!(out, " from {read}")?;
-    Ok(())
+    out.push_str(" from ")?;
+    push_number(out, u64::from(read))
 }
 
 fn push_put_names(
@@ -72,8 +73,7 @@ fn push_put_names(
 pub fn push_marks(out: &mut String, plan: &Plan, marks: &Marks) -> Result<(), NoMemory>
     ensures ok { OnOk result (string_bytes out.new ≡ string_bytes out.old ++ marks_text plan.now marks.now) }
 {
-    let dirty = marks.dirty;
-    write!(out, "{dirty}")?;
+    push_number(out, u64::from(marks.dirty))?;
     push_first(out, usize::from(plan.shape.n), &marks.pending)
 }
 
@@ -83,7 +83,8 @@ fn push_first(out: &mut String, count: usize, numbers: &[u32]) -> Result<(), NoM
 {
     for (i, number) in numbers.iter().enumerate() {
         if i < count {
-            write!(out, " {number}")?;
+            out.push(' ')?;
+            push_number(out, u64::from(*number))?;
         }
     }
     Ok(())

@@ -13,7 +13,7 @@ use afr_base::{BrickSet, Gfid, KeyId, Kind, Marks, NameId, NoMemory};
 use afr_lines::{Area, Request};
 use afr_plan::Plan;
 use afr_range_locks::Domain;
-use afr_replies::{kind_word, push_word};
+use afr_replies::{kind_word, push_number, push_word};
 
 /// Adds a request: its word, and what it is about.
 pub fn push_request(out: &mut String, plan: &Plan, request: &Request) -> Result<(), NoMemory>
@@ -83,9 +83,8 @@ fn push_kind(
     ensures ok { OnOk result (string_bytes out.new ≡ string_bytes out.old ++ (word.now ++ object_text plan.now gfid ++ codes " " ++ kind_text kind)) }
 {
     push_about(out, plan, word, gfid)?;
-    let kind = kind_word(kind);
-    write!(out, " {kind}")?;
-    Ok(())
+    out.push(' ')?;
+    push_word(out, kind_word(kind))
 }
 
 fn push_read(out: &mut String, plan: &Plan, gfid: Gfid, at: u32, len: u32) -> Result<(), NoMemory>
@@ -113,14 +112,16 @@ fn push_read_attr(out: &mut String, plan: &Plan, gfid: Gfid, key: KeyId) -> Resu
 fn push_apply(out: &mut String, attempt: u32) -> Result<(), NoMemory>
     ensures ok { OnOk result (string_bytes out.new ≡ string_bytes out.old ++ (codes "apply " ++ decimal attempt)) }
 {
-    write!(out, "apply {attempt}")?;
-    Ok(())
+    out.push_str("apply ")?;
+    push_number(out, u64::from(attempt))
 }
 
 fn push_post(out: &mut String, attempt: u32, missed: BrickSet) -> Result<(), NoMemory>
     ensures ok { OnOk result (string_bytes out.new ≡ string_bytes out.old ++ (codes "post " ++ decimal attempt ++ codes " " ++ bricks_text missed)) }
 {
-    write!(out, "post {attempt} ")?;
+    out.push_str("post ")?;
+    push_number(out, u64::from(attempt))?;
+    out.push(' ')?;
     push_bricks(out, missed)
 }
 
@@ -134,6 +135,6 @@ fn push_settle(
     ensures ok { OnOk result (string_bytes out.new ≡ string_bytes out.old ++ (codes "settle " ++ object_text plan.now gfid ++ codes " " ++ kind_text kind ++ codes " " ++ marks_text plan.now less.now)) }
 {
     push_kind(out, plan, "settle ", gfid, kind)?;
-    out.push_str(" ")?;
+    out.push(' ')?;
     push_marks(out, plan, less)
 }

@@ -2,7 +2,7 @@
 
 use afr_base::{ActorId, AllMarks, BrickId, Gfid, KeyId, Kind, NameId, NoMemory, ValueId, What};
 use afr_lines::{Event, Good, HealReply, Line, Reply, Request, Told};
-use afr_object::{Change, Chunk, Entry, List, NameList, View};
+use afr_object::{Change, Chunk, Entry, List, NameList, View, Views};
 use std::alloc::Global;
 
 const ROOT: Gfid = Gfid(1);
@@ -146,7 +146,7 @@ pub fn refusals(alloc: Global) -> Result<Vec<Line>, NoMemory> {
         end(Reply::NotEmpty),
         end(Reply::NoQuorum),
         end(Reply::FewCopies),
-        end(Reply::SplitBrain([None; 5])),
+        end(Reply::SplitBrain(Views::new(alloc, &[None; 5])?)),
         end(Reply::Failed),
         end(Reply::TooLarge),
     ];
@@ -177,7 +177,7 @@ pub fn heals(alloc: Global) -> Result<Vec<Line>, NoMemory> {
         heal_begin(19, OTHER, Kind::Names),
         heal_end(HealReply::Nothing),
         heal_end(HealReply::Settled),
-        heal_end(HealReply::Split([None; 5])),
+        heal_end(HealReply::Split(Views::new(alloc, &[None; 5])?)),
         heal_end(HealReply::Busy(ActorId(18))),
         heal_end(HealReply::Short),
         heal_end(HealReply::Moved(BrickId(1))),

@@ -50,7 +50,7 @@ use Rattle.afr_transaction.proofs.Parts.{pair, deny, lt_test, any_nothing, holde
 same_self : (g : ℕ) → (g == g) ≡ true
 same_self g = grind (arith, nat_tests)
 
-same_area_self : (area : Area) → same_area area area ≡ true
+pub same_area_self : (area : Area) → same_area area area ≡ true
 same_area_self (Range g from to) = rw (same_self g.0, same_self from, same_self to) refl
 same_area_self (Name g None) = rw (same_self g.0) refl
 same_area_self (Name g (Some n)) = rw (same_self g.0, same_self n.0) refl
@@ -65,13 +65,13 @@ object_named (change.SetAttr g key value) = refl
 object_named (change.Make dir name g what) = refl
 object_named (change.Remove dir name what) = refl
 
-same_kind_self : (kind : Kind) → same_kind kind kind ≡ true
+pub same_kind_self : (kind : Kind) → same_kind kind kind ≡ true
 same_kind_self Bytes = refl
 same_kind_self Attrs = refl
 same_kind_self Names = refl
 
 -- the object and kind of a change are those of its area
-on_plane : (c : Change) (of : Option Area) → Suits c → of ≡ Some (area_for c) → plane_in of (object_of c).0 (kind_for c) ≡ true
+pub on_plane : (c : Change) (of : Option Area) → Suits c → of ≡ Some (area_for c) → plane_in of (object_of c).0 (kind_for c) ≡ true
 on_plane c of k e =
     subst (λ (o : Option Area). plane_in o (object_of c).0 (kind_for c) ≡ true) (sym e)
     (pair ((object_of c).0 == area_object (area_for c)) (same_kind (kind_for c) (area_kind (area_for c))) (rw (object_named c) (same_self (object_of c).0)) (rw k.kind (same_kind_self (kind_for c))))
@@ -84,19 +84,19 @@ asked_same r s b = go (same_step (step_of r.step) (step_of s))
     go true = refl
     go false = refl
 
-once_is : (most : ℕ) (c : Change) (r : Register) (s : Step) (b : ℕ) → HasBegun most c r → most ≡ rank (step_of s) → member (asked_at r s) b ≡ false → once (seen_as r) (step_of s) b ≡ true
+pub once_is : (most : ℕ) (c : Change) (r : Register) (s : Step) (b : ℕ) → HasBegun most c r → most ≡ rank (step_of s) → member (asked_at r s) b ≡ false → once (seen_as r) (step_of s) b ≡ true
 once_is most c r s b k e new =
     pair _ _ (pair _ _ low (deny _ (asked_same r s b ∙ new))) (deny _ k.open_still)
   where
     low : nat_le (rank (step_of r.step)) (rank (step_of s)) ≡ true
     low = let o = k.order in grind (arith, nat_tests, o, e)
 
-some_number : (q : ℕ) (o : Option ℕ) → o ≡ Some q → (not (number_of o == 0) ≡ true) × ((number_of o == suc (number_in o)) ≡ true)
+pub some_number : (q : ℕ) (o : Option ℕ) → o ≡ Some q → (not (number_of o == 0) ≡ true) × ((number_of o == suc (number_in o)) ≡ true)
 some_number q None e = absurd (cc e)
 some_number q (Some x) e = (grind (arith, nat_tests), same_self (suc x))
 
 -- the missed bricks are the others
-others_missed : (n : ℕ) (done : List ℕ) → n ≤ 5 → misses n (member done) (minus (below n) done) ≡ true
+pub others_missed : (n : ℕ) (done : List ℕ) → n ≤ 5 → misses n (member done) (minus (below n) done) ≡ true
 others_missed n done few = pair _ _ (none_past (minus (below n) done) (λ b m. inside b m)) (each 5 (omega arith))
   where
     outside : (a x : Bool) → (not a && x) ≡ true → x ≡ true
@@ -231,7 +231,7 @@ module _ (m : Progress) (suits : Suits m.change) (base : IsBase m.change m.regis
       (others_missed n r.done base.few))
 
   -- nothing is held at the end, and an ok is one of a majority
-  end_allowed : is_nothing r.held ≡ true → may_end n (seen_as r) (is_ok (reply_of m.change r)) ≡ true
+  pub end_allowed : is_nothing r.held ≡ true → may_end n (seen_as r) (is_ok (reply_of m.change r)) ≡ true
   end_allowed h = pair _ _ (pair _ _ (deny _ free) (deny _ (subst (λ (s : List ℕ). any n (member s) ≡ false) (sym base.none_healing) (any_nothing n)))) (either_way (is_majority n r.looked.reached) (is_majority n (holders_of r.looked)) (is_nothing (good_copies r.shape r.looked (kind_for m.change))) (is_majority n r.post) (number_of r.begun == 0) r.looked.views)
     where
       none : (s : List ℕ) → is_nothing s ≡ true → any n (member s) ≡ false
@@ -275,7 +275,7 @@ pub allowed_next : AllowedNext
 allowed_next m s at = allowed_at m s.suits s.base at m.stage s.during s.ready
 
 -- outside a heal an allowed line is one that the test of a move passes
-moves_of : (r : Register) (line : Next) (step : Move) → r.inside ≡ false → allowed r line ≡ true → IsMoveOf line step → may_move r.shape.n (keeps_in r.shape) (seen_as r) step ≡ true
+pub moves_of : (r : Register) (line : Next) (step : Move) → r.inside ≡ false → allowed r line ≡ true → IsMoveOf line step → may_move r.shape.n (keeps_in r.shape) (seen_as r) step ≡ true
 moves_of r line step outside h is = pick r.inside (may_move_inside r.shape.n (keeps_in r.shape) (seen_as r) step) (may_move_outside r.shape.n (keeps_in r.shape) (seen_as r) step) outside (by line step h is)
   where
     pick : (x p q : Bool) → x ≡ false → q ≡ true → (if x then p else q) ≡ true

@@ -33,11 +33,11 @@ use Rattle.afr_transaction.proofs.Quorum.{quorum_there}
 use Rattle.afr_transaction.proofs.Requests.{posts_lock, posts_look, quorum_pre, quorum_apply, quorum_post, posted_unlock, after_outside, noted_is, lock_kept, look_base, look_area, pre_base, pre_begun, apply_base, apply_begun, apply_enough, post_base, post_begun, post_enough, unlock_base}
 
 -- ---- where the machine stands then
-minus_nil : (s : List ℕ) → is_nothing s ≡ false → is_nothing (minus s []) ≡ false
+pub minus_nil : (s : List ℕ) → is_nothing s ≡ false → is_nothing (minus s []) ≡ false
 minus_nil [] h = h
 minus_nil (x ∷ xs) h = refl
 
-none_asked : (r : Register) (s : Step) (most : ℕ) → rank (step_of r.step) ≤ most → most < rank (step_of s) → asked_at r s ≡ []
+pub none_asked : (r : Register) (s : Step) (most : ℕ) → rank (step_of r.step) ≤ most → most < rank (step_of s) → asked_at r s ≡ []
 none_asked r s most low high = pick (same_step (step_of r.step) (step_of s)) apart
   where
     apart : same_step (step_of r.step) (step_of s) ≡ false
@@ -47,10 +47,10 @@ none_asked r s most low high = pick (same_step (step_of r.step) (step_of s)) apa
     pick true h = absurd (cc h)
     pick false h = refl
 
-later : (change : Change) (r : Register) (low high : ℕ) → low ≤ high → HasBegun low change r → HasBegun high change r
+pub later : (change : Change) (r : Register) (low high : ℕ) → low ≤ high → HasBegun low change r → HasBegun high change r
 later change r low high l k = let o = k.order in record { number = k.number; is_begun = k.is_begun; open_still = k.open_still; named = k.named; order = omega (arith, o, l) }
 
-most_of : (r : Register) (kind : Kind) (s : List ℕ) → enough r kind s ≡ true → is_majority r.shape.n s ≡ true
+pub most_of : (r : Register) (kind : Kind) (s : List ℕ) → enough r kind s ≡ true → is_majority r.shape.n s ≡ true
 most_of r kind s h = (both (is_most r.shape.n (member s)) _ h).0
 
 module _ (x : Progress) (suits : Suits x.change) (base : IsBase x.change x.register) where

@@ -1,7 +1,9 @@
 pub mod Acknowledged
 pub mod Allowed
 pub mod Kept
+pub mod NoteLemmas
 pub mod Parts
 pub mod Quorum
+pub mod ReadLemmas
 pub mod Requests
 pub mod Turned

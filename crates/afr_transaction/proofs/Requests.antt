@@ -46,19 +46,19 @@ noted_is r t b request told e =
 
 -- ---- a lock
 -- the register's halves, by whether a Work lock is held and whether the area is its own
-abbrev named_w : Bool → Bool → Register → Area → Register
+abbrev pub named_w : Bool → Bool → Register → Area → Register
 named_w w s r area = if w then record r { second = if s then r.second else Some area } else anew r area
 
-abbrev taken_w : Bool → Bool → Register → Area → ℕ → Register
+abbrev pub taken_w : Bool → Bool → Register → Area → ℕ → Register
 taken_w w s r area b = if w && not s then record r { second = Some area; second_held = added b r.second_held } else with_held (named_w w s r area) b
 
-abbrev law_w : Bool → Bool → Register → Area → ℕ → Told → Register
+abbrev pub law_w : Bool → Bool → Register → Area → ℕ → Told → Register
 law_w w s r area b told = if is_granted told then taken_w w s r area b else named_w w s r area
 
-abbrev steps_w : Bool → Register → Register
+abbrev pub steps_w : Bool → Register → Register
 steps_w w r = if w then stayed r else record r { step = step.Open; asked = []; unlocked = false; looked = no_looks }
 
-abbrev locked_w : Bool → Bool → Register → Area → ℕ → Told → Register
+abbrev pub locked_w : Bool → Bool → Register → Area → ℕ → Told → Register
 locked_w w s r area b told = after_by (steps_w w r) (law_w w s r area b told) b told
 
 -- what one more lock leaves

@@ -10,7 +10,7 @@ use afr_lines::Area;
 use afr_object::{Change, TryCopy};
 
 /// The area that a change locks.
-pub(crate) fn area_of(change: &Change) -> Area
+pub fn area_of(change: &Change) -> Area
     ensures { result ≡ area_for change.now }
 {
     match change {
@@ -77,7 +77,7 @@ pub(crate) fn kind_of(change: &Change) -> Kind
 }
 
 /// The object that a change is of: for a new or a removed entry, its directory.
-pub(crate) fn object_of(change: &Change) -> Gfid
+pub fn object_of(change: &Change) -> Gfid
     ensures { result ≡ object_of change.now }
 {
     match change {

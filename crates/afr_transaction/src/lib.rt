@@ -13,7 +13,7 @@ mod reply;
 mod stage;
 mod unlock;
 
-pub use change::has_area;
+pub use change::{area_of, has_area, object_of};
 pub use laws::{a_transaction_stays_sound, a_turn_keeps_the_discipline};
 pub use machine::Transaction;
 pub use reply::Outcome;

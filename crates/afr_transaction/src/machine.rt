@@ -5,6 +5,7 @@ ghost use Rattle.afr_discipline.specs.Stands.{no_lines};
 ghost use Rattle.afr_discipline.specs.declared.register.Register.{Register};
 ghost use Rattle.afr_lines.specs.declared.answer.Told.{Told};
 ghost use Rattle.afr_moves.specs.Register.{span};
+ghost use Rattle.afr_transaction.specs.Between.{given_up, is_read, noted_read};
 ghost use Rattle.afr_transaction.specs.Outcome.{outcome_of};
 ghost use Rattle.afr_transaction.specs.Progress.{CarriesAt, Progress, allowed, answered, asks, begun, fed, is_beginning, is_over, left, next_at, request_at, starting};
 ghost use Rattle.afr_transaction.specs.Sound.{IsAsking, IsUnused, Sound, Suits};
@@ -12,10 +13,11 @@ ghost use Rattle.afr_transaction.specs.Sound.{IsAsking, IsUnused, Sound, Suits};
 use crate::change::numbered;
 use crate::reply::{Outcome, outcome_of, reply_for};
 use crate::stage::{Asked, Stage, after, asked_after, left_of, request_of};
-use afr_base::{BrickSet, NoMemory, Shape};
+use afr_base::{BrickId, BrickSet, NoMemory, Shape};
 use afr_discipline::{Move, Register, fresh, note};
 use afr_lines::{Next, Request, Told};
 use afr_object::{Change, Load};
+use std::alloc::Global;
 use std::marker::Model;
 
 /// One transaction, of one change of one object.
@@ -69,8 +71,9 @@ impl Transaction {
         }
     }
 
-    /// The next line, for this position of the log. Only the copy of the change in a Begin line takes memory.
-    pub fn next(&self, at: u32) -> Result<Next, NoMemory>
+    /// The next line, for this position of the log. Only the change in a Begin line, and the views in an
+    /// End line, take memory.
+    pub fn next(&self, alloc: Global, at: u32) -> Result<Next, NoMemory>
         ensures value { IfOk result (λ next. next ≡ next_at self.now.stage at self.now) }
         ensures allowed { IfOk result (λ next. allowed self.now.register next ≡ true) }
     {
@@ -79,7 +82,10 @@ impl Transaction {
                 let change = numbered(&self.change, at)?;
                 Ok(Next::Begin(change))
             }
-            Stage::Closing => Ok(self.closing(at)),
+            Stage::Closing => {
+                let next = self.closing(alloc, at)?;
+                Ok(next)
+            }
             stage => Ok(self.asking(stage)),
         }
     }
@@ -110,6 +116,24 @@ impl Transaction {
             Stage::Beginning => self.begin(at),
             _ => self.answer(told, at),
         }
+    }
+
+    /// The work has read something between the looks and the attempt, which `give_up` may follow.
+    pub fn note_read(&mut self, brick: BrickId, request: &Request, told: &Told, at: u32)
+        requires beginning { is_beginning self.old.stage ≡ true }
+        requires small { brick.0 < 5 }
+        requires reads { is_read request.now ≡ true }
+        ensures { self.new ≡ noted_read brick.0 request.now told.now at self.old }
+    {
+        note(&mut self.register, &Move::Ask(brick, request), told, at);
+    }
+
+    /// The change is given up before its attempt: the locks are released, and then the work ends.
+    pub fn give_up(&mut self)
+        requires { is_beginning self.old.stage ≡ true }
+        ensures { self.new ≡ given_up self.old }
+    {
+        self.stage = Stage::Closing;
     }
 
     /// Whether no lock is left to release: the next line is the end of the work.
@@ -143,13 +167,14 @@ impl Transaction {
         let _ = &self.register;
     }
 
-    fn closing(&self, at: u32) -> Next
-        ensures { result ≡ next_at Stage.Closing at self.now }
+    fn closing(&self, alloc: Global, at: u32) -> Result<Next, NoMemory>
+        ensures { IfOk result (λ next. next ≡ next_at Stage.Closing at self.now) }
     {
         if self.register.held.is_empty() {
-            Next::End(reply_for(outcome_of(&self.change, &self.register)))
+            let reply = reply_for(alloc, &outcome_of(&self.change, &self.register))?;
+            Ok(Next::End(reply))
         } else {
-            self.asking(Stage::Closing)
+            Ok(self.asking(Stage::Closing))
         }
     }
 

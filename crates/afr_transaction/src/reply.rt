@@ -1,12 +1,14 @@
 //! What a transaction ends with.
-ghost use Rattle.std.specs.Prelude.{◌≡◌, ◌≤◌};
+ghost use Rattle.std.specs.Prelude.{◌≡◌, ◌≤◌, IfOk};
 ghost use Rattle.afr_transaction.specs.Outcome.{outcome_of, reply_for};
 
 use crate::change::kind_of;
+use afr_base::NoMemory;
 use afr_choice::{good, holders};
 use afr_discipline::Register;
 use afr_lines::{Good, Reply};
-use afr_object::{Change, View};
+use afr_object::{Change, View, Views};
+use std::alloc::Global;
 
 /// How a transaction ends.
 #[derive(Clone, Copy, Debug)]
@@ -43,14 +45,14 @@ pub(crate) fn outcome_of(change: &Change, r: &Register) -> Outcome
 }
 
 /// The reply of a work that is one transaction.
-pub(crate) fn reply_for(outcome: Outcome) -> Reply
-    ensures { result ≡ reply_for outcome }
+pub(crate) fn reply_for(alloc: Global, outcome: &Outcome) -> Result<Reply, NoMemory>
+    ensures { IfOk result (λ reply. reply ≡ reply_for outcome.now) }
 {
     match outcome {
-        Outcome::Acknowledged => Reply::Ok(Good::Done),
-        Outcome::NoQuorum => Reply::NoQuorum,
-        Outcome::FewCopies => Reply::FewCopies,
-        Outcome::SplitBrain(views) => Reply::SplitBrain(views),
-        Outcome::Failed => Reply::Failed,
+        Outcome::Acknowledged => Ok(Reply::Ok(Good::Done)),
+        Outcome::NoQuorum => Ok(Reply::NoQuorum),
+        Outcome::FewCopies => Ok(Reply::FewCopies),
+        Outcome::SplitBrain(views) => Ok(Reply::SplitBrain(Views::new(alloc, views)?)),
+        Outcome::Failed => Ok(Reply::Failed),
     }
 }

@@ -3,6 +3,7 @@ use afr_base::{AllMarks, Gfid, Shape, What};
 use afr_lines::{Next, Request, Told};
 use afr_object::{Change, View};
 use afr_transaction::{Outcome, Transaction};
+use std::alloc::Global;
 
 pub(crate) const FILE: Gfid = Gfid(2);
 
@@ -66,8 +67,8 @@ fn request_to(next: &Next, b: u8) -> Option<Request> {
 }
 
 /// The request of the next line, if it goes to this brick.
-pub(crate) fn asks(transaction: &Transaction, b: u8) -> Option<Request> {
-    match transaction.next(10) {
+pub(crate) fn asks(alloc: Global, transaction: &Transaction, b: u8) -> Option<Request> {
+    match transaction.next(alloc, 10) {
         Ok(next) => request_to(&next, b),
         Err(_) => None,
     }

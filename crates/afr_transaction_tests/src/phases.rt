@@ -6,29 +6,54 @@ use afr_lines::{Request, Told};
 #[test]
 fn a_held_lock_is_asked_again(rt: HostRuntime) {
     let mut transaction = cuts();
-    assert!(rt; matches!(asks(&transaction, 0), Some(Request::Lock { .. })));
+    assert!(rt;
+        matches!(
+            asks(rt.alloc(), &transaction, 0),
+            Some(Request::Lock { .. })
+        )
+    );
     tells(&mut transaction, Told::Held(ActorId(1)));
-    assert!(rt; matches!(asks(&transaction, 0), Some(Request::Lock { .. })));
+    assert!(rt;
+        matches!(
+            asks(rt.alloc(), &transaction, 0),
+            Some(Request::Lock { .. })
+        )
+    );
     tells(&mut transaction, Told::Granted);
-    assert!(rt; matches!(asks(&transaction, 1), Some(Request::Lock { .. })));
+    assert!(rt;
+        matches!(
+            asks(rt.alloc(), &transaction, 1),
+            Some(Request::Lock { .. })
+        )
+    );
 }
 
 #[test]
 fn a_cut_that_all_bricks_carry_out_is_acknowledged(rt: HostRuntime) {
     let mut transaction = cuts();
     begins(&mut transaction);
-    assert!(rt; matches!(asks(&transaction, 0), Some(Request::Pre { .. })));
-    tells_three(&mut transaction, [Told::Done; 3]);
-    assert!(rt; matches!(asks(&transaction, 0), Some(Request::Apply { attempt: 10 })));
+    assert!(rt; matches!(asks(rt.alloc(), &transaction, 0), Some(Request::Pre { .. })));
     tells_three(&mut transaction, [Told::Done; 3]);
     assert!(rt;
         matches!(
-            asks(&transaction, 0),
+            asks(rt.alloc(), &transaction, 0),
+            Some(Request::Apply { attempt: 10 })
+        )
+    );
+    tells_three(&mut transaction, [Told::Done; 3]);
+    assert!(rt;
+        matches!(
+            asks(rt.alloc(), &transaction, 0),
             Some(Request::Post { attempt: 10, .. })
         )
     );
     tells_three(&mut transaction, [Told::Done; 3]);
-    assert!(rt; matches!(asks(&transaction, 0), Some(Request::Unlock { .. })));
+    assert!(rt;
+        matches!(
+            asks(rt.alloc(), &transaction, 0),
+            Some(Request::Unlock { .. })
+        )
+    );
     tells_three(&mut transaction, [Told::Done; 3]);
     assert!(rt; transaction.is_over() && is_acknowledged(&transaction));
 }
@@ -38,7 +63,12 @@ fn a_brick_that_refuses_pre_op_is_left_out(rt: HostRuntime) {
     let mut transaction = cuts();
     begins(&mut transaction);
     tells_three(&mut transaction, [Told::Failed, Told::Done, Told::Done]);
-    assert!(rt; matches!(asks(&transaction, 1), Some(Request::Apply { .. })));
+    assert!(rt;
+        matches!(
+            asks(rt.alloc(), &transaction, 1),
+            Some(Request::Apply { .. })
+        )
+    );
 }
 
 #[test]
@@ -48,9 +78,19 @@ fn a_failed_unlock_is_asked_again(rt: HostRuntime) {
         &mut transaction,
         [Told::Granted, Told::Failed, Told::Failed],
     );
-    assert!(rt; matches!(asks(&transaction, 0), Some(Request::Unlock { .. })));
+    assert!(rt;
+        matches!(
+            asks(rt.alloc(), &transaction, 0),
+            Some(Request::Unlock { .. })
+        )
+    );
     tells(&mut transaction, Told::Failed);
-    assert!(rt; matches!(asks(&transaction, 0), Some(Request::Unlock { .. })));
+    assert!(rt;
+        matches!(
+            asks(rt.alloc(), &transaction, 0),
+            Some(Request::Unlock { .. })
+        )
+    );
     tells(&mut transaction, Told::Done);
     assert!(rt; transaction.is_over());
 }

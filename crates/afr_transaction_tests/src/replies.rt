@@ -36,5 +36,10 @@ fn an_operation_that_two_bricks_refuse_fails_and_accuses_nobody(rt: HostRuntime)
     tells_three(&mut transaction, [Told::Done; 3]);
     tells_three(&mut transaction, [Told::Done, Told::Failed, Told::Failed]);
     tells_three(&mut transaction, [Told::Done; 3]);
-    assert!(rt; matches!(transaction.next(10), Ok(Next::End(Reply::Failed))));
+    assert!(rt;
+        matches!(
+            transaction.next(rt.alloc(), 10),
+            Ok(Next::End(Reply::Failed))
+        )
+    );
 }

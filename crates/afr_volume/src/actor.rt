@@ -112,6 +112,7 @@ fn meets(actor: &mut Actor, a: ActorId, servers: &mut Servers)
     }
 }
 
+#[inline(never)]
 fn begins(
     actor: &mut Actor,
     a: ActorId,
@@ -131,6 +132,7 @@ fn begins(
     line
 }
 
+#[inline(never)]
 fn ends(actor: &mut Actor, a: ActorId, reply: Reply, servers: &mut Servers) -> Line
     requires room { actor.old.ended < 2 ^ 32 - 1 }
     requires known { a.0 < 20 }

@@ -5,17 +5,17 @@ ghost use Rattle.afr_model.specs.Actors.{script_of};
 ghost use Rattle.afr_volume.specs.declared.actor.Actor.{Actor};
 ghost use Rattle.afr_volume.specs.Acting.{CanStep};
 ghost use Rattle.afr_volume.specs.Turning.{HasVictim, KillsIn, ReadiedAt, StepsAt, waits_for};
-ghost use Rattle.afr_works.specs.Begin.{has_machine};
-ghost use Rattle.afr_works.specs.Work.{IsBusy};
+ghost use Rattle.afr_works.specs.Begin.{has_machine, work_from};
+ghost use Rattle.afr_works.specs.Work.{IsBusy, IsWork};
 
 use crate::actor::{Actor, step};
 use crate::turned::Turned;
-use afr_base::{ActorId, NoMemory};
+use afr_base::{ActorId, NoMemory, Shape};
 use afr_lines::{Event, Line, Request, Told};
-use afr_plan::Plan;
+use afr_plan::{Command, Plan};
 use afr_range_locks::Domain;
 use afr_servers::Servers;
-use afr_works::work_for;
+use afr_works::{Work, work_for};
 use std::alloc::Global;
 
 /// An actor that has work left has the machine of its present command.
@@ -42,8 +42,26 @@ pub(crate) fn ready_actor(
     }
     let script = plan.clients.item(at);
     let command = script.item(actors[at].ended as usize);
-    let work = work_for(alloc, plan.shape, command)?;
-    actors[at].work = work;
+    begin_work(alloc, plan.shape, command, &mut actors[at].work)?;
+    Ok(())
+}
+
+/// The machine of a command that begins. It stands apart, so that only such turns pay for a frame that holds a whole machine.
+#[inline(never)]
+fn begin_work(
+    alloc: Global,
+    shape: Shape,
+    command: &Command,
+    work: &mut Work,
+) -> Result<(), NoMemory>
+    requires few { shape.n ≤ 5 }
+    requires some { 0 < shape.n }
+    requires has { has_machine command.now ≡ true }
+    ensures ok { OnOk result (work.new ≡ work_from shape command.now) }
+    ensures sound { OnOk result (IsWork work.new) }
+    ensures err { OnErr result (work.new ≡ work.old) }
+{
+    *work = work_for(alloc, shape, command)?;
     Ok(())
 }
 

@@ -1,5 +1,5 @@
 -- Every step of a walk has somebody left to ask, and its register is one of free lines.
-use Rattle.std.proofs.Common.{◌≡◌, ℕ, ◌+◌, ◌<◌, ◌≤◌, ◌==◌, Bool, true, false, not, List, [], ◌∷◌, refl, arith, length, Option, Some, None, if◌then◌else◌, inl, inr, ◌⊎◌, ◌≢◌, ap, ◌∙◌}
+use Rattle.std.proofs.Common.{◌≡◌, ℕ, ◌+◌, ◌<◌, ◌≤◌, ◌==◌, Bool, true, false, not, List, [], ◌∷◌, refl, arith, length, Option, Some, None, if◌then◌else◌, inl, inr, ◌⊎◌, ◌≢◌, ap, sym, subst, ◌∙◌}
 use Rattle.std.proofs.lemmas.Bool.Decides.{eqb_tells}
 use Rattle.afr_base.specs.Bricks.{below, lowest, is_nothing, IsWithin}
 use Rattle.afr_base.specs.Majority.{is_majority}
@@ -151,6 +151,17 @@ is_walked_at (Looking s) heard w k i = record {
 is_walked_at (Naming b) heard w k i = is_named heard w i.1 k
 is_walked_at Arrived heard w k i = k
 is_walked_at (Stopped why) heard w k i = k
+
+-- while a brick is left to look at, the walk goes on looking
+pub looks_on : (w : Walk) (s t : Looks) (told : Told) → w.step ≡ Looking s → t ≡ heard_look w.shape.n told s → is_nothing (left_to_look w.shape.n t) ≡ false → IsWalk w
+    → IsWalk (record w { step = Looking t })
+looks_on w s t told es et more k = record { few = k.few; some = k.some; within = k.within; step = (record { left = more; reached = within }, looking.1); free = k.free }
+  where
+    looking : IsStep w.shape.n (length w.path) w.read (Looking s)
+    looking = subst (λ (step : WalkStep). IsStep w.shape.n (length w.path) w.read step) es k.step
+
+    within : IsWithin w.shape.n t.looked.reached
+    within = subst (λ (x : Looks). IsWithin w.shape.n x.looked.reached) (sym et) (heard_within w.shape.n told s looking.0)
 
 pub is_walked : (heard : Answer) (at : ℕ) (w : Walk) → IsWalk w → is_walking w.step ≡ true → IsWalk (walked heard at w)
 is_walked heard at w k walks = is_walked_at w.step heard (noted (next_in w) (told_by heard) at w) (is_noted (next_in w) (told_by heard) at w k (asks_free w k walks).0) k.step

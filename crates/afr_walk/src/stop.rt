@@ -2,7 +2,7 @@
 ghost use Rattle.std.specs.Prelude.{◌≡◌};
 ghost use Rattle.afr_walk.specs.Stops.{reply_of};
 
-use afr_lines::Reply;
+use afr_lines::{KeptReply, Reply};
 use afr_object::View;
 
 /// The causes that a walk, and a read at its end, can stop at.
@@ -22,16 +22,16 @@ pub enum Stop {
 }
 
 /// The reply of a stop.
-pub fn stop_reply(stop: Stop) -> Reply
-    ensures { result ≡ reply_of stop }
+pub fn stop_reply(stop: &Stop) -> KeptReply
+    ensures { result ≡ reply_of stop.now }
 {
     match stop {
-        Stop::NoEntry => Reply::NoEntry,
-        Stop::NotDir => Reply::NotDir,
-        Stop::IsDir => Reply::IsDir,
-        Stop::NoQuorum => Reply::NoQuorum,
-        Stop::FewCopies => Reply::FewCopies,
-        Stop::SplitBrain(views) => Reply::SplitBrain(views),
-        Stop::Failed => Reply::Failed,
+        Stop::NoEntry => KeptReply::new(Reply::NoEntry),
+        Stop::NotDir => KeptReply::new(Reply::NotDir),
+        Stop::IsDir => KeptReply::new(Reply::IsDir),
+        Stop::NoQuorum => KeptReply::new(Reply::NoQuorum),
+        Stop::FewCopies => KeptReply::new(Reply::FewCopies),
+        Stop::SplitBrain(views) => KeptReply::split(views),
+        Stop::Failed => KeptReply::new(Reply::Failed),
     }
 }

@@ -109,7 +109,7 @@ impl Walk {
         requires walking { is_walking self.now.step ≡ true }
         ensures { result ≡ next_in self.now }
     {
-        match self.step {
+        match &self.step {
             WalkStep::Looking(looks) => (
                 looks.next_brick(self.shape.n),
                 Request::Look {
@@ -117,7 +117,7 @@ impl Walk {
                 },
             ),
             WalkStep::Naming(brick) => (
-                brick,
+                *brick,
                 Request::ReadName {
                     gfid: self.object.gfid,
                     name: *self.path.item(self.read),
@@ -132,9 +132,12 @@ impl Walk {
         ensures value { self.new ≡ walked_at self.old.step answer.now self.old }
         ensures kept { IsWalk self.new }
     {
-        match self.step {
+        match &mut self.step {
             WalkStep::Looking(looks) => {
-                self.step = look_heard(self.shape, looks, &told_of(answer));
+                looks.hear(self.shape.n, &told_of(answer));
+                if looks.is_over(self.shape.n) {
+                    self.step = judged_by(self.shape, looks);
+                }
             }
             WalkStep::Naming(_) => self.name_heard(answer),
             _ => {}
@@ -188,30 +191,26 @@ fn step_from(names: usize, read: usize, object: Entry) -> WalkStep
     }
 }
 
-fn look_heard(shape: Shape, looks: Looks, told: &Told) -> WalkStep
+/// All bricks were asked.
+fn judged_by(shape: Shape, looks: &Looks) -> WalkStep
     requires few { shape.n ≤ 5 }
-    requires left { is_nothing (left_to_look shape.n looks) ≡ false }
-    ensures { result ≡ after_looks shape (heard_look shape.n told.now looks) }
+    requires over { is_nothing (left_to_look shape.n looks.now) ≡ true }
+    ensures { result ≡ after_looks shape looks.now }
 {
-    let mut looks = looks;
-    looks.hear(shape.n, told);
-    if !looks.is_over(shape.n) {
-        return WalkStep::Looking(looks);
-    }
     judged(
         judge(&shape, &looks.looked, Kind::Names),
-        looks.looked.views,
+        &looks.looked.views,
     )
 }
 
-fn judged(verdict: Verdict, views: [Option<View>; 5]) -> WalkStep
+fn judged(verdict: Verdict, views: &[Option<View>; 5]) -> WalkStep
     requires { IsChoice verdict }
-    ensures { result ≡ verdict_step verdict views }
+    ensures { result ≡ verdict_step verdict views.now }
 {
     match verdict {
         Verdict::Short => WalkStep::Stopped(Stop::NoQuorum),
         Verdict::Bare => WalkStep::Stopped(Stop::FewCopies),
-        Verdict::Split => WalkStep::Stopped(Stop::SplitBrain(views)),
+        Verdict::Split => WalkStep::Stopped(Stop::SplitBrain(*views)),
         Verdict::Sources(sources) => WalkStep::Naming(choose(sources)),
     }
 }

@@ -45,5 +45,8 @@ fn a_name_is_read_at_the_lowest_good_copy(rt: HostRuntime) {
 
 #[test]
 fn a_stop_has_its_reply(rt: HostRuntime) {
-    assert!(rt; matches!(stop_reply(Stop::NoQuorum), Reply::NoQuorum));
+    let kept = stop_reply(&Stop::NoQuorum);
+    assert!(rt; matches!(kept.to_reply(rt.alloc()), Ok(Reply::NoQuorum)));
+    let kept = stop_reply(&Stop::SplitBrain([None; 5]));
+    assert!(rt; matches!(kept.to_reply(rt.alloc()), Ok(Reply::SplitBrain(_))));
 }

@@ -7,7 +7,7 @@ use crate::words::{
 };
 use afr_base::{ActorId, BrickId, NoMemory, What};
 use afr_lines::{Event, Good, HealReply, Line, Reply, Told};
-use afr_object::Change;
+use afr_object::{Change, View, Views};
 use std::alloc::Global;
 
 /// Why there is no log.
@@ -175,7 +175,7 @@ fn ended(
         Some("no-entry") => Ok(end(actor, Reply::NoEntry)),
         Some("failed") => Ok(end(actor, Reply::Failed)),
         Some("no-quorum") => Ok(end(actor, Reply::NoQuorum)),
-        Some("split-brain") => ended_split(actor, words, older).ok_or(NoLog::NoLine),
+        Some("split-brain") => ended_split(alloc, actor, words, older),
         Some(kind) => heal_ended(actor, kind, words).ok_or(NoLog::NoLine),
         None => Err(NoLog::NoLine),
     }
@@ -193,9 +193,21 @@ fn ended_ok(alloc: Global, actor: ActorId, digits: Option<&str>) -> Result<Line,
 }
 
 /// The looks at these positions found the split-brain.
-fn ended_split(actor: ActorId, words: &mut Words<'_>, older: &[Line]) -> Option<Line> {
-    let views = views_at(words.next()?, older)?;
-    Some(end(actor, Reply::SplitBrain(views)))
+fn ended_split(
+    alloc: Global,
+    actor: ActorId,
+    words: &mut Words<'_>,
+    older: &[Line],
+) -> Result<Line, NoLog> {
+    let Some(views) = split_views(words, older) else {
+        return Err(NoLog::NoLine);
+    };
+    let views = Views::new(alloc, &views)?;
+    Ok(end(actor, Reply::SplitBrain(views)))
+}
+
+fn split_views(words: &mut Words<'_>, older: &[Line]) -> Option<[Option<View>; 5]> {
+    views_at(words.next()?, older)
 }
 
 fn end(actor: ActorId, reply: Reply) -> Line {

@@ -1,7 +1,7 @@
 //! Answers in the log, and copies of replies.
-use afr_base::{ActorId, NoMemory};
-use afr_lines::{Answer, Good, Reply, Told, told_of};
-use afr_object::{List, TryCopy};
+use afr_base::{ActorId, AllMarks, NoMemory, What};
+use afr_lines::{Answer, Good, KeptReply, Reply, Told, told_of};
+use afr_object::{List, TryCopy, View};
 use std::alloc::Global;
 use std::test::Fail;
 
@@ -41,5 +41,32 @@ fn a_reply_is_copied(rt: HostRuntime) -> Result<(), Fail> {
     assert!(rt; copied);
     let plain = matches!(Reply::NoQuorum.copy(), Ok(Reply::NoQuorum));
     assert!(rt; plain);
+    Ok(())
+}
+
+fn seen() -> Option<View> {
+    Some(View {
+        what: What::File,
+        len: 5,
+        marks: AllMarks::zero(),
+    })
+}
+
+/// The views that the End line of a kept split-brain has, copied once more.
+fn split_views(alloc: Global) -> Result<Option<[Option<View>; 5]>, NoMemory> {
+    let kept = KeptReply::split(&[seen(), None, None, None, None]);
+    let reply = kept.to_reply(alloc)?.copy()?;
+    match &reply {
+        Reply::SplitBrain(views) => Ok(Some(*views.as_array())),
+        _ => Ok(None),
+    }
+}
+
+#[test]
+fn a_kept_reply_is_that_of_the_end_line(rt: HostRuntime) -> Result<(), Fail> {
+    let views = split_views(rt.alloc()).ok().ok_or("memory")?;
+    assert!(rt; views == Some([seen(), None, None, None, None]));
+    let kept = KeptReply::new(Reply::NoQuorum);
+    assert!(rt; matches!(kept.to_reply(rt.alloc()), Ok(Reply::NoQuorum)));
     Ok(())
 }

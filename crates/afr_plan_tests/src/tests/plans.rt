@@ -114,7 +114,7 @@ fn clients_of_what_is_there_can_be_run(rt: HostRuntime) -> Result<(), Fail> {
         ("client 1\nmkdir /a\n", false),
         ("client 1\nunlink /a\n", false),
         ("client 1\nrmdir /a\n", false),
-        ("client 1\nls /\n", false),
+        ("client 1\nls /\nls /f1\n", true),
         ("client 1\nclient 2\nstat /\n", true),
         ("healer 1\n", false),
         ("fault 0 1 fail\nfault 1 2 lost\n", true),

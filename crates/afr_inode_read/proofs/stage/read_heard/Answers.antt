@@ -8,6 +8,7 @@ use Rattle.afr_walk.specs.declared.walk.Walk.{Walk}
 use Rattle.afr_inode_read.specs.Job.{request_of}
 use Rattle.afr_inode_read.specs.Lookup.{IsLookup, walk_after}
 use Rattle.afr_inode_read.specs.declared.job.LookupJob.TheVariants.{Ls}
+use Rattle.afr_inode_read.specs.declared.stage.LookupStage.{LookupStage}
 use Rattle.afr_inode_read.specs.declared.stage.LookupStage.TheVariants.{Reading, Ending}
 use Rattle.afr_inode_read.proofs.LookupLemmas.{free_request, read_kept}
 use Rattle.afr_inode_read.proofs.stage.read_heard.Goals as goal
@@ -15,7 +16,7 @@ use Rattle.afr_inode_read.proofs.stage.read_heard.Goals as goal
 pub note-requires-clause-free : goal.note-requires-clause-free
 note-requires-clause-free c = subst (λ (r : Request). is_free r ≡ true) (sym c.request_of-request.ensures) (free_request c.args.walk.now.object.gfid c.args.content)
 
-noted_walk : (c : goal.After-reply_to) → c.note.new.self ≡ walk_after (Reading c.args.brick c.args.content) c.args.answer c.args.at c.args.walk.now
+noted_walk : (c : goal.After-ending) → c.note.new.self ≡ walk_after (Reading c.args.brick c.args.content) c.args.answer c.args.at c.args.walk.now
 noted_walk c =
     c.note.ensures.value
     ∙ ap (λ (r : Request). noted (c.args.brick, r) c.told_of-told.result c.args.at c.args.walk.now) c.request_of-request.ensures
@@ -24,7 +25,7 @@ noted_walk c =
 pub returns : goal.returns
 returns c = record {
   walk = noted_walk c;
-  stage = ap (λ (said : Reply). Ending said) c.reply_to.ensures;
-  kept = subst (λ (w : Walk). IsLookup w (Ending c.reply_to.result)) (sym (noted_walk c))
-      (record { sound = (read_kept c.args.walk.now c.args.brick c.args.content c.args.answer c.args.at Ls c.requires).sound; ready = tt });
+  stage = c.ending.ensures ∙ ap (λ (said : Reply). Ending said) c.reply_to.ensures;
+  kept = subst (λ (stage : LookupStage). IsLookup c.note.new.self stage) (sym c.ending.ensures) (subst (λ (w : Walk). IsLookup w (Ending c.reply_to.result)) (sym (noted_walk c))
+      (record { sound = (read_kept c.args.walk.now c.args.brick c.args.content c.args.answer c.args.at Ls c.requires).sound; ready = tt }));
 }

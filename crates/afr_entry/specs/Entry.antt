@@ -1,0 +1,249 @@
+-- A command on a name of a directory, step by step.
+use Rattle.std.specs.Prelude.{◌≡◌, ℕ, Bool, true, false, List, Option, Some, None, if◌then◌else◌}
+use Rattle.afr_base.specs.Bricks.{lowest}
+use Rattle.afr_base.specs.declared.ids.BrickId.{BrickId}
+use Rattle.afr_base.specs.declared.ids.Gfid.{Gfid}
+use Rattle.afr_base.specs.declared.ids.Kind.TheVariants.{Names}
+use Rattle.afr_base.specs.declared.ids.NameId.{NameId}
+use Rattle.afr_base.specs.declared.ids.Shape.{Shape}
+use Rattle.afr_object.specs.Tables.{is_dir}
+use Rattle.afr_object.specs.declared.change.Load.{Load}
+use Rattle.afr_object.specs.declared.change.Load.TheVariants as load
+use Rattle.afr_object.specs.declared.entry.Entry.{Entry}
+use Rattle.afr_choice.specs.Verdict.{good_copies}
+use Rattle.afr_lines.specs.Told.{told_by}
+use Rattle.afr_lines.specs.declared.answer.Answer.{Answer}
+use Rattle.afr_lines.specs.declared.answer.Told.{Told}
+use Rattle.afr_lines.specs.declared.line.Heard.{Heard}
+use Rattle.afr_lines.specs.declared.line.Heard.TheVariants as heard
+use Rattle.afr_lines.specs.declared.line.Next.{Next}
+use Rattle.afr_lines.specs.declared.line.Next.TheVariants as next
+use Rattle.afr_lines.specs.declared.reply.Reply.TheVariants as reply
+use Rattle.afr_lines.specs.declared.request.Request.{Request}
+use Rattle.afr_lines.specs.declared.request.Request.TheVariants as request
+use Rattle.afr_discipline.specs.declared.register.Register.{Register}
+use Rattle.afr_walk.specs.Stops.{reply_of}
+use Rattle.afr_walk.specs.Walk.{walk_from, next_in, walked, is_walking, IsWalk}
+use Rattle.afr_walk.specs.declared.walk.Walk.{Walk}
+use Rattle.afr_walk.specs.declared.walk.WalkStep.{WalkStep}
+use Rattle.afr_walk.specs.declared.walk.WalkStep.TheVariants as walking
+use Rattle.afr_transaction.specs.Between.{given_up, noted_read}
+use Rattle.afr_transaction.specs.Progress as transaction
+use Rattle.afr_transaction.specs.Progress.{Progress, CarriesAt, begun, fed, is_beginning, starting}
+use Rattle.afr_transaction.specs.Sound.{Sound}
+use Rattle.afr_transaction.specs.declared.stage.Stage.{Stage}
+use Rattle.afr_transaction.specs.declared.stage.Stage.TheVariants.{Locking, Looking, Preparing, Applying, Posting, Closing}
+use Rattle.afr_removal.specs.Removal as removal
+use Rattle.afr_removal.specs.Removal.{Removing, removing}
+use Rattle.afr_removal.specs.Sound as removal_sound
+use Rattle.afr_entry.specs.Job.{change_of, child_by, name_of, reply_to, ruled_out}
+use Rattle.afr_entry.specs.declared.job.EntryJob.{EntryJob}
+use Rattle.afr_entry.specs.declared.job.EntryJob.TheVariants.{Rmdir}
+use Rattle.afr_entry.specs.declared.refusal.Refusal.{Refusal}
+use Rattle.afr_entry.specs.declared.stage.EntryStage.{EntryStage}
+use Rattle.afr_entry.specs.declared.stage.EntryStage.TheVariants.{Walking, Changing, Removes, Ending}
+use Rattle.afr_entry.specs.declared.stage.Found.{Found}
+use Rattle.afr_entry.specs.declared.stage.Found.TheVariants.{Unread, Fits, Refused}
+
+-- a command: the path to its directory on the way, what it does with a name there, and where it stands
+pub record Entering : Type 0 where
+  pub walk : Walk
+  pub job : EntryJob
+  pub stage : EntryStage
+
+-- ---- how it begins
+-- the path has led somewhere: only a directory has names
+abbrev pub at_directory : Entry → Register → EntryJob → EntryStage
+at_directory dir register job = if is_dir dir.what then Changing (starting (change_of dir.gfid job) register) Unread else Ending reply.NotDir
+
+-- where a step of the walk leaves the command
+abbrev pub after_step : WalkStep → EntryJob → Walk → EntryStage
+after_step (walking.Looking s) job w = Walking
+after_step (walking.Naming b) job w = Walking
+after_step walking.Arrived job w = at_directory w.object w.register job
+after_step (walking.Stopped why) job w = Ending (reply_of why)
+
+-- where the walk leaves it
+abbrev pub after_walk : EntryJob → Walk → EntryStage
+after_walk job w = after_step w.step job w
+
+-- a command that begins
+abbrev pub entry_from : Shape → List NameId → EntryJob → Entering
+entry_from shape path job = record { walk = walk_from shape path; job = job; stage = after_walk job (walk_from shape path) }
+
+-- ---- what it asks
+-- who is asked for the name: the lowest good copy of the directory, by the looks under the locks
+abbrev pub reader : Register → BrickId
+reader r = record { 0 = lowest (good_copies r.shape r.looked Names) }
+
+-- the request for the name
+abbrev pub reads_name : EntryJob → Walk → Request
+reads_name job w = request.ReadName w.object.gfid (name_of job)
+
+-- the next line under the locks: the name is read before the attempt, and a refusal is said once no lock is left
+abbrev pub next_under : Found → ℕ → EntryJob → Walk → Progress → Next
+next_under Unread at job w t = if is_beginning t.stage then next.Ask (reader t.register) (reads_name job w) else transaction.next_at t.stage at t
+next_under Fits at job w t = transaction.next_at t.stage at t
+next_under (Refused why) at job w t = if transaction.is_over t.stage t then next.End (reply_to why) else transaction.next_at t.stage at t
+
+-- the next line, if it is written at this position
+abbrev pub next_at : ℕ → EntryStage → EntryJob → Walk → Next
+next_at at Walking job w = next.Ask (next_in w).0 (next_in w).1
+next_at at (Changing t found) job w = next_under found at job w t
+next_at at (Removes m) job w = removal.next_at m.stage m
+next_at at (Ending said) job w = next.End said
+
+-- what a command does next
+abbrev pub next_of : ℕ → Entering → Next
+next_of at m = next_at at m.stage m.job m.walk
+
+-- whether the next line is the end
+abbrev pub is_over : EntryStage → Bool
+is_over Walking = false
+is_over (Changing t found) = transaction.is_over t.stage t
+is_over (Removes m) = removal.is_over m.stage m
+is_over (Ending said) = true
+
+-- what the lines so far show
+abbrev pub register_at : EntryStage → Walk → Register
+register_at (Changing t found) w = t.register
+register_at (Removes m) w = m.register
+register_at stage w = w.register
+
+-- the same of a whole command
+abbrev pub register_of : Entering → Register
+register_of m = register_at m.stage m.walk
+
+-- the contents that go with the next request
+abbrev pub CarriesNext : EntryStage → Load → Type 0
+CarriesNext (Changing t found) carried = CarriesAt t.stage carried t.change
+CarriesNext (Removes m) carried = removal.CarriesAt m.stage carried m.change
+CarriesNext stage carried = carried ≡ load.Nothing
+
+-- ---- what it makes of an answer
+-- the name was told: nothing rules the change out, or this does
+abbrev pub found_by : Option Refusal → Found
+found_by None = Fits
+found_by (Some why) = Refused why
+
+-- a change that is ruled out is given up
+abbrev pub settled : Option Refusal → Progress → Progress
+settled None t = t
+settled (Some why) t = given_up t
+
+-- the register notes the read of the name
+abbrev pub name_noted : EntryJob → Walk → Told → ℕ → Progress → Progress
+name_noted job w told at t = noted_read (reader t.register).0 (reads_name job w) told at t
+
+-- the transaction has its answer, where it has asked
+abbrev pub told_to : Told → ℕ → Progress → Progress
+told_to told at t = if is_beginning t.stage then t else fed t.stage told at t
+
+-- the transaction after an answer
+abbrev pub progress_after : Found → Answer → ℕ → EntryJob → Walk → Progress → Progress
+progress_after Unread a at job w t = if is_beginning t.stage then settled (ruled_out job a) (name_noted job w (told_by a) at t) else fed t.stage (told_by a) at t
+progress_after found a at job w t = told_to (told_by a) at t
+
+-- what the name was found to be, after an answer
+abbrev pub found_after : Found → Answer → EntryJob → Stage → Found
+found_after Unread a job stage = if is_beginning stage then found_by (ruled_out job a) else Unread
+found_after found a job stage = found
+
+-- the directory that the name was found to lead to, where it is to be removed
+abbrev pub child_after : Found → Answer → EntryJob → Stage → Option Gfid
+child_after Unread a job stage = if is_beginning stage then child_by job a else None
+child_after found a job stage = None
+
+-- the change goes on, or a removal goes on to the directory itself
+abbrev pub or_removes : Option Gfid → Progress → Found → EntryStage
+or_removes None t found = Changing t found
+or_removes (Some child) t found = Removes (removing t.change t.register child)
+
+-- a removal has its answer, where it has asked
+abbrev pub removal_after : Answer → ℕ → Removing → Removing
+removal_after a at m = if removal.is_beginning m.stage then m else removal.answered m.stage a at m
+
+-- an answer moves the walk, while there is one
+abbrev pub walk_after : EntryStage → Answer → ℕ → Walk → Walk
+walk_after Walking a at w = walked a at w
+walk_after stage a at w = w
+
+-- the stage after an answer, by the walk that it has moved
+abbrev pub stage_after : EntryStage → Answer → ℕ → EntryJob → Walk → EntryStage
+stage_after Walking a at job w = after_walk job w
+stage_after (Changing t found) a at job w = or_removes (child_after found a job t.stage) (progress_after found a at job w t) (found_after found a job t.stage)
+stage_after (Removes m) a at job w = Removes (removal_after a at m)
+stage_after (Ending said) a at job w = Ending said
+
+-- the command after an answer at this position
+abbrev pub answered : Answer → ℕ → Entering → Entering
+answered a at m = record { walk = walk_after m.stage a at m.walk; job = m.job; stage = stage_after m.stage a at m.job (walk_after m.stage a at m.walk) }
+
+-- the transaction's attempt has its number; before the name is read it has none
+abbrev pub progress_begun : Found → ℕ → Progress → Progress
+progress_begun Unread at t = t
+progress_begun found at t = if is_beginning t.stage then begun at t else t
+
+-- and the attempt of a removal
+abbrev pub removal_begun : ℕ → Removing → Removing
+removal_begun at m = if removal.is_beginning m.stage then removal.begun at m else m
+
+-- the stage after a Begin line
+abbrev pub stage_begun : EntryStage → ℕ → EntryStage
+stage_begun (Changing t found) at = Changing (progress_begun found at t) found
+stage_begun (Removes m) at = Removes (removal_begun at m)
+stage_begun stage at = stage
+
+-- the command after its line was written and answered
+abbrev pub heard_by : Heard → Entering → Entering
+heard_by (heard.Answer a at) m = answered a at m
+heard_by (heard.Begun at) m = record m { stage = stage_begun m.stage at }
+
+-- ---- what it keeps
+-- the name is read between the looks and the attempt, and what it rules out is never begun
+abbrev pub fits_stage : Found → Stage → Bool
+fits_stage Unread Preparing = false
+fits_stage Unread Applying = false
+fits_stage Unread Posting = false
+fits_stage Unread stage = true
+fits_stage Fits Locking = false
+fits_stage Fits Looking = false
+fits_stage Fits stage = true
+fits_stage (Refused why) Closing = true
+fits_stage (Refused why) stage = false
+
+-- a removal of a directory never goes on as the transaction that has locked its name
+abbrev pub fits_job : Found → EntryJob → Bool
+fits_job Fits (Rmdir name) = false
+fits_job found job = true
+
+-- a sound transaction of the job's change of the directory that the path has led to
+pub record IsChanging (w : Walk) (job : EntryJob) (t : Progress) (found : Found) : Type 0 where
+  pub sound : Sound t
+  pub of_job : t.change ≡ change_of w.object.gfid job
+  pub in_turn : fits_stage found t.stage ≡ true
+  pub fits : fits_job found job ≡ true
+
+-- a sound removal with the job's change
+pub record IsRemoving (w : Walk) (job : EntryJob) (m : Removing) : Type 0 where
+  pub sound : removal_sound.Sound m
+  pub of_job : m.change ≡ change_of w.object.gfid job
+
+-- the name was told to lead to a directory that is to be removed
+pub record IsToRemove (w : Walk) (job : EntryJob) (t : Progress) : Type 0 where
+  pub sound : Sound t
+  pub of_job : t.change ≡ change_of w.object.gfid job
+  pub beginning : is_beginning t.stage ≡ true
+  pub removes : removal_sound.IsRemoval t.change
+
+-- the path is on its way, or the name is locked, read and changed in this order
+abbrev pub IsStage : Walk → EntryJob → EntryStage → Type 0
+IsStage w job Walking = is_walking w.step ≡ true
+IsStage w job (Changing t found) = IsChanging w job t found
+IsStage w job (Removes m) = IsRemoving w job m
+IsStage w job (Ending said) = Unit {0}
+
+-- what every command on a name keeps
+pub record IsEntry (walk : Walk) (job : EntryJob) (stage : EntryStage) : Type 0 where
+  pub sound : IsWalk walk
+  pub ready : IsStage walk job stage

@@ -1,0 +1,31 @@
+-- What holds of all commands on names at once.
+use Rattle.std.specs.Prelude.{◌≡◌, ℕ, false}
+use Rattle.afr_base.specs.declared.ids.BrickId.{BrickId}
+use Rattle.afr_object.specs.declared.change.Change.{Change}
+use Rattle.afr_lines.specs.Told.{told_by}
+use Rattle.afr_lines.specs.declared.answer.Answer.{Answer}
+use Rattle.afr_lines.specs.declared.line.Heard.{Heard}
+use Rattle.afr_lines.specs.declared.line.Heard.TheVariants as heard
+use Rattle.afr_lines.specs.declared.line.Next.TheVariants as next
+use Rattle.afr_lines.specs.declared.request.Request.{Request}
+use Rattle.afr_discipline.specs.Notes.{noted_ask, noted_begin}
+use Rattle.afr_walk.specs.Free.{Allows}
+use Rattle.afr_entry.specs.Entry.{Entering, IsEntry, heard_by, is_over, next_of, register_of}
+
+-- the discipline allows the next line, wherever it stands
+abbrev pub AllowedNext : Type 0
+AllowedNext = (m : Entering) → IsEntry m.walk m.job m.stage → (at : ℕ) → Allows (register_of m) (next_of at m)
+
+-- whatever is heard of the next line, such a command stays sound
+abbrev pub StaysSound : Type 0
+StaysSound = (m : Entering) → IsEntry m.walk m.job m.stage → is_over m.stage ≡ false → (of : Heard) → IsEntry (heard_by of m).walk (heard_by of m).job (heard_by of m).stage
+
+-- the register notes each request, and what was told
+abbrev pub NotesEach : Type 0
+NotesEach =
+    (m : Entering) (at : ℕ) (brick : BrickId) (request : Request) → next_of at m ≡ next.Ask brick request → (a : Answer)
+    → register_of (heard_by (heard.Answer a at) m) ≡ noted_ask (register_of m) at brick.0 request (told_by a)
+
+-- and the number of each attempt
+abbrev pub NotesBegin : Type 0
+NotesBegin = (m : Entering) (at : ℕ) (change : Change) → next_of at m ≡ next.Begin change → register_of (heard_by (heard.Begun at) m) ≡ noted_begin (register_of m) at

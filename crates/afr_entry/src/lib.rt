@@ -1,0 +1,14 @@
+//! Commands on a name of a directory: the directory's path is walked, the name is locked and read, and then changed.
+#![tactic(auto)]
+
+mod job;
+mod laws;
+mod machine;
+mod refusal;
+mod stage;
+
+pub use job::EntryJob;
+pub use laws::an_entry_keeps_the_discipline;
+pub use machine::EntryMachine;
+pub use refusal::Refusal;
+pub use stage::{EntryStage, Found};

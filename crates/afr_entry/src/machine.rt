@@ -1,0 +1,218 @@
+//! The machine of one command on a name: what it asks next, and what it makes of the answers.
+ghost use Rattle.std.specs.Prelude.{◌≡◌, ◌<◌, ◌≤◌, IfOk, false, true};
+ghost use Rattle.afr_entry.specs.Entry.{CarriesNext, IsEntry, answered, entry_from, heard_by, is_over, next_of, next_under, reader, reads_name, register_of, stage_begun};
+ghost use Rattle.afr_transaction.specs.Progress.{is_beginning};
+ghost use Rattle.afr_walk.specs.Free.{Allows};
+ghost use Rattle.afr_walk.specs.Walk.{IsWalk, is_walking, next_in};
+
+use crate::job::EntryJob;
+use crate::refusal::reply_to;
+use crate::stage::{EntryStage, Found, left_by, reader, reads_name, stage_begun, stage_heard};
+use afr_base::{NameId, NoMemory, Shape};
+use afr_discipline::Register;
+use afr_lines::{Answer, Heard, KeptReply, Next};
+use afr_object::Load;
+use afr_transaction::Transaction;
+use afr_walk::Walk;
+use std::alloc::Global;
+use std::marker::Model;
+
+/// A command on a name of a directory.
+#[derive(Drop)]
+pub struct EntryMachine {
+    alloc: Global,
+    walk: Walk,
+    job: EntryJob,
+    stage: EntryStage,
+}
+
+impl Model for EntryMachine {
+    ghost use Rattle.afr_entry.specs.Entry.{Entering, IsEntry};
+
+    ghost Value = { Entering };
+
+    ghost view = { λ m. record { walk = m.walk; job = m.job; stage = m.stage } };
+
+    ghost invariant = { λ m. IsEntry m.walk m.job m.stage };
+}
+
+impl EntryMachine {
+    /// The path leads to the directory of the job's name.
+    pub fn new(
+        alloc: Global,
+        shape: Shape,
+        path: &[NameId],
+        job: EntryJob,
+    ) -> Result<EntryMachine, NoMemory>
+        requires few { shape.n ≤ 5 }
+        requires some { 0 < shape.n }
+        ensures value { IfOk result (λ machine. machine ≡ entry_from shape path.now job) }
+    {
+        let walk = Walk::new(alloc, shape, path)?;
+        let stage = left_by(job, &walk);
+        Ok(EntryMachine {
+            alloc,
+            walk,
+            job,
+            stage,
+        })
+    }
+
+    /// Takes the memory of the coming move: `next` takes it, before anything changes.
+    pub fn ready(&mut self) -> Result<(), NoMemory>
+        ensures { self.new ≡ self.old }
+    {
+        let _ = &self.walk;
+        Ok(())
+    }
+
+    /// The next line, for this position of the log. Only the views in an End line take memory.
+    pub fn next(&self, position: u32) -> Result<Next, NoMemory>
+        ensures value { IfOk result (λ next. next ≡ next_of position self.now) }
+        ensures allowed { IfOk result (λ next. Allows (register_of self.now) next) }
+    {
+        let line = self.line(position)?;
+        self.stays_sound();
+        Ok(line)
+    }
+
+    /// The change, where the operation is asked for next.
+    pub fn load(&self) -> Load<'_>
+        ensures { CarriesNext self.now.stage result }
+    {
+        match &self.stage {
+            EntryStage::Changing(transaction, _) => transaction.load(),
+            EntryStage::Removes(removal) => removal.load(),
+            _ => Load::Nothing,
+        }
+    }
+
+    /// The line was written, and the brick has answered. An End line isn't fed.
+    pub fn feed(&mut self, heard: Heard)
+        requires { is_over self.old.stage ≡ false }
+        ensures { self.new ≡ heard_by heard self.old }
+    {
+        match &heard {
+            Heard::Answer(answer, at) => self.hear(answer, *at),
+            Heard::Begun(at) => self.begin(*at),
+        }
+    }
+
+    /// Whether the next line is the end.
+    pub fn is_over(&self) -> bool
+        ensures { result ≡ is_over self.now.stage }
+    {
+        match &self.stage {
+            EntryStage::Walking => false,
+            EntryStage::Changing(transaction, _) => transaction.is_over(),
+            EntryStage::Removes(removal) => removal.is_over(),
+            EntryStage::Ending(_) => true,
+        }
+    }
+
+    /// What the lines so far show.
+    pub fn register(&self) -> &Register
+        ensures { result.now ≡ register_of self.now }
+    {
+        match &self.stage {
+            EntryStage::Changing(transaction, _) => transaction.register(),
+            EntryStage::Removes(removal) => removal.register(),
+            _ => &self.walk.register,
+        }
+    }
+
+    /// What the machine keeps at every moment, for those who prove over its value.
+    pub fn stays_sound(&self)
+        ensures { IsEntry self.now.walk self.now.job self.now.stage }
+    {
+        let _ = &self.walk;
+    }
+
+    fn line(&self, position: u32) -> Result<Next, NoMemory>
+        ensures { IfOk result (λ next. next ≡ next_of position self.now) }
+    {
+        match &self.stage {
+            EntryStage::Walking => Ok(walking(&self.walk)),
+            EntryStage::Changing(transaction, found) => {
+                changing(
+                    self.alloc,
+                    &self.walk,
+                    self.job,
+                    transaction,
+                    *found,
+                    position,
+                )
+            }
+            EntryStage::Removes(removal) => removal.next(self.alloc),
+            EntryStage::Ending(reply) => ending(self.alloc, reply),
+        }
+    }
+
+    fn hear(&mut self, answer: &Answer, at: u32)
+        requires { is_over self.old.stage ≡ false }
+        ensures { self.new ≡ answered answer.now at self.old }
+    {
+        stage_heard(&mut self.walk, self.job, &mut self.stage, answer, at);
+    }
+
+    fn begin(&mut self, at: u32)
+        requires { is_over self.old.stage ≡ false }
+        ensures { self.new ≡ record self.old { stage = stage_begun self.old.stage at } }
+    {
+        stage_begun(&mut self.stage, at);
+    }
+}
+
+fn walking(walk: &Walk) -> Next
+    requires walk { IsWalk walk.now }
+    requires walking { is_walking walk.now.step ≡ true }
+    ensures { result ≡ Next.Ask (next_in walk.now).0 (next_in walk.now).1 }
+{
+    let (brick, request) = walk.next();
+    Next::Ask(brick, request)
+}
+
+/// The next line under the locks.
+fn changing(
+    alloc: Global,
+    walk: &Walk,
+    job: EntryJob,
+    transaction: &Transaction,
+    found: Found,
+    position: u32,
+) -> Result<Next, NoMemory>
+    requires { IsEntry walk.now job (EntryStage.Changing transaction.now found) }
+    ensures { IfOk result (λ next. next ≡ next_under found position job walk.now transaction.now) }
+{
+    match found {
+        Found::Unread => {
+            if transaction.is_beginning() {
+                return Ok(naming(walk, job, transaction));
+            }
+            transaction.next(alloc, position)
+        }
+        Found::Fits => transaction.next(alloc, position),
+        Found::Refused(why) => {
+            if transaction.is_over() {
+                return Ok(Next::End(reply_to(why)));
+            }
+            transaction.next(alloc, position)
+        }
+    }
+}
+
+/// A good copy of the directory is asked for the name.
+fn naming(walk: &Walk, job: EntryJob, transaction: &Transaction) -> Next
+    requires sound { IsEntry walk.now job (EntryStage.Changing transaction.now Found.Unread) }
+    requires beginning { is_beginning transaction.now.stage ≡ true }
+    ensures { result ≡ Next.Ask (reader transaction.now.register) (reads_name job walk.now) }
+{
+    Next::Ask(reader(transaction.register()), reads_name(job, walk))
+}
+
+fn ending(alloc: Global, reply: &KeptReply) -> Result<Next, NoMemory>
+    ensures { IfOk result (λ next. next ≡ Next.End reply.now) }
+{
+    let reply = reply.to_reply(alloc)?;
+    Ok(Next::End(reply))
+}

@@ -1,0 +1,301 @@
+//! The stages of a command on a name, and what an answer makes of each.
+ghost use Rattle.std.specs.Prelude.{◌≡◌, ◌<◌, ◌≤◌, false, not, true};
+ghost use Rattle.afr_base.specs.Bricks.{is_nothing};
+ghost use Rattle.afr_choice.specs.Verdict.{good_copies};
+ghost use Rattle.afr_entry.specs.Entry.{IsEntry, IsToRemove, after_walk, at_directory, child_after, found_after, found_by, is_over, name_noted, progress_after, progress_begun, reader, reads_name, removal_after, removal_begun, settled, stage_after, stage_begun, told_to, walk_after};
+ghost use Rattle.afr_entry.specs.Job.{change_of, ruled_out};
+ghost use Rattle.afr_object.specs.Tables.{is_dir};
+ghost use Rattle.afr_removal.specs.Removal as removing_of;
+ghost use Rattle.afr_removal.specs.Removal.{removing};
+ghost use Rattle.afr_transaction.specs.Progress as progress;
+ghost use Rattle.afr_transaction.specs.Progress.{is_beginning};
+ghost use Rattle.afr_transaction.specs.Sound.{IsUnused};
+ghost use Rattle.afr_walk.specs.Walk.{IsWalk, is_walking};
+
+use crate::job::{EntryJob, change_of, name_of};
+use crate::refusal::{Refusal, child_by, ruled_out};
+use afr_base::{BrickId, Gfid, Kind, What};
+use afr_choice::good;
+use afr_discipline::Register;
+use afr_lines::{Answer, KeptReply, Reply, Request, Told, told_of};
+use afr_object::Entry;
+use afr_removal::Removal;
+use afr_transaction::Transaction;
+use afr_walk::{Walk, WalkStep, choose, stop_reply};
+
+/// What the name was found to be under its locks, before the attempt.
+#[derive(Clone, Copy, Debug)]
+pub enum Found {
+    /// Nobody has told yet, and where the locks or the looks have failed, nobody is asked.
+    Unread,
+    /// The change goes on.
+    Fits,
+    /// The change is ruled out.
+    Refused(Refusal),
+}
+
+/// Where a command on a name stands.
+#[derive(Drop)]
+pub enum EntryStage {
+    /// The path to the directory is walked.
+    Walking,
+    /// The name is locked, read and changed.
+    Changing(Transaction, Found),
+    /// The directory that the name leads to is locked too, and removed.
+    Removes(Removal),
+    Ending(KeptReply),
+}
+
+/// Where a walk leaves the command.
+pub(crate) fn left_by(job: EntryJob, walk: &Walk) -> EntryStage
+    requires { IsWalk walk.now }
+    ensures value { result ≡ after_walk job walk.now }
+    ensures kept { IsEntry walk.now job result }
+{
+    match &walk.step {
+        WalkStep::Looking(_) | WalkStep::Naming(_) => EntryStage::Walking,
+        WalkStep::Arrived => arrived(job, walk.object, walk.register),
+        WalkStep::Stopped(stop) => EntryStage::Ending(stop_reply(stop)),
+    }
+}
+
+/// The stage after the walk. It stands apart, so that only the answer that ends a walk pays for a frame that holds a stage.
+#[inline(never)]
+fn leave(job: EntryJob, walk: &Walk, stage: &mut EntryStage)
+    requires { IsWalk walk.now }
+    ensures value { stage.new ≡ after_walk job walk.now }
+    ensures kept { IsEntry walk.now job stage.new }
+{
+    *stage = left_by(job, walk);
+}
+
+fn arrived(job: EntryJob, dir: Entry, register: Register) -> EntryStage
+    requires unused { IsUnused register }
+    requires few { register.shape.n ≤ 5 }
+    requires some { 0 < register.shape.n }
+    ensures { result ≡ at_directory dir register job }
+{
+    match dir.what {
+        What::Dir => EntryStage::Changing(begins(job, dir.gfid, register), Found::Unread),
+        What::File => EntryStage::Ending(KeptReply::new(Reply::NotDir)),
+    }
+}
+
+fn begins(job: EntryJob, dir: Gfid, register: Register) -> Transaction
+    requires unused { IsUnused register }
+    requires few { register.shape.n ≤ 5 }
+    requires some { 0 < register.shape.n }
+    ensures { result ≡ progress.starting (change_of dir job) register }
+{
+    Transaction::continuing(register, change_of(dir, job))
+}
+
+/// Who is asked for the name: the lowest good copy of the directory.
+pub(crate) fn reader(register: &Register) -> BrickId
+    requires { is_nothing (good_copies register.now.shape register.now.looked Kind.Names) ≡ false }
+    ensures value { result ≡ reader register.now }
+    ensures small { result.0 < 5 }
+{
+    choose(good(&register.shape, &register.looked, Kind::Names))
+}
+
+pub(crate) fn reads_name(job: EntryJob, walk: &Walk) -> Request
+    ensures { result ≡ reads_name job walk.now }
+{
+    Request::ReadName {
+        gfid: walk.object.gfid,
+        name: name_of(job),
+    }
+}
+
+/// The stage hears an answer at this position, which the register of the walk or of the transaction notes. It is written
+/// anew only where the walk has ended.
+pub(crate) fn stage_heard(
+    walk: &mut Walk,
+    job: EntryJob,
+    stage: &mut EntryStage,
+    answer: &Answer,
+    at: u32,
+)
+    requires sound { IsEntry walk.old job stage.old }
+    requires more { is_over stage.old ≡ false }
+    ensures walk { walk.new ≡ walk_after stage.old answer.now at walk.old }
+    ensures stage { stage.new ≡ stage_after stage.old answer.now at job (walk_after stage.old answer.now at walk.old) }
+    ensures kept { IsEntry walk.new job stage.new }
+{
+    match stage {
+        EntryStage::Walking => {
+            walk.hear(answer, at);
+            if has_ended(walk) {
+                leave(job, walk, stage);
+            }
+        }
+        EntryStage::Changing(transaction, found) => {
+            let child = child_after(*found, transaction, job, answer);
+            *found = change_heard(walk, job, transaction, *found, answer, at);
+            if let Some(child) = child {
+                *stage = removes(walk, job, transaction, child);
+            }
+        }
+        EntryStage::Removes(removal) => removal_heard(removal, answer, at),
+        EntryStage::Ending(_) => {}
+    }
+}
+
+/// Whether a walk has led to its object, or has stopped.
+fn has_ended(walk: &Walk) -> bool
+    ensures { result ≡ not (is_walking walk.now.step) }
+{
+    match &walk.step {
+        WalkStep::Looking(_) | WalkStep::Naming(_) => false,
+        WalkStep::Arrived | WalkStep::Stopped(_) => true,
+    }
+}
+
+/// The directory that the name was found to lead to, where it is to be removed.
+fn child_after(
+    found: Found,
+    transaction: &Transaction,
+    job: EntryJob,
+    answer: &Answer,
+) -> Option<Gfid>
+    ensures { result ≡ child_after found answer.now job transaction.now.stage }
+{
+    match found {
+        Found::Unread => {
+            if transaction.is_beginning() {
+                child_by(job, answer)
+            } else {
+                None
+            }
+        }
+        Found::Fits | Found::Refused(_) => None,
+    }
+}
+
+/// A removal goes on to the directory itself.
+fn removes(walk: &Walk, job: EntryJob, transaction: &Transaction, child: Gfid) -> EntryStage
+    requires { IsToRemove walk.now job transaction.now }
+    ensures { result ≡ EntryStage.Removes (removing transaction.now.change transaction.now.register child) }
+{
+    let register = *transaction.register();
+    EntryStage::Removes(Removal::new(register, change_of(walk.object.gfid, job), child))
+}
+
+fn removal_heard(removal: &mut Removal, answer: &Answer, at: u32)
+    requires { removing_of.is_over removal.old.stage removal.old ≡ false }
+    ensures { removal.new ≡ removal_after answer.now at removal.old }
+{
+    if !removal.is_beginning() {
+        removal.answer(answer, at);
+    }
+}
+
+/// The transaction hears an answer, of which the name's tells what the name was found to be.
+fn change_heard(
+    walk: &Walk,
+    job: EntryJob,
+    transaction: &mut Transaction,
+    found: Found,
+    answer: &Answer,
+    at: u32,
+) -> Found
+    requires sound { IsEntry walk.now job (EntryStage.Changing transaction.old found) }
+    requires more { progress.is_over transaction.old.stage transaction.old ≡ false }
+    ensures transaction { transaction.new ≡ progress_after found answer.now at job walk.now transaction.old }
+    ensures found { result ≡ found_after found answer.now job transaction.old.stage }
+{
+    match found {
+        Found::Unread => unread_heard(walk, job, transaction, answer, at),
+        Found::Fits | Found::Refused(_) => {
+            told_to(transaction, told_of(answer), at);
+            found
+        }
+    }
+}
+
+fn told_to(transaction: &mut Transaction, told: Told, at: u32)
+    requires { progress.is_over transaction.old.stage transaction.old ≡ false }
+    ensures { transaction.new ≡ told_to told at transaction.old }
+{
+    if !transaction.is_beginning() {
+        transaction.feed(told, at);
+    }
+}
+
+fn unread_heard(
+    walk: &Walk,
+    job: EntryJob,
+    transaction: &mut Transaction,
+    answer: &Answer,
+    at: u32,
+) -> Found
+    requires sound { IsEntry walk.now job (EntryStage.Changing transaction.old Found.Unread) }
+    requires more { progress.is_over transaction.old.stage transaction.old ≡ false }
+    ensures transaction { transaction.new ≡ progress_after Found.Unread answer.now at job walk.now transaction.old }
+    ensures found { result ≡ found_after Found.Unread answer.now job transaction.old.stage }
+{
+    if !transaction.is_beginning() {
+        transaction.feed(told_of(answer), at);
+        return Found::Unread;
+    }
+    note_name(walk, job, transaction, &told_of(answer), at);
+    settle(transaction, ruled_out(job, answer))
+}
+
+/// The name was told.
+fn note_name(walk: &Walk, job: EntryJob, transaction: &mut Transaction, told: &Told, at: u32)
+    requires sound { IsEntry walk.now job (EntryStage.Changing transaction.old Found.Unread) }
+    requires beginning { is_beginning transaction.old.stage ≡ true }
+    ensures { transaction.new ≡ name_noted job walk.now told.now at transaction.old }
+{
+    let brick = reader(transaction.register());
+    transaction.note_read(brick, &reads_name(job, walk), told, at);
+}
+
+/// A change that is ruled out is given up.
+fn settle(transaction: &mut Transaction, why: Option<Refusal>) -> Found
+    requires { is_beginning transaction.old.stage ≡ true }
+    ensures transaction { transaction.new ≡ settled why transaction.old }
+    ensures found { result ≡ found_by why }
+{
+    match why {
+        Some(why) => {
+            transaction.give_up();
+            Found::Refused(why)
+        }
+        None => Found::Fits,
+    }
+}
+
+/// The stage hears of a Begin line at this position.
+pub(crate) fn stage_begun(stage: &mut EntryStage, at: u32)
+    ensures { stage.new ≡ stage_begun stage.old at }
+{
+    match stage {
+        EntryStage::Changing(transaction, found) => begun(*found, transaction, at),
+        EntryStage::Removes(removal) => removal_begun(removal, at),
+        _ => {}
+    }
+}
+
+fn begun(found: Found, transaction: &mut Transaction, at: u32)
+    ensures { transaction.new ≡ progress_begun found at transaction.old }
+{
+    match found {
+        Found::Unread => {}
+        Found::Fits | Found::Refused(_) => {
+            if transaction.is_beginning() {
+                transaction.feed(Told::Done, at);
+            }
+        }
+    }
+}
+
+fn removal_begun(removal: &mut Removal, at: u32)
+    ensures { removal.new ≡ removal_begun at removal.old }
+{
+    if removal.is_beginning() {
+        removal.begin(at);
+    }
+}

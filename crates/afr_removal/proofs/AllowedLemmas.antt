@@ -1,0 +1,156 @@
+-- The next line of a removal is one that the discipline allows.
+use Rattle.std.proofs.Common.{◌⊎◌, ◌≡◌, ℕ, ◌<◌, ◌&&◌, ◌||◌, not, ◌==◌, Bool, true, false, List, [], ◌∷◌, refl, sym, ◌∙◌, ap, subst, inl, inr, Option, None, Some, if◌then◌else◌}
+use Rattle.afr_base.specs.Bricks.{lowest, member, is_nothing}
+use Rattle.afr_base.specs.Majority.{is_majority}
+use Rattle.afr_base.specs.SetLemmas.{lowest_in, lowest_left}
+use Rattle.afr_base.specs.declared.ids.Kind.{Kind}
+use Rattle.afr_base.specs.declared.ids.Kind.TheVariants.{Names}
+use Rattle.afr_object.specs.Tables.{object_of}
+use Rattle.afr_choice.specs.VerdictLemmas.{holders_below}
+use Rattle.afr_lines.specs.declared.line.Next.TheVariants as next
+use Rattle.afr_lines.specs.declared.reply.Good.TheVariants as good
+use Rattle.afr_lines.specs.declared.reply.Reply.TheVariants as reply
+use Rattle.afr_lines.specs.declared.request.Area.{Area}
+use Rattle.afr_moves.specs.Keeps.{keeps_in}
+use Rattle.afr_moves.specs.Lines.{is_ok}
+use Rattle.afr_moves.specs.Register.{kind_in}
+use Rattle.afr_moves.specs.Rules.{busy, is_area}
+use Rattle.afr_moves.specs.Sets.{any}
+use Rattle.afr_discipline.specs.Notes.{asked_at}
+use Rattle.afr_discipline.specs.Stands.{number_of, seen_as, views_of}
+use Rattle.afr_discipline.specs.Tests.{carried, is_open, last_posted, may_end, one_of, plane_in}
+use Rattle.afr_discipline.specs.declared.register.Register.{Register}
+use Rattle.afr_discipline.specs.declared.register.Step.TheVariants as step
+use Rattle.afr_transaction.specs.Progress.{allowed, enough}
+use Rattle.afr_transaction.proofs.Allowed.{moves_of, on_plane, once_is, others_missed, same_area_self, some_number}
+use Rattle.afr_transaction.proofs.Parts.{any_nothing, deny, holder_shows, lt_test, pair}
+use Rattle.afr_removal.specs.Laws.{AllowedMoves}
+use Rattle.afr_removal.specs.Removal.{Removing, asks, left, next_at, reply_of, sources, whole}
+use Rattle.afr_removal.specs.Sound.{During, Ready, Sound}
+use Rattle.afr_removal.specs.declared.stage.Ending.{Ending}
+use Rattle.afr_removal.specs.declared.stage.Ending.TheVariants.{Counted, NoQuorum, FewCopies, SplitBrain, NotEmpty, Failed}
+use Rattle.afr_removal.specs.declared.stage.RemovalStage.{RemovalStage}
+use Rattle.afr_removal.specs.declared.stage.RemovalStage.TheVariants.{Locking, Looking, Listing, Beginning, Preparing, Applying, Posting, Closing}
+use Rattle.afr_removal.proofs.Facts.{is_busy, list_asked, lock_asked, look_asked, of_names, suits}
+
+-- the child's area is open to a transaction that has none other
+one_more : (x : Bool) (child : Area) (second : Option Area) (held : List ℕ) → ((second ≡ None) × (held ≡ [])) ⊎ (second ≡ Some child) → (x || is_open second || is_area second child) ≡ true
+one_more true child second held k = refl
+one_more false child second held (inl e) = subst (λ (o : Option Area). (false || is_open o || is_area o child) ≡ true) (sym e.0) refl
+one_more false child second held (inr e) = subst (λ (o : Option Area). (false || is_open o || is_area o child) ≡ true) (sym e) (same_area_self child)
+
+none_in : (n : ℕ) (s : List ℕ) → is_nothing s ≡ true → any n (member s) ≡ false
+none_in n [] h = any_nothing n
+none_in n (x ∷ xs) h = absurd (cc h)
+
+-- nothing is left to unlock
+nothing_held : (s h : List ℕ) → is_nothing (if is_nothing s then h else s) ≡ true → (is_nothing s ≡ true) × (is_nothing h ≡ true)
+nothing_held [] h e = (refl, e)
+nothing_held (x ∷ xs) h e = absurd (cc e)
+
+module _ (m : Removing) (s : Sound m) where
+  abbrev r : Register
+  r = m.register
+
+  abbrev n : ℕ
+  n = r.shape.n
+
+  lock_allowed : During Locking m → Ready Locking m → allowed r (asks Locking m) ≡ true
+  lock_allowed d ready = pair _ _ (lt_test _ _ small) (pair _ _ refl (by_busy (busy n (seen_as r).law) (is_busy r (lowest (left Locking m)) small held)))
+    where
+      held : member r.held (lowest (left Locking m)) ≡ true
+      held = lock_asked m ready
+
+      small : lowest (left Locking m) < n
+      small = s.base.held_within _ held
+
+      by_busy : (x : Bool) → x ≡ true → (if x then not r.unlocked && one_of (seen_as r).law (whole m.child) else last_posted n (seen_as r).law) ≡ true
+      by_busy true e = pair _ _ (deny _ d.0.open_still) (one_more (is_area r.area (whole m.child)) (whole m.child) r.second r.second_held s.areas.second_is)
+      by_busy false e = absurd (cc e)
+
+  look_allowed : Ready Looking m → allowed r (asks Looking m) ≡ true
+  look_allowed ready = pair _ _ (lt_test _ _ (s.base.held_within _ (look_asked m ready))) refl
+
+  list_allowed : is_nothing (sources m) ≡ false → allowed r (asks Listing m) ≡ true
+  list_allowed some = pair _ _ (lt_test _ _ (list_asked m s.child some)) refl
+
+  plane : plane_in r.area (object_of m.change).0 Names ≡ true
+  plane = subst (λ (kind : Kind). plane_in r.area (object_of m.change).0 kind ≡ true) (of_names m.change s.removes) (on_plane m.change r.area (suits m.change s.removes) s.areas.named)
+
+  pre_allowed : During Preparing m → Ready Preparing m → allowed r (asks Preparing m) ≡ true
+  pre_allowed d ready =
+      let asked = lowest_left m.child.takers (asked_at r step.Pres) ready in
+      let holds = d.1.among _ asked.1 in
+      let shows = holder_shows _ r.looked holds (holders_below r.looked _ holds) in
+      pair _ _ (lt_test _ _ (s.base.shown.reached _ shows.1))
+      (pair _ _ (pair _ _ (pair _ _ (some_number d.0.number r.begun d.0.is_begun).0 plane) shows.0) (once_is 2 m.change r step.Pres _ d.0 refl asked.0))
+
+  kind_named : (t : List ℕ) → enough r Names t ≡ true → carried n (keeps_in r.shape) (kind_in r.area) (views_of r.looked) (member t) ≡ true
+  kind_named t h =
+      let kind : kind_in r.area ≡ Names = ap kind_in s.areas.named ∙ (suits m.change s.removes).kind ∙ of_names m.change s.removes in
+      subst (λ (k : Kind). carried n (keeps_in r.shape) k (views_of r.looked) (member t) ≡ true) (sym kind) h
+
+  apply_allowed : During Applying m → Ready Applying m → allowed r (asks Applying m) ≡ true
+  apply_allowed d ready =
+      let asked = lowest_left r.pre (asked_at r step.Applies) ready in
+      pair _ _ (lt_test _ _ (s.base.pre_within _ asked.1))
+      (pair _ _ (pair _ _ (pair _ _ (some_number d.0.number r.begun d.0.is_begun).1 asked.1) (kind_named r.pre d.1)) (once_is 3 m.change r step.Applies _ d.0 refl asked.0))
+
+  post_allowed : During Posting m → Ready Posting m → allowed r (asks Posting m) ≡ true
+  post_allowed d ready =
+      let asked = lowest_left r.done (asked_at r step.Posts) ready in
+      pair _ _ (lt_test _ _ (s.base.done_within _ asked.1))
+      (pair _ _ (pair _ _ (pair _ _ (pair _ _ (pair _ _ (some_number d.0.number r.begun d.0.is_begun).1 plane) asked.1) d.1) (once_is 4 m.change r step.Posts _ d.0 refl asked.0))
+      (others_missed n r.done s.base.few))
+
+  -- nothing is held at the end, and an ok is one of a majority
+  end_allowed : (why : Ending) → is_nothing (left (Closing why) m) ≡ true → may_end n (seen_as r) (is_ok (reply_of why r)) ≡ true
+  end_allowed why h = pair _ _ (pair _ _ (deny _ free) (deny _ (subst (λ (t : List ℕ). any n (member t) ≡ false) (sym s.base.none_healing) (any_nothing n)))) (acknowledged why)
+    where
+      none : (is_nothing r.second_held ≡ true) × (is_nothing r.held ≡ true)
+      none = nothing_held r.second_held r.held h
+
+      neither : (x y : Bool) → x ≡ false → y ≡ false → (x || y) ≡ false
+      neither true y e f = absurd (cc e)
+      neither false y e f = f
+
+      free : busy n (seen_as r).law ≡ false
+      free = neither _ _ (none_in n r.held none.1) (none_in n r.second_held none.0)
+
+      by_count : (most first : Bool) → (not (is_ok (if most then reply.Ok good.Done else reply.Failed)) || (first || most)) ≡ true
+      by_count true true = refl
+      by_count true false = refl
+      by_count false first = refl
+
+      acknowledged : (why : Ending) → (not (is_ok (reply_of why r)) || last_posted n (seen_as r).law) ≡ true
+      acknowledged Counted = by_count (is_majority n r.post) (number_of r.begun == 0)
+      acknowledged NoQuorum = refl
+      acknowledged FewCopies = refl
+      acknowledged (SplitBrain views) = refl
+      acknowledged NotEmpty = refl
+      acknowledged Failed = refl
+
+  unlock_small : (s h : List ℕ) → ((b : ℕ) → member s b ≡ true → b < n) → ((b : ℕ) → member h b ≡ true → b < n) → is_nothing (if is_nothing s then h else s) ≡ false → lowest (if is_nothing s then h else s) < n
+  unlock_small [] h one two e = two _ (lowest_in h e)
+  unlock_small (x ∷ xs) h one two e = one _ (lowest_in (x ∷ xs) refl)
+
+  close_allowed : (why : Ending) → allowed r (next_at (Closing why) m) ≡ true
+  close_allowed why = go (is_nothing (left (Closing why) m)) refl
+    where
+      go : (x : Bool) → is_nothing (left (Closing why) m) ≡ x → allowed r (if x then next.End (reply_of why r) else asks (Closing why) m) ≡ true
+      go true e = end_allowed why e
+      go false e = pair _ _ (lt_test _ _ (unlock_small r.second_held r.held s.areas.within s.base.held_within e)) refl
+
+  allowed_at : (stage : RemovalStage) → During stage m → Ready stage m → allowed r (next_at stage m) ≡ true
+  allowed_at Locking d ready = lock_allowed d ready
+  allowed_at Looking d ready = look_allowed ready
+  allowed_at Listing d ready = list_allowed d.2
+  allowed_at Beginning d ready = d.0
+  allowed_at Preparing d ready = pre_allowed d ready
+  allowed_at Applying d ready = apply_allowed d ready
+  allowed_at Posting d ready = post_allowed d ready
+  allowed_at (Closing why) d ready = close_allowed why
+
+-- whatever the bricks have answered so far, the next line is allowed
+pub allowed_moves : AllowedMoves
+allowed_moves m s step is = moves_of m.register (next_at m.stage m) step s.base.outside (allowed_at m s m.stage s.during s.ready) is

@@ -1,0 +1,4 @@
+-- Lemmas of this crate.
+pub mod FormLemmas
+pub mod ReadingLemmas
+pub mod RefusedLemmas
