@@ -11,3 +11,4 @@ pub mod Calm
 pub mod Over
 pub mod HonestFits
 pub mod ReadsLemmas
+pub mod GivenUpLemmas

@@ -1,6 +1,7 @@
 //! What the lines of a work show of its transaction, whatever its bricks answer.
 #![tactic(auto)]
 
+ghost use Rattle.afr_transaction_tells.specs.GivenUp.{GivenUpAbout, GivenUpEnds, GivenUpKept, GivesUp};
 ghost use Rattle.afr_transaction_tells.specs.Laws.{AboutNext, AsksAllForLocks, BlamesKept, CalmFirst, CalmKept, EndsAnswered, ExcusedFirst, ExcusedKept, FailedByBrick, HonestFits, HonestPhases, RepliesExactly, SkipsNone, TellsFirst, TellsKept, UndisturbedIsDone};
 ghost use Rattle.afr_transaction_tells.specs.Reads.{ReadsKept};
 
@@ -35,6 +36,15 @@ pub fn an_honest_answer_fits()
 /// A work may read between its lookups and its Begin line, as a name under its lock: all that is said here of its lines goes on to hold.
 pub fn a_read_changes_no_transaction()
     ensures { ReadsKept }
+{}
+
+/// A change may be given up before its Begin line, as where its name is not what it must be: its locks are released, and
+/// nothing of them refuses the command.
+pub fn a_change_is_given_up()
+    ensures gives { GivesUp }
+    ensures kept { GivenUpKept }
+    ensures about { GivenUpAbout }
+    ensures ends { GivenUpEnds }
 {}
 
 /// Once only unlocks are left, the reply is what the lines refuse or answer, and nothing was skipped.

@@ -126,7 +126,7 @@ fits_shown change b c told_of.NoObject looked h k = fits_set change looked.views
 fits_shown change b c told looked h k = fits_set change looked.views b c None refl k
 
 -- the looks still suit after one line more
-fitting_more : (n : ℕ) (stage : Stage) (t : Progress) (a : ActorId) (b : BrickId) (told : Told) (took : Bool) (log : List Line) (lines : Work)
+pub fitting_more : (n : ℕ) (stage : Stage) (t : Progress) (a : ActorId) (b : BrickId) (told : Told) (took : Bool) (log : List Line) (lines : Work)
     → ((view : View) → told ≡ told_of.Seen view → is_look (request_at stage t) ≡ true → fits_view (Some view) t.change ≡ true) → AreFitting n t.change lines
     → AreFitting n t.change ((Ask a b (request_at stage t) told took, log) ∷ lines)
 fitting_more n Locking t a b told took log lines h k = λ locked c l. subst (λ (x : Looked). fits_view (view_at c x) t.change ≡ true) (sym void) (subst (λ (v : Option View). fits_view v t.change ≡ true) (sym (nothing_shown c)) refl)
@@ -152,7 +152,7 @@ request_in (next.Ask b request) = request
 request_in other = request_of.Index
 
 -- a request is that of its stage, which isn't the Begin line's
-asked_stage : (stage : Stage) (at : ℕ) (t : Progress) (b : BrickId) (request : Request) → next_change stage at t ≡ next.Ask b request → (is_beginning stage ≡ false) × (request_at stage t ≡ request)
+pub asked_stage : (stage : Stage) (at : ℕ) (t : Progress) (b : BrickId) (request : Request) → next_change stage at t ≡ next.Ask b request → (is_beginning stage ≡ false) × (request_at stage t ≡ request)
 asked_stage Locking at t b request e = (refl, ap request_in e)
 asked_stage Looking at t b request e = (refl, ap request_in e)
 asked_stage Beginning at t b request e = absurd (cc e)
@@ -165,7 +165,7 @@ asked_stage Closing at t b request e = (refl, go (is_nothing t.register.held) e)
     go true e = absurd (cc e)
     go false e = ap request_in e
 
-begun_stage : (stage : Stage) (at : ℕ) (t : Progress) (change : Change) → next_change stage at t ≡ next.Begin change → stage ≡ Beginning
+pub begun_stage : (stage : Stage) (at : ℕ) (t : Progress) (change : Change) → next_change stage at t ≡ next.Begin change → stage ≡ Beginning
 begun_stage Locking at t change e = absurd (cc e)
 begun_stage Looking at t change e = absurd (cc e)
 begun_stage Beginning at t change e = refl
@@ -178,7 +178,7 @@ begun_stage Closing at t change e = absurd (go (is_nothing t.register.held) e)
     go true e = cc e
     go false e = cc e
 
-ended_stage : (stage : Stage) (at : ℕ) (t : Progress) (said : Reply) → next_change stage at t ≡ next.End said → (stage ≡ Closing) × (reply_of t.change t.register ≡ said)
+pub ended_stage : (stage : Stage) (at : ℕ) (t : Progress) (said : Reply) → next_change stage at t ≡ next.End said → (stage ≡ Closing) × (reply_of t.change t.register ≡ said)
 ended_stage Locking at t said e = absurd (cc e)
 ended_stage Looking at t said e = absurd (cc e)
 ended_stage Beginning at t said e = absurd (cc e)
@@ -191,7 +191,7 @@ ended_stage Closing at t said e = (refl, go (is_nothing t.register.held) e)
     go true e = cc e
     go false e = absurd (cc e)
 
-of_stage : (stage : Stage) (t : Progress) (a : ActorId) (b : BrickId) (told : Told) (took : Bool) → is_of_change (Ask a b (request_at stage t) told took) ≡ true
+pub of_stage : (stage : Stage) (t : Progress) (a : ActorId) (b : BrickId) (told : Told) (took : Bool) → is_of_change (Ask a b (request_at stage t) told took) ≡ true
 of_stage Locking t a b told took = refl
 of_stage Looking t a b told took = refl
 of_stage Beginning t a b told took = refl
@@ -200,7 +200,7 @@ of_stage Applying t a b told took = refl
 of_stage Posting t a b told took = refl
 of_stage Closing t a b told took = refl
 
-fed_same : (stage : Stage) (told : Told) (at : ℕ) (t : Progress) → (fed stage told at t).change ≡ t.change
+pub fed_same : (stage : Stage) (told : Told) (at : ℕ) (t : Progress) → (fed stage told at t).change ≡ t.change
 fed_same Locking told at t = refl
 fed_same Looking told at t = refl
 fed_same Beginning told at t = refl
@@ -209,7 +209,7 @@ fed_same Applying told at t = refl
 fed_same Posting told at t = refl
 fed_same Closing told at t = refl
 
-begun_fed : (stage : Stage) (at : ℕ) (t : Progress) → stage ≡ Beginning → (if is_beginning stage then begun at t else t) ≡ fed stage told_of.Done at t
+pub begun_fed : (stage : Stage) (at : ℕ) (t : Progress) → stage ≡ Beginning → (if is_beginning stage then begun at t else t) ≡ fed stage told_of.Done at t
 begun_fed Beginning at t e = refl
 begun_fed Locking at t e = absurd (cc e)
 begun_fed Looking at t e = absurd (cc e)

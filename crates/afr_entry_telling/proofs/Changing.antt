@@ -1,0 +1,242 @@
+-- While a name is locked and read: what each line is about, and what the read of the name leaves.
+use Rattle.std.proofs.Common.{◌≡◌, ℕ, ◌<◌, nat_le, Bool, true, false, List, [], ◌∷◌, ◌++◌, Option, Some, None, length, slice_get, refl, sym, ap, ◌∙◌, subst, arith, if◌then◌else◌}
+use Rattle.std.proofs.lemmas.Bool.Decides.{nat_tests}
+use Rattle.afr_base.specs.Bricks.{is_nothing, member}
+use Rattle.afr_base.specs.SetLemmas.{lowest_in}
+use Rattle.afr_base.specs.declared.ids.ActorId.{ActorId}
+use Rattle.afr_base.specs.declared.ids.BrickId.{BrickId}
+use Rattle.afr_base.specs.declared.ids.Gfid.{Gfid}
+use Rattle.afr_base.specs.declared.ids.Kind.TheVariants as kind_named
+use Rattle.afr_base.specs.declared.ids.NameId.{NameId}
+use Rattle.afr_base.specs.declared.ids.Shape.{Shape}
+use Rattle.afr_base.specs.Majority.{is_majority}
+use Rattle.afr_choice.specs.Verdict.{good_copies}
+use Rattle.afr_choice.specs.VerdictLemmas.{good_below}
+use Rattle.afr_choice.specs.declared.looked.Looked.{Looked}
+use Rattle.afr_lines.specs.Areas.{area_for, kind_for}
+use Rattle.afr_lines.specs.Told.{told_by}
+use Rattle.afr_lines.specs.Work.{Work}
+use Rattle.afr_lines.specs.declared.answer.Answer.{Answer}
+use Rattle.afr_lines.specs.declared.answer.Answer.TheVariants as answer
+use Rattle.afr_lines.specs.declared.answer.Told.{Told}
+use Rattle.afr_lines.specs.declared.line.Line.{Line}
+use Rattle.afr_lines.specs.declared.line.Line.TheVariants.{Ask}
+use Rattle.afr_lines.specs.declared.line.Next.TheVariants as next
+use Rattle.afr_object.specs.Tables.{is_dir, object_of}
+use Rattle.afr_object.specs.declared.change.Change.{Change}
+use Rattle.afr_object.specs.declared.entry.Entry.{Entry}
+use Rattle.afr_plan.specs.declared.command.Command.{Command}
+use Rattle.afr_plan.specs.declared.plan.Plan.{Plan}
+use Rattle.afr_model.specs.Answered.{IsAbout}
+use Rattle.afr_model.specs.Commands.{is_rmdir, steps_of}
+use Rattle.afr_model.specs.Following.{KeepsTo, Names}
+use Rattle.afr_model.specs.Refusals.{by_locks, by_name}
+use Rattle.afr_model.specs.Showing.{Path, At, NotAsked, has, looked_by, path_by, reading_by, refuses_read}
+use Rattle.afr_model.specs.Standing.{area_here, looks_here, place_by}
+use Rattle.afr_model.specs.Tables.{entry_at, holds}
+use Rattle.afr_transaction.specs.Outcome.{reply_of}
+use Rattle.afr_transaction.specs.Progress.{Progress, asks, is_beginning, next_at as next_change, numbered, request_at}
+use Rattle.afr_transaction.specs.Sound.{Sound}
+use Rattle.afr_transaction.specs.declared.stage.Stage.{Stage}
+use Rattle.afr_transaction.specs.declared.stage.Stage.TheVariants.{Locking, Looking, Beginning, Preparing, Applying, Posting, Closing}
+use Rattle.afr_walk.specs.declared.walk.Walk.{Walk}
+use Rattle.afr_entry.specs.Entry.{IsChanging, fits_stage, found_by, name_noted, reader, reads_name, settled}
+use Rattle.afr_entry.specs.Job.{change_of, name_of, ruled_by, ruled_out}
+use Rattle.afr_entry.specs.declared.job.EntryJob.{EntryJob}
+use Rattle.afr_entry.specs.declared.refusal.Refusal.{Refusal}
+use Rattle.afr_entry.specs.declared.stage.Found.{Found}
+use Rattle.afr_entry.specs.declared.stage.Found.TheVariants.{Unread, Fits, Refused}
+use Rattle.afr_entry.proofs.EntryLemmas.{some_reader}
+use Rattle.afr_transaction_tells.specs.About.{Led}
+use Rattle.afr_transaction_tells.specs.Laws.{IsNextLine}
+use Rattle.afr_transaction_tells.specs.Tells.{During}
+use Rattle.afr_transaction_tells.proofs.About.{about_next, passes}
+use Rattle.afr_transaction_tells.proofs.GivenUpLemmas.{gives_up}
+use Rattle.afr_transaction_tells.proofs.ReadsLemmas.{reads_kept}
+use Rattle.afr_entry_telling.specs.EntryTelling.{ByFault, ByName, Changes, FitsName, Goes, IsUnread, NameTells, WasGiven, command_of}
+use Rattle.afr_entry_telling.proofs.Names as name_told
+use Rattle.afr_entry_telling.proofs.Names.{NameTold}
+use Rattle.afr_entry_telling.proofs.Under.{area_there, place_more, refused_by_locks}
+use Rattle.afr_entry_telling.proofs.Words.{asked_is, given_fits, name_at, named_is, object_is, path_is, steps_are, unread_fits}
+
+pub begins_at : (stage : Stage) → is_beginning stage ≡ true → stage ≡ Beginning
+begins_at Beginning e = refl
+begins_at Locking e = absurd (cc e)
+begins_at Looking e = absurd (cc e)
+begins_at Preparing e = absurd (cc e)
+begins_at Applying e = absurd (cc e)
+begins_at Posting e = absurd (cc e)
+begins_at Closing e = absurd (cc e)
+
+le_self : (n : ℕ) → nat_le n n ≡ true
+le_self n = grind (arith, nat_tests)
+
+module _ (p : Plan) (job : EntryJob) (w : Walk) (plain : is_rmdir (command_of job w.path) ≡ false) (lines : Work) (t : Progress) where
+  abbrev c : Command
+  c = command_of job w.path
+
+  abbrev dir : Entry
+  dir = w.object
+
+  abbrev change : Change
+  change = change_of dir.gfid job
+
+  -- nothing but the locks could refuse it, whose name wasn't read or fits
+  abbrev IsFree : Type 0
+  IsFree = by_name p c dir (path_by p lines) lines ≡ None
+
+  free_unread : IsUnread p c dir lines → IsFree
+  free_unread k = subst (λ (x : Path). by_name p c dir x lines ≡ None) (sym k.path) (unread_fits p job w.path dir lines)
+
+  free_fits : FitsName p c job dir lines → IsFree
+  free_fits k = subst (λ (x : Path). by_name p c dir x lines ≡ None) (sym k.given.path) (given_fits p job w.path dir lines k.entry plain k.rule)
+
+  pub unrefused_by : (found : Found) → ((why : Refusal) → found ≡ Refused why → ⊥) → NameTells found p c job dir lines → IsFree × (has refuses_read lines ≡ false)
+  unrefused_by Unread other k = (free_unread k, k.unrefused)
+  unrefused_by Fits other k = (free_fits k, k.given.unrefused)
+  unrefused_by (Refused why) other k = absurd (other why refl)
+
+  -- ---- where its command has led it
+  module _ (place : place_by p c lines ≡ At (steps_of c) dir) (directory : is_dir dir.what ≡ true) (unread : reading_by p lines ≡ NotAsked) where
+    locks_here : IsUnread p c dir lines → area_here c (path_by p lines) ≡ Some (area_for change)
+    locks_here k = subst (λ (x : Path). area_here c x ≡ Some (area_for change)) (place ∙ sym k.path) (area_there p job w.path plain dir lines place directory)
+
+    looks_there : IsUnread p c dir lines → looks_here c (path_by p lines) ≡ Some (object_of change)
+    looks_there k = subst (λ (x : Path). looks_here c x ≡ Some (object_of change)) (sym k.path) (subst (λ (g : Gfid). looks_here c (At (steps_of c) dir) ≡ Some g) (sym (object_is dir.gfid job)) here)
+      where
+        here : looks_here c (At (steps_of c) dir) ≡ Some dir.gfid
+        here = rw (le_self (steps_of c)) refl
+
+    pub led_unread : IsUnread p c dir lines → (stage : Stage) → is_beginning stage ≡ false → Led stage p c change lines
+    led_unread k Locking e = locks_here k
+    led_unread k Looking e = record { object = looks_there k; area = locks_here k; unread = unread }
+    led_unread k Beginning e = absurd (cc e)
+    led_unread k Preparing e = tt
+    led_unread k Applying e = tt
+    led_unread k Posting e = tt
+    led_unread k Closing e = tt
+
+    pub led_fits : FitsName p c job dir lines → (stage : Stage) → fits_stage Fits stage ≡ true → Led stage p c change lines
+    led_fits k Locking e = absurd (cc e)
+    led_fits k Looking e = absurd (cc e)
+    led_fits k Beginning e = record {
+      refuses = λ none. refused_by_locks p job w.path plain dir lines place directory k.given.unrefused (free_fits k) ∙ none;
+      asked = asked_is p job w.path dir lines k.entry plain k.rule k.given.path;
+    }
+    led_fits k Preparing e = tt
+    led_fits k Applying e = tt
+    led_fits k Posting e = tt
+    led_fits k Closing e = tt
+
+    -- ---- a line of the transaction
+    module _ (a : ActorId) (log : List Line) (sound : Sound t) (of : t.change ≡ change) (k : Goes p t lines) where
+      free_line : (stage : Stage) (b : BrickId) (told : Told) (took : Bool) (line : Line) → line ≡ Ask a b (request_at stage t) told took → KeepsTo p c line (length log) lines
+      free_line stage b told took line e = subst (λ (x : Line). KeepsTo p c x (length log) lines) (sym e) (go stage)
+        where
+          go : (stage : Stage) → KeepsTo p c (Ask a b (request_at stage t) told took) (length log) lines
+          go Locking = tt
+          go Looking = tt
+          go Beginning = tt
+          go Preparing = tt
+          go Applying = tt
+          go Posting = tt
+          go Closing = tt
+
+      keeps : (stage : Stage) (told : Told) (line : Line) → During stage p.shape t lines → IsNextLine a (next_change stage (length log) t) told line → KeepsTo p c line (length log) lines
+      keeps Locking told line d (took, e) = free_line Locking _ told took line e
+      keeps Looking told line d (took, e) = free_line Looking _ told took line e
+      keeps Beginning told line d e =
+          subst (λ (x : Line). KeepsTo p c x (length log) lines) (sym e)
+          (d.idle.unbegun, subst (λ (x : Change). Names p c lines (length log) (numbered (length log) x)) (sym of) (record { object = dir; led = place; named = named_is job w.path dir.gfid (length log) }))
+      keeps Preparing told line d (took, e) = free_line Preparing _ told took line e
+      keeps Applying told line d (took, e) = free_line Applying _ told took line e
+      keeps Posting told line d (took, e) = free_line Posting _ told took line e
+      keeps Closing told line d is = go (is_nothing t.register.held) is
+        where
+          go : (x : Bool) → IsNextLine a (if x then next.End (reply_of t.change t.register) else asks Closing t) told line → KeepsTo p c line (length log) lines
+          go true is = absurd is
+          go false (took, e) = free_line Closing _ told took line e
+
+      pub change_line : (told : Told) (line : Line) → Led t.stage p c change lines → IsNextLine a (next_change t.stage (length log) t) told line → IsAbout p c line lines × KeepsTo p c line (length log) lines
+      change_line told line led is = (about_next p c lines t a told line log sound k.tells (subst (λ (x : Change). Led t.stage p c x lines) (sym of) led) is, keeps t.stage told line k.tells.during is)
+
+    -- ---- the read of the name
+    module _ (a : ActorId) (log : List Line) (sound : IsChanging w job t Unread) (k : Goes p t lines) (n : IsUnread p c dir lines) (at_begin : is_beginning t.stage ≡ true) where
+      d : During Beginning p.shape t lines
+      d = subst (λ (stage : Stage). During stage p.shape t lines) (begins_at t.stage at_begin) k.tells.during
+
+      object_same : object_of t.change ≡ dir.gfid
+      object_same = ap object_of sound.of_job ∙ object_is dir.gfid job
+
+      -- the reader is a good copy
+      shown : t.register.looked ≡ looked_by dir.gfid lines
+      shown = d.looks.shows ∙ ap (λ (g : Gfid). looked_by g lines) object_same
+
+      is_good : member (good_copies t.register.shape t.register.looked kind_named.Names) (reader t.register).0 ≡ true
+      is_good = lowest_in (good_copies t.register.shape t.register.looked kind_named.Names) (some_reader w job t Unread sound at_begin)
+
+      small : (reader t.register).0 < 5
+      small = good_below t.register.shape t.register.looked kind_named.Names (reader t.register).0 is_good
+
+      passed : by_locks p.shape (kind_for change) (area_for change) lines ≡ None
+      passed = subst (λ (x : Change). by_locks p.shape (kind_for x) (area_for x) lines ≡ None) sound.of_job (passes p lines t sound.sound k.tells d.allows)
+
+      pub read_line : (told : Told) (took : Bool) → IsAbout p c (Ask a (reader t.register) (reads_name job w) told took) lines × KeepsTo p c (Ask a (reader t.register) (reads_name job w) told took) (length log) lines
+      read_line told took = (
+        record {
+          unbegun = d.idle.unbegun;
+          goes_on = refused_by_locks p job w.path plain dir lines place directory n.unrefused (free_unread n) ∙ passed;
+          answered = subst (λ (g : Gfid). is_majority p.shape.n (looked_by g lines).reached ≡ true) object_same d.allows.quorum.reached;
+          good =
+              subst (λ (x : Looked). member (good_copies p.shape x kind_named.Names) (reader t.register).0 ≡ true) shown
+              (subst (λ (x : Shape). member (good_copies x t.register.looked kind_named.Names) (reader t.register).0 ≡ true) k.tells.shape_is is_good);
+        },
+        record {
+          read = steps_of c;
+          object = dir;
+          stands = n.path;
+          asked = refl;
+          next = subst (λ (x : List NameId). slice_get x (steps_of c) ≡ Some (name_of job)) (sym (path_is job w.path))
+              (subst (λ (x : ℕ). slice_get (w.path ++ name_of job ∷ []) x ≡ Some (name_of job)) (sym (steps_are job w.path)) (name_at w.path (name_of job)));
+        },
+      )
+
+      -- after it
+      abbrev more : Told → Bool → Work
+      more told took = (Ask a (reader t.register) (reads_name job w) told took, log) ∷ lines
+
+      abbrev after : Told → Progress
+      after told = name_noted job w told (length log) t
+
+      goes_on : (told : Told) (took : Bool) → Goes p (after told) (more told took) × Sound (after told)
+      goes_on told took = let h = reads_kept p lines t a (reader t.register) (reads_name job w) told took log small tt (begins_at t.stage at_begin) sound.sound k.tells in (
+        record { tells = h.tells; excused = h.excused k.excused; calm = h.calm k.calm; fitting = k.fitting },
+        h.sound,
+      )
+
+      abbrev Left : Option Refusal → Told → Bool → Type 0
+      Left why told took = Changes p c job dir (settled why (after told)) (found_by why) (more told took)
+
+      left : (told : Told) (took : Bool) (why : Option Refusal) → NameTells (found_by why) p c job dir (more told took) → Left why told took
+      left told took None name = record { place = place_more p job w.path dir (Ask a (reader t.register) (reads_name job w) told took) log lines place; directory = directory; unread = unread; name = name; on = (goes_on told took).0 }
+      left told took (Some why) name = record {
+        place = place_more p job w.path dir (Ask a (reader t.register) (reads_name job w) told took) log lines place;
+        directory = directory;
+        unread = unread;
+        name = name;
+        on = (gives_up p (more told took) (after told) (begins_at t.stage at_begin) (goes_on told took).1 (goes_on told took).0.tells).1;
+      }
+
+      given : (took : Bool) (entry : Option Entry) → entry_at dir.gfid (name_of job) (holds p log (reader t.register).0) ≡ entry → WasGiven p c dir entry (more (told_by (answer.Entry entry)) took)
+      given took entry e = record { path = rw (e, n.path) refl; unrefused = n.unrefused }
+
+      by_rule : (took : Bool) (entry : Option Entry) → WasGiven p c dir entry (more (told_by (answer.Entry entry)) took) → (why : Option Refusal) → ruled_by job entry ≡ why
+          → NameTells (found_by why) p c job dir (more (told_by (answer.Entry entry)) took)
+      by_rule took entry g None e = record { entry = entry; rule = e; given = g }
+      by_rule took entry g (Some why) e = ByName entry e g
+
+      pub read_more : (heard : Answer) (took : Bool) → NameTold p (reader t.register).0 dir.gfid (name_of job) log heard → Left (ruled_out job heard) (told_by heard) took
+      read_more heard took (name_told.Found entry e f) =
+          subst (λ (x : Answer). Left (ruled_out job x) (told_by x) took) (sym e) (left (told_by (answer.Entry entry)) took (ruled_by job entry) (by_rule took entry (given took entry f) (ruled_by job entry) refl))
+      read_more heard took (name_told.Lost e) = subst (λ (x : Answer). Left (ruled_out job x) (told_by x) took) (sym e) (left (told_by answer.NotConnected) took (ruled_out job answer.NotConnected) (ByFault refl refl))
+      read_more heard took (name_told.Fails e) = subst (λ (x : Answer). Left (ruled_out job x) (told_by x) took) (sym e) (left (told_by answer.Failed) took (ruled_out job answer.Failed) (ByFault refl refl))

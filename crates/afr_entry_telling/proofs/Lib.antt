@@ -1,0 +1,9 @@
+pub mod Words
+pub mod Names
+pub mod Begins
+pub mod Walks
+pub mod Under
+pub mod Changing
+pub mod Ended
+pub mod Heard
+pub mod Ends

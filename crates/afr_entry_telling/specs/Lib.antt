@@ -1,0 +1,2 @@
+pub mod EntryTelling
+pub mod EntryLaws
