@@ -6,6 +6,7 @@ use afr_text::{StdSink, StdSource};
 use afr_volume::Volume;
 use std::alloc::Global;
 use std::io::ErrorKind;
+use std::mem::ManuallyDrop;
 use std::process::ExitCode;
 use std::rt::Env;
 use std::{env, io};
@@ -19,8 +20,8 @@ fn main(rt: HostRuntime) -> ExitCode {
     };
     let mut source = StdSource::new(rt.reader());
     let mut sink = StdSink::new(io::writer(&rt));
-    let mut volume = Volume::empty(rt.alloc());
-    let status = afr_top(rt.alloc(), &words, &mut source, &mut sink, &mut volume);
+    let mut volume = ManuallyDrop::new(Volume::empty(rt.alloc()));
+    let status = afr_top(rt.alloc(), &words, &mut source, &mut sink, &mut *volume);
     ExitCode::from(status)
 }
 

@@ -5,7 +5,7 @@ use Rattle.afr_text.specs.Parts.{CameMore}
 use Rattle.afr_plan.specs.declared.plan.Plan.{Plan}
 use Rattle.afr_plan.specs.declared.plan.PlanFault.{PlanFault}
 use Rattle.afr_plan.specs.Judging.{first_fault}
-use Rattle.afr_plan.specs.Runnable.{IsRunnable}
+use Rattle.afr_runnable.specs.Runnable.{IsRunnable}
 use Rattle.afr_plan.specs.Spells.{Spells}
 use Rattle.afr_plan_read.proofs.PlanLemmas.{faulty-spells, same-plan}
 use Rattle.afr_cli.specs.Statuses.{HasFault, IsAhead, IsFaulty, IsRefused, IsRefusal, IsSpelled, WasRead, refusal_line}

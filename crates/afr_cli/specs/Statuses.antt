@@ -8,7 +8,7 @@ use Rattle.afr_lines.specs.declared.line.Line.{Line}
 use Rattle.afr_plan.specs.declared.plan.Plan.{Plan}
 use Rattle.afr_plan.specs.declared.plan.PlanFault.{PlanFault}
 use Rattle.afr_plan.specs.Judging.{first_fault}
-use Rattle.afr_plan.specs.Runnable.{IsRunnable}
+use Rattle.afr_runnable.specs.Runnable.{IsRunnable}
 use Rattle.afr_plan.specs.Spells.{Spells}
 use Rattle.afr_model.specs.State.{State, no_volume}
 use Rattle.afr_model.specs.Actors.{IsActor, is_done}

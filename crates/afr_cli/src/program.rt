@@ -17,7 +17,7 @@ ghost use Rattle.afr_model.specs.Safe.{AreFresh, IsAlwaysSafe};
 ghost use Rattle.std.specs.Io.KnownBytes.{Appends};
 ghost use Rattle.afr_plan.specs.declared.plan.Plan.{Plan};
 ghost use Rattle.afr_plan.specs.declared.plan.PlanFault.{PlanFault};
-ghost use Rattle.afr_plan.specs.Runnable.{IsRunnable};
+ghost use Rattle.afr_runnable.specs.Runnable.{IsRunnable};
 ghost use Rattle.afr_plan.specs.Spells.{Spells};
 ghost use Rattle.afr_words.specs.Forms.{AreForm, AreRefused, AskFor};
 ghost use Rattle.afr_cli.specs.Forms.{text_of};

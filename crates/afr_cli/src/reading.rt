@@ -2,12 +2,13 @@
 ghost use Rattle.std.specs.Prelude.{◌≡◌, Err, IfOk};
 ghost use Rattle.afr_text.specs.Causes.{Rose};
 ghost use Rattle.afr_plan.specs.declared.plan.PlanFault.{PlanFault};
-ghost use Rattle.afr_plan.specs.Runnable.{IsRunnable};
+ghost use Rattle.afr_runnable.specs.Runnable.{IsRunnable};
 ghost use Rattle.afr_cli.specs.Statuses.{IsRefused, IsSpelled};
 
 use crate::status::WholePlan;
-use afr_plan::{Plan, PlanFault, PlanStop, is_runnable_yet};
+use afr_plan::{Plan, PlanFault, PlanStop};
 use afr_plan_read::read_plan;
+use afr_runnable::is_runnable_yet;
 use afr_text::{ReadStop, Source, read_all};
 use std::alloc::Global;
 

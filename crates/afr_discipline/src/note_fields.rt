@@ -1,5 +1,5 @@
 //! The fields of a register that are for its readers alone: what the others say of the attempt, the heal and its source.
-ghost use Rattle.std.specs.Prelude.{◌≡◌, ◌<◌, ◌≤◌, ◌&&◌};
+ghost use Rattle.std.specs.Prelude.{◌≡◌, ◌<◌, ◌≤◌, ◌&&◌, false};
 ghost use Rattle.afr_base.specs.Bricks.{member};
 ghost use Rattle.afr_moves.specs.Register.{good};
 ghost use Rattle.afr_discipline.specs.Notes.{published};
@@ -71,8 +71,22 @@ fn source_of(register: &Register) -> Option<BrickId>
     }
 }
 
-/// What the other fields say, for those who read it.
-pub(crate) fn published(register: &mut Register)
+/// What they say outside a heal.
+fn published_outside(register: &mut Register)
+    requires few { register.old.shape.n ≤ 5 }
+    requires outside { register.old.inside ≡ false }
+    ensures { register.new ≡ published register.old }
+{
+    register.attempt = attempt_of(register);
+    register.begun_before_looks = false;
+    register.heal = None;
+    register.source = None;
+    register.mended = asked_at(register, Step::Mends);
+}
+
+/// What they say in a heal. It stands apart, so that only heals pay for its frame.
+#[inline(never)]
+fn published_inside(register: &mut Register)
     requires { register.old.shape.n ≤ 5 }
     ensures { register.new ≡ published register.old }
 {
@@ -81,4 +95,16 @@ pub(crate) fn published(register: &mut Register)
     register.heal = heal_of(register);
     register.source = source_of(register);
     register.mended = asked_at(register, Step::Mends);
+}
+
+/// What the other fields say, for those who read it.
+pub(crate) fn published(register: &mut Register)
+    requires { register.old.shape.n ≤ 5 }
+    ensures { register.new ≡ published register.old }
+{
+    if register.inside {
+        published_inside(register);
+    } else {
+        published_outside(register);
+    }
 }

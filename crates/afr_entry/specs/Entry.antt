@@ -28,6 +28,7 @@ use Rattle.afr_walk.specs.declared.walk.Walk.{Walk}
 use Rattle.afr_walk.specs.declared.walk.WalkStep.{WalkStep}
 use Rattle.afr_walk.specs.declared.walk.WalkStep.TheVariants as walking
 use Rattle.afr_transaction.specs.Between.{given_up, noted_read}
+use Rattle.afr_transaction.specs.Made.{attempted}
 use Rattle.afr_transaction.specs.Progress as transaction
 use Rattle.afr_transaction.specs.Progress.{Progress, CarriesAt, begun, fed, is_beginning, starting}
 use Rattle.afr_transaction.specs.Sound.{Sound}
@@ -116,7 +117,7 @@ register_of m = register_at m.stage m.walk
 
 -- the contents that go with the next request
 abbrev pub CarriesNext : EntryStage → Load → Type 0
-CarriesNext (Changing t found) carried = CarriesAt t.stage carried t.change
+CarriesNext (Changing t found) carried = CarriesAt t.stage carried (attempted t)
 CarriesNext (Removes m) carried = removal.CarriesAt m.stage carried m.change
 CarriesNext stage carried = carried ≡ load.Nothing
 

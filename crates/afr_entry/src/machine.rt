@@ -148,7 +148,8 @@ impl EntryMachine {
         }
     }
 
-    fn hear(&mut self, answer: &Answer, at: u32)
+    /// The request was written, and the brick has answered.
+    pub fn hear(&mut self, answer: &Answer, at: u32)
         requires { is_over self.old.stage ≡ false }
         ensures { self.new ≡ answered answer.now at self.old }
     {

@@ -208,15 +208,15 @@ fn change_heard(
     match found {
         Found::Unread => unread_heard(walk, job, transaction, answer, at),
         Found::Fits | Found::Refused(_) => {
-            told_to(transaction, told_of(answer), at);
+            told_to(transaction, &told_of(answer), at);
             found
         }
     }
 }
 
-fn told_to(transaction: &mut Transaction, told: Told, at: u32)
+fn told_to(transaction: &mut Transaction, told: &Told, at: u32)
     requires { progress.is_over transaction.old.stage transaction.old ≡ false }
-    ensures { transaction.new ≡ told_to told at transaction.old }
+    ensures { transaction.new ≡ told_to told.now at transaction.old }
 {
     if !transaction.is_beginning() {
         transaction.feed(told, at);
@@ -236,7 +236,7 @@ fn unread_heard(
     ensures found { result ≡ found_after Found.Unread answer.now job transaction.old.stage }
 {
     if !transaction.is_beginning() {
-        transaction.feed(told_of(answer), at);
+        transaction.feed(&told_of(answer), at);
         return Found::Unread;
     }
     note_name(walk, job, transaction, &told_of(answer), at);
@@ -286,7 +286,7 @@ fn begun(found: Found, transaction: &mut Transaction, at: u32)
         Found::Unread => {}
         Found::Fits | Found::Refused(_) => {
             if transaction.is_beginning() {
-                transaction.feed(Told::Done, at);
+                transaction.feed(&Told::Done, at);
             }
         }
     }

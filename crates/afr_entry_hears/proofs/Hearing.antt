@@ -1,10 +1,11 @@
 -- A client hears what its machine of a command on a name asks of the bricks' answers, by where the machine stands.
-use Rattle.std.proofs.Common.{◌≡◌, ℕ, Bool, true, false, List, Option, Some, None, is_some, length, refl, sym, ap, ◌∙◌, subst, if◌then◌else◌}
+use Rattle.std.proofs.Common.{◌≡◌, ℕ, arith, Bool, true, false, List, [], ◌∷◌, ◌++◌, Option, Some, None, is_some, length, refl, sym, ap, ◌∙◌, subst, if◌then◌else◌}
 use Rattle.afr_base.specs.Bricks.{and_right, member}
 use Rattle.afr_base.specs.declared.ids.ActorId.{ActorId}
 use Rattle.afr_base.specs.declared.ids.BrickId.{BrickId}
 use Rattle.afr_base.specs.declared.ids.Gfid.{Gfid}
 use Rattle.afr_base.specs.declared.ids.Kind.{Kind}
+use Rattle.afr_base.specs.declared.ids.NameId.{NameId}
 use Rattle.afr_base.specs.declared.ids.Kind.TheVariants.{Names}
 use Rattle.afr_choice.specs.Looks.{view_at}
 use Rattle.afr_choice.specs.Verdict.{good_copies, is_holder}
@@ -13,7 +14,10 @@ use Rattle.afr_choice.specs.declared.looked.Looked.{Looked}
 use Rattle.afr_lines.specs.Told.{told_by}
 use Rattle.afr_lines.specs.Work.{work}
 use Rattle.afr_lines.specs.declared.answer.Answer.{Answer}
+use Rattle.afr_lines.specs.declared.answer.Answer.TheVariants as answer
 use Rattle.afr_lines.specs.declared.line.Line.{Line}
+use Rattle.afr_lines.specs.declared.line.Line.TheVariants.{Ask}
+use Rattle.afr_lines.specs.declared.line.Next.{Next}
 use Rattle.afr_lines.specs.declared.line.Next.TheVariants as next
 use Rattle.afr_lines.specs.declared.request.Request.{Request}
 use Rattle.afr_lines.specs.declared.request.Request.TheVariants as request_of
@@ -23,7 +27,7 @@ use Rattle.afr_object.specs.declared.entry.View.{View}
 use Rattle.afr_plan.specs.declared.command.Command.{Command}
 use Rattle.afr_plan.specs.declared.command.Command.TheVariants as command
 use Rattle.afr_plan.specs.declared.plan.Plan.{Plan}
-use Rattle.afr_model.specs.Commands.{is_rmdir}
+use Rattle.afr_model.specs.Following.{Follows}
 use Rattle.afr_model.specs.Honest.{Honest}
 use Rattle.afr_model.specs.Showing.{looked_by, root_entry}
 use Rattle.afr_model.specs.Sums.{has_object}
@@ -37,26 +41,41 @@ use Rattle.afr_walk.specs.declared.walk.Walk.{Walk}
 use Rattle.afr_walk.specs.declared.walk.WalkStep.{WalkStep}
 use Rattle.afr_walk.specs.declared.walk.WalkStep.TheVariants as walking
 use Rattle.afr_entry.specs.Entry.{IsChanging, IsStage, fits_stage, next_at, next_under, reader, reads_name}
-use Rattle.afr_entry.specs.Job.{reply_to}
+use Rattle.afr_entry.specs.Job.{name_of, reply_to}
 use Rattle.afr_entry.specs.declared.job.EntryJob.{EntryJob}
 use Rattle.afr_entry.specs.declared.refusal.Refusal.{Refusal}
 use Rattle.afr_entry.specs.declared.stage.EntryStage.{EntryStage}
 use Rattle.afr_entry.specs.declared.stage.EntryStage.TheVariants.{Walking, Changing, Removes, Ending}
 use Rattle.afr_entry.specs.declared.stage.Found.{Found}
 use Rattle.afr_entry.specs.declared.stage.Found.TheVariants.{Unread, Fits, Refused}
+use Rattle.afr_removal.specs.Removal as removal
+use Rattle.afr_removal.specs.Removal.{Removing}
+use Rattle.afr_removal.specs.Sound as removal_sound
+use Rattle.afr_removal.specs.declared.stage.RemovalStage.{RemovalStage}
+use Rattle.afr_removal.specs.declared.stage.RemovalStage.TheVariants as removal_stage
+use Rattle.afr_removal.specs.declared.stage.RemovalStage.TheVariants.{Listing}
+use Rattle.afr_removal_telling.specs.RemovalTelling as removal_telling
+use Rattle.afr_removal_telling.specs.RemovalTelling.{RemovalTells}
+use Rattle.afr_removal_telling.proofs.About.{about as removal_about}
+use Rattle.afr_transaction_tells.specs.Fits.{FitsPhase}
+use Rattle.afr_transaction_tells.specs.Laws.{IsNextLine}
+use Rattle.afr_transaction_tells.proofs.HonestFits.{honest_fits}
 use Rattle.afr_inode_telling.specs.Lines.{CanAnswer, is_look}
 use Rattle.afr_inode_telling.specs.WalkTelling.{TellsAt}
 use Rattle.afr_inode_telling.proofs.ReadsMore.{asks_same}
 use Rattle.afr_write_telling.specs.WriteTelling.{CanTell}
 use Rattle.afr_write_telling.proofs.Goes.{asked_stage}
-use Rattle.afr_entry_telling.specs.EntryTelling.{CanHear, CanHearUnder, Changes, TellsIn, command_of}
+use Rattle.afr_entry_telling.specs.EntryTelling.{CanHear, CanHearUnder, CanName, Changes, TellsIn, command_of}
 use Rattle.afr_entry_telling.proofs.Changing.{read_line}
+use Rattle.afr_entry_telling.proofs.Names.{name_told}
+use Rattle.afr_entry_telling.proofs.Removing.{shown}
 use Rattle.afr_entry_telling.proofs.Words.{object_is}
 use Rattle.afr_hears.specs.Hears.{IsHeard}
 use Rattle.afr_hears.proofs.Seen.{finds_seen, finds_source}
 use Rattle.afr_hears.proofs.Stood.{finds_path}
 use Rattle.afr_hears.proofs.Told.{IsAtObject, IsThere, can_answer, can_tell}
 use Rattle.afr_entry_hears.specs.EntryHears.{EntryHears}
+use Rattle.afr_entry_hears.proofs.Elsewhere.{elsewhere}
 
 -- ---- while the path is walked
 -- what a walk asks is there
@@ -120,7 +139,7 @@ module _ (p : Plan) (log : List Line) (a : ActorId) (b : BrickId) (request : Req
   told_without : (dir : Entry) → is_look request ≡ false → CanTell dir request (told_by heard)
   told_without dir free = let k = can_tell p log a b heard took root_entry (Top refl refl) request h (at_any root_entry request free) in record { fits = k.fits; phase = k.phase; shows = λ view seen look. absurd (cc (look, free)) }
 
-  by_stage : (stage : Stage) (dir : Entry) → (is_beginning stage ≡ true → CanAnswer p b.0 request log heard) → (is_beginning stage ≡ false → CanTell dir request (told_by heard)) → CanHearUnder Unread stage p dir b.0 request log heard
+  by_stage : (stage : Stage) (dir : Entry) → (is_beginning stage ≡ true → CanName p dir b.0 request log heard) → (is_beginning stage ≡ false → CanTell dir request (told_by heard)) → CanHearUnder Unread stage p dir b.0 request log heard
   by_stage Locking dir name other = other refl
   by_stage Looking dir name other = other refl
   by_stage Beginning dir name other = name refl
@@ -129,7 +148,40 @@ module _ (p : Plan) (log : List Line) (a : ActorId) (b : BrickId) (request : Req
   by_stage Posting dir name other = other refl
   by_stage Closing dir name other = other refl
 
-  module _ (job : EntryJob) (w : Walk) (plain : is_rmdir (command_of job w.path) ≡ false) (t : Progress) where
+  -- ---- of the child of a removal
+  phase_of : (asked : Request) → IsHeard p log a b asked heard took → FitsPhase asked (told_by heard)
+  phase_of (request_of.Look g) k = tt
+  phase_of asked k = (can_tell p log a b heard took root_entry (Top refl refl) asked k tt).phase
+
+  of_child : removal_telling.CanTell request heard
+  of_child = record { fits = honest_fits p (Ask a b request (told_by heard) took) log h.said; phase = phase_of request h }
+
+  removes : (path : List NameId) (r : Removing) → removal_sound.Sound r → RemovalTells p path r (work a.0 log) → removal.next_at r.stage r ≡ next.Ask b request → removal_telling.CanHear r.stage p b.0 request log heard
+  removes path r sound t e = go r.stage refl
+    where
+      there : r.stage ≡ Listing → IsThere p log (removal.brick_at Listing r) (request_of.List r.child.gfid)
+      there at =
+          let asked : removal.next_at r.stage r ≡ removal.asks Listing r = ap (λ (s : RemovalStage). removal.next_at s r) at in
+          let line = removal_about p path r (work a.0 log) a (told_by heard) (Ask a (record { 0 = removal.brick_at Listing r }) (request_of.List r.child.gfid) (told_by heard) took) log sound t
+          (subst (λ (n : Next). IsNextLine a n (told_by heard) (Ask a (record { 0 = removal.brick_at Listing r }) (request_of.List r.child.gfid) (told_by heard) took)) (sym asked) (took, refl)) in
+          record { free = refl; has = good_has p a.0 log r.child.gfid Names (removal.brick_at Listing r) h.honest line.0.0.good }
+
+      listing : r.stage ≡ Listing → CanAnswer p b.0 request log heard
+      listing at =
+          can_answer p log a b request heard took h
+          (asks_same (λ (x : BrickId) (q : Request). IsThere p log x.0 q) (record { 0 = removal.brick_at Listing r }) b (request_of.List r.child.gfid) request (sym (ap (λ (s : RemovalStage). removal.next_at s r) at) ∙ e) (there at))
+
+      go : (stage : RemovalStage) → r.stage ≡ stage → removal_telling.CanHear stage p b.0 request log heard
+      go Listing at = listing at
+      go removal_stage.Locking at = of_child
+      go removal_stage.Looking at = of_child
+      go removal_stage.Beginning at = of_child
+      go removal_stage.Preparing at = of_child
+      go removal_stage.Applying at = of_child
+      go removal_stage.Posting at = of_child
+      go (removal_stage.Closing why) at = of_child
+
+  module _ (follows : Follows p log) (job : EntryJob) (w : Walk) (t : Progress) where
     after_name : next_change t.stage (length log) t ≡ next.Ask b request → fits_stage Fits t.stage ≡ true → CanTell w.object request (told_by heard)
     after_name e in_turn =
         let at_stage = asked_stage t.stage (length log) t b request e in
@@ -144,11 +196,22 @@ module _ (p : Plan) (log : List Line) (a : ActorId) (b : BrickId) (request : Req
 
         there : is_beginning t.stage ≡ true → IsThere p log (reader t.register).0 (reads_name job w)
         there f =
-            let line = read_line p job w plain (work a.0 log) t k.place k.directory k.unread a log sound k.on k.name f (told_by heard) took in
+            let line = read_line p job w (work a.0 log) t k.place k.directory k.unread a log sound k.on.0 k.name f (told_by heard) took in
             record { free = refl; has = good_has p a.0 log w.object.gfid Names (reader t.register).0 h.honest line.0.good }
 
-        name : is_beginning t.stage ≡ true → CanAnswer p b.0 request log heard
-        name f = can_answer p log a b request heard took h (asks_same (λ (x : BrickId) (r : Request). IsThere p log x.0 r) (reader t.register) b (reads_name job w) request (sym (pick true f) ∙ e) (there f))
+        named : CanAnswer p (reader t.register).0 (reads_name job w) log heard → CanName p w.object (reader t.register).0 (reads_name job w) log heard
+        named can = record {
+          answers = can;
+          elsewhere = λ entry is.
+              elsewhere p log h.few (omega (arith, h.short)) h.honest h.lawful follows (reader t.register).0 w.object.gfid (name_of job) entry
+              (shown p (reader t.register).0 w.object.gfid (name_of job) log entry (name_told p (reader t.register).0 w.object.gfid (name_of job) log (answer.Entry (Some entry)) (subst (λ (x : Answer). CanAnswer p (reader t.register).0 (reads_name job w) log x) is can)));
+        }
+
+        name : is_beginning t.stage ≡ true → CanName p w.object b.0 request log heard
+        name f =
+            let same = sym (pick true f) ∙ e in
+            let can = can_answer p log a b request heard took h (asks_same (λ (x : BrickId) (r : Request). IsThere p log x.0 r) (reader t.register) b (reads_name job w) request same (there f)) in
+            asks_same (λ (x : BrickId) (r : Request). CanAnswer p x.0 r log heard → CanName p w.object x.0 r log heard) (reader t.register) b (reads_name job w) request same (λ k. named k) can
 
         other : is_beginning t.stage ≡ false → CanTell w.object request (told_by heard)
         other f =
@@ -163,18 +226,15 @@ module _ (p : Plan) (log : List Line) (a : ActorId) (b : BrickId) (request : Req
         go false e = after_name e (fits_too why t.stage sound.in_turn)
 
 pub entry_hears : EntryHears
-entry_hears p c m log a b request heard took sound k e h = go m.stage sound.ready k.stage e
+entry_hears p c m log a b request heard took sound k e h follows = go m.stage sound.ready k.stage e
   where
     w : Walk
     w = m.walk
-
-    own : is_rmdir (command_of m.job w.path) ≡ false
-    own = subst (λ (x : Command). is_rmdir x ≡ false) k.named k.plain
 
     go : (stage : EntryStage) → IsStage w m.job stage → TellsIn p c m.job stage w (work a.0 log) → next_at (length log) stage m.job w ≡ next.Ask b request → CanHear stage p w.object b.0 request log heard
     go Walking ready t e =
         can_answer p log a b request heard took h
         (asks_same (λ (x : BrickId) (r : Request). IsThere p log x.0 r) (next_in w).0 b (next_in w).1 request e (step_there p (command.Ls w.path) log a w h.honest w.step ready t.tells.step))
-    go (Changing t found) ready x e = under p log a b request heard took h m.job w own t found ready (subst (λ (y : Command). Changes p y m.job w.object t found (work a.0 log)) k.named x) e
-    go (Removes r) ready t e = absurd t
+    go (Changing t found) ready x e = under p log a b request heard took h follows m.job w t found ready (subst (λ (y : Command). Changes p y m.job w.object t found (work a.0 log)) k.named x) e
+    go (Removes r) ready t e = removes p log a b request heard took h (w.path ++ t.name ∷ []) r ready.sound t.tells e
     go (Ending said) ready t e = absurd (cc e)

@@ -1,1 +1,3 @@
+pub mod Elsewhere
 pub mod Hearing
+pub mod Bringing

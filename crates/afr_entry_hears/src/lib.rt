@@ -1,9 +1,12 @@
-//! What a client hears of a create, a mkdir or an unlink, where answers are honest and moves are lawful.
+//! What a client hears of a command on a name, where answers are honest, moves are lawful, and the log is its plan's.
 #![tactic(auto)]
 
-ghost use Rattle.afr_entry_hears.specs.EntryHears.{EntryHears};
+ghost use Rattle.afr_entry_hears.specs.EntryHears.{EntryBrings, EntryHears, EntryMakesNew};
 
-/// A client hears what its machine of a command on a name asks of the bricks' answers.
+/// A client hears what its machine of a command on a name asks of the bricks' answers. What goes with its requests is what
+/// the log gives them, and what its Begin line makes is new.
 pub fn a_client_hears_of_its_names()
-    ensures { EntryHears }
+    ensures hears { EntryHears }
+    ensures loads { EntryBrings }
+    ensures begins { EntryMakesNew }
 {}

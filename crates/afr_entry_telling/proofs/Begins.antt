@@ -1,5 +1,5 @@
 -- While the path to the directory is walked, and where the walk leaves the command.
-use Rattle.std.proofs.Common.{◌≡◌, ℕ, ◌<◌, ◌==◌, nat_lt, nat_le, Bool, true, false, List, [], ◌∷◌, ◌++◌, Option, Some, None, length, get_or, slice_get, refl, sym, ap, ◌∙◌, subst, arith, if◌then◌else◌, inl, inr}
+use Rattle.std.proofs.Common.{◌≡◌, ℕ, ◌+◌, ◌<◌, ◌≤◌, ◌==◌, ◌&&◌, nat_lt, nat_le, Bool, true, false, List, [], ◌∷◌, ◌++◌, Option, Some, None, length, get_or, slice_get, refl, sym, ap, ◌∙◌, subst, arith, if◌then◌else◌, inl, inr}
 use Rattle.std.proofs.Math.ListN.{get_or-append}
 use Rattle.std.proofs.lemmas.Bool.Decides.{nat_tests}
 use Rattle.std.proofs.lemmas.Option.{slice_get-get_or}
@@ -17,6 +17,7 @@ use Rattle.afr_lines.specs.declared.line.Line.TheVariants.{Ask}
 use Rattle.afr_lines.specs.declared.reply.Reply.{Reply}
 use Rattle.afr_lines.specs.declared.reply.Reply.TheVariants as reply
 use Rattle.afr_lines.specs.declared.request.Area.{Area}
+use Rattle.afr_lines.specs.declared.request.Area.TheVariants.{Name}
 use Rattle.afr_object.specs.Tables.{is_dir, object_of}
 use Rattle.afr_object.specs.declared.change.Change.{Change}
 use Rattle.afr_object.specs.declared.entry.Entry.{Entry}
@@ -24,7 +25,7 @@ use Rattle.afr_plan.specs.declared.command.Command.{Command}
 use Rattle.afr_plan.specs.declared.command.Command.TheVariants as command
 use Rattle.afr_plan.specs.declared.plan.Plan.{Plan}
 use Rattle.afr_model.specs.Answered.{IsAbout, IsAnswered, Refuses}
-use Rattle.afr_model.specs.Commands.{is_rmdir, steps_of}
+use Rattle.afr_model.specs.Commands.{is_rmdir, path_of, steps_of}
 use Rattle.afr_model.specs.Following.{KeepsTo}
 use Rattle.afr_model.specs.Refusals.{by_path, on_way, or_else, read_refused, refusal, too_large}
 use Rattle.afr_model.specs.Showing.{Path, At, NoName, Untold, path_by}
@@ -58,6 +59,7 @@ use Rattle.afr_transaction_tells.proofs.Excused.{excused_first}
 use Rattle.afr_transaction_tells.proofs.First.{tells_first}
 use Rattle.afr_entry_telling.specs.EntryLaws.{EntryBegins}
 use Rattle.afr_entry_telling.specs.EntryTelling.{Goes, TellsIn, Walks, command_of}
+use Rattle.afr_entry_telling.proofs.Held.{holds_first}
 use Rattle.afr_entry_telling.proofs.Words.{longer, on_name, path_is, place_upto, small_is, steps_are}
 
 lt_test : (a b : ℕ) → a < b → nat_lt a b ≡ true
@@ -69,18 +71,31 @@ le_test a b h = grind (arith, nat_tests, h)
 differ_test : (a b : ℕ) → a < b → (a == b) ≡ false
 differ_test a b h = grind (arith, nat_tests, h)
 
+-- a lookup steps over its whole path
+whole_of : (path : List NameId) → steps_of (command.Ls path) ≤ length (path_of (command.Ls path))
+whole_of path = omega arith
+
 -- ---- on the way to the directory
+-- how many names a path has led
+abbrev pub read_in : Path → ℕ
+read_in (At read object) = read
+read_in other = 0
+
 -- a path that hasn't led there
 abbrev pub IsOnWay : ℕ → Path → Type 0
 IsOnWay k path = (read : ℕ) (object : Entry) → path ≡ At read object → read < k
 
 -- a command that steps so far, and locks and reads nothing before
-module _ (p : Plan) (c : Command) (w : Work) (read : ℕ) (object : Entry) (low : read < steps_of c) (plain : is_rmdir c ≡ false) where
+module _ (p : Plan) (c : Command) (w : Work) (read : ℕ) (object : Entry) (low : read < steps_of c) (short : steps_of c ≤ length (path_of c)) where
   looks_there : looks_here c (At read object) ≡ Some object.gfid
   looks_there = let t = le_test read (steps_of c) low in rw t refl
 
   locks_there : area_here c (At read object) ≡ None
-  locks_there = let t = differ_test read (steps_of c) low in rw (t, plain) refl
+  locks_there = let t = differ_test read (steps_of c) low in let u = differ_test read (length (path_of c)) (omega (arith, low, short)) in rw (t, u) (never (is_rmdir c))
+    where
+      never : (x : Bool) → (if x && false then Some (Name object.gfid None) else None) ≡ None
+      never true = refl
+      never false = refl
 
   path_there : by_path p c (At read object) w ≡ on_way p.shape object w
   path_there = let t = lt_test read (steps_of c) low in rw t refl
@@ -91,12 +106,25 @@ module _ (p : Plan) (c : Command) (w : Work) (read : ℕ) (object : Entry) (low 
       ∙ ap (λ (x : Path). or_else (read_refused w) (by_path p c x w)) place
       ∙ ap (λ (x : Option Reply). or_else (read_refused w) x) path_there
 
-module _ (p : Plan) (job : EntryJob) (path : List NameId) (plain : is_rmdir (command_of job path) ≡ false) where
+module _ (p : Plan) (job : EntryJob) (path : List NameId) where
   abbrev c : Command
   c = command_of job path
 
   abbrev s : Command
   s = command.Ls path
+
+  -- its path is one name longer than the way
+  one_longer : length (path_of c) ≡ steps_of c + 1
+  one_longer = ap (λ (x : List NameId). length x) (path_is job path) ∙ longer path (name_of job) ∙ ap (λ (n : ℕ). n + 1) (sym (steps_are job path))
+
+  short : steps_of c ≤ length (path_of c)
+  short = let e = one_longer in omega (arith, e)
+
+  pub ended : (read : ℕ) → read ≤ steps_of c → (object child : Entry) → At read object ≡ At (length (path_of c)) child → ⊥
+  ended read l object child e =
+      let same : read ≡ length (path_of c) = ap read_in e in
+      let more = one_longer in
+      absurd (omega (arith, l, same, more))
 
   below : (read : ℕ) → read < length path → read < steps_of c
   below read l = subst (λ (n : ℕ). read < n) (sym (steps_are job path)) l
@@ -117,8 +145,8 @@ module _ (p : Plan) (job : EntryJob) (path : List NameId) (plain : is_rmdir (com
             record {
               unbegun = about.unbegun;
               unread = about.unread;
-              object = subst (λ (x : Path). looks_here c x ≡ Some w.object.gfid) (sym t.0.path) (looks_there p c lines w.read w.object (below w.read low) plain);
-              locked = λ area e. absurd (cc (e, subst (λ (x : Path). area_here c x ≡ None) (sym t.0.path) (locks_there p c lines w.read w.object (below w.read low) plain)));
+              object = subst (λ (x : Path). looks_here c x ≡ Some w.object.gfid) (sym t.0.path) (looks_there p c lines w.read w.object (below w.read low) short);
+              locked = λ area e. absurd (cc (e, subst (λ (x : Path). area_here c x ≡ None) (sym t.0.path) (locks_there p c lines w.read w.object (below w.read low) short)));
             },
             tt,
           )
@@ -127,8 +155,8 @@ module _ (p : Plan) (job : EntryJob) (path : List NameId) (plain : is_rmdir (com
             record {
               unbegun = about.unbegun;
               goes_on =
-                  refusal_there p c lines w.read w.object (below w.read low) plain (small_is job path) (place_here lines upto ∙ t.0.path)
-                  ∙ sym (refusal_there p s lines w.read w.object low refl refl t.0.path)
+                  refusal_there p c lines w.read w.object (below w.read low) short (small_is job path) (place_here lines upto ∙ t.0.path)
+                  ∙ sym (refusal_there p s lines w.read w.object low (whole_of path) refl t.0.path)
                   ∙ about.goes_on;
               answered = about.answered;
               good = about.good;
@@ -150,26 +178,26 @@ module _ (p : Plan) (job : EntryJob) (path : List NameId) (plain : is_rmdir (com
       by (walking.Stopped why) h i t about = absurd (cc h)
 
   -- ---- a walk that stops
-  skips_nothing : (w : Work) → OnlyReads p.shape.n w → LookedAll p.shape.n w → SkipsNothing p c w
-  skips_nothing w only all = record {
+  skips_nothing : (w : Work) → OnlyReads p.shape.n w → LookedAll p.shape.n w → ((child : Entry) → path_by p w ≡ At (length (path_of c)) child → ⊥) → SkipsNothing p c w
+  skips_nothing w only all none = record {
     looked = λ g m unlocked b l. all g m b l;
     locked = λ area part m. absurd (cc (m, area_none p.shape.n area w only));
-    child = λ h read dir child name place led is_dir area. absurd (cc (h, plain));
+    child = λ h read dir child name place led is_dir area. absurd (none child led);
     carried = λ change e. absurd (cc (e, change_none p.shape.n w only));
   }
 
   path_same : (path_at : Path) (w : Work) → IsOnWay (length path) path_at → by_path p c path_at w ≡ by_path p s path_at w
-  path_same (At read object) w on = let low = on read object refl in path_there p c w read object (below read low) plain ∙ sym (path_there p s w read object low refl)
+  path_same (At read object) w on = let low = on read object refl in path_there p c w read object (below read low) short ∙ sym (path_there p s w read object low (whole_of path))
   path_same NoName w on = refl
   path_same Untold w on = refl
 
   looks_same : (path_at : Path) (w : Work) → IsOnWay (length path) path_at → looks_here s path_at ≡ looks_here c path_at
-  looks_same (At read object) w on = let low = on read object refl in looks_there p s w read object low refl ∙ sym (looks_there p c w read object (below read low) plain)
+  looks_same (At read object) w on = let low = on read object refl in looks_there p s w read object low (whole_of path) ∙ sym (looks_there p c w read object (below read low) short)
   looks_same NoName w on = refl
   looks_same Untold w on = refl
 
   locks_same : (path_at : Path) (w : Work) → IsOnWay (length path) path_at → area_here s path_at ≡ area_here c path_at
-  locks_same (At read object) w on = let low = on read object refl in locks_there p s w read object low refl ∙ sym (locks_there p c w read object (below read low) plain)
+  locks_same (At read object) w on = let low = on read object refl in locks_there p s w read object low (whole_of path) ∙ sym (locks_there p c w read object (below read low) short)
   locks_same NoName w on = refl
   locks_same Untold w on = refl
 
@@ -181,9 +209,12 @@ module _ (p : Plan) (job : EntryJob) (path : List NameId) (plain : is_rmdir (com
         (subst (λ (x : Option Area). AsksAll p.shape.n (looks_here s (path_by p w)) x w) (locks_same (path_by p w) w on) (k.asked h)));
     failed = λ h. inr (k.failed h);
     undisturbed = λ h calm. absurd (cc (h, begins_none p.shape.n w k.only));
-    whole = skips_nothing w k.only k.all;
+    whole = skips_nothing w k.only k.all nowhere;
   }
     where
+      nowhere : (child : Entry) → path_by p w ≡ At (length (path_of c)) child → ⊥
+      nowhere child e = let l = on (length (path_of c)) child e in let more = one_longer in let same = steps_are job path in absurd (omega (arith, l, more, same))
+
       place : place_by p c w ≡ path_by p w
       place = place_here w upto
 
@@ -204,7 +235,7 @@ module _ (shape : Shape) (r : Register) where
   untouched (inl e) = subst Untouched (sym e) (refl, refl, refl, refl, refl)
   untouched (inr e) = subst Untouched (sym e) (refl, refl, refl, refl, refl)
 
-module _ (p : Plan) (job : EntryJob) (w : Walk) (lines : Work) (sound : IsWalk w) (shape : w.shape ≡ p.shape) (k : HasArrived p (command.Ls w.path) w lines) (upto : path_upto (length w.path) p lines ≡ path_by p lines) (plain : is_rmdir (command_of job w.path) ≡ false) where
+module _ (p : Plan) (job : EntryJob) (w : Walk) (lines : Work) (sound : IsWalk w) (shape : w.shape ≡ p.shape) (k : HasArrived p (command.Ls w.path) w lines) (upto : path_upto (length w.path) p lines ≡ path_by p lines) where
   abbrev own : Command
   own = command_of job w.path
 
@@ -212,7 +243,7 @@ module _ (p : Plan) (job : EntryJob) (w : Walk) (lines : Work) (sound : IsWalk w
   steps = ap (λ (n : ℕ). At n w.object) (k.whole ∙ sym (steps_are job w.path))
 
   place : place_by p own lines ≡ At (steps_of own) w.object
-  place = place_here p job w.path plain lines upto ∙ k.goes.path ∙ steps
+  place = place_here p job w.path lines upto ∙ k.goes.path ∙ steps
 
   idle : AreIdle lines
   idle = record {
@@ -253,7 +284,7 @@ module _ (p : Plan) (job : EntryJob) (w : Walk) (lines : Work) (sound : IsWalk w
     asked = λ h. absurd (cc h);
     failed = λ h. absurd (cc h);
     undisturbed = λ h calm. absurd (cc (h, k.untouched.unbegun));
-    whole = skips_nothing p job w.path plain lines k.goes.only k.all;
+    whole = skips_nothing p job w.path lines k.goes.only k.all (λ child e. ended p job w.path (steps_of own) (omega arith) w.object child (sym (k.goes.path ∙ steps) ∙ e));
   }
     where
       file_is : (what : What) → is_dir what ≡ false → what ≡ File
@@ -284,29 +315,28 @@ module _ (p : Plan) (job : EntryJob) (w : Walk) (lines : Work) (sound : IsWalk w
         place = place;
         directory = e;
         unread = k.goes.unread;
-        name = record { path = k.goes.path ∙ steps; unrefused = k.goes.unrefused };
-        on = goes (change_of w.object.gfid job);
+        name = record { path = k.goes.path ∙ steps; unrefused = k.goes.unrefused; unbegun = k.untouched.unbegun };
+        on = (goes (change_of w.object.gfid job), holds_first (change_of w.object.gfid job) w.shape w.register p.shape.n lines sound.free k.untouched.none_locked k.goes.only);
       }
       go false e = at_file e
 
 -- ---- where a walk leaves the command
-pub moved : (p : Plan) (job : EntryJob) (w : Walk) (lines : Work) → IsWalk w → is_rmdir (command_of job w.path) ≡ false → Walks p w lines
+pub moved : (p : Plan) (job : EntryJob) (w : Walk) (lines : Work) → IsWalk w → Walks p w lines
     → ((why : Stop) → w.step ≡ walking.Stopped why → IsOnWay (length w.path) (path_by p lines)) → TellsIn p (command_of job w.path) job (after_walk job w) w lines
-moved p job w lines sound plain k on = go w.step refl
+moved p job w lines sound k on = go w.step refl
   where
     go : (step : WalkStep) → w.step ≡ step → TellsIn p (command_of job w.path) job (after_step step job w) w lines
     go (walking.Looking s) e = k
     go (walking.Naming b) e = k
-    go walking.Arrived e = arrived p job w lines sound k.tells.shape (arrives p (command.Ls w.path) w lines sound k.tells e) k.upto plain
-    go (walking.Stopped why) e = stopped p job w.path plain lines (reply_of why) k.upto (on why e) (subst (λ (step : WalkStep). TellsAt p (command.Ls w.path) step w.read w.object lines) e k.tells.step)
+    go walking.Arrived e = arrived p job w lines sound k.tells.shape (arrives p (command.Ls w.path) w lines sound k.tells e) k.upto
+    go (walking.Stopped why) e = stopped p job w.path lines (reply_of why) k.upto (on why e) (subst (λ (step : WalkStep). TellsAt p (command.Ls w.path) step w.read w.object lines) e k.tells.step)
 
 -- no lines show a command that begins
 pub begins : EntryBegins
-begins p path job few some plain = record {
+begins p path job few some = record {
   shape = refl;
   named = refl;
-  plain = plain;
-  stage = moved p job (walk_from p.shape path) [] (is_walk_from p.shape path few some) plain (record { tells = walk_tells_first p (command.Ls path) path refl refl; upto = refl })
+  stage = moved p job (walk_from p.shape path) [] (is_walk_from p.shape path few some) (record { tells = walk_tells_first p (command.Ls path) path refl refl; upto = refl })
       (λ why e. absurd (never (0 == length path) why e));
 }
   where

@@ -44,8 +44,7 @@ use Rattle.afr_entry.specs.Entry.{IsChanging, fits_stage, found_by, name_noted, 
 use Rattle.afr_entry.specs.Job.{change_of, name_of, ruled_by, ruled_out}
 use Rattle.afr_entry.specs.declared.job.EntryJob.{EntryJob}
 use Rattle.afr_entry.specs.declared.refusal.Refusal.{Refusal}
-use Rattle.afr_entry.specs.declared.stage.Found.{Found}
-use Rattle.afr_entry.specs.declared.stage.Found.TheVariants.{Unread, Fits, Refused}
+use Rattle.afr_entry.specs.declared.stage.Found.TheVariants.{Unread, Fits}
 use Rattle.afr_entry.proofs.EntryLemmas.{some_reader}
 use Rattle.afr_transaction_tells.specs.About.{Led}
 use Rattle.afr_transaction_tells.specs.Laws.{IsNextLine}
@@ -71,7 +70,7 @@ begins_at Closing e = absurd (cc e)
 le_self : (n : ℕ) → nat_le n n ≡ true
 le_self n = grind (arith, nat_tests)
 
-module _ (p : Plan) (job : EntryJob) (w : Walk) (plain : is_rmdir (command_of job w.path) ≡ false) (lines : Work) (t : Progress) where
+module _ (p : Plan) (job : EntryJob) (w : Walk) (lines : Work) (t : Progress) where
   abbrev c : Command
   c = command_of job w.path
 
@@ -88,18 +87,19 @@ module _ (p : Plan) (job : EntryJob) (w : Walk) (plain : is_rmdir (command_of jo
   free_unread : IsUnread p c dir lines → IsFree
   free_unread k = subst (λ (x : Path). by_name p c dir x lines ≡ None) (sym k.path) (unread_fits p job w.path dir lines)
 
-  free_fits : FitsName p c job dir lines → IsFree
-  free_fits k = subst (λ (x : Path). by_name p c dir x lines ≡ None) (sym k.given.path) (given_fits p job w.path dir lines k.entry plain k.rule)
+  free_fits : is_rmdir c ≡ false → FitsName p c job dir lines → IsFree
+  free_fits plain k = subst (λ (x : Path). by_name p c dir x lines ≡ None) (sym k.given.path) (given_fits p job w.path dir lines k.entry plain k.rule)
 
-  pub unrefused_by : (found : Found) → ((why : Refusal) → found ≡ Refused why → ⊥) → NameTells found p c job dir lines → IsFree × (has refuses_read lines ≡ false)
-  unrefused_by Unread other k = (free_unread k, k.unrefused)
-  unrefused_by Fits other k = (free_fits k, k.given.unrefused)
-  unrefused_by (Refused why) other k = absurd (other why refl)
+  pub unrefused_unread : IsUnread p c dir lines → IsFree × (has refuses_read lines ≡ false)
+  unrefused_unread k = (free_unread k, k.unrefused)
+
+  pub unrefused_fits : is_rmdir c ≡ false → FitsName p c job dir lines → IsFree × (has refuses_read lines ≡ false)
+  unrefused_fits plain k = (free_fits plain k, k.given.unrefused)
 
   -- ---- where its command has led it
   module _ (place : place_by p c lines ≡ At (steps_of c) dir) (directory : is_dir dir.what ≡ true) (unread : reading_by p lines ≡ NotAsked) where
     locks_here : IsUnread p c dir lines → area_here c (path_by p lines) ≡ Some (area_for change)
-    locks_here k = subst (λ (x : Path). area_here c x ≡ Some (area_for change)) (place ∙ sym k.path) (area_there p job w.path plain dir lines place directory)
+    locks_here k = subst (λ (x : Path). area_here c x ≡ Some (area_for change)) (place ∙ sym k.path) (area_there p job w.path dir lines place directory)
 
     looks_there : IsUnread p c dir lines → looks_here c (path_by p lines) ≡ Some (object_of change)
     looks_there k = subst (λ (x : Path). looks_here c x ≡ Some (object_of change)) (sym k.path) (subst (λ (g : Gfid). looks_here c (At (steps_of c) dir) ≡ Some g) (sym (object_is dir.gfid job)) here)
@@ -116,17 +116,17 @@ module _ (p : Plan) (job : EntryJob) (w : Walk) (plain : is_rmdir (command_of jo
     led_unread k Posting e = tt
     led_unread k Closing e = tt
 
-    pub led_fits : FitsName p c job dir lines → (stage : Stage) → fits_stage Fits stage ≡ true → Led stage p c change lines
-    led_fits k Locking e = absurd (cc e)
-    led_fits k Looking e = absurd (cc e)
-    led_fits k Beginning e = record {
-      refuses = λ none. refused_by_locks p job w.path plain dir lines place directory k.given.unrefused (free_fits k) ∙ none;
+    pub led_fits : is_rmdir c ≡ false → FitsName p c job dir lines → (stage : Stage) → fits_stage Fits stage ≡ true → Led stage p c change lines
+    led_fits plain k Locking e = absurd (cc e)
+    led_fits plain k Looking e = absurd (cc e)
+    led_fits plain k Beginning e = record {
+      refuses = λ none. refused_by_locks p job w.path dir lines place directory k.given.unrefused (free_fits plain k) ∙ none;
       asked = asked_is p job w.path dir lines k.entry plain k.rule k.given.path;
     }
-    led_fits k Preparing e = tt
-    led_fits k Applying e = tt
-    led_fits k Posting e = tt
-    led_fits k Closing e = tt
+    led_fits plain k Preparing e = tt
+    led_fits plain k Applying e = tt
+    led_fits plain k Posting e = tt
+    led_fits plain k Closing e = tt
 
     -- ---- a line of the transaction
     module _ (a : ActorId) (log : List Line) (sound : Sound t) (of : t.change ≡ change) (k : Goes p t lines) where
@@ -185,7 +185,7 @@ module _ (p : Plan) (job : EntryJob) (w : Walk) (plain : is_rmdir (command_of jo
       read_line told took = (
         record {
           unbegun = d.idle.unbegun;
-          goes_on = refused_by_locks p job w.path plain dir lines place directory n.unrefused (free_unread n) ∙ passed;
+          goes_on = refused_by_locks p job w.path dir lines place directory n.unrefused (free_unread n) ∙ passed;
           answered = subst (λ (g : Gfid). is_majority p.shape.n (looked_by g lines).reached ≡ true) object_same d.allows.quorum.reached;
           good =
               subst (λ (x : Looked). member (good_copies p.shape x kind_named.Names) (reader t.register).0 ≡ true) shown
@@ -202,13 +202,13 @@ module _ (p : Plan) (job : EntryJob) (w : Walk) (plain : is_rmdir (command_of jo
       )
 
       -- after it
-      abbrev more : Told → Bool → Work
+      abbrev pub more : Told → Bool → Work
       more told took = (Ask a (reader t.register) (reads_name job w) told took, log) ∷ lines
 
-      abbrev after : Told → Progress
+      abbrev pub after : Told → Progress
       after told = name_noted job w told (length log) t
 
-      goes_on : (told : Told) (took : Bool) → Goes p (after told) (more told took) × Sound (after told)
+      pub goes_on : (told : Told) (took : Bool) → Goes p (after told) (more told took) × Sound (after told)
       goes_on told took = let h = reads_kept p lines t a (reader t.register) (reads_name job w) told took log small tt (begins_at t.stage at_begin) sound.sound k.tells in (
         record { tells = h.tells; excused = h.excused k.excused; calm = h.calm k.calm; fitting = k.fitting },
         h.sound,
@@ -217,7 +217,7 @@ module _ (p : Plan) (job : EntryJob) (w : Walk) (plain : is_rmdir (command_of jo
       abbrev Left : Option Refusal → Told → Bool → Type 0
       Left why told took = Changes p c job dir (settled why (after told)) (found_by why) (more told took)
 
-      left : (told : Told) (took : Bool) (why : Option Refusal) → NameTells (found_by why) p c job dir (more told took) → Left why told took
+      pub left : (told : Told) (took : Bool) (why : Option Refusal) → NameTells (found_by why) p c job dir (more told took) → Left why told took
       left told took None name = record { place = place_more p job w.path dir (Ask a (reader t.register) (reads_name job w) told took) log lines place; directory = directory; unread = unread; name = name; on = (goes_on told took).0 }
       left told took (Some why) name = record {
         place = place_more p job w.path dir (Ask a (reader t.register) (reads_name job w) told took) log lines place;
@@ -227,7 +227,7 @@ module _ (p : Plan) (job : EntryJob) (w : Walk) (plain : is_rmdir (command_of jo
         on = (gives_up p (more told took) (after told) (begins_at t.stage at_begin) (goes_on told took).1 (goes_on told took).0.tells).1;
       }
 
-      given : (took : Bool) (entry : Option Entry) → entry_at dir.gfid (name_of job) (holds p log (reader t.register).0) ≡ entry → WasGiven p c dir entry (more (told_by (answer.Entry entry)) took)
+      pub given : (took : Bool) (entry : Option Entry) → entry_at dir.gfid (name_of job) (holds p log (reader t.register).0) ≡ entry → WasGiven p c dir entry (more (told_by (answer.Entry entry)) took)
       given took entry e = record { path = rw (e, n.path) refl; unrefused = n.unrefused }
 
       by_rule : (took : Bool) (entry : Option Entry) → WasGiven p c dir entry (more (told_by (answer.Entry entry)) took) → (why : Option Refusal) → ruled_by job entry ≡ why
@@ -238,5 +238,5 @@ module _ (p : Plan) (job : EntryJob) (w : Walk) (plain : is_rmdir (command_of jo
       pub read_more : (heard : Answer) (took : Bool) → NameTold p (reader t.register).0 dir.gfid (name_of job) log heard → Left (ruled_out job heard) (told_by heard) took
       read_more heard took (name_told.Found entry e f) =
           subst (λ (x : Answer). Left (ruled_out job x) (told_by x) took) (sym e) (left (told_by (answer.Entry entry)) took (ruled_by job entry) (by_rule took entry (given took entry f) (ruled_by job entry) refl))
-      read_more heard took (name_told.Lost e) = subst (λ (x : Answer). Left (ruled_out job x) (told_by x) took) (sym e) (left (told_by answer.NotConnected) took (ruled_out job answer.NotConnected) (ByFault refl refl))
-      read_more heard took (name_told.Fails e) = subst (λ (x : Answer). Left (ruled_out job x) (told_by x) took) (sym e) (left (told_by answer.Failed) took (ruled_out job answer.Failed) (ByFault refl refl))
+      read_more heard took (name_told.Lost e) = subst (λ (x : Answer). Left (ruled_out job x) (told_by x) took) (sym e) (left (told_by answer.NotConnected) took (ruled_out job answer.NotConnected) (ByFault refl refl refl))
+      read_more heard took (name_told.Fails e) = subst (λ (x : Answer). Left (ruled_out job x) (told_by x) took) (sym e) (left (told_by answer.Failed) took (ruled_out job answer.Failed) (ByFault refl refl refl))

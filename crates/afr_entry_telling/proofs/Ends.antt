@@ -1,10 +1,12 @@
 -- The machine of a command on a name and its lines: by its walk, its transaction and its end.
-use Rattle.std.proofs.Common.{◌≡◌, ℕ, Bool, true, false, List, ◌∷◌, length, refl, sym, ap, ◌∙◌, subst, if◌then◌else◌}
+use Rattle.std.proofs.Common.{◌≡◌, ℕ, Bool, true, false, List, [], ◌∷◌, ◌++◌, length, refl, sym, ap, ◌∙◌, subst, if◌then◌else◌}
 use Rattle.afr_base.specs.Bricks.{is_nothing}
 use Rattle.afr_base.specs.declared.ids.ActorId.{ActorId}
 use Rattle.afr_base.specs.declared.ids.BrickId.{BrickId}
+use Rattle.afr_base.specs.declared.ids.NameId.{NameId}
 use Rattle.afr_lines.specs.Told.{told_by}
 use Rattle.afr_lines.specs.Work.{Work}
+use Rattle.afr_lines.specs.declared.answer.Answer.{Answer}
 use Rattle.afr_lines.specs.declared.answer.Told.{Told}
 use Rattle.afr_lines.specs.declared.line.Line.{Line}
 use Rattle.afr_lines.specs.declared.line.Line.TheVariants.{Ask, Begin}
@@ -14,6 +16,7 @@ use Rattle.afr_lines.specs.declared.request.Request.{Request}
 use Rattle.afr_object.specs.declared.change.Change.{Change}
 use Rattle.afr_object.specs.declared.entry.Entry.{Entry}
 use Rattle.afr_plan.specs.declared.command.Command.{Command}
+use Rattle.afr_plan.specs.declared.command.Command.TheVariants as command
 use Rattle.afr_plan.specs.declared.plan.Plan.{Plan}
 use Rattle.afr_model.specs.Answered.{IsAbout, IsAnswered}
 use Rattle.afr_model.specs.Commands.{is_rmdir}
@@ -27,15 +30,22 @@ use Rattle.afr_walk.specs.Walk as walk
 use Rattle.afr_walk.specs.declared.walk.Walk.{Walk}
 use Rattle.afr_walk.specs.declared.walk.WalkStep.{WalkStep}
 use Rattle.afr_walk.specs.declared.walk.WalkStep.TheVariants as walking
-use Rattle.afr_entry.specs.Entry.{IsChanging, IsStage, after_walk, next_at, next_under, progress_begun, reader, reads_name, stage_after, stage_begun, walk_after}
+use Rattle.afr_entry.specs.Entry.{IsChanging, IsStage, after_walk, fits_job, next_at, next_under, progress_begun, reader, reads_name, removal_after, removal_begun, stage_after, stage_begun, walk_after}
 use Rattle.afr_entry.specs.Job.{reply_to}
 use Rattle.afr_entry.specs.declared.job.EntryJob.{EntryJob}
+use Rattle.afr_entry.specs.declared.job.EntryJob.TheVariants.{Create, Mkdir, Unlink, Rmdir}
 use Rattle.afr_entry.specs.declared.stage.EntryStage.{EntryStage}
 use Rattle.afr_entry.specs.declared.stage.EntryStage.TheVariants.{Walking, Changing, Removes, Ending}
 use Rattle.afr_entry.specs.declared.stage.Found.{Found}
 use Rattle.afr_entry.specs.declared.stage.Found.TheVariants.{Unread, Fits, Refused}
 use Rattle.afr_inode_telling.specs.Lines.{CanAnswer}
 use Rattle.afr_inode_telling.proofs.ReadsMore.{asks_same}
+use Rattle.afr_removal.specs.Removal as removal
+use Rattle.afr_removal.specs.Removal.{Removing}
+use Rattle.afr_removal.proofs.NoteLemmas.{asks_elsewhere, begins_there}
+use Rattle.afr_removal_telling.specs.RemovalTelling.{RemovalTells}
+use Rattle.afr_removal_telling.proofs.About.{about as removal_about, blames as removal_blames, ends as removal_ends}
+use Rattle.afr_removal_telling.proofs.More.{begun_on, more as removal_more}
 use Rattle.afr_transaction_tells.specs.About.{BlamesNext}
 use Rattle.afr_transaction_tells.specs.Laws.{IsNextLine}
 use Rattle.afr_transaction_tells.proofs.About.{blames_kept}
@@ -44,14 +54,21 @@ use Rattle.afr_write_telling.proofs.Goes.{begun_stage}
 use Rattle.afr_entry_telling.specs.EntryLaws.{EntryAbout, EntryBegun, EntryBlames, EntryEnds, EntryTellsMore}
 use Rattle.afr_entry_telling.specs.EntryTelling.{CanHear, Changes, EntryTells, TellsIn, command_of}
 use Rattle.afr_entry_telling.proofs.Begins.{about_walk}
-use Rattle.afr_entry_telling.proofs.Changing.{change_line, led_fits, led_unread, read_line, unrefused_by}
-use Rattle.afr_entry_telling.proofs.Ended.{change_end, refused_end}
+use Rattle.afr_entry_telling.proofs.Changing.{change_line, led_fits, led_unread, read_line, unrefused_fits, unrefused_unread}
+use Rattle.afr_entry_telling.proofs.Ended.{change_end, refused_end, unread_end}
 use Rattle.afr_entry_telling.proofs.Heard.{under_more}
 use Rattle.afr_entry_telling.proofs.Names.{quiet}
 use Rattle.afr_entry_telling.proofs.Under.{begun_more, name_more, place_more}
 use Rattle.afr_entry_telling.proofs.Walks.{walks_more}
 
-module _ (p : Plan) (job : EntryJob) (w : Walk) (plain : is_rmdir (command_of job w.path) ≡ false) (lines : Work) (t : Progress) where
+-- a change that goes on is of no rmdir
+goes_plain : (job : EntryJob) (path : List NameId) → fits_job Fits job ≡ true → is_rmdir (command_of job path) ≡ false
+goes_plain (Create name) path h = refl
+goes_plain (Mkdir name) path h = refl
+goes_plain (Unlink name) path h = refl
+goes_plain (Rmdir name) path h = absurd (cc h)
+
+module _ (p : Plan) (job : EntryJob) (w : Walk) (lines : Work) (t : Progress) where
   abbrev c : Command
   c = command_of job w.path
 
@@ -72,7 +89,7 @@ module _ (p : Plan) (job : EntryJob) (w : Walk) (plain : is_rmdir (command_of jo
         place = place_more p job w.path dir (Begin a change) log lines k.place;
         directory = k.directory;
         unread = q.reading ∙ k.unread;
-        name = name_more Fits p c job dir (Begin a change) log lines q k.name;
+        name = name_more Fits p c job dir (Begin a change) log lines q (λ e. absurd (cc e)) k.name;
         on = begun_more p lines a log t sound.sound k.on change e;
       }
   under_begun (Refused why) a change log sound k e = absurd (go (is_over t.stage t) e)
@@ -92,10 +109,10 @@ module _ (p : Plan) (job : EntryJob) (w : Walk) (plain : is_rmdir (command_of jo
       go : (x : Bool) → is_beginning t.stage ≡ x → IsNextLine a (if x then next.Ask (reader t.register) (reads_name job w) else next_change t.stage (length log) t) told line → IsAbout p c line lines × KeepsTo p c line (length log) lines
       go true f (took, e) =
           subst (λ (x : Line). IsAbout p c x lines × KeepsTo p c x (length log) lines) (sym e)
-          (read_line p job w plain lines t k.place k.directory k.unread a log sound k.on k.name f told took)
-      go false f is = change_line p job w plain lines t k.place k.directory k.unread a log sound.sound sound.of_job k.on told line (led_unread p job w plain lines t k.place k.directory k.unread k.name t.stage f) is
+          (read_line p job w lines t k.place k.directory k.unread a log sound k.on.0 k.name f told took)
+      go false f is = change_line p job w lines t k.place k.directory k.unread a log sound.sound sound.of_job k.on.0 told line (led_unread p job w lines t k.place k.directory k.unread k.name t.stage f) is
   under_line Fits a told line log sound k is =
-      change_line p job w plain lines t k.place k.directory k.unread a log sound.sound sound.of_job k.on told line (led_fits p job w plain lines t k.place k.directory k.unread k.name t.stage sound.in_turn) is
+      change_line p job w lines t k.place k.directory k.unread a log sound.sound sound.of_job k.on told line (led_fits p job w lines t k.place k.directory k.unread (goes_plain job w.path sound.fits) k.name t.stage sound.in_turn) is
   under_line (Refused why) a told line log sound k is = go (is_over t.stage t) is
     where
       free_end : (x : Bool) → IsNextLine a (if x then next.End (reply_of t.change t.register) else asks Closing t) told line → KeepsTo p c line (length log) lines
@@ -116,7 +133,7 @@ module _ (p : Plan) (job : EntryJob) (w : Walk) (plain : is_rmdir (command_of jo
     where
       go : (x : Bool) → BlamesNext p lines (if x then next.Ask (reader t.register) (reads_name job w) else next_change t.stage at t)
       go true = tt
-      go false = blames_kept p lines t at sound.sound k.on.tells k.on.excused
+      go false = blames_kept p lines t at sound.sound k.on.0.tells k.on.0.excused
   under_blames Fits at sound k = blames_kept p lines t at sound.sound k.on.tells k.on.excused
   under_blames (Refused why) at sound k = go (is_over t.stage t)
     where
@@ -138,13 +155,22 @@ module _ (p : Plan) (job : EntryJob) (w : Walk) (plain : is_rmdir (command_of jo
     where
       go : (x : Bool) → (if x then next.Ask (reader t.register) (reads_name job w) else next_change t.stage at t) ≡ next.End said → IsAnswered p c lines said
       go true e = absurd (cc e)
-      go false e =
-          let free = unrefused_by p job w plain lines t Unread (λ why f. cc f) k.name in
-          change_end p job w plain lines t sound.sound sound.of_job k.place k.directory k.on free.1 free.0 at said e
+      go false e = unread_end p job w lines t sound.sound sound.of_job k.place k.directory k.on.0 k.name (unrefused_unread p job w lines t k.name).0 at said e
   under_ends Fits at said sound k e =
-      let free = unrefused_by p job w plain lines t Fits (λ why f. cc f) k.name in
-      change_end p job w plain lines t sound.sound sound.of_job k.place k.directory k.on free.1 free.0 at said e
-  under_ends (Refused why) at said sound k e = refused_end p job w plain lines t sound.sound sound.of_job k.place k.directory why k.name k.on at said e
+      let plain = goes_plain job w.path sound.fits in
+      let free = unrefused_fits p job w lines t plain k.name in
+      change_end p job w lines t sound.sound sound.of_job k.place k.directory plain k.on free.1 free.0 at said e
+  under_ends (Refused why) at said sound k e = refused_end p job w lines t sound.sound sound.of_job k.place k.directory why k.name k.on at said e
+
+-- ---- a removal
+after_answer : (r : Removing) (heard : Answer) (at : ℕ) → removal.is_beginning r.stage ≡ false → removal_after heard at r ≡ removal.answered r.stage heard at r
+after_answer r heard at e = rw e refl
+
+after_begin : (r : Removing) (at : ℕ) → removal.is_beginning r.stage ≡ true → removal_begun at r ≡ removal.begun at r
+after_begin r at e = rw e refl
+
+removes_is : (c : Command) (job : EntryJob) (path : List NameId) (name : NameId) → c ≡ command_of job path → job ≡ Rmdir name → c ≡ command.Rmdir (path ++ name ∷ [])
+removes_is c job path name named is = named ∙ ap (λ (x : EntryJob). command_of x path) is
 
 -- ---- the laws
 pub more : EntryTellsMore
@@ -153,22 +179,27 @@ more p c m lines a b request heard took log sound k e can = go m.stage sound.rea
     w : Walk
     w = m.walk
 
-    own : is_rmdir (command_of m.job w.path) ≡ false
-    own = subst (λ (x : Command). is_rmdir x ≡ false) k.named k.plain
-
     go : (stage : EntryStage) → IsStage w m.job stage → TellsIn p c m.job stage w lines → next_at (length log) stage m.job w ≡ next.Ask b request → CanHear stage p w.object b.0 request log heard
         → EntryTells p c (record { walk = walk_after stage heard (length log) w; job = m.job; stage = stage_after stage heard (length log) m.job (walk_after stage heard (length log) w) }) ((Ask a b request (told_by heard) took, log) ∷ lines)
     go Walking ready t e can =
         asks_same (λ (b : BrickId) (r : Request). CanAnswer p b.0 r log heard → EntryTells p c (record { walk = walked heard (length log) w; job = m.job; stage = after_walk m.job (walked heard (length log) w) }) ((Ask a b r (told_by heard) took, log) ∷ lines))
-        (next_in w).0 b (next_in w).1 request e (λ can. walks_more p w lines a heard took log sound.sound t c m.job ready k.named k.plain can) can
+        (next_in w).0 b (next_in w).1 request e (λ can. walks_more p w lines a heard took log sound.sound t c m.job ready k.named can) can
     go (Changing t found) ready x e can = record {
       shape = k.shape;
       named = k.named;
-      plain = k.plain;
       stage = subst (λ (y : Command). TellsIn p y m.job (stage_after (Changing t found) heard (length log) m.job w) w ((Ask a b request (told_by heard) took, log) ∷ lines)) (sym k.named)
-          (under_more p m.job w own lines a log t found ready (subst (λ (y : Command). Changes p y m.job w.object t found lines) k.named x) b request heard took e can);
+          (under_more p m.job w lines a log t found ready (subst (λ (y : Command). Changes p y m.job w.object t found lines) k.named x) b request heard took e can);
     }
-    go (Removes r) ready t e can = absurd t
+    go (Removes r) ready t e can = record {
+      shape = k.shape;
+      named = k.named;
+      stage = record {
+        name = t.name;
+        is_job = t.is_job;
+        tells = subst (λ (x : Removing). RemovalTells p (w.path ++ t.name ∷ []) x ((Ask a b request (told_by heard) took, log) ∷ lines)) (sym (after_answer r heard (length log) (asks_elsewhere r.stage r b request e)))
+            (removal_more p (w.path ++ t.name ∷ []) r lines a b request heard took log ready.sound t.tells e can);
+      };
+    }
     go (Ending said) ready t e can = absurd (cc e)
 
 pub begun : EntryBegun
@@ -177,19 +208,24 @@ begun p c m lines a change log sound k e = go m.stage sound.ready k.stage e
     w : Walk
     w = m.walk
 
-    own : is_rmdir (command_of m.job w.path) ≡ false
-    own = subst (λ (x : Command). is_rmdir x ≡ false) k.named k.plain
-
     go : (stage : EntryStage) → IsStage w m.job stage → TellsIn p c m.job stage w lines → next_at (length log) stage m.job w ≡ next.Begin change → EntryTells p c (record { walk = w; job = m.job; stage = stage_begun stage (length log) }) ((Begin a change, log) ∷ lines)
     go Walking ready t e = absurd (cc e)
     go (Changing t found) ready x e = record {
       shape = k.shape;
       named = k.named;
-      plain = k.plain;
       stage = subst (λ (y : Command). TellsIn p y m.job (stage_begun (Changing t found) (length log)) w ((Begin a change, log) ∷ lines)) (sym k.named)
-          (under_begun p m.job w own lines t found a change log ready (subst (λ (y : Command). Changes p y m.job w.object t found lines) k.named x) e);
+          (under_begun p m.job w lines t found a change log ready (subst (λ (y : Command). Changes p y m.job w.object t found lines) k.named x) e);
     }
-    go (Removes r) ready t e = absurd t
+    go (Removes r) ready t e = record {
+      shape = k.shape;
+      named = k.named;
+      stage = record {
+        name = t.name;
+        is_job = t.is_job;
+        tells = subst (λ (x : Removing). RemovalTells p (w.path ++ t.name ∷ []) x ((Begin a change, log) ∷ lines)) (sym (after_begin r (length log) (begins_there r.stage r change e)))
+            (begun_on p (w.path ++ t.name ∷ []) r lines a change log ready.sound t.tells e);
+      };
+    }
     go (Ending said) ready t e = absurd (cc e)
 
 pub about : EntryAbout
@@ -198,18 +234,17 @@ about p c m lines a told line log sound k is = go m.stage sound.ready k.stage is
     w : Walk
     w = m.walk
 
-    own : is_rmdir (command_of m.job w.path) ≡ false
-    own = subst (λ (x : Command). is_rmdir x ≡ false) k.named k.plain
-
     go : (stage : EntryStage) → IsStage w m.job stage → TellsIn p c m.job stage w lines → IsNextLine a (next_at (length log) stage m.job w) told line → IsAbout p c line lines × KeepsTo p c line (length log) lines
     go Walking ready t (took, e) =
         subst (λ (x : Line). IsAbout p c x lines × KeepsTo p c x (length log) lines) (sym e)
         (subst (λ (x : Command). IsAbout p x (Ask a (next_in w).0 (next_in w).1 told took) lines × KeepsTo p x (Ask a (next_in w).0 (next_in w).1 told took) (length log) lines) (sym k.named)
-        (about_walk p m.job w.path own w lines a told took (length log) refl sound.sound ready t.tells t.upto))
+        (about_walk p m.job w.path w lines a told took (length log) refl sound.sound ready t.tells t.upto))
     go (Changing t found) ready x is =
         subst (λ (y : Command). IsAbout p y line lines × KeepsTo p y line (length log) lines) (sym k.named)
-        (under_line p m.job w own lines t found a told line log ready (subst (λ (y : Command). Changes p y m.job w.object t found lines) k.named x) is)
-    go (Removes r) ready t is = absurd t
+        (under_line p m.job w lines t found a told line log ready (subst (λ (y : Command). Changes p y m.job w.object t found lines) k.named x) is)
+    go (Removes r) ready t is =
+        subst (λ (y : Command). IsAbout p y line lines × KeepsTo p y line (length log) lines) (sym (removes_is c m.job w.path t.name k.named t.is_job))
+        (removal_about p (w.path ++ t.name ∷ []) r lines a told line log ready.sound t.tells is)
     go (Ending said) ready t is = absurd is
 
 pub blames : EntryBlames
@@ -221,25 +256,20 @@ blames p c m lines at sound k = go m.stage sound.ready k.stage
     by_step walking.Arrived h = absurd (cc h)
     by_step (walking.Stopped why) h = absurd (cc h)
 
-    own : is_rmdir (command_of m.job m.walk.path) ≡ false
-    own = subst (λ (x : Command). is_rmdir x ≡ false) k.named k.plain
-
     go : (stage : EntryStage) → IsStage m.walk m.job stage → TellsIn p c m.job stage m.walk lines → BlamesNext p lines (next_at at stage m.job m.walk)
     go Walking ready t = by_step m.walk.step ready
-    go (Changing t found) ready x = under_blames p m.job m.walk own lines t found at ready (subst (λ (y : Command). Changes p y m.job m.walk.object t found lines) k.named x)
-    go (Removes r) ready t = absurd t
+    go (Changing t found) ready x = under_blames p m.job m.walk lines t found at ready (subst (λ (y : Command). Changes p y m.job m.walk.object t found lines) k.named x)
+    go (Removes r) ready t = removal_blames p (m.walk.path ++ t.name ∷ []) r lines ready.sound t.tells
     go (Ending said) ready t = tt
 
 pub ends : EntryEnds
 ends p c m lines at said sound k e = go m.stage sound.ready k.stage e
   where
-    own : is_rmdir (command_of m.job m.walk.path) ≡ false
-    own = subst (λ (x : Command). is_rmdir x ≡ false) k.named k.plain
-
     go : (stage : EntryStage) → IsStage m.walk m.job stage → TellsIn p c m.job stage m.walk lines → next_at at stage m.job m.walk ≡ next.End said → IsAnswered p c lines said
     go Walking ready t e = absurd (cc e)
     go (Changing t found) ready x e =
         subst (λ (y : Command). IsAnswered p y lines said) (sym k.named)
-        (under_ends p m.job m.walk own lines t found at said ready (subst (λ (y : Command). Changes p y m.job m.walk.object t found lines) k.named x) e)
-    go (Removes r) ready t e = absurd t
+        (under_ends p m.job m.walk lines t found at said ready (subst (λ (y : Command). Changes p y m.job m.walk.object t found lines) k.named x) e)
+    go (Removes r) ready t e =
+        subst (λ (y : Command). IsAnswered p y lines said) (sym (removes_is c m.job m.walk.path t.name k.named t.is_job)) (removal_ends p (m.walk.path ++ t.name ∷ []) r lines said t.tells e)
     go (Ending x) ready t e = let same : x ≡ said = cc e in subst (λ (y : Reply). IsAnswered p c lines y) same t

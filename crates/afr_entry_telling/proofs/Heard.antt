@@ -4,6 +4,7 @@ use Rattle.afr_base.specs.declared.ids.ActorId.{ActorId}
 use Rattle.afr_base.specs.declared.ids.BrickId.{BrickId}
 use Rattle.afr_base.specs.declared.ids.Gfid.{Gfid}
 use Rattle.afr_discipline.specs.Tests.{fits_view}
+use Rattle.afr_discipline.specs.declared.register.Register.{Register}
 use Rattle.afr_lines.specs.Told.{told_by}
 use Rattle.afr_lines.specs.Work.{Work}
 use Rattle.afr_lines.specs.declared.answer.Answer.{Answer}
@@ -18,7 +19,6 @@ use Rattle.afr_object.specs.declared.entry.Entry.{Entry}
 use Rattle.afr_object.specs.declared.entry.View.{View}
 use Rattle.afr_plan.specs.declared.command.Command.{Command}
 use Rattle.afr_plan.specs.declared.plan.Plan.{Plan}
-use Rattle.afr_model.specs.Commands.{is_rmdir}
 use Rattle.afr_transaction.specs.Progress.{Progress, fed, is_beginning, is_over, next_at as next_change}
 use Rattle.afr_transaction.specs.declared.stage.Stage.{Stage}
 use Rattle.afr_transaction.specs.declared.stage.Stage.TheVariants.{Locking, Looking, Beginning, Preparing, Applying, Posting, Closing}
@@ -26,26 +26,26 @@ use Rattle.afr_walk.specs.declared.walk.Walk.{Walk}
 use Rattle.afr_entry.specs.Entry.{IsChanging, child_after, found_after, found_by, name_noted, next_under, or_removes, progress_after, reader, reads_name, settled, told_to}
 use Rattle.afr_entry.specs.Job.{change_of, child_by, name_of, reply_to, ruled_out}
 use Rattle.afr_entry.specs.declared.job.EntryJob.{EntryJob}
-use Rattle.afr_entry.specs.declared.job.EntryJob.TheVariants.{Create, Mkdir, Unlink, Rmdir}
 use Rattle.afr_entry.specs.declared.refusal.Refusal.{Refusal}
 use Rattle.afr_entry.specs.declared.stage.Found.{Found}
 use Rattle.afr_entry.specs.declared.stage.Found.TheVariants.{Unread, Fits, Refused}
 use Rattle.afr_inode_telling.specs.ChangeLaws.{is_of_change}
-use Rattle.afr_inode_telling.specs.Lines.{CanAnswer}
 use Rattle.afr_inode_telling.proofs.ReadsMore.{asks_same}
 use Rattle.afr_transaction_tells.specs.GivenUp.{GaveUp}
 use Rattle.afr_transaction_tells.specs.Laws.{IsNextLine}
 use Rattle.afr_transaction_tells.proofs.GivenUpLemmas.{given_up_kept}
 use Rattle.afr_write_telling.specs.WriteTelling.{CanTell}
 use Rattle.afr_write_telling.proofs.Goes.{asked_stage, of_stage}
-use Rattle.afr_entry_telling.specs.EntryTelling.{CanHearUnder, Changes, Goes, TellsIn, command_of}
+use Rattle.afr_entry_telling.specs.EntryTelling.{CanHearUnder, CanName, Changes, Goes, HoldsAt, HoldsName, TellsIn, command_of}
 use Rattle.afr_entry_telling.proofs.Changing.{read_more}
+use Rattle.afr_entry_telling.proofs.Held.{holds_more}
 use Rattle.afr_entry_telling.proofs.Names.{name_told, quiet}
+use Rattle.afr_entry_telling.proofs.Removing.{read_removes}
 use Rattle.afr_entry_telling.proofs.Under.{asked_more, name_more, place_more}
 use Rattle.afr_entry_telling.proofs.Words.{suits_view}
 
 -- ---- what is heard
-hears_name : (stage : Stage) (p : Plan) (dir : Entry) (b : ℕ) (request : Request) (log : List Line) (heard : Answer) → is_beginning stage ≡ true → CanHearUnder Unread stage p dir b request log heard → CanAnswer p b request log heard
+pub hears_name : (stage : Stage) (p : Plan) (dir : Entry) (b : ℕ) (request : Request) (log : List Line) (heard : Answer) → is_beginning stage ≡ true → CanHearUnder Unread stage p dir b request log heard → CanName p dir b request log heard
 hears_name Beginning p dir b request log heard e can = can
 hears_name Locking p dir b request log heard e can = absurd (cc e)
 hears_name Looking p dir b request log heard e can = absurd (cc e)
@@ -63,18 +63,21 @@ hears_told Applying p dir b request log heard e can = can
 hears_told Posting p dir b request log heard e can = can
 hears_told Closing p dir b request log heard e can = can
 
--- these commands go on to no directory
-no_child : (job : EntryJob) (path : List _) (heard : Answer) → is_rmdir (command_of job path) ≡ false → child_by job heard ≡ None
-no_child (Create name) path heard plain = refl
-no_child (Mkdir name) path heard plain = refl
-no_child (Unlink name) path heard plain = refl
-no_child (Rmdir name) path heard plain = absurd (cc plain)
+-- before the Begin line the locks are those of the lines
+held_at : (stage : Stage) {change : Change} {r : Register} {w : Work} → is_beginning stage ≡ true → HoldsAt stage change r w → HoldsName change r w
+held_at Beginning e k = k
+held_at Locking e k = absurd (cc e)
+held_at Looking e k = absurd (cc e)
+held_at Preparing e k = absurd (cc e)
+held_at Applying e k = absurd (cc e)
+held_at Posting e k = absurd (cc e)
+held_at Closing e k = absurd (cc e)
 
 closes : (stage : Stage) → stage ≡ Closing → is_beginning stage ≡ false
 closes Closing e = refl
 closes stage e = absurd (cc e)
 
-module _ (p : Plan) (job : EntryJob) (w : Walk) (plain : is_rmdir (command_of job w.path) ≡ false) (lines : Work) (a : ActorId) (log : List Line) (t : Progress) where
+module _ (p : Plan) (job : EntryJob) (w : Walk) (lines : Work) (a : ActorId) (log : List Line) (t : Progress) where
   abbrev c : Command
   c = command_of job w.path
 
@@ -95,14 +98,14 @@ module _ (p : Plan) (job : EntryJob) (w : Walk) (plain : is_rmdir (command_of jo
   unread_more : IsChanging w job t Unread → Changes p c job dir t Unread lines → (b : BrickId) (request : Request) (told : Told) (took : Bool) → next_change t.stage (length log) t ≡ next.Ask b request → CanTell dir request told
       → Changes p c job dir (fed t.stage told (length log) t) Unread ((Ask a b request told took, log) ∷ lines)
   unread_more sound k b request told took e can =
-      let after = asked_more p lines a log t sound.sound k.on dir b request told took (suits sound.of_job Unread k) e can in
+      let after = asked_more p lines a log t sound.sound k.on.0 dir b request told took (suits sound.of_job Unread k) e can in
       let q = quiet p (line_of b request told took) log lines after.1 in
       record {
         place = place_more p job w.path dir (line_of b request told took) log lines k.place;
         directory = k.directory;
         unread = q.reading ∙ k.unread;
-        name = name_more Unread p c job dir (line_of b request told took) log lines q k.name;
-        on = after.0;
+        name = name_more Unread p c job dir (line_of b request told took) log lines q (λ none. refl) k.name;
+        on = (after.0, holds_more lines a log t sound.sound told took t.stage b request sound.in_turn k.on.1 e);
       }
 
   fits_more : IsChanging w job t Fits → Changes p c job dir t Fits lines → (b : BrickId) (request : Request) (told : Told) (took : Bool) → next_change t.stage (length log) t ≡ next.Ask b request → CanTell dir request told
@@ -114,7 +117,7 @@ module _ (p : Plan) (job : EntryJob) (w : Walk) (plain : is_rmdir (command_of jo
         place = place_more p job w.path dir (line_of b request told took) log lines k.place;
         directory = k.directory;
         unread = q.reading ∙ k.unread;
-        name = name_more Fits p c job dir (line_of b request told took) log lines q k.name;
+        name = name_more Fits p c job dir (line_of b request told took) log lines q (λ none. refl) k.name;
         on = subst (λ (x : Progress). Goes p x ((line_of b request told took, log) ∷ lines)) (sym (told_is (is_beginning t.stage) told after.2)) after.0;
       }
 
@@ -135,7 +138,7 @@ module _ (p : Plan) (job : EntryJob) (w : Walk) (plain : is_rmdir (command_of jo
         place = place_more p job w.path dir (line_of b request told took) log lines k.place;
         directory = k.directory;
         unread = q.reading ∙ k.unread;
-        name = name_more (Refused why) p c job dir (line_of b request told took) log lines q k.name;
+        name = name_more (Refused why) p c job dir (line_of b request told took) log lines q (λ none. refl) k.name;
         on = subst (λ (x : Progress). GaveUp p ((line_of b request told took, log) ∷ lines) x) (sym (told_is (is_beginning t.stage) told at_stage.0))
             (given_up_kept p lines t a told (line_of b request told took) log sound.sound k.on (subst (λ (n : Next). IsNextLine a n told (line_of b request told took)) (sym e) (took, refl)));
       }
@@ -146,17 +149,17 @@ module _ (p : Plan) (job : EntryJob) (w : Walk) (plain : is_rmdir (command_of jo
       → TellsIn p c job (or_removes (child_after found heard job t.stage) (progress_after found heard (length log) job w t) (found_after found heard job t.stage)) w ((Ask a b request (told_by heard) took, log) ∷ lines)
   under_more Unread sound k b request heard took e can = go (is_beginning t.stage) refl e
     where
-      named : is_beginning t.stage ≡ true → (child : Option Gfid) → child ≡ None → CanAnswer p (reader t.register).0 (reads_name job w) log heard
+      named : is_beginning t.stage ≡ true → (child : Option Gfid) → child_by job heard ≡ child → CanName p dir (reader t.register).0 (reads_name job w) log heard
           → TellsIn p c job (or_removes child (settled (ruled_out job heard) (name_noted job w (told_by heard) (length log) t)) (found_by (ruled_out job heard))) w ((Ask a (reader t.register) (reads_name job w) (told_by heard) took, log) ∷ lines)
-      named f None none can = read_more p job w plain lines t k.place k.directory k.unread a log sound k.on k.name f heard took (name_told p (reader t.register).0 dir.gfid (name_of job) log heard can)
-      named f (Some child) none can = absurd (cc none)
+      named f None none can = read_more p job w lines t k.place k.directory k.unread a log sound k.on.0 k.name f heard took (name_told p (reader t.register).0 dir.gfid (name_of job) log heard can.answers)
+      named f (Some child) some can = read_removes p job w lines t k.place k.directory k.unread a log sound k.on.0 k.name f (held_at t.stage f k.on.1) heard took child some can
 
       go : (x : Bool) → is_beginning t.stage ≡ x → (if x then next.Ask (reader t.register) (reads_name job w) else next_change t.stage (length log) t) ≡ next.Ask b request
           → TellsIn p c job (or_removes (if x then child_by job heard else None) (if x then settled (ruled_out job heard) (name_noted job w (told_by heard) (length log) t) else fed t.stage (told_by heard) (length log) t) (if x then found_by (ruled_out job heard) else Unread)) w ((Ask a b request (told_by heard) took, log) ∷ lines)
       go true f e =
-          asks_same (λ (d : BrickId) (r : Request). CanAnswer p d.0 r log heard
+          asks_same (λ (d : BrickId) (r : Request). CanName p dir d.0 r log heard
           → TellsIn p c job (or_removes (child_by job heard) (settled (ruled_out job heard) (name_noted job w (told_by heard) (length log) t)) (found_by (ruled_out job heard))) w ((Ask a d r (told_by heard) took, log) ∷ lines))
-          (reader t.register) b (reads_name job w) request e (λ can. named f (child_by job heard) (no_child job w.path heard plain) can) (hears_name t.stage p dir b.0 request log heard f can)
+          (reader t.register) b (reads_name job w) request e (λ can. named f (child_by job heard) refl can) (hears_name t.stage p dir b.0 request log heard f can)
       go false f e = unread_more sound k b request (told_by heard) took e (hears_told t.stage p dir b.0 request log heard f can)
   under_more Fits sound k b request heard took e can = fits_more sound k b request (told_by heard) took e can
   under_more (Refused why) sound k b request heard took e can = refused_more why sound k b request (told_by heard) took (refused_asks why b request e)

@@ -1,9 +1,11 @@
 pub mod Words
 pub mod Names
+pub mod Held
 pub mod Begins
 pub mod Walks
 pub mod Under
 pub mod Changing
+pub mod Removing
 pub mod Ended
 pub mod Heard
 pub mod Ends

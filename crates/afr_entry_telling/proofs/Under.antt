@@ -20,9 +20,9 @@ use Rattle.afr_object.specs.declared.entry.Entry.{Entry}
 use Rattle.afr_object.specs.declared.entry.View.{View}
 use Rattle.afr_plan.specs.declared.command.Command.{Command}
 use Rattle.afr_plan.specs.declared.plan.Plan.{Plan}
-use Rattle.afr_model.specs.Commands.{is_rmdir, steps_of}
+use Rattle.afr_model.specs.Commands.{steps_of}
 use Rattle.afr_model.specs.Refusals.{by_locks, by_name, or_else, read_refused, refusal}
-use Rattle.afr_model.specs.Showing.{Path, At, has, path_by, refuses_read}
+use Rattle.afr_model.specs.Showing.{Path, At, begins_attempt, has, path_by, refuses_read}
 use Rattle.afr_model.specs.Standing.{area_here, place_by}
 use Rattle.afr_transaction.specs.Progress.{Progress, begun, fed, is_beginning, next_at as next_change}
 use Rattle.afr_transaction.specs.Sound.{Sound}
@@ -48,11 +48,11 @@ use Rattle.afr_entry_telling.proofs.Words.{area_is, place_upto, refused_there}
 given_more : (p : Plan) (c : Command) (dir : Entry) (entry : Option Entry) (line : Line) (log : List Line) (w : Work) → Quiet p line log w → WasGiven p c dir entry w → WasGiven p c dir entry ((line, log) ∷ w)
 given_more p c dir entry line log w q k = record { path = q.path ∙ k.path; unrefused = q.refused ∙ k.unrefused }
 
-pub name_more : (found : Found) (p : Plan) (c : Command) (job : EntryJob) (dir : Entry) (line : Line) (log : List Line) (w : Work) → Quiet p line log w → NameTells found p c job dir w → NameTells found p c job dir ((line, log) ∷ w)
-name_more Unread p c job dir line log w q k = record { path = q.path ∙ k.path; unrefused = q.refused ∙ k.unrefused }
-name_more Fits p c job dir line log w q k = record { entry = k.entry; rule = k.rule; given = given_more p c dir k.entry line log w q k.given }
-name_more (Refused why) p c job dir line log w q (ByFault e f) = ByFault e (q.refused ∙ f)
-name_more (Refused why) p c job dir line log w q (ByName entry e k) = ByName entry e (given_more p c dir entry line log w q k)
+pub name_more : (found : Found) (p : Plan) (c : Command) (job : EntryJob) (dir : Entry) (line : Line) (log : List Line) (w : Work) → Quiet p line log w → (found ≡ Unread → begins_attempt line ≡ false) → NameTells found p c job dir w → NameTells found p c job dir ((line, log) ∷ w)
+name_more Unread p c job dir line log w q quiet_line k = record { path = q.path ∙ k.path; unrefused = q.refused ∙ k.unrefused; unbegun = rw (quiet_line refl, k.unbegun) refl }
+name_more Fits p c job dir line log w q quiet_line k = record { entry = k.entry; rule = k.rule; given = given_more p c dir k.entry line log w q k.given }
+name_more (Refused why) p c job dir line log w q quiet_line (ByFault e f lost) = ByFault e (q.refused ∙ f) (q.path ∙ lost)
+name_more (Refused why) p c job dir line log w q quiet_line (ByName entry e k) = ByName entry e (given_more p c dir entry line log w q k)
 
 pub place_more : (p : Plan) (job : EntryJob) (path : List NameId) (dir : Entry) (line : Line) (log : List Line) (w : Work) → place_by p (command_of job path) w ≡ At (steps_of (command_of job path)) dir
     → place_by p (command_of job path) ((line, log) ∷ w) ≡ At (steps_of (command_of job path)) dir
@@ -89,7 +89,7 @@ module _ (p : Plan) (lines : Work) (a : ActorId) (log : List Line) (t : Progress
       (after_line told_of.Done (Begin a change) (subst (λ (n : Next). IsNextLine a n told_of.Done (Begin a change)) (sym e) refl) tt tt k.fitting)
 
 -- ---- where its command has led it
-module _ (p : Plan) (job : EntryJob) (path : List NameId) (plain : is_rmdir (command_of job path) ≡ false) (dir : Entry) (lines : Work) (place : place_by p (command_of job path) lines ≡ At (steps_of (command_of job path)) dir) (directory : is_dir dir.what ≡ true) where
+module _ (p : Plan) (job : EntryJob) (path : List NameId) (dir : Entry) (lines : Work) (place : place_by p (command_of job path) lines ≡ At (steps_of (command_of job path)) dir) (directory : is_dir dir.what ≡ true) where
   abbrev c : Command
   c = command_of job path
 

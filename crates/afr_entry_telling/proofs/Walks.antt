@@ -16,7 +16,6 @@ use Rattle.afr_object.specs.declared.entry.Entry.{Entry}
 use Rattle.afr_plan.specs.declared.command.Command.{Command}
 use Rattle.afr_plan.specs.declared.command.Command.TheVariants as command
 use Rattle.afr_plan.specs.declared.plan.Plan.{Plan}
-use Rattle.afr_model.specs.Commands.{is_rmdir}
 use Rattle.afr_model.specs.Showing.{Path, At, NoName, Untold, one_name, path_by}
 use Rattle.afr_model.specs.Standing.{path_upto}
 use Rattle.afr_model.specs.Tables.{entry_at, holds}
@@ -34,12 +33,8 @@ use Rattle.afr_inode_telling.specs.Lines.{CanAnswer}
 use Rattle.afr_inode_telling.specs.WalkTelling.{TellsAt, WalkTells}
 use Rattle.afr_inode_telling.proofs.Walking.{path_kept, walk_tells_more}
 use Rattle.afr_entry_telling.specs.EntryTelling.{EntryTells, TellsIn, Walks, command_of}
-use Rattle.afr_entry_telling.proofs.Begins.{IsOnWay, moved}
+use Rattle.afr_entry_telling.proofs.Begins.{IsOnWay, moved, read_in}
 use Rattle.afr_entry_telling.proofs.Names.{Found, Fails, Lost, NameTold, name_told, upto_more}
-
-abbrev read_in : Path → ℕ
-read_in (At read object) = read
-read_in other = 0
 
 differ_test : (a b : ℕ) → a < b → (a == b) ≡ false
 differ_test a b h = grind (arith, nat_tests, h)
@@ -100,13 +95,12 @@ module _ (p : Plan) (w : Walk) (lines : Work) (a : ActorId) (heard : Answer) (to
   upto_on walking.Arrived h i t = absurd (cc h)
   upto_on (walking.Stopped why) h i t = absurd (cc h)
 
-  pub walks_more : (c : Command) (job : EntryJob) → is_walking w.step ≡ true → c ≡ command_of job w.path → is_rmdir c ≡ false → CanAnswer p (next_in w).0.0 (next_in w).1 log heard
+  pub walks_more : (c : Command) (job : EntryJob) → is_walking w.step ≡ true → c ≡ command_of job w.path → CanAnswer p (next_in w).0.0 (next_in w).1 log heard
       → EntryTells p c (record { walk = walked heard (length log) w; job = job; stage = after_walk job (walked heard (length log) w) }) (more w.step)
-  walks_more c job walks of plain can = record {
+  walks_more c job walks of can = record {
     shape = tells.shape;
     named = sym same;
-    plain = plain;
-    stage = subst (λ (x : Command). TellsIn p x job (after_walk job after) after (more w.step)) same (moved p job after (more w.step) (is_walked heard (length log) w sound walks) (subst (λ (x : Command). is_rmdir x ≡ false) (sym same) plain) own on);
+    stage = subst (λ (x : Command). TellsIn p x job (after_walk job after) after (more w.step)) same (moved p job after (more w.step) (is_walked heard (length log) w sound walks) own on);
   }
     where
       after : Walk

@@ -1,4 +1,4 @@
--- What the words of a create, a mkdir and an unlink say.
+-- What the words of a command on a name say.
 use Rattle.std.proofs.Common.{◌≡◌, ℕ, ◌+◌, ◌-◌, nat_lt, Bool, true, false, List, [], ◌∷◌, ◌++◌, Option, Some, None, length, slice_get, refl, sym, ap, ◌∙◌, subst, arith, if◌then◌else◌}
 use Rattle.std.proofs.Math.Seq.{get_or-append_seam}
 use Rattle.std.proofs.lemmas.Bool.Decides.{nat_tests}
@@ -14,14 +14,15 @@ use Rattle.afr_lines.specs.Areas.{area_for, kind_for}
 use Rattle.afr_lines.specs.Work.{Work}
 use Rattle.afr_lines.specs.declared.reply.Reply.{Reply}
 use Rattle.afr_lines.specs.declared.reply.Reply.TheVariants as reply
-use Rattle.afr_object.specs.Tables.{is_dir, object_of}
+use Rattle.afr_object.specs.Tables.{is_dir, is_file, object_of}
 use Rattle.afr_object.specs.declared.entry.Entry.{Entry}
 use Rattle.afr_object.specs.declared.entry.View.{View}
 use Rattle.afr_plan.specs.declared.command.Command.{Command}
+use Rattle.afr_plan.specs.declared.command.Command.TheVariants as command
 use Rattle.afr_plan.specs.declared.plan.Plan.{Plan}
 use Rattle.afr_model.specs.Answered.{IsAsked, answer, by_posts}
 use Rattle.afr_model.specs.Commands.{area_on, change_named, is_on_name, is_rmdir, last_of, path_of, steps_of}
-use Rattle.afr_model.specs.Refusals.{by_area, by_locks, by_name, by_path, in_directory, or_else, read_refused, refusal, too_large}
+use Rattle.afr_model.specs.Refusals.{by_area, by_child, by_locks, by_name, by_path, in_directory, or_else, read_refused, refusal, too_large}
 use Rattle.afr_model.specs.Showing.{Path, At, one_name, path_by}
 use Rattle.afr_model.specs.Standing.{path_upto, place_by}
 use Rattle.afr_transaction.specs.Progress.{numbered}
@@ -112,7 +113,7 @@ low_is g (Mkdir name) = refl
 low_is g (Unlink name) = refl
 low_is g (Rmdir name) = refl
 
-dir_is : (what : What) → is_dir what ≡ true → what ≡ Dir
+pub dir_is : (what : What) → is_dir what ≡ true → what ≡ Dir
 dir_is File e = absurd (cc e)
 dir_is Dir e = refl
 
@@ -164,7 +165,7 @@ less_one path name = let e = longer path name in grind (arith, nat_tests, e)
 not_past : (path : List NameId) (name : NameId) → nat_lt (length (path ++ name ∷ []) - 1 + 1) (length (path ++ name ∷ [])) ≡ false
 not_past path name = let e = longer path name in grind (arith, nat_tests, e)
 
-again : (path : List NameId) (name : NameId) → length (path ++ name ∷ []) - 1 + 1 ≡ length (path ++ name ∷ [])
+pub again : (path : List NameId) (name : NameId) → length (path ++ name ∷ []) - 1 + 1 ≡ length (path ++ name ∷ [])
 again path name = let e = longer path name in omega (arith, e)
 
 -- before it is read, it refuses nothing
@@ -190,19 +191,24 @@ given_fits p (Unlink name) path dir w (Some entry) plain e = let file = no_some 
 given_fits p (Rmdir name) path dir w entry plain e = absurd (cc plain)
 
 -- what they rule out, the name refuses
-pub given_refuses : (p : Plan) (job : EntryJob) (path : List NameId) (dir : Entry) (w : Work) (entry : Option Entry) (why : Refusal) → is_rmdir (command_of job path) ≡ false → ruled_by job entry ≡ Some why
+pub given_refuses : (p : Plan) (job : EntryJob) (path : List NameId) (dir : Entry) (w : Work) (entry : Option Entry) (why : Refusal) → ruled_by job entry ≡ Some why
     → by_name p (command_of job path) dir (one_name entry (At (steps_of (command_of job path)) dir)) w ≡ Some (reply_to why)
-given_refuses p (Create name) path dir w None why plain e = absurd (cc e)
-given_refuses p (Create name) path dir w (Some entry) why plain e = rw (not_past path name) (ap (λ (x : Refusal). Some (reply_to x)) (just refusal_of.Exists why e))
-given_refuses p (Mkdir name) path dir w None why plain e = absurd (cc e)
-given_refuses p (Mkdir name) path dir w (Some entry) why plain e = rw (not_past path name) (ap (λ (x : Refusal). Some (reply_to x)) (just refusal_of.Exists why e))
-given_refuses p (Unlink name) path dir w None why plain e = ap (λ (x : Refusal). Some (reply_to x)) (just refusal_of.NoEntry why e)
-given_refuses p (Unlink name) path dir w (Some entry) why plain e = rw (not_past path name) (go (is_dir entry.what) e)
+given_refuses p (Create name) path dir w None why e = absurd (cc e)
+given_refuses p (Create name) path dir w (Some entry) why e = rw (not_past path name) (ap (λ (x : Refusal). Some (reply_to x)) (just refusal_of.Exists why e))
+given_refuses p (Mkdir name) path dir w None why e = absurd (cc e)
+given_refuses p (Mkdir name) path dir w (Some entry) why e = rw (not_past path name) (ap (λ (x : Refusal). Some (reply_to x)) (just refusal_of.Exists why e))
+given_refuses p (Unlink name) path dir w None why e = ap (λ (x : Refusal). Some (reply_to x)) (just refusal_of.NoEntry why e)
+given_refuses p (Unlink name) path dir w (Some entry) why e = rw (not_past path name) (go (is_dir entry.what) e)
   where
     go : (d : Bool) → (if d then Some refusal_of.IsDir else None) ≡ Some why → (if d then Some reply.IsDir else None) ≡ Some (reply_to why)
     go true e = ap (λ (x : Refusal). Some (reply_to x)) (just refusal_of.IsDir why e)
     go false e = absurd (cc e)
-given_refuses p (Rmdir name) path dir w entry why plain e = absurd (cc plain)
+given_refuses p (Rmdir name) path dir w None why e = ap (λ (x : Refusal). Some (reply_to x)) (just refusal_of.NoEntry why e)
+given_refuses p (Rmdir name) path dir w (Some entry) why e = rw (not_past path name) (go entry.what e)
+  where
+    go : (what : What) → (if is_dir what then None else Some refusal_of.NotDir) ≡ Some why → (if is_file what then Some reply.NotDir else by_child p (command.Rmdir (path ++ name ∷ [])) dir entry w) ≡ Some (reply_to why)
+    go File e = ap (λ (x : Refusal). Some (reply_to x)) (just refusal_of.NotDir why e)
+    go Dir e = absurd (cc e)
 
 -- that a read has failed is none of the rules
 pub given_told : (job : EntryJob) (entry : Option Entry) → ruled_by job entry ≡ Some refusal_of.Failed → ⊥

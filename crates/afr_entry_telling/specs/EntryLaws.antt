@@ -1,5 +1,5 @@
--- What holds of each create, mkdir and unlink and the lines of its work.
-use Rattle.std.specs.Prelude.{◌≡◌, ℕ, ◌<◌, ◌≤◌, Bool, false, List, [], ◌∷◌, length}
+-- What holds of each command on a name and the lines of its work.
+use Rattle.std.specs.Prelude.{◌≡◌, ℕ, ◌<◌, ◌≤◌, Bool, List, [], ◌∷◌, length}
 use Rattle.afr_base.specs.declared.ids.ActorId.{ActorId}
 use Rattle.afr_base.specs.declared.ids.BrickId.{BrickId}
 use Rattle.afr_base.specs.declared.ids.NameId.{NameId}
@@ -17,7 +17,6 @@ use Rattle.afr_object.specs.declared.change.Change.{Change}
 use Rattle.afr_plan.specs.declared.command.Command.{Command}
 use Rattle.afr_plan.specs.declared.plan.Plan.{Plan}
 use Rattle.afr_model.specs.Answered.{IsAbout, IsAnswered}
-use Rattle.afr_model.specs.Commands.{is_rmdir}
 use Rattle.afr_model.specs.Following.{KeepsTo}
 use Rattle.afr_entry.specs.Entry.{Entering, IsEntry, answered, entry_from, heard_by, next_of}
 use Rattle.afr_entry.specs.declared.job.EntryJob.{EntryJob}
@@ -27,7 +26,7 @@ use Rattle.afr_entry_telling.specs.EntryTelling.{CanHear, EntryTells, command_of
 
 -- no lines show a command that begins
 abbrev pub EntryBegins : Type 0
-EntryBegins = (p : Plan) (path : List NameId) (job : EntryJob) → p.shape.n ≤ 5 → 0 < p.shape.n → is_rmdir (command_of job path) ≡ false → EntryTells p (command_of job path) (entry_from p.shape path job) []
+EntryBegins = (p : Plan) (path : List NameId) (job : EntryJob) → p.shape.n ≤ 5 → 0 < p.shape.n → EntryTells p (command_of job path) (entry_from p.shape path job) []
 
 -- after one line more, whatever was told, the lines show where the command stands then
 abbrev pub EntryTellsMore : Type 0

@@ -1,5 +1,4 @@
-//! A create, a mkdir or an unlink and the lines of its work: each line is about the command, and the reply is the command's
-//! answer.
+//! A command on a name and the lines of its work: each line is about the command, and the reply is the command's answer.
 ghost use Rattle.afr_entry_telling.specs.EntryLaws.{EntryAbout, EntryBegins, EntryBegun, EntryBlames, EntryEnds, EntryTellsMore};
 
 /// The lines of such a command's work show where it stands, whatever the bricks answer: from its first line to its end, each

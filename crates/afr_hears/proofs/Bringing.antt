@@ -33,6 +33,7 @@ use Rattle.afr_plan.specs.declared.command.Command.TheVariants as command
 use Rattle.afr_plan.specs.declared.plan.Plan.{Plan}
 use Rattle.afr_server.specs.Carried.{Brings}
 use Rattle.afr_transaction.specs.Outcome.{reply_of}
+use Rattle.afr_transaction.specs.Made.{attempted}
 use Rattle.afr_transaction.specs.Progress.{CarriesAt, Progress, asks, number_in, numbered, request_at}
 use Rattle.afr_transaction.specs.Progress as transaction
 use Rattle.afr_transaction.specs.declared.stage.Stage.{Stage}
@@ -53,7 +54,7 @@ just x y e = cc e
 
 -- ---- reads
 -- neither a walk nor a read asks for what would need a load
-step_brings : (log : List Line) (past : Past) (w : Walk) (step : WalkStep) → Brings (walk.next_at step w).1 load.Nothing log past
+pub step_brings : (log : List Line) (past : Past) (w : Walk) (step : WalkStep) → Brings (walk.next_at step w).1 load.Nothing log past
 step_brings log past w (walking.Looking s) = tt
 step_brings log past w (walking.Naming b) = tt
 step_brings log past w walking.Arrived = tt
@@ -93,14 +94,16 @@ numbered_same at (change_of.Make dir name g what) k = absurd k
 numbered_same at (change_of.Remove dir name what) k = refl
 
 -- ---- what goes with a request of a change
-module _ (p : Plan) (log : List Line) (a : ActorId) (t : Progress) (past : Past) (nothing : MakesNothing t.change) (sets : HasSets t (work a.0 log)) where
+module _ (p : Plan) (log : List Line) (a : ActorId) (t : Progress) (past : Past) (sets : HasSets t (work a.0 log)) where
   -- with the operation goes the change of its attempt
-  stage_brings : (stage : Stage) → During stage p.shape t (work a.0 log) → (x : Load) → CarriesAt stage x t.change → Brings (request_at stage t) x log past
+  pub stage_brings : (stage : Stage) → During stage p.shape t (work a.0 log) → (x : Load) → CarriesAt stage x (attempted t) → Brings (request_at stage t) x log past
   stage_brings Applying d (load.Change change) k =
-      ap (λ (n : ℕ). change_at n log) (ap number_in (sets.number ∙ d.0.attempt.number))
+      let number_is : number_in t.register.begun ≡ d.0.attempt.attempt = ap number_in (sets.number ∙ d.0.attempt.number) in
+      ap (λ (n : ℕ). change_at n log) number_is
       ∙ finds_attempt a.0 log d.0.attempt.attempt d.0.attempt.number
       ∙ d.0.attempt.is_change
-      ∙ ap (λ (x : Change). Some x) (numbered_same d.0.attempt.attempt t.change nothing ∙ sym k)
+      ∙ ap (λ (n : ℕ). Some (numbered n t.change)) (sym number_is)
+      ∙ ap (λ (x : Change). Some x) (sym k)
   stage_brings Applying d other k = absurd k
   stage_brings stage d x k = tt
 
@@ -119,7 +122,7 @@ write_brings p c m log a b request carried sound k e brought = go m.stage k.stag
         subst (λ (x : Load). Brings request x log past) (sym h) here
     go (write_stage.Changing t) k2 e h =
         subst (λ (r : Request). Brings r carried log past) (asked_stage t.stage (length log) t b request e)
-        (stage_brings p log a t past (named_nothing c w.object t.change k2.words) k2.tells.sets t.stage k2.tells.during carried h)
+        (stage_brings p log a t past k2.tells.sets t.stage k2.tells.during carried h)
     go (write_stage.Ending said) t e h = absurd (cc e)
 
 -- ---- the Begin line

@@ -40,11 +40,11 @@ says_more p line older g what (Named t dir name was entry) = Named t dir name (w
 says_more p line older g what (Top e f) = Top e f
 
 -- the object that the path has led to stood somewhere
-abbrev IsLed : Plan → List Line → Path → Type 0
+abbrev pub IsLed : Plan → List Line → Path → Type 0
 IsLed p log (At read object) = Says p log object.gfid object.what
 IsLed p log other = Unit {0}
 
-led_still : (p : Plan) (line : Line) (older : List Line) (path : Path) → IsLed p older path → IsLed p (line ∷ older) path
+pub led_still : (p : Plan) (line : Line) (older : List Line) (path : Path) → IsLed p older path → IsLed p (line ∷ older) path
 led_still p line older (At read object) k = says_more p line older object.gfid object.what k
 led_still p line older NoName k = tt
 led_still p line older Untold k = tt
@@ -58,7 +58,8 @@ led_named p line older g name b None e (At read object) = tt
 led_named p line older g name b None e NoName = tt
 led_named p line older g name b None e Untold = tt
 
-led_after : (p : Plan) (line : Line) (older : List Line) (path : Path) → IsLed p older path → IsLed p (line ∷ older) (path_after p line older path)
+-- and so after any line
+pub led_after : (p : Plan) (line : Line) (older : List Line) (path : Path) → IsLed p older path → IsLed p (line ∷ older) (path_after p line older path)
 led_after p (Ask a b (ReadName g name) told_of.Given took) older path k = led_named p (Ask a b (ReadName g name) told_of.Given took) older g name b.0 (entry_at g name (holds p older b.0)) refl path
 led_after p (Ask a b (ReadName g name) told took) older path k = tt
 led_after p line older path k = led_still p line older path k

@@ -9,7 +9,7 @@ use afr_base::{NameId, NoMemory, Shape};
 use afr_discipline::Register;
 use afr_lines::{Answer, Heard, KeptReply, Next, Request};
 use afr_object::Load;
-use afr_walk::Walk;
+use afr_walk::{Walk, names_of};
 use std::alloc::Global;
 use std::marker::Model;
 
@@ -43,7 +43,7 @@ impl LookupMachine {
         requires some { 0 < shape.n }
         ensures value { IfOk result (λ machine. machine ≡ lookup_from shape path.now job) }
     {
-        let walk = Walk::new(alloc, shape, path)?;
+        let walk = Walk::along(shape, names_of(alloc, path)?);
         let stage = left_by(job, &walk);
         Ok(LookupMachine {
             alloc,
@@ -66,9 +66,8 @@ impl LookupMachine {
         ensures value { IfOk result (λ next. next ≡ next_of self.now) }
         ensures allowed { IfOk result (λ next. Allows self.now.walk.register next) }
     {
-        let line = self.line()?;
         self.stays_sound();
-        Ok(line)
+        self.line()
     }
 
     /// A read carries no contents.
@@ -79,12 +78,12 @@ impl LookupMachine {
     }
 
     /// The line was written, and the brick has answered. An End line isn't fed.
-    pub fn feed(&mut self, heard: Heard)
+    pub fn feed(&mut self, mut heard: Heard)
         requires { is_asking self.old.stage ≡ true }
         ensures { self.new ≡ heard_by heard self.old }
     {
-        match heard {
-            Heard::Answer(answer, at) => self.hear(answer, at),
+        match &mut heard {
+            Heard::Answer(answer, at) => self.hear(answer, *at),
             Heard::Begun(_) => {}
         }
     }
@@ -137,9 +136,10 @@ impl LookupMachine {
         Next::Ask(brick, request)
     }
 
-    fn hear(&mut self, answer: Answer, at: u32)
+    /// The request was written, and the brick has answered. What was read is taken out of the answer, and not copied.
+    pub fn hear(&mut self, answer: &mut Answer, at: u32)
         requires { is_asking self.old.stage ≡ true }
-        ensures { self.new ≡ answered answer at self.old }
+        ensures { self.new ≡ answered answer.old at self.old }
     {
         stage_heard(
             self.alloc,

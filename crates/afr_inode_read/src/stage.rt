@@ -2,7 +2,10 @@
 ghost use Rattle.std.specs.Prelude.{◌≡◌, ◌<◌, ◌≤◌, [], false, not, true};
 ghost use Rattle.afr_base.specs.Bricks.{is_nothing};
 ghost use Rattle.afr_inode_read.specs.Lookup.{IsLookup, after_walk, at_object, from_copy, is_asking, len_at, object_judged, object_looked, stage_after, walk_after};
+ghost use Rattle.afr_inode_read.specs.Job.{reply_to};
+ghost use Rattle.afr_lines.specs.declared.reply.Reply.{Reply};
 ghost use Rattle.afr_walk.specs.Looks.{left_to_look};
+ghost use Rattle.afr_walk.specs.declared.looks.Looks.{Looks};
 ghost use Rattle.afr_walk.specs.Walk.{IsChoice, IsWalk, is_walking};
 
 use crate::job::{Content, LookupJob, kind_of, reply_to, request_of};
@@ -12,6 +15,7 @@ use afr_lines::{Answer, Good, KeptReply, Reply, Request, told_of};
 use afr_object::{Chunk, Entry};
 use afr_walk::{Looks, Walk, WalkStep, choose, stop_reply};
 use std::alloc::Global;
+use std::mem;
 
 /// Where a read stands.
 #[derive(Drop)]
@@ -79,34 +83,66 @@ pub(crate) fn stage_heard(
     walk: &mut Walk,
     job: LookupJob,
     stage: &mut LookupStage,
-    answer: Answer,
+    answer: &mut Answer,
     at: u32,
 )
     requires sound { IsLookup walk.old stage.old }
     requires asking { is_asking stage.old ≡ true }
-    ensures walk { walk.new ≡ walk_after stage.old answer at walk.old }
-    ensures stage { stage.new ≡ stage_after stage.old answer job (walk_after stage.old answer at walk.old) }
+    ensures walk { walk.new ≡ walk_after stage.old answer.old at walk.old }
+    ensures stage { stage.new ≡ stage_after stage.old answer.old job (walk_after stage.old answer.old at walk.old) }
     ensures kept { IsLookup walk.new stage.new }
 {
     match stage {
         LookupStage::Walking => {
-            walk.hear(&answer, at);
+            walk.hear(answer, at);
             if has_ended(walk) {
-                *stage = left_by(job, walk);
+                leave(job, walk, stage);
             }
         }
         LookupStage::Looking(looks) => {
-            look_noted(walk, looks, &answer, at);
-            looks.hear(walk.shape.n, &told_of(&answer));
+            look_noted(walk, looks, answer, at);
+            looks.hear(walk.shape.n, &told_of(answer));
             if looks.is_over(walk.shape.n) {
-                *stage = looked_at(alloc, walk.shape, job, walk.object, looks);
+                look_over(alloc, job, walk, stage);
             }
         }
         LookupStage::Reading(brick, content) => {
-            *stage = read_heard(walk, *brick, *content, answer, at);
+            read_noted(walk, *brick, *content, answer, at);
+            end_read(mem::replace(answer, Answer::Done), stage);
         }
         LookupStage::Ending(_) => {}
     }
+}
+
+/// The stage after the walk. It stands apart, as the next two do, so that only the answers that end a stage pay for a frame
+/// that holds one.
+#[inline(never)]
+fn leave(job: LookupJob, walk: &Walk, stage: &mut LookupStage)
+    requires { IsWalk walk.now }
+    ensures value { stage.new ≡ after_walk job walk.now }
+    ensures kept { IsLookup walk.now stage.new }
+{
+    *stage = left_by(job, walk);
+}
+
+/// The stage after the looks.
+#[inline(never)]
+fn look_over(alloc: Global, job: LookupJob, walk: &Walk, stage: &mut LookupStage)
+    requires few { walk.now.shape.n ≤ 5 }
+    requires over { (looks : Looks) → stage.old ≡ LookupStage.Looking looks → is_nothing (left_to_look walk.now.shape.n looks) ≡ true }
+    ensures { (looks : Looks) → stage.old ≡ LookupStage.Looking looks → stage.new ≡ object_looked walk.now.shape job walk.now.object looks }
+{
+    if let LookupStage::Looking(looks) = stage {
+        *stage = looked_at(alloc, walk.shape, job, walk.object, looks);
+    }
+}
+
+/// The stage after the read.
+#[inline(never)]
+fn end_read(answer: Answer, stage: &mut LookupStage)
+    ensures { stage.new ≡ LookupStage.Ending (reply_to answer) }
+{
+    *stage = ending(reply_to(answer));
 }
 
 /// Whether a walk has led to its object, or has stopped.
@@ -149,22 +185,14 @@ fn looked_at(
     judged(alloc, job, object, verdict, &looks.looked)
 }
 
-fn read_heard(
-    walk: &mut Walk,
-    brick: BrickId,
-    content: Content,
-    answer: Answer,
-    at: u32,
-) -> LookupStage
+fn read_noted(walk: &mut Walk, brick: BrickId, content: Content, answer: &Answer, at: u32)
     requires { IsLookup walk.old (LookupStage.Reading brick content) }
-    ensures walk { walk.new ≡ walk_after (LookupStage.Reading brick content) answer at walk.old }
-    ensures stage { result ≡ stage_after (LookupStage.Reading brick content) answer LookupJob.Ls walk.new }
-    ensures kept { IsLookup walk.new result }
+    ensures walk { walk.new ≡ walk_after (LookupStage.Reading brick content) answer.now at walk.old }
+    ensures kept { (said : Reply) → IsLookup walk.new (LookupStage.Ending said) }
 {
-    let told = told_of(&answer);
+    let told = told_of(answer);
     let request = request_of(walk.object.gfid, content);
     walk.note(brick, &request, &told, at);
-    ending(reply_to(answer))
 }
 
 fn judged(

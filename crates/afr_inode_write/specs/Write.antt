@@ -21,6 +21,7 @@ use Rattle.afr_walk.specs.Walk.{walk_from, next_in, walked, is_walking, IsWalk}
 use Rattle.afr_walk.specs.declared.walk.Walk.{Walk}
 use Rattle.afr_walk.specs.declared.walk.WalkStep.{WalkStep}
 use Rattle.afr_walk.specs.declared.walk.WalkStep.TheVariants as walking
+use Rattle.afr_transaction.specs.Made.{attempted}
 use Rattle.afr_transaction.specs.Progress as transaction
 use Rattle.afr_transaction.specs.Progress.{Progress, CarriesAt, fed, is_beginning, starting}
 use Rattle.afr_transaction.specs.Sound.{Sound}
@@ -86,7 +87,7 @@ register_of m = register_at m.stage m.walk
 
 -- the contents that go with the next request
 abbrev pub CarriesNext : WriteStage → Load → Type 0
-CarriesNext (Changing t) carried = CarriesAt t.stage carried t.change
+CarriesNext (Changing t) carried = CarriesAt t.stage carried (attempted t)
 CarriesNext stage carried = carried ≡ load.Nothing
 
 -- the transaction has its answer, where it has asked

@@ -10,7 +10,7 @@ use afr_base::{NameId, NoMemory, Shape};
 use afr_discipline::Register;
 use afr_lines::{Answer, Heard, KeptReply, Next};
 use afr_object::Load;
-use afr_walk::Walk;
+use afr_walk::{Walk, names_of};
 use std::alloc::Global;
 use std::marker::Model;
 
@@ -43,7 +43,7 @@ impl WriteMachine {
         requires some { 0 < shape.n }
         ensures value { IfOk result (λ machine. machine ≡ write_from shape path.now job) }
     {
-        let walk = Walk::new(alloc, shape, path)?;
+        let walk = Walk::along(shape, names_of(alloc, path)?);
         let stage = first(job, &walk);
         Ok(WriteMachine { alloc, walk, stage })
     }
@@ -61,9 +61,8 @@ impl WriteMachine {
         ensures value { IfOk result (λ next. next ≡ next_of position self.now) }
         ensures allowed { IfOk result (λ next. Allows (register_of self.now) next) }
     {
-        let line = self.line(position)?;
         self.stays_sound();
-        Ok(line)
+        self.line(position)
     }
 
     /// The change, where the operation is asked for next.
@@ -125,7 +124,8 @@ impl WriteMachine {
         }
     }
 
-    fn hear(&mut self, answer: &Answer, at: u32)
+    /// The request was written, and the brick has answered.
+    pub fn hear(&mut self, answer: &Answer, at: u32)
         requires { is_over self.old.stage ≡ false }
         ensures { self.new ≡ answered answer.now at self.old }
     {

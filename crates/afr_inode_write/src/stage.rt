@@ -48,7 +48,7 @@ fn left_by(job: WriteJob, walk: &Walk) -> WriteStage
 {
     match &walk.step {
         WalkStep::Looking(_) | WalkStep::Naming(_) => WriteStage::Walking(job),
-        WalkStep::Arrived => arrived(job, walk.object, walk.register),
+        WalkStep::Arrived => arrived(job, walk.object, &walk.register),
         WalkStep::Stopped(stop) => WriteStage::Ending(stop_reply(stop)),
     }
 }
@@ -70,12 +70,12 @@ fn ending(reply: Reply) -> WriteStage
     WriteStage::Ending(KeptReply::new(reply))
 }
 
-fn arrived(job: WriteJob, object: Entry, register: Register) -> WriteStage
+fn arrived(job: WriteJob, object: Entry, register: &Register) -> WriteStage
     requires fits { IsJob job }
-    requires unused { IsUnused register }
-    requires few { register.shape.n ≤ 5 }
-    requires some { 0 < register.shape.n }
-    ensures { result ≡ at_object object register job }
+    requires unused { IsUnused register.now }
+    requires few { register.now.shape.n ≤ 5 }
+    requires some { 0 < register.now.shape.n }
+    ensures { result ≡ at_object object register.now job }
 {
     if is_of_bytes(&job) && is_directory(object.what) {
         return ending(Reply::IsDir);
@@ -95,15 +95,15 @@ fn is_directory(what: What) -> bool
     }
 }
 
-fn begins(job: WriteJob, gfid: Gfid, register: Register) -> Transaction
+fn begins(job: WriteJob, gfid: Gfid, register: &Register) -> Transaction
     requires fits { IsJob job }
     requires some_bytes { is_empty job ≡ false }
-    requires unused { IsUnused register }
-    requires few { register.shape.n ≤ 5 }
-    requires some { 0 < register.shape.n }
-    ensures { result ≡ starting (change_of gfid job) register }
+    requires unused { IsUnused register.now }
+    requires few { register.now.shape.n ≤ 5 }
+    requires some { 0 < register.now.shape.n }
+    ensures { result ≡ starting (change_of gfid job) register.now }
 {
-    Transaction::continuing(register, change_of(gfid, job))
+    Transaction::continuing(*register, change_of(gfid, job))
 }
 
 /// The stage hears an answer at this position, which the register of the walk or of the transaction notes. It is written
@@ -123,7 +123,7 @@ pub(crate) fn stage_heard(walk: &mut Walk, stage: &mut WriteStage, answer: &Answ
                 leave(job, walk, stage);
             }
         }
-        WriteStage::Changing(transaction) => heard(transaction, told_of(answer), at),
+        WriteStage::Changing(transaction) => heard(transaction, &told_of(answer), at),
         WriteStage::Ending(_) => {}
     }
 }
@@ -138,9 +138,9 @@ fn has_ended(walk: &Walk) -> bool
     }
 }
 
-fn heard(transaction: &mut Transaction, told: Told, at: u32)
+fn heard(transaction: &mut Transaction, told: &Told, at: u32)
     requires { progress.is_over transaction.old.stage transaction.old ≡ false }
-    ensures { transaction.new ≡ told_to told at transaction.old }
+    ensures { transaction.new ≡ told_to told.now at transaction.old }
 {
     if !transaction.is_beginning() {
         transaction.feed(told, at);
@@ -161,6 +161,6 @@ fn begun(transaction: &mut Transaction, at: u32)
     ensures { transaction.new ≡ begun_in at transaction.old }
 {
     if transaction.is_beginning() {
-        transaction.feed(Told::Done, at);
+        transaction.feed(&Told::Done, at);
     }
 }

@@ -13,5 +13,3 @@ pub mod Judging
 pub mod Names
 pub mod PlanOf
 pub mod Spells
-pub mod Runnable
-pub mod RunnableTests

@@ -4,10 +4,8 @@
 mod command;
 pub mod limits;
 mod plan;
-mod runnable;
 mod schedule;
 
 pub use command::{Command, NamePath, Script, Scripts};
 pub use plan::{Plan, PlanFault, PlanStop, Word, WordList, Words};
-pub use runnable::is_runnable_yet;
 pub use schedule::{Events, Faults, Go, Orders, PlannedEvent, PlannedFault, RoundList, Rounds};

@@ -35,8 +35,7 @@ pub(crate) fn ask_one(
     ensures err { OnErr result (servers.new.items ≡ servers.old.items) }
 {
     let epoch = epochs.of[brick.0 as usize];
-    let asked = servers[brick.0 as usize].ask(actor, epoch, request, load)?;
-    Ok(asked)
+    servers[brick.0 as usize].ask(actor, epoch, request, load)
 }
 
 /// The first line of a work: one brick is asked, and once its memory is there the others meet the

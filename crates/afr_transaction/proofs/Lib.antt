@@ -1,6 +1,7 @@
 pub mod Acknowledged
 pub mod Allowed
 pub mod Kept
+pub mod MadeLemmas
 pub mod NoteLemmas
 pub mod Parts
 pub mod Quorum

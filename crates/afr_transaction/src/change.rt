@@ -1,11 +1,12 @@
 //! The change of a transaction: its object, its area, the kind that counts it, and the number of what it makes.
-ghost use Rattle.std.specs.Prelude.{◌≡◌, ◌<◌, ◌+◌, ◌-◌, ◌^◌, ◌&&◌, nat_le, nat_lt, min, true, false, IfOk};
+ghost use Rattle.std.specs.Prelude.{◌≡◌, ◌<◌, ◌+◌, ◌-◌, ◌^◌, ◌&&◌, nat_le, nat_lt, min, true, false, IfOk, Some};
 ghost use Rattle.afr_lines.specs.Areas.{area_for, kind_for};
 ghost use Rattle.afr_object.specs.Tables.{object_of};
+ghost use Rattle.afr_transaction.specs.Made.{made_by};
 ghost use Rattle.afr_transaction.specs.Progress.{numbered};
 ghost use Rattle.afr_transaction.specs.Sound.{Suits};
 
-use afr_base::{FIRST_ATTRIBUTE, Gfid, Kind, NoMemory};
+use afr_base::{FIRST_ATTRIBUTE, Gfid, Kind, NameId, NoMemory, What};
 use afr_lines::Area;
 use afr_object::{Change, TryCopy};
 
@@ -99,15 +100,39 @@ pub(crate) fn numbered(change: &Change, at: u32) -> Result<Change, NoMemory>
             name,
             gfid: _,
             what,
-        } => Ok(Change::Make {
-            dir: *dir,
-            name: *name,
-            gfid: Gfid(u128::from(at) + 2),
-            what: *what,
-        }),
+        } => Ok(making(*dir, *name, *what, at)),
         Change::Write { .. } => change.copy(),
         Change::Cut { .. } => change.copy(),
         Change::SetAttr { .. } => change.copy(),
         Change::Remove { .. } => change.copy(),
+    }
+}
+
+/// The same of a change that makes an object; it takes no memory.
+pub(crate) fn made_by(change: &Change, at: u32) -> Option<Change>
+    ensures { result ≡ made_by (Some at) change.now }
+{
+    match change {
+        Change::Make {
+            dir,
+            name,
+            gfid: _,
+            what,
+        } => Some(making(*dir, *name, *what, at)),
+        Change::Write { .. } => None,
+        Change::Cut { .. } => None,
+        Change::SetAttr { .. } => None,
+        Change::Remove { .. } => None,
+    }
+}
+
+fn making(dir: Gfid, name: NameId, what: What, at: u32) -> Change
+    ensures { result ≡ Change.Make dir name (record { 0 = at + 2 }) what }
+{
+    Change::Make {
+        dir,
+        name,
+        gfid: Gfid(u128::from(at) + 2),
+        what,
     }
 }

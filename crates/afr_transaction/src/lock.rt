@@ -31,9 +31,9 @@ pub(crate) fn lock_request(change: &Change) -> Request
 }
 
 /// A brick has answered its lock.
-pub(crate) fn lock_told(b: BrickId, told: Told, asked: &Asked) -> Asked
+pub(crate) fn lock_told(b: BrickId, told: &Told, asked: &Asked) -> Asked
     requires { b.0 < 5 }
-    ensures { result ≡ asked_by Stage.Locking b.0 told asked.now }
+    ensures { result ≡ asked_by Stage.Locking b.0 told.now asked.now }
 {
     Asked {
         lock_asked: asked.lock_asked.with_if(!is_held(told), b),
@@ -42,14 +42,14 @@ pub(crate) fn lock_told(b: BrickId, told: Told, asked: &Asked) -> Asked
     }
 }
 
-fn is_granted(told: Told) -> bool
-    ensures { result ≡ is_granted told }
+fn is_granted(told: &Told) -> bool
+    ensures { result ≡ is_granted told.now }
 {
     matches!(told, Told::Granted)
 }
 
-fn is_held(told: Told) -> bool
-    ensures { result ≡ is_held told }
+fn is_held(told: &Told) -> bool
+    ensures { result ≡ is_held told.now }
 {
     matches!(told, Told::Held(_))
 }

@@ -6,11 +6,12 @@ ghost use Rattle.afr_discipline.specs.declared.register.Register.{Register};
 ghost use Rattle.afr_lines.specs.declared.answer.Told.{Told};
 ghost use Rattle.afr_moves.specs.Register.{span};
 ghost use Rattle.afr_transaction.specs.Between.{given_up, is_read, noted_read};
+ghost use Rattle.afr_transaction.specs.Made.{attempted};
 ghost use Rattle.afr_transaction.specs.Outcome.{outcome_of};
 ghost use Rattle.afr_transaction.specs.Progress.{CarriesAt, Progress, allowed, answered, asks, begun, fed, is_beginning, is_over, left, next_at, request_at, starting};
 ghost use Rattle.afr_transaction.specs.Sound.{IsAsking, IsUnused, Sound, Suits};
 
-use crate::change::numbered;
+use crate::change::{made_by, numbered};
 use crate::reply::{Outcome, outcome_of, reply_for};
 use crate::stage::{Asked, Stage, after, asked_after, left_of, request_of};
 use afr_base::{BrickId, BrickSet, NoMemory, Shape};
@@ -24,6 +25,8 @@ use std::marker::Model;
 #[derive(Drop)]
 pub struct Transaction {
     change: Change,
+    /// The change as its Begin line has it, where it makes an object, whose number the line gives.
+    made: Option<Change>,
     register: Register,
     stage: Stage,
     asked: Asked,
@@ -31,13 +34,13 @@ pub struct Transaction {
 
 impl Model for Transaction {
     ghost use Rattle.afr_transaction.specs.Progress.{Progress};
-    ghost use Rattle.afr_transaction.specs.Sound.{Sound};
+    ghost use Rattle.afr_transaction.specs.Made.{IsTransaction};
 
     ghost Value = { Progress };
 
     ghost view = { λ m. record { change = m.change; register = m.register; stage = m.stage; asked = m.asked } };
 
-    ghost invariant = { λ m. Sound (record { change = m.change; register = m.register; stage = m.stage; asked = m.asked }) };
+    ghost invariant = { λ m. IsTransaction m.made (record { change = m.change; register = m.register; stage = m.stage; asked = m.asked }) };
 }
 
 impl Transaction {
@@ -61,6 +64,7 @@ impl Transaction {
     {
         Transaction {
             change,
+            made: None,
             register,
             stage: Stage::Locking,
             asked: Asked {
@@ -90,12 +94,15 @@ impl Transaction {
         }
     }
 
-    /// The change, where the operation is asked for next.
+    /// The change as its Begin line has it, where the operation is asked for next.
     pub fn load(&self) -> Load<'_>
-        ensures { CarriesAt self.now.stage result self.now.change }
+        ensures { CarriesAt self.now.stage result (attempted self.now) }
     {
         match self.stage {
-            Stage::Applying => Load::Change(&self.change),
+            Stage::Applying => match &self.made {
+                Some(made) => Load::Change(made),
+                None => Load::Change(&self.change),
+            },
             _ => Load::Nothing,
         }
     }
@@ -108,9 +115,9 @@ impl Transaction {
     }
 
     /// The next line was written at this position, and this was told; of a Begin line nothing is told.
-    pub fn feed(&mut self, told: Told, at: u32)
+    pub fn feed(&mut self, told: &Told, at: u32)
         requires more { is_over self.old.stage self.old ≡ false }
-        ensures value { self.new ≡ fed self.old.stage told at self.old }
+        ensures value { self.new ≡ fed self.old.stage told.now at self.old }
     {
         match self.stage {
             Stage::Beginning => self.begin(at),
@@ -207,17 +214,18 @@ impl Transaction {
             &Told::Done,
             at,
         );
+        self.made = made_by(&self.change, at);
         self.stage = Stage::Preparing;
     }
 
-    fn answer(&mut self, told: Told, at: u32)
+    fn answer(&mut self, told: &Told, at: u32)
         requires asking { IsAsking self.old.stage self.old }
-        ensures { self.new ≡ answered self.old.stage told at self.old }
+        ensures { self.new ≡ answered self.old.stage told.now at self.old }
     {
         let stage = self.stage;
         let b = self.left(stage).lowest();
         let request = self.request(stage);
-        note(&mut self.register, &Move::Ask(b, &request), &told, at);
+        note(&mut self.register, &Move::Ask(b, &request), told, at);
         self.asked = asked_after(stage, b, told, &self.asked);
         self.stage = after(stage, &self.change, &self.register, &self.asked);
     }

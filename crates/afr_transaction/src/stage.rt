@@ -77,9 +77,9 @@ pub(crate) fn request_of(stage: Stage, change: &Change, r: &Register) -> Request
 }
 
 /// Who was asked, with the brick that has answered now.
-pub(crate) fn asked_after(stage: Stage, b: BrickId, told: Told, asked: &Asked) -> Asked
+pub(crate) fn asked_after(stage: Stage, b: BrickId, told: &Told, asked: &Asked) -> Asked
     requires { b.0 < 5 }
-    ensures { result ≡ asked_by stage b.0 told asked.now }
+    ensures { result ≡ asked_by stage b.0 told.now asked.now }
 {
     match stage {
         Stage::Locking => lock_told(b, told, asked),

@@ -56,7 +56,8 @@ module _ (line : Line) (older : List Line) (lines : Work) where
   abbrev since_next : Bool → Work
   since_next before = if before then (line, older) ∷ since locks_any lines else (if locks_any line then (line, older) ∷ [] else [])
 
-  missed_grows : (c : ℕ) → member (missed_by lines) c ≡ true → member (missed_by ((line, older) ∷ lines)) c ≡ true
+  -- whoever missed something before has missed it now
+  pub missed_grows : (c : ℕ) → member (missed_by lines) c ≡ true → member (missed_by ((line, older) ∷ lines)) c ≡ true
   missed_grows c m = go (has locks_any lines) refl
     where
       go : (before : Bool) → has locks_any lines ≡ before → member (among missing (since_next before)) c ≡ true
@@ -64,7 +65,7 @@ module _ (line : Line) (older : List Line) (lines : Work) where
       go false e = absurd (cc (subst (λ (w : Work). member (among missing w) c ≡ true) (since_none locks_any lines e) m))
 
 -- a brick that misses what it is asked from the first lock on has missed something
-missed_now : (a : ActorId) (b : BrickId) (r : Request) (told : Told) (took : Bool) (older : List Line) (lines : Work) → (has locks_any lines ≡ false → locks_any (Ask a b r told took) ≡ true) → is_miss told ≡ true
+pub missed_now : (a : ActorId) (b : BrickId) (r : Request) (told : Told) (took : Bool) (older : List Line) (lines : Work) → (has locks_any lines ≡ false → locks_any (Ask a b r told took) ≡ true) → is_miss told ≡ true
     → member (missed_by ((Ask a b r told took, older) ∷ lines)) b.0 ≡ true
 missed_now a b r told took older lines locked miss = go (has locks_any lines) refl
   where

@@ -41,7 +41,7 @@ pub(crate) fn accusing() -> Told {
 /// The next line was told this.
 pub(crate) fn tells(transaction: &mut Transaction, told: Told) {
     if !transaction.is_over() {
-        transaction.feed(told, 10);
+        transaction.feed(&told, 10);
     }
 }
 

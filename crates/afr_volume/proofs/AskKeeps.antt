@@ -43,7 +43,7 @@ use Rattle.afr_walk.specs.Free.{is_free}
 use Rattle.afr_transaction_tells.specs.Laws.{IsNextLine}
 use Rattle.afr_works.specs.Work.{IsWork, heard_by, next_of, register_of}
 use Rattle.afr_works.specs.declared.work.Work.{Work}
-use Rattle.afr_works.specs.declared.work.Work.TheVariants.{Idle, Lookup, Write}
+use Rattle.afr_works.specs.declared.work.Work.TheVariants.{Entry, Idle, Lookup, Write}
 use Rattle.afr_works_tell.specs.WorkTelling.{WorkHears, WorkTells}
 use Rattle.afr_volume.specs.Acting.{IsAsked, ServesNext}
 use Rattle.afr_volume.specs.Keeping.{Carries, CarriesOut, IsActing, IsInSession, IsNoted}
@@ -150,6 +150,7 @@ module _ (laws : Laws) (p : Plan) (a : ActorId) (log : List Line) (servers : Lis
     hears Idle sound tells e = absurd tells
     hears (Lookup m) sound tells e = laws.telling.lookup_hears p m log a b asked s.given.answer s.given.took sound tells.1 e heard
     hears (Write m) sound tells e = laws.telling.write_hears p c.command m log a b asked s.given.answer s.given.took sound tells e heard
+    hears (Entry m) sound tells e = laws.telling.entry_hears p c.command m log a b asked s.given.answer s.given.took sound tells e heard before.follows
 
     abbrev after : Work
     after = heard_by (heard_of.Answer s.given.answer (length log)) x.work
@@ -186,6 +187,7 @@ module _ (laws : Laws) (p : Plan) (a : ActorId) (log : List Line) (servers : Lis
     as_carries Idle k = absurd k.tells
     as_carries (Lookup m) k = k
     as_carries (Write m) k = k
+    as_carries (Entry m) k = k
 
     pub ask_keeps : IsActing p log a.0 servers x → LineKeeps p a log written y servers new
     ask_keeps acting = subst (λ (l : Line). LineKeeps p a log l y servers new) (sym s.is_line) (record {

@@ -14,6 +14,7 @@ use Rattle.afr_lines.specs.declared.line.Next.TheVariants as next
 use Rattle.afr_lines.specs.declared.request.Request.{Request}
 use Rattle.afr_lines.specs.declared.request.Request.TheVariants as request
 use Rattle.afr_model.specs.Actors.{Client, Healer, IsActor}
+use Rattle.afr_model.specs.Following.{Follows}
 use Rattle.afr_model.specs.Honest.{Honest}
 use Rattle.afr_model.specs.Locks.{locks_held}
 use Rattle.afr_model.specs.Tables.{held_before}
@@ -33,7 +34,7 @@ use Rattle.afr_transaction.specs.Turn.{InForce}
 use Rattle.afr_walk.specs.Free.{AllowsAsk}
 use Rattle.afr_works.specs.Work.{CarriesNext, next_of, register_of}
 use Rattle.afr_works.specs.declared.work.Work.{Work}
-use Rattle.afr_works.specs.declared.work.Work.TheVariants.{Idle, Lookup, Write}
+use Rattle.afr_works.specs.declared.work.Work.TheVariants.{Entry, Idle, Lookup, Write}
 use Rattle.afr_volume.specs.Acting.{CanAsk, has_live}
 use Rattle.afr_volume.specs.Keeping.{CanRun, CarriesOut, IsInSession, IsNoted}
 use Rattle.afr_volume.specs.declared.actor.Actor.{Actor}
@@ -44,6 +45,7 @@ pub record IsBefore (p : Plan) (a : ActorId) (log : List Line) (servers : List S
   pub runnable : CanRun p
   pub room : length log < p.turns
   pub served : AreServed p log servers
+  pub follows : Follows p log
   pub honest : Honest p log
   pub lawful : IsLawfulExactly p log
   pub one : 1 ≤ a.0
@@ -82,6 +84,7 @@ module _ (laws : Laws) (p : Plan) (a : ActorId) (log : List Line) (servers : Lis
   brings Idle met epochs c b asked carried e k = absurd c.tells
   brings (Lookup m) met epochs c b asked carried e k = subst (λ (l : Load). Brings asked l log (held_before p log)) (sym k) (laws.telling.lookup_brings m log (held_before p log) b asked e)
   brings (Write m) met epochs c b asked carried e k = laws.telling.write_brings p c.command m log a b asked carried c.sound c.tells e k
+  brings (Entry m) met epochs c b asked carried e k = laws.telling.entry_brings p c.command m log a b asked carried c.sound c.tells e k
 
   -- ---- a request
   module _ (w : Work) (met : Bool) (epochs : Epochs) (c : CarriesOut p a.0 log met epochs servers w) (b : BrickId) (asked : Request) (e : next_of (length log) w ≡ next.Ask b asked) (fits : RequestInRange asked) where

@@ -27,7 +27,7 @@ use Rattle.afr_servers.specs.declared.epochs.Epochs.{Epochs}
 use Rattle.afr_transaction.specs.Turn.{Stood}
 use Rattle.afr_works.specs.Work.{register_of}
 use Rattle.afr_works.specs.declared.work.Work.{Work}
-use Rattle.afr_works.specs.declared.work.Work.TheVariants.{Idle, Lookup, Write}
+use Rattle.afr_works.specs.declared.work.Work.TheVariants.{Entry, Idle, Lookup, Write}
 use Rattle.afr_works_tell.specs.WorkTelling.{WorkTells}
 use Rattle.afr_volume.specs.Keeping.{Carries, CarriesOut, IsActing, IsInSession, IsNoted}
 use Rattle.afr_volume.specs.declared.actor.Actor.{Actor}
@@ -105,6 +105,7 @@ module _ (p : Plan) (c : ℕ) (line : Line) (log : List Line) (old new : List Se
   stays met epochs Idle k = record { unmet = k.unmet; fresh = same_place ∙ k.fresh; none = same_work ∙ k.none }
   stays met epochs (Lookup m) k = carries_on met epochs (Lookup m) k
   stays met epochs (Write m) k = carries_on met epochs (Write m) k
+  stays met epochs (Entry m) k = carries_on met epochs (Entry m) k
 
 -- every other actor is as it was after a line
 pub others_stay : (p : Plan) (a : ActorId) (c : ℕ) (line : Line) (log : List Line) (old new : List Serving) (x : Actor) → Wrote a line → (a.0 == c) ≡ false

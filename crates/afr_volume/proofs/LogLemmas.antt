@@ -1,5 +1,6 @@
 -- The log as the code keeps it, the oldest line first, and as contracts see it.
-use Rattle.std.proofs.Common.{◌≡◌, ℕ, ◌-◌, ◌==◌, List, [], ◌∷◌, ◌++◌, refl, ap, ◌∙◌, Some, arith, zero, suc, reverse, slice_get, if◌then◌else◌, false, length-append}
+use Rattle.std.proofs.Common.{◌≡◌, ℕ, ◌-◌, ◌==◌, List, [], ◌∷◌, ◌++◌, refl, ap, ◌∙◌, Some, arith, zero, suc, reverse, slice_get, if◌then◌else◌, false, length, length-append, get_or}
+use Rattle.std.proofs.Math.Seq.{get_or-append_seam}
 use Rattle.std.proofs.lemmas.Bool.Decides.{nat_tests}
 use Rattle.std.proofs.lemmas.List.{reverse-append}
 use Rattle.std.proofs.lemmas.Grind.{reverse_onto}
@@ -9,6 +10,10 @@ use Rattle.afr_lines.specs.declared.line.Line.{Line}
 -- the newest line of a log that is kept oldest first
 pub reverse_push : (xs : List Line) (x : Line) → reverse (xs ++ x ∷ []) ≡ x ∷ reverse xs
 reverse_push xs x = reverse-append xs (x ∷ [])
+
+-- a line that was added stands after the lines before it
+pub newest_is : (old new : List Line) (line found : Line) (at : ℕ) → new ≡ old ++ line ∷ [] → at ≡ length old → found ≡ get_or new at found → found ≡ line
+newest_is old new line found at grown position is = is ∙ rw (grown, position) (get_or-append_seam old line [] found)
 
 from_end : {A : Type 0} (x : A) (ys : List A) (k : ℕ) → from_oldest k (ys ++ x ∷ []) ≡ (if k == 0 then Some x else from_oldest (k - 1) ys)
 from_end x [] k = refl

@@ -7,7 +7,7 @@ use Rattle.std.specs.List.{All}
 use Rattle.afr_lines.specs.declared.line.Event.{Event}
 use Rattle.afr_lines.specs.declared.line.Event.TheVariants.{Cut, Join, Kill, Start, Stop}
 use Rattle.afr_model.specs.Actors.{Client, script_of}
-use Rattle.afr_plan.specs.Runnable.{IsAboutVolume, IsOneOf, IsRunnable, IsRunnableScript, runs_yet}
+use Rattle.afr_runnable.specs.Runnable.{IsAboutVolume, IsOneOf, IsRunnable, IsRunnableScript, has_its_name}
 use Rattle.afr_plan.specs.declared.command.Command.{Command}
 use Rattle.afr_plan.specs.declared.command.Command.TheVariants as command
 use Rattle.afr_plan.specs.declared.plan.Plan.{Plan}
@@ -20,7 +20,7 @@ all_at : {A : Type 0} (P : A → Type 0) (xs : List A) (i : ℕ) (x : A) → All
 all_at P xs i x all is = subst P (get_or_from_slice_get xs i x x is) (All-get_or P xs i x (slice_get_within xs i x is) all)
 
 -- what a client's script has is run
-commands_at : (p : Plan) (a i : ℕ) (c : Command) → All IsRunnableScript p.clients → slice_get (script_of p a) i ≡ Some c → runs_yet c ≡ true
+commands_at : (p : Plan) (a i : ℕ) (c : Command) → All IsRunnableScript p.clients → slice_get (script_of p a) i ≡ Some c → has_its_name c ≡ true
 commands_at p a i c all is = by_script (slice_get_cases p.clients (a - 1)).1
   where
     script_there : (script : List Command) → slice_get p.clients (a - 1) ≡ Some script → script_of p a ≡ script
@@ -32,18 +32,18 @@ commands_at p a i c all is = by_script (slice_get_cases p.clients (a - 1)).1
     no_item : (i : ℕ) → slice_get [] i ≡ Some c → ⊥
     no_item i e = cc e
 
-    by_script : ((script : List Command) × (a - 1 < length p.clients) × (slice_get p.clients (a - 1) ≡ Some script) × (get_or p.clients (a - 1) script ≡ script)) ⊎ ((length p.clients ≤ a - 1) × (slice_get p.clients (a - 1) ≡ None)) → runs_yet c ≡ true
-    by_script (inl k) = all_at (λ (c : Command). runs_yet c ≡ true) k.0 i c (all_at IsRunnableScript p.clients (a - 1) k.0 all k.2).commands (rw (script_there k.0 k.2) at is)
+    by_script : ((script : List Command) × (a - 1 < length p.clients) × (slice_get p.clients (a - 1) ≡ Some script) × (get_or p.clients (a - 1) script ≡ script)) ⊎ ((length p.clients ≤ a - 1) × (slice_get p.clients (a - 1) ≡ None)) → has_its_name c ≡ true
+    by_script (inl k) = all_at (λ (c : Command). has_its_name c ≡ true) k.0 i c (all_at IsRunnableScript p.clients (a - 1) k.0 all k.2).commands (rw (script_there k.0 k.2) at is)
     by_script (inr k) = absurd (no_item i (rw (script_past k.1) at is))
 
-machine_for : (c : Command) → runs_yet c ≡ true → has_machine c ≡ true
+machine_for : (c : Command) → has_its_name c ≡ true → has_machine c ≡ true
 machine_for (command.Write path at bytes) e = refl
 machine_for (command.Cut path len) e = refl
 machine_for (command.Read path at len) e = refl
-machine_for (command.Create path) e = absurd (cc e)
-machine_for (command.Mkdir path) e = absurd (cc e)
-machine_for (command.Unlink path) e = absurd (cc e)
-machine_for (command.Rmdir path) e = absurd (cc e)
+machine_for (command.Create path) e = e
+machine_for (command.Mkdir path) e = e
+machine_for (command.Unlink path) e = e
+machine_for (command.Rmdir path) e = e
 machine_for (command.Ls path) e = refl
 machine_for (command.Stat path) e = refl
 machine_for (command.SetAttr path key value) e = refl

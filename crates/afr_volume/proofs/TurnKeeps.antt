@@ -16,7 +16,7 @@ use Rattle.afr_servers.specs.declared.epochs.Epochs.{Epochs}
 use Rattle.afr_works.specs.Begin.{has_machine, work_from}
 use Rattle.afr_works.specs.Work.{IsBusy, IsWork, next_of}
 use Rattle.afr_works.specs.declared.work.Work.{Work}
-use Rattle.afr_works.specs.declared.work.Work.TheVariants.{Idle, Lookup, Write}
+use Rattle.afr_works.specs.declared.work.Work.TheVariants.{Entry, Idle, Lookup, Write}
 use Rattle.afr_volume.specs.Acting.{CanStep, Stepped, SteppedBy}
 use Rattle.afr_volume.specs.Keeping.{CanRun, Carries, CarriesOut, IsActing, IsBetween, IsVolume}
 use Rattle.afr_volume.specs.Turning.{ReadiedAt, Readies}
@@ -47,6 +47,7 @@ module _ (laws : Laws) (p : Plan) (a : ActorId) (log : List Line) (servers : Lis
   carried met epochs Idle busy k = absurd busy
   carried met epochs (Lookup m) busy k = k
   carried met epochs (Write m) busy k = k
+  carried met epochs (Entry m) busy k = k
 
   -- what the bricks need for the actor's next line is there
   pub can_step : (x : Actor) → IsBusy x.work → IsActing p log a.0 servers x → CanStep a (length log) x servers
@@ -76,6 +77,7 @@ before_turn p a log servers actors made v actor room = record {
   runnable = v.runnable;
   room = room;
   served = v.served;
+  follows = v.follows;
   honest = v.honest;
   lawful = v.lawful;
   one = (client_is p a.0 v.runnable actor).0;
@@ -126,6 +128,7 @@ as_carries : (p : Plan) (a : ℕ) (log : List Line) (met : Bool) (epochs : Epoch
 as_carries p a log met epochs servers Idle k = absurd k.tells
 as_carries p a log met epochs servers (Lookup m) k = k
 as_carries p a log met epochs servers (Write m) k = k
+as_carries p a log met epochs servers (Entry m) k = k
 
 -- an idle actor has written no line of its next work
 between : (p : Plan) (log : List Line) (a : ℕ) (servers : List Serving) (x : Actor) → IsActing p log a servers x → x.work ≡ Idle → IsBetween a log x.met

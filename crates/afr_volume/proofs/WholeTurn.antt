@@ -10,7 +10,7 @@ use Rattle.afr_server.specs.Serving.{Serving}
 use Rattle.afr_servers.specs.declared.epochs.Epochs.{Epochs}
 use Rattle.afr_works.specs.Work.{IsBusy}
 use Rattle.afr_works.specs.declared.work.Work.{Work}
-use Rattle.afr_works.specs.declared.work.Work.TheVariants.{Idle, Lookup, Write}
+use Rattle.afr_works.specs.declared.work.Work.TheVariants.{Entry, Idle, Lookup, Write}
 use Rattle.afr_plan.specs.declared.plan.Plan.{Plan}
 use Rattle.afr_model.specs.Actors.{IsActor, is_done, works_of, script_of}
 use Rattle.afr_model.specs.Following.{NoneDue}
@@ -145,6 +145,7 @@ turned p a items added line waits answer own grown w some none = go waits w some
 with_command : (p : Plan) (a : ℕ) (log : List Line) (met : Bool) (epochs : Epochs) (servers : List Serving) (w : Work) → length (script_of p a) ≤ ended a log → Carries p a log met epochs servers w → work a log ≡ []
 with_command p a log met epochs servers Idle few k = k.none
 with_command p a log met epochs servers (Write m) few k = absurd (omega (arith, few, slice_get_within (script_of p a) (ended a log) k.command k.present))
+with_command p a log met epochs servers (Entry m) few k = absurd (omega (arith, few, slice_get_within (script_of p a) (ended a log) k.command k.present))
 with_command p a log met epochs servers (Lookup m) few k = absurd (omega (arith, few, slice_get_within (script_of p a) (ended a log) k.command k.present))
 
 some_actor : (actors : List Actor) (i : ℕ) → i < length actors → (x : Actor) × (slice_get actors i ≡ Some x)

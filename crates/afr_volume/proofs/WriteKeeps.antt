@@ -33,7 +33,7 @@ use Rattle.afr_transaction_tells.specs.Laws.{IsNextLine}
 use Rattle.afr_walk.specs.Free.{Allows}
 use Rattle.afr_works.specs.Work.{IsWork, heard_by, next_of, register_of}
 use Rattle.afr_works.specs.declared.work.Work.{Work}
-use Rattle.afr_works.specs.declared.work.Work.TheVariants.{Idle, Lookup, Write}
+use Rattle.afr_works.specs.declared.work.Work.TheVariants.{Entry, Idle, Lookup, Write}
 use Rattle.afr_works_tell.specs.WorkTelling.{WorkTells}
 use Rattle.afr_volume.specs.Acting.{IsBegun, IsEnded, MeetsNext}
 use Rattle.afr_volume.specs.Keeping.{Carries, CarriesOut, IsActing, IsInSession, IsNoted}
@@ -91,14 +91,15 @@ module _ (laws : Laws) (p : Plan) (a : ActorId) (log : List Line) (servers : Lis
     abbrev begin_line : Line
     begin_line = Begin a change
 
-    makes_nothing : (z : Work) → IsWork z → WorkTells p c.command z (work a.0 log) → next_of (length log) z ≡ next.Begin change → MakesNothing change
-    makes_nothing Idle sound tells e = absurd tells
-    makes_nothing (Lookup m) sound tells e = absurd (no_begin m change e)
-    makes_nothing (Write m) sound tells e = laws.telling.makes_nothing p c.command m (work a.0 log) (length log) change sound tells e
+    makes_new : (z : Work) → IsWork z → WorkTells p c.command z (work a.0 log) → next_of (length log) z ≡ next.Begin change → HasNewGfid (length log) change
+    makes_new Idle sound tells e = absurd tells
+    makes_new (Lookup m) sound tells e = absurd (no_begin m change e)
+    makes_new (Write m) sound tells e = new_gfid (length log) change (laws.telling.makes_nothing p c.command m (work a.0 log) (length log) change sound tells e)
+    makes_new (Entry m) sound tells e = laws.telling.makes_new m (length log) change sound e
 
     comes : ComesNext p a begin_line log (noted_begin (register_of x.work) (length log))
     comes = laws.next.begins p log a change (register_of x.work) before.runnable.few c.five (in_force laws p a log servers before x.met (register_of x.work) begin_line c.noted) (allows (next.Begin change) e) (subst InRange s.is_line s.fits)
-        (new_gfid (length log) change (makes_nothing x.work c.sound c.tells e))
+        (makes_new x.work c.sound c.tells e)
 
     begin_goes : GoOn p log a begin_line s.epochs servers new
     begin_goes = goes_on begin_line s.epochs (λ b. refl) (λ z. refl) s.met
@@ -131,6 +132,7 @@ module _ (laws : Laws) (p : Plan) (a : ActorId) (log : List Line) (servers : Lis
     as_carries Idle k = absurd k.tells
     as_carries (Lookup m) k = k
     as_carries (Write m) k = k
+    as_carries (Entry m) k = k
 
     pub begin_keeps : IsActing p log a.0 servers x → LineKeeps p a log written y servers new
     begin_keeps acting = subst (λ (l : Line). LineKeeps p a log l y servers new) (sym s.is_line) (record {

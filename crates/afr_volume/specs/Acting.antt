@@ -1,5 +1,5 @@
 -- One line of an actor: what its work would write next, what the bricks make of it, and what it makes of the answer.
-use Rattle.std.specs.Prelude.{◌≡◌, ℕ, ◌+◌, ◌-◌, ◌<◌, ◌^◌, Bool, true, false, List, length}
+use Rattle.std.specs.Prelude.{◌≡◌, ℕ, ◌+◌, ◌-◌, ◌<◌, ◌^◌, Bool, true, false, List, [], ◌∷◌, ◌++◌, length}
 use Rattle.afr_base.specs.declared.ids.ActorId.{ActorId}
 use Rattle.afr_base.specs.declared.ids.BrickId.{BrickId}
 use Rattle.afr_faults.specs.Planned.{next_fault}
@@ -25,6 +25,12 @@ use Rattle.afr_servers.specs.declared.epochs.Epochs.{Epochs}
 use Rattle.afr_works.specs.Work.{CarriesNext, heard_by, next_of}
 use Rattle.afr_works.specs.declared.work.Work.TheVariants.{Idle}
 use Rattle.afr_volume.specs.declared.actor.Actor.{Actor}
+
+-- a log, its oldest line first, has one line more, of which a fact holds
+pub record Adds (IsSo : Line → Type 0) (old new : List Line) : Type 0 where
+  pub line : Line
+  pub added : new ≡ old ++ line ∷ []
+  pub is_so : IsSo line
 
 -- whether a request of the actor has a live session: one that its work's first line met, or one that this line meets
 abbrev pub has_live : Bool → ActorId → Epochs → ℕ → Serving → Bool

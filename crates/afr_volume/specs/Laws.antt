@@ -5,6 +5,7 @@ use Rattle.afr_next.specs.Begun.{AllowedMayBegin}
 use Rattle.afr_next.specs.Ended.{AllowedMayEnd}
 use Rattle.afr_next.specs.Happened.{EventKeepsAll}
 use Rattle.afr_next.specs.Ready.{NextIsReady}
+use Rattle.afr_entry_hears.specs.EntryHears.{EntryBrings, EntryHears, EntryMakesNew}
 use Rattle.afr_hears.specs.Hears.{LookupBrings, LookupHears, WriteBrings, WriteHears, WriteMakesNothing}
 use Rattle.afr_servers.specs.Needs.{AnswersAreRead, NeedsAreMet}
 use Rattle.afr_servers.specs.NextLine.{AskedAreServed, EventAreServed, FirstAreServed, MetAreServed, WrittenAreServed}
@@ -47,6 +48,9 @@ pub record TellingLaws : Type 0 where
   pub lookup_brings : LookupBrings
   pub write_brings : WriteBrings
   pub makes_nothing : WriteMakesNothing
+  pub entry_hears : EntryHears
+  pub entry_brings : EntryBrings
+  pub makes_new : EntryMakesNew
 
 -- what the servers need and make of it
 pub record ServerLaws : Type 0 where

@@ -1,9 +1,9 @@
 //! An actor: the machine of its present command, the sessions that it works over, and how many commands it has ended.
-ghost use Rattle.std.specs.Prelude.{true, ◌≡◌, ◌<◌, ◌-◌, ◌^◌, ℕ, IfOk, OnErr};
+ghost use Rattle.std.specs.Prelude.{true, false, ◌≡◌, ◌<◌, ◌-◌, ◌^◌, ◌++◌, ◌∷◌, [], ℕ, IfOk, OnOk, OnErr, vec_len, vec_capacity};
 ghost use Rattle.afr_server.specs.Serving.{HasEpoch};
 ghost use Rattle.afr_servers.specs.Calls.{At};
 ghost use Rattle.afr_works.specs.Work.{IsBusy, next_of};
-ghost use Rattle.afr_volume.specs.Acting.{CanAsk, CanStep, IsAsked, IsBegun, IsEnded, IsServed, MeetsNext, Stepped};
+ghost use Rattle.afr_volume.specs.Acting.{Adds, CanAsk, CanStep, IsAsked, IsBegun, IsEnded, IsServed, MeetsNext, Stepped};
 
 use afr_base::{ActorId, BrickId, NoMemory};
 use afr_lines::{Line, Next, Reply, Request, told_of};
@@ -25,78 +25,117 @@ pub(crate) struct Actor {
     pub work: Work,
 }
 
-/// One line of an actor whose work has begun. Its memory is taken before anything changes.
+/// One line of an actor whose work has begun, at the end of a log that has room for it. Its memory is taken before anything
+/// changes. Whoever makes the line adds it: it is large, and is moved no further.
 pub(crate) fn step(
     actor: &mut Actor,
     a: ActorId,
     servers: &mut Servers,
     position: u32,
-) -> Result<Line, NoMemory>
+    log: &mut Vec<Line>,
+) -> Result<(), NoMemory>
     requires busy { IsBusy actor.old.work }
     requires room { actor.old.ended < 2 ^ 32 - 1 }
     requires can { CanStep a position actor.old servers.old }
-    ensures ok { IfOk result (λ line. Stepped a position actor.old actor.new servers.old servers.new line) }
-    ensures err { OnErr result ((actor.new ≡ actor.old) × (servers.new ≡ servers.old)) }
+    requires space { vec_len log.old < vec_capacity log.old }
+    ensures ok { OnOk result (Adds (λ line. Stepped a position actor.old actor.new servers.old servers.new line) log.old.items log.new.items) }
+    ensures err { OnErr result ((actor.new ≡ actor.old) × (servers.new ≡ servers.old) × (log.new.items ≡ log.old.items)) }
 {
     match actor.work.next(position)? {
-        Next::Ask(brick, request) => asks(actor, a, brick, request, servers, position),
-        Next::Begin(change) => Ok(begins(actor, a, change, servers, position)),
-        Next::End(reply) => Ok(ends(actor, a, reply, servers)),
+        Next::Ask(brick, request) => asks(actor, a, brick, &request, servers, position, log),
+        Next::Begin(change) => Ok(begins(actor, a, change, servers, position, log)),
+        Next::End(reply) => Ok(ends(actor, a, reply, servers, log)),
         _ => unreachable!(),
     }
 }
 
 /// The request, over the sessions that the work has met; its first line meets every brick.
 fn ask(
-    actor: &Actor,
+    actor: &mut Actor,
     a: ActorId,
     brick: BrickId,
     request: &Request,
     servers: &mut Servers,
-) -> Result<(Epochs, Asked), NoMemory>
+) -> Result<Asked, NoMemory>
     requires known { a.0 < 20 }
     requires room { (b : ℕ) → At b servers.old (HasEpoch a) }
-    requires can { CanAsk a actor.now brick request.now servers.old }
-    ensures ok { IfOk result (λ given. IsServed a actor.now brick request.now servers.old servers.new given.0 given.1) }
-    ensures err { OnErr result (servers.new ≡ servers.old) }
+    requires can { CanAsk a actor.old brick request.now servers.old }
+    ensures ok { IfOk result (λ given. IsServed a actor.old brick request.now servers.old servers.new actor.new.epochs given) }
+    ensures same { actor.new ≡ record actor.old { epochs = actor.new.epochs } }
+    ensures err { OnErr result ((actor.new ≡ actor.old) × (servers.new ≡ servers.old)) }
+{
+    if actor.met {
+        let load = actor.work.load();
+        servers.ask(a, &actor.epochs, brick, request, load)
+    } else {
+        ask_first(actor, a, brick, request, servers)
+    }
+}
+
+/// A request that meets every brick. It stands apart, so that only first lines pay for its frame.
+#[inline(never)]
+fn ask_first(
+    actor: &mut Actor,
+    a: ActorId,
+    brick: BrickId,
+    request: &Request,
+    servers: &mut Servers,
+) -> Result<Asked, NoMemory>
+    requires first { actor.old.met ≡ false }
+    requires known { a.0 < 20 }
+    requires room { (b : ℕ) → At b servers.old (HasEpoch a) }
+    requires can { CanAsk a actor.old brick request.now servers.old }
+    ensures ok { IfOk result (λ given. IsServed a actor.old brick request.now servers.old servers.new actor.new.epochs given) }
+    ensures same { actor.new ≡ record actor.old { epochs = actor.new.epochs } }
+    ensures err { OnErr result ((actor.new ≡ actor.old) × (servers.new ≡ servers.old)) }
 {
     let load = actor.work.load();
-    if actor.met {
-        let asked = servers.ask(a, &actor.epochs, brick, request, load)?;
-        Ok((actor.epochs, asked))
-    } else {
-        servers.ask_first(a, brick, request, load)
-    }
+    let (epochs, asked) = servers.ask_first(a, brick, request, load)?;
+    actor.epochs = epochs;
+    Ok(asked)
 }
 
 fn asks(
     actor: &mut Actor,
     a: ActorId,
     brick: BrickId,
-    request: Request,
+    request: &Request,
     servers: &mut Servers,
     position: u32,
-) -> Result<Line, NoMemory>
-    requires next { next_of position actor.old.work ≡ Next.Ask brick request }
+    log: &mut Vec<Line>,
+) -> Result<(), NoMemory>
+    requires next { next_of position actor.old.work ≡ Next.Ask brick request.now }
     requires can { CanStep a position actor.old servers.old }
-    ensures ok { IfOk result (λ line. IsAsked a position brick request actor.old actor.new servers.old servers.new line) }
-    ensures err { OnErr result ((actor.new ≡ actor.old) × (servers.new ≡ servers.old)) }
+    requires space { vec_len log.old < vec_capacity log.old }
+    ensures ok { OnOk result (Adds (λ line. IsAsked a position brick request.now actor.old actor.new servers.old servers.new line) log.old.items log.new.items) }
+    ensures err { OnErr result ((actor.new ≡ actor.old) × (servers.new ≡ servers.old) × (log.new.items ≡ log.old.items)) }
 {
-    request_fits_its_types(&request);
+    request_fits_its_types(request);
     a_work_stays_sound();
-    let (epochs, asked) = ask(actor, a, brick, &request, servers)?;
-    let took = asked.took;
-    let told = told_of(&asked.answer);
-    actor.work.hear(asked.answer, position);
-    actor.epochs = epochs;
-    actor.met = true;
-    Ok(Line::Ask {
+    let Asked { mut answer, took } = ask(actor, a, brick, request, servers)?;
+    let line = Line::Ask {
         actor: a,
         brick,
-        request,
-        told,
+        request: *request,
+        told: told_of(&answer),
         took,
-    })
+    };
+    add_line(log, line);
+    actor.work.hear(&mut answer, position);
+    actor.met = true;
+    Ok(())
+}
+
+/// Adds a line for which there is room.
+pub(crate) fn add_line(log: &mut Vec<Line>, line: Line)
+    requires { vec_len log.old < vec_capacity log.old }
+    ensures { log.new.items ≡ log.old.items ++ line ∷ [] }
+{
+    let _request = Request::Index; // a push of a value that holds such an enum is proved where the body names it
+    match log.push(line) {
+        Ok(()) => {}
+        Err(_) => unreachable!(),
+    }
 }
 
 /// A first line that is no request meets every brick, too.
@@ -119,25 +158,28 @@ fn begins(
     change: Change,
     servers: &mut Servers,
     position: u32,
-) -> Line
+    log: &mut Vec<Line>,
+)
     requires next { next_of position actor.old.work ≡ Next.Begin change }
     requires known { a.0 < 20 }
     requires room { (b : ℕ) → At b servers.old (HasEpoch a) }
-    ensures { IsBegun a position change actor.old actor.new servers.old servers.new result }
+    requires space { vec_len log.old < vec_capacity log.old }
+    ensures { Adds (λ line. IsBegun a position change actor.old actor.new servers.old servers.new line) log.old.items log.new.items }
 {
     meets(actor, a, servers);
     actor.work.begun(position);
     let line = Line::Begin { actor: a, change };
     fits_its_types(&line);
-    line
+    add_line(log, line);
 }
 
 #[inline(never)]
-fn ends(actor: &mut Actor, a: ActorId, reply: Reply, servers: &mut Servers) -> Line
+fn ends(actor: &mut Actor, a: ActorId, reply: Reply, servers: &mut Servers, log: &mut Vec<Line>)
     requires room { actor.old.ended < 2 ^ 32 - 1 }
     requires known { a.0 < 20 }
     requires epochs { (b : ℕ) → At b servers.old (HasEpoch a) }
-    ensures { IsEnded a reply actor.old actor.new servers.old servers.new result }
+    requires space { vec_len log.old < vec_capacity log.old }
+    ensures { Adds (λ line. IsEnded a reply actor.old actor.new servers.old servers.new line) log.old.items log.new.items }
 {
     meets(actor, a, servers);
     actor.ended += 1;
@@ -145,5 +187,5 @@ fn ends(actor: &mut Actor, a: ActorId, reply: Reply, servers: &mut Servers) -> L
     actor.work = Work::Idle;
     let line = Line::End { actor: a, reply };
     fits_its_types(&line);
-    line
+    add_line(log, line);
 }

@@ -3,6 +3,7 @@ ghost use Rattle.afr_servers.specs.Needs.{StartedAreKnown};
 ghost use Rattle.afr_servers.specs.NextLine.{NewAreServed};
 ghost use Rattle.afr_volume.specs.Laws.{BeginLaws, EventLaws, Laws};
 
+use afr_entry_hears::a_client_hears_of_its_names;
 use afr_hears::a_client_hears_what_it_asked;
 use afr_next::the_next_line_is_lawful;
 use afr_servers::servers_follow_their_log;
@@ -24,5 +25,6 @@ pub(crate) fn laws()
     a_work_keeps_five_places();
     a_work_tells_its_lines();
     a_client_hears_what_it_asked();
+    a_client_hears_of_its_names();
     servers_follow_their_log();
 }

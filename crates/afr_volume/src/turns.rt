@@ -3,7 +3,7 @@ ghost use Rattle.std.specs.Prelude.{◌≡◌, ◌-◌, ◌<◌, ◌≤◌, ◌+
 ghost use Rattle.afr_plan.specs.declared.command.Command.{Command};
 ghost use Rattle.afr_model.specs.Actors.{script_of};
 ghost use Rattle.afr_volume.specs.declared.actor.Actor.{Actor};
-ghost use Rattle.afr_volume.specs.Acting.{CanStep};
+ghost use Rattle.afr_volume.specs.Acting.{Adds, CanStep};
 ghost use Rattle.afr_volume.specs.Turning.{HasVictim, KillsIn, ReadiedAt, StepsAt, waits_for};
 ghost use Rattle.afr_works.specs.Begin.{has_machine, work_from};
 ghost use Rattle.afr_works.specs.Work.{IsBusy, IsWork};
@@ -71,15 +71,17 @@ pub(crate) fn step_actor(
     actors: &mut Vec<Actor>,
     servers: &mut Servers,
     position: u32,
-) -> Result<Line, NoMemory>
+    log: &mut Vec<Line>,
+) -> Result<(), NoMemory>
     requires one { 1 ≤ a.0 }
     requires within { a.0 - 1 < length actors.old.items }
     requires busy { (x : Actor) → slice_get actors.old.items (a.0 - 1) ≡ Some x → IsBusy x.work × (x.ended < 2 ^ 32 - 1) }
     requires can { (x : Actor) → slice_get actors.old.items (a.0 - 1) ≡ Some x → CanStep a position x servers.old }
-    ensures ok { IfOk result (λ line. StepsAt a position actors.old.items actors.new.items servers.old servers.new line) }
-    ensures err { OnErr result ((actors.new.items ≡ actors.old.items) × (servers.new ≡ servers.old)) }
+    requires space { vec_len log.old < vec_capacity log.old }
+    ensures ok { OnOk result (Adds (λ line. StepsAt a position actors.old.items actors.new.items servers.old servers.new line) log.old.items log.new.items) }
+    ensures err { OnErr result ((actors.new.items ≡ actors.old.items) × (servers.new ≡ servers.old) × (log.new.items ≡ log.old.items)) }
 {
-    step(&mut actors[a.0 as usize - 1], a, servers, position)
+    step(&mut actors[a.0 as usize - 1], a, servers, position, log)
 }
 
 /// The actor that an event kills is dead from then on.
@@ -106,18 +108,6 @@ pub(crate) fn turned_by(line: &Line) -> Option<ActorId>
             ..
         } => Some(*owner),
         _ => None,
-    }
-}
-
-/// Adds a line for which there is room.
-pub(crate) fn add_line(log: &mut Vec<Line>, line: Line)
-    requires { vec_len log.old < vec_capacity log.old }
-    ensures { log.new.items ≡ log.old.items ++ line ∷ [] }
-{
-    let _request = Request::Index; // a push of a value that holds such an enum is proved where the body names it
-    match log.push(line) {
-        Ok(()) => {}
-        Err(_) => unreachable!(),
     }
 }
 

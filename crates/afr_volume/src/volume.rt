@@ -6,7 +6,7 @@ ghost use Rattle.afr_law.specs.ModelAlike.{AreAlike};
 ghost use Rattle.afr_law.specs.ModelCauses.{HaveCauses};
 ghost use Rattle.afr_lines.specs.Log.{EveryPrefix, from_oldest};
 ghost use Rattle.afr_lines.specs.Work.{is_killed, work};
-ghost use Rattle.afr_plan.specs.Runnable.{IsRunnable};
+ghost use Rattle.afr_runnable.specs.Runnable.{IsRunnable};
 ghost use Rattle.afr_plan.specs.declared.schedule.Go.{Go};
 ghost use Rattle.afr_model.specs.Actors.{IsActor, is_done};
 ghost use Rattle.afr_model.specs.Blamed.{AreBlamed};
@@ -21,11 +21,11 @@ ghost use Rattle.afr_model.specs.Tables.{holds, keeps_bytes};
 ghost use Rattle.afr_server.specs.Serving.{Serving};
 ghost use Rattle.afr_volume.specs.Turning.{Comes, Turns, due_of, if_due};
 
-use crate::actor::Actor;
+use crate::actor::{Actor, add_line};
 use crate::laws::laws;
 use crate::set_up::all_actors;
 use crate::turned::Turned;
-use crate::turns::{add_line, answer_of, kill, ready_actor, step_actor, turned_by};
+use crate::turns::{answer_of, kill, ready_actor, step_actor, turned_by};
 use afr_base::{ActorId, BrickSet, NoMemory, Shape};
 use afr_law::{
     accusations_have_causes, lawful_is_safe, lawful_lines_fit, nothing_diverges_unrecorded,
@@ -138,9 +138,14 @@ impl Volume {
         self.log.try_reserve(1)?;
         ready_actor(self.alloc, &self.plan, a, &mut self.actors)?;
         let position = self.log.len() as u32;
-        let line = step_actor(a, &mut self.actors, &mut self.servers, position)?;
-        let waits = turned_by(&line);
-        add_line(&mut self.log, line);
+        step_actor(
+            a,
+            &mut self.actors,
+            &mut self.servers,
+            position,
+            &mut self.log,
+        )?;
+        let waits = turned_by(&self.log[position as usize]);
         Ok(answer_of(waits))
     }
 

@@ -3,8 +3,8 @@ ghost use Rattle.std.specs.Prelude.{◌<◌};
 
 use afr_base::ActorId;
 use afr_lines::{Line, Request};
-use afr_plan::is_runnable_yet;
 use afr_plan_read::read_plan;
+use afr_runnable::is_runnable_yet;
 use afr_volume::{Turned, Volume};
 use std::alloc::Global;
 use std::test::Fail;

@@ -9,4 +9,4 @@ mod walk;
 pub use looks::Looks;
 pub use stop::{Stop, stop_reply};
 pub use verdicts::choose;
-pub use walk::{Walk, WalkStep};
+pub use walk::{Walk, WalkStep, names_of};

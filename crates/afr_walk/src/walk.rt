@@ -51,22 +51,28 @@ impl Walk {
         ensures ok { IfOk result (λ walk. walk ≡ walk_from shape path.now) }
         ensures kept { IfOk result (λ walk. IsWalk walk) }
     {
-        let mut names = List::new(alloc);
-        for name in path {
-            names.push(*name)?;
-        }
+        Ok(Walk::along(shape, names_of(alloc, path)?))
+    }
+
+    /// The same for names that are there, which takes no memory.
+    pub fn along(shape: Shape, names: List<NameId>) -> Walk
+        requires few { shape.n ≤ 5 }
+        requires some { 0 < shape.n }
+        ensures value { result ≡ walk_from shape names }
+        ensures kept { IsWalk result }
+    {
         let root = Entry {
             gfid: Gfid(1),
             what: What::Dir,
         };
-        Ok(Walk {
+        Walk {
             shape,
             step: step_from(names.len(), 0, root),
             path: names,
             read: 0,
             object: root,
             register: fresh(shape),
-        })
+        }
     }
 
     /// What is asked next, while the walk goes on.
@@ -159,6 +165,17 @@ impl Walk {
             _ => self.step = WalkStep::Stopped(Stop::Failed),
         }
     }
+}
+
+/// The names of a path, for a walk of its own.
+pub fn names_of(alloc: Global, path: &[NameId]) -> Result<List<NameId>, NoMemory>
+    ensures { IfOk result (λ names. names ≡ path.now) }
+{
+    let mut names = List::new(alloc);
+    for name in path {
+        names.push(*name)?;
+    }
+    Ok(names)
 }
 
 fn note_free(

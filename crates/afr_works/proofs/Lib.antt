@@ -1,2 +1,3 @@
 pub mod FiveLemmas
+pub mod PathLemmas
 pub mod WorkLemmas

@@ -1,6 +1,7 @@
 -- A work has somebody left to ask, the discipline allows what it asks, and its register notes it.
 use Rattle.std.proofs.Common.{◌≡◌, ℕ, ◌<◌, ◌≤◌, ◌==◌, nat_lt, not, Bool, true, false, List, length, refl, ap, subst, arith, inl, inr, if◌then◌else◌}
 use Rattle.std.proofs.lemmas.Bool.Decides.{nat_tests}
+use Rattle.std.specs.Borrow.{Bor}
 use Rattle.afr_base.specs.Bricks.{is_nothing}
 use Rattle.afr_base.specs.declared.ids.BrickId.{BrickId}
 use Rattle.afr_base.specs.declared.ids.NameId.{NameId}
@@ -17,39 +18,53 @@ use Rattle.afr_plan.specs.declared.command.Command.TheVariants as command
 use Rattle.afr_moves.specs.Keeps.{keeps_in}
 use Rattle.afr_discipline.specs.Notes.{noted_ask}
 use Rattle.afr_discipline.specs.Stands.{no_lines, seen_as}
-use Rattle.afr_discipline.specs.Tests.{may_ask_outside}
+use Rattle.afr_discipline.specs.Inside.{may_move_inside}
+use Rattle.afr_discipline.specs.Tests.{may_ask_outside, may_move_outside}
+use Rattle.afr_discipline.specs.declared.register.Move.TheVariants as move
 use Rattle.afr_discipline.specs.declared.register.Register.{Register}
-use Rattle.afr_walk.specs.Free.{IsFree}
+use Rattle.afr_walk.specs.Free.{Allows, IsFree}
 use Rattle.afr_walk.specs.Looks.{no_look}
-use Rattle.afr_walk.specs.Walk.{IsWalk, next_in, root_entry, walk_from}
+use Rattle.afr_walk.specs.Walk.{IsWalk, root_entry, walk_from}
 use Rattle.afr_walk.specs.declared.walk.Walk.{Walk}
 use Rattle.afr_walk.specs.declared.walk.WalkStep.TheVariants as walking
 use Rattle.afr_walk.proofs.FreeLemmas.{allows_end, shape_is}
-use Rattle.afr_walk.proofs.WalkLemmas.{asks_free}
 use Rattle.afr_transaction.specs.Outcome.{reply_of}
 use Rattle.afr_transaction.specs.Progress as progress
 use Rattle.afr_transaction.specs.Progress.{Progress, asks}
-use Rattle.afr_transaction.specs.Sound.{Sound}
 use Rattle.afr_transaction.specs.declared.stage.Stage.{Stage}
 use Rattle.afr_transaction.specs.declared.stage.Stage.TheVariants.{Closing}
-use Rattle.afr_transaction.proofs.Allowed.{allowed_next as transaction_allowed}
 use Rattle.afr_transaction.proofs.Parts.{both}
+use Rattle.afr_removal.specs.Removal as removal
+use Rattle.afr_removal.specs.Removal.{Removing}
+use Rattle.afr_removal.specs.declared.stage.RemovalStage.{RemovalStage}
+use Rattle.afr_removal.specs.declared.stage.RemovalStage.TheVariants as removing
+use Rattle.afr_entry.specs.Entry as entry
+use Rattle.afr_entry.specs.Entry.{IsEntry, next_under, reader, reads_name}
+use Rattle.afr_entry.specs.Job.{reply_to}
+use Rattle.afr_entry.specs.declared.job.EntryJob.{EntryJob}
+use Rattle.afr_entry.specs.declared.job.EntryJob.TheVariants as name
+use Rattle.afr_entry.specs.declared.stage.EntryStage.{EntryStage}
+use Rattle.afr_entry.specs.declared.stage.EntryStage.TheVariants as entering
+use Rattle.afr_entry.specs.declared.stage.Found.{Found}
+use Rattle.afr_entry.specs.declared.stage.Found.TheVariants as found
+use Rattle.afr_entry.proofs.EntryLemmas as entry_lemmas
 use Rattle.afr_inode_read.specs.Lookup as lookup
-use Rattle.afr_inode_read.specs.Lookup.{Lookup as LookupValue, IsLookup, asked_at}
+use Rattle.afr_inode_read.specs.Lookup.{Lookup as LookupValue, asked_at}
 use Rattle.afr_inode_read.specs.declared.stage.LookupStage.{LookupStage}
 use Rattle.afr_inode_read.specs.declared.stage.LookupStage.TheVariants as reading
 use Rattle.afr_inode_read.proofs.LookupLemmas as read
 use Rattle.afr_inode_write.specs.Job.{is_too_large}
 use Rattle.afr_inode_write.specs.Write as write
-use Rattle.afr_inode_write.specs.Write.{Write as WriteValue, IsStage, IsWrite, after_step, after_walk, first_stage, register_at}
+use Rattle.afr_inode_write.specs.Write.{IsWrite, after_step, after_walk, register_at}
 use Rattle.afr_inode_write.specs.declared.job.WriteJob.{WriteJob}
 use Rattle.afr_inode_write.specs.declared.job.WriteJob.TheVariants as job
 use Rattle.afr_inode_write.specs.declared.stage.WriteStage.{WriteStage}
 use Rattle.afr_inode_write.specs.declared.stage.WriteStage.TheVariants as writing
 use Rattle.afr_inode_write.proofs.WriteLemmas as write_lemmas
 use Rattle.afr_works.specs.Laws.{AllowedNext, AsksLow, AsksMore, BeginsFresh, BeginsMore, HasFew, NotesBegin, NotesEach, StaysOutside, StaysSound}
-use Rattle.afr_works.specs.Work.{idle_register}
-use Rattle.afr_works.specs.declared.work.Work.TheVariants.{Idle, Lookup, Write}
+use Rattle.afr_works.specs.Begin.{front, last}
+use Rattle.afr_works.specs.Work.{idle_register, register_of}
+use Rattle.afr_works.specs.declared.work.Work.TheVariants.{Idle, Lookup, Write, Entry}
 
 -- ---- the first register
 after_first : (b : Bool) (j : WriteJob) (w : Walk) → register_at (after_step (if b then walking.Arrived else walking.Looking no_look) j (record w { object = root_entry })) w ≡ w.register
@@ -68,6 +83,13 @@ first_register shape path j = go (is_too_large j)
     go true = refl
     go false = after_first (0 == length path) j w
 
+first_entry : (b : Bool) (j : EntryJob) (w : Walk) → entry.register_at (entry.after_step (if b then walking.Arrived else walking.Looking no_look) j (record w { object = root_entry })) w ≡ w.register
+first_entry true j w = refl
+first_entry false j w = refl
+
+entry_register : (shape : Shape) (path : List NameId) (j : EntryJob) → entry.register_of (entry.entry_from shape path j) ≡ no_lines shape
+entry_register shape path j = first_entry (0 == length path) j (walk_from shape path)
+
 -- a work that begins has the register of no lines
 pub begins_fresh : BeginsFresh
 begins_fresh shape (command.Write path at bytes) h = first_register shape path (job.Write at bytes)
@@ -77,7 +99,10 @@ begins_fresh shape (command.Read path at len) h = refl
 begins_fresh shape (command.GetAttr path key) h = refl
 begins_fresh shape (command.Ls path) h = refl
 begins_fresh shape (command.Stat path) h = refl
-begins_fresh shape other h = absurd (cc h)
+begins_fresh shape (command.Create path) h = entry_register shape (front path) (name.Create (last path))
+begins_fresh shape (command.Mkdir path) h = entry_register shape (front path) (name.Mkdir (last path))
+begins_fresh shape (command.Unlink path) h = entry_register shape (front path) (name.Unlink (last path))
+begins_fresh shape (command.Rmdir path) h = entry_register shape (front path) (name.Rmdir (last path))
 
 -- ---- what is asked
 -- whatever the bricks have answered so far, the next line is allowed
@@ -85,6 +110,7 @@ pub allowed_next : AllowedNext
 allowed_next Idle k at = allows_end (record { n = 1; arbiter = false }) idle_register reply.Failed (inl refl)
 allowed_next (Lookup m) k at = read.allowed_next m k
 allowed_next (Write m) k at = write_lemmas.allowed_next m k at
+allowed_next (Entry m) k at = entry_lemmas.allowed_next m k at
 
 -- what holds of one request holds of the same request
 pub ask_same : (P : BrickId → Request → Type 0) (b c : BrickId) (r q : Request) → next.Ask b r ≡ next.Ask c q → P b r → P c q
@@ -140,17 +166,78 @@ write_begins (writing.Walking j) w at change e = refl
 write_begins (writing.Changing t) w at change e = transaction_begins t.stage t at change e
 write_begins (writing.Ending said) w at change e = absurd (cc e)
 
+-- a command on a name, whose transaction is to begin its attempt, has more left
+beginning_more : (stage : Stage) (t : Progress) → progress.is_beginning stage ≡ true → progress.is_over stage t ≡ false
+beginning_more Closing t e = absurd (cc e)
+beginning_more stage t e = refl
+
+under_asks : (of : Found) (j : EntryJob) (w : Walk) (t : Progress) (at : ℕ) (b : BrickId) (request : Request) → next_under of at j w t ≡ next.Ask b request → progress.is_over t.stage t ≡ false
+under_asks found.Unread j w t at b request e = go (progress.is_beginning t.stage) refl e
+  where
+    go : (begins : Bool) → progress.is_beginning t.stage ≡ begins → (if begins then next.Ask (reader t.register) (reads_name j w) else progress.next_at t.stage at t) ≡ next.Ask b request → progress.is_over t.stage t ≡ false
+    go true f e = beginning_more t.stage t f
+    go false f e = transaction_asks t.stage t at b request e
+under_asks found.Fits j w t at b request e = transaction_asks t.stage t at b request e
+under_asks (found.Refused why) j w t at b request e = go (progress.is_over t.stage t) e
+  where
+    go : (over : Bool) → (if over then next.End (reply_to why) else progress.next_at t.stage at t) ≡ next.Ask b request → over ≡ false
+    go true e = absurd (cc e)
+    go false e = refl
+
+under_begins : (of : Found) (j : EntryJob) (w : Walk) (t : Progress) (at : ℕ) (change : Change) → next_under of at j w t ≡ next.Begin change → progress.is_over t.stage t ≡ false
+under_begins found.Unread j w t at change e = go (progress.is_beginning t.stage) e
+  where
+    go : (begins : Bool) → (if begins then next.Ask (reader t.register) (reads_name j w) else progress.next_at t.stage at t) ≡ next.Begin change → progress.is_over t.stage t ≡ false
+    go true e = absurd (cc e)
+    go false e = transaction_begins t.stage t at change e
+under_begins found.Fits j w t at change e = transaction_begins t.stage t at change e
+under_begins (found.Refused why) j w t at change e = go (progress.is_over t.stage t) e
+  where
+    go : (over : Bool) → (if over then next.End (reply_to why) else progress.next_at t.stage at t) ≡ next.Begin change → over ≡ false
+    go true e = absurd (cc e)
+    go false e = refl
+
+removal_asks : (stage : RemovalStage) (m : Removing) (b : BrickId) (request : Request) → removal.next_at stage m ≡ next.Ask b request → removal.is_over stage m ≡ false
+removal_asks (removing.Closing why) m b request e = go (is_nothing (removal.left (removing.Closing why) m)) e
+  where
+    go : (none : Bool) → (if none then next.End (removal.reply_of why m.register) else removal.asks (removing.Closing why) m) ≡ next.Ask b request → none ≡ false
+    go true e = absurd (cc e)
+    go false e = refl
+removal_asks stage m b request e = refl
+
+removal_begins : (stage : RemovalStage) (m : Removing) (change : Change) → removal.next_at stage m ≡ next.Begin change → removal.is_over stage m ≡ false
+removal_begins (removing.Closing why) m change e = go (is_nothing (removal.left (removing.Closing why) m)) e
+  where
+    go : (none : Bool) → (if none then next.End (removal.reply_of why m.register) else removal.asks (removing.Closing why) m) ≡ next.Begin change → none ≡ false
+    go true e = absurd (cc e)
+    go false e = refl
+removal_begins stage m change e = refl
+
+entry_asks : (stage : EntryStage) (j : EntryJob) (w : Walk) (at : ℕ) (b : BrickId) (request : Request) → entry.next_at at stage j w ≡ next.Ask b request → entry.is_over stage ≡ false
+entry_asks entering.Walking j w at b request e = refl
+entry_asks (entering.Changing t of) j w at b request e = under_asks of j w t at b request e
+entry_asks (entering.Removes m) j w at b request e = removal_asks m.stage m b request e
+entry_asks (entering.Ending said) j w at b request e = absurd (cc e)
+
+entry_begins : (stage : EntryStage) (j : EntryJob) (w : Walk) (at : ℕ) (change : Change) → entry.next_at at stage j w ≡ next.Begin change → entry.is_over stage ≡ false
+entry_begins entering.Walking j w at change e = refl
+entry_begins (entering.Changing t of) j w at change e = under_begins of j w t at change e
+entry_begins (entering.Removes m) j w at change e = removal_begins m.stage m change e
+entry_begins (entering.Ending said) j w at change e = absurd (cc e)
+
 -- where the next line is a request, more is left than the end
 pub asks_more : AsksMore
 asks_more Idle at b request e = absurd (cc e)
 asks_more (Lookup m) at b request e = ap not (asking_at m.stage m.walk b request e).0
 asks_more (Write m) at b request e = write_asks m.stage m.walk at b request e
+asks_more (Entry m) at b request e = entry_asks m.stage m.job m.walk at b request e
 
 -- and where it is a Begin line
 pub begins_more : BeginsMore
 begins_more Idle at change e = absurd (cc e)
 begins_more (Lookup m) at change e = absurd (never_begins m.stage m.walk change e)
 begins_more (Write m) at change e = write_begins m.stage m.walk at change e
+begins_more (Entry m) at change e = entry_begins m.stage m.job m.walk at change e
 
 -- ---- what is heard
 asking : (b : Bool) → not b ≡ false → b ≡ true
@@ -163,6 +250,7 @@ stays_sound Idle k more of = tt
 stays_sound (Lookup m) k more (heard.Answer a at) = read.stays_sound m k (asking (lookup.is_asking m.stage) more) a at
 stays_sound (Lookup m) k more (heard.Begun at) = k
 stays_sound (Write m) k more of = write_lemmas.stays_sound m k more of
+stays_sound (Entry m) k more of = entry_lemmas.stays_sound m k more of
 
 -- ---- the register
 read_notes : (m : LookupValue) (at : ℕ) (b : BrickId) (request : Request) → lookup.next_of m ≡ next.Ask b request → (a : Answer) → (lookup.answered a at m).walk.register ≡ noted_ask m.walk.register at b.0 request (told_by a)
@@ -176,12 +264,14 @@ pub notes_each : NotesEach
 notes_each Idle at b request e a = absurd (cc e)
 notes_each (Lookup m) at b request e a = read_notes m at b request e a
 notes_each (Write m) at b request e a = write_lemmas.notes_each m at b request e a
+notes_each (Entry m) at b request e a = entry_lemmas.notes_each m at b request e a
 
 -- and the number of each attempt
 pub notes_begin : NotesBegin
 notes_begin Idle at change e = absurd (cc e)
 notes_begin (Lookup m) at change e = absurd (never_begins m.stage m.walk change e)
 notes_begin (Write m) at change e = write_lemmas.notes_begin m at change e
+notes_begin (Entry m) at change e = entry_lemmas.notes_begin m at change e
 
 -- ---- few bricks, and no heal
 walk_few : (w : Walk) → IsWalk w → w.register.shape.n ≤ 5
@@ -192,11 +282,18 @@ write_few (writing.Walking j) w k = walk_few w k.sound
 write_few (writing.Changing t) w k = k.ready.0.base.few
 write_few (writing.Ending said) w k = walk_few w k.sound
 
+entry_few : (stage : EntryStage) (j : EntryJob) (w : Walk) → IsEntry w j stage → (entry.register_at stage w).shape.n ≤ 5
+entry_few entering.Walking j w k = walk_few w k.sound
+entry_few (entering.Changing t of) j w k = k.ready.sound.base.few
+entry_few (entering.Removes m) j w k = k.ready.sound.base.few
+entry_few (entering.Ending said) j w k = walk_few w k.sound
+
 -- the volume has five bricks at most
 pub has_few : HasFew
 has_few Idle k = omega arith
 has_few (Lookup m) k = walk_few m.walk k.sound
 has_few (Write m) k = write_few m.stage m.walk k
+has_few (Entry m) k = entry_few m.stage m.job m.walk k
 
 free_outside : (shape : Shape) (r : Register) → IsFree shape r → r.inside ≡ false
 free_outside shape r (inl e) = ap (λ (x : Register). x.inside) e
@@ -207,11 +304,18 @@ write_outside (writing.Walking j) w k = free_outside w.shape w.register k.sound.
 write_outside (writing.Changing t) w k = k.ready.0.base.outside
 write_outside (writing.Ending said) w k = free_outside w.shape w.register k.sound.free
 
+entry_outside : (stage : EntryStage) (j : EntryJob) (w : Walk) → IsEntry w j stage → (entry.register_at stage w).inside ≡ false
+entry_outside entering.Walking j w k = free_outside w.shape w.register k.sound.free
+entry_outside (entering.Changing t of) j w k = k.ready.sound.base.outside
+entry_outside (entering.Removes m) j w k = k.ready.sound.base.outside
+entry_outside (entering.Ending said) j w k = free_outside w.shape w.register k.sound.free
+
 -- a client's work is no heal
 pub stays_outside : StaysOutside
 stays_outside Idle k = refl
 stays_outside (Lookup m) k = free_outside m.walk.shape m.walk.register k.sound.free
 stays_outside (Write m) k = write_outside m.stage m.walk k
+stays_outside (Entry m) k = entry_outside m.stage m.job m.walk k
 
 -- ---- who is asked
 below_five : (b n : ℕ) → b < n → n ≤ 5 → b < 5
@@ -220,26 +324,22 @@ below_five b n l few = omega (arith, l, few)
 tested_below : (b n : ℕ) → nat_lt b n ≡ true → b < n
 tested_below b n h = grind (arith, nat_tests, h)
 
-read_low : (m : LookupValue) → IsLookup m.walk m.stage → (b : BrickId) (request : Request) → lookup.next_of m ≡ next.Ask b request → b.0 < 5
-read_low m k b request e =
-    let asks_it = asking_at m.stage m.walk b request e in
-    ask_same (λ (x : BrickId) (q : Request). x.0 < 5) (asked_at m.stage m.walk).0 b (asked_at m.stage m.walk).1 request asks_it.1
-    (below_five (asked_at m.stage m.walk).0.0 m.walk.shape.n (read.asks_free_at m.stage m.walk k asks_it.0).1 k.sound.few)
+-- what the discipline lets ask outside a heal is asked of a brick of the volume
+allows_low : (r : Register) → r.inside ≡ false → r.shape.n ≤ 5 → (b : BrickId) (request : Request) → Allows r (next.Ask b request) → b.0 < 5
+allows_low r outside few b request allows = below_five b.0 r.shape.n (tested_below b.0 r.shape.n low.0) few
+  where
+    of : Bor Request
+    of = record { ref_ptr = (0, 0); now = request }
 
-transaction_low : (t : Progress) → Sound t → (at : ℕ) (b : BrickId) (request : Request) → progress.next_at t.stage at t ≡ next.Ask b request → b.0 < 5
-transaction_low t k at b request e =
-    let allows : progress.allowed t.register (next.Ask b request) ≡ true = subst (λ (line : Next). progress.allowed t.register line ≡ true) e (transaction_allowed t k at) in
-    let low = both (nat_lt b.0 t.register.shape.n) (may_ask_outside t.register.shape.n (keeps_in t.register.shape) (seen_as t.register) b.0 request) allows in
-    below_five b.0 t.register.shape.n (tested_below b.0 t.register.shape.n low.0) k.base.few
+    goes_out : (inside p q : Bool) → inside ≡ false → (if inside then p else q) ≡ true → q ≡ true
+    goes_out true p q e h = absurd (cc e)
+    goes_out false p q e h = h
 
-write_low : (stage : WriteStage) (w : Walk) → IsWrite w stage → (at : ℕ) (b : BrickId) (request : Request) → write.next_at at stage w ≡ next.Ask b request → b.0 < 5
-write_low (writing.Walking j) w k at b request e =
-    ask_same (λ (x : BrickId) (q : Request). x.0 < 5) (next_in w).0 b (next_in w).1 request e (below_five (next_in w).0.0 w.shape.n (asks_free w k.sound k.ready.0).1 k.sound.few)
-write_low (writing.Changing t) w k at b request e = transaction_low t k.ready.0 at b request e
-write_low (writing.Ending said) w k at b request e = absurd (cc e)
+    low : (nat_lt b.0 r.shape.n ≡ true) × (may_ask_outside r.shape.n (keeps_in r.shape) (seen_as r) b.0 request ≡ true)
+    low =
+        both (nat_lt b.0 r.shape.n) (may_ask_outside r.shape.n (keeps_in r.shape) (seen_as r) b.0 request)
+        (goes_out r.inside (may_move_inside r.shape.n (keeps_in r.shape) (seen_as r) (move.Ask b of)) (may_move_outside r.shape.n (keeps_in r.shape) (seen_as r) (move.Ask b of)) outside (allows (move.Ask b of) (refl, refl)))
 
 -- a request goes to one of the five bricks
 pub asks_low : AsksLow
-asks_low Idle k at b request e = absurd (cc e)
-asks_low (Lookup m) k at b request e = read_low m k b request e
-asks_low (Write m) k at b request e = write_low m.stage m.walk k at b request e
+asks_low w k at b request e = allows_low (register_of w) (stays_outside w k) (has_few w k) b request (subst (λ (line : Next). Allows (register_of w) line) e (allowed_next w k at))

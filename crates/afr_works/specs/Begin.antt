@@ -1,21 +1,44 @@
 -- The work that a command begins.
-use Rattle.std.specs.Prelude.{Bool, true, false}
+use Rattle.std.specs.Prelude.{◌-◌, nat_lt, Bool, true, false, List, length, take, slice_index_or}
+use Rattle.afr_base.specs.declared.ids.NameId.{NameId}
 use Rattle.afr_base.specs.declared.ids.Shape.{Shape}
 use Rattle.afr_plan.specs.declared.command.Command.{Command}
 use Rattle.afr_plan.specs.declared.command.Command.TheVariants as command
+use Rattle.afr_entry.specs.Entry.{entry_from}
+use Rattle.afr_entry.specs.declared.job.EntryJob.TheVariants as name
 use Rattle.afr_inode_read.specs.Lookup.{lookup_from}
 use Rattle.afr_inode_read.specs.declared.job.LookupJob.TheVariants.{Read, GetAttr, Ls, Stat}
 use Rattle.afr_inode_write.specs.Write.{write_from}
 use Rattle.afr_inode_write.specs.declared.job.WriteJob.TheVariants as job
 use Rattle.afr_works.specs.declared.work.Work.{Work}
-use Rattle.afr_works.specs.declared.work.Work.TheVariants.{Idle, Lookup, Write}
+use Rattle.afr_works.specs.declared.work.Work.TheVariants.{Lookup, Write, Entry}
 
--- a machine carries out each command but those on the last name of a path
+-- a path has a name
+abbrev pub has_name : List NameId → Bool
+has_name path = nat_lt 0 (length path)
+
+-- the names before its last one
+abbrev pub front : List NameId → List NameId
+front path = take (length path - 1) path
+
+-- its last name
+abbrev pub last : List NameId → NameId
+last path = slice_index_or path (length path - 1) (record { 0 = 0 })
+
+-- a command on the last name of its path
+abbrev pub is_on_name : Command → Bool
+is_on_name (command.Create path) = true
+is_on_name (command.Mkdir path) = true
+is_on_name (command.Unlink path) = true
+is_on_name (command.Rmdir path) = true
+is_on_name other = false
+
+-- a machine carries out each command; one on the last name of a path needs that name
 abbrev pub has_machine : Command → Bool
-has_machine (command.Create path) = false
-has_machine (command.Mkdir path) = false
-has_machine (command.Unlink path) = false
-has_machine (command.Rmdir path) = false
+has_machine (command.Create path) = has_name path
+has_machine (command.Mkdir path) = has_name path
+has_machine (command.Unlink path) = has_name path
+has_machine (command.Rmdir path) = has_name path
 has_machine other = true
 
 -- the work of a command that begins
@@ -27,4 +50,7 @@ work_from shape (command.Read path at len) = Lookup (lookup_from shape path (Rea
 work_from shape (command.GetAttr path key) = Lookup (lookup_from shape path (GetAttr key))
 work_from shape (command.Ls path) = Lookup (lookup_from shape path Ls)
 work_from shape (command.Stat path) = Lookup (lookup_from shape path Stat)
-work_from shape other = Idle
+work_from shape (command.Create path) = Entry (entry_from shape (front path) (name.Create (last path)))
+work_from shape (command.Mkdir path) = Entry (entry_from shape (front path) (name.Mkdir (last path)))
+work_from shape (command.Unlink path) = Entry (entry_from shape (front path) (name.Unlink (last path)))
+work_from shape (command.Rmdir path) = Entry (entry_from shape (front path) (name.Rmdir (last path)))

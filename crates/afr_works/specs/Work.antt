@@ -8,10 +8,11 @@ use Rattle.afr_lines.specs.declared.line.Next.TheVariants as next
 use Rattle.afr_lines.specs.declared.reply.Reply.TheVariants.{Failed}
 use Rattle.afr_discipline.specs.Stands.{no_lines}
 use Rattle.afr_discipline.specs.declared.register.Register.{Register}
+use Rattle.afr_entry.specs.Entry as entry
 use Rattle.afr_inode_read.specs.Lookup as lookup
 use Rattle.afr_inode_write.specs.Write as write
 use Rattle.afr_works.specs.declared.work.Work.{Work}
-use Rattle.afr_works.specs.declared.work.Work.TheVariants.{Idle, Lookup, Write}
+use Rattle.afr_works.specs.declared.work.Work.TheVariants.{Idle, Lookup, Write, Entry}
 
 -- no command has begun
 abbrev pub is_idle : Work → Bool
@@ -28,18 +29,21 @@ abbrev pub IsWork : Work → Type 0
 IsWork Idle = Unit {0}
 IsWork (Lookup m) = lookup.IsLookup m.walk m.stage
 IsWork (Write m) = write.IsWrite m.walk m.stage
+IsWork (Entry m) = entry.IsEntry m.walk m.job m.stage
 
 -- whether no request and no attempt is left
 abbrev pub is_over : Work → Bool
 is_over Idle = true
 is_over (Lookup m) = not (lookup.is_asking m.stage)
 is_over (Write m) = write.is_over m.stage
+is_over (Entry m) = entry.is_over m.stage
 
 -- the next line, if it is written at this position
 abbrev pub next_of : ℕ → Work → Next
 next_of at Idle = next.End Failed
 next_of at (Lookup m) = lookup.next_of m
 next_of at (Write m) = write.next_of at m
+next_of at (Entry m) = entry.next_of at m
 
 -- the register of a client that has no work is that of no lines, in a volume of one brick
 abbrev pub idle_register : Register
@@ -50,15 +54,18 @@ abbrev pub register_of : Work → Register
 register_of Idle = idle_register
 register_of (Lookup m) = m.walk.register
 register_of (Write m) = write.register_of m
+register_of (Entry m) = entry.register_of m
 
 -- the contents that go with the next request
 abbrev pub CarriesNext : Work → Load → Type 0
 CarriesNext Idle carried = carried ≡ load.Nothing
 CarriesNext (Lookup m) carried = carried ≡ load.Nothing
 CarriesNext (Write m) carried = write.CarriesNext m.stage carried
+CarriesNext (Entry m) carried = entry.CarriesNext m.stage carried
 
 -- the work after its line was written and answered
 abbrev pub heard_by : Heard → Work → Work
 heard_by of Idle = Idle
 heard_by of (Lookup m) = Lookup (lookup.heard_by of m)
 heard_by of (Write m) = Write (write.heard_by of m)
+heard_by of (Entry m) = Entry (entry.heard_by of m)

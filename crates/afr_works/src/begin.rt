@@ -1,29 +1,38 @@
 //! The machine of a command that begins.
 ghost use Rattle.std.specs.Prelude.{◌≡◌, ◌<◌, ◌≤◌, IfOk, true};
+ghost use Rattle.afr_entry.specs.Entry.{entry_from};
 ghost use Rattle.afr_inode_read.specs.Lookup.{lookup_from};
 ghost use Rattle.afr_inode_write.specs.Write.{write_from};
-ghost use Rattle.afr_works.specs.Begin.{has_machine, work_from};
+ghost use Rattle.afr_works.specs.Begin.{front, has_machine, has_name, is_on_name, last, work_from};
 ghost use Rattle.afr_works.specs.Work.{IsWork};
 
+use crate::on_heap::OnHeap;
 use crate::work::Work;
 use afr_base::{NameId, NoMemory, Shape};
+use afr_entry::{EntryJob, EntryMachine};
 use afr_inode_read::{LookupJob, LookupMachine};
 use afr_inode_write::{WriteJob, WriteMachine};
 use afr_object::{Chunk, TryCopy};
-use afr_plan::Command;
+use afr_plan::{Command, NamePath};
 use std::alloc::Global;
 
-/// Whether a command is carried out by a machine: all but those on the last name of a path.
+/// Whether a command is carried out by a machine: all but a command on the last name of a path that has no name.
 pub fn has_machine(command: &Command) -> bool
     ensures { result ≡ has_machine command.now }
 {
-    !matches!(
-        command,
-        Command::Create { .. }
-            | Command::Mkdir { .. }
-            | Command::Unlink { .. }
-            | Command::Rmdir { .. }
-    )
+    match command {
+        Command::Create { path } => has_name(path),
+        Command::Mkdir { path } => has_name(path),
+        Command::Unlink { path } => has_name(path),
+        Command::Rmdir { path } => has_name(path),
+        _ => true,
+    }
+}
+
+fn has_name(path: &NamePath) -> bool
+    ensures { result ≡ has_name path.now }
+{
+    path.len() > 0
 }
 
 /// The machine of a command, before its first line.
@@ -35,33 +44,55 @@ pub fn work_for(alloc: Global, shape: Shape, command: &Command) -> Result<Work, 
     ensures sound { IfOk result (λ work. IsWork work) }
 {
     match command {
-        Command::Write { path, at, bytes } => {
-            writes_bytes(alloc, shape, path.as_slice(), *at, bytes)
-        }
-        Command::Cut { path, len } => {
-            writes(alloc, shape, path.as_slice(), WriteJob::Cut { len: *len })
-        }
+        Command::Write { path, at, bytes } => writes_bytes(alloc, shape, path, *at, bytes),
+        Command::Cut { path, len } => writes(alloc, shape, path, WriteJob::Cut { len: *len }),
         Command::SetAttr { path, key, value } => {
             let job = WriteJob::SetAttr {
                 key: *key,
                 value: *value,
             };
-            writes(alloc, shape, path.as_slice(), job)
+            writes(alloc, shape, path, job)
         }
         Command::Read { path, at, len } => {
             let job = LookupJob::Read { at: *at, len: *len };
-            reads(alloc, shape, path.as_slice(), job)
+            reads(alloc, shape, path, job)
         }
         Command::GetAttr { path, key } => {
-            reads(
-                alloc,
-                shape,
-                path.as_slice(),
-                LookupJob::GetAttr { key: *key },
-            )
+            let job = LookupJob::GetAttr { key: *key };
+            reads(alloc, shape, path, job)
         }
-        Command::Ls { path } => reads(alloc, shape, path.as_slice(), LookupJob::Ls),
-        Command::Stat { path } => reads(alloc, shape, path.as_slice(), LookupJob::Stat),
+        Command::Ls { path } => reads(alloc, shape, path, LookupJob::Ls),
+        Command::Stat { path } => reads(alloc, shape, path, LookupJob::Stat),
+        _ => on_name(alloc, shape, command),
+    }
+}
+
+/// The machine of a command on the last name of its path.
+fn on_name(alloc: Global, shape: Shape, command: &Command) -> Result<Work, NoMemory>
+    requires few { shape.n ≤ 5 }
+    requires some { 0 < shape.n }
+    requires has { has_machine command.now ≡ true }
+    requires name { is_on_name command.now ≡ true }
+    ensures ok { IfOk result (λ work. work ≡ work_from shape command.now) }
+    ensures sound { IfOk result (λ work. IsWork work) }
+{
+    match command {
+        Command::Create { path } => {
+            let name = last(path);
+            enters(alloc, shape, path, EntryJob::Create { name })
+        }
+        Command::Mkdir { path } => {
+            let name = last(path);
+            enters(alloc, shape, path, EntryJob::Mkdir { name })
+        }
+        Command::Unlink { path } => {
+            let name = last(path);
+            enters(alloc, shape, path, EntryJob::Unlink { name })
+        }
+        Command::Rmdir { path } => {
+            let name = last(path);
+            enters(alloc, shape, path, EntryJob::Rmdir { name })
+        }
         _ => unreachable!(),
     }
 }
@@ -69,7 +100,7 @@ pub fn work_for(alloc: Global, shape: Shape, command: &Command) -> Result<Work, 
 fn writes_bytes(
     alloc: Global,
     shape: Shape,
-    path: &[NameId],
+    path: &NamePath,
     at: u32,
     bytes: &Chunk,
 ) -> Result<Work, NoMemory>
@@ -82,24 +113,75 @@ fn writes_bytes(
     writes(alloc, shape, path, WriteJob::Write { at, bytes })
 }
 
-fn writes(alloc: Global, shape: Shape, path: &[NameId], job: WriteJob) -> Result<Work, NoMemory>
+fn writes(alloc: Global, shape: Shape, path: &NamePath, job: WriteJob) -> Result<Work, NoMemory>
     requires few { shape.n ≤ 5 }
     requires some { 0 < shape.n }
     ensures ok { IfOk result (λ work. work ≡ Work.Write (write_from shape path.now job)) }
     ensures sound { IfOk result (λ work. IsWork work) }
 {
-    let machine = WriteMachine::new(alloc, shape, path, job)?;
-    machine.stays_sound();
-    Ok(Work::Write(machine))
+    // The results are matched: `?` would move the machine, which is large, once more each time.
+    match WriteMachine::new(alloc, shape, path.as_slice(), job) {
+        Ok(machine) => {
+            machine.stays_sound();
+            match OnHeap::new(alloc, machine) {
+                Ok(machine) => Ok(Work::Write(machine)),
+                Err(_) => Err(NoMemory),
+            }
+        }
+        Err(_) => Err(NoMemory),
+    }
 }
 
-fn reads(alloc: Global, shape: Shape, path: &[NameId], job: LookupJob) -> Result<Work, NoMemory>
+fn reads(alloc: Global, shape: Shape, path: &NamePath, job: LookupJob) -> Result<Work, NoMemory>
     requires few { shape.n ≤ 5 }
     requires some { 0 < shape.n }
     ensures ok { IfOk result (λ work. work ≡ Work.Lookup (lookup_from shape path.now job)) }
     ensures sound { IfOk result (λ work. IsWork work) }
 {
-    let machine = LookupMachine::new(alloc, shape, path, job)?;
-    machine.stays_sound();
-    Ok(Work::Lookup(machine))
+    match LookupMachine::new(alloc, shape, path.as_slice(), job) {
+        Ok(machine) => {
+            machine.stays_sound();
+            match OnHeap::new(alloc, machine) {
+                Ok(machine) => Ok(Work::Lookup(machine)),
+                Err(_) => Err(NoMemory),
+            }
+        }
+        Err(_) => Err(NoMemory),
+    }
+}
+
+/// The path is that of the name; the names before it lead to the directory.
+fn enters(alloc: Global, shape: Shape, path: &NamePath, job: EntryJob) -> Result<Work, NoMemory>
+    requires few { shape.n ≤ 5 }
+    requires some { 0 < shape.n }
+    requires has { has_name path.now ≡ true }
+    ensures ok { IfOk result (λ work. work ≡ Work.Entry (entry_from shape (front path.now) job)) }
+    ensures sound { IfOk result (λ work. IsWork work) }
+{
+    match EntryMachine::new(alloc, shape, front(path), job) {
+        Ok(machine) => {
+            machine.stays_sound();
+            match OnHeap::new(alloc, machine) {
+                Ok(machine) => Ok(Work::Entry(machine)),
+                Err(_) => Err(NoMemory),
+            }
+        }
+        Err(_) => Err(NoMemory),
+    }
+}
+
+fn front(path: &NamePath) -> &[NameId]
+    requires { has_name path.now ≡ true }
+    ensures { result.now ≡ front path.now }
+{
+    let names = path.as_slice();
+    &names[..names.len() - 1]
+}
+
+fn last(path: &NamePath) -> NameId
+    requires { has_name path.now ≡ true }
+    ensures { result ≡ last path.now }
+{
+    let names = path.as_slice();
+    names[names.len() - 1]
 }

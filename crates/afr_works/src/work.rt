@@ -4,19 +4,23 @@ ghost use Rattle.afr_discipline.specs.Stands.{HasFive};
 ghost use Rattle.afr_walk.specs.Free.{Allows};
 ghost use Rattle.afr_works.specs.Work.{CarriesNext, IsBusy, IsWork, heard_by, is_idle, is_over, next_of, register_of};
 
+use crate::on_heap::OnHeap;
 use afr_base::NoMemory;
 use afr_discipline::{Register, has_five};
+use afr_entry::EntryMachine;
 use afr_inode_read::LookupMachine;
 use afr_inode_write::WriteMachine;
 use afr_lines::{Answer, Heard, Next};
 use afr_object::Load;
 
-/// The machine of a client's present command, if it has begun.
+/// The machine of a client's present command, if it has begun. It is on the heap: a work is moved often, and most machines
+/// are large.
 #[derive(Drop)]
 pub enum Work {
     Idle,
-    Lookup(LookupMachine),
-    Write(WriteMachine),
+    Lookup(OnHeap<LookupMachine>),
+    Write(OnHeap<WriteMachine>),
+    Entry(OnHeap<EntryMachine>),
 }
 
 impl Work {
@@ -33,8 +37,9 @@ impl Work {
     {
         match self {
             Work::Idle => true,
-            Work::Lookup(machine) => machine.is_over(),
-            Work::Write(machine) => machine.is_over(),
+            Work::Lookup(machine) => machine.value.is_over(),
+            Work::Write(machine) => machine.value.is_over(),
+            Work::Entry(machine) => machine.value.is_over(),
         }
     }
 
@@ -46,8 +51,9 @@ impl Work {
     {
         match self {
             Work::Idle => unreachable!(),
-            Work::Lookup(machine) => machine.next(at),
-            Work::Write(machine) => machine.next(at),
+            Work::Lookup(machine) => machine.value.next(at),
+            Work::Write(machine) => machine.value.next(at),
+            Work::Entry(machine) => machine.value.next(at),
         }
     }
 
@@ -57,18 +63,25 @@ impl Work {
     {
         match self {
             Work::Idle => Load::Nothing,
-            Work::Lookup(machine) => machine.load(),
-            Work::Write(machine) => machine.load(),
+            Work::Lookup(machine) => machine.value.load(),
+            Work::Write(machine) => machine.value.load(),
+            Work::Entry(machine) => machine.value.load(),
         }
     }
 
-    /// The request was written at this position, and the brick has answered.
-    pub fn hear(&mut self, answer: Answer, at: u32)
+    /// The request was written at this position, and the brick has answered. A read takes what it was given out of the answer.
+    pub fn hear(&mut self, answer: &mut Answer, at: u32)
         requires more { is_over self.old ≡ false }
-        ensures value { self.new ≡ heard_by (Heard.Answer answer at) self.old }
+        ensures value { self.new ≡ heard_by (Heard.Answer answer.old at) self.old }
         ensures kept { IsWork self.new }
     {
-        self.feed(Heard::Answer(answer, at));
+        match self {
+            Work::Idle => unreachable!(),
+            Work::Lookup(machine) => machine.value.hear(answer, at),
+            Work::Write(machine) => machine.value.hear(answer, at),
+            Work::Entry(machine) => machine.value.hear(answer, at),
+        }
+        self.stays_sound();
     }
 
     /// The Begin line was written at this position.
@@ -77,7 +90,13 @@ impl Work {
         ensures value { self.new ≡ heard_by (Heard.Begun at) self.old }
         ensures kept { IsWork self.new }
     {
-        self.feed(Heard::Begun(at));
+        match self {
+            Work::Idle => unreachable!(),
+            Work::Lookup(machine) => machine.value.feed(Heard::Begun(at)),
+            Work::Write(machine) => machine.value.feed(Heard::Begun(at)),
+            Work::Entry(machine) => machine.value.feed(Heard::Begun(at)),
+        }
+        self.stays_sound();
     }
 
     /// What the lines so far show.
@@ -87,8 +106,9 @@ impl Work {
     {
         match self {
             Work::Idle => unreachable!(),
-            Work::Lookup(machine) => machine.register(),
-            Work::Write(machine) => machine.register(),
+            Work::Lookup(machine) => machine.value.register(),
+            Work::Write(machine) => machine.value.register(),
+            Work::Entry(machine) => machine.value.register(),
         }
     }
 
@@ -100,26 +120,17 @@ impl Work {
         match self {
             Work::Idle => {}
             Work::Lookup(machine) => {
-                machine.stays_sound();
-                has_five(machine.register());
+                machine.value.stays_sound();
+                has_five(machine.value.register());
             }
             Work::Write(machine) => {
-                machine.stays_sound();
-                has_five(machine.register());
+                machine.value.stays_sound();
+                has_five(machine.value.register());
+            }
+            Work::Entry(machine) => {
+                machine.value.stays_sound();
+                has_five(machine.value.register());
             }
         }
-    }
-
-    fn feed(&mut self, heard: Heard)
-        requires more { is_over self.old ≡ false }
-        ensures value { self.new ≡ heard_by heard self.old }
-        ensures kept { IsWork self.new }
-    {
-        match self {
-            Work::Idle => unreachable!(),
-            Work::Lookup(machine) => machine.feed(heard),
-            Work::Write(machine) => machine.feed(heard),
-        }
-        self.stays_sound();
     }
 }

@@ -1,5 +1,5 @@
 -- The lines of a client's present work, by the machine of its command.
-use Rattle.std.proofs.Common.{◌≡◌, ℕ, Bool, true, List, length, refl, sym, ap, ◌∙◌, subst}
+use Rattle.std.proofs.Common.{◌≡◌, ℕ, Bool, true, List, [], ◌∷◌, ◌++◌, length, refl, sym, ap, ◌∙◌, subst}
 use Rattle.afr_base.specs.declared.ids.ActorId.{ActorId}
 use Rattle.afr_base.specs.declared.ids.NameId.{NameId}
 use Rattle.afr_lines.specs.Work.{Work as Lines}
@@ -28,6 +28,9 @@ use Rattle.afr_inode_read.specs.declared.job.LookupJob.TheVariants as read_job
 use Rattle.afr_inode_read.specs.declared.stage.LookupStage.{LookupStage}
 use Rattle.afr_inode_read.specs.declared.stage.LookupStage.TheVariants as reading
 use Rattle.afr_inode_write.specs.declared.job.WriteJob.TheVariants as job
+use Rattle.afr_entry.specs.Entry.{entry_from}
+use Rattle.afr_entry.specs.declared.job.EntryJob.{EntryJob}
+use Rattle.afr_entry.specs.declared.job.EntryJob.TheVariants as name
 use Rattle.afr_inode_telling.specs.ReadTelling.{ReadTells, command_of}
 use Rattle.afr_inode_telling.proofs.ReadsMore.{about as read_about, ends as read_ends, follows as read_follows, tells_more as read_more}
 use Rattle.afr_inode_telling.proofs.ReadsTell.{begins as read_begins}
@@ -36,12 +39,21 @@ use Rattle.afr_transaction_tells.specs.About.{BlamesNext}
 use Rattle.afr_transaction_tells.specs.Laws.{IsNextLine}
 use Rattle.afr_write_telling.proofs.Begins.{begins as write_begins}
 use Rattle.afr_write_telling.proofs.Ends as write
+use Rattle.afr_entry_telling.specs.EntryTelling.{EntryTells}
+use Rattle.afr_entry_telling.proofs.Begins.{begins as entry_begins}
+use Rattle.afr_entry_telling.proofs.Ends as entry
+use Rattle.afr_works.proofs.PathLemmas.{path_is}
 use Rattle.afr_works.proofs.WorkLemmas.{never_begins}
+use Rattle.afr_works.specs.Begin.{front, has_name, last}
 use Rattle.afr_works.specs.Work as work
-use Rattle.afr_works.specs.declared.work.Work.TheVariants.{Idle, Lookup, Write}
+use Rattle.afr_works.specs.declared.work.Work.TheVariants.{Idle, Lookup, Write, Entry}
 use Rattle.afr_works_tell.specs.WorkLaws.{BlamedLines, WorkAbout, WorkBegins, WorkBegun, WorkBlames, WorkEnds, WorkTellsMore}
 
 -- ---- the first line
+-- a path is that of its last name, in the directory before it
+by_name : (p : Plan) (path : List NameId) (of : List NameId → Command) (j : EntryJob) → has_name path ≡ true → EntryTells p (of (front path ++ last path ∷ [])) (entry_from p.shape (front path) j) [] → EntryTells p (of path) (entry_from p.shape (front path) j) []
+by_name p path of j h tells = subst (λ (x : List NameId). EntryTells p (of x) (entry_from p.shape (front path) j) []) (path_is path h) tells
+
 -- no lines show a work that begins
 pub begins : WorkBegins
 begins p (command.Write path at bytes) few some h = write_begins p path (job.Write at bytes) few some
@@ -51,7 +63,10 @@ begins p (command.Read path at len) few some h = (refl, read_begins p path (read
 begins p (command.GetAttr path key) few some h = (refl, read_begins p path (read_job.GetAttr key) few some)
 begins p (command.Ls path) few some h = (refl, read_begins p path read_job.Ls few some)
 begins p (command.Stat path) few some h = (refl, read_begins p path read_job.Stat few some)
-begins p other few some h = absurd (cc h)
+begins p (command.Create path) few some h = by_name p path (λ x. command.Create x) (name.Create (last path)) h (entry_begins p (front path) (name.Create (last path)) few some)
+begins p (command.Mkdir path) few some h = by_name p path (λ x. command.Mkdir x) (name.Mkdir (last path)) h (entry_begins p (front path) (name.Mkdir (last path)) few some)
+begins p (command.Unlink path) few some h = by_name p path (λ x. command.Unlink x) (name.Unlink (last path)) h (entry_begins p (front path) (name.Unlink (last path)) few some)
+begins p (command.Rmdir path) few some h = by_name p path (λ x. command.Rmdir x) (name.Rmdir (last path)) h (entry_begins p (front path) (name.Rmdir (last path)) few some)
 
 -- ---- after a line
 -- a read goes on along the same path
@@ -67,12 +82,14 @@ more p c Idle lines a b request heard took log sound k e can = absurd can
 more p c (Lookup m) lines a b request heard took log sound k e can =
     (k.0 ∙ ap (λ (path : List NameId). command_of m.job path) (sym (same_path m.stage heard (length log) m.walk)), read_more p m lines a b request heard took log (length log) sound k.1 e can)
 more p c (Write m) lines a b request heard took log sound k e can = write.more p c m lines a b request heard took log sound k e can
+more p c (Entry m) lines a b request heard took log sound k e can = entry.more p c m lines a b request heard took log sound k e can
 
 -- and after the Begin line, which no read has
 pub begun : WorkBegun
 begun p c Idle lines a change log sound k e = absurd k
 begun p c (Lookup m) lines a change log sound k e = absurd (never_begins m.stage m.walk change e)
 begun p c (Write m) lines a change log sound k e = write.begun p c m lines a change log sound k e
+begun p c (Entry m) lines a change log sound k e = entry.begun p c m lines a change log sound k e
 
 -- ---- each line
 -- a read's next line is a request
@@ -95,6 +112,7 @@ about p c Idle lines a told line log sound k is = absurd k
 about p c (Lookup m) lines a told line log sound k is =
     subst (λ (x : Command). IsAbout p x line lines × KeepsTo p x line (length log) lines) (sym k.0) (read_line p m lines a told line (length log) sound k.1 is)
 about p c (Write m) lines a told line log sound k is = write.about p c m lines a told line log sound k is
+about p c (Entry m) lines a told line log sound k is = entry.about p c m lines a told line log sound k is
 
 -- ---- accusations
 walk_blames : (p : Plan) (lines : Lines) (step : WalkStep) (w : Walk) → walk.is_walking step ≡ true → BlamesNext p lines (next.Ask (walk.next_at step w).0 (walk.next_at step w).1)
@@ -116,6 +134,7 @@ pub blames : WorkBlames
 blames p c Idle lines at sound k = absurd k
 blames p c (Lookup m) lines at sound k = read_blames p lines m.stage m.walk sound
 blames p c (Write m) lines at sound k = write.blames p c m lines at sound k
+blames p c (Entry m) lines at sound k = entry.blames p c m lines at sound k
 
 -- a line does what is said of the next one
 line_blames : (p : Plan) (a : ActorId) (told : Told) (line : Line) (log : List Line) (of : Next) → IsNextLine a of told line → BlamesNext p (lines_of.work a.0 log) of → Blames p line log
@@ -137,3 +156,4 @@ pub ends : WorkEnds
 ends p c Idle lines at said sound k e = absurd k
 ends p c (Lookup m) lines at said sound k e = (subst (λ (x : Command). IsAnswered p x lines said) (sym k.0) (read_ends p m lines said k.1 e), λ a. tt)
 ends p c (Write m) lines at said sound k e = (write.ends p c m lines at said sound k e, λ a. tt)
+ends p c (Entry m) lines at said sound k e = (entry.ends p c m lines at said sound k e, λ a. tt)

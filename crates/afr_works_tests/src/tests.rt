@@ -1,5 +1,5 @@
 //! Works of a client at the root, from their commands to their ends.
-use afr_base::{AllMarks, BrickId, Gfid, KeyId, Shape, ValueId, What};
+use afr_base::{AllMarks, BrickId, Gfid, KeyId, NameId, Shape, ValueId, What};
 use afr_lines::{Answer, Good, Next, Reply, Request};
 use afr_object::{Change, List, Load, View};
 use afr_plan::Command;
@@ -35,9 +35,9 @@ fn next_of(work: &Work) -> Option<Next> {
     }
 }
 
-fn hears_one(work: &mut Work, answer: Answer) {
+fn hears_one(work: &mut Work, mut answer: Answer) {
     if !work.is_over() {
-        work.hear(answer, 3);
+        work.hear(&mut answer, 3);
     }
 }
 
@@ -80,7 +80,7 @@ fn a_client_is_idle_at_first(rt: HostRuntime) {
 }
 
 #[test]
-fn an_unlink_has_no_machine(rt: HostRuntime) {
+fn an_unlink_of_no_name_has_no_machine(rt: HostRuntime) {
     let path = List::new(rt.alloc());
     assert!(rt; !has_machine(&Command::Unlink { path }));
 }
@@ -138,6 +138,51 @@ fn an_attribute_is_carried_to_every_brick(rt: HostRuntime) {
     assert!(rt;
         matches!(
             carried_out(rt.alloc()),
+            Some((true, Next::End(Reply::Ok(Good::Done))))
+        )
+    );
+}
+
+/// A directory in the root, on its way to every brick.
+fn directory_in_the_root(alloc: Global) -> Option<Work> {
+    let mut path = List::new(alloc);
+    path.push(NameId(7)).ok()?;
+    on_three(alloc, &Command::Mkdir { path })
+}
+
+fn carries_the_directory(work: &Work) -> bool {
+    matches!(
+        work.load(),
+        Load::Change(Change::Make {
+            dir: ROOT,
+            name: NameId(7),
+            what: What::Dir,
+            ..
+        })
+    )
+}
+
+/// Whether its operation carried it, and what it answers where the name was free.
+fn made(alloc: Global) -> Option<(bool, Next)> {
+    let mut work = directory_in_the_root(alloc)?;
+    all_granted(&mut work);
+    all_seen(&mut work);
+    hears_one(&mut work, Answer::Entry(None));
+    begins(&mut work);
+    all_done(&mut work);
+    let carried = carries_the_directory(&work);
+    all_done(&mut work);
+    all_done(&mut work);
+    all_done(&mut work);
+    let next = next_of(&work)?;
+    Some((carried, next))
+}
+
+#[test]
+fn a_directory_is_made_at_every_brick(rt: HostRuntime) {
+    assert!(rt;
+        matches!(
+            made(rt.alloc()),
             Some((true, Next::End(Reply::Ok(Good::Done))))
         )
     );

@@ -1,12 +1,10 @@
 //! Plans that are read whole.
 use afr_base::{BrickId, NoMemory};
 use afr_object::List;
-use afr_plan::{Command, Plan, WordList, Words, is_runnable_yet};
+use afr_plan::{Command, Plan, WordList, Words};
 use afr_plan_read::read_plan;
 use std::alloc::Global;
 use std::test::Fail;
-
-const HEAD: &str = "afr 1\nvolume replica\nfiles 0\nturns 100000\n";
 
 /// A plan of all kinds of lines.
 const WHOLE: &str =
@@ -67,14 +65,6 @@ fn has_words(alloc: Global, plan: &Plan, want: &str) -> bool {
     }
 }
 
-/// Whether a text is read as a plan that can be run, if it is read.
-fn is_runnable(alloc: Global, text: &str) -> Option<bool> {
-    match read_plan(alloc, text.as_bytes()) {
-        Ok(plan) => Some(is_runnable_yet(&plan)),
-        Err(_) => None,
-    }
-}
-
 fn whole_is_read(alloc: Global) -> bool {
     match read_plan(alloc, whole_text().as_bytes()) {
         Ok(plan) => is_whole(&plan),
@@ -98,34 +88,5 @@ fn all_kinds_of_lines_are_read(rt: HostRuntime) -> Result<(), Fail> {
 #[test]
 fn words_are_numbered_by_first_sight(rt: HostRuntime) -> Result<(), Fail> {
     assert!(rt; whole_has_words(rt.alloc(), "f1 f2 d b-2.C x |owner mode |me you |"));
-    Ok(())
-}
-
-#[test]
-fn clients_of_what_is_there_can_be_run(rt: HostRuntime) -> Result<(), Fail> {
-    for (rest, want) in [
-        ("", true),
-        ("client 1\nwrite /f1 0 hex:00ff\nread /f1 3 10\n", true),
-        ("client 1\nwrite /f1 1048576 \"x\"\n", true),
-        ("client 1\nread / 0 1\nread /a/b 0 1\n", true),
-        ("client 1\ncut /f1 3\nstat /f1\n", true),
-        ("client 1\nsetattr / owner me\ngetattr / owner\n", true),
-        ("client 1\ncreate /a\n", false),
-        ("client 1\nmkdir /a\n", false),
-        ("client 1\nunlink /a\n", false),
-        ("client 1\nrmdir /a\n", false),
-        ("client 1\nls /\nls /f1\n", true),
-        ("client 1\nclient 2\nstat /\n", true),
-        ("healer 1\n", false),
-        ("fault 0 1 fail\nfault 1 2 lost\n", true),
-        ("client 1\nat 0 stop 1\nat 1 cut c1 0\nat 2 kill c1\n", true),
-        ("client 1\ngo c1 1\n", true),
-    ] {
-        let text = format!(in rt.alloc(); "{HEAD}{rest}end\n")?;
-        assert!(rt;
-            is_runnable(rt.alloc(), text.as_str()) == Some(want),
-            "{rest}"
-        );
-    }
     Ok(())
 }

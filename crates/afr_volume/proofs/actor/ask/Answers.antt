@@ -5,9 +5,3 @@ ask-requires-clause-can c = rw c.if-actor.true at (c.requires.can.can c.load-loa
 
 pub ask-requires-clause-covered : goal.ask-requires-clause-covered
 ask-requires-clause-covered c = rw c.if-actor.true at (c.requires.can.covered c.load-load.result c.load-load.ensures)
-
-pub ask_first-requires-clause-can : goal.ask_first-requires-clause-can
-ask_first-requires-clause-can c = rw c.if-actor.false at (c.requires.can.can c.load-load.result c.load-load.ensures)
-
-pub ask_first-requires-clause-covered : goal.ask_first-requires-clause-covered
-ask_first-requires-clause-covered c = rw c.if-actor.false at (c.requires.can.covered c.load-load.result c.load-load.ensures)

@@ -35,6 +35,9 @@ returns-clause-turns c = record {
     lookup_brings = c.a_client_hears_what_it_asked.ensures.reads;
     write_brings = c.a_client_hears_what_it_asked.ensures.loads;
     makes_nothing = c.a_client_hears_what_it_asked.ensures.begins;
+    entry_hears = c.a_client_hears_of_its_names.ensures.hears;
+    entry_brings = c.a_client_hears_of_its_names.ensures.loads;
+    makes_new = c.a_client_hears_of_its_names.ensures.begins;
   };
   servers = record {
     asked = c.servers_follow_their_log.ensures.asked;

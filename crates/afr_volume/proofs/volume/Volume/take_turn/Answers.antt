@@ -1,6 +1,8 @@
-use Rattle.std.proofs.Common.{◌∙◌, arith, sym}
+use Rattle.std.proofs.Common.{◌∙◌, ap, arith, sym}
 use Rattle.std.proofs.lemmas.Bool.Decides.{nat_tests}
+use Rattle.afr_volume.proofs.LogLemmas.{newest_is}
 use Rattle.afr_volume.proofs.WholeTurn.{busy, ready_volume, steps, took, turned}
+use Rattle.afr_volume.specs.Turning.{waits_for}
 use Rattle.afr_volume.proofs.volume.Volume.take_turn.Goals as goal
 
 pub step_actor-requires-clause-busy : goal.step_actor-requires-clause-busy
@@ -13,25 +15,28 @@ step_actor-requires-clause-can c =
     steps c.laws.ensures.turns c.laws.ensures.begins c.self.inside.plan c.args.a c.self.inside.log.items c.self.inside.actors.items c.ready_actor.new.actors.items c.self.inside.servers c.self.inside.made c.self.invariant (rw (← c.self.view_is) at c.requires.actor)
     (grind (arith, nat_tests, c.if-len-self.false, c.len.ensures)) c.in_ok-ready_actor.ensures.ok c.len-position.result (c.len-position.ensures ∙ c.in_ok-try_reserve.ensures.len ∙ grind (arith, nat_tests, c.len.ensures))
 
-pub invariant_of-self-in_err-line : goal.invariant_of-self-in_err-line
-invariant_of-self-in_err-line c =
-    rw (c.in_ok-try_reserve.ensures.items, c.in_err-line.ensures.err.0, c.in_err-line.ensures.err.1)
+pub invariant_of-self-in_err-step_actor : goal.invariant_of-self-in_err-step_actor
+invariant_of-self-in_err-step_actor c =
+    rw (c.in_err-step_actor.ensures.err.2, c.in_ok-try_reserve.ensures.items, c.in_err-step_actor.ensures.err.0, c.in_err-step_actor.ensures.err.1)
     (ready_volume c.laws.ensures.turns c.laws.ensures.begins c.self.inside.plan c.args.a c.self.inside.log.items c.self.inside.actors.items c.ready_actor.new.actors.items c.self.inside.servers c.self.inside.made c.self.invariant (rw (← c.self.view_is) at c.requires.actor)
     (grind (arith, nat_tests, c.if-len-self.false, c.len.ensures)) c.in_ok-ready_actor.ensures.ok)
 
 pub invariant_of-self-2 : goal.invariant_of-self-2
 invariant_of-self-2 c =
     (took c.laws.ensures.turns c.laws.ensures.begins c.self.inside.plan c.args.a c.self.inside.log.items c.self.inside.actors.items c.ready_actor.new.actors.items c.self.inside.servers c.self.inside.made c.self.invariant (rw (← c.self.view_is) at c.requires.actor)
-    (grind (arith, nat_tests, c.if-len-self.false, c.len.ensures)) c.in_ok-ready_actor.ensures.ok c.len-position.result c.add_line.new.log.items c.step_actor.new.actors.items c.step_actor.new.servers c.in_ok-line.line
-    (rw (← c.self.view_is) at (sym c.is_done.ensures ∙ c.if-is_done.false)) (rw (← c.self.view_is) at c.requires.none) (c.len-position.ensures ∙ c.in_ok-try_reserve.ensures.len ∙ grind (arith, nat_tests, c.len.ensures)) c.in_ok-line.ensures.ok
-    (rw (← c.in_ok-try_reserve.ensures.items) c.add_line.ensures)).volume
+    (grind (arith, nat_tests, c.if-len-self.false, c.len.ensures)) c.in_ok-ready_actor.ensures.ok c.len-position.result c.step_actor.new.log.items c.step_actor.new.actors.items c.step_actor.new.servers c.in_ok-step_actor.ensures.ok.line
+    (rw (← c.self.view_is) at (sym c.is_done.ensures ∙ c.if-is_done.false)) (rw (← c.self.view_is) at c.requires.none) (c.len-position.ensures ∙ c.in_ok-try_reserve.ensures.len ∙ grind (arith, nat_tests, c.len.ensures)) c.in_ok-step_actor.ensures.ok.is_so
+    (rw (← c.in_ok-try_reserve.ensures.items) c.in_ok-step_actor.ensures.ok.added)).volume
 
 pub returns-clause-ok : goal.returns-clause-ok
 returns-clause-ok c =
     let t =
     took c.laws.ensures.turns c.laws.ensures.begins c.self.inside.plan c.args.a c.self.inside.log.items c.self.inside.actors.items c.ready_actor.new.actors.items c.self.inside.servers c.self.inside.made c.self.invariant (rw (← c.self.view_is) at c.requires.actor)
-    (grind (arith, nat_tests, c.if-len-self.false, c.len.ensures)) c.in_ok-ready_actor.ensures.ok c.len-position.result c.add_line.new.log.items c.step_actor.new.actors.items c.step_actor.new.servers c.in_ok-line.line
-    (rw (← c.self.view_is) at (sym c.is_done.ensures ∙ c.if-is_done.false)) (rw (← c.self.view_is) at c.requires.none) (c.len-position.ensures ∙ c.in_ok-try_reserve.ensures.len ∙ grind (arith, nat_tests, c.len.ensures)) c.in_ok-line.ensures.ok
-    (rw (← c.in_ok-try_reserve.ensures.items) c.add_line.ensures) in
+    (grind (arith, nat_tests, c.if-len-self.false, c.len.ensures)) c.in_ok-ready_actor.ensures.ok c.len-position.result c.step_actor.new.log.items c.step_actor.new.actors.items c.step_actor.new.servers c.in_ok-step_actor.ensures.ok.line
+    (rw (← c.self.view_is) at (sym c.is_done.ensures ∙ c.if-is_done.false)) (rw (← c.self.view_is) at c.requires.none) (c.len-position.ensures ∙ c.in_ok-try_reserve.ensures.len ∙ grind (arith, nat_tests, c.len.ensures)) c.in_ok-step_actor.ensures.ok.is_so
+    (rw (← c.in_ok-try_reserve.ensures.items) c.in_ok-step_actor.ensures.ok.added) in
+    let newest =
+    newest_is c.self.inside.log.items c.step_actor.new.log.items c.in_ok-step_actor.ensures.ok.line c.index.result.now c.len-position.result (rw (← c.in_ok-try_reserve.ensures.items) c.in_ok-step_actor.ensures.ok.added)
+    (c.len-position.ensures ∙ c.in_ok-try_reserve.ensures.len ∙ grind (arith, nat_tests, c.len.ensures)) c.index.ensures in
     rw (← c.self.view_is)
-    (turned c.self.inside.plan c.args.a c.self.inside.log.items c.add_line.new.log.items c.in_ok-line.line c.turned_by-waits.result c.answer_of.result t.own t.log (sym c.turned_by-waits.ensures) c.answer_of.ensures.some c.answer_of.ensures.none)
+    (turned c.self.inside.plan c.args.a c.self.inside.log.items c.step_actor.new.log.items c.in_ok-step_actor.ensures.ok.line c.turned_by-waits.result c.answer_of.result t.own t.log (ap waits_for (sym newest) ∙ sym c.turned_by-waits.ensures) c.answer_of.ensures.some c.answer_of.ensures.none)

@@ -1,0 +1,14 @@
+pub mod Small
+pub mod Lost
+pub mod Notes
+pub mod Lines
+pub mod Refused
+pub mod Takers
+pub mod Locking
+pub mod Looking
+pub mod Listing
+pub mod Phases
+pub mod Unlocks
+pub mod About
+pub mod First
+pub mod More

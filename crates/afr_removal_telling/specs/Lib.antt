@@ -1,0 +1,2 @@
+pub mod RemovalTelling
+pub mod RemovalLaws

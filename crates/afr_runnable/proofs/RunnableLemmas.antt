@@ -1,0 +1,133 @@
+-- The tests of a plan tell which plans are run so far.
+use Rattle.std.proofs.Common.{◌≡◌, ℕ, ◌≤◌, ◌<◌, ◌==◌, List, [], ◌∷◌, length, refl, arith, Bool, true, not, ◌&&◌, nat_le, nat_lt}
+use Rattle.std.specs.Bool.{Decides}
+use Rattle.std.specs.List.{All, list_all}
+use Rattle.std.proofs.lemmas.Bool.Decides.{nat_tests, Decides-by_and}
+use Rattle.afr_lines.specs.declared.line.Event.{Event}
+use Rattle.afr_lines.specs.declared.line.Event.TheVariants as event
+use Rattle.afr_plan.specs.declared.command.Command.{Command}
+use Rattle.afr_plan.specs.declared.plan.Plan.{Plan}
+use Rattle.afr_runnable.specs.Runnable.{IsAboutVolume, IsOneOf, IsRunnable, IsRunnableScript, has_its_name}
+use Rattle.afr_runnable.specs.RunnableTests.{is_about_volume, is_one_of, is_runnable, is_runnable_event, is_runnable_order, is_runnable_script, has_clients_alone, has_runnable_numbers}
+use Rattle.afr_base.specs.Bricks.{and_left, and_right}
+use Rattle.std.proofs.lemmas.Bool.{and_from, not-true}
+
+-- ---- tests of a list
+none_of : {A : Type 0} (xs : List A) → (length xs == 0) ≡ true → xs ≡ []
+none_of [] h = refl
+none_of (x ∷ xs) h = absurd (grind (arith, nat_tests))
+
+-- a test of each item tells what each item is
+each : {A : Type 0} (p : A → Bool) (P : A → Type 0) → ((x : A) → Decides (p x) (P x)) → (xs : List A) → Decides (list_all p xs) (All P xs)
+each p P decides xs = Decides-by_and p P (list_all p) decides refl (λ x more. refl) xs
+
+-- ---- scripts
+named_tells : (command : Command) → Decides (has_its_name command) (has_its_name command ≡ true)
+named_tells command = (λ h. h, λ h. h)
+
+script_there : (script : List Command) → is_runnable_script script ≡ true → IsRunnableScript script
+script_there script h =
+    let few : nat_le (length script) 16384 ≡ true = and_left _ _ h in
+    record { few = grind (arith, nat_tests); commands = (each has_its_name (λ command. has_its_name command ≡ true) named_tells script).0 (and_right _ _ h) }
+
+script_back : (script : List Command) → IsRunnableScript script → is_runnable_script script ≡ true
+script_back script s =
+    let few : length script ≤ 16384 = s.few in
+    and_from (nat_le (length script) 16384) (list_all has_its_name script) (grind (arith, nat_tests)) ((each has_its_name (λ command. has_its_name command ≡ true) named_tells script).1 s.commands)
+
+script_runs : (script : List Command) → Decides (is_runnable_script script) (IsRunnableScript script)
+script_runs script = (script_there script, script_back script)
+
+-- ---- actors
+one_there : (clients a : ℕ) → is_one_of clients a ≡ true → IsOneOf clients a
+one_there clients a h =
+    let low : nat_le 1 a ≡ true = and_left _ _ h in
+    let high : nat_le a clients ≡ true = and_right _ _ h in
+    (grind (arith, nat_tests), grind (arith, nat_tests))
+
+one_back : (clients a : ℕ) → IsOneOf clients a → is_one_of clients a ≡ true
+one_back clients a h =
+    let low : 1 ≤ a = h.0 in
+    let high : a ≤ clients = h.1 in
+    and_from (nat_le 1 a) (nat_le a clients) (grind (arith, nat_tests)) (grind (arith, nat_tests))
+
+one_of : (clients a : ℕ) → Decides (is_one_of clients a) (IsOneOf clients a)
+one_of clients a = (one_there clients a, one_back clients a)
+
+low_brick : (n b : ℕ) → Decides (nat_lt b n) (b < n)
+low_brick n b = (λ h. grind (arith, nat_tests, h), λ h. grind (arith, nat_tests, h))
+
+-- a client and a brick
+both_of : (n clients a b : ℕ) → Decides (is_one_of clients a && nat_lt b n) (IsOneOf clients a × (b < n))
+both_of n clients a b = (λ h. (one_there clients a (and_left _ _ h), (low_brick n b).0 (and_right _ _ h)), λ h. and_from (is_one_of clients a) (nat_lt b n) (one_back clients a h.0) ((low_brick n b).1 h.1))
+
+about_volume : (n clients : ℕ) (e : Event) → Decides (is_about_volume n clients e) (IsAboutVolume n clients e)
+about_volume n clients (event.Stop brick) = low_brick n brick.0
+about_volume n clients (event.Start brick) = low_brick n brick.0
+about_volume n clients (event.Cut actor brick) = both_of n clients actor.0 brick.0
+about_volume n clients (event.Join actor brick) = both_of n clients actor.0 brick.0
+about_volume n clients (event.Kill actor) = one_of clients actor.0
+
+-- ---- plans
+module _ (plan : Plan) where
+  events_run : Decides (list_all (is_runnable_event plan.shape.n (length plan.clients)) plan.events) (All (λ planned. IsAboutVolume plan.shape.n (length plan.clients) planned.event) plan.events)
+  events_run = each (is_runnable_event plan.shape.n (length plan.clients)) (λ planned. IsAboutVolume plan.shape.n (length plan.clients) planned.event) (λ planned. about_volume plan.shape.n (length plan.clients) planned.event) plan.events
+
+  orders_run : Decides (list_all (is_runnable_order (length plan.clients)) plan.go) (All (λ order. IsOneOf (length plan.clients) order.actor.0) plan.go)
+  orders_run = each (is_runnable_order (length plan.clients)) (λ order. IsOneOf (length plan.clients) order.actor.0) (λ order. one_of (length plan.clients) order.actor.0) plan.go
+
+  scripts_run : Decides (list_all is_runnable_script plan.clients) (All IsRunnableScript plan.clients)
+  scripts_run = each is_runnable_script IsRunnableScript script_runs plan.clients
+
+pub runnable : (plan : Plan) → is_runnable plan ≡ true → IsRunnable plan
+runnable plan h =
+    let numbers : has_runnable_numbers plan ≡ true = and_left _ _ h in
+    let alone : has_clients_alone plan ≡ true = and_left _ _ (and_right _ _ h) in
+    let names : nat_le plan.files (length plan.words.names) ≡ true = and_right _ _ numbers in
+    let a = and_left _ _ numbers in
+    let clients : nat_le (length plan.clients) 16 ≡ true = and_right _ _ a in
+    let b = and_left _ _ a in
+    let turns : nat_le plan.turns 4000000 ≡ true = and_right _ _ b in
+    let d = and_left _ _ b in
+    let some : nat_le 1 plan.turns ≡ true = and_right _ _ d in
+    let e = and_left _ _ d in
+    let files : nat_le plan.files 1000 ≡ true = and_right _ _ e in
+    let few : plan.files ≤ 1000 = grind (arith, nat_tests, files) in
+    let f = and_left _ _ e in
+    let arbiter : not plan.shape.arbiter ≡ true = and_right _ _ f in
+    let bricks : (plan.shape.n == 3) ≡ true = and_left _ _ f in
+    let g = and_left _ _ alone in
+    record {
+      bricks = grind (arith, nat_tests, bricks);
+      arbiter = not-true plan.shape.arbiter arbiter;
+      files = few;
+      gfids = omega (arith, few);
+      some_turns = grind (arith, nat_tests, some);
+      turns = grind (arith, nat_tests, turns);
+      clients = grind (arith, nat_tests, clients);
+      scripts = (scripts_run plan).0 (and_right _ _ (and_right _ _ h));
+      healers = none_of plan.healers (and_left _ _ g);
+      events = (events_run plan).0 (and_right _ _ g);
+      go = (orders_run plan).0 (and_right _ _ alone);
+      names = grind (arith, nat_tests, names);
+    }
+
+pub runnable-back : (plan : Plan) → IsRunnable plan → is_runnable plan ≡ true
+runnable-back plan h =
+    let bricks : (plan.shape.n == 3) ≡ true = rw h.bricks refl in
+    let arbiter : not plan.shape.arbiter ≡ true = rw h.arbiter refl in
+    let f0 = h.files in
+    let files : nat_le plan.files 1000 ≡ true = grind (arith, nat_tests, f0) in
+    let s0 = h.some_turns in
+    let some : nat_le 1 plan.turns ≡ true = grind (arith, nat_tests, s0) in
+    let t0 = h.turns in
+    let turns : nat_le plan.turns 4000000 ≡ true = grind (arith, nat_tests, t0) in
+    let c0 = h.clients in
+    let clients : nat_le (length plan.clients) 16 ≡ true = grind (arith, nat_tests, c0) in
+    let n0 = h.names in
+    let names : nat_le plan.files (length plan.words.names) ≡ true = grind (arith, nat_tests, n0) in
+    let numbers : has_runnable_numbers plan ≡ true = rw (bricks, arbiter, files, some, turns, clients, names) refl in
+    let healers : (length plan.healers == 0) ≡ true = rw h.healers refl in
+    let alone : has_clients_alone plan ≡ true = rw (healers, (events_run plan).1 h.events, (orders_run plan).1 h.go) refl in
+    and_from (has_runnable_numbers plan) (has_clients_alone plan && list_all is_runnable_script plan.clients) numbers
+    (and_from (has_clients_alone plan) (list_all is_runnable_script plan.clients) alone ((scripts_run plan).1 h.scripts))

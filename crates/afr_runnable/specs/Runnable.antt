@@ -1,0 +1,53 @@
+-- The plans that are run so far: three bricks, at most 16 clients, faults, events and orders, and no healers.
+use Rattle.std.specs.Prelude.{◌≡◌, ℕ, ◌+◌, ◌≤◌, ◌<◌, ◌^◌, List, [], length, nat_lt, Bool, true, false}
+use Rattle.std.specs.List.{All}
+use Rattle.afr_base.specs.declared.ids.NameId.{NameId}
+use Rattle.afr_lines.specs.declared.line.Event.{Event}
+use Rattle.afr_lines.specs.declared.line.Event.TheVariants as event
+use Rattle.afr_plan.specs.declared.command.Command.{Command}
+use Rattle.afr_plan.specs.declared.command.Command.TheVariants.{Create, Mkdir, Unlink, Rmdir}
+use Rattle.afr_plan.specs.declared.plan.Plan.{Plan}
+
+-- a path has a name
+abbrev pub has_name : List NameId → Bool
+has_name path = nat_lt 0 (length path)
+
+-- a command that makes a name or removes one says which
+abbrev pub has_its_name : Command → Bool
+has_its_name (Create path) = has_name path
+has_its_name (Mkdir path) = has_name path
+has_its_name (Unlink path) = has_name path
+has_its_name (Rmdir path) = has_name path
+has_its_name command = true
+
+-- a script of at most 16,384 commands, each of which has the name that it needs
+pub record IsRunnableScript (script : List Command) : Type 0 where
+  pub few : length script ≤ 16384
+  pub commands : All (λ command. has_its_name command ≡ true) script
+
+-- the actor is one of so many clients
+abbrev pub IsOneOf : ℕ → ℕ → Type 0
+IsOneOf clients a = (1 ≤ a) × (a ≤ clients)
+
+-- where the event names an actor, it is one of so many clients; where it names a brick, it is one of so many bricks
+abbrev pub IsAboutVolume : ℕ → ℕ → Event → Type 0
+IsAboutVolume n clients (event.Stop brick) = brick.0 < n
+IsAboutVolume n clients (event.Start brick) = brick.0 < n
+IsAboutVolume n clients (event.Cut actor brick) = IsOneOf clients actor.0 × (brick.0 < n)
+IsAboutVolume n clients (event.Join actor brick) = IsOneOf clients actor.0 × (brick.0 < n)
+IsAboutVolume n clients (event.Kill actor) = IsOneOf clients actor.0
+
+-- what every plan that is run so far is like; its faults are free
+pub record IsRunnable (plan : Plan) : Type 0 where
+  pub bricks : plan.shape.n ≡ 3
+  pub arbiter : plan.shape.arbiter ≡ false
+  pub files : plan.files ≤ 1000
+  pub gfids : 2 ^ 64 + plan.files < 2 ^ 128
+  pub some_turns : 1 ≤ plan.turns
+  pub turns : plan.turns ≤ 4000000
+  pub clients : length plan.clients ≤ 16
+  pub scripts : All IsRunnableScript plan.clients
+  pub healers : plan.healers ≡ []
+  pub events : All (λ planned. IsAboutVolume plan.shape.n (length plan.clients) planned.event) plan.events
+  pub go : All (λ order. IsOneOf (length plan.clients) order.actor.0) plan.go
+  pub names : plan.files ≤ length plan.words.names
