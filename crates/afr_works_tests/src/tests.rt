@@ -118,6 +118,14 @@ fn attribute_of_the_root(alloc: Global) -> Option<Work> {
     on_three(alloc, &command)
 }
 
+/// What is answered once the operation, post-op and the unlocks were done everywhere.
+fn finished(work: &mut Work) -> Option<Next> {
+    all_done(work);
+    all_done(work);
+    all_done(work);
+    next_of(work)
+}
+
 /// Whether its operation carried it, and what it answers.
 fn carried_out(alloc: Global) -> Option<(bool, Next)> {
     let mut work = attribute_of_the_root(alloc)?;
@@ -126,10 +134,7 @@ fn carried_out(alloc: Global) -> Option<(bool, Next)> {
     begins(&mut work);
     all_done(&mut work);
     let carried = carries_the_attribute(&work);
-    all_done(&mut work);
-    all_done(&mut work);
-    all_done(&mut work);
-    let next = next_of(&work)?;
+    let next = finished(&mut work)?;
     Some((carried, next))
 }
 
@@ -150,14 +155,15 @@ fn directory_in_the_root(alloc: Global) -> Option<Work> {
     on_three(alloc, &Command::Mkdir { path })
 }
 
+/// The attempt began at line 10, which numbers the directory.
 fn carries_the_directory(work: &Work) -> bool {
     matches!(
         work.load(),
         Load::Change(Change::Make {
             dir: ROOT,
             name: NameId(7),
+            gfid: Gfid(12),
             what: What::Dir,
-            ..
         })
     )
 }
@@ -171,10 +177,7 @@ fn made(alloc: Global) -> Option<(bool, Next)> {
     begins(&mut work);
     all_done(&mut work);
     let carried = carries_the_directory(&work);
-    all_done(&mut work);
-    all_done(&mut work);
-    all_done(&mut work);
-    let next = next_of(&work)?;
+    let next = finished(&mut work)?;
     Some((carried, next))
 }
 
