@@ -1,3 +1,5 @@
 pub mod Found
+pub mod IndexKept
+pub mod IndexLemmas
 pub mod Made
 pub mod Mended

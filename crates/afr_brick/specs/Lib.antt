@@ -1,3 +1,4 @@
+pub mod Followed
 pub mod State
 pub mod TablesLemmas
 pub mod Undone

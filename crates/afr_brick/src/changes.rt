@@ -6,15 +6,15 @@ ghost use Rattle.afr_content.specs.Bytes.{written};
 ghost use Rattle.afr_brick.specs.State.{CanApply, takes_memory};
 ghost use Rattle.afr_object.specs.Tables.{applied, changed, copy_at, gfid_cmp, linked, name_cmp, new_object, object_of, with_attr, with_bytes, with_names};
 
-use crate::brick::Brick;
 use crate::refused::Refused;
+use crate::store::Store;
 use afr_base::{Gfid, KeyId, NameId, NoMemory, ValueId, What};
 use afr_object::{Change, Chunk, Entry, Object};
 
-impl Brick {
+impl Store {
     /// Carries a change out. A change of bytes leaves a directory as it is, a change of names leaves
     /// a file, and an arbiter keeps no bytes.
-    pub fn apply(&mut self, change: &Change) -> Result<(), Refused>
+    pub(crate) fn apply(&mut self, change: &Change) -> Result<(), Refused>
         requires { CanApply change.now self.old.objects }
         ensures ok { OnOk result (self.new ≡ record self.old { objects = applied self.old.keeps change.now self.old.objects }) }
         ensures absent { (result ≡ Err Refused.NoObject) ↔ (copy_at (object_of change.now) self.old.objects ≡ None) }

@@ -3,10 +3,12 @@
 
 mod brick;
 mod changes;
+mod index;
 mod numbers;
 mod reads;
 mod refused;
 mod repairs;
+mod store;
 
 pub use brick::Brick;
 pub use refused::Refused;

@@ -1,21 +1,24 @@
 //! The changelog numbers of a copy before and after an operation, and after a heal.
 ghost use Rattle.std.specs.Prelude.{◌≡◌, ◌≢◌, ◌↔◌, None, OnOk, OnErr};
+ghost use Rattle.std.specs.List.Sorted.{IsStrictlySortedBy};
+ghost use Rattle.std.specs.Map.{keys_of};
 ghost use Rattle.afr_base.specs.Marks.{closed_op, dirtied, taken_back};
 ghost use Rattle.afr_brick.specs.State.{CanPre, CanPost, CanSettle};
-ghost use Rattle.afr_object.specs.Tables.{changed, copy_at, with_numbers};
+ghost use Rattle.afr_object.specs.Tables.{changed, copy_at, gfid_cmp, with_numbers};
 
-use crate::brick::Brick;
 use crate::refused::Refused;
+use crate::store::Store;
 use afr_base::{BrickSet, Gfid, Kind, Marks};
 
-impl Brick {
+impl Store {
     /// The pre-op: one more operation is open on the copy.
-    pub fn pre(&mut self, g: Gfid, kind: Kind) -> Result<(), Refused>
+    pub(crate) fn pre(&mut self, g: Gfid, kind: Kind) -> Result<(), Refused>
         requires { CanPre kind g self.old.objects }
         ensures ok { OnOk result (self.new ≡ record self.old { objects = changed (with_numbers kind dirtied) g (copy_at g self.old.objects) self.old.objects }) }
         ensures absent { (result ≡ Err Refused.NoObject) ↔ (copy_at g self.old.objects ≡ None) }
         ensures never { result ≢ Err Refused.NoMemory }
         ensures err { OnErr result (self.new ≡ self.old) }
+        ensures order { IsStrictlySortedBy gfid_cmp (keys_of self.old.objects) }
     {
         let Some(object) = self.objects.get_mut(&g) else {
             return Err(Refused::NoObject);
@@ -27,12 +30,13 @@ impl Brick {
     }
 
     /// The post-op: one operation fewer is open, and each brick that missed it is accused.
-    pub fn post(&mut self, g: Gfid, kind: Kind, missed: BrickSet) -> Result<(), Refused>
+    pub(crate) fn post(&mut self, g: Gfid, kind: Kind, missed: BrickSet) -> Result<(), Refused>
         requires { CanPost kind g self.old.objects }
         ensures ok { OnOk result (self.new ≡ record self.old { objects = changed (with_numbers kind (closed_op missed)) g (copy_at g self.old.objects) self.old.objects }) }
         ensures absent { (result ≡ Err Refused.NoObject) ↔ (copy_at g self.old.objects ≡ None) }
         ensures never { result ≢ Err Refused.NoMemory }
         ensures err { OnErr result (self.new ≡ self.old) }
+        ensures order { IsStrictlySortedBy gfid_cmp (keys_of self.old.objects) }
     {
         let Some(object) = self.objects.get_mut(&g) else {
             return Err(Refused::NoObject);
@@ -44,12 +48,13 @@ impl Brick {
     }
 
     /// Takes back the numbers that a heal has settled.
-    pub fn settle(&mut self, g: Gfid, kind: Kind, less: &Marks) -> Result<(), Refused>
+    pub(crate) fn settle(&mut self, g: Gfid, kind: Kind, less: &Marks) -> Result<(), Refused>
         requires { CanSettle kind less.now g self.old.objects }
         ensures ok { OnOk result (self.new ≡ record self.old { objects = changed (with_numbers kind (taken_back less.now)) g (copy_at g self.old.objects) self.old.objects }) }
         ensures absent { (result ≡ Err Refused.NoObject) ↔ (copy_at g self.old.objects ≡ None) }
         ensures never { result ≢ Err Refused.NoMemory }
         ensures err { OnErr result (self.new ≡ self.old) }
+        ensures order { IsStrictlySortedBy gfid_cmp (keys_of self.old.objects) }
     {
         let Some(object) = self.objects.get_mut(&g) else {
             return Err(Refused::NoObject);

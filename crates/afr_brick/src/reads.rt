@@ -19,10 +19,11 @@ impl Brick {
         ensures ok { IfOk result (λ bytes. option_map (λ o. take len (drop at o.content)) (copy_at g self.now.objects) ≡ Some bytes) }
         ensures absent { (result ≡ Err Refused.NoObject) ↔ (copy_at g self.now.objects ≡ None) }
     {
-        let Some(object) = self.objects.get(&g) else {
+        let store = &self.store;
+        let Some(object) = store.objects.get(&g) else {
             return Err(Refused::NoObject);
         };
-        let bytes = bytes_of(self.alloc, &object.content, at, len)?;
+        let bytes = bytes_of(store.alloc, &object.content, at, len)?;
         Ok(List::from_vec(bytes))
     }
 
@@ -32,7 +33,8 @@ impl Brick {
         ensures absent { (result ≡ Err Refused.NoObject) ↔ (copy_at g self.now.objects ≡ None) }
         ensures never { result ≢ Err Refused.NoMemory }
     {
-        let Some(object) = self.objects.get(&g) else {
+        let store = &self.store;
+        let Some(object) = store.objects.get(&g) else {
             return Err(Refused::NoObject);
         };
         Ok(object.names.get(name))
@@ -44,10 +46,11 @@ impl Brick {
         ensures order { IfOk result (λ names. IsStrictlySortedBy name_cmp (keys_of names)) }
         ensures absent { (result ≡ Err Refused.NoObject) ↔ (copy_at g self.now.objects ≡ None) }
     {
-        let Some(object) = self.objects.get(&g) else {
+        let store = &self.store;
+        let Some(object) = store.objects.get(&g) else {
             return Err(Refused::NoObject);
         };
-        let names = object.names.list(self.alloc)?;
+        let names = object.names.list(store.alloc)?;
         Ok(names)
     }
 
@@ -57,7 +60,8 @@ impl Brick {
         ensures absent { (result ≡ Err Refused.NoObject) ↔ (copy_at g self.now.objects ≡ None) }
         ensures never { result ≢ Err Refused.NoMemory }
     {
-        let Some(object) = self.objects.get(&g) else {
+        let store = &self.store;
+        let Some(object) = store.objects.get(&g) else {
             return Err(Refused::NoObject);
         };
         Ok(object.attrs.get(key))
@@ -69,24 +73,22 @@ impl Brick {
         ensures order { IfOk result (λ attrs. IsStrictlySortedBy key_cmp (keys_of attrs)) }
         ensures absent { (result ≡ Err Refused.NoObject) ↔ (copy_at g self.now.objects ≡ None) }
     {
-        let Some(object) = self.objects.get(&g) else {
+        let store = &self.store;
+        let Some(object) = store.objects.get(&g) else {
             return Err(Refused::NoObject);
         };
-        let attrs = object.attrs.list(self.alloc)?;
+        let attrs = object.attrs.list(store.alloc)?;
         Ok(attrs)
     }
 
-    /// The objects with a number above zero, in rising gfid.
+    /// The objects with a number above zero, in rising gfid: one step for each of them.
     pub fn index(&self) -> Result<IndexList, NoMemory>
         ensures ok { IfOk result (λ list. list ≡ index_of self.now.objects) }
     {
-        let mut list = List::new(self.alloc);
-        for (g, object) in self.objects.iter() {
-            if !object.marks.is_zero() {
-                list.push((*g, object.what))?;
-            }
+        match &self.index {
+            Some(index) => index.list(),
+            None => self.store.walk(),
         }
-        Ok(list)
     }
 }
 

@@ -8,15 +8,15 @@ ghost use Rattle.afr_brick.specs.Undone.{without};
 ghost use Rattle.afr_object.specs.Repairs.{all_made, mended, renamed, repaired, with_attrs};
 ghost use Rattle.afr_object.specs.Tables.{changed, copy_at, key_cmp, made, name_cmp, with_bytes, with_names};
 
-use crate::brick::Brick;
 use crate::refused::Refused;
+use crate::store::Store;
 use afr_base::{Gfid, NameId, NoMemory, What};
 use afr_object::{AttrList, Entry, Load, NameList, Object, Repair, SortedMap};
 
-impl Brick {
+impl Store {
     /// Carries a repair out with the contents that go with it. Contents of another sort change
     /// nothing.
-    pub fn repair(&mut self, repair: &Repair, load: Load<'_>) -> Result<(), Refused>
+    pub(crate) fn repair(&mut self, repair: &Repair, load: Load<'_>) -> Result<(), Refused>
         requires room { CanRepair repair.now (contents_of load) self.old.objects }
         requires order { IsInOrder (contents_of load) }
         ensures ok { OnOk result (self.new ≡ record self.old { objects = mended self.old.keeps repair.now (contents_of load.entry) self.old.objects }) }

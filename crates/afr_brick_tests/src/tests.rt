@@ -88,6 +88,21 @@ fn has_value(brick: &Brick) -> bool {
     brick.read_attr(FILE, KEY) == Ok(Some(VALUE))
 }
 
+/// Whether the index lists this file, and nothing else.
+fn lists_alone(brick: &Brick, file: Gfid) -> bool {
+    match brick.index() {
+        Ok(list) => list.len() == 1 && *list.item(0) == (file, What::File),
+        Err(_) => false,
+    }
+}
+
+fn lists_nothing(brick: &Brick) -> bool {
+    match brick.index() {
+        Ok(list) => list.len() == 0,
+        Err(_) => false,
+    }
+}
+
 /// The look shows an accused brick; what it shows is settled, and then nothing is left.
 fn shows_and_settles(brick: &mut Brick) -> bool {
     let Some(view) = brick.look(OPENED) else {
@@ -98,7 +113,9 @@ fn shows_and_settles(brick: &mut Brick) -> bool {
         && view.len == 2
         && marks.dirty == 0
         && marks.accuses(BrickId(2))
+        && lists_alone(brick, OPENED)
         && brick.settle(OPENED, Kind::Bytes, &marks).is_ok()
+        && lists_nothing(brick)
         && is_clean(brick)
 }
 
@@ -118,9 +135,11 @@ fn is_counted_and_read(alloc: Global) -> Result<bool, Refused> {
     let Ok(()) = brick.add_opening_file(NameId(0), OPENED) else {
         return Err(Refused::NoMemory);
     };
+    let made = lists_nothing(&brick);
     let Ok(()) = brick.pre(OPENED, Kind::Bytes) else {
         return Ok(false);
     };
+    let opened = lists_alone(&brick, OPENED);
     let write = Change::Write {
         gfid: OPENED,
         at: 1,
@@ -131,7 +150,8 @@ fn is_counted_and_read(alloc: Global) -> Result<bool, Refused> {
     };
     let missed = BrickSet::none().with(BrickId(2));
     let posted = brick.post(OPENED, Kind::Bytes, missed).is_ok();
-    Ok(posted && has_bytes(&brick, OPENED, b"\0\x07") && shows_and_settles(&mut brick))
+    let listed = made && opened && posted;
+    Ok(listed && has_bytes(&brick, OPENED, b"\0\x07") && shows_and_settles(&mut brick))
 }
 
 #[test]

@@ -12,10 +12,9 @@ use afr_base::{BrickSet, NoMemory};
 use afr_plan::Plan;
 use afr_server::Server;
 
-/// Adds what needs heal, where the servers' bricks hold the tables that a log has made. It walks the
-/// objects of each started brick once, and takes O(log n) more for each object with a number above 0
-/// on a brick of n objects. It doesn't read the log, and asks nothing of the servers: no request is
-/// counted.
+/// Adds what needs heal, where the servers' bricks hold the tables that a log has made. It takes
+/// O(log n) for each object that the index of a started brick lists, on a brick of n objects. It
+/// doesn't read the log, and asks nothing of the servers: no request is counted.
 pub fn print_info(
     out: &mut String,
     plan: &Plan,

@@ -10,8 +10,8 @@ use afr_object::{IndexList, List};
 use afr_server::Server;
 use std::alloc::Global;
 
-/// The objects in rising gfid, each once. It walks the objects of each brick once, and takes
-/// O(log m) for each of the m objects with a number above 0.
+/// The objects in rising gfid, each once. It takes O(log m) for each of the m objects that the
+/// index of a brick lists.
 pub fn marked(alloc: Global, servers: &[Server], among: BrickSet) -> Result<Index, NoMemory>
     requires rising { IsRising 0 among }
     ensures ok { IfOk result (λ index. index ≡ marked_in servers.now among) }

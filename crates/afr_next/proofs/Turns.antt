@@ -1,9 +1,11 @@
 -- A line that its actor's register allows comes next, and all registers stand for it.
-use Rattle.std.proofs.Common.{◌≡◌, ℕ, ◌<◌, ◌≤◌, ◌==◌, Bool, true, false, inl, refl, subst, arith, List, ◌∷◌, length}
+use Rattle.std.proofs.Common.{◌≡◌, ℕ, ◌<◌, ◌≤◌, ◌==◌, Bool, true, false, inl, inr, refl, subst, arith, List, ◌∷◌, length}
 use Rattle.std.specs.Prelude.{Some, if◌then◌else◌}
 use Rattle.std.proofs.lemmas.Bool.Decides.{nat_tests}
 use Rattle.afr_base.specs.declared.ids.ActorId.{ActorId}
 use Rattle.afr_base.specs.declared.ids.BrickId.{BrickId}
+use Rattle.afr_base.specs.declared.ids.Gfid.{Gfid}
+use Rattle.afr_base.specs.declared.ids.Kind.{Kind}
 use Rattle.afr_object.specs.declared.change.Change.{Change}
 use Rattle.afr_object.specs.declared.change.Change.TheVariants.{Write, Cut, SetAttr, Make, Remove}
 use Rattle.afr_range_locks.specs.declared.domain.Domain.TheVariants.{Heal, Work}
@@ -11,8 +13,9 @@ use Rattle.afr_lines.specs.Places.{Between, Fresh, Indexed, Place, Within, next_
 use Rattle.afr_lines.specs.declared.answer.Told.{Told}
 use Rattle.afr_lines.specs.declared.answer.Told.TheVariants.{NotConnected}
 use Rattle.afr_lines.specs.declared.line.Line.{Line}
-use Rattle.afr_lines.specs.declared.line.Line.TheVariants.{Ask, Begin, End}
+use Rattle.afr_lines.specs.declared.line.Line.TheVariants.{Ask, Begin, End, HealBegin, HealEnd}
 use Rattle.afr_lines.specs.declared.line.Line.TheVariants as line_of
+use Rattle.afr_lines.specs.declared.reply.HealReply.{HealReply}
 use Rattle.afr_lines.specs.declared.reply.Reply.{Reply}
 use Rattle.afr_lines.specs.declared.request.Request.{Request}
 use Rattle.afr_lines.specs.declared.request.Request.TheVariants.{Lock}
@@ -37,6 +40,7 @@ use Rattle.afr_next.specs.Asked.{AllowedMayBeAsked, AskedIsNoted}
 use Rattle.afr_next.specs.Begun.{AllowedMayBegin, HasNewGfid}
 use Rattle.afr_next.specs.Ended.{AllowedMayEnd}
 use Rattle.afr_next.specs.Happened.{EventKeepsAll}
+use Rattle.afr_next.specs.Healed.{AllowedMayHealBegin, AllowedMayHealEnd}
 use Rattle.afr_next.specs.Standing.{AllStand, ComesNext}
 
 -- ---- a request
@@ -113,6 +117,29 @@ may_end kept p log a said r few five k outside may range =
     stays : (inside : Bool) → inside ≡ false → (if inside then no_lines r.shape else r) ≡ r
     stays true e = cc e
     stays false e = refl
+
+-- ---- a heal
+pub may_heal_begin : EachLineIsKept → AllowedMayHealBegin
+may_heal_begin kept p log a g kind r few five k may range =
+    let turn = kept p.shape a log r (move.HealBegin g kind) NotConnected (HealBegin a g kind) few five k tt refl may in
+    comes p log a (HealBegin a g kind) _ turn.lawful range tt (record { own = turn.own; others = turn.others })
+
+heal_ends_between : (at : Place) (a : ActorId) (g : Gfid) (kind : Kind) (said : HealReply) → next_place at (HealEnd a g kind said) ≡ Between
+heal_ends_between Fresh a g kind said = refl
+heal_ends_between Indexed a g kind said = refl
+heal_ends_between Between a g kind said = refl
+heal_ends_between Within a g kind said = refl
+
+pub may_heal_end : EachLineIsKept → AllowedMayHealEnd
+may_heal_end kept p log a g kind said r few five k inside may range =
+    let turn = kept p.shape a log r (move.End true) NotConnected (HealEnd a g kind said) few five k tt (inr (record { inside = inside; gfid = g; kind = kind; reply = said; is = refl })) may in (
+      comes p log a (HealEnd a g kind said) (no_lines r.shape) turn.lawful range tt (record { own = subst (Stood p.shape a.0 (HealEnd a g kind said ∷ log)) (leaves r.inside inside) turn.own; others = turn.others }),
+      rw (self a.0) (heal_ends_between (place_of a.0 log) a g kind said),
+    )
+  where
+    leaves : (inside : Bool) → inside ≡ true → (if inside then no_lines r.shape else r) ≡ no_lines r.shape
+    leaves true e = refl
+    leaves false e = cc e
 
 -- ---- an event
 pub event_comes : EventKeepsAll

@@ -1,6 +1,7 @@
--- The plans that are run so far: three bricks, at most 16 clients, faults, events and orders, and no healers.
-use Rattle.std.specs.Prelude.{◌≡◌, ℕ, ◌+◌, ◌≤◌, ◌<◌, ◌^◌, List, [], length, nat_lt, Bool, true, false}
+-- The plans that are run so far: three bricks, at most 16 clients and 3 healers, faults, events and orders.
+use Rattle.std.specs.Prelude.{◌≡◌, ◌⊎◌, ℕ, ◌+◌, ◌≤◌, ◌<◌, ◌^◌, List, length, nat_lt, Bool, true, false}
 use Rattle.std.specs.List.{All}
+use Rattle.afr_base.specs.declared.ids.BrickId.{BrickId}
 use Rattle.afr_base.specs.declared.ids.NameId.{NameId}
 use Rattle.afr_lines.specs.declared.line.Event.{Event}
 use Rattle.afr_lines.specs.declared.line.Event.TheVariants as event
@@ -25,17 +26,21 @@ pub record IsRunnableScript (script : List Command) : Type 0 where
   pub few : length script ≤ 16384
   pub commands : All (λ command. has_its_name command ≡ true) script
 
--- the actor is one of so many clients
-abbrev pub IsOneOf : ℕ → ℕ → Type 0
-IsOneOf clients a = (1 ≤ a) × (a ≤ clients)
+-- rounds over bricks of the volume
+abbrev pub AreRunnableRounds : ℕ → List BrickId → Type 0
+AreRunnableRounds n rounds = All (λ brick. brick.0 < n) rounds
 
--- where the event names an actor, it is one of so many clients; where it names a brick, it is one of so many bricks
-abbrev pub IsAboutVolume : ℕ → ℕ → Event → Type 0
-IsAboutVolume n clients (event.Stop brick) = brick.0 < n
-IsAboutVolume n clients (event.Start brick) = brick.0 < n
-IsAboutVolume n clients (event.Cut actor brick) = IsOneOf clients actor.0 × (brick.0 < n)
-IsAboutVolume n clients (event.Join actor brick) = IsOneOf clients actor.0 × (brick.0 < n)
-IsAboutVolume n clients (event.Kill actor) = IsOneOf clients actor.0
+-- the actor is one of so many clients, or one of so many healers
+abbrev pub IsOneOf : ℕ → ℕ → ℕ → Type 0
+IsOneOf clients healers a = ((1 ≤ a) × (a ≤ clients)) ⊎ ((17 ≤ a) × (a ≤ 16 + healers))
+
+-- where the event names an actor, it is one of so many clients or healers; where it names a brick, it is one of so many bricks
+abbrev pub IsAboutVolume : ℕ → ℕ → ℕ → Event → Type 0
+IsAboutVolume n clients healers (event.Stop brick) = brick.0 < n
+IsAboutVolume n clients healers (event.Start brick) = brick.0 < n
+IsAboutVolume n clients healers (event.Cut actor brick) = IsOneOf clients healers actor.0 × (brick.0 < n)
+IsAboutVolume n clients healers (event.Join actor brick) = IsOneOf clients healers actor.0 × (brick.0 < n)
+IsAboutVolume n clients healers (event.Kill actor) = IsOneOf clients healers actor.0
 
 -- what every plan that is run so far is like; its faults are free
 pub record IsRunnable (plan : Plan) : Type 0 where
@@ -47,7 +52,8 @@ pub record IsRunnable (plan : Plan) : Type 0 where
   pub turns : plan.turns ≤ 4000000
   pub clients : length plan.clients ≤ 16
   pub scripts : All IsRunnableScript plan.clients
-  pub healers : plan.healers ≡ []
-  pub events : All (λ planned. IsAboutVolume plan.shape.n (length plan.clients) planned.event) plan.events
-  pub go : All (λ order. IsOneOf (length plan.clients) order.actor.0) plan.go
+  pub healers : length plan.healers ≤ 3
+  pub rounds : All (AreRunnableRounds plan.shape.n) plan.healers
+  pub events : All (λ planned. IsAboutVolume plan.shape.n (length plan.clients) (length plan.healers) planned.event) plan.events
+  pub go : All (λ order. IsOneOf (length plan.clients) (length plan.healers) order.actor.0) plan.go
   pub names : plan.files ≤ length plan.words.names

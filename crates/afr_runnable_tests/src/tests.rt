@@ -15,7 +15,7 @@ fn is_runnable(alloc: Global, text: &str) -> Option<bool> {
 }
 
 #[test]
-fn clients_are_run_and_healers_are_not(rt: HostRuntime) -> Result<(), Fail> {
+fn clients_and_healers_are_run(rt: HostRuntime) -> Result<(), Fail> {
     for (rest, want) in [
         ("", true),
         ("client 1\nwrite /f1 0 hex:00ff\nread /f1 3 10\n", true),
@@ -25,7 +25,11 @@ fn clients_are_run_and_healers_are_not(rt: HostRuntime) -> Result<(), Fail> {
         ("client 1\ncreate /a\nmkdir /b\nunlink /a\n", true),
         ("client 1\nrmdir /a\n", true),
         ("client 1\nclient 2\nstat /\n", true),
-        ("healer 1\n", false),
+        ("healer 1\n", true),
+        (
+            "client 1\nstat /\nhealer 1\nround 0\nround 2\nat 3 kill h1\ngo h1 2\n",
+            true,
+        ),
         ("fault 0 1 fail\nfault 1 2 lost\n", true),
         ("client 1\nat 0 stop 1\nat 1 cut c1 0\nat 2 kill c1\n", true),
         ("client 1\ngo c1 1\n", true),

@@ -21,7 +21,7 @@ impl Server {
     /// `Failed`. Any other is carried out, and where its answer is lost the session ends. Each
     /// request is counted; want of memory changes nothing, the count included. O(log n) steps on n
     /// objects, names and faults, one for each lock on the brick and for each byte or name that is
-    /// moved; an index takes one for each object.
+    /// moved; an index takes one for each listed object.
     pub fn ask(
         &mut self,
         actor: ActorId,

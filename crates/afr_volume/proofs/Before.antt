@@ -1,5 +1,5 @@
 -- What is known of the log and of an actor's work before its next line.
-use Rattle.std.proofs.Common.{◌≡◌, ◌∙◌, ℕ, ◌<◌, ◌≤◌, Bool, true, false, not, List, refl, sym, ap, arith, subst, length, Some, slice_get}
+use Rattle.std.proofs.Common.{◌≡◌, ◌∙◌, ℕ, ◌+◌, ◌<◌, ◌≤◌, Bool, true, false, not, List, refl, sym, ap, arith, subst, length, Some, slice_get}
 use Rattle.afr_base.specs.declared.ids.ActorId.{ActorId}
 use Rattle.afr_base.specs.declared.ids.BrickId.{BrickId}
 use Rattle.afr_faults.specs.Planned.{next_fault}
@@ -51,10 +51,14 @@ pub record IsBefore (p : Plan) (a : ActorId) (log : List Line) (servers : List S
   pub one : 1 ≤ a.0
   pub client : a.0 ≤ 16
 
--- a plan without healers has clients alone
-pub client_is : (p : Plan) (a : ℕ) → CanRun p → IsActor p a → (1 ≤ a) × (a ≤ length p.clients) × (a ≤ 16)
-client_is p a run (Client one most) = (one, most, omega (arith, most, run.clients))
-client_is p a run (Healer low most) = absurd (omega (arith, low, most, ap length run.healers))
+-- an actor up to number 16 is a client, and one above is a healer
+pub client_is : (p : Plan) (a : ℕ) → CanRun p → a ≤ 16 → IsActor p a → (1 ≤ a) × (a ≤ length p.clients) × (a ≤ 16)
+client_is p a run low (Client one most) = (one, most, omega (arith, most, run.clients))
+client_is p a run low (Healer high most) = absurd (omega (arith, low, high))
+
+pub healer_is : (p : Plan) (a : ℕ) → CanRun p → (a ≤ 16 → ⊥) → IsActor p a → (17 ≤ a) × (a ≤ 16 + length p.healers) × (a < 20)
+healer_is p a run high (Client one most) = absurd (high (omega (arith, most, run.clients)))
+healer_is p a run high (Healer low most) = (low, most, omega (arith, most, run.healers))
 
 -- ---- the register and the sessions at the next line
 pub opened : (met : Bool) (p : Plan) (a : ℕ) (log : List Line) (r : Register) (line : Line) → IsNoted met p.shape a log r → opens (place_of a log) line ≡ not met

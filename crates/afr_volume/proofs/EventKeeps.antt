@@ -21,10 +21,13 @@ use Rattle.afr_servers.specs.Calls.{MeetsEach}
 use Rattle.afr_servers.specs.Log.{AreFound, AreServed}
 use Rattle.afr_servers.specs.NextLine.{EventAreServed}
 use Rattle.afr_servers.specs.declared.epochs.Epochs.{Epochs}
-use Rattle.afr_volume.specs.Keeping.{CanRun, IsActing, IsEventOf, IsVolume}
-use Rattle.afr_volume.specs.Turning.{KillsIn, due_of, if_due}
+use Rattle.afr_rounds.specs.declared.healer.Healer.{Healer}
+use Rattle.afr_volume.specs.Keeping.{CanRun, IsActing, IsEventOf, IsVolume, IsWhole}
+use Rattle.afr_volume.specs.Turning.{HasHealer, HasVictim, KillsHealersIn, KillsIn, due_of, if_due}
 use Rattle.afr_volume.specs.declared.actor.Actor.{Actor}
-use Rattle.afr_volume.specs.Laws.{EventLaws}
+use Rattle.afr_volume.specs.Laws.{EventLaws, RoundLaws}
+use Rattle.afr_volume.proofs.Before.{client_is, healer_is}
+use Rattle.afr_volume.proofs.HealersKeep.{healers_happen}
 use Rattle.afr_volume.proofs.LineKeeps.{stays}
 use Rattle.afr_volume.proofs.LogLemmas.{reverse_push}
 
@@ -100,6 +103,44 @@ pub happened : (laws : EventLaws) (p : Plan) (items added : List Line) (servers 
 happened laws p items added servers new actors after made event v fits due meets kills grown =
     rw (grown, reverse_push items (line_of.Event event))
     (kept_event laws.happened laws.comes p (reverse items) servers new actors after made event v fits (due_gives (record { plan = p; log = reverse items }) event due) meets kills)
+
+-- and so of the healers
+pub whole_happened : (rounds : RoundLaws) (laws : EventLaws) (p : Plan) (items added : List Line) (servers new : List Serving) (actors after : List Actor) (healers healers_after : List Healer) (made : ℕ) (event : Event)
+    → IsWhole p (reverse items) servers actors healers made → InRange (line_of.Event event) → due_of (record { plan = p; log = reverse items }) ≡ Some event → MeetsEach event servers new → KillsIn event actors after → KillsHealersIn event healers healers_after
+    → added ≡ items ++ line_of.Event event ∷ [] → IsWhole p (reverse added) new after healers_after (made + 1)
+whole_happened rounds laws p items added servers new actors after healers healers_after made event w fits due meets kills healers_killed grown = record {
+  kept = happened laws p items added servers new actors after made event w.kept fits due meets kills grown;
+  healing =
+      rw (grown, reverse_push items (line_of.Event event))
+      (healers_happen rounds laws p event (reverse items) servers new healers healers_after fits (laws.comes p (reverse items) event servers new w.kept.runnable.few w.kept.served meets).1 healers_killed w.healing);
+}
+
+-- ---- whom it kills is there
+event_is : (p : Plan) (log : List Line) (event : Event) → CanRun p → due_of (record { plan = p; log = log }) ≡ Some event → IsEventOf p event
+event_is p log event run due = (let d = due_gives (record { plan = p; log = log }) event due in subst (IsEventOf p) d.same (run.events (events_made log) d.planned d.next))
+
+pub victim_there : (p : Plan) (log : List Line) (event : Event) (actors : List Actor) → CanRun p → length actors ≡ length p.clients → due_of (record { plan = p; log = log }) ≡ Some event → HasVictim event actors
+victim_there p log event actors run same due = by event (event_is p log event run due)
+  where
+    by : (event : Event) → IsEventOf p event → HasVictim event actors
+    by (Stop b) k = tt
+    by (Start b) k = tt
+    by (Cut a b) k = tt
+    by (Join a b) k = tt
+    by (Kill a) k = λ low. let c = client_is p a.0 run low k in let most = c.1 in (c.0, omega (arith, most, same))
+
+pub healer_there : (p : Plan) (log : List Line) (event : Event) (healers : List Healer) → CanRun p → length healers ≡ length p.healers → due_of (record { plan = p; log = log }) ≡ Some event → HasHealer event healers
+healer_there p log event healers run same due = by event (event_is p log event run due)
+  where
+    above : (a : ℕ) → 17 ≤ a → a ≤ 16 → ⊥
+    above a low high = absurd (omega (arith, low, high))
+
+    by : (event : Event) → IsEventOf p event → HasHealer event healers
+    by (Stop b) k = tt
+    by (Start b) k = tt
+    by (Cut a b) k = tt
+    by (Join a b) k = tt
+    by (Kill a) k = λ low. let most = (healer_is p a.0 run (above a.0 low) k).1 in omega (arith, most, same)
 
 -- ---- the started bricks
 start_within : (p : Plan) (event : Event) (s : List ℕ) → IsEventOf p event → IsWithin p.shape.n s → IsWithin p.shape.n (started_after event s)

@@ -3,13 +3,16 @@ use Rattle.std.proofs.Common.{◌≡◌, ◌≢◌, ◌∙◌, ℕ, ◌≤◌, �
 use Rattle.std.proofs.lemmas.Bool.Decides.{nat_tests}
 use Rattle.afr_base.specs.declared.ids.ActorId.{ActorId}
 use Rattle.afr_base.specs.declared.ids.BrickId.{BrickId}
+use Rattle.afr_base.specs.declared.ids.Gfid.{Gfid}
+use Rattle.afr_base.specs.declared.ids.Kind.{Kind}
 use Rattle.afr_discipline.specs.declared.register.Register.{Register}
 use Rattle.afr_law.specs.Exactly.{IsLawfulExactly}
 use Rattle.afr_lines.specs.Places.{place_of}
 use Rattle.afr_lines.specs.Work.{ended, events_made, is_killed, is_of, work}
 use Rattle.afr_lines.specs.declared.answer.Told.{Told}
 use Rattle.afr_lines.specs.declared.line.Line.{Line}
-use Rattle.afr_lines.specs.declared.line.Line.TheVariants.{Ask, Begin, End}
+use Rattle.afr_lines.specs.declared.line.Line.TheVariants.{Ask, Begin, End, HealBegin, HealEnd}
+use Rattle.afr_lines.specs.declared.reply.HealReply.{HealReply}
 use Rattle.afr_lines.specs.declared.reply.Reply.{Reply}
 use Rattle.afr_lines.specs.declared.request.Request.{Request}
 use Rattle.afr_model.specs.Actors.{script_of}
@@ -32,11 +35,13 @@ use Rattle.afr_works_tell.specs.WorkTelling.{WorkTells}
 use Rattle.afr_volume.specs.Keeping.{Carries, CarriesOut, IsActing, IsInSession, IsNoted}
 use Rattle.afr_volume.specs.declared.actor.Actor.{Actor}
 
--- ---- the lines that clients write
+-- ---- the lines that actors write
 pub data Wrote (a : ActorId) : Line → Type 0 where
   Asks : (b : BrickId) (r : Request) (told : Told) (took : Bool) → Wrote a (Ask a b r told took)
   Begins : (c : Change) → Wrote a (Begin a c)
   Ends : (r : Reply) → Wrote a (End a r)
+  Parts : (g : Gfid) (kind : Kind) → Wrote a (HealBegin a g kind)
+  Heals : (g : Gfid) (kind : Kind) (r : HealReply) → Wrote a (HealEnd a g kind r)
 
 pub self : (n : ℕ) → (n == n) ≡ true
 self n = grind (arith, nat_tests)
@@ -45,37 +50,58 @@ pub wrote_own : (a : ActorId) (line : Line) → Wrote a line → is_of a.0 line 
 wrote_own a line (Asks b r told took) = self a.0
 wrote_own a line (Begins c) = self a.0
 wrote_own a line (Ends r) = self a.0
+wrote_own a line (Parts g kind) = self a.0
+wrote_own a line (Heals g kind r) = self a.0
 
 pub wrote_due : (p : Plan) (a : ActorId) (line : Line) (log : List Line) → Wrote a line → IsTurnOf p a.0 line log → NoneDue p log → IsDue p line log
 wrote_due p a line log (Asks b r told took) t n = (t, n)
 wrote_due p a line log (Begins c) t n = (t, n)
 wrote_due p a line log (Ends r) t n = (t, n)
+wrote_due p a line log (Parts g kind) t n = (t, n)
+wrote_due p a line log (Heals g kind r) t n = (t, n)
 
 pub wrote_made : (a : ActorId) (line : Line) (log : List Line) → Wrote a line → events_made (line ∷ log) ≡ events_made log
 wrote_made a line log (Asks b r told took) = refl
 wrote_made a line log (Begins c) = refl
 wrote_made a line log (Ends r) = refl
+wrote_made a line log (Parts g kind) = refl
+wrote_made a line log (Heals g kind r) = refl
 
 pub wrote_killed : (a : ActorId) (c : ℕ) (line : Line) (log : List Line) → Wrote a line → is_killed c (line ∷ log) ≡ is_killed c log
 wrote_killed a c line log (Asks b r told took) = refl
 wrote_killed a c line log (Begins x) = refl
 wrote_killed a c line log (Ends r) = refl
+wrote_killed a c line log (Parts g kind) = refl
+wrote_killed a c line log (Heals g kind r) = refl
+
+pub wrote_other : (a : ActorId) (c : ℕ) (line : Line) → Wrote a line → (a.0 == c) ≡ false → is_of c line ≡ false
+wrote_other a c line (Asks b r told took) e = e
+wrote_other a c line (Begins x) e = e
+wrote_other a c line (Ends r) e = e
+wrote_other a c line (Parts g kind) e = e
+wrote_other a c line (Heals g kind r) e = e
 
 -- ---- the other actors
-other_work : (a : ActorId) (c : ℕ) (line : Line) (log : List Line) → Wrote a line → (a.0 == c) ≡ false → work c (line ∷ log) ≡ work c log
+pub other_work : (a : ActorId) (c : ℕ) (line : Line) (log : List Line) → Wrote a line → (a.0 == c) ≡ false → work c (line ∷ log) ≡ work c log
 other_work a c line log (Asks b r told took) e = rw e refl
 other_work a c line log (Begins x) e = rw e refl
 other_work a c line log (Ends r) e = rw e refl
+other_work a c line log (Parts g kind) e = rw e refl
+other_work a c line log (Heals g kind r) e = rw e refl
 
-other_place : (a : ActorId) (c : ℕ) (line : Line) (log : List Line) → Wrote a line → (a.0 == c) ≡ false → place_of c (line ∷ log) ≡ place_of c log
+pub other_place : (a : ActorId) (c : ℕ) (line : Line) (log : List Line) → Wrote a line → (a.0 == c) ≡ false → place_of c (line ∷ log) ≡ place_of c log
 other_place a c line log (Asks b r told took) e = rw e refl
 other_place a c line log (Begins x) e = rw e refl
 other_place a c line log (Ends r) e = rw e refl
+other_place a c line log (Parts g kind) e = rw e refl
+other_place a c line log (Heals g kind r) e = rw e refl
 
-other_ended : (a : ActorId) (c : ℕ) (line : Line) (log : List Line) → Wrote a line → (a.0 == c) ≡ false → ended c (line ∷ log) ≡ ended c log
+pub other_ended : (a : ActorId) (c : ℕ) (line : Line) (log : List Line) → Wrote a line → (a.0 == c) ≡ false → ended c (line ∷ log) ≡ ended c log
 other_ended a c line log (Asks b r told took) e = refl
 other_ended a c line log (Begins x) e = refl
 other_ended a c line log (Ends r) e = rw e refl
+other_ended a c line log (Parts g kind) e = refl
+other_ended a c line log (Heals g kind r) e = refl
 
 -- what an actor is at goes over a line that changes neither its work nor its place
 module _ (p : Plan) (c : ℕ) (line : Line) (log : List Line) (old new : List Serving)

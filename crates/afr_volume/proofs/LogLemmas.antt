@@ -1,11 +1,12 @@
 -- The log as the code keeps it, the oldest line first, and as contracts see it.
-use Rattle.std.proofs.Common.{◌≡◌, ℕ, ◌-◌, ◌==◌, List, [], ◌∷◌, ◌++◌, refl, ap, ◌∙◌, Some, arith, zero, suc, reverse, slice_get, if◌then◌else◌, false, length, length-append, get_or}
+use Rattle.std.proofs.Common.{◌≡◌, ℕ, ◌-◌, ◌<◌, ◌==◌, List, [], ◌∷◌, ◌++◌, refl, ap, ◌∙◌, Some, arith, zero, suc, reverse, slice_get, if◌then◌else◌, false, length, length-append, get_or}
 use Rattle.std.proofs.Math.Seq.{get_or-append_seam}
 use Rattle.std.proofs.lemmas.Bool.Decides.{nat_tests}
-use Rattle.std.proofs.lemmas.List.{reverse-append}
+use Rattle.std.proofs.lemmas.List.{length-reverse, reverse-append}
 use Rattle.std.proofs.lemmas.Grind.{reverse_onto}
 use Rattle.afr_lines.specs.Log.{from_oldest}
 use Rattle.afr_lines.specs.declared.line.Line.{Line}
+use Rattle.afr_plan.specs.declared.plan.Plan.{Plan}
 
 -- the newest line of a log that is kept oldest first
 pub reverse_push : (xs : List Line) (x : Line) → reverse (xs ++ x ∷ []) ≡ x ∷ reverse xs
@@ -31,3 +32,7 @@ from_oldest-reverse (x ∷ xs) (suc k) = ap (from_oldest (suc k)) (reverse_onto 
 
     pred : suc k - 1 ≡ k
     pred = omega arith
+
+-- a log that has room has it as the code keeps it
+pub few_items : (p : Plan) (items : List Line) → length (reverse items) < p.turns → length items < p.turns
+few_items p items room = omega (arith, length-reverse items, room)

@@ -5,8 +5,11 @@ use Rattle.afr_plan.specs.declared.plan.Plan.{Plan}
 use Rattle.afr_server.specs.Serving.{Serving}
 use Rattle.afr_servers.specs.NextLine.{NewAreServed}
 use Rattle.afr_servers.specs.Opening.{AreNew}
-use Rattle.afr_volume.specs.Keeping.{CanRun, IsActing, IsVolume}
-use Rattle.afr_volume.specs.Starting.{AreNewActors, IsNewActor}
+use Rattle.afr_rounds.specs.Acting.{IsNewHealer}
+use Rattle.afr_rounds.specs.Keeping.{IsHealer}
+use Rattle.afr_rounds.specs.declared.healer.Healer.{Healer}
+use Rattle.afr_volume.specs.Keeping.{CanRun, IsActing, IsVolume, IsWhole}
+use Rattle.afr_volume.specs.Starting.{AreNewActors, AreNewHealers, IsNewActor}
 use Rattle.afr_volume.specs.declared.actor.Actor.{Actor}
 
 -- an actor that has begun nothing stands for no line
@@ -31,3 +34,18 @@ fresh_volume laws p log servers actors run none opened idle = rw none (record {
   replied = tt;
   blamed = tt;
 })
+
+-- a healer that has begun nothing stands for no line
+opens_resting : (p : Plan) (servers : List Serving) (a : ℕ) (x : Healer) → IsNewHealer x → IsHealer p [] a servers x
+opens_resting p servers a x k = record {
+  ended_is = k.ended;
+  killed_is = k.killed;
+  carries = rw k.idle (record { unmet = k.met; fresh = refl; none = refl });
+}
+
+pub fresh_whole : (laws : NewAreServed) (p : Plan) (log : List Line) (servers : List Serving) (actors : List Actor) (healers : List Healer) → CanRun p → log ≡ [] → AreNew p servers → AreNewActors (length p.clients) actors → AreNewHealers (length p.healers) healers
+    → IsWhole p log servers actors healers 0
+fresh_whole laws p log servers actors healers run none opened idle resting = record {
+  kept = fresh_volume laws p log servers actors run none opened idle;
+  healing = rw none (record { same = resting.many; each = λ i x h. opens_resting p servers (17 + i) x (resting.each i x h) });
+}

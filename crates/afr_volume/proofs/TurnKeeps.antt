@@ -72,22 +72,22 @@ module _ (laws : Laws) (p : Plan) (a : ActorId) (log : List Line) (servers : Lis
       by_next (next.HealEnd g kind said) e s = absurd s
 
 -- ---- the whole volume
-pub before_turn : (p : Plan) (a : ActorId) (log : List Line) (servers : List Serving) (actors : List Actor) (made : ℕ) → IsVolume p log servers actors made → IsActor p a.0 → length log < p.turns → IsBefore p a log servers
-before_turn p a log servers actors made v actor room = record {
+pub before_turn : (p : Plan) (a : ActorId) (log : List Line) (servers : List Serving) (actors : List Actor) (made : ℕ) → IsVolume p log servers actors made → a.0 ≤ 16 → IsActor p a.0 → length log < p.turns → IsBefore p a log servers
+before_turn p a log servers actors made v client actor room = record {
   runnable = v.runnable;
   room = room;
   served = v.served;
   follows = v.follows;
   honest = v.honest;
   lawful = v.lawful;
-  one = (client_is p a.0 v.runnable actor).0;
-  client = (client_is p a.0 v.runnable actor).2;
+  one = (client_is p a.0 v.runnable client actor).0;
+  client = (client_is p a.0 v.runnable client actor).2;
 }
 
 pub kept_turn : (laws : Laws) (p : Plan) (a : ActorId) (log : List Line) (x y : Actor) (servers new : List Serving) (actors : List Actor) (made : ℕ) (line : Line)
-    → IsVolume p log servers actors made → IsActor p a.0 → slice_get actors (a.0 - 1) ≡ Some x → IsBusy x.work → is_killed a.0 log ≡ false → length log < p.turns → NoneDue p log
+    → IsVolume p log servers actors made → a.0 ≤ 16 → IsActor p a.0 → slice_get actors (a.0 - 1) ≡ Some x → IsBusy x.work → is_killed a.0 log ≡ false → length log < p.turns → NoneDue p log
     → Stepped a (length log) x y servers new line → IsVolume p (line ∷ log) new (set actors (a.0 - 1) y) made
-kept_turn laws p a log x y servers new actors made line v actor is busy alive room none s = record {
+kept_turn laws p a log x y servers new actors made line v client actor is busy alive room none s = record {
   runnable = v.runnable;
   room = room;
   served = keeps.served;
@@ -102,7 +102,7 @@ kept_turn laws p a log x y servers new actors made line v actor is busy alive ro
 }
   where
     before : IsBefore p a log servers
-    before = before_turn p a log servers actors made v actor room
+    before = before_turn p a log servers actors made v client actor room
 
     again : (a.0 - 1) + 1 ≡ a.0
     again = omega (arith, before.one)

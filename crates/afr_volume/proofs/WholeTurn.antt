@@ -1,12 +1,16 @@
 -- A whole turn: its premises from what the volume keeps, and what it leaves.
-use Rattle.std.proofs.Common.{◌≡◌, ◌∙◌, ℕ, zero, suc, ◌+◌, ◌-◌, ◌<◌, ◌≤◌, ◌||◌, Bool, true, false, List, [], ◌∷◌, ◌++◌, refl, sym, ap, arith, subst, length, Option, Some, None, slice_get, set, reverse, nat_le, nat_lt, if◌then◌else◌}
+use Rattle.std.proofs.Common.{◌≡◌, ◌≢◌, ◌∙◌, ℕ, zero, suc, ◌+◌, ◌-◌, ◌<◌, ◌≤◌, ◌||◌, Bool, true, false, List, [], ◌∷◌, ◌++◌, refl, sym, ap, arith, subst, length, Option, Some, None, slice_get, set, reverse, nat_le, nat_lt, if◌then◌else◌}
 use Rattle.std.proofs.lemmas.Bool.Decides.{nat_tests}
 use Rattle.std.proofs.lemmas.List.{length-reverse}
 use Rattle.std.proofs.lemmas.Option.{slice_get_within}
 use Rattle.afr_base.specs.declared.ids.ActorId.{ActorId}
 use Rattle.afr_lines.specs.Work.{work, ended, is_killed, is_of, ends_work, events_made}
 use Rattle.afr_lines.specs.declared.line.Line.{Line}
+use Rattle.afr_discipline.specs.declared.register.Register.{Register}
+use Rattle.afr_rounds.specs.declared.healer.Healer.{Healer}
 use Rattle.afr_server.specs.Serving.{Serving}
+use Rattle.afr_servers.specs.Log.{AreFound}
+use Rattle.afr_transaction.specs.Turn.{Stood}
 use Rattle.afr_servers.specs.declared.epochs.Epochs.{Epochs}
 use Rattle.afr_works.specs.Work.{IsBusy}
 use Rattle.afr_works.specs.declared.work.Work.{Work}
@@ -15,15 +19,16 @@ use Rattle.afr_plan.specs.declared.plan.Plan.{Plan}
 use Rattle.afr_model.specs.Actors.{IsActor, is_done, works_of, script_of}
 use Rattle.afr_model.specs.Following.{NoneDue}
 use Rattle.afr_volume.specs.Acting.{CanStep, Stepped}
-use Rattle.afr_volume.specs.Keeping.{Carries, IsActing, IsVolume}
-use Rattle.afr_volume.specs.Laws.{BeginLaws, Laws}
+use Rattle.afr_volume.specs.Keeping.{AreHealers, Carries, IsActing, IsVolume, IsWhole}
+use Rattle.afr_volume.specs.Laws.{BeginLaws, Laws, RoundLaws}
 use Rattle.afr_volume.specs.Turning.{Turns, AddsLine, waits_for, Readies, ReadiedAt, StepsAt, due_of, if_due}
 use Rattle.afr_volume.specs.declared.actor.Actor.{Actor}
 use Rattle.afr_volume.specs.declared.turned.Turned.{Turned}
 use Rattle.afr_volume.specs.declared.turned.Turned.TheVariants.{Moved, Waits}
 use Rattle.afr_volume.proofs.LogLemmas.{reverse_push}
 use Rattle.afr_volume.proofs.Before.{IsBefore, client_is}
-use Rattle.afr_volume.proofs.LineKeeps.{LineKeeps, wrote_own}
+use Rattle.afr_volume.proofs.HealersKeep.{healers_stay}
+use Rattle.afr_volume.proofs.LineKeeps.{LineKeeps, Wrote, wrote_own}
 use Rattle.afr_volume.proofs.TurnKeeps.{before_turn, can_step, got_same, kept_ready, kept_turn, line_keeps}
 use Rattle.std.proofs.Common.{inl, inr}
 
@@ -54,7 +59,7 @@ none_due p log room none x is =
     go true e h = absurd (cc h)
     go false e h = grind (arith, nat_tests, e)
 
-ended_le : (a : ℕ) (log : List Line) → ended a log ≤ length log
+pub ended_le : (a : ℕ) (log : List Line) → ended a log ≤ length log
 ended_le a [] = omega arith
 ended_le a (line ∷ older) = go (ends_work a line) (ended_le a older)
   where
@@ -77,16 +82,16 @@ busy_at p a log servers actors readied made one v r x is =
     (subst (λ (y : Actor). IsBusy y.work) (sym same) r.busy, rw same (omega (arith, same_ended p a r.before r.after r.readies, count, ended_le a log, v.room, v.runnable.turns)))
 
 -- the plan has a brick where it has a client
-pub some_brick : (p : Plan) (log : List Line) (servers : List Serving) (actors : List Actor) (made : ℕ) (a : ℕ) → IsVolume p log servers actors made → IsActor p a → 0 < p.shape.n
-some_brick p log servers actors made a v actor = let low = (client_is p a v.runnable actor).0 in let high = (client_is p a v.runnable actor).1 in v.runnable.some (omega (arith, low, high))
+pub some_brick : (p : Plan) (log : List Line) (servers : List Serving) (actors : List Actor) (made : ℕ) (a : ℕ) → IsVolume p log servers actors made → a ≤ 16 → IsActor p a → 0 < p.shape.n
+some_brick p log servers actors made a v client actor = let low = (client_is p a v.runnable client actor).0 in let high = (client_is p a v.runnable client actor).1 in v.runnable.some (omega (arith, low, high))
 
-module _ (laws : Laws) (starts : BeginLaws) (p : Plan) (a : ActorId) (items : List Line) (actors readied : List Actor) (servers : List Serving) (made : ℕ) (v : IsVolume p (reverse items) servers actors made) (actor : IsActor p a.0) (room : length items < p.turns)
+module _ (laws : Laws) (starts : BeginLaws) (p : Plan) (a : ActorId) (items : List Line) (actors readied : List Actor) (servers : List Serving) (made : ℕ) (v : IsVolume p (reverse items) servers actors made) (client : a.0 ≤ 16) (actor : IsActor p a.0) (room : length items < p.turns)
     (r : ReadiedAt p a.0 actors readied) where
   one : 1 ≤ a.0
-  one = (client_is p a.0 v.runnable actor).0
+  one = (client_is p a.0 v.runnable client actor).0
 
   pub ready_volume : IsVolume p (reverse items) servers readied made
-  ready_volume = kept_ready starts p (reverse items) servers actors readied made a.0 one (some_brick p (reverse items) servers actors made a.0 v actor) v r
+  ready_volume = kept_ready starts p (reverse items) servers actors readied made a.0 one (some_brick p (reverse items) servers actors made a.0 v client actor) v r
 
   few : length (reverse items) < p.turns
   few = omega (arith, length-reverse items, room)
@@ -95,7 +100,7 @@ module _ (laws : Laws) (starts : BeginLaws) (p : Plan) (a : ActorId) (items : Li
   busy = busy_at p a.0 (reverse items) servers actors readied made one v r
 
   before : IsBefore p a (reverse items) servers
-  before = before_turn p a (reverse items) servers actors made v actor few
+  before = before_turn p a (reverse items) servers actors made v client actor few
 
   mine : (x : Actor) → slice_get readied (a.0 - 1) ≡ Some x → IsActing p (reverse items) a.0 servers x
   mine x is = let e : (a.0 - 1) + 1 ≡ a.0 = omega (arith, one) in subst (λ (c : ℕ). IsActing p (reverse items) c servers x) e (ready_volume.each (a.0 - 1) x is)
@@ -109,6 +114,17 @@ module _ (laws : Laws) (starts : BeginLaws) (p : Plan) (a : ActorId) (items : Li
     pub volume : IsVolume p (reverse added) new_servers new_actors made
     pub own : is_of a.0 line ≡ true
     pub log : reverse added ≡ line ∷ reverse items
+    pub wrote : Wrote a line
+    pub stands : (c : ℕ) (q : Register) → (a.0 ≡ c → ⊥) → Stood p.shape c (reverse items) q → Stood p.shape c (line ∷ reverse items) q
+    pub found : (c : ℕ) (epochs : Epochs) → c ≢ a.0 → AreFound c epochs servers → AreFound c epochs new_servers
+
+  -- with the healers, which the line leaves as they were
+  pub whole : (rounds : RoundLaws) (healers : List Healer) (added : List Line) (new_servers : List Serving) (new_actors : List Actor) (line : Line) → Took added new_servers new_actors line → AreHealers p (reverse items) servers healers
+      → IsWhole p (reverse added) new_servers new_actors healers made
+  whole rounds healers added new_servers new_actors line t k = record {
+    kept = t.volume;
+    healing = subst (λ (log : List Line). AreHealers p log new_servers healers) (sym t.log) (healers_stay rounds p a line (reverse items) servers new_servers healers client t.wrote t.stands t.found k);
+  }
 
   pub took : (at : ℕ) (added : List Line) (new_actors : List Actor) (new_servers : List Serving) (line : Line) → is_done p a.0 (reverse items) ≡ false → due_of (record { plan = p; log = reverse items }) ≡ None → at ≡ length items
       → StepsAt a at readied new_actors servers new_servers line → added ≡ items ++ line ∷ [] → Took added new_servers new_actors line
@@ -116,6 +132,9 @@ module _ (laws : Laws) (starts : BeginLaws) (p : Plan) (a : ActorId) (items : Li
     volume = rw (grown, reverse_push items line, s.set_is) kept;
     own = wrote_own a line keeps.wrote;
     log = rw grown (reverse_push items line);
+    wrote = keeps.wrote;
+    stands = keeps.stands;
+    found = keeps.found;
   }
     where
       stepped : Stepped a (length (reverse items)) s.before s.after servers new_servers line
@@ -125,7 +144,7 @@ module _ (laws : Laws) (starts : BeginLaws) (p : Plan) (a : ActorId) (items : Li
       keeps = line_keeps laws p a (reverse items) servers before s.before s.after new_servers line (busy s.before s.was).0 (mine s.before s.was) stepped
 
       kept : IsVolume p (line ∷ reverse items) new_servers (set readied (a.0 - 1) s.after) made
-      kept = kept_turn laws p a (reverse items) s.before s.after servers new_servers readied made line ready_volume actor s.was (busy s.before s.was).0 (not_killed p a.0 (reverse items) left) few
+      kept = kept_turn laws p a (reverse items) s.before s.after servers new_servers readied made line ready_volume client actor s.was (busy s.before s.was).0 (not_killed p a.0 (reverse items) left) few
           (none_due p (reverse items) few none) stepped
 
 -- what a turn answers by the line that it added
@@ -153,11 +172,11 @@ some_actor [] i small = absurd (omega (arith, small))
 some_actor (x ∷ actors) zero small = (x, refl)
 some_actor (x ∷ actors) (suc i) small = some_actor actors i (omega (arith, small))
 
-pub settled : (p : Plan) (log : List Line) (servers : List Serving) (actors : List Actor) (made : ℕ) → IsVolume p log servers actors made → (a : ℕ) → IsActor p a → is_done p a log ≡ true → is_killed a log ≡ false → work a log ≡ []
-settled p log servers actors made v a actor done alive = with_command p a log x.0.met x.0.epochs servers x.0.work few mine.carries
+pub settled : (p : Plan) (log : List Line) (servers : List Serving) (actors : List Actor) (made : ℕ) → IsVolume p log servers actors made → (a : ℕ) → a ≤ 16 → IsActor p a → is_done p a log ≡ true → is_killed a log ≡ false → work a log ≡ []
+settled p log servers actors made v a client actor done alive = with_command p a log x.0.met x.0.epochs servers x.0.work few mine.carries
   where
     bounds : (1 ≤ a) × (a ≤ length p.clients) × (a ≤ 16)
-    bounds = client_is p a v.runnable actor
+    bounds = client_is p a v.runnable client actor
 
     one : (a - 1) + 1 ≡ a
     one = let low = bounds.0 in omega (arith, low)

@@ -1,5 +1,6 @@
 -- What a volume keeps: its servers, actors and counts are what the log says, and the log is honest, lawful and the plan's.
 use Rattle.std.specs.Prelude.{◌≡◌, ℕ, ◌+◌, ◌<◌, ◌≤◌, Bool, true, false, List, [], Some, length, slice_get}
+use Rattle.afr_base.specs.declared.ids.BrickId.{BrickId}
 use Rattle.afr_base.specs.declared.ids.Shape.{Shape}
 use Rattle.afr_discipline.specs.Stands.{HasFive, no_lines}
 use Rattle.afr_discipline.specs.declared.register.Register.{Register}
@@ -13,11 +14,13 @@ use Rattle.afr_plan.specs.declared.command.Command.{Command}
 use Rattle.afr_plan.specs.declared.plan.Plan.{Plan}
 use Rattle.afr_plan.specs.declared.schedule.Go.{Go}
 use Rattle.afr_plan.specs.declared.schedule.PlannedEvent.{PlannedEvent}
-use Rattle.afr_model.specs.Actors.{IsActor, script_of}
+use Rattle.afr_model.specs.Actors.{IsActor, rounds_of, script_of}
 use Rattle.afr_model.specs.Blamed.{AreBlamed}
 use Rattle.afr_model.specs.Following.{Follows}
 use Rattle.afr_model.specs.Honest.{Honest}
 use Rattle.afr_model.specs.Replied.{Replied}
+use Rattle.afr_rounds.specs.Keeping.{IsHealer}
+use Rattle.afr_rounds.specs.declared.healer.Healer.{Healer}
 use Rattle.afr_server.specs.Serving.{Serving}
 use Rattle.afr_servers.specs.Log.{AreFound, AreServed}
 use Rattle.afr_servers.specs.declared.epochs.Epochs.{Epochs}
@@ -29,21 +32,22 @@ use Rattle.afr_works.specs.declared.work.Work.TheVariants.{Idle}
 use Rattle.afr_works_tell.specs.WorkTelling.{WorkTells}
 use Rattle.afr_volume.specs.declared.actor.Actor.{Actor}
 
--- an event names a client of the plan and a brick of the volume
+-- an event names an actor of the plan and a brick of the volume
 abbrev pub IsEventOf : Plan → Event → Type 0
 IsEventOf p (Stop b) = b.0 < p.shape.n
 IsEventOf p (Start b) = b.0 < p.shape.n
-IsEventOf p (Cut a b) = (1 ≤ a.0) × (a.0 ≤ length p.clients)
-IsEventOf p (Join a b) = (1 ≤ a.0) × (a.0 ≤ length p.clients)
-IsEventOf p (Kill a) = (1 ≤ a.0) × (a.0 ≤ length p.clients)
+IsEventOf p (Cut a b) = IsActor p a.0
+IsEventOf p (Join a b) = IsActor p a.0
+IsEventOf p (Kill a) = IsActor p a.0
 
--- a plan that the volume can run so far: clients alone, each of whose commands has a machine
+-- a plan that the volume can run: each command has a machine, and each round a brick
 pub record CanRun (p : Plan) : Type 0 where
   pub few : p.shape.n ≤ 5
   pub some : 0 < length p.clients → 0 < p.shape.n
   pub turns : p.turns ≤ 4000000
   pub clients : length p.clients ≤ 16
-  pub healers : p.healers ≡ []
+  pub healers : length p.healers ≤ 3
+  pub rounds : (a k : ℕ) (b : BrickId) → slice_get (rounds_of p a) k ≡ Some b → b.0 < p.shape.n
   pub commands : (a k : ℕ) (command : Command) → slice_get (script_of p a) k ≡ Some command → has_machine command ≡ true
   pub events : (i : ℕ) (planned : PlannedEvent) → slice_get p.events i ≡ Some planned → IsEventOf p planned.event
   pub orders : (i : ℕ) (go : Go) → slice_get p.go i ≡ Some go → IsActor p go.actor.0
@@ -86,7 +90,7 @@ pub record IsActing (p : Plan) (log : List Line) (a : ℕ) (servers : List Servi
   pub killed_is : x.killed ≡ is_killed a log
   pub carries : Carries p a log x.met x.epochs servers x.work
 
--- what the log says of all that the volume keeps beside it
+-- what the log says of the servers, the clients and the counts that the volume keeps beside it
 pub record IsVolume (p : Plan) (log : List Line) (servers : List Serving) (actors : List Actor) (made : ℕ) : Type 0 where
   pub runnable : CanRun p
   pub room : length log ≤ p.turns
@@ -99,3 +103,13 @@ pub record IsVolume (p : Plan) (log : List Line) (servers : List Serving) (actor
   pub lawful : IsLawfulExactly p log
   pub replied : Replied p log
   pub blamed : AreBlamed p log
+
+-- healers are what their lines say
+pub record AreHealers (p : Plan) (log : List Line) (servers : List Serving) (healers : List Healer) : Type 0 where
+  pub same : length healers ≡ length p.healers
+  pub each : (i : ℕ) (x : Healer) → slice_get healers i ≡ Some x → IsHealer p log (17 + i) servers x
+
+-- and of the healers
+pub record IsWhole (p : Plan) (log : List Line) (servers : List Serving) (actors : List Actor) (healers : List Healer) (made : ℕ) : Type 0 where
+  pub kept : IsVolume p log servers actors made
+  pub healing : AreHealers p log servers healers

@@ -7,6 +7,7 @@ use Rattle.afr_next.specs.Happened.{EventKeepsAll}
 use Rattle.afr_next.specs.Ready.{NextIsReady}
 use Rattle.afr_entry_hears.specs.EntryHears.{EntryBrings, EntryHears, EntryMakesNew}
 use Rattle.afr_hears.specs.Hears.{LookupBrings, LookupHears, WriteBrings, WriteHears, WriteMakesNothing}
+use Rattle.afr_rounds.specs.Laws.{CanStepNext, LineKeepsRound, OthersStay, RoundsBegin, RoundsEnd}
 use Rattle.afr_servers.specs.Needs.{AnswersAreRead, NeedsAreMet}
 use Rattle.afr_servers.specs.NextLine.{AskedAreServed, EventAreServed, FirstAreServed, MetAreServed, WrittenAreServed}
 use Rattle.afr_works.specs.Laws.{AllowedNext, AsksLow, AsksMore, BeginsFresh, BeginsMore, BeginsWithFive, KeepsFive, KeepsFiveBegun, NotesBegin, NotesEach, StaysOutside, StaysSound}
@@ -71,6 +72,14 @@ pub record BeginLaws : Type 0 where
 pub record EventLaws : Type 0 where
   pub happened : EventKeepsAll
   pub comes : EventAreServed
+
+-- what a healer's line keeps
+pub record RoundLaws : Type 0 where
+  pub can : CanStepNext
+  pub keeps : LineKeepsRound
+  pub others : OthersStay
+  pub begins : RoundsBegin
+  pub ends : RoundsEnd
 
 -- all laws of a turn
 pub record Laws : Type 0 where

@@ -1,5 +1,7 @@
 -- An actor before any line.
 use Rattle.std.specs.Prelude.{◌≡◌, ℕ, false, List, length, slice_get, Some}
+use Rattle.afr_rounds.specs.Acting.{IsNewHealer}
+use Rattle.afr_rounds.specs.declared.healer.Healer.{Healer}
 use Rattle.afr_volume.specs.declared.actor.Actor.{Actor}
 use Rattle.afr_works.specs.declared.work.Work.TheVariants.{Idle}
 
@@ -14,3 +16,8 @@ pub record IsNewActor (x : Actor) : Type 0 where
 pub record AreNewActors (count : ℕ) (actors : List Actor) : Type 0 where
   pub many : length actors ≡ count
   pub each : (i : ℕ) (x : Actor) → slice_get actors i ≡ Some x → IsNewActor x
+
+-- so many healers that have begun nothing
+pub record AreNewHealers (count : ℕ) (healers : List Healer) : Type 0 where
+  pub many : length healers ≡ count
+  pub each : (i : ℕ) (x : Healer) → slice_get healers i ≡ Some x → IsNewHealer x

@@ -1,6 +1,7 @@
 -- What a turn and an event do to a volume.
 use Rattle.std.specs.Prelude.{◌≡◌, ◌⊎◌, ◌||◌, ℕ, ◌+◌, ◌≤◌, ◌-◌, true, false, List, ◌∷◌, Option, Some, None, length, slice_get, slice_set, nat_le, nat_lt, if◌then◌else◌}
 use Rattle.afr_base.specs.declared.ids.ActorId.{ActorId}
+use Rattle.afr_base.specs.declared.ids.BrickId.{BrickId}
 use Rattle.afr_lines.specs.Work.{is_of, events_made, kills}
 use Rattle.afr_lines.specs.declared.answer.Told.TheVariants.{Held}
 use Rattle.afr_lines.specs.declared.line.Event.{Event}
@@ -15,7 +16,10 @@ use Rattle.afr_plan.specs.declared.schedule.PlannedEvent.{PlannedEvent}
 use Rattle.afr_server.specs.Serving.{Serving}
 use Rattle.afr_plan.specs.declared.command.Command.{Command}
 use Rattle.afr_model.specs.State.{State}
-use Rattle.afr_model.specs.Actors.{is_done, script_of}
+use Rattle.afr_healer.specs.Rounding.{IsAnswered}
+use Rattle.afr_model.specs.Actors.{is_done, rounds_of, script_of}
+use Rattle.afr_rounds.specs.Acting as rounds
+use Rattle.afr_rounds.specs.declared.healer.Healer.{Healer}
 use Rattle.afr_works.specs.Begin.{work_from}
 use Rattle.afr_works.specs.Work.{IsBusy, IsWork}
 use Rattle.afr_works.specs.declared.work.Work.TheVariants.{Idle}
@@ -82,12 +86,39 @@ pub record StepsAt (a : ActorId) (at : ℕ) (old new : List Actor) (bricks after
   pub steps : Stepped a at before after bricks after_bricks written
   pub set_is : new ≡ slice_set old (a.0 - 1) after
 
--- an event names an actor that is there, where it kills one
+-- a healer among all has its present round, and the memory of its coming move
+pub record ReadiedHealerAt (p : Plan) (a : ℕ) (old new : List Healer) : Type 0 where
+  pub before : Healer
+  pub after : Healer
+  pub was : slice_get old (a - 17) ≡ Some before
+  pub brick : BrickId
+  pub present : slice_get (rounds_of p a) before.ended ≡ Some brick
+  pub readies : rounds.Readies p.shape brick before after
+  pub set_is : new ≡ slice_set old (a - 17) after
+
+-- one line of one healer among all, whose round has begun
+pub record StepsHealerAt (a : ActorId) (at : ℕ) (old new : List Healer) (bricks after_bricks : List Serving) (written : Line) : Type 0 where
+  pub before : Healer
+  pub after : Healer
+  pub was : slice_get old (a.0 - 17) ≡ Some before
+  pub steps : rounds.Stepped IsAnswered a at before after bricks after_bricks written
+  pub set_is : new ≡ slice_set old (a.0 - 17) after
+
+-- an event that kills an actor names one that is there: a client up to number 16, and a healer above
 abbrev pub HasVictim : Event → List Actor → Type 0
-HasVictim (Kill a) actors = (1 ≤ a.0) × (a.0 ≤ length actors)
+HasVictim (Kill a) actors = a.0 ≤ 16 → (1 ≤ a.0) × (a.0 ≤ length actors)
 HasVictim event actors = Unit {0}
 
--- the actors after an event: the one that it kills is dead from then on
+abbrev pub HasHealer : Event → List Healer → Type 0
+HasHealer (Kill a) healers = 17 ≤ a.0 → a.0 ≤ 16 + length healers
+HasHealer event healers = Unit {0}
+
+-- the clients after an event: the one that it kills is dead from then on
 pub record KillsIn (event : Event) (old new : List Actor) : Type 0 where
   pub count : length new ≡ length old
   pub each : (i : ℕ) (x y : Actor) → slice_get old i ≡ Some x → slice_get new i ≡ Some y → y ≡ record x { killed = kills (i + 1) (line_of.Event event) || x.killed }
+
+-- and the healers
+pub record KillsHealersIn (event : Event) (old new : List Healer) : Type 0 where
+  pub count : length new ≡ length old
+  pub each : (i : ℕ) (x y : Healer) → slice_get old i ≡ Some x → slice_get new i ≡ Some y → y ≡ record x { killed = kills (17 + i) (line_of.Event event) || x.killed }

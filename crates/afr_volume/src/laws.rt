@@ -1,21 +1,23 @@
 //! The laws that the volume rests on, gathered.
 ghost use Rattle.afr_servers.specs.Needs.{StartedAreKnown};
 ghost use Rattle.afr_servers.specs.NextLine.{NewAreServed};
-ghost use Rattle.afr_volume.specs.Laws.{BeginLaws, EventLaws, Laws};
+ghost use Rattle.afr_volume.specs.Laws.{BeginLaws, EventLaws, Laws, RoundLaws};
 
 use afr_entry_hears::a_client_hears_of_its_names;
 use afr_hears::a_client_hears_what_it_asked;
 use afr_next::the_next_line_is_lawful;
+use afr_rounds::a_healer_keeps_its_round;
 use afr_servers::servers_follow_their_log;
 use afr_transaction::a_turn_keeps_the_discipline;
 use afr_works::{a_work_keeps_five_places, a_work_stays_sound};
 use afr_works_tell::a_work_tells_its_lines;
 
-/// What holds of all next lines, works, answers and servers.
+/// What holds of all next lines, works, rounds, answers and servers.
 pub(crate) fn laws()
     ensures turns { Laws }
     ensures begins { BeginLaws }
     ensures events { EventLaws }
+    ensures rounds { RoundLaws }
     ensures opens { NewAreServed }
     ensures started { StartedAreKnown }
 {
@@ -27,4 +29,5 @@ pub(crate) fn laws()
     a_client_hears_what_it_asked();
     a_client_hears_of_its_names();
     servers_follow_their_log();
+    a_healer_keeps_its_round();
 }

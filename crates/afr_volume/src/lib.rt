@@ -2,6 +2,7 @@
 #![tactic(auto)]
 
 mod actor;
+mod healers;
 mod laws;
 mod set_up;
 mod turned;

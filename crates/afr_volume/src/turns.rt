@@ -84,13 +84,16 @@ pub(crate) fn step_actor(
     step(&mut actors[a.0 as usize - 1], a, servers, position, log)
 }
 
-/// The actor that an event kills is dead from then on.
+/// The client that an event kills is dead from then on.
 pub(crate) fn kill(actors: &mut Vec<Actor>, event: Event)
-    requires { HasVictim event actors.old.items }
+    requires few { length actors.old.items ≤ 16 }
+    requires there { HasVictim event actors.old.items }
     ensures { KillsIn event actors.old.items actors.new.items }
 {
     if let Event::Kill(a) = event {
-        actors[a.0 as usize - 1].killed = true;
+        if a.0 <= 16 {
+            actors[a.0 as usize - 1].killed = true;
+        }
     }
 }
 

@@ -22,6 +22,7 @@ ghost use Rattle.afr_server.specs.Serving.{Serving};
 ghost use Rattle.afr_volume.specs.Turning.{Comes, Turns, due_of, if_due};
 
 use crate::actor::{Actor, add_line};
+use crate::healers::{all_healers, kill_healer, ready_healer, step_healer};
 use crate::laws::laws;
 use crate::set_up::all_actors;
 use crate::turned::Turned;
@@ -35,6 +36,7 @@ use afr_lines::{Event, Line};
 use afr_object::List;
 use afr_plan::{Plan, Words};
 use afr_ranges::fits_its_types;
+use afr_rounds::Healer;
 use afr_server::Server;
 use afr_servers::Servers;
 use std::alloc::Global;
@@ -48,6 +50,7 @@ pub struct Volume {
     log: Vec<Line>,
     servers: Servers,
     actors: Vec<Actor>,
+    healers: Vec<Healer>,
     /// How many events of the plan have come.
     made: u32,
 }
@@ -55,13 +58,13 @@ pub struct Volume {
 impl Model for Volume {
     ghost use Rattle.std.specs.Prelude.{reverse};
     ghost use Rattle.afr_model.specs.State.{State};
-    ghost use Rattle.afr_volume.specs.Keeping.{IsVolume};
+    ghost use Rattle.afr_volume.specs.Keeping.{IsWhole};
 
     ghost Value = { State };
 
     ghost view = { λ v. record { plan = v.plan; log = reverse v.log.items } };
 
-    ghost invariant = { λ v. IsVolume v.plan (reverse v.log.items) v.servers v.actors.items v.made };
+    ghost invariant = { λ v. IsWhole v.plan (reverse v.log.items) v.servers v.actors.items v.healers.items v.made };
 }
 
 impl Volume {
@@ -75,6 +78,7 @@ impl Volume {
             log: Vec::new(alloc),
             servers: Servers::empty(alloc),
             actors: Vec::new(alloc),
+            healers: Vec::new(alloc),
             made: 0,
         }
     }
@@ -88,12 +92,14 @@ impl Volume {
         laws();
         let servers = Servers::new(self.alloc, &plan)?;
         let actors = all_actors(self.alloc, plan.clients.len())?;
+        let healers = all_healers(self.alloc, plan.healers.len())?;
         *self = Volume {
             alloc: self.alloc,
             log: Vec::new(self.alloc),
             plan,
             servers,
             actors,
+            healers,
             made: 0,
         };
         Ok(())
@@ -134,13 +140,55 @@ impl Volume {
         if self.log.len() >= self.plan.turns as usize {
             return Ok(Turned::Full);
         }
+        if a.0 <= 16 {
+            self.client_turn(a)
+        } else {
+            self.healer_turn(a)
+        }
+    }
+
+    /// One line of a client that has a command left.
+    fn client_turn(&mut self, a: ActorId) -> Result<Turned, NoMemory>
+        requires actor { IsActor self.old.plan a.0 }
+        requires client { a.0 ≤ 16 }
+        requires left { is_done self.old.plan a.0 self.old.log ≡ false }
+        requires room { length self.old.log < self.old.plan.turns }
+        requires none { due_of self.old ≡ None }
+        ensures ok { IfOk result (λ turned. Turns a self.old turned self.new) }
+        ensures err { OnErr result (self.new ≡ self.old) }
+    {
         laws();
+        let position = self.log.len() as u32;
         self.log.try_reserve(1)?;
         ready_actor(self.alloc, &self.plan, a, &mut self.actors)?;
-        let position = self.log.len() as u32;
         step_actor(
             a,
             &mut self.actors,
+            &mut self.servers,
+            position,
+            &mut self.log,
+        )?;
+        let waits = turned_by(&self.log[position as usize]);
+        Ok(answer_of(waits))
+    }
+
+    /// One line of a healer that has a round left.
+    fn healer_turn(&mut self, a: ActorId) -> Result<Turned, NoMemory>
+        requires actor { IsActor self.old.plan a.0 }
+        requires healer { 17 ≤ a.0 }
+        requires left { is_done self.old.plan a.0 self.old.log ≡ false }
+        requires room { length self.old.log < self.old.plan.turns }
+        requires none { due_of self.old ≡ None }
+        ensures ok { IfOk result (λ turned. Turns a self.old turned self.new) }
+        ensures err { OnErr result (self.new ≡ self.old) }
+    {
+        laws();
+        let position = self.log.len() as u32;
+        self.log.try_reserve(1)?;
+        ready_healer(self.alloc, &self.plan, a, &mut self.healers)?;
+        step_healer(
+            a,
+            &mut self.healers,
             &mut self.servers,
             position,
             &mut self.log,
@@ -164,6 +212,7 @@ impl Volume {
         fits_its_types(&happened);
         self.servers.event(&event);
         kill(&mut self.actors, event);
+        kill_healer(&mut self.healers, event);
         self.made += 1;
         add_line(&mut self.log, happened);
         Ok(())
@@ -174,6 +223,11 @@ impl Volume {
         requires actor { IsActor self.now.plan a.0 }
         ensures { result ≡ is_done self.now.plan a.0 self.now.log }
     {
+        if a.0 > 16 {
+            let at = a.0 as usize - 17;
+            let healer = &self.healers[at];
+            return healer.killed || healer.ended as usize >= self.plan.healers.item(at).len();
+        }
         let at = a.0 as usize - 1;
         let actor = &self.actors[at];
         actor.killed || actor.ended as usize >= self.plan.clients.item(at).len()
@@ -254,6 +308,7 @@ impl Volume {
         ensures settled { (a : ℕ) → IsActor self.now.plan a → is_done self.now.plan a self.now.log ≡ true → is_killed a self.now.log ≡ false → work a self.now.log ≡ [] }
     {
         let _ = &self.log;
+        laws();
         lawful_is_safe();
         nothing_diverges_unrecorded();
         reads_are_fresh();

@@ -1,4 +1,4 @@
-//! A write and a read, line by line.
+//! A write and a read, and a round over an empty index, line by line.
 ghost use Rattle.std.specs.Prelude.{◌<◌};
 
 use afr_base::ActorId;
@@ -15,6 +15,9 @@ const PLAN: &str =
 const LINES: &str =
     "look0 look1 look2 name0 lock0 lock1 lock2 look0 look1 look2 begin pre0 pre1 pre2 apply0 apply1 apply2 post0 post1 post2 unlock0 unlock1 unlock2 end look0 look1 look2 name0 look0 look1 look2 read0 end ";
 
+/// A healer with a round over brick 0, whose index is empty.
+const ROUND: &str = "afr 1\nvolume replica\nfiles 1\nturns 100000\nhealer 1\nround 0\nend\n";
+
 fn word_of(request: &Request) -> &'static str {
     match request {
         Request::Look { .. } => "look",
@@ -25,6 +28,7 @@ fn word_of(request: &Request) -> &'static str {
         Request::Post { attempt: 10, .. } => "post",
         Request::Unlock { .. } => "unlock",
         Request::ReadBytes { at: 0, len: 5, .. } => "read",
+        Request::Index => "index",
         _ => "other",
     }
 }
@@ -43,8 +47,8 @@ fn write_line(text: &mut String, line: &Line) -> Result<(), Fail> {
     Ok(())
 }
 
-fn set_up(alloc: Global, volume: &mut Volume) -> Result<(), Fail> {
-    let Ok(plan) = read_plan(alloc, PLAN.as_bytes()) else {
+fn set_up(alloc: Global, volume: &mut Volume, plan: &str) -> Result<(), Fail> {
+    let Ok(plan) = read_plan(alloc, plan.as_bytes()) else {
         return Err(Fail::from("refused"));
     };
     if !is_runnable_yet(&plan) {
@@ -72,7 +76,7 @@ fn takes_a_turn(volume: &mut Volume, position: u32, text: &mut String) -> Result
 
 /// Takes all turns, and says whether the client is done then.
 fn is_worked(alloc: Global, volume: &mut Volume, text: &mut String) -> Result<bool, Fail> {
-    set_up(alloc, volume)?;
+    set_up(alloc, volume, PLAN)?;
     for position in 0..33 {
         takes_a_turn(volume, position, text)?;
     }
@@ -97,5 +101,42 @@ fn a_write_and_a_read_have_33_lines(rt: HostRuntime) -> Result<(), Fail> {
     let done = worked(rt.alloc(), &mut text)?;
     assert!(rt; done);
     assert_eq!(rt; text.as_str(), LINES);
+    Ok(())
+}
+
+/// A turn of the healer, which adds the line at this position.
+fn heals_a_turn(volume: &mut Volume, position: u32, text: &mut String) -> Result<(), Fail>
+    requires { position < 2 }
+{
+    let healer = ActorId(17);
+    if volume.plan().healers.len() != 1 || volume.due().is_some() || volume.is_done(healer) {
+        return Err(Fail::from("before"));
+    }
+    if !matches!(volume.turn(healer), Ok(Turned::Moved)) || volume.len() != position + 1 {
+        return Err(Fail::from("turn"));
+    }
+    write_line(text, volume.line(position))
+}
+
+/// Takes both turns of the round, and says whether the healer is done then.
+fn is_healed(alloc: Global, volume: &mut Volume, text: &mut String) -> Result<bool, Fail> {
+    set_up(alloc, volume, ROUND)?;
+    heals_a_turn(volume, 0, text)?;
+    heals_a_turn(volume, 1, text)?;
+    Ok(volume.plan().healers.len() == 1 && volume.is_done(ActorId(17)))
+}
+
+/// The words of the lines, where the healer is done after them.
+fn healed(alloc: Global, text: &mut String) -> Result<bool, Fail> {
+    let mut volume = Volume::empty(alloc);
+    is_healed(alloc, &mut volume, text)
+}
+
+#[test]
+fn a_round_over_an_empty_index_has_two_lines(rt: HostRuntime) -> Result<(), Fail> {
+    let mut text = String::new(rt.alloc());
+    let done = healed(rt.alloc(), &mut text)?;
+    assert!(rt; done);
+    assert_eq!(rt; text.as_str(), "index0 end ");
     Ok(())
 }

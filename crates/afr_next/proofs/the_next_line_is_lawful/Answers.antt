@@ -1,5 +1,5 @@
 use Rattle.afr_next.proofs.Answered.{answered_is_lawful, next_is_ready}
-use Rattle.afr_next.proofs.Turns.{asked_is_noted, event_comes, may_be_asked, may_begin, may_end}
+use Rattle.afr_next.proofs.Turns.{asked_is_noted, event_comes, may_be_asked, may_begin, may_end, may_heal_begin, may_heal_end}
 use Rattle.afr_next.proofs.the_next_line_is_lawful.Goals as goal
 
 pub returns-clause-asks : goal.returns-clause-asks
@@ -22,3 +22,9 @@ returns-clause-event c = event_comes
 
 pub returns-clause-premises : goal.returns-clause-premises
 returns-clause-premises c = next_is_ready c.lawful_lines_fit.ensures.carries c.lawful_lines_fit.ensures.found c.lawful_lines_are_covered.ensures.carries c.lawful_lines_are_covered.ensures.locks
+
+pub returns-clause-heal_begins : goal.returns-clause-heal_begins
+returns-clause-heal_begins c = may_heal_begin c.a_turn_keeps_the_discipline.ensures.kept
+
+pub returns-clause-heal_ends : goal.returns-clause-heal_ends
+returns-clause-heal_ends c = may_heal_end c.a_turn_keeps_the_discipline.ensures.kept

@@ -64,3 +64,12 @@ returns-clause-opens c = c.servers_follow_their_log.ensures.new
 
 pub returns-clause-started : goal.returns-clause-started
 returns-clause-started c = c.servers_follow_their_log.ensures.started
+
+pub returns-clause-rounds : goal.returns-clause-rounds
+returns-clause-rounds c = record {
+  can = c.a_healer_keeps_its_round.ensures.can;
+  keeps = c.a_healer_keeps_its_round.ensures.keeps;
+  others = c.a_healer_keeps_its_round.ensures.others;
+  begins = c.a_healer_keeps_its_round.ensures.begins;
+  ends = c.a_healer_keeps_its_round.ensures.ends;
+}

@@ -1,19 +1,9 @@
-use Rattle.std.proofs.Common.{◌≡◌, Some, sym}
-use Rattle.afr_object.specs.Tables.{copy_at}
-use Rattle.afr_brick.proofs.Found.{found}
+use Rattle.afr_base.specs.Marks.{taken_back}
+use Rattle.afr_object.specs.Tables.{with_numbers}
+use Rattle.afr_brick.proofs.IndexKept.{index_follows}
 use Rattle.afr_brick.proofs.brick.Brick.settle.Goals as goal
 
-pub returns-clause-absent : goal.returns-clause-absent
-returns-clause-absent c = rw (← c.self.view_is) (found _ _ c.in-Some.object.now (sym c.in-Some.ensures.value) (λ h. cc))
-
-pub settle-requires-clause-dirty : goal.settle-requires-clause-dirty
-settle-requires-clause-dirty c =
-    let e : copy_at c.args.g c.args.self.now.objects ≡ Some c.in-Some.object.now = rw (← c.self.view_is) (sym c.in-Some.ensures.value) in
-    let r = rw e at c.requires in
-    rw c.of-marks.ensures r.0
-
-pub settle-requires-clause-pending : goal.settle-requires-clause-pending
-settle-requires-clause-pending c =
-    let e : copy_at c.args.g c.args.self.now.objects ≡ Some c.in-Some.object.now = rw (← c.self.view_is) (sym c.in-Some.ensures.value) in
-    let r = rw e at c.requires in
-    rw c.of-marks.ensures r.1
+pub invariant_of-self-2 : goal.invariant_of-self-2
+invariant_of-self-2 c =
+    let follows = rw c.in_ok-settle.ensures.ok at c.follow.ensures in
+    rw c.in_ok-settle.ensures.ok (index_follows (with_numbers c.args.kind (taken_back c.args.less.now)) c.args.g c.self.inside.store.objects c.self.inside.index c.follow.new.index c.in_ok-settle.ensures.order c.self.invariant follows)

@@ -1,0 +1,19 @@
+use Rattle.std.proofs.Common.{◌≡◌, Some, sym}
+use Rattle.afr_object.specs.Tables.{copy_at}
+use Rattle.afr_brick.proofs.Found.{found}
+use Rattle.afr_brick.proofs.store.Store.post.Goals as goal
+
+pub returns-clause-absent : goal.returns-clause-absent
+returns-clause-absent c = rw (← c.self.view_is) (found _ _ c.in-Some.object.now (sym c.in-Some.ensures.value) (λ h. cc))
+
+pub after_op-requires-clause-open : goal.after_op-requires-clause-open
+after_op-requires-clause-open c =
+    let e : copy_at c.args.g c.args.self.now.objects ≡ Some c.in-Some.object.now = rw (← c.self.view_is) (sym c.in-Some.ensures.value) in
+    let r = rw e at c.requires in
+    rw c.of-marks.ensures r.0
+
+pub after_op-requires-clause-room : goal.after_op-requires-clause-room
+after_op-requires-clause-room c =
+    let e : copy_at c.args.g c.args.self.now.objects ≡ Some c.in-Some.object.now = rw (← c.self.view_is) (sym c.in-Some.ensures.value) in
+    let r = rw e at c.requires in
+    rw c.of-marks.ensures r.1

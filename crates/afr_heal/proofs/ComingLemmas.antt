@@ -1,0 +1,82 @@
+-- The lines of a heal's machine and those of the engine.
+use Rattle.std.proofs.Common.{◌≡◌, ℕ, zero, suc, ◌<◌, ◌≤◌, ◌&&◌, nat_lt, Bool, true, false, refl, ap, subst, arith, Option, None, Some, if◌then◌else◌}
+use Rattle.std.proofs.lemmas.Bool.Decides.{nat_tests}
+use Rattle.afr_base.specs.declared.ids.BrickId.{BrickId}
+use Rattle.afr_base.specs.declared.ids.Gfid.{Gfid}
+use Rattle.afr_base.specs.declared.ids.Kind.{Kind}
+use Rattle.afr_lines.specs.declared.request.Request.{Request}
+use Rattle.afr_moves.specs.Keeps.{keeps_in}
+use Rattle.afr_moves.specs.Register.{over}
+use Rattle.afr_moves.specs.Steps.{is_lowest}
+use Rattle.afr_discipline.specs.declared.register.Register.{Register}
+use Rattle.afr_discipline.specs.Stands.{seen_as}
+use Rattle.afr_discipline.specs.Turns.{brick_of, find, later}
+use Rattle.afr_heal.specs.Carried.{Heals, next_by}
+use Rattle.afr_heal.specs.Coming.{coming_of}
+use Rattle.afr_heal.specs.Engine.{Next, Ask, Begins, Ends, or_else}
+use Rattle.afr_heal.specs.Laws.{allows_next, asks_well}
+use Rattle.afr_heal.specs.declared.coming.Coming.TheVariants as coming
+use Rattle.afr_heal.proofs.Finding.{find_none, find_some, over_all}
+use Rattle.afr_heal.proofs.Moved.{heals_allowed}
+use Rattle.afr_heal.proofs.Parts.{both, not_both}
+
+-- a brick that was found is one of the five
+pub brick_below : (n : ℕ) (p : ℕ → Bool) (b : BrickId) → n ≤ 5 → brick_of (find n p) ≡ Some b → b.0 < 5
+brick_below n p b few e = go (find n p) refl e
+  where
+    go : (o : Option ℕ) → find n p ≡ o → brick_of o ≡ Some b → b.0 < 5
+    go None f e = absurd (cc e)
+    go (Some c) f e = let w = (find_some n p c f).0 in let is : c ≡ b.0 = ap (λ (o : Option BrickId). number o) e in omega (arith, w, is, few)
+      where
+        number : Option BrickId → ℕ
+        number None = 0
+        number (Some b) = b.0
+
+-- the line of a brick that was found, and of none
+pub shown_some : (request : ℕ → Request) (o : Option ℕ) (rest : Next) (b : BrickId) → brick_of o ≡ Some b → coming.Ask b (request b.0) ≡ coming_of (or_else request o rest)
+shown_some request None rest b e = absurd (cc e)
+shown_some request (Some c) rest b e = let is : record { 0 = c } ≡ b = cc e in subst (λ (b : BrickId). coming.Ask b (request b.0) ≡ coming.Ask (record { 0 = c }) (request c)) is refl
+
+pub shown_none : (request : ℕ → Request) (o : Option ℕ) (rest : Next) → brick_of o ≡ None → coming_of rest ≡ coming_of (or_else request o rest)
+shown_none request None rest e = refl
+shown_none request (Some c) rest e = absurd (cc e)
+
+-- the lowest of a set is the lowest that passes
+pub lowest_same : (n : ℕ) (p : ℕ → Bool) → find n (is_lowest p (λ x. false)) ≡ find n p
+lowest_same zero p = refl
+lowest_same (suc n) p = go (find n p) refl (lowest_same n p)
+  where
+    both_so : (a b : Bool) → b ≡ true → (a && true && b) ≡ a
+    both_so true true e = refl
+    both_so false b e = refl
+    both_so true false e = absurd (cc e)
+
+    go : (o : Option ℕ) → find n p ≡ o → find n (is_lowest p (λ x. false)) ≡ find n p → later (find n (is_lowest p (λ x. false))) n (is_lowest p (λ x. false) n) ≡ later (find n p) n (p n)
+    go (Some c) e h = rw (h, e) refl
+    go None e h = rw (h, e) (ap (λ (f : Bool). if f then Some n else None) (both_so (p n) (over n p (λ x. false)) (over_all n p (λ x. false) (λ x l m. absurd (not_both (p x) m (find_none n p e x l))))))
+
+-- the line that asks is the engine's
+pub asked_next : (next : Next) (b : BrickId) (request : Request) → coming_of next ≡ coming.Ask b request → next ≡ Ask b.0 request
+asked_next (Ask c q) b request e = let one : record { 0 = c } ≡ b = cc e in let two : q ≡ request = cc e in λ i. Ask ((one i).0) (two i)
+asked_next Begins b request e = absurd (cc e)
+asked_next Ends b request e = absurd (cc e)
+
+pub begun_next : (next : Next) → coming_of next ≡ coming.Begin → next ≡ Begins
+begun_next Begins e = refl
+begun_next (Ask b request) e = absurd (cc e)
+begun_next Ends e = absurd (cc e)
+
+pub ended_next : (next : Next) → coming_of next ≡ coming.End → next ≡ Ends
+ended_next Ends e = refl
+ended_next (Ask b request) e = absurd (cc e)
+ended_next Begins e = absurd (cc e)
+
+-- a heal asks one of the five bricks
+pub small_next : (p : Register) (s : ℕ) (g : Gfid) (kind : Kind) → Heals p s g kind → (b : ℕ) (request : Request) → next_by p s g kind ≡ Ask b request → b < 5
+small_next p s g kind k b request next =
+    let asks : asks_well p.shape.n (keeps_in p.shape) (seen_as p) b request ≡ true = subst (λ (next : Next). allows_next p.shape.n (keeps_in p.shape) (seen_as p) g kind next ≡ true) next (heals_allowed p s g kind k).0 in
+    let few = k.few in
+    small b p.shape.n (both (nat_lt b p.shape.n) _ asks).0 few
+  where
+    small : (b n : ℕ) → nat_lt b n ≡ true → n ≤ 5 → b < 5
+    small b n h l = grind (arith, nat_tests, h, l)

@@ -1,0 +1,11 @@
+pub mod Requests
+pub mod Engine
+pub mod Answers
+pub mod Standing
+pub mod Laws
+pub mod Carried
+pub mod Moves
+pub mod Verdicts
+pub mod Spare
+pub mod Coming
+pub mod Runs

@@ -1,0 +1,8 @@
+//! The names that a heal gives every holder of a directory: those that the holders have, merged.
+#![tactic(auto)]
+
+mod laws;
+mod merge;
+
+pub use laws::a_merge_keeps_the_greatest;
+pub use merge::merged_names;

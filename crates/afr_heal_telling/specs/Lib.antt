@@ -1,0 +1,3 @@
+pub mod HealLaws
+pub mod HealTelling
+pub mod Stages

@@ -1,0 +1,8 @@
+//! The machine of a healer's round: the index of one brick is asked once, and each object in its list is healed.
+#![tactic(auto)]
+
+mod machine;
+mod stage;
+
+pub use machine::RoundMachine;
+pub use stage::RoundStage;

@@ -1,0 +1,4 @@
+pub mod Acting
+pub mod Keeping
+pub mod Laws
+pub mod Stepping

@@ -1,0 +1,33 @@
+//! A healer: its present round, and the sessions that it works over.
+ghost use Rattle.afr_rounds.specs.Acting.{IsNewHealer};
+
+use afr_healer::RoundMachine;
+use afr_servers::Epochs;
+
+/// A healer of a volume.
+#[derive(Drop)]
+pub struct Healer {
+    /// How many rounds have ended.
+    pub ended: u32,
+    pub killed: bool,
+    /// Whether the present heal has written a line.
+    pub met: bool,
+    /// The sessions that its first line found or opened.
+    pub epochs: Epochs,
+    pub round: Option<RoundMachine>,
+}
+
+impl Healer {
+    /// A healer that has begun nothing.
+    pub fn new() -> Healer
+        ensures { IsNewHealer result }
+    {
+        Healer {
+            ended: 0,
+            killed: false,
+            met: false,
+            epochs: Epochs::none(),
+            round: None,
+        }
+    }
+}

@@ -1,0 +1,12 @@
+//! A healer of a volume and the line that its round writes next: what it asks of the bricks, and why the log keeps its rules.
+#![tactic(auto)]
+
+mod healer;
+mod laws;
+mod line;
+mod step;
+
+pub use healer::Healer;
+pub use laws::a_healer_keeps_its_round;
+pub use line::add_line;
+pub use step::{ready_round, step_round};

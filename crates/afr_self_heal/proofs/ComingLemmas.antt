@@ -1,0 +1,78 @@
+-- The next line of a heal, as its machine says it.
+use Rattle.std.proofs.Common.{◌≡◌, ◌∙◌, ℕ, Bool, ap, false, if◌then◌else◌, refl, subst, sym, true}
+use Rattle.afr_base.specs.declared.ids.BrickId.{BrickId}
+use Rattle.afr_heal.specs.Coming.{coming_of}
+use Rattle.afr_heal.specs.Engine.{Next, Ask, Begins, Ends}
+use Rattle.afr_heal.specs.declared.coming.Coming.{Coming}
+use Rattle.afr_heal.specs.declared.coming.Coming.TheVariants as coming_line
+use Rattle.afr_lines.specs.declared.line.Next.TheVariants as line
+use Rattle.afr_lines.specs.Told.{told_by}
+use Rattle.afr_lines.specs.declared.answer.Answer.{Answer}
+use Rattle.afr_lines.specs.declared.reply.HealReply.{HealReply}
+use Rattle.afr_lines.specs.declared.request.Request.{Request}
+use Rattle.afr_base.specs.declared.ids.Shape.{Shape}
+use Rattle.afr_discipline.specs.Stands.{seen_as}
+use Rattle.afr_discipline.specs.declared.register.Register.{Register}
+use Rattle.afr_self_heal.specs.Contents.{kept}
+use Rattle.afr_self_heal.specs.Laws.{HealHasSource}
+use Rattle.afr_self_heal.specs.Source.{HasSource, is_found}
+use Rattle.afr_self_heal.specs.declared.contents.Contents.{Contents}
+use Rattle.afr_self_heal.specs.declared.outcome.Outcome.{Outcome}
+use Rattle.afr_self_heal.specs.Healing.{CanHear, Healing, IsHealing, answered, coming, line_of, next_of, register_after}
+use Rattle.afr_self_heal.specs.Outcome.{outcome_by, reply_of}
+
+pub asks : (next : Next) (b : BrickId) (request : Request) → coming_of next ≡ coming_line.Ask b request → next ≡ Ask b.0 request
+asks (Ask x other) b request e =
+    let first : x ≡ b.0 = cc e in
+    let second : other ≡ request = cc e in
+    λ i. Ask (first i) (second i)
+asks Begins b request e = absurd (cc e)
+asks Ends b request e = absurd (cc e)
+
+pub begins : (next : Next) → coming_of next ≡ coming_line.Begin → next ≡ Begins
+begins (Ask x other) e = absurd (cc e)
+begins Begins e = refl
+begins Ends e = absurd (cc e)
+
+pub ends : (next : Next) → coming_of next ≡ coming_line.End → next ≡ Ends
+ends (Ask x other) e = absurd (cc e)
+ends Begins e = absurd (cc e)
+ends Ends e = refl
+
+-- the next line, as what the engine says
+pub next_asks : (m : Healing) (b : BrickId) (request : Request) (said : Coming) → said ≡ coming_of (coming m) → said ≡ coming_line.Ask b request → line.Ask b request ≡ next_of m
+next_asks m b request said e f = ap (line_of m) (sym (asks (coming m) b request (sym e ∙ f)))
+
+pub next_begins : (m : Healing) (said : Coming) → said ≡ coming_of (coming m) → said ≡ coming_line.Begin → line.HealBegin m.gfid m.kind ≡ next_of m
+next_begins m said e f = ap (line_of m) (sym (begins (coming m) (sym e ∙ f)))
+
+pub next_ends : (m : Healing) (reply : HealReply) (said : Coming) → said ≡ coming_of (coming m) → said ≡ coming_line.End → reply ≡ reply_of m.outcome m.register.seen → line.HealEnd m.gfid m.kind reply ≡ next_of m
+next_ends m reply said e f g = ap (λ (r : HealReply). line.HealEnd m.gfid m.kind r) g ∙ ap (line_of m) (sym (ends (coming m) (sym e ∙ f)))
+
+-- an answer comes to a request alone
+pub must_ask : (next : Next) (answer : Answer) → CanHear next answer → (said : Coming) → said ≡ coming_of next → ((b : BrickId) (request : Request) → said ≡ coming_line.Ask b request → ⊥) → ⊥
+must_ask (Ask b request) answer can said e never = never (record { 0 = b }) request e
+must_ask Begins answer can said e never = can
+must_ask Ends answer can said e never = can
+
+-- ---- what an answer leaves
+-- where the first looks are over, a copy may be the source
+pub heard_source : HealHasSource → (m : Healing) (b : ℕ) (request : Request) (answer : Answer) (at : ℕ) → IsHealing m → coming m ≡ Ask b request → CanHear (Ask b request) answer
+    → (q : Register) → q ≡ register_after m b request answer at → q.shape ≡ m.register.shape → is_found q.shape.n (seen_as q) ≡ true → HasSource m.kind q
+heard_source law m b request answer at k next can q e same found =
+    let found_before : is_found m.register.shape.n (seen_as (register_after m b request answer at)) ≡ true =
+    subst (λ (q : Register). is_found m.register.shape.n (seen_as q) ≡ true) e (subst (λ (shape : Shape). is_found shape.n (seen_as q) ≡ true) same found) in
+    subst (λ (q : Register). HasSource m.kind q) (sym e) (law m b request answer at k next can found_before)
+
+-- the heal with the new register, source, outcome and contents
+pub heard_is : (m : Healing) (b : ℕ) (request : Request) (answer : Answer) (at : ℕ) (q : Register) (source : BrickId) (outcome : Outcome) (contents : Contents)
+    → q ≡ register_after m b request answer at → q.shape ≡ m.register.shape → (is_found q.shape.n (seen_as q) ≡ false → source ≡ m.source) → outcome ≡ outcome_by m.register q m.source.0 m.kind request (told_by answer) m.outcome
+    → contents ≡ kept b answer m.contents → record { gfid = m.gfid; kind = m.kind; register = q; source = source; outcome = outcome; contents = contents } ≡ answered m b request answer at source
+heard_is m b request answer at q source outcome contents e same stays o c =
+    let whole = o ∙ ap (λ (q : Register). outcome_by m.register q m.source.0 m.kind request (told_by answer) m.outcome) e in
+    let left = by (is_found m.register.shape.n (seen_as (register_after m b request answer at))) refl in
+    λ i. record { gfid = m.gfid; kind = m.kind; register = e i; source = left i; outcome = whole i; contents = c i }
+  where
+    by : (f : Bool) → is_found m.register.shape.n (seen_as (register_after m b request answer at)) ≡ f → source ≡ (if f then source else m.source)
+    by true f = refl
+    by false f = stays (subst (λ (shape : Shape). is_found shape.n (seen_as q) ≡ false) (sym same) (subst (λ (q : Register). is_found m.register.shape.n (seen_as q) ≡ false) (sym e) f))

@@ -1,0 +1,5 @@
+pub mod Contents
+pub mod Healing
+pub mod Outcome
+pub mod Source
+pub mod Laws

@@ -1,0 +1,114 @@
+//! What ends a heal.
+ghost use Rattle.std.specs.Prelude.{◌≡◌, ℕ, ◌<◌, ◌≤◌};
+ghost use Rattle.afr_discipline.specs.Stands.{phase_of};
+ghost use Rattle.afr_heal.specs.Engine.{has_part};
+ghost use Rattle.afr_moves.specs.Note.{fails};
+ghost use Rattle.afr_self_heal.specs.Outcome.{by_looks, cause, locks_cause, looks_cause, outcome_after};
+
+use crate::copies::is_clean;
+use crate::moving::by_mover;
+use crate::outcome::Outcome;
+use afr_base::{BrickId, Kind, Shape};
+use afr_choice::{Looked, holders};
+use afr_discipline::{Phase, Register, present_part};
+use afr_lines::{Request, Told};
+use afr_range_locks::Domain;
+
+fn fails(told: &Told) -> bool
+    ensures { result ≡ fails told.now }
+{
+    match told {
+        Told::NotConnected | Told::Failed => true,
+        _ => false,
+    }
+}
+
+/// Whether another part of the heal comes: only one of bytes has more than the first.
+fn is_part_left(kind: Kind, part: Phase) -> bool
+    ensures { result ≡ has_part kind (phase_of part) }
+{
+    match (kind, part) {
+        (Kind::Bytes, Phase::Finish) => false,
+        (Kind::Bytes, _) => true,
+        (_, _) => false,
+    }
+}
+
+/// A Heal lock that another actor has; else too few locks, or one that was lost later.
+fn by_lock(register: &Register, domain: Domain, told: &Told) -> Outcome
+    ensures { result ≡ locks_cause (phase_of register.now.phase) domain told.now }
+{
+    match (domain, told) {
+        (Domain::Heal, Told::Held(owner)) => Outcome::Busy(*owner),
+        (_, _) => match present_part(register) {
+            Phase::Opening => Outcome::Short,
+            Phase::Piece | Phase::Finish => Outcome::Failed,
+        },
+    }
+}
+
+/// What the first looks say of a heal that they end.
+fn by_looks(shape: Shape, kind: Kind, seen: &Looked) -> Outcome
+    requires { shape.n ≤ 5 }
+    ensures { result ≡ by_looks shape kind seen.now }
+{
+    if !(seen.reached.has_quorum(shape.n) && holders(seen).has_quorum(shape.n)) {
+        return Outcome::Short;
+    }
+    if is_clean(kind, seen) {
+        Outcome::Nothing
+    } else {
+        Outcome::Split
+    }
+}
+
+fn by_look(register: &Register, kind: Kind, source: BrickId, told: &Told) -> Outcome
+    requires few { register.now.shape.n ≤ 5 }
+    requires small { source.0 < 5 }
+    ensures { result ≡ looks_cause register.now.shape kind (phase_of register.now.phase) source.0 register.now.seen register.now.looked told.now }
+{
+    match present_part(register) {
+        Phase::Opening => by_looks(register.shape, kind, &register.seen),
+        Phase::Piece | Phase::Finish => {
+            if fails(told) {
+                Outcome::Failed
+            } else {
+                by_mover(register, kind, source)
+            }
+        }
+    }
+}
+
+/// What the request whose answer ends the heal ends it with; `part` is the heal's part before it, the register that after it.
+pub(crate) fn cause(
+    register: &Register,
+    kind: Kind,
+    part: Phase,
+    source: BrickId,
+    request: &Request,
+    told: &Told,
+) -> Outcome
+    requires few { register.now.shape.n ≤ 5 }
+    requires small { source.0 < 5 }
+    ensures { result ≡ cause register.now.shape kind (phase_of part) (phase_of register.now.phase) source.0 register.now.seen register.now.looked request.now told.now }
+{
+    match request {
+        Request::Lock { domain, .. } => by_lock(register, *domain, told),
+        Request::Look { .. } => by_look(register, kind, source, told),
+        Request::Unlock { .. } => {
+            if is_part_left(kind, part) {
+                Outcome::Failed
+            } else {
+                Outcome::Settled
+            }
+        }
+        _ => Outcome::Failed,
+    }
+}
+
+/// How the heal ends after an answer: the first that breaks it says so.
+pub(crate) fn outcome_after(was: bool, now: bool, before: Outcome, caused: Outcome) -> Outcome
+    ensures { result ≡ outcome_after was now before caused }
+{
+    if !was && now { caused } else { before }
+}

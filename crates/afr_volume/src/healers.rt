@@ -1,0 +1,84 @@
+//! One healer among all takes a turn.
+ghost use Rattle.std.specs.Prelude.{◌≡◌, ◌-◌, ◌<◌, ◌≤◌, ◌^◌, ℕ, OnOk, OnErr, IfOk, Some, true, is_some, length, slice_get, vec_len, vec_capacity};
+ghost use Rattle.afr_base.specs.declared.ids.BrickId.{BrickId};
+ghost use Rattle.afr_model.specs.Actors.{rounds_of};
+ghost use Rattle.afr_rounds.specs.Acting.{Adds, CanStep};
+ghost use Rattle.afr_rounds.specs.declared.healer.Healer.{Healer};
+ghost use Rattle.afr_volume.specs.Starting.{AreNewHealers};
+ghost use Rattle.afr_volume.specs.Turning.{HasHealer, KillsHealersIn, ReadiedHealerAt, StepsHealerAt};
+
+use afr_base::{ActorId, NoMemory};
+use afr_lines::{Event, Line};
+use afr_plan::Plan;
+use afr_rounds::{Healer, ready_round, step_round};
+use afr_rule::{SourceRule, shipped};
+use afr_servers::Servers;
+use std::alloc::Global;
+
+/// A healer for each that the plan has, none of which has begun.
+pub(crate) fn all_healers(alloc: Global, count: usize) -> Result<Vec<Healer>, NoMemory>
+    ensures ok { IfOk result (λ healers. AreNewHealers count healers.items) }
+{
+    let mut healers = Vec::new(alloc);
+    for _ in 0..count {
+        healers.push(Healer::new())?;
+    }
+    Ok(healers)
+}
+
+/// A healer that has a round left has its machine, and the memory of its coming move.
+pub(crate) fn ready_healer(
+    alloc: Global,
+    plan: &Plan,
+    a: ActorId,
+    healers: &mut Vec<Healer>,
+) -> Result<(), NoMemory>
+    requires few { plan.now.shape.n ≤ 5 }
+    requires low { 17 ≤ a.0 }
+    requires within { a.0 - 17 < length healers.old.items }
+    requires healer { a.0 - 17 < length plan.now.healers }
+    requires left { (x : Healer) → slice_get healers.old.items (a.0 - 17) ≡ Some x → x.ended < length (rounds_of plan.now a.0) }
+    requires rounds { (k : ℕ) (b : BrickId) → slice_get (rounds_of plan.now a.0) k ≡ Some b → b.0 < plan.now.shape.n }
+    ensures ok { OnOk result (ReadiedHealerAt plan.now a.0 healers.old.items healers.new.items) }
+    ensures err { OnErr result (healers.new.items ≡ healers.old.items) }
+{
+    let at = a.0 as usize - 17;
+    let rounds = plan.healers.item(at);
+    let brick = *rounds.item(healers[at].ended as usize);
+    ready_round(alloc, plan.shape, brick, &mut healers[at])?;
+    Ok(())
+}
+
+/// One line of a healer whose round has begun. The source of its heals is the longest good copy.
+pub(crate) fn step_healer(
+    a: ActorId,
+    healers: &mut Vec<Healer>,
+    servers: &mut Servers,
+    position: u32,
+    log: &mut Vec<Line>,
+) -> Result<(), NoMemory>
+    requires low { 17 ≤ a.0 }
+    requires within { a.0 - 17 < length healers.old.items }
+    requires busy { (x : Healer) → slice_get healers.old.items (a.0 - 17) ≡ Some x → (is_some x.round ≡ true) × (x.ended < 2 ^ 32 - 1) }
+    requires can { (x : Healer) → slice_get healers.old.items (a.0 - 17) ≡ Some x → CanStep a position x servers.old }
+    requires space { vec_len log.old < vec_capacity log.old }
+    ensures ok { OnOk result (Adds (λ line. StepsHealerAt a position healers.old.items healers.new.items servers.old servers.new line) log.old.items log.new.items) }
+    ensures err { OnErr result ((healers.new.items ≡ healers.old.items) × (servers.new ≡ servers.old) × (log.new.items ≡ log.old.items)) }
+{
+    let rule = SourceRule::new(shipped::longest);
+    let healer = &mut healers[a.0 as usize - 17];
+    step_round(healer, a, servers, position, log, &rule)?;
+    Ok(())
+}
+
+/// The healer that an event kills is dead from then on.
+pub(crate) fn kill_healer(healers: &mut Vec<Healer>, event: Event)
+    requires { HasHealer event healers.old.items }
+    ensures { KillsHealersIn event healers.old.items healers.new.items }
+{
+    if let Event::Kill(a) = event {
+        if a.0 >= 17 {
+            healers[a.0 as usize - 17].killed = true;
+        }
+    }
+}
