@@ -2,6 +2,7 @@
 #![tactic(auto)]
 
 use afr_cli::afr_top;
+use afr_rule::{SourceRule, shipped};
 use afr_text::{StdSink, StdSource};
 use afr_volume::Volume;
 use std::alloc::Global;
@@ -21,7 +22,15 @@ fn main(rt: HostRuntime) -> ExitCode {
     let mut source = StdSource::new(rt.reader());
     let mut sink = StdSink::new(io::writer(&rt));
     let mut volume = ManuallyDrop::new(Volume::empty(rt.alloc()));
-    let status = afr_top(rt.alloc(), &words, &mut source, &mut sink, &mut *volume);
+    let rule = SourceRule::new(shipped::longest);
+    let status = afr_top(
+        rt.alloc(),
+        &words,
+        &mut source,
+        &mut sink,
+        &mut *volume,
+        &rule,
+    );
     ExitCode::from(status)
 }
 

@@ -1,4 +1,5 @@
 -- Lemmas of this crate.
 pub mod ActorLemmas
+pub mod FormLemmas
 pub mod StatusLemmas
 pub mod ToldLemmas

@@ -1,29 +1,31 @@
 -- What a fault, a refusal and the want of a plan give.
-use Rattle.std.proofs.Common.{◌≡◌, ◌≢◌, ◌∙◌, sym, Bool, true, false, IsTrue, ◌≤◌, ◌⊎◌, ℕ, List, [], Option, Some, Global, length, refl, inl, inr}
+use Rattle.std.proofs.Common.{◌≡◌, ◌≢◌, ◌∙◌, sym, subst, ◌≤◌, ◌⊎◌, ℕ, List, [], Option, Some, Global, length, refl, inl, inr}
 use Rattle.std.specs.Prelude.{String}
 use Rattle.std.specs.Io.KnownBytes.{Appends, Consumes, IsAtEnd}
 use Rattle.afr_text.specs.Parts.{AppendsFront, CameMore}
 use Rattle.afr_plan.specs.declared.plan.Plan.{Plan}
 use Rattle.afr_plan.specs.declared.plan.PlanFault.{PlanFault}
 use Rattle.afr_plan.specs.Judging.{first_fault}
-use Rattle.afr_runnable.specs.Runnable.{IsRunnable}
 use Rattle.afr_plan.specs.Spells.{Spells}
-use Rattle.afr_model.specs.State.{State, no_volume}
+use Rattle.afr_model.specs.Chosen.{Picks}
+use Rattle.afr_sources.proofs.Turns.{none_chosen}
+use Rattle.afr_volume.specs.State.{IsChosen, State, no_volume}
 use Rattle.afr_model.specs.Ordered.{IsOrdered, Writes}
 use Rattle.afr_model.specs.Complete.{IsComplete}
 use Rattle.afr_words.specs.Forms.{AreForm, AskFor}
 use Rattle.afr_words.specs.declared.form.Form.{Form}
+use Rattle.afr_words.specs.declared.form.Form.TheVariants as kind
+use Rattle.afr_gen.specs.Generated.{generated}
 use Rattle.afr_cli.specs.Forms.{text_of}
-use Rattle.afr_cli.specs.Statuses.{IsOver, IsText, IsRefused, IsRefusal, IsSpelled, Reports, StopsWriting, refusal_line, usage_line}
+use Rattle.afr_cli.specs.Statuses.{IsOver, AreReading, IsPlanOf, IsPlanned, IsText, IsRefused, IsRefusal, IsSpelled, Reports, StopsWriting, refusal_line, usage_line}
 
 -- before a plan was handed in nothing was written, in any order
 pub nothing_ordered : (v : State) → v ≡ no_volume → IsOrdered v.plan v.log
 nothing_ordered v e = rw e (record { turns = []; later = []; rounds = 0; stated = refl; written = Writes.Nothing })
 
--- what a test denies isn't so
-pub untold : (b : Bool) (P : Type 0) → (P → IsTrue b) → b ≡ false → P → ⊥
-untold true P t e h = absurd (cc)
-untold false P t e h = let wrong : false ≡ true = t h in absurd (cc)
+-- and no heal had a source
+pub nothing_chosen : (v : State) → v ≡ no_volume → (picks : Picks) → IsChosen picks v
+nothing_chosen v e picks = subst (IsChosen picks) (sym e) (none_chosen picks no_volume.plan [])
 
 -- a text that was written with its status s has no other but 5
 pub other_status : (r s n : ℕ) (A : Type 0) → (r ≢ 5 → (r ≡ s) × A) → (n ≡ 5 → ⊥) → (n ≡ s → ⊥) → r ≡ n → ⊥
@@ -33,38 +35,44 @@ module _ {S : Type 0} (words : List (String Global)) (left : S → Option (List 
   pub stops_at_usage : (AreForm words → ⊥) → source' ≡ source → now ≡ no_volume → AppendsFront taken taken' usage_line → StopsWriting words left source source' taken taken' now
   stops_at_usage other same none front = record { text = usage_line; known = IsText.Usage other same none; front = front }
 
-  pub stops_at_refusal : (fault : PlanFault) → AreForm words → IsRefused (left source) (left source') fault → now ≡ no_volume
+  pub stops_at_refusal : (fault : PlanFault) → AreReading words → IsRefused (left source) (left source') fault → now ≡ no_volume
       → AppendsFront taken taken' (refusal_line fault) → StopsWriting words left source source' taken taken' now
   stops_at_refusal fault run cause none front = record { text = refusal_line fault; known = IsText.Refusal run fault cause none; front = front }
 
-  pub stops_at_text : (form : Form) → AskFor words form → IsSpelled (left source) (left source') now.plan → IsComplete now.plan now.log → IsOver now.plan now.log
+  pub stops_at_text : (form : Form) → AskFor words form → IsPlanOf form (left source) (left source') now.plan → IsComplete now.plan now.log → IsOver now.plan now.log
       → AppendsFront taken taken' (text_of form now.plan now.log) → StopsWriting words left source source' taken taken' now
-  stops_at_text form asked spelled complete over front = record { text = text_of form now.plan now.log; known = IsText.Report form asked spelled complete over; front = front }
+  stops_at_text form asked planned complete over front = record { text = text_of form now.plan now.log; known = IsText.Report form asked planned complete over; front = front }
 
--- a form's text was written of the plan that was spelled
+  pub stops_at_summary : (form : Form) (n : ℕ) → form ≡ kind.Gen n → AskFor words form → now.plan ≡ generated n → IsComplete now.plan now.log → IsOver now.plan now.log
+      → AppendsFront taken taken' (text_of (kind.Gen n) now.plan now.log) → StopsWriting words left source source' taken taken' now
+  stops_at_summary form n is asked made complete over front = stops_at_text form asked (rw is made) complete over (rw is front)
+
+-- a form's text was written of its plan
 pub reports : (words : List (String Global)) (form : Form) (left left' taken taken' : Option (List ℕ)) (now : State)
-    → AskFor words form → IsSpelled left left' now.plan → Appends taken taken' (text_of form now.plan now.log) → Reports words left left' taken taken' now
-reports words form left left' taken taken' now asked spelled text = record { form = form; asked = asked; spelled = spelled; text = text }
+    → AskFor words form → IsPlanOf form left left' now.plan → Appends taken taken' (text_of form now.plan now.log) → Reports words left left' taken taken' now
+reports words form left left' taken taken' now asked planned text = record { form = form; asked = asked; planned = planned; text = text }
+
+-- where a plan was run, it is the plan of the form that the words ask for
+pub planned_or_none : (words : List (String Global)) (form : Form) (left left' : Option (List ℕ)) (now : State)
+    → AskFor words form → (now ≡ no_volume) ⊎ IsPlanOf form left left' now.plan → (now ≡ no_volume) ⊎ IsPlanned words left left' now.plan
+planned_or_none words form left left' now asked (inl none) = inl none
+planned_or_none words form left left' now asked (inr planned) = inr (record { form = form; asked = asked; planned = planned })
 
 module _ (left left' : Option (List ℕ)) (fault : PlanFault) where
   pub is_faulty : (bytes seen : List ℕ) → seen ≡ bytes → Consumes left left' bytes → IsAtEnd left' → length bytes ≤ 16777216
       → (first_fault seen ≡ Some fault) × ((plan : Plan) → Spells seen plan → ⊥) → IsRefused left left' fault
   is_faulty bytes seen e came end few why = inl (record { bytes = bytes; read = record { came = came; end = end; few = few }; first = rw (← e) why.0; none = rw (← e) why.1 })
 
-  pub is_ahead : (bytes seen : List ℕ) (plan : Plan) → seen ≡ bytes → Consumes left left' bytes → IsAtEnd left' → length bytes ≤ 16777216
-      → Spells seen plan → (IsRunnable plan → ⊥) → fault ≡ record { line = 0; code = 10 } → IsRefused left left' fault
-  is_ahead bytes seen plan e came end few spells ahead why = inr (inl (why, record { bytes = bytes; read = record { came = came; end = end; few = few }; plan = plan; spells = rw (← e) spells; ahead = ahead }))
-
   pub is_long : CameMore left left' 16777216 → fault ≡ record { line = 0; code = 0 } → IsRefused left left' fault
-  is_long more why = inr (inr (why, more))
+  is_long more why = inr (why, more)
 
   pub refused : (taken taken' : Option (List ℕ)) → IsRefused left left' fault → Appends taken taken' (refusal_line fault) → IsRefusal left left' taken taken'
   refused taken taken' cause line = record { fault = fault; cause = cause; line = line }
 
 module _ (left left' : Option (List ℕ)) (bytes seen : List ℕ) (plan : Plan) where
   -- what was read to its end spells the plan
-  pub is_spelled : seen ≡ bytes → Consumes left left' bytes → IsAtEnd left' → length bytes ≤ 16777216 → Spells seen plan → IsRunnable plan → IsSpelled left left' plan
-  is_spelled e came end few spells runnable = record { bytes = bytes; read = record { came = came; end = end; few = few }; spells = rw (← e) spells; runnable = runnable }
+  pub is_spelled : seen ≡ bytes → Consumes left left' bytes → IsAtEnd left' → length bytes ≤ 16777216 → Spells seen plan → IsSpelled left left' plan
+  is_spelled e came end few spells = record { bytes = bytes; read = record { came = came; end = end; few = few }; spells = rw (← e) spells }
 
 module _ (left left' : Option (List ℕ)) (plan : Plan) (spelled : IsSpelled left left' plan) where
   -- the plan that was spelled is the one that was run

@@ -5,10 +5,9 @@ use Rattle.afr_text.specs.Parts.{CameMore}
 use Rattle.afr_plan.specs.declared.plan.Plan.{Plan}
 use Rattle.afr_plan.specs.declared.plan.PlanFault.{PlanFault}
 use Rattle.afr_plan.specs.Judging.{first_fault}
-use Rattle.afr_runnable.specs.Runnable.{IsRunnable}
 use Rattle.afr_plan.specs.Spells.{Spells}
-use Rattle.afr_plan_read.proofs.PlanLemmas.{faulty-spells, same-plan}
-use Rattle.afr_cli.specs.Statuses.{HasFault, IsAhead, IsFaulty, IsRefused, IsRefusal, IsSpelled, WasRead, refusal_line}
+use Rattle.afr_plan_read.proofs.PlanLemmas.{faulty-spells}
+use Rattle.afr_cli.specs.Statuses.{HasFault, IsFaulty, IsRefused, IsRefusal, IsSpelled, WasRead, refusal_line}
 
 -- read to its end it gave just these
 all_bytes : (bytes seen : List ℕ) (left' : Option (List ℕ)) → WasRead (Some bytes) left' seen → seen ≡ bytes
@@ -33,36 +32,22 @@ module _ (bytes : List ℕ) (left' : Option (List ℕ)) where
   faulty_first : (fault : PlanFault) → IsFaulty (Some bytes) left' fault → first_fault bytes ≡ Some fault
   faulty_first fault r = rw (← all_bytes bytes r.bytes left' r.read) r.first
 
-  ahead_few : IsAhead (Some bytes) left' → length bytes ≤ 16777216
-  ahead_few r = rw (← all_bytes bytes r.bytes left' r.read) r.read.few
-
-  ahead_spells : (r : IsAhead (Some bytes) left') → Spells bytes r.plan
-  ahead_spells r = rw (← all_bytes bytes r.bytes left' r.read) r.spells
-
   -- bytes with a fault spell no plan of a run
   faulty_unspelled : (fault : PlanFault) (plan : Plan) → HasFault bytes fault → IsSpelled (Some bytes) left' plan → ⊥
   faulty_unspelled fault plan (HasFault.Long more) s = omega (arith, more, spelled_few bytes left' plan s)
   faulty_unspelled fault plan (HasFault.Faulty few f first) s = faulty-spells bytes f plan first (spelled_bytes bytes left' plan s)
-  faulty_unspelled fault plan (HasFault.Ahead few other spells ahead) s =
-      ahead (rw (same-plan bytes other plan spells (spelled_bytes bytes left' plan s)) s.runnable)
 
   -- they are refused with that fault alone
   one_fault : (fault other : PlanFault) → HasFault bytes fault → IsRefused (Some bytes) left' other → other ≡ fault
   one_fault fault other (HasFault.Long more) (inl r) = absurd (omega (arith, more, faulty_few other r))
-  one_fault fault other (HasFault.Long more) (inr (inl (e, r))) = absurd (omega (arith, more, ahead_few r))
-  one_fault fault other (HasFault.Long more) (inr (inr (e, long))) = e
+  one_fault fault other (HasFault.Long more) (inr (e, long)) = e
   one_fault fault other (HasFault.Faulty few f first) (inl r) = let e : Some other ≡ Some f = sym (faulty_first other r) ∙ first in cc
-  one_fault fault other (HasFault.Faulty few f first) (inr (inl (e, r))) = absurd (faulty-spells bytes f r.plan first (ahead_spells r))
-  one_fault fault other (HasFault.Faulty few f first) (inr (inr (e, long))) = absurd (omega (arith, few, more_bytes bytes left' long))
-  one_fault fault other (HasFault.Ahead few plan spells ahead) (inl r) = absurd (faulty-spells bytes other plan (faulty_first other r) spells)
-  one_fault fault other (HasFault.Ahead few plan spells ahead) (inr (inl (e, r))) = e
-  one_fault fault other (HasFault.Ahead few plan spells ahead) (inr (inr (e, long))) = absurd (omega (arith, few, more_bytes bytes left' long))
+  one_fault fault other (HasFault.Faulty few f first) (inr (e, long)) = absurd (omega (arith, few, more_bytes bytes left' long))
 
-  -- bytes that spell a plan that can be run have no fault
-  spelled_whole : (fault : PlanFault) (plan : Plan) → length bytes ≤ 16777216 → Spells bytes plan → IsRunnable plan → IsRefused (Some bytes) left' fault → ⊥
-  spelled_whole fault plan few spells runnable (inl r) = faulty-spells bytes fault plan (faulty_first fault r) spells
-  spelled_whole fault plan few spells runnable (inr (inl (e, r))) = r.ahead (rw (same-plan bytes r.plan plan (ahead_spells r) spells) runnable)
-  spelled_whole fault plan few spells runnable (inr (inr (e, long))) = omega (arith, few, more_bytes bytes left' long)
+  -- bytes that spell a plan have no fault
+  spelled_whole : (fault : PlanFault) (plan : Plan) → length bytes ≤ 16777216 → Spells bytes plan → IsRefused (Some bytes) left' fault → ⊥
+  spelled_whole fault plan few spells (inl r) = faulty-spells bytes fault plan (faulty_first fault r) spells
+  spelled_whole fault plan few spells (inr (e, long)) = omega (arith, few, more_bytes bytes left' long)
 
 module _ (bytes : List ℕ) (left left' taken taken' : Option (List ℕ)) (status : ℕ) (plan : Plan) (told : left ≡ Some bytes) where
   -- a fault is refused, unless the sink failed or memory was wanting
@@ -79,13 +64,13 @@ module _ (bytes : List ℕ) (left left' taken taken' : Option (List ℕ)) (statu
   refuses fault wrong (inr (inr (inr (inr (inr seven))))) ok refused read unfinished = absurd (faulty_unspelled bytes left' fault plan wrong (rw (← told) (unfinished seven)))
 
   -- a plan that is spelled is run, unless the sink failed or memory was wanting
-  pub runs : (other : Plan) → length bytes ≤ 16777216 → Spells bytes other → IsRunnable other
+  pub runs : (other : Plan) → length bytes ≤ 16777216 → Spells bytes other
       → (status ≡ 0) ⊎ (status ≡ 3) ⊎ (status ≡ 4) ⊎ (status ≡ 5) ⊎ (status ≡ 6) ⊎ (status ≡ 7)
       → (status ≡ 3 → IsRefusal left left' taken taken') → (status ≡ 4 → ⊥)
       → (status ≡ 0) ⊎ (status ≡ 7) ⊎ (status ≡ 5) ⊎ (status ≡ 6)
-  runs other few spells runnable (inl zero) refused read = inl zero
-  runs other few spells runnable (inr (inl three)) refused read = let r = refused three in absurd (spelled_whole bytes left' r.fault other few spells runnable (rw (← told) r.cause))
-  runs other few spells runnable (inr (inr (inl four))) refused read = absurd (read four)
-  runs other few spells runnable (inr (inr (inr (inl five)))) refused read = inr (inr (inl five))
-  runs other few spells runnable (inr (inr (inr (inr (inl six))))) refused read = inr (inr (inr six))
-  runs other few spells runnable (inr (inr (inr (inr (inr seven))))) refused read = inr (inl seven)
+  runs other few spells (inl zero) refused read = inl zero
+  runs other few spells (inr (inl three)) refused read = let r = refused three in absurd (spelled_whole bytes left' r.fault other few spells (rw (← told) r.cause))
+  runs other few spells (inr (inr (inl four))) refused read = absurd (read four)
+  runs other few spells (inr (inr (inr (inl five)))) refused read = inr (inr (inl five))
+  runs other few spells (inr (inr (inr (inr (inl six))))) refused read = inr (inr (inr six))
+  runs other few spells (inr (inr (inr (inr (inr seven))))) refused read = inr (inl seven)

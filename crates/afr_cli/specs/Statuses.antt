@@ -8,14 +8,15 @@ use Rattle.afr_lines.specs.declared.line.Line.{Line}
 use Rattle.afr_plan.specs.declared.plan.Plan.{Plan}
 use Rattle.afr_plan.specs.declared.plan.PlanFault.{PlanFault}
 use Rattle.afr_plan.specs.Judging.{first_fault}
-use Rattle.afr_runnable.specs.Runnable.{IsRunnable}
 use Rattle.afr_plan.specs.Spells.{Spells}
-use Rattle.afr_model.specs.State.{State, no_volume}
+use Rattle.afr_volume.specs.State.{State, no_volume}
+use Rattle.afr_gen.specs.Generated.{generated}
 use Rattle.afr_model.specs.Actors.{IsActor, is_done}
 use Rattle.afr_model.specs.Complete.{IsComplete}
 use Rattle.afr_words.specs.Forms.{AreForm, AskFor}
 use Rattle.afr_words.specs.declared.form.Form.{Form}
-use Rattle.afr_cli.specs.Forms.{text_of}
+use Rattle.afr_words.specs.declared.form.Form.TheVariants as kind
+use Rattle.afr_cli.specs.Forms.{reads, text_of}
 
 -- the line that tells how the program is called
 abbrev pub usage_line : List ℕ
@@ -33,8 +34,7 @@ name_of code =
     else if code == 6 then codes "range"
     else if code == 7 then codes "order"
     else if code == 8 then codes "total"
-    else if code == 9 then codes "end"
-    else codes "unread"
+    else codes "end"
 
 -- the line that refuses a plan
 abbrev pub refusal_line : PlanFault → List ℕ
@@ -46,18 +46,34 @@ pub record WasRead (left now : Option (List ℕ)) (bytes : List ℕ) : Type 0 wh
   pub end : IsAtEnd now
   pub few : length bytes ≤ 16777216
 
--- what the source gave, to its end, spells the plan, which the volume can run
+-- what the source gave, to its end, spells the plan
 pub record IsSpelled (left now : Option (List ℕ)) (plan : Plan) : Type 0 where
   pub bytes : List ℕ
   pub read : WasRead left now bytes
   pub spells : Spells bytes plan
-  pub runnable : IsRunnable plan
 
--- the words ask for a form, what the source gave spells the plan, and the sink took the form's text, to its end
+-- the plan of the form: the generated one of its number, or the one that is spelled by what the source gave, to its end
+abbrev pub IsPlanOf : Form → Option (List ℕ) → Option (List ℕ) → Plan → Type 0
+IsPlanOf (kind.Gen n) left now plan = plan ≡ generated n
+IsPlanOf form left now plan = IsSpelled left now plan
+
+-- the words ask for a form, and this is its plan
+pub record IsPlanned (words : List (String Global)) (left now : Option (List ℕ)) (plan : Plan) : Type 0 where
+  pub form : Form
+  pub asked : AskFor words form
+  pub planned : IsPlanOf form left now plan
+
+-- the words ask for a form that reads its plan from the source
+pub record AreReading (words : List (String Global)) : Type 0 where
+  pub form : Form
+  pub asked : AskFor words form
+  pub reading : reads form ≡ true
+
+-- the words ask for a form, its plan was run, and the sink took the form's text, to its end
 pub record Reports (words : List (String Global)) (left left' taken taken' : Option (List ℕ)) (now : State) : Type 0 where
   pub form : Form
   pub asked : AskFor words form
-  pub spelled : IsSpelled left left' now.plan
+  pub planned : IsPlanOf form left left' now.plan
   pub text : Appends taken taken' (text_of form now.plan now.log)
 
 -- each actor was killed or has ended all its works
@@ -85,17 +101,9 @@ pub record IsFaulty (left now : Option (List ℕ)) (fault : PlanFault) : Type 0 
   pub first : first_fault bytes ≡ Some fault
   pub none : (plan : Plan) → Spells bytes plan → ⊥
 
--- the source was read to its end, and spells a plan that the volume can't run yet
-pub record IsAhead (left now : Option (List ℕ)) : Type 0 where
-  pub bytes : List ℕ
-  pub read : WasRead left now bytes
-  pub plan : Plan
-  pub spells : Spells bytes plan
-  pub ahead : IsRunnable plan → ⊥
-
--- the source has this first fault; or it spells a plan that can't be run yet, at line 0 with code 10; or it is longer than 16 MiB, at line 0 with code 0
+-- the source has this first fault; or it is longer than 16 MiB, at line 0 with code 0
 abbrev pub IsRefused : Option (List ℕ) → Option (List ℕ) → PlanFault → Type 0
-IsRefused left now fault = IsFaulty left now fault ⊎ ((fault ≡ record { line = 0; code = 10 }) × IsAhead left now) ⊎ ((fault ≡ record { line = 0; code = 0 }) × CameMore left now 16777216)
+IsRefused left now fault = IsFaulty left now fault ⊎ ((fault ≡ record { line = 0; code = 0 }) × CameMore left now 16777216)
 
 -- the plan is refused, and the sink took the line that says so, to its end
 pub record IsRefusal (left left' taken taken' : Option (List ℕ)) : Type 0 where
@@ -107,9 +115,9 @@ pub record IsRefusal (left left' taken taken' : Option (List ℕ)) : Type 0 wher
 pub data IsText {S : Type 0} (words : List (String Global)) (left : S → Option (List ℕ)) (source source' : S) (now : State) : List ℕ → Type 0 where
   Usage : (AreForm words → ⊥) → source' ≡ source → now ≡ no_volume
       → IsText words left source source' now usage_line
-  Refusal : AreForm words → (fault : PlanFault) → IsRefused (left source) (left source') fault → now ≡ no_volume
+  Refusal : AreReading words → (fault : PlanFault) → IsRefused (left source) (left source') fault → now ≡ no_volume
       → IsText words left source source' now (refusal_line fault)
-  Report : (form : Form) → AskFor words form → IsSpelled (left source) (left source') now.plan → IsComplete now.plan now.log → IsOver now.plan now.log
+  Report : (form : Form) → AskFor words form → IsPlanOf form (left source) (left source') now.plan → IsComplete now.plan now.log → IsOver now.plan now.log
       → IsText words left source source' now (text_of form now.plan now.log)
 
 -- the sink took a front of the text that was to be written
@@ -118,14 +126,13 @@ pub record StopsWriting {S : Type 0} (words : List (String Global)) (left : S �
   pub known : IsText words left source source' now text
   pub front : AppendsFront taken taken' text
 
--- the words ask for a form, the source tells these bytes, and no read of it failed
+-- the words ask for a form that reads, the source tells these bytes, and no read of it failed
 pub record AreGiven (words : List (String Global)) (left : Option (List ℕ)) (faults faults' : ℕ) (bytes : List ℕ) : Type 0 where
-  pub asked : AreForm words
+  pub asked : AreReading words
   pub told : left ≡ Some bytes
   pub sound : Rose faults faults' → ⊥
 
--- bytes that aren't run: more than 16 MiB, at line 0 with code 0; or no more, and they have this first fault; or they spell a plan that can't be run yet, at line 0 with code 10
+-- bytes that aren't run: more than 16 MiB, at line 0 with code 0; or no more, and they have this first fault
 pub data HasFault (bytes : List ℕ) : PlanFault → Type 0 where
   Long : 16777216 < length bytes → HasFault bytes (record { line = 0; code = 0 })
   Faulty : length bytes ≤ 16777216 → (fault : PlanFault) → first_fault bytes ≡ Some fault → HasFault bytes fault
-  Ahead : length bytes ≤ 16777216 → (plan : Plan) → Spells bytes plan → (IsRunnable plan → ⊥) → HasFault bytes (record { line = 0; code = 10 })

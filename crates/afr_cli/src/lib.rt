@@ -2,6 +2,7 @@
 #![tactic(auto)]
 
 mod finished;
+mod generated;
 mod messages;
 mod program;
 mod reading;

@@ -59,7 +59,6 @@ fn name_of(code: u8) -> &'static str
         6 => "range",
         7 => "order",
         8 => "total",
-        9 => "end",
-        _ => "unread",
+        _ => "end",
     }
 }

@@ -1,12 +1,11 @@
 //! The whole program, but for its outside.
-ghost use Rattle.std.specs.Prelude.{◌≡◌, ◌≤◌, ◌⊎◌, ℕ, List, String, length};
+ghost use Rattle.std.specs.Prelude.{◌≡◌, ◌≤◌, ◌⊎◌, ℕ, List, String, length, false, true};
 ghost use Rattle.std.specs.Global.{Global};
 ghost use Rattle.afr_text.specs.Causes.{Rose};
 ghost use Rattle.afr_law.specs.Exactly.{IsLawfulExactly};
 ghost use Rattle.afr_law.specs.ModelAlike.{AreAlike};
 ghost use Rattle.afr_law.specs.ModelCauses.{HaveCauses};
 ghost use Rattle.afr_lines.specs.Log.{EveryPrefix};
-ghost use Rattle.afr_model.specs.State.{no_volume};
 ghost use Rattle.afr_model.specs.Blamed.{AreBlamed};
 ghost use Rattle.afr_model.specs.Complete.{IsComplete};
 ghost use Rattle.afr_model.specs.Following.{Follows};
@@ -17,16 +16,21 @@ ghost use Rattle.afr_model.specs.Safe.{AreFresh, IsAlwaysSafe};
 ghost use Rattle.std.specs.Io.KnownBytes.{Appends};
 ghost use Rattle.afr_plan.specs.declared.plan.Plan.{Plan};
 ghost use Rattle.afr_plan.specs.declared.plan.PlanFault.{PlanFault};
-ghost use Rattle.afr_runnable.specs.Runnable.{IsRunnable};
 ghost use Rattle.afr_plan.specs.Spells.{Spells};
+ghost use Rattle.afr_quiet.specs.Undisturbed.{AreQuietWhole};
+ghost use Rattle.afr_rule.specs.Choosing.{IsRule};
+ghost use Rattle.afr_sources.specs.Sources.{picks_of};
+ghost use Rattle.afr_volume.specs.State.{IsChosen, no_volume};
 ghost use Rattle.afr_words.specs.Forms.{AreForm, AreRefused, AskFor};
-ghost use Rattle.afr_cli.specs.Forms.{text_of};
-ghost use Rattle.afr_cli.specs.Statuses.{AreDone, HasFault, AreGiven, IsFull, IsRefusal, IsSpelled, IsWorkLeft, Reports, StopsWriting, refusal_line, usage_line};
+ghost use Rattle.afr_cli.specs.Forms.{reads, text_of};
+ghost use Rattle.afr_cli.specs.Statuses.{AreDone, HasFault, AreGiven, IsFull, IsPlanOf, IsPlanned, IsRefusal, IsSpelled, IsWorkLeft, Reports, StopsWriting, refusal_line, usage_line};
 
+use crate::generated::make_and_run;
 use crate::messages::{answer, refuse};
 use crate::reading::{Unread, read_runnable};
 use crate::running::run_plan;
 use crate::status::Status;
+use afr_rule::{Candidate, SourceRule};
 use afr_text::{Sink, Source};
 use afr_volume::Volume;
 use afr_words::{Form, form_of};
@@ -35,15 +39,17 @@ use std::alloc::Global;
 /// Serves the words, and answers the status. It ends with 2 where the words are no form that it
 /// serves, 3 where the plan is refused, 4 where the source failed, 5 where the sink failed, 6 where
 /// memory was wanting, and with 7 where the log was full before all work was done; the text of the
-/// form is written of a full log too.
-#[tactic(auto, using(crate::proofs::StatusLemmas::nothing_ordered, crate::proofs::StatusLemmas::stops_at_usage))]
-pub fn afr_top<S: Source, K: Sink>(
+/// form is written of a full log too. Heals ask the rule for their sources.
+#[tactic(auto, using(crate::proofs::StatusLemmas::nothing_chosen, crate::proofs::StatusLemmas::nothing_ordered, crate::proofs::StatusLemmas::stops_at_usage))]
+pub fn afr_top<S: Source, K: Sink, F: Fn(&[Candidate]) -> usize>(
     alloc: Global,
     words: &[String],
     source: &mut S,
     sink: &mut K,
     volume: &mut Volume,
+    rule: &SourceRule<F>,
 ) -> u8
+    requires rule { IsRule F.Fn rule.now }
     requires fresh { volume.old ≡ no_volume }
 
     // A plan was run, and the text of the form is written.
@@ -62,16 +68,20 @@ pub fn afr_top<S: Source, K: Sink>(
         × StopsWriting words.now S.left source.old source.new (K.taken sink.old) (K.taken sink.new) volume.new }
     ensures memory { result ≡ 6 → sink.new ≡ sink.old }
 
-    // The words ask for a form, the source tells its bytes, and no read failed.
+    // The words ask for a generated load.
+    ensures unread { (n : ℕ) → AskFor words.now (Form.Gen n) → source.new ≡ source.old }
+    ensures generated { (n : ℕ) → AskFor words.now (Form.Gen n) → (result ≡ 0) ⊎ (result ≡ 7) ⊎ (result ≡ 5) ⊎ (result ≡ 6) }
+
+    // The words ask for a form that reads, the source tells its bytes, and no read failed.
     ensures faulty { (bytes : List ℕ) (fault : PlanFault) → AreGiven words.now (S.left source.old) (S.faults source.old) (S.faults source.new) bytes
         → HasFault bytes fault
         → ((result ≡ 3) × Appends (K.taken sink.old) (K.taken sink.new) (refusal_line fault)) ⊎ (result ≡ 5) ⊎ (result ≡ 6) }
     ensures spelled { (bytes : List ℕ) (plan : Plan) → AreGiven words.now (S.left source.old) (S.faults source.old) (S.faults source.new) bytes
-        → length bytes ≤ 16777216 → Spells bytes plan → IsRunnable plan
+        → length bytes ≤ 16777216 → Spells bytes plan
         → (result ≡ 0) ⊎ (result ≡ 7) ⊎ (result ≡ 5) ⊎ (result ≡ 6) }
 
     // At every status.
-    ensures plan { (volume.new ≡ no_volume) ⊎ IsSpelled (S.left source.old) (S.left source.new) volume.new.plan }
+    ensures plan { (volume.new ≡ no_volume) ⊎ IsPlanned words.now (S.left source.old) (S.left source.new) volume.new.plan }
     ensures others { (AreForm words.now → ⊥) → (result ≡ 2) ⊎ (result ≡ 5) ⊎ (result ≡ 6) }
     ensures bare { AreRefused words.now → (result ≡ 2) ⊎ (result ≡ 5) }
     ensures few { (result ≡ 0) ⊎ (result ≡ 2) ⊎ (result ≡ 3) ⊎ (result ≡ 4) ⊎ (result ≡ 5) ⊎ (result ≡ 6) ⊎ (result ≡ 7) }
@@ -85,9 +95,11 @@ pub fn afr_top<S: Source, K: Sink>(
     ensures fresh { AreFresh volume.new.plan volume.new.log }
     ensures causes { EveryPrefix (HaveCauses volume.new.plan) volume.new.log }
     ensures alike { EveryPrefix (AreAlike volume.new.plan) volume.new.log }
+    ensures quiet { AreQuietWhole volume.new.plan volume.new.log }
+    ensures chosen { IsChosen (picks_of F.Fn rule.now) volume.new }
 {
     let status = match form_of(alloc, words) {
-        Ok(Some(form)) => read_and_run(alloc, form, source, sink, volume),
+        Ok(Some(form)) => serve(alloc, form, source, sink, volume, rule),
         Ok(None) => answer(
             sink,
             b"usage: afr run | trace | info | gen N | live\n",
@@ -99,15 +111,53 @@ pub fn afr_top<S: Source, K: Sink>(
     status
 }
 
-/// Reads a plan from the source, and runs it; then the form's text is written.
-#[tactic(auto, using(crate::proofs::StatusLemmas::nothing_ordered))]
-fn read_and_run<S: Source, K: Sink>(
+/// Serves a form: a generated load is made, and nothing is read; each other form reads its plan from the source.
+#[tactic(auto, using(crate::proofs::StatusLemmas::nothing_chosen, crate::proofs::StatusLemmas::nothing_ordered))]
+fn serve<S: Source, K: Sink, F: Fn(&[Candidate]) -> usize>(
     alloc: Global,
     form: Form,
     source: &mut S,
     sink: &mut K,
     volume: &mut Volume,
+    rule: &SourceRule<F>,
 ) -> u8
+    requires rule { IsRule F.Fn rule.now }
+    requires asked { (words : List (String Global)) × AskFor words form }
+    requires fresh { volume.old ≡ no_volume }
+    ensures ok { result ≡ 0 → IsPlanOf form (S.left source.old) (S.left source.new) volume.new.plan × Appends (K.taken sink.old) (K.taken sink.new) (text_of form volume.new.plan volume.new.log)
+        × IsComplete volume.new.plan volume.new.log × AreDone volume.new.plan volume.new.log }
+    ensures unfinished { result ≡ 7 → IsPlanOf form (S.left source.old) (S.left source.new) volume.new.plan × Appends (K.taken sink.old) (K.taken sink.new) (text_of form volume.new.plan volume.new.log)
+        × IsFull volume.new.plan volume.new.log × IsWorkLeft volume.new.plan volume.new.log }
+    ensures refused { result ≡ 3 → IsRefusal (S.left source.old) (S.left source.new) (K.taken sink.old) (K.taken sink.new) × (volume.new ≡ no_volume) }
+    ensures read { result ≡ 4 → Rose (S.faults source.old) (S.faults source.new) × (sink.new ≡ sink.old) × (volume.new ≡ no_volume) }
+    ensures write { result ≡ 5 → Rose (K.faults sink.old) (K.faults sink.new)
+        × ((words : List (String Global)) → AskFor words form → StopsWriting words S.left source.old source.new (K.taken sink.old) (K.taken sink.new) volume.new) }
+    ensures memory { result ≡ 6 → sink.new ≡ sink.old }
+    ensures unread { reads form ≡ false → source.new ≡ source.old }
+    ensures generated { reads form ≡ false → (result ≡ 0) ⊎ (result ≡ 7) ⊎ (result ≡ 5) ⊎ (result ≡ 6) }
+    ensures plan { (volume.new ≡ no_volume) ⊎ IsPlanOf form (S.left source.old) (S.left source.new) volume.new.plan }
+    ensures few { (result ≡ 0) ⊎ (result ≡ 3) ⊎ (result ≡ 4) ⊎ (result ≡ 5) ⊎ (result ≡ 6) ⊎ (result ≡ 7) }
+    ensures ordered { IsOrdered volume.new.plan volume.new.log }
+    ensures chosen { IsChosen (picks_of F.Fn rule.now) volume.new }
+{
+    match form {
+        Form::Gen(n) => make_and_run(alloc, n, sink, volume, rule),
+        _ => read_and_run(alloc, form, source, sink, volume, rule),
+    }
+}
+
+/// Reads a plan from the source, and runs it; then the form's text is written.
+#[tactic(auto, using(crate::proofs::StatusLemmas::nothing_chosen, crate::proofs::StatusLemmas::nothing_ordered))]
+fn read_and_run<S: Source, K: Sink, F: Fn(&[Candidate]) -> usize>(
+    alloc: Global,
+    form: Form,
+    source: &mut S,
+    sink: &mut K,
+    volume: &mut Volume,
+    rule: &SourceRule<F>,
+) -> u8
+    requires rule { IsRule F.Fn rule.now }
+    requires reading { reads form ≡ true }
     requires fresh { volume.old ≡ no_volume }
     ensures ok { result ≡ 0 → IsSpelled (S.left source.old) (S.left source.new) volume.new.plan × Appends (K.taken sink.old) (K.taken sink.new) (text_of form volume.new.plan volume.new.log)
         × IsComplete volume.new.plan volume.new.log × AreDone volume.new.plan volume.new.log }
@@ -121,9 +171,10 @@ fn read_and_run<S: Source, K: Sink>(
     ensures plan { (volume.new ≡ no_volume) ⊎ IsSpelled (S.left source.old) (S.left source.new) volume.new.plan }
     ensures few { (result ≡ 0) ⊎ (result ≡ 3) ⊎ (result ≡ 4) ⊎ (result ≡ 5) ⊎ (result ≡ 6) ⊎ (result ≡ 7) }
     ensures ordered { IsOrdered volume.new.plan volume.new.log }
+    ensures chosen { IsChosen (picks_of F.Fn rule.now) volume.new }
 {
     match read_runnable(alloc, source) {
-        Ok(plan) => run_plan(alloc, form, plan, sink, volume),
+        Ok(plan) => run_plan(alloc, form, plan, sink, volume, rule),
         Err(Unread::Refused(fault)) => refuse(alloc, sink, fault),
         Err(Unread::ReadFault) => Status::ReadFault as u8,
         Err(Unread::NoMemory) => Status::NoMemory as u8,

@@ -1,19 +1,21 @@
-//! Reading a plan from a source, and judging whether it can be run.
+//! Reading a plan from a source.
 ghost use Rattle.std.specs.Prelude.{◌≡◌, Err, IfOk};
 ghost use Rattle.afr_text.specs.Causes.{Rose};
 ghost use Rattle.afr_plan.specs.declared.plan.PlanFault.{PlanFault};
 ghost use Rattle.afr_runnable.specs.Runnable.{IsRunnable};
 ghost use Rattle.afr_cli.specs.Statuses.{IsRefused, IsSpelled};
 
-use crate::status::WholePlan;
 use afr_plan::{Plan, PlanFault, PlanStop};
 use afr_plan_read::read_plan;
-use afr_runnable::is_runnable_yet;
+use afr_runnable::every_spelled_plan_runs;
 use afr_text::{ReadStop, Source, read_all};
 use std::alloc::Global;
 
 /// The longest source, in bytes.
 const LIMIT: usize = 16_777_216;
+
+/// The fault of a source that is longer: it stands at no line.
+const TOO_LONG: PlanFault = PlanFault { line: 0, code: 0 };
 
 /// Why there is no plan to run.
 #[derive(Drop)]
@@ -23,7 +25,7 @@ pub enum Unread {
     NoMemory,
 }
 
-/// Reads the source to its end, as a plan that the volume can run.
+/// Reads the source to its end, as a plan. Every plan that is spelled can be run.
 pub fn read_runnable<S: Source>(alloc: Global, source: &mut S) -> Result<Plan, Unread>
     ensures ok { IfOk result (λ plan. IsSpelled (S.left source.old) (S.left source.new) plan) }
     ensures runnable { IfOk result (λ plan. IsRunnable plan) }
@@ -33,25 +35,15 @@ pub fn read_runnable<S: Source>(alloc: Global, source: &mut S) -> Result<Plan, U
     let bytes = match read_all(alloc, source, LIMIT) {
         Ok(bytes) => bytes,
         Err(ReadStop::ReadFault) => return Err(Unread::ReadFault),
-        Err(ReadStop::TooLong) => return Err(whole(WholePlan::TooLong as u8)),
+        Err(ReadStop::TooLong) => return Err(Unread::Refused(TOO_LONG)),
         Err(ReadStop::NoMemory) => return Err(Unread::NoMemory),
     };
     match read_plan(alloc, &bytes) {
         Ok(plan) => {
-            if is_runnable_yet(&plan) {
-                Ok(plan)
-            } else {
-                Err(whole(WholePlan::NotYetRun as u8))
-            }
+            every_spelled_plan_runs();
+            Ok(plan)
         }
         Err(PlanStop::Refused(fault)) => Err(Unread::Refused(fault)),
         Err(PlanStop::NoMemory) => Err(Unread::NoMemory),
     }
-}
-
-/// The plan as a whole is refused.
-fn whole(code: u8) -> Unread
-    ensures { result ≡ Unread.Refused (record { line = 0; code = code }) }
-{
-    Unread::Refused(PlanFault { line: 0, code })
 }

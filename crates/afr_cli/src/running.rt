@@ -4,9 +4,11 @@ ghost use Rattle.std.specs.Io.KnownBytes.{Appends};
 ghost use Rattle.afr_text.specs.Causes.{Rose};
 ghost use Rattle.afr_text.specs.Parts.{AppendsFront};
 ghost use Rattle.afr_runnable.specs.Runnable.{IsRunnable};
-ghost use Rattle.afr_model.specs.State.{no_volume};
 ghost use Rattle.afr_model.specs.Complete.{IsComplete};
 ghost use Rattle.afr_model.specs.Ordered.{IsOrdered};
+ghost use Rattle.afr_rule.specs.Choosing.{IsRule};
+ghost use Rattle.afr_sources.specs.Sources.{picks_of};
+ghost use Rattle.afr_volume.specs.State.{IsChosen, no_volume};
 ghost use Rattle.afr_cli.specs.Forms.{text_of};
 ghost use Rattle.afr_cli.specs.Statuses.{AreDone, IsFull, IsOver, IsWorkLeft};
 
@@ -17,20 +19,24 @@ use afr_base::NoMemory;
 use afr_order::drive;
 use afr_plan::Plan;
 use afr_report::{info_text, report_text, trace_text};
+use afr_rule::{Candidate, SourceRule};
+use afr_summary::summary_text;
 use afr_text::Sink;
 use afr_volume::Volume;
 use afr_words::Form;
 use std::alloc::Global;
 
 /// Runs a plan and writes the text of the form, also where the log got full in the middle of the work.
-#[tactic(auto, using(crate::proofs::StatusLemmas::nothing_ordered))]
-pub fn run_plan<K: Sink>(
+#[tactic(auto, using(crate::proofs::StatusLemmas::nothing_chosen, crate::proofs::StatusLemmas::nothing_ordered))]
+pub fn run_plan<K: Sink, F: Fn(&[Candidate]) -> usize>(
     alloc: Global,
     form: Form,
     plan: Plan,
     sink: &mut K,
     volume: &mut Volume,
+    rule: &SourceRule<F>,
 ) -> u8
+    requires rule { IsRule F.Fn rule.now }
     requires runnable { IsRunnable plan }
     requires fresh { volume.old ≡ no_volume }
     ensures few { (result ≡ 0) ⊎ (result ≡ 5) ⊎ (result ≡ 6) ⊎ (result ≡ 7) }
@@ -44,11 +50,12 @@ pub fn run_plan<K: Sink>(
     ensures write { result ≡ 5 → Rose (K.faults sink.old) (K.faults sink.new) × AppendsFront (K.taken sink.old) (K.taken sink.new) (text_of form volume.new.plan volume.new.log)
         × IsComplete volume.new.plan volume.new.log × IsOver volume.new.plan volume.new.log }
     ensures memory { result ≡ 6 → sink.new ≡ sink.old }
+    ensures chosen { IsChosen (picks_of F.Fn rule.now) volume.new }
 {
     if volume.set_up(plan).is_err() {
         return Status::NoMemory as u8;
     }
-    if drive(volume).is_err() {
+    if drive(volume, rule).is_err() {
         return Status::NoMemory as u8;
     }
     let status = status_after(volume);
@@ -66,6 +73,7 @@ fn text_of(alloc: Global, form: Form, volume: &Volume) -> Result<String, NoMemor
         Form::Run => report_text(alloc, volume),
         Form::Trace => trace_text(alloc, volume),
         Form::Info => info_text(alloc, volume),
+        Form::Gen(n) => summary_text(alloc, volume, n),
     }
 }
 

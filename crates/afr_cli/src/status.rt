@@ -1,4 +1,4 @@
-//! What the program ends with, and the codes of plans that are refused as a whole.
+//! What the program ends with.
 
 /// The status of the program. A plan that was run to its end gives `Done`, one whose log was full
 /// before all work was done `Unfinished`; the others name what kept a plan from its report.
@@ -10,10 +10,4 @@ pub enum Status {
     WriteFault = 5,
     NoMemory = 6,
     Unfinished = 7,
-}
-
-/// The codes of a fault that no line of the plan has: it stands at line 0.
-pub enum WholePlan {
-    TooLong = 0,
-    NotYetRun = 10,
 }

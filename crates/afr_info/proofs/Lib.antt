@@ -3,3 +3,4 @@ mod FiveLemmas
 pub mod RisingLemmas
 mod ShownLemmas
 mod VerdictLemmas
+pub mod VolumeLemmas

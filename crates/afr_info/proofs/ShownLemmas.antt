@@ -78,6 +78,12 @@ module _ (p : Plan) (log : List Line) (among : List ℕ) (servers : List Serving
   objects_are : objects_shown p servers among ≡ objects_of p log among (marked_on p log among)
   objects_are = ap (counted_shown p servers among) (marked_are among (λ b m. m)) ∙ counted_is (marked_on p log among)
 
+  -- the two counts are those of the log
+  pub counts_are : (marked_in servers among ≡ marked_on p log among) × (splits_shown p servers among (marked_in servers among) ≡ splits_in p log among (marked_on p log among))
+  counts_are =
+      let marked = marked_are among (λ b m. m) in
+      (marked, ap (splits_shown p servers among) marked ∙ splits_are (marked_on p log among))
+
 pub info_is : (p : Plan) (log : List Line) (servers : List Serving) (started : List ℕ) → started ≡ started_bricks p.shape.n log → HoldTables p log started servers → info_shown p servers started ≡ info_of p log
 info_is p log servers started e hold =
     ap (λ (s : List ℕ). reach_text p.shape.n started ++ s) (objects_are p log started servers hold)

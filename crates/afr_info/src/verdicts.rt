@@ -34,6 +34,18 @@ pub fn push_verdict(
     Ok(count_split(&verdict))
 }
 
+/// 1 where the kind has a number above 0 and is split, else 0.
+pub fn split_of(plan: &Plan, looked: &Looked, kind: Kind) -> usize
+    requires few { plan.now.shape.n ≤ 5 }
+    ensures split { result ≡ one_if_split plan.now looked.now kind }
+    ensures one { result ≤ 1 }
+{
+    if is_clean(kind, looked) {
+        return 0;
+    }
+    count_split(&judge(&plan.shape, looked, kind))
+}
+
 fn count_split(verdict: &Verdict) -> usize
     ensures { result ≡ (if is_split_verdict verdict.now then 1 else 0) }
 {

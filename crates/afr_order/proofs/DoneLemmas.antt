@@ -5,7 +5,7 @@ use borrow.Author.Count.{below_more}
 use Rattle.afr_lines.specs.declared.line.Line.{Line}
 use Rattle.afr_lines.specs.Work.{work, is_killed}
 use Rattle.afr_plan.specs.declared.plan.Plan.{Plan}
-use Rattle.afr_model.specs.State.{State}
+use Rattle.afr_volume.specs.State.{State}
 use Rattle.afr_model.specs.Actors.{IsActor, is_done}
 use Rattle.afr_model.specs.Actors.IsActor.{Client, Healer}
 use Rattle.afr_model.specs.Complete.{IsComplete}

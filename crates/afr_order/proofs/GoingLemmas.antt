@@ -4,13 +4,15 @@ use Rattle.std.proofs.lemmas.List.{append-nil}
 use Rattle.afr_base.specs.declared.ids.ActorId.{ActorId}
 use Rattle.afr_lines.specs.declared.line.Line.{Line}
 use Rattle.afr_plan.specs.declared.plan.Plan.{Plan}
-use Rattle.afr_model.specs.State.{State}
+use Rattle.afr_model.specs.Chosen.{Picks}
+use Rattle.afr_sources.proofs.Turns.{event_keeps, none_chosen}
+use Rattle.afr_volume.specs.State.{IsChosen, State, opened}
 use Rattle.afr_model.specs.Actors.{is_done}
 use Rattle.afr_model.specs.Ordered.Writes.{Moves, PassesOver, Happens}
 use Rattle.afr_volume.specs.Turning.{Turns, Comes, AddsLine}
 use Rattle.afr_volume.specs.declared.turned.Turned.{Turned}
 use Rattle.afr_volume.specs.declared.turned.Turned.TheVariants.{Moved, Waits, Ended, Full}
-use Rattle.afr_order.specs.Going.{Goes, Takes, TakesFront, Ends, goes_on_after}
+use Rattle.afr_order.specs.Going.{Goes, IsHappening, Later, Still, Takes, TakesFront, Ends, goes_on_after}
 
 pub goes_nowhere : (s : State) → Goes s s
 goes_nowhere s = record { plan = refl; grows = omega arith; same = λ h. refl }
@@ -61,11 +63,11 @@ pub ends_then : (a b c : State) (xs ys : List ℕ) (on : Bool) → Goes a b → 
 ends_then a b c xs ys true g f t = takes_then a b c xs ys g f t
 ends_then a b c xs ys false g f t = t
 
-adds_goes : (old new : State) (line : Line) → new ≡ record old { log = line ∷ old.log } → Goes old new
-adds_goes old new line e = rw e (record { plan = refl; grows = omega arith; same = λ h. absurd (omega (arith, h)) })
+adds_goes : (old new : State) (line : Line) → new.plan ≡ old.plan → new.log ≡ line ∷ old.log → Goes old new
+adds_goes old new line same added = record { plan = same; grows = omega (arith, ap length added); same = λ h. absurd (omega (arith, h, ap length added)) }
 
 pub event_goes : (old new : State) → Comes old new → Goes old new
-event_goes old new h = adds_goes old new _ h.added
+event_goes old new h = adds_goes old new _ (ap (λ (s : State). s.plan) h.added) (ap (λ (s : State). s.log) h.added)
 
 pub event_takes : (old new : State) → Comes old new → Takes old.plan [] old.log new.log
 event_takes old new h = rw h.added (record { written = λ before w. rw append-nil (Happens before old.log _ w refl) })
@@ -74,8 +76,8 @@ turn_moves : (a : ActorId) (old new : State) (waits : Option ActorId) → AddsLi
 turn_moves a old new waits h = rw h.added (record { written = λ before w. Moves before old.log a.0 h.line w h.own })
 
 pub turn_goes : (a : ActorId) (old new : State) (turned : Turned) → Turns a old turned new → Goes old new
-turn_goes a old new Moved h = adds_goes old new h.line h.added
-turn_goes a old new (Waits owner) h = adds_goes old new h.line h.added
+turn_goes a old new Moved h = adds_goes old new h.line h.plan h.added
+turn_goes a old new (Waits owner) h = adds_goes old new h.line h.plan h.added
 turn_goes a old new Ended h = rw h.1 (goes_nowhere old)
 turn_goes a old new Full h = rw h.2 (goes_nowhere old)
 
@@ -92,10 +94,19 @@ turn_front a old new (Waits owner) h = front_whole old.plan old.log new.log (a.0
 turn_front a old new Ended h = front_whole old.plan old.log new.log (a.0 ∷ []) (turn_ends a old new Ended h)
 
 pub turn_done : (a : ActorId) (old new : State) (turned : Turned) → Turns a old turned new → goes_on_after turned ≡ true → length new.log ≤ length old.log → is_done new.plan a.0 new.log ≡ true
-turn_done a old new Moved h t l = absurd (omega (arith, l, ap (λ (s : State). length s.log) h.added))
-turn_done a old new (Waits owner) h t l = absurd (omega (arith, l, ap (λ (s : State). length s.log) h.added))
+turn_done a old new Moved h t l = absurd (omega (arith, l, ap length h.added))
+turn_done a old new (Waits owner) h t l = absurd (omega (arith, l, ap length h.added))
 turn_done a old new Ended h t l = rw h.1 h.0
 turn_done a old new Full h t l = cc
 
 pub ends_true : (a b : State) (xs : List ℕ) (on : Bool) → on ≡ true → Ends xs a on b → Takes a.plan xs a.log b.log
 ends_true a b xs on e h = rw e at h
+
+-- before its first line a volume runs no heal
+pub opened_chosen : (picks : Picks) (p : Plan) → IsChosen picks (opened p)
+opened_chosen picks p = none_chosen picks p (replicate (length p.healers) None)
+
+-- events leave the source of every heal
+pub happens_chosen : (picks : Picks) (old new : State) → IsHappening old new → IsChosen picks old → IsChosen picks new
+happens_chosen picks old new Still k = k
+happens_chosen picks old new (Later mid _ h comes) k = rw comes.added (event_keeps picks mid.plan mid.log mid.sources comes.event (happens_chosen picks old mid h k))

@@ -8,7 +8,7 @@ use Rattle.afr_plan.specs.declared.plan.Plan.{Plan}
 use Rattle.afr_plan.specs.declared.schedule.Go.{Go}
 use Rattle.afr_model.specs.Ordered.{IsOrdered, actors_of, ordered_turns, passes}
 use Rattle.afr_model.specs.Ordered.Writes.{Nothing}
-use Rattle.afr_model.specs.State.{State}
+use Rattle.afr_volume.specs.State.{State}
 use Rattle.afr_model.specs.Actors.{is_done}
 use Rattle.afr_order.specs.Going.{Goes, Takes, TakesFront}
 use Rattle.afr_order.proofs.GoingLemmas.{front_more, front_then, takes_then, takes_passes}

@@ -3,7 +3,7 @@ use Rattle.std.proofs.Common.{◌≡◌, ℕ, [], ◌++◌, length}
 use Rattle.std.specs.List.{range_with_len}
 use Rattle.std.proofs.lemmas.List.{append-nil}
 use Rattle.afr_plan.specs.declared.plan.Plan.{Plan}
-use Rattle.afr_model.specs.State.{State}
+use Rattle.afr_volume.specs.State.{State}
 use Rattle.afr_model.specs.Ordered.{actors_of}
 use Rattle.afr_order.specs.Going.{Goes, Takes, TakesFront}
 use Rattle.afr_order.proofs.GoingLemmas.{goes_then, takes_then, front_then, front_whole}

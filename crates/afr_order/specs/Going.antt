@@ -2,7 +2,8 @@
 use Rattle.std.specs.Prelude.{◌≡◌, ℕ, ◌≤◌, ◌<◌, Bool, true, false, List, ◌++◌, length}
 use Rattle.afr_lines.specs.declared.line.Line.{Line}
 use Rattle.afr_plan.specs.declared.plan.Plan.{Plan}
-use Rattle.afr_model.specs.State.{State}
+use Rattle.afr_volume.specs.State.{State}
+use Rattle.afr_volume.specs.Turning.{Comes}
 use Rattle.afr_model.specs.Actors.{IsActor, is_done}
 use Rattle.afr_model.specs.Following.{NoneDue}
 use Rattle.afr_model.specs.Ordered.{Writes}
@@ -14,6 +15,11 @@ pub record Goes (old new : State) : Type 0 where
   pub plan : new.plan ≡ old.plan
   pub grows : length old.log ≤ length new.log
   pub same : length new.log ≤ length old.log → new ≡ old
+
+-- events that were due took the old volume to the new one
+pub data IsHappening (old : State) : State → Type 0 where
+  Still : IsHappening old old
+  Later : (mid new : State) → IsHappening old mid → Comes mid new → IsHappening old new
 
 -- these turns, and events between them, took the old log to the new one
 pub record Takes (p : Plan) (turns : List ℕ) (old new : List Line) : Type 0 where

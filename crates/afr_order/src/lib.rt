@@ -13,19 +13,29 @@ ghost use Rattle.afr_model.specs.Honest.{Honest};
 ghost use Rattle.afr_model.specs.Ordered.{IsOrdered};
 ghost use Rattle.afr_model.specs.Replied.{Replied};
 ghost use Rattle.afr_model.specs.Safe.{AreFresh, IsAlwaysSafe};
+ghost use Rattle.afr_quiet.specs.Undisturbed.{AreQuietWhole};
+ghost use Rattle.afr_rule.specs.Choosing.{IsRule};
+ghost use Rattle.afr_sources.specs.Sources.{picks_of};
+ghost use Rattle.afr_volume.specs.State.{IsChosen};
 
 mod rows;
 mod turns;
 
 use crate::rows::{take_orders, take_pass};
 use afr_base::NoMemory;
+use afr_rule::{Candidate, SourceRule};
 use afr_volume::Volume;
 
 /// Runs the plan that the volume was set up with, until every actor is done or the log is full.
 /// First come the orders of the plan, then passes over all actors in rising order: clients, then
 /// healers. Before each turn, and at the end, all due events come. It takes one turn for each line;
 /// an order asks its actor at most once more, and a pass each actor.
-pub fn drive(volume: &mut Volume) -> Result<(), NoMemory>
+/// A heal that chooses its source asks the rule.
+pub fn drive<F: Fn(&[Candidate]) -> usize>(
+    volume: &mut Volume,
+    rule: &SourceRule<F>,
+) -> Result<(), NoMemory>
+    requires rule { IsRule F.Fn rule.now }
     requires fresh { volume.old.log ≡ [] }
     ensures plan { volume.new.plan ≡ volume.old.plan }
     ensures ok { OnOk result (IsComplete volume.new.plan volume.new.log) }
@@ -39,24 +49,32 @@ pub fn drive(volume: &mut Volume) -> Result<(), NoMemory>
     ensures fresh { AreFresh volume.new.plan volume.new.log }
     ensures causes { EveryPrefix (HaveCauses volume.new.plan) volume.new.log }
     ensures alike { EveryPrefix (AreAlike volume.new.plan) volume.new.log }
+    ensures quiet { AreQuietWhole volume.new.plan volume.new.log }
+    ensures chosen { IsChosen (picks_of F.Fn rule.now) volume.new }
 {
-    let driven = take_all(volume);
+    volume.every_line();
+    let driven = take_all(volume, rule);
     volume.every_line();
     driven
 }
 
-fn take_all(volume: &mut Volume) -> Result<(), NoMemory>
+fn take_all<F: Fn(&[Candidate]) -> usize>(
+    volume: &mut Volume,
+    rule: &SourceRule<F>,
+) -> Result<(), NoMemory>
+    requires rule { IsRule F.Fn rule.now }
     requires fresh { volume.old.log ≡ [] }
     ensures plan { volume.new.plan ≡ volume.old.plan }
     ensures ok { OnOk result (IsComplete volume.new.plan volume.new.log) }
     ensures ordered { IsOrdered volume.new.plan volume.new.log }
+    ensures chosen { IsChosen (picks_of F.Fn rule.now) volume.old → IsChosen (picks_of F.Fn rule.now) volume.new }
 {
-    if !take_orders(volume)? {
+    if !take_orders(volume, rule)? {
         return Ok(());
     }
     loop {
         let before = volume.len();
-        if !take_pass(volume)? {
+        if !take_pass(volume, rule)? {
             return Ok(());
         }
         volume.every_line();

@@ -3,23 +3,32 @@ ghost use Rattle.std.specs.Prelude.{◌≡◌, ◌≤◌, ◌<◌, ◌+◌, ◌^
 ghost use Rattle.std.specs.List.{range_with_len};
 ghost use Rattle.afr_model.specs.Actors.{IsActor, is_done};
 ghost use Rattle.afr_model.specs.Ordered.{actors_of, ordered_turns};
+ghost use Rattle.afr_rule.specs.Choosing.{IsRule};
+ghost use Rattle.afr_sources.specs.Sources.{picks_of};
+ghost use Rattle.afr_volume.specs.State.{IsChosen};
 ghost use Rattle.afr_order.specs.Going.{Goes, TakesFront, Ends, IsIdle};
 
 use crate::turns::{come_due, take_turn, take_turns};
 use afr_base::{ActorId, FIRST_CLIENT, FIRST_HEALER, NoMemory};
+use afr_rule::{Candidate, SourceRule};
 use afr_volume::Volume;
 
 /// All orders of the plan. It answers whether the log had room.
-pub(crate) fn take_orders(volume: &mut Volume) -> Result<bool, NoMemory>
+pub(crate) fn take_orders<F: Fn(&[Candidate]) -> usize>(
+    volume: &mut Volume,
+    rule: &SourceRule<F>,
+) -> Result<bool, NoMemory>
+    requires rule { IsRule F.Fn rule.now }
     ensures goes { Goes volume.old volume.new }
     ensures front { TakesFront volume.old.plan (ordered_turns volume.old.plan.go) volume.old.log volume.new.log }
     ensures ok { IfOk result (λ on. Ends (ordered_turns volume.old.plan.go) volume.old on volume.new) }
+    ensures chosen { IsChosen (picks_of F.Fn rule.now) volume.old → IsChosen (picks_of F.Fn rule.now) volume.new }
 {
     volume.every_line();
     let orders = volume.plan().go.len();
     for i in 0..orders {
         let go = *volume.plan().go.item(i);
-        if !take_turns(volume, go.actor, go.count)? {
+        if !take_turns(volume, go.actor, go.count, rule)? {
             return Ok(false);
         }
     }
@@ -27,16 +36,23 @@ pub(crate) fn take_orders(volume: &mut Volume) -> Result<bool, NoMemory>
 }
 
 /// A turn of each of so many actors. It answers whether the log had room.
-fn take_row(volume: &mut Volume, first: u16, count: u16) -> Result<bool, NoMemory>
+fn take_row<F: Fn(&[Candidate]) -> usize>(
+    volume: &mut Volume,
+    first: u16,
+    count: u16,
+    rule: &SourceRule<F>,
+) -> Result<bool, NoMemory>
+    requires rule { IsRule F.Fn rule.now }
     requires fits { first + count < 2 ^ 16 }
     requires actors { (k : ℕ) → k < count → IsActor volume.old.plan (first + k) }
     ensures goes { Goes volume.old volume.new }
     ensures front { TakesFront volume.old.plan (range_with_len first count) volume.old.log volume.new.log }
     ensures ok { IfOk result (λ on. Ends (range_with_len first count) volume.old on volume.new) }
     ensures done { result ≡ Ok true → length volume.new.log ≤ length volume.old.log → (k : ℕ) → k < count → is_done volume.new.plan (first + k) volume.new.log ≡ true }
+    ensures chosen { IsChosen (picks_of F.Fn rule.now) volume.old → IsChosen (picks_of F.Fn rule.now) volume.new }
 {
     for i in 0..count {
-        if !take_turn(volume, ActorId(first + i))? {
+        if !take_turn(volume, ActorId(first + i), rule)? {
             return Ok(false);
         }
     }
@@ -44,19 +60,24 @@ fn take_row(volume: &mut Volume, first: u16, count: u16) -> Result<bool, NoMemor
 }
 
 /// A turn of each actor, and the events that are due then. It answers whether the log had room.
-pub(crate) fn take_pass(volume: &mut Volume) -> Result<bool, NoMemory>
+pub(crate) fn take_pass<F: Fn(&[Candidate]) -> usize>(
+    volume: &mut Volume,
+    rule: &SourceRule<F>,
+) -> Result<bool, NoMemory>
+    requires rule { IsRule F.Fn rule.now }
     ensures goes { Goes volume.old volume.new }
     ensures front { TakesFront volume.old.plan (actors_of volume.old.plan) volume.old.log volume.new.log }
     ensures ok { IfOk result (λ on. Ends (actors_of volume.old.plan) volume.old on volume.new) }
     ensures idle { result ≡ Ok true → length volume.new.log ≤ length volume.old.log → IsIdle volume.new }
+    ensures chosen { IsChosen (picks_of F.Fn rule.now) volume.old → IsChosen (picks_of F.Fn rule.now) volume.new }
 {
     volume.every_line();
     let clients = volume.plan().clients.len() as u16;
     let healers = volume.plan().healers.len() as u16;
-    if !take_row(volume, FIRST_CLIENT, clients)? {
+    if !take_row(volume, FIRST_CLIENT, clients, rule)? {
         return Ok(false);
     }
-    if !take_row(volume, FIRST_HEALER, healers)? {
+    if !take_row(volume, FIRST_HEALER, healers, rule)? {
         return Ok(false);
     }
     come_due(volume)?;

@@ -2,10 +2,14 @@
 ghost use Rattle.std.specs.Prelude.{◌≡◌, ◌≤◌, ◌<◌, ◌∷◌, [], true, Ok, None, OnOk, IfOk, length, replicate};
 ghost use Rattle.afr_model.specs.Actors.{IsActor, is_done};
 ghost use Rattle.afr_model.specs.Following.{NoneDue};
+ghost use Rattle.afr_rule.specs.Choosing.{IsRule};
+ghost use Rattle.afr_sources.specs.Sources.{picks_of};
+ghost use Rattle.afr_volume.specs.State.{IsChosen};
 ghost use Rattle.afr_volume.specs.Turning.{due_of};
-ghost use Rattle.afr_order.specs.Going.{Goes, Takes, TakesFront, Ends, goes_on_after};
+ghost use Rattle.afr_order.specs.Going.{Goes, Takes, TakesFront, Ends, IsHappening, goes_on_after};
 
 use afr_base::{ActorId, NoMemory};
+use afr_rule::{Candidate, SourceRule};
 use afr_volume::{Turned, Volume};
 
 /// All events that are due.
@@ -14,6 +18,7 @@ pub(crate) fn come_due(volume: &mut Volume) -> Result<(), NoMemory>
     ensures taken { Takes volume.old.plan [] volume.old.log volume.new.log }
     ensures none { OnOk result (due_of volume.new ≡ None) }
     ensures events { OnOk result (length volume.new.log < volume.new.plan.turns → NoneDue volume.new.plan volume.new.log) }
+    ensures happens { IsHappening volume.old volume.new }
 {
     while volume.due().is_some() {
         volume.event()?;
@@ -31,29 +36,42 @@ fn goes_on(turned: Turned) -> bool
 }
 
 /// The due events, and then one turn. It answers whether the log had room.
-pub(crate) fn take_turn(volume: &mut Volume, a: ActorId) -> Result<bool, NoMemory>
+pub(crate) fn take_turn<F: Fn(&[Candidate]) -> usize>(
+    volume: &mut Volume,
+    a: ActorId,
+    rule: &SourceRule<F>,
+) -> Result<bool, NoMemory>
+    requires rule { IsRule F.Fn rule.now }
     requires actor { IsActor volume.old.plan a.0 }
     ensures goes { Goes volume.old volume.new }
     ensures front { TakesFront volume.old.plan (a.0 ∷ []) volume.old.log volume.new.log }
     ensures ok { IfOk result (λ on. Ends (a.0 ∷ []) volume.old on volume.new) }
     ensures done { result ≡ Ok true → length volume.new.log ≤ length volume.old.log → is_done volume.new.plan a.0 volume.new.log ≡ true }
+    ensures chosen { IsChosen (picks_of F.Fn rule.now) volume.old → IsChosen (picks_of F.Fn rule.now) volume.new }
 {
     come_due(volume)?;
-    let turned = volume.turn(a)?;
+    let turned = volume.turn(a, rule)?;
     Ok(goes_on(turned))
 }
 
 /// So many turns of one actor, which end early where it is done: each that is left would be passed
 /// over. It answers whether the log had room.
-pub(crate) fn take_turns(volume: &mut Volume, a: ActorId, count: u32) -> Result<bool, NoMemory>
+pub(crate) fn take_turns<F: Fn(&[Candidate]) -> usize>(
+    volume: &mut Volume,
+    a: ActorId,
+    count: u32,
+    rule: &SourceRule<F>,
+) -> Result<bool, NoMemory>
+    requires rule { IsRule F.Fn rule.now }
     requires actor { IsActor volume.old.plan a.0 }
     ensures goes { Goes volume.old volume.new }
     ensures front { TakesFront volume.old.plan (replicate count a.0) volume.old.log volume.new.log }
     ensures ok { IfOk result (λ on. Ends (replicate count a.0) volume.old on volume.new) }
+    ensures chosen { IsChosen (picks_of F.Fn rule.now) volume.old → IsChosen (picks_of F.Fn rule.now) volume.new }
 {
     for _taken in 0..count {
         let before = volume.len();
-        if !take_turn(volume, a)? {
+        if !take_turn(volume, a, rule)? {
             return Ok(false);
         }
         if volume.len() == before {

@@ -1,12 +1,12 @@
 -- What a line says after some lines, or the code of the lowest rule that it breaks; and the first fault of a text.
-use Rattle.std.specs.Prelude.{ℕ, ◌+◌, ◌==◌, List, [], ◌∷◌, length, Bool, true, false, not, nat_lt, codes, Option, Some, None, Result, Ok, Err, if◌then◌else◌, take_while}
+use Rattle.std.specs.Prelude.{ℕ, ◌+◌, ◌==◌, List, [], ◌∷◌, length, Bool, true, false, not, ◌||◌, nat_lt, codes, Option, Some, None, Result, Ok, Err, if◌then◌else◌, take_while}
 use Rattle.std.specs.List.{list_all}
 use Rattle.afr_plan.specs.Bytes.{plain}
 use Rattle.afr_plan.specs.Reading.{after}
 use Rattle.afr_plan.specs.TextLines.{text_of}
 use Rattle.afr_plan.specs.Said.{Said}
 use Rattle.afr_plan.specs.SaidReading.{said}
-use Rattle.afr_plan.specs.Rules.{next_words, is_one_of, is_over, is_beyond, is_disordered, passes_total}
+use Rattle.afr_plan.specs.Rules.{next_words, is_one_of, is_over, is_versioned, is_beyond, is_disordered, passes_total}
 use Rattle.afr_plan.specs.declared.plan.PlanFault.{PlanFault}
 
 -- nothing follows, or a space
@@ -23,9 +23,13 @@ begins words line = ends_word (after words line)
 abbrev pub first_word : List ℕ → List ℕ
 first_word line = take_while (λ b. not (b == 32)) line
 
+-- a line begins with the words of a first line, in one of the two versions
+abbrev pub begins_plan : List ℕ → Bool
+begins_plan line = begins (codes "afr 1") line || begins (codes "afr 2") line
+
 -- a line's first words may stand here: the first line's are two
 abbrev pub may_begin : List Said → List ℕ → Bool
-may_begin [] line = begins (codes "afr 1") line
+may_begin [] line = begins_plan line
 may_begin (newest ∷ older) line = is_one_of (next_words (newest ∷ older)) (first_word line)
 
 -- the code for first words out of place: lines 1 to 4 are the head
@@ -36,10 +40,10 @@ place_code before = if nat_lt (length before) 4 then 3 else 4
 abbrev pub fitting : List Said → Said → Result Said ℕ
 fitting before s = if is_beyond s then Err 6 else if is_disordered before s then Err 7 else if passes_total before s then Err 8 else Ok s
 
--- the same of a line that has a form, if it has one
+-- the same of a line that has a form, if it has one: that of a volume is its version's
 abbrev pub formed : List Said → Option Said → Result Said ℕ
 formed before None = Err 5
-formed before (Some s) = fitting before s
+formed before (Some s) = if not (is_versioned before s) then Err 5 else fitting before s
 
 -- what a line says, or the code of the lowest rule that it breaks
 abbrev pub judged : List Said → List ℕ → Result Said ℕ

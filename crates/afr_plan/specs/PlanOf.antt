@@ -1,5 +1,5 @@
 -- The plan that some lines give.
-use Rattle.std.specs.Prelude.{ℕ, List, [], ◌∷◌, ◌++◌, ◌+◌, false}
+use Rattle.std.specs.Prelude.{ℕ, List, [], ◌∷◌, ◌++◌, ◌+◌}
 use Rattle.afr_base.specs.declared.ids.ActorId.{ActorId}
 use Rattle.afr_base.specs.declared.ids.NameId.{NameId}
 use Rattle.afr_lines.specs.declared.line.Event.{Event}
@@ -10,14 +10,14 @@ use Rattle.afr_plan.specs.declared.plan.Plan.{Plan}
 use Rattle.afr_plan.specs.declared.plan.Words.{Words}
 use Rattle.afr_plan.specs.Happening.{Who, OfClient, OfHealer, Happening, Stop, Start, Cut, Join, Kill}
 use Rattle.afr_plan.specs.Names.{with_name, with_names, number_of, file_names}
-use Rattle.afr_plan.specs.Said.{Said, Volume, Files, Turns, Client, Healer, Round, Faulty, At, Go}
+use Rattle.afr_plan.specs.Said.{three_replicas, Said, Volume, Files, Turns, Client, Healer, Round, Faulty, At, Go}
 use Rattle.afr_plan.specs.Said as said
 use Rattle.afr_plan.specs.Work.{Work, Write, Read, Create, Mkdir, Unlink, Rmdir, Ls, Stat, SetAttr, GetAttr}
 use Rattle.afr_plan.specs.Work as work
 
 -- three bricks without an arbiter, and nothing else
 abbrev pub empty_plan : Plan
-empty_plan = record { shape = record { n = 3; arbiter = false }; files = 0; turns = 0; clients = []; healers = []; faults = []; events = []; go = []; words = record { names = []; keys = []; values = [] } }
+empty_plan = record { shape = three_replicas; files = 0; turns = 0; clients = []; healers = []; faults = []; events = []; go = []; words = record { names = []; keys = []; values = [] } }
 
 -- an item more at the end of the last list
 abbrev pub onto_last : {A : Type 0} → A → List (List A) → List (List A)
@@ -65,7 +65,7 @@ event_of (Kill who) = event.Kill (actor_of who)
 
 -- what a line adds to a plan
 abbrev pub with_line : Said → Plan → Plan
-with_line (Volume arbiter) p = record p { shape = record { n = 3; arbiter = arbiter } }
+with_line (Volume version shape) p = record p { shape = shape }
 with_line (Files k) p = record p { files = k; words = record p.words { names = file_names k } }
 with_line (Turns t) p = record p { turns = t }
 with_line (Client i) p = record p { clients = p.clients ++ [] ∷ [] }

@@ -6,12 +6,14 @@ use Rattle.afr_plan.specs.Happening.{Who, OfClient, OfHealer, Happening, Stop, S
 use Rattle.afr_plan.specs.Said.{Said, Afr, Volume, Files, Turns, Client, Command, Healer, Round, Faulty, At, Go, End}
 use Rattle.afr_plan.specs.Work.{Work, work_word}
 use Rattle.afr_plan.specs.Work as work
+use Rattle.afr_plan.specs.declared.version.Version.{Version}
+use Rattle.afr_plan.specs.declared.version.Version.TheVariants.{One, Two}
 
 -- ---- places
 -- the word that a line begins with
 abbrev pub word_of : Said → List ℕ
-word_of Afr = codes "afr"
-word_of (Volume arbiter) = codes "volume"
+word_of (Afr version) = codes "afr"
+word_of (Volume version shape) = codes "volume"
 word_of (Files k) = codes "files"
 word_of (Turns t) = codes "turns"
 word_of (Client i) = codes "client"
@@ -61,8 +63,8 @@ after_command = codes "write" ∷ codes "cut" ∷ codes "read" ∷ after_bytes
 
 -- the words that may begin a line after this one
 abbrev pub words_after : Said → List (List ℕ)
-words_after Afr = codes "volume" ∷ []
-words_after (Volume arbiter) = codes "files" ∷ []
+words_after (Afr version) = codes "volume" ∷ []
+words_after (Volume version shape) = codes "files" ∷ []
 words_after (Files k) = codes "turns" ∷ []
 words_after (Turns t) = after_turns
 words_after (Client i) = after_command
@@ -91,6 +93,23 @@ may_stand before s = is_one_of (next_words before) (word_of s)
 abbrev pub is_over : List Said → Bool
 is_over (End ∷ older) = true
 is_over before = false
+
+-- ---- versions
+-- both are the same version
+abbrev pub is_same : Version → Version → Bool
+is_same One One = true
+is_same Two Two = true
+is_same version other = false
+
+-- a volume after a first line is spelled in the version of this line
+abbrev pub is_spelled_after : Said → Said → Bool
+is_spelled_after (Afr version) (Volume spelled shape) = is_same version spelled
+is_spelled_after newest s = true
+
+-- a volume is spelled in the version of the line before it
+abbrev pub is_versioned : List Said → Said → Bool
+is_versioned [] s = true
+is_versioned (newest ∷ older) s = is_spelled_after newest s
 
 -- ---- limits
 -- a name, a key or a value is too long
@@ -201,6 +220,12 @@ last_at [] = 0
 last_at (At at event ∷ older) = at
 last_at (s ∷ older) = last_at older
 
+-- how many bricks the volume has, or 0 before its line
+abbrev pub bricks_of : List Said → ℕ
+bricks_of [] = 0
+bricks_of (Volume version shape ∷ older) = shape.n
+bricks_of (s ∷ older) = bricks_of older
+
 -- how far into the file a write goes
 abbrev pub work_end : Work → ℕ
 work_end (work.Write at bytes) = at + length bytes
@@ -222,9 +247,9 @@ read_len (Command path w) = work_len w
 read_len s = 0
 
 -- ---- order
--- the volume has no such brick: both shapes have three
-abbrev pub lacks_brick : ℕ → Bool
-lacks_brick brick = nat_le 3 brick
+-- the volume has no such brick
+abbrev pub lacks_brick : List Said → ℕ → Bool
+lacks_brick before brick = nat_le (bricks_of before) brick
 
 -- the plan has no such actor
 abbrev pub lacks_who : List Said → Who → Bool
@@ -233,18 +258,18 @@ lacks_who before (OfHealer j) = j == 0 || nat_lt (count_by is_healer before) j
 
 -- an event names an actor or a brick that the plan doesn't have
 abbrev pub is_event_disordered : List Said → Happening → Bool
-is_event_disordered before (Stop brick) = lacks_brick brick
-is_event_disordered before (Start brick) = lacks_brick brick
-is_event_disordered before (Cut who brick) = lacks_who before who || lacks_brick brick
-is_event_disordered before (Join who brick) = lacks_who before who || lacks_brick brick
+is_event_disordered before (Stop brick) = lacks_brick before brick
+is_event_disordered before (Start brick) = lacks_brick before brick
+is_event_disordered before (Cut who brick) = lacks_who before who || lacks_brick before brick
+is_event_disordered before (Join who brick) = lacks_who before who || lacks_brick before brick
 is_event_disordered before (Kill who) = lacks_who before who
 
 -- a number isn't the next one, a brick or an actor isn't there, a fault stands before, or a position falls
 abbrev pub is_disordered : List Said → Said → Bool
 is_disordered before (Client i) = not (i == count_by is_client before + 1)
 is_disordered before (Healer j) = not (j == count_by is_healer before + 1)
-is_disordered before (Round brick) = lacks_brick brick
-is_disordered before (Faulty brick at fault) = lacks_brick brick || list_any (is_fault_of brick at) before
+is_disordered before (Round brick) = lacks_brick before brick
+is_disordered before (Faulty brick at fault) = lacks_brick before brick || list_any (is_fault_of brick at) before
 is_disordered before (At at event) = nat_lt at (last_at before) || is_event_disordered before event
 is_disordered before (Go who count) = lacks_who before who
 is_disordered before s = false

@@ -1,15 +1,18 @@
 -- What a line of a plan says, and which bytes say it.
-use Rattle.std.specs.Prelude.{◌≡◌, ℕ, List, Bool, true, false, codes}
+use Rattle.std.specs.Prelude.{◌≡◌, ℕ, List, true, false, codes}
+use Rattle.afr_base.specs.declared.ids.Shape.{Shape}
 use Rattle.afr_faults.specs.declared.fault.Fault.{Fault}
 use Rattle.afr_faults.specs.declared.fault.Fault.TheVariants.{Fail, Lost}
 use Rattle.afr_plan.specs.Happening.{Who, IsWho, Happening, IsHappening}
 use Rattle.afr_plan.specs.Spelling.{IsNumber, IsSmall, WordThen, Word, Both, Either}
 use Rattle.afr_plan.specs.Work.{Work, IsCommand}
+use Rattle.afr_plan.specs.declared.version.Version.{Version}
+use Rattle.afr_plan.specs.declared.version.Version.TheVariants.{One, Two}
 
--- one line, by its kind: the names of a path are their bytes
+-- one line, by its kind: the first two with the version that they are spelled in, and the names of a path as their bytes
 pub data Said : Type 0 where
-  Afr : Said
-  Volume : (arbiter : Bool) → Said
+  Afr : (version : Version) → Said
+  Volume : (version : Version) (shape : Shape) → Said
   Files : (k : ℕ) → Said
   Turns : (t : ℕ) → Said
   Client : (i : ℕ) → Said
@@ -21,9 +24,30 @@ pub data Said : Type 0 where
   Go : (who : Who) (count : ℕ) → Said
   End : Said
 
--- `replica`, or `arbiter`
-abbrev pub IsShape : List ℕ → Bool → Type 0
-IsShape = Either (Word (codes "replica") false) (Word (codes "arbiter") true)
+-- ---- volumes
+-- three bricks that all keep bytes
+abbrev pub three_replicas : Shape
+three_replicas = record { n = 3; arbiter = false }
+
+-- three bricks, the last of them an arbiter
+abbrev pub three_with_arbiter : Shape
+three_with_arbiter = record { n = 3; arbiter = true }
+
+-- five bricks that all keep bytes
+abbrev pub five_replicas : Shape
+five_replicas = record { n = 5; arbiter = false }
+
+-- in version 1 `replica` or `arbiter`; in version 2 `replica 3`, `replica 5` or `arbiter 3`
+abbrev pub IsShape : Version → List ℕ → Shape → Type 0
+IsShape One = Either (Word (codes "replica") three_replicas) (Word (codes "arbiter") three_with_arbiter)
+IsShape Two = Either (Word (codes "replica 3") three_replicas) (Either (Word (codes "replica 5") five_replicas) (Word (codes "arbiter 3") three_with_arbiter))
+
+-- the first line of a plan in each version
+abbrev pub IsHead : Version → List ℕ → Type 0
+IsHead One line = line ≡ codes "afr 1"
+IsHead Two line = line ≡ codes "afr 2"
+
+-- ---- lines
 
 -- `fail`, or `lost`
 abbrev pub IsFault : List ℕ → Fault → Type 0
@@ -31,8 +55,8 @@ IsFault = Either (Word (codes "fail") Fail) (Word (codes "lost") Lost)
 
 -- the bytes of a line, without its line feed, say this
 abbrev pub IsSaid : List ℕ → Said → Type 0
-IsSaid line Afr = line ≡ codes "afr 1"
-IsSaid line (Volume arbiter) = WordThen (codes "volume ") IsShape line arbiter
+IsSaid line (Afr version) = IsHead version line
+IsSaid line (Volume version shape) = WordThen (codes "volume ") (IsShape version) line shape
 IsSaid line (Files k) = WordThen (codes "files ") IsNumber line k
 IsSaid line (Turns t) = WordThen (codes "turns ") IsNumber line t
 IsSaid line (Client i) = WordThen (codes "client ") IsNumber line i

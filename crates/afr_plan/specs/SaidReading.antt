@@ -1,14 +1,16 @@
 -- How what a line says is read.
-use Rattle.std.specs.Prelude.{ℕ, List, [], ◌∷◌, Option, None, Bool, true, false, codes}
+use Rattle.std.specs.Prelude.{ℕ, List, [], ◌∷◌, Option, None, codes}
+use Rattle.afr_base.specs.declared.ids.Shape.{Shape}
 use Rattle.afr_faults.specs.declared.fault.Fault.{Fault}
 use Rattle.afr_faults.specs.declared.fault.Fault.TheVariants.{Fail, Lost}
 use Rattle.afr_plan.specs.Bytes.{hex_digit}
 use Rattle.afr_plan.specs.Data.{hex_bytes, is_paired, is_pair, quoted_of, filled_of}
 use Rattle.afr_plan.specs.Happening.{Who, OfClient, OfHealer, Happening, Stop, Start, Cut, Join, Kill}
 use Rattle.afr_plan.specs.Reading.{Reader, word_then, word, both, as_a, either, or_else, run_of, whole, path_at, named_path_at, key_at, number_at, small_at, text_at}
-use Rattle.afr_plan.specs.Said.{Said, Afr, Volume, Files, Turns, Client, Command, Healer, Round, Faulty, At, Go, End}
+use Rattle.afr_plan.specs.Said.{three_replicas, three_with_arbiter, five_replicas, Said, Afr, Volume, Files, Turns, Client, Command, Healer, Round, Faulty, At, Go, End}
 use Rattle.afr_plan.specs.Work.{Work, Write, Read, Create, Mkdir, Unlink, Rmdir, Ls, Stat, SetAttr, GetAttr}
 use Rattle.afr_plan.specs.Work as work
+use Rattle.afr_plan.specs.declared.version.Version.TheVariants.{One, Two}
 
 -- ---- data
 -- a text between quotation marks
@@ -101,13 +103,21 @@ abbrev pub on_path : Work → List (List ℕ) → Said
 on_path w path = Command path w
 
 -- ---- lines
--- `replica` or `arbiter`
-unfoldable pub shape_at : Reader Bool
-shape_at = either (word (codes "replica") false) (word (codes "arbiter") true)
+-- a volume in version 1: `replica` or `arbiter`
+unfoldable pub shape_one_at : Reader Shape
+shape_one_at = either (word (codes "replica") three_replicas) (word (codes "arbiter") three_with_arbiter)
 
--- the kind of volume
-unfoldable pub volume_at : Reader Said
-volume_at = as_a Volume (word_then (codes "volume ") shape_at)
+-- in version 2: the same with the number of bricks
+unfoldable pub shape_two_at : Reader Shape
+shape_two_at = either (word (codes "replica 3") three_replicas) (either (word (codes "replica 5") five_replicas) (word (codes "arbiter 3") three_with_arbiter))
+
+-- the volume, in version 1
+unfoldable pub volume_one_at : Reader Said
+volume_one_at = as_a (Volume One) (word_then (codes "volume ") shape_one_at)
+
+-- and in version 2
+unfoldable pub volume_two_at : Reader Said
+volume_two_at = as_a (Volume Two) (word_then (codes "volume ") shape_two_at)
 
 -- the number of opening files
 unfoldable pub files_at : Reader Said
@@ -196,7 +206,7 @@ command_forms = write_at ∷ cut_at ∷ read_at ∷ named_line (codes "create ")
 
 -- the forms of all other lines
 abbrev pub line_forms : List (Reader Said)
-line_forms = word (codes "afr 1") Afr ∷ volume_at ∷ files_at ∷ turns_at ∷ client_at ∷ healer_at ∷ round_at ∷ fault_at ∷ event_at ∷ order_at ∷ word (codes "end") End ∷ []
+line_forms = word (codes "afr 1") (Afr One) ∷ word (codes "afr 2") (Afr Two) ∷ volume_one_at ∷ volume_two_at ∷ files_at ∷ turns_at ∷ client_at ∷ healer_at ∷ round_at ∷ fault_at ∷ event_at ∷ order_at ∷ word (codes "end") End ∷ []
 
 -- what a line says, where it has one of the forms
 unfoldable pub said : List ℕ → Option Said

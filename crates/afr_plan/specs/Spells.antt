@@ -5,13 +5,14 @@ use Rattle.afr_plan.specs.declared.plan.Plan.{Plan}
 use Rattle.afr_plan.specs.Bytes.{plain}
 use Rattle.afr_plan.specs.TextLines.{bytes_of}
 use Rattle.afr_plan.specs.Said.{Said, IsSaid}
-use Rattle.afr_plan.specs.Rules.{is_over, may_stand, is_beyond, is_disordered, passes_total}
+use Rattle.afr_plan.specs.Rules.{is_over, may_stand, is_versioned, is_beyond, is_disordered, passes_total}
 use Rattle.afr_plan.specs.PlanOf.{plan_of}
 
 -- a line has the form of what it says, and breaks no rule after the lines before it
 pub record IsLine (before : List Said) (line : List ℕ) (s : Said) : Type 0 where
   pub bytes : list_all plain line ≡ true
   pub form : IsSaid line s
+  pub version : is_versioned before s ≡ true
   pub place : may_stand before s ≡ true
   pub limits : is_beyond s ≡ false
   pub order : is_disordered before s ≡ false

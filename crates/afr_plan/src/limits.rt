@@ -2,11 +2,11 @@
 
 use afr_base::{LONGEST_FILE, LONGEST_WRITE, MOST_CLIENTS, MOST_HEALERS};
 
-/// The bricks of either shape.
-pub const BRICKS: u8 = 3;
+/// The bricks of a volume that says no number.
+pub const FEWEST_BRICKS: u8 = 3;
 
 /// No volume of any shape has a brick from this number on.
-pub const BRICKS_OF_ANY: u8 = 5;
+pub const MOST_BRICKS: u8 = 5;
 
 /// Opening files.
 pub const FILES: u32 = 1000;

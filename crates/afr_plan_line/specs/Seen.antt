@@ -54,8 +54,8 @@ seen_event (event.Kill who) = happening.Kill (seen_who who)
 
 -- the words of the text, as their bytes
 abbrev pub seen : Spoken → Said
-seen Afr = said.Afr
-seen (Volume arbiter) = said.Volume arbiter
+seen (Afr version) = said.Afr version
+seen (Volume version shape) = said.Volume version shape
 seen (Files k) = said.Files k
 seen (Turns t) = said.Turns t
 seen (Client i) = said.Client i

@@ -3,14 +3,17 @@ ghost use Rattle.std.specs.Prelude.{◌≡◌};
 ghost use Rattle.std.specs.Option.{option_map};
 ghost use Rattle.afr_plan.specs.Reading.{all_used, whole};
 ghost use Rattle.afr_plan.specs.Reading as reading;
-ghost use Rattle.afr_plan.specs.SaidReading.{volume_at, files_at, turns_at, client_at, write_at, cut_at, read_at, path_line, named_line, set_at, get_at, healer_at, round_at, fault_at, event_at, order_at, shape_at, kind_at, one_of, command_forms, line_forms, said};
+ghost use Rattle.afr_plan.specs.SaidReading.{volume_one_at, volume_two_at, files_at, turns_at, client_at, write_at, cut_at, read_at, path_line, named_line, set_at, get_at, healer_at, round_at, fault_at, event_at, order_at, shape_one_at, shape_two_at, kind_at, one_of, command_forms, line_forms, said};
+ghost use Rattle.afr_plan.specs.Said.{three_replicas, three_with_arbiter, five_replicas};
 ghost use Rattle.afr_plan_line.specs.Seen.{seen, seen_work};
 
 use crate::bytes::{key, number, skip, small};
 use crate::parts::{data, event, who};
 use crate::path::{named_path, path};
 use crate::spoken::{Spoken, SpokenWork};
+use afr_base::Shape;
 use afr_faults::Fault;
+use afr_plan::{Version, limits};
 
 /// What was read, if nothing follows it.
 fn alone<'a>(value: Spoken<'a>, rest: &[u8]) -> Option<Spoken<'a>>
@@ -19,24 +22,76 @@ fn alone<'a>(value: Spoken<'a>, rest: &[u8]) -> Option<Spoken<'a>>
     if rest.is_empty() { Some(value) } else { None }
 }
 
-#[tactic(auto, unfolding(afr_plan::specs::SaidReading::shape_at))]
-fn shape(bytes: &[u8]) -> Option<(bool, &[u8])>
-    ensures { option_map (λ x. (x.0, x.1.now)) result ≡ shape_at bytes.now }
+fn three_replicas() -> Shape
+    ensures { result ≡ three_replicas }
 {
-    if let Some(rest) = skip(b"replica", bytes) {
-        return Some((false, rest));
+    Shape {
+        n: limits::FEWEST_BRICKS,
+        arbiter: false,
     }
-    let rest = skip(b"arbiter", bytes)?;
-    Some((true, rest))
 }
 
-#[tactic(auto, unfolding(afr_plan::specs::SaidReading::volume_at))]
-fn volume(line: &[u8]) -> Option<Spoken>
-    ensures { option_map seen result ≡ whole volume_at line.now }
+fn three_with_arbiter() -> Shape
+    ensures { result ≡ three_with_arbiter }
+{
+    Shape {
+        n: limits::FEWEST_BRICKS,
+        arbiter: true,
+    }
+}
+
+fn five_replicas() -> Shape
+    ensures { result ≡ five_replicas }
+{
+    Shape {
+        n: limits::MOST_BRICKS,
+        arbiter: false,
+    }
+}
+
+/// The shape in version 1, which says no number.
+#[tactic(auto, unfolding(afr_plan::specs::SaidReading::shape_one_at))]
+fn shape_one(bytes: &[u8]) -> Option<(Shape, &[u8])>
+    ensures { option_map (λ x. (x.0, x.1.now)) result ≡ shape_one_at bytes.now }
+{
+    if let Some(rest) = skip(b"replica", bytes) {
+        return Some((three_replicas(), rest));
+    }
+    let rest = skip(b"arbiter", bytes)?;
+    Some((three_with_arbiter(), rest))
+}
+
+/// The shape in version 2, with the number of bricks.
+#[tactic(auto, unfolding(afr_plan::specs::SaidReading::shape_two_at))]
+fn shape_two(bytes: &[u8]) -> Option<(Shape, &[u8])>
+    ensures { option_map (λ x. (x.0, x.1.now)) result ≡ shape_two_at bytes.now }
+{
+    if let Some(rest) = skip(b"replica 3", bytes) {
+        return Some((three_replicas(), rest));
+    }
+    if let Some(rest) = skip(b"replica 5", bytes) {
+        return Some((five_replicas(), rest));
+    }
+    let rest = skip(b"arbiter 3", bytes)?;
+    Some((three_with_arbiter(), rest))
+}
+
+#[tactic(auto, unfolding(afr_plan::specs::SaidReading::volume_one_at))]
+fn volume_one(line: &[u8]) -> Option<Spoken>
+    ensures { option_map seen result ≡ whole volume_one_at line.now }
 {
     let rest = skip(b"volume ", line)?;
-    let (arbiter, rest) = shape(rest)?;
-    alone(Spoken::Volume(arbiter), rest)
+    let (shape, rest) = shape_one(rest)?;
+    alone(Spoken::Volume(Version::One, shape), rest)
+}
+
+#[tactic(auto, unfolding(afr_plan::specs::SaidReading::volume_two_at))]
+fn volume_two(line: &[u8]) -> Option<Spoken>
+    ensures { option_map seen result ≡ whole volume_two_at line.now }
+{
+    let rest = skip(b"volume ", line)?;
+    let (shape, rest) = shape_two(rest)?;
+    alone(Spoken::Volume(Version::Two, shape), rest)
 }
 
 #[tactic(auto, unfolding(afr_plan::specs::SaidReading::files_at))]
@@ -264,10 +319,16 @@ fn say_command(line: &[u8]) -> Option<Spoken>
 fn say_other(line: &[u8]) -> Option<Spoken>
     ensures { option_map seen result ≡ one_of line_forms line.now }
 {
-    if let Some(s) = plain_word(b"afr 1", line, Spoken::Afr) {
+    if let Some(s) = plain_word(b"afr 1", line, Spoken::Afr(Version::One)) {
         return Some(s);
     }
-    if let Some(s) = volume(line) {
+    if let Some(s) = plain_word(b"afr 2", line, Spoken::Afr(Version::Two)) {
+        return Some(s);
+    }
+    if let Some(s) = volume_one(line) {
+        return Some(s);
+    }
+    if let Some(s) = volume_two(line) {
         return Some(s);
     }
     if let Some(s) = files(line) {

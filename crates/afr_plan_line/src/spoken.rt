@@ -1,5 +1,7 @@
 //! What one line of a plan says by itself, its words lying where the line does.
+use afr_base::Shape;
 use afr_faults::Fault;
+use afr_plan::Version;
 
 /// A piece of data, by its form.
 #[derive(Clone, Copy, Drop)]
@@ -47,9 +49,9 @@ pub enum SpokenEvent {
 /// What a line says.
 #[derive(Clone, Copy, Drop)]
 pub enum Spoken<'a> {
-    Afr,
-    /// Whether one brick is an arbiter.
-    Volume(bool),
+    Afr(Version),
+    /// The version that it is spelled in, and the shape.
+    Volume(Version, Shape),
     Files(u32),
     Turns(u32),
     Client(u32),

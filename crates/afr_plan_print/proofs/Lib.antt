@@ -7,4 +7,5 @@ pub mod PrintedPartsLemmas
 pub mod StageLemmas
 pub mod WordPlaceLemmas
 pub mod PlanLinesLemmas
+pub mod VersionLemmas
 pub mod RoundTripLemmas

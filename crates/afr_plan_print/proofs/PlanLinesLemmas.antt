@@ -1,4 +1,4 @@
--- The lines of the plan that lines give are those lines.
+-- The lines of the plan that lines give are those lines, where the first two are in the version that the shape is printed in.
 use Rattle.std.proofs.Common.{◌≡◌, ℕ, ◌+◌, ◌-◌, ◌<◌, ◌≤◌, List, [], ◌∷◌, ◌++◌, length, refl, sym, ap, subst, ◌∙◌, arith, Bool, true, false, cond, suc, map, append_assoc, reverse, ◌⊎◌, inl, inr, codes}
 use Rattle.std.specs.Prelude.{count_by, nat_lt, nat_le}
 use Rattle.std.specs.List.{list_all}
@@ -6,6 +6,7 @@ use Rattle.std.proofs.lemmas.Bool.Decides.{nat_tests}
 use Rattle.std.proofs.lemmas.List.{append-nil, map-append, reverse-append, length-append}
 use Rattle.std.proofs.lemmas.List.Sums.{sum_by-cons}
 use Rattle.afr_base.specs.declared.ids.BrickId.{BrickId}
+use Rattle.afr_base.specs.declared.ids.Shape.{Shape as TheShape}
 use Rattle.afr_plan.specs.declared.command.Command.{Command as PlanCommand}
 use Rattle.afr_plan.specs.declared.plan.Plan.{Plan}
 use Rattle.afr_plan.specs.declared.plan.Words.{Words}
@@ -13,6 +14,7 @@ use Rattle.afr_plan.specs.declared.schedule.Go.{Go as Order}
 use Rattle.afr_plan.specs.declared.schedule.PlannedEvent.{PlannedEvent}
 use Rattle.afr_plan.specs.declared.schedule.PlannedFault.{PlannedFault}
 use Rattle.afr_faults.specs.declared.fault.Fault.{Fault}
+use Rattle.afr_plan.specs.declared.version.Version.{Version}
 use Rattle.afr_plan.specs.Happening.{Who, OfClient, OfHealer, Happening, Stop, Start, Cut, Join, Kill}
 use Rattle.afr_plan.specs.Bytes.{key_byte}
 use Rattle.afr_plan.specs.Spelling.{IsKey}
@@ -22,8 +24,8 @@ use Rattle.afr_plan.specs.Said.{Said, IsSaid, Afr, Volume, Files, Turns, Client,
 use Rattle.afr_plan.specs.Rules.{word_of, is_one_of, is_client, is_healer, is_over, is_disordered, is_event_disordered, lacks_who, is_beyond, is_who_beyond, is_event_beyond, is_count_beyond}
 use Rattle.afr_plan.specs.PlanOf.{onto_last, command_of, actor_of, event_of, with_line, plan_of}
 use Rattle.afr_plan.specs.Spells.{AreLines}
-use Rattle.afr_plan_print.specs.PrintedPlan.{said_command, said_round, said_fault, said_who, happening_of, said_event, said_order, head_lines, group_lines, client_lines, healer_lines, plan_lines}
-use Rattle.afr_plan_print.proofs.StageLemmas.{may, stage, rises, in_script, in_rounds, past_turns}
+use Rattle.afr_plan_print.specs.PrintedPlan.{said_command, said_round, said_fault, said_who, happening_of, said_event, said_order, head_lines, group_lines, client_lines, healer_lines, plan_lines, version_of}
+use Rattle.afr_plan_print.proofs.StageLemmas.{may, stage, rises, in_script, in_rounds}
 use Rattle.afr_plan_print.proofs.WordPlaceLemmas.{Within, within_self, within_command, IsWorkAscii, command_found}
 use Rattle.afr_plan_print.proofs.PrintedPathLemmas.{ascii, AreAscii, path_ascii, named_path_ascii}
 use Rattle.std.proofs.lemmas.Bool.{or_parts, both_ways}
@@ -340,7 +342,7 @@ not_over s older n = refl
 body_end : (p : Plan) → plan_lines p ≡ body p.words p ++ End ∷ []
 body_end p = six_more (head_lines p) (client_lines p.words p.clients) (healer_lines p.healers) (map said_fault p.faults) (map said_event p.events) (map said_order p.go) (End ∷ [])
 
-lines_from : (lines : List (List ℕ)) (newest : Said) (older all : List Said) → (newest ≡ End → ⊥) → ((s : Said) → may newest s ≡ true → 1 ≤ stage s) → Shape newest older (plan_of (newest ∷ older)) → AreLines lines (newest ∷ older) all
+pub lines_from : (lines : List (List ℕ)) (newest : Said) (older all : List Said) → (newest ≡ End → ⊥) → ((s : Said) → may newest s ≡ true → 1 ≤ stage s) → Shape newest older (plan_of (newest ∷ older)) → AreLines lines (newest ∷ older) all
     → plan_lines (plan_of all) ≡ reverse all
 lines_from [] newest older all n k h a = absurd (let e : false ≡ true = sym (not_over newest older n) ∙ a.0 in (cc))
 lines_from (line ∷ lines) newest older all n k h a =
@@ -361,35 +363,39 @@ lines_from (line ∷ lines) newest older all n k h a =
         subst Q f g
 
 -- ---- the first four lines
-abbrev is_word : Said → List ℕ → Bool
+abbrev pub is_word : Said → List ℕ → Bool
 is_word s w = is_one_of (w ∷ []) (word_of s)
 
 no_head_work : (w : Work) → (is_one_of (codes "afr" ∷ []) (work_word w) ≡ false) × (is_one_of (codes "volume" ∷ []) (work_word w) ≡ false) × (is_one_of (codes "files" ∷ []) (work_word w) ≡ false) × (is_one_of (codes "turns" ∷ []) (work_word w) ≡ false)
 no_head_work (Write at bytes) = (refl, refl, refl, refl)
 no_head_work w = (refl, refl, refl, refl)
 
-is_afr : (s : Said) → is_word s (codes "afr") ≡ true → s ≡ Afr
-is_afr Afr h = refl
+pub is_afr : (s : Said) → is_word s (codes "afr") ≡ true → (version : Version) × (s ≡ Afr version)
+is_afr (Afr version) h = (version, refl)
 is_afr (Command path w) h = absurd (both_ways _ (no_head_work w).0 h)
 is_afr s h = absurd (cc)
 
-is_volume : (s : Said) → is_word s (codes "volume") ≡ true → (arbiter : Bool) × (s ≡ Volume arbiter)
-is_volume (Volume arbiter) h = (arbiter, refl)
+pub is_volume : (s : Said) → is_word s (codes "volume") ≡ true → (version : Version) × (shape : TheShape) × (s ≡ Volume version shape)
+is_volume (Volume version shape) h = (version, shape, refl)
 is_volume (Command path w) h = absurd (both_ways _ (no_head_work w).1 h)
 is_volume s h = absurd (cc)
 
-is_files : (s : Said) → is_word s (codes "files") ≡ true → (k : ℕ) × (s ≡ Files k)
+pub is_files : (s : Said) → is_word s (codes "files") ≡ true → (k : ℕ) × (s ≡ Files k)
 is_files (Files k) h = (k, refl)
 is_files (Command path w) h = absurd (both_ways _ (no_head_work w).2 h)
 is_files s h = absurd (cc)
 
-is_turns : (s : Said) → is_word s (codes "turns") ≡ true → (t : ℕ) × (s ≡ Turns t)
+pub is_turns : (s : Said) → is_word s (codes "turns") ≡ true → (t : ℕ) × (s ≡ Turns t)
 is_turns (Turns t) h = (t, refl)
 is_turns (Command path w) h = absurd (both_ways _ (no_head_work w).3 h)
 is_turns s h = absurd (cc)
 
-head_shape : (t k : ℕ) (arbiter : Bool) → Shape (Turns t) (Files k ∷ Volume arbiter ∷ Afr ∷ []) (plan_of (Turns t ∷ Files k ∷ Volume arbiter ∷ Afr ∷ []))
-head_shape t k arbiter = record {
+-- the lines of a plan so far, in the version that its shape is printed in
+abbrev pub heads : ℕ → TheShape → List Said
+heads k shape = Files k ∷ Volume (version_of shape) shape ∷ Afr (version_of shape) ∷ []
+
+pub head_shape : (t k : ℕ) (shape : TheShape) → Shape (Turns t) (heads k shape) (plan_of (Turns t ∷ heads k shape))
+head_shape t k shape = record {
   lines = λ words w. refl;
   clients = refl;
   healers = refl;
@@ -400,32 +406,3 @@ head_shape t k arbiter = record {
   no_events = λ l. refl;
   no_orders = λ l. refl;
 }
-
-from_turns : (lines : List (List ℕ)) (k : ℕ) (arbiter : Bool) (all : List Said) → AreLines lines (Files k ∷ Volume arbiter ∷ Afr ∷ []) all → plan_lines (plan_of all) ≡ reverse all
-from_turns [] k arbiter all a = absurd (let e : false ≡ true = a.0 in (cc))
-from_turns (line ∷ lines) k arbiter all a =
-    let t = is_turns a.0 a.1.place in
-    let P : Said → Type 0 = λ s. AreLines lines (s ∷ Files k ∷ Volume arbiter ∷ Afr ∷ []) all in
-    lines_from lines (Turns t.0) (Files k ∷ Volume arbiter ∷ Afr ∷ []) all (λ e. cc) (past_turns t.0) (head_shape t.0 k arbiter) (subst P t.1 a.2)
-
-from_files : (lines : List (List ℕ)) (arbiter : Bool) (all : List Said) → AreLines lines (Volume arbiter ∷ Afr ∷ []) all → plan_lines (plan_of all) ≡ reverse all
-from_files [] arbiter all a = absurd (let e : false ≡ true = a.0 in (cc))
-from_files (line ∷ lines) arbiter all a =
-    let k = is_files a.0 a.1.place in
-    let P : Said → Type 0 = λ s. AreLines lines (s ∷ Volume arbiter ∷ Afr ∷ []) all in
-    from_turns lines k.0 arbiter all (subst P k.1 a.2)
-
-from_volume : (lines : List (List ℕ)) (all : List Said) → AreLines lines (Afr ∷ []) all → plan_lines (plan_of all) ≡ reverse all
-from_volume [] all a = absurd (let e : false ≡ true = a.0 in (cc))
-from_volume (line ∷ lines) all a =
-    let v = is_volume a.0 a.1.place in
-    let P : Said → Type 0 = λ s. AreLines lines (s ∷ Afr ∷ []) all in
-    from_files lines v.0 all (subst P v.1 a.2)
-
--- the lines of the plan that lines give, the oldest first
-pub plan_lines-plan_of : (lines : List (List ℕ)) (all : List Said) → AreLines lines [] all → plan_lines (plan_of all) ≡ reverse all
-plan_lines-plan_of [] all a = absurd (let e : false ≡ true = a.0 in (cc))
-plan_lines-plan_of (line ∷ lines) all a =
-    let e = is_afr a.0 a.1.place in
-    let P : Said → Type 0 = λ s. AreLines lines (s ∷ []) all in
-    from_volume lines all (subst P e a.2)

@@ -1,9 +1,10 @@
 -- A line is printed as one that says the same, and isn't longer.
-use Rattle.std.proofs.Common.{◌≡◌, ℕ, ◌<◌, ◌≤◌, List, [], ◌∷◌, ◌++◌, length, refl, sym, ap, ◌∙◌, arith, Bool, true, false, ◌||◌, subst, codes, inl, inr, length-append}
+use Rattle.std.proofs.Common.{◌≡◌, ℕ, ◌<◌, ◌≤◌, List, [], ◌∷◌, ◌++◌, length, refl, sym, ap, ◌∙◌, arith, true, false, ◌||◌, subst, codes, inl, inr, length-append}
 use Rattle.std.specs.Prelude.{nat_lt, decimal}
 use Rattle.std.specs.List.{list_all}
 use Rattle.std.proofs.lemmas.Bool.Decides.{nat_tests}
 use Rattle.std.proofs.lemmas.List.{append-nil}
+use Rattle.afr_base.specs.declared.ids.Shape.{Shape}
 use Rattle.afr_faults.specs.declared.fault.Fault.{Fault}
 use Rattle.afr_plan.specs.Bytes.{plain}
 use Rattle.afr_plan.specs.Spelling.{WordThen, Both, IsKey, IsNumber, IsSmall, IsPath, IsNamedPath}
@@ -11,8 +12,10 @@ use Rattle.afr_plan.specs.Data.{IsData}
 use Rattle.afr_plan.specs.Happening.{Who, IsWho, OfClient, OfHealer, Happening, IsHappening, Stop, Start, Cut, Join, Kill}
 use Rattle.afr_plan.specs.Work.{Work, IsCommand, work_word, Write, Read, Create, Mkdir, Unlink, Rmdir, Ls, Stat, SetAttr, GetAttr}
 use Rattle.afr_plan.specs.Work as work
-use Rattle.afr_plan.specs.Said.{Said, IsSaid, IsShape, IsFault, Afr, Volume, Files, Turns, Client, Command, Healer, Round, Faulty, At, Go, End}
+use Rattle.afr_plan.specs.Said.{five_replicas, Said, IsSaid, IsShape, IsFault, Afr, Volume, Files, Turns, Client, Command, Healer, Round, Faulty, At, Go, End}
 use Rattle.afr_plan.specs.Rules.{is_beyond, is_path_beyond, is_work_beyond, is_brick_beyond, is_who_beyond, is_event_beyond, is_count_beyond}
+use Rattle.afr_plan.specs.declared.version.Version.{Version}
+use Rattle.afr_plan.specs.declared.version.Version.TheVariants.{One, Two}
 use Rattle.afr_plan_print.specs.PrintedData.{data_text}
 use Rattle.afr_plan_print.specs.PrintedLine.{path_text, who_text, event_text, shape_text, fault_text, line_text}
 use Rattle.afr_plan_print.proofs.PrintedNumberLemmas.{number_is, small_is}
@@ -55,9 +58,22 @@ happening_is w (Cut who brick) h b = session_is (codes "cut ") w who brick h b
 happening_is w (Join who brick) h b = session_is (codes "join ") w who brick h b
 happening_is w (Kill who) h b = then_is (codes "kill ") w h.0 _ h.2 (who_is h.0 who h.1 b)
 
-shape_is : (w : List ℕ) (arbiter : Bool) → IsShape w arbiter → w ≡ shape_text arbiter
-shape_is w arbiter (inl h) = h.0 ∙ ap shape_text h.1
-shape_is w arbiter (inr h) = h.0 ∙ ap shape_text h.1
+-- the numbers of bricks, in digits
+three_is : codes "3" ≡ decimal 3
+three_is = number_is (codes "3") 3 (codes "3", (refl, refl, refl), refl) (omega arith)
+
+five_is : codes "5" ≡ decimal 5
+five_is = number_is (codes "5") 5 (codes "5", (refl, refl, refl), refl) (omega arith)
+
+pub five_text : codes "replica 5" ≡ shape_text Two five_replicas
+five_text = ap (λ (t : List ℕ). codes "replica " ++ t) five_is
+
+shape_is : (version : Version) (w : List ℕ) (shape : Shape) → IsShape version w shape → w ≡ shape_text version shape
+shape_is One w shape (inl h) = h.0 ∙ ap (shape_text One) h.1
+shape_is One w shape (inr h) = h.0 ∙ ap (shape_text One) h.1
+shape_is Two w shape (inl h) = h.0 ∙ ap (λ (t : List ℕ). codes "replica " ++ t) three_is ∙ ap (shape_text Two) h.1
+shape_is Two w shape (inr (inl h)) = h.0 ∙ five_text ∙ ap (shape_text Two) h.1
+shape_is Two w shape (inr (inr h)) = h.0 ∙ ap (λ (t : List ℕ). codes "arbiter " ++ t) three_is ∙ ap (shape_text Two) h.1
 
 fault_is : (w : List ℕ) (fault : Fault) → IsFault w fault → w ≡ fault_text fault
 fault_is w fault (inl h) = h.0 ∙ ap fault_text h.1
@@ -201,8 +217,9 @@ order_line_is line who count h b =
 
 -- a line within the limits is printed so
 pub said_printed : (line : List ℕ) (s : Said) → IsSaid line s → list_all plain line ≡ true → is_beyond s ≡ false → IsPrinted line s
-said_printed line Afr h p b = as_it_stands line Afr h p h
-said_printed line (Volume arbiter) h p b = as_it_stands line (Volume arbiter) h p (then_is (codes "volume ") line h.0 _ h.2 (shape_is h.0 arbiter h.1))
+said_printed line (Afr One) h p b = as_it_stands line (Afr One) h p h
+said_printed line (Afr Two) h p b = as_it_stands line (Afr Two) h p h
+said_printed line (Volume version shape) h p b = as_it_stands line (Volume version shape) h p (then_is (codes "volume ") line h.0 _ h.2 (shape_is version h.0 shape h.1))
 said_printed line (Files k) h p b = as_it_stands line (Files k) h p (then_is (codes "files ") line h.0 _ h.2 (most_is h.0 k 1000 h.1 b (omega arith)))
 said_printed line (Turns t) h p b = as_it_stands line (Turns t) h p (then_is (codes "turns ") line h.0 _ h.2 (count_is h.0 t h.1 b))
 said_printed line (Client i) h p b = as_it_stands line (Client i) h p (then_is (codes "client ") line h.0 _ h.2 (most_is h.0 i 16 h.1 b (omega arith)))

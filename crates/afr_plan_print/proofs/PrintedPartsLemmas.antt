@@ -38,3 +38,7 @@ parts_text-plan p =
 
 pub four_lines : (o a b c d : List ℕ) → (o ++ (a ++ b)) ++ (c ++ d) ≡ o ++ (a ++ (b ++ (c ++ (d ++ []))))
 four_lines o a b c d = append_assoc o (a ++ b) (c ++ d) ∙ ap (λ (t : List ℕ). o ++ t) (append_assoc a b (c ++ d) ∙ ap (λ (t : List ℕ). a ++ (b ++ (c ++ t))) (sym (append-nil d)))
+
+-- a line in version 2 with its line feed
+pub second_line : (o kind n : List ℕ) → o ++ (codes "afr 2\nvolume " ++ (kind ++ (codes " " ++ (n ++ codes "\n")))) ≡ o ++ (codes "afr 2\n" ++ ((codes "volume " ++ (kind ++ (codes " " ++ n))) ++ codes "\n"))
+second_line o kind n = ap (λ (t : List ℕ). o ++ (codes "afr 2\nvolume " ++ t)) (sym (append_assoc kind (codes " " ++ n) (codes "\n")))

@@ -44,15 +44,15 @@ no_work_go w = refl
 
 -- ---- what may follow isn't of an earlier part
 after_one : (s : Said) → is_one_of after_command (word_of s) ≡ true → 1 ≤ stage s
-after_one Afr m = absurd (both_ways _ refl m)
-after_one (Volume arbiter) m = absurd (both_ways _ refl m)
+after_one (Afr v) m = absurd (both_ways _ refl m)
+after_one (Volume v shape) m = absurd (both_ways _ refl m)
 after_one (Files k) m = absurd (both_ways _ refl m)
 after_one (Turns t) m = absurd (both_ways _ refl m)
 after_one s m = omega arith
 
 after_two : (s : Said) → is_one_of after_round (word_of s) ≡ true → 2 ≤ stage s
-after_two Afr m = absurd (both_ways _ refl m)
-after_two (Volume arbiter) m = absurd (both_ways _ refl m)
+after_two (Afr v) m = absurd (both_ways _ refl m)
+after_two (Volume v shape) m = absurd (both_ways _ refl m)
 after_two (Files k) m = absurd (both_ways _ refl m)
 after_two (Turns t) m = absurd (both_ways _ refl m)
 after_two (Client i) m = absurd (both_ways _ refl m)
@@ -99,8 +99,8 @@ work_heads w = (refl, refl, refl)
 pub in_script : (newest : Said) (path : List (List ℕ)) (w : Work) → may newest (Command path w) ≡ true → stage newest ≡ 1
 in_script (Client i) path w m = refl
 in_script (Command p v) path w m = refl
-in_script Afr path w m = absurd (both_ways _ (work_heads w).0 m)
-in_script (Volume arbiter) path w m = absurd (both_ways _ (work_heads w).1 m)
+in_script (Afr v) path w m = absurd (both_ways _ (work_heads w).0 m)
+in_script (Volume v shape) path w m = absurd (both_ways _ (work_heads w).1 m)
 in_script (Files k) path w m = absurd (both_ways _ (work_heads w).2 m)
 in_script (Turns t) path w m = absurd (both_ways _ (no_work_turns w) m)
 in_script (Healer j) path w m = absurd (both_ways _ (no_work_round w) m)
@@ -117,8 +117,8 @@ in_rounds (Command path w) brick m = absurd (both_ways _ refl m)
 in_rounds s brick m = absurd (both_ways _ refl m)
 
 after_turns_one : (s : Said) → is_one_of after_turns (word_of s) ≡ true → 1 ≤ stage s
-after_turns_one Afr m = absurd (both_ways _ refl m)
-after_turns_one (Volume arbiter) m = absurd (both_ways _ refl m)
+after_turns_one (Afr v) m = absurd (both_ways _ refl m)
+after_turns_one (Volume v shape) m = absurd (both_ways _ refl m)
 after_turns_one (Files k) m = absurd (both_ways _ refl m)
 after_turns_one (Turns t) m = absurd (both_ways _ refl m)
 after_turns_one s m = omega arith

@@ -1,11 +1,14 @@
 -- How a line of a plan is printed.
 use Rattle.std.specs.Prelude.{ℕ, List, [], ◌∷◌, ◌++◌, Bool, true, false, codes, decimal, flat_map}
+use Rattle.afr_base.specs.declared.ids.Shape.{Shape}
 use Rattle.afr_faults.specs.declared.fault.Fault.{Fault}
 use Rattle.afr_faults.specs.declared.fault.Fault.TheVariants.{Fail, Lost}
 use Rattle.afr_plan.specs.Happening.{Who, OfClient, OfHealer, Happening, Stop, Start, Cut, Join, Kill}
 use Rattle.afr_plan.specs.Work.{Work, work_word, Write, Read, Create, Mkdir, Unlink, Rmdir, Ls, Stat, SetAttr, GetAttr}
 use Rattle.afr_plan.specs.Work as work
 use Rattle.afr_plan.specs.Said.{Said, Afr, Volume, Files, Turns, Client, Command, Healer, Round, Faulty, At, Go, End}
+use Rattle.afr_plan.specs.declared.version.Version.{Version}
+use Rattle.afr_plan.specs.declared.version.Version.TheVariants.{One, Two}
 use Rattle.afr_plan_print.specs.PrintedData.{data_text}
 
 -- each name after a slash
@@ -39,10 +42,20 @@ event_text (Cut who brick) = codes "cut " ++ (who_text who ++ (codes " " ++ deci
 event_text (Join who brick) = codes "join " ++ (who_text who ++ (codes " " ++ decimal brick))
 event_text (Kill who) = codes "kill " ++ who_text who
 
+-- the first line of a plan
+abbrev pub version_text : Version → List ℕ
+version_text One = codes "afr 1"
+version_text Two = codes "afr 2"
+
 -- the kind of a volume
-abbrev pub shape_text : Bool → List ℕ
-shape_text true = codes "arbiter"
-shape_text false = codes "replica"
+abbrev pub kind_text : Bool → List ℕ
+kind_text true = codes "arbiter"
+kind_text false = codes "replica"
+
+-- a volume: its kind, and in version 2 the number of its bricks
+abbrev pub shape_text : Version → Shape → List ℕ
+shape_text One shape = kind_text shape.arbiter
+shape_text Two shape = kind_text shape.arbiter ++ (codes " " ++ decimal shape.n)
 
 -- what goes wrong
 abbrev pub fault_text : Fault → List ℕ
@@ -55,8 +68,8 @@ command_text path w = work_word w ++ (codes " " ++ (path_text path ++ work_text 
 
 -- a line, without its line feed
 abbrev pub line_text : Said → List ℕ
-line_text Afr = codes "afr 1"
-line_text (Volume arbiter) = codes "volume " ++ shape_text arbiter
+line_text (Afr version) = version_text version
+line_text (Volume version shape) = codes "volume " ++ shape_text version shape
 line_text (Files k) = codes "files " ++ decimal k
 line_text (Turns t) = codes "turns " ++ decimal t
 line_text (Client i) = codes "client " ++ decimal i

@@ -1,9 +1,10 @@
 -- The text of a plan: its lines, in the order of a plan.
-use Rattle.std.specs.Prelude.{ℕ, ◌-◌, List, [], ◌∷◌, ◌++◌, suc, nat_le, nat_lt, codes, map, slice_get, Option, Some, None, if◌then◌else◌}
+use Rattle.std.specs.Prelude.{ℕ, ◌-◌, ◌==◌, List, [], ◌∷◌, ◌++◌, suc, nat_le, nat_lt, codes, map, slice_get, Option, Some, None, if◌then◌else◌}
 use Rattle.std.specs.List.{list_all}
 use Rattle.afr_base.specs.declared.ids.ActorId.{ActorId}
 use Rattle.afr_base.specs.declared.ids.BrickId.{BrickId}
 use Rattle.afr_base.specs.declared.ids.NameId.{NameId}
+use Rattle.afr_base.specs.declared.ids.Shape.{Shape}
 use Rattle.afr_lines.specs.declared.line.Event.{Event}
 use Rattle.afr_lines.specs.declared.line.Event.TheVariants as event
 use Rattle.afr_plan.specs.declared.command.Command.{Command}
@@ -13,6 +14,8 @@ use Rattle.afr_plan.specs.declared.plan.Words.{Words}
 use Rattle.afr_plan.specs.declared.schedule.Go.{Go}
 use Rattle.afr_plan.specs.declared.schedule.PlannedEvent.{PlannedEvent}
 use Rattle.afr_plan.specs.declared.schedule.PlannedFault.{PlannedFault}
+use Rattle.afr_plan.specs.declared.version.Version.{Version}
+use Rattle.afr_plan.specs.declared.version.Version.TheVariants.{One, Two}
 use Rattle.afr_plan.specs.Happening.{Who, OfClient, OfHealer, Happening, Stop, Start, Cut, Join, Kill}
 use Rattle.afr_plan.specs.Work as work
 use Rattle.afr_plan.specs.Said as said
@@ -81,9 +84,13 @@ abbrev pub said_order : Go → Said
 said_order go = said.Go (said_who go.actor) go.count
 
 -- ---- all lines
+-- three bricks are printed in version 1, any other number of them in version 2
+abbrev pub version_of : Shape → Version
+version_of shape = if shape.n == 3 then One else Two
+
 -- the first four lines
 abbrev pub head_lines : Plan → List Said
-head_lines p = said.Afr ∷ said.Volume p.shape.arbiter ∷ said.Files p.files ∷ said.Turns p.turns ∷ []
+head_lines p = said.Afr (version_of p.shape) ∷ said.Volume (version_of p.shape) p.shape ∷ said.Files p.files ∷ said.Turns p.turns ∷ []
 
 -- numbered heads, the first of them being number i, each with its own lines
 abbrev pub group_lines : {A : Type 0} → (ℕ → Said) → (A → Said) → ℕ → List (List A) → List Said

@@ -1,19 +1,19 @@
 //! The text of a plan.
-ghost use Rattle.std.specs.Prelude.{◌≡◌, ◌++◌, ◌≤◌, ℕ, List, IfOk, OnOk, length, string_bytes, codes, map};
+ghost use Rattle.std.specs.Prelude.{◌≡◌, ◌++◌, ◌≤◌, ℕ, List, IfOk, OnOk, length, string_bytes, codes, decimal, map};
 ghost use Rattle.afr_plan.specs.declared.plan.Plan.{Plan as ThePlan};
-ghost use Rattle.afr_plan_print.specs.PrintedLine.{line_text, lines_text, shape_text};
+ghost use Rattle.afr_plan_print.specs.PrintedLine.{line_text, lines_text, kind_text};
 ghost use Rattle.afr_plan_print.specs.PrintedParts.{client_text, clients_text};
-ghost use Rattle.afr_plan_print.specs.PrintedPlan.{head_lines, plan_text, said_command};
+ghost use Rattle.afr_plan_print.specs.PrintedPlan.{head_lines, plan_text, said_command, version_of};
 ghost use Rattle.afr_plan.specs.Said as said;
 ghost use Rattle.afr_plan.specs.Spells.{Spells};
 
 use crate::commands::push_command;
 use crate::schedule::{push_events, push_faults, push_healers, push_orders};
-use afr_base::NoMemory;
-use afr_plan::{Command, Plan, Script, Words};
+use afr_base::{NoMemory, Shape};
+use afr_plan::{Command, Plan, Script, Words, limits};
 use std::alloc::Global;
 
-/// The text of a plan. Time and memory are linear in its length.
+/// The text of a plan: in version 1 where it has three bricks, else in version 2. Time and memory are linear in its length.
 pub fn print_plan(alloc: Global, plan: &Plan) -> Result<String, NoMemory>
     ensures ok { IfOk result (λ text. string_bytes text ≡ plan_text plan.now) }
 {
@@ -39,15 +39,33 @@ pub fn a_printed_plan_is_read_again()
 fn push_head(out: &mut String, plan: &Plan) -> Result<(), NoMemory>
     ensures ok { OnOk result (string_bytes out.new ≡ string_bytes out.old ++ lines_text (head_lines plan.now)) }
 {
-    push_shape(out, plan.shape.arbiter)?;
+    push_shape(out, plan.shape)?;
     push_limits(out, plan.files, plan.turns)
 }
 
-fn push_shape(out: &mut String, arbiter: bool) -> Result<(), NoMemory>
-    ensures ok { OnOk result (string_bytes out.new ≡ string_bytes out.old ++ (codes "afr 1\n" ++ (line_text (said.Volume arbiter) ++ codes "\n"))) }
+/// Adds the first two lines: three bricks are printed in version 1, any other number in version 2.
+fn push_shape(out: &mut String, shape: Shape) -> Result<(), NoMemory>
+    ensures ok { OnOk result (string_bytes out.new ≡ string_bytes out.old ++ ((line_text (said.Afr (version_of shape)) ++ codes "\n") ++ (line_text (said.Volume (version_of shape) shape) ++ codes "\n"))) }
 {
-    let kind = shape_word(arbiter);
+    let kind = kind_word(shape.arbiter);
+    if shape.n == limits::FEWEST_BRICKS {
+        push_first(out, kind)
+    } else {
+        push_second(out, kind, shape.n)
+    }
+}
+
+fn push_first(out: &mut String, kind: &str) -> Result<(), NoMemory>
+    ensures ok { OnOk result (string_bytes out.new ≡ string_bytes out.old ++ (codes "afr 1\n" ++ ((codes "volume " ++ kind.now) ++ codes "\n"))) }
+{
     write!(out, "afr 1\nvolume {kind}\n")?;
+    Ok(())
+}
+
+fn push_second(out: &mut String, kind: &str, n: u8) -> Result<(), NoMemory>
+    ensures ok { OnOk result (string_bytes out.new ≡ string_bytes out.old ++ (codes "afr 2\n" ++ ((codes "volume " ++ (kind.now ++ (codes " " ++ decimal n))) ++ codes "\n"))) }
+{
+    write!(out, "afr 2\nvolume {kind} {n}\n")?;
     Ok(())
 }
 
@@ -58,8 +76,8 @@ fn push_limits(out: &mut String, files: u32, turns: u32) -> Result<(), NoMemory>
     Ok(())
 }
 
-fn shape_word(arbiter: bool) -> &'static str
-    ensures { result.now ≡ shape_text arbiter }
+fn kind_word(arbiter: bool) -> &'static str
+    ensures { result.now ≡ kind_text arbiter }
 {
     if arbiter { "arbiter" } else { "replica" }
 }

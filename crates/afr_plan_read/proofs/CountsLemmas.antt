@@ -6,7 +6,7 @@ use Rattle.std.proofs.lemmas.Bool.Decides.{nat_tests}
 use Rattle.std.proofs.lemmas.List.{map-append, reverse-append}
 use Rattle.std.proofs.lemmas.List.Sums.{sum_by-cons}
 use Rattle.afr_plan_read.specs.Counts.{counted, head_lines, IsCounted}
-use Rattle.afr_plan.specs.Rules.{may_stand, is_client, is_command, is_listing, is_healer, is_round, is_fault, is_event, is_order, last_at, write_end, read_len, is_beyond, is_disordered, passes_total}
+use Rattle.afr_plan.specs.Rules.{may_stand, bricks_of, is_client, is_command, is_listing, is_healer, is_round, is_fault, is_event, is_order, last_at, write_end, read_len, is_beyond, is_disordered, passes_total}
 use Rattle.afr_plan.specs.Said.{Said, Afr, Volume, Files, Turns, Client, Command, Healer, Round, Faulty, At, Go, End}
 use Rattle.afr_plan.specs.Work.{Work}
 use Rattle.afr_plan.specs.Work as work
@@ -25,8 +25,13 @@ abbrev position_of : Said → ℕ → ℕ
 position_of (At at event) old = at
 position_of s old = old
 
+abbrev bricks_with : Said → ℕ → ℕ
+bricks_with (Volume version shape) old = shape.n
+bricks_with s old = old
+
 -- each count rises by what the line adds
 record Adds (s : Said) (c d : Counts) : Type 0 where
+  bricks : d.bricks ≡ bricks_with s c.bricks
   clients : d.clients ≡ one (is_client s) + c.clients
   commands : d.commands ≡ one (is_command s) + c.commands
   listings : d.listings ≡ one (is_listing s) + c.listings
@@ -46,6 +51,7 @@ adds_work path work.Ls c = grind arith
 adds_work path w c = grind arith
 
 adds : (s : Said) (c : Counts) → Adds s c (counted s c)
+adds (Volume version shape) c = grind arith
 adds (Client i) c = grind arith
 adds (Command path w) c = adds_work path w c
 adds (Healer j) c = grind arith
@@ -101,20 +107,20 @@ few_lengths before s c e l t = omega (arith, l)
 
 -- ---- how many lines there are
 abbrev is_head : Said → Bool
-is_head Afr = true
-is_head (Volume arbiter) = true
+is_head (Afr version) = true
+is_head (Volume version shape) = true
 is_head (Files k) = true
 is_head (Turns t) = true
 is_head End = true
 is_head s = false
 
 heads : (s : Said) (before : List Said) → may_stand before s ≡ true → one (is_head s) + head_lines before ≤ head_lines (s ∷ before)
-heads Afr [] h = omega arith
-heads Afr (Afr ∷ older) h = absurd (cc)
-heads Afr (newest ∷ older) h = absurd (cc)
-heads (Volume arbiter) (Afr ∷ older) h = omega arith
-heads (Volume arbiter) before h = absurd (cc)
-heads (Files k) (Volume arbiter ∷ older) h = omega arith
+heads (Afr v) [] h = omega arith
+heads (Afr v) (Afr w ∷ older) h = absurd (cc)
+heads (Afr v) (newest ∷ older) h = absurd (cc)
+heads (Volume v shape) (Afr w ∷ older) h = omega arith
+heads (Volume v shape) before h = absurd (cc)
+heads (Files k) (Volume v shape ∷ older) h = omega arith
 heads (Files k) before h = absurd (cc)
 heads (Turns t) (Files k ∷ older) h = omega arith
 heads (Turns t) before h = absurd (cc)
@@ -129,7 +135,7 @@ lines_more before s c d place h a =
     omega (arith, n, one_each, h.few_lines, a.clients, a.commands, a.healers, a.rounds, a.faults, a.events, a.orders)
   where
     kinds : (s : Said) → 1 ≤ one (is_head s) + one (is_client s) + one (is_command s) + one (is_healer s) + one (is_round s) + one (is_fault s) + one (is_event s) + one (is_order s)
-    kinds Afr = omega arith
+    kinds (Afr v) = omega arith
     kinds s = omega arith
 
 heads_few : (before : List Said) → head_lines before ≤ 5
@@ -147,6 +153,10 @@ position-kept : (before : List Said) (s : Said) (c : ℕ) → c ≡ last_at befo
 position-kept before (At at event) c e = refl
 position-kept before s c e = e
 
+bricks-kept : (before : List Said) (s : Said) (c : ℕ) → c ≡ bricks_of before → bricks_with s c ≡ bricks_of (s ∷ before)
+bricks-kept before (Volume version shape) c e = refl
+bricks-kept before s c e = e
+
 tallied : (p : Said → Bool) (before : List Said) (s : Said) (c d : ℕ) → c ≡ count_by p before → d ≡ one (p s) + c → d ≡ count_by p (s ∷ before)
 tallied p before s c d e f = omega (arith, e, f, sum_by-cons (λ x. cond (p x) 1 0) s before)
 
@@ -160,6 +170,7 @@ pub counts-kept : (before : List Said) (s : Said) (c : Counts) → may_stand bef
 counts-kept before s c place h b o t =
     let a = adds s c in
     record {
+      bricks = a.bricks ∙ bricks-kept before s _ h.bricks;
       clients = tallied is_client before s _ _ h.clients a.clients;
       commands = tallied is_command before s _ _ h.commands a.commands;
       listings = tallied is_listing before s _ _ h.listings a.listings;

@@ -1,13 +1,14 @@
 -- Data, actors and events: what is read is spelled so, and what is spelled so is read.
-use Rattle.std.proofs.Common.{◌≡◌, ◌⊎◌, inl, inr, ℕ, List, ◌++◌, Some, None, refl, ap, ◌∙◌, codes, true, false}
+use Rattle.std.proofs.Common.{◌≡◌, ◌⊎◌, inl, inr, ℕ, List, ◌++◌, Some, None, refl, ap, ◌∙◌, codes}
 use Rattle.afr_faults.specs.declared.fault.Fault.TheVariants.{Fail, Lost}
 use Rattle.afr_plan.specs.Bytes.{digit, hex_digit, text_byte}
 use Rattle.afr_plan.specs.Data.{hex_bytes, is_paired, is_pair, quoted_of, filled_of, IsQuoted, IsHexed, IsFilled, IsData}
 use Rattle.afr_plan.specs.Happening.{Who, OfClient, OfHealer, IsWho, Happening, Stop, Start, Cut, Join, Kill, IsHappening}
 use Rattle.afr_plan.specs.Reading.{word_then, small_at}
-use Rattle.afr_plan.specs.Said.{IsShape, IsFault}
-use Rattle.afr_plan.specs.SaidReading.{quoted_at, hexed_at, filled_at, data_at, client_who_at, healer_who_at, who_at, cut_event, join_event, pair_at, stop_at, start_at, cut_event_at, join_event_at, kill_at, happening_at, shape_at, kind_at}
+use Rattle.afr_plan.specs.Said.{IsShape, IsFault, three_replicas, three_with_arbiter, five_replicas}
+use Rattle.afr_plan.specs.SaidReading.{quoted_at, hexed_at, filled_at, data_at, client_who_at, healer_who_at, who_at, cut_event, join_event, pair_at, stop_at, start_at, cut_event_at, join_event_at, kill_at, happening_at, shape_one_at, shape_two_at, kind_at}
 use Rattle.afr_plan.specs.Spelling.{IsSmall, WordThen, Both}
+use Rattle.afr_plan.specs.declared.version.Version.TheVariants.{One, Two}
 use Rattle.afr_plan_read.proofs.Laws.{Takes, Again, Any, Stops, word-takes, word-again, word_then-takes, word_then-again, both-takes, both-again, run-takes, run-again, as-takes, as-again, as-so, again-after, either-so, either-takes, either-again, first_of, number-takes, number-again, small-takes, small-again, text-takes, text-again}
 
 -- ---- data
@@ -55,13 +56,13 @@ unfolding data_at
 data-again = either-again _ _ _ _ _ (again-after _ _ Any (Stops hex_digit) quoted-again (λ rest n. tt)) (either-again _ _ _ _ _ hexed-again filled-again not_hexed) not_quoted
 
 -- ---- fixed words
-pub shape-takes : Takes shape_at IsShape
-unfolding shape_at
-shape-takes = either-takes _ _ _ _ (word-takes (codes "replica") false) (word-takes (codes "arbiter") true)
+pub shape_one-takes : Takes shape_one_at (IsShape One)
+unfolding shape_one_at
+shape_one-takes = either-takes _ _ _ _ (word-takes (codes "replica") three_replicas) (word-takes (codes "arbiter") three_with_arbiter)
 
-pub shape-again : Again shape_at IsShape Any
-unfolding shape_at
-shape-again = either-again _ _ _ _ _ (word-again (codes "replica") false) (word-again (codes "arbiter") true) (λ w x rest h. rw h.0 refl)
+pub shape_two-takes : Takes shape_two_at (IsShape Two)
+unfolding shape_two_at
+shape_two-takes = either-takes _ _ _ _ (word-takes (codes "replica 3") three_replicas) (either-takes _ _ _ _ (word-takes (codes "replica 5") five_replicas) (word-takes (codes "arbiter 3") three_with_arbiter))
 
 pub kind-takes : Takes kind_at IsFault
 unfolding kind_at

@@ -1,14 +1,15 @@
 -- A line that is judged to say something breaks no rule, and back.
-use Rattle.std.proofs.Common.{◌≡◌, ℕ, List, [], ◌∷◌, Option, Some, None, Result, Ok, Err, refl, sym, ap, subst, ◌∙◌, Bool, true, false, not, if◌then◌else◌, codes}
+use Rattle.std.proofs.Common.{◌≡◌, ℕ, List, [], ◌∷◌, Option, Some, None, Result, Ok, Err, refl, sym, ap, subst, ◌∙◌, Bool, true, false, not, if◌then◌else◌}
 use Rattle.std.specs.List.{list_all}
 use Rattle.afr_plan.specs.Bytes.{plain}
 use Rattle.afr_plan.specs.Said.{Said, IsSaid, Afr, Volume, Files, Turns, Client, Command, Healer, Round, Faulty, At, Go, End}
 use Rattle.afr_plan.specs.SaidReading.{said}
-use Rattle.afr_plan.specs.Rules.{is_over, may_stand, words_after, word_of, is_one_of, is_beyond, is_disordered, passes_total}
+use Rattle.afr_plan.specs.Rules.{is_over, may_stand, is_versioned, words_after, word_of, is_one_of, is_beyond, is_disordered, passes_total}
 use Rattle.afr_plan.specs.Work.{Work, IsCommand, work_word, Write, Read, Create, Mkdir, Unlink, Rmdir, Ls, Stat, SetAttr, GetAttr}
 use Rattle.afr_plan.specs.Work as work
-use Rattle.afr_plan.specs.Judging.{begins, may_begin, first_word, place_code, judged, formed, fitting}
+use Rattle.afr_plan.specs.Judging.{begins_plan, may_begin, first_word, place_code, judged, formed, fitting}
 use Rattle.afr_plan.specs.Spells.{IsLine}
+use Rattle.afr_plan.specs.declared.version.Version.TheVariants.{One, Two}
 use Rattle.afr_plan_read.proofs.SaidLemmas.{said-takes, said-again}
 
 -- ---- places
@@ -27,8 +28,9 @@ first_command line path (SetAttr key value) h = ap first_word h.2
 first_command line path (GetAttr key) h = ap first_word h.2
 
 first_said : (line : List ℕ) (s : Said) → IsSaid line s → first_word line ≡ word_of s
-first_said line Afr h = ap first_word h
-first_said line (Volume arbiter) h = ap first_word h.2
+first_said line (Afr One) h = ap first_word h
+first_said line (Afr Two) h = ap first_word h
+first_said line (Volume version shape) h = ap first_word h.2
 first_said line (Files k) h = ap first_word h.2
 first_said line (Turns t) h = ap first_word h.2
 first_said line (Client i) h = ap first_word h.2
@@ -41,32 +43,33 @@ first_said line (Go who count) h = ap first_word h.2
 first_said line End h = ap first_word h
 
 -- and only the first line begins with the first line's words
-begun_command : (line : List ℕ) (path : List (List ℕ)) (w : Work) → IsCommand line path w → begins (codes "afr 1") line ≡ may_stand [] (Command path w)
-begun_command line path (Write at bytes) h = ap (begins (codes "afr 1")) h.2
-begun_command line path (work.Cut len) h = ap (begins (codes "afr 1")) h.2
-begun_command line path (Read at len) h = ap (begins (codes "afr 1")) h.2
-begun_command line path Create h = ap (begins (codes "afr 1")) h.2
-begun_command line path Mkdir h = ap (begins (codes "afr 1")) h.2
-begun_command line path Unlink h = ap (begins (codes "afr 1")) h.2
-begun_command line path Rmdir h = ap (begins (codes "afr 1")) h.2
-begun_command line path Ls h = ap (begins (codes "afr 1")) h.2
-begun_command line path Stat h = ap (begins (codes "afr 1")) h.2
-begun_command line path (SetAttr key value) h = ap (begins (codes "afr 1")) h.2
-begun_command line path (GetAttr key) h = ap (begins (codes "afr 1")) h.2
+begun_command : (line : List ℕ) (path : List (List ℕ)) (w : Work) → IsCommand line path w → begins_plan line ≡ may_stand [] (Command path w)
+begun_command line path (Write at bytes) h = ap begins_plan h.2
+begun_command line path (work.Cut len) h = ap begins_plan h.2
+begun_command line path (Read at len) h = ap begins_plan h.2
+begun_command line path Create h = ap begins_plan h.2
+begun_command line path Mkdir h = ap begins_plan h.2
+begun_command line path Unlink h = ap begins_plan h.2
+begun_command line path Rmdir h = ap begins_plan h.2
+begun_command line path Ls h = ap begins_plan h.2
+begun_command line path Stat h = ap begins_plan h.2
+begun_command line path (SetAttr key value) h = ap begins_plan h.2
+begun_command line path (GetAttr key) h = ap begins_plan h.2
 
-begun_said : (line : List ℕ) (s : Said) → IsSaid line s → begins (codes "afr 1") line ≡ may_stand [] s
-begun_said line Afr h = ap (begins (codes "afr 1")) h
-begun_said line (Volume arbiter) h = ap (begins (codes "afr 1")) h.2
-begun_said line (Files k) h = ap (begins (codes "afr 1")) h.2
-begun_said line (Turns t) h = ap (begins (codes "afr 1")) h.2
-begun_said line (Client i) h = ap (begins (codes "afr 1")) h.2
+begun_said : (line : List ℕ) (s : Said) → IsSaid line s → begins_plan line ≡ may_stand [] s
+begun_said line (Afr One) h = ap begins_plan h
+begun_said line (Afr Two) h = ap begins_plan h
+begun_said line (Volume version shape) h = ap begins_plan h.2
+begun_said line (Files k) h = ap begins_plan h.2
+begun_said line (Turns t) h = ap begins_plan h.2
+begun_said line (Client i) h = ap begins_plan h.2
 begun_said line (Command path w) h = begun_command line path w h
-begun_said line (Healer j) h = ap (begins (codes "afr 1")) h.2
-begun_said line (Round brick) h = ap (begins (codes "afr 1")) h.2
-begun_said line (Faulty brick at fault) h = ap (begins (codes "afr 1")) h.2
-begun_said line (At at event) h = ap (begins (codes "afr 1")) h.2
-begun_said line (Go who count) h = ap (begins (codes "afr 1")) h.2
-begun_said line End h = ap (begins (codes "afr 1")) h
+begun_said line (Healer j) h = ap begins_plan h.2
+begun_said line (Round brick) h = ap begins_plan h.2
+begun_said line (Faulty brick at fault) h = ap begins_plan h.2
+begun_said line (At at event) h = ap begins_plan h.2
+begun_said line (Go who count) h = ap begins_plan h.2
+begun_said line End h = ap begins_plan h
 
 placed_said : (before : List Said) (line : List ℕ) (s : Said) → IsSaid line s → may_begin before line ≡ may_stand before s
 placed_said [] line s h = begun_said line s h
@@ -105,11 +108,23 @@ pub record Judged (before : List Said) (line : List ℕ) (s : Said) : Type 0 whe
   pub bytes : list_all plain line ≡ true
   pub place : may_begin before line ≡ true
   pub form : said line ≡ Some s
+  pub version : is_versioned before s ≡ true
   pub fits : fitting before s ≡ Ok s
 
-form_ok : (before : List Said) (o : Option Said) (s : Said) → formed before o ≡ Ok s → (o ≡ Some s) × (fitting before s ≡ Ok s)
+abbrev spelled : Bool → Result Said ℕ → Result Said ℕ
+spelled v r = if not v then Err 5 else r
+
+form_ok : (before : List Said) (o : Option Said) (s : Said) → formed before o ≡ Ok s → (o ≡ Some s) × (is_versioned before s ≡ true) × (fitting before s ≡ Ok s)
 form_ok before None s e = absurd (cc)
-form_ok before (Some t) s e = let f = fitting_ok before t s e in let P : Said → Type 0 = λ x. fitting before x ≡ Ok s in (ap Some f.same, subst P f.same e)
+form_ok before (Some t) s e = step (is_versioned before t) refl e
+  where
+    step : (v : Bool) → is_versioned before t ≡ v → spelled v (fitting before t) ≡ Ok s → (Some t ≡ Some s) × (is_versioned before s ≡ true) × (fitting before s ≡ Ok s)
+    step false ev e = absurd (cc)
+    step true ev e =
+        let f = fitting_ok before t s e in
+        let P : Said → Type 0 = λ x. fitting before x ≡ Ok s in
+        let Q : Said → Type 0 = λ x. is_versioned before x ≡ true in
+        (ap Some f.same, subst Q f.same ev, subst P f.same e)
 
 pub judged_ok : (before : List Said) (line : List ℕ) (s : Said) → judged before line ≡ Ok s → Judged before line s
 judged_ok before line s h = step (list_all plain line) (is_over before) (may_begin before line) refl refl h
@@ -118,17 +133,17 @@ judged_ok before line s h = step (list_all plain line) (is_over before) (may_beg
     step false b m ea em e = absurd (cc)
     step true true m ea em e = absurd (cc)
     step true false false ea em e = absurd (cc)
-    step true false true ea em e = let f = form_ok before (said line) s e in record { bytes = ea; place = em; form = f.0; fits = f.1 }
+    step true false true ea em e = let f = form_ok before (said line) s e in record { bytes = ea; place = em; form = f.0; version = f.1; fits = f.2 }
 
 pub judged-line : (before : List Said) (line : List ℕ) (s : Said) → judged before line ≡ Ok s → IsLine before line s
 judged-line before line s h =
     let j = judged_ok before line s h in
     let f = fitting_ok before s s j.fits in
     let said_so = said-takes line s j.form in
-    record { bytes = j.bytes; form = said_so; place = sym (placed_said before line s said_so) ∙ j.place; limits = f.limits; order = f.order; totals = f.totals }
+    record { bytes = j.bytes; form = said_so; version = j.version; place = sym (placed_said before line s said_so) ∙ j.place; limits = f.limits; order = f.order; totals = f.totals }
 
 pub line-judged : (before : List Said) (line : List ℕ) (s : Said) → IsLine before line s → judged before line ≡ Ok s
 line-judged before line s l =
     let place : may_begin before line ≡ true = placed_said before line s l.form ∙ l.place in
     let going : is_over before ≡ false = goes_on before s l.place in
-    rw (l.bytes, going, place, said-again line s l.form, l.limits, l.order, l.totals) refl
+    rw (l.bytes, going, place, said-again line s l.form, l.version, l.limits, l.order, l.totals) refl

@@ -2,13 +2,16 @@
 use Rattle.std.proofs.Common.{◌≡◌, ℕ, List, [], ◌∷◌, ◌++◌, Some, refl, ap, subst, ◌∙◌, codes, inl, inr, drop}
 use Rattle.afr_plan.specs.Bytes.{digit, path_byte, key_byte, hex_digit}
 use Rattle.afr_plan.specs.Reading.{Reader, word, word_then, both, as_a, or_else, whole, path_at, number_at}
+use Rattle.afr_base.specs.declared.ids.Shape.{Shape}
 use Rattle.afr_plan.specs.Said.{Said, IsSaid, Afr, Volume, Files, Turns, Client, Command, Healer, Round, Faulty, At, Go, End}
-use Rattle.afr_plan.specs.SaidReading.{said, command_forms, line_forms, one_of, write_of, cut_of, read_of, set_of, get_of, on_path, fault_of, event_of, order_of, volume_at, files_at, turns_at, client_at, write_at, cut_at, read_at, path_line, named_line, set_at, get_at, healer_at, round_at, fault_at, event_at, order_at}
+use Rattle.afr_plan.specs.SaidReading.{shape_one_at, shape_two_at, said, command_forms, line_forms, one_of, write_of, cut_of, read_of, set_of, get_of, on_path, fault_of, event_of, order_of, volume_one_at, volume_two_at, files_at, turns_at, client_at, write_at, cut_at, read_at, path_line, named_line, set_at, get_at, healer_at, round_at, fault_at, event_at, order_at}
 use Rattle.afr_plan.specs.Spelling.{IsNumber, IsPath, IsNamedPath, WordThen, Both}
 use Rattle.afr_plan.specs.Work.{Work, IsCommand, Write, Read, Create, Mkdir, Unlink, Rmdir, Ls, Stat, SetAttr, GetAttr}
 use Rattle.afr_plan.specs.Work as work
+use Rattle.afr_plan.specs.declared.version.Version.{Version}
+use Rattle.afr_plan.specs.declared.version.Version.TheVariants.{One, Two}
 use Rattle.afr_plan_read.proofs.Laws.{Takes, Again, Any, Stops, word-takes, word_then-takes, word_then-again, both-takes, both-again, as-again, as-so, takes-so, or_some, whole-takes, whole-again, path-takes, path-again, named_path-takes, named_path-again, key-takes, key-again, number-takes, number-again, small-takes, small-again}
-use Rattle.afr_plan_read.proofs.PartLemmas.{data-takes, data-again, shape-takes, shape-again, kind-takes, kind-again, who-takes, who-again, happening-takes, happening-again}
+use Rattle.afr_plan_read.proofs.PartLemmas.{data-takes, data-again, shape_one-takes, shape_two-takes, kind-takes, kind-again, who-takes, who-again, happening-takes, happening-again}
 
 -- ---- what is read is said
 abbrev AllTake : List (Reader Said) → Type 0
@@ -82,30 +85,36 @@ commands-take = (
 )
 
 lines-take : AllTake line_forms
-unfolding volume_at files_at turns_at client_at healer_at round_at fault_at event_at order_at
+unfolding volume_one_at volume_two_at files_at turns_at client_at healer_at round_at fault_at event_at order_at
 lines-take = (
-  word-said (codes "afr 1") Afr (λ w e. e),
+  word-said (codes "afr 1") (Afr One) (λ w e. e),
   (
-    as-so Volume _ _ _ (word_then-takes (codes "volume ") _ _ shape-takes) (λ w x h. h),
+    word-said (codes "afr 2") (Afr Two) (λ w e. e),
     (
-      as-so Files _ _ _ (number_then (codes "files ")) (λ w x h. h),
+      as-so (Volume One) _ _ _ (word_then-takes (codes "volume ") _ _ shape_one-takes) (λ w x h. h),
       (
-        as-so Turns _ _ _ (number_then (codes "turns ")) (λ w x h. h),
+        as-so (Volume Two) _ _ _ (word_then-takes (codes "volume ") _ _ shape_two-takes) (λ w x h. h),
         (
-          as-so Client _ _ _ (number_then (codes "client ")) (λ w x h. h),
+          as-so Files _ _ _ (number_then (codes "files ")) (λ w x h. h),
           (
-            as-so Healer _ _ _ (number_then (codes "healer ")) (λ w x h. h),
+            as-so Turns _ _ _ (number_then (codes "turns ")) (λ w x h. h),
             (
-              as-so Round _ _ _ (word_then-takes (codes "round ") _ _ small-takes) (λ w x h. h),
+              as-so Client _ _ _ (number_then (codes "client ")) (λ w x h. h),
               (
-                as-so fault_of _ _ _ (word_then-takes (codes "fault ") _ _ (both-takes _ _ _ _ small-takes (word_then-takes (codes " ") _ _ (number_and _ _ kind-takes)))) (λ w x h. h),
+                as-so Healer _ _ _ (number_then (codes "healer ")) (λ w x h. h),
                 (
-                  as-so event_of _ _ _ (word_then-takes (codes "at ") _ _ (number_and _ _ happening-takes)) (λ w x h. h),
+                  as-so Round _ _ _ (word_then-takes (codes "round ") _ _ small-takes) (λ w x h. h),
                   (
-                    as-so order_of _ _ _ (word_then-takes (codes "go ") _ _ (both-takes _ _ _ _ who-takes (number_then (codes " ")))) (λ w x h. h),
+                    as-so fault_of _ _ _ (word_then-takes (codes "fault ") _ _ (both-takes _ _ _ _ small-takes (word_then-takes (codes " ") _ _ (number_and _ _ kind-takes)))) (λ w x h. h),
                     (
-                      word-said (codes "end") End (λ w e. e),
-                      tt,
+                      as-so event_of _ _ _ (word_then-takes (codes "at ") _ _ (number_and _ _ happening-takes)) (λ w x h. h),
+                      (
+                        as-so order_of _ _ _ (word_then-takes (codes "go ") _ _ (both-takes _ _ _ _ who-takes (number_then (codes " ")))) (λ w x h. h),
+                        (
+                          word-said (codes "end") End (λ w e. e),
+                          tt,
+                        ),
+                      ),
                     ),
                   ),
                 ),
@@ -173,20 +182,30 @@ command_again line path (SetAttr key value) h = ap said h.2 ∙ command_is set_a
 command_again line path (GetAttr key) h = ap said h.2 ∙ command_is get_at [] line_forms (codes "getattr " ++ h.0) _
     (whole_as get_of _ _ (Stops key_byte) (path_and_again (codes "getattr ") _ _ _ key-again) tt _ (path, key) (h.0, h.1, refl))
 
+-- a volume has one of five lines
+volume_again : (version : Version) (line : List ℕ) (shape : Shape) → IsSaid line (Volume version shape) → said line ≡ Some (Volume version shape)
+unfolding said shape_one_at shape_two_at volume_one_at volume_two_at files_at turns_at client_at healer_at round_at fault_at event_at order_at write_at cut_at read_at set_at get_at named_line path_line
+volume_again One line shape (w, inl h, e) = ap said (e ∙ ap (λ (t : List ℕ). codes "volume " ++ t) h.0) ∙ ap (λ (s : Shape). Some (Volume One s)) h.1
+volume_again One line shape (w, inr h, e) = ap said (e ∙ ap (λ (t : List ℕ). codes "volume " ++ t) h.0) ∙ ap (λ (s : Shape). Some (Volume One s)) h.1
+volume_again Two line shape (w, inl h, e) = ap said (e ∙ ap (λ (t : List ℕ). codes "volume " ++ t) h.0) ∙ ap (λ (s : Shape). Some (Volume Two s)) h.1
+volume_again Two line shape (w, inr (inl h), e) = ap said (e ∙ ap (λ (t : List ℕ). codes "volume " ++ t) h.0) ∙ ap (λ (s : Shape). Some (Volume Two s)) h.1
+volume_again Two line shape (w, inr (inr h), e) = ap said (e ∙ ap (λ (t : List ℕ). codes "volume " ++ t) h.0) ∙ ap (λ (s : Shape). Some (Volume Two s)) h.1
+
 pub said-again : (line : List ℕ) (s : Said) → IsSaid line s → said line ≡ Some s
-unfolding said volume_at files_at turns_at client_at healer_at round_at fault_at event_at order_at write_at cut_at read_at set_at get_at named_line path_line
-said-again line Afr h = rw h refl
-said-again line (Volume arbiter) h = ap said h.2 ∙ line_is volume_at (drop 2 line_forms) (codes "volume " ++ h.0) _ (whole_as Volume _ _ Any (word_then-again (codes "volume ") _ _ Any shape-again) tt _ arbiter (h.0, h.1, refl))
-said-again line (Files k) h = ap said h.2 ∙ line_is files_at (drop 3 line_forms) (codes "files " ++ h.0) _ (whole_as Files _ _ _ (number_again (codes "files ")) tt _ k (h.0, h.1, refl))
-said-again line (Turns t) h = ap said h.2 ∙ line_is turns_at (drop 4 line_forms) (codes "turns " ++ h.0) _ (whole_as Turns _ _ _ (number_again (codes "turns ")) tt _ t (h.0, h.1, refl))
-said-again line (Client i) h = ap said h.2 ∙ line_is client_at (drop 5 line_forms) (codes "client " ++ h.0) _ (whole_as Client _ _ _ (number_again (codes "client ")) tt _ i (h.0, h.1, refl))
+unfolding said volume_one_at volume_two_at files_at turns_at client_at healer_at round_at fault_at event_at order_at write_at cut_at read_at set_at get_at named_line path_line
+said-again line (Afr One) h = rw h refl
+said-again line (Afr Two) h = rw h refl
+said-again line (Volume version shape) h = volume_again version line shape h
+said-again line (Files k) h = ap said h.2 ∙ line_is files_at (drop 5 line_forms) (codes "files " ++ h.0) _ (whole_as Files _ _ _ (number_again (codes "files ")) tt _ k (h.0, h.1, refl))
+said-again line (Turns t) h = ap said h.2 ∙ line_is turns_at (drop 6 line_forms) (codes "turns " ++ h.0) _ (whole_as Turns _ _ _ (number_again (codes "turns ")) tt _ t (h.0, h.1, refl))
+said-again line (Client i) h = ap said h.2 ∙ line_is client_at (drop 7 line_forms) (codes "client " ++ h.0) _ (whole_as Client _ _ _ (number_again (codes "client ")) tt _ i (h.0, h.1, refl))
 said-again line (Command path w) h = command_again line path w h
-said-again line (Healer j) h = ap said h.2 ∙ line_is healer_at (drop 6 line_forms) (codes "healer " ++ h.0) _ (whole_as Healer _ _ _ (number_again (codes "healer ")) tt _ j (h.0, h.1, refl))
-said-again line (Round brick) h = ap said h.2 ∙ line_is round_at (drop 7 line_forms) (codes "round " ++ h.0) _ (whole_as Round _ _ _ (word_then-again (codes "round ") _ _ (Stops digit) small-again) tt _ brick (h.0, h.1, refl))
-said-again line (Faulty brick at fault) h = ap said h.2 ∙ line_is fault_at (drop 8 line_forms) (codes "fault " ++ h.0) _
+said-again line (Healer j) h = ap said h.2 ∙ line_is healer_at (drop 8 line_forms) (codes "healer " ++ h.0) _ (whole_as Healer _ _ _ (number_again (codes "healer ")) tt _ j (h.0, h.1, refl))
+said-again line (Round brick) h = ap said h.2 ∙ line_is round_at (drop 9 line_forms) (codes "round " ++ h.0) _ (whole_as Round _ _ _ (word_then-again (codes "round ") _ _ (Stops digit) small-again) tt _ brick (h.0, h.1, refl))
+said-again line (Faulty brick at fault) h = ap said h.2 ∙ line_is fault_at (drop 10 line_forms) (codes "fault " ++ h.0) _
     (whole_as fault_of _ _ Any (word_then-again (codes "fault ") _ _ Any (both-again _ _ _ _ (Stops digit) Any small-again (word_then-again (codes " ") _ _ Any (number_and_again _ _ _ kind-again)) (λ v y rest t. rw t.2 refl))) tt _ (brick, (at, fault)) (h.0, h.1, refl))
-said-again line (At at event) h = ap said h.2 ∙ line_is event_at (drop 9 line_forms) (codes "at " ++ h.0) _
+said-again line (At at event) h = ap said h.2 ∙ line_is event_at (drop 11 line_forms) (codes "at " ++ h.0) _
     (whole_as event_of _ _ (Stops digit) (word_then-again (codes "at ") _ _ (Stops digit) (number_and_again _ _ _ happening-again)) tt _ (at, event) (h.0, h.1, refl))
-said-again line (Go who count) h = ap said h.2 ∙ line_is order_at (drop 10 line_forms) (codes "go " ++ h.0) _
+said-again line (Go who count) h = ap said h.2 ∙ line_is order_at (drop 12 line_forms) (codes "go " ++ h.0) _
     (whole_as order_of _ _ (Stops digit) (word_then-again (codes "go ") _ _ (Stops digit) (both-again _ _ _ _ (Stops digit) (Stops digit) who-again (number_again (codes " ")) (λ v y rest t. rw t.2 refl))) tt _ (who, count) (h.0, h.1, refl))
 said-again line End h = rw h refl

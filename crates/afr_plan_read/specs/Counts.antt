@@ -2,7 +2,7 @@
 use Rattle.std.specs.Prelude.{◌≡◌, ◌+◌, ◌≤◌, ℕ, List, [], ◌∷◌, length, count_by, sum_by}
 use Rattle.afr_plan.specs.Said.{Said, Afr, Volume, Files, Client, Command, Healer, Round, Faulty, At, Go, End}
 use Rattle.afr_plan.specs.Work.{Work, Write, Read, Ls}
-use Rattle.afr_plan.specs.Rules.{is_client, is_command, is_listing, is_healer, is_round, is_fault, is_event, is_order, last_at, write_end, read_len}
+use Rattle.afr_plan.specs.Rules.{bricks_of, is_client, is_command, is_listing, is_healer, is_round, is_fault, is_event, is_order, last_at, write_end, read_len}
 use Rattle.afr_plan_read.specs.declared.totals.Counts.{Counts}
 
 -- the counts of a command's kind with one more
@@ -14,6 +14,7 @@ worked w c = c
 
 -- the counts with one line more
 abbrev pub counted : Said → Counts → Counts
+counted (Volume version shape) c = record c { bricks = shape.n }
 counted (Client i) c = record c { clients = c.clients + 1 }
 counted (Command path w) c = worked w (record c { commands = c.commands + 1 })
 counted (Healer j) c = record c { healers = c.healers + 1 }
@@ -26,14 +27,15 @@ counted s c = c
 -- how many lines of the head, and `end`, there are at most, by the newest line
 abbrev pub head_lines : List Said → ℕ
 head_lines [] = 0
-head_lines (Afr ∷ older) = 1
-head_lines (Volume arbiter ∷ older) = 2
+head_lines (Afr version ∷ older) = 1
+head_lines (Volume version shape ∷ older) = 2
 head_lines (Files k ∷ older) = 3
 head_lines (End ∷ older) = 5
 head_lines (s ∷ older) = 4
 
 -- the counts are those of the lines, and within the totals
 pub record IsCounted (before : List Said) (c : Counts) : Type 0 where
+  pub bricks : c.bricks ≡ bricks_of before
   pub clients : c.clients ≡ count_by is_client before
   pub commands : c.commands ≡ count_by is_command before
   pub listings : c.listings ≡ count_by is_listing before

@@ -71,7 +71,7 @@ fn no_lines(alloc: Global) -> Plan
 {
     Plan {
         shape: Shape {
-            n: limits::BRICKS,
+            n: limits::FEWEST_BRICKS,
             arbiter: false,
         },
         files: 0,
@@ -155,11 +155,8 @@ impl Draft {
         ensures ok { OnOk result (self.new ≡ with_line (seen spoken.entry) self.old) }
     {
         match spoken {
-            Spoken::Volume(arbiter) => {
-                self.plan.shape = Shape {
-                    n: limits::BRICKS,
-                    arbiter,
-                };
+            Spoken::Volume(_, shape) => {
+                self.plan.shape = shape;
                 Ok(())
             }
             Spoken::Files(files) => self.set_files(files),
@@ -184,7 +181,7 @@ impl Draft {
                 actor: actor(&who),
                 count,
             }),
-            Spoken::Afr => Ok(()),
+            Spoken::Afr(_) => Ok(()),
             Spoken::End => Ok(()),
         }
     }

@@ -12,6 +12,7 @@ mod places;
 mod read;
 mod rules;
 mod totals;
+mod versions;
 mod words;
 
 pub use read::{one_plan_for_a_text, read_plan};

@@ -34,7 +34,7 @@ fn is_work_beyond(work: &SpokenWork) -> bool
 fn is_brick_beyond(brick: u8) -> bool
     ensures { result ≡ rule.is_brick_beyond brick }
 {
-    brick >= limits::BRICKS_OF_ANY
+    brick >= limits::MOST_BRICKS
 }
 
 fn is_who_beyond(who: &SpokenWho) -> bool
@@ -82,8 +82,8 @@ pub(crate) fn is_beyond(spoken: &Spoken) -> bool
         } => is_brick_beyond(*brick) || is_count_beyond(*at),
         Spoken::At { at, event } => *at > limits::TURNS || is_event_beyond(event),
         Spoken::Go { who, count } => is_who_beyond(who) || is_count_beyond(*count),
-        Spoken::Afr => false,
-        Spoken::Volume(_) => false,
+        Spoken::Afr(_) => false,
+        Spoken::Volume(_, _) => false,
         Spoken::End => false,
     }
 }

@@ -9,7 +9,6 @@ ghost use Rattle.afr_plan_line.specs.Seen.{seen, seen_who, seen_event};
 use crate::keyed::Keyed;
 use crate::totals::Counts;
 use afr_base::NoMemory;
-use afr_plan::limits;
 use afr_plan_line::{Spoken, SpokenEvent, SpokenWho};
 use indexmap::IndexSet;
 use std::alloc::Global;
@@ -64,10 +63,11 @@ impl FaultPlaces {
     }
 }
 
-fn lacks_brick(brick: u8) -> bool
-    ensures { result ≡ rule.lacks_brick brick }
+fn lacks_brick(before: &[Spoken], counts: &Counts, brick: u8) -> bool
+    requires counts { IsCounted (reverse (map seen before.now)) counts.now }
+    ensures { result ≡ rule.lacks_brick (reverse (map seen before.now)) brick }
 {
-    brick >= limits::BRICKS
+    brick >= counts.bricks
 }
 
 fn lacks_who(before: &[Spoken], counts: &Counts, who: &SpokenWho) -> bool
@@ -85,10 +85,12 @@ fn is_event_disordered(before: &[Spoken], counts: &Counts, event: &SpokenEvent) 
     ensures { result ≡ rule.is_event_disordered (reverse (map seen before.now)) (seen_event event.now) }
 {
     match event {
-        SpokenEvent::Stop(brick) => lacks_brick(*brick),
-        SpokenEvent::Start(brick) => lacks_brick(*brick),
-        SpokenEvent::Cut(who, brick) => lacks_who(before, counts, who) || lacks_brick(*brick),
-        SpokenEvent::Join(who, brick) => lacks_who(before, counts, who) || lacks_brick(*brick),
+        SpokenEvent::Stop(brick) => lacks_brick(before, counts, *brick),
+        SpokenEvent::Start(brick) => lacks_brick(before, counts, *brick),
+        SpokenEvent::Cut(who, brick) => lacks_who(before, counts, who)
+            || lacks_brick(before, counts, *brick),
+        SpokenEvent::Join(who, brick) => lacks_who(before, counts, who)
+            || lacks_brick(before, counts, *brick),
         SpokenEvent::Kill(who) => lacks_who(before, counts, who),
     }
 }
@@ -108,18 +110,18 @@ pub(crate) fn is_disordered(
     match spoken {
         Spoken::Client(number) => *number != counts.clients + 1,
         Spoken::Healer(number) => *number != counts.healers + 1,
-        Spoken::Round(brick) => lacks_brick(*brick),
+        Spoken::Round(brick) => lacks_brick(before, counts, *brick),
         Spoken::Faulty {
             brick,
             at,
             fault: _,
-        } => lacks_brick(*brick) || places.has(*brick, *at),
+        } => lacks_brick(before, counts, *brick) || places.has(*brick, *at),
         Spoken::At { at, event } => {
             *at < counts.last_at || is_event_disordered(before, counts, event)
         }
         Spoken::Go { who, count: _ } => lacks_who(before, counts, who),
-        Spoken::Afr => false,
-        Spoken::Volume(_) => false,
+        Spoken::Afr(_) => false,
+        Spoken::Volume(_, _) => false,
         Spoken::Files(_) => false,
         Spoken::Turns(_) => false,
         Spoken::Command { path: _, work: _ } => false,

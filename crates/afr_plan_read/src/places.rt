@@ -96,8 +96,8 @@ fn may_follow(newest: &Spoken, word: &[u8]) -> bool
     ensures { result ≡ is_one_of (words_after (seen newest.now)) word.now }
 {
     match newest {
-        Spoken::Afr => is_same(word, b"volume"),
-        Spoken::Volume(_) => is_same(word, b"files"),
+        Spoken::Afr(_) => is_same(word, b"volume"),
+        Spoken::Volume(_, _) => is_same(word, b"files"),
         Spoken::Files(_) => is_same(word, b"turns"),
         Spoken::Turns(_) => after_turns(word),
         Spoken::Client(_) => after_command(word),
@@ -115,12 +115,19 @@ fn may_follow(newest: &Spoken, word: &[u8]) -> bool
     }
 }
 
+/// Whether a line begins with the words of a first line, in one of the two versions.
+fn begins_plan(line: &[u8]) -> bool
+    ensures { result ≡ judging.begins_plan line.now }
+{
+    begins(b"afr 1", line) || begins(b"afr 2", line)
+}
+
 /// Whether a line's first words may stand here.
 pub(crate) fn may_begin(before: &[Spoken], line: &[u8]) -> bool
     ensures { result ≡ judging.may_begin (reverse (map seen before.now)) line.now }
 {
     match before {
-        [] => begins(b"afr 1", line),
+        [] => begins_plan(line),
         [.., newest] => may_follow(newest, first_word(line)),
     }
 }

@@ -1,5 +1,5 @@
 //! The rules on a line, the lines before it being as they are.
-ghost use Rattle.std.specs.Prelude.{◌≡◌, reverse, map, if◌then◌else◌};
+ghost use Rattle.std.specs.Prelude.{◌≡◌, reverse, map, Some, if◌then◌else◌};
 ghost use Rattle.std.specs.List.{list_all};
 ghost use Rattle.afr_plan.specs.Bytes.{plain};
 ghost use Rattle.afr_plan_read.specs.Counts.{IsCounted};
@@ -12,6 +12,7 @@ use crate::limits::is_beyond;
 use crate::order::{FaultPlaces, is_disordered};
 use crate::places::{is_over, may_begin};
 use crate::totals::{Counts, passes_total};
+use crate::versions::is_versioned;
 use afr_plan_line::{Spoken, is_plain, say_line};
 
 /// The rules that a line may break, the lowest first.
@@ -52,7 +53,8 @@ impl Rule {
     }
 }
 
-fn fitting<'a>(
+/// What a line of some form says, or the lowest rule that it breaks by it.
+fn formed<'a>(
     before: &[Spoken],
     counts: &Counts,
     places: &FaultPlaces,
@@ -60,9 +62,11 @@ fn fitting<'a>(
 ) -> Result<Spoken<'a>, Rule>
     requires counts { IsCounted (reverse (map seen before.now)) counts.now }
     requires places { ArePlaces (reverse (map seen before.now)) places.now }
-    ensures { seen_ok result ≡ judging.fitting (reverse (map seen before.now)) (seen spoken.entry) }
+    ensures { seen_ok result ≡ judging.formed (reverse (map seen before.now)) (Some (seen spoken.entry)) }
 {
-    if is_beyond(&spoken) {
+    if !is_versioned(before, &spoken) {
+        Err(Rule::Form)
+    } else if is_beyond(&spoken) {
         Err(Rule::Limit)
     } else if is_disordered(before, counts, places, &spoken) {
         Err(Rule::Order)
@@ -106,7 +110,7 @@ pub(crate) fn judged<'a>(
     }
     match say_line(line) {
         None => Err(Rule::Form),
-        Some(spoken) => fitting(before, counts, places, spoken),
+        Some(spoken) => formed(before, counts, places, spoken),
     }
 }
 

@@ -11,6 +11,8 @@ use afr_plan_line::{Spoken, SpokenWork, data_len};
 /// What is counted over the lines.
 #[derive(Clone, Copy, Drop)]
 pub(crate) struct Counts {
+    /// The bricks of the volume.
+    pub(crate) bricks: u8,
     pub(crate) clients: u32,
     pub(crate) commands: u32,
     /// The commands `ls`.
@@ -32,6 +34,7 @@ pub(crate) fn no_counts() -> Counts
     ensures { IsCounted [] result }
 {
     Counts {
+        bricks: 0,
         clients: 0,
         commands: 0,
         listings: 0,
@@ -86,8 +89,8 @@ pub(crate) fn passes_total(before: &[Spoken], counts: &Counts, spoken: &Spoken) 
         } => counts.faults >= limits::SCHEDULE,
         Spoken::At { at: _, event: _ } => counts.events >= limits::SCHEDULE,
         Spoken::Go { who: _, count: _ } => counts.orders >= limits::SCHEDULE,
-        Spoken::Afr => false,
-        Spoken::Volume(_) => false,
+        Spoken::Afr(_) => false,
+        Spoken::Volume(_, _) => false,
         Spoken::Files(_) => false,
         Spoken::Turns(_) => false,
         Spoken::Client(_) => false,
@@ -142,6 +145,10 @@ pub(crate) fn counted(counts: Counts, spoken: &Spoken) -> Counts
     ensures { result ≡ count.counted (seen spoken.now) counts }
 {
     match spoken {
+        Spoken::Volume(_, shape) => Counts {
+            bricks: shape.n,
+            ..counts
+        },
         Spoken::Client(_) => Counts {
             clients: counts.clients + 1,
             ..counts
@@ -174,8 +181,7 @@ pub(crate) fn counted(counts: Counts, spoken: &Spoken) -> Counts
             orders: counts.orders + 1,
             ..counts
         },
-        Spoken::Afr => counts,
-        Spoken::Volume(_) => counts,
+        Spoken::Afr(_) => counts,
         Spoken::Files(_) => counts,
         Spoken::Turns(_) => counts,
         Spoken::End => counts,

@@ -2,4 +2,3 @@ pub mod BrickLinesLemmas
 pub mod CommandLemmas
 mod OwnLemmas
 mod PlacesLemmas
-mod VolumeLemmas

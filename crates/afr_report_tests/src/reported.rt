@@ -1,4 +1,4 @@
-//! The report of a plan and a log, over servers whose bricks a replay of the log makes.
+//! The report and the summary of a plan and a log, over servers whose bricks a replay of the log makes.
 ghost use Rattle.std.specs.Prelude.{◌≡◌, true, reverse};
 ghost use Rattle.afr_report.specs.BrickLines.{AreBrickLines, IsBrickEvent, IsBrickLine};
 
@@ -9,6 +9,7 @@ use afr_plan::Plan;
 use afr_replay::{Unfit, tables};
 use afr_report::{print_report, started};
 use afr_server::Server;
+use afr_summary::print_summary;
 use std::alloc::Global;
 
 /// Whether the report has this text.
@@ -23,6 +24,17 @@ pub fn reports(alloc: Global, plan: &Plan, log: &[Line], text: &str) -> Result<b
     let started = started(plan.shape.n, log);
     let report = print_report(alloc, plan, log, started, &servers)?;
     Ok(report.as_str() == text)
+}
+
+/// Whether the summary of load 7 has this text.
+pub fn summarizes(alloc: Global, plan: &Plan, log: &[Line], text: &str) -> Result<bool, Unfit> {
+    if plan.shape.n > 5 || !has_brick_lines(log) {
+        return Ok(false);
+    }
+    let servers = replayed(alloc, plan, log)?;
+    let started = started(plan.shape.n, log);
+    let summary = print_summary(alloc, 7, plan, log, started, &servers)?;
+    Ok(summary.as_str() == text)
 }
 
 fn replayed(alloc: Global, plan: &Plan, log: &[Line]) -> Result<Vec<Server>, Unfit> {

@@ -1,1 +1,1 @@
-pub mod RunnableLemmas
+pub mod SpelledLemmas

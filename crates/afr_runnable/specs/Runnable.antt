@@ -1,13 +1,18 @@
--- The plans that are run so far: three bricks, at most 16 clients and 3 healers, faults, events and orders.
+-- The plans that the volume can run: three or five bricks, at most 16 clients and 3 healers, faults, events and orders.
 use Rattle.std.specs.Prelude.{◌≡◌, ◌⊎◌, ℕ, ◌+◌, ◌≤◌, ◌<◌, ◌^◌, List, length, nat_lt, Bool, true, false}
 use Rattle.std.specs.List.{All}
 use Rattle.afr_base.specs.declared.ids.BrickId.{BrickId}
 use Rattle.afr_base.specs.declared.ids.NameId.{NameId}
+use Rattle.afr_base.specs.declared.ids.Shape.{Shape}
 use Rattle.afr_lines.specs.declared.line.Event.{Event}
 use Rattle.afr_lines.specs.declared.line.Event.TheVariants as event
 use Rattle.afr_plan.specs.declared.command.Command.{Command}
 use Rattle.afr_plan.specs.declared.command.Command.TheVariants.{Create, Mkdir, Unlink, Rmdir}
 use Rattle.afr_plan.specs.declared.plan.Plan.{Plan}
+
+-- three bricks, of which the last may be an arbiter, or five that all keep bytes
+abbrev pub IsRunnableShape : Shape → Type 0
+IsRunnableShape shape = (shape.n ≡ 3) ⊎ ((shape.n ≡ 5) × (shape.arbiter ≡ false))
 
 -- a path has a name
 abbrev pub has_name : List NameId → Bool
@@ -42,10 +47,9 @@ IsAboutVolume n clients healers (event.Cut actor brick) = IsOneOf clients healer
 IsAboutVolume n clients healers (event.Join actor brick) = IsOneOf clients healers actor.0 × (brick.0 < n)
 IsAboutVolume n clients healers (event.Kill actor) = IsOneOf clients healers actor.0
 
--- what every plan that is run so far is like; its faults are free
+-- what every plan is like that the volume can run; its faults are free
 pub record IsRunnable (plan : Plan) : Type 0 where
-  pub bricks : plan.shape.n ≡ 3
-  pub arbiter : plan.shape.arbiter ≡ false
+  pub shape : IsRunnableShape plan.shape
   pub files : plan.files ≤ 1000
   pub gfids : 2 ^ 64 + plan.files < 2 ^ 128
   pub some_turns : 1 ≤ plan.turns

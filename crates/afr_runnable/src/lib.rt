@@ -1,6 +1,6 @@
-//! Which plans the volume runs so far. It stands apart, so that a kind of plan that comes to run reopens no crate below.
+//! What every plan is like that a text spells: it is one that the volume can run.
 #![tactic(auto)]
 
-mod runnable;
+mod spelled;
 
-pub use runnable::is_runnable_yet;
+pub use spelled::every_spelled_plan_runs;

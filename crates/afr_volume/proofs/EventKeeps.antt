@@ -11,7 +11,6 @@ use Rattle.afr_lines.specs.declared.line.Line.{Line}
 use Rattle.afr_lines.specs.declared.line.Line.TheVariants as line_of
 use Rattle.afr_model.specs.Following.{Follows}
 use Rattle.afr_model.specs.Report.{started_after, started_bricks}
-use Rattle.afr_model.specs.State.{State}
 use Rattle.afr_moves.specs.Ranges.{InRange}
 use Rattle.afr_next.specs.Happened.{EventKeepsAll}
 use Rattle.afr_plan.specs.declared.plan.Plan.{Plan}
@@ -23,7 +22,7 @@ use Rattle.afr_servers.specs.NextLine.{EventAreServed}
 use Rattle.afr_servers.specs.declared.epochs.Epochs.{Epochs}
 use Rattle.afr_rounds.specs.declared.healer.Healer.{Healer}
 use Rattle.afr_volume.specs.Keeping.{CanRun, IsActing, IsEventOf, IsVolume, IsWhole}
-use Rattle.afr_volume.specs.Turning.{HasHealer, HasVictim, KillsHealersIn, KillsIn, due_of, if_due}
+use Rattle.afr_volume.specs.Turning.{HasHealer, HasVictim, KillsHealersIn, KillsIn, due_at, if_due}
 use Rattle.afr_volume.specs.declared.actor.Actor.{Actor}
 use Rattle.afr_volume.specs.Laws.{EventLaws, RoundLaws}
 use Rattle.afr_volume.proofs.Before.{client_is, healer_is}
@@ -32,27 +31,27 @@ use Rattle.afr_volume.proofs.LineKeeps.{stays}
 use Rattle.afr_volume.proofs.LogLemmas.{reverse_push}
 
 -- ---- the event that is due
-pub record IsDueNow (s : State) (event : Event) : Type 0 where
-  pub room : length s.log < s.plan.turns
+pub record IsDueNow (p : Plan) (log : List Line) (event : Event) : Type 0 where
+  pub room : length log < p.turns
   pub planned : PlannedEvent
-  pub next : slice_get s.plan.events (events_made s.log) ≡ Some planned
+  pub next : slice_get p.events (events_made log) ≡ Some planned
   pub same : planned.event ≡ event
-  pub come : planned.at ≤ length s.log
+  pub come : planned.at ≤ length log
 
-due_in : (s : State) (event : Event) (next : Option PlannedEvent) → length s.log < s.plan.turns → slice_get s.plan.events (events_made s.log) ≡ next → if_due (length s.log) next ≡ Some event → IsDueNow s event
-due_in s event None room e k = absurd (cc k)
-due_in s event (Some planned) room e k = by_time (nat_le planned.at (length s.log)) refl k
+due_in : (p : Plan) (log : List Line) (event : Event) (next : Option PlannedEvent) → length log < p.turns → slice_get p.events (events_made log) ≡ next → if_due (length log) next ≡ Some event → IsDueNow p log event
+due_in p log event None room e k = absurd (cc k)
+due_in p log event (Some planned) room e k = by_time (nat_le planned.at (length log)) refl k
   where
-    by_time : (time : Bool) → nat_le planned.at (length s.log) ≡ time → (if time then Some planned.event else None) ≡ Some event → IsDueNow s event
+    by_time : (time : Bool) → nat_le planned.at (length log) ≡ time → (if time then Some planned.event else None) ≡ Some event → IsDueNow p log event
     by_time false f k = absurd (cc k)
     by_time true f k = record { room = room; planned = planned; next = e; same = cc k; come = grind (arith, nat_tests, f) }
 
-pub due_gives : (s : State) (event : Event) → due_of s ≡ Some event → IsDueNow s event
-due_gives s event k = by_room (nat_lt (length s.log) s.plan.turns) refl k
+pub due_gives : (p : Plan) (log : List Line) (event : Event) → due_at p log ≡ Some event → IsDueNow p log event
+due_gives p log event k = by_room (nat_lt (length log) p.turns) refl k
   where
-    by_room : (room : Bool) → nat_lt (length s.log) s.plan.turns ≡ room → (if room then if_due (length s.log) (slice_get s.plan.events (events_made s.log)) else None) ≡ Some event → IsDueNow s event
+    by_room : (room : Bool) → nat_lt (length log) p.turns ≡ room → (if room then if_due (length log) (slice_get p.events (events_made log)) else None) ≡ Some event → IsDueNow p log event
     by_room false f k = absurd (cc k)
-    by_room true f k = due_in s event (slice_get s.plan.events (events_made s.log)) (grind (arith, nat_tests, f)) refl k
+    by_room true f k = due_in p log event (slice_get p.events (events_made log)) (grind (arith, nat_tests, f)) refl k
 
 pub few_events : (log : List Line) → events_made log ≤ length log
 few_events [] = omega arith
@@ -73,7 +72,7 @@ module _ (p : Plan) (c : ℕ) (event : Event) (log : List Line) (old new : List 
 
 -- ---- the whole volume
 pub kept_event : (happened : EventKeepsAll) (comes : EventAreServed) (p : Plan) (log : List Line) (servers new : List Serving) (actors after : List Actor) (made : ℕ) (event : Event)
-    → IsVolume p log servers actors made → InRange (line_of.Event event) → IsDueNow (record { plan = p; log = log }) event → MeetsEach event servers new → KillsIn event actors after → IsVolume p (line_of.Event event ∷ log) new after (made + 1)
+    → IsVolume p log servers actors made → InRange (line_of.Event event) → IsDueNow p log event → MeetsEach event servers new → KillsIn event actors after → IsVolume p (line_of.Event event ∷ log) new after (made + 1)
 kept_event happened comes p log servers new actors after made event v fits due meets kills = record {
   runnable = v.runnable;
   room = due.room;
@@ -86,6 +85,7 @@ kept_event happened comes p log servers new actors after made event v fits due m
   lawful = (happened p log event fits).lawful v.lawful;
   replied = (tt, v.replied);
   blamed = (tt, v.blamed);
+  gives = (tt, v.gives);
 }
   where
     served : AreServed p (line_of.Event event ∷ log) new × ((c : ℕ) (its : Epochs) → AreFound c its servers → AreFound c its new)
@@ -98,15 +98,15 @@ kept_event happened comes p log servers new actors after made event v fits due m
 
 -- the same of the log as the code keeps it
 pub happened : (laws : EventLaws) (p : Plan) (items added : List Line) (servers new : List Serving) (actors after : List Actor) (made : ℕ) (event : Event)
-    → IsVolume p (reverse items) servers actors made → InRange (line_of.Event event) → due_of (record { plan = p; log = reverse items }) ≡ Some event → MeetsEach event servers new → KillsIn event actors after → added ≡ items ++ line_of.Event event ∷ []
+    → IsVolume p (reverse items) servers actors made → InRange (line_of.Event event) → due_at p (reverse items) ≡ Some event → MeetsEach event servers new → KillsIn event actors after → added ≡ items ++ line_of.Event event ∷ []
     → IsVolume p (reverse added) new after (made + 1)
 happened laws p items added servers new actors after made event v fits due meets kills grown =
     rw (grown, reverse_push items (line_of.Event event))
-    (kept_event laws.happened laws.comes p (reverse items) servers new actors after made event v fits (due_gives (record { plan = p; log = reverse items }) event due) meets kills)
+    (kept_event laws.happened laws.comes p (reverse items) servers new actors after made event v fits (due_gives p (reverse items) event due) meets kills)
 
 -- and so of the healers
 pub whole_happened : (rounds : RoundLaws) (laws : EventLaws) (p : Plan) (items added : List Line) (servers new : List Serving) (actors after : List Actor) (healers healers_after : List Healer) (made : ℕ) (event : Event)
-    → IsWhole p (reverse items) servers actors healers made → InRange (line_of.Event event) → due_of (record { plan = p; log = reverse items }) ≡ Some event → MeetsEach event servers new → KillsIn event actors after → KillsHealersIn event healers healers_after
+    → IsWhole p (reverse items) servers actors healers made → InRange (line_of.Event event) → due_at p (reverse items) ≡ Some event → MeetsEach event servers new → KillsIn event actors after → KillsHealersIn event healers healers_after
     → added ≡ items ++ line_of.Event event ∷ [] → IsWhole p (reverse added) new after healers_after (made + 1)
 whole_happened rounds laws p items added servers new actors after healers healers_after made event w fits due meets kills healers_killed grown = record {
   kept = happened laws p items added servers new actors after made event w.kept fits due meets kills grown;
@@ -116,10 +116,10 @@ whole_happened rounds laws p items added servers new actors after healers healer
 }
 
 -- ---- whom it kills is there
-event_is : (p : Plan) (log : List Line) (event : Event) → CanRun p → due_of (record { plan = p; log = log }) ≡ Some event → IsEventOf p event
-event_is p log event run due = (let d = due_gives (record { plan = p; log = log }) event due in subst (IsEventOf p) d.same (run.events (events_made log) d.planned d.next))
+event_is : (p : Plan) (log : List Line) (event : Event) → CanRun p → due_at p log ≡ Some event → IsEventOf p event
+event_is p log event run due = (let d = due_gives p log event due in subst (IsEventOf p) d.same (run.events (events_made log) d.planned d.next))
 
-pub victim_there : (p : Plan) (log : List Line) (event : Event) (actors : List Actor) → CanRun p → length actors ≡ length p.clients → due_of (record { plan = p; log = log }) ≡ Some event → HasVictim event actors
+pub victim_there : (p : Plan) (log : List Line) (event : Event) (actors : List Actor) → CanRun p → length actors ≡ length p.clients → due_at p log ≡ Some event → HasVictim event actors
 victim_there p log event actors run same due = by event (event_is p log event run due)
   where
     by : (event : Event) → IsEventOf p event → HasVictim event actors
@@ -129,7 +129,7 @@ victim_there p log event actors run same due = by event (event_is p log event ru
     by (Join a b) k = tt
     by (Kill a) k = λ low. let c = client_is p a.0 run low k in let most = c.1 in (c.0, omega (arith, most, same))
 
-pub healer_there : (p : Plan) (log : List Line) (event : Event) (healers : List Healer) → CanRun p → length healers ≡ length p.healers → due_of (record { plan = p; log = log }) ≡ Some event → HasHealer event healers
+pub healer_there : (p : Plan) (log : List Line) (event : Event) (healers : List Healer) → CanRun p → length healers ≡ length p.healers → due_at p log ≡ Some event → HasHealer event healers
 healer_there p log event healers run same due = by event (event_is p log event run due)
   where
     above : (a : ℕ) → 17 ≤ a → a ≤ 16 → ⊥

@@ -5,23 +5,30 @@ use Rattle.std.proofs.lemmas.Bool.Decides.{nat_tests}
 use Rattle.std.proofs.lemmas.List.{length-reverse}
 use Rattle.std.proofs.lemmas.Option.{slice_get_within}
 use Rattle.afr_base.specs.declared.ids.ActorId.{ActorId}
-use Rattle.afr_healer.specs.Rounding.{IsAnswered}
+use Rattle.afr_healer.specs.Rounding.{IsAnswered, IsFed}
 use Rattle.afr_lines.specs.Work.{ended, is_killed, is_of, work}
 use Rattle.afr_lines.specs.declared.line.Line.{Line}
 use Rattle.afr_model.specs.Actors.{Client, Healer as ByHealer, IsActor, is_done, rounds_of, works_of}
 use Rattle.afr_plan.specs.declared.plan.Plan.{Plan}
 use Rattle.afr_rounds.specs.Acting.{CanStep, Stepped}
+use Rattle.afr_rounds.proofs.Fed.{steps_answered}
 use Rattle.afr_rounds.specs.Keeping.{IsHealer}
-use Rattle.afr_rounds.specs.Laws.{IsMadeReady}
+use Rattle.afr_rounds.specs.Laws.{IsBeforeRound, IsMadeReady, IsWritten}
 use Rattle.afr_rounds.specs.declared.healer.Healer.{Healer}
+use Rattle.afr_rule.specs.Choosing.{Calls}
 use Rattle.afr_server.specs.Serving.{Serving}
+use Rattle.afr_sources.proofs.HealerTurn.{healer_turn}
+use Rattle.afr_sources.specs.Chosen.{AreChosen}
+use Rattle.afr_sources.specs.Laws.{LineKeepsSource}
+use Rattle.afr_sources.specs.Sources.{picks_of, sources_of}
 use Rattle.afr_volume.specs.Keeping.{AreHealers, CanRun, IsWhole}
 use Rattle.afr_volume.specs.Laws.{RoundLaws}
-use Rattle.afr_volume.specs.Turning.{ReadiedHealerAt, StepsHealerAt, due_of}
+use Rattle.afr_volume.specs.Turning.{ReadiedHealerAt, StepsHealerAt, due_at}
 use Rattle.afr_volume.specs.declared.actor.Actor.{Actor}
 use Rattle.afr_volume.proofs.Before.{healer_is}
 use Rattle.afr_volume.proofs.HealersKeep.{before_round, kept_healer, kept_round, low_brick, ready_healer, round_wrote}
 use Rattle.afr_volume.proofs.LineKeeps.{wrote_own}
+use Rattle.afr_volume.proofs.SourceLemmas.{readied_sources}
 use Rattle.afr_volume.proofs.LogLemmas.{reverse_push}
 use Rattle.afr_volume.proofs.WholeTurn.{ended_le, none_due, not_killed, settled}
 
@@ -90,8 +97,8 @@ module _ (laws : RoundLaws) (p : Plan) (a : ActorId) (items : List Line) (actors
     pub own : is_of a.0 line ≡ true
     pub log : reverse added ≡ line ∷ reverse items
 
-  pub healed : (at : ℕ) (added : List Line) (new_healers : List Healer) (new_servers : List Serving) (line : Line) → is_done p a.0 (reverse items) ≡ false → due_of (record { plan = p; log = reverse items }) ≡ None → at ≡ length items
-      → StepsHealerAt a at readied new_healers servers new_servers line → added ≡ items ++ line ∷ [] → Healed added new_servers new_healers line
+  pub healed : (at : ℕ) (added : List Line) (new_healers : List Healer) (new_servers : List Serving) (line : Line) → is_done p a.0 (reverse items) ≡ false → due_at p (reverse items) ≡ None → at ≡ length items
+      → StepsHealerAt IsAnswered a at readied new_healers servers new_servers line → added ≡ items ++ line ∷ [] → Healed added new_servers new_healers line
   healed at added new_healers new_servers line left none position s grown = record {
     whole = rw (grown, reverse_push items line, s.set_is) kept;
     own = wrote_own a line (round_wrote laws p a (reverse items) servers new_servers actors readied made line s.before s.after ready_whole healer known some s.was (made_so s.before s.was) few stepped);
@@ -104,6 +111,33 @@ module _ (laws : RoundLaws) (p : Plan) (a : ActorId) (items : List Line) (actors
       kept : IsWhole p (line ∷ reverse items) new_servers actors (set readied (a.0 - 17) s.after) made
       kept = kept_round laws p a (reverse items) servers new_servers actors readied made line s.before s.after ready_whole healer known some s.was (made_so s.before s.was) few stepped actor (not_killed p a.0 (reverse items) left)
           (none_due p (reverse items) few none)
+
+  -- where the turn asks a rule, what that picked is kept
+  pub sources_kept : {F : Type 0} (calls : Calls F) (choose : F) → LineKeepsSource calls choose → (at : ℕ) (added : List Line) (new_healers : List Healer) (new_servers : List Serving) (line : Line) → at ≡ length items
+      → StepsHealerAt (IsFed calls choose) a at readied new_healers servers new_servers line → added ≡ items ++ line ∷ [] → AreChosen (picks_of calls choose) p (reverse items) (sources_of healers) → AreChosen (picks_of calls choose) p (reverse added) (sources_of new_healers)
+  sources_kept calls choose law at added new_healers new_servers line position s grown k =
+      rw (grown, reverse_push items line)
+      (healer_turn calls choose law p a (reverse items) servers new_servers readied new_healers s.before s.after line before s.was (mine s.before s.was) (made_so s.before s.was) stepped written s.set_is (rw (← readied_sources p a.0 healers readied r) at k))
+    where
+      stepped : Stepped (IsFed calls choose) a (length (reverse items)) s.before s.after servers new_servers line
+      stepped = subst (λ (at : ℕ). Stepped (IsFed calls choose) a at s.before s.after servers new_servers line) (position ∙ sym (length-reverse items)) s.steps
+
+      before : IsBeforeRound p a (reverse items) servers
+      before = before_round p a (reverse items) servers actors made w.kept healer known some few
+
+      written : IsWritten a line
+      written = (laws.keeps p a (reverse items) servers new_servers s.before s.after line before (mine s.before s.was) (made_so s.before s.was) (steps_answered calls choose a (length (reverse items)) s.before s.after servers new_servers line stepped)).written
+
+-- whatever the rule was, the line is one that a heal may write
+pub answered_at : {F : Type 0} (calls : Calls F) (choose : F) (a : ActorId) (at : ℕ) (old new : List Healer) (bricks after : List Serving) (line : Line) → StepsHealerAt (IsFed calls choose) a at old new bricks after line
+    → StepsHealerAt IsAnswered a at old new bricks after line
+answered_at calls choose a at old new bricks after line s = record {
+  before = s.before;
+  after = s.after;
+  was = s.was;
+  steps = steps_answered calls choose a at s.before s.after bricks after line s.steps;
+  set_is = s.set_is;
+}
 
 some_healer : (healers : List Healer) (i : ℕ) → i < length healers → (x : Healer) × (slice_get healers i ≡ Some x)
 some_healer [] i small = absurd (omega (arith, small))

@@ -27,6 +27,7 @@ use Rattle.afr_volume.specs.Keeping.{AreHealers, IsActing, IsVolume, IsWhole}
 use Rattle.afr_volume.specs.Laws.{EventLaws, RoundLaws}
 use Rattle.afr_volume.specs.Turning.{KillsHealersIn, ReadiedHealerAt}
 use Rattle.afr_volume.specs.declared.actor.Actor.{Actor}
+use Rattle.afr_volume.proofs.HealLockLemmas.{healer_gives}
 use Rattle.afr_volume.proofs.LineKeeps.{Asks, Ends, Heals, Parts, Wrote, other_ended, other_place, other_work, others_stay, wrote_due, wrote_killed, wrote_made, wrote_other}
 
 -- ---- one healer among all
@@ -154,6 +155,7 @@ module _ (laws : RoundLaws) (p : Plan) (a : ActorId) (log : List Line) (servers 
       lawful = round_keeps.lawful;
       replied = (round_keeps.replied, w.kept.replied);
       blamed = (round_keeps.blamed, w.kept.blamed);
+      gives = (healer_gives IsAnswered a (length log) x y servers new line log s, w.kept.gives);
     };
     healing = record {
       same = length-set healers (a.0 - 17) y ∙ w.healing.same;

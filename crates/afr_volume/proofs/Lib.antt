@@ -13,3 +13,5 @@ mod WriteKeeps
 mod HealersKeep
 mod HealerTurn
 mod HealerLemmas
+mod SourceLemmas
+mod HealLockLemmas

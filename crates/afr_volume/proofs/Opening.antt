@@ -33,6 +33,7 @@ fresh_volume laws p log servers actors run none opened idle = rw none (record {
   lawful = tt;
   replied = tt;
   blamed = tt;
+  gives = tt;
 })
 
 -- a healer that has begun nothing stands for no line

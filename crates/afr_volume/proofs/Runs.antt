@@ -1,4 +1,4 @@
--- A plan that is run so far is one that the volume can run.
+-- A plan that is like each that a text spells is one that the volume can run.
 use Rattle.std.proofs.Common.{◌≡◌, ◌∙◌, ◌⊎◌, ap, inl, inr, sym, None, Option, ℕ, ◌-◌, ◌<◌, ◌≤◌, true, List, [], refl, arith, subst, length, Some, slice_get, get_or}
 use Rattle.std.proofs.lemmas.List.Elements.{All-get_or}
 use Rattle.std.proofs.lemmas.Option.{get_or_from_slice_get, slice_get_cases, slice_get_within, unwrap_or-slice_get}
@@ -8,6 +8,7 @@ use Rattle.afr_lines.specs.declared.line.Event.{Event}
 use Rattle.afr_lines.specs.declared.line.Event.TheVariants.{Cut, Join, Kill, Start, Stop}
 use Rattle.afr_model.specs.Actors.{Client, Healer, IsActor, rounds_of, script_of}
 use Rattle.afr_base.specs.declared.ids.BrickId.{BrickId}
+use Rattle.afr_runnable.proofs.SpelledLemmas.{few_bricks, some_bricks}
 use Rattle.afr_runnable.specs.Runnable.{AreRunnableRounds, IsAboutVolume, IsOneOf, IsRunnable, IsRunnableScript, has_its_name}
 use Rattle.afr_plan.specs.declared.command.Command.{Command}
 use Rattle.afr_plan.specs.declared.command.Command.TheVariants as command
@@ -81,8 +82,8 @@ event_of p (Kill a) k = actor_of p a.0 k
 
 pub can_run : (p : Plan) → IsRunnable p → CanRun p
 can_run p k = record {
-  few = omega (arith, k.bricks);
-  some = λ h. omega (arith, k.bricks);
+  few = few_bricks p k;
+  some = λ h. some_bricks p k;
   turns = k.turns;
   clients = k.clients;
   healers = k.healers;

@@ -25,6 +25,7 @@ use Rattle.afr_volume.proofs.AskKeeps.{ask_keeps}
 use Rattle.afr_volume.proofs.Before.{IsBefore, can_ask, client_is}
 use Rattle.afr_volume.proofs.Before as known
 use Rattle.afr_volume.specs.Laws.{BeginLaws, Laws}
+use Rattle.afr_volume.proofs.HealLockLemmas.{client_gives}
 use Rattle.afr_volume.proofs.LineKeeps.{LineKeeps, others_stay, wrote_due, wrote_made}
 use Rattle.afr_volume.proofs.WriteKeeps.{begin_keeps, end_keeps}
 
@@ -99,6 +100,7 @@ kept_turn laws p a log x y servers new actors made line v client actor is busy a
   lawful = keeps.lawful;
   replied = (keeps.replied, v.replied);
   blamed = (keeps.blamed, v.blamed);
+  gives = (client_gives p a line log client keeps.wrote keeps.keeps keeps.replied, v.gives);
 }
   where
     before : IsBefore p a log servers
@@ -172,6 +174,7 @@ kept_ready laws p log servers actors new made a one some v r = record {
   lawful = v.lawful;
   replied = v.replied;
   blamed = v.blamed;
+  gives = v.gives;
 }
   where
     again : (a - 1) + 1 ≡ a

@@ -21,7 +21,8 @@ use Rattle.afr_model.specs.Following.{NoneDue}
 use Rattle.afr_volume.specs.Acting.{CanStep, Stepped}
 use Rattle.afr_volume.specs.Keeping.{AreHealers, Carries, IsActing, IsVolume, IsWhole}
 use Rattle.afr_volume.specs.Laws.{BeginLaws, Laws, RoundLaws}
-use Rattle.afr_volume.specs.Turning.{Turns, AddsLine, waits_for, Readies, ReadiedAt, StepsAt, due_of, if_due}
+use Rattle.afr_volume.specs.State.{State}
+use Rattle.afr_volume.specs.Turning.{Turns, AddsLine, waits_for, Readies, ReadiedAt, StepsAt, due_at, if_due}
 use Rattle.afr_volume.specs.declared.actor.Actor.{Actor}
 use Rattle.afr_volume.specs.declared.turned.Turned.{Turned}
 use Rattle.afr_volume.specs.declared.turned.Turned.TheVariants.{Moved, Waits}
@@ -48,7 +49,7 @@ work_left p a log small h =
     let m : nat_le (length (script_of p a)) (ended a log) ≡ false = rw works at k in
     grind (arith, nat_tests, m)
 
-pub none_due : (p : Plan) (log : List Line) → length log < p.turns → due_of (record { plan = p; log = log }) ≡ None → NoneDue p log
+pub none_due : (p : Plan) (log : List Line) → length log < p.turns → due_at p log ≡ None → NoneDue p log
 none_due p log room none x is =
     let open_log : nat_lt (length log) p.turns ≡ true = grind (arith, nat_tests, room) in
     let n : if_due (length log) (slice_get p.events (events_made log)) ≡ None = rw open_log at none in
@@ -126,7 +127,7 @@ module _ (laws : Laws) (starts : BeginLaws) (p : Plan) (a : ActorId) (items : Li
     healing = subst (λ (log : List Line). AreHealers p log new_servers healers) (sym t.log) (healers_stay rounds p a line (reverse items) servers new_servers healers client t.wrote t.stands t.found k);
   }
 
-  pub took : (at : ℕ) (added : List Line) (new_actors : List Actor) (new_servers : List Serving) (line : Line) → is_done p a.0 (reverse items) ≡ false → due_of (record { plan = p; log = reverse items }) ≡ None → at ≡ length items
+  pub took : (at : ℕ) (added : List Line) (new_actors : List Actor) (new_servers : List Serving) (line : Line) → is_done p a.0 (reverse items) ≡ false → due_at p (reverse items) ≡ None → at ≡ length items
       → StepsAt a at readied new_actors servers new_servers line → added ≡ items ++ line ∷ [] → Took added new_servers new_actors line
   took at added new_actors new_servers line left none position s grown = record {
     volume = rw (grown, reverse_push items line, s.set_is) kept;
@@ -148,17 +149,23 @@ module _ (laws : Laws) (starts : BeginLaws) (p : Plan) (a : ActorId) (items : Li
           (none_due p (reverse items) few none) stepped
 
 -- what a turn answers by the line that it added
-pub turned : (p : Plan) (a : ActorId) (items added : List Line) (line : Line) (waits : Option ActorId) (answer : Turned) → is_of a.0 line ≡ true → reverse added ≡ line ∷ reverse items → waits_for line ≡ waits
-    → ((owner : ActorId) → waits ≡ Some owner → answer ≡ Waits owner) → (waits ≡ None → answer ≡ Moved) → Turns a (record { plan = p; log = reverse items }) answer (record { plan = p; log = reverse added })
-turned p a items added line waits answer own grown w some none = go waits w some none
+pub turned : (p : Plan) (a : ActorId) (items added : List Line) (was is : List (Option ℕ)) (line : Line) (waits : Option ActorId) (answer : Turned) → is_of a.0 line ≡ true → reverse added ≡ line ∷ reverse items → waits_for line ≡ waits
+    → ((i : ℕ) → (17 + i ≡ a.0 → ⊥) → slice_get is i ≡ slice_get was i) → ((owner : ActorId) → waits ≡ Some owner → answer ≡ Waits owner) → (waits ≡ None → answer ≡ Moved)
+    → Turns a (record { plan = p; log = reverse items; sources = was }) answer (record { plan = p; log = reverse added; sources = is })
+turned p a items added was is line waits answer own grown w others some none = go waits w some none
   where
-    adds : (waits : Option ActorId) → waits_for line ≡ waits → AddsLine a (record { plan = p; log = reverse items }) waits (record { plan = p; log = reverse added })
-    adds waits w = record { line = line; own = own; waiting = w; added = ap (λ (log : List Line). record { plan = p; log = log }) grown }
+    old : State
+    old = record { plan = p; log = reverse items; sources = was }
 
-    go : (waits : Option ActorId) → waits_for line ≡ waits → ((owner : ActorId) → waits ≡ Some owner → answer ≡ Waits owner) → (waits ≡ None → answer ≡ Moved)
-        → Turns a (record { plan = p; log = reverse items }) answer (record { plan = p; log = reverse added })
-    go (Some owner) w some none = subst (λ (t : Turned). Turns a (record { plan = p; log = reverse items }) t (record { plan = p; log = reverse added })) (sym (some owner refl)) (adds (Some owner) w)
-    go None w some none = subst (λ (t : Turned). Turns a (record { plan = p; log = reverse items }) t (record { plan = p; log = reverse added })) (sym (none refl)) (adds None w)
+    new : State
+    new = record { plan = p; log = reverse added; sources = is }
+
+    adds : (waits : Option ActorId) → waits_for line ≡ waits → AddsLine a old waits new
+    adds waits w = record { line = line; own = own; waiting = w; plan = refl; added = grown; others = others }
+
+    go : (waits : Option ActorId) → waits_for line ≡ waits → ((owner : ActorId) → waits ≡ Some owner → answer ≡ Waits owner) → (waits ≡ None → answer ≡ Moved) → Turns a old answer new
+    go (Some owner) w some none = subst (λ (t : Turned). Turns a old t new) (sym (some owner refl)) (adds (Some owner) w)
+    go None w some none = subst (λ (t : Turned). Turns a old t new) (sym (none refl)) (adds None w)
 
 -- ---- an actor that has ended all its works has no present one
 with_command : (p : Plan) (a : ℕ) (log : List Line) (met : Bool) (epochs : Epochs) (servers : List Serving) (w : Work) → length (script_of p a) ≤ ended a log → Carries p a log met epochs servers w → work a log ≡ []

@@ -5,6 +5,7 @@ use Rattle.afr_base.specs.declared.ids.Shape.{Shape}
 use Rattle.afr_discipline.specs.Stands.{HasFive, no_lines}
 use Rattle.afr_discipline.specs.declared.register.Register.{Register}
 use Rattle.afr_law.specs.Exactly.{IsLawfulExactly}
+use Rattle.afr_lines.specs.Log.{EachLine}
 use Rattle.afr_lines.specs.Places.{Fresh, Within, place_of}
 use Rattle.afr_lines.specs.Work.{ended, events_made, is_killed, work}
 use Rattle.afr_lines.specs.declared.line.Event.{Event}
@@ -19,6 +20,7 @@ use Rattle.afr_model.specs.Blamed.{AreBlamed}
 use Rattle.afr_model.specs.Following.{Follows}
 use Rattle.afr_model.specs.Honest.{Honest}
 use Rattle.afr_model.specs.Replied.{Replied}
+use Rattle.afr_quiet_lists.specs.Listed.{GivesHealLock}
 use Rattle.afr_rounds.specs.Keeping.{IsHealer}
 use Rattle.afr_rounds.specs.declared.healer.Healer.{Healer}
 use Rattle.afr_server.specs.Serving.{Serving}
@@ -103,6 +105,7 @@ pub record IsVolume (p : Plan) (log : List Line) (servers : List Serving) (actor
   pub lawful : IsLawfulExactly p log
   pub replied : Replied p log
   pub blamed : AreBlamed p log
+  pub gives : EachLine GivesHealLock log
 
 -- healers are what their lines say
 pub record AreHealers (p : Plan) (log : List Line) (servers : List Serving) (healers : List Healer) : Type 0 where

@@ -15,8 +15,7 @@ use Rattle.afr_plan.specs.declared.plan.Plan.{Plan}
 use Rattle.afr_plan.specs.declared.schedule.PlannedEvent.{PlannedEvent}
 use Rattle.afr_server.specs.Serving.{Serving}
 use Rattle.afr_plan.specs.declared.command.Command.{Command}
-use Rattle.afr_model.specs.State.{State}
-use Rattle.afr_healer.specs.Rounding.{IsAnswered}
+use Rattle.afr_volume.specs.State.{State}
 use Rattle.afr_model.specs.Actors.{is_done, rounds_of, script_of}
 use Rattle.afr_rounds.specs.Acting as rounds
 use Rattle.afr_rounds.specs.declared.healer.Healer.{Healer}
@@ -33,12 +32,14 @@ abbrev pub waits_for : Line → Option ActorId
 waits_for (Ask actor brick (Lock Work area) (Held owner) took) = Some owner
 waits_for line = None
 
--- one line of the actor was added
+-- one line of the actor was added, and the running heals of others have the sources that they had
 pub record AddsLine (a : ActorId) (old : State) (waits : Option ActorId) (new : State) : Type 0 where
   pub line : Line
   pub own : is_of a.0 line ≡ true
   pub waiting : waits_for line ≡ waits
-  pub added : new ≡ record old { log = line ∷ old.log }
+  pub plan : new.plan ≡ old.plan
+  pub added : new.log ≡ line ∷ old.log
+  pub others : (i : ℕ) → (17 + i ≡ a.0 → ⊥) → slice_get new.sources i ≡ slice_get old.sources i
 
 -- what each answer of a turn says
 abbrev pub Turns : ActorId → State → Turned → State → Type 0
@@ -53,8 +54,11 @@ if_due len None = None
 if_due len (Some planned) = if nat_le planned.at len then Some planned.event else None
 
 -- the next event of the plan, where it is due and the log has room
+abbrev pub due_at : Plan → List Line → Option Event
+due_at p log = if nat_lt (length log) p.turns then if_due (length log) (slice_get p.events (events_made log)) else None
+
 abbrev pub due_of : State → Option Event
-due_of s = if nat_lt (length s.log) s.plan.turns then if_due (length s.log) (slice_get s.plan.events (events_made s.log)) else None
+due_of s = due_at s.plan s.log
 
 -- the event that was due has come
 pub record Comes (old new : State) : Type 0 where
@@ -97,11 +101,11 @@ pub record ReadiedHealerAt (p : Plan) (a : ℕ) (old new : List Healer) : Type 0
   pub set_is : new ≡ slice_set old (a - 17) after
 
 -- one line of one healer among all, whose round has begun
-pub record StepsHealerAt (a : ActorId) (at : ℕ) (old new : List Healer) (bricks after_bricks : List Serving) (written : Line) : Type 0 where
+pub record StepsHealerAt (Hears : rounds.Hearing) (a : ActorId) (at : ℕ) (old new : List Healer) (bricks after_bricks : List Serving) (written : Line) : Type 0 where
   pub before : Healer
   pub after : Healer
   pub was : slice_get old (a.0 - 17) ≡ Some before
-  pub steps : rounds.Stepped IsAnswered a at before after bricks after_bricks written
+  pub steps : rounds.Stepped Hears a at before after bricks after_bricks written
   pub set_is : new ≡ slice_set old (a.0 - 17) after
 
 -- an event that kills an actor names one that is there: a client up to number 16, and a healer above

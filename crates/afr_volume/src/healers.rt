@@ -1,9 +1,11 @@
 //! One healer among all takes a turn.
 ghost use Rattle.std.specs.Prelude.{◌≡◌, ◌-◌, ◌<◌, ◌≤◌, ◌^◌, ℕ, OnOk, OnErr, IfOk, Some, true, is_some, length, slice_get, vec_len, vec_capacity};
 ghost use Rattle.afr_base.specs.declared.ids.BrickId.{BrickId};
+ghost use Rattle.afr_healer.specs.Rounding.{IsFed};
 ghost use Rattle.afr_model.specs.Actors.{rounds_of};
 ghost use Rattle.afr_rounds.specs.Acting.{Adds, CanStep};
 ghost use Rattle.afr_rounds.specs.declared.healer.Healer.{Healer};
+ghost use Rattle.afr_rule.specs.Choosing.{IsRule};
 ghost use Rattle.afr_volume.specs.Starting.{AreNewHealers};
 ghost use Rattle.afr_volume.specs.Turning.{HasHealer, KillsHealersIn, ReadiedHealerAt, StepsHealerAt};
 
@@ -11,7 +13,7 @@ use afr_base::{ActorId, NoMemory};
 use afr_lines::{Event, Line};
 use afr_plan::Plan;
 use afr_rounds::{Healer, ready_round, step_round};
-use afr_rule::{SourceRule, shipped};
+use afr_rule::{Candidate, SourceRule};
 use afr_servers::Servers;
 use std::alloc::Global;
 
@@ -49,25 +51,27 @@ pub(crate) fn ready_healer(
     Ok(())
 }
 
-/// One line of a healer whose round has begun. The source of its heals is the longest good copy.
-pub(crate) fn step_healer(
+/// One line of a healer whose round has begun. The source of its heals is the one that the rule
+/// chooses.
+pub(crate) fn step_healer<F: Fn(&[Candidate]) -> usize>(
     a: ActorId,
     healers: &mut Vec<Healer>,
     servers: &mut Servers,
     position: u32,
     log: &mut Vec<Line>,
+    rule: &SourceRule<F>,
 ) -> Result<(), NoMemory>
+    requires rule { IsRule F.Fn rule.now }
     requires low { 17 ≤ a.0 }
     requires within { a.0 - 17 < length healers.old.items }
     requires busy { (x : Healer) → slice_get healers.old.items (a.0 - 17) ≡ Some x → (is_some x.round ≡ true) × (x.ended < 2 ^ 32 - 1) }
     requires can { (x : Healer) → slice_get healers.old.items (a.0 - 17) ≡ Some x → CanStep a position x servers.old }
     requires space { vec_len log.old < vec_capacity log.old }
-    ensures ok { OnOk result (Adds (λ line. StepsHealerAt a position healers.old.items healers.new.items servers.old servers.new line) log.old.items log.new.items) }
+    ensures ok { OnOk result (Adds (λ line. StepsHealerAt (IsFed F.Fn rule.now) a position healers.old.items healers.new.items servers.old servers.new line) log.old.items log.new.items) }
     ensures err { OnErr result ((healers.new.items ≡ healers.old.items) × (servers.new ≡ servers.old) × (log.new.items ≡ log.old.items)) }
 {
-    let rule = SourceRule::new(shipped::longest);
     let healer = &mut healers[a.0 as usize - 17];
-    step_round(healer, a, servers, position, log, &rule)?;
+    step_round(healer, a, servers, position, log, rule)?;
     Ok(())
 }
 

@@ -15,10 +15,14 @@ ghost use Rattle.afr_model.specs.Honest.{Honest};
 ghost use Rattle.afr_model.specs.Replied.{Replied};
 ghost use Rattle.afr_model.specs.Report.{started_bricks};
 ghost use Rattle.afr_model.specs.Safe.{AreFresh, IsAlwaysSafe};
-ghost use Rattle.afr_model.specs.State.{no_plan, no_volume};
+ghost use Rattle.afr_model.specs.State.{no_plan};
 ghost use Rattle.afr_model.specs.Sums.{AreSums};
 ghost use Rattle.afr_model.specs.Tables.{holds, keeps_bytes};
+ghost use Rattle.afr_quiet.specs.Undisturbed.{AreQuietWhole};
+ghost use Rattle.afr_rule.specs.Choosing.{IsRule};
 ghost use Rattle.afr_server.specs.Serving.{Serving};
+ghost use Rattle.afr_sources.specs.Sources.{picks_of};
+ghost use Rattle.afr_volume.specs.State.{IsChosen, no_volume, opened};
 ghost use Rattle.afr_volume.specs.Turning.{Comes, Turns, due_of, if_due};
 
 use crate::actor::{Actor, add_line};
@@ -35,14 +39,18 @@ use afr_law::{
 use afr_lines::{Event, Line};
 use afr_object::List;
 use afr_plan::{Plan, Words};
+use afr_quiet_rounds::quiet_rounds_are_whole;
 use afr_ranges::fits_its_types;
 use afr_rounds::Healer;
+use afr_rule::{Candidate, SourceRule};
 use afr_server::Server;
 use afr_servers::Servers;
+use afr_sources::a_line_keeps_its_source;
 use std::alloc::Global;
 use std::marker::Model;
 
-/// A plan on its way. Contracts see the plan and the log.
+/// A plan on its way. Contracts see the plan, the log, and the source that the running heal of
+/// each healer has chosen.
 #[derive(Drop)]
 pub struct Volume {
     alloc: Global,
@@ -57,12 +65,13 @@ pub struct Volume {
 
 impl Model for Volume {
     ghost use Rattle.std.specs.Prelude.{reverse};
-    ghost use Rattle.afr_model.specs.State.{State};
+    ghost use Rattle.afr_sources.specs.Sources.{sources_of};
     ghost use Rattle.afr_volume.specs.Keeping.{IsWhole};
+    ghost use Rattle.afr_volume.specs.State.{State};
 
     ghost Value = { State };
 
-    ghost view = { λ v. record { plan = v.plan; log = reverse v.log.items } };
+    ghost view = { λ v. record { plan = v.plan; log = reverse v.log.items; sources = sources_of v.healers.items } };
 
     ghost invariant = { λ v. IsWhole v.plan (reverse v.log.items) v.servers v.actors.items v.healers.items v.made };
 }
@@ -86,7 +95,7 @@ impl Volume {
     /// Takes a plan over. The bricks have its opening files, and no actor has begun.
     pub fn set_up(&mut self, plan: Plan) -> Result<(), NoMemory>
         requires runs { IsRunnable plan }
-        ensures ok { OnOk result (self.new ≡ record { plan = plan; log = [] }) }
+        ensures ok { OnOk result (self.new ≡ opened plan) }
         ensures err { OnErr result (self.new ≡ self.old) }
     {
         laws();
@@ -107,8 +116,13 @@ impl Volume {
 
     /// One line of the actor, where it has work left and the log has room. It takes its memory
     /// before anything changes, in O(log n) for n objects and names of the bricks, and the bytes
-    /// that the line moves; it never walks the log.
-    pub fn turn(&mut self, a: ActorId) -> Result<Turned, NoMemory>
+    /// that the line moves; it never walks the log. A heal that chooses its source asks the rule.
+    pub fn turn<F: Fn(&[Candidate]) -> usize>(
+        &mut self,
+        a: ActorId,
+        rule: &SourceRule<F>,
+    ) -> Result<Turned, NoMemory>
+        requires rule { IsRule F.Fn rule.now }
         requires actor { IsActor self.old.plan a.0 }
         requires none { due_of self.old ≡ None }
         ensures ok { IfOk result (λ turned. Turns a self.old turned self.new) }
@@ -122,17 +136,25 @@ impl Volume {
         ensures fresh { AreFresh self.new.plan self.new.log }
         ensures causes { EveryPrefix (HaveCauses self.new.plan) self.new.log }
         ensures alike { EveryPrefix (AreAlike self.new.plan) self.new.log }
+        ensures quiet { AreQuietWhole self.new.plan self.new.log }
+        ensures chosen { IsChosen (picks_of F.Fn rule.now) self.old → IsChosen (picks_of F.Fn rule.now) self.new }
     {
-        let turned = self.take_turn(a);
+        let turned = self.take_turn(a, rule);
         self.every_line();
         turned
     }
 
-    fn take_turn(&mut self, a: ActorId) -> Result<Turned, NoMemory>
+    fn take_turn<F: Fn(&[Candidate]) -> usize>(
+        &mut self,
+        a: ActorId,
+        rule: &SourceRule<F>,
+    ) -> Result<Turned, NoMemory>
+        requires rule { IsRule F.Fn rule.now }
         requires actor { IsActor self.old.plan a.0 }
         requires none { due_of self.old ≡ None }
         ensures ok { IfOk result (λ turned. Turns a self.old turned self.new) }
         ensures err { OnErr result (self.new ≡ self.old) }
+        ensures chosen { 17 ≤ a.0 → IsChosen (picks_of F.Fn rule.now) self.old → IsChosen (picks_of F.Fn rule.now) self.new }
     {
         if self.is_done(a) {
             return Ok(Turned::Ended);
@@ -143,7 +165,7 @@ impl Volume {
         if a.0 <= 16 {
             self.client_turn(a)
         } else {
-            self.healer_turn(a)
+            self.healer_turn(a, rule)
         }
     }
 
@@ -173,7 +195,12 @@ impl Volume {
     }
 
     /// One line of a healer that has a round left.
-    fn healer_turn(&mut self, a: ActorId) -> Result<Turned, NoMemory>
+    fn healer_turn<F: Fn(&[Candidate]) -> usize>(
+        &mut self,
+        a: ActorId,
+        rule: &SourceRule<F>,
+    ) -> Result<Turned, NoMemory>
+        requires rule { IsRule F.Fn rule.now }
         requires actor { IsActor self.old.plan a.0 }
         requires healer { 17 ≤ a.0 }
         requires left { is_done self.old.plan a.0 self.old.log ≡ false }
@@ -181,10 +208,12 @@ impl Volume {
         requires none { due_of self.old ≡ None }
         ensures ok { IfOk result (λ turned. Turns a self.old turned self.new) }
         ensures err { OnErr result (self.new ≡ self.old) }
+        ensures chosen { IsChosen (picks_of F.Fn rule.now) self.old → IsChosen (picks_of F.Fn rule.now) self.new }
     {
         laws();
         let position = self.log.len() as u32;
         self.log.try_reserve(1)?;
+        a_line_keeps_its_source(rule);
         ready_healer(self.alloc, &self.plan, a, &mut self.healers)?;
         step_healer(
             a,
@@ -192,6 +221,7 @@ impl Volume {
             &mut self.servers,
             position,
             &mut self.log,
+            rule,
         )?;
         let waits = turned_by(&self.log[position as usize]);
         Ok(answer_of(waits))
@@ -300,12 +330,14 @@ impl Volume {
         ensures fresh { AreFresh self.now.plan self.now.log }
         ensures causes { EveryPrefix (HaveCauses self.now.plan) self.now.log }
         ensures alike { EveryPrefix (AreAlike self.now.plan) self.now.log }
+        ensures quiet { AreQuietWhole self.now.plan self.now.log }
         ensures room { length self.now.log ≤ self.now.plan.turns }
         ensures few { self.now.plan.shape.n ≤ 5 }
         ensures clients { length self.now.plan.clients ≤ 16 }
         ensures healers { length self.now.plan.healers ≤ 3 }
         ensures orders { (i : ℕ) (go : Go) → slice_get self.now.plan.go i ≡ Some go → IsActor self.now.plan go.actor.0 }
         ensures settled { (a : ℕ) → IsActor self.now.plan a → is_done self.now.plan a self.now.log ≡ true → is_killed a self.now.log ≡ false → work a self.now.log ≡ [] }
+        ensures resting { self.now.log ≡ [] → self.now ≡ opened self.now.plan }
     {
         let _ = &self.log;
         laws();
@@ -314,6 +346,7 @@ impl Volume {
         reads_are_fresh();
         accusations_have_causes();
         lawful_lines_fit();
+        quiet_rounds_are_whole();
     }
 }
 

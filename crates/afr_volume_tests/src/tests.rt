@@ -4,7 +4,8 @@ ghost use Rattle.std.specs.Prelude.{◌<◌};
 use afr_base::ActorId;
 use afr_lines::{Line, Request};
 use afr_plan_read::read_plan;
-use afr_runnable::is_runnable_yet;
+use afr_rule::{SourceRule, shipped};
+use afr_runnable::every_spelled_plan_runs;
 use afr_volume::{Turned, Volume};
 use std::alloc::Global;
 use std::test::Fail;
@@ -51,9 +52,7 @@ fn set_up(alloc: Global, volume: &mut Volume, plan: &str) -> Result<(), Fail> {
     let Ok(plan) = read_plan(alloc, plan.as_bytes()) else {
         return Err(Fail::from("refused"));
     };
-    if !is_runnable_yet(&plan) {
-        return Err(Fail::from("ahead"));
-    }
+    every_spelled_plan_runs();
     let Ok(()) = volume.set_up(plan) else {
         return Err(Fail::from("memory"));
     };
@@ -65,10 +64,11 @@ fn takes_a_turn(volume: &mut Volume, position: u32, text: &mut String) -> Result
     requires { position < 33 }
 {
     let client = ActorId(1);
+    let rule = SourceRule::new(shipped::longest);
     if volume.plan().clients.len() != 1 || volume.due().is_some() || volume.is_done(client) {
         return Err(Fail::from("before"));
     }
-    if !matches!(volume.turn(client), Ok(Turned::Moved)) || volume.len() != position + 1 {
+    if !matches!(volume.turn(client, &rule), Ok(Turned::Moved)) || volume.len() != position + 1 {
         return Err(Fail::from("turn"));
     }
     write_line(text, volume.line(position))
@@ -109,10 +109,11 @@ fn heals_a_turn(volume: &mut Volume, position: u32, text: &mut String) -> Result
     requires { position < 2 }
 {
     let healer = ActorId(17);
+    let rule = SourceRule::new(shipped::longest);
     if volume.plan().healers.len() != 1 || volume.due().is_some() || volume.is_done(healer) {
         return Err(Fail::from("before"));
     }
-    if !matches!(volume.turn(healer), Ok(Turned::Moved)) || volume.len() != position + 1 {
+    if !matches!(volume.turn(healer, &rule), Ok(Turned::Moved)) || volume.len() != position + 1 {
         return Err(Fail::from("turn"));
     }
     write_line(text, volume.line(position))

@@ -1,9 +1,9 @@
 -- What the answers of a parse say of the words.
 use Rattle.std.proofs.Common.{◌≡◌, ℕ, ◌<◌, List, [], ◌∷◌, Bool, true, false, IsTrue, Option, Some, None, codes, refl, inl, inr, arith}
-use Rattle.std.specs.Prelude.{Box, IfSome, String, map, option_map, slice_get, slice_index, string_bytes}
+use Rattle.std.specs.Prelude.{decimal, zero, suc, Box, IfSome, IsSomeAnd, String, map, option_map, slice_get, slice_index, string_bytes}
 use Rattle.std.specs.Box.{box_value}
 use Rattle.std.specs.Global.{Global}
-use Rattle.std.specs.List.{slice_index_or}
+use Rattle.std.specs.List.{Any}
 use Rattle.clap.specs.Faults.{fault_of, is_simple_and_free}
 use Rattle.clap.specs.Matches.{subcommand_name_of}
 use Rattle.clap.specs.Simple.{App, HasMatchesOf, subcommand_of, subcommand_rows, subcommand_rows_of}
@@ -14,43 +14,60 @@ use Rattle.clap.specs.declared.error.kind.ErrorKind.TheVariants as error
 use Rattle.clap.specs.declared.parser.matches.ArgMatches.{ArgMatches}
 use Rattle.clap.specs.declared.parser.matches.ArgMatches.TheViews.{out-ArgMatches, out-SubCommand}
 use Rattle.clap.specs.declared.parser.matches.SubCommand.{SubCommand}
-use Rattle.afr_words.specs.Forms.{AreForm, AreRefused, AskFor, IsDashed, word_of}
+use Rattle.afr_words.specs.Forms.{AreForm, AreRefused, AreWordsOf, AskFor, IsDashed}
 use Rattle.afr_words.specs.Reading.{whole_program}
 use Rattle.afr_words.specs.declared.form.Form.{Form}
 use Rattle.afr_words.specs.declared.form.Form.TheVariants as kind
-use Rattle.afr_words.proofs.ReadingLemmas.{form_is_named, form_is_taken, taken_is_form}
+use Rattle.afr_words.proofs.LoadLemmas.{decimal_begins}
+use Rattle.afr_words.proofs.ReadingLemmas.{form_is_taken, taken_is_word, text_of, word_is_named}
 
--- no form's word begins as `help` or `-` do
-first_letter : (form : Form) (text : List ℕ) → word_of form ≡ text → 104 < slice_index text 0
-first_letter kind.Run text e = rw (← e) (search arith)
-first_letter kind.Trace text e = rw (← e) (search arith)
-first_letter kind.Info text e = rw (← e) (search arith)
+-- each text begins above `-`
+abbrev BeginAbove : List (List ℕ) → Type 0
+BeginAbove [] = Unit
+BeginAbove (text ∷ texts) = (45 < slice_index text 0) × BeginAbove texts
+
+-- texts that are refused neither as none, nor for `help`, nor for a `-`
+record ArePlain (texts : List (List ℕ)) : Type 0 where
+  some : texts ≡ [] → ⊥
+  first : slice_get texts 0 ≡ Some (codes "help") → ⊥
+  above : BeginAbove texts
+
+-- the first letter tells it of the first text
+plain_from_letter : (text : List ℕ) (rest : List (List ℕ)) → 45 < slice_index text 0 → (slice_index text 0 ≡ 104 → ⊥) → BeginAbove rest → ArePlain (text ∷ rest)
+plain_from_letter text rest low letter above = record { some = λ e. cc; first = λ e. (let same : text ≡ codes "help" = cc in letter (rw same refl)); above = (low, above) }
+
+-- the words of each form are plain
+form_is_plain : (form : Form) (texts : List (List ℕ)) → AreWordsOf form texts → ArePlain texts
+form_is_plain kind.Run texts are = rw are (plain_from_letter (codes "run") [] (omega arith) (λ e. omega (arith, e)) tt)
+form_is_plain kind.Trace texts are = rw are (plain_from_letter (codes "trace") [] (omega arith) (λ e. omega (arith, e)) tt)
+form_is_plain kind.Info texts are = rw are (plain_from_letter (codes "info") [] (omega arith) (λ e. omega (arith, e)) tt)
+form_is_plain (kind.Gen n) texts (are, low, high) =
+    let digits : 48 < slice_index (decimal n) 0 = decimal_begins (decimal n) n refl low high in
+    rw are (plain_from_letter (codes "gen") (decimal n ∷ []) (omega arith) (λ e. omega (arith, e)) (omega (arith, digits), tt))
 
 dashed_letter : (text : List ℕ) → slice_get text 0 ≡ Some 45 → slice_index text 0 ≡ 45
 dashed_letter [] d = cc
 dashed_letter (x ∷ xs) d = cc
 
+undashed : (words : List (String Global)) → BeginAbove (map string_bytes words) → Any IsDashed words → ⊥
+undashed [] above (k, x, lt, at, d) = omega arith
+undashed (w ∷ words) above (zero, x, lt, at, d) = let is : IsDashed w = rw at d in omega (arith, above.0, dashed_letter _ is)
+undashed (w ∷ words) above (suc k, x, lt, at, d) = undashed words above.1 (k, x, omega arith, at, d)
+
 -- words that are refused at sight ask for no form
 pub refused_is_no_form : (words : List (String Global)) → AreRefused words → AreForm words → ⊥
-refused_is_no_form [] refused (form, asked) = cc
-refused_is_no_form (w ∷ u ∷ words) refused (form, asked) = cc
-refused_is_no_form (w ∷ []) (inl none) (form, asked) = cc
-refused_is_no_form (w ∷ []) (inr (inl help)) (form, asked) =
-    let named : word_of form ≡ codes "help" = cc in
-    omega (arith, first_letter form _ named)
-refused_is_no_form (w ∷ []) (inr (inr dashed)) (form, asked) =
-    let named : word_of form ≡ string_bytes w = cc in
-    let at : slice_index_or (w ∷ []) dashed.0 dashed.1 ≡ w = rw (zero dashed.0 dashed.2) refl in
-    let is : IsDashed w = rw (← at) (rw dashed.3 dashed.4) in
-    omega (arith, first_letter form _ named, dashed_letter _ is)
+refused_is_no_form words refused (form, asked) = go words refused (form_is_plain form (map string_bytes words) asked)
   where
-    zero : (k : ℕ) → k < 1 → k ≡ 0
-    zero k lt = omega arith
+    go : (words : List (String Global)) → AreRefused words → ArePlain (map string_bytes words) → ⊥
+    go words (inr (inr dashed)) plain = undashed words plain.above dashed
+    go [] refused plain = plain.some refl
+    go (w ∷ words) (inl none) plain = cc
+    go (w ∷ words) (inr (inl help)) plain = plain.first help
 
--- an error that isn't for want of memory says that the words ask for no form
+-- an error that isn't for want of memory says that the words ask for no form, where they ask for no generated load
 pub failed_is_no_form : (app : App) (words : List (String Global)) (why : ErrorKind) → app ≡ whole_program
-    → (takes app (map string_bytes words) ≡ true → why ≡ error.OutOfMemory) → (why ≡ error.OutOfMemory → ⊥) → AreForm words → ⊥
-failed_is_no_form app words why is passes other (form, asked) = other (passes (rw (is, asked) (form_is_taken form)))
+    → (takes app (map string_bytes words) ≡ true → why ≡ error.OutOfMemory) → (why ≡ error.OutOfMemory → ⊥) → ((n : ℕ) → AskFor words (kind.Gen n) → ⊥) → AreForm words → ⊥
+failed_is_no_form app words why is passes other none (form, asked) = other (passes (rw is (form_is_taken form (map string_bytes words) none asked)))
 
 -- a test that said no is of what doesn't hold
 pub untold : {P : Type 0} (told : Bool) → (P → IsTrue told) → told ≡ false → P → ⊥
@@ -64,26 +81,27 @@ name_of_row m row name is named = go (out-ArgMatches m).subcommand is
     go None e = rw (← e) at named
     go (Some b) e = rw (← e) at named
 
--- the words ask for the form whose subcommand they named
+-- the words are the one that names the subcommand
 abbrev pub Names : List (String Global) → ArgMatches → Type 0
-Names words m = (form : Form) × AskFor words form × (subcommand_name_of m ≡ Some (word_of form))
+Names words m = (name : List ℕ) × (map string_bytes words ≡ name ∷ []) × (subcommand_name_of m ≡ Some name)
 
--- words that were parsed ask for such a form
+-- words that were parsed are such a word
 pub parsed_names : (app : App) (words : List (String Global)) (m : ArgMatches) → app ≡ whole_program → (AreRefused words → ⊥)
     → (is_simple_and_free app ≡ true → fault_of app (map string_bytes words) ≡ []) → HasMatchesOf app (map string_bytes words) m → Names words m
 parsed_names app words m is plain kinds matches =
-    let met = taken_is_form words (λ d. plain (inr (inr d))) (rw is at (kinds (rw is refl))) in
-    let rows : subcommand_rows_of m ≡ subcommand_of whole_program (word_of met.0 ∷ []) = rw (is, met.1) at (matches (rw is refl)).1 in
-    (met.0, met.1, name_of_row m (subcommand_of whole_program (word_of met.0 ∷ [])) (word_of met.0) rows (form_is_named met.0))
+    let (word, one) = taken_is_word words (λ d. plain (inr (inr d))) (rw is at (kinds (rw is refl))) in
+    let rows : subcommand_rows_of m ≡ subcommand_of whole_program (text_of word ∷ []) = rw (is, one) at (matches (rw is refl)).1 in
+    (text_of word, one, name_of_row m (subcommand_of whole_program (text_of word ∷ [])) (text_of word) rows (word_is_named word))
 
 -- the form of that name is what they ask for
 pub named_is_form : (words : List (String Global)) (m : ArgMatches) (met : Option Form) → Names words m
-    → IfSome met (λ form. subcommand_name_of m ≡ Some (word_of form)) → (form : Form) → met ≡ Some form → AskFor words form
-named_is_form words m met (asked, is, named) some form e =
-    let here : subcommand_name_of m ≡ Some (word_of form) = rw e at some in
-    let same : word_of asked ≡ word_of form = cc in rw (← same) is
+    → IfSome met (λ form. IsSomeAnd (subcommand_name_of m) (λ name. AreWordsOf form (name ∷ []))) → (form : Form) → met ≡ Some form → AskFor words form
+named_is_form words m met (name, one, named) some form e =
+    let here : IsSomeAnd (subcommand_name_of m) (λ name. AreWordsOf form (name ∷ [])) = rw e at some in
+    let are : AreWordsOf form (name ∷ []) = rw named at here in rw one are
 
--- and there is one
-pub name_is_met : {A : Type 0} (words : List (String Global)) (m : ArgMatches) → Names words m
-    → ((form : Form) → subcommand_name_of m ≡ Some (word_of form) → ⊥) → A
-name_is_met words m (form, is, named) none = absurd (none form named)
+-- and where no form has that name, they ask for none
+pub unnamed_is_no_form : (words : List (String Global)) (m : ArgMatches) → Names words m
+    → IfSome (subcommand_name_of m) (λ name. (form : Form) → AreWordsOf form (name ∷ []) → ⊥) → AreForm words → ⊥
+unnamed_is_no_form words m (name, one, named) none (form, asked) =
+    let unnamed : (form : Form) → AreWordsOf form (name ∷ []) → ⊥ = rw named at none in unnamed form (rw one at asked)

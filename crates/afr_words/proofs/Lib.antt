@@ -1,4 +1,5 @@
 -- Lemmas of this crate.
 pub mod FormLemmas
+pub mod LoadLemmas
 pub mod ReadingLemmas
 pub mod RefusedLemmas

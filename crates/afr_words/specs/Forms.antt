@@ -1,19 +1,20 @@
 -- The forms of the program's words, and the words that are none of them at sight.
-use Rattle.std.specs.Prelude.{◌≡◌, ◌⊎◌, ℕ, List, [], ◌∷◌, Some, String, codes, map, option_map, slice_get, string_bytes}
+use Rattle.std.specs.Prelude.{◌≡◌, ◌≤◌, ◌⊎◌, ℕ, List, [], ◌∷◌, Some, String, codes, decimal, map, option_map, slice_get, string_bytes}
 use Rattle.std.specs.Global.{Global}
 use Rattle.std.specs.List.{Any}
 use Rattle.afr_words.specs.declared.form.Form.{Form}
 use Rattle.afr_words.specs.declared.form.Form.TheVariants as kind
 
--- the word that asks for a form
-abbrev pub word_of : Form → List ℕ
-word_of kind.Run = codes "run"
-word_of kind.Trace = codes "trace"
-word_of kind.Info = codes "info"
+-- the texts are the words of this form: one word and no more, or `gen` and the decimal digits of its number, from 1 to 2,000
+abbrev pub AreWordsOf : Form → List (List ℕ) → Type 0
+AreWordsOf kind.Run texts = texts ≡ codes "run" ∷ []
+AreWordsOf kind.Trace texts = texts ≡ codes "trace" ∷ []
+AreWordsOf kind.Info texts = texts ≡ codes "info" ∷ []
+AreWordsOf (kind.Gen n) texts = (texts ≡ codes "gen" ∷ decimal n ∷ []) × (1 ≤ n) × (n ≤ 2000)
 
--- the words are the one that asks for this form, and no more
+-- the words ask for this form
 abbrev pub AskFor : List (String Global) → Form → Type 0
-AskFor words form = map string_bytes words ≡ word_of form ∷ []
+AskFor words form = AreWordsOf form (map string_bytes words)
 
 -- the words ask for one of the forms
 abbrev pub AreForm : List (String Global) → Type 0

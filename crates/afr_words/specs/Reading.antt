@@ -1,9 +1,7 @@
--- What a parse knows of the program: one level of subcommands, one for each form, and no other words.
+-- What a parse knows of the program: one level of subcommands, one for each form that is a single word, and no other words.
 use Rattle.std.specs.Prelude.{true, codes}
 use Rattle.clap.specs.Simple.{App, new_app, new_shape, with_subcommand}
-use Rattle.afr_words.specs.Forms.{word_of}
-use Rattle.afr_words.specs.declared.form.Form.{Form}
-use Rattle.afr_words.specs.declared.form.Form.TheVariants as kind
+use Rattle.clap.specs.Walk.{Text}
 
 -- the program without its forms: its own name is no word, a form is wanted, and there is no help
 abbrev pub bare_program : App
@@ -16,10 +14,10 @@ bare_program = record (new_app (codes "afr")) {
   };
 }
 
--- the program with one more form
-abbrev pub with_form : App → Form → App
-with_form program form = with_subcommand program (new_shape (word_of form))
+-- the program with one more word that is a form
+abbrev pub with_word : App → Text → App
+with_word program word = with_subcommand program (new_shape word)
 
--- the program with its forms
+-- the program with the words of its forms
 abbrev pub whole_program : App
-whole_program = with_form (with_form (with_form bare_program kind.Run) kind.Trace) kind.Info
+whole_program = with_word (with_word (with_word bare_program (codes "run")) (codes "trace")) (codes "info")

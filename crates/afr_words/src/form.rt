@@ -1,19 +1,21 @@
 //! The forms of the program's words.
-ghost use Rattle.std.specs.Prelude.{◌≡◌, IfSome, None};
-ghost use Rattle.afr_words.specs.Forms.{word_of};
+ghost use Rattle.std.specs.Prelude.{◌≡◌, ◌∷◌, [], IfSome, None};
+ghost use Rattle.afr_words.specs.Forms.{AreWordsOf};
 
-/// What is written of a plan that was run: its report, its log, or what needs heal.
+/// What is written: of a plan that was run its report, its log, or what needs heal; or the summary of the generated
+/// load of this number.
 #[derive(Clone, Copy, Debug, PartialEq, Eq)]
 pub enum Form {
     Run,
     Trace,
     Info,
+    Gen(u32),
 }
 
-/// The form that a word asks for.
+/// The form that a word alone asks for.
 pub(crate) fn form_named(word: &str) -> Option<Form>
-    ensures some { IfSome result (λ form. word.now ≡ word_of form) }
-    ensures none { result ≡ None → (form : Form) → word.now ≡ word_of form → ⊥ }
+    ensures some { IfSome result (λ form. AreWordsOf form (word.now ∷ [])) }
+    ensures none { result ≡ None → (form : Form) → AreWordsOf form (word.now ∷ []) → ⊥ }
 {
     match word {
         "run" => Some(Form::Run),

@@ -2,6 +2,7 @@
 #![tactic(auto)]
 
 mod form;
+mod load;
 mod reading;
 mod refused;
 

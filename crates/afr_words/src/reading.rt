@@ -1,11 +1,12 @@
-//! The words as `clap` reads them: a command with one level of subcommands.
-ghost use Rattle.std.specs.Prelude.{◌≡◌, IfOk, IfSome, None, Ok, Some};
+//! The words as `clap` reads them: a command with one level of subcommands. Those with a number are read before.
+ghost use Rattle.std.specs.Prelude.{◌≡◌, ◌∷◌, [], IfOk, IfSome, IsSomeAnd, None, Ok, Some};
 ghost use Rattle.clap.specs.Matches.{subcommand_name_of};
 ghost use Rattle.clap.specs.Simple.{app_of};
-ghost use Rattle.afr_words.specs.Forms.{AreForm, AreRefused, AskFor, word_of};
-ghost use Rattle.afr_words.specs.Reading.{bare_program, whole_program, with_form};
+ghost use Rattle.afr_words.specs.Forms.{AreForm, AreRefused, AreWordsOf, AskFor};
+ghost use Rattle.afr_words.specs.Reading.{bare_program, whole_program};
 
 use crate::form::{Form, form_named};
+use crate::load::load_asked;
 use crate::refused::are_refused;
 use afr_base::NoMemory;
 use clap::error::ErrorKind;
@@ -21,6 +22,9 @@ pub fn form_of(alloc: Global, words: &[String]) -> Result<Option<Form>, NoMemory
     if are_refused(words) {
         return Ok(None);
     }
+    if let Some(number) = load_asked(words) {
+        return Ok(Some(Form::Gen(number)));
+    }
     match program(alloc)?.try_get_matches_from(words) {
         Ok(matches) => Ok(form_met(&matches)),
         Err(error) if error.kind() == ErrorKind::OutOfMemory => Err(NoMemory),
@@ -30,8 +34,8 @@ pub fn form_of(alloc: Global, words: &[String]) -> Result<Option<Form>, NoMemory
 
 /// The form whose subcommand the words named.
 fn form_met(matches: &ArgMatches<'_>) -> Option<Form>
-    ensures some { IfSome result (λ form. subcommand_name_of matches.now ≡ Some (word_of form)) }
-    ensures none { result ≡ None → (form : Form) → subcommand_name_of matches.now ≡ Some (word_of form) → ⊥ }
+    ensures some { IfSome result (λ form. IsSomeAnd (subcommand_name_of matches.now) (λ name. AreWordsOf form (name ∷ []))) }
+    ensures none { result ≡ None → IfSome (subcommand_name_of matches.now) (λ name. (form : Form) → AreWordsOf form (name ∷ []) → ⊥) }
 {
     match matches.subcommand_name() {
         Some(name) => form_named(name),
@@ -39,7 +43,7 @@ fn form_met(matches: &ArgMatches<'_>) -> Option<Form>
     }
 }
 
-/// The program with its forms.
+/// The program with the words of its forms.
 fn program<'a>(alloc: Global) -> Result<Command<'a>, NoMemory>
     ensures { IfOk result (λ program. app_of program ≡ whole_program) }
 {

@@ -4,7 +4,7 @@ use std::alloc::Global;
 use std::test::Fail;
 
 /// Words, whether they are refused at sight, and the form that they ask for.
-const CASES: [(&[&str], bool, Option<Form>); 20] = [
+const CASES: [(&[&str], bool, Option<Form>); 35] = [
     (&["run"], false, Some(Form::Run)),
     (&["trace"], false, Some(Form::Trace)),
     (&["info"], false, Some(Form::Info)),
@@ -24,7 +24,22 @@ const CASES: [(&[&str], bool, Option<Form>); 20] = [
     (&["ru"], false, None),
     (&[""], false, None),
     (&["run", ""], false, None),
+    (&["gen", "1"], false, Some(Form::Gen(1))),
+    (&["gen", "970"], false, Some(Form::Gen(970))),
+    (&["gen", "2000"], false, Some(Form::Gen(2000))),
+    (&["gen"], false, None),
+    (&["gen", ""], false, None),
     (&["gen", "0"], false, None),
+    (&["gen", "2001"], false, None),
+    (&["gen", "4294967297"], false, None),
+    (&["gen", "01"], false, None),
+    (&["gen", "+1"], false, None),
+    (&["gen", "-1"], true, None),
+    (&["gen", "1 "], false, None),
+    (&["gen", "1", "2"], false, None),
+    (&["gen", "x"], false, None),
+    (&["1", "gen"], false, None),
+    (&["run", "1"], false, None),
 ];
 
 /// Whether the words are refused at sight, and the form.
@@ -39,7 +54,7 @@ fn read(alloc: Global, words: &[&str]) -> Result<(bool, Option<Form>), Fail> {
 }
 
 #[test]
-fn one_word_is_a_form(rt: HostRuntime) -> Result<(), Fail> {
+fn words_are_a_form_or_none(rt: HostRuntime) -> Result<(), Fail> {
     for (words, refused, form) in CASES {
         let got = read(rt.alloc(), words)?;
         assert!(rt; got == (refused, form), "{words:?}");

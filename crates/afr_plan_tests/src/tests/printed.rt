@@ -6,7 +6,7 @@ use std::alloc::Global;
 use std::test::Fail;
 
 /// Plans that are printed as they stand.
-const PLANS: [&str; 39] = [
+const PLANS: [&str; 43] = [
     "afr 1\nvolume replica\nfiles 1\nturns 100000\nclient 1\nwrite /f1 0 \"1\"\nwrite /f1 0 \"2\"\nwrite /f1 0 \"3\"\nread /f1 0 1\nhealer 1\nround 0\nfault 1 8 fail\nfault 2 6 fail\nat 0 stop 1\nat 20 start 1\nat 20 stop 2\nat 41 start 2\nat 41 stop 0\nat 62 start 0\ngo c1 65\nend\n",
     "afr 1\nvolume replica\nfiles 1\nturns 100000\nclient 1\nwrite /f1 0 \"a\"\nclient 2\nwrite /f1 0 \"b\"\nend\n",
     "afr 1\nvolume replica\nfiles 1\nturns 100000\nclient 1\nwrite /f1 0 \"hello\"\nfault 1 5 fail\nfault 2 5 fail\nend\n",
@@ -46,6 +46,22 @@ const PLANS: [&str; 39] = [
     "afr 1\nvolume replica\nfiles 1\nturns 100000\nclient 1\nwrite /f1 0 \"hello\"\nhealer 1\nround 0\nfault 2 5 lost\ngo c1 22\nend\n",
     "afr 1\nvolume replica\nfiles 1\nturns 32\nclient 1\nwrite /f1 0 \"hello\"\nread /f1 0 5\nend\n",
     "afr 1\nvolume arbiter\nfiles 2\nturns 4000000\nclient 1\nwrite / 0 \"\"\nwrite /f1 1048576 \"a b~\"\nwrite /d/x-1/y_2 7 hex:00ff\nwrite /f2 0 fill:65536:0a\ncut /f1 0\nread /d/x-1 9 65536\ncreate /d/f2\nmkdir /d\nunlink /x-1\nrmdir /y_2/d\nls /\nstat /d\nsetattr /d user.a b.1\nsetattr / b.1 user.a\ngetattr /f2 b.1\nclient 2\nhealer 1\nround 0\nround 2\nhealer 2\nfault 0 1 fail\nfault 2 4000000 lost\nat 0 stop 0\nat 0 start 0\nat 5 cut c2 1\nat 5 join h2 2\nat 4000000 kill c1\ngo c1 4000000\ngo h2 1\nend\n",
+    "afr 2\nvolume replica 5\nfiles 1\nturns 100000\nclient 1\nwrite /f1 0 \"hello\"\nread /f1 0 5\nend\n",
+    "afr 2\nvolume replica 5\nfiles 1\nturns 100000\nclient 1\nwrite /f1 0 \"hello\"\nat 0 stop 3\nat 0 stop 4\nend\n",
+    "afr 2\nvolume replica 5\nfiles 1\nturns 100000\nclient 1\nwrite /f1 0 \"hello\"\nat 0 stop 2\nat 0 stop 3\nat 0 stop 4\nend\n",
+    "afr 2\nvolume replica 5\nfiles 0\nturns 1\nclient 1\nhealer 1\nround 4\nfault 4 4000000 lost\nat 0 cut c1 4\nend\n",
+];
+
+/// Plans of three bricks in version 2, and how they are printed: in version 1.
+const THREE: [(&str, &str); 2] = [
+    (
+        "afr 2\nvolume replica 3\nfiles 1\nturns 9\nclient 1\nread /f1 0 5\nhealer 1\nround 2\nfault 0 1 fail\nat 0 stop 2\ngo c1 1\nend\n",
+        "afr 1\nvolume replica\nfiles 1\nturns 9\nclient 1\nread /f1 0 5\nhealer 1\nround 2\nfault 0 1 fail\nat 0 stop 2\ngo c1 1\nend\n",
+    ),
+    (
+        "afr 2\nvolume arbiter 3\nfiles 0\nturns 1\nend\n",
+        "afr 1\nvolume arbiter\nfiles 0\nturns 1\nend\n",
+    ),
 ];
 
 /// Data in hexadecimal digits, and the first of its shortest forms.
@@ -98,6 +114,14 @@ fn is_printed_as(alloc: Global, spelled: &str, want: &str) -> Result<bool, Fail>
 fn each_plan_is_printed_as_it_was_read(rt: HostRuntime) -> Result<(), Fail> {
     for text in PLANS {
         assert!(rt; is_printed(rt.alloc(), text, text), "{text}");
+    }
+    Ok(())
+}
+
+#[test]
+fn three_bricks_are_printed_in_version_1(rt: HostRuntime) -> Result<(), Fail> {
+    for (text, want) in THREE {
+        assert!(rt; is_printed(rt.alloc(), text, want), "{text}");
     }
     Ok(())
 }

@@ -6,7 +6,7 @@ use std::test::Fail;
 
 /// Texts and how they are read, a row each: what comes first, a line that follows it so many times,
 /// what comes last, and the line and the code of the first fault. `^` is a head with `files 0` and
-/// `turns 100000`, `;` a line feed and `~` a carriage return.
+/// `turns 100000`, `%` the same of five bricks, `;` a line feed and `~` a carriage return.
 const FAULTS: &str = "\
 ||0||1 9
 afr 1~;volume replica;files 0;turns 100000;end;||0||1 1
@@ -58,6 +58,22 @@ afr 1;end;||0||2 3
 ^end;x||0||6 2
 ^end;;||0||6 9
 ^end;x~y;||0||6 1
+afr 2 ;||0||1 5
+afr 2x;||0||1 3
+afr 02;||0||1 3
+afr 1;volume replica 5;||0||2 5
+afr 1;volume replica 3;||0||2 5
+afr 1;volume arbiter 3;||0||2 5
+afr 2;volume replica;||0||2 5
+afr 2;volume arbiter;||0||2 5
+afr 2;volume replica 4;||0||2 5
+afr 2;volume replica 03;||0||2 5
+afr 2;volume replica 5 ;||0||2 5
+afr 2;volume replica  5;||0||2 5
+afr 2;volume arbiter 5;||0||2 5
+afr 2;volume;||0||2 5
+afr 2;afr 2;||0||2 3
+afr 2;volume replica 3;files 0;turns 1;fault 3 1 fail;||0||5 7
 ";
 
 /// The same at each limit: the value itself is taken, and one more has its code. `$` is the number of
@@ -115,6 +131,14 @@ afr 1;volume replica;files 0;||0|turns 4000001;|4 6
 ^client 1;||0|at 0 kill c2;|6 7
 ^healer 1;|at 0 join h1 0;|1|end;|taken
 ^healer 1;||0|at 0 join h2 0;|6 7
+%healer 1;|round 4;|1|end;|taken
+%healer 1;||0|round 5;|6 6
+%|fault 4 1 fail;|1|end;|taken
+%||0|fault 5 1 fail;|5 6
+%|at 0 start 4;|1|end;|taken
+%||0|at 0 start 5;|5 6
+%client 1;|at 0 cut c1 4;|1|end;|taken
+%client 1;||0|at 0 cut c1 5;|6 6
 ^client 1;|go c1 1;|1|end;|taken
 ^client 1;||0|go c1 0;|6 6
 ^client 1;|go c1 4000000;|1|end;|taken
@@ -158,6 +182,7 @@ fn push_letters(text: &mut String, count: u32) -> Result<(), Fail> {
 fn push_letter(alloc: Global, text: &mut String, letter: char, k: u32) -> Result<(), Fail> {
     match letter {
         '^' => text.push_str("afr 1\nvolume replica\nfiles 0\nturns 100000\n")?,
+        '%' => text.push_str("afr 2\nvolume replica 5\nfiles 0\nturns 100000\n")?,
         ';' => text.push('\n')?,
         '~' => text.push('\r')?,
         '$' => text.push_str(format!(in alloc; "{k}")?.as_str())?,

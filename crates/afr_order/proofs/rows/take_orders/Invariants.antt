@@ -1,10 +1,13 @@
 use Rattle.std.proofs.Common.{take}
 use Rattle.afr_model.specs.Ordered.{ordered_turns}
+use Rattle.afr_sources.specs.Sources.{picks_of}
+use Rattle.afr_volume.specs.State.{IsChosen}
 use Rattle.afr_order.specs.Going.{Goes, Takes}
 use Rattle.afr_order.proofs.rows.take_orders.Given as goal
 
 abbrev pub invariant-loop-i : goal.invariant-loop-i
-invariant-loop-i l = record {
+invariant-loop-i g l = record {
   goes : Goes l.fn.volume l.volume;
   taken : Takes l.fn.volume.plan (ordered_turns (take l.i l.fn.volume.plan.go)) l.fn.volume.log l.volume.log;
+  chosen : IsChosen (picks_of g.F.Fn l.fn.rule) l.fn.volume → IsChosen (picks_of g.F.Fn l.fn.rule) l.volume;
 }

@@ -7,23 +7,24 @@ use Rattle.afr_order.proofs.DoneLemmas.{row_done}
 use Rattle.afr_order.proofs.rows.take_row.Goals as goal
 
 pub take_turn-requires : goal.take_turn-requires
-take_turn-requires c = record { actor = rw c.loop-i.invariant.goes.plan (c.requires.actors c.loop-i.i c.loop-i-test.true) }
+take_turn-requires g c = record { rule = c.requires.rule; actor = rw c.loop-i.invariant.goes.plan (c.requires.actors c.loop-i.i c.loop-i-test.true) }
 
 pub returns-in_err-take_turn-clause-front : goal.returns-in_err-take_turn-clause-front
-returns-in_err-take_turn-clause-front c =
+returns-in_err-take_turn-clause-front g c =
     front_of_range c.args.volume.now.plan c.args.volume.now.log c.take_turn.new.volume.log c.args.first (c.loop-i.i + 1) c.args.count (omega arith)
     (rw range_more (front_then c.args.volume.now c.loop-i.volume c.take_turn.new.volume (range_with_len c.args.first c.loop-i.i) ((c.args.first + c.loop-i.i) ∷ []) c.loop-i.invariant.goes c.loop-i.invariant.taken c.take_turn.ensures.front))
 
 pub returns-then-not-branch-clause-front : goal.returns-then-not-branch-clause-front
-returns-then-not-branch-clause-front c =
+returns-then-not-branch-clause-front g c =
     front_of_range c.args.volume.now.plan c.args.volume.now.log c.take_turn.new.volume.log c.args.first (c.loop-i.i + 1) c.args.count (omega arith)
     (rw range_more (front_then c.args.volume.now c.loop-i.volume c.take_turn.new.volume (range_with_len c.args.first c.loop-i.i) ((c.args.first + c.loop-i.i) ∷ []) c.loop-i.invariant.goes c.loop-i.invariant.taken c.take_turn.ensures.front))
 
 pub loop-i-preserved : goal.loop-i-preserved
-loop-i-preserved c =
+loop-i-preserved g c =
     let on : c.in_ok-take_turn.field-0 ≡ true = grind (arith, common_steps) in
     record {
       goes = goes_then c.args.volume.now c.loop-i.volume c.take_turn.new.volume c.loop-i.invariant.goes c.take_turn.ensures.goes;
       taken = rw range_more (takes_then c.args.volume.now c.loop-i.volume c.take_turn.new.volume (range_with_len c.args.first c.loop-i.i) ((c.args.first + c.loop-i.i) ∷ []) c.loop-i.invariant.goes c.loop-i.invariant.taken (ends_true c.loop-i.volume c.take_turn.new.volume _ _ on c.in_ok-take_turn.ensures.ok));
       done = row_done c.args.volume.now c.loop-i.volume c.take_turn.new.volume c.args.first c.loop-i.i c.loop-i.invariant.goes c.take_turn.ensures.goes c.loop-i.invariant.done (c.in_ok-take_turn.ensures.done (ap Ok on));
+      chosen = λ h. c.take_turn.ensures.chosen (c.loop-i.invariant.chosen h);
     }

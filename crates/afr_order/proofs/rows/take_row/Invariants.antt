@@ -1,12 +1,15 @@
 use Rattle.std.proofs.Common.{◌≡◌, ◌≤◌, ◌<◌, ◌+◌, ℕ, true, length}
 use Rattle.std.specs.List.{range_with_len}
 use Rattle.afr_model.specs.Actors.{is_done}
+use Rattle.afr_sources.specs.Sources.{picks_of}
+use Rattle.afr_volume.specs.State.{IsChosen}
 use Rattle.afr_order.specs.Going.{Goes, Takes}
 use Rattle.afr_order.proofs.rows.take_row.Given as goal
 
 abbrev pub invariant-loop-i : goal.invariant-loop-i
-invariant-loop-i l = record {
+invariant-loop-i g l = record {
   goes : Goes l.fn.volume l.volume;
   taken : Takes l.fn.volume.plan (range_with_len l.first l.i) l.fn.volume.log l.volume.log;
   done : length l.volume.log ≤ length l.fn.volume.log → (k : ℕ) → k < l.i → is_done l.volume.plan (l.first + k) l.volume.log ≡ true;
+  chosen : IsChosen (picks_of g.F.Fn l.fn.rule) l.fn.volume → IsChosen (picks_of g.F.Fn l.fn.rule) l.volume;
 }

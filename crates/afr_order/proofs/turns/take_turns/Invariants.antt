@@ -1,9 +1,12 @@
 use Rattle.std.proofs.Common.{replicate}
+use Rattle.afr_sources.specs.Sources.{picks_of}
+use Rattle.afr_volume.specs.State.{IsChosen}
 use Rattle.afr_order.specs.Going.{Goes, Takes}
 use Rattle.afr_order.proofs.turns.take_turns.Given as goal
 
 abbrev pub invariant-loop-taken : goal.invariant-loop-taken
-invariant-loop-taken l = record {
+invariant-loop-taken g l = record {
   goes : Goes l.fn.volume l.volume;
   taken : Takes l.fn.volume.plan (replicate l._taken l.a.0) l.fn.volume.log l.volume.log;
+  chosen : IsChosen (picks_of g.F.Fn l.fn.rule) l.fn.volume → IsChosen (picks_of g.F.Fn l.fn.rule) l.volume;
 }

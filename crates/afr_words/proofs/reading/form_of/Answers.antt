@@ -1,6 +1,6 @@
 -- What the parse gives.
 use Rattle.std.proofs.Common.{rules}
-use Rattle.afr_words.proofs.FormLemmas.{failed_is_no_form, name_is_met, named_is_form, parsed_names, refused_is_no_form, untold}
+use Rattle.afr_words.proofs.FormLemmas.{failed_is_no_form, named_is_form, parsed_names, refused_is_no_form, unnamed_is_no_form, untold}
 use Rattle.afr_words.proofs.reading.form_of.Goals as goal
 
 pub returns-then-are_refused-clause-none : goal.returns-then-are_refused-clause-none
@@ -16,7 +16,7 @@ pub returns-in-Ok-clause-none : goal.returns-in-Ok-clause-none
 returns-in-Ok-clause-none c = λ e.
     let plain = untold _ c.are_refused.ensures.1 c.if-are_refused.false in
     let names = parsed_names _ c.args.words.now c.in-Ok.matches c.in_ok-program.ensures plain c.in-Ok.ensures.kinds c.in-Ok.ensures.matches in
-    name_is_met c.args.words.now c.in-Ok.matches names (c.form_met.ensures.none cc)
+    unnamed_is_no_form c.args.words.now c.in-Ok.matches names (c.form_met.ensures.none cc)
 
 pub returns-in-Err-2-clause-none : goal.returns-in-Err-2-clause-none
-returns-in-Err-2-clause-none c = λ e. failed_is_no_form _ c.args.words.now _ c.in_ok-program.ensures c.in-Err.ensures.passes (λ m. search rules)
+returns-in-Err-2-clause-none c = λ e. failed_is_no_form _ c.args.words.now _ c.in_ok-program.ensures c.in-Err.ensures.passes (λ m. search rules) (c.load_asked.ensures.none cc)

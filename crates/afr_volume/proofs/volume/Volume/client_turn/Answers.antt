@@ -1,7 +1,8 @@
-use Rattle.std.proofs.Common.{◌∙◌, ap, arith, sym}
+use Rattle.std.proofs.Common.{◌∙◌, ap, arith, refl, sym}
 use Rattle.std.proofs.lemmas.Bool.Decides.{nat_tests}
 use Rattle.afr_volume.proofs.LogLemmas.{few_items, newest_is}
 use Rattle.afr_volume.proofs.WholeTurn.{busy, ready_volume, steps, took, turned, whole}
+use Rattle.afr_sources.specs.Sources.{sources_of}
 use Rattle.afr_volume.specs.Turning.{waits_for}
 use Rattle.afr_volume.proofs.volume.Volume.client_turn.Goals as goal
 
@@ -45,4 +46,4 @@ returns-clause-ok c =
     newest_is c.self.inside.log.items c.step_actor.new.log.items c.in_ok-step_actor.ensures.ok.line c.index.result.now c.len-position.result (rw (← c.in_ok-try_reserve.ensures.items) c.in_ok-step_actor.ensures.ok.added)
     (grind (arith, nat_tests, c.len-position.ensures)) c.index.ensures in
     rw (← c.self.view_is)
-    (turned c.self.inside.plan c.args.a c.self.inside.log.items c.step_actor.new.log.items c.in_ok-step_actor.ensures.ok.line c.turned_by-waits.result c.answer_of.result t.own t.log (ap waits_for (sym newest) ∙ sym c.turned_by-waits.ensures) c.answer_of.ensures.some c.answer_of.ensures.none)
+    (turned c.self.inside.plan c.args.a c.self.inside.log.items c.step_actor.new.log.items (sources_of c.self.inside.healers.items) (sources_of c.self.inside.healers.items) c.in_ok-step_actor.ensures.ok.line c.turned_by-waits.result c.answer_of.result t.own t.log (ap waits_for (sym newest) ∙ sym c.turned_by-waits.ensures) (λ i other. refl) c.answer_of.ensures.some c.answer_of.ensures.none)

@@ -1,8 +1,9 @@
 use Rattle.std.proofs.Common.{arith, reverse, subst}
-use Rattle.afr_model.specs.State.{State}
+use Rattle.afr_volume.specs.State.{State}
 use Rattle.afr_model.specs.Sums.{AreSums}
 use Rattle.afr_volume.proofs.FreshReads.{all_fresh}
 use Rattle.afr_volume.proofs.HealerTurn.{all_rest}
+use Rattle.afr_volume.proofs.SourceLemmas.{all_rest_first, rested_state}
 use Rattle.afr_volume.proofs.volume.Volume.every_line.Goals as goal
 
 pub returns-clause-settled : goal.returns-clause-settled
@@ -36,3 +37,14 @@ returns-clause-causes c = rw (← c.self.view_is) (c.accusations_have_causes.ens
 
 pub returns-clause-alike : goal.returns-clause-alike
 returns-clause-alike c = rw (← c.self.view_is) (c.nothing_diverges_unrecorded.ensures.exact c.self.inside.plan (reverse c.self.inside.log.items) c.self.invariant.kept.runnable.few (omega (arith, c.self.invariant.kept.room, c.self.invariant.kept.runnable.turns)) c.self.invariant.kept.honest c.self.invariant.kept.lawful)
+
+pub returns-clause-resting : goal.returns-clause-resting
+returns-clause-resting c =
+    rw (← c.self.view_is)
+    (λ none. rested_state c.self.inside.plan (reverse c.self.inside.log.items) _ none (all_rest_first c.self.inside.plan (reverse c.self.inside.log.items) c.self.inside.servers c.self.inside.healers.items c.self.invariant.healing.same c.self.invariant.healing.each none))
+
+pub returns-clause-quiet : goal.returns-clause-quiet
+returns-clause-quiet c =
+    rw (← c.self.view_is)
+    (c.quiet_rounds_are_whole.ensures.whole c.self.inside.plan (reverse c.self.inside.log.items) c.self.invariant.kept.runnable.few c.self.invariant.kept.runnable.clients (omega (arith, c.self.invariant.kept.room, c.self.invariant.kept.runnable.turns)) c.self.invariant.kept.follows c.self.invariant.kept.honest c.self.invariant.kept.lawful
+    c.self.invariant.kept.replied c.self.invariant.kept.gives c.self.invariant.kept.runnable.rounds)

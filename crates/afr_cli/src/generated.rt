@@ -1,0 +1,57 @@
+//! A generated load, from its number to what is written of it.
+ghost use Rattle.std.specs.Prelude.{◌≡◌, ◌≢◌, ◌⊎◌, ◌≤◌};
+ghost use Rattle.std.specs.Io.KnownBytes.{Appends};
+ghost use Rattle.afr_text.specs.Causes.{Rose};
+ghost use Rattle.afr_text.specs.Parts.{AppendsFront};
+ghost use Rattle.afr_gen.specs.Generated.{generated};
+ghost use Rattle.afr_model.specs.Complete.{IsComplete};
+ghost use Rattle.afr_model.specs.Ordered.{IsOrdered};
+ghost use Rattle.afr_rule.specs.Choosing.{IsRule};
+ghost use Rattle.afr_sources.specs.Sources.{picks_of};
+ghost use Rattle.afr_volume.specs.State.{IsChosen, no_volume};
+ghost use Rattle.afr_cli.specs.Forms.{text_of};
+ghost use Rattle.afr_cli.specs.Statuses.{AreDone, IsFull, IsOver, IsWorkLeft};
+
+use crate::running::run_plan;
+use crate::status::Status;
+use afr_gen::{gen_plan, generated_plans_are_runnable};
+use afr_rule::{Candidate, SourceRule};
+use afr_text::Sink;
+use afr_volume::Volume;
+use afr_words::Form;
+use std::alloc::Global;
+
+/// Makes the plan of the generated load of number `n`, and runs it; then its summary is written.
+#[tactic(auto, using(crate::proofs::StatusLemmas::nothing_chosen, crate::proofs::StatusLemmas::nothing_ordered))]
+pub fn make_and_run<K: Sink, F: Fn(&[Candidate]) -> usize>(
+    alloc: Global,
+    n: u32,
+    sink: &mut K,
+    volume: &mut Volume,
+    rule: &SourceRule<F>,
+) -> u8
+    requires rule { IsRule F.Fn rule.now }
+    requires some { 1 ≤ n }
+    requires few { n ≤ 2000 }
+    requires fresh { volume.old ≡ no_volume }
+    ensures few { (result ≡ 0) ⊎ (result ≡ 5) ⊎ (result ≡ 6) ⊎ (result ≡ 7) }
+    ensures plan { (volume.new ≡ no_volume) ⊎ (volume.new.plan ≡ generated n) }
+    ensures ran { result ≢ 6 → volume.new.plan ≡ generated n }
+    ensures ordered { IsOrdered volume.new.plan volume.new.log }
+    ensures ok { result ≡ 0 → IsComplete volume.new.plan volume.new.log × AreDone volume.new.plan volume.new.log }
+    ensures unfinished { result ≡ 7 → Appends (K.taken sink.old) (K.taken sink.new) (text_of (Form.Gen n) volume.new.plan volume.new.log)
+        × IsFull volume.new.plan volume.new.log × IsWorkLeft volume.new.plan volume.new.log }
+    ensures text { result ≡ 0 → Appends (K.taken sink.old) (K.taken sink.new) (text_of (Form.Gen n) volume.new.plan volume.new.log) }
+    ensures write { result ≡ 5 → Rose (K.faults sink.old) (K.faults sink.new) × AppendsFront (K.taken sink.old) (K.taken sink.new) (text_of (Form.Gen n) volume.new.plan volume.new.log)
+        × IsComplete volume.new.plan volume.new.log × IsOver volume.new.plan volume.new.log }
+    ensures memory { result ≡ 6 → sink.new ≡ sink.old }
+    ensures chosen { IsChosen (picks_of F.Fn rule.now) volume.new }
+{
+    match gen_plan(alloc, n) {
+        Ok(plan) => {
+            generated_plans_are_runnable();
+            run_plan(alloc, Form::Gen(n), plan, sink, volume, rule)
+        }
+        Err(_) => Status::NoMemory as u8,
+    }
+}

@@ -1,0 +1,5 @@
+//! Tests of generated plans.
+#![tactic(auto)]
+
+#[cfg(test)]
+mod tests;

@@ -1,0 +1,2 @@
+//! What a round does that nothing disturbs; definitions alone.
+#![tactic(auto)]

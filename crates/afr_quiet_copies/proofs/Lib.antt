@@ -1,0 +1,16 @@
+pub mod Stretch
+pub mod Told
+pub mod Sums
+pub mod Walk
+pub mod Locked
+pub mod Looked
+pub mod Counted
+pub mod CountedAsks
+pub mod Premises
+pub mod Ended
+pub mod Round
+pub mod After
+pub mod AfterLines
+pub mod Lengths
+pub mod Level
+pub mod Kept

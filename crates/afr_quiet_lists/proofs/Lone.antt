@@ -1,0 +1,312 @@
+-- A Heal lock that is held is one that its owner's heal has, and between heals an actor holds none.
+use Rattle.std.proofs.Common.{◌≡◌, ℕ, zero, suc, ◌<◌, ◌&&◌, ◌||◌, not, ◌==◌, Bool, true, false, ◌⊎◌, inl, inr, refl, sym, ◌∙◌, subst, ap, arith, Option, Some, None, true≢false}
+use Rattle.std.specs.Prelude.{if◌then◌else◌}
+use Rattle.std.proofs.lemmas.Bool.{eqb-true}
+use Rattle.afr_base.specs.declared.ids.ActorId.{ActorId}
+use Rattle.afr_base.specs.declared.ids.Kind.{Kind}
+use Rattle.afr_faults.specs.declared.fault.Fault.{Fault}
+use Rattle.afr_faults.specs.declared.fault.Fault.TheVariants.{Fail, Lost}
+use Rattle.afr_lines.specs.Overlap.{same_area}
+use Rattle.afr_lines.specs.Places.{Between, Fresh, Indexed, Place, Within, next_place}
+use Rattle.afr_lines.specs.declared.answer.Told.{Told}
+use Rattle.afr_lines.specs.declared.answer.Told.TheVariants.{Done, Granted}
+use Rattle.afr_lines.specs.declared.line.Line.{Line}
+use Rattle.afr_lines.specs.declared.line.Line.TheVariants.{Ask, Begin, End, Event, HealBegin, HealEnd}
+use Rattle.afr_lines.specs.declared.request.Area.{Area}
+use Rattle.afr_lines.specs.declared.request.Request.{Request}
+use Rattle.afr_lines.specs.declared.request.Request.TheVariants.{Index, Lock, Unlock}
+use Rattle.afr_range_locks.specs.declared.domain.Domain.{Domain}
+use Rattle.afr_range_locks.specs.declared.domain.Domain.TheVariants.{Heal, Work}
+use Rattle.afr_moves.proofs.AreaLemmas.{same_area_is}
+use Rattle.afr_moves.proofs.Tests.{same_self, some_no, with_more, with_self}
+use Rattle.afr_moves.specs.Discipline.{MayAskExactly, MayExactly, MovesExactly, exact, exact_after, in_force, note, present}
+use Rattle.afr_moves.specs.Heal.{Gives, Goes, InHeal}
+use Rattle.afr_moves.specs.Honest.{Honest, HonestAsk, HonestLine, asked}
+use Rattle.afr_moves.specs.Lines.{ask_by}
+use Rattle.afr_moves.specs.Past.{Beginning, Log, before, ends, frees, grants, held, is_gone, is_of, joined, opening, opens, place, place_after, unlocks}
+use Rattle.afr_moves.specs.Register.{Exact}
+use Rattle.afr_moves.specs.Rules as weak
+use Rattle.afr_moves.specs.Rules.{Register, area_object, heal_area}
+use Rattle.afr_moves.specs.Sets.{any, without}
+use Rattle.afr_law.proofs.Discipline.Asks.{IsHealLock}
+use Rattle.afr_law.proofs.Discipline.Projection.{same_actor}
+use Rattle.afr_law.proofs.Heals.Conditions.{heal_lock_area}
+use Rattle.afr_law.proofs.Safety.Locks.{Grant, before_is, held_past, step_cases}
+use Rattle.afr_law.proofs.Safety.Numbers.{done_took}
+use Rattle.afr_quiet_lists.proofs.Aside.{IsHealUnlock, aside}
+use Rattle.afr_object.specs.declared.change.Change.{Change}
+use Rattle.afr_base.specs.declared.ids.Gfid.{Gfid}
+
+or_first : (x y : Bool) → (x || y) ≡ false → x ≡ false
+or_first true y e = absurd (true≢false e)
+or_first false y e = refl
+
+or_second : (x y : Bool) → (x || y) ≡ false → y ≡ false
+or_second true y e = absurd (true≢false e)
+or_second false y e = e
+
+none_at : (n : ℕ) (set : ℕ → Bool) → any n set ≡ false → (b : ℕ) → b < n → set b ≡ false
+none_at n set none b low = go (set b) refl
+  where
+    go : (x : Bool) → set b ≡ x → set b ≡ false
+    go true e = absurd (true≢false (sym (some_no n set b low e) ∙ none))
+    go false e = e
+
+without_other : (set : ℕ → Bool) (b x : ℕ) → (x ≡ b → ⊥) → set x ≡ true → without set b x ≡ true
+without_other set b x apart m = go (x == b) refl
+  where
+    go : (same : Bool) → (x == b) ≡ same → (if same then false else set x) ≡ true
+    go true e = absurd (apart (eqb-true x b e))
+    go false e = m
+
+same_heal_area : (g : ℕ) → same_area (heal_area g) (heal_area g) ≡ true
+same_heal_area g = rw (same_self g) refl
+
+all_four : (x y z w : Bool) → x ≡ true → y ≡ true → z ≡ true → w ≡ true → (x && y && z && w) ≡ true
+all_four x y z w p q r s = rw (p, q, r, s) refl
+
+-- what opens a work or a heal isn't within one
+closed : (p : Place) (line : Option Line) → opens p line ≡ true → p ≡ Within → ⊥
+unfolding opens
+closed Fresh line e f = cc f
+closed Indexed line e f = cc f
+closed Between line e f = cc f
+closed Within line e f = true≢false (sym e)
+
+-- a lock that is held after a line is that line's, or was held before
+step_of : (log : Log) (t b q : ℕ) → held log (suc t) b q ≡ true → (q ≡ t) ⊎ ((held log t b q ≡ true) × (frees b (before log t q) (log t) ≡ false))
+unfolding held
+step_of log t b q h = elim (step_cases (q == t) (grants b (log t)) (held log t b q) (frees b (before log t q) (log t)) h) [ inl w ↦ inl (eqb-true q t w.0) | inr w ↦ inr (w.1, w.2) ]
+
+-- ---- sessions
+module _ (files : Beginning) (faults : ℕ → ℕ → Option Fault) (log : Log) (honest : Honest files faults log) where
+  honest_at : (t a b : ℕ) (request : Request) (told : Told) (took : Bool) → log t ≡ Some (ask_by a b request told took) → HonestAsk files log t a b request told took (joined log t a b || opening log t a b) (faults b (suc (asked log t b)))
+  honest_at t a b request told took is = subst (HonestLine files faults log t) is (honest t)
+
+  live_granted : (t a b : ℕ) (domain : Domain) (area : Area) (took live : Bool) (fault : Option Fault) → HonestAsk files log t a b (Lock domain area) Granted took live fault → live ≡ true
+  live_granted t a b domain area took true fault h = refl
+  live_granted t a b domain area took false fault h = absurd (cc h.0)
+
+  kept_freed : (t a b q : ℕ) (domain : Domain) (area : Area) → Grant log q a b domain area → q < t → frees b (before log t q) (log t) ≡ false → (ends a b (log t) ≡ false) × (unlocks a b domain area (log t) ≡ false)
+  kept_freed t a b q domain area grant past free =
+      let e : (ends a b (log t) || unlocks a b domain area (log t)) ≡ false = subst (λ (l : Option Line). frees b l (log t) ≡ false) (before_is log t q past ∙ grant.is) free in
+      (or_first _ _ e, or_second _ _ e)
+
+  -- who holds a lock has a session
+  pub held_joined : (t a b q : ℕ) (domain : Domain) (area : Area) → Grant log q a b domain area → held log t b q ≡ true → joined log t a b ≡ true
+  unfolding held joined ends
+  held_joined zero a b q domain area grant h = absurd (true≢false (sym h))
+  held_joined (suc t) a b q domain area grant h =
+      elim (step_cases (q == t) (grants b (log t)) (held log t b q) (frees b (before log t q) (log t)) h) [
+        | inl w ↦ new (eqb-true q t w.0)
+        | inr w ↦ rw (held_joined t a b q domain area grant w.1, (kept_freed t a b q domain area grant (held_past log t b q w.1) w.2).0) refl
+      ]
+    where
+      stays : (live end : Bool) → live ≡ true → end ≡ false → (live && not end) ≡ true
+      stays live end e f = rw (e, f) refl
+
+      new : q ≡ t → ((joined log t a b || opening log t a b) && not (ends a b (log t))) ≡ true
+      new same = (
+          let is : log t ≡ Some (ask_by a b (Lock domain area) Granted grant.took) = ap log (sym same) ∙ grant.is in
+          let live = live_granted t a b domain area grant.took (joined log t a b || opening log t a b) (faults b (suc (asked log t b))) (honest_at t a b (Lock domain area) Granted grant.took is) in
+          stays (joined log t a b || opening log t a b) (ends a b (log t)) live (ap (ends a b) is ∙ answered (a == a) (b == b) grant.took)
+          )
+        where
+          answered : (x y z : Bool) → (x && y && z && false) ≡ false
+          answered true true true = refl
+          answered true true false = refl
+          answered true false z = refl
+          answered false y z = refl
+
+  -- who is told that it has no session and holds a lock loses it
+  gone_apart : (t a b y : ℕ) (request : Request) (told : Told) (took : Bool) → log t ≡ Some (ask_by a y request told took) → joined log t a b ≡ true → ends a b (log t) ≡ false → is_gone told ≡ true → b ≡ y → ⊥
+  unfolding ends
+  gone_apart t a b y request told took is live lasts gone same = go (joined log t a y || opening log t a y) refl (faults y (suc (asked log t y))) (honest_at t a y request told took is)
+    where
+      live_here : (joined log t a y || opening log t a y) ≡ true
+      live_here = rw (subst (λ (x : ℕ). joined log t a x ≡ true) same live) refl
+
+      took_not : took ≡ true → ⊥
+      took_not e = true≢false (sym (ap (ends a b) is ∙ all_four (a == a) (y == b) took (is_gone told) (same_self a) (subst (λ (x : ℕ). (x == b) ≡ true) same (same_self b)) e gone) ∙ lasts)
+
+      go : (l : Bool) → (joined log t a y || opening log t a y) ≡ l → (fault : Option Fault) → HonestAsk files log t a y request told took l fault → ⊥
+      go false e fault h = true≢false (sym live_here ∙ e)
+      go true e (Some Fail) h = true≢false (sym gone ∙ ap is_gone h.0)
+      go true e (Some Lost) h = took_not h.1
+      go true e None h = took_not h.1
+
+-- ---- the register has each Heal lock that is held
+pub record Has (n : ℕ) (w : Register) (b : ℕ) (area : Area) : Type 0 where
+  pub below : b < n
+  pub healing : w.healing b ≡ true
+  pub object : area ≡ heal_area w.object
+  pub inside : w.heal ≡ true
+
+has_same : (n : ℕ) (w s : Register) (b : ℕ) (area : Area) → s.heal ≡ w.heal → s.object ≡ w.object → s.healing b ≡ true → Has n w b area → Has n s b area
+has_same n w s b area e f m h = record { below = h.below; healing = m; object = h.object ∙ ap heal_area (sym f); inside = e ∙ h.inside }
+
+has_dropped : (n : ℕ) (w : Register) (b y : ℕ) (gone : Bool) (area : Area) → (gone ≡ true → b ≡ y → ⊥) → Has n w b area → Has n (weak.dropping gone y w) b area
+has_dropped n w b y false area apart h = h
+has_dropped n w b y true area apart h = record { below = h.below; healing = without_other w.healing y b (apart refl) h.healing; object = h.object; inside = h.inside }
+
+module _ (n : ℕ) (keeps : ℕ → Kind → Bool) (r : Exact) (a b : ℕ) (area : Area) (h : Has n r.law b area) where
+  in_heal : (y : ℕ) (request : Request) → MayAskExactly n keeps r y request → InHeal n keeps r y request
+  in_heal y request (inl w) = absurd (true≢false (sym h.inside ∙ w.0))
+  in_heal y request (inr k) = k
+
+  lock_area : (y : ℕ) (e : Area) → InHeal n keeps r y (Lock Heal e) → e ≡ heal_area r.law.object
+  lock_area y e (Goes m) = sym (same_area_is (heal_area r.law.object) e (heal_lock_area n keeps r m.source y e m.allowed))
+  lock_area y e (Gives inside broken free) = absurd free
+
+  locks : (y : ℕ) (e : Area) (told : Told) → e ≡ heal_area r.law.object → Has n (weak.note_ask n r.law y (Lock Heal e) told) b area
+  locks y e Granted is = record { below = h.below; healing = with_more r.law.healing y b h.healing; object = h.object ∙ ap heal_area (sym (ap area_object is)); inside = refl }
+  locks y e told is = record { below = h.below; healing = h.healing; object = h.object ∙ ap heal_area (sym (ap area_object is)); inside = refl }
+
+  frees_it : (y : ℕ) (e : Area) (took : Bool) → e ≡ heal_area r.law.object → took ≡ true → unlocks a b Heal area (Some (ask_by a y (Unlock Heal e) Done took)) ≡ false → b ≡ y → ⊥
+  frees_it y e took is done still same = true≢false (sym whole ∙ still)
+    where
+      whole : (same_area area e && (a == a) && (y == b) && took) ≡ true
+      whole = all_four (same_area area e) (a == a) (y == b) took ((λ i. same_area (h.object i) (is i)) ∙ same_heal_area r.law.object) (same_self a) (subst (λ (x : ℕ). (x == b) ≡ true) same (same_self b)) done
+
+  gives : (y : ℕ) (e : Area) (told : Told) (took : Bool) → e ≡ heal_area r.law.object → (told ≡ Done → took ≡ true) → unlocks a b Heal area (Some (ask_by a y (Unlock Heal e) told took)) ≡ false → Has n (weak.note_ask n r.law y (Unlock Heal e) told) b area
+  gives y e Done took is done still = record { below = h.below; healing = without_other r.law.healing y b (frees_it y e took is (done refl) still) h.healing; object = h.object; inside = h.inside }
+  gives y e told took is done still = h
+
+  others : (y : ℕ) (request : Request) (told : Told) → (IsHealLock request → ⊥) → (IsHealUnlock request → ⊥) → Has n (weak.note_ask n r.law y request told) b area
+  others y request told free kept =
+      let k = aside n r.law y request told free in
+      has_same n r.law (weak.note_ask n r.law y request told) b area k.heal k.object (ap (λ (set : ℕ → Bool). set b) (k.healing kept) ∙ h.healing) h
+
+  -- a request of the actor leaves what is held
+  asks : (y : ℕ) (request : Request) (told : Told) (took : Bool) → MayAskExactly n keeps r y request → ((e : Area) → request ≡ Unlock Heal e → e ≡ heal_area r.law.object) → (told ≡ Done → took ≡ true) → unlocks a b Heal area (Some (ask_by a y request told took)) ≡ false
+      → Has n (weak.note_ask n r.law y request told) b area
+  asks y (Lock Heal e) told took may fair done still = locks y e told (lock_area y e (in_heal y (Lock Heal e) may))
+  asks y (Unlock Heal e) told took may fair done still = gives y e told took (fair e refl) done still
+  asks y (Lock Work e) told took may fair done still = others y (Lock Work e) told (λ k. k) (λ k. k)
+  asks y (Unlock Work e) told took may fair done still = others y (Unlock Work e) told (λ k. k) (λ k. k)
+  asks y request told took may fair done still = others y request told (λ k. k) (λ k. k)
+
+-- ---- along the lines
+pub record Lone (n : ℕ) (log : Log) (t a : ℕ) (r : Exact) (at : Place) : Type 0 where
+  pub locks : (b q : ℕ) (area : Area) → Grant log q a b Heal area → held log t b q ≡ true → Has n r.law b area
+  pub rest : (at ≡ Within → ⊥) → (b : ℕ) → b < n → r.law.healing b ≡ false
+
+-- an unlock of a broken heal is of its object
+abbrev pub FairLog : ℕ → (ℕ → Kind → Bool) → Log → Type 0
+FairLog n keeps log = (t a b : ℕ) (e : Area) (told : Told) (took : Bool) → log t ≡ Some (ask_by a b (Unlock Heal e) told took) → (present n keeps log t a).law.heal ≡ true → e ≡ heal_area (present n keeps log t a).law.object
+
+module _ (n : ℕ) (files : Beginning) (faults : ℕ → ℕ → Option Fault) (log : Log) (honest : Honest files faults log) (moves : MovesExactly n files.keeps log) (fair : FairLog n files.keeps log) where
+  -- the lock that a line gets
+  new_lock : (t a b : ℕ) (area : Area) (r : Exact) → Grant log t a b Heal area → MayExactly n files.keeps (λ x. r) (log t) → Has n (note n files.keeps r t (log t)).law b area
+  new_lock t a b area r grant may = subst (λ (l : Option Line). Has n (note n files.keeps r t l).law b area) (sym grant.is) (record { below = here.0; healing = with_self r.law.healing b; object = of_object here.1; inside = refl })
+    where
+      here : MayExactly n files.keeps (λ x. r) (Some (ask_by a b (Lock Heal area) Granted grant.took))
+      here = subst (MayExactly n files.keeps (λ x. r)) grant.is may
+
+      by_object : (g : ℕ) → area ≡ heal_area g → area ≡ heal_area (area_object area)
+      by_object g e = e ∙ ap heal_area (sym (ap area_object e))
+
+      of_object : MayAskExactly n files.keeps r b (Lock Heal area) → area ≡ heal_area (area_object area)
+      of_object (inl w) = by_object (w.1).g (w.1).range
+      of_object (inr (Goes m)) = by_object r.law.object (sym (same_area_is (heal_area r.law.object) area (heal_lock_area n files.keeps r m.source b area m.allowed)))
+      of_object (inr (Gives inside broken free)) = absurd free
+
+  -- the place after a request
+  rest_asked : (at : Place) (r : Exact) (t y : ℕ) (x : ℕ) (request : Request) (told : Told) (took : Bool) → (next_place at (ask_by x y request told took) ≡ Within → ⊥) → (b : ℕ)
+      → (weak.dropping (is_gone told) y (weak.note_ask n (in_force (opens at (Some (ask_by x y request told took))) r).law y request told)).healing b ≡ false
+  unfolding opens
+  rest_asked Fresh r t y x Index told took out b = go (is_gone told)
+    where
+      go : (gone : Bool) → (weak.dropping gone y weak.fresh).healing b ≡ false
+      go false = refl
+      go true = none (b == y)
+        where
+          none : (same : Bool) → (if same then false else false) ≡ false
+          none true = refl
+          none false = refl
+  rest_asked Fresh r t y x request told took out b = absurd (out refl)
+  rest_asked Indexed r t y x request told took out b = absurd (out refl)
+  rest_asked Between r t y x request told took out b = absurd (out refl)
+  rest_asked Within r t y x request told took out b = absurd (out refl)
+
+  inner_place : (at : Place) (line : Line) → ((p : Place) → next_place p line ≡ Within) → (next_place at line ≡ Within → ⊥) → ⊥
+  inner_place at line all out = out (all at)
+
+  begin_place : (x : ActorId) (change : Change) (p : Place) → next_place p (Begin x change) ≡ Within
+  begin_place x change Fresh = refl
+  begin_place x change Indexed = refl
+  begin_place x change Between = refl
+  begin_place x change Within = refl
+
+  heal_place : (x : ActorId) (g : Gfid) (kind : Kind) (p : Place) → next_place p (HealBegin x g kind) ≡ Within
+  heal_place x g kind Fresh = refl
+  heal_place x g kind Indexed = refl
+  heal_place x g kind Between = refl
+  heal_place x g kind Within = refl
+
+  -- what stands in the register in force
+  force_locks : (t a : ℕ) (r : Exact) (at : Place) → Lone n log t a r at → (b q : ℕ) (area : Area) → Grant log q a b Heal area → held log t b q ≡ true → Has n (in_force (opens at (log t)) r).law b area
+  force_locks t a r at h b q area grant k = go (opens at (log t)) refl
+    where
+      go : (first : Bool) → opens at (log t) ≡ first → Has n (in_force first r).law b area
+      go false e = h.locks b q area grant k
+      go true e = (let w = h.locks b q area grant k in absurd (true≢false (sym w.healing ∙ h.rest (closed at (log t) e) b w.below)))
+
+  -- a line of the actor
+  own : (t a : ℕ) (r : Exact) (line : Option Line) → log t ≡ line → is_of a line ≡ true → r ≡ present n files.keeps log t a → MayExactly n files.keeps (λ x. r) line
+      → (b q : ℕ) (area : Area) → Grant log q a b Heal area → q < t → held log t b q ≡ true → ends a b (log t) ≡ false → unlocks a b Heal area (log t) ≡ false → Has n r.law b area → Has n (note n files.keeps r t line).law b area
+  own t a r None is mine force may b q area grant past k lasts still h = absurd (true≢false (sym mine))
+  own t a r (Some (Ask x y request told took)) is mine force may b q area grant past k lasts still h =
+      let here : log t ≡ Some (ask_by a y.0 request told took) = is ∙ ap (λ (z : ℕ). Some (ask_by z y.0 request told took)) (eqb-true x.0 a mine) in
+      has_dropped n (weak.note_ask n r.law y.0 request told) b y.0 (is_gone told) area
+      (gone_apart files faults log honest t a b y.0 request told took here (held_joined files faults log honest t a b q Heal area grant k) lasts)
+      (asks n files.keeps r a b area h y.0 request told took may.1
+      (λ e what. (let at : log t ≡ Some (ask_by a y.0 (Unlock Heal e) told took) = here ∙ ap (λ (z : Request). Some (ask_by a y.0 z told took)) what in
+      fair t a y.0 e told took at (ap (λ (z : Exact). z.law.heal) (sym force) ∙ h.inside) ∙ ap (λ (z : Exact). heal_area z.law.object) (sym force)))
+      (λ e. done t a y.0 request told took here e) (subst (λ (l : Option Line). unlocks a b Heal area l ≡ false) here still))
+    where
+      done : (t a y : ℕ) (request : Request) (told : Told) (took : Bool) → log t ≡ Some (ask_by a y request told took) → told ≡ Done → took ≡ true
+      done t a y request told took at e = (
+          let done_line : log t ≡ Some (ask_by a y request Done took) = at ∙ ap (λ (d : Told). Some (ask_by a y request d took)) e in
+          done_took files log t a y request took (joined log t a y || opening log t a y) (faults y (suc (asked log t y))) (honest_at files faults log honest t a y request Done took done_line)
+          )
+  own t a r (Some (Begin x change)) is mine force may b q area grant past k lasts still h = has_same n r.law (note n files.keeps r t (Some (Begin x change))).law b area refl refl h.healing h
+  own t a r (Some (HealBegin x g kind)) is mine force may b q area grant past k lasts still h = has_same n r.law (note n files.keeps r t (Some (HealBegin x g kind))).law b area refl refl h.healing h
+  own t a r (Some (HealEnd x g kind said)) is mine force may b q area grant past k lasts still h = absurd (true≢false (sym h.healing ∙ none_at n r.law.healing may.healed b h.below))
+  own t a r (Some (End x said)) is mine force may b q area grant past k lasts still h = h
+  own t a r (Some (Event e)) is mine force may b q area grant past k lasts still h = absurd (true≢false (sym mine))
+
+  own_rest : (t a : ℕ) (e : Exact) (at : Place) (line : Option Line) → is_of a line ≡ true → MayExactly n files.keeps (λ x. in_force (opens at line) e) line → (place_after true at line ≡ Within → ⊥) → (b : ℕ) → b < n → (note n files.keeps (in_force (opens at line) e) t line).law.healing b ≡ false
+  own_rest t a e at None mine may out b low = absurd (true≢false (sym mine))
+  own_rest t a e at (Some (Ask x y request told took)) mine may out b low = rest_asked at e t y.0 x.0 request told took out b
+  own_rest t a e at (Some (Begin x change)) mine may out b low = absurd (inner_place at (Begin x change) (begin_place x change) out)
+  own_rest t a e at (Some (HealBegin x g kind)) mine may out b low = absurd (inner_place at (HealBegin x g kind) (heal_place x g kind) out)
+  own_rest t a e at (Some (HealEnd x g kind said)) mine may out b low = refl
+  own_rest t a e at (Some (End x said)) mine may out b low = none_at n _ may.healed b low
+  own_rest t a e at (Some (Event event)) mine may out b low = absurd (true≢false (sym mine))
+
+  pub lone : (t a : ℕ) → Lone n log t a (exact n files.keeps log t a) (place log t a)
+  unfolding exact place
+  lone zero a = record { locks = λ b q area grant h. absurd (omega (arith, held_past log 0 b q h)); rest = λ out b low. refl }
+  lone (suc t) a = go (lone t a) (is_of a (log t)) refl
+    where
+      go : Lone n log t a (exact n files.keeps log t a) (place log t a) → (mine : Bool) → is_of a (log t) ≡ mine
+          → Lone n log (suc t) a (exact_after n files.keeps mine (opens (place log t a) (log t)) (exact n files.keeps log t a) t (log t)) (place_after mine (place log t a) (log t))
+      go ih false e = record {
+        locks = λ b q area grant h. elim (step_of log t b q h) [ inl w ↦ absurd (foreign b q area grant w) | inr w ↦ ih.locks b q area grant w.0 ];
+        rest = ih.rest;
+      }
+        where
+          foreign : (b q : ℕ) (area : Area) → Grant log q a b Heal area → q ≡ t → ⊥
+          foreign b q area grant same = true≢false (sym (ap (is_of a) (ap log (sym same) ∙ grant.is) ∙ same_self a) ∙ e)
+      go ih true e = record {
+        locks = λ b q area grant h. elim (step_of log t b q h) [
+          | inl same ↦ new_lock t a b area (present n files.keeps log t a) (record { took = grant.took; is = ap log (sym same) ∙ grant.is }) may
+          | inr w ↦ (let f = kept_freed files faults log honest t a b q Heal area grant (held_past log t b q w.0) w.1 in
+              own t a (present n files.keeps log t a) (log t) refl e refl may b q area grant (held_past log t b q w.0) w.0 f.0 f.1 (force_locks t a (exact n files.keeps log t a) (place log t a) ih b q area grant w.0))
+        ];
+        rest = own_rest t a (exact n files.keeps log t a) (place log t a) (log t) e may;
+      }
+        where
+          may : MayExactly n files.keeps (λ x. present n files.keeps log t a) (log t)
+          may = same_actor n files.keeps log t a (log t) e (moves t)

@@ -1,0 +1,16 @@
+pub mod Along
+pub mod Copies
+pub mod Bare
+pub mod Kept
+pub mod KeptLines
+pub mod KeptMends
+pub mod InForce
+pub mod KeptAlong
+pub mod Absent
+pub mod Shows
+pub mod Seen
+pub mod Raised
+pub mod PartLocks
+pub mod Told
+pub mod Unmoved
+pub mod Rounds

@@ -1,5 +1,0 @@
-//! Tests of which plans are run so far.
-#![tactic(auto)]
-
-#[cfg(test)]
-mod tests;

@@ -1,0 +1,64 @@
+-- The source that a healer's machine has chosen, and what a stored rule picks.
+use Rattle.std.specs.Prelude.{◌≡◌, ℕ, ◌||◌, not, Bool, true, false, List, Option, None, Some, map, if◌then◌else◌}
+use Rattle.afr_discipline.specs.Stands.{phase_of, seen_as}
+use Rattle.afr_discipline.specs.declared.register.Register.{Register}
+use Rattle.afr_healer.specs.Rounding.{Rounding}
+use Rattle.afr_healer.specs.declared.stage.RoundStage.{RoundStage}
+use Rattle.afr_healer.specs.declared.stage.RoundStage.TheVariants.{Healing}
+use Rattle.afr_model.specs.Chosen.{Picks}
+use Rattle.afr_moves.specs.Keeps.{keeps_in}
+use Rattle.afr_moves.specs.Register.{is_opening}
+use Rattle.afr_moves.specs.Steps.{looks_over}
+use Rattle.afr_rounds.specs.declared.healer.Healer.{Healer}
+use Rattle.afr_rule.specs.Choosing.{Calls, IsPick}
+use Rattle.afr_rule.specs.declared.candidate.Candidate.{Candidate}
+use Rattle.afr_self_heal.specs.Healing.{Healing as Heal}
+use Rattle.afr_self_heal.specs.declared.outcome.Outcome.{Outcome}
+use Rattle.afr_self_heal.specs.declared.outcome.Outcome.TheVariants.{Busy, Short, Nothing, Split}
+
+-- ---- the source of a healer
+-- the first looks of a heal are over
+abbrev pub has_looked : Register → Bool
+has_looked p = not (is_opening (phase_of p.phase)) || looks_over p.shape.n (keeps_in p.shape) (seen_as p) 0
+
+-- its first locks and looks don't end a heal so
+abbrev pub is_later : Outcome → Bool
+is_later (Busy owner) = false
+is_later Short = false
+is_later Nothing = false
+is_later Split = false
+is_later outcome = true
+
+-- a heal has a source once its first looks are over and didn't end it
+abbrev pub has_chosen : Heal → Bool
+has_chosen h = if h.register.broken then is_later h.outcome else has_looked h.register
+
+abbrev pub source_in : RoundStage → Option ℕ
+source_in (Healing h) = if has_chosen h then Some h.source.0 else None
+source_in stage = None
+
+abbrev pub source_at : Option Rounding → Option ℕ
+source_at None = None
+source_at (Some m) = source_in m.stage
+
+-- what a healer's machine has chosen for its running heal
+abbrev pub source_of : Healer → Option ℕ
+source_of x = source_at x.round
+
+-- the same of each
+abbrev pub sources_of : List Healer → List (Option ℕ)
+sources_of healers = map source_of healers
+
+-- ---- what a stored rule picks
+-- a candidate by its numbers
+abbrev pub numbers_of : Candidate → ℕ × ℕ
+numbers_of candidate = (candidate.brick.0, candidate.len)
+
+-- the function answers this brick for these candidates
+pub record IsPicked {F : Type 0} (calls : Calls F) (choose : F) (from : List (ℕ × ℕ)) (brick : ℕ) : Type 0 where
+  pub candidates : List Candidate
+  pub numbers : map numbers_of candidates ≡ from
+  pub pick : IsPick calls choose candidates (record { 0 = brick })
+
+abbrev pub picks_of : {F : Type 0} → Calls F → F → Picks
+picks_of calls choose = IsPicked calls choose

@@ -1,0 +1,6 @@
+//! The sources of the heals: each is one that the stored rule picked.
+#![tactic(auto)]
+
+mod laws;
+
+pub use laws::a_line_keeps_its_source;

@@ -1,0 +1,10 @@
+//! The summary of a run, as text: seven counts, a line for each.
+#![tactic(auto)]
+
+mod ends;
+mod lines;
+mod of_volume;
+mod summary;
+
+pub use of_volume::summary_text;
+pub use summary::print_summary;

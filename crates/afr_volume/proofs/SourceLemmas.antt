@@ -1,0 +1,144 @@
+-- The sources of the healers' running heals: what each turn leaves of them.
+use Rattle.std.proofs.Common.{◌≡◌, ◌∙◌, ℕ, zero, suc, ◌+◌, ◌-◌, ◌≤◌, ◌==◌, Bool, true, false, List, [], ◌∷◌, Option, Some, None, Result, Ok, Err, IfOk, OnErr, nat_le, refl, sym, ap, arith, subst, slice_get, slice_set, replicate, reverse, length, ◌++◌}
+use Rattle.std.proofs.lemmas.Bool.Decides.{nat_tests}
+use Rattle.afr_base.specs.declared.ids.ActorId.{ActorId}
+use Rattle.afr_base.specs.declared.ids.Gfid.{Gfid}
+use Rattle.afr_base.specs.declared.ids.Kind.{Kind}
+use Rattle.afr_healer.specs.Rounding.{Rounding}
+use Rattle.afr_healer.specs.declared.stage.RoundStage.{RoundStage}
+use Rattle.afr_healer.specs.declared.stage.RoundStage.TheVariants.{Asking, Healing, Over}
+use Rattle.afr_lines.specs.Work.{is_of}
+use Rattle.afr_lines.specs.declared.line.Event.{Event}
+use Rattle.afr_lines.specs.declared.line.Line.{Line}
+use Rattle.afr_lines.specs.declared.line.Line.TheVariants as line_of
+use Rattle.afr_lines.specs.declared.reply.HealReply.{HealReply}
+use Rattle.afr_model.specs.Chosen.{Picks}
+use Rattle.afr_model.specs.Following.{Follows, IsFollowing, KeepsToTask, ToCommand, ToRound}
+use Rattle.afr_plan.specs.declared.plan.Plan.{Plan}
+use Rattle.afr_rounds.specs.Acting.{Hearing, IsNewHealer}
+use Rattle.afr_rounds.specs.Keeping.{CarriesIts, HasBegun, IsHealer}
+use Rattle.afr_rounds.specs.declared.healer.Healer.{Healer}
+use Rattle.afr_server.specs.Serving.{Serving}
+use Rattle.afr_servers.specs.declared.epochs.Epochs.{Epochs}
+use Rattle.afr_sources.proofs.Turns.{client_keeps, each_same, ends_heal, ready_same, set_same, set_source}
+use Rattle.afr_sources.specs.Chosen.{AreChosen}
+use Rattle.afr_sources.specs.Sources.{source_at, source_in, source_of, sources_of}
+use Rattle.afr_volume.specs.Starting.{AreNewHealers}
+use Rattle.afr_volume.specs.State.{IsChosen, State, opened}
+use Rattle.afr_volume.specs.Turning.{AddsLine, Comes, KillsHealersIn, ReadiedHealerAt, StepsHealerAt, Turns, due_at}
+use Rattle.afr_volume.specs.declared.turned.Turned.{Turned}
+use Rattle.afr_volume.specs.declared.turned.Turned.TheVariants.{Ended, Full, Moved, Waits}
+use Rattle.afr_volume.proofs.LogLemmas.{reverse_push}
+
+-- ---- a healer that is made ready has the source that it had
+pub readied_sources : (p : Plan) (a : ℕ) (healers readied : List Healer) → ReadiedHealerAt p a healers readied → sources_of readied ≡ sources_of healers
+readied_sources p a healers readied r = ap sources_of r.set_is ∙ set_same healers (a - 17) r.before r.after r.was (ready_same p.shape r.brick r.before r.after r.readies)
+
+-- so a volume whose healer was made ready and wrote no line is as before
+pub unwritten : (p : Plan) (a : ℕ) (items kept : List Line) (healers readied now : List Healer) → ReadiedHealerAt p a healers readied → now ≡ readied → kept ≡ items
+    → ◌≡◌ {A = State} (record { plan = p; log = reverse kept; sources = sources_of now }) (record { plan = p; log = reverse items; sources = sources_of healers })
+unwritten p a items kept healers readied now r same none = rw (none, same, readied_sources p a healers readied r) refl
+
+pub whatever : {A E P : Type 0} (result : Result A E) → P → OnErr result P
+whatever (Ok x) k = tt
+whatever (Err e) k = k
+
+-- ---- before the first line
+asks_first : (stage : RoundStage) → HasBegun stage [] → source_in stage ≡ None
+asks_first Asking k = refl
+asks_first (Healing h) k = absurd k
+asks_first (Over refused) k = refl
+
+rests : (p : Plan) (a : ℕ) (met : Bool) (epochs : Epochs) (servers : List Serving) (r : Option Rounding) → CarriesIts p a [] met epochs servers r → source_at r ≡ None
+rests p a met epochs servers None k = refl
+rests p a met epochs servers (Some m) k = asks_first m.stage k.begun
+
+all_none : (l : List Healer) → ((i : ℕ) (x : Healer) → slice_get l i ≡ Some x → source_of x ≡ None) → sources_of l ≡ replicate (length l) None
+all_none [] each = refl
+all_none (x ∷ l) each = rw (each 0 x refl) (ap (λ (rest : List (Option ℕ)). None ∷ rest) (all_none l (λ i y h. each (suc i) y h)))
+
+pub all_rest_first : (p : Plan) (log : List Line) (servers : List Serving) (healers : List Healer) → length healers ≡ length p.healers → ((i : ℕ) (x : Healer) → slice_get healers i ≡ Some x → IsHealer p log (17 + i) servers x) → log ≡ []
+    → sources_of healers ≡ replicate (length p.healers) None
+all_rest_first p log servers healers same each none = rw (← same) (all_none healers (λ i x h. let k : IsHealer p [] (17 + i) servers x = rw none at (each i x h) in rests p (17 + i) x.met x.epochs servers x.round k.carries))
+
+pub rested_state : (p : Plan) (log : List Line) (sources : List (Option ℕ)) → log ≡ [] → sources ≡ replicate (length p.healers) None → record { plan = p; log = log; sources = sources } ≡ opened p
+rested_state p log sources none resting = rw (none, resting) refl
+
+fresh_source : (x : Healer) → IsNewHealer x → source_of x ≡ None
+fresh_source x k = rw k.idle refl
+
+pub new_state : (p : Plan) (log : List Line) (healers : List Healer) → log ≡ [] → AreNewHealers (length p.healers) healers → record { plan = p; log = log; sources = sources_of healers } ≡ opened p
+new_state p log healers none k = rested_state p log (sources_of healers) none (all_none healers (λ i x h. fresh_source x (k.each i x h)) ∙ ap (λ (n : ℕ). replicate n None) k.many)
+
+-- ---- a client's turn
+own_of : (a : ℕ) (line : Line) → is_of a line ≡ true → (c : ℕ) → is_of c line ≡ (a == c)
+own_of a (line_of.Ask x b r told took) own c = let same : x.0 ≡ a = grind (arith, nat_tests, own) in rw same refl
+own_of a (line_of.Begin x change) own c = let same : x.0 ≡ a = grind (arith, nat_tests, own) in rw same refl
+own_of a (line_of.HealBegin x g kind) own c = let same : x.0 ≡ a = grind (arith, nat_tests, own) in rw same refl
+own_of a (line_of.End x r) own c = let same : x.0 ≡ a = grind (arith, nat_tests, own) in rw same refl
+own_of a (line_of.HealEnd x g kind r) own c = let same : x.0 ≡ a = grind (arith, nat_tests, own) in rw same refl
+own_of a (line_of.Event event) own c = absurd (cc own)
+
+ends_none : (p : Plan) (x : ActorId) (g : Gfid) (kind : Kind) (said : HealReply) (log : List Line) → x.0 ≤ 16 → KeepsToTask p x.0 (line_of.HealEnd x g kind said) log → ⊥
+ends_none p x g kind said log small (ToCommand c is k) = k
+ends_none p x g kind said log small (ToRound low b is k) = absurd (omega (arith, small, low))
+
+client_unended : (p : Plan) (a : ℕ) (line : Line) (log : List Line) → a ≤ 16 → is_of a line ≡ true → IsFollowing p line log → ends_heal line ≡ false
+client_unended p a (line_of.Ask x b r told took) log small own k = refl
+client_unended p a (line_of.Begin x change) log small own k = refl
+client_unended p a (line_of.HealBegin x g kind) log small own k = refl
+client_unended p a (line_of.End x r) log small own k = refl
+client_unended p a (line_of.HealEnd x g kind r) log small own k = let same : x.0 ≡ a = grind (arith, nat_tests, own) in absurd (ends_none p x g kind r log (omega (arith, same, small)) k.1.0.keeps)
+client_unended p a (line_of.Event event) log small own k = refl
+
+-- sources that are the same at each place
+same_sources : (picks : Picks) (p : Plan) (log : List Line) (old new : List (Option ℕ)) → ((i : ℕ) → slice_get new i ≡ slice_get old i) → AreChosen picks p log old → AreChosen picks p log new
+same_sources picks p log old new same k = record { past = k.past; present = λ i source is. k.present i source (sym (same i) ∙ is) }
+
+client_adds : (picks : Picks) (a : ActorId) (old new : State) (waits : Option ActorId) → a.0 ≤ 16 → AddsLine a old waits new → Follows new.plan new.log → IsChosen picks old → IsChosen picks new
+client_adds picks a old new waits small h follows k =
+    let plan : new.plan ≡ old.plan = h.plan in
+    let added : new.log ≡ h.line ∷ old.log = h.added in
+    let f : Follows old.plan (h.line ∷ old.log) = rw (plan, added) at follows in
+    rw (plan, added)
+    (same_sources picks old.plan (h.line ∷ old.log) old.sources new.sources (λ i. h.others i (λ same. absurd (omega (arith, small, same))))
+    (client_keeps picks old.plan old.log old.sources a h.line small (own_of a.0 h.line h.own) (client_unended old.plan a.0 h.line old.log small h.own f.0) k))
+
+client_turn : (picks : Picks) (a : ActorId) (old new : State) (turned : Turned) → a.0 ≤ 16 → Turns a old turned new → Follows new.plan new.log → IsChosen picks old → IsChosen picks new
+client_turn picks a old new Moved small h follows k = client_adds picks a old new None small h follows k
+client_turn picks a old new (Waits owner) small h follows k = client_adds picks a old new (Some owner) small h follows k
+client_turn picks a old new Ended small h follows k = subst (IsChosen picks) (sym h.1) k
+client_turn picks a old new Full small h follows k = subst (IsChosen picks) (sym h.2) k
+
+-- ---- a turn, whoever takes it
+pub turn_chosen : {E : Type 0} (picks : Picks) (a : ActorId) (old new : State) (result : Result Turned E) → IfOk result (λ turned. Turns a old turned new) → OnErr result (new ≡ old) → Follows new.plan new.log → (17 ≤ a.0 → IsChosen picks old → IsChosen picks new) → IsChosen picks old → IsChosen picks new
+turn_chosen {E = E} picks a old new result ok err follows healer k = by (nat_le a.0 16) refl result ok err
+  where
+    by : (small : Bool) → nat_le a.0 16 ≡ small → (result : Result Turned E) → IfOk result (λ turned. Turns a old turned new) → OnErr result (new ≡ old) → IsChosen picks new
+    by false e result ok err = healer (grind (arith, nat_tests, e)) k
+    by true e (Ok turned) ok err = client_turn picks a old new turned (grind (arith, nat_tests, e)) ok follows k
+    by true e (Err none) ok err = subst (IsChosen picks) (sym err) k
+
+-- ---- a healer's line leaves the sources of the other healers
+other_set : (l : List (Option ℕ)) (i j : ℕ) (y : Option ℕ) → (i ≡ j → ⊥) → slice_get (slice_set l j y) i ≡ slice_get l i
+other_set [] i zero y other = refl
+other_set [] i (suc j) y other = refl
+other_set (x ∷ l) zero zero y other = absurd (other refl)
+other_set (x ∷ l) zero (suc j) y other = refl
+other_set (x ∷ l) (suc i) zero y other = refl
+other_set (x ∷ l) (suc i) (suc j) y other = other_set l i j y (λ same. other (ap suc same))
+
+pub healer_others : (Hears : Hearing) (p : Plan) (a : ActorId) (at : ℕ) (healers readied new : List Healer) (bricks after : List Serving) (line : Line) → 17 ≤ a.0 → ReadiedHealerAt p a.0 healers readied → StepsHealerAt Hears a at readied new bricks after line
+    → (i : ℕ) → (17 + i ≡ a.0 → ⊥) → slice_get (sources_of new) i ≡ slice_get (sources_of healers) i
+healer_others Hears p a at healers readied new bricks after line low r s i other =
+    let set_is : sources_of new ≡ slice_set (sources_of readied) (a.0 - 17) (source_of s.after) = ap sources_of s.set_is ∙ set_source readied (a.0 - 17) s.after in
+    let apart : (i ≡ a.0 - 17 → ⊥) = λ same. other (omega (arith, low, same)) in
+    ap (λ (l : List (Option ℕ)). slice_get l i) set_is ∙ other_set (sources_of readied) i (a.0 - 17) (source_of s.after) apart ∙ ap (λ (l : List (Option ℕ)). slice_get l i) (readied_sources p a.0 healers readied r)
+
+-- ---- an event leaves them all
+killed_sources : (event : Event) (old new : List Healer) → KillsHealersIn event old new → sources_of new ≡ sources_of old
+killed_sources event old new k = each_same old new k.count (λ i x y is at. ap source_of (k.each i x y is at))
+
+pub comes : (p : Plan) (items added : List Line) (healers after : List Healer) (event : Event) → due_at p (reverse items) ≡ Some event → added ≡ items ++ line_of.Event event ∷ [] → KillsHealersIn event healers after
+    → Comes (record { plan = p; log = reverse items; sources = sources_of healers }) (record { plan = p; log = reverse added; sources = sources_of after })
+comes p items added healers after event due grown killed = rw (grown, reverse_push items (line_of.Event event), killed_sources event healers after killed) (record { event = event; is_due = due; added = refl })
