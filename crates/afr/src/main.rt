@@ -2,7 +2,7 @@
 #![tactic(auto)]
 
 use afr_cli::afr_top;
-use afr_rule::{SourceRule, shipped};
+use afr_rule::{ReadRule, Rules, SourceRule, shipped};
 use afr_text::{StdSink, StdSource};
 use afr_volume::Volume;
 use std::alloc::Global;
@@ -22,14 +22,17 @@ fn main(rt: HostRuntime) -> ExitCode {
     let mut source = StdSource::new(rt.reader());
     let mut sink = StdSink::new(io::writer(&rt));
     let mut volume = ManuallyDrop::new(Volume::empty(rt.alloc()));
-    let rule = SourceRule::new(shipped::longest);
+    let rules = Rules {
+        heal: SourceRule::new(shipped::longest),
+        read: ReadRule::new(shipped::first),
+    };
     let status = afr_top(
         rt.alloc(),
         &words,
         &mut source,
         &mut sink,
         &mut *volume,
-        &rule,
+        &rules,
     );
     ExitCode::from(status)
 }

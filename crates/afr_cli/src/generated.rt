@@ -15,7 +15,7 @@ ghost use Rattle.afr_cli.specs.Statuses.{AreDone, IsFull, IsOver, IsWorkLeft};
 use crate::running::run_plan;
 use crate::status::Status;
 use afr_gen::{gen_plan, generated_plans_are_runnable};
-use afr_rule::{Candidate, SourceRule};
+use afr_rule::{Candidate, Rules};
 use afr_text::Sink;
 use afr_volume::Volume;
 use afr_words::Form;
@@ -23,14 +23,15 @@ use std::alloc::Global;
 
 /// Makes the plan of the generated load of number `n`, and runs it; then its summary is written.
 #[tactic(auto, using(crate::proofs::StatusLemmas::nothing_chosen, crate::proofs::StatusLemmas::nothing_ordered))]
-pub fn make_and_run<K: Sink, F: Fn(&[Candidate]) -> usize>(
+pub fn make_and_run<K: Sink, F: Fn(&[Candidate]) -> usize, G: Fn(&[Candidate]) -> usize>(
     alloc: Global,
     n: u32,
     sink: &mut K,
     volume: &mut Volume,
-    rule: &SourceRule<F>,
+    rules: &Rules<F, G>,
 ) -> u8
-    requires rule { IsRule F.Fn rule.now }
+    requires rule { IsRule F.Fn rules.now.heal }
+    requires read_rule { IsRule G.Fn rules.now.read }
     requires some { 1 ≤ n }
     requires few { n ≤ 2000 }
     requires fresh { volume.old ≡ no_volume }
@@ -45,12 +46,12 @@ pub fn make_and_run<K: Sink, F: Fn(&[Candidate]) -> usize>(
     ensures write { result ≡ 5 → Rose (K.faults sink.old) (K.faults sink.new) × AppendsFront (K.taken sink.old) (K.taken sink.new) (text_of (Form.Gen n) volume.new.plan volume.new.log)
         × IsComplete volume.new.plan volume.new.log × IsOver volume.new.plan volume.new.log }
     ensures memory { result ≡ 6 → sink.new ≡ sink.old }
-    ensures chosen { IsChosen (picks_of F.Fn rule.now) volume.new }
+    ensures chosen { IsChosen (picks_of G.Fn rules.now.read) (picks_of F.Fn rules.now.heal) volume.new }
 {
     match gen_plan(alloc, n) {
         Ok(plan) => {
             generated_plans_are_runnable();
-            run_plan(alloc, Form::Gen(n), plan, sink, volume, rule)
+            run_plan(alloc, Form::Gen(n), plan, sink, volume, rules)
         }
         Err(_) => Status::NoMemory as u8,
     }

@@ -30,7 +30,7 @@ use crate::messages::{answer, refuse};
 use crate::reading::{Unread, read_runnable};
 use crate::running::run_plan;
 use crate::status::Status;
-use afr_rule::{Candidate, SourceRule};
+use afr_rule::{Candidate, Rules};
 use afr_text::{Sink, Source};
 use afr_volume::Volume;
 use afr_words::{Form, form_of};
@@ -39,17 +39,19 @@ use std::alloc::Global;
 /// Serves the words, and answers the status. It ends with 2 where the words are no form that it
 /// serves, 3 where the plan is refused, 4 where the source failed, 5 where the sink failed, 6 where
 /// memory was wanting, and with 7 where the log was full before all work was done; the text of the
-/// form is written of a full log too. Heals ask the rule for their sources.
+/// form is written of a full log too. Heals ask one of the rules for their sources, and clients the
+/// other for the copies that they read.
 #[tactic(auto, using(crate::proofs::StatusLemmas::nothing_chosen, crate::proofs::StatusLemmas::nothing_ordered, crate::proofs::StatusLemmas::stops_at_usage))]
-pub fn afr_top<S: Source, K: Sink, F: Fn(&[Candidate]) -> usize>(
+pub fn afr_top<S: Source, K: Sink, F: Fn(&[Candidate]) -> usize, G: Fn(&[Candidate]) -> usize>(
     alloc: Global,
     words: &[String],
     source: &mut S,
     sink: &mut K,
     volume: &mut Volume,
-    rule: &SourceRule<F>,
+    rules: &Rules<F, G>,
 ) -> u8
-    requires rule { IsRule F.Fn rule.now }
+    requires rule { IsRule F.Fn rules.now.heal }
+    requires read_rule { IsRule G.Fn rules.now.read }
     requires fresh { volume.old ≡ no_volume }
 
     // A plan was run, and the text of the form is written.
@@ -96,10 +98,10 @@ pub fn afr_top<S: Source, K: Sink, F: Fn(&[Candidate]) -> usize>(
     ensures causes { EveryPrefix (HaveCauses volume.new.plan) volume.new.log }
     ensures alike { EveryPrefix (AreAlike volume.new.plan) volume.new.log }
     ensures quiet { AreQuietWhole volume.new.plan volume.new.log }
-    ensures chosen { IsChosen (picks_of F.Fn rule.now) volume.new }
+    ensures chosen { IsChosen (picks_of G.Fn rules.now.read) (picks_of F.Fn rules.now.heal) volume.new }
 {
     let status = match form_of(alloc, words) {
-        Ok(Some(form)) => serve(alloc, form, source, sink, volume, rule),
+        Ok(Some(form)) => serve(alloc, form, source, sink, volume, rules),
         Ok(None) => answer(
             sink,
             b"usage: afr run | trace | info | gen N | live\n",
@@ -113,15 +115,16 @@ pub fn afr_top<S: Source, K: Sink, F: Fn(&[Candidate]) -> usize>(
 
 /// Serves a form: a generated load is made, and nothing is read; each other form reads its plan from the source.
 #[tactic(auto, using(crate::proofs::StatusLemmas::nothing_chosen, crate::proofs::StatusLemmas::nothing_ordered))]
-fn serve<S: Source, K: Sink, F: Fn(&[Candidate]) -> usize>(
+fn serve<S: Source, K: Sink, F: Fn(&[Candidate]) -> usize, G: Fn(&[Candidate]) -> usize>(
     alloc: Global,
     form: Form,
     source: &mut S,
     sink: &mut K,
     volume: &mut Volume,
-    rule: &SourceRule<F>,
+    rules: &Rules<F, G>,
 ) -> u8
-    requires rule { IsRule F.Fn rule.now }
+    requires rule { IsRule F.Fn rules.now.heal }
+    requires read_rule { IsRule G.Fn rules.now.read }
     requires asked { (words : List (String Global)) × AskFor words form }
     requires fresh { volume.old ≡ no_volume }
     ensures ok { result ≡ 0 → IsPlanOf form (S.left source.old) (S.left source.new) volume.new.plan × Appends (K.taken sink.old) (K.taken sink.new) (text_of form volume.new.plan volume.new.log)
@@ -138,25 +141,26 @@ fn serve<S: Source, K: Sink, F: Fn(&[Candidate]) -> usize>(
     ensures plan { (volume.new ≡ no_volume) ⊎ IsPlanOf form (S.left source.old) (S.left source.new) volume.new.plan }
     ensures few { (result ≡ 0) ⊎ (result ≡ 3) ⊎ (result ≡ 4) ⊎ (result ≡ 5) ⊎ (result ≡ 6) ⊎ (result ≡ 7) }
     ensures ordered { IsOrdered volume.new.plan volume.new.log }
-    ensures chosen { IsChosen (picks_of F.Fn rule.now) volume.new }
+    ensures chosen { IsChosen (picks_of G.Fn rules.now.read) (picks_of F.Fn rules.now.heal) volume.new }
 {
     match form {
-        Form::Gen(n) => make_and_run(alloc, n, sink, volume, rule),
-        _ => read_and_run(alloc, form, source, sink, volume, rule),
+        Form::Gen(n) => make_and_run(alloc, n, sink, volume, rules),
+        _ => read_and_run(alloc, form, source, sink, volume, rules),
     }
 }
 
 /// Reads a plan from the source, and runs it; then the form's text is written.
 #[tactic(auto, using(crate::proofs::StatusLemmas::nothing_chosen, crate::proofs::StatusLemmas::nothing_ordered))]
-fn read_and_run<S: Source, K: Sink, F: Fn(&[Candidate]) -> usize>(
+fn read_and_run<S: Source, K: Sink, F: Fn(&[Candidate]) -> usize, G: Fn(&[Candidate]) -> usize>(
     alloc: Global,
     form: Form,
     source: &mut S,
     sink: &mut K,
     volume: &mut Volume,
-    rule: &SourceRule<F>,
+    rules: &Rules<F, G>,
 ) -> u8
-    requires rule { IsRule F.Fn rule.now }
+    requires rule { IsRule F.Fn rules.now.heal }
+    requires read_rule { IsRule G.Fn rules.now.read }
     requires reading { reads form ≡ true }
     requires fresh { volume.old ≡ no_volume }
     ensures ok { result ≡ 0 → IsSpelled (S.left source.old) (S.left source.new) volume.new.plan × Appends (K.taken sink.old) (K.taken sink.new) (text_of form volume.new.plan volume.new.log)
@@ -171,10 +175,10 @@ fn read_and_run<S: Source, K: Sink, F: Fn(&[Candidate]) -> usize>(
     ensures plan { (volume.new ≡ no_volume) ⊎ IsSpelled (S.left source.old) (S.left source.new) volume.new.plan }
     ensures few { (result ≡ 0) ⊎ (result ≡ 3) ⊎ (result ≡ 4) ⊎ (result ≡ 5) ⊎ (result ≡ 6) ⊎ (result ≡ 7) }
     ensures ordered { IsOrdered volume.new.plan volume.new.log }
-    ensures chosen { IsChosen (picks_of F.Fn rule.now) volume.new }
+    ensures chosen { IsChosen (picks_of G.Fn rules.now.read) (picks_of F.Fn rules.now.heal) volume.new }
 {
     match read_runnable(alloc, source) {
-        Ok(plan) => run_plan(alloc, form, plan, sink, volume, rule),
+        Ok(plan) => run_plan(alloc, form, plan, sink, volume, rules),
         Err(Unread::Refused(fault)) => refuse(alloc, sink, fault),
         Err(Unread::ReadFault) => Status::ReadFault as u8,
         Err(Unread::NoMemory) => Status::NoMemory as u8,

@@ -19,7 +19,7 @@ use afr_base::NoMemory;
 use afr_order::drive;
 use afr_plan::Plan;
 use afr_report::{info_text, report_text, trace_text};
-use afr_rule::{Candidate, SourceRule};
+use afr_rule::{Candidate, Rules};
 use afr_summary::summary_text;
 use afr_text::Sink;
 use afr_volume::Volume;
@@ -28,15 +28,16 @@ use std::alloc::Global;
 
 /// Runs a plan and writes the text of the form, also where the log got full in the middle of the work.
 #[tactic(auto, using(crate::proofs::StatusLemmas::nothing_chosen, crate::proofs::StatusLemmas::nothing_ordered))]
-pub fn run_plan<K: Sink, F: Fn(&[Candidate]) -> usize>(
+pub fn run_plan<K: Sink, F: Fn(&[Candidate]) -> usize, G: Fn(&[Candidate]) -> usize>(
     alloc: Global,
     form: Form,
     plan: Plan,
     sink: &mut K,
     volume: &mut Volume,
-    rule: &SourceRule<F>,
+    rules: &Rules<F, G>,
 ) -> u8
-    requires rule { IsRule F.Fn rule.now }
+    requires rule { IsRule F.Fn rules.now.heal }
+    requires read_rule { IsRule G.Fn rules.now.read }
     requires runnable { IsRunnable plan }
     requires fresh { volume.old ≡ no_volume }
     ensures few { (result ≡ 0) ⊎ (result ≡ 5) ⊎ (result ≡ 6) ⊎ (result ≡ 7) }
@@ -50,12 +51,12 @@ pub fn run_plan<K: Sink, F: Fn(&[Candidate]) -> usize>(
     ensures write { result ≡ 5 → Rose (K.faults sink.old) (K.faults sink.new) × AppendsFront (K.taken sink.old) (K.taken sink.new) (text_of form volume.new.plan volume.new.log)
         × IsComplete volume.new.plan volume.new.log × IsOver volume.new.plan volume.new.log }
     ensures memory { result ≡ 6 → sink.new ≡ sink.old }
-    ensures chosen { IsChosen (picks_of F.Fn rule.now) volume.new }
+    ensures chosen { IsChosen (picks_of G.Fn rules.now.read) (picks_of F.Fn rules.now.heal) volume.new }
 {
     if volume.set_up(plan).is_err() {
         return Status::NoMemory as u8;
     }
-    if drive(volume, rule).is_err() {
+    if drive(volume, rules).is_err() {
         return Status::NoMemory as u8;
     }
     let status = status_after(volume);

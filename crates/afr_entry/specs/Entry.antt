@@ -1,6 +1,6 @@
 -- A command on a name of a directory, step by step.
-use Rattle.std.specs.Prelude.{◌≡◌, ℕ, Bool, true, false, List, Option, Some, None, if◌then◌else◌}
-use Rattle.afr_base.specs.Bricks.{lowest}
+use Rattle.std.specs.Prelude.{◌≡◌, ℕ, Bool, true, false, List, [], Option, Some, None, if◌then◌else◌}
+use Rattle.afr_base.specs.Bricks.{member}
 use Rattle.afr_base.specs.declared.ids.BrickId.{BrickId}
 use Rattle.afr_base.specs.declared.ids.Gfid.{Gfid}
 use Rattle.afr_base.specs.declared.ids.Kind.TheVariants.{Names}
@@ -22,7 +22,11 @@ use Rattle.afr_lines.specs.declared.reply.Reply.TheVariants as reply
 use Rattle.afr_lines.specs.declared.request.Request.{Request}
 use Rattle.afr_lines.specs.declared.request.Request.TheVariants as request
 use Rattle.afr_discipline.specs.declared.register.Register.{Register}
+use Rattle.afr_rule.specs.Choosing.{Calls}
+use Rattle.afr_rule.specs.declared.candidate.Candidate.{Candidate}
+use Rattle.afr_walk.specs.Choosing.{IsAmong, RuleAnswers, candidates_of, reader_of}
 use Rattle.afr_walk.specs.Stops.{reply_of}
+use Rattle.afr_walk.specs.Walk as walks
 use Rattle.afr_walk.specs.Walk.{walk_from, next_in, walked, is_walking, IsWalk}
 use Rattle.afr_walk.specs.declared.walk.Walk.{Walk}
 use Rattle.afr_walk.specs.declared.walk.WalkStep.{WalkStep}
@@ -55,7 +59,7 @@ pub record Entering : Type 0 where
 -- ---- how it begins
 -- the path has led somewhere: only a directory has names
 abbrev pub at_directory : Entry → Register → EntryJob → EntryStage
-at_directory dir register job = if is_dir dir.what then Changing (starting (change_of dir.gfid job) register) Unread else Ending reply.NotDir
+at_directory dir register job = if is_dir dir.what then Changing (starting (change_of dir.gfid job) register) (Unread (record { 0 = 0 })) else Ending reply.NotDir
 
 -- where a step of the walk leaves the command
 abbrev pub after_step : WalkStep → EntryJob → Walk → EntryStage
@@ -73,17 +77,13 @@ abbrev pub entry_from : Shape → List NameId → EntryJob → Entering
 entry_from shape path job = record { walk = walk_from shape path; job = job; stage = after_walk job (walk_from shape path) }
 
 -- ---- what it asks
--- who is asked for the name: the lowest good copy of the directory, by the looks under the locks
-abbrev pub reader : Register → BrickId
-reader r = record { 0 = lowest (good_copies r.shape r.looked Names) }
-
 -- the request for the name
 abbrev pub reads_name : EntryJob → Walk → Request
 reads_name job w = request.ReadName w.object.gfid (name_of job)
 
--- the next line under the locks: the name is read before the attempt, and a refusal is said once no lock is left
+-- the next line under the locks: the name is read before the attempt, at the copy that was chosen, and a refusal is said once no lock is left
 abbrev pub next_under : Found → ℕ → EntryJob → Walk → Progress → Next
-next_under Unread at job w t = if is_beginning t.stage then next.Ask (reader t.register) (reads_name job w) else transaction.next_at t.stage at t
+next_under (Unread b) at job w t = if is_beginning t.stage then next.Ask b (reads_name job w) else transaction.next_at t.stage at t
 next_under Fits at job w t = transaction.next_at t.stage at t
 next_under (Refused why) at job w t = if transaction.is_over t.stage t then next.End (reply_to why) else transaction.next_at t.stage at t
 
@@ -133,8 +133,8 @@ settled None t = t
 settled (Some why) t = given_up t
 
 -- the register notes the read of the name
-abbrev pub name_noted : EntryJob → Walk → Told → ℕ → Progress → Progress
-name_noted job w told at t = noted_read (reader t.register).0 (reads_name job w) told at t
+abbrev pub name_noted : BrickId → EntryJob → Walk → Told → ℕ → Progress → Progress
+name_noted b job w told at t = noted_read b.0 (reads_name job w) told at t
 
 -- the transaction has its answer, where it has asked
 abbrev pub told_to : Told → ℕ → Progress → Progress
@@ -142,17 +142,17 @@ told_to told at t = if is_beginning t.stage then t else fed t.stage told at t
 
 -- the transaction after an answer
 abbrev pub progress_after : Found → Answer → ℕ → EntryJob → Walk → Progress → Progress
-progress_after Unread a at job w t = if is_beginning t.stage then settled (ruled_out job a) (name_noted job w (told_by a) at t) else fed t.stage (told_by a) at t
+progress_after (Unread b) a at job w t = if is_beginning t.stage then settled (ruled_out job a) (name_noted b job w (told_by a) at t) else fed t.stage (told_by a) at t
 progress_after found a at job w t = told_to (told_by a) at t
 
--- what the name was found to be, after an answer
-abbrev pub found_after : Found → Answer → EntryJob → Stage → Found
-found_after Unread a job stage = if is_beginning stage then found_by (ruled_out job a) else Unread
-found_after found a job stage = found
+-- what the name was found to be, after an answer; as long as it isn't read, this copy is the one to ask
+abbrev pub found_after : BrickId → Found → Answer → EntryJob → Stage → Found
+found_after chosen (Unread b) a job stage = if is_beginning stage then found_by (ruled_out job a) else Unread chosen
+found_after chosen found a job stage = found
 
 -- the directory that the name was found to lead to, where it is to be removed
 abbrev pub child_after : Found → Answer → EntryJob → Stage → Option Gfid
-child_after Unread a job stage = if is_beginning stage then child_by job a else None
+child_after (Unread b) a job stage = if is_beginning stage then child_by job a else None
 child_after found a job stage = None
 
 -- the change goes on, or a removal goes on to the directory itself
@@ -161,28 +161,50 @@ or_removes None t found = Changing t found
 or_removes (Some child) t found = Removes (removing t.change t.register child)
 
 -- a removal has its answer, where it has asked
-abbrev pub removal_after : Answer → ℕ → Removing → Removing
-removal_after a at m = if removal.is_beginning m.stage then m else removal.answered m.stage a at m
+abbrev pub removal_after : BrickId → Answer → ℕ → Removing → Removing
+removal_after chosen a at m = if removal.is_beginning m.stage then m else removal.answered chosen m.stage a at m
 
--- an answer moves the walk, while there is one
-abbrev pub walk_after : EntryStage → Answer → ℕ → Walk → Walk
-walk_after Walking a at w = walked a at w
-walk_after stage a at w = w
+-- ---- what the rule is asked for
+-- the good copies of the directory, where the looks under the locks are over
+abbrev pub offered : Progress → List Candidate
+offered t = if is_beginning t.stage then candidates_of t.register.shape t.register.looked Names else []
+
+-- so it is by the answer that ends them, before the name is read
+abbrev pub choices_under : Found → Answer → ℕ → Progress → List Candidate
+choices_under (Unread b) a at t = if is_beginning t.stage then [] else offered (fed t.stage (told_by a) at t)
+choices_under found a at t = []
+
+-- and the good copies of the directory that is removed
+abbrev pub choices_removing : Answer → ℕ → Removing → List Candidate
+choices_removing a at m = if removal.is_beginning m.stage then [] else removal.choices_at m.stage a at m
+
+-- what the rule is asked for at an answer
+abbrev pub choices_at : EntryStage → Answer → ℕ → Walk → List Candidate
+choices_at Walking a at w = walks.choices_of a w
+choices_at (Changing t found) a at w = choices_under found a at t
+choices_at (Removes m) a at w = choices_removing a at m
+choices_at (Ending said) a at w = []
+
+-- ---- what follows
+-- an answer moves the walk, while there is one; this copy is read next, where there is one to choose
+abbrev pub walk_after : BrickId → EntryStage → Answer → ℕ → Walk → Walk
+walk_after chosen Walking a at w = walked chosen a at w
+walk_after chosen stage a at w = w
 
 -- the stage after an answer, by the walk that it has moved
-abbrev pub stage_after : EntryStage → Answer → ℕ → EntryJob → Walk → EntryStage
-stage_after Walking a at job w = after_walk job w
-stage_after (Changing t found) a at job w = or_removes (child_after found a job t.stage) (progress_after found a at job w t) (found_after found a job t.stage)
-stage_after (Removes m) a at job w = Removes (removal_after a at m)
-stage_after (Ending said) a at job w = Ending said
+abbrev pub stage_after : BrickId → EntryStage → Answer → ℕ → EntryJob → Walk → EntryStage
+stage_after chosen Walking a at job w = after_walk job w
+stage_after chosen (Changing t found) a at job w = or_removes (child_after found a job t.stage) (progress_after found a at job w t) (found_after chosen found a job t.stage)
+stage_after chosen (Removes m) a at job w = Removes (removal_after chosen a at m)
+stage_after chosen (Ending said) a at job w = Ending said
 
 -- the command after an answer at this position
-abbrev pub answered : Answer → ℕ → Entering → Entering
-answered a at m = record { walk = walk_after m.stage a at m.walk; job = m.job; stage = stage_after m.stage a at m.job (walk_after m.stage a at m.walk) }
+abbrev pub answered : BrickId → Answer → ℕ → Entering → Entering
+answered chosen a at m = record { walk = walk_after chosen m.stage a at m.walk; job = m.job; stage = stage_after chosen m.stage a at m.job (walk_after chosen m.stage a at m.walk) }
 
 -- the transaction's attempt has its number; before the name is read it has none
 abbrev pub progress_begun : Found → ℕ → Progress → Progress
-progress_begun Unread at t = t
+progress_begun (Unread b) at t = t
 progress_begun found at t = if is_beginning t.stage then begun at t else t
 
 -- and the attempt of a removal
@@ -196,17 +218,34 @@ stage_begun (Removes m) at = Removes (removal_begun at m)
 stage_begun stage at = stage
 
 -- the command after its line was written and answered
-abbrev pub heard_by : Heard → Entering → Entering
-heard_by (heard.Answer a at) m = answered a at m
-heard_by (heard.Begun at) m = record m { stage = stage_begun m.stage at }
+abbrev pub heard_by : BrickId → Heard → Entering → Entering
+heard_by chosen (heard.Answer a at) m = answered chosen a at m
+heard_by chosen (heard.Begun at) m = record m { stage = stage_begun m.stage at }
+
+-- what the rule is asked for by what is heard
+abbrev pub choices_heard : Heard → Entering → List Candidate
+choices_heard (heard.Answer a at) m = choices_at m.stage a at m.walk
+choices_heard (heard.Begun at) m = []
+
+-- the command has heard this: the rule was asked where there was anything to choose from, and its copy is the one that is read
+pub record IsFed {F : Type 0} (calls : Calls F) (choose : F) (of : Heard) (old new : Entering) : Type 0 where
+  pub picked : Option BrickId
+  pub answers : RuleAnswers calls choose (choices_heard of old) picked
+  pub value : new ≡ heard_by (reader_of picked) of old
+
+-- the same, whatever rule it was: the copy that is read is one of those
+pub record IsAnswered (of : Heard) (old new : Entering) : Type 0 where
+  pub chosen : BrickId
+  pub among : IsAmong (choices_heard of old) chosen
+  pub value : new ≡ heard_by chosen of old
 
 -- ---- what it keeps
 -- the name is read between the looks and the attempt, and what it rules out is never begun
 abbrev pub fits_stage : Found → Stage → Bool
-fits_stage Unread Preparing = false
-fits_stage Unread Applying = false
-fits_stage Unread Posting = false
-fits_stage Unread stage = true
+fits_stage (Unread b) Preparing = false
+fits_stage (Unread b) Applying = false
+fits_stage (Unread b) Posting = false
+fits_stage (Unread b) stage = true
 fits_stage Fits Locking = false
 fits_stage Fits Looking = false
 fits_stage Fits stage = true
@@ -218,12 +257,18 @@ abbrev pub fits_job : Found → EntryJob → Bool
 fits_job Fits (Rmdir name) = false
 fits_job found job = true
 
+-- once the looks are over, the copy to ask for the name is a good one
+abbrev pub HasReader : Progress → Found → Type 0
+HasReader t (Unread b) = is_beginning t.stage ≡ true → member (good_copies t.register.shape t.register.looked Names) b.0 ≡ true
+HasReader t found = Unit {0}
+
 -- a sound transaction of the job's change of the directory that the path has led to
 pub record IsChanging (w : Walk) (job : EntryJob) (t : Progress) (found : Found) : Type 0 where
   pub sound : Sound t
   pub of_job : t.change ≡ change_of w.object.gfid job
   pub in_turn : fits_stage found t.stage ≡ true
   pub fits : fits_job found job ≡ true
+  pub reads : HasReader t found
 
 -- a sound removal with the job's change
 pub record IsRemoving (w : Walk) (job : EntryJob) (m : Removing) : Type 0 where

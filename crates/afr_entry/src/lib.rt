@@ -8,7 +8,7 @@ mod refusal;
 mod stage;
 
 pub use job::EntryJob;
-pub use laws::an_entry_keeps_the_discipline;
+pub use laws::{an_entry_keeps_the_discipline, an_entry_reads_good_copies};
 pub use machine::EntryMachine;
 pub use refusal::Refusal;
 pub use stage::{EntryStage, Found};

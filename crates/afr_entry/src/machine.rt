@@ -1,17 +1,20 @@
 //! The machine of one command on a name: what it asks next, and what it makes of the answers.
 ghost use Rattle.std.specs.Prelude.{◌≡◌, ◌<◌, ◌≤◌, IfOk, false, true};
-ghost use Rattle.afr_entry.specs.Entry.{CarriesNext, IsEntry, answered, entry_from, heard_by, is_over, next_of, next_under, reader, reads_name, register_of, stage_begun};
+ghost use Rattle.afr_entry.specs.Entry.{CarriesNext, IsEntry, IsFed, answered, choices_at, entry_from, is_over, next_of, next_under, reads_name, register_of, stage_begun};
+ghost use Rattle.afr_rule.specs.Choosing.{IsRule};
+ghost use Rattle.afr_walk.specs.Choosing.{RuleAnswers, reader_of};
 ghost use Rattle.afr_transaction.specs.Progress.{is_beginning};
 ghost use Rattle.afr_walk.specs.Free.{Allows};
 ghost use Rattle.afr_walk.specs.Walk.{IsWalk, is_walking, next_in};
 
 use crate::job::EntryJob;
 use crate::refusal::reply_to;
-use crate::stage::{EntryStage, Found, left_by, reader, reads_name, stage_begun, stage_heard};
-use afr_base::{NameId, NoMemory, Shape};
+use crate::stage::{EntryStage, Found, left_by, reads_name, stage_begun, stage_heard};
+use afr_base::{BrickId, NameId, NoMemory, Shape};
 use afr_discipline::Register;
 use afr_lines::{Answer, Heard, KeptReply, Next};
 use afr_object::Load;
+use afr_rule::{Candidate, ReadRule};
 use afr_transaction::Transaction;
 use afr_walk::Walk;
 use std::alloc::Global;
@@ -87,13 +90,17 @@ impl EntryMachine {
         }
     }
 
-    /// The line was written, and the brick has answered. An End line isn't fed.
-    pub fn feed(&mut self, heard: Heard)
-        requires { is_over self.old.stage ≡ false }
-        ensures { self.new ≡ heard_by heard self.old }
+    /// The line was written, and the brick has answered. Once all copies of a directory were looked at the rule picks the one
+    /// that is read. An End line isn't fed.
+    pub fn feed<G: Fn(&[Candidate]) -> usize>(&mut self, heard: Heard, rule: &ReadRule<G>)
+        requires rule { IsRule G.Fn rule.now }
+        requires more { is_over self.old.stage ≡ false }
+        ensures { IsFed G.Fn rule.now heard self.old self.new }
     {
         match &heard {
-            Heard::Answer(answer, at) => self.hear(answer, *at),
+            Heard::Answer(answer, at) => {
+                self.hear(answer, *at, rule);
+            }
             Heard::Begun(at) => self.begin(*at),
         }
     }
@@ -148,12 +155,20 @@ impl EntryMachine {
         }
     }
 
-    /// The request was written, and the brick has answered.
-    pub fn hear(&mut self, answer: &Answer, at: u32)
-        requires { is_over self.old.stage ≡ false }
-        ensures { self.new ≡ answered answer.now at self.old }
+    /// The request was written, and the brick has answered. Once all copies of a directory were looked at the rule picks the
+    /// one that is read; this is what it has picked now.
+    pub fn hear<G: Fn(&[Candidate]) -> usize>(
+        &mut self,
+        answer: &Answer,
+        at: u32,
+        rule: &ReadRule<G>,
+    ) -> Option<BrickId>
+        requires rule { IsRule G.Fn rule.now }
+        requires more { is_over self.old.stage ≡ false }
+        ensures picked { RuleAnswers G.Fn rule.now (choices_at self.old.stage answer.now at self.old.walk) result }
+        ensures value { self.new ≡ answered (reader_of result) answer.now at self.old }
     {
-        stage_heard(&mut self.walk, self.job, &mut self.stage, answer, at);
+        stage_heard(&mut self.walk, self.job, &mut self.stage, answer, at, rule)
     }
 
     fn begin(&mut self, at: u32)
@@ -186,9 +201,9 @@ fn changing(
     ensures { IfOk result (λ next. next ≡ next_under found position job walk.now transaction.now) }
 {
     match found {
-        Found::Unread => {
+        Found::Unread(brick) => {
             if transaction.is_beginning() {
-                return Ok(naming(walk, job, transaction));
+                return Ok(Next::Ask(brick, reads_name(job, walk)));
             }
             transaction.next(alloc, position)
         }
@@ -200,15 +215,6 @@ fn changing(
             transaction.next(alloc, position)
         }
     }
-}
-
-/// A good copy of the directory is asked for the name.
-fn naming(walk: &Walk, job: EntryJob, transaction: &Transaction) -> Next
-    requires sound { IsEntry walk.now job (EntryStage.Changing transaction.now Found.Unread) }
-    requires beginning { is_beginning transaction.now.stage ≡ true }
-    ensures { result ≡ Next.Ask (reader transaction.now.register) (reads_name job walk.now) }
-{
-    Next::Ask(reader(transaction.register()), reads_name(job, walk))
 }
 
 fn ending(alloc: Global, reply: &KeptReply) -> Result<Next, NoMemory>

@@ -1,33 +1,35 @@
 //! The stages of a command on a name, and what an answer makes of each.
 ghost use Rattle.std.specs.Prelude.{◌≡◌, ◌<◌, ◌≤◌, false, not, true};
-ghost use Rattle.afr_base.specs.Bricks.{is_nothing};
-ghost use Rattle.afr_choice.specs.Verdict.{good_copies};
-ghost use Rattle.afr_entry.specs.Entry.{IsEntry, IsToRemove, after_walk, at_directory, child_after, found_after, found_by, is_over, name_noted, progress_after, progress_begun, reader, reads_name, removal_after, removal_begun, settled, stage_after, stage_begun, told_to, walk_after};
+ghost use Rattle.afr_entry.specs.Entry.{IsEntry, IsToRemove, after_walk, at_directory, child_after, choices_at, choices_removing, choices_under, found_after, found_by, is_over, name_noted, offered, progress_after, progress_begun, reads_name, removal_after, removal_begun, settled, stage_after, stage_begun, told_to, walk_after};
 ghost use Rattle.afr_entry.specs.Job.{change_of, ruled_out};
+ghost use Rattle.afr_lines.specs.Areas.{kind_for};
 ghost use Rattle.afr_object.specs.Tables.{is_dir};
 ghost use Rattle.afr_removal.specs.Removal as removing_of;
 ghost use Rattle.afr_removal.specs.Removal.{removing};
 ghost use Rattle.afr_transaction.specs.Progress as progress;
 ghost use Rattle.afr_transaction.specs.Progress.{is_beginning};
 ghost use Rattle.afr_transaction.specs.Sound.{IsUnused};
+ghost use Rattle.afr_rule.specs.Choosing.{IsRule};
+ghost use Rattle.afr_walk.specs.Choosing.{RuleAnswers, reader_of};
 ghost use Rattle.afr_walk.specs.Walk.{IsWalk, is_walking};
 
 use crate::job::{EntryJob, change_of, name_of};
 use crate::refusal::{Refusal, child_by, ruled_out};
 use afr_base::{BrickId, Gfid, Kind, What};
-use afr_choice::good;
 use afr_discipline::Register;
 use afr_lines::{Answer, KeptReply, Reply, Request, Told, told_of};
 use afr_object::Entry;
 use afr_removal::Removal;
+use afr_rule::{Candidate, ReadRule};
 use afr_transaction::Transaction;
-use afr_walk::{Walk, WalkStep, choose, stop_reply};
+use afr_walk::{Walk, WalkStep, pick, reader_of, stop_reply};
 
 /// What the name was found to be under its locks, before the attempt.
 #[derive(Clone, Copy, Debug)]
 pub enum Found {
-    /// Nobody has told yet, and where the locks or the looks have failed, nobody is asked.
-    Unread,
+    /// Nobody has told yet, and where the locks or the looks have failed, nobody is asked. Once the looks are over this is the
+    /// copy to ask, which the rule picked then.
+    Unread(BrickId),
     /// The change goes on.
     Fits,
     /// The change is ruled out.
@@ -76,7 +78,10 @@ fn arrived(job: EntryJob, dir: Entry, register: Register) -> EntryStage
     ensures { result ≡ at_directory dir register job }
 {
     match dir.what {
-        What::Dir => EntryStage::Changing(begins(job, dir.gfid, register), Found::Unread),
+        What::Dir => {
+            let unread = Found::Unread(BrickId(0));
+            EntryStage::Changing(begins(job, dir.gfid, register), unread)
+        }
         What::File => EntryStage::Ending(KeptReply::new(Reply::NotDir)),
     }
 }
@@ -90,15 +95,6 @@ fn begins(job: EntryJob, dir: Gfid, register: Register) -> Transaction
     Transaction::continuing(register, change_of(dir, job))
 }
 
-/// Who is asked for the name: the lowest good copy of the directory.
-pub(crate) fn reader(register: &Register) -> BrickId
-    requires { is_nothing (good_copies register.now.shape register.now.looked Kind.Names) ≡ false }
-    ensures value { result ≡ reader register.now }
-    ensures small { result.0 < 5 }
-{
-    choose(good(&register.shape, &register.looked, Kind::Names))
-}
-
 pub(crate) fn reads_name(job: EntryJob, walk: &Walk) -> Request
     ensures { result ≡ reads_name job walk.now }
 {
@@ -109,36 +105,43 @@ pub(crate) fn reads_name(job: EntryJob, walk: &Walk) -> Request
 }
 
 /// The stage hears an answer at this position, which the register of the walk or of the transaction notes. It is written
-/// anew only where the walk has ended.
-pub(crate) fn stage_heard(
+/// anew only where the walk has ended. Once all copies of a directory were looked at the rule picks one; this is what it has
+/// picked now.
+pub(crate) fn stage_heard<G: Fn(&[Candidate]) -> usize>(
     walk: &mut Walk,
     job: EntryJob,
     stage: &mut EntryStage,
     answer: &Answer,
     at: u32,
-)
+    rule: &ReadRule<G>,
+) -> Option<BrickId>
+    requires rule { IsRule G.Fn rule.now }
     requires sound { IsEntry walk.old job stage.old }
     requires more { is_over stage.old ≡ false }
-    ensures walk { walk.new ≡ walk_after stage.old answer.now at walk.old }
-    ensures stage { stage.new ≡ stage_after stage.old answer.now at job (walk_after stage.old answer.now at walk.old) }
+    ensures picked { RuleAnswers G.Fn rule.now (choices_at stage.old answer.now at walk.old) result }
+    ensures walk { walk.new ≡ walk_after (reader_of result) stage.old answer.now at walk.old }
+    ensures stage { stage.new ≡ stage_after (reader_of result) stage.old answer.now at job (walk_after (reader_of result) stage.old answer.now at walk.old) }
     ensures kept { IsEntry walk.new job stage.new }
 {
     match stage {
         EntryStage::Walking => {
-            walk.hear(answer, at);
+            let picked = walk.hear(answer, at, rule);
             if has_ended(walk) {
                 leave(job, walk, stage);
             }
+            picked
         }
         EntryStage::Changing(transaction, found) => {
             let child = child_after(*found, transaction, job, answer);
-            *found = change_heard(walk, job, transaction, *found, answer, at);
+            let (after, picked) = change_heard(walk, job, transaction, *found, answer, at, rule);
+            *found = after;
             if let Some(child) = child {
                 *stage = removes(walk, job, transaction, child);
             }
+            picked
         }
-        EntryStage::Removes(removal) => removal_heard(removal, answer, at),
-        EntryStage::Ending(_) => {}
+        EntryStage::Removes(removal) => removal_heard(removal, answer, at, rule),
+        EntryStage::Ending(_) => None,
     }
 }
 
@@ -162,7 +165,7 @@ fn child_after(
     ensures { result ≡ child_after found answer.now job transaction.now.stage }
 {
     match found {
-        Found::Unread => {
+        Found::Unread(_) => {
             if transaction.is_beginning() {
                 child_by(job, answer)
             } else {
@@ -182,34 +185,46 @@ fn removes(walk: &Walk, job: EntryJob, transaction: &Transaction, child: Gfid) -
     EntryStage::Removes(Removal::new(register, change_of(walk.object.gfid, job), child))
 }
 
-fn removal_heard(removal: &mut Removal, answer: &Answer, at: u32)
-    requires { removing_of.is_over removal.old.stage removal.old ≡ false }
-    ensures { removal.new ≡ removal_after answer.now at removal.old }
+fn removal_heard<G: Fn(&[Candidate]) -> usize>(
+    removal: &mut Removal,
+    answer: &Answer,
+    at: u32,
+    rule: &ReadRule<G>,
+) -> Option<BrickId>
+    requires rule { IsRule G.Fn rule.now }
+    requires more { removing_of.is_over removal.old.stage removal.old ≡ false }
+    ensures picked { RuleAnswers G.Fn rule.now (choices_removing answer.now at removal.old) result }
+    ensures value { removal.new ≡ removal_after (reader_of result) answer.now at removal.old }
 {
-    if !removal.is_beginning() {
-        removal.answer(answer, at);
+    if removal.is_beginning() {
+        return None;
     }
+    removal.answer(answer, at, rule)
 }
 
-/// The transaction hears an answer, of which the name's tells what the name was found to be.
-fn change_heard(
+/// The transaction hears an answer, of which the name's tells what the name was found to be. Beside that comes what the rule
+/// has picked.
+fn change_heard<G: Fn(&[Candidate]) -> usize>(
     walk: &Walk,
     job: EntryJob,
     transaction: &mut Transaction,
     found: Found,
     answer: &Answer,
     at: u32,
-) -> Found
+    rule: &ReadRule<G>,
+) -> (Found, Option<BrickId>)
+    requires rule { IsRule G.Fn rule.now }
     requires sound { IsEntry walk.now job (EntryStage.Changing transaction.old found) }
     requires more { progress.is_over transaction.old.stage transaction.old ≡ false }
     ensures transaction { transaction.new ≡ progress_after found answer.now at job walk.now transaction.old }
-    ensures found { result ≡ found_after found answer.now job transaction.old.stage }
+    ensures picked { RuleAnswers G.Fn rule.now (choices_under found answer.now at transaction.old) result.1 }
+    ensures found { result.0 ≡ found_after (reader_of result.1) found answer.now job transaction.old.stage }
 {
     match found {
-        Found::Unread => unread_heard(walk, job, transaction, answer, at),
+        Found::Unread(brick) => unread_heard(walk, job, transaction, brick, answer, at, rule),
         Found::Fits | Found::Refused(_) => {
             told_to(transaction, &told_of(answer), at);
-            found
+            (found, None)
         }
     }
 }
@@ -223,33 +238,61 @@ fn told_to(transaction: &mut Transaction, told: &Told, at: u32)
     }
 }
 
-fn unread_heard(
+fn unread_heard<G: Fn(&[Candidate]) -> usize>(
     walk: &Walk,
     job: EntryJob,
     transaction: &mut Transaction,
+    brick: BrickId,
     answer: &Answer,
     at: u32,
-) -> Found
-    requires sound { IsEntry walk.now job (EntryStage.Changing transaction.old Found.Unread) }
+    rule: &ReadRule<G>,
+) -> (Found, Option<BrickId>)
+    requires rule { IsRule G.Fn rule.now }
+    requires sound { IsEntry walk.now job (EntryStage.Changing transaction.old (Found.Unread brick)) }
     requires more { progress.is_over transaction.old.stage transaction.old ≡ false }
-    ensures transaction { transaction.new ≡ progress_after Found.Unread answer.now at job walk.now transaction.old }
-    ensures found { result ≡ found_after Found.Unread answer.now job transaction.old.stage }
+    ensures transaction { transaction.new ≡ progress_after (Found.Unread brick) answer.now at job walk.now transaction.old }
+    ensures picked { RuleAnswers G.Fn rule.now (choices_under (Found.Unread brick) answer.now at transaction.old) result.1 }
+    ensures found { result.0 ≡ found_after (reader_of result.1) (Found.Unread brick) answer.now job transaction.old.stage }
 {
     if !transaction.is_beginning() {
         transaction.feed(&told_of(answer), at);
-        return Found::Unread;
+        let picked = picked_under(transaction, rule);
+        return (Found::Unread(reader_of(picked)), picked);
     }
-    note_name(walk, job, transaction, &told_of(answer), at);
-    settle(transaction, ruled_out(job, answer))
+    note_name(walk, job, transaction, brick, &told_of(answer), at);
+    (settle(transaction, ruled_out(job, answer)), None)
 }
 
-/// The name was told.
-fn note_name(walk: &Walk, job: EntryJob, transaction: &mut Transaction, told: &Told, at: u32)
-    requires sound { IsEntry walk.now job (EntryStage.Changing transaction.old Found.Unread) }
-    requires beginning { is_beginning transaction.old.stage ≡ true }
-    ensures { transaction.new ≡ name_noted job walk.now told.now at transaction.old }
+/// Once the looks under the locks are over the rule picks the copy of the directory that is asked for the name.
+fn picked_under<G: Fn(&[Candidate]) -> usize>(
+    transaction: &Transaction,
+    rule: &ReadRule<G>,
+) -> Option<BrickId>
+    requires rule { IsRule G.Fn rule.now }
+    requires names { kind_for transaction.now.change ≡ Kind.Names }
+    ensures { RuleAnswers G.Fn rule.now (offered transaction.now) result }
 {
-    let brick = reader(transaction.register());
+    if !transaction.is_beginning() {
+        return None;
+    }
+    transaction.stays_sound();
+    let r = transaction.register();
+    Some(pick(&r.shape, &r.looked, Kind::Names, rule))
+}
+
+/// The name was told by this brick.
+fn note_name(
+    walk: &Walk,
+    job: EntryJob,
+    transaction: &mut Transaction,
+    brick: BrickId,
+    told: &Told,
+    at: u32,
+)
+    requires sound { IsEntry walk.now job (EntryStage.Changing transaction.old (Found.Unread brick)) }
+    requires beginning { is_beginning transaction.old.stage ≡ true }
+    ensures { transaction.new ≡ name_noted brick job walk.now told.now at transaction.old }
+{
     transaction.note_read(brick, &reads_name(job, walk), told, at);
 }
 
@@ -283,7 +326,7 @@ fn begun(found: Found, transaction: &mut Transaction, at: u32)
     ensures { transaction.new ≡ progress_begun found at transaction.old }
 {
     match found {
-        Found::Unread => {}
+        Found::Unread(_) => {}
         Found::Fits | Found::Refused(_) => {
             if transaction.is_beginning() {
                 transaction.feed(&Told::Done, at);

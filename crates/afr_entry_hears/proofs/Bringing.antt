@@ -34,7 +34,7 @@ use Rattle.afr_removal.specs.Removal.{Removing}
 use Rattle.afr_removal.specs.Sound.{IsRemoval}
 use Rattle.afr_removal.specs.declared.stage.RemovalStage.{RemovalStage}
 use Rattle.afr_removal.specs.declared.stage.RemovalStage.TheVariants as removing
-use Rattle.afr_entry.specs.Entry.{CarriesNext, IsChanging, IsStage, fits_stage, next_at, next_under, reader, reads_name}
+use Rattle.afr_entry.specs.Entry.{CarriesNext, IsChanging, IsStage, fits_stage, next_at, next_under, reads_name}
 use Rattle.afr_entry.specs.Job.{reply_to}
 use Rattle.afr_entry.specs.declared.job.EntryJob.{EntryJob}
 use Rattle.afr_entry.specs.declared.refusal.Refusal.{Refusal}
@@ -61,8 +61,8 @@ module _ (p : Plan) (c : Command) (log : List Line) (a : ActorId) (b : BrickId) 
       subst (λ (r : Request). Brings r carried log past) (asked_stage t.stage (length log) t b request e).1
       (stage_brings p log a t past k.on.tells.sets t.stage k.on.tells.during carried brought)
 
-  unread_brings : Changes p c job w.object t Unread (work a.0 log) → transaction.next_at t.stage (length log) t ≡ next.Ask b request → Brings request carried log past
-  unread_brings k e =
+  unread_brings : (copy : BrickId) → Changes p c job w.object t (Unread copy) (work a.0 log) → transaction.next_at t.stage (length log) t ≡ next.Ask b request → Brings request carried log past
+  unread_brings copy k e =
       subst (λ (r : Request). Brings r carried log past) (asked_stage t.stage (length log) t b request e).1
       (stage_brings p log a t past k.on.0.tells.sets t.stage k.on.0.tells.during carried brought)
 
@@ -72,11 +72,11 @@ module _ (p : Plan) (c : Command) (log : List Line) (a : ActorId) (b : BrickId) 
   unlock_brings why stage h = absurd (cc h)
 
   under_brings : (found : Found) → IsChanging w job t found → Changes p c job w.object t found (work a.0 log) → next_under found (length log) job w t ≡ next.Ask b request → Brings request carried log past
-  under_brings Unread sound k e = go (is_beginning t.stage) e
+  under_brings (Unread copy) sound k e = go (is_beginning t.stage) e
     where
-      go : (x : Bool) → (if x then next.Ask (reader t.register) (reads_name job w) else transaction.next_at t.stage (length log) t) ≡ next.Ask b request → Brings request carried log past
-      go true e = asks_same (λ (x : BrickId) (r : Request). Brings r carried log past) (reader t.register) b (reads_name job w) request e (name_brings t past log job w carried)
-      go false e = unread_brings k e
+      go : (x : Bool) → (if x then next.Ask copy (reads_name job w) else transaction.next_at t.stage (length log) t) ≡ next.Ask b request → Brings request carried log past
+      go true e = asks_same (λ (x : BrickId) (r : Request). Brings r carried log past) copy b (reads_name job w) request e (name_brings t past log job w carried)
+      go false e = unread_brings copy k e
   under_brings Fits sound k e = goes_brings k e
   under_brings (Refused why) sound k e = go (is_over t.stage t) e
     where
@@ -157,9 +157,9 @@ stage_new Closing at t change e = absurd (go (is_nothing t.register.held) e)
     go false e = cc e
 
 under_new : (found : Found) (at : ℕ) (job : EntryJob) (w : Walk) (t : Progress) (change : Change) → next_under found at job w t ≡ next.Begin change → HasNewGfid at change
-under_new Unread at job w t change e = go (is_beginning t.stage) e
+under_new (Unread copy) at job w t change e = go (is_beginning t.stage) e
   where
-    go : (x : Bool) → (if x then next.Ask (reader t.register) (reads_name job w) else transaction.next_at t.stage at t) ≡ next.Begin change → HasNewGfid at change
+    go : (x : Bool) → (if x then next.Ask copy (reads_name job w) else transaction.next_at t.stage at t) ≡ next.Begin change → HasNewGfid at change
     go true e = absurd (cc e)
     go false e = stage_new t.stage at t change e
 under_new Fits at job w t change e = stage_new t.stage at t change e

@@ -40,7 +40,7 @@ use Rattle.afr_walk.specs.Walk as walk
 use Rattle.afr_walk.specs.declared.walk.Walk.{Walk}
 use Rattle.afr_walk.specs.declared.walk.WalkStep.{WalkStep}
 use Rattle.afr_walk.specs.declared.walk.WalkStep.TheVariants as walking
-use Rattle.afr_entry.specs.Entry.{IsChanging, IsStage, fits_stage, next_at, next_under, reader, reads_name}
+use Rattle.afr_entry.specs.Entry.{IsChanging, IsStage, fits_stage, next_at, next_under, reads_name}
 use Rattle.afr_entry.specs.Job.{name_of, reply_to}
 use Rattle.afr_entry.specs.declared.job.EntryJob.{EntryJob}
 use Rattle.afr_entry.specs.declared.refusal.Refusal.{Refusal}
@@ -139,14 +139,14 @@ module _ (p : Plan) (log : List Line) (a : ActorId) (b : BrickId) (request : Req
   told_without : (dir : Entry) → is_look request ≡ false → CanTell dir request (told_by heard)
   told_without dir free = let k = can_tell p log a b heard took root_entry (Top refl refl) request h (at_any root_entry request free) in record { fits = k.fits; phase = k.phase; shows = λ view seen look. absurd (cc (look, free)) }
 
-  by_stage : (stage : Stage) (dir : Entry) → (is_beginning stage ≡ true → CanName p dir b.0 request log heard) → (is_beginning stage ≡ false → CanTell dir request (told_by heard)) → CanHearUnder Unread stage p dir b.0 request log heard
-  by_stage Locking dir name other = other refl
-  by_stage Looking dir name other = other refl
-  by_stage Beginning dir name other = name refl
-  by_stage Preparing dir name other = other refl
-  by_stage Applying dir name other = other refl
-  by_stage Posting dir name other = other refl
-  by_stage Closing dir name other = other refl
+  by_stage : (copy : BrickId) (stage : Stage) (dir : Entry) → (is_beginning stage ≡ true → CanName p dir b.0 request log heard) → (is_beginning stage ≡ false → CanTell dir request (told_by heard)) → CanHearUnder (Unread copy) stage p dir b.0 request log heard
+  by_stage copy Locking dir name other = other refl
+  by_stage copy Looking dir name other = other refl
+  by_stage copy Beginning dir name other = name refl
+  by_stage copy Preparing dir name other = other refl
+  by_stage copy Applying dir name other = other refl
+  by_stage copy Posting dir name other = other refl
+  by_stage copy Closing dir name other = other refl
 
   -- ---- of the child of a removal
   phase_of : (asked : Request) → IsHeard p log a b asked heard took → FitsPhase asked (told_by heard)
@@ -189,29 +189,29 @@ module _ (p : Plan) (log : List Line) (a : ActorId) (b : BrickId) (request : Req
 
     under : (found : Found) → IsChanging w job t found → Changes p (command_of job w.path) job w.object t found (work a.0 log) → next_under found (length log) job w t ≡ next.Ask b request
         → CanHearUnder found t.stage p w.object b.0 request log heard
-    under Unread sound k e = by_stage t.stage w.object (λ f. name f) (λ f. other f)
+    under (Unread copy) sound k e = by_stage copy t.stage w.object (λ f. name f) (λ f. other f)
       where
-        pick : (x : Bool) → is_beginning t.stage ≡ x → next_under Unread (length log) job w t ≡ (if x then next.Ask (reader t.register) (reads_name job w) else next_change t.stage (length log) t)
-        pick x f = ap (λ (y : Bool). if y then next.Ask (reader t.register) (reads_name job w) else next_change t.stage (length log) t) f
+        pick : (x : Bool) → is_beginning t.stage ≡ x → next_under (Unread copy) (length log) job w t ≡ (if x then next.Ask copy (reads_name job w) else next_change t.stage (length log) t)
+        pick x f = ap (λ (y : Bool). if y then next.Ask copy (reads_name job w) else next_change t.stage (length log) t) f
 
-        there : is_beginning t.stage ≡ true → IsThere p log (reader t.register).0 (reads_name job w)
+        there : is_beginning t.stage ≡ true → IsThere p log copy.0 (reads_name job w)
         there f =
-            let line = read_line p job w (work a.0 log) t k.place k.directory k.unread a log sound k.on.0 k.name f (told_by heard) took in
-            record { free = refl; has = good_has p a.0 log w.object.gfid Names (reader t.register).0 h.honest line.0.good }
+            let line = read_line p job w (work a.0 log) t k.place k.directory k.unread a log copy sound k.on.0 k.name f (told_by heard) took in
+            record { free = refl; has = good_has p a.0 log w.object.gfid Names copy.0 h.honest line.0.good }
 
-        named : CanAnswer p (reader t.register).0 (reads_name job w) log heard → CanName p w.object (reader t.register).0 (reads_name job w) log heard
+        named : CanAnswer p copy.0 (reads_name job w) log heard → CanName p w.object copy.0 (reads_name job w) log heard
         named can = record {
           answers = can;
           elsewhere = λ entry is.
-              elsewhere p log h.few (omega (arith, h.short)) h.honest h.lawful follows (reader t.register).0 w.object.gfid (name_of job) entry
-              (shown p (reader t.register).0 w.object.gfid (name_of job) log entry (name_told p (reader t.register).0 w.object.gfid (name_of job) log (answer.Entry (Some entry)) (subst (λ (x : Answer). CanAnswer p (reader t.register).0 (reads_name job w) log x) is can)));
+              elsewhere p log h.few (omega (arith, h.short)) h.honest h.lawful follows copy.0 w.object.gfid (name_of job) entry
+              (shown p copy.0 w.object.gfid (name_of job) log entry (name_told p copy.0 w.object.gfid (name_of job) log (answer.Entry (Some entry)) (subst (λ (x : Answer). CanAnswer p copy.0 (reads_name job w) log x) is can)));
         }
 
         name : is_beginning t.stage ≡ true → CanName p w.object b.0 request log heard
         name f =
             let same = sym (pick true f) ∙ e in
-            let can = can_answer p log a b request heard took h (asks_same (λ (x : BrickId) (r : Request). IsThere p log x.0 r) (reader t.register) b (reads_name job w) request same (there f)) in
-            asks_same (λ (x : BrickId) (r : Request). CanAnswer p x.0 r log heard → CanName p w.object x.0 r log heard) (reader t.register) b (reads_name job w) request same (λ k. named k) can
+            let can = can_answer p log a b request heard took h (asks_same (λ (x : BrickId) (r : Request). IsThere p log x.0 r) copy b (reads_name job w) request same (there f)) in
+            asks_same (λ (x : BrickId) (r : Request). CanAnswer p x.0 r log heard → CanName p w.object x.0 r log heard) copy b (reads_name job w) request same (λ k. named k) can
 
         other : is_beginning t.stage ≡ false → CanTell w.object request (told_by heard)
         other f =

@@ -310,7 +310,7 @@ module _ (p : Plan) (job : EntryJob) (w : Walk) (lines : Work) (sound : IsWalk w
   pub arrived : TellsIn p own job (at_directory w.object w.register job) w lines
   arrived = go (is_dir w.object.what) refl
     where
-      go : (d : Bool) → is_dir w.object.what ≡ d → TellsIn p own job (if d then Changing (starting (change_of w.object.gfid job) w.register) Unread else Ending reply.NotDir) w lines
+      go : (d : Bool) → is_dir w.object.what ≡ d → TellsIn p own job (if d then Changing (starting (change_of w.object.gfid job) w.register) (Unread (record { 0 = 0 })) else Ending reply.NotDir) w lines
       go true e = record {
         place = place;
         directory = e;

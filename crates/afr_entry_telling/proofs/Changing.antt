@@ -2,7 +2,6 @@
 use Rattle.std.proofs.Common.{◌≡◌, ℕ, ◌<◌, nat_le, Bool, true, false, List, [], ◌∷◌, ◌++◌, Option, Some, None, length, slice_get, refl, sym, ap, ◌∙◌, subst, arith, if◌then◌else◌}
 use Rattle.std.proofs.lemmas.Bool.Decides.{nat_tests}
 use Rattle.afr_base.specs.Bricks.{is_nothing, member}
-use Rattle.afr_base.specs.SetLemmas.{lowest_in}
 use Rattle.afr_base.specs.declared.ids.ActorId.{ActorId}
 use Rattle.afr_base.specs.declared.ids.BrickId.{BrickId}
 use Rattle.afr_base.specs.declared.ids.Gfid.{Gfid}
@@ -40,12 +39,11 @@ use Rattle.afr_transaction.specs.Sound.{Sound}
 use Rattle.afr_transaction.specs.declared.stage.Stage.{Stage}
 use Rattle.afr_transaction.specs.declared.stage.Stage.TheVariants.{Locking, Looking, Beginning, Preparing, Applying, Posting, Closing}
 use Rattle.afr_walk.specs.declared.walk.Walk.{Walk}
-use Rattle.afr_entry.specs.Entry.{IsChanging, fits_stage, found_by, name_noted, reader, reads_name, settled}
+use Rattle.afr_entry.specs.Entry.{IsChanging, fits_stage, found_by, name_noted, reads_name, settled}
 use Rattle.afr_entry.specs.Job.{change_of, name_of, ruled_by, ruled_out}
 use Rattle.afr_entry.specs.declared.job.EntryJob.{EntryJob}
 use Rattle.afr_entry.specs.declared.refusal.Refusal.{Refusal}
 use Rattle.afr_entry.specs.declared.stage.Found.TheVariants.{Unread, Fits}
-use Rattle.afr_entry.proofs.EntryLemmas.{some_reader}
 use Rattle.afr_transaction_tells.specs.About.{Led}
 use Rattle.afr_transaction_tells.specs.Laws.{IsNextLine}
 use Rattle.afr_transaction_tells.specs.Tells.{During}
@@ -161,35 +159,35 @@ module _ (p : Plan) (job : EntryJob) (w : Walk) (lines : Work) (t : Progress) wh
       change_line told line led is = (about_next p c lines t a told line log sound k.tells (subst (λ (x : Change). Led t.stage p c x lines) (sym of) led) is, keeps t.stage told line k.tells.during is)
 
     -- ---- the read of the name
-    module _ (a : ActorId) (log : List Line) (sound : IsChanging w job t Unread) (k : Goes p t lines) (n : IsUnread p c dir lines) (at_begin : is_beginning t.stage ≡ true) where
+    module _ (a : ActorId) (log : List Line) (b : BrickId) (sound : IsChanging w job t (Unread b)) (k : Goes p t lines) (n : IsUnread p c dir lines) (at_begin : is_beginning t.stage ≡ true) where
       d : During Beginning p.shape t lines
       d = subst (λ (stage : Stage). During stage p.shape t lines) (begins_at t.stage at_begin) k.tells.during
 
       object_same : object_of t.change ≡ dir.gfid
       object_same = ap object_of sound.of_job ∙ object_is dir.gfid job
 
-      -- the reader is a good copy
+      -- the copy that is asked is a good one
       shown : t.register.looked ≡ looked_by dir.gfid lines
       shown = d.looks.shows ∙ ap (λ (g : Gfid). looked_by g lines) object_same
 
-      is_good : member (good_copies t.register.shape t.register.looked kind_named.Names) (reader t.register).0 ≡ true
-      is_good = lowest_in (good_copies t.register.shape t.register.looked kind_named.Names) (some_reader w job t Unread sound at_begin)
+      is_good : member (good_copies t.register.shape t.register.looked kind_named.Names) b.0 ≡ true
+      is_good = sound.reads at_begin
 
-      small : (reader t.register).0 < 5
-      small = good_below t.register.shape t.register.looked kind_named.Names (reader t.register).0 is_good
+      small : b.0 < 5
+      small = good_below t.register.shape t.register.looked kind_named.Names b.0 is_good
 
       passed : by_locks p.shape (kind_for change) (area_for change) lines ≡ None
       passed = subst (λ (x : Change). by_locks p.shape (kind_for x) (area_for x) lines ≡ None) sound.of_job (passes p lines t sound.sound k.tells d.allows)
 
-      pub read_line : (told : Told) (took : Bool) → IsAbout p c (Ask a (reader t.register) (reads_name job w) told took) lines × KeepsTo p c (Ask a (reader t.register) (reads_name job w) told took) (length log) lines
+      pub read_line : (told : Told) (took : Bool) → IsAbout p c (Ask a b (reads_name job w) told took) lines × KeepsTo p c (Ask a b (reads_name job w) told took) (length log) lines
       read_line told took = (
         record {
           unbegun = d.idle.unbegun;
           goes_on = refused_by_locks p job w.path dir lines place directory n.unrefused (free_unread n) ∙ passed;
           answered = subst (λ (g : Gfid). is_majority p.shape.n (looked_by g lines).reached ≡ true) object_same d.allows.quorum.reached;
           good =
-              subst (λ (x : Looked). member (good_copies p.shape x kind_named.Names) (reader t.register).0 ≡ true) shown
-              (subst (λ (x : Shape). member (good_copies x t.register.looked kind_named.Names) (reader t.register).0 ≡ true) k.tells.shape_is is_good);
+              subst (λ (x : Looked). member (good_copies p.shape x kind_named.Names) b.0 ≡ true) shown
+              (subst (λ (x : Shape). member (good_copies x t.register.looked kind_named.Names) b.0 ≡ true) k.tells.shape_is is_good);
         },
         record {
           read = steps_of c;
@@ -203,13 +201,13 @@ module _ (p : Plan) (job : EntryJob) (w : Walk) (lines : Work) (t : Progress) wh
 
       -- after it
       abbrev pub more : Told → Bool → Work
-      more told took = (Ask a (reader t.register) (reads_name job w) told took, log) ∷ lines
+      more told took = (Ask a b (reads_name job w) told took, log) ∷ lines
 
       abbrev pub after : Told → Progress
-      after told = name_noted job w told (length log) t
+      after told = name_noted b job w told (length log) t
 
       pub goes_on : (told : Told) (took : Bool) → Goes p (after told) (more told took) × Sound (after told)
-      goes_on told took = let h = reads_kept p lines t a (reader t.register) (reads_name job w) told took log small tt (begins_at t.stage at_begin) sound.sound k.tells in (
+      goes_on told took = let h = reads_kept p lines t a b (reads_name job w) told took log small tt (begins_at t.stage at_begin) sound.sound k.tells in (
         record { tells = h.tells; excused = h.excused k.excused; calm = h.calm k.calm; fitting = k.fitting },
         h.sound,
       )
@@ -218,16 +216,16 @@ module _ (p : Plan) (job : EntryJob) (w : Walk) (lines : Work) (t : Progress) wh
       Left why told took = Changes p c job dir (settled why (after told)) (found_by why) (more told took)
 
       pub left : (told : Told) (took : Bool) (why : Option Refusal) → NameTells (found_by why) p c job dir (more told took) → Left why told took
-      left told took None name = record { place = place_more p job w.path dir (Ask a (reader t.register) (reads_name job w) told took) log lines place; directory = directory; unread = unread; name = name; on = (goes_on told took).0 }
+      left told took None name = record { place = place_more p job w.path dir (Ask a b (reads_name job w) told took) log lines place; directory = directory; unread = unread; name = name; on = (goes_on told took).0 }
       left told took (Some why) name = record {
-        place = place_more p job w.path dir (Ask a (reader t.register) (reads_name job w) told took) log lines place;
+        place = place_more p job w.path dir (Ask a b (reads_name job w) told took) log lines place;
         directory = directory;
         unread = unread;
         name = name;
         on = (gives_up p (more told took) (after told) (begins_at t.stage at_begin) (goes_on told took).1 (goes_on told took).0.tells).1;
       }
 
-      pub given : (took : Bool) (entry : Option Entry) → entry_at dir.gfid (name_of job) (holds p log (reader t.register).0) ≡ entry → WasGiven p c dir entry (more (told_by (answer.Entry entry)) took)
+      pub given : (took : Bool) (entry : Option Entry) → entry_at dir.gfid (name_of job) (holds p log b.0) ≡ entry → WasGiven p c dir entry (more (told_by (answer.Entry entry)) took)
       given took entry e = record { path = rw (e, n.path) refl; unrefused = n.unrefused }
 
       by_rule : (took : Bool) (entry : Option Entry) → WasGiven p c dir entry (more (told_by (answer.Entry entry)) took) → (why : Option Refusal) → ruled_by job entry ≡ why
@@ -235,7 +233,7 @@ module _ (p : Plan) (job : EntryJob) (w : Walk) (lines : Work) (t : Progress) wh
       by_rule took entry g None e = record { entry = entry; rule = e; given = g }
       by_rule took entry g (Some why) e = ByName entry e g
 
-      pub read_more : (heard : Answer) (took : Bool) → NameTold p (reader t.register).0 dir.gfid (name_of job) log heard → Left (ruled_out job heard) (told_by heard) took
+      pub read_more : (heard : Answer) (took : Bool) → NameTold p b.0 dir.gfid (name_of job) log heard → Left (ruled_out job heard) (told_by heard) took
       read_more heard took (name_told.Found entry e f) =
           subst (λ (x : Answer). Left (ruled_out job x) (told_by x) took) (sym e) (left (told_by (answer.Entry entry)) took (ruled_by job entry) (by_rule took entry (given took entry f) (ruled_by job entry) refl))
       read_more heard took (name_told.Lost e) = subst (λ (x : Answer). Left (ruled_out job x) (told_by x) took) (sym e) (left (told_by answer.NotConnected) took (ruled_out job answer.NotConnected) (ByFault refl refl refl))

@@ -25,12 +25,13 @@ use Rattle.afr_transaction.specs.Outcome.{reply_of}
 use Rattle.afr_transaction.specs.Progress.{Progress, asks, is_beginning, is_over, next_at as next_change}
 use Rattle.afr_transaction.specs.declared.stage.Stage.{Stage}
 use Rattle.afr_transaction.specs.declared.stage.Stage.TheVariants.{Closing}
+use Rattle.afr_walk.specs.Choosing.{IsAmong}
 use Rattle.afr_walk.specs.Walk.{is_walking, next_in, walked}
 use Rattle.afr_walk.specs.Walk as walk
 use Rattle.afr_walk.specs.declared.walk.Walk.{Walk}
 use Rattle.afr_walk.specs.declared.walk.WalkStep.{WalkStep}
 use Rattle.afr_walk.specs.declared.walk.WalkStep.TheVariants as walking
-use Rattle.afr_entry.specs.Entry.{IsChanging, IsStage, after_walk, fits_job, next_at, next_under, progress_begun, reader, reads_name, removal_after, removal_begun, stage_after, stage_begun, walk_after}
+use Rattle.afr_entry.specs.Entry.{IsChanging, IsStage, after_walk, choices_at, fits_job, next_at, next_under, progress_begun, reads_name, removal_after, removal_begun, stage_after, stage_begun, walk_after}
 use Rattle.afr_entry.specs.Job.{reply_to}
 use Rattle.afr_entry.specs.declared.job.EntryJob.{EntryJob}
 use Rattle.afr_entry.specs.declared.job.EntryJob.TheVariants.{Create, Mkdir, Unlink, Rmdir}
@@ -78,9 +79,9 @@ module _ (p : Plan) (job : EntryJob) (w : Walk) (lines : Work) (t : Progress) wh
   -- ---- the Begin line
   under_begun : (found : Found) (a : ActorId) (change : Change) (log : List Line) → IsChanging w job t found → Changes p c job dir t found lines → next_under found (length log) job w t ≡ next.Begin change
       → Changes p c job dir (progress_begun found (length log) t) found ((Begin a change, log) ∷ lines)
-  under_begun Unread a change log sound k e = absurd (go (is_beginning t.stage) refl e)
+  under_begun (Unread copy) a change log sound k e = absurd (go (is_beginning t.stage) refl e)
     where
-      go : (x : Bool) → is_beginning t.stage ≡ x → (if x then next.Ask (reader t.register) (reads_name job w) else next_change t.stage (length log) t) ≡ next.Begin change → ⊥
+      go : (x : Bool) → is_beginning t.stage ≡ x → (if x then next.Ask copy (reads_name job w) else next_change t.stage (length log) t) ≡ next.Begin change → ⊥
       go true f e = cc e
       go false f e = let g = ap is_beginning (begun_stage t.stage (length log) t change e) in cc (f, g)
   under_begun Fits a change log sound k e =
@@ -89,7 +90,7 @@ module _ (p : Plan) (job : EntryJob) (w : Walk) (lines : Work) (t : Progress) wh
         place = place_more p job w.path dir (Begin a change) log lines k.place;
         directory = k.directory;
         unread = q.reading ∙ k.unread;
-        name = name_more Fits p c job dir (Begin a change) log lines q (λ e. absurd (cc e)) k.name;
+        name = name_more Fits p c job dir (Begin a change) log lines q (λ x e. absurd (cc e)) k.name;
         on = begun_more p lines a log t sound.sound k.on change e;
       }
   under_begun (Refused why) a change log sound k e = absurd (go (is_over t.stage t) e)
@@ -104,12 +105,12 @@ module _ (p : Plan) (job : EntryJob) (w : Walk) (lines : Work) (t : Progress) wh
   -- ---- each line under the lock
   under_line : (found : Found) (a : ActorId) (told : Told) (line : Line) (log : List Line) → IsChanging w job t found → Changes p c job dir t found lines → IsNextLine a (next_under found (length log) job w t) told line
       → IsAbout p c line lines × KeepsTo p c line (length log) lines
-  under_line Unread a told line log sound k is = go (is_beginning t.stage) refl is
+  under_line (Unread copy) a told line log sound k is = go (is_beginning t.stage) refl is
     where
-      go : (x : Bool) → is_beginning t.stage ≡ x → IsNextLine a (if x then next.Ask (reader t.register) (reads_name job w) else next_change t.stage (length log) t) told line → IsAbout p c line lines × KeepsTo p c line (length log) lines
+      go : (x : Bool) → is_beginning t.stage ≡ x → IsNextLine a (if x then next.Ask copy (reads_name job w) else next_change t.stage (length log) t) told line → IsAbout p c line lines × KeepsTo p c line (length log) lines
       go true f (took, e) =
           subst (λ (x : Line). IsAbout p c x lines × KeepsTo p c x (length log) lines) (sym e)
-          (read_line p job w lines t k.place k.directory k.unread a log sound k.on.0 k.name f told took)
+          (read_line p job w lines t k.place k.directory k.unread a log copy sound k.on.0 k.name f told took)
       go false f is = change_line p job w lines t k.place k.directory k.unread a log sound.sound sound.of_job k.on.0 told line (led_unread p job w lines t k.place k.directory k.unread k.name t.stage f) is
   under_line Fits a told line log sound k is =
       change_line p job w lines t k.place k.directory k.unread a log sound.sound sound.of_job k.on told line (led_fits p job w lines t k.place k.directory k.unread (goes_plain job w.path sound.fits) k.name t.stage sound.in_turn) is
@@ -129,9 +130,9 @@ module _ (p : Plan) (job : EntryJob) (w : Walk) (lines : Work) (t : Progress) wh
 
   -- ---- who is accused
   under_blames : (found : Found) (at : ℕ) → IsChanging w job t found → Changes p c job dir t found lines → BlamesNext p lines (next_under found at job w t)
-  under_blames Unread at sound k = go (is_beginning t.stage)
+  under_blames (Unread copy) at sound k = go (is_beginning t.stage)
     where
-      go : (x : Bool) → BlamesNext p lines (if x then next.Ask (reader t.register) (reads_name job w) else next_change t.stage at t)
+      go : (x : Bool) → BlamesNext p lines (if x then next.Ask copy (reads_name job w) else next_change t.stage at t)
       go true = tt
       go false = blames_kept p lines t at sound.sound k.on.0.tells k.on.0.excused
   under_blames Fits at sound k = blames_kept p lines t at sound.sound k.on.tells k.on.excused
@@ -151,9 +152,9 @@ module _ (p : Plan) (job : EntryJob) (w : Walk) (lines : Work) (t : Progress) wh
 
   -- ---- the end
   under_ends : (found : Found) (at : ℕ) (said : Reply) → IsChanging w job t found → Changes p c job dir t found lines → next_under found at job w t ≡ next.End said → IsAnswered p c lines said
-  under_ends Unread at said sound k e = go (is_beginning t.stage) e
+  under_ends (Unread copy) at said sound k e = go (is_beginning t.stage) e
     where
-      go : (x : Bool) → (if x then next.Ask (reader t.register) (reads_name job w) else next_change t.stage at t) ≡ next.End said → IsAnswered p c lines said
+      go : (x : Bool) → (if x then next.Ask copy (reads_name job w) else next_change t.stage at t) ≡ next.End said → IsAnswered p c lines said
       go true e = absurd (cc e)
       go false e = unread_end p job w lines t sound.sound sound.of_job k.place k.directory k.on.0 k.name (unrefused_unread p job w lines t k.name).0 at said e
   under_ends Fits at said sound k e =
@@ -163,8 +164,8 @@ module _ (p : Plan) (job : EntryJob) (w : Walk) (lines : Work) (t : Progress) wh
   under_ends (Refused why) at said sound k e = refused_end p job w lines t sound.sound sound.of_job k.place k.directory why k.name k.on at said e
 
 -- ---- a removal
-after_answer : (r : Removing) (heard : Answer) (at : ℕ) → removal.is_beginning r.stage ≡ false → removal_after heard at r ≡ removal.answered r.stage heard at r
-after_answer r heard at e = rw e refl
+after_answer : (r : Removing) (chosen : BrickId) (heard : Answer) (at : ℕ) → removal.is_beginning r.stage ≡ false → removal_after chosen heard at r ≡ removal.answered chosen r.stage heard at r
+after_answer r chosen heard at e = rw e refl
 
 after_begin : (r : Removing) (at : ℕ) → removal.is_beginning r.stage ≡ true → removal_begun at r ≡ removal.begun at r
 after_begin r at e = rw e refl
@@ -174,36 +175,37 @@ removes_is c job path name named is = named ∙ ap (λ (x : EntryJob). command_o
 
 -- ---- the laws
 pub more : EntryTellsMore
-more p c m lines a b request heard took log sound k e can = go m.stage sound.ready k.stage e can
+more p c m lines a b request chosen heard took log sound k e can among = go m.stage sound.ready k.stage e can among
   where
     w : Walk
     w = m.walk
 
     go : (stage : EntryStage) → IsStage w m.job stage → TellsIn p c m.job stage w lines → next_at (length log) stage m.job w ≡ next.Ask b request → CanHear stage p w.object b.0 request log heard
-        → EntryTells p c (record { walk = walk_after stage heard (length log) w; job = m.job; stage = stage_after stage heard (length log) m.job (walk_after stage heard (length log) w) }) ((Ask a b request (told_by heard) took, log) ∷ lines)
-    go Walking ready t e can =
-        asks_same (λ (b : BrickId) (r : Request). CanAnswer p b.0 r log heard → EntryTells p c (record { walk = walked heard (length log) w; job = m.job; stage = after_walk m.job (walked heard (length log) w) }) ((Ask a b r (told_by heard) took, log) ∷ lines))
-        (next_in w).0 b (next_in w).1 request e (λ can. walks_more p w lines a heard took log sound.sound t c m.job ready k.named can) can
-    go (Changing t found) ready x e can = record {
+        → IsAmong (choices_at stage heard (length log) w) chosen
+        → EntryTells p c (record { walk = walk_after chosen stage heard (length log) w; job = m.job; stage = stage_after chosen stage heard (length log) m.job (walk_after chosen stage heard (length log) w) }) ((Ask a b request (told_by heard) took, log) ∷ lines)
+    go Walking ready t e can among =
+        asks_same (λ (b : BrickId) (r : Request). CanAnswer p b.0 r log heard → EntryTells p c (record { walk = walked chosen heard (length log) w; job = m.job; stage = after_walk m.job (walked chosen heard (length log) w) }) ((Ask a b r (told_by heard) took, log) ∷ lines))
+        (next_in w).0 b (next_in w).1 request e (λ can. walks_more p w lines a chosen heard took log sound.sound t c m.job ready k.named can among) can
+    go (Changing t found) ready x e can among = record {
       shape = k.shape;
       named = k.named;
-      stage = subst (λ (y : Command). TellsIn p y m.job (stage_after (Changing t found) heard (length log) m.job w) w ((Ask a b request (told_by heard) took, log) ∷ lines)) (sym k.named)
-          (under_more p m.job w lines a log t found ready (subst (λ (y : Command). Changes p y m.job w.object t found lines) k.named x) b request heard took e can);
+      stage = subst (λ (y : Command). TellsIn p y m.job (stage_after chosen (Changing t found) heard (length log) m.job w) w ((Ask a b request (told_by heard) took, log) ∷ lines)) (sym k.named)
+          (under_more p m.job w lines a log t found ready (subst (λ (y : Command). Changes p y m.job w.object t found lines) k.named x) b request chosen heard took e can);
     }
-    go (Removes r) ready t e can = record {
+    go (Removes r) ready t e can among = record {
       shape = k.shape;
       named = k.named;
       stage = record {
         name = t.name;
         is_job = t.is_job;
-        tells = subst (λ (x : Removing). RemovalTells p (w.path ++ t.name ∷ []) x ((Ask a b request (told_by heard) took, log) ∷ lines)) (sym (after_answer r heard (length log) (asks_elsewhere r.stage r b request e)))
-            (removal_more p (w.path ++ t.name ∷ []) r lines a b request heard took log ready.sound t.tells e can);
+        tells = subst (λ (x : Removing). RemovalTells p (w.path ++ t.name ∷ []) x ((Ask a b request (told_by heard) took, log) ∷ lines)) (sym (after_answer r chosen heard (length log) (asks_elsewhere r.stage r b request e)))
+            (removal_more p (w.path ++ t.name ∷ []) r lines a b request chosen heard took log ready.sound t.tells e can);
       };
     }
-    go (Ending said) ready t e can = absurd (cc e)
+    go (Ending said) ready t e can among = absurd (cc e)
 
 pub begun : EntryBegun
-begun p c m lines a change log sound k e = go m.stage sound.ready k.stage e
+begun p c m lines a change chosen log sound k e = go m.stage sound.ready k.stage e
   where
     w : Walk
     w = m.walk

@@ -23,7 +23,7 @@ use Rattle.afr_transaction.specs.Progress.{Progress, fed, is_beginning, is_over,
 use Rattle.afr_transaction.specs.declared.stage.Stage.{Stage}
 use Rattle.afr_transaction.specs.declared.stage.Stage.TheVariants.{Locking, Looking, Beginning, Preparing, Applying, Posting, Closing}
 use Rattle.afr_walk.specs.declared.walk.Walk.{Walk}
-use Rattle.afr_entry.specs.Entry.{IsChanging, child_after, found_after, found_by, name_noted, next_under, or_removes, progress_after, reader, reads_name, settled, told_to}
+use Rattle.afr_entry.specs.Entry.{IsChanging, child_after, found_after, found_by, name_noted, next_under, or_removes, progress_after, reads_name, settled, told_to}
 use Rattle.afr_entry.specs.Job.{change_of, child_by, name_of, reply_to, ruled_out}
 use Rattle.afr_entry.specs.declared.job.EntryJob.{EntryJob}
 use Rattle.afr_entry.specs.declared.refusal.Refusal.{Refusal}
@@ -45,23 +45,23 @@ use Rattle.afr_entry_telling.proofs.Under.{asked_more, name_more, place_more}
 use Rattle.afr_entry_telling.proofs.Words.{suits_view}
 
 -- ---- what is heard
-pub hears_name : (stage : Stage) (p : Plan) (dir : Entry) (b : ℕ) (request : Request) (log : List Line) (heard : Answer) → is_beginning stage ≡ true → CanHearUnder Unread stage p dir b request log heard → CanName p dir b request log heard
-hears_name Beginning p dir b request log heard e can = can
-hears_name Locking p dir b request log heard e can = absurd (cc e)
-hears_name Looking p dir b request log heard e can = absurd (cc e)
-hears_name Preparing p dir b request log heard e can = absurd (cc e)
-hears_name Applying p dir b request log heard e can = absurd (cc e)
-hears_name Posting p dir b request log heard e can = absurd (cc e)
-hears_name Closing p dir b request log heard e can = absurd (cc e)
+pub hears_name : (copy : BrickId) (stage : Stage) (p : Plan) (dir : Entry) (b : ℕ) (request : Request) (log : List Line) (heard : Answer) → is_beginning stage ≡ true → CanHearUnder (Unread copy) stage p dir b request log heard → CanName p dir b request log heard
+hears_name copy Beginning p dir b request log heard e can = can
+hears_name copy Locking p dir b request log heard e can = absurd (cc e)
+hears_name copy Looking p dir b request log heard e can = absurd (cc e)
+hears_name copy Preparing p dir b request log heard e can = absurd (cc e)
+hears_name copy Applying p dir b request log heard e can = absurd (cc e)
+hears_name copy Posting p dir b request log heard e can = absurd (cc e)
+hears_name copy Closing p dir b request log heard e can = absurd (cc e)
 
-hears_told : (stage : Stage) (p : Plan) (dir : Entry) (b : ℕ) (request : Request) (log : List Line) (heard : Answer) → is_beginning stage ≡ false → CanHearUnder Unread stage p dir b request log heard → CanTell dir request (told_by heard)
-hears_told Beginning p dir b request log heard e can = absurd (cc e)
-hears_told Locking p dir b request log heard e can = can
-hears_told Looking p dir b request log heard e can = can
-hears_told Preparing p dir b request log heard e can = can
-hears_told Applying p dir b request log heard e can = can
-hears_told Posting p dir b request log heard e can = can
-hears_told Closing p dir b request log heard e can = can
+hears_told : (copy : BrickId) (stage : Stage) (p : Plan) (dir : Entry) (b : ℕ) (request : Request) (log : List Line) (heard : Answer) → is_beginning stage ≡ false → CanHearUnder (Unread copy) stage p dir b request log heard → CanTell dir request (told_by heard)
+hears_told copy Beginning p dir b request log heard e can = absurd (cc e)
+hears_told copy Locking p dir b request log heard e can = can
+hears_told copy Looking p dir b request log heard e can = can
+hears_told copy Preparing p dir b request log heard e can = can
+hears_told copy Applying p dir b request log heard e can = can
+hears_told copy Posting p dir b request log heard e can = can
+hears_told copy Closing p dir b request log heard e can = can
 
 -- before the Begin line the locks are those of the lines
 held_at : (stage : Stage) {change : Change} {r : Register} {w : Work} → is_beginning stage ≡ true → HoldsAt stage change r w → HoldsName change r w
@@ -95,17 +95,17 @@ module _ (p : Plan) (job : EntryJob) (w : Walk) (lines : Work) (a : ActorId) (lo
   told_is true told e = absurd (cc e)
   told_is false told e = refl
 
-  unread_more : IsChanging w job t Unread → Changes p c job dir t Unread lines → (b : BrickId) (request : Request) (told : Told) (took : Bool) → next_change t.stage (length log) t ≡ next.Ask b request → CanTell dir request told
-      → Changes p c job dir (fed t.stage told (length log) t) Unread ((Ask a b request told took, log) ∷ lines)
-  unread_more sound k b request told took e can =
-      let after = asked_more p lines a log t sound.sound k.on.0 dir b request told took (suits sound.of_job Unread k) e can in
+  unread_more : (copy chosen : BrickId) → IsChanging w job t (Unread copy) → Changes p c job dir t (Unread copy) lines → (b : BrickId) (request : Request) (told : Told) (took : Bool) → next_change t.stage (length log) t ≡ next.Ask b request → CanTell dir request told
+      → Changes p c job dir (fed t.stage told (length log) t) (Unread chosen) ((Ask a b request told took, log) ∷ lines)
+  unread_more copy chosen sound k b request told took e can =
+      let after = asked_more p lines a log t sound.sound k.on.0 dir b request told took (suits sound.of_job (Unread copy) k) e can in
       let q = quiet p (line_of b request told took) log lines after.1 in
       record {
         place = place_more p job w.path dir (line_of b request told took) log lines k.place;
         directory = k.directory;
         unread = q.reading ∙ k.unread;
-        name = name_more Unread p c job dir (line_of b request told took) log lines q (λ none. refl) k.name;
-        on = (after.0, holds_more lines a log t sound.sound told took t.stage b request sound.in_turn k.on.1 e);
+        name = name_more (Unread chosen) p c job dir (line_of b request told took) log lines q (λ x none. refl) k.name;
+        on = (after.0, holds_more lines a log t sound.sound told took copy t.stage b request sound.in_turn k.on.1 e);
       }
 
   fits_more : IsChanging w job t Fits → Changes p c job dir t Fits lines → (b : BrickId) (request : Request) (told : Told) (took : Bool) → next_change t.stage (length log) t ≡ next.Ask b request → CanTell dir request told
@@ -117,7 +117,7 @@ module _ (p : Plan) (job : EntryJob) (w : Walk) (lines : Work) (a : ActorId) (lo
         place = place_more p job w.path dir (line_of b request told took) log lines k.place;
         directory = k.directory;
         unread = q.reading ∙ k.unread;
-        name = name_more Fits p c job dir (line_of b request told took) log lines q (λ none. refl) k.name;
+        name = name_more Fits p c job dir (line_of b request told took) log lines q (λ x none. refl) k.name;
         on = subst (λ (x : Progress). Goes p x ((line_of b request told took, log) ∷ lines)) (sym (told_is (is_beginning t.stage) told after.2)) after.0;
       }
 
@@ -138,28 +138,28 @@ module _ (p : Plan) (job : EntryJob) (w : Walk) (lines : Work) (a : ActorId) (lo
         place = place_more p job w.path dir (line_of b request told took) log lines k.place;
         directory = k.directory;
         unread = q.reading ∙ k.unread;
-        name = name_more (Refused why) p c job dir (line_of b request told took) log lines q (λ none. refl) k.name;
+        name = name_more (Refused why) p c job dir (line_of b request told took) log lines q (λ x none. refl) k.name;
         on = subst (λ (x : Progress). GaveUp p ((line_of b request told took, log) ∷ lines) x) (sym (told_is (is_beginning t.stage) told at_stage.0))
             (given_up_kept p lines t a told (line_of b request told took) log sound.sound k.on (subst (λ (n : Next). IsNextLine a n told (line_of b request told took)) (sym e) (took, refl)));
       }
 
   -- ---- after any line that is told
-  pub under_more : (found : Found) → IsChanging w job t found → Changes p c job dir t found lines → (b : BrickId) (request : Request) (heard : Answer) (took : Bool) → next_under found (length log) job w t ≡ next.Ask b request
+  pub under_more : (found : Found) → IsChanging w job t found → Changes p c job dir t found lines → (b : BrickId) (request : Request) (chosen : BrickId) (heard : Answer) (took : Bool) → next_under found (length log) job w t ≡ next.Ask b request
       → CanHearUnder found t.stage p dir b.0 request log heard
-      → TellsIn p c job (or_removes (child_after found heard job t.stage) (progress_after found heard (length log) job w t) (found_after found heard job t.stage)) w ((Ask a b request (told_by heard) took, log) ∷ lines)
-  under_more Unread sound k b request heard took e can = go (is_beginning t.stage) refl e
+      → TellsIn p c job (or_removes (child_after found heard job t.stage) (progress_after found heard (length log) job w t) (found_after chosen found heard job t.stage)) w ((Ask a b request (told_by heard) took, log) ∷ lines)
+  under_more (Unread copy) sound k b request chosen heard took e can = go (is_beginning t.stage) refl e
     where
-      named : is_beginning t.stage ≡ true → (child : Option Gfid) → child_by job heard ≡ child → CanName p dir (reader t.register).0 (reads_name job w) log heard
-          → TellsIn p c job (or_removes child (settled (ruled_out job heard) (name_noted job w (told_by heard) (length log) t)) (found_by (ruled_out job heard))) w ((Ask a (reader t.register) (reads_name job w) (told_by heard) took, log) ∷ lines)
-      named f None none can = read_more p job w lines t k.place k.directory k.unread a log sound k.on.0 k.name f heard took (name_told p (reader t.register).0 dir.gfid (name_of job) log heard can.answers)
-      named f (Some child) some can = read_removes p job w lines t k.place k.directory k.unread a log sound k.on.0 k.name f (held_at t.stage f k.on.1) heard took child some can
+      named : is_beginning t.stage ≡ true → (child : Option Gfid) → child_by job heard ≡ child → CanName p dir copy.0 (reads_name job w) log heard
+          → TellsIn p c job (or_removes child (settled (ruled_out job heard) (name_noted copy job w (told_by heard) (length log) t)) (found_by (ruled_out job heard))) w ((Ask a copy (reads_name job w) (told_by heard) took, log) ∷ lines)
+      named f None none can = read_more p job w lines t k.place k.directory k.unread a log copy sound k.on.0 k.name f heard took (name_told p copy.0 dir.gfid (name_of job) log heard can.answers)
+      named f (Some child) some can = read_removes p job w lines t k.place k.directory k.unread a log copy sound k.on.0 k.name f (held_at t.stage f k.on.1) heard took child some can
 
-      go : (x : Bool) → is_beginning t.stage ≡ x → (if x then next.Ask (reader t.register) (reads_name job w) else next_change t.stage (length log) t) ≡ next.Ask b request
-          → TellsIn p c job (or_removes (if x then child_by job heard else None) (if x then settled (ruled_out job heard) (name_noted job w (told_by heard) (length log) t) else fed t.stage (told_by heard) (length log) t) (if x then found_by (ruled_out job heard) else Unread)) w ((Ask a b request (told_by heard) took, log) ∷ lines)
+      go : (x : Bool) → is_beginning t.stage ≡ x → (if x then next.Ask copy (reads_name job w) else next_change t.stage (length log) t) ≡ next.Ask b request
+          → TellsIn p c job (or_removes (if x then child_by job heard else None) (if x then settled (ruled_out job heard) (name_noted copy job w (told_by heard) (length log) t) else fed t.stage (told_by heard) (length log) t) (if x then found_by (ruled_out job heard) else Unread chosen)) w ((Ask a b request (told_by heard) took, log) ∷ lines)
       go true f e =
           asks_same (λ (d : BrickId) (r : Request). CanName p dir d.0 r log heard
-          → TellsIn p c job (or_removes (child_by job heard) (settled (ruled_out job heard) (name_noted job w (told_by heard) (length log) t)) (found_by (ruled_out job heard))) w ((Ask a d r (told_by heard) took, log) ∷ lines))
-          (reader t.register) b (reads_name job w) request e (λ can. named f (child_by job heard) refl can) (hears_name t.stage p dir b.0 request log heard f can)
-      go false f e = unread_more sound k b request (told_by heard) took e (hears_told t.stage p dir b.0 request log heard f can)
-  under_more Fits sound k b request heard took e can = fits_more sound k b request (told_by heard) took e can
-  under_more (Refused why) sound k b request heard took e can = refused_more why sound k b request (told_by heard) took (refused_asks why b request e)
+          → TellsIn p c job (or_removes (child_by job heard) (settled (ruled_out job heard) (name_noted copy job w (told_by heard) (length log) t)) (found_by (ruled_out job heard))) w ((Ask a d r (told_by heard) took, log) ∷ lines))
+          copy b (reads_name job w) request e (λ can. named f (child_by job heard) refl can) (hears_name copy t.stage p dir b.0 request log heard f can)
+      go false f e = unread_more copy chosen sound k b request (told_by heard) took e (hears_told copy t.stage p dir b.0 request log heard f can)
+  under_more Fits sound k b request chosen heard took e can = fits_more sound k b request (told_by heard) took e can
+  under_more (Refused why) sound k b request chosen heard took e can = refused_more why sound k b request (told_by heard) took (refused_asks why b request e)

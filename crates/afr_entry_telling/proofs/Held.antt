@@ -135,14 +135,14 @@ module _ (lines : Work) (a : ActorId) (log : List Line) (t : Progress) (sound : 
     kept = k.kept;
   }
 
-  pub holds_more : (stage : Stage) (b : BrickId) (request : Request) → fits_stage Unread stage ≡ true → HoldsAt stage t.change t.register lines → next_at stage (length log) t ≡ next.Ask b request → After stage b request
-  holds_more Locking b request fits k e = asks_same (After Locking) (own Locking) b (request_at Locking t) request e (at_stage (after Locking (x Locking)) t.change (x Locking).register _ (on_lock k))
-  holds_more Looking b request fits k e = asks_same (After Looking) (own Looking) b (request_at Looking t) request e (at_stage (after Looking (x Looking)) t.change (x Looking).register _ (on_look k))
-  holds_more Beginning b request fits k e = absurd (cc e)
-  holds_more Preparing b request fits k e = absurd (cc fits)
-  holds_more Applying b request fits k e = absurd (cc fits)
-  holds_more Posting b request fits k e = absurd (cc fits)
-  holds_more Closing b request fits k e = go (is_nothing (left Closing (x Closing)))
+  pub holds_more : (copy : BrickId) (stage : Stage) (b : BrickId) (request : Request) → fits_stage (Unread copy) stage ≡ true → HoldsAt stage t.change t.register lines → next_at stage (length log) t ≡ next.Ask b request → After stage b request
+  holds_more copy Locking b request fits k e = asks_same (After Locking) (own Locking) b (request_at Locking t) request e (at_stage (after Locking (x Locking)) t.change (x Locking).register _ (on_lock k))
+  holds_more copy Looking b request fits k e = asks_same (After Looking) (own Looking) b (request_at Looking t) request e (at_stage (after Looking (x Looking)) t.change (x Looking).register _ (on_look k))
+  holds_more copy Beginning b request fits k e = absurd (cc e)
+  holds_more copy Preparing b request fits k e = absurd (cc fits)
+  holds_more copy Applying b request fits k e = absurd (cc fits)
+  holds_more copy Posting b request fits k e = absurd (cc fits)
+  holds_more copy Closing b request fits k e = go (is_nothing (left Closing (x Closing)))
     where
       go : (y : Bool) → HoldsAt (if y then Closing else Closing) t.change (x Closing).register ((Ask a b request told took, log) ∷ lines)
       go true = tt

@@ -27,7 +27,7 @@ use Rattle.afr_model.specs.Tables.{entry_at, holds}
 use Rattle.afr_transaction.specs.Progress.{Progress, is_beginning}
 use Rattle.afr_transaction.proofs.Requests.{noted_is}
 use Rattle.afr_walk.specs.declared.walk.Walk.{Walk}
-use Rattle.afr_entry.specs.Entry.{IsChanging, found_by, name_noted, or_removes, reader, reads_name, settled}
+use Rattle.afr_entry.specs.Entry.{IsChanging, found_by, name_noted, or_removes, reads_name, settled}
 use Rattle.afr_entry.specs.Job.{child_by, ruled_out}
 use Rattle.afr_entry.specs.declared.job.EntryJob.{EntryJob}
 use Rattle.afr_entry.specs.declared.job.EntryJob.TheVariants.{Create, Mkdir, Unlink, Rmdir}
@@ -54,21 +54,18 @@ entry_is entry g d e = let what : entry.what ≡ Dir = dir_is entry.what d in re
     rebuilt : entry.what ≡ Dir → entry ≡ dir_at g
     rebuilt w = ap (λ (x : What). let y : Entry = record { gfid = entry.gfid; what = x } in y) w ∙ ap dir_at e
 
-module _ (p : Plan) (name : NameId) (w : Walk) (lines : Work) (t : Progress) (place : place_by p (command_of (Rmdir name) w.path) lines ≡ At (steps_of (command_of (Rmdir name) w.path)) w.object) (directory : is_dir w.object.what ≡ true) (unread : reading_by p lines ≡ NotAsked) (a : ActorId) (log : List Line) (sound : IsChanging w (Rmdir name) t Unread) (k : Goes p t lines) (n : IsUnread p (command_of (Rmdir name) w.path) w.object lines) (at_begin : is_beginning t.stage ≡ true) (holds_name : HoldsName t.change t.register lines) (took : Bool) where
+module _ (p : Plan) (name : NameId) (w : Walk) (lines : Work) (t : Progress) (place : place_by p (command_of (Rmdir name) w.path) lines ≡ At (steps_of (command_of (Rmdir name) w.path)) w.object) (directory : is_dir w.object.what ≡ true) (unread : reading_by p lines ≡ NotAsked) (a : ActorId) (log : List Line) (b : BrickId) (sound : IsChanging w (Rmdir name) t (Unread b)) (k : Goes p t lines) (n : IsUnread p (command_of (Rmdir name) w.path) w.object lines) (at_begin : is_beginning t.stage ≡ true) (holds_name : HoldsName t.change t.register lines) (took : Bool) where
   abbrev job : EntryJob
   job = Rmdir name
 
   abbrev path : List NameId
   path = w.path ++ name ∷ []
 
-  abbrev b : BrickId
-  b = reader t.register
-
   abbrev more : Work
   more = (Ask a b (reads_name job w) told_of.Given took, log) ∷ lines
 
   abbrev after : Progress
-  after = name_noted job w told_of.Given (length log) t
+  after = name_noted b job w told_of.Given (length log) t
 
   object_same : object_of t.change ≡ w.object.gfid
   object_same = ap object_of sound.of_job
@@ -78,7 +75,7 @@ module _ (p : Plan) (name : NameId) (w : Walk) (lines : Work) (t : Progress) (pl
 
   module _ (entry : Entry) (found : is_dir entry.what ≡ true) (shows : entry_at w.object.gfid name (holds p log b.0) ≡ Some entry) (apart : (entry.gfid.0 == w.object.gfid.0) ≡ false) where
     was_given : WasGiven p (command_of job w.path) w.object (Some entry) more
-    was_given = given p job w lines t place directory unread a log sound k n at_begin took (Some entry) shows
+    was_given = given p job w lines t place directory unread a log b sound k n at_begin took (Some entry) shows
 
     led : HasLed p path (object_of t.change) entry.gfid more
     led = record {
@@ -96,7 +93,7 @@ module _ (p : Plan) (name : NameId) (w : Walk) (lines : Work) (t : Progress) (pl
 
     tells_removal : RemovalTells p path (removing t.change after.register entry.gfid) more
     tells_removal =
-        let g = goes_on p job w lines t place directory unread a log sound k n at_begin told_of.Given took in
+        let g = goes_on p job w lines t place directory unread a log b sound k n at_begin told_of.Given took in
         begins p path entry.gfid after more g.1 (record {
           stage = begins_at t.stage at_begin;
           removes = subst (λ (x : Change). IsRemoval x) (sym sound.of_job) tt;
@@ -113,10 +110,10 @@ module _ (p : Plan) (name : NameId) (w : Walk) (lines : Work) (t : Progress) (pl
         })
 
 -- ---- so the lines show its removal
-abbrev pub Removed : Plan → EntryJob → Walk → Work → Progress → ActorId → List Line → Answer → Bool → Gfid → Type 0
-Removed p job w lines t a log heard took child =
-    TellsIn p (command_of job w.path) job (or_removes (Some child) (settled (ruled_out job heard) (name_noted job w (told_by heard) (length log) t)) (found_by (ruled_out job heard))) w
-    ((Ask a (reader t.register) (reads_name job w) (told_by heard) took, log) ∷ lines)
+abbrev pub Removed : Plan → EntryJob → Walk → Work → Progress → ActorId → List Line → BrickId → Answer → Bool → Gfid → Type 0
+Removed p job w lines t a log b heard took child =
+    TellsIn p (command_of job w.path) job (or_removes (Some child) (settled (ruled_out job heard) (name_noted b job w (told_by heard) (length log) t)) (found_by (ruled_out job heard))) w
+    ((Ask a b (reads_name job w) (told_by heard) took, log) ∷ lines)
 
 -- what was told of an entry, the table shows
 pub shown : (p : Plan) (b : ℕ) (g : Gfid) (name : NameId) (log : List Line) (entry : Entry) → NameTold p b g name log (answer.Entry (Some entry)) → entry_at g name (holds p log b) ≡ Some entry
@@ -128,25 +125,25 @@ shown p b g name log entry (name_told.Lost e) = absurd (cc e)
 shown p b g name log entry (name_told.Fails e) = absurd (cc e)
 
 pub read_removes : (p : Plan) (job : EntryJob) (w : Walk) (lines : Work) (t : Progress) → place_by p (command_of job w.path) lines ≡ At (steps_of (command_of job w.path)) w.object → is_dir w.object.what ≡ true → reading_by p lines ≡ NotAsked
-    → (a : ActorId) (log : List Line) → IsChanging w job t Unread → Goes p t lines → IsUnread p (command_of job w.path) w.object lines → is_beginning t.stage ≡ true → HoldsName t.change t.register lines → (heard : Answer) (took : Bool) (child : Gfid)
-    → child_by job heard ≡ Some child → CanName p w.object (reader t.register).0 (reads_name job w) log heard → Removed p job w lines t a log heard took child
-read_removes p (Rmdir name) w lines t place directory unread a log sound k n at_begin held (answer.Entry (Some entry)) took child some can = go (is_dir entry.what) refl some
+    → (a : ActorId) (log : List Line) (b : BrickId) → IsChanging w job t (Unread b) → Goes p t lines → IsUnread p (command_of job w.path) w.object lines → is_beginning t.stage ≡ true → HoldsName t.change t.register lines → (heard : Answer) (took : Bool) (child : Gfid)
+    → child_by job heard ≡ Some child → CanName p w.object b.0 (reads_name job w) log heard → Removed p job w lines t a log b heard took child
+read_removes p (Rmdir name) w lines t place directory unread a log b sound k n at_begin held (answer.Entry (Some entry)) took child some can = go (is_dir entry.what) refl some
   where
-    shows : entry_at w.object.gfid name (holds p log (reader t.register).0) ≡ Some entry
-    shows = shown p (reader t.register).0 w.object.gfid name log entry (name_told.name_told p (reader t.register).0 w.object.gfid name log (answer.Entry (Some entry)) can.answers)
+    shows : entry_at w.object.gfid name (holds p log b.0) ≡ Some entry
+    shows = shown p b.0 w.object.gfid name log entry (name_told.name_told p b.0 w.object.gfid name log (answer.Entry (Some entry)) can.answers)
 
     go : (d : Bool) → is_dir entry.what ≡ d → (if d then Some entry.gfid else None) ≡ Some child
         → TellsIn p (command_of (Rmdir name) w.path) (Rmdir name)
-        (or_removes (Some child) (settled (if d then None else Some refusal_of.NotDir) (name_noted (Rmdir name) w told_of.Given (length log) t)) (found_by (if d then None else Some refusal_of.NotDir))) w
-        ((Ask a (reader t.register) (reads_name (Rmdir name) w) told_of.Given took, log) ∷ lines)
+        (or_removes (Some child) (settled (if d then None else Some refusal_of.NotDir) (name_noted b (Rmdir name) w told_of.Given (length log) t)) (found_by (if d then None else Some refusal_of.NotDir))) w
+        ((Ask a b (reads_name (Rmdir name) w) told_of.Given took, log) ∷ lines)
     go true f e = record {
       name = name;
       is_job = refl;
-      tells = subst (λ (g : Gfid). RemovalTells p (w.path ++ name ∷ []) (removing t.change (name_noted (Rmdir name) w told_of.Given (length log) t).register g) ((Ask a (reader t.register) (reads_name (Rmdir name) w) told_of.Given took, log) ∷ lines))
-          (just entry.gfid child e) (tells_removal p name w lines t place directory unread a log sound k n at_begin held took entry f shows (can.elsewhere entry refl));
+      tells = subst (λ (g : Gfid). RemovalTells p (w.path ++ name ∷ []) (removing t.change (name_noted b (Rmdir name) w told_of.Given (length log) t).register g) ((Ask a b (reads_name (Rmdir name) w) told_of.Given took, log) ∷ lines))
+          (just entry.gfid child e) (tells_removal p name w lines t place directory unread a log b sound k n at_begin held took entry f shows (can.elsewhere entry refl));
     }
     go false f e = absurd (cc e)
-read_removes p (Rmdir name) w lines t place directory unread a log sound k n at_begin held heard took child some can = absurd (cc some)
-read_removes p (Create name) w lines t place directory unread a log sound k n at_begin held heard took child some can = absurd (cc some)
-read_removes p (Mkdir name) w lines t place directory unread a log sound k n at_begin held heard took child some can = absurd (cc some)
-read_removes p (Unlink name) w lines t place directory unread a log sound k n at_begin held heard took child some can = absurd (cc some)
+read_removes p (Rmdir name) w lines t place directory unread a log b sound k n at_begin held heard took child some can = absurd (cc some)
+read_removes p (Create name) w lines t place directory unread a log b sound k n at_begin held heard took child some can = absurd (cc some)
+read_removes p (Mkdir name) w lines t place directory unread a log b sound k n at_begin held heard took child some can = absurd (cc some)
+read_removes p (Unlink name) w lines t place directory unread a log b sound k n at_begin held heard took child some can = absurd (cc some)

@@ -48,8 +48,8 @@ use Rattle.afr_entry_telling.proofs.Words.{area_is, place_upto, refused_there}
 given_more : (p : Plan) (c : Command) (dir : Entry) (entry : Option Entry) (line : Line) (log : List Line) (w : Work) → Quiet p line log w → WasGiven p c dir entry w → WasGiven p c dir entry ((line, log) ∷ w)
 given_more p c dir entry line log w q k = record { path = q.path ∙ k.path; unrefused = q.refused ∙ k.unrefused }
 
-pub name_more : (found : Found) (p : Plan) (c : Command) (job : EntryJob) (dir : Entry) (line : Line) (log : List Line) (w : Work) → Quiet p line log w → (found ≡ Unread → begins_attempt line ≡ false) → NameTells found p c job dir w → NameTells found p c job dir ((line, log) ∷ w)
-name_more Unread p c job dir line log w q quiet_line k = record { path = q.path ∙ k.path; unrefused = q.refused ∙ k.unrefused; unbegun = rw (quiet_line refl, k.unbegun) refl }
+pub name_more : (found : Found) (p : Plan) (c : Command) (job : EntryJob) (dir : Entry) (line : Line) (log : List Line) (w : Work) → Quiet p line log w → ((copy : BrickId) → found ≡ Unread copy → begins_attempt line ≡ false) → NameTells found p c job dir w → NameTells found p c job dir ((line, log) ∷ w)
+name_more (Unread copy) p c job dir line log w q quiet_line k = record { path = q.path ∙ k.path; unrefused = q.refused ∙ k.unrefused; unbegun = rw (quiet_line copy refl, k.unbegun) refl }
 name_more Fits p c job dir line log w q quiet_line k = record { entry = k.entry; rule = k.rule; given = given_more p c dir k.entry line log w q k.given }
 name_more (Refused why) p c job dir line log w q quiet_line (ByFault e f lost) = ByFault e (q.refused ∙ f) (q.path ∙ lost)
 name_more (Refused why) p c job dir line log w q quiet_line (ByName entry e k) = ByName entry e (given_more p c dir entry line log w q k)

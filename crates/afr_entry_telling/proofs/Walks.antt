@@ -19,8 +19,9 @@ use Rattle.afr_plan.specs.declared.plan.Plan.{Plan}
 use Rattle.afr_model.specs.Showing.{Path, At, NoName, Untold, one_name, path_by}
 use Rattle.afr_model.specs.Standing.{path_upto}
 use Rattle.afr_model.specs.Tables.{entry_at, holds}
+use Rattle.afr_walk.specs.Choosing.{IsAmong}
 use Rattle.afr_walk.specs.Looks.{no_look}
-use Rattle.afr_walk.specs.Walk.{IsStep, IsWalk, is_walking, name_in, named, next_at, next_in, noted, step_at, walked, walked_at}
+use Rattle.afr_walk.specs.Walk.{IsStep, IsWalk, choices_of, is_walking, name_in, named, next_at, next_in, noted, step_at, walked, walked_at}
 use Rattle.afr_walk.specs.declared.stop.Stop.{Stop}
 use Rattle.afr_walk.specs.declared.stop.Stop.TheVariants as stop
 use Rattle.afr_walk.specs.declared.walk.Walk.{Walk}
@@ -60,7 +61,7 @@ stops_before read k entry why l e = go (read + 1 == k) (eqb_tells (read + 1) k) 
     go false (inl h) e = absurd (cc h.0)
     go false (inr h) e = let other = h.1 in omega (arith, l, other)
 
-module _ (p : Plan) (w : Walk) (lines : Work) (a : ActorId) (heard : Answer) (took : Bool) (log : List Line) (sound : IsWalk w) (k : Walks p w lines) where
+module _ (p : Plan) (w : Walk) (lines : Work) (a : ActorId) (chosen : BrickId) (heard : Answer) (took : Bool) (log : List Line) (sound : IsWalk w) (k : Walks p w lines) where
   abbrev more : WalkStep → Work
   more step = (Ask a (next_at step w).0 (next_at step w).1 (told_by heard) took, log) ∷ lines
 
@@ -72,7 +73,7 @@ module _ (p : Plan) (w : Walk) (lines : Work) (a : ActorId) (heard : Answer) (to
 
   -- where the walk stops after this line, its path hasn't led to the directory
   on_way : (step : WalkStep) (at : ℕ) → is_walking step ≡ true → IsStep w.shape.n (length w.path) w.read step → TellsAt p (command.Ls w.path) step w.read w.object lines → CanAnswer p (next_at step w).0.0 (next_at step w).1 log heard
-      → (why : Stop) → (walked_at step heard (noted (next_in w) (told_by heard) at w)).step ≡ walking.Stopped why → IsOnWay (length w.path) (path_by p (more step))
+      → (why : Stop) → (walked_at chosen step heard (noted (next_in w) (told_by heard) at w)).step ≡ walking.Stopped why → IsOnWay (length w.path) (path_by p (more step))
   on_way (walking.Looking s) at h i t can why e = at_most (length w.path) w.read w.object i.1 (path_by p lines) t.0.path
   on_way (walking.Naming b) at h i t can why e = go (name_told p b.0 w.object.gfid (name_in w) log heard can)
     where
@@ -95,25 +96,25 @@ module _ (p : Plan) (w : Walk) (lines : Work) (a : ActorId) (heard : Answer) (to
   upto_on walking.Arrived h i t = absurd (cc h)
   upto_on (walking.Stopped why) h i t = absurd (cc h)
 
-  pub walks_more : (c : Command) (job : EntryJob) → is_walking w.step ≡ true → c ≡ command_of job w.path → CanAnswer p (next_in w).0.0 (next_in w).1 log heard
-      → EntryTells p c (record { walk = walked heard (length log) w; job = job; stage = after_walk job (walked heard (length log) w) }) (more w.step)
-  walks_more c job walks of can = record {
+  pub walks_more : (c : Command) (job : EntryJob) → is_walking w.step ≡ true → c ≡ command_of job w.path → CanAnswer p (next_in w).0.0 (next_in w).1 log heard → IsAmong (choices_of heard w) chosen
+      → EntryTells p c (record { walk = walked chosen heard (length log) w; job = job; stage = after_walk job (walked chosen heard (length log) w) }) (more w.step)
+  walks_more c job walks of can among = record {
     shape = tells.shape;
     named = sym same;
-    stage = subst (λ (x : Command). TellsIn p x job (after_walk job after) after (more w.step)) same (moved p job after (more w.step) (is_walked heard (length log) w sound walks) own on);
+    stage = subst (λ (x : Command). TellsIn p x job (after_walk job after) after (more w.step)) same (moved p job after (more w.step) (is_walked chosen heard (length log) w sound walks among) own on);
   }
     where
       after : Walk
-      after = walked heard (length log) w
+      after = walked chosen heard (length log) w
 
       kept : after.path ≡ w.path
-      kept = path_kept heard (length log) w
+      kept = path_kept chosen heard (length log) w
 
       same : command_of job after.path ≡ c
       same = ap (λ (path : List NameId). command_of job path) kept ∙ sym of
 
       tells : WalkTells p (command.Ls w.path) after (more w.step)
-      tells = walk_tells_more p (command.Ls w.path) w lines a heard took log (length log) sound walks k.tells can
+      tells = walk_tells_more p (command.Ls w.path) w lines a chosen heard took log (length log) sound walks k.tells can among
 
       own : Walks p after (more w.step)
       own = record {

@@ -18,7 +18,8 @@ use Rattle.afr_plan.specs.declared.command.Command.{Command}
 use Rattle.afr_plan.specs.declared.plan.Plan.{Plan}
 use Rattle.afr_model.specs.Answered.{IsAbout, IsAnswered}
 use Rattle.afr_model.specs.Following.{KeepsTo}
-use Rattle.afr_entry.specs.Entry.{Entering, IsEntry, answered, entry_from, heard_by, next_of}
+use Rattle.afr_walk.specs.Choosing.{IsAmong}
+use Rattle.afr_entry.specs.Entry.{Entering, IsEntry, answered, choices_at, entry_from, heard_by, next_of}
 use Rattle.afr_entry.specs.declared.job.EntryJob.{EntryJob}
 use Rattle.afr_transaction_tells.specs.About.{BlamesNext}
 use Rattle.afr_transaction_tells.specs.Laws.{IsNextLine}
@@ -28,18 +29,18 @@ use Rattle.afr_entry_telling.specs.EntryTelling.{CanHear, EntryTells, command_of
 abbrev pub EntryBegins : Type 0
 EntryBegins = (p : Plan) (path : List NameId) (job : EntryJob) → p.shape.n ≤ 5 → 0 < p.shape.n → EntryTells p (command_of job path) (entry_from p.shape path job) []
 
--- after one line more, whatever was told, the lines show where the command stands then
+-- after one line more, whatever was told and whichever good copy is read then, the lines show where the command stands
 abbrev pub EntryTellsMore : Type 0
 EntryTellsMore =
-    (p : Plan) (c : Command) (m : Entering) (lines : Work) (a : ActorId) (b : BrickId) (request : Request) (heard : Answer) (took : Bool) (log : List Line)
-    → IsEntry m.walk m.job m.stage → EntryTells p c m lines → next_of (length log) m ≡ next.Ask b request → CanHear m.stage p m.walk.object b.0 request log heard
-    → EntryTells p c (answered heard (length log) m) ((Ask a b request (told_by heard) took, log) ∷ lines)
+    (p : Plan) (c : Command) (m : Entering) (lines : Work) (a : ActorId) (b : BrickId) (request : Request) (chosen : BrickId) (heard : Answer) (took : Bool) (log : List Line)
+    → IsEntry m.walk m.job m.stage → EntryTells p c m lines → next_of (length log) m ≡ next.Ask b request → CanHear m.stage p m.walk.object b.0 request log heard → IsAmong (choices_at m.stage heard (length log) m.walk) chosen
+    → EntryTells p c (answered chosen heard (length log) m) ((Ask a b request (told_by heard) took, log) ∷ lines)
 
 -- and so after the Begin line
 abbrev pub EntryBegun : Type 0
 EntryBegun =
-    (p : Plan) (c : Command) (m : Entering) (lines : Work) (a : ActorId) (change : Change) (log : List Line)
-    → IsEntry m.walk m.job m.stage → EntryTells p c m lines → next_of (length log) m ≡ next.Begin change → EntryTells p c (heard_by (heard_of.Begun (length log)) m) ((Begin a change, log) ∷ lines)
+    (p : Plan) (c : Command) (m : Entering) (lines : Work) (a : ActorId) (change : Change) (chosen : BrickId) (log : List Line)
+    → IsEntry m.walk m.job m.stage → EntryTells p c m lines → next_of (length log) m ≡ next.Begin change → EntryTells p c (heard_by chosen (heard_of.Begun (length log)) m) ((Begin a change, log) ∷ lines)
 
 -- the next line is about what the words of the command name, and keeps to them
 abbrev pub EntryAbout : Type 0

@@ -80,7 +80,7 @@ pub data RulesOut (p : Plan) (c : Command) (job : EntryJob) (dir : Entry) (why :
 
 -- what the lines show of the last name
 abbrev pub NameTells : Found → Plan → Command → EntryJob → Entry → Work → Type 0
-NameTells Unread p c job dir w = IsUnread p c dir w
+NameTells (Unread b) p c job dir w = IsUnread p c dir w
 NameTells Fits p c job dir w = FitsName p c job dir w
 NameTells (Refused why) p c job dir w = RulesOut p c job dir why w
 
@@ -103,7 +103,7 @@ HoldsAt stage change r w = HoldsName change r w
 
 -- a change that is ruled out was given up
 abbrev pub OnChange : Found → Plan → Progress → Work → Type 0
-OnChange Unread p t w = Goes p t w × HoldsAt t.stage t.change t.register w
+OnChange (Unread b) p t w = Goes p t w × HoldsAt t.stage t.change t.register w
 OnChange Fits p t w = Goes p t w
 OnChange (Refused why) p t w = GaveUp p w t
 
@@ -141,7 +141,7 @@ pub record CanName (p : Plan) (dir : Entry) (b : ℕ) (request : Request) (log :
 
 -- what it may answer under the lock of the name: that where the name is read, and else what fits the directory
 abbrev pub CanHearUnder : Found → Stage → Plan → Entry → ℕ → Request → List Line → Answer → Type 0
-CanHearUnder Unread Beginning p dir b request log heard = CanName p dir b request log heard
+CanHearUnder (Unread copy) Beginning p dir b request log heard = CanName p dir b request log heard
 CanHearUnder found stage p dir b request log heard = CanTell dir request (told_by heard)
 
 -- what it may answer, by the stage

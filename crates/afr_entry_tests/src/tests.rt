@@ -3,6 +3,8 @@ use afr_base::{AllMarks, BrickId, Gfid, NameId, Shape, What};
 use afr_entry::{EntryJob, EntryMachine};
 use afr_lines::{Answer, Area, Good, Heard, Next, Reply, Request};
 use afr_object::{Change, Entry, List, Load, NameList, View};
+use afr_rule::ReadRule;
+use afr_rule::shipped::first;
 use std::alloc::Global;
 
 const ROOT: Gfid = Gfid(1);
@@ -19,7 +21,7 @@ fn on_three(alloc: Global, path: &[NameId], job: EntryJob) -> Option<EntryMachin
 
 fn hears(machine: &mut EntryMachine, heard: Heard) {
     if !machine.is_over() {
-        machine.feed(heard);
+        machine.feed(heard, &ReadRule::new(first));
     }
 }
 

@@ -55,6 +55,11 @@ abbrev pub is_ending : Next → Bool
 is_ending (next.HealEnd g kind said) = true
 is_ending other = false
 
+-- the heal that it is at
+abbrev pub heal_at : RoundStage → Option Heal
+heal_at (Healing m) = Some m
+heal_at stage = None
+
 -- what goes with the next request
 abbrev pub CarriesAt : RoundStage → Load → Type 0
 CarriesAt (Healing m) load = load_in m.contents load

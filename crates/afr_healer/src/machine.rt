@@ -1,8 +1,8 @@
 //! A round: what it asks next, and what it makes of the answers.
-ghost use Rattle.std.specs.Prelude.{◌≡◌, ◌<◌, ◌≤◌, true, IfOk, OnOk, OnErr};
+ghost use Rattle.std.specs.Prelude.{◌≡◌, ◌<◌, ◌≤◌, true, IfOk, OnOk, OnErr, option_map};
 ghost use Rattle.afr_rule.specs.Choosing.{IsRule};
 ghost use Rattle.afr_daemon.specs.Round.{next_due, without_next};
-ghost use Rattle.afr_healer.specs.Rounding.{CanHear, CarriesNext, IsFed, IsRounding, begun, healed, is_beginning, is_ending, made_ready, next_of, reply_of, round_from, round_indexed, stage_due, stage_indexed};
+ghost use Rattle.afr_healer.specs.Rounding.{CanHear, CarriesNext, IsFed, IsRounding, begun, heal_at, healed, is_beginning, is_ending, made_ready, next_of, reply_of, round_from, round_indexed, stage_due, stage_indexed};
 
 use crate::stage::RoundStage;
 use afr_base::{BrickId, NoMemory, Shape};
@@ -138,6 +138,16 @@ impl RoundMachine {
         ensures { self.new ≡ healed self.old }
     {
         self.stage = stage_due(self.alloc, self.shape, &mut self.round);
+    }
+
+    /// The heal that the round is at.
+    pub fn heal(&self) -> Option<&HealMachine>
+        ensures { option_map (λ heal. heal.now) result ≡ heal_at self.now.stage }
+    {
+        match &self.stage {
+            RoundStage::Healing(heal) => Some(heal),
+            RoundStage::Asking | RoundStage::Over { .. } => None,
+        }
     }
 
     /// What the round keeps at every moment, for those who prove over its value.

@@ -1,6 +1,6 @@
 -- A read has somebody left to ask, the discipline allows what it asks, and its register notes it.
-use Rattle.std.proofs.Common.{subst, sym, ◌≡◌, ℕ, ◌<◌, ◌==◌, Bool, true, false, [], refl, ap, ◌∙◌, if◌then◌else◌}
-use Rattle.afr_base.specs.Bricks.{lowest, is_nothing, IsWithin}
+use Rattle.std.proofs.Common.{subst, sym, ◌≡◌, ℕ, ◌<◌, ◌==◌, Bool, true, false, [], Option, refl, ap, ◌∙◌, if◌then◌else◌}
+use Rattle.afr_base.specs.Bricks.{is_nothing, IsWithin}
 use Rattle.afr_base.specs.declared.ids.BrickId.{BrickId}
 use Rattle.afr_base.specs.declared.ids.Gfid.{Gfid}
 use Rattle.afr_base.specs.declared.ids.Shape.{Shape}
@@ -16,8 +16,11 @@ use Rattle.afr_lines.specs.Told.{told_by}
 use Rattle.afr_lines.specs.declared.answer.Answer.{Answer}
 use Rattle.afr_lines.specs.declared.answer.Told.{Told}
 use Rattle.afr_lines.specs.declared.reply.Good.TheVariants.{Bytes as BytesGood}
+use Rattle.afr_lines.specs.declared.reply.Reply.{Reply}
 use Rattle.afr_lines.specs.declared.reply.Reply.TheVariants.{Ok as OkReply, IsDir, NotDir}
 use Rattle.afr_lines.specs.declared.request.Request.{Request}
+use Rattle.afr_rule.specs.Choosing.{Calls}
+use Rattle.afr_walk.specs.Choosing.{IsAmong, RuleAnswers, choices, choices_after, reader_of}
 use Rattle.afr_walk.specs.Free.{Allows, is_free}
 use Rattle.afr_walk.specs.Looks.{no_look, left_to_look, heard_look}
 use Rattle.afr_walk.specs.Walk.{is_walking, next_in, noted, walked, IsWalk}
@@ -25,11 +28,12 @@ use Rattle.afr_walk.specs.declared.looks.Looks.{Looks}
 use Rattle.afr_walk.specs.declared.walk.Walk.{Walk}
 use Rattle.afr_walk.specs.declared.walk.WalkStep.{WalkStep}
 use Rattle.afr_walk.specs.declared.walk.WalkStep.TheVariants as walking
+use Rattle.afr_walk.proofs.ChoosingLemmas.{answers_among}
 use Rattle.afr_walk.proofs.FreeLemmas.{allows_free, allows_end}
 use Rattle.afr_walk.proofs.WalkLemmas.{HasLow, low, asks_allowed, asks_free, asked_below, heard_within, is_noted, is_walked, no_look_is, walked_notes}
 use Rattle.afr_inode_read.specs.Job.{kind_of, request_of}
-use Rattle.afr_inode_read.specs.Laws.{AllowedNext, NotesEach, StaysSound}
-use Rattle.afr_inode_read.specs.Lookup.{IsLookup, IsStage, after_step, after_walk, asked_at, at_object, from_copy, is_asking, next_at, object_judged, object_looked, stage_after, walk_after}
+use Rattle.afr_inode_read.specs.Laws.{AllowedNext, FedIsAnswered, NotesEach, StaysSound}
+use Rattle.afr_inode_read.specs.Lookup.{IsLookup, IsStage, after_step, after_walk, asked_at, at_object, choices_at, choices_heard, from_copy, is_asking, next_at, object_judged, object_looked, stage_after, walk_after}
 use Rattle.afr_inode_read.specs.declared.job.Content.{Content}
 use Rattle.afr_inode_read.specs.declared.job.Content.TheVariants as content
 use Rattle.afr_inode_read.specs.declared.job.LookupJob.{LookupJob}
@@ -78,21 +82,23 @@ is_from_copy n step (GetAttr key) object looked b l = l
 is_from_copy n step Ls object looked b l = l
 is_from_copy n step Stat object looked b l = tt
 
-is_judged : (n : ℕ) (step : WalkStep) (job : LookupJob) (object : Entry) (v : Verdict) (looked : Looked) → HasLow n v → IsStage n step (object_judged job object v looked)
-is_judged n step job object Short looked h = tt
-is_judged n step job object Bare looked h = tt
-is_judged n step job object Split looked h = tt
-is_judged n step job object (Sources s) looked h = is_from_copy n step job object looked (record { 0 = lowest s }) h
+is_judged : (n : ℕ) (step : WalkStep) (chosen : BrickId) (job : LookupJob) (object : Entry) (v : Verdict) (looked : Looked) → HasLow n chosen v → IsStage n step (object_judged chosen job object v looked)
+is_judged n step chosen job object Short looked h = tt
+is_judged n step chosen job object Bare looked h = tt
+is_judged n step chosen job object Split looked h = tt
+is_judged n step chosen job object (Sources s) looked h = is_from_copy n step job object looked chosen h
 
-pub is_object_looked : (shape : Shape) (step : WalkStep) (job : LookupJob) (object : Entry) (s : Looks) → IsWithin shape.n s.looked.reached → IsStage shape.n step (object_looked shape job object s)
-is_object_looked shape step job object s within = go (is_nothing (left_to_look shape.n s)) refl
+pub is_object_looked : (shape : Shape) (step : WalkStep) (chosen : BrickId) (job : LookupJob) (object : Entry) (s : Looks) → IsWithin shape.n s.looked.reached → IsAmong (choices_after shape (kind_of job object.what) s) chosen
+    → IsStage shape.n step (object_looked chosen shape job object s)
+is_object_looked shape step chosen job object s within among = go (is_nothing (left_to_look shape.n s)) refl among
   where
     verdict : Verdict
     verdict = verdict_of shape s.looked (kind_of job object.what)
 
-    go : (e : Bool) → is_nothing (left_to_look shape.n s) ≡ e → IsStage shape.n step (if e then object_judged job object verdict s.looked else Looking s)
-    go true k = is_judged shape.n step job object verdict s.looked (low shape s.looked (kind_of job object.what) within)
-    go false k = record { left = k; reached = within }
+    go : (e : Bool) → is_nothing (left_to_look shape.n s) ≡ e → IsAmong (if e then choices shape s.looked (kind_of job object.what) else []) chosen
+        → IsStage shape.n step (if e then object_judged chosen job object verdict s.looked else Looking s)
+    go true k h = is_judged shape.n step chosen job object verdict s.looked (low shape s.looked (kind_of job object.what) chosen within h)
+    go false k h = record { left = k; reached = within }
 
 -- ---- what is asked
 pub free_request : (g : Gfid) (of : Content) → is_free (request_of g of) ≡ true
@@ -118,40 +124,42 @@ pub allowed_next : AllowedNext
 allowed_next m k = allowed_at m.stage m.walk k
 
 -- ---- an answer
-pub kept : (stage : LookupStage) (a : Answer) (at : ℕ) (job : LookupJob) (w : Walk) → IsLookup w stage → is_asking stage ≡ true → IsLookup (walk_after stage a at w) (stage_after stage a job (walk_after stage a at w))
-kept Walking a at job w k h = is_after_walk job (walked a at w) (is_walked a at w k.sound k.ready)
-kept (Looking s) a at job w k h = record {
+pub kept : (chosen : BrickId) (stage : LookupStage) (a : Answer) (at : ℕ) (job : LookupJob) (w : Walk) → IsLookup w stage → is_asking stage ≡ true → IsAmong (choices_at stage a job w) chosen
+    → IsLookup (walk_after chosen stage a at w) (stage_after chosen stage a job (walk_after chosen stage a at w))
+kept chosen Walking a at job w k h among = is_after_walk job (walked chosen a at w) (is_walked chosen a at w k.sound k.ready among)
+kept chosen (Looking s) a at job w k h among = record {
   sound = is_noted (asked_at (Looking s) w) (told_by a) at w k.sound refl;
-  ready = is_object_looked w.shape w.step job w.object (heard_look w.shape.n (told_by a) s) (heard_within w.shape.n (told_by a) s k.ready);
+  ready = is_object_looked w.shape w.step chosen job w.object (heard_look w.shape.n (told_by a) s) (heard_within w.shape.n (told_by a) s k.ready) among;
 }
-kept (Reading b of) a at job w k h = record { sound = is_noted (asked_at (Reading b of) w) (told_by a) at w k.sound (free_request w.object.gfid of); ready = tt }
-kept (Ending said) a at job w k h = absurd (cc h)
+kept chosen (Reading b of) a at job w k h among = record { sound = is_noted (asked_at (Reading b of) w) (told_by a) at w k.sound (free_request w.object.gfid of); ready = tt }
+kept chosen (Ending said) a at job w k h among = absurd (cc h)
 
 pub stays_sound : StaysSound
-stays_sound m k h a at = kept m.stage a at m.job m.walk k h
+stays_sound m k h chosen a at among = kept chosen m.stage a at m.job m.walk k h among
 
 -- ---- the register
-notes_at : (stage : LookupStage) (w : Walk) → is_asking stage ≡ true → (a : Answer) (at : ℕ)
-    → (walk_after stage a at w).register ≡ noted_ask w.register at (asked_at stage w).0.0 (asked_at stage w).1 (told_by a)
-notes_at Walking w h a at = walked_notes w.step a (noted (next_in w) (told_by a) at w)
-notes_at (Looking s) w h a at = refl
-notes_at (Reading b of) w h a at = refl
-notes_at (Ending said) w h a at = absurd (cc h)
+notes_at : (chosen : BrickId) (stage : LookupStage) (w : Walk) → is_asking stage ≡ true → (a : Answer) (at : ℕ)
+    → (walk_after chosen stage a at w).register ≡ noted_ask w.register at (asked_at stage w).0.0 (asked_at stage w).1 (told_by a)
+notes_at chosen Walking w h a at = walked_notes chosen w.step a (noted (next_in w) (told_by a) at w)
+notes_at chosen (Looking s) w h a at = refl
+notes_at chosen (Reading b of) w h a at = refl
+notes_at chosen (Ending said) w h a at = absurd (cc h)
 
 pub notes_each : NotesEach
-notes_each m h a at = notes_at m.stage m.walk h a at
+notes_each m h chosen a at = notes_at chosen m.stage m.walk h a at
+
+-- ---- the rule
+-- what a read has heard by some rule, it has heard by any rule
+pub fed_is_answered : {F : Type 0} (calls : Calls F) (choose : F) → FedIsAnswered calls choose
+fed_is_answered calls choose of old new k = record { chosen = reader_of k.picked; among = answers_among calls choose (choices_heard of old) k.picked k.answers; value = k.value }
 
 -- ---- what the code makes is what the answer makes
 pub noted_is : (w x : Walk) (b c : BrickId) (r : Request) (told heard : Told) (at : ℕ) → b.0 ≡ c.0 → told ≡ heard → x ≡ noted (b, r) told at w → x ≡ noted (c, r) heard at w
 noted_is w x b c r told heard at eb et ex = ex ∙ ap (λ (n : ℕ). noted (record { 0 = n }, r) told at w) eb ∙ ap (λ (t : Told). noted (c, r) t at w) et
 
 -- a noted look leaves the read where it stands
-pub look_kept : (w : Walk) (s : Looks) (a : Answer) (at : ℕ) → IsLookup w (Looking s) → IsLookup (walk_after (Looking s) a at w) (Looking s)
+pub look_kept : (w : Walk) (s : Looks) (a : Answer) (at : ℕ) → IsLookup w (Looking s) → IsLookup (noted (asked_at (Looking s) w) (told_by a) at w) (Looking s)
 look_kept w s a at k = record { sound = is_noted (asked_at (Looking s) w) (told_by a) at w k.sound refl; ready = k.ready }
-
--- after the look it has somebody left to ask
-pub looked_kept : (w : Walk) (s : Looks) (a : Answer) (job : LookupJob) → IsLookup w (Looking s) → IsLookup w (stage_after (Looking s) a job w)
-looked_kept w s a job k = record { sound = k.sound; ready = is_object_looked w.shape w.step job w.object (heard_look w.shape.n (told_by a) s) (heard_within w.shape.n (told_by a) s k.ready) }
 
 -- while a brick is left to look at, the read goes on looking
 pub looks_on : (w : Walk) (s t : Looks) (told : Told) → IsLookup w (Looking s) → t ≡ heard_look w.shape.n told s → is_nothing (left_to_look w.shape.n t) ≡ false → IsLookup w (Looking t)
@@ -160,12 +168,23 @@ looks_on w s t told k e more = record {
   ready = record { left = more; reached = subst (λ (x : Looks). IsWithin w.shape.n x.looked.reached) (sym e) (heard_within w.shape.n told s k.ready) };
 }
 
+-- what the code asks the rule for is what the answer leaves to choose from
+pub asked_is : {F : Type 0} (calls : Calls F) (choose : F) (stage : LookupStage) (s t : Looks) (a : Answer) (told : Told) (job : LookupJob) (w x : Walk) (at : ℕ) (picked : Option BrickId)
+    → stage ≡ Looking s → x ≡ noted (asked_at (Looking s) w) (told_by a) at w → told ≡ told_by a → t ≡ heard_look x.shape.n told s → RuleAnswers calls choose (choices_after x.shape (kind_of job x.object.what) t) picked
+    → RuleAnswers calls choose (choices_at stage a job w) picked
+asked_is calls choose stage s t a told job w x at picked es ex el et h =
+    subst (λ (stage : LookupStage). RuleAnswers calls choose (choices_at stage a job w) picked) (sym es)
+    (subst (λ (y : Walk). RuleAnswers calls choose (choices_after y.shape (kind_of job y.object.what) (heard_look y.shape.n (told_by a) s)) picked) ex
+    (subst (λ (l : Looks). RuleAnswers calls choose (choices_after x.shape (kind_of job x.object.what) l) picked) (et ∙ ap (λ (x' : Told). heard_look x.shape.n x' s) el) h))
+
 -- when all were asked, the verdict comes
-pub looks_end : (w : Walk) (s t : Looks) (told : Told) (job : LookupJob) (stage : LookupStage) → IsLookup w (Looking s) → t ≡ heard_look w.shape.n told s → stage ≡ object_looked w.shape job w.object t → IsLookup w stage
-looks_end w s t told job stage k e of = record {
+pub looks_end : (chosen : BrickId) (w : Walk) (s t : Looks) (told : Told) (job : LookupJob) (stage : LookupStage) → IsLookup w (Looking s) → t ≡ heard_look w.shape.n told s → stage ≡ object_looked chosen w.shape job w.object t
+    → IsAmong (choices_after w.shape (kind_of job w.object.what) t) chosen → IsLookup w stage
+looks_end chosen w s t told job stage k e of among = record {
   sound = k.sound;
-  ready = subst (λ (x : LookupStage). IsStage w.shape.n w.step x) (sym of) (is_object_looked w.shape w.step job w.object t (subst (λ (x : Looks). IsWithin w.shape.n x.looked.reached) (sym e) (heard_within w.shape.n told s k.ready)));
+  ready = subst (λ (x : LookupStage). IsStage w.shape.n w.step x) (sym of)
+      (is_object_looked w.shape w.step chosen job w.object t (subst (λ (x : Looks). IsWithin w.shape.n x.looked.reached) (sym e) (heard_within w.shape.n told s k.ready)) among);
 }
 
-pub read_kept : (w : Walk) (b : BrickId) (of : Content) (a : Answer) (at : ℕ) (job : LookupJob) → IsLookup w (Reading b of) → IsLookup (walk_after (Reading b of) a at w) (stage_after (Reading b of) a job w)
-read_kept w b of a at job k = record { sound = is_noted (asked_at (Reading b of) w) (told_by a) at w k.sound (free_request w.object.gfid of); ready = tt }
+pub read_kept : (w : Walk) (b : BrickId) (of : Content) (a : Answer) (at : ℕ) (said : Reply) → IsLookup w (Reading b of) → IsLookup (noted (asked_at (Reading b of) w) (told_by a) at w) (Ending said)
+read_kept w b of a at said k = record { sound = is_noted (asked_at (Reading b of) w) (told_by a) at w k.sound (free_request w.object.gfid of); ready = tt }

@@ -1,4 +1,5 @@
-//! Commands that read an object: no lock is taken, every brick is looked at, and one good copy is read.
+//! Commands that read an object: no lock is taken, every brick is looked at, and the good copy is read that the read rule
+//! picks.
 #![tactic(auto)]
 
 mod job;
@@ -7,6 +8,6 @@ mod machine;
 mod stage;
 
 pub use job::{Content, LookupJob};
-pub use laws::a_lookup_keeps_the_discipline;
+pub use laws::{a_lookup_keeps_the_discipline, a_picked_copy_is_good};
 pub use machine::LookupMachine;
 pub use stage::LookupStage;

@@ -1,14 +1,17 @@
 //! The machine of one read: what it asks next, and what it makes of the answers.
 ghost use Rattle.std.specs.Prelude.{◌≡◌, ◌<◌, ◌≤◌, IfOk, not, true};
-ghost use Rattle.afr_inode_read.specs.Lookup.{IsLookup, answered, heard_by, is_asking, lookup_from, next_of};
+ghost use Rattle.afr_inode_read.specs.Lookup.{IsFed, IsLookup, answered, choices_of, is_asking, lookup_from, next_of};
+ghost use Rattle.afr_rule.specs.Choosing.{IsRule};
+ghost use Rattle.afr_walk.specs.Choosing.{RuleAnswers, reader_of};
 ghost use Rattle.afr_walk.specs.Free.{Allows};
 
 use crate::job::{LookupJob, request_of};
 use crate::stage::{LookupStage, left_by, stage_heard};
-use afr_base::{NameId, NoMemory, Shape};
+use afr_base::{BrickId, NameId, NoMemory, Shape};
 use afr_discipline::Register;
 use afr_lines::{Answer, Heard, KeptReply, Next, Request};
 use afr_object::Load;
+use afr_rule::{Candidate, ReadRule};
 use afr_walk::{Walk, names_of};
 use std::alloc::Global;
 use std::marker::Model;
@@ -77,13 +80,17 @@ impl LookupMachine {
         Load::Nothing
     }
 
-    /// The line was written, and the brick has answered. An End line isn't fed.
-    pub fn feed(&mut self, mut heard: Heard)
-        requires { is_asking self.old.stage ≡ true }
-        ensures { self.new ≡ heard_by heard self.old }
+    /// The line was written, and the brick has answered. Once all copies were looked at the rule picks the one that is read.
+    /// An End line isn't fed.
+    pub fn feed<G: Fn(&[Candidate]) -> usize>(&mut self, mut heard: Heard, rule: &ReadRule<G>)
+        requires rule { IsRule G.Fn rule.now }
+        requires asking { is_asking self.old.stage ≡ true }
+        ensures { IsFed G.Fn rule.now heard self.old self.new }
     {
         match &mut heard {
-            Heard::Answer(answer, at) => self.hear(answer, *at),
+            Heard::Answer(answer, at) => {
+                self.hear(answer, *at, rule);
+            }
             Heard::Begun(_) => {}
         }
     }
@@ -136,10 +143,18 @@ impl LookupMachine {
         Next::Ask(brick, request)
     }
 
-    /// The request was written, and the brick has answered. What was read is taken out of the answer, and not copied.
-    pub fn hear(&mut self, answer: &mut Answer, at: u32)
-        requires { is_asking self.old.stage ≡ true }
-        ensures { self.new ≡ answered answer.old at self.old }
+    /// The request was written, and the brick has answered. What was read is taken out of the answer, and not copied. Once all
+    /// copies were looked at the rule picks the one that is read; this is what it has picked now.
+    pub fn hear<G: Fn(&[Candidate]) -> usize>(
+        &mut self,
+        answer: &mut Answer,
+        at: u32,
+        rule: &ReadRule<G>,
+    ) -> Option<BrickId>
+        requires rule { IsRule G.Fn rule.now }
+        requires asking { is_asking self.old.stage ≡ true }
+        ensures picked { RuleAnswers G.Fn rule.now (choices_of answer.old self.old) result }
+        ensures value { self.new ≡ answered (reader_of result) answer.old at self.old }
     {
         stage_heard(
             self.alloc,
@@ -148,7 +163,8 @@ impl LookupMachine {
             &mut self.stage,
             answer,
             at,
-        );
+            rule,
+        )
     }
 }
 

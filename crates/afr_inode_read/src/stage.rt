@@ -1,19 +1,23 @@
 //! The stages of a read, and what an answer makes of each.
 ghost use Rattle.std.specs.Prelude.{◌≡◌, ◌<◌, ◌≤◌, [], false, not, true};
 ghost use Rattle.afr_base.specs.Bricks.{is_nothing};
-ghost use Rattle.afr_inode_read.specs.Lookup.{IsLookup, after_walk, at_object, from_copy, is_asking, len_at, object_judged, object_looked, stage_after, walk_after};
-ghost use Rattle.afr_inode_read.specs.Job.{reply_to};
+ghost use Rattle.afr_inode_read.specs.Lookup.{IsLookup, after_walk, asked_at, at_object, choices_at, from_copy, is_asking, object_judged, object_looked, stage_after, walk_after};
+ghost use Rattle.afr_inode_read.specs.Job.{kind_of, reply_to};
 ghost use Rattle.afr_lines.specs.declared.reply.Reply.{Reply};
+ghost use Rattle.afr_lines.specs.Told.{told_by};
+ghost use Rattle.afr_rule.specs.Choosing.{IsRule};
+ghost use Rattle.afr_walk.specs.Choosing.{RuleAnswers, choices_after, reader_of};
 ghost use Rattle.afr_walk.specs.Looks.{left_to_look};
 ghost use Rattle.afr_walk.specs.declared.looks.Looks.{Looks};
-ghost use Rattle.afr_walk.specs.Walk.{IsChoice, IsWalk, is_walking};
+ghost use Rattle.afr_walk.specs.Walk.{IsWalk, is_walking, noted};
 
 use crate::job::{Content, LookupJob, kind_of, reply_to, request_of};
 use afr_base::{BrickId, Shape, What};
 use afr_choice::{Looked, Verdict, judge};
 use afr_lines::{Answer, Good, KeptReply, Reply, Request, told_of};
 use afr_object::{Chunk, Entry};
-use afr_walk::{Looks, Walk, WalkStep, choose, stop_reply};
+use afr_rule::{Candidate, ReadRule};
+use afr_walk::{Looks, Walk, WalkStep, len_at, pick_if, reader_of, stop_reply};
 use std::alloc::Global;
 use std::mem;
 
@@ -24,7 +28,7 @@ pub enum LookupStage {
     Walking,
     /// The copies of the object are looked at.
     Looking(Looks),
-    /// A good copy is read.
+    /// The copy that the rule picked is read.
     Reading(BrickId, Content),
     Ending(KeptReply),
 }
@@ -77,40 +81,46 @@ fn of_dir(what: What) -> LookupStage
 }
 
 /// The stage hears an answer at this position, which the walk's register notes. It is written anew only where the walk, the
-/// looks or the read have ended.
-pub(crate) fn stage_heard(
+/// looks or the read have ended. Once all copies were looked at the rule picks one; this is what it has picked now.
+pub(crate) fn stage_heard<G: Fn(&[Candidate]) -> usize>(
     alloc: Global,
     walk: &mut Walk,
     job: LookupJob,
     stage: &mut LookupStage,
     answer: &mut Answer,
     at: u32,
-)
+    rule: &ReadRule<G>,
+) -> Option<BrickId>
+    requires rule { IsRule G.Fn rule.now }
     requires sound { IsLookup walk.old stage.old }
     requires asking { is_asking stage.old ≡ true }
-    ensures walk { walk.new ≡ walk_after stage.old answer.old at walk.old }
-    ensures stage { stage.new ≡ stage_after stage.old answer.old job (walk_after stage.old answer.old at walk.old) }
+    ensures picked { RuleAnswers G.Fn rule.now (choices_at stage.old answer.old job walk.old) result }
+    ensures walk { walk.new ≡ walk_after (reader_of result) stage.old answer.old at walk.old }
+    ensures stage { stage.new ≡ stage_after (reader_of result) stage.old answer.old job (walk_after (reader_of result) stage.old answer.old at walk.old) }
     ensures kept { IsLookup walk.new stage.new }
 {
     match stage {
         LookupStage::Walking => {
-            walk.hear(answer, at);
+            let picked = walk.hear(answer, at, rule);
             if has_ended(walk) {
                 leave(job, walk, stage);
             }
+            picked
         }
         LookupStage::Looking(looks) => {
             look_noted(walk, looks, answer, at);
             looks.hear(walk.shape.n, &told_of(answer));
-            if looks.is_over(walk.shape.n) {
-                look_over(alloc, job, walk, stage);
+            if !looks.is_over(walk.shape.n) {
+                return None;
             }
+            look_over(alloc, job, walk, stage, rule)
         }
         LookupStage::Reading(brick, content) => {
             read_noted(walk, *brick, *content, answer, at);
             end_read(mem::replace(answer, Answer::Done), stage);
+            None
         }
-        LookupStage::Ending(_) => {}
+        LookupStage::Ending(_) => None,
     }
 }
 
@@ -125,16 +135,27 @@ fn leave(job: LookupJob, walk: &Walk, stage: &mut LookupStage)
     *stage = left_by(job, walk);
 }
 
-/// The stage after the looks.
+/// The stage after the looks, and what the rule has picked.
 #[inline(never)]
-fn look_over(alloc: Global, job: LookupJob, walk: &Walk, stage: &mut LookupStage)
+fn look_over<G: Fn(&[Candidate]) -> usize>(
+    alloc: Global,
+    job: LookupJob,
+    walk: &Walk,
+    stage: &mut LookupStage,
+    rule: &ReadRule<G>,
+) -> Option<BrickId>
+    requires rule { IsRule G.Fn rule.now }
     requires few { walk.now.shape.n ≤ 5 }
     requires over { (looks : Looks) → stage.old ≡ LookupStage.Looking looks → is_nothing (left_to_look walk.now.shape.n looks) ≡ true }
-    ensures { (looks : Looks) → stage.old ≡ LookupStage.Looking looks → stage.new ≡ object_looked walk.now.shape job walk.now.object looks }
+    ensures picked { (looks : Looks) → stage.old ≡ LookupStage.Looking looks → RuleAnswers G.Fn rule.now (choices_after walk.now.shape (kind_of job walk.now.object.what) looks) result }
+    ensures stage { (looks : Looks) → stage.old ≡ LookupStage.Looking looks → stage.new ≡ object_looked (reader_of result) walk.now.shape job walk.now.object looks }
 {
     if let LookupStage::Looking(looks) = stage {
-        *stage = looked_at(alloc, walk.shape, job, walk.object, looks);
+        let (after, picked) = looked_at(alloc, walk.shape, job, walk.object, looks, rule);
+        *stage = after;
+        return picked;
     }
+    None
 }
 
 /// The stage after the read.
@@ -157,7 +178,7 @@ fn has_ended(walk: &Walk) -> bool
 
 fn look_noted(walk: &mut Walk, looks: &Looks, answer: &Answer, at: u32)
     requires { IsLookup walk.old (LookupStage.Looking looks.now) }
-    ensures walk { walk.new ≡ walk_after (LookupStage.Looking looks.now) answer.now at walk.old }
+    ensures walk { walk.new ≡ noted (asked_at (LookupStage.Looking looks.now) walk.old) (told_by answer.now) at walk.old }
     ensures kept { IsLookup walk.new (LookupStage.Looking looks.now) }
 {
     let told = told_of(answer);
@@ -168,26 +189,34 @@ fn look_noted(walk: &mut Walk, looks: &Looks, answer: &Answer, at: u32)
     walk.note(brick, &request, &told, at);
 }
 
-/// The verdict, where all were asked.
-fn looked_at(
+/// The verdict, where all were asked, and what the rule has picked.
+fn looked_at<G: Fn(&[Candidate]) -> usize>(
     alloc: Global,
     shape: Shape,
     job: LookupJob,
     object: Entry,
     looks: &Looks,
-) -> LookupStage
+    rule: &ReadRule<G>,
+) -> (LookupStage, Option<BrickId>)
+    requires rule { IsRule G.Fn rule.now }
     requires few { shape.n ≤ 5 }
     requires over { is_nothing (left_to_look shape.n looks.now) ≡ true }
-    ensures { result ≡ object_looked shape job object looks.now }
+    ensures picked { RuleAnswers G.Fn rule.now (choices_after shape (kind_of job object.what) looks.now) result.1 }
+    ensures stage { result.0 ≡ object_looked (reader_of result.1) shape job object looks.now }
 {
     let kind = kind_of(job, object.what);
     let verdict = judge(&shape, &looks.looked, kind);
-    judged(alloc, job, object, verdict, &looks.looked)
+    let picked = pick_if(&verdict, &shape, &looks.looked, kind, rule);
+    let chosen = reader_of(picked);
+    (
+        judged(alloc, job, object, verdict, &looks.looked, chosen),
+        picked,
+    )
 }
 
 fn read_noted(walk: &mut Walk, brick: BrickId, content: Content, answer: &Answer, at: u32)
     requires { IsLookup walk.old (LookupStage.Reading brick content) }
-    ensures walk { walk.new ≡ walk_after (LookupStage.Reading brick content) answer.now at walk.old }
+    ensures walk { walk.new ≡ noted (asked_at (LookupStage.Reading brick content) walk.old) (told_by answer.now) at walk.old }
     ensures kept { (said : Reply) → IsLookup walk.new (LookupStage.Ending said) }
 {
     let told = told_of(answer);
@@ -201,15 +230,16 @@ fn judged(
     object: Entry,
     verdict: Verdict,
     looked: &Looked,
+    chosen: BrickId,
 ) -> LookupStage
-    requires { IsChoice verdict }
-    ensures { result ≡ object_judged job object verdict looked.now }
+    requires { chosen.0 < 5 }
+    ensures { result ≡ object_judged chosen job object verdict looked.now }
 {
     match verdict {
         Verdict::Short => ending(Reply::NoQuorum),
         Verdict::Bare => ending(Reply::FewCopies),
         Verdict::Split => LookupStage::Ending(KeptReply::split(&looked.views)),
-        Verdict::Sources(sources) => reading(alloc, job, object, looked, choose(sources)),
+        Verdict::Sources(_) => reading(alloc, job, object, looked, chosen),
     }
 }
 
@@ -232,16 +262,5 @@ fn reading(
             entry: object,
             len: len_at(looked, brick),
         })),
-    }
-}
-
-/// The length that a brick showed.
-fn len_at(looked: &Looked, brick: BrickId) -> u32
-    requires { brick.0 < 5 }
-    ensures { result ≡ len_at brick.0 looked.now }
-{
-    match &looked.views[brick.0 as usize] {
-        Some(view) => view.len,
-        None => 0,
     }
 }

@@ -1,9 +1,10 @@
 -- What the lines show after one look more, at an object on the way or at the path's end.
-use Rattle.std.proofs.Common.{◌≡◌, ℕ, ◌<◌, ◌≤◌, ◌&&◌, nat_lt, Bool, true, List, ◌∷◌, refl, sym, subst, arith}
+use Rattle.std.proofs.Common.{◌≡◌, ℕ, ◌<◌, ◌≤◌, ◌&&◌, nat_lt, Bool, true, List, [], ◌∷◌, refl, sym, subst, arith, if◌then◌else◌}
 use Rattle.std.proofs.lemmas.Bool.Decides.{nat_tests}
 use Rattle.afr_base.specs.Bricks.{added, lowest, is_nothing, member}
 use Rattle.afr_base.specs.declared.ids.ActorId.{ActorId}
 use Rattle.afr_base.specs.declared.ids.BrickId.{BrickId}
+use Rattle.afr_base.specs.declared.ids.Kind.{Kind}
 use Rattle.afr_object.specs.declared.entry.Entry.{Entry}
 use Rattle.afr_choice.specs.declared.looked.Looked.{Looked}
 use Rattle.afr_lines.specs.Work.{Work}
@@ -14,6 +15,7 @@ use Rattle.afr_lines.specs.declared.request.Request.{Request}
 use Rattle.afr_lines.specs.declared.request.Request.TheVariants.{Look}
 use Rattle.afr_plan.specs.declared.plan.Plan.{Plan}
 use Rattle.afr_model.specs.Showing.{among, looked_by, looking}
+use Rattle.afr_walk.specs.Choosing.{IsAmong, choices, choices_after}
 use Rattle.afr_walk.specs.Free.{is_free}
 use Rattle.afr_walk.specs.Looks.{left_to_look, heard_look, IsLooks}
 use Rattle.afr_walk.specs.declared.looks.Looks.{Looks}
@@ -47,6 +49,12 @@ pub record LookTells (p : Plan) (read : ℕ) (object : Entry) (after : Looks) (m
   pub own : is_nothing (left_to_look p.shape.n after) ≡ true → (b : ℕ) → b < p.shape.n → member (among (looking object.gfid) more) b ≡ true
   pub all : is_nothing (left_to_look p.shape.n after) ≡ true → LookedAll p.shape.n more
   pub same : is_nothing (left_to_look p.shape.n after) ≡ true → after.looked ≡ looked_by object.gfid more
+
+-- where nobody is left to ask, what is chosen is chosen by the last looks of the lines
+pub among_lines : (p : Plan) (read : ℕ) (object : Entry) (after : Looks) (more : Work) (kind : Kind) (chosen : BrickId) → LookTells p read object after more → is_nothing (left_to_look p.shape.n after) ≡ true
+    → IsAmong (choices_after p.shape kind after) chosen → IsAmong (choices p.shape (looked_by object.gfid more) kind) chosen
+among_lines p read object after more kind chosen known over among =
+    subst (λ (x : Looked). IsAmong (choices p.shape x kind) chosen) (known.same over) (subst (λ (x : Bool). IsAmong (if x then choices p.shape after.looked kind else []) chosen) over among)
 
 module _ (p : Plan) (few : p.shape.n ≤ 5) (read : ℕ) (object : Entry) (lines : Work) (a : ActorId) (took : Bool) (log : List Line) (s : Looks) (told : Told) (looks : IsLooks p.shape.n s) (goes : GoesOn p read object lines) (agree : LooksAgree p.shape.n object.gfid s lines) (but : LookedBut p.shape.n object.gfid lines) where
   abbrev n : ℕ

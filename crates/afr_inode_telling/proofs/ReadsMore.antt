@@ -36,12 +36,13 @@ use Rattle.afr_model.specs.Refusals.{by_looks, refusal}
 use Rattle.afr_model.specs.Showing.{Path, At, given_by, has, is_fault, looked_by, path_by, reading_by, reading_told, refuses_read}
 use Rattle.afr_model.specs.Standing.{area_here, looks_here}
 use Rattle.afr_model.specs.Tables.{holds}
+use Rattle.afr_walk.specs.Choosing.{IsAmong, choices_after}
 use Rattle.afr_walk.specs.Looks.{left_to_look, heard_look, IsLooks}
 use Rattle.afr_walk.specs.Walk.{next_in, noted, walked}
 use Rattle.afr_walk.specs.declared.walk.Walk.{Walk}
 use Rattle.afr_walk.proofs.WalkLemmas.{is_walked}
 use Rattle.afr_inode_read.specs.Job.{kind_of, reply_to, request_of}
-use Rattle.afr_inode_read.specs.Lookup.{Lookup, IsLookup, IsStage, asked_at, is_asking, next_at, object_looked, stage_after, walk_after}
+use Rattle.afr_inode_read.specs.Lookup.{Lookup, IsLookup, IsStage, asked_at, choices_at, is_asking, next_at, object_looked, stage_after, walk_after}
 use Rattle.afr_inode_read.specs.declared.job.Content.{Content}
 use Rattle.afr_inode_read.specs.declared.job.Content.TheVariants as content
 use Rattle.afr_inode_read.specs.declared.job.LookupJob.{LookupJob}
@@ -214,28 +215,29 @@ module _ (p : Plan) (m : Lookup) (lines : Work) (a : ActorId) (took : Bool) (sou
   few : p.shape.n ≤ 5
   few = subst (λ (x : Shape). x.n ≤ 5) k.shape sound.sound.few
 
-  tells_at : (heard : Answer) (log : List Line) (at : ℕ) (stage : LookupStage) → IsStage w.shape.n w.step stage → TellsIn p m.job stage w lines → is_asking stage ≡ true
-      → CanAnswer p (asked_at stage w).0.0 (asked_at stage w).1 log heard
-      → ReadTells p (record { walk = walk_after stage heard at w; job = m.job; stage = stage_after stage heard m.job (walk_after stage heard at w) }) ((Ask a (asked_at stage w).0 (asked_at stage w).1 (told_by heard) took, log) ∷ lines)
-  tells_at heard log at Walking ready t h can =
+  tells_at : (chosen : BrickId) (heard : Answer) (log : List Line) (at : ℕ) (stage : LookupStage) → IsStage w.shape.n w.step stage → TellsIn p m.job stage w lines → is_asking stage ≡ true
+      → CanAnswer p (asked_at stage w).0.0 (asked_at stage w).1 log heard → IsAmong (choices_at stage heard m.job w) chosen
+      → ReadTells p (record { walk = walk_after chosen stage heard at w; job = m.job; stage = stage_after chosen stage heard m.job (walk_after chosen stage heard at w) }) ((Ask a (asked_at stage w).0 (asked_at stage w).1 (told_by heard) took, log) ∷ lines)
+  tells_at chosen heard log at Walking ready t h can among =
       let more : Work = (Ask a (next_in w).0 (next_in w).1 (told_by heard) took, log) ∷ lines in
-      let walks : WalkTells p (command_of m.job w.path) (walked heard at w) more = walk_tells_more p (command_of m.job w.path) w lines a heard took log at sound.sound ready t can in
+      let walks : WalkTells p (command_of m.job w.path) (walked chosen heard at w) more = walk_tells_more p (command_of m.job w.path) w lines a chosen heard took log at sound.sound ready t can among in
       record {
         shape = walks.shape;
-        stage = moved p few m.job (walked heard at w) more (is_walked heard at w sound.sound ready) (subst (λ (x : List NameId). WalkTells p (command_of m.job x) (walked heard at w) more) (sym (path_kept heard at w)) walks);
+        stage = moved p few m.job (walked chosen heard at w) more (is_walked chosen heard at w sound.sound ready among) (subst (λ (x : List NameId). WalkTells p (command_of m.job x) (walked chosen heard at w) more) (sym (path_kept chosen heard at w)) walks);
       }
-  tells_at heard log at (Looking s) ready (there, agree, but) h can = record {
+  tells_at chosen heard log at (Looking s) ready (there, agree, but) h can among = record {
     shape = k.shape;
     stage =
         let after : Walk = noted (asked_at (Looking s) w) (told_by heard) at w in
-        subst (λ (x : Shape). TellsIn p m.job (object_looked x m.job w.object (heard_look x.n (told_by heard) s)) after ((Ask a (record { 0 = lowest (left_to_look x.n s) }) (Look w.object.gfid) (told_by heard) took, log) ∷ lines)) (sym k.shape)
-        (look_tells p few m.job after lines a took log s (told_by heard) (subst (λ (x : Shape). IsLooks x.n s) k.shape ready) there agree but);
+        subst (λ (x : Shape). TellsIn p m.job (object_looked chosen x m.job w.object (heard_look x.n (told_by heard) s)) after ((Ask a (record { 0 = lowest (left_to_look x.n s) }) (Look w.object.gfid) (told_by heard) took, log) ∷ lines)) (sym k.shape)
+        (look_tells p few m.job after lines a took log s chosen (told_by heard) (subst (λ (x : Shape). IsLooks x.n s) k.shape ready) there agree but
+        (subst (λ (x : Shape). IsAmong (choices_after x (kind_of m.job w.object.what) (heard_look x.n (told_by heard) s)) chosen) k.shape among));
   }
-  tells_at heard log at (Reading b of) ready (there, is_named, source, all) h can = record {
+  tells_at chosen heard log at (Reading b of) ready (there, is_named, source, all) h can among = record {
     shape = k.shape;
     stage = read_tells p few m.job w lines a b of took log there is_named source all heard (subst (λ (x : Shape). b.0 < x.n) k.shape ready) can;
   }
-  tells_at heard log at (Ending said) ready t h can = absurd (cc h)
+  tells_at chosen heard log at (Ending said) ready t h can among = absurd (cc h)
 
   about_at : (told : Told) (stage : LookupStage) → IsStage w.shape.n w.step stage → TellsIn p m.job stage w lines → is_asking stage ≡ true → IsAbout p (command_of m.job w.path) (Ask a (asked_at stage w).0 (asked_at stage w).1 told took) lines
   about_at told Walking ready t h = walk_about p (command_of m.job w.path) w lines a told took sound.sound ready t (large_none m.job w.path)
@@ -250,21 +252,21 @@ module _ (p : Plan) (m : Lookup) (lines : Work) (a : ActorId) (took : Bool) (sou
   about_at told (Reading b of) ready (there, is_named, source, all) h = read_about p few m.job w lines a b of took [] there is_named source all told
   about_at told (Ending said) ready t h = absurd (cc h)
 
--- whatever was told, the lines show where the read stands then
+-- whatever was told and whichever good copy is read then, the lines show where the read stands
 pub tells_more : ReadTellsMore
-tells_more p m lines a b request heard took log at sound k asks can = go m.stage sound.ready k.stage asks can
+tells_more p m lines a b request chosen heard took log at sound k asks can among = go m.stage sound.ready k.stage asks can among
   where
     after : LookupStage → Lookup
-    after stage = record { walk = walk_after stage heard at m.walk; job = m.job; stage = stage_after stage heard m.job (walk_after stage heard at m.walk) }
+    after stage = record { walk = walk_after chosen stage heard at m.walk; job = m.job; stage = stage_after chosen stage heard m.job (walk_after chosen stage heard at m.walk) }
 
     by : (stage : LookupStage) → IsStage m.walk.shape.n m.walk.step stage → TellsIn p m.job stage m.walk lines → is_asking stage ≡ true → next.Ask (asked_at stage m.walk).0 (asked_at stage m.walk).1 ≡ next.Ask b request
-        → CanAnswer p b.0 request log heard → ReadTells p (after stage) ((Ask a b request (told_by heard) took, log) ∷ lines)
+        → CanAnswer p b.0 request log heard → IsAmong (choices_at stage heard m.job m.walk) chosen → ReadTells p (after stage) ((Ask a b request (told_by heard) took, log) ∷ lines)
     by stage ready t h e =
-        asks_same (λ (b : BrickId) (r : Request). CanAnswer p b.0 r log heard → ReadTells p (after stage) ((Ask a b r (told_by heard) took, log) ∷ lines)) (asked_at stage m.walk).0 b (asked_at stage m.walk).1 request e
-        (tells_at p m lines a took sound k heard log at stage ready t h)
+        asks_same (λ (b : BrickId) (r : Request). CanAnswer p b.0 r log heard → IsAmong (choices_at stage heard m.job m.walk) chosen → ReadTells p (after stage) ((Ask a b r (told_by heard) took, log) ∷ lines)) (asked_at stage m.walk).0 b (asked_at stage m.walk).1 request e
+        (tells_at p m lines a took sound k chosen heard log at stage ready t h)
 
     go : (stage : LookupStage) → IsStage m.walk.shape.n m.walk.step stage → TellsIn p m.job stage m.walk lines → next_at stage m.walk ≡ next.Ask b request
-        → CanAnswer p b.0 request log heard → ReadTells p (after stage) ((Ask a b request (told_by heard) took, log) ∷ lines)
+        → CanAnswer p b.0 request log heard → IsAmong (choices_at stage heard m.job m.walk) chosen → ReadTells p (after stage) ((Ask a b request (told_by heard) took, log) ∷ lines)
     go Walking ready t e = by Walking ready t refl e
     go (Looking s) ready t e = by (Looking s) ready t refl e
     go (Reading x of) ready t e = by (Reading x of) ready t refl e

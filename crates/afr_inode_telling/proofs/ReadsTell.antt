@@ -1,6 +1,6 @@
 -- The lines of a work show where its read stands, each line is about the command, and its reply has its cause.
 use Rattle.std.proofs.Common.{◌≡◌, ℕ, ◌<◌, ◌≤◌, ◌==◌, Bool, true, false, List, [], Option, Some, None, length, refl, sym, ap, ◌∙◌, subst, arith, if◌then◌else◌, is_some}
-use Rattle.afr_base.specs.Bricks.{lowest, is_nothing, member, and_right}
+use Rattle.afr_base.specs.Bricks.{is_nothing, member, and_right}
 use Rattle.afr_base.specs.declared.ids.ActorId.{ActorId}
 use Rattle.afr_base.specs.declared.ids.BrickId.{BrickId}
 use Rattle.afr_base.specs.declared.ids.Gfid.{Gfid}
@@ -33,6 +33,7 @@ use Rattle.afr_model.specs.Refusals.{at_object, by_looks, refusal, too_large, wi
 use Rattle.afr_model.specs.Showing.{Path, At, among, has, looked_by, looking, path_by, refuses_read}
 use Rattle.afr_model.specs.Skipped.{AsksAll}
 use Rattle.afr_model.specs.Standing.{area_here, looks_here, place_by}
+use Rattle.afr_walk.specs.Choosing.{IsAmong, choices, choices_after}
 use Rattle.afr_walk.specs.Looks.{no_look, left_to_look, heard_look, IsLooks}
 use Rattle.afr_walk.specs.Stops.{reply_of}
 use Rattle.afr_walk.specs.Walk.{IsStep, IsWalk, walk_from}
@@ -53,7 +54,7 @@ use Rattle.afr_inode_telling.specs.ReadLaws.{ReadBegins}
 use Rattle.afr_inode_telling.specs.ReadTelling.{IsAtObject, IsSuited, TellsIn, command_of}
 use Rattle.afr_inode_telling.specs.WalkTelling.{GoesOn, TellsAt, WalkTells}
 use Rattle.afr_inode_telling.proofs.Ended.{answered_end, refused_end, refusal_end, stopped_end}
-use Rattle.afr_inode_telling.proofs.LookHeard.{LookTells, look_known, look_line}
+use Rattle.afr_inode_telling.proofs.LookHeard.{LookTells, among_lines, look_known, look_line}
 use Rattle.afr_inode_telling.proofs.LooksMore.{agree_first}
 use Rattle.afr_inode_telling.proofs.Quiet.{but_from_all}
 use Rattle.afr_inode_telling.proofs.Walking.{is_source, looks_on_way, place_whole, steps_whole, walk_tells_first}
@@ -216,26 +217,28 @@ module _ (p : Plan) (few : p.shape.n ≤ 5) (w : Walk) (lines : Work) where
   from_copy_tells Ls b k source all = (k, refl, source, all)
   from_copy_tells Stat b k source all = stat_ends b.0 k source all
 
-  judged_tells : (job : LookupJob) → IsAtObject p job w.path w.read w.object lines → LookedAll p.shape.n lines → ((b : ℕ) → b < p.shape.n → member (among (looking g) lines) b ≡ true)
-      → (v : Verdict) → verdict_of p.shape (looked_by g lines) (kind_of job w.object.what) ≡ v → TellsIn p job (object_judged job w.object v (looked_by g lines)) w lines
-  judged_tells job k all own v e = go v e
+  judged_tells : (job : LookupJob) (chosen : BrickId) → IsAtObject p job w.path w.read w.object lines → LookedAll p.shape.n lines → ((b : ℕ) → b < p.shape.n → member (among (looking g) lines) b ≡ true)
+      → IsAmong (choices p.shape (looked_by g lines) (kind_of job w.object.what)) chosen
+      → (v : Verdict) → verdict_of p.shape (looked_by g lines) (kind_of job w.object.what) ≡ v → TellsIn p job (object_judged chosen job w.object v (looked_by g lines)) w lines
+  judged_tells job chosen k all own among v e = go v e
     where
       ends : (said : Reply) → without_source (verdict_of p.shape (looked_by g lines) (kind_of job w.object.what)) (looked_by g lines).views ≡ Some said → (said ≡ reply.Failed → ⊥) → IsAnswered p (command_of job w.path) lines said
       ends said e other =
           refused_end p (command_of job w.path) lines k.goes.only all (whole_of job w.path) said (refusal_looks p few job w.path w.read w.object lines k ∙ e)
           (λ h. asks_all_at p few job w.path w.read w.object lines k.goes.path k.whole own) (λ h. absurd (other h))
 
-      go : (v : Verdict) → verdict_of p.shape (looked_by g lines) (kind_of job w.object.what) ≡ v → TellsIn p job (object_judged job w.object v (looked_by g lines)) w lines
+      go : (v : Verdict) → verdict_of p.shape (looked_by g lines) (kind_of job w.object.what) ≡ v → TellsIn p job (object_judged chosen job w.object v (looked_by g lines)) w lines
       go Short e = ends reply.NoQuorum (ap (λ (x : Verdict). without_source x (looked_by g lines).views) e) (λ h. cc h)
       go Bare e = ends reply.FewCopies (ap (λ (x : Verdict). without_source x (looked_by g lines).views) e) (λ h. cc h)
       go Split e = ends (reply.SplitBrain (looked_by g lines).views) (ap (λ (x : Verdict). without_source x (looked_by g lines).views) e) (λ h. cc h)
-      go (Sources s) e = from_copy_tells job (record { 0 = lowest s }) k (is_source p g (kind_of job w.object.what) s lines e) all
+      go (Sources s) e = from_copy_tells job chosen k (is_source p g (kind_of job w.object.what) s chosen lines e among) all
 
 -- ---- a look at the object
-pub look_tells : (p : Plan) (few : p.shape.n ≤ 5) (job : LookupJob) (w : Walk) (lines : Work) (a : ActorId) (took : Bool) (log : List Line) (s : Looks) (told : Told) → IsLooks p.shape.n s
+pub look_tells : (p : Plan) (few : p.shape.n ≤ 5) (job : LookupJob) (w : Walk) (lines : Work) (a : ActorId) (took : Bool) (log : List Line) (s : Looks) (chosen : BrickId) (told : Told) → IsLooks p.shape.n s
     → IsAtObject p job w.path w.read w.object lines → LooksAgree p.shape.n w.object.gfid s lines → LookedBut p.shape.n w.object.gfid lines
-    → TellsIn p job (object_looked p.shape job w.object (heard_look p.shape.n told s)) w (look_line p w.object a took log s told lines)
-look_tells p few job w lines a took log s told looks k agree but = go (is_nothing (left_to_look p.shape.n after)) refl
+    → IsAmong (choices_after p.shape (kind_of job w.object.what) (heard_look p.shape.n told s)) chosen
+    → TellsIn p job (object_looked chosen p.shape job w.object (heard_look p.shape.n told s)) w (look_line p w.object a took log s told lines)
+look_tells p few job w lines a took log s chosen told looks k agree but among = go (is_nothing (left_to_look p.shape.n after)) refl
   where
     after : Looks
     after = heard_look p.shape.n told s
@@ -253,8 +256,8 @@ look_tells p few job w lines a took log s told looks k agree but = go (is_nothin
     kind = kind_of job w.object.what
 
     go : (e : Bool) → is_nothing (left_to_look p.shape.n after) ≡ e
-        → TellsIn p job (if e then object_judged job w.object (verdict_of p.shape after.looked kind) after.looked else Looking after) w more
+        → TellsIn p job (if e then object_judged chosen job w.object (verdict_of p.shape after.looked kind) after.looked else Looking after) w more
     go true over =
-        subst (λ (x : Looked). TellsIn p job (object_judged job w.object (verdict_of p.shape x kind) x) w more) (sym (known.same over))
-        (judged_tells p few w more job there (known.all over) (known.own over) (verdict_of p.shape (looked_by w.object.gfid more) kind) refl)
+        subst (λ (x : Looked). TellsIn p job (object_judged chosen job w.object (verdict_of p.shape x kind) x) w more) (sym (known.same over))
+        (judged_tells p few w more job chosen there (known.all over) (known.own over) (among_lines p w.read w.object after more kind chosen known over among) (verdict_of p.shape (looked_by w.object.gfid more) kind) refl)
     go false over = (there, known.agree, known.but)

@@ -4,7 +4,6 @@ use Rattle.std.specs.BTreeMap.{is_at}
 use Rattle.std.specs.Map.{lookup}
 use Rattle.std.proofs.lemmas.Bool.Decides.{nat_tests, eqb_tells}
 use Rattle.afr_base.specs.Bricks.{lowest, is_nothing, member}
-use Rattle.afr_base.specs.SetLemmas.{lowest_in}
 use Rattle.afr_base.specs.declared.ids.ActorId.{ActorId}
 use Rattle.afr_base.specs.declared.ids.BrickId.{BrickId}
 use Rattle.afr_base.specs.declared.ids.Gfid.{Gfid}
@@ -15,7 +14,7 @@ use Rattle.afr_base.specs.declared.ids.Shape.{Shape}
 use Rattle.afr_object.specs.Tables.{is_dir, copy_at, name_cmp}
 use Rattle.afr_object.specs.declared.entry.Entry.{Entry}
 use Rattle.afr_object.specs.declared.object.Object.{Object}
-use Rattle.afr_choice.specs.Verdict.{verdict_of, good_copies}
+use Rattle.afr_choice.specs.Verdict.{verdict_of}
 use Rattle.afr_choice.specs.VerdictLemmas.{sources_say}
 use Rattle.afr_choice.specs.declared.looked.Looked.{Looked}
 use Rattle.afr_choice.specs.declared.verdict.Verdict.{Verdict}
@@ -43,17 +42,19 @@ use Rattle.afr_model.specs.Showing.{Path, At, among, has, looked_by, looking, pa
 use Rattle.afr_model.specs.Skipped.{AsksAll}
 use Rattle.afr_model.specs.Standing.{area_here, looks_here, place_by}
 use Rattle.afr_model.specs.Tables.{entry_at, entry_in, holds}
+use Rattle.afr_walk.specs.Choosing.{IsAmong, choices, choices_after}
 use Rattle.afr_walk.specs.Looks.{no_look, left_to_look, heard_look, IsLooks}
-use Rattle.afr_walk.specs.Walk.{root_entry, step_at, walk_from, is_walking, name_in, next_at, next_in, verdict_step, after_looks, named, noted, walked, walked_at, IsStep, IsWalk}
+use Rattle.afr_walk.specs.Walk.{root_entry, step_at, walk_from, is_walking, name_in, next_at, next_in, choices_at, choices_of, verdict_step, after_looks, named, noted, walked, walked_at, IsStep, IsWalk}
 use Rattle.afr_walk.specs.declared.looks.Looks.{Looks}
 use Rattle.afr_walk.specs.declared.stop.Stop.TheVariants as stop
 use Rattle.afr_walk.specs.declared.walk.Walk.{Walk}
 use Rattle.afr_walk.specs.declared.walk.WalkStep.{WalkStep}
 use Rattle.afr_walk.specs.declared.walk.WalkStep.TheVariants.{Looking, Naming, Arrived, Stopped}
+use Rattle.afr_walk.proofs.ChoosingLemmas.{source_good}
 use Rattle.afr_inode_telling.specs.Lines.{CanAnswer, LookedAll, LookedBut, OnlyReads}
 use Rattle.afr_inode_telling.specs.Looks.{IsSource, LooksAgree}
 use Rattle.afr_inode_telling.specs.WalkTelling.{GoesOn, Stops, TellsAt, WalkTells}
-use Rattle.afr_inode_telling.proofs.LookHeard.{LookTells, look_known, look_line, only_more}
+use Rattle.afr_inode_telling.proofs.LookHeard.{LookTells, among_lines, look_known, look_line, only_more}
 use Rattle.afr_inode_telling.proofs.LooksMore.{agree_first}
 use Rattle.afr_inode_telling.proofs.Quiet.{begins_none, but_from_all}
 
@@ -89,16 +90,12 @@ area_on_way c read object h l = rw (differ_test read (steps_of c) (subst (λ (n 
 before_end : (c : Command) (read : ℕ) → is_on_name c ≡ false → read < length (path_of c) → nat_lt read (steps_of c) ≡ true
 before_end c read h l = lt_test read (steps_of c) (subst (λ (n : ℕ). read < n) (sym (steps_whole c h)) l)
 
--- the lowest source is a good copy
-pub lowest_good : (shape : Shape) (looked : Looked) (kind : Kind) (s : List ℕ) → verdict_of shape looked kind ≡ Sources s → member (good_copies shape looked kind) (lowest s) ≡ true
-lowest_good shape looked kind s e = let said = sources_say shape looked kind s e in subst (λ (t : List ℕ). member t (lowest s) ≡ true) said.1 (lowest_in s said.2)
-
--- by looks with sources, the lowest is one
-pub is_source : (p : Plan) (g : Gfid) (kind : Kind) (s : List ℕ) (w : Work) → verdict_of p.shape (looked_by g w) kind ≡ Sources s → IsSource p g kind (lowest s) w
-is_source p g kind s w e = record {
+-- by looks with sources, the copy that is chosen is one
+pub is_source : (p : Plan) (g : Gfid) (kind : Kind) (s : List ℕ) (b : BrickId) (w : Work) → verdict_of p.shape (looked_by g w) kind ≡ Sources s → IsAmong (choices p.shape (looked_by g w) kind) b → IsSource p g kind b.0 w
+is_source p g kind s b w e among = record {
   none = ap (λ (v : Verdict). without_source v (looked_by g w).views) e;
   answered = (sources_say p.shape (looked_by g w) kind s e).0;
-  good = lowest_good p.shape (looked_by g w) kind s e;
+  good = source_good p.shape (looked_by g w) kind s b e among;
 }
 
 -- ---- a walk of a command
@@ -131,7 +128,7 @@ module _ (p : Plan) (c : Command) (names : List NameId) (few : p.shape.n ≤ 5) 
   unrefused_is w next e = rw e refl
 
   -- ---- a look
-  module _ (read : ℕ) (object : Entry) (lines : Work) (a : ActorId) (took : Bool) (log : List Line) (l : read < length names) (s : Looks) (told : Told) (looks : IsLooks n s) (goes : GoesOn p read object lines) (dir : is_dir object.what ≡ true) (agree : LooksAgree n object.gfid s lines) (but : LookedBut n object.gfid lines) where
+  module _ (read : ℕ) (object : Entry) (lines : Work) (a : ActorId) (took : Bool) (log : List Line) (l : read < length names) (s : Looks) (chosen : BrickId) (told : Told) (looks : IsLooks n s) (goes : GoesOn p read object lines) (dir : is_dir object.what ≡ true) (agree : LooksAgree n object.gfid s lines) (but : LookedBut n object.gfid lines) where
     abbrev after : Looks
     after = heard_look n told s
 
@@ -150,17 +147,20 @@ module _ (p : Plan) (c : Command) (names : List NameId) (few : p.shape.n ≤ 5) 
       all = known.all over;
     }
 
-    look_judged : (over : is_nothing (left_to_look n after) ≡ true) (v : Verdict) → verdict_of p.shape (looked_by object.gfid more) Names ≡ v → TellsAt p c (verdict_step v (looked_by object.gfid more).views) read object more
-    look_judged over Short e = look_stops over reply.NoQuorum (ap (λ (v : Verdict). without_source v (looked_by object.gfid more).views) e) (λ h. cc h)
-    look_judged over Bare e = look_stops over reply.FewCopies (ap (λ (v : Verdict). without_source v (looked_by object.gfid more).views) e) (λ h. cc h)
-    look_judged over Split e = look_stops over (reply.SplitBrain (looked_by object.gfid more).views) (ap (λ (v : Verdict). without_source v (looked_by object.gfid more).views) e) (λ h. cc h)
-    look_judged over (Sources t) e = (known.goes, dir, is_source p object.gfid Names t more e, known.all over)
+    look_judged : (over : is_nothing (left_to_look n after) ≡ true) → IsAmong (choices p.shape (looked_by object.gfid more) Names) chosen → (v : Verdict) → verdict_of p.shape (looked_by object.gfid more) Names ≡ v
+        → TellsAt p c (verdict_step chosen v (looked_by object.gfid more).views) read object more
+    look_judged over among Short e = look_stops over reply.NoQuorum (ap (λ (v : Verdict). without_source v (looked_by object.gfid more).views) e) (λ h. cc h)
+    look_judged over among Bare e = look_stops over reply.FewCopies (ap (λ (v : Verdict). without_source v (looked_by object.gfid more).views) e) (λ h. cc h)
+    look_judged over among Split e = look_stops over (reply.SplitBrain (looked_by object.gfid more).views) (ap (λ (v : Verdict). without_source v (looked_by object.gfid more).views) e) (λ h. cc h)
+    look_judged over among (Sources t) e = (known.goes, dir, is_source p object.gfid Names t chosen more e among, known.all over)
 
-    pub look_tells : TellsAt p c (after_looks p.shape after) read object more
-    look_tells = go (is_nothing (left_to_look n after)) refl
+    pub look_tells : IsAmong (choices_after p.shape Names after) chosen → TellsAt p c (after_looks chosen p.shape after) read object more
+    look_tells among = go (is_nothing (left_to_look n after)) refl
       where
-        go : (e : Bool) → is_nothing (left_to_look n after) ≡ e → TellsAt p c (if e then verdict_step (verdict_of p.shape after.looked Names) after.looked.views else Looking after) read object more
-        go true over = subst (λ (x : Looked). TellsAt p c (verdict_step (verdict_of p.shape x Names) x.views) read object more) (sym (known.same over)) (look_judged over (verdict_of p.shape (looked_by object.gfid more) Names) refl)
+        go : (e : Bool) → is_nothing (left_to_look n after) ≡ e → TellsAt p c (if e then verdict_step chosen (verdict_of p.shape after.looked Names) after.looked.views else Looking after) read object more
+        go true over =
+            subst (λ (x : Looked). TellsAt p c (verdict_step chosen (verdict_of p.shape x Names) x.views) read object more) (sym (known.same over))
+            (look_judged over (among_lines p read object after more Names chosen known over among) (verdict_of p.shape (looked_by object.gfid more) Names) refl)
         go false over = (known.goes, dir, known.agree, known.but)
 
   -- ---- a name
@@ -264,9 +264,9 @@ module _ (p : Plan) (c : Command) (names : List NameId) (few : p.shape.n ≤ 5) 
 
 -- ---- a line of a walk
 -- what its lines show after it
-pub walk_tells_more : (p : Plan) (c : Command) (w : Walk) (lines : Work) (a : ActorId) (heard : Answer) (took : Bool) (log : List Line) (at : ℕ) → IsWalk w → is_walking w.step ≡ true → WalkTells p c w lines
-    → CanAnswer p (next_in w).0.0 (next_in w).1 log heard → WalkTells p c (walked heard at w) ((Ask a (next_in w).0 (next_in w).1 (told_by heard) took, log) ∷ lines)
-walk_tells_more p c w lines a heard took log at sound walks k can = by w.step walks sound.step k.step can
+pub walk_tells_more : (p : Plan) (c : Command) (w : Walk) (lines : Work) (a : ActorId) (chosen : BrickId) (heard : Answer) (took : Bool) (log : List Line) (at : ℕ) → IsWalk w → is_walking w.step ≡ true → WalkTells p c w lines
+    → CanAnswer p (next_in w).0.0 (next_in w).1 log heard → IsAmong (choices_of heard w) chosen → WalkTells p c (walked chosen heard at w) ((Ask a (next_in w).0 (next_in w).1 (told_by heard) took, log) ∷ lines)
+walk_tells_more p c w lines a chosen heard took log at sound walks k can among = by w.step walks sound.step k.step can among
   where
     start : Walk
     start = noted (next_in w) (told_by heard) at w
@@ -274,16 +274,18 @@ walk_tells_more p c w lines a heard took log at sound walks k can = by w.step wa
     few : p.shape.n ≤ 5
     few = subst (λ (x : Shape). x.n ≤ 5) k.shape sound.few
 
-    by : (step : WalkStep) → is_walking step ≡ true → IsStep w.shape.n (length w.path) w.read step → TellsAt p c step w.read w.object lines → CanAnswer p (next_at step w).0.0 (next_at step w).1 log heard → WalkTells p c (walked_at step heard start) ((Ask a (next_at step w).0 (next_at step w).1 (told_by heard) took, log) ∷ lines)
-    by (Looking s) h i (goes, dir, agree, but) can = record {
+    by : (step : WalkStep) → is_walking step ≡ true → IsStep w.shape.n (length w.path) w.read step → TellsAt p c step w.read w.object lines → CanAnswer p (next_at step w).0.0 (next_at step w).1 log heard → IsAmong (choices_at step heard w) chosen
+        → WalkTells p c (walked_at chosen step heard start) ((Ask a (next_at step w).0 (next_at step w).1 (told_by heard) took, log) ∷ lines)
+    by (Looking s) h i (goes, dir, agree, but) can among = record {
       shape = k.shape;
       path = k.path;
       whole = k.whole;
       step =
-          subst (λ (x : Shape). TellsAt p c (after_looks x (heard_look x.n (told_by heard) s)) w.read w.object ((Ask a (record { 0 = lowest (left_to_look x.n s) }) (Look w.object.gfid) (told_by heard) took, log) ∷ lines)) (sym k.shape)
-          (look_tells p c w.path few k.path k.whole w.read w.object lines a took log i.1 s (told_by heard) (subst (λ (x : Shape). IsLooks x.n s) k.shape i.0) goes dir agree but);
+          subst (λ (x : Shape). TellsAt p c (after_looks chosen x (heard_look x.n (told_by heard) s)) w.read w.object ((Ask a (record { 0 = lowest (left_to_look x.n s) }) (Look w.object.gfid) (told_by heard) took, log) ∷ lines)) (sym k.shape)
+          (look_tells p c w.path few k.path k.whole w.read w.object lines a took log i.1 s chosen (told_by heard) (subst (λ (x : Shape). IsLooks x.n s) k.shape i.0) goes dir agree but
+          (subst (λ (x : Shape). IsAmong (choices_after x Names (heard_look x.n (told_by heard) s)) chosen) k.shape among));
     }
-    by (Naming b) h i (goes, dir, source, all) can =
+    by (Naming b) h i (goes, dir, source, all) can among =
         let step = name_tells p c w.path few k.path k.whole w.read w.object lines a b took log (name_in w) (subst (λ (x : Shape). b.0 < x.n) k.shape i.0) i.1 goes all start heard refl refl can in
         moved heard step
       where
@@ -292,14 +294,14 @@ walk_tells_more p c w lines a heard took log at sound walks k can = by w.step wa
         moved (answer.Entry (Some entry)) t = record { shape = k.shape; path = k.path; whole = k.whole; step = t }
         moved (answer.Entry None) t = record { shape = k.shape; path = k.path; whole = k.whole; step = t }
         moved x t = record { shape = k.shape; path = k.path; whole = k.whole; step = t }
-    by Arrived h i t can = absurd (cc h)
-    by (Stopped why) h i t can = absurd (cc h)
+    by Arrived h i t can among = absurd (cc h)
+    by (Stopped why) h i t can among = absurd (cc h)
 
 -- an answer leaves the path
-pub path_kept : (heard : Answer) (at : ℕ) (w : Walk) → (walked heard at w).path ≡ w.path
-path_kept heard at w = go w.step heard
+pub path_kept : (chosen : BrickId) (heard : Answer) (at : ℕ) (w : Walk) → (walked chosen heard at w).path ≡ w.path
+path_kept chosen heard at w = go w.step heard
   where
-    go : (step : WalkStep) (heard : Answer) → (walked_at step heard (noted (next_in w) (told_by heard) at w)).path ≡ w.path
+    go : (step : WalkStep) (heard : Answer) → (walked_at chosen step heard (noted (next_in w) (told_by heard) at w)).path ≡ w.path
     go (Looking s) heard = refl
     go (Naming b) (answer.Entry (Some entry)) = refl
     go (Naming b) (answer.Entry None) = refl

@@ -15,7 +15,8 @@ use Rattle.afr_lines.specs.declared.request.Request.{Request}
 use Rattle.afr_plan.specs.declared.plan.Plan.{Plan}
 use Rattle.afr_model.specs.Answered.{IsAbout, IsAnswered}
 use Rattle.afr_model.specs.Following.{KeepsTo}
-use Rattle.afr_inode_read.specs.Lookup.{Lookup, IsLookup, answered, lookup_from, next_of}
+use Rattle.afr_walk.specs.Choosing.{IsAmong}
+use Rattle.afr_inode_read.specs.Lookup.{Lookup, IsLookup, answered, choices_of, lookup_from, next_of}
 use Rattle.afr_inode_read.specs.declared.job.LookupJob.{LookupJob}
 use Rattle.afr_inode_telling.specs.Lines.{CanAnswer}
 use Rattle.afr_inode_telling.specs.ReadTelling.{ReadTells, command_of}
@@ -24,12 +25,12 @@ use Rattle.afr_inode_telling.specs.ReadTelling.{ReadTells, command_of}
 abbrev pub ReadBegins : Type 0
 ReadBegins = (p : Plan) (path : List NameId) (job : LookupJob) → p.shape.n ≤ 5 → 0 < p.shape.n → ReadTells p (lookup_from p.shape path job) []
 
--- after one line more, whatever was told, the lines show where the read stands then
+-- after one line more, whatever was told and whichever good copy is read then, the lines show where the read stands
 abbrev pub ReadTellsMore : Type 0
 ReadTellsMore =
-    (p : Plan) (m : Lookup) (lines : Work) (a : ActorId) (b : BrickId) (request : Request) (heard : Answer) (took : Bool) (log : List Line) (at : ℕ)
-    → IsLookup m.walk m.stage → ReadTells p m lines → next_of m ≡ next.Ask b request → CanAnswer p b.0 request log heard
-    → ReadTells p (answered heard at m) ((Ask a b request (told_by heard) took, log) ∷ lines)
+    (p : Plan) (m : Lookup) (lines : Work) (a : ActorId) (b : BrickId) (request : Request) (chosen : BrickId) (heard : Answer) (took : Bool) (log : List Line) (at : ℕ)
+    → IsLookup m.walk m.stage → ReadTells p m lines → next_of m ≡ next.Ask b request → CanAnswer p b.0 request log heard → IsAmong (choices_of heard m) chosen
+    → ReadTells p (answered chosen heard at m) ((Ask a b request (told_by heard) took, log) ∷ lines)
 
 -- the next line is about what the words of the command name, where its path stands
 abbrev pub ReadAbout : Type 0

@@ -1,6 +1,7 @@
 -- What holds of all walks and the lines of their works, whatever command walks.
 use Rattle.std.specs.Prelude.{◌≡◌, ℕ, Bool, true, false, List, [], ◌∷◌, None, length}
 use Rattle.afr_base.specs.declared.ids.ActorId.{ActorId}
+use Rattle.afr_base.specs.declared.ids.BrickId.{BrickId}
 use Rattle.afr_base.specs.declared.ids.Gfid.{Gfid}
 use Rattle.afr_base.specs.declared.ids.NameId.{NameId}
 use Rattle.afr_lines.specs.Told.{told_by}
@@ -18,8 +19,9 @@ use Rattle.afr_model.specs.Following.{KeepsTo}
 use Rattle.afr_model.specs.Refusals.{too_large}
 use Rattle.afr_model.specs.Showing.{among, applied_at, applying, begins_attempt, begun_by, has, is_faulted, locks, posted, posting, prepared, preparing}
 use Rattle.afr_model.specs.Standing.{asking, change_by, getting, locks_any, locks_area}
+use Rattle.afr_walk.specs.Choosing.{IsAmong}
 use Rattle.afr_walk.specs.Stops.{reply_of}
-use Rattle.afr_walk.specs.Walk.{IsWalk, is_walking, next_in, walk_from, walked}
+use Rattle.afr_walk.specs.Walk.{IsWalk, choices_of, is_walking, next_in, walk_from, walked}
 use Rattle.afr_walk.specs.declared.stop.Stop.{Stop}
 use Rattle.afr_walk.specs.declared.walk.Walk.{Walk}
 use Rattle.afr_walk.specs.declared.walk.WalkStep.TheVariants.{Arrived, Stopped}
@@ -30,12 +32,12 @@ use Rattle.afr_inode_telling.specs.WalkTelling.{GoesOn, WalkTells}
 abbrev pub WalkBegins : Type 0
 WalkBegins = (p : Plan) (c : Command) (names : List NameId) → is_on_name c ≡ false → names ≡ path_of c → WalkTells p c (walk_from p.shape names) []
 
--- after one line more, whatever was told, the lines show where the walk stands then
+-- after one line more, whatever was told and whichever good copy is read then, the lines show where the walk stands
 abbrev pub WalkTellsMore : Type 0
 WalkTellsMore =
-    (p : Plan) (c : Command) (w : Walk) (lines : Work) (a : ActorId) (heard : Answer) (took : Bool) (log : List Line) (at : ℕ)
-    → IsWalk w → is_walking w.step ≡ true → WalkTells p c w lines → CanAnswer p (next_in w).0.0 (next_in w).1 log heard
-    → WalkTells p c (walked heard at w) ((Ask a (next_in w).0 (next_in w).1 (told_by heard) took, log) ∷ lines)
+    (p : Plan) (c : Command) (w : Walk) (lines : Work) (a : ActorId) (chosen : BrickId) (heard : Answer) (took : Bool) (log : List Line) (at : ℕ)
+    → IsWalk w → is_walking w.step ≡ true → WalkTells p c w lines → CanAnswer p (next_in w).0.0 (next_in w).1 log heard → IsAmong (choices_of heard w) chosen
+    → WalkTells p c (walked chosen heard at w) ((Ask a (next_in w).0 (next_in w).1 (told_by heard) took, log) ∷ lines)
 
 -- the next line of a walk is about the command, and reads the next name of its path
 abbrev pub WalkAbout : Type 0

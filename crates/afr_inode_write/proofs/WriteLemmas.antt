@@ -1,5 +1,5 @@
 -- A write has somebody left to ask, the discipline allows what it asks, and its register notes it.
-use Rattle.std.proofs.Common.{◌≡◌, ℕ, ◌&&◌, Bool, true, false, Some, None, refl, sym, ap, ◌∙◌, arith, inl, inr, if◌then◌else◌}
+use Rattle.std.proofs.Common.{◌≡◌, ℕ, ◌&&◌, Bool, true, false, refl, sym, subst, ap, ◌∙◌, arith, inl, inr, if◌then◌else◌}
 use Rattle.std.proofs.lemmas.Bool.Decides.{nat_tests}
 use Rattle.afr_base.specs.Bricks.{lowest, is_nothing}
 use Rattle.afr_base.specs.declared.ids.BrickId.{BrickId}
@@ -9,7 +9,6 @@ use Rattle.afr_object.specs.Tables.{is_dir, object_of}
 use Rattle.afr_object.specs.declared.change.Change.{Change}
 use Rattle.afr_lines.specs.Told.{told_by}
 use Rattle.afr_lines.specs.declared.answer.Answer.{Answer}
-use Rattle.afr_lines.specs.declared.answer.Answer.TheVariants as answer
 use Rattle.afr_lines.specs.declared.answer.Told.{Told}
 use Rattle.afr_lines.specs.declared.line.Heard.TheVariants as heard
 use Rattle.afr_lines.specs.declared.line.Next.{Next}
@@ -24,12 +23,15 @@ use Rattle.afr_discipline.specs.declared.register.Move.TheVariants as move
 use Rattle.afr_discipline.specs.declared.register.Register.{Register}
 use Rattle.afr_discipline.specs.declared.register.Step.TheVariants as step
 use Rattle.afr_walk.specs.Free.{Allows, IsFree, IsMoveOf}
-use Rattle.afr_walk.specs.Walk.{next_in, noted, walked, walked_at, IsWalk}
+use Rattle.afr_rule.specs.Choosing.{Calls}
+use Rattle.afr_walk.specs.Choosing.{IsAmong, reader_of}
+use Rattle.afr_walk.specs.Walk.{next_in, noted, walked, IsWalk}
 use Rattle.afr_walk.specs.declared.walk.Walk.{Walk}
 use Rattle.afr_walk.specs.declared.walk.WalkStep.{WalkStep}
 use Rattle.afr_walk.specs.declared.walk.WalkStep.TheVariants as walking
 use Rattle.afr_walk.proofs.FreeLemmas.{allows_end, shape_is}
-use Rattle.afr_walk.proofs.WalkLemmas.{asks_allowed, is_walked}
+use Rattle.afr_walk.proofs.ChoosingLemmas.{answers_among}
+use Rattle.afr_walk.proofs.WalkLemmas.{asks_allowed, is_walked, walked_notes}
 use Rattle.afr_transaction.specs.Laws as transaction
 use Rattle.afr_transaction.specs.Outcome.{reply_of}
 use Rattle.afr_transaction.specs.Progress as progress
@@ -40,8 +42,8 @@ use Rattle.afr_transaction.specs.declared.stage.Stage.TheVariants.{Locking, Look
 use Rattle.afr_transaction.proofs.Allowed.{allowed_moves}
 use Rattle.afr_transaction.proofs.Kept.{kept_begin, sound_first, stays_sound as transaction_stays}
 use Rattle.afr_inode_write.specs.Job.{IsJob, change_of, is_empty, is_of_bytes}
-use Rattle.afr_inode_write.specs.Laws.{AllowedNext, NotesBegin, NotesEach, StaysSound}
-use Rattle.afr_inode_write.specs.Write.{IsStage, IsWrite, after_step, after_walk, at_object, begun_in, is_over, next_at, register_at, stage_after, stage_begun, told_to, walk_after}
+use Rattle.afr_inode_write.specs.Laws.{AllowedNext, FedIsAnswered, NotesBegin, NotesEach, StaysSound}
+use Rattle.afr_inode_write.specs.Write.{IsStage, IsWrite, after_step, after_walk, at_object, begun_in, choices_at, choices_heard, is_over, next_at, register_at, stage_after, stage_begun, told_to, walk_after}
 use Rattle.afr_inode_write.specs.declared.job.WriteJob.{WriteJob}
 use Rattle.afr_inode_write.specs.declared.job.WriteJob.TheVariants as job
 use Rattle.afr_inode_write.specs.declared.stage.WriteStage.{WriteStage}
@@ -133,10 +135,17 @@ begun_sound w t at k = go (is_beginning t.stage) refl
     go true e = (kept_begin t k.0 (begins_at t.stage e) at, k.1)
     go false e = k
 
-pub kept_answer : (stage : WriteStage) (a : Answer) (at : ℕ) (w : Walk) → IsWrite w stage → is_over stage ≡ false → IsWrite (walk_after stage a at w) (stage_after stage a at (walk_after stage a at w))
-kept_answer (Walking j) a at w k more = is_after_walk j (walked a at w) (is_walked a at w k.sound k.ready.0) k.ready.1
-kept_answer (Changing t) a at w k more = record { sound = k.sound; ready = told_sound w t (told_by a) at k.ready more }
-kept_answer (Ending said) a at w k more = absurd (cc more)
+pub kept_answer : (chosen : BrickId) (stage : WriteStage) (a : Answer) (at : ℕ) (w : Walk) → IsWrite w stage → is_over stage ≡ false → IsAmong (choices_at stage a w) chosen
+    → IsWrite (walk_after chosen stage a at w) (stage_after stage a at (walk_after chosen stage a at w))
+kept_answer chosen (Walking j) a at w k more among = is_after_walk j (walked chosen a at w) (is_walked chosen a at w k.sound k.ready.0 among) k.ready.1
+kept_answer chosen (Changing t) a at w k more among = record { sound = k.sound; ready = told_sound w t (told_by a) at k.ready more }
+kept_answer chosen (Ending said) a at w k more among = absurd (cc more)
+
+-- a transaction's answer leaves the write sound
+pub told_kept : (stage : WriteStage) (t t' : Progress) (a : Answer) (told : Told) (at : ℕ) (w : Walk) → stage ≡ Changing t → IsWrite w stage → is_over stage ≡ false → told ≡ told_by a → t' ≡ told_to told at t → IsWrite w (Changing t')
+told_kept stage t t' a told at w es k more el et =
+    subst (λ (x : Progress). IsWrite w (Changing x)) (sym (et ∙ ap (λ (x : Told). told_to x at t) el))
+    (record { sound = k.sound; ready = told_sound w t (told_by a) at (subst (λ (x : WriteStage). IsStage w x) es k.ready) (subst (λ (x : WriteStage). is_over x ≡ false) es more) })
 
 pub kept_begun : (stage : WriteStage) (at : ℕ) (w : Walk) → IsWrite w stage → IsWrite w (stage_begun stage at)
 kept_begun (Walking j) at w k = k
@@ -145,8 +154,12 @@ kept_begun (Ending said) at w k = k
 
 -- whatever is heard of the next line, a write stays sound
 pub stays_sound : StaysSound
-stays_sound m k more (heard.Answer a at) = kept_answer m.stage a at m.walk k more
-stays_sound m k more (heard.Begun at) = kept_begun m.stage at m.walk k
+stays_sound m k more chosen (heard.Answer a at) among = kept_answer chosen m.stage a at m.walk k more among
+stays_sound m k more chosen (heard.Begun at) among = kept_begun m.stage at m.walk k
+
+-- what a write has heard by some rule, it has heard by any rule
+pub fed_is_answered : {F : Type 0} (calls : Calls F) (choose : F) → FedIsAnswered calls choose
+fed_is_answered calls choose of old new k = record { chosen = reader_of k.picked; among = answers_among calls choose (choices_heard of old) k.picked k.answers; value = k.value }
 
 -- ---- the register
 -- whom a line asks, and for what
@@ -161,14 +174,6 @@ request_in r line = r
 noted_as : (r : Register) (at : ℕ) (b c : BrickId) (asked request : Request) (told : Told) → next.Ask b asked ≡ next.Ask c request → noted_ask r at b.0 asked told ≡ noted_ask r at c.0 request told
 noted_as r at b c asked request told e =
     ap (λ (x : BrickId). noted_ask r at x.0 asked told) (ap (brick_in b) e) ∙ ap (λ (x : Request). noted_ask r at c.0 x told) (ap (request_in asked) e)
-
-walked_notes : (step : WalkStep) (a : Answer) (w : Walk) → (walked_at step a w).register ≡ w.register
-walked_notes (walking.Looking s) a w = refl
-walked_notes (walking.Naming b) (answer.Entry (Some entry)) w = refl
-walked_notes (walking.Naming b) (answer.Entry None) w = refl
-walked_notes (walking.Naming b) a w = refl
-walked_notes walking.Arrived a w = refl
-walked_notes (walking.Stopped why) a w = refl
 
 left_register : (step : WalkStep) (j : WriteJob) (w : Walk) → register_at (after_step step j w) w ≡ w.register
 left_register (walking.Looking s) j w = refl
@@ -199,16 +204,16 @@ told_notes Closing t at brick request told e = go (is_nothing t.register.held) e
     go true e = absurd (cc e)
     go false e = noted_as t.register at (record { 0 = lowest (left Closing t) }) brick (request_at Closing t) request told e
 
-notes_at : (stage : WriteStage) (w : Walk) (at : ℕ) (brick : BrickId) (request : Request) → next_at at stage w ≡ next.Ask brick request → (a : Answer)
-    → register_at (stage_after stage a at (walk_after stage a at w)) (walk_after stage a at w) ≡ noted_ask (register_at stage w) at brick.0 request (told_by a)
-notes_at (Walking j) w at brick request e a =
-    left_register (walked a at w).step j (walked a at w) ∙ walked_notes w.step a (noted (next_in w) (told_by a) at w) ∙ noted_as w.register at (next_in w).0 brick (next_in w).1 request (told_by a) e
-notes_at (Changing t) w at brick request e a = told_notes t.stage t at brick request (told_by a) e
-notes_at (Ending said) w at brick request e a = absurd (cc e)
+notes_at : (stage : WriteStage) (w : Walk) (at : ℕ) (brick : BrickId) (request : Request) → next_at at stage w ≡ next.Ask brick request → (chosen : BrickId) (a : Answer)
+    → register_at (stage_after stage a at (walk_after chosen stage a at w)) (walk_after chosen stage a at w) ≡ noted_ask (register_at stage w) at brick.0 request (told_by a)
+notes_at (Walking j) w at brick request e chosen a =
+    left_register (walked chosen a at w).step j (walked chosen a at w) ∙ walked_notes chosen w.step a (noted (next_in w) (told_by a) at w) ∙ noted_as w.register at (next_in w).0 brick (next_in w).1 request (told_by a) e
+notes_at (Changing t) w at brick request e chosen a = told_notes t.stage t at brick request (told_by a) e
+notes_at (Ending said) w at brick request e chosen a = absurd (cc e)
 
 -- the register notes each request, and what was told
 pub notes_each : NotesEach
-notes_each m at brick request e a = notes_at m.stage m.walk at brick request e a
+notes_each m at brick request e chosen a = notes_at m.stage m.walk at brick request e chosen a
 
 begun_notes : (stage : Stage) (t : Progress) (at : ℕ) (change : Change) → progress.next_at stage at t ≡ next.Begin change → (if is_beginning stage then begun at t else t).register ≡ noted_begin t.register at
 begun_notes Locking t at change e = absurd (cc e)
@@ -230,4 +235,4 @@ begins_notes (Ending said) w at change e = absurd (cc e)
 
 -- and the number of each attempt
 pub notes_begin : NotesBegin
-notes_begin m at change e = begins_notes m.stage m.walk at change e
+notes_begin m at change e chosen = begins_notes m.stage m.walk at change e

@@ -1,5 +1,6 @@
 -- A write, step by step.
-use Rattle.std.specs.Prelude.{◌≡◌, ℕ, ◌&&◌, Bool, true, false, List, if◌then◌else◌}
+use Rattle.std.specs.Prelude.{◌≡◌, ℕ, ◌&&◌, Bool, true, false, List, [], Option, if◌then◌else◌}
+use Rattle.afr_base.specs.declared.ids.BrickId.{BrickId}
 use Rattle.afr_base.specs.declared.ids.NameId.{NameId}
 use Rattle.afr_base.specs.declared.ids.Shape.{Shape}
 use Rattle.afr_object.specs.Tables.{is_dir, object_of}
@@ -16,7 +17,11 @@ use Rattle.afr_lines.specs.declared.line.Next.TheVariants as next
 use Rattle.afr_lines.specs.declared.reply.Good.TheVariants as good
 use Rattle.afr_lines.specs.declared.reply.Reply.TheVariants as reply
 use Rattle.afr_discipline.specs.declared.register.Register.{Register}
+use Rattle.afr_rule.specs.Choosing.{Calls}
+use Rattle.afr_rule.specs.declared.candidate.Candidate.{Candidate}
+use Rattle.afr_walk.specs.Choosing.{IsAmong, RuleAnswers, reader_of}
 use Rattle.afr_walk.specs.Stops.{reply_of}
+use Rattle.afr_walk.specs.Walk as walks
 use Rattle.afr_walk.specs.Walk.{walk_from, next_in, walked, is_walking, IsWalk}
 use Rattle.afr_walk.specs.declared.walk.Walk.{Walk}
 use Rattle.afr_walk.specs.declared.walk.WalkStep.{WalkStep}
@@ -98,10 +103,15 @@ told_to told at t = if is_beginning t.stage then t else fed t.stage told at t
 abbrev pub begun_in : ℕ → Progress → Progress
 begun_in at t = if is_beginning t.stage then transaction.begun at t else t
 
--- an answer moves the walk, while there is one
-abbrev pub walk_after : WriteStage → Answer → ℕ → Walk → Walk
-walk_after (Walking job) a at w = walked a at w
-walk_after stage a at w = w
+-- what the rule is asked for at an answer: the good copies of a directory on the way, where it ends the looks
+abbrev pub choices_at : WriteStage → Answer → Walk → List Candidate
+choices_at (Walking job) a w = walks.choices_of a w
+choices_at stage a w = []
+
+-- an answer moves the walk, while there is one; this copy is read next, where there is one to choose
+abbrev pub walk_after : BrickId → WriteStage → Answer → ℕ → Walk → Walk
+walk_after chosen (Walking job) a at w = walked chosen a at w
+walk_after chosen stage a at w = w
 
 -- the stage after an answer, by the walk that it has moved
 abbrev pub stage_after : WriteStage → Answer → ℕ → Walk → WriteStage
@@ -110,8 +120,8 @@ stage_after (Changing t) a at w = Changing (told_to (told_by a) at t)
 stage_after (Ending said) a at w = Ending said
 
 -- the write after an answer at this position
-abbrev pub answered : Answer → ℕ → Write → Write
-answered a at m = record { walk = walk_after m.stage a at m.walk; stage = stage_after m.stage a at (walk_after m.stage a at m.walk) }
+abbrev pub answered : BrickId → Answer → ℕ → Write → Write
+answered chosen a at m = record { walk = walk_after chosen m.stage a at m.walk; stage = stage_after m.stage a at (walk_after chosen m.stage a at m.walk) }
 
 -- the stage after a Begin line
 abbrev pub stage_begun : WriteStage → ℕ → WriteStage
@@ -119,9 +129,26 @@ stage_begun (Changing t) at = Changing (begun_in at t)
 stage_begun stage at = stage
 
 -- the write after its line was written and answered
-abbrev pub heard_by : Heard → Write → Write
-heard_by (heard.Answer a at) m = answered a at m
-heard_by (heard.Begun at) m = record m { stage = stage_begun m.stage at }
+abbrev pub heard_by : BrickId → Heard → Write → Write
+heard_by chosen (heard.Answer a at) m = answered chosen a at m
+heard_by chosen (heard.Begun at) m = record m { stage = stage_begun m.stage at }
+
+-- what the rule is asked for by what is heard
+abbrev pub choices_heard : Heard → Write → List Candidate
+choices_heard (heard.Answer a at) m = choices_at m.stage a m.walk
+choices_heard (heard.Begun at) m = []
+
+-- the write has heard this: the rule was asked where there was anything to choose from, and its copy is the one that is read
+pub record IsFed {F : Type 0} (calls : Calls F) (choose : F) (of : Heard) (old new : Write) : Type 0 where
+  pub picked : Option BrickId
+  pub answers : RuleAnswers calls choose (choices_heard of old) picked
+  pub value : new ≡ heard_by (reader_of picked) of old
+
+-- the same, whatever rule it was: the copy that is read is one of those
+pub record IsAnswered (of : Heard) (old new : Write) : Type 0 where
+  pub chosen : BrickId
+  pub among : IsAmong (choices_heard of old) chosen
+  pub value : new ≡ heard_by chosen of old
 
 -- the path is on its way with a job that fits, or the transaction is sound and changes what the path has led to
 abbrev pub IsStage : Walk → WriteStage → Type 0

@@ -7,6 +7,6 @@ mod machine;
 mod stage;
 
 pub use job::WriteJob;
-pub use laws::a_write_keeps_the_discipline;
+pub use laws::{a_write_keeps_the_discipline, a_write_reads_good_copies};
 pub use machine::WriteMachine;
 pub use stage::WriteStage;

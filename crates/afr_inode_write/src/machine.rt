@@ -1,15 +1,18 @@
 //! The machine of one write, cut or change of an attribute: what it asks next, and what it makes of the answers.
 ghost use Rattle.std.specs.Prelude.{◌≡◌, ◌<◌, ◌≤◌, IfOk, false, true};
-ghost use Rattle.afr_inode_write.specs.Write.{CarriesNext, IsWrite, answered, heard_by, is_over, next_of, register_of, stage_begun, write_from};
+ghost use Rattle.afr_inode_write.specs.Write.{CarriesNext, IsFed, IsWrite, answered, choices_at, is_over, next_of, register_of, stage_begun, write_from};
+ghost use Rattle.afr_rule.specs.Choosing.{IsRule};
+ghost use Rattle.afr_walk.specs.Choosing.{RuleAnswers, reader_of};
 ghost use Rattle.afr_walk.specs.Free.{Allows};
 ghost use Rattle.afr_walk.specs.Walk.{IsWalk, is_walking, next_in};
 
 use crate::job::WriteJob;
 use crate::stage::{WriteStage, first, stage_begun, stage_heard};
-use afr_base::{NameId, NoMemory, Shape};
+use afr_base::{BrickId, NameId, NoMemory, Shape};
 use afr_discipline::Register;
 use afr_lines::{Answer, Heard, KeptReply, Next};
 use afr_object::Load;
+use afr_rule::{Candidate, ReadRule};
 use afr_walk::{Walk, names_of};
 use std::alloc::Global;
 use std::marker::Model;
@@ -75,13 +78,17 @@ impl WriteMachine {
         }
     }
 
-    /// The line was written, and the brick has answered. An End line isn't fed.
-    pub fn feed(&mut self, heard: Heard)
-        requires { is_over self.old.stage ≡ false }
-        ensures { self.new ≡ heard_by heard self.old }
+    /// The line was written, and the brick has answered. Where all copies of a directory on the way were looked at, the rule
+    /// picks the one that is read. An End line isn't fed.
+    pub fn feed<G: Fn(&[Candidate]) -> usize>(&mut self, heard: Heard, rule: &ReadRule<G>)
+        requires rule { IsRule G.Fn rule.now }
+        requires more { is_over self.old.stage ≡ false }
+        ensures { IsFed G.Fn rule.now heard self.old self.new }
     {
         match &heard {
-            Heard::Answer(answer, at) => self.hear(answer, *at),
+            Heard::Answer(answer, at) => {
+                self.hear(answer, *at, rule);
+            }
             Heard::Begun(at) => self.begin(*at),
         }
     }
@@ -124,12 +131,20 @@ impl WriteMachine {
         }
     }
 
-    /// The request was written, and the brick has answered.
-    pub fn hear(&mut self, answer: &Answer, at: u32)
-        requires { is_over self.old.stage ≡ false }
-        ensures { self.new ≡ answered answer.now at self.old }
+    /// The request was written, and the brick has answered. Where all copies of a directory on the way were looked at, the rule
+    /// picks the one that is read; this is what it has picked now.
+    pub fn hear<G: Fn(&[Candidate]) -> usize>(
+        &mut self,
+        answer: &Answer,
+        at: u32,
+        rule: &ReadRule<G>,
+    ) -> Option<BrickId>
+        requires rule { IsRule G.Fn rule.now }
+        requires more { is_over self.old.stage ≡ false }
+        ensures picked { RuleAnswers G.Fn rule.now (choices_at self.old.stage answer.now self.old.walk) result }
+        ensures value { self.new ≡ answered (reader_of result) answer.now at self.old }
     {
-        stage_heard(&mut self.walk, &mut self.stage, answer, at);
+        stage_heard(&mut self.walk, &mut self.stage, answer, at, rule)
     }
 
     fn begin(&mut self, at: u32)

@@ -1,18 +1,21 @@
 //! The stages of a write, and what an answer makes of each.
 ghost use Rattle.std.specs.Prelude.{◌≡◌, ◌<◌, ◌≤◌, false, not};
 ghost use Rattle.afr_inode_write.specs.Job.{IsJob, change_of, is_empty};
-ghost use Rattle.afr_inode_write.specs.Write.{IsWrite, after_walk, at_object, begun_in, first_stage, is_over, stage_after, stage_begun, told_to, walk_after};
+ghost use Rattle.afr_inode_write.specs.Write.{IsWrite, after_walk, at_object, begun_in, choices_at, first_stage, is_over, stage_after, stage_begun, told_to, walk_after};
 ghost use Rattle.afr_object.specs.Tables.{is_dir};
 ghost use Rattle.afr_transaction.specs.Progress as progress;
 ghost use Rattle.afr_transaction.specs.Progress.{starting};
 ghost use Rattle.afr_transaction.specs.Sound.{IsUnused};
+ghost use Rattle.afr_rule.specs.Choosing.{IsRule};
+ghost use Rattle.afr_walk.specs.Choosing.{RuleAnswers, reader_of};
 ghost use Rattle.afr_walk.specs.Walk.{IsWalk, is_walking};
 
 use crate::job::{WriteJob, change_of, is_empty, is_of_bytes, is_too_large};
-use afr_base::{Gfid, What};
+use afr_base::{BrickId, Gfid, What};
 use afr_discipline::Register;
 use afr_lines::{Answer, Good, KeptReply, Reply, Told, told_of};
 use afr_object::Entry;
+use afr_rule::{Candidate, ReadRule};
 use afr_transaction::Transaction;
 use afr_walk::{Walk, WalkStep, stop_reply};
 use std::mem;
@@ -107,24 +110,37 @@ fn begins(job: WriteJob, gfid: Gfid, register: &Register) -> Transaction
 }
 
 /// The stage hears an answer at this position, which the register of the walk or of the transaction notes. It is written
-/// anew only where the walk has ended.
-pub(crate) fn stage_heard(walk: &mut Walk, stage: &mut WriteStage, answer: &Answer, at: u32)
+/// anew only where the walk has ended. Once all copies of a directory on the way were looked at the rule picks one; this is
+/// what it has picked now.
+pub(crate) fn stage_heard<G: Fn(&[Candidate]) -> usize>(
+    walk: &mut Walk,
+    stage: &mut WriteStage,
+    answer: &Answer,
+    at: u32,
+    rule: &ReadRule<G>,
+) -> Option<BrickId>
+    requires rule { IsRule G.Fn rule.now }
     requires sound { IsWrite walk.old stage.old }
     requires more { is_over stage.old ≡ false }
-    ensures walk { walk.new ≡ walk_after stage.old answer.now at walk.old }
-    ensures stage { stage.new ≡ stage_after stage.old answer.now at (walk_after stage.old answer.now at walk.old) }
+    ensures picked { RuleAnswers G.Fn rule.now (choices_at stage.old answer.now walk.old) result }
+    ensures walk { walk.new ≡ walk_after (reader_of result) stage.old answer.now at walk.old }
+    ensures stage { stage.new ≡ stage_after stage.old answer.now at (walk_after (reader_of result) stage.old answer.now at walk.old) }
     ensures kept { IsWrite walk.new stage.new }
 {
     match stage {
         WriteStage::Walking(job) => {
-            walk.hear(answer, at);
+            let picked = walk.hear(answer, at, rule);
             if has_ended(walk) {
                 let job = mem::replace(job, WriteJob::Cut { len: 0 });
                 leave(job, walk, stage);
             }
+            picked
         }
-        WriteStage::Changing(transaction) => heard(transaction, &told_of(answer), at),
-        WriteStage::Ending(_) => {}
+        WriteStage::Changing(transaction) => {
+            heard(transaction, &told_of(answer), at);
+            None
+        }
+        WriteStage::Ending(_) => None,
     }
 }
 

@@ -3,6 +3,8 @@ use afr_base::{AllMarks, BrickId, Gfid, KeyId, NameId, Shape, ValueId, What};
 use afr_inode_write::{WriteJob, WriteMachine};
 use afr_lines::{Answer, Good, Heard, Next, Reply, Request};
 use afr_object::{Change, Chunk, Entry, Load, View};
+use afr_rule::ReadRule;
+use afr_rule::shipped::first;
 use std::alloc::Global;
 
 const FILE: Gfid = Gfid(40);
@@ -34,7 +36,7 @@ fn write_of(alloc: Global, at: u32, count: u8) -> Option<WriteMachine> {
 
 fn hears(machine: &mut WriteMachine, heard: Heard) {
     if !machine.is_over() {
-        machine.feed(heard);
+        machine.feed(heard, &ReadRule::new(first));
     }
 }
 

@@ -78,17 +78,7 @@ impl<T: Drop> List<T> {
 impl<T: TryCopy> TryCopy for List<T> {
     fn copy(&self) -> Result<List<T>, NoMemory> {
         Ok(List {
-            items: copied(*self.items.allocator(), self.items.as_slice())?,
+            items: T::copy_all(*self.items.allocator(), self.items.as_slice())?,
         })
     }
-}
-
-fn copied<T: TryCopy>(alloc: Global, items: &[T]) -> Result<Vec<T>, NoMemory>
-    ensures ok { IfOk result (λ copy. copy.items ≡ items.now) }
-{
-    let mut copy = Vec::with_capacity(alloc, items.len())?;
-    for item in items {
-        copy.push(item.copy()?)?;
-    }
-    Ok(copy)
 }

@@ -5,8 +5,8 @@ use Rattle.afr_base.specs.declared.ids.ActorId.{ActorId}
 use Rattle.afr_lines.specs.declared.line.Line.{Line}
 use Rattle.afr_plan.specs.declared.plan.Plan.{Plan}
 use Rattle.afr_model.specs.Chosen.{Picks}
-use Rattle.afr_sources.proofs.Turns.{event_keeps, none_chosen}
-use Rattle.afr_volume.specs.State.{IsChosen, State, opened}
+use Rattle.afr_volume.proofs.ChosenLemmas.{event_chosen}
+use Rattle.afr_volume.specs.State.{IsChosen, State}
 use Rattle.afr_model.specs.Actors.{is_done}
 use Rattle.afr_model.specs.Ordered.Writes.{Moves, PassesOver, Happens}
 use Rattle.afr_volume.specs.Turning.{Turns, Comes, AddsLine}
@@ -102,11 +102,7 @@ turn_done a old new Full h t l = cc
 pub ends_true : (a b : State) (xs : List ℕ) (on : Bool) → on ≡ true → Ends xs a on b → Takes a.plan xs a.log b.log
 ends_true a b xs on e h = rw e at h
 
--- before its first line a volume runs no heal
-pub opened_chosen : (picks : Picks) (p : Plan) → IsChosen picks (opened p)
-opened_chosen picks p = none_chosen picks p (replicate (length p.healers) None)
-
--- events leave the source of every heal
-pub happens_chosen : (picks : Picks) (old new : State) → IsHappening old new → IsChosen picks old → IsChosen picks new
-happens_chosen picks old new Still k = k
-happens_chosen picks old new (Later mid _ h comes) k = rw comes.added (event_keeps picks mid.plan mid.log mid.sources comes.event (happens_chosen picks old mid h k))
+-- events keep what the rules have picked
+pub happens_chosen : (reads heals : Picks) (old new : State) → IsHappening old new → IsChosen reads heals old → IsChosen reads heals new
+happens_chosen reads heals old new Still k = k
+happens_chosen reads heals old new (Later mid _ h comes) k = event_chosen reads heals mid new comes (happens_chosen reads heals old mid h k)

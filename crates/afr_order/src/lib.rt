@@ -23,19 +23,20 @@ mod turns;
 
 use crate::rows::{take_orders, take_pass};
 use afr_base::NoMemory;
-use afr_rule::{Candidate, SourceRule};
+use afr_rule::{Candidate, Rules};
 use afr_volume::Volume;
 
 /// Runs the plan that the volume was set up with, until every actor is done or the log is full.
 /// First come the orders of the plan, then passes over all actors in rising order: clients, then
 /// healers. Before each turn, and at the end, all due events come. It takes one turn for each line;
 /// an order asks its actor at most once more, and a pass each actor.
-/// A heal that chooses its source asks the rule.
-pub fn drive<F: Fn(&[Candidate]) -> usize>(
+/// Heals ask one of the rules for their sources, and clients the other for the copies that they read.
+pub fn drive<F: Fn(&[Candidate]) -> usize, G: Fn(&[Candidate]) -> usize>(
     volume: &mut Volume,
-    rule: &SourceRule<F>,
+    rules: &Rules<F, G>,
 ) -> Result<(), NoMemory>
-    requires rule { IsRule F.Fn rule.now }
+    requires rule { IsRule F.Fn rules.now.heal }
+    requires read_rule { IsRule G.Fn rules.now.read }
     requires fresh { volume.old.log ≡ [] }
     ensures plan { volume.new.plan ≡ volume.old.plan }
     ensures ok { OnOk result (IsComplete volume.new.plan volume.new.log) }
@@ -50,31 +51,32 @@ pub fn drive<F: Fn(&[Candidate]) -> usize>(
     ensures causes { EveryPrefix (HaveCauses volume.new.plan) volume.new.log }
     ensures alike { EveryPrefix (AreAlike volume.new.plan) volume.new.log }
     ensures quiet { AreQuietWhole volume.new.plan volume.new.log }
-    ensures chosen { IsChosen (picks_of F.Fn rule.now) volume.new }
+    ensures chosen { IsChosen (picks_of G.Fn rules.now.read) (picks_of F.Fn rules.now.heal) volume.new }
 {
     volume.every_line();
-    let driven = take_all(volume, rule);
+    let driven = take_all(volume, rules);
     volume.every_line();
     driven
 }
 
-fn take_all<F: Fn(&[Candidate]) -> usize>(
+fn take_all<F: Fn(&[Candidate]) -> usize, G: Fn(&[Candidate]) -> usize>(
     volume: &mut Volume,
-    rule: &SourceRule<F>,
+    rules: &Rules<F, G>,
 ) -> Result<(), NoMemory>
-    requires rule { IsRule F.Fn rule.now }
+    requires rule { IsRule F.Fn rules.now.heal }
+    requires read_rule { IsRule G.Fn rules.now.read }
     requires fresh { volume.old.log ≡ [] }
     ensures plan { volume.new.plan ≡ volume.old.plan }
     ensures ok { OnOk result (IsComplete volume.new.plan volume.new.log) }
     ensures ordered { IsOrdered volume.new.plan volume.new.log }
-    ensures chosen { IsChosen (picks_of F.Fn rule.now) volume.old → IsChosen (picks_of F.Fn rule.now) volume.new }
+    ensures chosen { IsChosen (picks_of G.Fn rules.now.read) (picks_of F.Fn rules.now.heal) volume.old → IsChosen (picks_of G.Fn rules.now.read) (picks_of F.Fn rules.now.heal) volume.new }
 {
-    if !take_orders(volume, rule)? {
+    if !take_orders(volume, rules)? {
         return Ok(());
     }
     loop {
         let before = volume.len();
-        if !take_pass(volume, rule)? {
+        if !take_pass(volume, rules)? {
             return Ok(());
         }
         volume.every_line();

@@ -10,25 +10,26 @@ ghost use Rattle.afr_order.specs.Going.{Goes, TakesFront, Ends, IsIdle};
 
 use crate::turns::{come_due, take_turn, take_turns};
 use afr_base::{ActorId, FIRST_CLIENT, FIRST_HEALER, NoMemory};
-use afr_rule::{Candidate, SourceRule};
+use afr_rule::{Candidate, Rules};
 use afr_volume::Volume;
 
 /// All orders of the plan. It answers whether the log had room.
-pub(crate) fn take_orders<F: Fn(&[Candidate]) -> usize>(
+pub(crate) fn take_orders<F: Fn(&[Candidate]) -> usize, G: Fn(&[Candidate]) -> usize>(
     volume: &mut Volume,
-    rule: &SourceRule<F>,
+    rules: &Rules<F, G>,
 ) -> Result<bool, NoMemory>
-    requires rule { IsRule F.Fn rule.now }
+    requires rule { IsRule F.Fn rules.now.heal }
+    requires read_rule { IsRule G.Fn rules.now.read }
     ensures goes { Goes volume.old volume.new }
     ensures front { TakesFront volume.old.plan (ordered_turns volume.old.plan.go) volume.old.log volume.new.log }
     ensures ok { IfOk result (λ on. Ends (ordered_turns volume.old.plan.go) volume.old on volume.new) }
-    ensures chosen { IsChosen (picks_of F.Fn rule.now) volume.old → IsChosen (picks_of F.Fn rule.now) volume.new }
+    ensures chosen { IsChosen (picks_of G.Fn rules.now.read) (picks_of F.Fn rules.now.heal) volume.old → IsChosen (picks_of G.Fn rules.now.read) (picks_of F.Fn rules.now.heal) volume.new }
 {
     volume.every_line();
     let orders = volume.plan().go.len();
     for i in 0..orders {
         let go = *volume.plan().go.item(i);
-        if !take_turns(volume, go.actor, go.count, rule)? {
+        if !take_turns(volume, go.actor, go.count, rules)? {
             return Ok(false);
         }
     }
@@ -36,23 +37,24 @@ pub(crate) fn take_orders<F: Fn(&[Candidate]) -> usize>(
 }
 
 /// A turn of each of so many actors. It answers whether the log had room.
-fn take_row<F: Fn(&[Candidate]) -> usize>(
+fn take_row<F: Fn(&[Candidate]) -> usize, G: Fn(&[Candidate]) -> usize>(
     volume: &mut Volume,
     first: u16,
     count: u16,
-    rule: &SourceRule<F>,
+    rules: &Rules<F, G>,
 ) -> Result<bool, NoMemory>
-    requires rule { IsRule F.Fn rule.now }
+    requires rule { IsRule F.Fn rules.now.heal }
+    requires read_rule { IsRule G.Fn rules.now.read }
     requires fits { first + count < 2 ^ 16 }
     requires actors { (k : ℕ) → k < count → IsActor volume.old.plan (first + k) }
     ensures goes { Goes volume.old volume.new }
     ensures front { TakesFront volume.old.plan (range_with_len first count) volume.old.log volume.new.log }
     ensures ok { IfOk result (λ on. Ends (range_with_len first count) volume.old on volume.new) }
     ensures done { result ≡ Ok true → length volume.new.log ≤ length volume.old.log → (k : ℕ) → k < count → is_done volume.new.plan (first + k) volume.new.log ≡ true }
-    ensures chosen { IsChosen (picks_of F.Fn rule.now) volume.old → IsChosen (picks_of F.Fn rule.now) volume.new }
+    ensures chosen { IsChosen (picks_of G.Fn rules.now.read) (picks_of F.Fn rules.now.heal) volume.old → IsChosen (picks_of G.Fn rules.now.read) (picks_of F.Fn rules.now.heal) volume.new }
 {
     for i in 0..count {
-        if !take_turn(volume, ActorId(first + i), rule)? {
+        if !take_turn(volume, ActorId(first + i), rules)? {
             return Ok(false);
         }
     }
@@ -60,24 +62,25 @@ fn take_row<F: Fn(&[Candidate]) -> usize>(
 }
 
 /// A turn of each actor, and the events that are due then. It answers whether the log had room.
-pub(crate) fn take_pass<F: Fn(&[Candidate]) -> usize>(
+pub(crate) fn take_pass<F: Fn(&[Candidate]) -> usize, G: Fn(&[Candidate]) -> usize>(
     volume: &mut Volume,
-    rule: &SourceRule<F>,
+    rules: &Rules<F, G>,
 ) -> Result<bool, NoMemory>
-    requires rule { IsRule F.Fn rule.now }
+    requires rule { IsRule F.Fn rules.now.heal }
+    requires read_rule { IsRule G.Fn rules.now.read }
     ensures goes { Goes volume.old volume.new }
     ensures front { TakesFront volume.old.plan (actors_of volume.old.plan) volume.old.log volume.new.log }
     ensures ok { IfOk result (λ on. Ends (actors_of volume.old.plan) volume.old on volume.new) }
     ensures idle { result ≡ Ok true → length volume.new.log ≤ length volume.old.log → IsIdle volume.new }
-    ensures chosen { IsChosen (picks_of F.Fn rule.now) volume.old → IsChosen (picks_of F.Fn rule.now) volume.new }
+    ensures chosen { IsChosen (picks_of G.Fn rules.now.read) (picks_of F.Fn rules.now.heal) volume.old → IsChosen (picks_of G.Fn rules.now.read) (picks_of F.Fn rules.now.heal) volume.new }
 {
     volume.every_line();
     let clients = volume.plan().clients.len() as u16;
     let healers = volume.plan().healers.len() as u16;
-    if !take_row(volume, FIRST_CLIENT, clients, rule)? {
+    if !take_row(volume, FIRST_CLIENT, clients, rules)? {
         return Ok(false);
     }
-    if !take_row(volume, FIRST_HEALER, healers, rule)? {
+    if !take_row(volume, FIRST_HEALER, healers, rules)? {
         return Ok(false);
     }
     come_due(volume)?;

@@ -9,7 +9,7 @@ ghost use Rattle.afr_volume.specs.Turning.{due_of};
 ghost use Rattle.afr_order.specs.Going.{Goes, Takes, TakesFront, Ends, IsHappening, goes_on_after};
 
 use afr_base::{ActorId, NoMemory};
-use afr_rule::{Candidate, SourceRule};
+use afr_rule::{Candidate, Rules};
 use afr_volume::{Turned, Volume};
 
 /// All events that are due.
@@ -36,42 +36,44 @@ fn goes_on(turned: Turned) -> bool
 }
 
 /// The due events, and then one turn. It answers whether the log had room.
-pub(crate) fn take_turn<F: Fn(&[Candidate]) -> usize>(
+pub(crate) fn take_turn<F: Fn(&[Candidate]) -> usize, G: Fn(&[Candidate]) -> usize>(
     volume: &mut Volume,
     a: ActorId,
-    rule: &SourceRule<F>,
+    rules: &Rules<F, G>,
 ) -> Result<bool, NoMemory>
-    requires rule { IsRule F.Fn rule.now }
+    requires rule { IsRule F.Fn rules.now.heal }
+    requires read_rule { IsRule G.Fn rules.now.read }
     requires actor { IsActor volume.old.plan a.0 }
     ensures goes { Goes volume.old volume.new }
     ensures front { TakesFront volume.old.plan (a.0 ∷ []) volume.old.log volume.new.log }
     ensures ok { IfOk result (λ on. Ends (a.0 ∷ []) volume.old on volume.new) }
     ensures done { result ≡ Ok true → length volume.new.log ≤ length volume.old.log → is_done volume.new.plan a.0 volume.new.log ≡ true }
-    ensures chosen { IsChosen (picks_of F.Fn rule.now) volume.old → IsChosen (picks_of F.Fn rule.now) volume.new }
+    ensures chosen { IsChosen (picks_of G.Fn rules.now.read) (picks_of F.Fn rules.now.heal) volume.old → IsChosen (picks_of G.Fn rules.now.read) (picks_of F.Fn rules.now.heal) volume.new }
 {
     come_due(volume)?;
-    let turned = volume.turn(a, rule)?;
+    let turned = volume.turn(a, rules)?;
     Ok(goes_on(turned))
 }
 
 /// So many turns of one actor, which end early where it is done: each that is left would be passed
 /// over. It answers whether the log had room.
-pub(crate) fn take_turns<F: Fn(&[Candidate]) -> usize>(
+pub(crate) fn take_turns<F: Fn(&[Candidate]) -> usize, G: Fn(&[Candidate]) -> usize>(
     volume: &mut Volume,
     a: ActorId,
     count: u32,
-    rule: &SourceRule<F>,
+    rules: &Rules<F, G>,
 ) -> Result<bool, NoMemory>
-    requires rule { IsRule F.Fn rule.now }
+    requires rule { IsRule F.Fn rules.now.heal }
+    requires read_rule { IsRule G.Fn rules.now.read }
     requires actor { IsActor volume.old.plan a.0 }
     ensures goes { Goes volume.old volume.new }
     ensures front { TakesFront volume.old.plan (replicate count a.0) volume.old.log volume.new.log }
     ensures ok { IfOk result (λ on. Ends (replicate count a.0) volume.old on volume.new) }
-    ensures chosen { IsChosen (picks_of F.Fn rule.now) volume.old → IsChosen (picks_of F.Fn rule.now) volume.new }
+    ensures chosen { IsChosen (picks_of G.Fn rules.now.read) (picks_of F.Fn rules.now.heal) volume.old → IsChosen (picks_of G.Fn rules.now.read) (picks_of F.Fn rules.now.heal) volume.new }
 {
     for _taken in 0..count {
         let before = volume.len();
-        if !take_turn(volume, a, rule)? {
+        if !take_turn(volume, a, rules)? {
             return Ok(false);
         }
         if volume.len() == before {

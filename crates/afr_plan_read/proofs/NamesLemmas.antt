@@ -1,11 +1,15 @@
 -- Names as the bytes of a set's keys, and the names of the opening files.
 use Rattle.std.proofs.Common.{◌≡◌, ℕ, ◌+◌, ◌<◌, ◌^◌, List, [], ◌∷◌, ◌++◌, refl, ap, ◌∙◌, arith, Bool, true, false, cond, map, not, ◌||◌, Vec, Global, suc, zero, drop}
 use Rattle.std.specs.Prelude.{decimal}
-use Rattle.std.specs.List.{list_any, position_or_len}
+use Rattle.std.specs.Cmp.{IsEquivalence}
+use Rattle.std.specs.List.{list_any, position_or_len, IsDistinct}
 use Rattle.std.specs.Str.{bytes_eq}
+use Rattle.std.proofs.lemmas.Cmp.{nat_list_eq_equiv}
 use Rattle.std.proofs.lemmas.Fmt.{decimal_injective}
 use Rattle.std.proofs.lemmas.Slice.Eq.{bytes_eq-Decides}
 use Rattle.std.proofs.lemmas.List.Folds.{list_any-append}
+use Rattle.indexmap.specs.IndexSet.{insert_all}
+use Rattle.indexmap.proofs.SetLemmas.{set_all_distinct}
 use Rattle.afr_base.specs.declared.ids.NameId.{NameId}
 use Rattle.afr_plan.specs.Names.{with_name, file_name, file_names}
 
@@ -30,6 +34,21 @@ insert-map w ks = rw (any-map (bytes w) ks) (step (list_any (λ k. bytes_eq (byt
     step : (c : Bool) → map bytes (cond c ks (ks ++ w ∷ [])) ≡ cond c (map bytes ks) (map bytes ks ++ bytes w ∷ [])
     step true = refl
     step false = map-append ks (w ∷ [])
+
+-- ---- hashing the names anew
+abbrev pub same_name : Vec ℕ Global → Vec ℕ Global → Bool
+same_name v w = bytes_eq (bytes v) (bytes w)
+
+names_laws : IsEquivalence same_name
+names_laws = record {
+  refl = λ x. nat_list_eq_equiv.refl (bytes x);
+  symm = λ x y. nat_list_eq_equiv.symm (bytes x) (bytes y);
+  congr = λ x y z. nat_list_eq_equiv.congr (bytes x) (bytes y) (bytes z);
+}
+
+-- names of which no two are equal, inserted in their order into an empty set, are those names
+pub inserted_again : (ks : List (Vec ℕ Global)) → IsDistinct same_name ks → insert_all same_name [] ks ≡ ks
+inserted_again ks d = set_all_distinct names_laws [] ks d
 
 -- ---- the opening files
 -- two numbers have two names

@@ -6,7 +6,6 @@ ghost use Rattle.afr_plan.specs.PlanOf as plans;
 ghost use Rattle.afr_plan.specs.Said as said;
 ghost use Rattle.afr_plan_line.specs.Seen.{seen, seen_work, seen_who, seen_event};
 
-use crate::keyed::Keyed;
 use crate::words::WordTables;
 use afr_base::{ActorId, BrickId, NoMemory, Shape};
 use afr_lines::Event;
@@ -39,15 +38,16 @@ fn event(event: &SpokenEvent) -> Event
 
 /// A plan of which some lines are still to come. Contracts see the plan that it is so far.
 #[derive(Drop)]
-struct Draft {
+struct Draft<'t> {
     /// All but the words.
     plan: Plan,
-    words: WordTables,
+    words: WordTables<'t>,
     alloc: Global,
-    keyed: Keyed,
+    /// The plan's text, of which the words' tables take their key.
+    text: &'t [u8],
 }
 
-impl Model for Draft {
+impl<'t> Model for Draft<'t> {
     ghost use Rattle.afr_plan.specs.declared.plan.Plan.{Plan};
 
     ghost Value = { Plan };
@@ -85,22 +85,22 @@ fn no_lines(alloc: Global) -> Plan
     }
 }
 
-impl Draft {
-    fn new(alloc: Global, keyed: Keyed) -> Draft
+impl<'t> Draft<'t> {
+    fn new(alloc: Global, text: &'t [u8]) -> Draft<'t>
         ensures { result ≡ empty_plan }
     {
         Draft {
             plan: no_lines(alloc),
-            words: WordTables::new(alloc, keyed),
+            words: WordTables::new(alloc, text),
             alloc,
-            keyed,
+            text,
         }
     }
 
     fn set_files(&mut self, files: u32) -> Result<(), NoMemory>
         ensures ok { OnOk result (self.new ≡ with_line (said.Files files) self.old) }
     {
-        self.words.name_files(self.alloc, self.keyed, files)?;
+        self.words.name_files(self.alloc, self.text, files)?;
         self.plan.files = files;
         Ok(())
     }
@@ -187,13 +187,13 @@ impl Draft {
     }
 
     fn finish(self) -> Result<Plan, NoMemory>
-        ensures ok { IfOk result (λ plan. plan ≡ self) }
+        ensures ok { IfOk result (λ plan. plan ≡ self.entry) }
     {
         let Draft {
             mut plan,
             words,
             alloc,
-            keyed: _,
+            text: _,
         } = self;
         plan.words = words.into_words(alloc)?;
         Ok(plan)
@@ -213,10 +213,10 @@ fn push_last<T: Drop>(lists: &mut List<List<T>>, item: T) -> Result<(), NoMemory
 }
 
 /// The plan that lines give, in one pass with one look-up a word.
-pub(crate) fn make_plan(alloc: Global, keyed: Keyed, lines: &[Spoken]) -> Result<Plan, NoMemory>
+pub(crate) fn make_plan(alloc: Global, text: &[u8], lines: &[Spoken]) -> Result<Plan, NoMemory>
     ensures ok { IfOk result (λ plan. plan ≡ plan_of (reverse (map seen lines.now))) }
 {
-    let mut draft = Draft::new(alloc, keyed);
+    let mut draft = Draft::new(alloc, text);
     for spoken in lines {
         draft.add(*spoken)?;
     }

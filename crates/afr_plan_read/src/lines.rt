@@ -10,7 +10,6 @@ ghost use Rattle.afr_plan_line.specs.Seen.{seen};
 ghost use Rattle.afr_plan_read.specs.Broken.{code_of, seen_ok, seen_rule};
 ghost use Rattle.afr_plan.specs.TextLines.{cut_of};
 
-use crate::keyed::Keyed;
 use crate::order::FaultPlaces;
 use crate::rules::{Rule, judged, judged_tail};
 use crate::totals::{Counts, counted, no_counts};
@@ -43,13 +42,13 @@ impl<'a> Model for Lines<'a> {
 }
 
 impl<'a> Lines<'a> {
-    fn new(alloc: Global, keyed: Keyed) -> Lines<'a>
+    fn new(alloc: Global) -> Lines<'a>
         ensures { result ≡ [] }
     {
         Lines {
             spoken: Vec::new(alloc),
             counts: no_counts(),
-            places: FaultPlaces::new(alloc, keyed),
+            places: FaultPlaces::new(alloc),
         }
     }
 
@@ -156,15 +155,11 @@ fn cut(bytes: &[u8]) -> Option<(&[u8], &[u8])>
 }
 
 /// What all lines say, up to `end`.
-pub(crate) fn read_lines<'a>(
-    alloc: Global,
-    keyed: Keyed,
-    bytes: &'a [u8],
-) -> Result<Lines<'a>, PlanStop>
+pub(crate) fn read_lines<'a>(alloc: Global, bytes: &'a [u8]) -> Result<Lines<'a>, PlanStop>
     ensures ok { IfOk result (λ lines. reading bytes.now ≡ Ok lines) }
     ensures cause { (fault : PlanFault) → result ≡ Err (PlanStop.Refused fault) → first_fault bytes.now ≡ Some fault }
 {
-    let mut lines = Lines::new(alloc, keyed);
+    let mut lines = Lines::new(alloc);
     let mut rest = bytes;
     while let Some((line, more)) = cut(rest) {
         match lines.take_line(line) {

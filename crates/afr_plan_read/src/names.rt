@@ -2,7 +2,7 @@
 ghost use Rattle.std.specs.Prelude.{◌≡◌, [], IfOk, OnOk};
 ghost use Rattle.afr_plan.specs.Names.{with_name, number_of, file_names};
 
-use crate::keyed::Keyed;
+use crate::keyed::{KEYED_FROM, Keyed};
 use afr_base::NoMemory;
 use afr_object::List;
 use afr_plan::WordList;
@@ -10,13 +10,15 @@ use indexmap::IndexSet;
 use std::alloc::Global;
 use std::marker::Model;
 
-/// Distinct names, each under the number of its first sight.
+/// Distinct names, each under the number of its first sight. Few of them are hashed without a key, and
+/// many under the key of the plan's text.
 #[derive(Drop)]
-pub(crate) struct NameTable {
+pub(crate) struct NameTable<'t> {
+    text: &'t [u8],
     set: IndexSet<Vec<u8>, Keyed>,
 }
 
-impl Model for NameTable {
+impl<'t> Model for NameTable<'t> {
     ghost use Rattle.std.specs.Prelude.{List, ℕ, map};
 
     ghost Value = { List (List ℕ) };
@@ -24,20 +26,25 @@ impl Model for NameTable {
     ghost view = { λ t. map (λ name. name.items) t.set.keys };
 }
 
-impl NameTable {
-    pub(crate) fn new(alloc: Global, keyed: Keyed) -> NameTable
+impl<'t> NameTable<'t> {
+    pub(crate) fn new(alloc: Global, text: &'t [u8]) -> NameTable<'t>
         ensures { result ≡ [] }
     {
         NameTable {
-            set: IndexSet::with_hasher(alloc, keyed),
+            text,
+            set: IndexSet::with_hasher(alloc, Keyed::unkeyed()),
         }
     }
 
     /// The names of the opening files, `f1` and so on.
-    pub(crate) fn of_files(alloc: Global, keyed: Keyed, files: u32) -> Result<NameTable, NoMemory>
+    pub(crate) fn of_files(
+        alloc: Global,
+        text: &'t [u8],
+        files: u32,
+    ) -> Result<NameTable<'t>, NoMemory>
         ensures ok { IfOk result (λ names. names ≡ file_names files) }
     {
-        let mut names = NameTable::new(alloc, keyed);
+        let mut names = NameTable::new(alloc, text);
         for i in 0..files {
             let number = i + 1;
             let name = format!(in alloc; "f{number}")?;
@@ -46,22 +53,45 @@ impl NameTable {
         Ok(names)
     }
 
-    /// The number of a name, which is added at the end where it is new: one look-up. A table has
-    /// no room for a name whose number isn't a `u32`.
+    /// The number of a name, which is added at the end where it is new: one look-up, or two at the
+    /// size at which the table is keyed. A table has no room for a name whose number isn't a `u32`.
     pub(crate) fn number(&mut self, name: Vec<u8>) -> Result<u32, NoMemory>
         ensures ok { IfOk result (λ id. id ≡ number_of self.old name.items) }
         ensures value { OnOk result (self.new ≡ with_name self.old name.items) }
     {
+        self.make_ready(&name)?;
         let (index, _) = self.set.insert_full(name)?;
         let id = narrowed(index)?;
         Ok(id)
     }
 
+    /// Sees to the key before a name is added that makes few names many.
+    fn make_ready(&mut self, name: &Vec<u8>) -> Result<(), NoMemory>
+        ensures { self.new ≡ self.old }
+    {
+        if self.set.len() != KEYED_FROM || self.set.contains(name) {
+            return Ok(());
+        }
+        self.rekey()
+    }
+
+    /// Hashes the names anew, under the key of the text. Where there's no memory, nothing has moved.
+    fn rekey(&mut self) -> Result<(), NoMemory>
+        ensures { self.new ≡ self.old }
+    {
+        let alloc = *self.set.allocator();
+        let keyed = Keyed::by_text(self.text);
+        let mut set = IndexSet::with_capacity_and_hasher(alloc, self.set.len(), keyed)?;
+        set.append(&mut self.set)?;
+        self.set = set;
+        Ok(())
+    }
+
     /// The names in the order of their numbers. Their bytes aren't copied.
     pub(crate) fn into_list(self, alloc: Global) -> Result<WordList, NoMemory>
-        ensures ok { IfOk result (λ words. words ≡ self) }
+        ensures ok { IfOk result (λ words. words ≡ self.entry) }
     {
-        let NameTable { set } = self;
+        let NameTable { text: _, set } = self;
         let mut words = List::new(alloc);
         for name in set {
             words.push(List::from_vec(name))?;

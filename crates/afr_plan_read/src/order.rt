@@ -21,7 +21,8 @@ pub(crate) struct FaultPlace {
     at: u32,
 }
 
-/// The places of the faults so far. Contracts see them as a list.
+/// The places of the faults so far. Contracts see them as a list. They are hashed without a key, since
+/// a plan has at most 1024 faults: all of them are read in a millisecond, however they collide.
 #[derive(Drop)]
 pub(crate) struct FaultPlaces {
     set: IndexSet<FaultPlace, Keyed>,
@@ -37,11 +38,11 @@ impl Model for FaultPlaces {
 }
 
 impl FaultPlaces {
-    pub(crate) fn new(alloc: Global, keyed: Keyed) -> FaultPlaces
+    pub(crate) fn new(alloc: Global) -> FaultPlaces
         ensures { result ≡ [] }
     {
         FaultPlaces {
-            set: IndexSet::with_hasher(alloc, keyed),
+            set: IndexSet::with_hasher(alloc, Keyed::unkeyed()),
         }
     }
 

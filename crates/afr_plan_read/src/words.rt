@@ -7,7 +7,6 @@ ghost use Rattle.afr_plan.specs.declared.command.Command.TheVariants as commands
 ghost use Rattle.afr_plan_line.specs.Seen.{seen_data, seen_work};
 
 use crate::data_bytes::data_chunk;
-use crate::keyed::Keyed;
 use crate::names::NameTable;
 use afr_base::{KeyId, NameId, NoMemory, ValueId};
 use afr_object::List;
@@ -18,13 +17,13 @@ use std::marker::Model;
 
 /// The words of a plan of which some lines are still to come.
 #[derive(Drop)]
-pub(crate) struct WordTables {
-    names: NameTable,
-    keys: NameTable,
-    values: NameTable,
+pub(crate) struct WordTables<'t> {
+    names: NameTable<'t>,
+    keys: NameTable<'t>,
+    values: NameTable<'t>,
 }
 
-impl Model for WordTables {
+impl<'t> Model for WordTables<'t> {
     ghost use Rattle.afr_plan.specs.declared.plan.Words.{Words};
 
     ghost Value = { Words };
@@ -32,14 +31,14 @@ impl Model for WordTables {
     ghost view = { λ w. record { names = w.names; keys = w.keys; values = w.values } };
 }
 
-impl WordTables {
-    pub(crate) fn new(alloc: Global, keyed: Keyed) -> WordTables
+impl<'t> WordTables<'t> {
+    pub(crate) fn new(alloc: Global, text: &'t [u8]) -> WordTables<'t>
         ensures { result ≡ empty_plan.words }
     {
         WordTables {
-            names: NameTable::new(alloc, keyed),
-            keys: NameTable::new(alloc, keyed),
-            values: NameTable::new(alloc, keyed),
+            names: NameTable::new(alloc, text),
+            keys: NameTable::new(alloc, text),
+            values: NameTable::new(alloc, text),
         }
     }
 
@@ -47,12 +46,12 @@ impl WordTables {
     pub(crate) fn name_files(
         &mut self,
         alloc: Global,
-        keyed: Keyed,
+        text: &'t [u8],
         files: u32,
     ) -> Result<(), NoMemory>
         ensures ok { OnOk result (self.new ≡ record self.old { names = file_names files }) }
     {
-        self.names = NameTable::of_files(alloc, keyed, files)?;
+        self.names = NameTable::of_files(alloc, text, files)?;
         Ok(())
     }
 
@@ -134,7 +133,7 @@ impl WordTables {
     }
 
     pub(crate) fn into_words(self, alloc: Global) -> Result<Words, NoMemory>
-        ensures ok { IfOk result (λ words. words ≡ self) }
+        ensures ok { IfOk result (λ words. words ≡ self.entry) }
     {
         let WordTables {
             names,
@@ -157,7 +156,7 @@ fn lists_of(
     keys: NameTable,
     values: NameTable,
 ) -> Result<(WordList, WordList), NoMemory>
-    ensures ok { IfOk result (λ lists. lists ≡ (keys, values)) }
+    ensures ok { IfOk result (λ lists. lists ≡ (keys.entry, values.entry)) }
 {
     let keys = keys.into_list(alloc)?;
     let values = values.into_list(alloc)?;

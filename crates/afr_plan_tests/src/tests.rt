@@ -1,4 +1,5 @@
-//! Whole plans, the lines that are refused, the limits, and what is printed.
+//! Whole plans, the lines that are refused, the limits, plans of many words, and what is printed.
+mod many;
 mod plans;
 mod printed;
 mod refused;

@@ -71,8 +71,8 @@ module _ (m : Removing) (s : Sound m) where
   look_allowed : Ready Looking m → allowed r (asks Looking m) ≡ true
   look_allowed ready = pair _ _ (lt_test _ _ (s.base.held_within _ (look_asked m ready))) refl
 
-  list_allowed : is_nothing (sources m) ≡ false → allowed r (asks Listing m) ≡ true
-  list_allowed some = pair _ _ (lt_test _ _ (list_asked m s.child some)) refl
+  list_allowed : member (sources m) m.child.reader.0 ≡ true → allowed r (asks Listing m) ≡ true
+  list_allowed good = pair _ _ (lt_test _ _ (list_asked m s.child good)) refl
 
   plane : plane_in r.area (object_of m.change).0 Names ≡ true
   plane = subst (λ (kind : Kind). plane_in r.area (object_of m.change).0 kind ≡ true) (of_names m.change s.removes) (on_plane m.change r.area (suits m.change s.removes) s.areas.named)

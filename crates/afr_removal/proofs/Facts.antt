@@ -2,7 +2,7 @@
 use Rattle.std.proofs.Common.{◌≡◌, ℕ, zero, suc, ◌<◌, ◌&&◌, ◌||◌, not, ◌==◌, Bool, true, false, List, refl, sym, ◌∙◌, ap, subst, arith, inl, inr, Option, None, Some}
 use Rattle.std.proofs.lemmas.Bool.Decides.{eqb_tells}
 use Rattle.afr_base.specs.Bricks.{common, lowest, member, minus, is_nothing}
-use Rattle.afr_base.specs.SetLemmas.{lowest_in, lowest_left, member_minus}
+use Rattle.afr_base.specs.SetLemmas.{lowest_left, member_minus}
 use Rattle.afr_base.specs.declared.ids.Gfid.{Gfid}
 use Rattle.afr_base.specs.declared.ids.Kind.TheVariants.{Names}
 use Rattle.afr_object.specs.declared.change.Change.{Change}
@@ -75,8 +75,8 @@ lock_asked m e = (lowest_left m.register.held m.child.lock_asked e).1
 pub look_asked : (m : Removing) → is_nothing (left Looking m) ≡ false → member m.register.held (lowest (left Looking m)) ≡ true
 look_asked m e = common_left m.register.held m.register.second_held _ (lowest_left (both_held m.register) m.child.look_asked e).1
 
-pub list_asked : (m : Removing) → Shown m.register.shape.n m.child.looked → is_nothing (sources m) ≡ false → lowest (sources m) < m.register.shape.n
-list_asked m k e = k.reached _ (holders_are_reached m.child.looked _ (good_are_holders m.register.shape m.child.looked Names _ (lowest_in (sources m) e)))
+pub list_asked : (m : Removing) → Shown m.register.shape.n m.child.looked → member (sources m) m.child.reader.0 ≡ true → m.child.reader.0 < m.register.shape.n
+list_asked m k e = k.reached _ (holders_are_reached m.child.looked _ (good_are_holders m.register.shape m.child.looked Names _ e))
 
 -- some name's lock is held
 any_at : (n : ℕ) (p : ℕ → Bool) (s : ℕ) → s < n → p s ≡ true → any n p ≡ true

@@ -13,19 +13,19 @@ use Rattle.afr_removal.specs.declared.stage.RemovalStage.{RemovalStage}
 use Rattle.afr_removal.specs.declared.stage.RemovalStage.TheVariants.{Locking, Looking, Listing, Beginning, Preparing, Applying, Posting, Closing}
 
 -- a removal that asks notes what it was told
-pub answered_notes : (stage : RemovalStage) (m : Removing) (at : ℕ) (brick : BrickId) (request : Request) (a : Answer) → next_at stage m ≡ next.Ask brick request
-    → (answered stage a at m).register ≡ noted_ask m.register at brick.0 request (told_by a)
-answered_notes Beginning m at brick request a e = absurd (cc e)
-answered_notes Locking m at brick request a e = noted_as m.register at (record { 0 = brick_at Locking m }) brick (request_at Locking m) request (told_by a) e
-answered_notes Looking m at brick request a e = noted_as m.register at (record { 0 = brick_at Looking m }) brick (request_at Looking m) request (told_by a) e
-answered_notes Listing m at brick request a e = noted_as m.register at (record { 0 = brick_at Listing m }) brick (request_at Listing m) request (told_by a) e
-answered_notes Preparing m at brick request a e = noted_as m.register at (record { 0 = brick_at Preparing m }) brick (request_at Preparing m) request (told_by a) e
-answered_notes Applying m at brick request a e = noted_as m.register at (record { 0 = brick_at Applying m }) brick (request_at Applying m) request (told_by a) e
-answered_notes Posting m at brick request a e = noted_as m.register at (record { 0 = brick_at Posting m }) brick (request_at Posting m) request (told_by a) e
-answered_notes (Closing why) m at brick request a e = go (is_over (Closing why) m) e
+pub answered_notes : (chosen : BrickId) (stage : RemovalStage) (m : Removing) (at : ℕ) (brick : BrickId) (request : Request) (a : Answer) → next_at stage m ≡ next.Ask brick request
+    → (answered chosen stage a at m).register ≡ noted_ask m.register at brick.0 request (told_by a)
+answered_notes chosen Beginning m at brick request a e = absurd (cc e)
+answered_notes chosen Locking m at brick request a e = noted_as m.register at (record { 0 = brick_at Locking m }) brick (request_at Locking m) request (told_by a) e
+answered_notes chosen Looking m at brick request a e = noted_as m.register at (record { 0 = brick_at Looking m }) brick (request_at Looking m) request (told_by a) e
+answered_notes chosen Listing m at brick request a e = noted_as m.register at (record { 0 = brick_at Listing m }) brick (request_at Listing m) request (told_by a) e
+answered_notes chosen Preparing m at brick request a e = noted_as m.register at (record { 0 = brick_at Preparing m }) brick (request_at Preparing m) request (told_by a) e
+answered_notes chosen Applying m at brick request a e = noted_as m.register at (record { 0 = brick_at Applying m }) brick (request_at Applying m) request (told_by a) e
+answered_notes chosen Posting m at brick request a e = noted_as m.register at (record { 0 = brick_at Posting m }) brick (request_at Posting m) request (told_by a) e
+answered_notes chosen (Closing why) m at brick request a e = go (is_over (Closing why) m) e
   where
     go : (over : Bool) → (if over then next.End (reply_of why m.register) else asks (Closing why) m) ≡ next.Ask brick request
-        → (answered (Closing why) a at m).register ≡ noted_ask m.register at brick.0 request (told_by a)
+        → (answered chosen (Closing why) a at m).register ≡ noted_ask m.register at brick.0 request (told_by a)
     go true e = absurd (cc e)
     go false e = noted_as m.register at (record { 0 = brick_at (Closing why) m }) brick (request_at (Closing why) m) request (told_by a) e
 

@@ -2,6 +2,7 @@
 use Rattle.std.specs.Prelude.{◌≡◌, ℕ, not, Bool, true, false, List, [], ◌∷◌, Option, Some, None, if◌then◌else◌}
 use Rattle.afr_base.specs.Bricks.{added, added_if, below, common, lowest, minus, is_nothing}
 use Rattle.afr_base.specs.Majority.{is_majority}
+use Rattle.afr_base.specs.declared.ids.BrickId.{BrickId}
 use Rattle.afr_base.specs.declared.ids.Gfid.{Gfid}
 use Rattle.afr_base.specs.declared.ids.Kind.TheVariants.{Names}
 use Rattle.afr_base.specs.declared.ids.Shape.{Shape}
@@ -31,6 +32,8 @@ use Rattle.afr_moves.specs.Note.{is_held}
 use Rattle.afr_discipline.specs.Notes.{asked_at, noted_ask, noted_begin}
 use Rattle.afr_discipline.specs.declared.register.Register.{Register}
 use Rattle.afr_discipline.specs.declared.register.Step.TheVariants as step
+use Rattle.afr_rule.specs.declared.candidate.Candidate.{Candidate}
+use Rattle.afr_walk.specs.Choosing.{candidates_of}
 use Rattle.afr_walk.specs.Looks.{noted_look}
 use Rattle.afr_transaction.specs.Progress.{enough, may_start, number_in}
 use Rattle.afr_removal.specs.declared.child.Child.{Child}
@@ -48,7 +51,7 @@ pub record Removing : Type 0 where
 
 -- a child of which nothing was asked
 abbrev pub untouched : Gfid → Child
-untouched g = record { gfid = g; lock_asked = []; look_asked = []; looked = no_looks; takers = [] }
+untouched g = record { gfid = g; lock_asked = []; look_asked = []; looked = no_looks; takers = []; reader = record { 0 = 0 } }
 
 -- the whole child
 abbrev pub whole : Child → Area
@@ -106,9 +109,9 @@ request_at stage m = request_in stage m.change m.register m.child
 abbrev pub sources : Removing → List ℕ
 sources m = good_copies m.register.shape m.child.looked Names
 
--- who is asked: the lowest brick that is left, and for the list the lowest good copy of the child
+-- who is asked: the lowest brick that is left, and for the list the copy of the child that was chosen
 abbrev pub brick_at : RemovalStage → Removing → ℕ
-brick_at Listing m = lowest (sources m)
+brick_at Listing m = m.child.reader.0
 brick_at stage m = lowest (left stage m)
 
 -- the request of a stage
@@ -198,13 +201,44 @@ abbrev pub stage_after : RemovalStage → Answer → Removing → RemovalStage
 stage_after Listing a m = listed a m.change m.register
 stage_after stage a m = after stage m
 
--- the removal, its register being this after the answer of a brick
-abbrev pub moved : RemovalStage → ℕ → Answer → Register → Removing → Removing
-moved stage b a r m = on_stage (stage_after stage a (sets_after stage b (told_by a) r m)) (sets_after stage b (told_by a) r m)
+-- what the rule is asked for, where the looks at the child have led to this stage: its good copies, if it is to be listed
+abbrev pub offered : RemovalStage → Shape → Looked → List Candidate
+offered Listing shape looked = candidates_of shape looked Names
+offered stage shape looked = []
+
+-- it is asked after the looks alone
+abbrev pub offered_after : RemovalStage → RemovalStage → Shape → Looked → List Candidate
+offered_after Looking stage shape looked = offered stage shape looked
+offered_after was stage shape looked = []
+
+-- the same at an answer, by what the removal has come to with it
+abbrev pub choices_in : RemovalStage → Answer → Removing → List Candidate
+choices_in stage a m = offered_after stage (stage_after stage a m) m.register.shape m.child.looked
+
+-- the copy of the child that is to be listed was chosen
+abbrev pub child_reads : BrickId → RemovalStage → Child → Child
+child_reads chosen Looking c = record c { reader = chosen }
+child_reads chosen stage c = c
+
+-- the same of a whole removal
+abbrev pub reads_at : BrickId → RemovalStage → Removing → Removing
+reads_at chosen stage m = record { change = m.change; register = m.register; stage = m.stage; child = child_reads chosen stage m.child }
+
+-- the removal, its register being this after the answer of a brick; this copy is listed next, where there is one to choose
+abbrev pub moved : BrickId → RemovalStage → ℕ → Answer → Register → Removing → Removing
+moved chosen stage b a r m = on_stage (stage_after stage a (sets_after stage b (told_by a) r m)) (reads_at chosen stage (sets_after stage b (told_by a) r m))
+
+-- the register after the request was answered
+abbrev pub register_after : RemovalStage → Answer → ℕ → Removing → Register
+register_after stage a at m = noted_ask m.register at (brick_at stage m) (request_at stage m) (told_by a)
 
 -- the removal after its request was answered
-abbrev pub answered : RemovalStage → Answer → ℕ → Removing → Removing
-answered stage a at m = moved stage (brick_at stage m) a (noted_ask m.register at (brick_at stage m) (request_at stage m) (told_by a)) m
+abbrev pub answered : BrickId → RemovalStage → Answer → ℕ → Removing → Removing
+answered chosen stage a at m = moved chosen stage (brick_at stage m) a (register_after stage a at m) m
+
+-- what the rule is asked for by an answer
+abbrev pub choices_at : RemovalStage → Answer → ℕ → Removing → List Candidate
+choices_at stage a at m = choices_in stage a (sets_after stage (brick_at stage m) (told_by a) (register_after stage a at m) m)
 
 -- the attempt has its number
 abbrev pub begun : ℕ → Removing → Removing

@@ -1,6 +1,6 @@
 -- What a removal keeps at every moment, whatever its bricks answer.
 use Rattle.std.specs.Prelude.{◌⊎◌, ◌≡◌, ℕ, Bool, true, false, List, [], Option, Some, None}
-use Rattle.afr_base.specs.Bricks.{is_nothing, IsIn, IsWithin}
+use Rattle.afr_base.specs.Bricks.{is_nothing, member, IsIn, IsWithin}
 use Rattle.afr_base.specs.declared.ids.Kind.TheVariants.{Names}
 use Rattle.afr_object.specs.declared.change.Change.{Change}
 use Rattle.afr_object.specs.declared.change.Change.TheVariants.{Remove}
@@ -55,7 +55,7 @@ HasTakers m = Takes m.child.takers (holders_of m.register.looked)
 abbrev pub During : RemovalStage → Removing → Type 0
 During Locking m = IsUnbegun m.register × (m.child.look_asked ≡ [])
 During Looking m = IsUnbegun m.register
-During Listing m = IsUnbegun m.register × HasTakers m × (is_nothing (sources m) ≡ false)
+During Listing m = IsUnbegun m.register × HasTakers m × (member (sources m) m.child.reader.0 ≡ true)
 During Beginning m = (may_start m.register m.change ≡ true) × HasTakers m
 During Preparing m = HasBegun 2 m.change m.register × HasTakers m
 During Applying m = HasBegun 3 m.change m.register × (enough m.register Names m.register.pre ≡ true)

@@ -24,6 +24,8 @@ pub struct Child {
     pub looked: Looked,
     /// The bricks that take part in the attempt: by the last look, they hold the directory, its name's lock and the child's.
     pub takers: BrickSet,
+    /// The copy that the rule picked when its looks were over: it is listed.
+    pub reader: BrickId,
 }
 
 impl Child {
@@ -37,6 +39,7 @@ impl Child {
             look_asked: BrickSet::none(),
             looked: Looked::none(),
             takers: BrickSet::none(),
+            reader: BrickId(0),
         }
     }
 

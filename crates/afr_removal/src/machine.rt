@@ -2,18 +2,21 @@
 ghost use Rattle.std.specs.Prelude.{[], None, Some, ◌≡◌, ◌<◌, ◌≤◌, ◌+◌, ◌^◌, true, false, IfOk};
 ghost use Rattle.afr_base.specs.Bricks.{is_nothing};
 ghost use Rattle.afr_moves.specs.Register.{span};
-ghost use Rattle.afr_removal.specs.Removal.{CarriesAt, answered, asks, begun, brick_at, is_beginning, is_over, left, next_at, removing, request_at, sources, stage_after};
+ghost use Rattle.afr_removal.specs.Removal.{CarriesAt, answered, asks, begun, brick_at, choices_at, is_beginning, is_over, left, next_at, removing, request_at, stage_after};
 ghost use Rattle.afr_removal.specs.Sound.{IsAsking, IsBase, IsRemoval, IsUnbegun, Sound};
 ghost use Rattle.afr_lines.specs.Areas.{area_for};
+ghost use Rattle.afr_rule.specs.Choosing.{IsRule};
+ghost use Rattle.afr_walk.specs.Choosing.{RuleAnswers, reader_of};
 
 use crate::child::Child;
-use crate::stage::{RemovalStage, after, child_after, left_of, listed, reply_of, request_of};
-use afr_base::{BrickId, BrickSet, Gfid, Kind, NoMemory};
-use afr_choice::good;
+use crate::stage::{
+    RemovalStage, after, child_after, left_of, listed, picked_at, reply_of, request_of,
+};
+use afr_base::{BrickId, BrickSet, Gfid, NoMemory};
 use afr_discipline::{Move, Register, note};
 use afr_lines::{Answer, Next, Request, Told, told_of};
 use afr_object::{Change, Load, TryCopy};
-use afr_walk::choose;
+use afr_rule::{Candidate, ReadRule};
 use std::alloc::Global;
 use std::marker::Model;
 
@@ -133,11 +136,19 @@ impl Removal {
         self.stage = RemovalStage::Preparing;
     }
 
-    /// The request was answered at this position.
-    pub fn answer(&mut self, answer: &Answer, at: u32)
+    /// The request was answered at this position. Where the child is to be listed the rule picks the copy; this is what it has
+    /// picked now.
+    pub fn answer<G: Fn(&[Candidate]) -> usize>(
+        &mut self,
+        answer: &Answer,
+        at: u32,
+        rule: &ReadRule<G>,
+    ) -> Option<BrickId>
+        requires rule { IsRule G.Fn rule.now }
         requires more { is_over self.old.stage self.old ≡ false }
         requires asking { is_beginning self.old.stage ≡ false }
-        ensures { self.new ≡ answered self.old.stage answer.now at self.old }
+        ensures picked { RuleAnswers G.Fn rule.now (choices_at self.old.stage answer.now at self.old) result }
+        ensures value { self.new ≡ answered (reader_of result) self.old.stage answer.now at self.old }
     {
         let stage = self.stage;
         let told = told_of(answer);
@@ -146,6 +157,7 @@ impl Removal {
         note(&mut self.register, &Move::Ask(b, &request), &told, at);
         self.child = child_after(stage, b, &told, &self.register, &self.child);
         self.stage = stage_by(stage, answer, &self.change, &self.register, &self.child);
+        picked_at(stage, self.stage, &self.register, &mut self.child, rule)
     }
 
     fn left(&self) -> BrickSet
@@ -166,11 +178,7 @@ impl Removal {
         ensures small { result.0 < 5 }
     {
         match self.stage {
-            RemovalStage::Listing => choose(good(
-                &self.register.shape,
-                &self.child.looked,
-                Kind::Names,
-            )),
+            RemovalStage::Listing => self.child.reader,
             _ => self.left().lowest(),
         }
     }

@@ -5,8 +5,11 @@ ghost use Rattle.afr_base.specs.declared.ids.Kind.TheVariants.{Names};
 ghost use Rattle.afr_discipline.specs.declared.register.Register.{Register};
 ghost use Rattle.afr_lines.specs.declared.answer.Told.{Told};
 ghost use Rattle.afr_object.specs.Tables.{object_of};
-ghost use Rattle.afr_removal.specs.Removal.{against, child_after, gone_on, has_takers, left_in, listed, or_close, reply_of, request_in, unlocks};
+ghost use Rattle.afr_choice.specs.Verdict.{good_copies};
+ghost use Rattle.afr_removal.specs.Removal.{against, child_after, child_reads, gone_on, has_takers, left_in, listed, offered, offered_after, or_close, reply_of, request_in, unlocks};
+ghost use Rattle.afr_rule.specs.Choosing.{IsRule};
 ghost use Rattle.afr_transaction.specs.Progress.{enough, may_start, number_in};
+ghost use Rattle.afr_walk.specs.Choosing.{RuleAnswers, reader_of};
 
 use crate::child::{Child, both_held, takers_of};
 use afr_base::{BrickId, BrickSet, Kind, NoMemory, Shape};
@@ -15,7 +18,9 @@ use afr_discipline::{Move, Register, Step, asked_at, begun, is_carried, may};
 use afr_lines::{Answer, Area, Good, Reply, Request, Told};
 use afr_object::{Change, View, Views};
 use afr_range_locks::Domain;
+use afr_rule::{Candidate, ReadRule};
 use afr_transaction::{area_of, object_of};
+use afr_walk::{pick, reader_of};
 use std::alloc::Global;
 
 /// Why a removal releases its locks.
@@ -42,7 +47,7 @@ pub enum RemovalStage {
     Locking,
     /// The child is looked at under both locks.
     Looking,
-    /// A good copy of the child is listed.
+    /// The copy of the child that the rule picked is listed.
     Listing,
     /// The next line gives the attempt its number.
     Beginning,
@@ -254,6 +259,45 @@ pub(crate) fn after(stage: RemovalStage, r: &Register, child: &Child) -> Removal
         go_on(stage, r, child)
     } else {
         stage
+    }
+}
+
+/// Where the looks at the child have led to its list, the rule picks the copy that is listed.
+pub(crate) fn picked_at<G: Fn(&[Candidate]) -> usize>(
+    was: RemovalStage,
+    stage: RemovalStage,
+    r: &Register,
+    child: &mut Child,
+    rule: &ReadRule<G>,
+) -> Option<BrickId>
+    requires rule { IsRule G.Fn rule.now }
+    requires some { was ≡ RemovalStage.Looking → stage ≡ RemovalStage.Listing → is_nothing (good_copies r.now.shape child.old.looked Names) ≡ false }
+    ensures picked { RuleAnswers G.Fn rule.now (offered_after was stage r.now.shape child.old.looked) result }
+    ensures child { child.new ≡ child_reads (reader_of result) was child.old }
+{
+    match was {
+        RemovalStage::Looking => {
+            let picked = picked_by(stage, r, &child.looked, rule);
+            child.reader = reader_of(picked);
+            picked
+        }
+        _ => None,
+    }
+}
+
+fn picked_by<G: Fn(&[Candidate]) -> usize>(
+    stage: RemovalStage,
+    r: &Register,
+    looked: &Looked,
+    rule: &ReadRule<G>,
+) -> Option<BrickId>
+    requires rule { IsRule G.Fn rule.now }
+    requires some { stage ≡ RemovalStage.Listing → is_nothing (good_copies r.now.shape looked.now Names) ≡ false }
+    ensures { RuleAnswers G.Fn rule.now (offered stage r.now.shape looked.now) result }
+{
+    match stage {
+        RemovalStage::Listing => Some(pick(&r.shape, looked, Kind::Names, rule)),
+        _ => None,
     }
 }
 

@@ -3,7 +3,7 @@ use Rattle.std.proofs.Common.{◌≡◌, ℕ, ◌-◌, ◌<◌, ◌==◌, ◌&&�
 use Rattle.std.proofs.lemmas.Bool.Decides.{nat_tests}
 use Rattle.afr_base.specs.Bricks.{below, is_nothing, lowest, member, minus}
 use Rattle.afr_base.specs.Majority.{is_majority}
-use Rattle.afr_base.specs.SetLemmas.{lowest_in, lowest_left, member_minus, within_below}
+use Rattle.afr_base.specs.SetLemmas.{lowest_left, member_minus, within_below}
 use Rattle.afr_base.specs.declared.ids.ActorId.{ActorId}
 use Rattle.afr_base.specs.declared.ids.Gfid.{Gfid}
 use Rattle.afr_base.specs.declared.ids.Kind.TheVariants.{Names}
@@ -31,7 +31,7 @@ use Rattle.afr_model.specs.Following.{KeepsTo}
 use Rattle.afr_model.specs.Refusals.{by_list, or_else, refusal}
 use Rattle.afr_model.specs.Showing.{Path, Reading, among, applied_at, begins_attempt, begun_by, has, looked_by, path_by, prepared, preparing, reading_by, refuses_read}
 use Rattle.afr_model.specs.Standing.{area_here, getting, looks_here}
-use Rattle.afr_removal.specs.Removal.{Removing, asks, both_held, brick_at, is_over, left, next_at, reply_of, sources}
+use Rattle.afr_removal.specs.Removal.{Removing, asks, both_held, brick_at, is_over, left, next_at, reply_of}
 use Rattle.afr_removal.specs.Sound as sound
 use Rattle.afr_removal.specs.Sound.{Ready, Sound}
 use Rattle.afr_removal.specs.declared.stage.Ending.{Ending}
@@ -96,7 +96,7 @@ module _ (p : Plan) (path : List NameId) (m : Removing) (w : Work) (s : Sound m)
       answered = reached_of (is_majority p.shape.n (looked_by child w).reached) (is_majority p.shape.n (holders_of (looked_by child w))) (is_nothing (good_copies p.shape (looked_by child w) Names)) (looked_by child w).views j.passes;
       good =
           subst (λ (x : Looked). member (good_copies p.shape x Names) (brick_at Listing m) ≡ true) j.shows
-          (subst (λ (x : Shape). member (good_copies x m.child.looked Names) (brick_at Listing m) ≡ true) k.shape (lowest_in (sources m) ds.2));
+          (subst (λ (x : Shape). member (good_copies x m.child.looked Names) (brick_at Listing m) ≡ true) k.shape ds.2);
     }
 
   -- the attempt

@@ -228,9 +228,9 @@ module _ (p : Plan) (path : List NameId) (m : Removing) (w : Work) (a : ActorId)
   abbrev After : Answer → Type 0
   After x = RemovalTells p path (on_stage (listed x m.change (q (told_by x))) (now (told_by x))) (more (told_by x))
 
-  pub told_list : (heard : Answer) → ListTold p b.0 g log heard → RemovalTells p path (answered Listing heard (length log) m) (more (told_by heard))
-  told_list heard told =
-      subst (λ (x : Register). RemovalTells p path (moved Listing b.0 heard x m) (more (told_by heard))) (sym (noted_is m.register (length log) b.0 (request_at Listing m) (told_by heard) s.base.outside)) (by told)
+  pub told_list : (chosen : BrickId) (heard : Answer) → ListTold p b.0 g log heard → RemovalTells p path (answered chosen Listing heard (length log) m) (more (told_by heard))
+  told_list chosen heard told =
+      subst (λ (x : Register). RemovalTells p path (moved chosen Listing b.0 heard x m) (more (told_by heard))) (sym (noted_is m.register (length log) b.0 (request_at Listing m) (told_by heard) s.base.outside)) (by told)
     where
       by : ListTold p b.0 g log heard → After heard
       by (Shown names e f) = subst After (sym e) (by_names names f)

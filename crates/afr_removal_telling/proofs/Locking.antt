@@ -143,7 +143,7 @@ same_held : (name : Area) (a : ActorId) (b : BrickId) (other : Area) (took : Boo
 same_held name a b other took s apart (told_of.Held owner) h c m = m
 same_held name a b other took s apart told h c m = absurd (cc h)
 
-module _ (p : Plan) (path : List NameId) (m : Removing) (w : Work) (a : ActorId) (heard : Answer) (took : Bool) (log : List Line) (s : Sound m) (k : Goes p path m.change m.register m.child.gfid w) (d : OnLocks p m.change m.register m.child w) (ds : sound.During Locking m) (e : IsAsking Locking m) (can : CanTell (request_at Locking m) heard) where
+module _ (p : Plan) (path : List NameId) (m : Removing) (w : Work) (a : ActorId) (chosen : BrickId) (heard : Answer) (took : Bool) (log : List Line) (s : Sound m) (k : Goes p path m.change m.register m.child.gfid w) (d : OnLocks p m.change m.register m.child w) (ds : sound.During Locking m) (e : IsAsking Locking m) (can : CanTell (request_at Locking m) heard) where
   abbrev r : Register
   r = m.register
 
@@ -219,8 +219,8 @@ module _ (p : Plan) (path : List NameId) (m : Removing) (w : Work) (a : ActorId)
     unseen = d.unseen;
   }
 
-  pub told_lock : RemovalTells p path (answered Locking heard (length log) m) more
+  pub told_lock : RemovalTells p path (answered chosen Locking heard (length log) m) more
   told_lock =
-      subst (λ (x : Register). RemovalTells p path (moved Locking b.0 heard x m) more)
+      subst (λ (x : Register). RemovalTells p path (moved chosen Locking b.0 heard x m) more)
       (sym (noted_is r (length log) b.0 (request_at Locking m) told s.base.outside ∙ locked_is m.change also r b.0 small s.base s.areas (is_busy r b.0 small held) (apart m.change s.removes r.area m.child.gfid s.areas.named) told))
       (locks_gone p path now more s.removes (lock_base m.change also r b.0 small s.base s.areas told) goes_on on_locks (fresh_lock m.child.gfid a b told took log w) ds.1)

@@ -34,7 +34,7 @@ use Rattle.afr_model.specs.Showing.{among, look_shows, looked_by, looking, readi
 use Rattle.afr_model.specs.Skipped.{IsChildLocked}
 use Rattle.afr_model.specs.Standing.{asking, getting, holding, locks_area, suffices, up_to}
 use Rattle.afr_walk.specs.Looks.{noted_look}
-use Rattle.afr_removal.specs.Removal.{Removing, after, against, answered, both_held, brick_at, gone_on, has_takers, left, moved, on_stage, or_close, reply_of, request_at, sets_after, takers_of}
+use Rattle.afr_removal.specs.Removal.{Removing, after, against, answered, both_held, brick_at, gone_on, has_takers, left, moved, on_stage, or_close, reads_at, reply_of, request_at, sets_after, takers_of}
 use Rattle.afr_removal.specs.Sound.{IsAsking, IsBase, IsRemoval, Sound}
 use Rattle.afr_removal.specs.declared.stage.Ending.{Ending}
 use Rattle.afr_removal.specs.declared.stage.Ending.TheVariants.{NoQuorum, FewCopies, SplitBrain}
@@ -205,7 +205,7 @@ look_same b (told_of.Seen view) looked = refl
 look_same b told_of.NoObject looked = refl
 look_same b told looked = refl
 
-module _ (p : Plan) (path : List NameId) (m : Removing) (w : Work) (a : ActorId) (heard : Answer) (took : Bool) (log : List Line) (s : Sound m) (k : Goes p path m.change m.register m.child.gfid w) (d : OnLooks p m.change m.register m.child w) (e : IsAsking Looking m) (can : CanTell (request_at Looking m) heard) where
+module _ (p : Plan) (path : List NameId) (m : Removing) (w : Work) (a : ActorId) (chosen : BrickId) (heard : Answer) (took : Bool) (log : List Line) (s : Sound m) (k : Goes p path m.change m.register m.child.gfid w) (d : OnLooks p m.change m.register m.child w) (e : IsAsking Looking m) (can : CanTell (request_at Looking m) heard) where
   abbrev told : Told
   told = told_by heard
 
@@ -221,8 +221,9 @@ module _ (p : Plan) (path : List NameId) (m : Removing) (w : Work) (a : ActorId)
   abbrev q : Register
   q = after_outside m.register b.0 (request.Look m.child.gfid) told
 
+  -- the copy that is listed then is the one that was chosen
   abbrev now : Removing
-  now = sets_after Looking b.0 told q m
+  now = reads_at chosen Looking (sets_after Looking b.0 told q m)
 
   abbrev more : Work
   more = (Ask a b (request.Look m.child.gfid) told took, log) ∷ w
@@ -258,7 +259,7 @@ module _ (p : Plan) (path : List NameId) (m : Removing) (w : Work) (a : ActorId)
         );
   }
 
-  pub told_look : RemovalTells p path (answered Looking heard (length log) m) more
+  pub told_look : RemovalTells p path (answered chosen Looking heard (length log) m) more
   told_look =
-      subst (λ (x : Register). RemovalTells p path (moved Looking b.0 heard x m) more) (sym (noted_is m.register (length log) b.0 (request_at Looking m) told s.base.outside))
+      subst (λ (x : Register). RemovalTells p path (moved chosen Looking b.0 heard x m) more) (sym (noted_is m.register (length log) b.0 (request_at Looking m) told s.base.outside))
       (looks_gone p path now more s.removes (look_base m.change whole_child m.register b.0 small s.base s.areas m.child.gfid told) goes_on on_looks (rw (self m.child.gfid.0) refl) refl)

@@ -27,10 +27,10 @@ use Rattle.afr_removal_telling.proofs.Looking.{told_look}
 use Rattle.afr_removal_telling.proofs.Phases.{told_apply, told_post, told_pre}
 use Rattle.afr_removal_telling.proofs.Unlocks.{told_unlock}
 
-module _ (p : Plan) (path : List NameId) (m : Removing) (w : Work) (a : ActorId) (heard : Answer) (took : Bool) (log : List Line) (s : Sound m) where
+module _ (p : Plan) (path : List NameId) (m : Removing) (w : Work) (a : ActorId) (chosen : BrickId) (heard : Answer) (took : Bool) (log : List Line) (s : Sound m) where
   -- what was asked at a stage, and what follows
   abbrev After : RemovalStage → BrickId → Request → Type 0
-  After stage b request = CanHear stage p b.0 request log heard → RemovalTells p path (answered stage heard (length log) m) ((Ask a b request (told_by heard) took, log) ∷ w)
+  After stage b request = CanHear stage p b.0 request log heard → RemovalTells p path (answered chosen stage heard (length log) m) ((Ask a b request (told_by heard) took, log) ∷ w)
 
   -- the machine's own request
   abbrev Own : RemovalStage → Type 0
@@ -44,17 +44,17 @@ module _ (p : Plan) (path : List NameId) (m : Removing) (w : Work) (a : ActorId)
   over_asks false why b request e = e
 
   pub more_at : (stage : RemovalStage) → During stage p path m w → sound.During stage m → Ready stage m → (b : BrickId) (request : Request) → next_at stage m ≡ next.Ask b request → After stage b request
-  more_at Locking (k, d) ds ready b request e = asked Locking b request e (λ can. told_lock p path m w a heard took log s k d ds ready can)
-  more_at Looking (k, d) ds ready b request e = asked Looking b request e (λ can. told_look p path m w a heard took log s k d ready can)
-  more_at Listing (k, opened, j) ds ready b request e = asked Listing b request e (λ can. told_list p path m w a took log s k opened j ds heard (list_told p (brick_at Listing m) m.child.gfid log heard can))
+  more_at Locking (k, d) ds ready b request e = asked Locking b request e (λ can. told_lock p path m w a chosen heard took log s k d ds ready can)
+  more_at Looking (k, d) ds ready b request e = asked Looking b request e (λ can. told_look p path m w a chosen heard took log s k d ready can)
+  more_at Listing (k, opened, j) ds ready b request e = asked Listing b request e (λ can. told_list p path m w a took log s k opened j ds chosen heard (list_told p (brick_at Listing m) m.child.gfid log heard can))
   more_at Beginning d ds ready b request e = absurd (cc e)
-  more_at Preparing (k, t, d) ds ready b request e = asked Preparing b request e (λ can. told_pre p path m w a heard took log s k t d ds ready can)
-  more_at Applying (k, t, d) ds ready b request e = asked Applying b request e (λ can. told_apply p path m w a heard took log s k t d ds ready can)
-  more_at Posting (k, t, d) ds ready b request e = asked Posting b request e (λ can. told_post p path m w a heard took log s k t d ds ready can)
-  more_at (Closing why) d ds ready b request e = asked (Closing why) b request (over_asks (is_over (Closing why) m) why b request e) (λ can. told_unlock p path m w a heard took log s why d)
+  more_at Preparing (k, t, d) ds ready b request e = asked Preparing b request e (λ can. told_pre p path m w a chosen heard took log s k t d ds ready can)
+  more_at Applying (k, t, d) ds ready b request e = asked Applying b request e (λ can. told_apply p path m w a chosen heard took log s k t d ds ready can)
+  more_at Posting (k, t, d) ds ready b request e = asked Posting b request e (λ can. told_post p path m w a chosen heard took log s k t d ds ready can)
+  more_at (Closing why) d ds ready b request e = asked (Closing why) b request (over_asks (is_over (Closing why) m) why b request e) (λ can. told_unlock p path m w a chosen heard took log s why d)
 
 pub more : RemovalTellsMore
-more p path m w a b request heard took log s t e can = more_at p path m w a heard took log s m.stage t s.during s.ready b request e can
+more p path m w a b request chosen heard took log s t e can = more_at p path m w a chosen heard took log s m.stage t s.during s.ready b request e can
 
 pub begun_on : RemovalBegun
 begun_on p path m w a change log s t e = go m.stage t e

@@ -104,7 +104,7 @@ module _ (p : Plan) (path : List NameId) (x : Removing) (w : Work) (removes : Is
       go false e = (k, t, d)
 
 -- ---- a line of a phase
-module _ (p : Plan) (path : List NameId) (m : Removing) (w : Work) (a : ActorId) (heard : Answer) (took : Bool) (log : List Line) (s : Sound m) (k : Goes p path m.change m.register m.child.gfid w) (t : Tries p m.change m.child w) where
+module _ (p : Plan) (path : List NameId) (m : Removing) (w : Work) (a : ActorId) (chosen : BrickId) (heard : Answer) (took : Bool) (log : List Line) (s : Sound m) (k : Goes p path m.change m.register m.child.gfid w) (t : Tries p m.change m.child w) where
   abbrev r : Register
   r = m.register
 
@@ -122,9 +122,9 @@ module _ (p : Plan) (path : List NameId) (m : Removing) (w : Work) (a : ActorId)
 
   -- ---- pre-op
   pub told_pre : OnPre (asked_at r step.Pres) w → sound.During Preparing m → IsAsking Preparing m → CanTell (request_at Preparing m) heard
-      → RemovalTells p path (answered Preparing heard (length log) m) ((Ask a (record { 0 = brick_at Preparing m }) (request_at Preparing m) told took, log) ∷ w)
+      → RemovalTells p path (answered chosen Preparing heard (length log) m) ((Ask a (record { 0 = brick_at Preparing m }) (request_at Preparing m) told took, log) ∷ w)
   told_pre d ds e can =
-      subst (λ (y : Register). RemovalTells p path (moved Preparing b.0 heard y m) more) (sym (noted_is r (length log) b.0 (request_at Preparing m) told s.base.outside))
+      subst (λ (y : Register). RemovalTells p path (moved chosen Preparing b.0 heard y m) more) (sym (noted_is r (length log) b.0 (request_at Preparing m) told s.base.outside))
       (gone_pres p path now more s.removes (pre_base m.change whole_child r b.0 small s.base s.areas g Names told) goes_on tries
       (record { pre = pre_asks r b.0 g Names told ∙ ap (added b.0) d.pre; no_apply = d.no_apply; no_apply_did = d.no_apply_did; no_post = d.no_post; no_post_did = d.no_post_did })
       (pre_before r b.0 g Names told))
@@ -166,9 +166,9 @@ module _ (p : Plan) (path : List NameId) (m : Removing) (w : Work) (a : ActorId)
 
   -- ---- the operation
   pub told_apply : OnApply m.child.takers (asked_at r step.Applies) w → sound.During Applying m → IsAsking Applying m → CanTell (request_at Applying m) heard
-      → RemovalTells p path (answered Applying heard (length log) m) ((Ask a (record { 0 = brick_at Applying m }) (request_at Applying m) told took, log) ∷ w)
+      → RemovalTells p path (answered chosen Applying heard (length log) m) ((Ask a (record { 0 = brick_at Applying m }) (request_at Applying m) told took, log) ∷ w)
   told_apply d ds e can =
-      subst (λ (y : Register). RemovalTells p path (moved Applying b.0 heard y m) more) (sym (noted_is r (length log) b.0 (request_at Applying m) told s.base.outside))
+      subst (λ (y : Register). RemovalTells p path (moved chosen Applying b.0 heard y m) more) (sym (noted_is r (length log) b.0 (request_at Applying m) told s.base.outside))
       (gone_applies p path now more s.removes (apply_base m.change whole_child r b.0 small s.base s.areas n told) goes_on tries
       (record { pre_all = d.pre_all; apply = apply_asks r b.0 n told ∙ ap (added b.0) d.apply; no_post = d.no_post; no_post_did = d.no_post_did })
       (apply_before r b.0 n told))
@@ -210,9 +210,9 @@ module _ (p : Plan) (path : List NameId) (m : Removing) (w : Work) (a : ActorId)
 
   -- ---- post-op
   pub told_post : OnPost p m.change m.child.takers (asked_at r step.Posts) w → sound.During Posting m → IsAsking Posting m → CanTell (request_at Posting m) heard
-      → RemovalTells p path (answered Posting heard (length log) m) ((Ask a (record { 0 = brick_at Posting m }) (request_at Posting m) told took, log) ∷ w)
+      → RemovalTells p path (answered chosen Posting heard (length log) m) ((Ask a (record { 0 = brick_at Posting m }) (request_at Posting m) told took, log) ∷ w)
   told_post d ds e can =
-      subst (λ (y : Register). RemovalTells p path (moved Posting b.0 heard y m) more) (sym (noted_is r (length log) b.0 (request_at Posting m) told s.base.outside))
+      subst (λ (y : Register). RemovalTells p path (moved chosen Posting b.0 heard y m) more) (sym (noted_is r (length log) b.0 (request_at Posting m) told s.base.outside))
       (gone_posts p path now more s.removes (post_base m.change whole_child r b.0 small s.base s.areas n g Names missed told) goes_on tries
       (record { pre_all = d.pre_all; apply_all = d.apply_all; enough = d.enough; post = post_asks r b.0 n g Names missed told ∙ ap (added b.0) d.post }))
     where

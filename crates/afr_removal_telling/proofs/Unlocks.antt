@@ -131,7 +131,7 @@ module _ (p : Plan) (path : List NameId) (g child : Gfid) (a : ActorId) (b : Bri
   }
 
 -- ---- an unlock of a removal
-module _ (p : Plan) (path : List NameId) (m : Removing) (w : Work) (a : ActorId) (heard : Answer) (took : Bool) (log : List Line) (s : Sound m) (why : Ending) (k : IsOver p path (object_of m.change) m.child.gfid m.register why w) where
+module _ (p : Plan) (path : List NameId) (m : Removing) (w : Work) (a : ActorId) (chosen : BrickId) (heard : Answer) (took : Bool) (log : List Line) (s : Sound m) (why : Ending) (k : IsOver p path (object_of m.change) m.child.gfid m.register why w) where
   abbrev b : BrickId
   b = record { 0 = brick_at (Closing why) m }
 
@@ -164,9 +164,9 @@ module _ (p : Plan) (path : List NameId) (m : Removing) (w : Work) (a : ActorId)
     answered = subst (λ (x : Reply). IsAnswered p (command.Rmdir path) later x) (said_same why) (answered_same p path (object_of m.change) m.child.gfid a b area (told_by heard) took log w k.led (reply_of why m.register) k.answered);
   }
 
-  pub told_unlock : RemovalTells p path (answered (Closing why) heard (length log) m) later
+  pub told_unlock : RemovalTells p path (answered chosen (Closing why) heard (length log) m) later
   told_unlock =
-      subst (λ (x : Register). RemovalTells p path (moved (Closing why) b.0 heard x m) later) (sym (noted_is m.register (length log) b.0 (request_at (Closing why) m) (told_by heard) s.base.outside))
+      subst (λ (x : Register). RemovalTells p path (moved chosen (Closing why) b.0 heard x m) later) (sym (noted_is m.register (length log) b.0 (request_at (Closing why) m) (told_by heard) s.base.outside))
       (go (is_nothing (left (Closing why) now)))
     where
       go : (e : Bool) → RemovalTells p path (on_stage (if e then Closing why else Closing why) now) later

@@ -53,12 +53,12 @@ pub record IsFound (p : Plan) (path : List NameId) (child : Gfid) (t : Progress)
 abbrev pub RemovalBegins : Type 0
 RemovalBegins = (p : Plan) (path : List NameId) (child : Gfid) (t : Progress) (w : Work) → changing.Sound t → IsFound p path child t w → RemovalTells p path (removing t.change t.register child) w
 
--- after one line more, whatever was told, the lines show where the removal stands then
+-- after one line more, whatever was told, and whichever copy of the child is listed then, the lines show where the removal stands then
 abbrev pub RemovalTellsMore : Type 0
 RemovalTellsMore =
-    (p : Plan) (path : List NameId) (m : Removing) (w : Work) (a : ActorId) (b : BrickId) (request : Request) (heard : Answer) (took : Bool) (log : List Line)
+    (p : Plan) (path : List NameId) (m : Removing) (w : Work) (a : ActorId) (b : BrickId) (request : Request) (chosen : BrickId) (heard : Answer) (took : Bool) (log : List Line)
     → Sound m → RemovalTells p path m w → next_at m.stage m ≡ next.Ask b request → CanHear m.stage p b.0 request log heard
-    → RemovalTells p path (answered m.stage heard (length log) m) ((Ask a b request (told_by heard) took, log) ∷ w)
+    → RemovalTells p path (answered chosen m.stage heard (length log) m) ((Ask a b request (told_by heard) took, log) ∷ w)
 
 -- and so after the Begin line
 abbrev pub RemovalBegun : Type 0

@@ -1,9 +1,11 @@
 //! What an answer leaves of a heal: its register, and its source once the first looks are over.
-ghost use Rattle.std.specs.Prelude.{◌≡◌, ◌+◌, ◌^◌, ◌<◌, ◌≤◌, ◌||◌, false, not, true};
+ghost use Rattle.std.specs.Prelude.{◌≡◌, ◌+◌, ◌^◌, ◌<◌, ◌≤◌, ◌||◌, false, nat_le, not, true};
 ghost use Rattle.afr_base.specs.Bricks.{member};
 ghost use Rattle.afr_discipline.specs.Notes.{noted_ask};
-ghost use Rattle.afr_discipline.specs.Stands.{seen_as};
-ghost use Rattle.afr_moves.specs.Register.{over, span};
+ghost use Rattle.afr_discipline.specs.Stands.{phase_of, seen_as, step_of};
+ghost use Rattle.afr_moves.specs.Keeps.{keeps_in};
+ghost use Rattle.afr_moves.specs.Register.{is_opening, over, rank, span};
+ghost use Rattle.afr_moves.specs.Steps.{looks_over};
 ghost use Rattle.afr_rule.specs.Choosing.{IsRule};
 ghost use Rattle.afr_self_heal.specs.Healing.{IsChosen};
 ghost use Rattle.afr_self_heal.specs.Source.{HasSource, is_found};
@@ -69,6 +71,33 @@ fn is_found(register: &Register) -> bool
             asked_at(register, Step::Looks),
         ),
         (_, _) => false,
+    }
+}
+
+/// Whether the register is past the locks of its present part.
+fn is_past_locks(step: Step) -> bool
+    ensures { result ≡ nat_le 7 (rank (step_of step)) }
+{
+    match step {
+        Step::Untouched | Step::Open | Step::Pres | Step::Applies | Step::Posts => false,
+        Step::HealLocks | Step::WorkLocks => false,
+        _ => true,
+    }
+}
+
+/// Whether the first looks are over.
+pub(crate) fn has_looked(register: &Register) -> bool
+    requires { register.now.shape.n ≤ 5 }
+    ensures { result ≡ (not (is_opening (phase_of register.now.phase)) || looks_over register.now.shape.n (keeps_in register.now.shape) (seen_as register.now) 0) }
+{
+    match (present_part(register), present_step(register)) {
+        (Phase::Opening, Step::Looks) => is_over(
+            register.shape.n,
+            register.held,
+            asked_at(register, Step::Looks),
+        ),
+        (Phase::Opening, step) => is_past_locks(step),
+        (Phase::Piece | Phase::Finish, _) => true,
     }
 }
 

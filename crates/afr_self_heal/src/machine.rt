@@ -1,6 +1,10 @@
 //! The machine of a heal: what it asks next, and what it makes of the answers.
-ghost use Rattle.std.specs.Prelude.{◌≡◌, ◌<◌, ◌≤◌, IfOk, OnOk, OnErr, true};
+ghost use Rattle.std.specs.Prelude.{◌≡◌, ◌<◌, ◌≤◌, ◌||◌, IfOk, OnOk, OnErr, not, true};
+ghost use Rattle.afr_discipline.specs.Stands.{phase_of, seen_as};
 ghost use Rattle.afr_heal.specs.Engine.{Begins};
+ghost use Rattle.afr_moves.specs.Keeps.{keeps_in};
+ghost use Rattle.afr_moves.specs.Register.{is_opening};
+ghost use Rattle.afr_moves.specs.Steps.{looks_over};
 ghost use Rattle.afr_rule.specs.Choosing.{IsRule};
 ghost use Rattle.afr_self_heal.specs.Contents.{load_in};
 ghost use Rattle.afr_self_heal.specs.Healing.{CanHear, IsFed, IsHealing, begun, coming, heal_from, made_ready, next_of};
@@ -9,7 +13,7 @@ use crate::answers::{fits, is_tellable};
 use crate::causes::{cause, outcome_after};
 use crate::contents::{Contents, keep, load, nothing, ready};
 use crate::ending::ending;
-use crate::hearing::{note_answer, source_after};
+use crate::hearing::{has_looked, note_answer, source_after};
 use crate::laws::a_heal_stays_sound;
 use crate::outcome::Outcome;
 use afr_base::{BrickId, Gfid, Kind, NoMemory, Shape};
@@ -173,6 +177,27 @@ impl HealMachine {
         ensures { result ≡ self.now.kind }
     {
         self.kind
+    }
+
+    /// The source, once one is chosen: brick 0 before that.
+    pub fn source(&self) -> BrickId
+        ensures { result ≡ self.now.source }
+    {
+        self.source
+    }
+
+    /// How the heal ends, as far as its lines tell.
+    pub fn outcome(&self) -> Outcome
+        ensures { result ≡ self.now.outcome }
+    {
+        self.outcome
+    }
+
+    /// Whether its first looks are over.
+    pub fn has_looked(&self) -> bool
+        ensures { result ≡ (not (is_opening (phase_of self.now.register.phase)) || looks_over self.now.register.shape.n (keeps_in self.now.register.shape) (seen_as self.now.register) 0) }
+    {
+        has_looked(&self.register)
     }
 
     /// What the lines so far show.

@@ -3,17 +3,20 @@ use crate::lines::{
     OBJECT, asks, carries_attrs, heal_of, hears, hears_done, names_carried, reply_of, seen,
     sees_behind, unlocks,
 };
-use afr_base::{ActorId, Gfid, Kind, NameId, NoMemory, What};
+use afr_base::{ActorId, BrickId, Gfid, Kind, NameId, NoMemory, What};
 use afr_lines::{Answer, HealReply, Request};
 use afr_object::{Entry, List, NameList, Repair};
-use afr_self_heal::HealMachine;
+use afr_self_heal::{HealMachine, Outcome};
 use std::alloc::Global;
 
 #[test]
 fn attributes_are_read_at_the_source_and_put_at_the_others(rt: HostRuntime) {
     let mut machine = heal_of(rt.alloc(), Kind::Attrs);
     assert!(rt; matches!(asks(&machine, 0), Some(Request::Lock { .. })));
+    assert!(rt; !machine.has_looked());
     sees_behind(&mut machine, What::File, Kind::Attrs);
+    assert!(rt; machine.has_looked() && machine.source() == BrickId(0));
+    assert!(rt; matches!(machine.outcome(), Outcome::Settled));
     assert!(rt; matches!(asks(&machine, 0), Some(Request::ReadAttrs { .. })));
     hears(&mut machine, Answer::Attrs(List::new(rt.alloc())), 11);
     assert!(rt; matches!(asks(&machine, 1), Some(Request::Pre { .. })));

@@ -39,14 +39,14 @@ use Rattle.afr_sources.proofs.Register.{stays_broken}
 use Rattle.afr_sources.proofs.Stage.{AtFirstLooks, AtLocks, IsLocking, IsLooking, IsLost, IsPast, Lost, Past, Stage, stage_of}
 use Rattle.afr_sources.proofs.Work.{all_keep, is_index, first_same, first_unbegun, not_on, not_on_begun, still_free}
 use Rattle.afr_sources.specs.Chosen.{HealsFrom, went_on}
-use Rattle.afr_sources.specs.Sources.{has_chosen, has_looked, is_later}
+use Rattle.afr_sources.specs.Sources.{has_chosen, has_looked, is_later, picked_by}
 
 -- ---- by whether it has a source
 abbrev pub KeptBy : Picks → Shape → Kind → Bool → ℕ → Work → Type 0
 KeptBy picks shape kind true s w = picks (candidates_of shape kind (first_by w).looked) s × AllKeep s w
 KeptBy picks shape kind false s w = went_on w ≡ false
 
-pub kept_source : (picks : Picks) (shape : Shape) (kind : Kind) (c : Bool) (s : ℕ) (w : Work) → ((kind ≡ Names → ⊥) → KeptBy picks shape kind c s w) → HealsFrom picks shape kind (if c then Some s else None) w
+pub kept_source : (picks : Picks) (shape : Shape) (kind : Kind) (c : Bool) (s : ℕ) (w : Work) → ((kind ≡ Names → ⊥) → KeptBy picks shape kind c s w) → HealsFrom picks shape kind (picked_by kind c s) w
 kept_source picks shape Names true s w k = tt
 kept_source picks shape Names false s w k = tt
 kept_source picks shape Bytes true s w k = k (λ e. cc e)
@@ -54,7 +54,7 @@ kept_source picks shape Bytes false s w k = k (λ e. cc e)
 kept_source picks shape Attrs true s w k = k (λ e. cc e)
 kept_source picks shape Attrs false s w k = k (λ e. cc e)
 
-pub source_kept : (picks : Picks) (shape : Shape) (kind : Kind) (c : Bool) (s : ℕ) (w : Work) → (kind ≡ Names → ⊥) → HealsFrom picks shape kind (if c then Some s else None) w → KeptBy picks shape kind c s w
+pub source_kept : (picks : Picks) (shape : Shape) (kind : Kind) (c : Bool) (s : ℕ) (w : Work) → (kind ≡ Names → ⊥) → HealsFrom picks shape kind (picked_by kind c s) w → KeptBy picks shape kind c s w
 source_kept picks shape Names c s w never k = absurd (never refl)
 source_kept picks shape Bytes true s w never k = k
 source_kept picks shape Bytes false s w never k = k

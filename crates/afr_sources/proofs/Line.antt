@@ -1,5 +1,5 @@
 -- One line of a healer keeps its running heal to its source.
-use Rattle.std.proofs.Common.{◌≡◌, ◌∙◌, ℕ, ◌==◌, true, List, [], ◌∷◌, Option, None, Some, refl, sym, ap, subst, arith, length, if◌then◌else◌}
+use Rattle.std.proofs.Common.{◌≡◌, ◌∙◌, ℕ, ◌==◌, true, false, List, [], ◌∷◌, Option, None, Some, refl, sym, ap, subst, arith, length}
 use Rattle.std.proofs.lemmas.Bool.Decides.{nat_tests}
 use Rattle.afr_base.specs.declared.ids.ActorId.{ActorId}
 use Rattle.afr_base.specs.declared.ids.BrickId.{BrickId}
@@ -48,7 +48,7 @@ use Rattle.afr_sources.proofs.Heal.{KeptBy, PastOf, StageOf, asks_keep, asks_no_
 use Rattle.afr_sources.proofs.Work.{no_border}
 use Rattle.afr_sources.specs.Chosen.{HealsFrom, RunsFrom}
 use Rattle.afr_sources.specs.Laws.{LineKeepsSource, SourceKept}
-use Rattle.afr_sources.specs.Sources.{has_chosen, picks_of, source_at, source_in, source_of}
+use Rattle.afr_sources.specs.Sources.{has_chosen, picked_by, picks_of, source_at, source_in, source_of}
 
 self : (n : ℕ) → (n == n) ≡ true
 self n = grind (arith, nat_tests)
@@ -63,9 +63,14 @@ pub none_runs : (picks : Picks) (p : Plan) (a : ℕ) (log : List Line) (source :
 none_runs picks p a log source none empty g kind due = rw (none, empty) (unbegun picks p.shape kind)
 
 -- a round that goes on has a heal that has begun nothing, or none
+none_picked : (kind : Kind) (s : ℕ) → picked_by kind false s ≡ None
+none_picked Names s = refl
+none_picked Bytes s = refl
+none_picked Attrs s = refl
+
 due_none : (shape : Shape) (due : Option (Gfid × Kind)) → source_in (stage_due shape due) ≡ None
 due_none shape None = refl
-due_none shape (Some due) = refl
+due_none shape (Some due) = none_picked due.1 0
 
 indexed_none : (answer : Answer) (m : Rounding) → source_in (indexed answer m).stage ≡ None
 indexed_none (answer_of.Index list) m = due_none m.shape _
@@ -111,10 +116,10 @@ module _ {F : Type 0} (calls : Calls F) (choose : F) (can : CanStepNext) (rounds
     abbrev w : Work
     w = heal_by (work a.0 log)
 
-    source_is : source_of x ≡ (if has_chosen h then Some h.source.0 else None)
+    source_is : source_of x ≡ picked_by h.kind (has_chosen h) h.source.0
     source_is = ap source_at present ∙ ap source_in stage_is
 
-    from : HealsFrom picks p.shape h.kind (if has_chosen h then Some h.source.0 else None) w
+    from : HealsFrom picks p.shape h.kind (picked_by h.kind (has_chosen h) h.source.0) w
     from = subst (λ (source : Option ℕ). HealsFrom picks p.shape h.kind source w) source_is (runs h.gfid h.kind here.due)
 
     stage : StageOf h w
@@ -132,11 +137,11 @@ module _ {F : Type 0} (calls : Calls F) (choose : F) (can : CanStepNext) (rounds
 
       goes_on : ((z.kind ≡ Names → ⊥) → KeptBy picks p.shape z.kind (has_chosen z) z.source.0 ((line, log) ∷ w)) → RunsFrom picks p a.0 (line ∷ log) (source_of y)
       goes_on kept g kind due =
-          let source : source_of y ≡ (if has_chosen z then Some z.source.0 else None) = ap source_at now_is ∙ ap source_in now_at in
+          let source : source_of y ≡ picked_by z.kind (has_chosen z) z.source.0 = ap source_at now_is ∙ ap source_in now_at in
           let kinds : z.kind ≡ kind = same_kind (heal_due p (work a.0 (line ∷ log))) g z.gfid kind z.kind there.due due in
           subst (λ (kind : Kind). HealsFrom picks p.shape kind (source_of y) (heal_by (work a.0 (line ∷ log)))) kinds
           (subst (λ (source : Option ℕ). HealsFrom picks p.shape z.kind source (heal_by (work a.0 (line ∷ log)))) (sym source)
-          (subst (HealsFrom picks p.shape z.kind (if has_chosen z then Some z.source.0 else None)) (sym border) (kept_source picks p.shape z.kind (has_chosen z) z.source.0 ((line, log) ∷ w) kept)))
+          (subst (HealsFrom picks p.shape z.kind (picked_by z.kind (has_chosen z) z.source.0)) (sym border) (kept_source picks p.shape z.kind (has_chosen z) z.source.0 ((line, log) ∷ w) kept)))
 
     -- a request
     module _ (b : BrickId) (asked : Request) (e : coming h ≡ Asks b.0 asked) (s : IsAsked (IsFed calls choose) a (length log) b asked x y m servers new line) where

@@ -1,5 +1,7 @@
--- The source that a healer's machine has chosen, and what a stored rule picks.
+-- The source that the rule picked for a healer's heal, and what a stored rule picks.
 use Rattle.std.specs.Prelude.{◌≡◌, ℕ, ◌||◌, not, Bool, true, false, List, Option, None, Some, map, if◌then◌else◌}
+use Rattle.afr_base.specs.declared.ids.Kind.{Kind}
+use Rattle.afr_base.specs.declared.ids.Kind.TheVariants.{Names}
 use Rattle.afr_discipline.specs.Stands.{phase_of, seen_as}
 use Rattle.afr_discipline.specs.declared.register.Register.{Register}
 use Rattle.afr_healer.specs.Rounding.{Rounding}
@@ -33,15 +35,20 @@ is_later outcome = true
 abbrev pub has_chosen : Heal → Bool
 has_chosen h = if h.register.broken then is_later h.outcome else has_looked h.register
 
+-- what the rule picked for a heal of this kind: one of names asks no rule
+abbrev pub picked_by : Kind → Bool → ℕ → Option ℕ
+picked_by Names chosen s = None
+picked_by kind chosen s = if chosen then Some s else None
+
 abbrev pub source_in : RoundStage → Option ℕ
-source_in (Healing h) = if has_chosen h then Some h.source.0 else None
+source_in (Healing h) = picked_by h.kind (has_chosen h) h.source.0
 source_in stage = None
 
 abbrev pub source_at : Option Rounding → Option ℕ
 source_at None = None
 source_at (Some m) = source_in m.stage
 
--- what a healer's machine has chosen for its running heal
+-- what the rule picked for the running heal of a healer; none before it was asked
 abbrev pub source_of : Healer → Option ℕ
 source_of x = source_at x.round
 

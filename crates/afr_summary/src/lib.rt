@@ -1,4 +1,4 @@
-//! The summary of a run, as text: seven counts, a line for each.
+//! The summary of a run, as text: seven lines of counts.
 #![tactic(auto)]
 
 mod ends;

@@ -1,4 +1,4 @@
--- Numbers of entries, and the cases of a test.
+-- Numbers of entries: each tells its object and what it is.
 use Rattle.std.proofs.Common.{◌≡◌, ℕ, refl, arith}
 use Rattle.afr_base.specs.declared.ids.What.{What}
 use Rattle.afr_base.specs.declared.ids.What.TheVariants.{File, Dir}

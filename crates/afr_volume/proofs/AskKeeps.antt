@@ -1,5 +1,5 @@
 -- A request of an actor: the line is honest, lawful and the plan's, and the actor's work stands for it.
-use Rattle.std.proofs.Common.{◌≡◌, Bool, true, false, List, ◌∷◌, refl, sym, ap, subst, length, Some, None, Option}
+use Rattle.std.proofs.Common.{◌≡◌, ◌∙◌, ℕ, Bool, true, false, List, ◌∷◌, refl, sym, ap, subst, length, slice_get, Some, None, Option}
 use Rattle.afr_base.specs.declared.ids.ActorId.{ActorId}
 use Rattle.afr_base.specs.declared.ids.BrickId.{BrickId}
 use Rattle.afr_discipline.specs.Notes.{noted_ask}
@@ -11,7 +11,7 @@ use Rattle.afr_law.specs.Exactly.{IsLawfulExactly}
 use Rattle.afr_law.specs.ModelNext.{asking}
 use Rattle.afr_lines.specs.Places.{Fresh, Within, next_place, place_of}
 use Rattle.afr_lines.specs.Told.{told_by}
-use Rattle.afr_lines.specs.Work.{Work as Lines, work}
+use Rattle.afr_lines.specs.Work.{Work as Lines, ended, work}
 use Rattle.afr_lines.specs.declared.answer.Answer.TheVariants as answer_of
 use Rattle.afr_lines.specs.declared.answer.Told.{Told}
 use Rattle.afr_lines.specs.declared.answer.Told.TheVariants as told_of
@@ -22,6 +22,7 @@ use Rattle.afr_lines.specs.declared.line.Next.{Next}
 use Rattle.afr_lines.specs.declared.line.Next.TheVariants as next
 use Rattle.afr_lines.specs.declared.request.Request.{Request}
 use Rattle.afr_lines.specs.declared.request.Request.TheVariants as request
+use Rattle.afr_model.specs.Actors.{script_of}
 use Rattle.afr_model.specs.Answered.{IsAbout}
 use Rattle.afr_model.specs.Following.{KeepsTo, ToCommand}
 use Rattle.afr_model.specs.Honest.{IsHonest, Outcome, answer_by, copy_answer, over_session}
@@ -39,19 +40,23 @@ use Rattle.afr_servers.specs.Needs.{IsRead}
 use Rattle.afr_servers.specs.NextLine.{GoOnHonestly}
 use Rattle.afr_servers.specs.declared.epochs.Epochs.{Epochs}
 use Rattle.afr_transaction.specs.Turn.{Stood}
+use Rattle.afr_readings.specs.Laws.{KeepsPicked, LineKept, number_in}
+use Rattle.afr_readings.specs.Readings.{asked_in}
+use Rattle.afr_walk.specs.Choosing.{IsAmong, reader_of}
 use Rattle.afr_walk.specs.Free.{is_free}
 use Rattle.afr_transaction_tells.specs.Laws.{IsNextLine}
-use Rattle.afr_works.specs.Work.{IsWork, heard_by, next_of, register_of}
+use Rattle.afr_works.specs.Work.{IsWork, choices_heard, heard_by, next_of, register_of}
 use Rattle.afr_works.specs.declared.work.Work.{Work}
 use Rattle.afr_works.specs.declared.work.Work.TheVariants.{Entry, Idle, Lookup, Write}
 use Rattle.afr_works_tell.specs.WorkTelling.{WorkHears, WorkTells}
-use Rattle.afr_volume.specs.Acting.{IsAsked, ServesNext}
-use Rattle.afr_volume.specs.Keeping.{Carries, CarriesOut, IsActing, IsInSession, IsNoted}
+use Rattle.afr_volume.specs.Acting.{HearsAny, IsAsked, ServesNext, picked_after, still_picked}
+use Rattle.afr_volume.specs.Keeping.{Carries, CarriesOut, IsActing, IsInSession, IsNoted, IsReading}
 use Rattle.afr_volume.specs.declared.actor.Actor.{Actor}
 use Rattle.afr_volume.proofs.Before.{IsBefore, allows, brings, in_force, low, may, opened}
 use Rattle.afr_volume.proofs.Before as known
 use Rattle.afr_volume.specs.Laws.{Laws}
-use Rattle.afr_volume.proofs.LineKeeps.{Asks, LineKeeps, of_client, self}
+use Rattle.afr_volume.proofs.LineKeeps.{Asks, LineKeeps, of_client, self, some_same}
+use Rattle.afr_volume.proofs.ReadingLemmas.{one_among, own_asked, picked_same}
 
 -- ---- a place within the work
 within_fresh : (p : Plan) (c : Command) (a : ActorId) (b : BrickId) (asked : Request) (told : Told) (took : Bool) (w : Lines) → IsAbout p c (Ask a b asked told took) w → next_place Fresh (Ask a b asked told took) ≡ Within
@@ -102,7 +107,7 @@ given_is p a b (request.Mend repair) given log honest k e free = absurd (cc free
 given_is p a b (request.Settle g kind less) given log honest k e free = absurd (cc free)
 
 module _ (laws : Laws) (p : Plan) (a : ActorId) (log : List Line) (servers : List Serving) (before : IsBefore p a log servers) (x y : Actor) (new : List Serving) (written : Line) (c : CarriesOut p a.0 log x.met x.epochs servers x.work) where
-  module _ (b : BrickId) (asked : Request) (e : next_of (length log) x.work ≡ next.Ask b asked) (s : IsAsked a (length log) b asked x y servers new written) where
+  module _ (b : BrickId) (asked : Request) (e : next_of (length log) x.work ≡ next.Ask b asked) (s : IsAsked HearsAny a (length log) b asked x y servers new written) where
     abbrev line : Line
     line = told_line a b asked s.given
 
@@ -152,8 +157,17 @@ module _ (laws : Laws) (p : Plan) (a : ActorId) (log : List Line) (servers : Lis
     hears (Write m) sound tells e = laws.telling.write_hears p c.command m log a b asked s.given.answer s.given.took sound tells e heard
     hears (Entry m) sound tells e = laws.telling.entry_hears p c.command m log a b asked s.given.answer s.given.took sound tells e heard before.follows
 
+    abbrev chosen : BrickId
+    chosen = reader_of s.heard.picked
+
+    among : IsAmong (choices_heard (heard_of.Answer s.given.answer (length log)) x.work) chosen
+    among = one_among (choices_heard (heard_of.Answer s.given.answer (length log)) x.work) s.heard.picked s.heard.hears.among
+
+    pub hears_next : WorkHears x.work p b.0 asked log s.given.answer
+    hears_next = hears x.work c.sound c.tells e
+
     abbrev after : Work
-    after = heard_by (heard_of.Answer s.given.answer (length log)) x.work
+    after = heard_by (reader_of s.heard.picked) (heard_of.Answer s.given.answer (length log)) x.work
 
     is_next : IsNextLine a (next_of (length log) x.work) told line
     is_next = subst (λ (n : Next). IsNextLine a n told line) (sym e) (s.given.took, refl)
@@ -166,7 +180,7 @@ module _ (laws : Laws) (p : Plan) (a : ActorId) (log : List Line) (servers : Lis
         (allows laws p a log servers before x.work x.met x.epochs c b asked e s.fits) (low laws p a log servers before x.work x.met x.epochs c b asked e s.fits)
 
     noted_is : register_of after ≡ noted_ask (register_of x.work) (length log) b.0 asked told
-    noted_is = laws.work.notes x.work (length log) b asked e s.given.answer
+    noted_is = laws.work.notes x.work (length log) b asked e chosen s.given.answer
 
     own : Stood p.shape a.0 (line ∷ log) (register_of after)
     own = rw noted_is stand.own
@@ -175,13 +189,31 @@ module _ (laws : Laws) (p : Plan) (a : ActorId) (log : List Line) (servers : Lis
     carries = record {
       command = c.command;
       present = c.present;
-      sound = laws.work.stays x.work c.sound (laws.work.asks_more x.work (length log) b asked e) (heard_of.Answer s.given.answer (length log));
-      five = laws.work.five x.work c.sound c.five (length log) b asked e s.given.answer;
+      sound = laws.work.stays x.work c.sound (laws.work.asks_more x.work (length log) b asked e) chosen (heard_of.Answer s.given.answer (length log)) among;
+      five = laws.work.five x.work c.sound c.five (length log) b asked e chosen s.given.answer;
       shape = own.shape_is;
       noted = (rw (self a.0) (within x.met p c.command a b asked told s.given.took log (register_of x.work) c.noted about.0), own);
       sessions = go_on.1.found;
-      tells = rw (self a.0) (laws.telling.more p c.command x.work (work a.0 log) a b asked s.given.answer s.given.took log c.sound c.tells e (hears x.work c.sound c.tells e));
+      tells = rw (self a.0) (laws.telling.more p c.command x.work (work a.0 log) a b asked chosen s.given.answer s.given.took log c.sound c.tells e hears_next among);
     }
+
+    -- the copy that is read next is the one that was picked
+    pub kept_picked : IsReading p a.0 log x.met x.picked x.work → LineKept p c.command s.heard.after ((line, log) ∷ work a.0 log) asked s.heard.picked (number_in (still_picked x.met x.picked))
+    kept_picked k =
+        laws.reading.line p c.command x.work s.heard.after (work a.0 log) a b asked s.given.answer s.given.took log s.heard.picked (number_in (still_picked x.met x.picked)) c.sound c.tells e hears_next s.heard.hears
+        (k.keeps c.command c.present)
+
+    reads_on : IsReading p a.0 log x.met x.picked x.work → IsReading p a.0 (line ∷ log) true (picked_after x.met asked s.heard.picked x.picked) s.heard.after
+    reads_on k = record {
+      keeps = λ command is.
+          subst (λ (d : Command). KeepsPicked p d s.heard.after (work a.0 (line ∷ log)) (number_in (picked_after x.met asked s.heard.picked x.picked))) (some_same c.command command (sym c.present ∙ is))
+          (rw (self a.0) (subst (λ (picked : Option ℕ). KeepsPicked p c.command s.heard.after ((line, log) ∷ work a.0 log) picked) (picked_same x.met asked s.heard.picked x.picked (kept_picked k).none) (kept_picked k).keeps));
+      fresh = λ unmet. absurd (cc unmet);
+      within = λ met. own_asked p a.0 line log (self a.0) ∙ sym (ap (asked_in p (slice_get (script_of p a.0) (ended a.0 log))) added);
+    }
+      where
+        added : work a.0 (line ∷ log) ≡ (line, log) ∷ work a.0 log
+        added = rw (self a.0) refl
 
     as_carries : (z : Work) → CarriesOut p a.0 (line ∷ log) true s.epochs new z → Carries p a.0 (line ∷ log) true s.epochs new z
     as_carries Idle k = absurd k.tells
@@ -198,7 +230,13 @@ module _ (laws : Laws) (p : Plan) (a : ActorId) (log : List Line) (servers : Lis
       replied = of_client p a line log c.command before.client c.present about.0;
       blamed = laws.telling.blamed p c.command x.work a told line log c.sound c.tells is_next;
       wrote = Asks b asked told s.given.took;
-      acting = subst (λ (z : Actor). IsActing p (line ∷ log) a.0 new z) (sym s.becomes) (record { ended_is = acting.ended_is; killed_is = acting.killed_is; carries = as_carries after carries });
+      acting = subst (λ (z : Actor). IsActing p (line ∷ log) a.0 new z) (sym s.heard.becomes) (record {
+        ended_is = acting.ended_is;
+        killed_is = acting.killed_is;
+        carries = subst (λ (w : Work). Carries p a.0 (line ∷ log) true s.epochs new w) (sym s.heard.hears.value) (as_carries after carries);
+        unpicked = λ none. absurd (cc none);
+        reads = reads_on acting.reads;
+      });
       stands = stand.others;
       found = go_on.1.others;
     })

@@ -28,6 +28,7 @@ use Rattle.afr_volume.specs.Laws.{EventLaws, RoundLaws}
 use Rattle.afr_volume.proofs.Before.{client_is, healer_is}
 use Rattle.afr_volume.proofs.HealersKeep.{healers_happen}
 use Rattle.afr_volume.proofs.LineKeeps.{stays}
+use Rattle.afr_volume.proofs.ReadingLemmas.{reading_stays}
 use Rattle.afr_volume.proofs.LogLemmas.{reverse_push}
 
 -- ---- the event that is due
@@ -68,6 +69,8 @@ module _ (p : Plan) (c : ℕ) (event : Event) (log : List Line) (old new : List 
     ended_is = k.ended_is;
     killed_is = ap (λ (dead : Bool). kills c (line_of.Event event) || dead) k.killed_is;
     carries = stays p c (line_of.Event event) log old new refl refl refl ((laws p log event fits).stand c) found x.met x.epochs x.work k.carries;
+    unpicked = λ none. absurd (cc none);
+    reads = reading_stays p c (line_of.Event event) log x.met x.picked x.work refl refl refl k.reads;
   })
 
 -- ---- the whole volume

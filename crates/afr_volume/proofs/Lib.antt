@@ -13,5 +13,9 @@ mod WriteKeeps
 mod HealersKeep
 mod HealerTurn
 mod HealerLemmas
+mod PickedLemmas
+mod ReadingLemmas
+mod ReadsKeep
+pub mod ChosenLemmas
 mod SourceLemmas
 mod HealLockLemmas

@@ -34,6 +34,7 @@ use Rattle.afr_works.specs.declared.work.Work.TheVariants.{Entry, Idle, Lookup, 
 use Rattle.afr_works_tell.specs.WorkTelling.{WorkTells}
 use Rattle.afr_volume.specs.Keeping.{Carries, CarriesOut, IsActing, IsInSession, IsNoted}
 use Rattle.afr_volume.specs.declared.actor.Actor.{Actor}
+use Rattle.afr_volume.proofs.ReadingLemmas.{reading_stays}
 
 -- ---- the lines that actors write
 pub data Wrote (a : ActorId) : Line → Type 0 where
@@ -140,6 +141,8 @@ others_stay p a c line log old new x w e stands found k = record {
   ended_is = k.ended_is ∙ sym (other_ended a c line log w e);
   killed_is = k.killed_is ∙ sym (wrote_killed a c line log w);
   carries = stays p c line log old new (other_work a c line log w e) (other_place a c line log w e) (other_ended a c line log w e) stands found x.met x.epochs x.work k.carries;
+  unpicked = λ none. absurd (cc none);
+  reads = reading_stays p c line log x.met x.picked x.work (wrote_other a c line w e) (other_work a c line log w e) (other_ended a c line log w e) k.reads;
 }
 
 -- ---- one line
@@ -156,7 +159,7 @@ pub record LineKeeps (p : Plan) (a : ActorId) (log : List Line) (line : Line) (y
   pub stands : (c : ℕ) (r : Register) → (a.0 ≡ c → ⊥) → Stood p.shape c log r → Stood p.shape c (line ∷ log) r
   pub found : (c : ℕ) (epochs : Epochs) → c ≢ a.0 → AreFound c epochs old → AreFound c epochs new
 
-some_same : (c d : Command) → Some c ≡ Some d → c ≡ d
+pub some_same : (c d : Command) → Some c ≡ Some d → c ≡ d
 some_same c d e = cc e
 
 -- a line of a client is about what its present command names; a client has no rounds

@@ -1,5 +1,5 @@
 -- What a volume keeps before its first line.
-use Rattle.std.proofs.Common.{◌≡◌, ℕ, ◌+◌, List, [], refl, arith, length}
+use Rattle.std.proofs.Common.{◌≡◌, ℕ, ◌+◌, List, [], refl, arith, length, sym, ◌∙◌}
 use Rattle.afr_lines.specs.declared.line.Line.{Line}
 use Rattle.afr_plan.specs.declared.plan.Plan.{Plan}
 use Rattle.afr_server.specs.Serving.{Serving}
@@ -18,6 +18,12 @@ opens_idle p servers a x k = record {
   ended_is = k.ended;
   killed_is = k.killed;
   carries = rw k.idle (record { unmet = k.met; fresh = refl; none = refl });
+  unpicked = λ none. k.unpicked;
+  reads = record {
+    keeps = λ command is. rw k.idle tt;
+    fresh = λ e. refl;
+    within = λ e. absurd (cc (sym e ∙ k.met));
+  };
 }
 
 pub fresh_volume : (laws : NewAreServed) (p : Plan) (log : List Line) (servers : List Serving) (actors : List Actor) → CanRun p → log ≡ [] → AreNew p servers → AreNewActors (length p.clients) actors → IsVolume p log servers actors 0

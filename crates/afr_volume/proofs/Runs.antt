@@ -1,5 +1,5 @@
 -- A plan that is like each that a text spells is one that the volume can run.
-use Rattle.std.proofs.Common.{◌≡◌, ◌∙◌, ◌⊎◌, ap, inl, inr, sym, None, Option, ℕ, ◌-◌, ◌<◌, ◌≤◌, true, List, [], refl, arith, subst, length, Some, slice_get, get_or}
+use Rattle.std.proofs.Common.{◌≡◌, ◌∙◌, ◌⊎◌, ap, inl, inr, sym, None, Option, ℕ, ◌-◌, ◌<◌, ◌≤◌, true, List, [], refl, subst, length, Some, slice_get, get_or}
 use Rattle.std.proofs.lemmas.List.Elements.{All-get_or}
 use Rattle.std.proofs.lemmas.Option.{get_or_from_slice_get, slice_get_cases, slice_get_within, unwrap_or-slice_get}
 use Rattle.std.specs.Option.{unwrap_or}

@@ -1,5 +1,5 @@
 -- The sources of the healers' running heals: what each turn leaves of them.
-use Rattle.std.proofs.Common.{◌≡◌, ◌∙◌, ℕ, zero, suc, ◌+◌, ◌-◌, ◌≤◌, ◌==◌, Bool, true, false, List, [], ◌∷◌, Option, Some, None, Result, Ok, Err, IfOk, OnErr, nat_le, refl, sym, ap, arith, subst, slice_get, slice_set, replicate, reverse, length, ◌++◌}
+use Rattle.std.proofs.Common.{◌≡◌, ◌∙◌, ℕ, zero, suc, ◌+◌, ◌-◌, ◌≤◌, ◌==◌, Bool, true, false, List, [], ◌∷◌, Option, Some, None, Result, Ok, Err, OnErr, refl, sym, ap, arith, subst, slice_get, slice_set, replicate, reverse, length, ◌++◌}
 use Rattle.std.proofs.lemmas.Bool.Decides.{nat_tests}
 use Rattle.afr_base.specs.declared.ids.ActorId.{ActorId}
 use Rattle.afr_base.specs.declared.ids.Gfid.{Gfid}
@@ -23,21 +23,24 @@ use Rattle.afr_servers.specs.declared.epochs.Epochs.{Epochs}
 use Rattle.afr_sources.proofs.Turns.{client_keeps, each_same, ends_heal, ready_same, set_same, set_source}
 use Rattle.afr_sources.specs.Chosen.{AreChosen}
 use Rattle.afr_sources.specs.Sources.{source_at, source_in, source_of, sources_of}
-use Rattle.afr_volume.specs.Starting.{AreNewHealers}
-use Rattle.afr_volume.specs.State.{IsChosen, State, opened}
-use Rattle.afr_volume.specs.Turning.{AddsLine, Comes, KillsHealersIn, ReadiedHealerAt, StepsHealerAt, Turns, due_at}
+use Rattle.afr_volume.specs.Acting.{picked_of}
+use Rattle.afr_volume.specs.Starting.{AreNewActors, AreNewHealers}
+use Rattle.afr_volume.specs.State.{HealsChosen, State, opened}
+use Rattle.afr_volume.specs.Turning.{AddsLine, Comes, KillsHealersIn, KillsIn, ReadiedHealerAt, StepsHealerAt, Turns, due_at}
+use Rattle.afr_volume.specs.declared.actor.Actor.{Actor}
 use Rattle.afr_volume.specs.declared.turned.Turned.{Turned}
 use Rattle.afr_volume.specs.declared.turned.Turned.TheVariants.{Ended, Full, Moved, Waits}
 use Rattle.afr_volume.proofs.LogLemmas.{reverse_push}
+use Rattle.afr_volume.proofs.PickedLemmas.{killed_picked, new_picked}
 
 -- ---- a healer that is made ready has the source that it had
 pub readied_sources : (p : Plan) (a : ℕ) (healers readied : List Healer) → ReadiedHealerAt p a healers readied → sources_of readied ≡ sources_of healers
 readied_sources p a healers readied r = ap sources_of r.set_is ∙ set_same healers (a - 17) r.before r.after r.was (ready_same p.shape r.brick r.before r.after r.readies)
 
 -- so a volume whose healer was made ready and wrote no line is as before
-pub unwritten : (p : Plan) (a : ℕ) (items kept : List Line) (healers readied now : List Healer) → ReadiedHealerAt p a healers readied → now ≡ readied → kept ≡ items
-    → ◌≡◌ {A = State} (record { plan = p; log = reverse kept; sources = sources_of now }) (record { plan = p; log = reverse items; sources = sources_of healers })
-unwritten p a items kept healers readied now r same none = rw (none, same, readied_sources p a healers readied r) refl
+pub unwritten : (p : Plan) (a : ℕ) (items kept : List Line) (picked : List (Option ℕ)) (healers readied now : List Healer) → ReadiedHealerAt p a healers readied → now ≡ readied → kept ≡ items
+    → ◌≡◌ {A = State} (record { plan = p; log = reverse kept; sources = sources_of now; picked = picked }) (record { plan = p; log = reverse items; sources = sources_of healers; picked = picked })
+unwritten p a items kept picked healers readied now r same none = rw (none, same, readied_sources p a healers readied r) refl
 
 pub whatever : {A E P : Type 0} (result : Result A E) → P → OnErr result P
 whatever (Ok x) k = tt
@@ -61,17 +64,20 @@ pub all_rest_first : (p : Plan) (log : List Line) (servers : List Serving) (heal
     → sources_of healers ≡ replicate (length p.healers) None
 all_rest_first p log servers healers same each none = rw (← same) (all_none healers (λ i x h. let k : IsHealer p [] (17 + i) servers x = rw none at (each i x h) in rests p (17 + i) x.met x.epochs servers x.round k.carries))
 
-pub rested_state : (p : Plan) (log : List Line) (sources : List (Option ℕ)) → log ≡ [] → sources ≡ replicate (length p.healers) None → record { plan = p; log = log; sources = sources } ≡ opened p
-rested_state p log sources none resting = rw (none, resting) refl
+pub rested_state : (p : Plan) (log : List Line) (sources picked : List (Option ℕ)) → log ≡ [] → sources ≡ replicate (length p.healers) None → picked ≡ replicate (length p.clients) None
+    → record { plan = p; log = log; sources = sources; picked = picked } ≡ opened p
+rested_state p log sources picked none resting unpicked = rw (none, resting, unpicked) refl
 
 fresh_source : (x : Healer) → IsNewHealer x → source_of x ≡ None
 fresh_source x k = rw k.idle refl
 
-pub new_state : (p : Plan) (log : List Line) (healers : List Healer) → log ≡ [] → AreNewHealers (length p.healers) healers → record { plan = p; log = log; sources = sources_of healers } ≡ opened p
-new_state p log healers none k = rested_state p log (sources_of healers) none (all_none healers (λ i x h. fresh_source x (k.each i x h)) ∙ ap (λ (n : ℕ). replicate n None) k.many)
+pub new_state : (p : Plan) (log : List Line) (healers : List Healer) (actors : List Actor) → log ≡ [] → AreNewHealers (length p.healers) healers → AreNewActors (length p.clients) actors
+    → record { plan = p; log = log; sources = sources_of healers; picked = picked_of actors } ≡ opened p
+new_state p log healers actors none k new =
+    rested_state p log (sources_of healers) (picked_of actors) none (all_none healers (λ i x h. fresh_source x (k.each i x h)) ∙ ap (λ (n : ℕ). replicate n None) k.many) (new_picked (length p.clients) actors new)
 
 -- ---- a client's turn
-own_of : (a : ℕ) (line : Line) → is_of a line ≡ true → (c : ℕ) → is_of c line ≡ (a == c)
+pub own_of : (a : ℕ) (line : Line) → is_of a line ≡ true → (c : ℕ) → is_of c line ≡ (a == c)
 own_of a (line_of.Ask x b r told took) own c = let same : x.0 ≡ a = grind (arith, nat_tests, own) in rw same refl
 own_of a (line_of.Begin x change) own c = let same : x.0 ≡ a = grind (arith, nat_tests, own) in rw same refl
 own_of a (line_of.HealBegin x g kind) own c = let same : x.0 ≡ a = grind (arith, nat_tests, own) in rw same refl
@@ -95,7 +101,7 @@ client_unended p a (line_of.Event event) log small own k = refl
 same_sources : (picks : Picks) (p : Plan) (log : List Line) (old new : List (Option ℕ)) → ((i : ℕ) → slice_get new i ≡ slice_get old i) → AreChosen picks p log old → AreChosen picks p log new
 same_sources picks p log old new same k = record { past = k.past; present = λ i source is. k.present i source (sym (same i) ∙ is) }
 
-client_adds : (picks : Picks) (a : ActorId) (old new : State) (waits : Option ActorId) → a.0 ≤ 16 → AddsLine a old waits new → Follows new.plan new.log → IsChosen picks old → IsChosen picks new
+client_adds : (picks : Picks) (a : ActorId) (old new : State) (waits : Option ActorId) → a.0 ≤ 16 → AddsLine a old waits new → Follows new.plan new.log → HealsChosen picks old → HealsChosen picks new
 client_adds picks a old new waits small h follows k =
     let plan : new.plan ≡ old.plan = h.plan in
     let added : new.log ≡ h.line ∷ old.log = h.added in
@@ -104,20 +110,11 @@ client_adds picks a old new waits small h follows k =
     (same_sources picks old.plan (h.line ∷ old.log) old.sources new.sources (λ i. h.others i (λ same. absurd (omega (arith, small, same))))
     (client_keeps picks old.plan old.log old.sources a h.line small (own_of a.0 h.line h.own) (client_unended old.plan a.0 h.line old.log small h.own f.0) k))
 
-client_turn : (picks : Picks) (a : ActorId) (old new : State) (turned : Turned) → a.0 ≤ 16 → Turns a old turned new → Follows new.plan new.log → IsChosen picks old → IsChosen picks new
+pub client_turn : (picks : Picks) (a : ActorId) (old new : State) (turned : Turned) → a.0 ≤ 16 → Turns a old turned new → Follows new.plan new.log → HealsChosen picks old → HealsChosen picks new
 client_turn picks a old new Moved small h follows k = client_adds picks a old new None small h follows k
 client_turn picks a old new (Waits owner) small h follows k = client_adds picks a old new (Some owner) small h follows k
-client_turn picks a old new Ended small h follows k = subst (IsChosen picks) (sym h.1) k
-client_turn picks a old new Full small h follows k = subst (IsChosen picks) (sym h.2) k
-
--- ---- a turn, whoever takes it
-pub turn_chosen : {E : Type 0} (picks : Picks) (a : ActorId) (old new : State) (result : Result Turned E) → IfOk result (λ turned. Turns a old turned new) → OnErr result (new ≡ old) → Follows new.plan new.log → (17 ≤ a.0 → IsChosen picks old → IsChosen picks new) → IsChosen picks old → IsChosen picks new
-turn_chosen {E = E} picks a old new result ok err follows healer k = by (nat_le a.0 16) refl result ok err
-  where
-    by : (small : Bool) → nat_le a.0 16 ≡ small → (result : Result Turned E) → IfOk result (λ turned. Turns a old turned new) → OnErr result (new ≡ old) → IsChosen picks new
-    by false e result ok err = healer (grind (arith, nat_tests, e)) k
-    by true e (Ok turned) ok err = client_turn picks a old new turned (grind (arith, nat_tests, e)) ok follows k
-    by true e (Err none) ok err = subst (IsChosen picks) (sym err) k
+client_turn picks a old new Ended small h follows k = subst (HealsChosen picks) (sym h.1) k
+client_turn picks a old new Full small h follows k = subst (HealsChosen picks) (sym h.2) k
 
 -- ---- a healer's line leaves the sources of the other healers
 other_set : (l : List (Option ℕ)) (i j : ℕ) (y : Option ℕ) → (i ≡ j → ⊥) → slice_get (slice_set l j y) i ≡ slice_get l i
@@ -139,6 +136,7 @@ healer_others Hears p a at healers readied new bricks after line low r s i other
 killed_sources : (event : Event) (old new : List Healer) → KillsHealersIn event old new → sources_of new ≡ sources_of old
 killed_sources event old new k = each_same old new k.count (λ i x y is at. ap source_of (k.each i x y is at))
 
-pub comes : (p : Plan) (items added : List Line) (healers after : List Healer) (event : Event) → due_at p (reverse items) ≡ Some event → added ≡ items ++ line_of.Event event ∷ [] → KillsHealersIn event healers after
-    → Comes (record { plan = p; log = reverse items; sources = sources_of healers }) (record { plan = p; log = reverse added; sources = sources_of after })
-comes p items added healers after event due grown killed = rw (grown, reverse_push items (line_of.Event event), killed_sources event healers after killed) (record { event = event; is_due = due; added = refl })
+pub comes : (p : Plan) (items added : List Line) (healers after : List Healer) (actors actors_after : List Actor) (event : Event) → due_at p (reverse items) ≡ Some event → added ≡ items ++ line_of.Event event ∷ [] → KillsHealersIn event healers after → KillsIn event actors actors_after
+    → Comes (record { plan = p; log = reverse items; sources = sources_of healers; picked = picked_of actors }) (record { plan = p; log = reverse added; sources = sources_of after; picked = picked_of actors_after })
+comes p items added healers after actors actors_after event due grown killed actors_killed =
+    rw (grown, reverse_push items (line_of.Event event), killed_sources event healers after killed, killed_picked event actors actors_after actors_killed) (record { event = event; is_due = due; added = refl })

@@ -3,7 +3,7 @@ use Rattle.std.proofs.Common.{◌≡◌, ◌≢◌, ◌∙◌, ℕ, zero, suc, �
 use Rattle.std.proofs.lemmas.Bool.Decides.{eqb_tells}
 use Rattle.std.proofs.lemmas.Option.{slice_get_within}
 use Rattle.afr_base.specs.declared.ids.ActorId.{ActorId}
-use Rattle.afr_lines.specs.Work.{ended, is_killed}
+use Rattle.afr_lines.specs.Work.{ended, is_killed, work}
 use Rattle.afr_lines.specs.declared.line.Line.{Line}
 use Rattle.afr_lines.specs.declared.line.Next.{Next}
 use Rattle.afr_lines.specs.declared.line.Next.TheVariants as next
@@ -11,13 +11,14 @@ use Rattle.afr_model.specs.Actors.{IsActor, script_of}
 use Rattle.afr_model.specs.Following.{NoneDue}
 use Rattle.afr_plan.specs.declared.command.Command.{Command}
 use Rattle.afr_plan.specs.declared.plan.Plan.{Plan}
+use Rattle.afr_readings.specs.Laws.{KeepsPicked, number_in}
 use Rattle.afr_server.specs.Serving.{Serving}
 use Rattle.afr_servers.specs.declared.epochs.Epochs.{Epochs}
 use Rattle.afr_works.specs.Begin.{has_machine, work_from}
 use Rattle.afr_works.specs.Work.{IsBusy, IsWork, next_of}
 use Rattle.afr_works.specs.declared.work.Work.{Work}
 use Rattle.afr_works.specs.declared.work.Work.TheVariants.{Entry, Idle, Lookup, Write}
-use Rattle.afr_volume.specs.Acting.{CanStep, Stepped, SteppedBy}
+use Rattle.afr_volume.specs.Acting.{CanStep, HearsAny, Stepped, SteppedBy, still_picked}
 use Rattle.afr_volume.specs.Keeping.{CanRun, Carries, CarriesOut, IsActing, IsBetween, IsVolume}
 use Rattle.afr_volume.specs.Turning.{ReadiedAt, Readies}
 use Rattle.afr_volume.specs.declared.actor.Actor.{Actor}
@@ -26,7 +27,7 @@ use Rattle.afr_volume.proofs.Before.{IsBefore, can_ask, client_is}
 use Rattle.afr_volume.proofs.Before as known
 use Rattle.afr_volume.specs.Laws.{BeginLaws, Laws}
 use Rattle.afr_volume.proofs.HealLockLemmas.{client_gives}
-use Rattle.afr_volume.proofs.LineKeeps.{LineKeeps, others_stay, wrote_due, wrote_made}
+use Rattle.afr_volume.proofs.LineKeeps.{LineKeeps, others_stay, some_same, wrote_due, wrote_made}
 use Rattle.afr_volume.proofs.WriteKeeps.{begin_keeps, end_keeps}
 
 -- ---- one actor among all
@@ -44,7 +45,7 @@ got_other (x ∷ l) (suc i) (suc j) y z apart e = got_other l i j y z (λ same. 
 
 module _ (laws : Laws) (p : Plan) (a : ActorId) (log : List Line) (servers : List Serving) (before : IsBefore p a log servers) where
   -- a work that has begun carries out its command
-  carried : (met : Bool) (epochs : Epochs) (w : Work) → IsBusy w → Carries p a.0 log met epochs servers w → CarriesOut p a.0 log met epochs servers w
+  pub carried : (met : Bool) (epochs : Epochs) (w : Work) → IsBusy w → Carries p a.0 log met epochs servers w → CarriesOut p a.0 log met epochs servers w
   carried met epochs Idle busy k = absurd busy
   carried met epochs (Lookup m) busy k = k
   carried met epochs (Write m) busy k = k
@@ -59,13 +60,13 @@ module _ (laws : Laws) (p : Plan) (a : ActorId) (log : List Line) (servers : Lis
   }
 
   -- one line of an actor whose command has begun
-  pub line_keeps : (x y : Actor) (new : List Serving) (line : Line) → IsBusy x.work → IsActing p log a.0 servers x → Stepped a (length log) x y servers new line → LineKeeps p a log line y servers new
+  pub line_keeps : (x y : Actor) (new : List Serving) (line : Line) → IsBusy x.work → IsActing p log a.0 servers x → Stepped HearsAny a (length log) x y servers new line → LineKeeps p a log line y servers new
   line_keeps x y new line busy acting s = by_next (next_of (length log) x.work) refl s
     where
       c : CarriesOut p a.0 log x.met x.epochs servers x.work
       c = carried x.met x.epochs x.work busy acting.carries
 
-      by_next : (n : Next) → next_of (length log) x.work ≡ n → SteppedBy a (length log) x y servers new line n → LineKeeps p a log line y servers new
+      by_next : (n : Next) → next_of (length log) x.work ≡ n → SteppedBy HearsAny a (length log) x y servers new line n → LineKeeps p a log line y servers new
       by_next (next.Ask b asked) e s = ask_keeps laws p a log servers before x y new line c b asked e s acting
       by_next (next.Begin change) e s = begin_keeps laws p a log servers before x y new line c change e s acting
       by_next (next.End said) e s = end_keeps laws p a log servers before x y new line c said e s acting
@@ -87,7 +88,7 @@ before_turn p a log servers actors made v client actor room = record {
 
 pub kept_turn : (laws : Laws) (p : Plan) (a : ActorId) (log : List Line) (x y : Actor) (servers new : List Serving) (actors : List Actor) (made : ℕ) (line : Line)
     → IsVolume p log servers actors made → a.0 ≤ 16 → IsActor p a.0 → slice_get actors (a.0 - 1) ≡ Some x → IsBusy x.work → is_killed a.0 log ≡ false → length log < p.turns → NoneDue p log
-    → Stepped a (length log) x y servers new line → IsVolume p (line ∷ log) new (set actors (a.0 - 1) y) made
+    → Stepped HearsAny a (length log) x y servers new line → IsVolume p (line ∷ log) new (set actors (a.0 - 1) y) made
 kept_turn laws p a log x y servers new actors made line v client actor is busy alive room none s = record {
   runnable = v.runnable;
   room = room;
@@ -159,6 +160,14 @@ readied laws p log a servers x z run some k (inr r) sound = subst (λ (z : Actor
   killed_is = k.killed_is;
   carries = as_carries p a log x.met x.epochs servers (work_from p.shape r.1)
       (starts laws p log a servers x.met x.epochs r.1 run some (between p log a servers x k r.0) (rw k.ended_is at r.2) (subst (λ (z : Actor). IsWork z.work) r.3 sound));
+  unpicked = k.unpicked;
+  reads = record {
+    keeps = λ command is.
+        subst (λ (c : Command). KeepsPicked p c (work_from p.shape r.1) (work a log) (number_in (still_picked x.met x.picked))) (some_same r.1 command (sym (rw k.ended_is at r.2) ∙ is))
+        (rw (between p log a servers x k r.0).none (laws.reads p r.1 (number_in (still_picked x.met x.picked))));
+    fresh = k.reads.fresh;
+    within = k.reads.within;
+  };
 })
 
 pub kept_ready : (laws : BeginLaws) (p : Plan) (log : List Line) (servers : List Serving) (actors new : List Actor) (made : ℕ) (a : ℕ) → 1 ≤ a → 0 < p.shape.n → IsVolume p log servers actors made → ReadiedAt p a actors new → IsVolume p log servers new made

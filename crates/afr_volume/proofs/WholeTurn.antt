@@ -15,11 +15,12 @@ use Rattle.afr_servers.specs.declared.epochs.Epochs.{Epochs}
 use Rattle.afr_works.specs.Work.{IsBusy}
 use Rattle.afr_works.specs.declared.work.Work.{Work}
 use Rattle.afr_works.specs.declared.work.Work.TheVariants.{Entry, Idle, Lookup, Write}
+use Rattle.afr_plan.specs.declared.command.Command.{Command}
 use Rattle.afr_plan.specs.declared.plan.Plan.{Plan}
 use Rattle.afr_model.specs.Actors.{IsActor, is_done, works_of, script_of}
 use Rattle.afr_model.specs.Following.{NoneDue}
-use Rattle.afr_volume.specs.Acting.{CanStep, Stepped}
-use Rattle.afr_volume.specs.Keeping.{AreHealers, Carries, IsActing, IsVolume, IsWhole}
+use Rattle.afr_volume.specs.Acting.{CanStep, HearsAny, Stepped}
+use Rattle.afr_volume.specs.Keeping.{AreHealers, CanRun, Carries, IsActing, IsVolume, IsWhole}
 use Rattle.afr_volume.specs.Laws.{BeginLaws, Laws, RoundLaws}
 use Rattle.afr_volume.specs.State.{State}
 use Rattle.afr_volume.specs.Turning.{Turns, AddsLine, waits_for, Readies, ReadiedAt, StepsAt, due_at, if_due}
@@ -30,6 +31,7 @@ use Rattle.afr_volume.proofs.LogLemmas.{reverse_push}
 use Rattle.afr_volume.proofs.Before.{IsBefore, client_is}
 use Rattle.afr_volume.proofs.HealersKeep.{healers_stay}
 use Rattle.afr_volume.proofs.LineKeeps.{LineKeeps, Wrote, wrote_own}
+use Rattle.afr_volume.proofs.ReadyLemmas.{script_is}
 use Rattle.afr_volume.proofs.TurnKeeps.{before_turn, can_step, got_same, kept_ready, kept_turn, line_keeps}
 use Rattle.std.proofs.Common.{inl, inr}
 
@@ -82,13 +84,23 @@ busy_at p a log servers actors readied made one v r x is =
     let count : r.before.ended ≡ ended a log = rw e at acting.ended_is in
     (subst (λ (y : Actor). IsBusy y.work) (sym same) r.busy, rw same (omega (arith, same_ended p a r.before r.after r.readies, count, ended_le a log, v.room, v.runnable.turns)))
 
+-- a client that isn't done has a command left
+pub left_at : (p : Plan) (a : ℕ) (items : List Line) (servers : List Serving) (actors : List Actor) (made : ℕ) → IsVolume p (reverse items) servers actors made → a ≤ 16 → IsActor p a → is_done p a (reverse items) ≡ false
+    → (x : Actor) → slice_get actors (a - 1) ≡ Some x → x.ended < length (script_of p a)
+left_at p a items servers actors made v client actor left x is =
+    let one : 1 ≤ a = (client_is p a v.runnable client actor).0 in
+    let e : (a - 1) + 1 ≡ a = omega (arith, one) in
+    let acting = v.each (a - 1) x is in
+    let count : x.ended ≡ ended a (reverse items) = rw e at acting.ended_is in
+    rw count (work_left p a (reverse items) client left)
+
 -- the plan has a brick where it has a client
 pub some_brick : (p : Plan) (log : List Line) (servers : List Serving) (actors : List Actor) (made : ℕ) (a : ℕ) → IsVolume p log servers actors made → a ≤ 16 → IsActor p a → 0 < p.shape.n
 some_brick p log servers actors made a v client actor = let low = (client_is p a v.runnable client actor).0 in let high = (client_is p a v.runnable client actor).1 in v.runnable.some (omega (arith, low, high))
 
 module _ (laws : Laws) (starts : BeginLaws) (p : Plan) (a : ActorId) (items : List Line) (actors readied : List Actor) (servers : List Serving) (made : ℕ) (v : IsVolume p (reverse items) servers actors made) (client : a.0 ≤ 16) (actor : IsActor p a.0) (room : length items < p.turns)
     (r : ReadiedAt p a.0 actors readied) where
-  one : 1 ≤ a.0
+  pub one : 1 ≤ a.0
   one = (client_is p a.0 v.runnable client actor).0
 
   pub ready_volume : IsVolume p (reverse items) servers readied made
@@ -100,10 +112,10 @@ module _ (laws : Laws) (starts : BeginLaws) (p : Plan) (a : ActorId) (items : Li
   pub busy : (x : Actor) → slice_get readied (a.0 - 1) ≡ Some x → IsBusy x.work × (x.ended < 4294967295)
   busy = busy_at p a.0 (reverse items) servers actors readied made one v r
 
-  before : IsBefore p a (reverse items) servers
+  pub before : IsBefore p a (reverse items) servers
   before = before_turn p a (reverse items) servers actors made v client actor few
 
-  mine : (x : Actor) → slice_get readied (a.0 - 1) ≡ Some x → IsActing p (reverse items) a.0 servers x
+  pub mine : (x : Actor) → slice_get readied (a.0 - 1) ≡ Some x → IsActing p (reverse items) a.0 servers x
   mine x is = let e : (a.0 - 1) + 1 ≡ a.0 = omega (arith, one) in subst (λ (c : ℕ). IsActing p (reverse items) c servers x) e (ready_volume.each (a.0 - 1) x is)
 
   -- what the bricks need for the line is there
@@ -128,7 +140,7 @@ module _ (laws : Laws) (starts : BeginLaws) (p : Plan) (a : ActorId) (items : Li
   }
 
   pub took : (at : ℕ) (added : List Line) (new_actors : List Actor) (new_servers : List Serving) (line : Line) → is_done p a.0 (reverse items) ≡ false → due_at p (reverse items) ≡ None → at ≡ length items
-      → StepsAt a at readied new_actors servers new_servers line → added ≡ items ++ line ∷ [] → Took added new_servers new_actors line
+      → StepsAt HearsAny a at readied new_actors servers new_servers line → added ≡ items ++ line ∷ [] → Took added new_servers new_actors line
   took at added new_actors new_servers line left none position s grown = record {
     volume = rw (grown, reverse_push items line, s.set_is) kept;
     own = wrote_own a line keeps.wrote;
@@ -138,8 +150,8 @@ module _ (laws : Laws) (starts : BeginLaws) (p : Plan) (a : ActorId) (items : Li
     found = keeps.found;
   }
     where
-      stepped : Stepped a (length (reverse items)) s.before s.after servers new_servers line
-      stepped = subst (λ (at : ℕ). Stepped a at s.before s.after servers new_servers line) (position ∙ sym (length-reverse items)) s.steps
+      stepped : Stepped HearsAny a (length (reverse items)) s.before s.after servers new_servers line
+      stepped = subst (λ (at : ℕ). Stepped HearsAny a at s.before s.after servers new_servers line) (position ∙ sym (length-reverse items)) s.steps
 
       keeps : LineKeeps p a (reverse items) line s.after servers new_servers
       keeps = line_keeps laws p a (reverse items) servers before s.before s.after new_servers line (busy s.before s.was).0 (mine s.before s.was) stepped
@@ -148,20 +160,46 @@ module _ (laws : Laws) (starts : BeginLaws) (p : Plan) (a : ActorId) (items : Li
       kept = kept_turn laws p a (reverse items) s.before s.after servers new_servers readied made line ready_volume client actor s.was (busy s.before s.was).0 (not_killed p a.0 (reverse items) left) few
           (none_due p (reverse items) few none) stepped
 
+pub at_least : (p : Plan) (a : ℕ) → CanRun p → a ≤ 16 → IsActor p a → 1 ≤ a
+at_least p a run client actor = (client_is p a run client actor).0
+
+-- a client is one of the plan's
+pub client_low : (p : Plan) (a : ℕ) → CanRun p → a ≤ 16 → IsActor p a → a - 1 < length p.clients
+client_low p a run client actor = let low = (client_is p a run client actor).0 in let high = (client_is p a run client actor).1 in omega (arith, low, high)
+
+-- and has its place
+pub client_there : (p : Plan) (a : ℕ) (actors : List Actor) → CanRun p → length actors ≡ length p.clients → a ≤ 16 → IsActor p a → a - 1 < length actors
+client_there p a actors run same client actor = let low = (client_is p a run client actor).0 in let high = (client_is p a run client actor).1 in omega (arith, low, high, same)
+
+-- ---- a client is done where it was killed, or where it has ended its script
+module _ (p : Plan) (a : ℕ) (log : List Line) (servers : List Serving) (actors : List Actor) (made : ℕ) (v : IsVolume p log servers actors made) (client : a ≤ 16) (actor : IsActor p a) (x : Actor) (is : slice_get actors (a - 1) ≡ Some x) where
+  acts : IsActing p log a servers x
+  acts = let one : 1 ≤ a = (client_is p a v.runnable client actor).0 in let e : (a - 1) + 1 ≡ a = omega (arith, one) in subst (λ (c : ℕ). IsActing p log c servers x) e (v.each (a - 1) x is)
+
+  pub done_if_killed : x.killed ≡ true → x.killed ≡ is_done p a log
+  done_if_killed killed = let dead : is_killed a log ≡ true = sym acts.killed_is ∙ killed in killed ∙ sym (rw dead refl)
+
+  pub done_by_count : x.killed ≡ false → (script : List Command) → slice_get p.clients (a - 1) ≡ Some script → (count : ℕ) → count ≡ length script → nat_le count x.ended ≡ is_done p a log
+  done_by_count alive script own count many =
+      let lives : is_killed a log ≡ false = sym acts.killed_is ∙ alive in
+      let few : nat_lt 16 a ≡ false = grind (arith, nat_tests, client) in
+      let works : works_of p a ≡ count = rw few (ap length (script_is p a script own) ∙ sym many) in
+      ap (λ (n : ℕ). nat_le count n) acts.ended_is ∙ sym (rw (lives, works) refl)
+
 -- what a turn answers by the line that it added
-pub turned : (p : Plan) (a : ActorId) (items added : List Line) (was is : List (Option ℕ)) (line : Line) (waits : Option ActorId) (answer : Turned) → is_of a.0 line ≡ true → reverse added ≡ line ∷ reverse items → waits_for line ≡ waits
-    → ((i : ℕ) → (17 + i ≡ a.0 → ⊥) → slice_get is i ≡ slice_get was i) → ((owner : ActorId) → waits ≡ Some owner → answer ≡ Waits owner) → (waits ≡ None → answer ≡ Moved)
-    → Turns a (record { plan = p; log = reverse items; sources = was }) answer (record { plan = p; log = reverse added; sources = is })
-turned p a items added was is line waits answer own grown w others some none = go waits w some none
+pub turned : (p : Plan) (a : ActorId) (items added : List Line) (was is picked_before picked_now : List (Option ℕ)) (line : Line) (waits : Option ActorId) (answer : Turned) → is_of a.0 line ≡ true → reverse added ≡ line ∷ reverse items → waits_for line ≡ waits
+    → ((i : ℕ) → (17 + i ≡ a.0 → ⊥) → slice_get is i ≡ slice_get was i) → ((i : ℕ) → (1 + i ≡ a.0 → ⊥) → slice_get picked_now i ≡ slice_get picked_before i) → ((owner : ActorId) → waits ≡ Some owner → answer ≡ Waits owner) → (waits ≡ None → answer ≡ Moved)
+    → Turns a (record { plan = p; log = reverse items; sources = was; picked = picked_before }) answer (record { plan = p; log = reverse added; sources = is; picked = picked_now })
+turned p a items added was is picked_before picked_now line waits answer own grown w others others_picked some none = go waits w some none
   where
     old : State
-    old = record { plan = p; log = reverse items; sources = was }
+    old = record { plan = p; log = reverse items; sources = was; picked = picked_before }
 
     new : State
-    new = record { plan = p; log = reverse added; sources = is }
+    new = record { plan = p; log = reverse added; sources = is; picked = picked_now }
 
     adds : (waits : Option ActorId) → waits_for line ≡ waits → AddsLine a old waits new
-    adds waits w = record { line = line; own = own; waiting = w; plan = refl; added = grown; others = others }
+    adds waits w = record { line = line; own = own; waiting = w; plan = refl; added = grown; others = others; others_picked = others_picked }
 
     go : (waits : Option ActorId) → waits_for line ≡ waits → ((owner : ActorId) → waits ≡ Some owner → answer ≡ Waits owner) → (waits ≡ None → answer ≡ Moved) → Turns a old answer new
     go (Some owner) w some none = subst (λ (t : Turned). Turns a old t new) (sym (some owner refl)) (adds (Some owner) w)

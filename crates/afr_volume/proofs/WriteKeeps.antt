@@ -1,13 +1,14 @@
 -- A Begin or End line of an actor: it is lawful and the plan's, and the actor's work stands for it.
-use Rattle.std.proofs.Common.{◌≡◌, ℕ, ◌+◌, ◌==◌, Bool, true, false, List, ◌∷◌, refl, sym, ap, subst, length}
+use Rattle.std.proofs.Common.{◌≡◌, ◌∙◌, ℕ, ◌+◌, slice_get, ◌==◌, Bool, true, false, List, ◌∷◌, refl, sym, ap, arith, subst, length, None}
 use Rattle.afr_base.specs.declared.ids.ActorId.{ActorId}
+use Rattle.afr_base.specs.declared.ids.BrickId.{BrickId}
 use Rattle.afr_discipline.specs.Notes.{noted_begin}
 use Rattle.afr_inode_read.specs.Lookup as reading
 use Rattle.afr_inode_read.specs.Lookup.{Lookup as LookupMachine}
 use Rattle.afr_inode_read.specs.declared.stage.LookupStage.{LookupStage}
 use Rattle.afr_inode_read.specs.declared.stage.LookupStage.TheVariants.{Ending, Looking, Reading, Walking}
 use Rattle.afr_lines.specs.Places.{Fresh, Within, next_place, place_of}
-use Rattle.afr_lines.specs.Work.{is_of, work}
+use Rattle.afr_lines.specs.Work.{ended, is_of, work}
 use Rattle.afr_lines.specs.declared.answer.Told.TheVariants as told_of
 use Rattle.afr_lines.specs.declared.line.Heard.TheVariants as heard_of
 use Rattle.afr_lines.specs.declared.line.Line.{Line}
@@ -15,11 +16,13 @@ use Rattle.afr_lines.specs.declared.line.Line.TheVariants.{Begin, End}
 use Rattle.afr_lines.specs.declared.line.Next.{Next}
 use Rattle.afr_lines.specs.declared.line.Next.TheVariants as next
 use Rattle.afr_lines.specs.declared.reply.Reply.{Reply}
+use Rattle.afr_model.specs.Actors.{script_of}
 use Rattle.afr_model.specs.Answered.{IsAbout, IsAnswered}
 use Rattle.afr_model.specs.Following.{KeepsTo, ToCommand}
 use Rattle.afr_moves.specs.Ranges.{InRange}
 use Rattle.afr_object.specs.declared.change.Change.{Change}
 use Rattle.afr_object.specs.declared.change.Change.TheVariants as change_of
+use Rattle.afr_plan.specs.declared.command.Command.{Command}
 use Rattle.afr_plan.specs.declared.plan.Plan.{Plan}
 use Rattle.afr_hears.specs.Hears.{MakesNothing}
 use Rattle.afr_next.specs.Begun.{HasNewGfid}
@@ -30,18 +33,22 @@ use Rattle.afr_servers.specs.NextLine.{GoOn}
 use Rattle.afr_servers.specs.declared.epochs.Epochs.{Epochs}
 use Rattle.afr_transaction.specs.Turn.{Stood}
 use Rattle.afr_transaction_tells.specs.Laws.{IsNextLine}
+use Rattle.afr_readings.specs.Laws.{KeepsPicked, number_in}
+use Rattle.afr_readings.specs.Readings.{asked_in}
+use Rattle.afr_walk.specs.Choosing.{IsAmong, reader_of}
 use Rattle.afr_walk.specs.Free.{Allows}
-use Rattle.afr_works.specs.Work.{IsWork, heard_by, next_of, register_of}
+use Rattle.afr_works.specs.Work.{IsWork, choices_heard, heard_by, next_of, register_of}
 use Rattle.afr_works.specs.declared.work.Work.{Work}
 use Rattle.afr_works.specs.declared.work.Work.TheVariants.{Entry, Idle, Lookup, Write}
 use Rattle.afr_works_tell.specs.WorkTelling.{WorkTells}
-use Rattle.afr_volume.specs.Acting.{IsBegun, IsEnded, MeetsNext}
-use Rattle.afr_volume.specs.Keeping.{Carries, CarriesOut, IsActing, IsInSession, IsNoted}
+use Rattle.afr_volume.specs.Acting.{IsBegun, IsEnded, MeetsNext, still_picked}
+use Rattle.afr_volume.specs.Keeping.{Carries, CarriesOut, IsActing, IsInSession, IsNoted, IsReading}
 use Rattle.afr_volume.specs.declared.actor.Actor.{Actor}
 use Rattle.afr_volume.proofs.Before.{IsBefore, in_force, opened}
 use Rattle.afr_volume.proofs.Before as known
 use Rattle.afr_volume.specs.Laws.{Laws}
-use Rattle.afr_volume.proofs.LineKeeps.{Begins, Ends, LineKeeps, of_client, self}
+use Rattle.afr_volume.proofs.LineKeeps.{Begins, Ends, LineKeeps, of_client, self, some_same}
+use Rattle.afr_volume.proofs.ReadingLemmas.{own_asked}
 
 -- ---- a place within the work
 within : (met : Bool) (p : Plan) (a : ActorId) (change : Change) (log : List Line) (w : Work) → IsNoted met p.shape a.0 log (register_of w) → next_place (place_of a.0 log) (Begin a change) ≡ Within
@@ -55,6 +62,13 @@ new_gfid at (change_of.Cut g len) k = tt
 new_gfid at (change_of.SetAttr g key value) k = tt
 new_gfid at (change_of.Make dir name g what) k = absurd k
 new_gfid at (change_of.Remove dir name what) k = absurd k
+
+-- a Begin line asks no rule
+none_among : (w : Work) (at : ℕ) (b : BrickId) → IsAmong (choices_heard (heard_of.Begun at) w) b
+none_among Idle at b = λ l. absurd (omega (arith, l))
+none_among (Lookup m) at b = λ l. absurd (omega (arith, l))
+none_among (Write m) at b = λ l. absurd (omega (arith, l))
+none_among (Entry m) at b = λ l. absurd (omega (arith, l))
 
 -- a read begins no attempt
 no_begin : (m : LookupMachine) (change : Change) → reading.next_of m ≡ next.Begin change → ⊥
@@ -111,22 +125,34 @@ module _ (laws : Laws) (p : Plan) (a : ActorId) (log : List Line) (servers : Lis
     about = laws.telling.about p c.command x.work (work a.0 log) a told_of.Done begin_line log c.sound c.tells is_next
 
     abbrev after : Work
-    after = heard_by (heard_of.Begun (length log)) x.work
+    after = heard_by (reader_of None) (heard_of.Begun (length log)) x.work
 
     own : Stood p.shape a.0 (begin_line ∷ log) (register_of after)
-    own = rw (laws.work.notes_begin x.work (length log) change e) comes.stand.own
+    own = rw (laws.work.notes_begin x.work (length log) change e (reader_of None)) comes.stand.own
 
     carries : CarriesOut p a.0 (begin_line ∷ log) true s.epochs new after
     carries = record {
       command = c.command;
       present = c.present;
-      sound = laws.work.stays x.work c.sound (laws.work.begins_more x.work (length log) change e) (heard_of.Begun (length log));
-      five = laws.work.five_begun x.work c.five (length log) change e;
+      sound = laws.work.stays x.work c.sound (laws.work.begins_more x.work (length log) change e) (reader_of None) (heard_of.Begun (length log)) (none_among x.work (length log) (reader_of None));
+      five = laws.work.five_begun x.work c.five (length log) change e (reader_of None);
       shape = own.shape_is;
       noted = (rw (self a.0) (within x.met p a change log x.work c.noted), own);
       sessions = begin_goes.found;
-      tells = rw (self a.0) (laws.telling.begun p c.command x.work (work a.0 log) a change log c.sound c.tells e);
+      tells = rw (self a.0) (laws.telling.begun p c.command x.work (work a.0 log) a change (reader_of None) log c.sound c.tells e);
     }
+
+    reads_on : IsReading p a.0 log x.met x.picked x.work → IsReading p a.0 (begin_line ∷ log) true (still_picked x.met x.picked) after
+    reads_on k = record {
+      keeps = λ command is.
+          subst (λ (d : Command). KeepsPicked p d after (work a.0 (begin_line ∷ log)) (number_in (still_picked x.met x.picked))) (some_same c.command command (sym c.present ∙ is))
+          (rw (self a.0) (laws.reading.begun p c.command x.work (work a.0 log) a change log (reader_of None) (number_in (still_picked x.met x.picked)) (k.keeps c.command c.present)));
+      fresh = λ unmet. absurd (cc unmet);
+      within = λ met. own_asked p a.0 begin_line log (self a.0) ∙ sym (ap (asked_in p (slice_get (script_of p a.0) (ended a.0 log))) added);
+    }
+      where
+        added : work a.0 (begin_line ∷ log) ≡ (begin_line, log) ∷ work a.0 log
+        added = rw (self a.0) refl
 
     as_carries : (z : Work) → CarriesOut p a.0 (begin_line ∷ log) true s.epochs new z → Carries p a.0 (begin_line ∷ log) true s.epochs new z
     as_carries Idle k = absurd k.tells
@@ -143,7 +169,7 @@ module _ (laws : Laws) (p : Plan) (a : ActorId) (log : List Line) (servers : Lis
       replied = of_client p a begin_line log c.command before.client c.present about.0;
       blamed = tt;
       wrote = Begins change;
-      acting = subst (λ (z : Actor). IsActing p (begin_line ∷ log) a.0 new z) (sym s.becomes) (record { ended_is = acting.ended_is; killed_is = acting.killed_is; carries = as_carries after carries });
+      acting = subst (λ (z : Actor). IsActing p (begin_line ∷ log) a.0 new z) (sym s.becomes) (record { ended_is = acting.ended_is; killed_is = acting.killed_is; carries = as_carries after carries; unpicked = λ none. absurd (cc none); reads = reads_on acting.reads });
       stands = comes.stand.others;
       found = begin_goes.others;
     })
@@ -175,6 +201,8 @@ module _ (laws : Laws) (p : Plan) (a : ActorId) (log : List Line) (servers : Lis
         ended_is = rw (self a.0) (ap (λ (n : ℕ). n + 1) acting.ended_is);
         killed_is = acting.killed_is;
         carries = record { unmet = refl; fresh = ends.1; none = rw (self a.0) refl };
+        unpicked = λ none. absurd (cc none);
+        reads = record { keeps = λ command is. tt; fresh = λ unmet. rw (self a.0) refl; within = λ met. absurd (cc met) };
       });
       stands = ends.0.stand.others;
       found = end_goes.others;

@@ -1,8 +1,9 @@
 -- One line of an actor: what its work would write next, what the bricks make of it, and what it makes of the answer.
-use Rattle.std.specs.Prelude.{◌≡◌, ℕ, ◌+◌, ◌-◌, ◌<◌, ◌^◌, Bool, true, false, List, [], ◌∷◌, ◌++◌, length}
+use Rattle.std.specs.Prelude.{◌≡◌, ℕ, ◌+◌, ◌-◌, ◌<◌, ◌^◌, Bool, true, false, List, [], ◌∷◌, ◌++◌, Option, None, length, map, if◌then◌else◌}
 use Rattle.afr_base.specs.declared.ids.ActorId.{ActorId}
 use Rattle.afr_base.specs.declared.ids.BrickId.{BrickId}
 use Rattle.afr_faults.specs.Planned.{next_fault}
+use Rattle.afr_lines.specs.declared.answer.Answer.{Answer}
 use Rattle.afr_lines.specs.declared.line.Heard.TheVariants as heard
 use Rattle.afr_lines.specs.declared.line.Line.{Line}
 use Rattle.afr_lines.specs.declared.line.Line.TheVariants as line
@@ -13,6 +14,7 @@ use Rattle.afr_moves.specs.Ranges.{InRange, RequestInRange}
 use Rattle.afr_object.specs.declared.change.Change.{Change}
 use Rattle.afr_object.specs.declared.change.Load.{Load}
 use Rattle.afr_lines.specs.declared.reply.Reply.{Reply}
+use Rattle.afr_rule.specs.Choosing.{Calls}
 use Rattle.afr_server.specs.Carried.{CanCarryOut, CanLock}
 use Rattle.afr_server.specs.Covered.{IsUnderLocks}
 use Rattle.afr_server.specs.NextLine.{told_line}
@@ -22,7 +24,11 @@ use Rattle.afr_server.specs.declared.server.Asked.{Asked}
 use Rattle.afr_servers.specs.Calls.{AsksFirst, AsksOne, At, MeetsAll}
 use Rattle.afr_servers.specs.Found.{epoch_at}
 use Rattle.afr_servers.specs.declared.epochs.Epochs.{Epochs}
-use Rattle.afr_works.specs.Work.{CarriesNext, heard_by, next_of}
+use Rattle.afr_readings.specs.Laws.{HearsPick, number_in}
+use Rattle.afr_inode_telling.specs.Lines.{is_look}
+use Rattle.afr_walk.specs.Choosing.{RuleAnswers, reader_of}
+use Rattle.afr_works.specs.Work.{CarriesNext, choices_of, heard_by, next_of}
+use Rattle.afr_works.specs.declared.work.Work.{Work}
 use Rattle.afr_works.specs.declared.work.Work.TheVariants.{Idle}
 use Rattle.afr_volume.specs.declared.actor.Actor.{Actor}
 
@@ -62,14 +68,55 @@ pub record IsServed (a : ActorId) (x : Actor) (b : BrickId) (request : Request) 
   pub carries : CarriesNext x.work load
   pub served : ServesNext x.met a b request load x.epochs old new epochs given
 
+-- ---- the copy that the read rule has picked
+-- a client has the brick that the rule answered at the last look of its latest work
+abbrev pub picked_by : Actor → Option ℕ
+picked_by x = number_in x.picked
+
+abbrev pub picked_of : List Actor → List (Option ℕ)
+picked_of actors = map picked_by actors
+
+-- a look takes the place of what was picked before it, and so does a work's first line
+abbrev pub picks_anew : Bool → Request → Bool
+picks_anew false request = true
+picks_anew true request = is_look request
+
+abbrev pub picked_after : Bool → Request → Option BrickId → Option BrickId → Option BrickId
+picked_after met request now kept = if picks_anew met request then now else kept
+
+-- a first line that is no request has none picked
+abbrev pub still_picked : Bool → Option BrickId → Option BrickId
+still_picked met kept = if met then kept else None
+
+-- ---- one line
+-- what an answer leaves of a work, and what the read rule answered then
+abbrev pub Hearing : Type 1
+Hearing = Answer → ℕ → Work → Work → Option BrickId → Type 0
+
+-- the rule was asked where there was anything to choose from, and its copy is the one that is read
+pub record HearsBy {F : Type 0} (calls : Calls F) (choose : F) (answer : Answer) (at : ℕ) (old new : Work) (picked : Option BrickId) : Type 0 where
+  pub answers : RuleAnswers calls choose (choices_of answer at old) picked
+  pub value : new ≡ heard_by (reader_of picked) (heard.Answer answer at) old
+
+-- the same, whatever rule it was
+abbrev pub HearsAny : Answer → ℕ → Work → Work → Option BrickId → Type 0
+HearsAny answer at old new picked = HearsPick (heard.Answer answer at) old new picked
+
+-- an actor has heard the answer to its request
+pub record HasHeard (Hears : Hearing) (answer : Answer) (at : ℕ) (request : Request) (x y : Actor) : Type 0 where
+  pub after : Work
+  pub picked : Option BrickId
+  pub hears : Hears answer at x.work after picked
+  pub becomes : y ≡ record { ended = x.ended; killed = x.killed; met = true; epochs = x.epochs; picked = picked_after x.met request picked x.picked; work = after }
+
 -- a request was asked, and its answer heard
-pub record IsAsked (a : ActorId) (at : ℕ) (b : BrickId) (request : Request) (x y : Actor) (old new : List Serving) (written : Line) : Type 0 where
+pub record IsAsked (Hears : Hearing) (a : ActorId) (at : ℕ) (b : BrickId) (request : Request) (x y : Actor) (old new : List Serving) (written : Line) : Type 0 where
   pub given : Asked
   pub epochs : Epochs
   pub fits : RequestInRange request
   pub served : IsServed a x b request old new epochs given
   pub is_line : written ≡ told_line a b request given
-  pub becomes : y ≡ record { ended = x.ended; killed = x.killed; met = true; epochs = epochs; work = heard_by (heard.Answer given.answer at) x.work }
+  pub heard : HasHeard Hears given.answer at request (record x { epochs = epochs }) y
 
 -- all bricks were met, where the line is the work's first
 abbrev pub MeetsNext : Bool → ActorId → Epochs → List Serving → List Serving → Epochs → Type 0
@@ -82,7 +129,7 @@ pub record IsBegun (a : ActorId) (at : ℕ) (change : Change) (x y : Actor) (old
   pub met : MeetsNext x.met a x.epochs old new epochs
   pub is_line : written ≡ line.Begin a change
   pub fits : InRange written
-  pub becomes : y ≡ record { ended = x.ended; killed = x.killed; met = true; epochs = epochs; work = heard_by (heard.Begun at) x.work }
+  pub becomes : y ≡ record { ended = x.ended; killed = x.killed; met = true; epochs = epochs; picked = still_picked x.met x.picked; work = heard_by (reader_of None) (heard.Begun at) x.work }
 
 -- a work was ended
 pub record IsEnded (a : ActorId) (said : Reply) (x y : Actor) (old new : List Serving) (written : Line) : Type 0 where
@@ -90,15 +137,15 @@ pub record IsEnded (a : ActorId) (said : Reply) (x y : Actor) (old new : List Se
   pub met : MeetsNext x.met a x.epochs old new epochs
   pub is_line : written ≡ line.End a said
   pub fits : InRange written
-  pub becomes : y ≡ record { ended = x.ended + 1; killed = x.killed; met = false; epochs = epochs; work = Idle }
+  pub becomes : y ≡ record { ended = x.ended + 1; killed = x.killed; met = false; epochs = epochs; picked = still_picked x.met x.picked; work = Idle }
 
 -- one line of an actor, by what its work would write next
-abbrev pub SteppedBy : ActorId → ℕ → Actor → Actor → List Serving → List Serving → Line → Next → Type 0
-SteppedBy a at x y old new written (next.Ask b request) = IsAsked a at b request x y old new written
-SteppedBy a at x y old new written (next.Begin change) = IsBegun a at change x y old new written
-SteppedBy a at x y old new written (next.End said) = IsEnded a said x y old new written
-SteppedBy a at x y old new written other = ⊥
+abbrev pub SteppedBy : Hearing → ActorId → ℕ → Actor → Actor → List Serving → List Serving → Line → Next → Type 0
+SteppedBy Hears a at x y old new written (next.Ask b request) = IsAsked Hears a at b request x y old new written
+SteppedBy Hears a at x y old new written (next.Begin change) = IsBegun a at change x y old new written
+SteppedBy Hears a at x y old new written (next.End said) = IsEnded a said x y old new written
+SteppedBy Hears a at x y old new written other = ⊥
 
 -- one line of an actor whose work has begun
-abbrev pub Stepped : ActorId → ℕ → Actor → Actor → List Serving → List Serving → Line → Type 0
-Stepped a at x y old new written = SteppedBy a at x y old new written (next_of at x.work)
+abbrev pub Stepped : Hearing → ActorId → ℕ → Actor → Actor → List Serving → List Serving → Line → Type 0
+Stepped Hears a at x y old new written = SteppedBy Hears a at x y old new written (next_of at x.work)

@@ -1,5 +1,5 @@
 -- What a volume keeps: its servers, actors and counts are what the log says, and the log is honest, lawful and the plan's.
-use Rattle.std.specs.Prelude.{◌≡◌, ℕ, ◌+◌, ◌<◌, ◌≤◌, Bool, true, false, List, [], Some, length, slice_get}
+use Rattle.std.specs.Prelude.{◌≡◌, ℕ, ◌+◌, ◌<◌, ◌≤◌, Bool, true, false, List, [], None, Option, Some, length, slice_get}
 use Rattle.afr_base.specs.declared.ids.BrickId.{BrickId}
 use Rattle.afr_base.specs.declared.ids.Shape.{Shape}
 use Rattle.afr_discipline.specs.Stands.{HasFive, no_lines}
@@ -21,6 +21,8 @@ use Rattle.afr_model.specs.Following.{Follows}
 use Rattle.afr_model.specs.Honest.{Honest}
 use Rattle.afr_model.specs.Replied.{Replied}
 use Rattle.afr_quiet_lists.specs.Listed.{GivesHealLock}
+use Rattle.afr_readings.specs.Laws.{KeepsPicked, number_in}
+use Rattle.afr_readings.specs.Readings.{asked_in, asked_of}
 use Rattle.afr_rounds.specs.Keeping.{IsHealer}
 use Rattle.afr_rounds.specs.declared.healer.Healer.{Healer}
 use Rattle.afr_server.specs.Serving.{Serving}
@@ -32,6 +34,7 @@ use Rattle.afr_works.specs.Work.{IsWork, register_of}
 use Rattle.afr_works.specs.declared.work.Work.{Work}
 use Rattle.afr_works.specs.declared.work.Work.TheVariants.{Idle}
 use Rattle.afr_works_tell.specs.WorkTelling.{WorkTells}
+use Rattle.afr_volume.specs.Acting.{still_picked}
 use Rattle.afr_volume.specs.declared.actor.Actor.{Actor}
 
 -- an event names an actor of the plan and a brick of the volume
@@ -86,11 +89,19 @@ abbrev pub Carries : Plan → ℕ → List Line → Bool → Epochs → List Ser
 Carries p a log met epochs servers Idle = IsBetween a log met
 Carries p a log met epochs servers w = CarriesOut p a log met epochs servers w
 
--- an actor is what its lines say
+-- by which copy a client reads: the one that was picked by the looks of its present work, whose lines are its latest ones; before their first there are none
+pub record IsReading (p : Plan) (a : ℕ) (log : List Line) (met : Bool) (picked : Option BrickId) (w : Work) : Type 0 where
+  pub keeps : (command : Command) → slice_get (script_of p a) (ended a log) ≡ Some command → KeepsPicked p command w (work a log) (number_in (still_picked met picked))
+  pub fresh : met ≡ false → work a log ≡ []
+  pub within : met ≡ true → asked_of p a log ≡ asked_in p (slice_get (script_of p a) (ended a log)) (work a log)
+
+-- an actor is what its lines say; before any line nothing was picked for it
 pub record IsActing (p : Plan) (log : List Line) (a : ℕ) (servers : List Serving) (x : Actor) : Type 0 where
   pub ended_is : x.ended ≡ ended a log
   pub killed_is : x.killed ≡ is_killed a log
   pub carries : Carries p a log x.met x.epochs servers x.work
+  pub unpicked : log ≡ [] → x.picked ≡ None
+  pub reads : IsReading p a log x.met x.picked x.work
 
 -- what the log says of the servers, the clients and the counts that the volume keeps beside it
 pub record IsVolume (p : Plan) (log : List Line) (servers : List Serving) (actors : List Actor) (made : ℕ) : Type 0 where

@@ -7,7 +7,9 @@ use Rattle.afr_next.specs.Happened.{EventKeepsAll}
 use Rattle.afr_next.specs.Ready.{NextIsReady}
 use Rattle.afr_entry_hears.specs.EntryHears.{EntryBrings, EntryHears, EntryMakesNew}
 use Rattle.afr_hears.specs.Hears.{LookupBrings, LookupHears, WriteBrings, WriteHears, WriteMakesNothing}
+use Rattle.afr_readings.specs.Laws.{AnswersOneOf, BeginKeepsPicked, EndReadsPicked, LineAsksRule, LineKeepsPicked, LineReadsPicked, ReadingBegins}
 use Rattle.afr_rounds.specs.Laws.{CanStepNext, LineKeepsRound, OthersStay, RoundsBegin, RoundsEnd}
+use Rattle.afr_rule.specs.Choosing.{Calls}
 use Rattle.afr_servers.specs.Needs.{AnswersAreRead, NeedsAreMet}
 use Rattle.afr_servers.specs.NextLine.{AskedAreServed, EventAreServed, FirstAreServed, MetAreServed, WrittenAreServed}
 use Rattle.afr_works.specs.Laws.{AllowedNext, AsksLow, AsksMore, BeginsFresh, BeginsMore, BeginsWithFive, KeepsFive, KeepsFiveBegun, NotesBegin, NotesEach, StaysOutside, StaysSound}
@@ -53,6 +55,11 @@ pub record TellingLaws : Type 0 where
   pub entry_brings : EntryBrings
   pub makes_new : EntryMakesNew
 
+-- by which copy it reads
+pub record ReadingLaws : Type 0 where
+  pub line : LineKeepsPicked
+  pub begun : BeginKeepsPicked
+
 -- what the servers need and make of it
 pub record ServerLaws : Type 0 where
   pub asked : AskedAreServed
@@ -62,11 +69,19 @@ pub record ServerLaws : Type 0 where
   pub needs : NeedsAreMet
   pub answers : AnswersAreRead
 
+-- what a rule that is asked makes of it
+pub record RuleLaws {F : Type 0} (calls : Calls F) (choose : F) : Type 0 where
+  pub among : AnswersOneOf calls choose
+  pub asks : LineAsksRule calls choose
+  pub reads : LineReadsPicked calls choose
+  pub ends : EndReadsPicked calls choose
+
 -- how a work begins
 pub record BeginLaws : Type 0 where
   pub fresh : BeginsFresh
   pub five : BeginsWithFive
   pub tells : WorkBegins
+  pub reads : ReadingBegins
 
 -- what an event leaves of the log and of the servers
 pub record EventLaws : Type 0 where
@@ -86,4 +101,5 @@ pub record Laws : Type 0 where
   pub next : NextLaws
   pub work : WorkLaws
   pub telling : TellingLaws
+  pub reading : ReadingLaws
   pub servers : ServerLaws

@@ -1,5 +1,5 @@
 -- An actor before any line.
-use Rattle.std.specs.Prelude.{◌≡◌, ℕ, false, List, length, slice_get, Some}
+use Rattle.std.specs.Prelude.{◌≡◌, ℕ, false, List, length, slice_get, Some, None}
 use Rattle.afr_rounds.specs.Acting.{IsNewHealer}
 use Rattle.afr_rounds.specs.declared.healer.Healer.{Healer}
 use Rattle.afr_volume.specs.declared.actor.Actor.{Actor}
@@ -10,6 +10,7 @@ pub record IsNewActor (x : Actor) : Type 0 where
   pub ended : x.ended ≡ 0
   pub killed : x.killed ≡ false
   pub met : x.met ≡ false
+  pub unpicked : x.picked ≡ None
   pub idle : x.work ≡ Idle
 
 -- so many such actors

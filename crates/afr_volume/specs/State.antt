@@ -1,25 +1,42 @@
--- What a volume shows: the plan, the log, and which source the running heal of each healer has.
-use Rattle.std.specs.Prelude.{ℕ, List, [], Option, None, length, replicate}
+-- What a volume shows: the plan, the log, which source the running heal of each healer has, and which copy was picked for each client's reads.
+use Rattle.std.specs.Prelude.{◌≡◌, ℕ, ◌+◌, ◌<◌, List, [], Option, None, Some, length, replicate, slice_get}
 use Rattle.afr_lines.specs.declared.line.Line.{Line}
-use Rattle.afr_model.specs.Chosen.{Picks}
+use Rattle.afr_lines.specs.Log.{EachLine}
+use Rattle.afr_model.specs.Chosen.{Picks, ReadsPicked}
 use Rattle.afr_model.specs.State.{no_plan}
 use Rattle.afr_plan.specs.declared.plan.Plan.{Plan}
+use Rattle.afr_readings.specs.Readings.{Answers, asked_of}
 use Rattle.afr_sources.specs.Chosen.{AreChosen}
 
--- the sources are those of the healers, in their order
+-- the sources are those of the healers in their order, and the picked copies those of the clients
 pub record State : Type 0 where
   pub plan : Plan
   pub log : List Line
   pub sources : List (Option ℕ)
+  pub picked : List (Option ℕ)
 
 -- no actor, no brick, no line
 abbrev pub no_volume : State
-no_volume = record { plan = no_plan; log = []; sources = [] }
+no_volume = record { plan = no_plan; log = []; sources = []; picked = [] }
 
 -- a plan before its first line
 abbrev pub opened : Plan → State
-opened p = record { plan = p; log = []; sources = replicate (length p.healers) None }
+opened p = record { plan = p; log = []; sources = replicate (length p.healers) None; picked = replicate (length p.clients) None }
 
--- the source of every heal is one that the rule picked
-abbrev pub IsChosen : Picks → State → Type 0
-IsChosen picks s = AreChosen picks s.plan s.log s.sources
+-- each read of a client went to a copy that the rule picked, and what is beside the log for each client is what the rule answered at its last look
+pub record AreRead (reads : Picks) (p : Plan) (log : List Line) (picked : List (Option ℕ)) : Type 0 where
+  pub past : EachLine (ReadsPicked reads p) log
+  pub present : (i : ℕ) (brick : Option ℕ) → i < length p.clients → slice_get picked i ≡ Some brick → Answers reads (asked_of p (1 + i) log) brick
+
+-- every read is one that this rule picked
+abbrev pub ReadsChosen : Picks → State → Type 0
+ReadsChosen reads s = AreRead reads s.plan s.log s.picked
+
+-- the source of every heal is one that this rule picked
+abbrev pub HealsChosen : Picks → State → Type 0
+HealsChosen heals s = AreChosen heals s.plan s.log s.sources
+
+-- every read, and the source of every heal, is one that the rules picked
+pub record IsChosen (reads heals : Picks) (s : State) : Type 0 where
+  pub of_reads : ReadsChosen reads s
+  pub of_heals : HealsChosen heals s

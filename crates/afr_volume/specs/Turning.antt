@@ -22,7 +22,7 @@ use Rattle.afr_rounds.specs.declared.healer.Healer.{Healer}
 use Rattle.afr_works.specs.Begin.{work_from}
 use Rattle.afr_works.specs.Work.{IsBusy, IsWork}
 use Rattle.afr_works.specs.declared.work.Work.TheVariants.{Idle}
-use Rattle.afr_volume.specs.Acting.{Stepped}
+use Rattle.afr_volume.specs.Acting.{Hearing, Stepped}
 use Rattle.afr_volume.specs.declared.actor.Actor.{Actor}
 use Rattle.afr_volume.specs.declared.turned.Turned.{Turned}
 use Rattle.afr_volume.specs.declared.turned.Turned.TheVariants.{Moved, Waits, Ended, Full}
@@ -32,7 +32,7 @@ abbrev pub waits_for : Line → Option ActorId
 waits_for (Ask actor brick (Lock Work area) (Held owner) took) = Some owner
 waits_for line = None
 
--- one line of the actor was added, and the running heals of others have the sources that they had
+-- one line of the actor was added, and the running heals and reads of others have the sources and the copies that they had
 pub record AddsLine (a : ActorId) (old : State) (waits : Option ActorId) (new : State) : Type 0 where
   pub line : Line
   pub own : is_of a.0 line ≡ true
@@ -40,6 +40,7 @@ pub record AddsLine (a : ActorId) (old : State) (waits : Option ActorId) (new : 
   pub plan : new.plan ≡ old.plan
   pub added : new.log ≡ line ∷ old.log
   pub others : (i : ℕ) → (17 + i ≡ a.0 → ⊥) → slice_get new.sources i ≡ slice_get old.sources i
+  pub others_picked : (i : ℕ) → (1 + i ≡ a.0 → ⊥) → slice_get new.picked i ≡ slice_get old.picked i
 
 -- what each answer of a turn says
 abbrev pub Turns : ActorId → State → Turned → State → Type 0
@@ -83,11 +84,11 @@ pub record ReadiedAt (p : Plan) (a : ℕ) (old new : List Actor) : Type 0 where
   pub set_is : new ≡ slice_set old (a - 1) after
 
 -- one line of one actor among all, whose command has begun
-pub record StepsAt (a : ActorId) (at : ℕ) (old new : List Actor) (bricks after_bricks : List Serving) (written : Line) : Type 0 where
+pub record StepsAt (Hears : Hearing) (a : ActorId) (at : ℕ) (old new : List Actor) (bricks after_bricks : List Serving) (written : Line) : Type 0 where
   pub before : Actor
   pub after : Actor
   pub was : slice_get old (a.0 - 1) ≡ Some before
-  pub steps : Stepped a at before after bricks after_bricks written
+  pub steps : Stepped Hears a at before after bricks after_bricks written
   pub set_is : new ≡ slice_set old (a.0 - 1) after
 
 -- a healer among all has its present round, and the memory of its coming move

@@ -1,14 +1,16 @@
 //! An actor: the machine of its present command, the sessions that it works over, and how many commands it has ended.
 ghost use Rattle.std.specs.Prelude.{true, false, ◌≡◌, ◌<◌, ◌-◌, ◌^◌, ◌++◌, ◌∷◌, [], ℕ, IfOk, OnOk, OnErr, vec_len, vec_capacity};
+ghost use Rattle.afr_rule.specs.Choosing.{IsRule};
 ghost use Rattle.afr_server.specs.Serving.{HasEpoch};
 ghost use Rattle.afr_servers.specs.Calls.{At};
-ghost use Rattle.afr_works.specs.Work.{IsBusy, next_of};
-ghost use Rattle.afr_volume.specs.Acting.{Adds, CanAsk, CanStep, IsAsked, IsBegun, IsEnded, IsServed, MeetsNext, Stepped};
+ghost use Rattle.afr_works.specs.Work.{IsBusy, is_over, next_of};
+ghost use Rattle.afr_volume.specs.Acting.{Adds, CanAsk, CanStep, HasHeard, HearsBy, IsAsked, IsBegun, IsEnded, IsServed, MeetsNext, Stepped, picked_after, still_picked};
 
 use afr_base::{ActorId, BrickId, NoMemory};
-use afr_lines::{Line, Next, Reply, Request, told_of};
+use afr_lines::{Answer, Line, Next, Reply, Request, told_of};
 use afr_object::Change;
 use afr_ranges::{fits_its_types, request_fits_its_types};
+use afr_rule::{Candidate, ReadRule};
 use afr_server::Asked;
 use afr_servers::{Epochs, Servers};
 use afr_works::{Work, a_work_stays_sound};
@@ -22,27 +24,32 @@ pub(crate) struct Actor {
     pub met: bool,
     /// The sessions that its first line found or opened.
     pub epochs: Epochs,
+    /// What the read rule answered at the last look of the latest work.
+    pub picked: Option<BrickId>,
     pub work: Work,
 }
 
 /// One line of an actor whose work has begun, at the end of a log that has room for it. Its memory is taken before anything
-/// changes. Whoever makes the line adds it: it is large, and is moved no further.
-pub(crate) fn step(
+/// changes. Whoever makes the line adds it: it is large, and is moved no further. The answer that ends a work's looks asks the
+/// rule for the copy that is read.
+pub(crate) fn step<G: Fn(&[Candidate]) -> usize>(
     actor: &mut Actor,
     a: ActorId,
     servers: &mut Servers,
     position: u32,
     log: &mut Vec<Line>,
+    rule: &ReadRule<G>,
 ) -> Result<(), NoMemory>
+    requires rule { IsRule G.Fn rule.now }
     requires busy { IsBusy actor.old.work }
     requires room { actor.old.ended < 2 ^ 32 - 1 }
     requires can { CanStep a position actor.old servers.old }
     requires space { vec_len log.old < vec_capacity log.old }
-    ensures ok { OnOk result (Adds (λ line. Stepped a position actor.old actor.new servers.old servers.new line) log.old.items log.new.items) }
+    ensures ok { OnOk result (Adds (λ line. Stepped (HearsBy G.Fn rule.now) a position actor.old actor.new servers.old servers.new line) log.old.items log.new.items) }
     ensures err { OnErr result ((actor.new ≡ actor.old) × (servers.new ≡ servers.old) × (log.new.items ≡ log.old.items)) }
 {
     match actor.work.next(position)? {
-        Next::Ask(brick, request) => asks(actor, a, brick, &request, servers, position, log),
+        Next::Ask(brick, request) => asks(actor, a, brick, &request, servers, position, log, rule),
         Next::Begin(change) => Ok(begins(actor, a, change, servers, position, log)),
         Next::End(reply) => Ok(ends(actor, a, reply, servers, log)),
         _ => unreachable!(),
@@ -95,7 +102,41 @@ fn ask_first(
     Ok(asked)
 }
 
-fn asks(
+/// What is picked after a request: what the rule answers now, at a look and at a work's first line, and else what it had
+/// picked.
+fn pick_after(
+    met: bool,
+    request: &Request,
+    now: Option<BrickId>,
+    kept: Option<BrickId>,
+) -> Option<BrickId>
+    ensures { result ≡ picked_after met request.now now kept }
+{
+    if !met || matches!(request, Request::Look { .. }) {
+        now
+    } else {
+        kept
+    }
+}
+
+/// The work hears the answer to this request.
+fn hear<G: Fn(&[Candidate]) -> usize>(
+    actor: &mut Actor,
+    request: &Request,
+    answer: &mut Answer,
+    position: u32,
+    rule: &ReadRule<G>,
+)
+    requires rule { IsRule G.Fn rule.now }
+    requires more { is_over actor.old.work ≡ false }
+    ensures { HasHeard (HearsBy G.Fn rule.now) answer.old position request.now actor.old actor.new }
+{
+    let now = actor.work.hear(answer, position, rule);
+    actor.picked = pick_after(actor.met, request, now, actor.picked);
+    actor.met = true;
+}
+
+fn asks<G: Fn(&[Candidate]) -> usize>(
     actor: &mut Actor,
     a: ActorId,
     brick: BrickId,
@@ -103,11 +144,13 @@ fn asks(
     servers: &mut Servers,
     position: u32,
     log: &mut Vec<Line>,
+    rule: &ReadRule<G>,
 ) -> Result<(), NoMemory>
+    requires rule { IsRule G.Fn rule.now }
     requires next { next_of position actor.old.work ≡ Next.Ask brick request.now }
     requires can { CanStep a position actor.old servers.old }
     requires space { vec_len log.old < vec_capacity log.old }
-    ensures ok { OnOk result (Adds (λ line. IsAsked a position brick request.now actor.old actor.new servers.old servers.new line) log.old.items log.new.items) }
+    ensures ok { OnOk result (Adds (λ line. IsAsked (HearsBy G.Fn rule.now) a position brick request.now actor.old actor.new servers.old servers.new line) log.old.items log.new.items) }
     ensures err { OnErr result ((actor.new ≡ actor.old) × (servers.new ≡ servers.old) × (log.new.items ≡ log.old.items)) }
 {
     request_fits_its_types(request);
@@ -121,8 +164,19 @@ fn asks(
         took,
     };
     add_line(log, line);
-    actor.work.hear(&mut answer, position);
-    actor.met = true;
+    hear(actor, request, &mut answer, position, rule);
+    Ok(())
+}
+
+/// Room for one line more. A log that has it isn't asked for any.
+pub(crate) fn make_room(log: &mut Vec<Line>) -> Result<(), NoMemory>
+    ensures room { OnOk result (vec_len log.new < vec_capacity log.new) }
+    ensures items { log.new.items ≡ log.old.items }
+{
+    if log.len() < log.capacity() {
+        return Ok(());
+    }
+    log.try_reserve(1)?;
     Ok(())
 }
 
@@ -138,15 +192,16 @@ pub(crate) fn add_line(log: &mut Vec<Line>, line: Line)
     }
 }
 
-/// A first line that is no request meets every brick, too.
+/// A first line that is no request meets every brick, too. It asks no rule.
 fn meets(actor: &mut Actor, a: ActorId, servers: &mut Servers)
     requires known { a.0 < 20 }
     requires room { (b : ℕ) → At b servers.old (HasEpoch a) }
     ensures met { MeetsNext actor.old.met a actor.old.epochs servers.old servers.new actor.new.epochs }
-    ensures same { actor.new ≡ record actor.old { met = true; epochs = actor.new.epochs } }
+    ensures same { actor.new ≡ record actor.old { met = true; epochs = actor.new.epochs; picked = still_picked actor.old.met actor.old.picked } }
 {
     if !actor.met {
         actor.epochs = servers.meet_all(a);
+        actor.picked = None;
         actor.met = true;
     }
 }

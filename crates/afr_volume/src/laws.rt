@@ -1,12 +1,14 @@
 //! The laws that the volume rests on, gathered.
 ghost use Rattle.afr_servers.specs.Needs.{StartedAreKnown};
 ghost use Rattle.afr_servers.specs.NextLine.{NewAreServed};
-ghost use Rattle.afr_volume.specs.Laws.{BeginLaws, EventLaws, Laws, RoundLaws};
+ghost use Rattle.afr_volume.specs.Laws.{BeginLaws, EventLaws, Laws, RoundLaws, RuleLaws};
 
 use afr_entry_hears::a_client_hears_of_its_names;
 use afr_hears::a_client_hears_what_it_asked;
 use afr_next::the_next_line_is_lawful;
+use afr_readings::{a_work_asks_the_rule, a_work_reads_what_was_picked};
 use afr_rounds::a_healer_keeps_its_round;
+use afr_rule::{Candidate, ReadRule};
 use afr_servers::servers_follow_their_log;
 use afr_transaction::a_turn_keeps_the_discipline;
 use afr_works::{a_work_keeps_five_places, a_work_stays_sound};
@@ -26,8 +28,16 @@ pub(crate) fn laws()
     a_work_stays_sound();
     a_work_keeps_five_places();
     a_work_tells_its_lines();
+    a_work_reads_what_was_picked();
     a_client_hears_what_it_asked();
     a_client_hears_of_its_names();
     servers_follow_their_log();
     a_healer_keeps_its_round();
+}
+
+/// What holds of all works that ask this rule for their reads.
+pub(crate) fn rule_laws<G: Fn(&[Candidate]) -> usize>(rule: &ReadRule<G>)
+    ensures { RuleLaws G.Fn rule.now }
+{
+    a_work_asks_the_rule(rule);
 }

@@ -19,6 +19,7 @@ pub(crate) fn all_actors(alloc: Global, clients: usize) -> Result<Vec<Actor>, No
             killed: false,
             met: false,
             epochs: Epochs::none(),
+            picked: None,
             work: Work::Idle,
         })?;
     }

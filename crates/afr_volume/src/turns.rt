@@ -3,7 +3,8 @@ ghost use Rattle.std.specs.Prelude.{◌≡◌, ◌-◌, ◌<◌, ◌≤◌, ◌+
 ghost use Rattle.afr_plan.specs.declared.command.Command.{Command};
 ghost use Rattle.afr_model.specs.Actors.{script_of};
 ghost use Rattle.afr_volume.specs.declared.actor.Actor.{Actor};
-ghost use Rattle.afr_volume.specs.Acting.{Adds, CanStep};
+ghost use Rattle.afr_rule.specs.Choosing.{IsRule};
+ghost use Rattle.afr_volume.specs.Acting.{Adds, CanStep, HearsBy};
 ghost use Rattle.afr_volume.specs.Turning.{HasVictim, KillsIn, ReadiedAt, StepsAt, waits_for};
 ghost use Rattle.afr_works.specs.Begin.{has_machine, work_from};
 ghost use Rattle.afr_works.specs.Work.{IsBusy, IsWork};
@@ -14,6 +15,7 @@ use afr_base::{ActorId, NoMemory, Shape};
 use afr_lines::{Event, Line, Request, Told};
 use afr_plan::{Command, Plan};
 use afr_range_locks::Domain;
+use afr_rule::{Candidate, ReadRule};
 use afr_servers::Servers;
 use afr_works::{Work, work_for};
 use std::alloc::Global;
@@ -65,23 +67,32 @@ fn begin_work(
     Ok(())
 }
 
-/// One line of an actor whose command has begun.
-pub(crate) fn step_actor(
+/// One line of an actor whose command has begun. Its reads ask the copies that the rule picks.
+pub(crate) fn step_actor<G: Fn(&[Candidate]) -> usize>(
     a: ActorId,
     actors: &mut Vec<Actor>,
     servers: &mut Servers,
     position: u32,
     log: &mut Vec<Line>,
+    rule: &ReadRule<G>,
 ) -> Result<(), NoMemory>
+    requires rule { IsRule G.Fn rule.now }
     requires one { 1 ≤ a.0 }
     requires within { a.0 - 1 < length actors.old.items }
     requires busy { (x : Actor) → slice_get actors.old.items (a.0 - 1) ≡ Some x → IsBusy x.work × (x.ended < 2 ^ 32 - 1) }
     requires can { (x : Actor) → slice_get actors.old.items (a.0 - 1) ≡ Some x → CanStep a position x servers.old }
     requires space { vec_len log.old < vec_capacity log.old }
-    ensures ok { OnOk result (Adds (λ line. StepsAt a position actors.old.items actors.new.items servers.old servers.new line) log.old.items log.new.items) }
+    ensures ok { OnOk result (Adds (λ line. StepsAt (HearsBy G.Fn rule.now) a position actors.old.items actors.new.items servers.old servers.new line) log.old.items log.new.items) }
     ensures err { OnErr result ((actors.new.items ≡ actors.old.items) × (servers.new ≡ servers.old) × (log.new.items ≡ log.old.items)) }
 {
-    step(&mut actors[a.0 as usize - 1], a, servers, position, log)
+    step(
+        &mut actors[a.0 as usize - 1],
+        a,
+        servers,
+        position,
+        log,
+        rule,
+    )
 }
 
 /// The client that an event kills is dead from then on.

@@ -1,5 +1,5 @@
 //! The volume: one log, and beside it the present state of servers and actors.
-ghost use Rattle.std.specs.Prelude.{◌≡◌, ◌<◌, ◌≤◌, ℕ, Some, None, OnOk, OnErr, IfOk, IsSome, false, length, reverse, slice_get, true, []};
+ghost use Rattle.std.specs.Prelude.{◌≡◌, ◌<◌, ◌≤◌, ◌-◌, ℕ, Some, None, OnOk, OnErr, IfOk, IsSome, false, length, option_map, reverse, slice_get, true, []};
 ghost use Rattle.afr_base.specs.Bricks.{member};
 ghost use Rattle.afr_law.specs.Exactly.{IsLawfulExactly};
 ghost use Rattle.afr_law.specs.ModelAlike.{AreAlike};
@@ -22,16 +22,16 @@ ghost use Rattle.afr_quiet.specs.Undisturbed.{AreQuietWhole};
 ghost use Rattle.afr_rule.specs.Choosing.{IsRule};
 ghost use Rattle.afr_server.specs.Serving.{Serving};
 ghost use Rattle.afr_sources.specs.Sources.{picks_of};
-ghost use Rattle.afr_volume.specs.State.{IsChosen, no_volume, opened};
+ghost use Rattle.afr_volume.specs.State.{HealsChosen, IsChosen, ReadsChosen, no_volume, opened};
 ghost use Rattle.afr_volume.specs.Turning.{Comes, Turns, due_of, if_due};
 
-use crate::actor::{Actor, add_line};
+use crate::actor::{Actor, add_line, make_room};
 use crate::healers::{all_healers, kill_healer, ready_healer, step_healer};
-use crate::laws::laws;
+use crate::laws::{laws, rule_laws};
 use crate::set_up::all_actors;
 use crate::turned::Turned;
 use crate::turns::{answer_of, kill, ready_actor, step_actor, turned_by};
-use afr_base::{ActorId, BrickSet, NoMemory, Shape};
+use afr_base::{ActorId, BrickId, BrickSet, NoMemory, Shape};
 use afr_law::{
     accusations_have_causes, lawful_is_safe, lawful_lines_fit, nothing_diverges_unrecorded,
     reads_are_fresh,
@@ -42,15 +42,15 @@ use afr_plan::{Plan, Words};
 use afr_quiet_rounds::quiet_rounds_are_whole;
 use afr_ranges::fits_its_types;
 use afr_rounds::Healer;
-use afr_rule::{Candidate, SourceRule};
+use afr_rule::{Candidate, ReadRule, Rules, SourceRule};
 use afr_server::Server;
 use afr_servers::Servers;
-use afr_sources::a_line_keeps_its_source;
+use afr_sources::{a_line_keeps_its_source, chosen_source};
 use std::alloc::Global;
 use std::marker::Model;
 
-/// A plan on its way. Contracts see the plan, the log, and the source that the running heal of
-/// each healer has chosen.
+/// A plan on its way. Contracts see the plan, the log, the source that the running heal of each
+/// healer has chosen, and the copy that was picked for the reads of each client.
 #[derive(Drop)]
 pub struct Volume {
     alloc: Global,
@@ -66,12 +66,13 @@ pub struct Volume {
 impl Model for Volume {
     ghost use Rattle.std.specs.Prelude.{reverse};
     ghost use Rattle.afr_sources.specs.Sources.{sources_of};
+    ghost use Rattle.afr_volume.specs.Acting.{picked_of};
     ghost use Rattle.afr_volume.specs.Keeping.{IsWhole};
     ghost use Rattle.afr_volume.specs.State.{State};
 
     ghost Value = { State };
 
-    ghost view = { λ v. record { plan = v.plan; log = reverse v.log.items; sources = sources_of v.healers.items } };
+    ghost view = { λ v. record { plan = v.plan; log = reverse v.log.items; sources = sources_of v.healers.items; picked = picked_of v.actors.items } };
 
     ghost invariant = { λ v. IsWhole v.plan (reverse v.log.items) v.servers v.actors.items v.healers.items v.made };
 }
@@ -99,12 +100,13 @@ impl Volume {
         ensures err { OnErr result (self.new ≡ self.old) }
     {
         laws();
+        let log = Vec::new(self.alloc);
         let servers = Servers::new(self.alloc, &plan)?;
         let actors = all_actors(self.alloc, plan.clients.len())?;
         let healers = all_healers(self.alloc, plan.healers.len())?;
         *self = Volume {
             alloc: self.alloc,
-            log: Vec::new(self.alloc),
+            log,
             plan,
             servers,
             actors,
@@ -116,13 +118,15 @@ impl Volume {
 
     /// One line of the actor, where it has work left and the log has room. It takes its memory
     /// before anything changes, in O(log n) for n objects and names of the bricks, and the bytes
-    /// that the line moves; it never walks the log. A heal that chooses its source asks the rule.
-    pub fn turn<F: Fn(&[Candidate]) -> usize>(
+    /// that the line moves; it never walks the log. A heal that chooses its source asks the rule
+    /// for heals, and a command that has looked at the copies of what it reads the rule for reads.
+    pub fn turn<F: Fn(&[Candidate]) -> usize, G: Fn(&[Candidate]) -> usize>(
         &mut self,
         a: ActorId,
-        rule: &SourceRule<F>,
+        rules: &Rules<F, G>,
     ) -> Result<Turned, NoMemory>
-        requires rule { IsRule F.Fn rule.now }
+        requires rule { IsRule F.Fn rules.now.heal }
+        requires read_rule { IsRule G.Fn rules.now.read }
         requires actor { IsActor self.old.plan a.0 }
         requires none { due_of self.old ≡ None }
         ensures ok { IfOk result (λ turned. Turns a self.old turned self.new) }
@@ -137,24 +141,26 @@ impl Volume {
         ensures causes { EveryPrefix (HaveCauses self.new.plan) self.new.log }
         ensures alike { EveryPrefix (AreAlike self.new.plan) self.new.log }
         ensures quiet { AreQuietWhole self.new.plan self.new.log }
-        ensures chosen { IsChosen (picks_of F.Fn rule.now) self.old → IsChosen (picks_of F.Fn rule.now) self.new }
+        ensures chosen { IsChosen (picks_of G.Fn rules.now.read) (picks_of F.Fn rules.now.heal) self.old → IsChosen (picks_of G.Fn rules.now.read) (picks_of F.Fn rules.now.heal) self.new }
     {
-        let turned = self.take_turn(a, rule);
+        let turned = self.take_turn(a, rules);
         self.every_line();
         turned
     }
 
-    fn take_turn<F: Fn(&[Candidate]) -> usize>(
+    fn take_turn<F: Fn(&[Candidate]) -> usize, G: Fn(&[Candidate]) -> usize>(
         &mut self,
         a: ActorId,
-        rule: &SourceRule<F>,
+        rules: &Rules<F, G>,
     ) -> Result<Turned, NoMemory>
-        requires rule { IsRule F.Fn rule.now }
+        requires rule { IsRule F.Fn rules.now.heal }
+        requires read_rule { IsRule G.Fn rules.now.read }
         requires actor { IsActor self.old.plan a.0 }
         requires none { due_of self.old ≡ None }
         ensures ok { IfOk result (λ turned. Turns a self.old turned self.new) }
         ensures err { OnErr result (self.new ≡ self.old) }
-        ensures chosen { 17 ≤ a.0 → IsChosen (picks_of F.Fn rule.now) self.old → IsChosen (picks_of F.Fn rule.now) self.new }
+        ensures heals { 17 ≤ a.0 → HealsChosen (picks_of F.Fn rules.now.heal) self.old → HealsChosen (picks_of F.Fn rules.now.heal) self.new }
+        ensures reads { a.0 ≤ 16 → ReadsChosen (picks_of G.Fn rules.now.read) self.old → ReadsChosen (picks_of G.Fn rules.now.read) self.new }
     {
         if self.is_done(a) {
             return Ok(Turned::Ended);
@@ -163,14 +169,19 @@ impl Volume {
             return Ok(Turned::Full);
         }
         if a.0 <= 16 {
-            self.client_turn(a)
+            self.client_turn(a, &rules.read)
         } else {
-            self.healer_turn(a, rule)
+            self.healer_turn(a, &rules.heal)
         }
     }
 
     /// One line of a client that has a command left.
-    fn client_turn(&mut self, a: ActorId) -> Result<Turned, NoMemory>
+    fn client_turn<G: Fn(&[Candidate]) -> usize>(
+        &mut self,
+        a: ActorId,
+        rule: &ReadRule<G>,
+    ) -> Result<Turned, NoMemory>
+        requires rule { IsRule G.Fn rule.now }
         requires actor { IsActor self.old.plan a.0 }
         requires client { a.0 ≤ 16 }
         requires left { is_done self.old.plan a.0 self.old.log ≡ false }
@@ -178,10 +189,12 @@ impl Volume {
         requires none { due_of self.old ≡ None }
         ensures ok { IfOk result (λ turned. Turns a self.old turned self.new) }
         ensures err { OnErr result (self.new ≡ self.old) }
+        ensures reads { ReadsChosen (picks_of G.Fn rule.now) self.old → ReadsChosen (picks_of G.Fn rule.now) self.new }
     {
         laws();
         let position = self.log.len() as u32;
-        self.log.try_reserve(1)?;
+        make_room(&mut self.log)?;
+        rule_laws(rule);
         ready_actor(self.alloc, &self.plan, a, &mut self.actors)?;
         step_actor(
             a,
@@ -189,6 +202,7 @@ impl Volume {
             &mut self.servers,
             position,
             &mut self.log,
+            rule,
         )?;
         let waits = turned_by(&self.log[position as usize]);
         Ok(answer_of(waits))
@@ -208,11 +222,11 @@ impl Volume {
         requires none { due_of self.old ≡ None }
         ensures ok { IfOk result (λ turned. Turns a self.old turned self.new) }
         ensures err { OnErr result (self.new ≡ self.old) }
-        ensures chosen { IsChosen (picks_of F.Fn rule.now) self.old → IsChosen (picks_of F.Fn rule.now) self.new }
+        ensures heals { HealsChosen (picks_of F.Fn rule.now) self.old → HealsChosen (picks_of F.Fn rule.now) self.new }
     {
         laws();
         let position = self.log.len() as u32;
-        self.log.try_reserve(1)?;
+        make_room(&mut self.log)?;
         a_line_keeps_its_source(rule);
         ready_healer(self.alloc, &self.plan, a, &mut self.healers)?;
         step_healer(
@@ -237,7 +251,7 @@ impl Volume {
             unreachable!()
         };
         laws();
-        self.log.try_reserve(1)?;
+        make_room(&mut self.log)?;
         let happened = Line::Event { event };
         fits_its_types(&happened);
         self.servers.event(&event);
@@ -261,6 +275,22 @@ impl Volume {
         let at = a.0 as usize - 1;
         let actor = &self.actors[at];
         actor.killed || actor.ended as usize >= self.plan.clients.item(at).len()
+    }
+
+    /// What the rule answered for an actor: for a client at the last look of its present command, or
+    /// of the last one, and for a healer at the end of its present heal's first looks; none where it
+    /// wasn't asked since then, so too for a heal of names.
+    pub fn picked(&self, a: ActorId) -> Option<BrickId>
+        requires actor { IsActor self.now.plan a.0 }
+        ensures client { a.0 ≤ 16 → slice_get self.now.picked (a.0 - 1) ≡ Some (option_map (λ b. b.0) result) }
+        ensures healer { 17 ≤ a.0 → slice_get self.now.sources (a.0 - 17) ≡ Some (option_map (λ b. b.0) result) }
+    {
+        if a.0 > 16 {
+            let healer = &self.healers[a.0 as usize - 17];
+            return chosen_source(healer);
+        }
+        let actor = &self.actors[a.0 as usize - 1];
+        actor.picked
     }
 
     /// The next event of the plan, where its position has come and the log has room.

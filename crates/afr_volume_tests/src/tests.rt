@@ -1,10 +1,10 @@
 //! A write and a read, and a round over an empty index, line by line.
 ghost use Rattle.std.specs.Prelude.{◌<◌};
 
-use afr_base::ActorId;
+use afr_base::{ActorId, BrickId};
 use afr_lines::{Line, Request};
 use afr_plan_read::read_plan;
-use afr_rule::{SourceRule, shipped};
+use afr_rule::{ReadRule, Rules, SourceRule, shipped};
 use afr_runnable::every_spelled_plan_runs;
 use afr_volume::{Turned, Volume};
 use std::alloc::Global;
@@ -18,6 +18,10 @@ const LINES: &str =
 
 /// A healer with a round over brick 0, whose index is empty.
 const ROUND: &str = "afr 1\nvolume replica\nfiles 1\nturns 100000\nhealer 1\nround 0\nend\n";
+
+/// A write that brick 2 misses, and the round that heals it.
+const MISSED: &str =
+    "afr 1\nvolume replica\nfiles 1\nturns 100000\nclient 1\nwrite /f1 0 \"hello\"\nhealer 1\nround 0\nat 0 stop 2\nat 20 start 2\nend\n";
 
 fn word_of(request: &Request) -> &'static str {
     match request {
@@ -64,11 +68,14 @@ fn takes_a_turn(volume: &mut Volume, position: u32, text: &mut String) -> Result
     requires { position < 33 }
 {
     let client = ActorId(1);
-    let rule = SourceRule::new(shipped::longest);
+    let rules = Rules {
+        heal: SourceRule::new(shipped::longest),
+        read: ReadRule::new(shipped::first),
+    };
     if volume.plan().clients.len() != 1 || volume.due().is_some() || volume.is_done(client) {
         return Err(Fail::from("before"));
     }
-    if !matches!(volume.turn(client, &rule), Ok(Turned::Moved)) || volume.len() != position + 1 {
+    if !matches!(volume.turn(client, &rules), Ok(Turned::Moved)) || volume.len() != position + 1 {
         return Err(Fail::from("turn"));
     }
     write_line(text, volume.line(position))
@@ -85,7 +92,8 @@ fn is_worked(alloc: Global, volume: &mut Volume, text: &mut String) -> Result<bo
         volume.lines().len() == 33
             && volume.reach().has_quorum(3)
             && volume.plan().clients.len() == 1
-            && volume.is_done(ActorId(1)),
+            && volume.is_done(ActorId(1))
+            && volume.picked(ActorId(1)) == Some(BrickId(0)),
     )
 }
 
@@ -109,11 +117,14 @@ fn heals_a_turn(volume: &mut Volume, position: u32, text: &mut String) -> Result
     requires { position < 2 }
 {
     let healer = ActorId(17);
-    let rule = SourceRule::new(shipped::longest);
+    let rules = Rules {
+        heal: SourceRule::new(shipped::longest),
+        read: ReadRule::new(shipped::first),
+    };
     if volume.plan().healers.len() != 1 || volume.due().is_some() || volume.is_done(healer) {
         return Err(Fail::from("before"));
     }
-    if !matches!(volume.turn(healer, &rule), Ok(Turned::Moved)) || volume.len() != position + 1 {
+    if !matches!(volume.turn(healer, &rules), Ok(Turned::Moved)) || volume.len() != position + 1 {
         return Err(Fail::from("turn"));
     }
     write_line(text, volume.line(position))
@@ -139,5 +150,61 @@ fn a_round_over_an_empty_index_has_two_lines(rt: HostRuntime) -> Result<(), Fail
     let done = healed(rt.alloc(), &mut text)?;
     assert!(rt; done);
     assert_eq!(rt; text.as_str(), "index0 end ");
+    Ok(())
+}
+
+/// The event that is due, or a turn of the client.
+fn client_goes(volume: &mut Volume) -> Result<(), Fail> {
+    let rules = Rules {
+        heal: SourceRule::new(shipped::longest),
+        read: ReadRule::new(shipped::first),
+    };
+    if volume.due().is_some() {
+        if volume.event().is_err() {
+            return Err(Fail::from("event"));
+        }
+        return Ok(());
+    }
+    if volume.plan().clients.len() != 1 || volume.turn(ActorId(1), &rules).is_err() {
+        return Err(Fail::from("turn"));
+    }
+    Ok(())
+}
+
+/// A turn of the healer, and what the rule picked for its present heal.
+fn picked_next(volume: &mut Volume) -> Result<Option<BrickId>, Fail> {
+    let rules = Rules {
+        heal: SourceRule::new(shipped::longest),
+        read: ReadRule::new(shipped::first),
+    };
+    if volume.plan().healers.len() != 1 || volume.due().is_some() {
+        return Err(Fail::from("before"));
+    }
+    if volume.turn(ActorId(17), &rules).is_err() || volume.plan().healers.len() != 1 {
+        return Err(Fail::from("turn"));
+    }
+    Ok(volume.picked(ActorId(17)))
+}
+
+/// What was picked after the healer's 28th line, which ends the first looks of its second heal: the
+/// first one finds nothing to heal. Before that nothing is picked.
+fn source_found(alloc: Global) -> Result<Option<BrickId>, Fail> {
+    let mut volume = Volume::empty(alloc);
+    set_up(alloc, &mut volume, MISSED)?;
+    for _ in 0..21 {
+        client_goes(&mut volume)?;
+    }
+    for _ in 0..27 {
+        if picked_next(&mut volume)?.is_some() {
+            return Err(Fail::from("early"));
+        }
+    }
+    picked_next(&mut volume)
+}
+
+#[test]
+fn a_healer_has_a_source_after_its_first_looks(rt: HostRuntime) -> Result<(), Fail> {
+    let source = source_found(rt.alloc())?;
+    assert!(rt; source == Some(BrickId(0)));
     Ok(())
 }

@@ -1,3 +1,4 @@
+pub mod Choosing
 pub mod Free
 pub mod Looks
 pub mod Stops

@@ -1,5 +1,5 @@
 -- Walking a path, name by name.
-use Rattle.std.specs.Prelude.{◌≡◌, ℕ, ◌+◌, ◌<◌, ◌≤◌, ◌==◌, Bool, true, false, List, Option, Some, None, length, slice_index_or, if◌then◌else◌}
+use Rattle.std.specs.Prelude.{◌≡◌, ℕ, ◌+◌, ◌<◌, ◌≤◌, ◌==◌, Bool, true, false, List, [], Option, Some, None, length, slice_index_or, if◌then◌else◌}
 use Rattle.afr_base.specs.Bricks.{lowest, is_nothing}
 use Rattle.afr_base.specs.declared.ids.BrickId.{BrickId}
 use Rattle.afr_base.specs.declared.ids.Kind.TheVariants.{Names}
@@ -20,6 +20,8 @@ use Rattle.afr_lines.specs.declared.answer.Answer.TheVariants as answer
 use Rattle.afr_lines.specs.declared.answer.Told.{Told}
 use Rattle.afr_lines.specs.declared.request.Request.{Request}
 use Rattle.afr_lines.specs.declared.request.Request.TheVariants as request
+use Rattle.afr_rule.specs.declared.candidate.Candidate.{Candidate}
+use Rattle.afr_walk.specs.Choosing.{choices_after}
 use Rattle.afr_walk.specs.Free.{IsFree}
 use Rattle.afr_walk.specs.Looks.{no_look, left_to_look, heard_look, IsLooks}
 use Rattle.afr_walk.specs.declared.looks.Looks.{Looks}
@@ -51,7 +53,7 @@ is_walking (Stopped why) = false
 abbrev pub name_in : Walk → NameId
 name_in w = slice_index_or w.path w.read (record { 0 = 0 })
 
--- what is asked next: a look at the next brick, or the next name of a good copy
+-- what is asked next: a look at the next brick, or the next name of the copy that was chosen
 abbrev pub next_at : WalkStep → Walk → BrickId × Request
 next_at (Looking s) w = (record { 0 = lowest (left_to_look w.shape.n s) }, request.Look w.object.gfid)
 next_at (Naming b) w = (b, request.ReadName w.object.gfid (name_in w))
@@ -61,16 +63,25 @@ next_at step w = (record { 0 = 0 }, request.Index)
 abbrev pub next_in : Walk → BrickId × Request
 next_in w = next_at w.step w
 
--- the step after a verdict: the lowest good copy is asked for the name
-abbrev pub verdict_step : Verdict → List (Option View) → WalkStep
-verdict_step verdict.Short views = Stopped stop.NoQuorum
-verdict_step verdict.Bare views = Stopped stop.FewCopies
-verdict_step verdict.Split views = Stopped (stop.SplitBrain views)
-verdict_step (verdict.Sources sources) views = Naming (record { 0 = lowest sources })
+-- the step after a verdict: the copy that was chosen of the sources is asked for the name
+abbrev pub verdict_step : BrickId → Verdict → List (Option View) → WalkStep
+verdict_step chosen verdict.Short views = Stopped stop.NoQuorum
+verdict_step chosen verdict.Bare views = Stopped stop.FewCopies
+verdict_step chosen verdict.Split views = Stopped (stop.SplitBrain views)
+verdict_step chosen (verdict.Sources sources) views = Naming chosen
 
 -- the step after a look: the verdict comes when all were asked
-abbrev pub after_looks : Shape → Looks → WalkStep
-after_looks shape s = if is_nothing (left_to_look shape.n s) then verdict_step (verdict_of shape s.looked Names) s.looked.views else Looking s
+abbrev pub after_looks : BrickId → Shape → Looks → WalkStep
+after_looks chosen shape s = if is_nothing (left_to_look shape.n s) then verdict_step chosen (verdict_of shape s.looked Names) s.looked.views else Looking s
+
+-- what the rule is asked for at an answer: the good copies, where it ends the looks
+abbrev pub choices_at : WalkStep → Answer → Walk → List Candidate
+choices_at (Looking s) heard w = choices_after w.shape Names (heard_look w.shape.n (told_by heard) s)
+choices_at step heard w = []
+
+-- the same of a whole walk
+abbrev pub choices_of : Answer → Walk → List Candidate
+choices_of heard w = choices_at w.step heard w
 
 -- a name was read, or not
 abbrev pub named : Answer → Walk → Walk
@@ -82,15 +93,15 @@ named heard w = record w { step = Stopped stop.Failed }
 abbrev pub noted : BrickId × Request → Told → ℕ → Walk → Walk
 noted asked told at w = record w { register = noted_ask w.register at asked.0.0 asked.1 told }
 
--- the walk after an answer, but for its register
-abbrev pub walked_at : WalkStep → Answer → Walk → Walk
-walked_at (Looking s) heard w = record w { step = after_looks w.shape (heard_look w.shape.n (told_by heard) s) }
-walked_at (Naming b) heard w = named heard w
-walked_at step heard w = w
+-- the walk after an answer, but for its register; this copy is read next, where there is one to choose
+abbrev pub walked_at : BrickId → WalkStep → Answer → Walk → Walk
+walked_at chosen (Looking s) heard w = record w { step = after_looks chosen w.shape (heard_look w.shape.n (told_by heard) s) }
+walked_at chosen (Naming b) heard w = named heard w
+walked_at chosen step heard w = w
 
 -- a walk after an answer to what it asked
-abbrev pub walked : Answer → ℕ → Walk → Walk
-walked heard at w = walked_at w.step heard (noted (next_in w) (told_by heard) at w)
+abbrev pub walked : BrickId → Answer → ℕ → Walk → Walk
+walked chosen heard at w = walked_at chosen w.step heard (noted (next_in w) (told_by heard) at w)
 
 -- somebody is left to ask
 abbrev pub IsStep : ℕ → ℕ → ℕ → WalkStep → Type 0
@@ -106,8 +117,3 @@ pub record IsWalk (w : Walk) : Type 0 where
   pub within : w.read ≤ length w.path
   pub step : IsStep w.shape.n (length w.path) w.read w.step
   pub free : IsFree w.shape w.register
-
--- the sources of a verdict are some brick
-abbrev pub IsChoice : Verdict → Type 0
-IsChoice (verdict.Sources sources) = is_nothing sources ≡ false
-IsChoice other = Unit {0}

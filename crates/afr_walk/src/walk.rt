@@ -1,19 +1,23 @@
-//! Walking a path: each name is read from a good copy of the directory that the names before it lead to.
+//! Walking a path: each name is read from a good copy of the directory that the names before it lead to, which the read rule
+//! picks once all copies were looked at.
 ghost use Rattle.std.specs.Prelude.{◌≡◌, ◌<◌, ◌≤◌, ◌+◌, IfOk, length, false, true};
 ghost use Rattle.afr_base.specs.Bricks.{is_nothing};
 ghost use Rattle.afr_discipline.specs.Notes.{noted_ask};
+ghost use Rattle.afr_rule.specs.Choosing.{IsRule};
+ghost use Rattle.afr_walk.specs.Choosing.{RuleAnswers, choices, choices_after, reader_of};
 ghost use Rattle.afr_walk.specs.Free.{AllowsAsk, IsFree, is_free};
 ghost use Rattle.afr_walk.specs.Looks.{IsLooks, heard_look, left_to_look};
-ghost use Rattle.afr_walk.specs.Walk.{IsChoice, IsStep, IsWalk, after_looks, is_walking, named, next_in, noted, step_at, verdict_step, walk_from, walked, walked_at};
+ghost use Rattle.afr_walk.specs.Walk.{IsStep, IsWalk, after_looks, choices_at, choices_of, is_walking, named, next_in, noted, step_at, verdict_step, walk_from, walked, walked_at};
 
+use crate::choosing::{pick_if, reader_of};
 use crate::looks::Looks;
 use crate::stop::Stop;
-use crate::verdicts::choose;
 use afr_base::{BrickId, Gfid, Kind, NameId, NoMemory, Shape, What};
 use afr_choice::{Verdict, judge};
 use afr_discipline::{Move, Register, fresh, note};
 use afr_lines::{Answer, Request, Told, told_of};
 use afr_object::{Entry, List, View};
+use afr_rule::{Candidate, ReadRule};
 use std::alloc::Global;
 
 /// Where a walk stands.
@@ -21,7 +25,7 @@ use std::alloc::Global;
 pub enum WalkStep {
     /// The bricks are looked at, for the directory that was reached.
     Looking(Looks),
-    /// A good copy is asked for the next name.
+    /// The copy that the rule picked is asked for the next name.
     Naming(BrickId),
     /// The path leads to the object.
     Arrived,
@@ -86,17 +90,25 @@ impl Walk {
         self.asked()
     }
 
-    /// The brick has answered at this position.
-    pub fn hear(&mut self, answer: &Answer, at: u32)
+    /// The brick has answered at this position. Once all were looked at the rule picks the copy that is read next; this is what
+    /// it has picked now.
+    pub fn hear<G: Fn(&[Candidate]) -> usize>(
+        &mut self,
+        answer: &Answer,
+        at: u32,
+        rule: &ReadRule<G>,
+    ) -> Option<BrickId>
+        requires rule { IsRule G.Fn rule.now }
         requires walk { IsWalk self.old }
         requires walking { is_walking self.old.step ≡ true }
-        ensures value { self.new ≡ walked answer.now at self.old }
+        ensures picked { RuleAnswers G.Fn rule.now (choices_of answer.now self.old) result }
+        ensures value { self.new ≡ walked (reader_of result) answer.now at self.old }
         ensures kept { IsWalk self.new }
     {
         let told = told_of(answer);
         let (brick, request) = self.next();
         self.note(brick, &request, &told, at);
-        self.go_on(answer);
+        self.go_on(answer, rule)
     }
 
     /// A look or a read of the same work was told this, at this position.
@@ -133,20 +145,32 @@ impl Walk {
         }
     }
 
-    fn go_on(&mut self, answer: &Answer)
+    fn go_on<G: Fn(&[Candidate]) -> usize>(
+        &mut self,
+        answer: &Answer,
+        rule: &ReadRule<G>,
+    ) -> Option<BrickId>
+        requires rule { IsRule G.Fn rule.now }
         requires walk { IsWalk self.old }
-        ensures value { self.new ≡ walked_at self.old.step answer.now self.old }
+        ensures picked { RuleAnswers G.Fn rule.now (choices_at self.old.step answer.now self.old) result }
+        ensures value { self.new ≡ walked_at (reader_of result) self.old.step answer.now self.old }
         ensures kept { IsWalk self.new }
     {
         match &mut self.step {
             WalkStep::Looking(looks) => {
                 looks.hear(self.shape.n, &told_of(answer));
-                if looks.is_over(self.shape.n) {
-                    self.step = judged_by(self.shape, looks);
+                if !looks.is_over(self.shape.n) {
+                    return None;
                 }
+                let (step, picked) = judged_by(self.shape, looks, rule);
+                self.step = step;
+                picked
             }
-            WalkStep::Naming(_) => self.name_heard(answer),
-            _ => {}
+            WalkStep::Naming(_) => {
+                self.name_heard(answer);
+                None
+            }
+            _ => None,
         }
     }
 
@@ -208,26 +232,31 @@ fn step_from(names: usize, read: usize, object: Entry) -> WalkStep
     }
 }
 
-/// All bricks were asked.
-fn judged_by(shape: Shape, looks: &Looks) -> WalkStep
+/// All bricks were asked: the step that follows, and what the rule has picked.
+fn judged_by<G: Fn(&[Candidate]) -> usize>(
+    shape: Shape,
+    looks: &Looks,
+    rule: &ReadRule<G>,
+) -> (WalkStep, Option<BrickId>)
+    requires rule { IsRule G.Fn rule.now }
     requires few { shape.n ≤ 5 }
     requires over { is_nothing (left_to_look shape.n looks.now) ≡ true }
-    ensures { result ≡ after_looks shape looks.now }
+    ensures picked { RuleAnswers G.Fn rule.now (choices_after shape Kind.Names looks.now) result.1 }
+    ensures step { result.0 ≡ after_looks (reader_of result.1) shape looks.now }
 {
-    judged(
-        judge(&shape, &looks.looked, Kind::Names),
-        &looks.looked.views,
-    )
+    let looked = &looks.looked;
+    let verdict = judge(&shape, looked, Kind::Names);
+    let picked = pick_if(&verdict, &shape, looked, Kind::Names, rule);
+    (judged(verdict, reader_of(picked), &looked.views), picked)
 }
 
-fn judged(verdict: Verdict, views: &[Option<View>; 5]) -> WalkStep
-    requires { IsChoice verdict }
-    ensures { result ≡ verdict_step verdict views.now }
+fn judged(verdict: Verdict, chosen: BrickId, views: &[Option<View>; 5]) -> WalkStep
+    ensures { result ≡ verdict_step chosen verdict views.now }
 {
     match verdict {
         Verdict::Short => WalkStep::Stopped(Stop::NoQuorum),
         Verdict::Bare => WalkStep::Stopped(Stop::FewCopies),
         Verdict::Split => WalkStep::Stopped(Stop::SplitBrain(*views)),
-        Verdict::Sources(sources) => WalkStep::Naming(choose(sources)),
+        Verdict::Sources(_) => WalkStep::Naming(chosen),
     }
 }

@@ -67,7 +67,7 @@ pub begins_with_five : BeginsWithFive
 begins_with_five shape c h = subst (λ (x : Register). HasFive x) (sym (begins_fresh shape c h)) (fresh_five shape)
 
 pub keeps_five : KeepsFive
-keeps_five w k five at b asked e a = subst (λ (x : Register). HasFive x) (sym (notes_each w at b asked e a)) (asked_five (register_of w) at b.0 asked (told_by a) (stays_outside w k) five)
+keeps_five w k five at b asked e chosen a = subst (λ (x : Register). HasFive x) (sym (notes_each w at b asked e chosen a)) (asked_five (register_of w) at b.0 asked (told_by a) (stays_outside w k) five)
 
 pub keeps_five_begun : KeepsFiveBegun
-keeps_five_begun w five at change e = subst (λ (x : Register). HasFive x) (sym (notes_begin w at change e)) (begun_five (register_of w) at five)
+keeps_five_begun w five at change e chosen = subst (λ (x : Register). HasFive x) (sym (notes_begin w at change e chosen)) (begun_five (register_of w) at five)

@@ -22,11 +22,14 @@ use Rattle.afr_discipline.specs.Inside.{may_move_inside}
 use Rattle.afr_discipline.specs.Tests.{may_ask_outside, may_move_outside}
 use Rattle.afr_discipline.specs.declared.register.Move.TheVariants as move
 use Rattle.afr_discipline.specs.declared.register.Register.{Register}
+use Rattle.afr_rule.specs.Choosing.{Calls}
 use Rattle.afr_walk.specs.Free.{Allows, IsFree}
 use Rattle.afr_walk.specs.Looks.{no_look}
 use Rattle.afr_walk.specs.Walk.{IsWalk, root_entry, walk_from}
 use Rattle.afr_walk.specs.declared.walk.Walk.{Walk}
 use Rattle.afr_walk.specs.declared.walk.WalkStep.TheVariants as walking
+use Rattle.afr_walk.specs.Choosing.{reader_of}
+use Rattle.afr_walk.proofs.ChoosingLemmas.{answers_among}
 use Rattle.afr_walk.proofs.FreeLemmas.{allows_end, shape_is}
 use Rattle.afr_transaction.specs.Outcome.{reply_of}
 use Rattle.afr_transaction.specs.Progress as progress
@@ -39,7 +42,7 @@ use Rattle.afr_removal.specs.Removal.{Removing}
 use Rattle.afr_removal.specs.declared.stage.RemovalStage.{RemovalStage}
 use Rattle.afr_removal.specs.declared.stage.RemovalStage.TheVariants as removing
 use Rattle.afr_entry.specs.Entry as entry
-use Rattle.afr_entry.specs.Entry.{IsEntry, next_under, reader, reads_name}
+use Rattle.afr_entry.specs.Entry.{IsEntry, next_under, reads_name}
 use Rattle.afr_entry.specs.Job.{reply_to}
 use Rattle.afr_entry.specs.declared.job.EntryJob.{EntryJob}
 use Rattle.afr_entry.specs.declared.job.EntryJob.TheVariants as name
@@ -61,9 +64,9 @@ use Rattle.afr_inode_write.specs.declared.job.WriteJob.TheVariants as job
 use Rattle.afr_inode_write.specs.declared.stage.WriteStage.{WriteStage}
 use Rattle.afr_inode_write.specs.declared.stage.WriteStage.TheVariants as writing
 use Rattle.afr_inode_write.proofs.WriteLemmas as write_lemmas
-use Rattle.afr_works.specs.Laws.{AllowedNext, AsksLow, AsksMore, BeginsFresh, BeginsMore, HasFew, NotesBegin, NotesEach, StaysOutside, StaysSound}
+use Rattle.afr_works.specs.Laws.{AllowedNext, AsksLow, AsksMore, BeginsFresh, BeginsMore, FedIsAnswered, HasFew, NotesBegin, NotesEach, StaysOutside, StaysSound}
 use Rattle.afr_works.specs.Begin.{front, last}
-use Rattle.afr_works.specs.Work.{idle_register, register_of}
+use Rattle.afr_works.specs.Work.{choices_heard, idle_register, register_of}
 use Rattle.afr_works.specs.declared.work.Work.TheVariants.{Idle, Lookup, Write, Entry}
 
 -- ---- the first register
@@ -172,9 +175,9 @@ beginning_more Closing t e = absurd (cc e)
 beginning_more stage t e = refl
 
 under_asks : (of : Found) (j : EntryJob) (w : Walk) (t : Progress) (at : ℕ) (b : BrickId) (request : Request) → next_under of at j w t ≡ next.Ask b request → progress.is_over t.stage t ≡ false
-under_asks found.Unread j w t at b request e = go (progress.is_beginning t.stage) refl e
+under_asks (found.Unread c) j w t at b request e = go (progress.is_beginning t.stage) refl e
   where
-    go : (begins : Bool) → progress.is_beginning t.stage ≡ begins → (if begins then next.Ask (reader t.register) (reads_name j w) else progress.next_at t.stage at t) ≡ next.Ask b request → progress.is_over t.stage t ≡ false
+    go : (begins : Bool) → progress.is_beginning t.stage ≡ begins → (if begins then next.Ask c (reads_name j w) else progress.next_at t.stage at t) ≡ next.Ask b request → progress.is_over t.stage t ≡ false
     go true f e = beginning_more t.stage t f
     go false f e = transaction_asks t.stage t at b request e
 under_asks found.Fits j w t at b request e = transaction_asks t.stage t at b request e
@@ -185,9 +188,9 @@ under_asks (found.Refused why) j w t at b request e = go (progress.is_over t.sta
     go false e = refl
 
 under_begins : (of : Found) (j : EntryJob) (w : Walk) (t : Progress) (at : ℕ) (change : Change) → next_under of at j w t ≡ next.Begin change → progress.is_over t.stage t ≡ false
-under_begins found.Unread j w t at change e = go (progress.is_beginning t.stage) e
+under_begins (found.Unread c) j w t at change e = go (progress.is_beginning t.stage) e
   where
-    go : (begins : Bool) → (if begins then next.Ask (reader t.register) (reads_name j w) else progress.next_at t.stage at t) ≡ next.Begin change → progress.is_over t.stage t ≡ false
+    go : (begins : Bool) → (if begins then next.Ask c (reads_name j w) else progress.next_at t.stage at t) ≡ next.Begin change → progress.is_over t.stage t ≡ false
     go true e = absurd (cc e)
     go false e = transaction_begins t.stage t at change e
 under_begins found.Fits j w t at change e = transaction_begins t.stage t at change e
@@ -244,34 +247,39 @@ asking : (b : Bool) → not b ≡ false → b ≡ true
 asking true h = refl
 asking false h = absurd (cc h)
 
--- whatever is heard of the next line, a work stays sound
+-- whatever is heard of the next line, and whichever good copy is read then, a work stays sound
 pub stays_sound : StaysSound
-stays_sound Idle k more of = tt
-stays_sound (Lookup m) k more (heard.Answer a at) = read.stays_sound m k (asking (lookup.is_asking m.stage) more) a at
-stays_sound (Lookup m) k more (heard.Begun at) = k
-stays_sound (Write m) k more of = write_lemmas.stays_sound m k more of
-stays_sound (Entry m) k more of = entry_lemmas.stays_sound m k more of
+stays_sound Idle k more chosen of among = tt
+stays_sound (Lookup m) k more chosen (heard.Answer a at) among = read.stays_sound m k (asking (lookup.is_asking m.stage) more) chosen a at among
+stays_sound (Lookup m) k more chosen (heard.Begun at) among = k
+stays_sound (Write m) k more chosen of among = write_lemmas.stays_sound m k more chosen of among
+stays_sound (Entry m) k more chosen of among = entry_lemmas.stays_sound m k more chosen of among
+
+-- what a work has heard by some rule, it has heard by any rule
+pub fed_is_answered : {F : Type 0} (calls : Calls F) (choose : F) → FedIsAnswered calls choose
+fed_is_answered calls choose of old new k = record { chosen = reader_of k.picked; among = answers_among calls choose (choices_heard of old) k.picked k.answers; value = k.value }
 
 -- ---- the register
-read_notes : (m : LookupValue) (at : ℕ) (b : BrickId) (request : Request) → lookup.next_of m ≡ next.Ask b request → (a : Answer) → (lookup.answered a at m).walk.register ≡ noted_ask m.walk.register at b.0 request (told_by a)
-read_notes m at b request e a =
+read_notes : (m : LookupValue) (at : ℕ) (b : BrickId) (request : Request) → lookup.next_of m ≡ next.Ask b request → (chosen : BrickId) (a : Answer)
+    → (lookup.answered chosen a at m).walk.register ≡ noted_ask m.walk.register at b.0 request (told_by a)
+read_notes m at b request e chosen a =
     let asks_it = asking_at m.stage m.walk b request e in
-    ask_same (λ (x : BrickId) (q : Request). (lookup.answered a at m).walk.register ≡ noted_ask m.walk.register at x.0 q (told_by a)) (asked_at m.stage m.walk).0 b (asked_at m.stage m.walk).1 request asks_it.1
-    (read.notes_each m asks_it.0 a at)
+    ask_same (λ (x : BrickId) (q : Request). (lookup.answered chosen a at m).walk.register ≡ noted_ask m.walk.register at x.0 q (told_by a)) (asked_at m.stage m.walk).0 b (asked_at m.stage m.walk).1 request asks_it.1
+    (read.notes_each m asks_it.0 chosen a at)
 
 -- the register notes each request, and what was told
 pub notes_each : NotesEach
-notes_each Idle at b request e a = absurd (cc e)
-notes_each (Lookup m) at b request e a = read_notes m at b request e a
-notes_each (Write m) at b request e a = write_lemmas.notes_each m at b request e a
-notes_each (Entry m) at b request e a = entry_lemmas.notes_each m at b request e a
+notes_each Idle at b request e chosen a = absurd (cc e)
+notes_each (Lookup m) at b request e chosen a = read_notes m at b request e chosen a
+notes_each (Write m) at b request e chosen a = write_lemmas.notes_each m at b request e chosen a
+notes_each (Entry m) at b request e chosen a = entry_lemmas.notes_each m at b request e chosen a
 
 -- and the number of each attempt
 pub notes_begin : NotesBegin
-notes_begin Idle at change e = absurd (cc e)
-notes_begin (Lookup m) at change e = absurd (never_begins m.stage m.walk change e)
-notes_begin (Write m) at change e = write_lemmas.notes_begin m at change e
-notes_begin (Entry m) at change e = entry_lemmas.notes_begin m at change e
+notes_begin Idle at change e chosen = absurd (cc e)
+notes_begin (Lookup m) at change e chosen = absurd (never_begins m.stage m.walk change e)
+notes_begin (Write m) at change e chosen = write_lemmas.notes_begin m at change e chosen
+notes_begin (Entry m) at change e chosen = entry_lemmas.notes_begin m at change e chosen
 
 -- ---- few bricks, and no heal
 walk_few : (w : Walk) → IsWalk w → w.register.shape.n ≤ 5

@@ -12,9 +12,11 @@ use Rattle.afr_lines.specs.declared.request.Request.{Request}
 use Rattle.afr_plan.specs.declared.command.Command.{Command}
 use Rattle.afr_discipline.specs.Notes.{noted_ask, noted_begin}
 use Rattle.afr_discipline.specs.Stands.{HasFive, no_lines}
+use Rattle.afr_rule.specs.Choosing.{Calls}
+use Rattle.afr_walk.specs.Choosing.{IsAmong}
 use Rattle.afr_walk.specs.Free.{Allows}
 use Rattle.afr_works.specs.Begin.{has_machine, work_from}
-use Rattle.afr_works.specs.Work.{IsWork, heard_by, is_over, next_of, register_of}
+use Rattle.afr_works.specs.Work.{IsAnswered, IsFed, IsWork, choices_heard, heard_by, is_over, next_of, register_of}
 use Rattle.afr_works.specs.declared.work.Work.{Work}
 
 -- a work that begins has the register of no lines
@@ -25,9 +27,9 @@ BeginsFresh = (shape : Shape) (c : Command) → has_machine c ≡ true → regis
 abbrev pub AllowedNext : Type 0
 AllowedNext = (w : Work) → IsWork w → (at : ℕ) → Allows (register_of w) (next_of at w)
 
--- whatever is heard of the next line, a work stays sound
+-- whatever is heard of the next line, and whichever good copy is read then, a work stays sound
 abbrev pub StaysSound : Type 0
-StaysSound = (w : Work) → IsWork w → is_over w ≡ false → (of : Heard) → IsWork (heard_by of w)
+StaysSound = (w : Work) → IsWork w → is_over w ≡ false → (chosen : BrickId) (of : Heard) → IsAmong (choices_heard of w) chosen → IsWork (heard_by chosen of w)
 
 -- where the next line is a request, more is left than the end
 abbrev pub AsksMore : Type 0
@@ -40,11 +42,12 @@ BeginsMore = (w : Work) (at : ℕ) (change : Change) → next_of at w ≡ next.B
 -- the register notes each request, and what was told
 abbrev pub NotesEach : Type 0
 NotesEach =
-    (w : Work) (at : ℕ) (b : BrickId) (request : Request) → next_of at w ≡ next.Ask b request → (a : Answer) → register_of (heard_by (heard.Answer a at) w) ≡ noted_ask (register_of w) at b.0 request (told_by a)
+    (w : Work) (at : ℕ) (b : BrickId) (request : Request) → next_of at w ≡ next.Ask b request → (chosen : BrickId) (a : Answer)
+    → register_of (heard_by chosen (heard.Answer a at) w) ≡ noted_ask (register_of w) at b.0 request (told_by a)
 
 -- and the number of each attempt
 abbrev pub NotesBegin : Type 0
-NotesBegin = (w : Work) (at : ℕ) (change : Change) → next_of at w ≡ next.Begin change → register_of (heard_by (heard.Begun at) w) ≡ noted_begin (register_of w) at
+NotesBegin = (w : Work) (at : ℕ) (change : Change) → next_of at w ≡ next.Begin change → (chosen : BrickId) → register_of (heard_by chosen (heard.Begun at) w) ≡ noted_begin (register_of w) at
 
 -- the volume has five bricks at most
 abbrev pub HasFew : Type 0
@@ -57,11 +60,12 @@ BeginsWithFive = (shape : Shape) (c : Command) → has_machine c ≡ true → Ha
 -- and after a request
 abbrev pub KeepsFive : Type 0
 KeepsFive =
-    (w : Work) → IsWork w → HasFive (register_of w) → (at : ℕ) (b : BrickId) (request : Request) → next_of at w ≡ next.Ask b request → (a : Answer) → HasFive (register_of (heard_by (heard.Answer a at) w))
+    (w : Work) → IsWork w → HasFive (register_of w) → (at : ℕ) (b : BrickId) (request : Request) → next_of at w ≡ next.Ask b request → (chosen : BrickId) (a : Answer)
+    → HasFive (register_of (heard_by chosen (heard.Answer a at) w))
 
 -- and after a Begin line
 abbrev pub KeepsFiveBegun : Type 0
-KeepsFiveBegun = (w : Work) → HasFive (register_of w) → (at : ℕ) (change : Change) → next_of at w ≡ next.Begin change → HasFive (register_of (heard_by (heard.Begun at) w))
+KeepsFiveBegun = (w : Work) → HasFive (register_of w) → (at : ℕ) (change : Change) → next_of at w ≡ next.Begin change → (chosen : BrickId) → HasFive (register_of (heard_by chosen (heard.Begun at) w))
 
 -- a client's work is no heal
 abbrev pub StaysOutside : Type 0
@@ -70,3 +74,7 @@ StaysOutside = (w : Work) → IsWork w → (register_of w).inside ≡ false
 -- a request goes to one of the five bricks
 abbrev pub AsksLow : Type 0
 AsksLow = (w : Work) → IsWork w → (at : ℕ) (b : BrickId) (request : Request) → next_of at w ≡ next.Ask b request → b.0 < 5
+
+-- what a work has heard by some rule, it has heard by any rule
+abbrev pub FedIsAnswered : {F : Type 0} → Calls F → F → Type 0
+FedIsAnswered calls choose = (of : Heard) (old new : Work) → IsFed calls choose of old new → IsAnswered of old new

@@ -1,13 +1,19 @@
 -- A client's present work: what its machine would write next, and what it makes of what is heard.
-use Rattle.std.specs.Prelude.{◌≡◌, ℕ, not, Bool, true, false}
+use Rattle.std.specs.Prelude.{◌≡◌, ℕ, not, Bool, true, false, List, [], Option}
+use Rattle.afr_base.specs.declared.ids.BrickId.{BrickId}
 use Rattle.afr_object.specs.declared.change.Load.{Load}
 use Rattle.afr_object.specs.declared.change.Load.TheVariants as load
+use Rattle.afr_lines.specs.declared.answer.Answer.{Answer}
 use Rattle.afr_lines.specs.declared.line.Heard.{Heard}
+use Rattle.afr_lines.specs.declared.line.Heard.TheVariants as heard
 use Rattle.afr_lines.specs.declared.line.Next.{Next}
 use Rattle.afr_lines.specs.declared.line.Next.TheVariants as next
 use Rattle.afr_lines.specs.declared.reply.Reply.TheVariants.{Failed}
 use Rattle.afr_discipline.specs.Stands.{no_lines}
 use Rattle.afr_discipline.specs.declared.register.Register.{Register}
+use Rattle.afr_rule.specs.Choosing.{Calls}
+use Rattle.afr_rule.specs.declared.candidate.Candidate.{Candidate}
+use Rattle.afr_walk.specs.Choosing.{IsAmong, RuleAnswers, reader_of}
 use Rattle.afr_entry.specs.Entry as entry
 use Rattle.afr_inode_read.specs.Lookup as lookup
 use Rattle.afr_inode_write.specs.Write as write
@@ -63,9 +69,32 @@ CarriesNext (Lookup m) carried = carried ≡ load.Nothing
 CarriesNext (Write m) carried = write.CarriesNext m.stage carried
 CarriesNext (Entry m) carried = entry.CarriesNext m.stage carried
 
--- the work after its line was written and answered
-abbrev pub heard_by : Heard → Work → Work
-heard_by of Idle = Idle
-heard_by of (Lookup m) = Lookup (lookup.heard_by of m)
-heard_by of (Write m) = Write (write.heard_by of m)
-heard_by of (Entry m) = Entry (entry.heard_by of m)
+-- what the rule is asked for by what is heard: the good copies of what is read next, where it ends the looks, and else nothing
+abbrev pub choices_heard : Heard → Work → List Candidate
+choices_heard of Idle = []
+choices_heard of (Lookup m) = lookup.choices_heard of m
+choices_heard of (Write m) = write.choices_heard of m
+choices_heard of (Entry m) = entry.choices_heard of m
+
+-- the same by an answer at this position
+abbrev pub choices_of : Answer → ℕ → Work → List Candidate
+choices_of a at work = choices_heard (heard.Answer a at) work
+
+-- the work after its line was written and answered; this copy is read next, where there is one to choose
+abbrev pub heard_by : BrickId → Heard → Work → Work
+heard_by chosen of Idle = Idle
+heard_by chosen of (Lookup m) = Lookup (lookup.heard_by chosen of m)
+heard_by chosen of (Write m) = Write (write.heard_by chosen of m)
+heard_by chosen of (Entry m) = Entry (entry.heard_by chosen of m)
+
+-- the work has heard this: the rule was asked where there was anything to choose from, and its copy is the one that is read
+pub record IsFed {F : Type 0} (calls : Calls F) (choose : F) (of : Heard) (old new : Work) : Type 0 where
+  pub picked : Option BrickId
+  pub answers : RuleAnswers calls choose (choices_heard of old) picked
+  pub value : new ≡ heard_by (reader_of picked) of old
+
+-- the same, whatever rule it was: the copy that is read is one of those
+pub record IsAnswered (of : Heard) (old new : Work) : Type 0 where
+  pub chosen : BrickId
+  pub among : IsAmong (choices_heard of old) chosen
+  pub value : new ≡ heard_by chosen of old

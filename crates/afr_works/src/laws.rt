@@ -1,5 +1,7 @@
 //! What holds of all works at once: laws for those who prove over many lines.
-ghost use Rattle.afr_works.specs.Laws.{AllowedNext, AsksLow, AsksMore, BeginsFresh, BeginsMore, BeginsWithFive, HasFew, KeepsFive, KeepsFiveBegun, NotesBegin, NotesEach, StaysOutside, StaysSound};
+ghost use Rattle.afr_works.specs.Laws.{AllowedNext, AsksLow, AsksMore, BeginsFresh, BeginsMore, BeginsWithFive, FedIsAnswered, HasFew, KeepsFive, KeepsFiveBegun, NotesBegin, NotesEach, StaysOutside, StaysSound};
+
+use afr_rule::{Candidate, ReadRule};
 
 /// Whatever the bricks have answered so far, the next line is one that the discipline allows; whatever they answer now,
 /// that stays so, and the register notes it.
@@ -22,3 +24,10 @@ pub fn a_work_keeps_five_places()
     ensures asked { KeepsFive }
     ensures begun { KeepsFiveBegun }
 {}
+
+/// What a work has heard by this rule it has heard whatever rule it was: it reads at good copies.
+pub fn a_work_reads_good_copies<G: Fn(&[Candidate]) -> usize>(rule: &ReadRule<G>)
+    ensures { FedIsAnswered G.Fn rule.now }
+{
+    let _ = rule;
+}

@@ -1,17 +1,21 @@
 //! The machine of a client's present command: its next line, and what it makes of the answer.
 ghost use Rattle.std.specs.Prelude.{◌≡◌, ◌<◌, ◌≤◌, IfOk, false};
 ghost use Rattle.afr_discipline.specs.Stands.{HasFive};
+ghost use Rattle.afr_rule.specs.Choosing.{IsRule};
+ghost use Rattle.afr_walk.specs.Choosing.{RuleAnswers, reader_of};
 ghost use Rattle.afr_walk.specs.Free.{Allows};
-ghost use Rattle.afr_works.specs.Work.{CarriesNext, IsBusy, IsWork, heard_by, is_idle, is_over, next_of, register_of};
+ghost use Rattle.afr_works.specs.Work.{CarriesNext, IsBusy, IsWork, choices_of, heard_by, is_idle, is_over, next_of, register_of};
 
 use crate::on_heap::OnHeap;
-use afr_base::NoMemory;
+use afr_base::{BrickId, NoMemory};
 use afr_discipline::{Register, has_five};
 use afr_entry::EntryMachine;
 use afr_inode_read::LookupMachine;
 use afr_inode_write::WriteMachine;
 use afr_lines::{Answer, Heard, Next};
 use afr_object::Load;
+use afr_rule::shipped::first;
+use afr_rule::{Candidate, ReadRule};
 
 /// The machine of a client's present command, if it has begun. It is on the heap: a work is moved often, and most machines
 /// are large.
@@ -70,31 +74,41 @@ impl Work {
     }
 
     /// The request was written at this position, and the brick has answered. A read takes what it was given out of the answer.
-    pub fn hear(&mut self, answer: &mut Answer, at: u32)
+    /// Once all copies of an object were looked at the rule picks the one that is read; this is what it has picked now.
+    pub fn hear<G: Fn(&[Candidate]) -> usize>(
+        &mut self,
+        answer: &mut Answer,
+        at: u32,
+        rule: &ReadRule<G>,
+    ) -> Option<BrickId>
+        requires rule { IsRule G.Fn rule.now }
         requires more { is_over self.old ≡ false }
-        ensures value { self.new ≡ heard_by (Heard.Answer answer.old at) self.old }
+        ensures picked { RuleAnswers G.Fn rule.now (choices_of answer.old at self.old) result }
+        ensures value { self.new ≡ heard_by (reader_of result) (Heard.Answer answer.old at) self.old }
         ensures kept { IsWork self.new }
     {
-        match self {
+        let picked = match self {
             Work::Idle => unreachable!(),
-            Work::Lookup(machine) => machine.value.hear(answer, at),
-            Work::Write(machine) => machine.value.hear(answer, at),
-            Work::Entry(machine) => machine.value.hear(answer, at),
-        }
+            Work::Lookup(machine) => machine.value.hear(answer, at, rule),
+            Work::Write(machine) => machine.value.hear(answer, at, rule),
+            Work::Entry(machine) => machine.value.hear(answer, at, rule),
+        };
         self.stays_sound();
+        picked
     }
 
-    /// The Begin line was written at this position.
+    /// The Begin line was written at this position. It asks no rule, so that the machines may be handed any.
     pub fn begun(&mut self, at: u32)
         requires more { is_over self.old ≡ false }
-        ensures value { self.new ≡ heard_by (Heard.Begun at) self.old }
+        ensures value { self.new ≡ heard_by (reader_of None) (Heard.Begun at) self.old }
         ensures kept { IsWork self.new }
     {
+        let rule = ReadRule::new(first);
         match self {
             Work::Idle => unreachable!(),
-            Work::Lookup(machine) => machine.value.feed(Heard::Begun(at)),
-            Work::Write(machine) => machine.value.feed(Heard::Begun(at)),
-            Work::Entry(machine) => machine.value.feed(Heard::Begun(at)),
+            Work::Lookup(machine) => machine.value.feed(Heard::Begun(at), &rule),
+            Work::Write(machine) => machine.value.feed(Heard::Begun(at), &rule),
+            Work::Entry(machine) => machine.value.feed(Heard::Begun(at), &rule),
         }
         self.stays_sound();
     }

@@ -1,6 +1,7 @@
 -- The lines of a client's present work, by the machine of its command.
 use Rattle.std.proofs.Common.{◌≡◌, ℕ, Bool, true, List, [], ◌∷◌, ◌++◌, length, refl, sym, ap, ◌∙◌, subst}
 use Rattle.afr_base.specs.declared.ids.ActorId.{ActorId}
+use Rattle.afr_base.specs.declared.ids.BrickId.{BrickId}
 use Rattle.afr_base.specs.declared.ids.NameId.{NameId}
 use Rattle.afr_lines.specs.Work.{Work as Lines}
 use Rattle.afr_lines.specs.declared.answer.Answer.{Answer}
@@ -70,26 +71,26 @@ begins p (command.Rmdir path) few some h = by_name p path (λ x. command.Rmdir x
 
 -- ---- after a line
 -- a read goes on along the same path
-same_path : (stage : LookupStage) (heard : Answer) (at : ℕ) (w : Walk) → (walk_after stage heard at w).path ≡ w.path
-same_path reading.Walking heard at w = path_kept heard at w
-same_path (reading.Looking s) heard at w = refl
-same_path (reading.Reading b of) heard at w = refl
-same_path (reading.Ending said) heard at w = refl
+same_path : (chosen : BrickId) (stage : LookupStage) (heard : Answer) (at : ℕ) (w : Walk) → (walk_after chosen stage heard at w).path ≡ w.path
+same_path chosen reading.Walking heard at w = path_kept chosen heard at w
+same_path chosen (reading.Looking s) heard at w = refl
+same_path chosen (reading.Reading b of) heard at w = refl
+same_path chosen (reading.Ending said) heard at w = refl
 
--- whatever was told, the lines show where the work stands then
+-- whatever was told and whichever good copy is read then, the lines show where the work stands
 pub more : WorkTellsMore
-more p c Idle lines a b request heard took log sound k e can = absurd can
-more p c (Lookup m) lines a b request heard took log sound k e can =
-    (k.0 ∙ ap (λ (path : List NameId). command_of m.job path) (sym (same_path m.stage heard (length log) m.walk)), read_more p m lines a b request heard took log (length log) sound k.1 e can)
-more p c (Write m) lines a b request heard took log sound k e can = write.more p c m lines a b request heard took log sound k e can
-more p c (Entry m) lines a b request heard took log sound k e can = entry.more p c m lines a b request heard took log sound k e can
+more p c Idle lines a b request chosen heard took log sound k e can among = absurd can
+more p c (Lookup m) lines a b request chosen heard took log sound k e can among =
+    (k.0 ∙ ap (λ (path : List NameId). command_of m.job path) (sym (same_path chosen m.stage heard (length log) m.walk)), read_more p m lines a b request chosen heard took log (length log) sound k.1 e can among)
+more p c (Write m) lines a b request chosen heard took log sound k e can among = write.more p c m lines a b request chosen heard took log sound k e can among
+more p c (Entry m) lines a b request chosen heard took log sound k e can among = entry.more p c m lines a b request chosen heard took log sound k e can among
 
 -- and after the Begin line, which no read has
 pub begun : WorkBegun
-begun p c Idle lines a change log sound k e = absurd k
-begun p c (Lookup m) lines a change log sound k e = absurd (never_begins m.stage m.walk change e)
-begun p c (Write m) lines a change log sound k e = write.begun p c m lines a change log sound k e
-begun p c (Entry m) lines a change log sound k e = entry.begun p c m lines a change log sound k e
+begun p c Idle lines a change chosen log sound k e = absurd k
+begun p c (Lookup m) lines a change chosen log sound k e = absurd (never_begins m.stage m.walk change e)
+begun p c (Write m) lines a change chosen log sound k e = write.begun p c m lines a change chosen log sound k e
+begun p c (Entry m) lines a change chosen log sound k e = entry.begun p c m lines a change chosen log sound k e
 
 -- ---- each line
 -- a read's next line is a request

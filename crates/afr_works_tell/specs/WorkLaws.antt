@@ -20,8 +20,9 @@ use Rattle.afr_model.specs.Blamed.{Blames}
 use Rattle.afr_model.specs.Following.{KeepsTo}
 use Rattle.afr_transaction_tells.specs.About.{BlamesNext}
 use Rattle.afr_transaction_tells.specs.Laws.{IsNextLine}
+use Rattle.afr_walk.specs.Choosing.{IsAmong}
 use Rattle.afr_works.specs.Begin.{has_machine, work_from}
-use Rattle.afr_works.specs.Work.{IsWork, heard_by, next_of}
+use Rattle.afr_works.specs.Work.{IsWork, choices_of, heard_by, next_of}
 use Rattle.afr_works.specs.declared.work.Work.{Work}
 use Rattle.afr_works_tell.specs.WorkTelling.{WorkHears, WorkTells}
 
@@ -29,18 +30,18 @@ use Rattle.afr_works_tell.specs.WorkTelling.{WorkHears, WorkTells}
 abbrev pub WorkBegins : Type 0
 WorkBegins = (p : Plan) (c : Command) → p.shape.n ≤ 5 → 0 < p.shape.n → has_machine c ≡ true → WorkTells p c (work_from p.shape c) []
 
--- after one line more, whatever was told, the lines show where the work stands then
+-- after one line more, whatever was told and whichever good copy is read then, the lines show where the work stands
 abbrev pub WorkTellsMore : Type 0
 WorkTellsMore =
-    (p : Plan) (c : Command) (w : Work) (lines : Lines) (a : ActorId) (b : BrickId) (request : Request) (heard : Answer) (took : Bool) (log : List Line)
-    → IsWork w → WorkTells p c w lines → next_of (length log) w ≡ next.Ask b request → WorkHears w p b.0 request log heard
-    → WorkTells p c (heard_by (heard_of.Answer heard (length log)) w) ((Ask a b request (told_by heard) took, log) ∷ lines)
+    (p : Plan) (c : Command) (w : Work) (lines : Lines) (a : ActorId) (b : BrickId) (request : Request) (chosen : BrickId) (heard : Answer) (took : Bool) (log : List Line)
+    → IsWork w → WorkTells p c w lines → next_of (length log) w ≡ next.Ask b request → WorkHears w p b.0 request log heard → IsAmong (choices_of heard (length log) w) chosen
+    → WorkTells p c (heard_by chosen (heard_of.Answer heard (length log)) w) ((Ask a b request (told_by heard) took, log) ∷ lines)
 
 -- and so after the Begin line
 abbrev pub WorkBegun : Type 0
 WorkBegun =
-    (p : Plan) (c : Command) (w : Work) (lines : Lines) (a : ActorId) (change : Change) (log : List Line)
-    → IsWork w → WorkTells p c w lines → next_of (length log) w ≡ next.Begin change → WorkTells p c (heard_by (heard_of.Begun (length log)) w) ((Begin a change, log) ∷ lines)
+    (p : Plan) (c : Command) (w : Work) (lines : Lines) (a : ActorId) (change : Change) (chosen : BrickId) (log : List Line)
+    → IsWork w → WorkTells p c w lines → next_of (length log) w ≡ next.Begin change → WorkTells p c (heard_by chosen (heard_of.Begun (length log)) w) ((Begin a change, log) ∷ lines)
 
 -- the next line is about what the words of the command name, and keeps to them
 abbrev pub WorkAbout : Type 0

@@ -16,13 +16,14 @@ use Rattle.afr_plan.specs.declared.plan.Plan.{Plan}
 use Rattle.afr_model.specs.Answered.{IsAbout, IsAnswered}
 use Rattle.afr_model.specs.Following.{KeepsTo}
 use Rattle.afr_model.specs.Refusals.{too_large}
-use Rattle.afr_walk.specs.Walk.{IsStep, is_walking, next_in, walked}
+use Rattle.afr_walk.specs.Choosing.{IsAmong}
+use Rattle.afr_walk.specs.Walk.{IsStep, choices_of, is_walking, next_in, walked}
 use Rattle.afr_walk.specs.Walk as walk
 use Rattle.afr_walk.specs.declared.walk.Walk.{Walk}
 use Rattle.afr_walk.specs.declared.walk.WalkStep.{WalkStep}
 use Rattle.afr_walk.specs.declared.walk.WalkStep.TheVariants as walking
 use Rattle.afr_walk.proofs.WalkLemmas.{is_walked}
-use Rattle.afr_inode_write.specs.Write.{IsStage, IsWrite, after_walk, next_at, stage_after, stage_begun, walk_after}
+use Rattle.afr_inode_write.specs.Write.{IsStage, IsWrite, after_walk, choices_at, next_at, stage_after, stage_begun, walk_after}
 use Rattle.afr_inode_write.specs.declared.job.WriteJob.{WriteJob}
 use Rattle.afr_inode_write.specs.declared.stage.WriteStage.{WriteStage}
 use Rattle.afr_inode_write.specs.declared.stage.WriteStage.TheVariants.{Walking, Changing, Ending}
@@ -40,25 +41,25 @@ use Rattle.afr_write_telling.proofs.Begins.{moved}
 use Rattle.afr_write_telling.proofs.Goes.{asked_more, begun_more, change_end, change_line}
 
 -- ---- while the path is walked
-walks_more : (p : Plan) (c : Command) (job : WriteJob) (w : Walk) (lines : Work) (a : ActorId) (heard : Answer) (took : Bool) (log : List Line) → IsWrite w (Walking job) → Walks p c job w lines
-    → CanAnswer p (next_in w).0.0 (next_in w).1 log heard
-    → WriteTells p c (record { walk = walked heard (length log) w; stage = after_walk job (walked heard (length log) w) }) ((Ask a (next_in w).0 (next_in w).1 (told_by heard) took, log) ∷ lines)
-walks_more p c job w lines a heard took log sound k can = record { shape = tells.shape; stage = subst (λ (x : Command). TellsIn p x (after_walk job after) after more) same (moved p job after more walked_sound small own) }
+walks_more : (p : Plan) (c : Command) (job : WriteJob) (w : Walk) (lines : Work) (a : ActorId) (chosen : BrickId) (heard : Answer) (took : Bool) (log : List Line) → IsWrite w (Walking job) → Walks p c job w lines
+    → CanAnswer p (next_in w).0.0 (next_in w).1 log heard → IsAmong (choices_of heard w) chosen
+    → WriteTells p c (record { walk = walked chosen heard (length log) w; stage = after_walk job (walked chosen heard (length log) w) }) ((Ask a (next_in w).0 (next_in w).1 (told_by heard) took, log) ∷ lines)
+walks_more p c job w lines a chosen heard took log sound k can among = record { shape = tells.shape; stage = subst (λ (x : Command). TellsIn p x (after_walk job after) after more) same (moved p job after more walked_sound small own) }
   where
     after : Walk
-    after = walked heard (length log) w
+    after = walked chosen heard (length log) w
 
     more : Work
     more = (Ask a (next_in w).0 (next_in w).1 (told_by heard) took, log) ∷ lines
 
     walked_sound : walk.IsWalk after
-    walked_sound = is_walked heard (length log) w sound.sound sound.ready.0
+    walked_sound = is_walked chosen heard (length log) w sound.sound sound.ready.0 among
 
     tells : WalkTells p c after more
-    tells = walk_tells_more p c w lines a heard took log (length log) sound.sound sound.ready.0 k.tells can
+    tells = walk_tells_more p c w lines a chosen heard took log (length log) sound.sound sound.ready.0 k.tells can among
 
     same : command_of job after.path ≡ c
-    same = ap (λ (path : List NameId). command_of job path) (path_kept heard (length log) w) ∙ sym k.named
+    same = ap (λ (path : List NameId). command_of job path) (path_kept chosen heard (length log) w) ∙ sym k.named
 
     small : too_large (command_of job after.path) ≡ None
     small = subst (λ (x : Command). too_large x ≡ None) (sym same) k.small
@@ -68,21 +69,21 @@ walks_more p c job w lines a heard took log sound k can = record { shape = tells
 
 -- ---- after a line
 pub more : WriteTellsMore
-more p c m lines a b request heard took log sound k e can = go m.stage sound.ready k.stage e can
+more p c m lines a b request chosen heard took log sound k e can among = go m.stage sound.ready k.stage e can among
   where
     w : Walk
     w = m.walk
 
-    go : (stage : WriteStage) → IsStage w stage → TellsIn p c stage w lines → next_at (length log) stage w ≡ next.Ask b request → CanHear stage p w.object b.0 request log heard
-        → WriteTells p c (record { walk = walk_after stage heard (length log) w; stage = stage_after stage heard (length log) (walk_after stage heard (length log) w) }) ((Ask a b request (told_by heard) took, log) ∷ lines)
-    go (Walking job) ready t e can =
-        asks_same (λ (b : BrickId) (r : Request). CanAnswer p b.0 r log heard → WriteTells p c (record { walk = walked heard (length log) w; stage = after_walk job (walked heard (length log) w) }) ((Ask a b r (told_by heard) took, log) ∷ lines))
-        (next_in w).0 b (next_in w).1 request e (walks_more p c job w lines a heard took log (record { sound = sound.sound; ready = ready }) t) can
-    go (Changing t) ready k2 e can = record { shape = k.shape; stage = asked_more p c w.object lines a log t ready.0 k2 b request (told_by heard) took e can }
-    go (Ending said) ready t e can = absurd (cc e)
+    go : (stage : WriteStage) → IsStage w stage → TellsIn p c stage w lines → next_at (length log) stage w ≡ next.Ask b request → CanHear stage p w.object b.0 request log heard → IsAmong (choices_at stage heard w) chosen
+        → WriteTells p c (record { walk = walk_after chosen stage heard (length log) w; stage = stage_after stage heard (length log) (walk_after chosen stage heard (length log) w) }) ((Ask a b request (told_by heard) took, log) ∷ lines)
+    go (Walking job) ready t e can among =
+        asks_same (λ (b : BrickId) (r : Request). CanAnswer p b.0 r log heard → IsAmong (choices_of heard w) chosen → WriteTells p c (record { walk = walked chosen heard (length log) w; stage = after_walk job (walked chosen heard (length log) w) }) ((Ask a b r (told_by heard) took, log) ∷ lines))
+        (next_in w).0 b (next_in w).1 request e (walks_more p c job w lines a chosen heard took log (record { sound = sound.sound; ready = ready }) t) can among
+    go (Changing t) ready k2 e can among = record { shape = k.shape; stage = asked_more p c w.object lines a log t ready.0 k2 b request (told_by heard) took e can }
+    go (Ending said) ready t e can among = absurd (cc e)
 
 pub begun : WriteBegun
-begun p c m lines a change log sound k e = go m.stage sound.ready k.stage e
+begun p c m lines a change chosen log sound k e = go m.stage sound.ready k.stage e
   where
     w : Walk
     w = m.walk

@@ -18,7 +18,8 @@ use Rattle.afr_plan.specs.declared.command.Command.{Command}
 use Rattle.afr_plan.specs.declared.plan.Plan.{Plan}
 use Rattle.afr_model.specs.Answered.{IsAbout, IsAnswered}
 use Rattle.afr_model.specs.Following.{KeepsTo}
-use Rattle.afr_inode_write.specs.Write.{Write, IsWrite, answered, heard_by, next_of, write_from}
+use Rattle.afr_walk.specs.Choosing.{IsAmong}
+use Rattle.afr_inode_write.specs.Write.{Write, IsWrite, answered, choices_at, heard_by, next_of, write_from}
 use Rattle.afr_inode_write.specs.declared.job.WriteJob.{WriteJob}
 use Rattle.afr_transaction_tells.specs.About.{BlamesNext}
 use Rattle.afr_transaction_tells.specs.Laws.{IsNextLine}
@@ -28,18 +29,18 @@ use Rattle.afr_write_telling.specs.WriteTelling.{CanHear, WriteTells, command_of
 abbrev pub WriteBegins : Type 0
 WriteBegins = (p : Plan) (path : List NameId) (job : WriteJob) → p.shape.n ≤ 5 → 0 < p.shape.n → WriteTells p (command_of job path) (write_from p.shape path job) []
 
--- after one line more, whatever was told, the lines show where the change stands then
+-- after one line more, whatever was told and whichever good copy is read then, the lines show where the change stands
 abbrev pub WriteTellsMore : Type 0
 WriteTellsMore =
-    (p : Plan) (c : Command) (m : Write) (lines : Work) (a : ActorId) (b : BrickId) (request : Request) (heard : Answer) (took : Bool) (log : List Line)
-    → IsWrite m.walk m.stage → WriteTells p c m lines → next_of (length log) m ≡ next.Ask b request → CanHear m.stage p m.walk.object b.0 request log heard
-    → WriteTells p c (answered heard (length log) m) ((Ask a b request (told_by heard) took, log) ∷ lines)
+    (p : Plan) (c : Command) (m : Write) (lines : Work) (a : ActorId) (b : BrickId) (request : Request) (chosen : BrickId) (heard : Answer) (took : Bool) (log : List Line)
+    → IsWrite m.walk m.stage → WriteTells p c m lines → next_of (length log) m ≡ next.Ask b request → CanHear m.stage p m.walk.object b.0 request log heard → IsAmong (choices_at m.stage heard m.walk) chosen
+    → WriteTells p c (answered chosen heard (length log) m) ((Ask a b request (told_by heard) took, log) ∷ lines)
 
 -- and so after the Begin line
 abbrev pub WriteBegun : Type 0
 WriteBegun =
-    (p : Plan) (c : Command) (m : Write) (lines : Work) (a : ActorId) (change : Change) (log : List Line)
-    → IsWrite m.walk m.stage → WriteTells p c m lines → next_of (length log) m ≡ next.Begin change → WriteTells p c (heard_by (heard_of.Begun (length log)) m) ((Begin a change, log) ∷ lines)
+    (p : Plan) (c : Command) (m : Write) (lines : Work) (a : ActorId) (change : Change) (chosen : BrickId) (log : List Line)
+    → IsWrite m.walk m.stage → WriteTells p c m lines → next_of (length log) m ≡ next.Begin change → WriteTells p c (heard_by chosen (heard_of.Begun (length log)) m) ((Begin a change, log) ∷ lines)
 
 -- the next line is about what the words of the command name, and keeps to them
 abbrev pub WriteAbout : Type 0

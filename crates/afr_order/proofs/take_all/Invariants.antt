@@ -9,7 +9,7 @@ abbrev pub invariant-loop-volume : goal.invariant-loop-volume
 invariant-loop-volume g l = record {
   goes : Goes l.fn.volume l.volume;
   taken : (rounds : ℕ) × Takes l.fn.volume.plan (ordered_turns l.fn.volume.plan.go ++ passes rounds (actors_of l.fn.volume.plan)) l.fn.volume.log l.volume.log;
-  chosen : IsChosen (picks_of g.F.Fn l.fn.rule) l.fn.volume → IsChosen (picks_of g.F.Fn l.fn.rule) l.volume;
+  chosen : IsChosen (picks_of g.G.Fn l.fn.rules.read) (picks_of g.F.Fn l.fn.rules.heal) l.fn.volume → IsChosen (picks_of g.G.Fn l.fn.rules.read) (picks_of g.F.Fn l.fn.rules.heal) l.volume;
 }
 
 abbrev pub decreases-loop-volume : goal.decreases-loop-volume

@@ -1,4 +1,4 @@
-use Rattle.afr_entry.proofs.EntryLemmas.{arrives}
+use Rattle.afr_entry.proofs.AskedLemmas.{arrives}
 use Rattle.afr_entry.proofs.stage.left_by.Goals as goal
 
 pub returns-in-Arrived-clause-kept : goal.returns-in-Arrived-clause-kept

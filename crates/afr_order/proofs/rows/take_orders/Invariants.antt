@@ -9,5 +9,5 @@ abbrev pub invariant-loop-i : goal.invariant-loop-i
 invariant-loop-i g l = record {
   goes : Goes l.fn.volume l.volume;
   taken : Takes l.fn.volume.plan (ordered_turns (take l.i l.fn.volume.plan.go)) l.fn.volume.log l.volume.log;
-  chosen : IsChosen (picks_of g.F.Fn l.fn.rule) l.fn.volume → IsChosen (picks_of g.F.Fn l.fn.rule) l.volume;
+  chosen : IsChosen (picks_of g.G.Fn l.fn.rules.read) (picks_of g.F.Fn l.fn.rules.heal) l.fn.volume → IsChosen (picks_of g.G.Fn l.fn.rules.read) (picks_of g.F.Fn l.fn.rules.heal) l.volume;
 }

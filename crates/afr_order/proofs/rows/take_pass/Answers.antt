@@ -47,7 +47,7 @@ returns-clause-idle g c =
     (rw (← clients) (c.in_ok-take_row.ensures.done (ap Ok on))) (rw (← healers) (c.in_ok-take_row-2.ensures.done (ap Ok on_too))) c.in_ok-come_due.ensures.events
 
 pub returns-in_err-come_due-clause-chosen : goal.returns-in_err-come_due-clause-chosen
-returns-in_err-come_due-clause-chosen g c = λ k. happens_chosen (picks_of g.F.Fn c.args.rule.now) c.take_row-2.new.volume c.come_due.new.volume c.come_due.ensures.happens (c.take_row-2.ensures.chosen (c.take_row.ensures.chosen k))
+returns-in_err-come_due-clause-chosen g c = λ k. happens_chosen (picks_of g.G.Fn c.args.rules.now.read) (picks_of g.F.Fn c.args.rules.now.heal) c.take_row-2.new.volume c.come_due.new.volume c.come_due.ensures.happens (c.take_row-2.ensures.chosen (c.take_row.ensures.chosen k))
 
 pub returns-clause-chosen : goal.returns-clause-chosen
-returns-clause-chosen g c = λ k. happens_chosen (picks_of g.F.Fn c.args.rule.now) c.take_row-2.new.volume c.come_due.new.volume c.come_due.ensures.happens (c.take_row-2.ensures.chosen (c.take_row.ensures.chosen k))
+returns-clause-chosen g c = λ k. happens_chosen (picks_of g.G.Fn c.args.rules.now.read) (picks_of g.F.Fn c.args.rules.now.heal) c.take_row-2.new.volume c.come_due.new.volume c.come_due.ensures.happens (c.take_row-2.ensures.chosen (c.take_row.ensures.chosen k))

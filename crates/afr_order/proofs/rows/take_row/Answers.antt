@@ -7,7 +7,7 @@ use Rattle.afr_order.proofs.DoneLemmas.{row_done}
 use Rattle.afr_order.proofs.rows.take_row.Goals as goal
 
 pub take_turn-requires : goal.take_turn-requires
-take_turn-requires g c = record { rule = c.requires.rule; actor = rw c.loop-i.invariant.goes.plan (c.requires.actors c.loop-i.i c.loop-i-test.true) }
+take_turn-requires g c = record { rule = c.requires.rule; read_rule = c.requires.read_rule; actor = rw c.loop-i.invariant.goes.plan (c.requires.actors c.loop-i.i c.loop-i-test.true) }
 
 pub returns-in_err-take_turn-clause-front : goal.returns-in_err-take_turn-clause-front
 returns-in_err-take_turn-clause-front g c =

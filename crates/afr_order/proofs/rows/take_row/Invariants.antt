@@ -11,5 +11,5 @@ invariant-loop-i g l = record {
   goes : Goes l.fn.volume l.volume;
   taken : Takes l.fn.volume.plan (range_with_len l.first l.i) l.fn.volume.log l.volume.log;
   done : length l.volume.log ≤ length l.fn.volume.log → (k : ℕ) → k < l.i → is_done l.volume.plan (l.first + k) l.volume.log ≡ true;
-  chosen : IsChosen (picks_of g.F.Fn l.fn.rule) l.fn.volume → IsChosen (picks_of g.F.Fn l.fn.rule) l.volume;
+  chosen : IsChosen (picks_of g.G.Fn l.fn.rules.read) (picks_of g.F.Fn l.fn.rules.heal) l.fn.volume → IsChosen (picks_of g.G.Fn l.fn.rules.read) (picks_of g.F.Fn l.fn.rules.heal) l.volume;
 }

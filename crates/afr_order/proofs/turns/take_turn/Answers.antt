@@ -10,10 +10,10 @@ pub returns-clause-ok : goal.returns-clause-ok
 returns-clause-ok g c = rw c.goes_on.ensures (ends_then c.args.volume.now c.come_due.new.volume c.turn.new.self [] (c.args.a.0 ∷ []) _ c.come_due.ensures.goes c.come_due.ensures.taken (turn_ends c.args.a c.come_due.new.volume c.turn.new.self c.in_ok-turned.turned c.in_ok-turned.ensures.ok))
 
 pub returns-in_err-come_due-clause-chosen : goal.returns-in_err-come_due-clause-chosen
-returns-in_err-come_due-clause-chosen g c = happens_chosen (picks_of g.F.Fn c.args.rule.now) c.args.volume.now c.come_due.new.volume c.come_due.ensures.happens
+returns-in_err-come_due-clause-chosen g c = happens_chosen (picks_of g.G.Fn c.args.rules.now.read) (picks_of g.F.Fn c.args.rules.now.heal) c.args.volume.now c.come_due.new.volume c.come_due.ensures.happens
 
 pub returns-in_err-turned-clause-chosen : goal.returns-in_err-turned-clause-chosen
-returns-in_err-turned-clause-chosen g c = λ k. c.turn.ensures.chosen (happens_chosen (picks_of g.F.Fn c.args.rule.now) c.args.volume.now c.come_due.new.volume c.come_due.ensures.happens k)
+returns-in_err-turned-clause-chosen g c = λ k. c.turn.ensures.chosen (happens_chosen (picks_of g.G.Fn c.args.rules.now.read) (picks_of g.F.Fn c.args.rules.now.heal) c.args.volume.now c.come_due.new.volume c.come_due.ensures.happens k)
 
 pub returns-clause-chosen : goal.returns-clause-chosen
-returns-clause-chosen g c = λ k. c.turn.ensures.chosen (happens_chosen (picks_of g.F.Fn c.args.rule.now) c.args.volume.now c.come_due.new.volume c.come_due.ensures.happens k)
+returns-clause-chosen g c = λ k. c.turn.ensures.chosen (happens_chosen (picks_of g.G.Fn c.args.rules.now.read) (picks_of g.F.Fn c.args.rules.now.heal) c.args.volume.now c.come_due.new.volume c.come_due.ensures.happens k)

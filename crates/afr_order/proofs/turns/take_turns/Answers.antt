@@ -5,7 +5,7 @@ use Rattle.afr_order.proofs.OrderLemmas.{replicate_more, front_of_replicate, tak
 use Rattle.afr_order.proofs.turns.take_turns.Goals as goal
 
 pub take_turn-requires : goal.take_turn-requires
-take_turn-requires g c = record { rule = c.requires.rule; actor = rw c.loop-taken.invariant.goes.plan c.requires.actor }
+take_turn-requires g c = record { rule = c.requires.rule; read_rule = c.requires.read_rule; actor = rw c.loop-taken.invariant.goes.plan c.requires.actor }
 
 pub returns-in_err-take_turn-clause-front : goal.returns-in_err-take_turn-clause-front
 returns-in_err-take_turn-clause-front g c =

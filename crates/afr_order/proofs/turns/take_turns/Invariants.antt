@@ -8,5 +8,5 @@ abbrev pub invariant-loop-taken : goal.invariant-loop-taken
 invariant-loop-taken g l = record {
   goes : Goes l.fn.volume l.volume;
   taken : Takes l.fn.volume.plan (replicate l._taken l.a.0) l.fn.volume.log l.volume.log;
-  chosen : IsChosen (picks_of g.F.Fn l.fn.rule) l.fn.volume → IsChosen (picks_of g.F.Fn l.fn.rule) l.volume;
+  chosen : IsChosen (picks_of g.G.Fn l.fn.rules.read) (picks_of g.F.Fn l.fn.rules.heal) l.fn.volume → IsChosen (picks_of g.G.Fn l.fn.rules.read) (picks_of g.F.Fn l.fn.rules.heal) l.volume;
 }

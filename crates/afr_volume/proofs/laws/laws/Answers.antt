@@ -39,6 +39,10 @@ returns-clause-turns c = record {
     entry_brings = c.a_client_hears_of_its_names.ensures.loads;
     makes_new = c.a_client_hears_of_its_names.ensures.begins;
   };
+  reading = record {
+    line = c.a_work_reads_what_was_picked.ensures.line;
+    begun = c.a_work_reads_what_was_picked.ensures.begun;
+  };
   servers = record {
     asked = c.servers_follow_their_log.ensures.asked;
     first = c.servers_follow_their_log.ensures.asked_first;
@@ -54,6 +58,7 @@ returns-clause-begins c = record {
   fresh = c.a_work_stays_sound.ensures.fresh;
   five = c.a_work_keeps_five_places.ensures.first;
   tells = c.a_work_tells_its_lines.ensures.begins;
+  reads = c.a_work_reads_what_was_picked.ensures.begins;
 }
 
 pub returns-clause-events : goal.returns-clause-events

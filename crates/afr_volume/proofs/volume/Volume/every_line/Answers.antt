@@ -3,6 +3,7 @@ use Rattle.afr_volume.specs.State.{State}
 use Rattle.afr_model.specs.Sums.{AreSums}
 use Rattle.afr_volume.proofs.FreshReads.{all_fresh}
 use Rattle.afr_volume.proofs.HealerTurn.{all_rest}
+use Rattle.afr_volume.proofs.PickedLemmas.{none_picked_first}
 use Rattle.afr_volume.proofs.SourceLemmas.{all_rest_first, rested_state}
 use Rattle.afr_volume.proofs.volume.Volume.every_line.Goals as goal
 
@@ -41,7 +42,8 @@ returns-clause-alike c = rw (← c.self.view_is) (c.nothing_diverges_unrecorded.
 pub returns-clause-resting : goal.returns-clause-resting
 returns-clause-resting c =
     rw (← c.self.view_is)
-    (λ none. rested_state c.self.inside.plan (reverse c.self.inside.log.items) _ none (all_rest_first c.self.inside.plan (reverse c.self.inside.log.items) c.self.inside.servers c.self.inside.healers.items c.self.invariant.healing.same c.self.invariant.healing.each none))
+    (λ none. rested_state c.self.inside.plan (reverse c.self.inside.log.items) _ _ none (all_rest_first c.self.inside.plan (reverse c.self.inside.log.items) c.self.inside.servers c.self.inside.healers.items c.self.invariant.healing.same c.self.invariant.healing.each none)
+    (none_picked_first c.self.inside.plan (reverse c.self.inside.log.items) c.self.inside.servers c.self.inside.actors.items c.self.invariant.kept.same c.self.invariant.kept.each none))
 
 pub returns-clause-quiet : goal.returns-clause-quiet
 returns-clause-quiet c =

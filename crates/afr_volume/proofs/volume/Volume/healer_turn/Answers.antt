@@ -1,8 +1,9 @@
-use Rattle.std.proofs.Common.{◌∙◌, ap, arith, subst, sym}
+use Rattle.std.proofs.Common.{◌∙◌, ap, arith, refl, subst, sym}
 use Rattle.std.proofs.lemmas.Bool.Decides.{nat_tests}
 use Rattle.afr_volume.proofs.HealerTurn.{answered_at, busy, healed, ready_whole, sources_kept, steps}
 use Rattle.afr_sources.specs.Sources.{picks_of, sources_of}
-use Rattle.afr_volume.specs.State.{IsChosen}
+use Rattle.afr_volume.specs.Acting.{picked_of}
+use Rattle.afr_volume.specs.State.{HealsChosen}
 use Rattle.afr_volume.proofs.SourceLemmas.{healer_others, unwritten, whatever}
 use Rattle.afr_volume.proofs.LogLemmas.{few_items, newest_is}
 use Rattle.afr_volume.proofs.WholeTurn.{turned}
@@ -19,7 +20,7 @@ step_healer-requires-clause-can g c = steps c.laws.ensures.rounds c.self.inside.
 
 pub invariant_of-self-in_err-step_healer : goal.invariant_of-self-in_err-step_healer
 invariant_of-self-in_err-step_healer g c =
-    rw (c.in_err-step_healer.ensures.err.2, c.in_ok-try_reserve.ensures.items, c.in_err-step_healer.ensures.err.0, c.in_err-step_healer.ensures.err.1)
+    rw (c.in_err-step_healer.ensures.err.2, c.in_ok-make_room.ensures.items, c.in_err-step_healer.ensures.err.0, c.in_err-step_healer.ensures.err.1)
     (ready_whole c.laws.ensures.rounds c.self.inside.plan c.args.a c.self.inside.log.items c.self.inside.actors.items c.self.inside.healers.items c.ready_healer.new.healers.items c.self.inside.servers c.self.inside.made c.self.invariant c.requires.healer (rw (← c.self.view_is) at c.requires.actor)
     (few_items c.self.inside.plan c.self.inside.log.items (rw (← c.self.view_is) at c.requires.room)) c.in_ok-ready_healer.ensures.ok)
 
@@ -27,7 +28,7 @@ pub invariant_of-self-2 : goal.invariant_of-self-2
 invariant_of-self-2 g c = (healed c.laws.ensures.rounds c.self.inside.plan c.args.a c.self.inside.log.items c.self.inside.actors.items c.self.inside.healers.items c.ready_healer.new.healers.items c.self.inside.servers c.self.inside.made c.self.invariant c.requires.healer (rw (← c.self.view_is) at c.requires.actor)
     (few_items c.self.inside.plan c.self.inside.log.items (rw (← c.self.view_is) at c.requires.room)) c.in_ok-ready_healer.ensures.ok c.len-position.result c.step_healer.new.log.items c.step_healer.new.healers.items c.step_healer.new.servers c.in_ok-step_healer.ensures.ok.line
     (rw (← c.self.view_is) at c.requires.left) (rw (← c.self.view_is) at c.requires.none) (grind (arith, nat_tests, c.len-position.ensures)) (answered_at _ _ _ _ _ _ _ _ _ c.in_ok-step_healer.ensures.ok.is_so)
-    (rw (← c.in_ok-try_reserve.ensures.items) c.in_ok-step_healer.ensures.ok.added)).whole
+    (rw (← c.in_ok-make_room.ensures.items) c.in_ok-step_healer.ensures.ok.added)).whole
 
 pub returns-clause-ok : goal.returns-clause-ok
 returns-clause-ok g c =
@@ -35,29 +36,29 @@ returns-clause-ok g c =
     healed c.laws.ensures.rounds c.self.inside.plan c.args.a c.self.inside.log.items c.self.inside.actors.items c.self.inside.healers.items c.ready_healer.new.healers.items c.self.inside.servers c.self.inside.made c.self.invariant c.requires.healer (rw (← c.self.view_is) at c.requires.actor)
     (few_items c.self.inside.plan c.self.inside.log.items (rw (← c.self.view_is) at c.requires.room)) c.in_ok-ready_healer.ensures.ok c.len-position.result c.step_healer.new.log.items c.step_healer.new.healers.items c.step_healer.new.servers c.in_ok-step_healer.ensures.ok.line
     (rw (← c.self.view_is) at c.requires.left) (rw (← c.self.view_is) at c.requires.none) (grind (arith, nat_tests, c.len-position.ensures)) (answered_at _ _ _ _ _ _ _ _ _ c.in_ok-step_healer.ensures.ok.is_so)
-    (rw (← c.in_ok-try_reserve.ensures.items) c.in_ok-step_healer.ensures.ok.added) in
+    (rw (← c.in_ok-make_room.ensures.items) c.in_ok-step_healer.ensures.ok.added) in
     let newest =
-    newest_is c.self.inside.log.items c.step_healer.new.log.items c.in_ok-step_healer.ensures.ok.line c.index.result.now c.len-position.result (rw (← c.in_ok-try_reserve.ensures.items) c.in_ok-step_healer.ensures.ok.added)
+    newest_is c.self.inside.log.items c.step_healer.new.log.items c.in_ok-step_healer.ensures.ok.line c.index.result.now c.len-position.result (rw (← c.in_ok-make_room.ensures.items) c.in_ok-step_healer.ensures.ok.added)
     (grind (arith, nat_tests, c.len-position.ensures)) c.index.ensures in
     rw (← c.self.view_is)
-    (turned c.self.inside.plan c.args.a c.self.inside.log.items c.step_healer.new.log.items (sources_of c.self.inside.healers.items) (sources_of c.step_healer.new.healers.items) c.in_ok-step_healer.ensures.ok.line c.turned_by-waits.result c.answer_of.result t.own t.log (ap waits_for (sym newest) ∙ sym c.turned_by-waits.ensures) (healer_others _ _ _ _ _ _ _ _ _ _ c.requires.healer c.in_ok-ready_healer.ensures.ok c.in_ok-step_healer.ensures.ok.is_so) c.answer_of.ensures.some c.answer_of.ensures.none)
+    (turned c.self.inside.plan c.args.a c.self.inside.log.items c.step_healer.new.log.items (sources_of c.self.inside.healers.items) (sources_of c.step_healer.new.healers.items) (picked_of c.self.inside.actors.items) (picked_of c.self.inside.actors.items) c.in_ok-step_healer.ensures.ok.line c.turned_by-waits.result c.answer_of.result t.own t.log (ap waits_for (sym newest) ∙ sym c.turned_by-waits.ensures) (healer_others _ _ _ _ _ _ _ _ _ _ c.requires.healer c.in_ok-ready_healer.ensures.ok c.in_ok-step_healer.ensures.ok.is_so) (λ i other. refl) c.answer_of.ensures.some c.answer_of.ensures.none)
 
 pub returns-in_err-step_healer-clause-err : goal.returns-in_err-step_healer-clause-err
 returns-in_err-step_healer-clause-err g c =
     rw (← c.self.view_is)
-    (whatever _ (unwritten c.self.inside.plan c.args.a.0 c.self.inside.log.items c.step_healer.new.log.items c.self.inside.healers.items c.ready_healer.new.healers.items c.step_healer.new.healers.items c.in_ok-ready_healer.ensures.ok c.in_err-step_healer.ensures.err.0
-    (c.in_err-step_healer.ensures.err.2 ∙ c.in_ok-try_reserve.ensures.items)))
+    (whatever _ (unwritten c.self.inside.plan c.args.a.0 c.self.inside.log.items c.step_healer.new.log.items (picked_of c.self.inside.actors.items) c.self.inside.healers.items c.ready_healer.new.healers.items c.step_healer.new.healers.items c.in_ok-ready_healer.ensures.ok c.in_err-step_healer.ensures.err.0
+    (c.in_err-step_healer.ensures.err.2 ∙ c.in_ok-make_room.ensures.items)))
 
-pub returns-in_err-step_healer-clause-chosen : goal.returns-in_err-step_healer-clause-chosen
-returns-in_err-step_healer-clause-chosen g c =
+pub returns-in_err-step_healer-clause-heals : goal.returns-in_err-step_healer-clause-heals
+returns-in_err-step_healer-clause-heals g c =
     rw (← c.self.view_is)
-    (λ k. subst (IsChosen (picks_of g.F.Fn c.args.rule.now))
-    (sym (unwritten c.self.inside.plan c.args.a.0 c.self.inside.log.items c.step_healer.new.log.items c.self.inside.healers.items c.ready_healer.new.healers.items c.step_healer.new.healers.items c.in_ok-ready_healer.ensures.ok c.in_err-step_healer.ensures.err.0
-    (c.in_err-step_healer.ensures.err.2 ∙ c.in_ok-try_reserve.ensures.items))) k)
+    (λ k. subst (HealsChosen (picks_of g.F.Fn c.args.rule.now))
+    (sym (unwritten c.self.inside.plan c.args.a.0 c.self.inside.log.items c.step_healer.new.log.items (picked_of c.self.inside.actors.items) c.self.inside.healers.items c.ready_healer.new.healers.items c.step_healer.new.healers.items c.in_ok-ready_healer.ensures.ok c.in_err-step_healer.ensures.err.0
+    (c.in_err-step_healer.ensures.err.2 ∙ c.in_ok-make_room.ensures.items))) k)
 
-pub returns-clause-chosen : goal.returns-clause-chosen
-returns-clause-chosen g c =
+pub returns-clause-heals : goal.returns-clause-heals
+returns-clause-heals g c =
     rw (← c.self.view_is)
     (sources_kept c.laws.ensures.rounds c.self.inside.plan c.args.a c.self.inside.log.items c.self.inside.actors.items c.self.inside.healers.items c.ready_healer.new.healers.items c.self.inside.servers c.self.inside.made c.self.invariant c.requires.healer (rw (← c.self.view_is) at c.requires.actor)
     (few_items c.self.inside.plan c.self.inside.log.items (rw (← c.self.view_is) at c.requires.room)) c.in_ok-ready_healer.ensures.ok g.F.Fn c.args.rule.now c.a_line_keeps_its_source.ensures.keeps c.len-position.result c.step_healer.new.log.items c.step_healer.new.healers.items c.step_healer.new.servers c.in_ok-step_healer.ensures.ok.line
-    (grind (arith, nat_tests, c.len-position.ensures)) c.in_ok-step_healer.ensures.ok.is_so (rw (← c.in_ok-try_reserve.ensures.items) c.in_ok-step_healer.ensures.ok.added))
+    (grind (arith, nat_tests, c.len-position.ensures)) c.in_ok-step_healer.ensures.ok.is_so (rw (← c.in_ok-make_room.ensures.items) c.in_ok-step_healer.ensures.ok.added))

@@ -1,7 +1,10 @@
--- A client's turn leaves the sources of all heals, and a healer's keeps them as the rule picked them.
+-- A client's turn leaves the sources of all heals and reads what the rule picked; a healer's keeps its sources as the rule
+-- picked them, and leaves the reads.
 use Rattle.afr_sources.specs.Sources.{picks_of}
-use Rattle.afr_volume.proofs.SourceLemmas.{turn_chosen}
+use Rattle.afr_volume.proofs.ChosenLemmas.{turn_chosen}
 use Rattle.afr_volume.proofs.volume.Volume.turn.Goals as goal
 
 pub returns-clause-chosen : goal.returns-clause-chosen
-returns-clause-chosen g c = turn_chosen (picks_of g.F.Fn c.args.rule.now) c.args.a _ _ c.take_turn-turned.result c.take_turn-turned.ensures.ok c.take_turn-turned.ensures.err c.every_line.ensures.follows c.take_turn-turned.ensures.chosen
+returns-clause-chosen g c =
+    turn_chosen (picks_of g.G.Fn c.args.rules.now.read) (picks_of g.F.Fn c.args.rules.now.heal) c.args.a _ _ c.every_line.ensures.follows c.every_line.ensures.replied c.every_line.ensures.clients c.take_turn-turned.ensures.heals c.take_turn-turned.ensures.reads c.take_turn-turned.result
+    c.take_turn-turned.ensures.ok c.take_turn-turned.ensures.err

@@ -1,0 +1,14 @@
+pub mod Asked
+pub mod AskedEntry
+pub mod AskedFiles
+pub mod AskedRemoval
+pub mod AskedUnder
+pub mod Asks
+pub mod Entry
+pub mod Kept
+pub mod Read
+pub mod Removal
+pub mod Rule
+pub mod Walk
+pub mod Works
+pub mod Write

@@ -1,0 +1,139 @@
+-- The copies that the read rule chooses from, and the one that it picks.
+use Rattle.std.proofs.Common.{zero, suc, slice_get, ◌≡◌, ℕ, ◌+◌, ◌<◌, ◌≤◌, ◌==◌, ◌||◌, Bool, true, false, List, [], ◌∷◌, ◌++◌, refl, sym, ap, ◌∙◌, arith, filter, map, take, length, length-append, subst, if◌then◌else◌, Option, None, Some}
+use Rattle.std.proofs.lemmas.Bool.Decides.{nat_tests}
+use Rattle.afr_base.specs.Bricks.{all_five, from_table, is_nothing, member, passes_below, same, same_is}
+use Rattle.afr_base.specs.declared.ids.BrickId.{BrickId}
+use Rattle.afr_base.specs.declared.ids.Kind.{Kind}
+use Rattle.afr_base.specs.declared.ids.Shape.{Shape}
+use Rattle.afr_choice.specs.Verdict.{good_copies, is_good, verdict_of}
+use Rattle.afr_choice.specs.VerdictLemmas.{good_below, member_good, sources_say}
+use Rattle.afr_choice.specs.declared.looked.Looked.{Looked}
+use Rattle.afr_choice.specs.declared.verdict.Verdict.{Verdict}
+use Rattle.afr_choice.specs.declared.verdict.Verdict.TheVariants.{Sources}
+use Rattle.afr_rule.specs.Choosing.{Calls, IsPick}
+use Rattle.afr_rule.specs.declared.candidate.Candidate.{Candidate}
+use Rattle.afr_walk.specs.Choosing.{IsAmong, RuleAnswers, candidates_of, choices, copy_in, has_sources, offers, reader_of}
+
+-- ---- gathering them
+module _ (copy : ℕ → Candidate) (p : ℕ → Bool) where
+  at_end : (b : ℕ) (xs : List ℕ) → map copy (filter p (xs ++ b ∷ [])) ≡ (if p b then map copy (filter p xs) ++ copy b ∷ [] else map copy (filter p xs))
+  at_end b [] = go (p b) refl
+    where
+      go : (a : Bool) → p b ≡ a → map copy (filter p (b ∷ [])) ≡ (if p b then map copy (filter p []) ++ copy b ∷ [] else map copy (filter p []))
+      go true e = rw e refl
+      go false e = rw e refl
+  at_end b (x ∷ xs) = go (p x) refl (p b) refl (at_end b xs)
+    where
+      go : (a : Bool) → p x ≡ a → (d : Bool) → p b ≡ d → map copy (filter p (xs ++ b ∷ [])) ≡ (if p b then map copy (filter p xs) ++ copy b ∷ [] else map copy (filter p xs))
+          → map copy (filter p (x ∷ xs ++ b ∷ [])) ≡ (if p b then map copy (filter p (x ∷ xs)) ++ copy b ∷ [] else map copy (filter p (x ∷ xs)))
+      go true e true f ih = let k = rw f at ih in rw (e, f) (ap (λ (ys : List Candidate). copy x ∷ ys) k)
+      go true e false f ih = let k = rw f at ih in rw (e, f) (ap (λ (ys : List Candidate). copy x ∷ ys) k)
+      go false e true f ih = let k = rw f at ih in rw (e, f) k
+      go false e false f ih = let k = rw f at ih in rw (e, f) k
+
+  -- one round of the loop that gathers them
+  pub gathered : (b : ℕ) (flag : Bool) (copies after : List Candidate) (added : Candidate) → b < 5 → copies ≡ map copy (filter p (take b all_five)) → flag ≡ p b → added ≡ copy b
+      → after ≡ (if flag then copies ++ added ∷ [] else copies) → after ≡ map copy (filter p (take (b + 1) all_five))
+  gathered b flag copies after added l so_far test is grows =
+      let more : take (b + 1) all_five ≡ take b all_five ++ b ∷ [] = same_is (take (b + 1) all_five) (take b all_five ++ b ∷ []) (from_table 5 (λ k. same (take (k + 1) all_five) (take k all_five ++ k ∷ [])) refl b l) in
+      let once : after ≡ (if p b then map copy (filter p (take b all_five)) ++ copy b ∷ [] else map copy (filter p (take b all_five))) = grows ∙ (λ i. if test i then so_far i ++ is i ∷ [] else so_far i) in
+      once ∙ sym (at_end b (take b all_five)) ∙ ap (λ (xs : List ℕ). map copy (filter p xs)) (sym more)
+
+-- at most one more each round
+pub longer : (flag : Bool) (copies after : List Candidate) (added : Candidate) (b : ℕ) → length copies ≤ b → after ≡ (if flag then copies ++ added ∷ [] else copies) → length after ≤ b + 1
+longer true copies after added b l e = rw e (grind (arith, length-append copies (added ∷ []), l))
+longer false copies after added b l e = rw e (omega (arith, l))
+
+-- two tests that agree on a list choose the same of it
+same_choice : (p q : ℕ → Bool) (xs : List ℕ) → ((x : ℕ) → member xs x ≡ true → p x ≡ q x) → filter p xs ≡ filter q xs
+same_choice p q [] h = refl
+same_choice p q (x ∷ xs) h = go (p x) refl (q x) (sym here) (same_choice p q xs rest)
+  where
+    itself : (x == x) ≡ true
+    itself = grind (arith, nat_tests)
+
+    here : p x ≡ q x
+    here = h x (rw itself refl)
+
+    either : (a b : Bool) → b ≡ true → (a || b) ≡ true
+    either true b e = refl
+    either false b e = e
+
+    rest : (y : ℕ) → member xs y ≡ true → p y ≡ q y
+    rest y m = h y (either (x == y) (member xs y) m)
+
+    go : (a : Bool) → p x ≡ a → (b : Bool) → b ≡ p x → filter p xs ≡ filter q xs → filter p (x ∷ xs) ≡ filter q (x ∷ xs)
+    go true e b f ih = let g : q x ≡ true = sym here ∙ e in rw (e, g) (ap (λ (ys : List ℕ). x ∷ ys) ih)
+    go false e b f ih = let g : q x ≡ false = sym here ∙ e in rw (e, g) ih
+
+-- those of the five that are good are the good ones
+good_again : (shape : Shape) (looked : Looked) (kind : Kind) → filter (member (good_copies shape looked kind)) all_five ≡ good_copies shape looked kind
+good_again shape looked kind = same_choice (member (good_copies shape looked kind)) (is_good shape looked kind) all_five (λ x m. member_good shape looked kind x (five x m))
+  where
+    five : (x : ℕ) → member all_five x ≡ true → x < 5
+    five x m = grind (arith, nat_tests, m)
+
+-- after the fifth round
+pub all_gathered : (shape : Shape) (looked : Looked) (kind : Kind) (sources : List ℕ) (copies : List Candidate) (x : ℕ) → x ≡ 5 → sources ≡ good_copies shape looked kind
+    → copies ≡ map (copy_in looked) (filter (member sources) (take x all_five)) → copies ≡ candidates_of shape looked kind
+all_gathered shape looked kind sources copies x end is k =
+    k ∙ (λ i. map (copy_in looked) (filter (member (is i)) (take (end i) all_five))) ∙ ap (map (copy_in looked)) (good_again shape looked kind)
+
+-- ---- what is picked
+pub offers_map : (looked : Looked) (s : List ℕ) (b : ℕ) → offers (map (copy_in looked) s) b ≡ member s b
+offers_map looked [] b = refl
+offers_map looked (x ∷ xs) b = ap (λ (rest : Bool). (x == b) || rest) (offers_map looked xs b)
+
+-- where there is a good copy, there is one to choose from
+pub some_listed : (looked : Looked) (s : List ℕ) → is_nothing s ≡ false → 0 < length (map (copy_in looked) s)
+some_listed looked [] h = absurd (cc h)
+some_listed looked (x ∷ xs) h = omega arith
+
+offers_found : (from : List Candidate) (i : ℕ) (candidate : Candidate) → slice_get from i ≡ Some candidate → offers from candidate.brick.0 ≡ true
+offers_found [] i candidate e = absurd (cc e)
+offers_found (x ∷ from) zero candidate e =
+    let is : x ≡ candidate = cc e in
+    subst (λ (c : Candidate). ((x.brick.0 == c.brick.0) || offers from c.brick.0) ≡ true) is (here x.brick.0 (offers from x.brick.0))
+  where
+    here : (b : ℕ) (rest : Bool) → ((b == b) || rest) ≡ true
+    here b rest = let e : (b == b) ≡ true = grind (arith, nat_tests) in rw e refl
+offers_found (x ∷ from) (suc i) candidate e = either (x.brick.0 == candidate.brick.0) (offers from candidate.brick.0) (offers_found from i candidate e)
+  where
+    either : (a b : Bool) → b ≡ true → (a || b) ≡ true
+    either true b h = refl
+    either false b h = h
+
+-- what a rule picks is one of the copies
+pub pick_offers : {F : Type 0} (calls : Calls F) (choose : F) (from : List Candidate) (b : BrickId) → IsPick calls choose from b → offers from b.0 ≡ true
+pick_offers calls choose from b w = subst (λ (x : BrickId). offers from x.0 ≡ true) (sym w.4) (offers_found from w.0 w.1 w.3)
+
+-- so is what it answers, where it was asked
+pub answers_among : {F : Type 0} (calls : Calls F) (choose : F) (from : List Candidate) (picked : Option BrickId) → RuleAnswers calls choose from picked → IsAmong from (reader_of picked)
+answers_among calls choose from None e = λ l. absurd (none from e l)
+  where
+    none : (from : List Candidate) → from ≡ [] → 0 < length from → ⊥
+    none [] e l = omega (arith, l)
+    none (x ∷ xs) e l = cc e
+answers_among calls choose from (Some b) w = λ l. pick_offers calls choose from b w
+
+-- one of the candidates is a good copy
+pub among_good : (shape : Shape) (looked : Looked) (kind : Kind) (b : BrickId) → is_nothing (good_copies shape looked kind) ≡ false → IsAmong (candidates_of shape looked kind) b → member (good_copies shape looked kind) b.0 ≡ true
+among_good shape looked kind b some among = sym (offers_map looked (good_copies shape looked kind) b.0) ∙ among (some_listed looked (good_copies shape looked kind) some)
+
+-- there is some brick to choose
+pub some_among : (from : List Candidate) → (b : BrickId) × IsAmong from b
+some_among [] = (record { 0 = 0 }, λ l. absurd (omega (arith, l)))
+some_among (x ∷ from) = (x.brick, λ l. offers_found (x ∷ from) zero x refl)
+
+-- it is on one of the five bricks
+pub pick_small : {F : Type 0} (calls : Calls F) (choose : F) (shape : Shape) (looked : Looked) (kind : Kind) (b : BrickId) → IsPick calls choose (candidates_of shape looked kind) b → b.0 < 5
+pick_small calls choose shape looked kind b w = good_below shape looked kind b.0 (sym (offers_map looked (good_copies shape looked kind) b.0) ∙ pick_offers calls choose (candidates_of shape looked kind) b w)
+
+-- where the verdict has sources, there is a good copy
+pub sources_some : (shape : Shape) (looked : Looked) (kind : Kind) (verdict : Verdict) (s : List ℕ) → verdict ≡ verdict_of shape looked kind → verdict ≡ Sources s → is_nothing (good_copies shape looked kind) ≡ false
+sources_some shape looked kind verdict s judged is = let says = sources_say shape looked kind s (sym judged ∙ is) in subst (λ (t : List ℕ). is_nothing t ≡ false) says.1 says.2
+
+-- so where the verdict has sources, the chosen copy is a good one
+pub source_good : (shape : Shape) (looked : Looked) (kind : Kind) (s : List ℕ) (b : BrickId) → verdict_of shape looked kind ≡ Sources s → IsAmong (choices shape looked kind) b → member (good_copies shape looked kind) b.0 ≡ true
+source_good shape looked kind s b e among =
+    among_good shape looked kind b (sources_some shape looked kind _ s refl e) (subst (λ v. IsAmong (if has_sources v then candidates_of shape looked kind else []) b) e among)
