@@ -1,10 +1,10 @@
 //! The machine of one command on a name: what it asks next, and what it makes of the answers.
-ghost use Rattle.std.specs.Prelude.{◌≡◌, ◌<◌, ◌≤◌, IfOk, false, true};
+ghost use Rattle.std.specs.Prelude.{None, Some, ◌≡◌, ℕ, ◌<◌, ◌≤◌, IfOk, false, true};
 ghost use Rattle.afr_entry.specs.Entry.{CarriesNext, IsEntry, IsFed, answered, choices_at, entry_from, is_over, next_of, next_under, reads_name, register_of, stage_begun};
 ghost use Rattle.afr_rule.specs.Choosing.{IsRule};
 ghost use Rattle.afr_walk.specs.Choosing.{RuleAnswers, reader_of};
 ghost use Rattle.afr_transaction.specs.Progress.{is_beginning};
-ghost use Rattle.afr_walk.specs.Free.{Allows};
+ghost use Rattle.afr_walk.specs.Free.{Allows, is_ask};
 ghost use Rattle.afr_walk.specs.Walk.{IsWalk, is_walking, next_in};
 
 use crate::job::EntryJob;
@@ -12,7 +12,7 @@ use crate::refusal::reply_to;
 use crate::stage::{EntryStage, Found, left_by, reads_name, stage_begun, stage_heard};
 use afr_base::{BrickId, NameId, NoMemory, Shape};
 use afr_discipline::Register;
-use afr_lines::{Answer, Heard, KeptReply, Next};
+use afr_lines::{Answer, Heard, KeptReply, Next, Request};
 use afr_object::Load;
 use afr_rule::{Candidate, ReadRule};
 use afr_transaction::Transaction;
@@ -79,6 +79,16 @@ impl EntryMachine {
         Ok(line)
     }
 
+    /// Whom the next line asks, where it is a request; that is written where it is to stand, for it is large.
+    pub fn asks(&self, _position: u32, request: &mut Request) -> Option<BrickId>
+        ensures some { (b : BrickId) → result ≡ Some b → next_of _position self.now ≡ Next.Ask b request.new }
+        ensures none { result ≡ None → is_ask (next_of _position self.now) ≡ false }
+        ensures allowed { (b : BrickId) → result ≡ Some b → Allows (register_of self.now) (Next.Ask b request.new) }
+    {
+        self.stays_sound();
+        self.ask(request)
+    }
+
     /// The change, where the operation is asked for next.
     pub fn load(&self) -> Load<'_>
         ensures { CarriesNext self.now.stage result }
@@ -99,7 +109,10 @@ impl EntryMachine {
     {
         match &heard {
             Heard::Answer(answer, at) => {
-                self.hear(answer, *at, rule);
+                let mut request = Request::Index;
+                if let Some(brick) = self.asks(*at, &mut request) {
+                    self.hear(brick, &request, answer, *at, rule);
+                }
             }
             Heard::Begun(at) => self.begin(*at),
         }
@@ -155,20 +168,46 @@ impl EntryMachine {
         }
     }
 
-    /// The request was written, and the brick has answered. Once all copies of a directory were looked at the rule picks the
+    fn ask(&self, request: &mut Request) -> Option<BrickId>
+        ensures some { (b : BrickId) → result ≡ Some b → (at : ℕ) → next_of at self.now ≡ Next.Ask b request.new }
+        ensures none { result ≡ None → (at : ℕ) → is_ask (next_of at self.now) ≡ false }
+    {
+        match &self.stage {
+            EntryStage::Walking => Some(self.walk.asks(request)),
+            EntryStage::Changing(transaction, found) => {
+                change_asks(&self.walk, self.job, transaction, *found, request)
+            }
+            EntryStage::Removes(removal) => removal.asks(request),
+            EntryStage::Ending(_) => None,
+        }
+    }
+
+    /// This request was written, and the brick has answered. Once all copies of a directory were looked at the rule picks the
     /// one that is read; this is what it has picked now.
     pub fn hear<G: Fn(&[Candidate]) -> usize>(
         &mut self,
+        brick: BrickId,
+        request: &Request,
         answer: &Answer,
         at: u32,
         rule: &ReadRule<G>,
     ) -> Option<BrickId>
         requires rule { IsRule G.Fn rule.now }
         requires more { is_over self.old.stage ≡ false }
+        requires asked { next_of at self.old ≡ Next.Ask brick request.now }
         ensures picked { RuleAnswers G.Fn rule.now (choices_at self.old.stage answer.now at self.old.walk) result }
         ensures value { self.new ≡ answered (reader_of result) answer.now at self.old }
     {
-        stage_heard(&mut self.walk, self.job, &mut self.stage, answer, at, rule)
+        stage_heard(
+            &mut self.walk,
+            self.job,
+            &mut self.stage,
+            brick,
+            request,
+            answer,
+            at,
+            rule,
+        )
     }
 
     fn begin(&mut self, at: u32)
@@ -186,6 +225,30 @@ fn walking(walk: &Walk) -> Next
 {
     let (brick, request) = walk.next();
     Next::Ask(brick, request)
+}
+
+/// Whom the next line under the locks asks, where it is a request.
+fn change_asks(
+    walk: &Walk,
+    job: EntryJob,
+    transaction: &Transaction,
+    found: Found,
+    request: &mut Request,
+) -> Option<BrickId>
+    ensures some { (b : BrickId) → result ≡ Some b → (at : ℕ) → next_under found at job walk.now transaction.now ≡ Next.Ask b request.new }
+    ensures none { result ≡ None → (at : ℕ) → is_ask (next_under found at job walk.now transaction.now) ≡ false }
+{
+    match found {
+        Found::Unread(brick) => {
+            if !transaction.is_beginning() {
+                return transaction.asks(request);
+            }
+            *request = reads_name(job, walk);
+            Some(brick)
+        }
+        Found::Fits => transaction.asks(request),
+        Found::Refused(_) => transaction.asks(request),
+    }
 }
 
 /// The next line under the locks.

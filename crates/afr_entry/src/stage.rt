@@ -1,8 +1,9 @@
 //! The stages of a command on a name, and what an answer makes of each.
 ghost use Rattle.std.specs.Prelude.{◌≡◌, ◌<◌, ◌≤◌, false, not, true};
-ghost use Rattle.afr_entry.specs.Entry.{IsEntry, IsToRemove, after_walk, at_directory, child_after, choices_at, choices_removing, choices_under, found_after, found_by, is_over, name_noted, offered, progress_after, progress_begun, reads_name, removal_after, removal_begun, settled, stage_after, stage_begun, told_to, walk_after};
+ghost use Rattle.afr_entry.specs.Entry.{IsEntry, IsToRemove, after_walk, at_directory, child_after, choices_at, choices_removing, choices_under, found_after, found_by, is_over, next_at, next_under, offered, progress_after, progress_begun, reads_name, removal_after, removal_begun, settled, stage_after, stage_begun, walk_after};
 ghost use Rattle.afr_entry.specs.Job.{change_of, ruled_out};
 ghost use Rattle.afr_lines.specs.Areas.{kind_for};
+ghost use Rattle.afr_lines.specs.declared.line.Next.{Next};
 ghost use Rattle.afr_object.specs.Tables.{is_dir};
 ghost use Rattle.afr_removal.specs.Removal as removing_of;
 ghost use Rattle.afr_removal.specs.Removal.{removing};
@@ -104,13 +105,15 @@ pub(crate) fn reads_name(job: EntryJob, walk: &Walk) -> Request
     }
 }
 
-/// The stage hears an answer at this position, which the register of the walk or of the transaction notes. It is written
-/// anew only where the walk has ended. Once all copies of a directory were looked at the rule picks one; this is what it has
-/// picked now.
+/// The stage hears an answer to what it asked, at this position, which the register of the walk or of the transaction notes.
+/// It is written anew only where the walk has ended. Once all copies of a directory were looked at the rule picks one; this is
+/// what it has picked now.
 pub(crate) fn stage_heard<G: Fn(&[Candidate]) -> usize>(
     walk: &mut Walk,
     job: EntryJob,
     stage: &mut EntryStage,
+    brick: BrickId,
+    request: &Request,
     answer: &Answer,
     at: u32,
     rule: &ReadRule<G>,
@@ -118,6 +121,7 @@ pub(crate) fn stage_heard<G: Fn(&[Candidate]) -> usize>(
     requires rule { IsRule G.Fn rule.now }
     requires sound { IsEntry walk.old job stage.old }
     requires more { is_over stage.old ≡ false }
+    requires asked { next_at at stage.old job walk.old ≡ Next.Ask brick request.now }
     ensures picked { RuleAnswers G.Fn rule.now (choices_at stage.old answer.now at walk.old) result }
     ensures walk { walk.new ≡ walk_after (reader_of result) stage.old answer.now at walk.old }
     ensures stage { stage.new ≡ stage_after (reader_of result) stage.old answer.now at job (walk_after (reader_of result) stage.old answer.now at walk.old) }
@@ -125,7 +129,7 @@ pub(crate) fn stage_heard<G: Fn(&[Candidate]) -> usize>(
 {
     match stage {
         EntryStage::Walking => {
-            let picked = walk.hear(answer, at, rule);
+            let picked = walk.hear(brick, request, answer, at, rule);
             if has_ended(walk) {
                 leave(job, walk, stage);
             }
@@ -133,14 +137,24 @@ pub(crate) fn stage_heard<G: Fn(&[Candidate]) -> usize>(
         }
         EntryStage::Changing(transaction, found) => {
             let child = child_after(*found, transaction, job, answer);
-            let (after, picked) = change_heard(walk, job, transaction, *found, answer, at, rule);
+            let (after, picked) = change_heard(
+                walk,
+                job,
+                transaction,
+                *found,
+                brick,
+                request,
+                answer,
+                at,
+                rule,
+            );
             *found = after;
             if let Some(child) = child {
                 *stage = removes(walk, job, transaction, child);
             }
             picked
         }
-        EntryStage::Removes(removal) => removal_heard(removal, answer, at, rule),
+        EntryStage::Removes(removal) => removal_heard(removal, brick, request, answer, at, rule),
         EntryStage::Ending(_) => None,
     }
 }
@@ -187,19 +201,19 @@ fn removes(walk: &Walk, job: EntryJob, transaction: &Transaction, child: Gfid) -
 
 fn removal_heard<G: Fn(&[Candidate]) -> usize>(
     removal: &mut Removal,
+    brick: BrickId,
+    request: &Request,
     answer: &Answer,
     at: u32,
     rule: &ReadRule<G>,
 ) -> Option<BrickId>
     requires rule { IsRule G.Fn rule.now }
     requires more { removing_of.is_over removal.old.stage removal.old ≡ false }
+    requires asked { removing_of.next_at removal.old.stage removal.old ≡ Next.Ask brick request.now }
     ensures picked { RuleAnswers G.Fn rule.now (choices_removing answer.now at removal.old) result }
     ensures value { removal.new ≡ removal_after (reader_of result) answer.now at removal.old }
 {
-    if removal.is_beginning() {
-        return None;
-    }
-    removal.answer(answer, at, rule)
+    removal.answer(brick, request, answer, at, rule)
 }
 
 /// The transaction hears an answer, of which the name's tells what the name was found to be. Beside that comes what the rule
@@ -209,6 +223,8 @@ fn change_heard<G: Fn(&[Candidate]) -> usize>(
     job: EntryJob,
     transaction: &mut Transaction,
     found: Found,
+    brick: BrickId,
+    request: &Request,
     answer: &Answer,
     at: u32,
     rule: &ReadRule<G>,
@@ -216,51 +232,68 @@ fn change_heard<G: Fn(&[Candidate]) -> usize>(
     requires rule { IsRule G.Fn rule.now }
     requires sound { IsEntry walk.now job (EntryStage.Changing transaction.old found) }
     requires more { progress.is_over transaction.old.stage transaction.old ≡ false }
+    requires asked { next_under found at job walk.now transaction.old ≡ Next.Ask brick request.now }
     ensures transaction { transaction.new ≡ progress_after found answer.now at job walk.now transaction.old }
     ensures picked { RuleAnswers G.Fn rule.now (choices_under found answer.now at transaction.old) result.1 }
     ensures found { result.0 ≡ found_after (reader_of result.1) found answer.now job transaction.old.stage }
 {
     match found {
-        Found::Unread(brick) => unread_heard(walk, job, transaction, brick, answer, at, rule),
+        Found::Unread(reader) => unread_heard(
+            walk,
+            job,
+            transaction,
+            reader,
+            brick,
+            request,
+            answer,
+            at,
+            rule,
+        ),
         Found::Fits | Found::Refused(_) => {
-            told_to(transaction, &told_of(answer), at);
+            let told = told_of(answer);
+            hears(transaction, brick, request, &told, at);
             (found, None)
         }
     }
 }
 
-fn told_to(transaction: &mut Transaction, told: &Told, at: u32)
-    requires { progress.is_over transaction.old.stage transaction.old ≡ false }
-    ensures { transaction.new ≡ told_to told.now at transaction.old }
+/// The transaction hears what it asked.
+fn hears(transaction: &mut Transaction, brick: BrickId, request: &Request, told: &Told, at: u32)
+    requires { progress.next_at transaction.old.stage at transaction.old ≡ Next.Ask brick request.now }
+    ensures asked { is_beginning transaction.old.stage ≡ false }
+    ensures value { transaction.new ≡ progress.fed transaction.old.stage told.now at transaction.old }
 {
-    if !transaction.is_beginning() {
-        transaction.feed(told, at);
-    }
+    transaction.hear(brick, request, told, at);
 }
 
 fn unread_heard<G: Fn(&[Candidate]) -> usize>(
     walk: &Walk,
     job: EntryJob,
     transaction: &mut Transaction,
+    reader: BrickId,
     brick: BrickId,
+    request: &Request,
     answer: &Answer,
     at: u32,
     rule: &ReadRule<G>,
 ) -> (Found, Option<BrickId>)
     requires rule { IsRule G.Fn rule.now }
-    requires sound { IsEntry walk.now job (EntryStage.Changing transaction.old (Found.Unread brick)) }
+    requires sound { IsEntry walk.now job (EntryStage.Changing transaction.old (Found.Unread reader)) }
     requires more { progress.is_over transaction.old.stage transaction.old ≡ false }
-    ensures transaction { transaction.new ≡ progress_after (Found.Unread brick) answer.now at job walk.now transaction.old }
-    ensures picked { RuleAnswers G.Fn rule.now (choices_under (Found.Unread brick) answer.now at transaction.old) result.1 }
-    ensures found { result.0 ≡ found_after (reader_of result.1) (Found.Unread brick) answer.now job transaction.old.stage }
+    requires asked { next_under (Found.Unread reader) at job walk.now transaction.old ≡ Next.Ask brick request.now }
+    ensures transaction { transaction.new ≡ progress_after (Found.Unread reader) answer.now at job walk.now transaction.old }
+    ensures picked { RuleAnswers G.Fn rule.now (choices_under (Found.Unread reader) answer.now at transaction.old) result.1 }
+    ensures found { result.0 ≡ found_after (reader_of result.1) (Found.Unread reader) answer.now job transaction.old.stage }
 {
+    let told = told_of(answer);
     if !transaction.is_beginning() {
-        transaction.feed(&told_of(answer), at);
+        hears(transaction, brick, request, &told, at);
         let picked = picked_under(transaction, rule);
         return (Found::Unread(reader_of(picked)), picked);
     }
-    note_name(walk, job, transaction, brick, &told_of(answer), at);
-    (settle(transaction, ruled_out(job, answer)), None)
+    transaction.note_read(brick, request, &told, at);
+    let why = ruled_out(job, answer);
+    (settle(transaction, why), None)
 }
 
 /// Once the looks under the locks are over the rule picks the copy of the directory that is asked for the name.
@@ -278,22 +311,6 @@ fn picked_under<G: Fn(&[Candidate]) -> usize>(
     transaction.stays_sound();
     let r = transaction.register();
     Some(pick(&r.shape, &r.looked, Kind::Names, rule))
-}
-
-/// The name was told by this brick.
-fn note_name(
-    walk: &Walk,
-    job: EntryJob,
-    transaction: &mut Transaction,
-    brick: BrickId,
-    told: &Told,
-    at: u32,
-)
-    requires sound { IsEntry walk.now job (EntryStage.Changing transaction.old (Found.Unread brick)) }
-    requires beginning { is_beginning transaction.old.stage ≡ true }
-    ensures { transaction.new ≡ name_noted brick job walk.now told.now at transaction.old }
-{
-    transaction.note_read(brick, &reads_name(job, walk), told, at);
 }
 
 /// A change that is ruled out is given up.

@@ -1,5 +1,5 @@
 -- A read has somebody left to ask, the discipline allows what it asks, and its register notes it.
-use Rattle.std.proofs.Common.{subst, sym, ◌≡◌, ℕ, ◌<◌, ◌==◌, Bool, true, false, [], Option, refl, ap, ◌∙◌, if◌then◌else◌}
+use Rattle.std.proofs.Common.{subst, sym, ◌≡◌, ℕ, ◌<◌, ◌≤◌, arith, ◌==◌, Bool, true, false, [], Option, refl, ap, ◌∙◌, if◌then◌else◌}
 use Rattle.afr_base.specs.Bricks.{is_nothing, IsWithin}
 use Rattle.afr_base.specs.declared.ids.BrickId.{BrickId}
 use Rattle.afr_base.specs.declared.ids.Gfid.{Gfid}
@@ -15,6 +15,7 @@ use Rattle.afr_discipline.specs.Notes.{noted_ask}
 use Rattle.afr_lines.specs.Told.{told_by}
 use Rattle.afr_lines.specs.declared.answer.Answer.{Answer}
 use Rattle.afr_lines.specs.declared.answer.Told.{Told}
+use Rattle.afr_lines.specs.declared.line.Next.TheVariants as next
 use Rattle.afr_lines.specs.declared.reply.Good.TheVariants.{Bytes as BytesGood}
 use Rattle.afr_lines.specs.declared.reply.Reply.{Reply}
 use Rattle.afr_lines.specs.declared.reply.Reply.TheVariants.{Ok as OkReply, IsDir, NotDir}
@@ -123,6 +124,29 @@ allowed_at (Ending said) w k = allows_end w.shape w.register said k.sound.free
 pub allowed_next : AllowedNext
 allowed_next m k = allowed_at m.stage m.walk k
 
+pair : (asked : BrickId × Request) (b : BrickId) (r : Request) → next.Ask asked.0 asked.1 ≡ next.Ask b r → asked ≡ (b, r)
+pair (c, q) b r e = cc e
+
+-- who is asked, and for what, is what the next line says
+pub asked_pair : (stage : LookupStage) (w : Walk) (b : BrickId) (r : Request) → is_asking stage ≡ true → next_at stage w ≡ next.Ask b r → asked_at stage w ≡ (b, r)
+asked_pair Walking w b r h e = pair (next_in w) b r e
+asked_pair (Looking s) w b r h e = cc e
+asked_pair (Reading c of) w b r h e = cc e
+asked_pair (Ending said) w b r h e = absurd (cc h)
+
+-- what was asked is free, and of a brick of the volume
+pub asked_free : (stage : LookupStage) (w : Walk) (b : BrickId) (r : Request) → IsLookup w stage → is_asking stage ≡ true → next_at stage w ≡ next.Ask b r → (is_free r ≡ true) × (b.0 < 5)
+asked_free stage w b r k h e = subst (λ (asked : BrickId × Request). (is_free asked.1 ≡ true) × (asked.0.0 < 5)) (asked_pair stage w b r h e) (asks.0, omega (arith, below, few))
+  where
+    asks : (is_free (asked_at stage w).1 ≡ true) × ((asked_at stage w).0.0 < w.shape.n)
+    asks = asks_free_at stage w k h
+
+    below : (asked_at stage w).0.0 < w.shape.n
+    below = asks.1
+
+    few : w.shape.n ≤ 5
+    few = k.sound.few
+
 -- ---- an answer
 pub kept : (chosen : BrickId) (stage : LookupStage) (a : Answer) (at : ℕ) (job : LookupJob) (w : Walk) → IsLookup w stage → is_asking stage ≡ true → IsAmong (choices_at stage a job w) chosen
     → IsLookup (walk_after chosen stage a at w) (stage_after chosen stage a job (walk_after chosen stage a at w))
@@ -154,8 +178,10 @@ pub fed_is_answered : {F : Type 0} (calls : Calls F) (choose : F) → FedIsAnswe
 fed_is_answered calls choose of old new k = record { chosen = reader_of k.picked; among = answers_among calls choose (choices_heard of old) k.picked k.answers; value = k.value }
 
 -- ---- what the code makes is what the answer makes
-pub noted_is : (w x : Walk) (b c : BrickId) (r : Request) (told heard : Told) (at : ℕ) → b.0 ≡ c.0 → told ≡ heard → x ≡ noted (b, r) told at w → x ≡ noted (c, r) heard at w
-noted_is w x b c r told heard at eb et ex = ex ∙ ap (λ (n : ℕ). noted (record { 0 = n }, r) told at w) eb ∙ ap (λ (t : Told). noted (c, r) t at w) et
+pub noted_asked : (stage : LookupStage) (w x : Walk) (b : BrickId) (r : Request) (told heard : Told) (at : ℕ) → is_asking stage ≡ true → next_at stage w ≡ next.Ask b r → told ≡ heard → x ≡ noted (b, r) told at w
+    → x ≡ noted (asked_at stage w) heard at w
+noted_asked stage w x b r told heard at h asked et ex =
+    ex ∙ ap (λ (asked : BrickId × Request). noted asked told at w) (sym (asked_pair stage w b r h asked)) ∙ ap (λ (t : Told). noted (asked_at stage w) t at w) et
 
 -- a noted look leaves the read where it stands
 pub look_kept : (w : Walk) (s : Looks) (a : Answer) (at : ℕ) → IsLookup w (Looking s) → IsLookup (noted (asked_at (Looking s) w) (told_by a) at w) (Looking s)

@@ -1,9 +1,9 @@
 //! The machine of one read: what it asks next, and what it makes of the answers.
-ghost use Rattle.std.specs.Prelude.{◌≡◌, ◌<◌, ◌≤◌, IfOk, not, true};
+ghost use Rattle.std.specs.Prelude.{None, Some, ◌≡◌, ◌<◌, ◌≤◌, IfOk, false, not, true};
 ghost use Rattle.afr_inode_read.specs.Lookup.{IsFed, IsLookup, answered, choices_of, is_asking, lookup_from, next_of};
 ghost use Rattle.afr_rule.specs.Choosing.{IsRule};
 ghost use Rattle.afr_walk.specs.Choosing.{RuleAnswers, reader_of};
-ghost use Rattle.afr_walk.specs.Free.{Allows};
+ghost use Rattle.afr_walk.specs.Free.{Allows, is_ask};
 
 use crate::job::{LookupJob, request_of};
 use crate::stage::{LookupStage, left_by, stage_heard};
@@ -73,6 +73,16 @@ impl LookupMachine {
         self.line()
     }
 
+    /// Whom the next line asks, where it is a request; that is written where it is to stand, for it is large.
+    pub fn asks(&self, _position: u32, request: &mut Request) -> Option<BrickId>
+        ensures some { (b : BrickId) → result ≡ Some b → next_of self.now ≡ Next.Ask b request.new }
+        ensures none { result ≡ None → is_ask (next_of self.now) ≡ false }
+        ensures allowed { (b : BrickId) → result ≡ Some b → Allows self.now.walk.register (Next.Ask b request.new) }
+    {
+        self.stays_sound();
+        self.ask(request)
+    }
+
     /// A read carries no contents.
     pub fn load(&self) -> Load<'_>
         ensures { result ≡ Load.Nothing }
@@ -89,7 +99,10 @@ impl LookupMachine {
     {
         match &mut heard {
             Heard::Answer(answer, at) => {
-                self.hear(answer, *at, rule);
+                let mut request = Request::Index;
+                if let Some(brick) = self.asks(*at, &mut request) {
+                    self.hear(brick, &request, answer, *at, rule);
+                }
             }
             Heard::Begun(_) => {}
         }
@@ -135,6 +148,26 @@ impl LookupMachine {
         }
     }
 
+    fn ask(&self, request: &mut Request) -> Option<BrickId>
+        ensures some { (b : BrickId) → result ≡ Some b → next_of self.now ≡ Next.Ask b request.new }
+        ensures none { result ≡ None → is_ask (next_of self.now) ≡ false }
+    {
+        match &self.stage {
+            LookupStage::Walking => Some(self.walk.asks(request)),
+            LookupStage::Looking(looks) => {
+                *request = Request::Look {
+                    gfid: self.walk.object.gfid,
+                };
+                Some(looks.next_brick(self.walk.shape.n))
+            }
+            LookupStage::Reading(brick, content) => {
+                *request = request_of(self.walk.object.gfid, *content);
+                Some(*brick)
+            }
+            LookupStage::Ending(_) => None,
+        }
+    }
+
     fn walking(&self) -> Next
         requires { self.now.stage ≡ LookupStage.Walking }
         ensures { result ≡ next_of self.now }
@@ -143,16 +176,19 @@ impl LookupMachine {
         Next::Ask(brick, request)
     }
 
-    /// The request was written, and the brick has answered. What was read is taken out of the answer, and not copied. Once all
+    /// This request was written, and the brick has answered. What was read is taken out of the answer, and not copied. Once all
     /// copies were looked at the rule picks the one that is read; this is what it has picked now.
     pub fn hear<G: Fn(&[Candidate]) -> usize>(
         &mut self,
+        brick: BrickId,
+        request: &Request,
         answer: &mut Answer,
         at: u32,
         rule: &ReadRule<G>,
     ) -> Option<BrickId>
         requires rule { IsRule G.Fn rule.now }
         requires asking { is_asking self.old.stage ≡ true }
+        requires asked { next_of self.old ≡ Next.Ask brick request.now }
         ensures picked { RuleAnswers G.Fn rule.now (choices_of answer.old self.old) result }
         ensures value { self.new ≡ answered (reader_of result) answer.old at self.old }
     {
@@ -161,6 +197,8 @@ impl LookupMachine {
             &mut self.walk,
             self.job,
             &mut self.stage,
+            brick,
+            request,
             answer,
             at,
             rule,

@@ -1,17 +1,18 @@
 //! The stages of a read, and what an answer makes of each.
 ghost use Rattle.std.specs.Prelude.{◌≡◌, ◌<◌, ◌≤◌, [], false, not, true};
 ghost use Rattle.afr_base.specs.Bricks.{is_nothing};
-ghost use Rattle.afr_inode_read.specs.Lookup.{IsLookup, after_walk, asked_at, at_object, choices_at, from_copy, is_asking, object_judged, object_looked, stage_after, walk_after};
+ghost use Rattle.afr_inode_read.specs.Lookup.{IsLookup, after_walk, asked_at, at_object, choices_at, from_copy, is_asking, next_at, object_judged, object_looked, stage_after, walk_after};
 ghost use Rattle.afr_inode_read.specs.Job.{kind_of, reply_to};
 ghost use Rattle.afr_lines.specs.declared.reply.Reply.{Reply};
 ghost use Rattle.afr_lines.specs.Told.{told_by};
+ghost use Rattle.afr_lines.specs.declared.line.Next.{Next};
 ghost use Rattle.afr_rule.specs.Choosing.{IsRule};
 ghost use Rattle.afr_walk.specs.Choosing.{RuleAnswers, choices_after, reader_of};
 ghost use Rattle.afr_walk.specs.Looks.{left_to_look};
 ghost use Rattle.afr_walk.specs.declared.looks.Looks.{Looks};
 ghost use Rattle.afr_walk.specs.Walk.{IsWalk, is_walking, noted};
 
-use crate::job::{Content, LookupJob, kind_of, reply_to, request_of};
+use crate::job::{Content, LookupJob, kind_of, reply_to};
 use afr_base::{BrickId, Shape, What};
 use afr_choice::{Looked, Verdict, judge};
 use afr_lines::{Answer, Good, KeptReply, Reply, Request, told_of};
@@ -80,13 +81,16 @@ fn of_dir(what: What) -> LookupStage
     }
 }
 
-/// The stage hears an answer at this position, which the walk's register notes. It is written anew only where the walk, the
-/// looks or the read have ended. Once all copies were looked at the rule picks one; this is what it has picked now.
+/// The stage hears an answer to what it asked, at this position, which the walk's register notes. It is written anew only
+/// where the walk, the looks or the read have ended. Once all copies were looked at the rule picks one; this is what it has
+/// picked now.
 pub(crate) fn stage_heard<G: Fn(&[Candidate]) -> usize>(
     alloc: Global,
     walk: &mut Walk,
     job: LookupJob,
     stage: &mut LookupStage,
+    brick: BrickId,
+    request: &Request,
     answer: &mut Answer,
     at: u32,
     rule: &ReadRule<G>,
@@ -94,6 +98,7 @@ pub(crate) fn stage_heard<G: Fn(&[Candidate]) -> usize>(
     requires rule { IsRule G.Fn rule.now }
     requires sound { IsLookup walk.old stage.old }
     requires asking { is_asking stage.old ≡ true }
+    requires asked { next_at stage.old walk.old ≡ Next.Ask brick request.now }
     ensures picked { RuleAnswers G.Fn rule.now (choices_at stage.old answer.old job walk.old) result }
     ensures walk { walk.new ≡ walk_after (reader_of result) stage.old answer.old at walk.old }
     ensures stage { stage.new ≡ stage_after (reader_of result) stage.old answer.old job (walk_after (reader_of result) stage.old answer.old at walk.old) }
@@ -101,22 +106,22 @@ pub(crate) fn stage_heard<G: Fn(&[Candidate]) -> usize>(
 {
     match stage {
         LookupStage::Walking => {
-            let picked = walk.hear(answer, at, rule);
+            let picked = walk.hear(brick, request, answer, at, rule);
             if has_ended(walk) {
                 leave(job, walk, stage);
             }
             picked
         }
         LookupStage::Looking(looks) => {
-            look_noted(walk, looks, answer, at);
+            look_noted(walk, looks, brick, request, answer, at);
             looks.hear(walk.shape.n, &told_of(answer));
             if !looks.is_over(walk.shape.n) {
                 return None;
             }
             look_over(alloc, job, walk, stage, rule)
         }
-        LookupStage::Reading(brick, content) => {
-            read_noted(walk, *brick, *content, answer, at);
+        LookupStage::Reading(reader, content) => {
+            read_noted(walk, *reader, *content, brick, request, answer, at);
             end_read(mem::replace(answer, Answer::Done), stage);
             None
         }
@@ -176,17 +181,21 @@ fn has_ended(walk: &Walk) -> bool
     }
 }
 
-fn look_noted(walk: &mut Walk, looks: &Looks, answer: &Answer, at: u32)
-    requires { IsLookup walk.old (LookupStage.Looking looks.now) }
+fn look_noted(
+    walk: &mut Walk,
+    looks: &Looks,
+    brick: BrickId,
+    request: &Request,
+    answer: &Answer,
+    at: u32,
+)
+    requires sound { IsLookup walk.old (LookupStage.Looking looks.now) }
+    requires asked { next_at (LookupStage.Looking looks.now) walk.old ≡ Next.Ask brick request.now }
     ensures walk { walk.new ≡ noted (asked_at (LookupStage.Looking looks.now) walk.old) (told_by answer.now) at walk.old }
     ensures kept { IsLookup walk.new (LookupStage.Looking looks.now) }
 {
-    let told = told_of(answer);
-    let brick = looks.next_brick(walk.shape.n);
-    let request = Request::Look {
-        gfid: walk.object.gfid,
-    };
-    walk.note(brick, &request, &told, at);
+    let _ = looks;
+    walk.note(brick, request, &told_of(answer), at);
 }
 
 /// The verdict, where all were asked, and what the rule has picked.
@@ -214,14 +223,22 @@ fn looked_at<G: Fn(&[Candidate]) -> usize>(
     )
 }
 
-fn read_noted(walk: &mut Walk, brick: BrickId, content: Content, answer: &Answer, at: u32)
-    requires { IsLookup walk.old (LookupStage.Reading brick content) }
-    ensures walk { walk.new ≡ noted (asked_at (LookupStage.Reading brick content) walk.old) (told_by answer.now) at walk.old }
+fn read_noted(
+    walk: &mut Walk,
+    reader: BrickId,
+    content: Content,
+    brick: BrickId,
+    request: &Request,
+    answer: &Answer,
+    at: u32,
+)
+    requires sound { IsLookup walk.old (LookupStage.Reading reader content) }
+    requires asked { next_at (LookupStage.Reading reader content) walk.old ≡ Next.Ask brick request.now }
+    ensures walk { walk.new ≡ noted (asked_at (LookupStage.Reading reader content) walk.old) (told_by answer.now) at walk.old }
     ensures kept { (said : Reply) → IsLookup walk.new (LookupStage.Ending said) }
 {
-    let told = told_of(answer);
-    let request = request_of(walk.object.gfid, content);
-    walk.note(brick, &request, &told, at);
+    let _ = (reader, content);
+    walk.note(brick, request, &told_of(answer), at);
 }
 
 fn judged(

@@ -1,5 +1,5 @@
 -- A write has somebody left to ask, the discipline allows what it asks, and its register notes it.
-use Rattle.std.proofs.Common.{◌≡◌, ℕ, ◌&&◌, Bool, true, false, refl, sym, subst, ap, ◌∙◌, arith, inl, inr, if◌then◌else◌}
+use Rattle.std.proofs.Common.{◌≡◌, ℕ, ◌&&◌, Bool, true, false, refl, sym, subst, ap, ◌∙◌, arith, inl, inr, None, if◌then◌else◌}
 use Rattle.std.proofs.lemmas.Bool.Decides.{nat_tests}
 use Rattle.afr_base.specs.Bricks.{lowest, is_nothing}
 use Rattle.afr_base.specs.declared.ids.BrickId.{BrickId}
@@ -22,7 +22,7 @@ use Rattle.afr_discipline.specs.declared.register.Move.{Move}
 use Rattle.afr_discipline.specs.declared.register.Move.TheVariants as move
 use Rattle.afr_discipline.specs.declared.register.Register.{Register}
 use Rattle.afr_discipline.specs.declared.register.Step.TheVariants as step
-use Rattle.afr_walk.specs.Free.{Allows, IsFree, IsMoveOf}
+use Rattle.afr_walk.specs.Free.{Allows, IsFree, IsMoveOf, is_ask}
 use Rattle.afr_rule.specs.Choosing.{Calls}
 use Rattle.afr_walk.specs.Choosing.{IsAmong, reader_of}
 use Rattle.afr_walk.specs.Walk.{next_in, noted, walked, IsWalk}
@@ -43,7 +43,7 @@ use Rattle.afr_transaction.proofs.Allowed.{allowed_moves}
 use Rattle.afr_transaction.proofs.Kept.{kept_begin, sound_first, stays_sound as transaction_stays}
 use Rattle.afr_inode_write.specs.Job.{IsJob, change_of, is_empty, is_of_bytes}
 use Rattle.afr_inode_write.specs.Laws.{AllowedNext, FedIsAnswered, NotesBegin, NotesEach, StaysSound}
-use Rattle.afr_inode_write.specs.Write.{IsStage, IsWrite, after_step, after_walk, at_object, begun_in, choices_at, choices_heard, is_over, next_at, register_at, stage_after, stage_begun, told_to, walk_after}
+use Rattle.afr_inode_write.specs.Write.{IsFed, IsStage, IsWrite, Write, after_step, after_walk, at_object, begun_in, choices_at, choices_heard, is_over, next_at, next_of, register_at, stage_after, stage_begun, told_to, walk_after}
 use Rattle.afr_inode_write.specs.declared.job.WriteJob.{WriteJob}
 use Rattle.afr_inode_write.specs.declared.job.WriteJob.TheVariants as job
 use Rattle.afr_inode_write.specs.declared.stage.WriteStage.{WriteStage}
@@ -134,6 +134,40 @@ begun_sound w t at k = go (is_beginning t.stage) refl
     go : (e : Bool) → is_beginning t.stage ≡ e → IsStage w (Changing (if e then begun at t else t))
     go true e = (kept_begin t k.0 (begins_at t.stage e) at, k.1)
     go false e = k
+
+-- where a transaction has asked, it takes the answer
+pub told_answers : (stage : Stage) (told : Told) (at : ℕ) (t : Progress) (brick : BrickId) (request : Request) → progress.next_at stage at t ≡ next.Ask brick request
+    → progress.answered stage told at t ≡ (if is_beginning stage then t else fed stage told at t)
+told_answers Locking told at t brick request e = refl
+told_answers Looking told at t brick request e = refl
+told_answers Beginning told at t brick request e = absurd (cc e)
+told_answers Preparing told at t brick request e = refl
+told_answers Applying told at t brick request e = refl
+told_answers Posting told at t brick request e = refl
+told_answers Closing told at t brick request e = refl
+
+-- where it has asked nobody and isn't over, an answer changes nothing
+not_asked : (stage : Stage) (told : Told) (at : ℕ) (t : Progress) → is_ask (progress.next_at stage at t) ≡ false → progress.is_over stage t ≡ false → (if is_beginning stage then t else fed stage told at t) ≡ t
+not_asked Locking told at t none more = absurd (cc none)
+not_asked Looking told at t none more = absurd (cc none)
+not_asked Beginning told at t none more = refl
+not_asked Preparing told at t none more = absurd (cc none)
+not_asked Applying told at t none more = absurd (cc none)
+not_asked Posting told at t none more = absurd (cc none)
+not_asked Closing told at t none more = go (is_nothing t.register.held) none more
+  where
+    go : (over : Bool) → is_ask (if over then next.End (reply_of t.change t.register) else asks Closing t) ≡ false → over ≡ false → fed Closing told at t ≡ t
+    go true none more = absurd (cc more)
+    go false none more = absurd (cc none)
+
+pub unheard : {F : Type 0} (calls : Calls F) (choose : F) (m : Write) (a : Answer) (at : ℕ) → is_ask (next_of at m) ≡ false → is_over m.stage ≡ false → IsFed calls choose (heard.Answer a at) m m
+unheard calls choose m a at none more = go m.stage none more
+  where
+    go : (stage : WriteStage) → is_ask (next_at at stage m.walk) ≡ false → is_over stage ≡ false
+        → IsFed calls choose (heard.Answer a at) (record { walk = m.walk; stage = stage }) (record { walk = m.walk; stage = stage })
+    go (Walking j) none more = absurd (cc none)
+    go (Changing t) none more = record { picked = None; answers = refl; value = ap (λ (x : Progress). record { walk = m.walk; stage = Changing x }) (sym (not_asked t.stage (told_by a) at t none more)) }
+    go (Ending said) none more = absurd (cc more)
 
 pub kept_answer : (chosen : BrickId) (stage : WriteStage) (a : Answer) (at : ℕ) (w : Walk) → IsWrite w stage → is_over stage ≡ false → IsAmong (choices_at stage a w) chosen
     → IsWrite (walk_after chosen stage a at w) (stage_after stage a at (walk_after chosen stage a at w))

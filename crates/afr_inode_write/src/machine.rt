@@ -1,16 +1,16 @@
 //! The machine of one write, cut or change of an attribute: what it asks next, and what it makes of the answers.
-ghost use Rattle.std.specs.Prelude.{◌≡◌, ◌<◌, ◌≤◌, IfOk, false, true};
+ghost use Rattle.std.specs.Prelude.{◌≡◌, ◌<◌, ◌≤◌, IfOk, None, Some, false, true};
 ghost use Rattle.afr_inode_write.specs.Write.{CarriesNext, IsFed, IsWrite, answered, choices_at, is_over, next_of, register_of, stage_begun, write_from};
 ghost use Rattle.afr_rule.specs.Choosing.{IsRule};
 ghost use Rattle.afr_walk.specs.Choosing.{RuleAnswers, reader_of};
-ghost use Rattle.afr_walk.specs.Free.{Allows};
+ghost use Rattle.afr_walk.specs.Free.{Allows, is_ask};
 ghost use Rattle.afr_walk.specs.Walk.{IsWalk, is_walking, next_in};
 
 use crate::job::WriteJob;
 use crate::stage::{WriteStage, first, stage_begun, stage_heard};
 use afr_base::{BrickId, NameId, NoMemory, Shape};
 use afr_discipline::Register;
-use afr_lines::{Answer, Heard, KeptReply, Next};
+use afr_lines::{Answer, Heard, KeptReply, Next, Request};
 use afr_object::Load;
 use afr_rule::{Candidate, ReadRule};
 use afr_walk::{Walk, names_of};
@@ -68,6 +68,16 @@ impl WriteMachine {
         self.line(position)
     }
 
+    /// Whom the next line asks, where it is a request; that is written where it is to stand.
+    pub fn asks(&self, position: u32, request: &mut Request) -> Option<BrickId>
+        ensures some { (b : BrickId) → result ≡ Some b → next_of position self.now ≡ Next.Ask b request.new }
+        ensures none { result ≡ None → is_ask (next_of position self.now) ≡ false }
+        ensures allowed { (b : BrickId) → result ≡ Some b → Allows (register_of self.now) (Next.Ask b request.new) }
+    {
+        self.stays_sound();
+        self.ask(position, request)
+    }
+
     /// The change, where the operation is asked for next.
     pub fn load(&self) -> Load<'_>
         ensures { CarriesNext self.now.stage result }
@@ -87,7 +97,10 @@ impl WriteMachine {
     {
         match &heard {
             Heard::Answer(answer, at) => {
-                self.hear(answer, *at, rule);
+                let mut request = Request::Index;
+                if let Some(brick) = self.asks(*at, &mut request) {
+                    self.hear(brick, &request, answer, *at, rule);
+                }
             }
             Heard::Begun(at) => self.begin(*at),
         }
@@ -121,6 +134,17 @@ impl WriteMachine {
         let _ = &self.walk;
     }
 
+    fn ask(&self, _position: u32, request: &mut Request) -> Option<BrickId>
+        ensures some { (b : BrickId) → result ≡ Some b → next_of _position self.now ≡ Next.Ask b request.new }
+        ensures none { result ≡ None → is_ask (next_of _position self.now) ≡ false }
+    {
+        match &self.stage {
+            WriteStage::Walking(_) => Some(self.walk.asks(request)),
+            WriteStage::Changing(transaction) => transaction.asks(request),
+            WriteStage::Ending(_) => None,
+        }
+    }
+
     fn line(&self, position: u32) -> Result<Next, NoMemory>
         ensures { IfOk result (λ next. next ≡ next_of position self.now) }
     {
@@ -135,16 +159,27 @@ impl WriteMachine {
     /// picks the one that is read; this is what it has picked now.
     pub fn hear<G: Fn(&[Candidate]) -> usize>(
         &mut self,
+        brick: BrickId,
+        request: &Request,
         answer: &Answer,
         at: u32,
         rule: &ReadRule<G>,
     ) -> Option<BrickId>
         requires rule { IsRule G.Fn rule.now }
         requires more { is_over self.old.stage ≡ false }
+        requires asked { next_of at self.old ≡ Next.Ask brick request.now }
         ensures picked { RuleAnswers G.Fn rule.now (choices_at self.old.stage answer.now self.old.walk) result }
         ensures value { self.new ≡ answered (reader_of result) answer.now at self.old }
     {
-        stage_heard(&mut self.walk, &mut self.stage, answer, at, rule)
+        stage_heard(
+            &mut self.walk,
+            &mut self.stage,
+            brick,
+            request,
+            answer,
+            at,
+            rule,
+        )
     }
 
     fn begin(&mut self, at: u32)

@@ -5,6 +5,7 @@ mod content;
 mod faults;
 mod index;
 mod lines;
+mod log;
 mod marks;
 mod name_locks;
 mod object;

@@ -20,7 +20,7 @@ pub(crate) fn come_due(volume: &mut Volume) -> Result<(), NoMemory>
     ensures events { OnOk result (length volume.new.log < volume.new.plan.turns → NoneDue volume.new.plan volume.new.log) }
     ensures happens { IsHappening volume.old volume.new }
 {
-    while volume.due().is_some() {
+    while volume.has_due() {
         volume.event()?;
     }
     Ok(())

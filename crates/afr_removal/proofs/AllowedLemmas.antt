@@ -1,16 +1,20 @@
 -- The next line of a removal is one that the discipline allows.
-use Rattle.std.proofs.Common.{◌⊎◌, ◌≡◌, ℕ, ◌<◌, ◌&&◌, ◌||◌, not, ◌==◌, Bool, true, false, List, [], ◌∷◌, refl, sym, ◌∙◌, ap, subst, inl, inr, Option, None, Some, if◌then◌else◌}
+use Rattle.std.proofs.Common.{◌⊎◌, ◌≡◌, ℕ, ◌<◌, ◌&&◌, ◌||◌, not, ◌==◌, nat_lt, arith, Bool, true, false, List, [], ◌∷◌, refl, sym, ◌∙◌, ap, subst, inl, inr, Option, None, Some, if◌then◌else◌}
+use Rattle.std.proofs.lemmas.Bool.Decides.{nat_tests}
 use Rattle.afr_base.specs.Bricks.{lowest, member, is_nothing}
 use Rattle.afr_base.specs.Majority.{is_majority}
 use Rattle.afr_base.specs.SetLemmas.{lowest_in, lowest_left}
+use Rattle.afr_base.specs.declared.ids.BrickId.{BrickId}
 use Rattle.afr_base.specs.declared.ids.Kind.{Kind}
 use Rattle.afr_base.specs.declared.ids.Kind.TheVariants.{Names}
 use Rattle.afr_object.specs.Tables.{object_of}
 use Rattle.afr_choice.specs.VerdictLemmas.{holders_below}
+use Rattle.afr_lines.specs.declared.line.Next.{Next}
 use Rattle.afr_lines.specs.declared.line.Next.TheVariants as next
 use Rattle.afr_lines.specs.declared.reply.Good.TheVariants as good
 use Rattle.afr_lines.specs.declared.reply.Reply.TheVariants as reply
 use Rattle.afr_lines.specs.declared.request.Area.{Area}
+use Rattle.afr_lines.specs.declared.request.Request.{Request}
 use Rattle.afr_moves.specs.Keeps.{keeps_in}
 use Rattle.afr_moves.specs.Lines.{is_ok}
 use Rattle.afr_moves.specs.Register.{kind_in}
@@ -19,13 +23,18 @@ use Rattle.afr_moves.specs.Sets.{any}
 use Rattle.afr_discipline.specs.Notes.{asked_at}
 use Rattle.afr_discipline.specs.Stands.{number_of, seen_as, views_of}
 use Rattle.afr_discipline.specs.Tests.{carried, is_open, last_posted, may_end, one_of, plane_in}
+use Rattle.afr_discipline.specs.declared.register.Move.{Move}
+use Rattle.afr_discipline.specs.declared.register.Move.TheVariants as move
 use Rattle.afr_discipline.specs.declared.register.Register.{Register}
 use Rattle.afr_discipline.specs.declared.register.Step.TheVariants as step
+use Rattle.afr_transaction.specs.Laws as laws
 use Rattle.afr_transaction.specs.Progress.{allowed, enough}
 use Rattle.afr_transaction.proofs.Allowed.{moves_of, on_plane, once_is, others_missed, same_area_self, some_number}
-use Rattle.afr_transaction.proofs.Parts.{any_nothing, deny, holder_shows, lt_test, pair}
+use Rattle.afr_transaction.proofs.Parts.{any_nothing, both, deny, holder_shows, lt_test, pair}
+use Rattle.afr_walk.specs.Free as free
+use Rattle.afr_walk.specs.Free.{Allows}
 use Rattle.afr_removal.specs.Laws.{AllowedMoves}
-use Rattle.afr_removal.specs.Removal.{Removing, asks, left, next_at, reply_of, sources, whole}
+use Rattle.afr_removal.specs.Removal.{Removing, asks, brick_at, is_beginning, is_over, left, next_at, reply_of, request_at, sources, whole}
 use Rattle.afr_removal.specs.Sound.{During, Ready, Sound}
 use Rattle.afr_removal.specs.declared.stage.Ending.{Ending}
 use Rattle.afr_removal.specs.declared.stage.Ending.TheVariants.{Counted, NoQuorum, FewCopies, SplitBrain, NotEmpty, Failed}
@@ -154,3 +163,46 @@ module _ (m : Removing) (s : Sound m) where
 -- whatever the bricks have answered so far, the next line is allowed
 pub allowed_moves : AllowedMoves
 allowed_moves m s step is = moves_of m.register (next_at m.stage m) step s.base.outside (allowed_at m s m.stage s.during s.ready) is
+
+-- a move of a line is one for the transaction too
+moves : (line : Next) (of : Move) → free.IsMoveOf line of → laws.IsMoveOf line of
+moves (next.Ask b request) (move.Ask c asked) is = is
+moves (next.Begin change) (move.Begin of) is = is
+moves (next.End said) (move.End ok) is = is
+moves line of is = absurd is
+
+pub allows_next : (m : Removing) → Sound m → Allows m.register (next_at m.stage m)
+allows_next m s of is = allowed_moves m s of (moves (next_at m.stage m) of is)
+
+-- ---- whom the next line asks
+-- a removal that is neither over nor at its Begin line asks
+next_asks : (stage : RemovalStage) (m : Removing) → is_over stage m ≡ false → is_beginning stage ≡ false → next_at stage m ≡ asks stage m
+next_asks Locking m more away = refl
+next_asks Looking m more away = refl
+next_asks Listing m more away = refl
+next_asks Beginning m more away = absurd (cc away)
+next_asks Preparing m more away = refl
+next_asks Applying m more away = refl
+next_asks Posting m more away = refl
+next_asks (Closing why) m more away = rw more refl
+
+-- the request that the next line says is the stage's
+pub asked_is : (m : Removing) (b : BrickId) (q : Request) → is_over m.stage m ≡ false → is_beginning m.stage ≡ false → next_at m.stage m ≡ next.Ask b q → (b.0 ≡ brick_at m.stage m) × (q ≡ request_at m.stage m)
+asked_is m b q more away e = go (sym (next_asks m.stage m more away) ∙ e)
+  where
+    brick_in : Next → ℕ
+    brick_in (next.Ask c r) = c.0
+    brick_in other = 0
+
+    go : asks m.stage m ≡ next.Ask b q → (b.0 ≡ brick_at m.stage m) × (q ≡ request_at m.stage m)
+    go h = (sym (ap brick_in h), sym (cc h))
+
+-- and of one of the five bricks
+pub asked_small : (m : Removing) → Sound m → (b : BrickId) (q : Request) → next_at m.stage m ≡ next.Ask b q → b.0 < 5
+asked_small m s b q e =
+    let below : b.0 < m.register.shape.n = test_lt _ _ (both _ _ (subst (λ (line : Next). allowed m.register line ≡ true) e (allowed_at m s m.stage s.during s.ready))).0 in
+    let few = s.base.few in
+    omega (arith, below, few)
+  where
+    test_lt : (a b : ℕ) → nat_lt a b ≡ true → a < b
+    test_lt a b h = grind (arith, nat_tests, h)

@@ -7,6 +7,7 @@ ghost use Rattle.afr_removal.specs.Sound.{IsAsking, IsBase, IsRemoval, IsUnbegun
 ghost use Rattle.afr_lines.specs.Areas.{area_for};
 ghost use Rattle.afr_rule.specs.Choosing.{IsRule};
 ghost use Rattle.afr_walk.specs.Choosing.{RuleAnswers, reader_of};
+ghost use Rattle.afr_walk.specs.Free.{Allows, is_ask};
 
 use crate::child::Child;
 use crate::stage::{
@@ -81,6 +82,16 @@ impl Removal {
         }
     }
 
+    /// Whom the next line asks, where it is a request; that is written where it is to stand, for it is large.
+    pub fn asks(&self, request: &mut Request) -> Option<BrickId>
+        ensures some { (b : BrickId) → result ≡ Some b → next_at self.now.stage self.now ≡ Next.Ask b request.new }
+        ensures none { result ≡ None → is_ask (next_at self.now.stage self.now) ≡ false }
+        ensures allowed { (b : BrickId) → result ≡ Some b → Allows self.now.register (Next.Ask b request.new) }
+    {
+        self.stays_sound();
+        self.ask(request)
+    }
+
     /// The change, where the operation is asked for next.
     pub fn load(&self) -> Load<'_>
         ensures { CarriesAt self.now.stage result self.now.change }
@@ -136,10 +147,12 @@ impl Removal {
         self.stage = RemovalStage::Preparing;
     }
 
-    /// The request was answered at this position. Where the child is to be listed the rule picks the copy; this is what it has
+    /// This request was answered at this position. Where the child is to be listed the rule picks the copy; this is what it has
     /// picked now.
     pub fn answer<G: Fn(&[Candidate]) -> usize>(
         &mut self,
+        brick: BrickId,
+        request: &Request,
         answer: &Answer,
         at: u32,
         rule: &ReadRule<G>,
@@ -147,15 +160,14 @@ impl Removal {
         requires rule { IsRule G.Fn rule.now }
         requires more { is_over self.old.stage self.old ≡ false }
         requires asking { is_beginning self.old.stage ≡ false }
+        requires asked { next_at self.old.stage self.old ≡ Next.Ask brick request.now }
         ensures picked { RuleAnswers G.Fn rule.now (choices_at self.old.stage answer.now at self.old) result }
         ensures value { self.new ≡ answered (reader_of result) self.old.stage answer.now at self.old }
     {
         let stage = self.stage;
         let told = told_of(answer);
-        let b = self.brick();
-        let request = self.request();
-        note(&mut self.register, &Move::Ask(b, &request), &told, at);
-        self.child = child_after(stage, b, &told, &self.register, &self.child);
+        note(&mut self.register, &Move::Ask(brick, request), &told, at);
+        self.child = child_after(stage, brick, &told, &self.register, &self.child);
         self.stage = stage_by(stage, answer, &self.change, &self.register, &self.child);
         picked_at(stage, self.stage, &self.register, &mut self.child, rule)
     }
@@ -181,6 +193,18 @@ impl Removal {
             RemovalStage::Listing => self.child.reader,
             _ => self.left().lowest(),
         }
+    }
+
+    fn ask(&self, request: &mut Request) -> Option<BrickId>
+        ensures some { (b : BrickId) → result ≡ Some b → next_at self.now.stage self.now ≡ Next.Ask b request.new }
+        ensures none { result ≡ None → is_ask (next_at self.now.stage self.now) ≡ false }
+    {
+        if self.is_beginning() || self.is_over() {
+            return None;
+        }
+        self.stays_sound();
+        *request = self.request();
+        Some(self.brick())
     }
 
     fn asking(&self) -> Next

@@ -2,3 +2,4 @@ pub mod BrickLinesLemmas
 pub mod CommandLemmas
 mod OwnLemmas
 mod PlacesLemmas
+mod ToldLemmas

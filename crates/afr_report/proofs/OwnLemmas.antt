@@ -1,5 +1,5 @@
 -- What a report says of an actor, it says by the lines that tell of this actor.
-use Rattle.std.proofs.Common.{◌≡◌, ◌∙◌, ◌⊎◌, inl, inr, ℕ, suc, zero, ◌+◌, ◌-◌, ◌<◌, ◌==◌, ◌||◌, Bool, true, false, List, [], ◌∷◌, ◌++◌, Option, Some, None, refl, sym, ap, arith, length, reverse, append-nil, codes, if◌then◌else◌, slice_get}
+use Rattle.std.proofs.Common.{◌≡◌, ◌∙◌, ℕ, ◌+◌, ◌-◌, ◌==◌, ◌||◌, Bool, true, false, List, [], ◌∷◌, ◌++◌, Option, Some, None, refl, sym, ap, length, append-nil, codes, if◌then◌else◌, slice_get}
 use Rattle.std.specs.Prelude.{decimal}
 use Rattle.afr_lines.specs.Work.{Work, work, ended, reply_by, is_killed, kills, is_of, is_end, ends_work}
 use Rattle.afr_lines.specs.declared.line.Event.TheVariants.{Stop, Start, Cut, Join, Kill}

@@ -1,9 +1,9 @@
 -- At the positions that are gathered for an actor stand the lines that tell of it.
-use Rattle.std.proofs.Common.{◌≡◌, ◌∙◌, ◌⊎◌, inl, inr, ℕ, suc, zero, ◌+◌, ◌<◌, ◌==◌, Bool, true, false, List, [], ◌∷◌, ◌++◌, Option, Some, None, refl, sym, ap, arith, length, reverse, append-nil, append_assoc, if◌then◌else◌, slice_get, get_or, set, subst}
-use Rattle.std.specs.Prelude.{replicate}
+use Rattle.std.proofs.Common.{◌≡◌, ◌∙◌, ◌⊎◌, inl, inr, ℕ, ◌<◌, ◌==◌, Bool, true, false, List, [], ◌∷◌, ◌++◌, Option, Some, None, refl, sym, ap, arith, length, reverse, append-nil, append_assoc, if◌then◌else◌, slice_get, get_or, set}
 use Rattle.std.proofs.lemmas.Bool.Decides.{eqb_tells}
 use Rattle.std.proofs.lemmas.List.{reverse-append, get_or-set_same, get_or-set_other, length-set, length-replicate, get_or-replicate, reverse-reverse, length-reverse}
 use Rattle.afr_lines.specs.declared.line.Line.{Line}
+use Rattle.afr_log.specs.Log.{unasked}
 use Rattle.afr_base.specs.declared.ids.BrickId.{BrickId}
 use Rattle.afr_plan.specs.declared.command.Command.{Command}
 use Rattle.afr_plan.specs.declared.plan.Words.{Words}
@@ -11,6 +11,7 @@ use Rattle.afr_model.specs.Report.{client_text}
 use Rattle.afr_model.specs.ReportHealers.{healer_text}
 use Rattle.afr_report.specs.Own.{told_of, is_one, in_front, lines_at, own_lines, placed, places}
 use Rattle.afr_report.proofs.OwnLemmas.{client_own, healer_own}
+use Rattle.afr_report.proofs.ToldLemmas.{one_unasked}
 
 length_placed : (o : Option ℕ) (at : ℕ) (lists : List (List ℕ)) → length (placed o at lists) ≡ length lists
 length_placed None at lists = refl
@@ -40,7 +41,7 @@ pub found : (a : ℕ) → a < 20 → (log seen newer : List Line) → log ≡ re
 found a small log [] newer e = ap (λ (own : List ℕ). lines_at log (reverse own)) (get_or-replicate {A = List ℕ} 20 a [] [] small)
 found a small log (line ∷ older) newer e =
     ap (λ (own : List ℕ). lines_at log (reverse own)) (place_in a (told_of line) (length older) (places older) (omega (arith, length_places older, small)))
-    ∙ go (is_one a (told_of line)) (found a small log older (line ∷ newer) split)
+    ∙ go (is_one a (told_of line)) refl (found a small log older (line ∷ newer) split)
   where
     split : log ≡ reverse older ++ line ∷ newer
     split = e ∙ ap (λ (t : List Line). t ++ newer) (reverse-append (line ∷ []) older) ∙ append_assoc (reverse older) (line ∷ []) newer
@@ -48,13 +49,14 @@ found a small log (line ∷ older) newer e =
     there : slice_get log (length older) ≡ Some line
     there = ap (λ (t : List Line). slice_get t (length older)) split ∙ behind (reverse older) line newer (length older) (sym (length-reverse older))
 
-    go : (t : Bool) → lines_at log (reverse (get_or (places older) a [])) ≡ own_lines a older
+    go : (t : Bool) → is_one a (told_of line) ≡ t → lines_at log (reverse (get_or (places older) a [])) ≡ own_lines a older
         → lines_at log (reverse (if t then get_or (places older) a [] ++ length older ∷ [] else get_or (places older) a [])) ≡ (if t then line ∷ own_lines a older else own_lines a older)
-    go true h =
+    go true e h =
         ap (λ (t : List ℕ). lines_at log t) (reverse-append (get_or (places older) a []) (length older ∷ []))
-        ∙ ap (λ (o : Option Line). in_front o (lines_at log (reverse (get_or (places older) a [])))) there
+        ∙ ap (λ (o : Option Line). in_front (unasked o) (lines_at log (reverse (get_or (places older) a [])))) there
+        ∙ ap (λ (o : Option Line). in_front o (lines_at log (reverse (get_or (places older) a [])))) (one_unasked a line e)
         ∙ ap (λ (lines : List Line). line ∷ lines) h
-    go false h = h
+    go false e h = h
 
 own_found : (a : ℕ) (own : List ℕ) (lists : List (List ℕ)) (log : List Line) → own ≡ get_or lists a [] → lists ≡ places (reverse log) → a < 20
     → lines_at log (reverse own) ≡ own_lines a (reverse log)

@@ -3,6 +3,7 @@ use Rattle.std.specs.Prelude.{ℕ, ◌==◌, Bool, false, List, [], ◌∷◌, �
 use Rattle.afr_lines.specs.declared.line.Event.TheVariants.{Kill}
 use Rattle.afr_lines.specs.declared.line.Line.{Line}
 use Rattle.afr_lines.specs.declared.line.Line.TheVariants.{End, HealEnd, Event}
+use Rattle.afr_log.specs.Log.{unasked}
 
 -- the actor of whom a line tells how far it has come: its work or its heal ends, or it is killed
 abbrev pub told_of : Line → Option ℕ
@@ -21,10 +22,10 @@ abbrev pub in_front : Option Line → List Line → List Line
 in_front None lines = lines
 in_front (Some line) lines = line ∷ lines
 
--- the lines of a log at these positions
+-- the lines of a log at these positions that are no requests
 abbrev pub lines_at : List Line → List ℕ → List Line
 lines_at log [] = []
-lines_at log (at ∷ earlier) = in_front (slice_get log at) (lines_at log earlier)
+lines_at log (at ∷ earlier) = in_front (unasked (slice_get log at)) (lines_at log earlier)
 
 -- the lines that tell of an actor
 abbrev pub own_lines : ℕ → List Line → List Line

@@ -8,7 +8,7 @@ use crate::commands::push_command;
 use crate::own::{line_at, own_places};
 use crate::progress::{Progress, progress_of, reply_by, standing};
 use afr_base::{ActorId, NoMemory};
-use afr_lines::Line;
+use afr_log::Log;
 use afr_object::List;
 use afr_plan::{Command, Script, Words};
 
@@ -18,11 +18,11 @@ pub fn push_clients(
     words: &Words,
     scripts: &[Script],
     lists: &[List<u32>],
-    log: &[Line],
+    log: &Log,
 ) -> Result<(), NoMemory>
     requires few { length scripts.now ≤ 16 }
-    requires lists { lists.now ≡ places (reverse log.now) }
-    ensures ok { OnOk result (string_bytes out.new ≡ string_bytes out.old ++ clients_text words.now 1 scripts.now (reverse log.now)) }
+    requires lists { lists.now ≡ places (reverse log.now.items) }
+    ensures ok { OnOk result (string_bytes out.new ≡ string_bytes out.old ++ clients_text words.now 1 scripts.now (reverse log.now.items)) }
 {
     let mut client = 1;
     for script in scripts {
@@ -38,11 +38,11 @@ fn push_client(
     client: ActorId,
     commands: &[Command],
     lists: &[List<u32>],
-    log: &[Line],
+    log: &Log,
 ) -> Result<(), NoMemory>
     requires small { client.0 < 20 }
-    requires lists { lists.now ≡ places (reverse log.now) }
-    ensures ok { OnOk result (string_bytes out.new ≡ string_bytes out.old ++ client_text words.now client.0 commands.now (reverse log.now)) }
+    requires lists { lists.now ≡ places (reverse log.now.items) }
+    ensures ok { OnOk result (string_bytes out.new ≡ string_bytes out.old ++ client_text words.now client.0 commands.now (reverse log.now.items)) }
 {
     let own = own_places(lists, client);
     push_client_at(out, words, client, commands, own, log)
@@ -55,9 +55,9 @@ fn push_client_at(
     client: ActorId,
     commands: &[Command],
     own: &[u32],
-    log: &[Line],
+    log: &Log,
 ) -> Result<(), NoMemory>
-    ensures ok { OnOk result (string_bytes out.new ≡ string_bytes out.old ++ client_text words.now client.0 commands.now (lines_at log.now (reverse own.now))) }
+    ensures ok { OnOk result (string_bytes out.new ≡ string_bytes out.old ++ client_text words.now client.0 commands.now (lines_at log.now.items (reverse own.now))) }
 {
     let progress = progress_of(client, own, log);
     push_client_head(out, client, progress, commands.len())?;
@@ -86,9 +86,9 @@ fn push_ended(
     client: ActorId,
     commands: &[Command],
     own: &[u32],
-    log: &[Line],
+    log: &Log,
 ) -> Result<(), NoMemory>
-    ensures ok { OnOk result (string_bytes out.new ≡ string_bytes out.old ++ ended_lines words.now client.0 commands.now (lines_at log.now (reverse own.now))) }
+    ensures ok { OnOk result (string_bytes out.new ≡ string_bytes out.old ++ ended_lines words.now client.0 commands.now (lines_at log.now.items (reverse own.now))) }
 {
     let mut before = 0;
     for at in own {

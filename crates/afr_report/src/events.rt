@@ -5,16 +5,19 @@ ghost use Rattle.afr_report.specs.BrickLines.{AreBrickLines, IsBrickEvent, IsBri
 
 use afr_base::BrickSet;
 use afr_lines::{Event, Line};
+use afr_log::Log;
 
 /// The started bricks of a volume of `n`: all of them at first.
-pub fn started(n: u8, log: &[Line]) -> BrickSet
+pub fn started(n: u8, log: &Log) -> BrickSet
     requires few { n ≤ 5 }
-    requires bricks { AreBrickLines (reverse log.now) }
-    ensures { result ≡ started_bricks n (reverse log.now) }
+    requires bricks { AreBrickLines (reverse log.now.items) }
+    ensures { result ≡ started_bricks n (reverse log.now.items) }
 {
     let mut bricks = BrickSet::all(n);
-    for line in log {
-        bricks = started_by(bricks, line);
+    for at in 0..log.len() {
+        if let Some(line) = log.told_at(at) {
+            bricks = started_by(bricks, line);
+        }
     }
     bricks
 }

@@ -8,7 +8,8 @@ use crate::heals::push_heal;
 use crate::own::{line_at, own_places};
 use crate::progress::{Progress, progress_of, reply_by, standing};
 use afr_base::{ActorId, NoMemory};
-use afr_lines::{Line, Reply};
+use afr_lines::Reply;
+use afr_log::Log;
 use afr_object::List;
 use afr_plan::{RoundList, Words};
 use afr_replies::push_reply;
@@ -19,11 +20,11 @@ pub fn push_healers(
     words: &Words,
     healers: &[RoundList],
     lists: &[List<u32>],
-    log: &[Line],
+    log: &Log,
 ) -> Result<(), NoMemory>
     requires few { length healers.now ≤ 3 }
-    requires lists { lists.now ≡ places (reverse log.now) }
-    ensures ok { OnOk result (string_bytes out.new ≡ string_bytes out.old ++ healers_text words.now 17 healers.now (reverse log.now)) }
+    requires lists { lists.now ≡ places (reverse log.now.items) }
+    ensures ok { OnOk result (string_bytes out.new ≡ string_bytes out.old ++ healers_text words.now 17 healers.now (reverse log.now.items)) }
 {
     let mut healer = 17;
     for rounds in healers {
@@ -39,12 +40,12 @@ fn push_healer(
     healer: ActorId,
     rounds: &RoundList,
     lists: &[List<u32>],
-    log: &[Line],
+    log: &Log,
 ) -> Result<(), NoMemory>
     requires healer { 16 < healer.0 }
     requires small { healer.0 < 20 }
-    requires lists { lists.now ≡ places (reverse log.now) }
-    ensures ok { OnOk result (string_bytes out.new ≡ string_bytes out.old ++ healer_text words.now healer.0 rounds.now (reverse log.now)) }
+    requires lists { lists.now ≡ places (reverse log.now.items) }
+    ensures ok { OnOk result (string_bytes out.new ≡ string_bytes out.old ++ healer_text words.now healer.0 rounds.now (reverse log.now.items)) }
 {
     let own = own_places(lists, healer);
     push_healer_at(out, words, healer, rounds, own, log)
@@ -57,10 +58,10 @@ fn push_healer_at(
     healer: ActorId,
     rounds: &RoundList,
     own: &[u32],
-    log: &[Line],
+    log: &Log,
 ) -> Result<(), NoMemory>
     requires healer { 16 < healer.0 }
-    ensures ok { OnOk result (string_bytes out.new ≡ string_bytes out.old ++ healer_text words.now healer.0 rounds.now (lines_at log.now (reverse own.now))) }
+    ensures ok { OnOk result (string_bytes out.new ≡ string_bytes out.old ++ healer_text words.now healer.0 rounds.now (lines_at log.now.items (reverse own.now))) }
 {
     let progress = progress_of(healer, own, log);
     push_healer_head(out, healer, progress, rounds.len())?;
@@ -89,9 +90,9 @@ fn push_rounds(
     words: &Words,
     healer: ActorId,
     own: &[u32],
-    log: &[Line],
+    log: &Log,
 ) -> Result<(), NoMemory>
-    ensures ok { OnOk result (string_bytes out.new ≡ string_bytes out.old ++ rounds_lines words.now healer.0 (lines_at log.now (reverse own.now))) }
+    ensures ok { OnOk result (string_bytes out.new ≡ string_bytes out.old ++ rounds_lines words.now healer.0 (lines_at log.now.items (reverse own.now))) }
 {
     let mut before = 0;
     let mut heals = String::new(*out.allocator());

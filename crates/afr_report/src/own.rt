@@ -1,10 +1,12 @@
 //! Where in the log the lines stand that tell how far each actor has come, gathered in one pass.
 ghost use Rattle.std.specs.Prelude.{◌≡◌, IfOk, OnOk, [], length, replicate, reverse, slice_get, slice_index_or};
-ghost use Rattle.std.specs.Option.{option_copied, option_map};
+ghost use Rattle.std.specs.Option.{option_and_then, option_copied, option_map};
+ghost use Rattle.afr_log.specs.Log.{unasked};
 ghost use Rattle.afr_report.specs.Own.{placed, places, told_of};
 
 use afr_base::{ActorId, NoMemory};
 use afr_lines::{Event, Line};
+use afr_log::Log;
 use afr_object::List;
 use std::alloc::Global;
 
@@ -13,14 +15,12 @@ const ACTORS: usize = 20;
 
 /// For each actor, by its number, the positions of the lines that tell of it, the oldest first: the
 /// ends of its works and heals, and that it was killed. One pass over the log.
-pub fn places(alloc: Global, log: &[Line]) -> Result<Vec<List<u32>>, NoMemory>
-    ensures ok { IfOk result (λ lists. lists.items ≡ places (reverse log.now)) }
+pub fn places(alloc: Global, log: &Log) -> Result<Vec<List<u32>>, NoMemory>
+    ensures ok { IfOk result (λ lists. lists.items ≡ places (reverse log.now.items)) }
 {
     let mut lists = no_places(alloc)?;
-    let mut at = 0;
-    for line in log {
-        note(&mut lists, line, at)?;
-        at += 1;
+    for at in 0..log.len() {
+        note(&mut lists, log.told_at(at), at)?;
     }
     Ok(lists)
 }
@@ -37,9 +37,13 @@ fn no_places(alloc: Global) -> Result<Vec<List<u32>>, NoMemory>
     Ok(lists)
 }
 
-fn note(lists: &mut Vec<List<u32>>, line: &Line, at: usize) -> Result<(), NoMemory>
-    ensures ok { OnOk result (lists.new.items ≡ placed (told_of line.now) at lists.old.items) }
+/// Notes the position of a line, if there is one and it tells of an actor.
+fn note(lists: &mut Vec<List<u32>>, line: Option<&Line>, at: usize) -> Result<(), NoMemory>
+    ensures ok { OnOk result (lists.new.items ≡ placed (option_and_then told_of (option_copied line.entry)) at lists.old.items) }
 {
+    let Some(line) = line else {
+        return Ok(());
+    };
     match told_of(line) {
         Some(actor) => place(lists, actor.0 as usize, at),
         None => Ok(()),
@@ -104,9 +108,9 @@ pub fn own_places(lists: &[List<u32>], actor: ActorId) -> &[u32]
     }
 }
 
-/// The line at a position of the log.
-pub fn line_at(log: &[Line], at: u32) -> Option<&Line>
-    ensures { option_copied result ≡ slice_get log.now at }
+/// The line at a position of the log, where it is no request.
+pub fn line_at(log: &Log, at: u32) -> Option<&Line>
+    ensures { option_copied result ≡ unasked (slice_get log.now.items at) }
 {
-    log.get(at as usize)
+    log.told_at(at as usize)
 }

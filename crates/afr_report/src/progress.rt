@@ -8,6 +8,7 @@ ghost use Rattle.afr_report.specs.Own.{lines_at};
 use crate::own::line_at;
 use afr_base::ActorId;
 use afr_lines::{Event, Line, Reply};
+use afr_log::Log;
 
 /// How many works of an actor have ended, and whether it was killed.
 #[derive(Clone, Copy)]
@@ -17,9 +18,9 @@ pub struct Progress {
 }
 
 /// How far the actor has come by the lines at these positions of the log.
-pub fn progress_of(actor: ActorId, own: &[u32], log: &[Line]) -> Progress
-    ensures done { result.done ≡ ended actor.0 (lines_at log.now (reverse own.now)) }
-    ensures dead { result.dead ≡ is_killed actor.0 (lines_at log.now (reverse own.now)) }
+pub fn progress_of(actor: ActorId, own: &[u32], log: &Log) -> Progress
+    ensures done { result.done ≡ ended actor.0 (lines_at log.now.items (reverse own.now)) }
+    ensures dead { result.dead ≡ is_killed actor.0 (lines_at log.now.items (reverse own.now)) }
 {
     let mut done = 0;
     let mut dead = false;

@@ -9,7 +9,7 @@ use crate::healers::push_healers;
 use crate::own::places;
 use afr_base::{BrickSet, NoMemory, Shape};
 use afr_info::print_info;
-use afr_lines::Line;
+use afr_log::Log;
 use afr_plan::Plan;
 use afr_server::Server;
 use std::alloc::Global;
@@ -20,15 +20,15 @@ use std::alloc::Global;
 pub fn print_report(
     alloc: Global,
     plan: &Plan,
-    log: &[Line],
+    log: &Log,
     started: BrickSet,
     servers: &[Server],
 ) -> Result<String, NoMemory>
     requires few { plan.now.shape.n ≤ 5 }
     requires clients { length plan.now.clients ≤ 16 }
     requires healers { length plan.now.healers ≤ 3 }
-    requires started { started ≡ started_bricks plan.now.shape.n (reverse log.now) }
-    ensures ok { HoldTables plan.now (reverse log.now) started servers.now → IfOk result (λ text. string_bytes text ≡ report_of plan.now (reverse log.now)) }
+    requires started { started ≡ started_bricks plan.now.shape.n (reverse log.now.items) }
+    ensures ok { HoldTables plan.now (reverse log.now.items) started servers.now → IfOk result (λ text. string_bytes text ≡ report_of plan.now (reverse log.now.items)) }
 {
     let mut out = String::new(alloc);
     let lines = log.len();

@@ -5,6 +5,7 @@ ghost use Rattle.afr_report.specs.BrickLines.{AreBrickLines, IsBrickEvent, IsBri
 use afr_base::BrickId;
 use afr_faults::FaultPlan;
 use afr_lines::{Event, Line};
+use afr_log::Log;
 use afr_plan::Plan;
 use afr_replay::{Unfit, tables};
 use afr_report::{print_report, started};
@@ -13,27 +14,29 @@ use afr_summary::print_summary;
 use std::alloc::Global;
 
 /// Whether the report has this text.
-pub fn reports(alloc: Global, plan: &Plan, log: &[Line], text: &str) -> Result<bool, Unfit> {
+pub fn reports(alloc: Global, plan: &Plan, lines: Vec<Line>, text: &str) -> Result<bool, Unfit> {
     if plan.shape.n > 5 || plan.clients.len() > 16 || plan.healers.len() > 3 {
         return Ok(false);
     }
-    if !has_brick_lines(log) {
+    if !has_brick_lines(&lines) {
         return Ok(false);
     }
-    let servers = replayed(alloc, plan, log)?;
-    let started = started(plan.shape.n, log);
-    let report = print_report(alloc, plan, log, started, &servers)?;
+    let servers = replayed(alloc, plan, &lines)?;
+    let log = Log::of(alloc, lines)?;
+    let started = started(plan.shape.n, &log);
+    let report = print_report(alloc, plan, &log, started, &servers)?;
     Ok(report.as_str() == text)
 }
 
 /// Whether the summary of load 7 has this text.
-pub fn summarizes(alloc: Global, plan: &Plan, log: &[Line], text: &str) -> Result<bool, Unfit> {
-    if plan.shape.n > 5 || !has_brick_lines(log) {
+pub fn summarizes(alloc: Global, plan: &Plan, lines: Vec<Line>, text: &str) -> Result<bool, Unfit> {
+    if plan.shape.n > 5 || !has_brick_lines(&lines) {
         return Ok(false);
     }
-    let servers = replayed(alloc, plan, log)?;
-    let started = started(plan.shape.n, log);
-    let summary = print_summary(alloc, 7, plan, log, started, &servers)?;
+    let servers = replayed(alloc, plan, &lines)?;
+    let log = Log::of(alloc, lines)?;
+    let started = started(plan.shape.n, &log);
+    let summary = print_summary(alloc, 7, plan, &log, started, &servers)?;
     Ok(summary.as_str() == text)
 }
 

@@ -14,7 +14,7 @@ fn counts_a_refusal(alloc: Global) -> Result<bool, Unfit> {
     summarizes(
         alloc,
         &plan,
-        &dead_and_short(alloc)?,
+        dead_and_short(alloc)?,
         "gen 7\nlines 4\nok 0\nrefused 1\nsettled 0\nobjects 0\nsplit-brain 0\n",
     )
 }
@@ -25,7 +25,7 @@ fn counts_a_split_and_no_round(alloc: Global) -> Result<bool, Unfit> {
     summarizes(
         alloc,
         &plan,
-        &split_and_heals(alloc)?,
+        split_and_heals(alloc)?,
         "gen 7\nlines 12\nok 0\nrefused 0\nsettled 0\nobjects 1\nsplit-brain 1\n",
     )
 }
@@ -38,7 +38,7 @@ fn summarizes_worked(alloc: Global, worked: Worked, text: &str) -> bool {
     let Ok(plan) = worked_plan(alloc, worked) else {
         return false;
     };
-    summarizes(alloc, &plan, &log, text) == Ok(true)
+    summarizes(alloc, &plan, log, text) == Ok(true)
 }
 
 #[test]

@@ -19,7 +19,7 @@ fn reports_made(
     log: Result<Vec<Line>, NoMemory>,
     text: &str,
 ) -> Result<bool, Unfit> {
-    reports(alloc, &plan?, &log?, text)
+    reports(alloc, &plan?, log?, text)
 }
 
 fn clients_alone(alloc: Global, arbiter: bool, clients: Scripts) -> Result<Plan, NoMemory> {
@@ -65,7 +65,7 @@ fn reports_worked(alloc: Global, worked: Worked, text: &str) -> bool {
     let Ok(plan) = worked_plan(alloc, worked) else {
         return false;
     };
-    reports(alloc, &plan, &log, text) == Ok(true)
+    reports(alloc, &plan, log, text) == Ok(true)
 }
 
 #[test]

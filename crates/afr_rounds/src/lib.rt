@@ -3,10 +3,8 @@
 
 mod healer;
 mod laws;
-mod line;
 mod step;
 
 pub use healer::Healer;
 pub use laws::a_healer_keeps_its_round;
-pub use line::add_line;
 pub use step::{ready_round, step_round};

@@ -1,5 +1,5 @@
 //! One line of a healer.
-ghost use Rattle.std.specs.Prelude.{◌≡◌, ◌<◌, ◌≤◌, ◌^◌, ◌-◌, ℕ, List, IfOk, OnOk, OnErr, is_some, true, false, vec_len, vec_capacity};
+ghost use Rattle.std.specs.Prelude.{◌≡◌, ◌<◌, ◌≤◌, ◌^◌, ◌-◌, ℕ, List, IfOk, OnOk, OnErr, is_some, true, false};
 ghost use Rattle.afr_healer.specs.Rounding.{IsFed};
 ghost use Rattle.afr_lines.specs.declared.line.Next.TheVariants as next;
 ghost use Rattle.afr_rounds.specs.Acting.{Adds, CanStep, IsBegun, IsEnded, IsHealed, Readies, Stepped, met_after};
@@ -9,10 +9,10 @@ ghost use Rattle.afr_server.specs.Serving.{HasEpoch, Serving};
 ghost use Rattle.afr_servers.specs.Calls.{At};
 
 use crate::healer::Healer;
-use crate::line::add_line;
 use afr_base::{ActorId, BrickId, Gfid, Kind, NoMemory, Shape};
 use afr_healer::RoundMachine;
-use afr_lines::{Answer, HealReply, Line, Next, Reply, Request, told_of};
+use afr_lines::{Answer, HealReply, Line, Next, Reply, Request};
+use afr_log::Log;
 use afr_ranges::{fits_its_types, request_fits_its_types};
 use afr_rule::{Candidate, SourceRule};
 use afr_server::Asked;
@@ -47,14 +47,14 @@ pub fn step_round<F: Fn(&[Candidate]) -> usize>(
     a: ActorId,
     servers: &mut Servers,
     position: u32,
-    log: &mut Vec<Line>,
+    log: &mut Log,
     rule: &SourceRule<F>,
 ) -> Result<(), NoMemory>
     requires rule { IsRule F.Fn rule.now }
     requires busy { is_some healer.old.round ≡ true }
     requires room { healer.old.ended < 2 ^ 32 - 1 }
     requires can { CanStep a position healer.old servers.old }
-    requires space { vec_len log.old < vec_capacity log.old }
+    requires space { log.old.room ≡ true }
     ensures ok { OnOk result (Adds (λ line. Stepped (IsFed F.Fn rule.now) a position healer.old healer.new servers.old servers.new line) log.old.items log.new.items) }
     ensures err { OnErr result ((healer.new ≡ healer.old) × (servers.new ≡ servers.old) × (log.new.items ≡ log.old.items)) }
 {
@@ -184,27 +184,20 @@ fn asks<F: Fn(&[Candidate]) -> usize>(
     request: &Request,
     servers: &mut Servers,
     position: u32,
-    log: &mut Vec<Line>,
+    log: &mut Log,
     rule: &SourceRule<F>,
 ) -> Result<(), NoMemory>
     requires rule { IsRule F.Fn rule.now }
     requires busy { is_some healer.old.round ≡ true }
     requires next { WritesNext healer.old (next.Ask brick request.now) }
     requires can { CanStep a position healer.old servers.old }
-    requires space { vec_len log.old < vec_capacity log.old }
+    requires space { log.old.room ≡ true }
     ensures ok { OnOk result (AddsNext (IsFed F.Fn rule.now) a position healer.old healer.new servers.old servers.new (next.Ask brick request.now) log.old.items log.new.items) }
     ensures err { OnErr result ((healer.new ≡ healer.old) × (servers.new ≡ servers.old) × (log.new.items ≡ log.old.items)) }
 {
     request_fits_its_types(request);
     let Asked { mut answer, took } = ask(healer, a, brick, request, servers)?;
-    let line = Line::Ask {
-        actor: a,
-        brick,
-        request: *request,
-        told: told_of(&answer),
-        took,
-    };
-    add_line(log, line);
+    log.add_ask(a, brick, request, &answer, took);
     hear(healer, &mut answer, position, rule);
     healer.met = stays_met(request);
     Ok(())
@@ -217,11 +210,11 @@ fn heal_begins(
     gfid: Gfid,
     kind: Kind,
     position: u32,
-    log: &mut Vec<Line>,
+    log: &mut Log,
 )
     requires busy { is_some healer.old.round ≡ true }
     requires next { WritesNext healer.old (next.HealBegin gfid kind) }
-    requires space { vec_len log.old < vec_capacity log.old }
+    requires space { log.old.room ≡ true }
     ensures { (bricks : List Serving) → OfRound healer.old (λ m. Adds (λ line. IsBegun a position gfid kind healer.old healer.new m bricks bricks line) log.old.items log.new.items) }
 {
     match &mut healer.round {
@@ -234,7 +227,7 @@ fn heal_begins(
         kind,
     };
     fits_its_types(&line);
-    add_line(log, line);
+    log.add(line);
 }
 
 #[inline(never)]
@@ -244,11 +237,11 @@ fn heal_ends(
     gfid: Gfid,
     kind: Kind,
     reply: HealReply,
-    log: &mut Vec<Line>,
+    log: &mut Log,
 )
     requires busy { is_some healer.old.round ≡ true }
     requires next { WritesNext healer.old (next.HealEnd gfid kind reply) }
-    requires space { vec_len log.old < vec_capacity log.old }
+    requires space { log.old.room ≡ true }
     ensures { (bricks : List Serving) → OfRound healer.old (λ m. Adds (λ line. IsHealed a gfid kind reply healer.old healer.new m bricks bricks line) log.old.items log.new.items) }
 {
     match &mut healer.round {
@@ -263,13 +256,13 @@ fn heal_ends(
         reply,
     };
     fits_its_types(&line);
-    add_line(log, line);
+    log.add(line);
 }
 
 #[inline(never)]
-fn ends(healer: &mut Healer, a: ActorId, reply: Reply, log: &mut Vec<Line>)
+fn ends(healer: &mut Healer, a: ActorId, reply: Reply, log: &mut Log)
     requires room { healer.old.ended < 2 ^ 32 - 1 }
-    requires space { vec_len log.old < vec_capacity log.old }
+    requires space { log.old.room ≡ true }
     ensures { (bricks : List Serving) → Adds (λ line. IsEnded a reply healer.old healer.new bricks bricks line) log.old.items log.new.items }
 {
     healer.ended += 1;
@@ -277,5 +270,5 @@ fn ends(healer: &mut Healer, a: ActorId, reply: Reply, log: &mut Vec<Line>)
     healer.round = None;
     let line = Line::End { actor: a, reply };
     fits_its_types(&line);
-    add_line(log, line);
+    log.add(line);
 }

@@ -4,6 +4,7 @@ ghost use Rattle.afr_summary.specs.Summary as specs;
 
 use afr_base::{ActorId, MOST_CLIENTS};
 use afr_lines::{HealReply, Line, Reply};
+use afr_log::Log;
 
 /// How often each end comes in a log.
 #[derive(Clone, Copy)]
@@ -16,19 +17,21 @@ pub struct Ends {
     pub settled: usize,
 }
 
-/// Counts the ends in one walk over the log.
-pub fn count_ends(log: &[Line]) -> Ends
-    ensures ok { result.ok ≡ count_by specs.ends_ok log.now }
-    ensures refused { result.refused ≡ count_by specs.ends_refused log.now }
-    ensures settled { result.settled ≡ count_by specs.ends_settled log.now }
+/// Counts the ends in one walk over the log, by its lines that are no requests.
+pub fn count_ends(log: &Log) -> Ends
+    ensures ok { result.ok ≡ count_by specs.ends_ok log.now.items }
+    ensures refused { result.refused ≡ count_by specs.ends_refused log.now.items }
+    ensures settled { result.settled ≡ count_by specs.ends_settled log.now.items }
 {
     let mut ok = 0;
     let mut refused = 0;
     let mut settled = 0;
-    for line in log {
-        ok += one_if(ends_ok(line));
-        refused += one_if(ends_refused(line));
-        settled += one_if(ends_settled(line));
+    for at in 0..log.len() {
+        if let Some(line) = log.told_at(at) {
+            ok += one_if(ends_ok(line));
+            refused += one_if(ends_refused(line));
+            settled += one_if(ends_settled(line));
+        }
     }
     Ends {
         ok,

@@ -8,7 +8,7 @@ use crate::ends::count_ends;
 use crate::lines::{push_ends, push_objects, push_size};
 use afr_base::{BrickSet, NoMemory};
 use afr_info::count_objects;
-use afr_lines::Line;
+use afr_log::Log;
 use afr_plan::Plan;
 use afr_server::Server;
 use std::alloc::Global;
@@ -19,13 +19,13 @@ pub fn print_summary(
     alloc: Global,
     n: u32,
     plan: &Plan,
-    log: &[Line],
+    log: &Log,
     started: BrickSet,
     servers: &[Server],
 ) -> Result<String, NoMemory>
     requires few { plan.now.shape.n ≤ 5 }
-    requires started { started ≡ started_bricks plan.now.shape.n (reverse log.now) }
-    ensures ok { HoldTables plan.now (reverse log.now) started servers.now → IfOk result (λ text. string_bytes text ≡ summary_of plan.now (reverse log.now) n) }
+    requires started { started ≡ started_bricks plan.now.shape.n (reverse log.now.items) }
+    ensures ok { HoldTables plan.now (reverse log.now.items) started servers.now → IfOk result (λ text. string_bytes text ≡ summary_of plan.now (reverse log.now.items) n) }
 {
     let counts = count_objects(alloc, plan, servers, started)?;
     let mut out = String::new(alloc);

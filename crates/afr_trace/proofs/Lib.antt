@@ -1,1 +1,2 @@
 mod FiveLemmas
+mod TraceLemmas

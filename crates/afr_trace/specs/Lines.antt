@@ -1,5 +1,5 @@
 -- The text of each line of a log, and of the whole.
-use Rattle.std.specs.Prelude.{ℕ, List, [], ◌∷◌, ◌++◌, codes, decimal, length}
+use Rattle.std.specs.Prelude.{ℕ, List, [], ◌∷◌, ◌++◌, Option, Some, None, codes, decimal, length}
 use Rattle.afr_base.specs.declared.ids.Gfid.{Gfid}
 use Rattle.afr_base.specs.declared.ids.Kind.{Kind}
 use Rattle.afr_lines.specs.declared.line.Line.{Line}
@@ -27,6 +27,11 @@ said_text p (line_of.Event event) = codes "event " ++ event_text event
 -- the text of the line at a position: the position, and what the line says
 abbrev pub line_text : Plan → ℕ → Line → List ℕ
 line_text p position line = decimal position ++ codes " " ++ said_text p line ++ codes "\n"
+
+-- the same of a line that may be there
+abbrev pub text_at : Plan → ℕ → Option Line → List ℕ
+text_at p position None = []
+text_at p position (Some line) = line_text p position line
 
 -- the text of a log: its lines, the oldest first
 abbrev pub trace_of : Plan → List Line → List ℕ

@@ -1,5 +1,6 @@
 //! The text of each line of a log.
-ghost use Rattle.std.specs.Prelude.{◌≡◌, ◌++◌, OnOk, codes, decimal, string_bytes};
+ghost use Rattle.std.specs.Prelude.{◌≡◌, ◌++◌, IfSome, OnOk, codes, decimal, string_bytes};
+ghost use Rattle.afr_log.specs.Log.{asked_line};
 ghost use Rattle.afr_model.specs.ReportReplies.{actor_text, heal_text, reply_text};
 ghost use Rattle.afr_trace.specs.Answers.{event_text};
 ghost use Rattle.afr_trace.specs.Changes.{change_text};
@@ -11,6 +12,7 @@ use crate::objects::push_object;
 use crate::requests::push_request;
 use afr_base::{ActorId, BrickId, Gfid, Kind, NoMemory};
 use afr_lines::{Event, HealReply, Line, Reply, Request, Told};
+use afr_log::Asker;
 use afr_object::Change;
 use afr_plan::Plan;
 use afr_replies::{kind_word, push_actor, push_heal_reply, push_number, push_reply};
@@ -27,6 +29,24 @@ pub fn push_line(
     push_number(out, position as u64)?;
     out.push(' ')?;
     push_said(out, plan, line)?;
+    out.push('\n')?;
+    Ok(())
+}
+
+/// The same of a request.
+pub(crate) fn push_asked(
+    out: &mut String,
+    plan: &Plan,
+    position: usize,
+    by: Asker,
+    request: &Request,
+    told: &Told,
+) -> Result<(), NoMemory>
+    ensures ok { OnOk result (string_bytes out.new ≡ string_bytes out.old ++ line_text plan.now position (asked_line by request.now told.now)) }
+{
+    push_number(out, position as u64)?;
+    out.push(' ')?;
+    push_ask(out, plan, by.actor, by.brick, request, told, by.took)?;
     out.push('\n')?;
     Ok(())
 }
@@ -67,12 +87,38 @@ fn push_ask(
     ensures ok { OnOk result (string_bytes out.new ≡ string_bytes out.old ++ said_text plan.now (Line.Ask actor brick request.now told.now took)) }
 {
     push_actor(out, actor)?;
-    out.push_str(" b")?;
-    push_number(out, u64::from(brick.0))?;
-    out.push(' ')?;
+    push_brick(out, brick)?;
     push_request(out, plan, request)?;
     out.push(' ')?;
     push_told(out, told, took)
+}
+
+/// Adds the brick that was asked, between two spaces. A brick of a volume has a word of its own, which is added at once.
+fn push_brick(out: &mut String, brick: BrickId) -> Result<(), NoMemory>
+    ensures ok { OnOk result (string_bytes out.new ≡ string_bytes out.old ++ (codes " b" ++ decimal brick.0 ++ codes " ")) }
+{
+    match brick_word(brick) {
+        Some(word) => out.push_str(word)?,
+        None => {
+            out.push_str(" b")?;
+            push_number(out, u64::from(brick.0))?;
+            out.push(' ')?;
+        }
+    }
+    Ok(())
+}
+
+fn brick_word(brick: BrickId) -> Option<&'static str>
+    ensures { IfSome result (λ word. word.now ≡ codes " b" ++ decimal brick.0 ++ codes " ") }
+{
+    match brick.0 {
+        0 => Some(" b0 "),
+        1 => Some(" b1 "),
+        2 => Some(" b2 "),
+        3 => Some(" b3 "),
+        4 => Some(" b4 "),
+        _ => None,
+    }
 }
 
 fn push_begin(

@@ -1,21 +1,53 @@
 //! The whole text of a log.
-ghost use Rattle.std.specs.Prelude.{◌≡◌, IfOk, reverse, string_bytes};
-ghost use Rattle.afr_trace.specs.Lines.{trace_of};
+ghost use Rattle.std.specs.Prelude.{◌≡◌, ◌++◌, IfOk, OnOk, reverse, slice_get, string_bytes};
+ghost use Rattle.afr_trace.specs.Lines.{text_at, trace_of};
 
-use crate::lines::push_line;
+use crate::lines::{push_asked, push_line};
 use afr_base::NoMemory;
-use afr_lines::Line;
+use afr_lines::{Request, Told};
+use afr_log::Log;
 use afr_plan::Plan;
 use std::alloc::Global;
 
 /// The trace of a plan's log, the oldest line first, in one pass. It takes time proportional to the
 /// text.
-pub fn print_trace(alloc: Global, plan: &Plan, log: &[Line]) -> Result<String, NoMemory>
-    ensures ok { IfOk result (λ text. string_bytes text ≡ trace_of plan.now (reverse log.now)) }
+pub fn print_trace(alloc: Global, plan: &Plan, log: &Log) -> Result<String, NoMemory>
+    ensures ok { IfOk result (λ text. string_bytes text ≡ trace_of plan.now (reverse log.now.items)) }
 {
     let mut out = String::new(alloc);
-    for (position, line) in log.iter().enumerate() {
-        push_line(&mut out, plan, position, line)?;
+    let mut request = Request::Index;
+    let mut told = Told::Done;
+    for position in 0..log.len() {
+        push_at(&mut out, plan, position, log, &mut request, &mut told)?;
     }
     Ok(out)
+}
+
+/// Adds the text of the line at a position; nothing past the end of the log. A packed request is unpacked into these places,
+/// and no line is made of it.
+fn push_at(
+    out: &mut String,
+    plan: &Plan,
+    position: usize,
+    log: &Log,
+    request: &mut Request,
+    told: &mut Told,
+) -> Result<(), NoMemory>
+    ensures ok { OnOk result (string_bytes out.new ≡ string_bytes out.old ++ text_at plan.now position (slice_get log.now.items position)) }
+{
+    match log.asked_at(position, request, told) {
+        Some(by) => push_asked(out, plan, position, by, request, told),
+        None => push_kept(out, plan, position, log),
+    }
+}
+
+/// The same, of whatever line. It stands apart, so that only lines which are no packed requests pay for a frame with a line.
+#[inline(never)]
+fn push_kept(out: &mut String, plan: &Plan, position: usize, log: &Log) -> Result<(), NoMemory>
+    ensures ok { OnOk result (string_bytes out.new ≡ string_bytes out.old ++ text_at plan.now position (slice_get log.now.items position)) }
+{
+    match log.line(position) {
+        Some(shown) => push_line(out, plan, position, shown.as_line()),
+        None => Ok(()),
+    }
 }

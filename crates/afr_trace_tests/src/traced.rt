@@ -2,6 +2,7 @@
 
 use afr_base::{NoMemory, Shape};
 use afr_lines::Line;
+use afr_log::Log;
 use afr_object::List;
 use afr_plan::{Plan, Word, WordList, Words};
 use afr_trace::print_trace;
@@ -42,7 +43,7 @@ fn word(alloc: Global, text: &[u8]) -> Result<Word, NoMemory> {
 /// Whether the small plan's log has this trace.
 pub fn reads(alloc: Global, n: u8, log: Result<Vec<Line>, NoMemory>, text: &str) -> bool {
     match (small_plan(alloc, n), log) {
-        (Ok(plan), Ok(log)) => is_trace(alloc, &plan, &log, text),
+        (Ok(plan), Ok(log)) => is_trace(alloc, &plan, log, text),
         _ => false,
     }
 }
@@ -50,14 +51,19 @@ pub fn reads(alloc: Global, n: u8, log: Result<Vec<Line>, NoMemory>, text: &str)
 /// Whether the worked log has this trace.
 pub fn worked_reads(alloc: Global, worked: Worked, text: &str) -> bool {
     match (plan_of(alloc, worked), log_of(alloc, worked)) {
-        (Ok(plan), Ok(log)) => is_trace(alloc, &plan, &log, text),
+        (Ok(plan), Ok(log)) => is_trace(alloc, &plan, log, text),
         _ => false,
     }
 }
 
-fn is_trace(alloc: Global, plan: &Plan, log: &[Line], text: &str) -> bool {
-    match print_trace(alloc, plan, log) {
+fn is_trace(alloc: Global, plan: &Plan, lines: Vec<Line>, text: &str) -> bool {
+    match trace(alloc, plan, lines) {
         Ok(trace) => trace.as_str() == text,
         Err(_) => false,
     }
+}
+
+fn trace(alloc: Global, plan: &Plan, lines: Vec<Line>) -> Result<String, NoMemory> {
+    let log = Log::of(alloc, lines)?;
+    print_trace(alloc, plan, &log)
 }

@@ -1,5 +1,5 @@
 -- A transaction stays sound, whatever its bricks answer.
-use Rattle.std.proofs.Common.{inl, inr, ◌≡◌, ℕ, ◌<◌, ◌≤◌, Bool, true, false, List, [], ◌∷◌, refl, sym, ◌∙◌, subst, arith, if◌then◌else◌}
+use Rattle.std.proofs.Common.{inl, inr, ◌≡◌, ℕ, ◌<◌, ◌≤◌, ◌||◌, Bool, true, false, List, [], ◌∷◌, refl, sym, ◌∙◌, subst, arith, if◌then◌else◌}
 use Rattle.std.proofs.lemmas.Bool.Decides.{nat_tests}
 use Rattle.afr_base.specs.Bricks.{below, lowest, member, minus, is_nothing}
 use Rattle.afr_base.specs.Majority.{is_majority, is_most}
@@ -10,7 +10,11 @@ use Rattle.afr_choice.specs.Verdict.{holders_of}
 use Rattle.afr_choice.specs.VerdictLemmas.{holders_below}
 use Rattle.afr_lines.specs.Areas.{area_for, kind_for}
 use Rattle.afr_lines.specs.declared.answer.Told.{Told}
+use Rattle.afr_lines.specs.declared.line.Next.{Next}
+use Rattle.afr_lines.specs.declared.line.Next.TheVariants as next
+use Rattle.afr_lines.specs.declared.reply.Reply.{Reply}
 use Rattle.afr_lines.specs.declared.request.Request.{Request}
+use Rattle.afr_base.specs.declared.ids.BrickId.{BrickId}
 use Rattle.afr_base.specs.declared.ids.Kind.{Kind}
 use Rattle.afr_base.specs.declared.ids.Shape.{Shape}
 use Rattle.afr_moves.specs.Honest.{plane_kind}
@@ -24,7 +28,8 @@ use Rattle.afr_moves.specs.Keeps.{keeps_in}
 use Rattle.afr_discipline.specs.Stands.{no_lines, step_of, views_of}
 use Rattle.afr_transaction.specs.declared.stage.Stage.{Stage}
 use Rattle.afr_transaction.specs.declared.stage.Stage.TheVariants.{Locking, Looking, Beginning, Preparing, Applying, Posting, Closing}
-use Rattle.afr_transaction.specs.Progress.{Progress, left, request_at, gone_on, after, answered, asked_by, asks, next_at, sets_after, on_stage, starting, begun, enough, fed, is_over, may_start, number_in}
+use Rattle.afr_transaction.specs.Outcome.{reply_of}
+use Rattle.afr_transaction.specs.Progress.{Progress, left, request_at, gone_on, after, answered, asked_by, asks, next_at, sets_after, on_stage, starting, begun, enough, fed, is_beginning, is_over, may_start, number_in, numbered}
 use Rattle.afr_transaction.specs.Laws.{StaysSound}
 use Rattle.afr_transaction.specs.declared.stage.Asked.{Asked}
 use Rattle.afr_transaction.specs.Sound.{Posted, IsBase, IsUnused, Suits, HasBegun, During, IsAsking, Ready, Sound}
@@ -252,6 +257,55 @@ asks_next Preparing at m away end = refl
 asks_next Applying at m away end = refl
 asks_next Posting at m away end = refl
 asks_next Closing at m away end = absurd (end refl)
+
+-- so is it wherever somebody is left to ask
+pub some_left : (stage : Stage) (at : ℕ) (m : Progress) → is_nothing (left stage m) ≡ false → asks stage m ≡ next_at stage at m
+some_left Locking at m some = refl
+some_left Looking at m some = refl
+some_left Beginning at m some = absurd (cc some)
+some_left Preparing at m some = refl
+some_left Applying at m some = refl
+some_left Posting at m some = refl
+some_left Closing at m some = rw some refl
+
+-- where nobody is left, the next line is a Begin or an End line
+pub none_left : (stage : Stage) (m : Progress) → Ready stage m → is_nothing (left stage m) ≡ true → (is_beginning stage || is_over stage m) ≡ true
+none_left Locking m ready none = absurd (cc (ready, none))
+none_left Looking m ready none = absurd (cc (ready, none))
+none_left Beginning m ready none = refl
+none_left Preparing m ready none = absurd (cc (ready, none))
+none_left Applying m ready none = absurd (cc (ready, none))
+none_left Posting m ready none = absurd (cc (ready, none))
+none_left Closing m ready none = none
+
+-- what holds of each Begin and of each End line holds of such a line
+pub no_request : (P : Next → Type 0) → ((change : Change) → P (next.Begin change)) → ((said : Reply) → P (next.End said)) → (stage : Stage) (at : ℕ) (m : Progress) → (is_beginning stage || is_over stage m) ≡ true
+    → P (next_at stage at m)
+no_request P begins ends Locking at m h = absurd (cc h)
+no_request P begins ends Looking at m h = absurd (cc h)
+no_request P begins ends Beginning at m h = begins (numbered at m.change)
+no_request P begins ends Preparing at m h = absurd (cc h)
+no_request P begins ends Applying at m h = absurd (cc h)
+no_request P begins ends Posting at m h = absurd (cc h)
+no_request P begins ends Closing at m h = subst (λ (over : Bool). P (if over then next.End (reply_of m.change m.register) else asks Closing m)) (sym h) (ends (reply_of m.change m.register))
+
+-- a next line that is a request is the one that the transaction asks
+pub asked_of : (stage : Stage) (at : ℕ) (m : Progress) (b : BrickId) (q : Request) → Ready stage m → next_at stage at m ≡ next.Ask b q → IsAsking stage m × (asks stage m ≡ next.Ask b q)
+asked_of Locking at m b q ready e = (ready, e)
+asked_of Looking at m b q ready e = (ready, e)
+asked_of Beginning at m b q ready e = absurd (cc e)
+asked_of Preparing at m b q ready e = (ready, e)
+asked_of Applying at m b q ready e = (ready, e)
+asked_of Posting at m b q ready e = (ready, e)
+asked_of Closing at m b q ready e = go (is_nothing m.register.held) refl e
+  where
+    go : (over : Bool) → is_nothing m.register.held ≡ over → (if over then next.End (reply_of m.change m.register) else asks Closing m) ≡ next.Ask b q → IsAsking Closing m × (asks Closing m ≡ next.Ask b q)
+    go true none e = absurd (cc e)
+    go false some e = (some, e)
+
+-- two requests that are one ask the same brick for the same
+pub same_asked : (b c : BrickId) (q r : Request) → next.Ask b q ≡ next.Ask c r → (c ≡ b) × (r ≡ q)
+same_asked b c q r e = (cc e, cc e)
 
 -- a transaction that isn't over asks, but for its Begin line
 pub asking_of : (stage : Stage) (m : Progress) → Ready stage m → is_over stage m ≡ false → (stage ≡ Beginning → ⊥) → IsAsking stage m

@@ -1,5 +1,6 @@
 pub mod Acknowledged
 pub mod Allowed
+pub mod Heard
 pub mod Kept
 pub mod MadeLemmas
 pub mod NoteLemmas

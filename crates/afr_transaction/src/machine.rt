@@ -1,5 +1,5 @@
 //! One transaction: what it asks next, and what an answer leaves of it.
-ghost use Rattle.std.specs.Prelude.{[], ◌≡◌, ◌<◌, ◌≤◌, ◌+◌, ◌^◌, true, false, IfOk};
+ghost use Rattle.std.specs.Prelude.{[], ◌≡◌, ℕ, ◌<◌, ◌≤◌, ◌+◌, ◌^◌, ◌||◌, true, false, None, Some, IfOk};
 ghost use Rattle.afr_base.specs.Bricks.{is_nothing};
 ghost use Rattle.afr_discipline.specs.Stands.{no_lines};
 ghost use Rattle.afr_discipline.specs.declared.register.Register.{Register};
@@ -94,6 +94,20 @@ impl Transaction {
         }
     }
 
+    /// Whom the next line asks, where it is a request; that is written where it is to stand, for it is large.
+    pub fn asks(&self, request: &mut Request) -> Option<BrickId>
+        ensures some { (b : BrickId) → result ≡ Some b → (at : ℕ) → next_at self.now.stage at self.now ≡ Next.Ask b request.new }
+        ensures none { result ≡ None → (is_beginning self.now.stage || is_over self.now.stage self.now) ≡ true }
+        ensures allowed { (b : BrickId) → result ≡ Some b → allowed self.now.register (Next.Ask b request.new) ≡ true }
+    {
+        let left = self.left(self.stage);
+        if left.is_empty() {
+            return None;
+        }
+        *request = self.request(self.stage);
+        Some(left.lowest())
+    }
+
     /// The change as its Begin line has it, where the operation is asked for next.
     pub fn load(&self) -> Load<'_>
         ensures { CarriesAt self.now.stage result (attempted self.now) }
@@ -123,6 +137,18 @@ impl Transaction {
             Stage::Beginning => self.begin(at),
             _ => self.answer(told, at),
         }
+    }
+
+    /// The request was written at this position, and this was told.
+    pub fn hear(&mut self, brick: BrickId, request: &Request, told: &Told, at: u32)
+        requires asked { next_at self.old.stage at self.old ≡ Next.Ask brick request.now }
+        ensures { self.new ≡ answered self.old.stage told.now at self.old }
+    {
+        let stage = self.stage;
+        let step = Move::Ask(brick, request);
+        note(&mut self.register, &step, told, at);
+        self.asked = asked_after(stage, brick, told, &self.asked);
+        self.stage = after(stage, &self.change, &self.register, &self.asked);
     }
 
     /// The work has read something between the looks and the attempt, which `give_up` may follow.
@@ -222,11 +248,8 @@ impl Transaction {
         requires asking { IsAsking self.old.stage self.old }
         ensures { self.new ≡ answered self.old.stage told.now at self.old }
     {
-        let stage = self.stage;
-        let b = self.left(stage).lowest();
-        let request = self.request(stage);
-        note(&mut self.register, &Move::Ask(b, &request), told, at);
-        self.asked = asked_after(stage, b, told, &self.asked);
-        self.stage = after(stage, &self.change, &self.register, &self.asked);
+        let brick = self.left(self.stage).lowest();
+        let request = self.request(self.stage);
+        self.hear(brick, &request, told, at);
     }
 }

@@ -10,6 +10,7 @@ mod Runs
 mod TurnKeeps
 mod WholeTurn
 mod WriteKeeps
+mod Written
 mod HealersKeep
 mod HealerTurn
 mod HealerLemmas

@@ -23,7 +23,8 @@ use Rattle.afr_volume.specs.Acting.{CanStep, HearsAny, Stepped}
 use Rattle.afr_volume.specs.Keeping.{AreHealers, CanRun, Carries, IsActing, IsVolume, IsWhole}
 use Rattle.afr_volume.specs.Laws.{BeginLaws, Laws, RoundLaws}
 use Rattle.afr_volume.specs.State.{State}
-use Rattle.afr_volume.specs.Turning.{Turns, AddsLine, waits_for, Readies, ReadiedAt, StepsAt, due_at, if_due}
+use Rattle.afr_log.specs.Log.{waits_for}
+use Rattle.afr_volume.specs.Turning.{Turns, AddsLine, Readies, ReadiedAt, StepsAt, due_at, if_due}
 use Rattle.afr_volume.specs.declared.actor.Actor.{Actor}
 use Rattle.afr_volume.specs.declared.turned.Turned.{Turned}
 use Rattle.afr_volume.specs.declared.turned.Turned.TheVariants.{Moved, Waits}

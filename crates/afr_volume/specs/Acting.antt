@@ -146,6 +146,15 @@ SteppedBy Hears a at x y old new written (next.Begin change) = IsBegun a at chan
 SteppedBy Hears a at x y old new written (next.End said) = IsEnded a said x y old new written
 SteppedBy Hears a at x y old new written other = ⊥
 
+-- the same of a line that is no request, which asks no rule
+abbrev pub WrittenBy : ActorId → ℕ → Actor → Actor → List Serving → List Serving → Line → Next → Type 0
+WrittenBy a at x y old new written (next.Begin change) = IsBegun a at change x y old new written
+WrittenBy a at x y old new written (next.End said) = IsEnded a said x y old new written
+WrittenBy a at x y old new written other = ⊥
+
+abbrev pub Written : ActorId → ℕ → Actor → Actor → List Serving → List Serving → Line → Type 0
+Written a at x y old new written = WrittenBy a at x y old new written (next_of at x.work)
+
 -- one line of an actor whose work has begun
 abbrev pub Stepped : Hearing → ActorId → ℕ → Actor → Actor → List Serving → List Serving → Line → Type 0
 Stepped Hears a at x y old new written = SteppedBy Hears a at x y old new written (next_of at x.work)

@@ -1,13 +1,15 @@
 //! An actor: the machine of its present command, the sessions that it works over, and how many commands it has ended.
-ghost use Rattle.std.specs.Prelude.{true, false, ◌≡◌, ◌<◌, ◌-◌, ◌^◌, ◌++◌, ◌∷◌, [], ℕ, IfOk, OnOk, OnErr, vec_len, vec_capacity};
+ghost use Rattle.std.specs.Prelude.{true, false, ◌≡◌, ◌<◌, ◌-◌, ◌^◌, ℕ, IfOk, OnOk, OnErr};
 ghost use Rattle.afr_rule.specs.Choosing.{IsRule};
 ghost use Rattle.afr_server.specs.Serving.{HasEpoch};
 ghost use Rattle.afr_servers.specs.Calls.{At};
+ghost use Rattle.afr_walk.specs.Free.{is_ask};
 ghost use Rattle.afr_works.specs.Work.{IsBusy, is_over, next_of};
-ghost use Rattle.afr_volume.specs.Acting.{Adds, CanAsk, CanStep, HasHeard, HearsBy, IsAsked, IsBegun, IsEnded, IsServed, MeetsNext, Stepped, picked_after, still_picked};
+ghost use Rattle.afr_volume.specs.Acting.{Adds, CanAsk, CanStep, HasHeard, HearsBy, IsAsked, IsBegun, IsEnded, IsServed, MeetsNext, Stepped, Written, picked_after, still_picked};
 
 use afr_base::{ActorId, BrickId, NoMemory};
-use afr_lines::{Answer, Line, Next, Reply, Request, told_of};
+use afr_lines::{Answer, Line, Next, Reply, Request};
+use afr_log::Log;
 use afr_object::Change;
 use afr_ranges::{fits_its_types, request_fits_its_types};
 use afr_rule::{Candidate, ReadRule};
@@ -37,19 +39,43 @@ pub(crate) fn step<G: Fn(&[Candidate]) -> usize>(
     a: ActorId,
     servers: &mut Servers,
     position: u32,
-    log: &mut Vec<Line>,
+    log: &mut Log,
     rule: &ReadRule<G>,
 ) -> Result<(), NoMemory>
     requires rule { IsRule G.Fn rule.now }
     requires busy { IsBusy actor.old.work }
     requires room { actor.old.ended < 2 ^ 32 - 1 }
     requires can { CanStep a position actor.old servers.old }
-    requires space { vec_len log.old < vec_capacity log.old }
+    requires space { log.old.room ≡ true }
     ensures ok { OnOk result (Adds (λ line. Stepped (HearsBy G.Fn rule.now) a position actor.old actor.new servers.old servers.new line) log.old.items log.new.items) }
     ensures err { OnErr result ((actor.new ≡ actor.old) × (servers.new ≡ servers.old) × (log.new.items ≡ log.old.items)) }
 {
+    let mut request = Request::Index;
+    match actor.work.asks(position, &mut request) {
+        Some(brick) => asks(actor, a, brick, &request, servers, position, log, rule),
+        None => writes(actor, a, servers, position, log),
+    }
+}
+
+/// A line that is no request: an attempt begins, or the work ends. It stands apart, so that only such lines pay for its frame.
+#[inline(never)]
+fn writes(
+    actor: &mut Actor,
+    a: ActorId,
+    servers: &mut Servers,
+    position: u32,
+    log: &mut Log,
+) -> Result<(), NoMemory>
+    requires busy { IsBusy actor.old.work }
+    requires other { is_ask (next_of position actor.old.work) ≡ false }
+    requires room { actor.old.ended < 2 ^ 32 - 1 }
+    requires known { a.0 < 20 }
+    requires epochs { (b : ℕ) → At b servers.old (HasEpoch a) }
+    requires space { log.old.room ≡ true }
+    ensures ok { OnOk result (Adds (λ line. Written a position actor.old actor.new servers.old servers.new line) log.old.items log.new.items) }
+    ensures err { OnErr result ((actor.new ≡ actor.old) × (servers.new ≡ servers.old) × (log.new.items ≡ log.old.items)) }
+{
     match actor.work.next(position)? {
-        Next::Ask(brick, request) => asks(actor, a, brick, &request, servers, position, log, rule),
         Next::Begin(change) => Ok(begins(actor, a, change, servers, position, log)),
         Next::End(reply) => Ok(ends(actor, a, reply, servers, log)),
         _ => unreachable!(),
@@ -122,6 +148,7 @@ fn pick_after(
 /// The work hears the answer to this request.
 fn hear<G: Fn(&[Candidate]) -> usize>(
     actor: &mut Actor,
+    brick: BrickId,
     request: &Request,
     answer: &mut Answer,
     position: u32,
@@ -129,9 +156,10 @@ fn hear<G: Fn(&[Candidate]) -> usize>(
 )
     requires rule { IsRule G.Fn rule.now }
     requires more { is_over actor.old.work ≡ false }
+    requires asked { next_of position actor.old.work ≡ Next.Ask brick request.now }
     ensures { HasHeard (HearsBy G.Fn rule.now) answer.old position request.now actor.old actor.new }
 {
-    let now = actor.work.hear(answer, position, rule);
+    let now = actor.work.hear(brick, request, answer, position, rule);
     actor.picked = pick_after(actor.met, request, now, actor.picked);
     actor.met = true;
 }
@@ -143,53 +171,22 @@ fn asks<G: Fn(&[Candidate]) -> usize>(
     request: &Request,
     servers: &mut Servers,
     position: u32,
-    log: &mut Vec<Line>,
+    log: &mut Log,
     rule: &ReadRule<G>,
 ) -> Result<(), NoMemory>
     requires rule { IsRule G.Fn rule.now }
     requires next { next_of position actor.old.work ≡ Next.Ask brick request.now }
     requires can { CanStep a position actor.old servers.old }
-    requires space { vec_len log.old < vec_capacity log.old }
+    requires space { log.old.room ≡ true }
     ensures ok { OnOk result (Adds (λ line. IsAsked (HearsBy G.Fn rule.now) a position brick request.now actor.old actor.new servers.old servers.new line) log.old.items log.new.items) }
     ensures err { OnErr result ((actor.new ≡ actor.old) × (servers.new ≡ servers.old) × (log.new.items ≡ log.old.items)) }
 {
     request_fits_its_types(request);
     a_work_stays_sound();
-    let Asked { mut answer, took } = ask(actor, a, brick, request, servers)?;
-    let line = Line::Ask {
-        actor: a,
-        brick,
-        request: *request,
-        told: told_of(&answer),
-        took,
-    };
-    add_line(log, line);
-    hear(actor, request, &mut answer, position, rule);
+    let mut given = ask(actor, a, brick, request, servers)?;
+    log.add_ask(a, brick, request, &given.answer, given.took);
+    hear(actor, brick, request, &mut given.answer, position, rule);
     Ok(())
-}
-
-/// Room for one line more. A log that has it isn't asked for any.
-pub(crate) fn make_room(log: &mut Vec<Line>) -> Result<(), NoMemory>
-    ensures room { OnOk result (vec_len log.new < vec_capacity log.new) }
-    ensures items { log.new.items ≡ log.old.items }
-{
-    if log.len() < log.capacity() {
-        return Ok(());
-    }
-    log.try_reserve(1)?;
-    Ok(())
-}
-
-/// Adds a line for which there is room.
-pub(crate) fn add_line(log: &mut Vec<Line>, line: Line)
-    requires { vec_len log.old < vec_capacity log.old }
-    ensures { log.new.items ≡ log.old.items ++ line ∷ [] }
-{
-    let _request = Request::Index; // a push of a value that holds such an enum is proved where the body names it
-    match log.push(line) {
-        Ok(()) => {}
-        Err(_) => unreachable!(),
-    }
 }
 
 /// A first line that is no request meets every brick, too. It asks no rule.
@@ -213,27 +210,27 @@ fn begins(
     change: Change,
     servers: &mut Servers,
     position: u32,
-    log: &mut Vec<Line>,
+    log: &mut Log,
 )
     requires next { next_of position actor.old.work ≡ Next.Begin change }
     requires known { a.0 < 20 }
     requires room { (b : ℕ) → At b servers.old (HasEpoch a) }
-    requires space { vec_len log.old < vec_capacity log.old }
+    requires space { log.old.room ≡ true }
     ensures { Adds (λ line. IsBegun a position change actor.old actor.new servers.old servers.new line) log.old.items log.new.items }
 {
     meets(actor, a, servers);
     actor.work.begun(position);
     let line = Line::Begin { actor: a, change };
     fits_its_types(&line);
-    add_line(log, line);
+    log.add(line);
 }
 
 #[inline(never)]
-fn ends(actor: &mut Actor, a: ActorId, reply: Reply, servers: &mut Servers, log: &mut Vec<Line>)
+fn ends(actor: &mut Actor, a: ActorId, reply: Reply, servers: &mut Servers, log: &mut Log)
     requires room { actor.old.ended < 2 ^ 32 - 1 }
     requires known { a.0 < 20 }
     requires epochs { (b : ℕ) → At b servers.old (HasEpoch a) }
-    requires space { vec_len log.old < vec_capacity log.old }
+    requires space { log.old.room ≡ true }
     ensures { Adds (λ line. IsEnded a reply actor.old actor.new servers.old servers.new line) log.old.items log.new.items }
 {
     meets(actor, a, servers);
@@ -242,5 +239,5 @@ fn ends(actor: &mut Actor, a: ActorId, reply: Reply, servers: &mut Servers, log:
     actor.work = Work::Idle;
     let line = Line::End { actor: a, reply };
     fits_its_types(&line);
-    add_line(log, line);
+    log.add(line);
 }

@@ -1,5 +1,5 @@
 //! One healer among all takes a turn.
-ghost use Rattle.std.specs.Prelude.{◌≡◌, ◌-◌, ◌<◌, ◌≤◌, ◌^◌, ℕ, OnOk, OnErr, IfOk, Some, true, is_some, length, slice_get, vec_len, vec_capacity};
+ghost use Rattle.std.specs.Prelude.{◌≡◌, ◌-◌, ◌<◌, ◌≤◌, ◌^◌, ℕ, OnOk, OnErr, IfOk, Some, true, is_some, length, slice_get};
 ghost use Rattle.afr_base.specs.declared.ids.BrickId.{BrickId};
 ghost use Rattle.afr_healer.specs.Rounding.{IsFed};
 ghost use Rattle.afr_model.specs.Actors.{rounds_of};
@@ -10,7 +10,8 @@ ghost use Rattle.afr_volume.specs.Starting.{AreNewHealers};
 ghost use Rattle.afr_volume.specs.Turning.{HasHealer, KillsHealersIn, ReadiedHealerAt, StepsHealerAt};
 
 use afr_base::{ActorId, NoMemory};
-use afr_lines::{Event, Line};
+use afr_lines::Event;
+use afr_log::Log;
 use afr_plan::Plan;
 use afr_rounds::{Healer, ready_round, step_round};
 use afr_rule::{Candidate, SourceRule};
@@ -58,7 +59,7 @@ pub(crate) fn step_healer<F: Fn(&[Candidate]) -> usize>(
     healers: &mut Vec<Healer>,
     servers: &mut Servers,
     position: u32,
-    log: &mut Vec<Line>,
+    log: &mut Log,
     rule: &SourceRule<F>,
 ) -> Result<(), NoMemory>
     requires rule { IsRule F.Fn rule.now }
@@ -66,7 +67,7 @@ pub(crate) fn step_healer<F: Fn(&[Candidate]) -> usize>(
     requires within { a.0 - 17 < length healers.old.items }
     requires busy { (x : Healer) → slice_get healers.old.items (a.0 - 17) ≡ Some x → (is_some x.round ≡ true) × (x.ended < 2 ^ 32 - 1) }
     requires can { (x : Healer) → slice_get healers.old.items (a.0 - 17) ≡ Some x → CanStep a position x servers.old }
-    requires space { vec_len log.old < vec_capacity log.old }
+    requires space { log.old.room ≡ true }
     ensures ok { OnOk result (Adds (λ line. StepsHealerAt (IsFed F.Fn rule.now) a position healers.old.items healers.new.items servers.old servers.new line) log.old.items log.new.items) }
     ensures err { OnErr result ((healers.new.items ≡ healers.old.items) × (servers.new ≡ servers.old) × (log.new.items ≡ log.old.items)) }
 {

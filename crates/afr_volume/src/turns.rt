@@ -1,20 +1,20 @@
 //! One actor among all takes a turn.
-ghost use Rattle.std.specs.Prelude.{◌≡◌, ◌-◌, ◌<◌, ◌≤◌, ◌+◌, ◌^◌, ℕ, true, false, IfOk, OnOk, OnErr, Option, Some, None, slice_get, reverse, length, vec_len, vec_capacity, ◌++◌, ◌∷◌, []};
+ghost use Rattle.std.specs.Prelude.{◌≡◌, ◌-◌, ◌<◌, ◌≤◌, ◌+◌, ◌^◌, ℕ, true, false, IfOk, OnOk, OnErr, Option, Some, None, slice_get, length};
 ghost use Rattle.afr_plan.specs.declared.command.Command.{Command};
 ghost use Rattle.afr_model.specs.Actors.{script_of};
 ghost use Rattle.afr_volume.specs.declared.actor.Actor.{Actor};
 ghost use Rattle.afr_rule.specs.Choosing.{IsRule};
 ghost use Rattle.afr_volume.specs.Acting.{Adds, CanStep, HearsBy};
-ghost use Rattle.afr_volume.specs.Turning.{HasVictim, KillsIn, ReadiedAt, StepsAt, waits_for};
+ghost use Rattle.afr_volume.specs.Turning.{HasVictim, KillsIn, ReadiedAt, StepsAt};
 ghost use Rattle.afr_works.specs.Begin.{has_machine, work_from};
 ghost use Rattle.afr_works.specs.Work.{IsBusy, IsWork};
 
 use crate::actor::{Actor, step};
 use crate::turned::Turned;
 use afr_base::{ActorId, NoMemory, Shape};
-use afr_lines::{Event, Line, Request, Told};
+use afr_lines::Event;
+use afr_log::Log;
 use afr_plan::{Command, Plan};
-use afr_range_locks::Domain;
 use afr_rule::{Candidate, ReadRule};
 use afr_servers::Servers;
 use afr_works::{Work, work_for};
@@ -73,7 +73,7 @@ pub(crate) fn step_actor<G: Fn(&[Candidate]) -> usize>(
     actors: &mut Vec<Actor>,
     servers: &mut Servers,
     position: u32,
-    log: &mut Vec<Line>,
+    log: &mut Log,
     rule: &ReadRule<G>,
 ) -> Result<(), NoMemory>
     requires rule { IsRule G.Fn rule.now }
@@ -81,7 +81,7 @@ pub(crate) fn step_actor<G: Fn(&[Candidate]) -> usize>(
     requires within { a.0 - 1 < length actors.old.items }
     requires busy { (x : Actor) → slice_get actors.old.items (a.0 - 1) ≡ Some x → IsBusy x.work × (x.ended < 2 ^ 32 - 1) }
     requires can { (x : Actor) → slice_get actors.old.items (a.0 - 1) ≡ Some x → CanStep a position x servers.old }
-    requires space { vec_len log.old < vec_capacity log.old }
+    requires space { log.old.room ≡ true }
     ensures ok { OnOk result (Adds (λ line. StepsAt (HearsBy G.Fn rule.now) a position actors.old.items actors.new.items servers.old servers.new line) log.old.items log.new.items) }
     ensures err { OnErr result ((actors.new.items ≡ actors.old.items) × (servers.new ≡ servers.old) × (log.new.items ≡ log.old.items)) }
 {
@@ -105,23 +105,6 @@ pub(crate) fn kill(actors: &mut Vec<Actor>, event: Event)
         if a.0 <= 16 {
             actors[a.0 as usize - 1].killed = true;
         }
-    }
-}
-
-/// What a turn answers by its line.
-pub(crate) fn turned_by(line: &Line) -> Option<ActorId>
-    ensures { result ≡ waits_for line.now }
-{
-    match line {
-        Line::Ask {
-            request: Request::Lock {
-                domain: Domain::Work,
-                ..
-            },
-            told: Told::Held(owner),
-            ..
-        } => Some(*owner),
-        _ => None,
     }
 }
 

@@ -1,11 +1,12 @@
 //! The volume: one log, and beside it the present state of servers and actors.
-ghost use Rattle.std.specs.Prelude.{◌≡◌, ◌<◌, ◌≤◌, ◌-◌, ℕ, Some, None, OnOk, OnErr, IfOk, IsSome, false, length, option_map, reverse, slice_get, true, []};
+ghost use Rattle.std.specs.Prelude.{◌≡◌, ◌<◌, ◌≤◌, ◌-◌, ℕ, Some, None, OnOk, OnErr, IfOk, IsSome, false, is_some, length, option_map, reverse, slice_get, true, []};
 ghost use Rattle.afr_base.specs.Bricks.{member};
 ghost use Rattle.afr_law.specs.Exactly.{IsLawfulExactly};
 ghost use Rattle.afr_law.specs.ModelAlike.{AreAlike};
 ghost use Rattle.afr_law.specs.ModelCauses.{HaveCauses};
 ghost use Rattle.afr_lines.specs.Log.{EveryPrefix, from_oldest};
 ghost use Rattle.afr_lines.specs.Work.{is_killed, work};
+ghost use Rattle.afr_log.specs.Log.{shown_line};
 ghost use Rattle.afr_runnable.specs.Runnable.{IsRunnable};
 ghost use Rattle.afr_plan.specs.declared.schedule.Go.{Go};
 ghost use Rattle.afr_model.specs.Actors.{IsActor, is_done};
@@ -25,18 +26,19 @@ ghost use Rattle.afr_sources.specs.Sources.{picks_of};
 ghost use Rattle.afr_volume.specs.State.{HealsChosen, IsChosen, ReadsChosen, no_volume, opened};
 ghost use Rattle.afr_volume.specs.Turning.{Comes, Turns, due_of, if_due};
 
-use crate::actor::{Actor, add_line, make_room};
+use crate::actor::Actor;
 use crate::healers::{all_healers, kill_healer, ready_healer, step_healer};
 use crate::laws::{laws, rule_laws};
 use crate::set_up::all_actors;
 use crate::turned::Turned;
-use crate::turns::{answer_of, kill, ready_actor, step_actor, turned_by};
+use crate::turns::{answer_of, kill, ready_actor, step_actor};
 use afr_base::{ActorId, BrickId, BrickSet, NoMemory, Shape};
 use afr_law::{
     accusations_have_causes, lawful_is_safe, lawful_lines_fit, nothing_diverges_unrecorded,
     reads_are_fresh,
 };
 use afr_lines::{Event, Line};
+use afr_log::{Log, Shown};
 use afr_object::List;
 use afr_plan::{Plan, Words};
 use afr_quiet_rounds::quiet_rounds_are_whole;
@@ -55,7 +57,7 @@ use std::marker::Model;
 pub struct Volume {
     alloc: Global,
     plan: Plan,
-    log: Vec<Line>,
+    log: Log,
     servers: Servers,
     actors: Vec<Actor>,
     healers: Vec<Healer>,
@@ -85,7 +87,7 @@ impl Volume {
         Volume {
             alloc,
             plan: empty_plan(alloc),
-            log: Vec::new(alloc),
+            log: Log::new(alloc),
             servers: Servers::empty(alloc),
             actors: Vec::new(alloc),
             healers: Vec::new(alloc),
@@ -100,7 +102,7 @@ impl Volume {
         ensures err { OnErr result (self.new ≡ self.old) }
     {
         laws();
-        let log = Vec::new(self.alloc);
+        let log = Log::new(self.alloc);
         let servers = Servers::new(self.alloc, &plan)?;
         let actors = all_actors(self.alloc, plan.clients.len())?;
         let healers = all_healers(self.alloc, plan.healers.len())?;
@@ -193,7 +195,7 @@ impl Volume {
     {
         laws();
         let position = self.log.len() as u32;
-        make_room(&mut self.log)?;
+        self.log.make_room()?;
         rule_laws(rule);
         ready_actor(self.alloc, &self.plan, a, &mut self.actors)?;
         step_actor(
@@ -204,7 +206,7 @@ impl Volume {
             &mut self.log,
             rule,
         )?;
-        let waits = turned_by(&self.log[position as usize]);
+        let waits = self.log.waits_at(position as usize);
         Ok(answer_of(waits))
     }
 
@@ -226,7 +228,7 @@ impl Volume {
     {
         laws();
         let position = self.log.len() as u32;
-        make_room(&mut self.log)?;
+        self.log.make_room()?;
         a_line_keeps_its_source(rule);
         ready_healer(self.alloc, &self.plan, a, &mut self.healers)?;
         step_healer(
@@ -237,11 +239,12 @@ impl Volume {
             &mut self.log,
             rule,
         )?;
-        let waits = turned_by(&self.log[position as usize]);
+        let waits = self.log.waits_at(position as usize);
         Ok(answer_of(waits))
     }
 
     /// The next event of the plan, which is due. It takes its memory before anything changes.
+    #[inline(never)]
     pub fn event(&mut self) -> Result<(), NoMemory>
         requires due { IsSome (due_of self.old) }
         ensures ok { OnOk result (Comes self.old self.new) }
@@ -251,14 +254,14 @@ impl Volume {
             unreachable!()
         };
         laws();
-        make_room(&mut self.log)?;
+        self.log.make_room()?;
         let happened = Line::Event { event };
         fits_its_types(&happened);
         self.servers.event(&event);
         kill(&mut self.actors, event);
         kill_healer(&mut self.healers, event);
         self.made += 1;
-        add_line(&mut self.log, happened);
+        self.log.add(happened);
         Ok(())
     }
 
@@ -293,6 +296,23 @@ impl Volume {
         actor.picked
     }
 
+    /// Whether an event is due. Where none is left, that is one comparison.
+    #[inline]
+    pub fn has_due(&self) -> bool
+        ensures value { result ≡ is_some (due_of self.now) }
+        ensures none { result ≡ false → length self.now.log < self.now.plan.turns → NoneDue self.now.plan self.now.log }
+    {
+        (self.made as usize) < self.plan.events.len() && self.next_has_come()
+    }
+
+    #[inline(never)]
+    fn next_has_come(&self) -> bool
+        ensures value { result ≡ is_some (due_of self.now) }
+        ensures none { result ≡ false → length self.now.log < self.now.plan.turns → NoneDue self.now.plan self.now.log }
+    {
+        self.due().is_some()
+    }
+
     /// The next event of the plan, where its position has come and the log has room.
     pub fn due(&self) -> Option<Event>
         ensures value { result ≡ due_of self.now }
@@ -311,16 +331,19 @@ impl Volume {
     }
 
     /// The line at a position, counted from the oldest.
-    pub fn line(&self, i: u32) -> &Line
+    pub fn line(&self, i: u32) -> Shown<'_>
         requires { i < length self.now.log }
-        ensures { from_oldest i self.now.log ≡ Some result.now }
+        ensures { from_oldest i self.now.log ≡ Some (shown_line result) }
     {
-        &self.log[i as usize]
+        match self.log.line(i as usize) {
+            Some(shown) => shown,
+            None => unreachable!(),
+        }
     }
 
     /// All lines, the oldest first.
-    pub fn lines(&self) -> &[Line]
-        ensures { reverse result.now ≡ self.now.log }
+    pub fn lines(&self) -> &Log
+        ensures { reverse result.now.items ≡ self.now.log }
     {
         &self.log
     }

@@ -78,7 +78,7 @@ fn takes_a_turn(volume: &mut Volume, position: u32, text: &mut String) -> Result
     if !matches!(volume.turn(client, &rules), Ok(Turned::Moved)) || volume.len() != position + 1 {
         return Err(Fail::from("turn"));
     }
-    write_line(text, volume.line(position))
+    write_line(text, volume.line(position).as_line())
 }
 
 /// Takes all turns, and says whether the client is done then.
@@ -127,7 +127,7 @@ fn heals_a_turn(volume: &mut Volume, position: u32, text: &mut String) -> Result
     if !matches!(volume.turn(healer, &rules), Ok(Turned::Moved)) || volume.len() != position + 1 {
         return Err(Fail::from("turn"));
     }
-    write_line(text, volume.line(position))
+    write_line(text, volume.line(position).as_line())
 }
 
 /// Takes both turns of the round, and says whether the healer is done then.

@@ -1,7 +1,7 @@
 -- The copies that the read rule chooses from, and the one that it picks.
 use Rattle.std.proofs.Common.{zero, suc, slice_get, ◌≡◌, ℕ, ◌+◌, ◌<◌, ◌≤◌, ◌==◌, ◌||◌, Bool, true, false, List, [], ◌∷◌, ◌++◌, refl, sym, ap, ◌∙◌, arith, filter, map, take, length, length-append, subst, if◌then◌else◌, Option, None, Some}
 use Rattle.std.proofs.lemmas.Bool.Decides.{nat_tests}
-use Rattle.afr_base.specs.Bricks.{all_five, from_table, is_nothing, member, passes_below, same, same_is}
+use Rattle.afr_base.specs.Bricks.{all_five, from_table, is_nothing, member, same, same_is}
 use Rattle.afr_base.specs.declared.ids.BrickId.{BrickId}
 use Rattle.afr_base.specs.declared.ids.Kind.{Kind}
 use Rattle.afr_base.specs.declared.ids.Shape.{Shape}

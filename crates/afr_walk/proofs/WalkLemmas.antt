@@ -3,7 +3,7 @@ use Rattle.std.proofs.Common.{◌≡◌, ℕ, ◌+◌, ◌<◌, ◌≤◌, ◌==
 use Rattle.std.proofs.lemmas.Bool.Decides.{eqb_tells}
 use Rattle.afr_base.specs.Bricks.{below, lowest, is_nothing, IsWithin}
 use Rattle.afr_base.specs.Majority.{is_majority}
-use Rattle.afr_base.specs.SetLemmas.{lowest_in, lowest_left, below_some, within_below, within_added_if, within_removed_if}
+use Rattle.afr_base.specs.SetLemmas.{lowest_left, below_some, within_below, within_added_if, within_removed_if}
 use Rattle.afr_base.specs.declared.ids.Kind.{Kind}
 use Rattle.afr_base.specs.declared.ids.Kind.TheVariants.{Names}
 use Rattle.afr_base.specs.declared.ids.NameId.{NameId}
@@ -138,6 +138,15 @@ asks_free w k walks = go w.step k.step walks
 -- and so the discipline allows it
 pub asks_allowed : (w : Walk) → IsWalk w → is_walking w.step ≡ true → AllowsAsk w.register (next_in w).0 (next_in w).1
 asks_allowed w k walks = let asks = asks_free w k walks in allows_free w.shape w.register (next_in w).0 (next_in w).1 k.free asks.0 asks.1
+
+-- so does it allow what was written of it
+pub asked_allowed : (w : Walk) (brick : BrickId) (request : Request) → brick ≡ (next_in w).0 → request ≡ (next_in w).1 → AllowsAsk w.register (next_in w).0 (next_in w).1 → AllowsAsk w.register brick request
+asked_allowed w brick request eb er h =
+    subst (λ (b : BrickId). AllowsAsk w.register b request) (sym eb) (subst (λ (r : Request). AllowsAsk w.register (next_in w).0 r) (sym er) h)
+
+-- a brick and its request that are those of a pair are the pair
+pub asked_whole : (brick : BrickId) (request : Request) (asked : BrickId × Request) → asked.0 ≡ brick → asked.1 ≡ request → (brick, request) ≡ asked
+asked_whole brick request asked eb er = rw (← eb, ← er) refl
 
 pub is_walked_at : (chosen : BrickId) (step : WalkStep) (heard : Answer) (w : Walk) → IsWalk w → IsStep w.shape.n (length w.path) w.read step → IsAmong (choices_at step heard w) chosen
     → IsWalk (walked_at chosen step heard w)

@@ -28,6 +28,11 @@ is_free other = false
 abbrev pub IsFree : Shape → Register → Type 0
 IsFree shape register = (register ≡ no_lines shape) ⊎ (register ≡ record (no_lines shape) { step = step.Open })
 
+-- whether the line is a request
+abbrev pub is_ask : Next → Bool
+is_ask (next.Ask brick request) = true
+is_ask line = false
+
 -- the move of a line
 abbrev pub IsMoveOf : Next → Move → Type 0
 IsMoveOf (next.Ask brick request) (move.Ask asked of) = (asked ≡ brick) × (of.now ≡ request)

@@ -90,10 +90,24 @@ impl Walk {
         self.asked()
     }
 
-    /// The brick has answered at this position. Once all were looked at the rule picks the copy that is read next; this is what
-    /// it has picked now.
+    /// Whom it asks next, while the walk goes on; the request is written where it is to stand.
+    pub fn asks(&self, request: &mut Request) -> BrickId
+        requires walk { IsWalk self.now }
+        requires walking { is_walking self.now.step ≡ true }
+        ensures brick { result ≡ (next_in self.now).0 }
+        ensures request { request.new ≡ (next_in self.now).1 }
+        ensures allowed { AllowsAsk self.now.register result request.new }
+        ensures small { result.0 < 5 }
+    {
+        self.write(request)
+    }
+
+    /// The brick has answered what it was asked, at this position. Once all were looked at the rule picks the copy that is read
+    /// next; this is what it has picked now.
     pub fn hear<G: Fn(&[Candidate]) -> usize>(
         &mut self,
+        brick: BrickId,
+        request: &Request,
         answer: &Answer,
         at: u32,
         rule: &ReadRule<G>,
@@ -101,13 +115,14 @@ impl Walk {
         requires rule { IsRule G.Fn rule.now }
         requires walk { IsWalk self.old }
         requires walking { is_walking self.old.step ≡ true }
+        requires brick { (next_in self.old).0 ≡ brick }
+        requires request { (next_in self.old).1 ≡ request.now }
         ensures picked { RuleAnswers G.Fn rule.now (choices_of answer.now self.old) result }
         ensures value { self.new ≡ walked (reader_of result) answer.now at self.old }
         ensures kept { IsWalk self.new }
     {
         let told = told_of(answer);
-        let (brick, request) = self.next();
-        self.note(brick, &request, &told, at);
+        self.note(brick, request, &told, at);
         self.go_on(answer, rule)
     }
 
@@ -141,6 +156,31 @@ impl Walk {
                     name: *self.path.item(self.read),
                 },
             ),
+            _ => unreachable!(),
+        }
+    }
+
+    /// The same, where the request is written into its place.
+    fn write(&self, request: &mut Request) -> BrickId
+        requires walk { IsWalk self.now }
+        requires walking { is_walking self.now.step ≡ true }
+        ensures brick { result ≡ (next_in self.now).0 }
+        ensures request { request.new ≡ (next_in self.now).1 }
+    {
+        match &self.step {
+            WalkStep::Looking(looks) => {
+                *request = Request::Look {
+                    gfid: self.object.gfid,
+                };
+                looks.next_brick(self.shape.n)
+            }
+            WalkStep::Naming(brick) => {
+                *request = Request::ReadName {
+                    gfid: self.object.gfid,
+                    name: *self.path.item(self.read),
+                };
+                *brick
+            }
             _ => unreachable!(),
         }
     }

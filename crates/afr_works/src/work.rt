@@ -1,9 +1,9 @@
 //! The machine of a client's present command: its next line, and what it makes of the answer.
-ghost use Rattle.std.specs.Prelude.{◌≡◌, ◌<◌, ◌≤◌, IfOk, false};
+ghost use Rattle.std.specs.Prelude.{◌≡◌, ◌<◌, ◌≤◌, IfOk, None, Some, false};
 ghost use Rattle.afr_discipline.specs.Stands.{HasFive};
 ghost use Rattle.afr_rule.specs.Choosing.{IsRule};
 ghost use Rattle.afr_walk.specs.Choosing.{RuleAnswers, reader_of};
-ghost use Rattle.afr_walk.specs.Free.{Allows};
+ghost use Rattle.afr_walk.specs.Free.{Allows, is_ask};
 ghost use Rattle.afr_works.specs.Work.{CarriesNext, IsBusy, IsWork, choices_of, heard_by, is_idle, is_over, next_of, register_of};
 
 use crate::on_heap::OnHeap;
@@ -12,7 +12,7 @@ use afr_discipline::{Register, has_five};
 use afr_entry::EntryMachine;
 use afr_inode_read::LookupMachine;
 use afr_inode_write::WriteMachine;
-use afr_lines::{Answer, Heard, Next};
+use afr_lines::{Answer, Heard, Next, Request};
 use afr_object::Load;
 use afr_rule::shipped::first;
 use afr_rule::{Candidate, ReadRule};
@@ -61,6 +61,21 @@ impl Work {
         }
     }
 
+    /// Whom the next line asks, where it is a request; that is written where it is to stand, for it is large.
+    pub fn asks(&self, at: u32, request: &mut Request) -> Option<BrickId>
+        requires busy { IsBusy self.now }
+        ensures some { (b : BrickId) → result ≡ Some b → next_of at self.now ≡ Next.Ask b request.new }
+        ensures none { result ≡ None → is_ask (next_of at self.now) ≡ false }
+        ensures allowed { (b : BrickId) → result ≡ Some b → Allows (register_of self.now) (Next.Ask b request.new) }
+    {
+        match self {
+            Work::Idle => unreachable!(),
+            Work::Lookup(machine) => machine.value.asks(at, request),
+            Work::Write(machine) => machine.value.asks(at, request),
+            Work::Entry(machine) => machine.value.asks(at, request),
+        }
+    }
+
     /// The change, where the operation is asked for next.
     pub fn load(&self) -> Load<'_>
         ensures { CarriesNext self.now result }
@@ -73,25 +88,28 @@ impl Work {
         }
     }
 
-    /// The request was written at this position, and the brick has answered. A read takes what it was given out of the answer.
+    /// This request was written at this position, and the brick has answered. A read takes what it was given out of the answer.
     /// Once all copies of an object were looked at the rule picks the one that is read; this is what it has picked now.
     pub fn hear<G: Fn(&[Candidate]) -> usize>(
         &mut self,
+        brick: BrickId,
+        request: &Request,
         answer: &mut Answer,
         at: u32,
         rule: &ReadRule<G>,
     ) -> Option<BrickId>
         requires rule { IsRule G.Fn rule.now }
         requires more { is_over self.old ≡ false }
+        requires asked { next_of at self.old ≡ Next.Ask brick request.now }
         ensures picked { RuleAnswers G.Fn rule.now (choices_of answer.old at self.old) result }
         ensures value { self.new ≡ heard_by (reader_of result) (Heard.Answer answer.old at) self.old }
         ensures kept { IsWork self.new }
     {
         let picked = match self {
             Work::Idle => unreachable!(),
-            Work::Lookup(machine) => machine.value.hear(answer, at, rule),
-            Work::Write(machine) => machine.value.hear(answer, at, rule),
-            Work::Entry(machine) => machine.value.hear(answer, at, rule),
+            Work::Lookup(machine) => machine.value.hear(brick, request, answer, at, rule),
+            Work::Write(machine) => machine.value.hear(brick, request, answer, at, rule),
+            Work::Entry(machine) => machine.value.hear(brick, request, answer, at, rule),
         };
         self.stays_sound();
         picked

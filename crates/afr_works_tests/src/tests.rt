@@ -1,6 +1,7 @@
 //! Works of a client at the root, from their commands to their ends.
-ghost use Rattle.std.specs.Prelude.{◌<◌, length};
+ghost use Rattle.std.specs.Prelude.{◌≡◌, ◌<◌, Some, false, length};
 ghost use Rattle.afr_rule.specs.Choosing.{IsRule};
+ghost use Rattle.afr_works.specs.Work.{is_over, next_of};
 
 use afr_base::{AllMarks, BrickId, Gfid, KeyId, NameId, Shape, ValueId, What};
 use afr_lines::{Answer, Good, Next, Reply, Request};
@@ -33,16 +34,31 @@ fn on_three(alloc: Global, command: &Command) -> Option<Work> {
     }
 }
 
-fn next_of(work: &Work) -> Option<Next> {
+fn line_of(work: &Work) -> Option<Next> {
     match work {
         Work::Idle => None,
         _ => work.next(9).ok(),
     }
 }
 
+/// Whom a work asks at line 3, where it has more left than the end.
+fn asks_of(work: &Work, request: &mut Request) -> Option<BrickId>
+    ensures more { (b : BrickId) → result ≡ Some b → is_over work.now ≡ false }
+    ensures asked { (b : BrickId) → result ≡ Some b → next_of 3 work.now ≡ Next.Ask b request.new }
+{
+    if work.is_over() {
+        return None;
+    }
+    match work {
+        Work::Idle => None,
+        _ => work.asks(3, request),
+    }
+}
+
 fn hears_one(work: &mut Work, mut answer: Answer) {
-    if !work.is_over() {
-        work.hear(&mut answer, 3, &ReadRule::new(first));
+    let mut request = Request::Index;
+    if let Some(brick) = asks_of(work, &mut request) {
+        work.hear(brick, &request, &mut answer, 3, &ReadRule::new(first));
     }
 }
 
@@ -94,9 +110,9 @@ fn an_unlink_of_no_name_has_no_machine(rt: HostRuntime) {
 fn stat_of_the_root(alloc: Global) -> Option<(Next, Next)> {
     let path = List::new(alloc);
     let mut work = on_three(alloc, &Command::Stat { path })?;
-    let first = next_of(&work)?;
+    let first = line_of(&work)?;
     all_seen(&mut work);
-    let last = next_of(&work)?;
+    let last = line_of(&work)?;
     Some((first, last))
 }
 
@@ -125,11 +141,10 @@ fn last(from: &[Candidate]) -> usize
 fn look<G: Fn(&[Candidate]) -> usize>(work: &mut Work, rule: &ReadRule<G>) -> Option<BrickId>
     requires { IsRule G.Fn rule.now }
 {
-    if work.is_over() {
-        return None;
-    }
+    let mut request = Request::Index;
+    let brick = asks_of(work, &mut request)?;
     let mut answer = seen();
-    work.hear(&mut answer, 3, rule)
+    work.hear(brick, &request, &mut answer, 3, rule)
 }
 
 /// What the rule picks at the last two of three looks at the root, and what is asked for its names then.
@@ -140,7 +155,7 @@ fn list_of_the_root(alloc: Global) -> Option<(Option<BrickId>, Option<BrickId>, 
     look(&mut work, &rule);
     let second = look(&mut work, &rule);
     let third = look(&mut work, &rule);
-    let next = next_of(&work)?;
+    let next = line_of(&work)?;
     Some((second, third, next))
 }
 
@@ -173,7 +188,7 @@ fn finished(work: &mut Work) -> Option<Next> {
     all_done(work);
     all_done(work);
     all_done(work);
-    next_of(work)
+    line_of(work)
 }
 
 /// Whether its operation carried it, and what it answers.

@@ -7,8 +7,8 @@ use Rattle.afr_report.proofs.healers.push_rounds.Given as goal
 
 abbrev pub invariant-loop-at : goal.invariant-loop-at
 invariant-loop-at l = record {
-  counts : l.before ≡ ended l.healer.0 (lines_at l.log (reverse (take l.at-index l.own)));
+  counts : l.before ≡ ended l.healer.0 (lines_at l.log.items (reverse (take l.at-index l.own)));
   small : l.before ≤ l.at-index;
-  heals : string_bytes l.heals ≡ heal_lines (work l.healer.0 (lines_at l.log (reverse (take l.at-index l.own))));
-  text : string_bytes l.out ≡ string_bytes l.fn.out ++ rounds_lines l.words l.healer.0 (lines_at l.log (reverse (take l.at-index l.own)));
+  heals : string_bytes l.heals ≡ heal_lines (work l.healer.0 (lines_at l.log.items (reverse (take l.at-index l.own))));
+  text : string_bytes l.out ≡ string_bytes l.fn.out ++ rounds_lines l.words l.healer.0 (lines_at l.log.items (reverse (take l.at-index l.own)));
 }

@@ -4,4 +4,4 @@ use Rattle.afr_report.proofs.report.print_report.Goals as goal
 
 pub print_info-requires-clause-rising : goal.print_info-requires-clause-rising
 print_info-requires-clause-rising c =
-    rw c.requires.started (rising_started c.args.plan.now.shape.n (reverse c.args.log.now))
+    rw c.requires.started (rising_started c.args.plan.now.shape.n (reverse c.args.log.now.items))

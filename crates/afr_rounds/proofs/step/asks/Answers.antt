@@ -13,5 +13,5 @@ hear-requires-clause-can g c = λ m is.
 
 pub returns-clause-ok : goal.returns-clause-ok
 returns-clause-ok g c =
-    asked _ c.args.a c.args.position c.args.brick c.args.request.now c.args.healer.now c.ask.new.healer c.hear.new.healer _ c.args.servers.now c.ask.new.servers c.args.log.now.items c.add_line.new.log.items c.in_ok-answer.field-0 c.request_fits_its_types.ensures
-    c.ask.ensures.same c.in_ok-answer.ensures.ok (rw c.told_of.ensures at c.add_line.ensures) c.hear.ensures (ap (λ (met : Bool). record c.hear.new.healer { met = met }) c.stays_met-healer.ensures)
+    asked _ c.args.a c.args.position c.args.brick c.args.request.now c.args.healer.now c.ask.new.healer c.hear.new.healer _ c.args.servers.now c.ask.new.servers c.args.log.now.items c.add_ask.new.self.items c.in_ok-answer.field-0 c.request_fits_its_types.ensures
+    c.ask.ensures.same c.in_ok-answer.ensures.ok c.add_ask.ensures c.hear.ensures (ap (λ (met : Bool). record c.hear.new.healer { met = met }) c.stays_met-healer.ensures)

@@ -3,12 +3,12 @@ use Rattle.std.specs.Prelude.{count_by}
 use Rattle.afr_summary.specs.Summary.{ends_ok, ends_refused, ends_settled}
 use Rattle.afr_summary.proofs.ends.count_ends.Given as goal
 
-abbrev pub invariant-loop-line : goal.invariant-loop-line
-invariant-loop-line l = record {
-  ok : l.ok ≡ count_by ends_ok (take l.line-index l.log);
-  refused : l.refused ≡ count_by ends_refused (take l.line-index l.log);
-  settled : l.settled ≡ count_by ends_settled (take l.line-index l.log);
-  few : l.ok ≤ l.line-index;
-  few_refused : l.refused ≤ l.line-index;
-  few_settled : l.settled ≤ l.line-index;
+abbrev pub invariant-loop-at : goal.invariant-loop-at
+invariant-loop-at l = record {
+  ok : l.ok ≡ count_by ends_ok (take l.at l.log.items);
+  refused : l.refused ≡ count_by ends_refused (take l.at l.log.items);
+  settled : l.settled ≡ count_by ends_settled (take l.at l.log.items);
+  few : l.ok ≤ l.at;
+  few_refused : l.refused ≤ l.at;
+  few_settled : l.settled ≤ l.at;
 }

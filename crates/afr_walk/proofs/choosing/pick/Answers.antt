@@ -1,6 +1,4 @@
-use Rattle.std.proofs.Common.{subst}
 use Rattle.afr_choice.specs.Verdict.{good_copies}
-use Rattle.afr_walk.specs.Choosing.{candidates_of}
 use Rattle.afr_walk.proofs.ChoosingLemmas.{pick_small, some_listed}
 use Rattle.afr_walk.proofs.choosing.pick.Goals as goal
 

@@ -1,6 +1,6 @@
-use Rattle.std.proofs.Common.{◌∙◌, ap, arith, refl, subst, sym}
+use Rattle.std.proofs.Common.{◌∙◌, arith, refl, subst, sym}
 use Rattle.std.proofs.lemmas.Bool.Decides.{nat_tests}
-use Rattle.afr_volume.proofs.LogLemmas.{few_items, newest_is}
+use Rattle.afr_volume.proofs.LogLemmas.{few_items, newest_at}
 use Rattle.afr_volume.proofs.PickedLemmas.{client_others, unwritten}
 use Rattle.afr_volume.proofs.ReadsKeep.{any_steps, reads_kept}
 use Rattle.afr_volume.proofs.SourceLemmas.{own_of, whatever}
@@ -8,7 +8,6 @@ use Rattle.afr_volume.proofs.WholeTurn.{at_least, before, busy, client_low, left
 use Rattle.afr_sources.specs.Sources.{picks_of, sources_of}
 use Rattle.afr_volume.specs.Acting.{picked_of}
 use Rattle.afr_volume.specs.State.{ReadsChosen}
-use Rattle.afr_volume.specs.Turning.{waits_for}
 use Rattle.afr_volume.proofs.volume.Volume.client_turn.Goals as goal
 
 pub ready_actor-requires-clause-left : goal.ready_actor-requires-clause-left
@@ -51,10 +50,10 @@ returns-clause-ok g c =
     (rw (← c.self.view_is) at c.requires.left) (rw (← c.self.view_is) at c.requires.none) (grind (arith, nat_tests, c.len-position.ensures)) (any_steps g.G.Fn c.args.rule.now c.rule_laws.ensures _ _ _ _ _ _ _ c.in_ok-step_actor.ensures.ok.is_so)
     (rw (← c.in_ok-make_room.ensures.items) c.in_ok-step_actor.ensures.ok.added) in
     let newest =
-    newest_is c.self.inside.log.items c.step_actor.new.log.items c.in_ok-step_actor.ensures.ok.line c.index.result.now c.len-position.result (rw (← c.in_ok-make_room.ensures.items) c.in_ok-step_actor.ensures.ok.added)
-    (grind (arith, nat_tests, c.len-position.ensures)) c.index.ensures in
+    newest_at c.self.inside.log.items c.step_actor.new.log.items c.in_ok-step_actor.ensures.ok.line c.len-position.result (rw (← c.in_ok-make_room.ensures.items) c.in_ok-step_actor.ensures.ok.added)
+    (grind (arith, nat_tests, c.len-position.ensures)) in
     rw (← c.self.view_is)
-    (turned c.self.inside.plan c.args.a c.self.inside.log.items c.step_actor.new.log.items (sources_of c.self.inside.healers.items) (sources_of c.self.inside.healers.items) (picked_of c.self.inside.actors.items) (picked_of c.step_actor.new.actors.items) c.in_ok-step_actor.ensures.ok.line c.turned_by-waits.result c.answer_of.result t.own t.log (ap waits_for (sym newest) ∙ sym c.turned_by-waits.ensures) (λ i other. refl) (client_others _ _ _ _ _ _ _ _ _ _ (at_least c.self.inside.plan c.args.a.0 c.self.invariant.kept.runnable c.requires.client (rw (← c.self.view_is) at c.requires.actor)) c.in_ok-ready_actor.ensures.ok c.in_ok-step_actor.ensures.ok.is_so) c.answer_of.ensures.some c.answer_of.ensures.none)
+    (turned c.self.inside.plan c.args.a c.self.inside.log.items c.step_actor.new.log.items (sources_of c.self.inside.healers.items) (sources_of c.self.inside.healers.items) (picked_of c.self.inside.actors.items) (picked_of c.step_actor.new.actors.items) c.in_ok-step_actor.ensures.ok.line c.waits_at-waits.result c.answer_of.result t.own t.log (sym (c.waits_at-waits.ensures.line c.in_ok-step_actor.ensures.ok.line newest)) (λ i other. refl) (client_others _ _ _ _ _ _ _ _ _ _ (at_least c.self.inside.plan c.args.a.0 c.self.invariant.kept.runnable c.requires.client (rw (← c.self.view_is) at c.requires.actor)) c.in_ok-ready_actor.ensures.ok c.in_ok-step_actor.ensures.ok.is_so) c.answer_of.ensures.some c.answer_of.ensures.none)
 
 pub returns-in_err-step_actor-clause-err : goal.returns-in_err-step_actor-clause-err
 returns-in_err-step_actor-clause-err g c =

@@ -16,10 +16,10 @@ kill_healer-requires c =
 
 pub invariant_of-self-2 : goal.invariant_of-self-2
 invariant_of-self-2 c =
-    whole_happened c.laws.ensures.rounds c.laws.ensures.events c.self.inside.plan c.self.inside.log.items c.add_line.new.log.items c.self.inside.servers c.event.new.self c.self.inside.actors.items c.kill.new.actors.items c.self.inside.healers.items c.kill_healer.new.healers.items c.self.inside.made c.in-Some.event
-    c.self.invariant c.fits_its_types.ensures (rw (← c.self.view_is) at (sym c.in-Some.ensures.value)) c.event.ensures c.kill.ensures c.kill_healer.ensures (rw (← c.in_ok-make_room.ensures.items) c.add_line.ensures)
+    whole_happened c.laws.ensures.rounds c.laws.ensures.events c.self.inside.plan c.self.inside.log.items c.add.new.self.items c.self.inside.servers c.event.new.self c.self.inside.actors.items c.kill.new.actors.items c.self.inside.healers.items c.kill_healer.new.healers.items c.self.inside.made c.in-Some.event
+    c.self.invariant c.fits_its_types.ensures (rw (← c.self.view_is) at (sym c.in-Some.ensures.value)) c.event.ensures c.kill.ensures c.kill_healer.ensures (rw (← c.in_ok-make_room.ensures.items) c.add.ensures)
 
 pub returns-clause-ok : goal.returns-clause-ok
 returns-clause-ok c =
     rw (← c.self.view_is)
-    (comes c.self.inside.plan c.self.inside.log.items c.add_line.new.log.items c.self.inside.healers.items c.kill_healer.new.healers.items c.self.inside.actors.items c.kill.new.actors.items c.in-Some.event (rw (← c.self.view_is) at (sym c.in-Some.ensures.value)) (rw (← c.in_ok-make_room.ensures.items) c.add_line.ensures) c.kill_healer.ensures c.kill.ensures)
+    (comes c.self.inside.plan c.self.inside.log.items c.add.new.self.items c.self.inside.healers.items c.kill_healer.new.healers.items c.self.inside.actors.items c.kill.new.actors.items c.in-Some.event (rw (← c.self.view_is) at (sym c.in-Some.ensures.value)) (rw (← c.in_ok-make_room.ensures.items) c.add.ensures) c.kill_healer.ensures c.kill.ensures)

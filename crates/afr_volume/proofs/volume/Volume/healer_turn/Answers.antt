@@ -1,13 +1,12 @@
-use Rattle.std.proofs.Common.{◌∙◌, ap, arith, refl, subst, sym}
+use Rattle.std.proofs.Common.{◌∙◌, arith, refl, subst, sym}
 use Rattle.std.proofs.lemmas.Bool.Decides.{nat_tests}
 use Rattle.afr_volume.proofs.HealerTurn.{answered_at, busy, healed, ready_whole, sources_kept, steps}
 use Rattle.afr_sources.specs.Sources.{picks_of, sources_of}
 use Rattle.afr_volume.specs.Acting.{picked_of}
 use Rattle.afr_volume.specs.State.{HealsChosen}
 use Rattle.afr_volume.proofs.SourceLemmas.{healer_others, unwritten, whatever}
-use Rattle.afr_volume.proofs.LogLemmas.{few_items, newest_is}
+use Rattle.afr_volume.proofs.LogLemmas.{few_items, newest_at}
 use Rattle.afr_volume.proofs.WholeTurn.{turned}
-use Rattle.afr_volume.specs.Turning.{waits_for}
 use Rattle.afr_volume.proofs.volume.Volume.healer_turn.Goals as goal
 
 pub step_healer-requires-clause-busy : goal.step_healer-requires-clause-busy
@@ -38,10 +37,10 @@ returns-clause-ok g c =
     (rw (← c.self.view_is) at c.requires.left) (rw (← c.self.view_is) at c.requires.none) (grind (arith, nat_tests, c.len-position.ensures)) (answered_at _ _ _ _ _ _ _ _ _ c.in_ok-step_healer.ensures.ok.is_so)
     (rw (← c.in_ok-make_room.ensures.items) c.in_ok-step_healer.ensures.ok.added) in
     let newest =
-    newest_is c.self.inside.log.items c.step_healer.new.log.items c.in_ok-step_healer.ensures.ok.line c.index.result.now c.len-position.result (rw (← c.in_ok-make_room.ensures.items) c.in_ok-step_healer.ensures.ok.added)
-    (grind (arith, nat_tests, c.len-position.ensures)) c.index.ensures in
+    newest_at c.self.inside.log.items c.step_healer.new.log.items c.in_ok-step_healer.ensures.ok.line c.len-position.result (rw (← c.in_ok-make_room.ensures.items) c.in_ok-step_healer.ensures.ok.added)
+    (grind (arith, nat_tests, c.len-position.ensures)) in
     rw (← c.self.view_is)
-    (turned c.self.inside.plan c.args.a c.self.inside.log.items c.step_healer.new.log.items (sources_of c.self.inside.healers.items) (sources_of c.step_healer.new.healers.items) (picked_of c.self.inside.actors.items) (picked_of c.self.inside.actors.items) c.in_ok-step_healer.ensures.ok.line c.turned_by-waits.result c.answer_of.result t.own t.log (ap waits_for (sym newest) ∙ sym c.turned_by-waits.ensures) (healer_others _ _ _ _ _ _ _ _ _ _ c.requires.healer c.in_ok-ready_healer.ensures.ok c.in_ok-step_healer.ensures.ok.is_so) (λ i other. refl) c.answer_of.ensures.some c.answer_of.ensures.none)
+    (turned c.self.inside.plan c.args.a c.self.inside.log.items c.step_healer.new.log.items (sources_of c.self.inside.healers.items) (sources_of c.step_healer.new.healers.items) (picked_of c.self.inside.actors.items) (picked_of c.self.inside.actors.items) c.in_ok-step_healer.ensures.ok.line c.waits_at-waits.result c.answer_of.result t.own t.log (sym (c.waits_at-waits.ensures.line c.in_ok-step_healer.ensures.ok.line newest)) (healer_others _ _ _ _ _ _ _ _ _ _ c.requires.healer c.in_ok-ready_healer.ensures.ok c.in_ok-step_healer.ensures.ok.is_so) (λ i other. refl) c.answer_of.ensures.some c.answer_of.ensures.none)
 
 pub returns-in_err-step_healer-clause-err : goal.returns-in_err-step_healer-clause-err
 returns-in_err-step_healer-clause-err g c =

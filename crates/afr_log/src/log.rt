@@ -1,0 +1,235 @@
+//! The log: its lines in order, and what its readers ask of one line.
+ghost use Rattle.std.specs.Prelude.{◌≡◌, ◌++◌, ◌∷◌, ◌<◌, ◌≤◌, [], true, None, length, slice_get, IfOk, OnOk, Some, vec_len, vec_capacity};
+ghost use Rattle.std.specs.Option.{option_copied, option_map};
+ghost use Rattle.afr_lines.specs.Told.{told_by};
+ghost use Rattle.afr_lines.specs.declared.line.Line.TheVariants.{Ask};
+ghost use Rattle.afr_lines.specs.declared.line.Line.{Line};
+ghost use Rattle.afr_log.specs.Entries.{ask_by};
+ghost use Rattle.afr_log.specs.Log.{asked_line, shown_line, unasked, waits_for};
+
+use crate::asked::{Asker, unpack};
+use crate::packed::{By, Packed, is_plain, pack, short_of};
+use crate::shown::{Shown, show};
+use crate::waits::{entry_unasked, entry_waits};
+use afr_base::{ActorId, BrickId, NoMemory};
+use afr_lines::{Answer, Line, Request, Told, told_of};
+use std::alloc::Global;
+use std::marker::Model;
+
+/// The log of a volume. It keeps most requests packed, and all other lines as they are.
+#[derive(Drop)]
+pub struct Log {
+    /// One entry a line.
+    packed: Vec<Packed>,
+    /// The lines that are kept as they are, in their order.
+    kept: Vec<Line>,
+}
+
+impl Model for Log {
+    ghost use Rattle.std.specs.Prelude.{◌&&◌, nat_lt, vec_len, vec_capacity, length};
+    ghost use Rattle.afr_log.specs.Entries.{AreThere, lines_in};
+    ghost use Rattle.afr_log.specs.Log.{Logged};
+
+    ghost Value = { Logged };
+
+    ghost view = { λ l. record { items = lines_in l.kept.items l.packed.items; room = nat_lt (vec_len l.packed) (vec_capacity l.packed) && nat_lt (vec_len l.kept) (vec_capacity l.kept) } };
+
+    ghost invariant = { λ l. AreThere (length l.kept.items) l.packed.items };
+}
+
+impl Log {
+    /// An empty log, which takes no memory.
+    pub fn new(alloc: Global) -> Log
+        ensures { result.items ≡ [] }
+    {
+        Log {
+            packed: Vec::new(alloc),
+            kept: Vec::new(alloc),
+        }
+    }
+
+    /// The log of these lines, which are kept as they are.
+    pub fn of(alloc: Global, lines: Vec<Line>) -> Result<Log, NoMemory>
+        ensures { IfOk result (λ log. log.items ≡ lines.items) }
+    {
+        let mut log = Log::new(alloc);
+        for line in lines {
+            log.make_room()?;
+            log.add(line);
+        }
+        Ok(log)
+    }
+
+    pub fn len(&self) -> usize
+        ensures { result ≡ length self.now.items }
+    {
+        self.packed.len()
+    }
+
+    /// Room for one line more. A log that has it isn't asked for any.
+    #[inline]
+    pub fn make_room(&mut self) -> Result<(), NoMemory>
+        ensures room { OnOk result (self.new.room ≡ true) }
+        ensures items { self.new.items ≡ self.old.items }
+    {
+        if self.packed.len() == self.packed.capacity() {
+            self.packed.try_reserve(1)?;
+        }
+        if self.kept.len() == self.kept.capacity() {
+            self.kept.try_reserve(1)?;
+        }
+        Ok(())
+    }
+
+    /// Adds a line, which is kept as it is.
+    pub fn add(&mut self, line: Line)
+        requires { self.old.room ≡ true }
+        ensures { self.new.items ≡ self.old.items ++ line ∷ [] }
+    {
+        let place = self.kept.as_slice().len();
+        push_line(&mut self.kept, line);
+        push_entry(&mut self.packed, Packed::Kept(place));
+    }
+
+    /// Adds the line of a request and its answer.
+    pub fn add_ask(
+        &mut self,
+        actor: ActorId,
+        brick: BrickId,
+        request: &Request,
+        answer: &Answer,
+        took: bool,
+    )
+        requires { self.old.room ≡ true }
+        ensures { self.new.items ≡ self.old.items ++ Ask actor brick request.now (told_by answer.now) took ∷ [] }
+    {
+        match short_of(answer) {
+            Some(told) => {
+                let by = By {
+                    actor,
+                    brick,
+                    took,
+                    told,
+                };
+                self.add_short(request, by);
+            }
+            None => self.keep_ask(actor, brick, request, answer, took),
+        }
+    }
+
+    /// A request whose line is kept as it is. It stands apart, so that only such requests pay for a frame that holds a line.
+    #[inline(never)]
+    fn keep_ask(
+        &mut self,
+        actor: ActorId,
+        brick: BrickId,
+        request: &Request,
+        answer: &Answer,
+        took: bool,
+    )
+        requires { self.old.room ≡ true }
+        ensures { self.new.items ≡ self.old.items ++ Ask actor brick request.now (told_by answer.now) took ∷ [] }
+    {
+        self.add(Line::Ask {
+            actor,
+            brick,
+            request: *request,
+            told: told_of(answer),
+            took,
+        });
+    }
+
+    /// A heal's repair. It stands apart for the same reason.
+    #[inline(never)]
+    fn keep_short(&mut self, request: &Request, by: By)
+        requires { self.old.room ≡ true }
+        ensures { self.new.items ≡ self.old.items ++ ask_by by request.now ∷ [] }
+    {
+        self.add(by.ask(*request));
+    }
+
+    /// A request whose answer is short.
+    fn add_short(&mut self, request: &Request, by: By)
+        requires { self.old.room ≡ true }
+        ensures { self.new.items ≡ self.old.items ++ ask_by by request.now ∷ [] }
+    {
+        if !is_plain(request) {
+            self.keep_short(request, by);
+            return;
+        }
+        push_entry(&mut self.packed, pack(request, by));
+    }
+
+    /// The line at a position.
+    pub fn line(&self, at: usize) -> Option<Shown<'_>>
+        ensures { option_map shown_line result ≡ slice_get self.now.items at }
+    {
+        match entry_at(self.packed.as_slice(), at) {
+            Some(entry) => Some(show(entry, self.kept.as_slice())),
+            None => None,
+        }
+    }
+
+    /// Who asked by the line at a position, where it is a packed request: that and what was told are
+    /// written where they are to stand, since a whole line is large. None says nothing: `line` shows
+    /// each line.
+    pub fn asked_at(&self, at: usize, request: &mut Request, told: &mut Told) -> Option<Asker>
+        ensures { (by : Asker) → result ≡ Some by → slice_get self.now.items at ≡ Some (asked_line by request.new told.new) }
+    {
+        match entry_at(self.packed.as_slice(), at) {
+            Some(entry) => unpack(entry, request, told),
+            None => None,
+        }
+    }
+
+    /// The line at a position, where it is no request.
+    pub fn told_at(&self, at: usize) -> Option<&Line>
+        ensures { option_copied result ≡ unasked (slice_get self.now.items at) }
+    {
+        match entry_at(self.packed.as_slice(), at) {
+            Some(entry) => entry_unasked(entry, self.kept.as_slice()),
+            None => None,
+        }
+    }
+
+    /// Whom the line at a position waits for: the holder of the transaction lock that it asked.
+    pub fn waits_at(&self, at: usize) -> Option<ActorId>
+        ensures line { (line : Line) → slice_get self.now.items at ≡ Some line → result ≡ waits_for line }
+        ensures past { length self.now.items ≤ at → result ≡ None }
+    {
+        match entry_at(self.packed.as_slice(), at) {
+            Some(entry) => entry_waits(entry, self.kept.as_slice()),
+            None => None,
+        }
+    }
+}
+
+/// The entry at a position.
+fn entry_at(packed: &[Packed], at: usize) -> Option<&Packed>
+    ensures { option_copied result ≡ slice_get packed.now at }
+{
+    packed.get(at)
+}
+
+/// Adds an entry for which there is room.
+fn push_entry(packed: &mut Vec<Packed>, entry: Packed)
+    requires { vec_len packed.old < vec_capacity packed.old }
+    ensures items { packed.new.items ≡ packed.old.items ++ entry ∷ [] }
+{
+    match packed.push(entry) {
+        Ok(()) => {}
+        Err(_) => unreachable!(),
+    }
+}
+
+/// Adds a line for which there is room.
+fn push_line(kept: &mut Vec<Line>, line: Line)
+    requires { vec_len kept.old < vec_capacity kept.old }
+    ensures { kept.new.items ≡ kept.old.items ++ line ∷ [] }
+{
+    let _request = Request::Index; // a push of a value that holds such an enum is proved where the body names it
+    match kept.push(line) {
+        Ok(()) => {}
+        Err(_) => unreachable!(),
+    }
+}

@@ -1,0 +1,71 @@
+//! What is asked of a line without making it: whether it is a request, and whom it waits for.
+ghost use Rattle.std.specs.Prelude.{◌≡◌, length};
+ghost use Rattle.std.specs.Option.{option_copied};
+ghost use Rattle.afr_log.specs.Entries.{IsThere, line_of};
+ghost use Rattle.afr_log.specs.Log.{holder, unasked_line, waits_for};
+
+use crate::packed::{Packed, Short};
+use afr_base::ActorId;
+use afr_lines::{Line, Request, Told};
+use afr_range_locks::Domain;
+
+/// A line that is kept, where it is no request.
+fn unasked(line: &Line) -> Option<&Line>
+    ensures { option_copied result ≡ unasked_line line.now }
+{
+    match line {
+        Line::Ask { .. } => None,
+        _ => Some(line),
+    }
+}
+
+/// The line of an entry among the kept lines, where it is no request.
+pub(crate) fn entry_unasked<'a>(entry: &Packed, kept: &'a [Line]) -> Option<&'a Line>
+    requires { IsThere (length kept.now) entry.now }
+    ensures { option_copied result ≡ unasked_line (line_of kept.now entry.now) }
+{
+    match entry {
+        Packed::Kept(place) => unasked(&kept[*place]),
+        _ => None,
+    }
+}
+
+/// Whom a kept line waits for.
+fn waits_for(line: &Line) -> Option<ActorId>
+    ensures { result ≡ waits_for line.now }
+{
+    match line {
+        Line::Ask {
+            request: Request::Lock {
+                domain: Domain::Work,
+                ..
+            },
+            told: Told::Held(owner),
+            ..
+        } => Some(*owner),
+        _ => None,
+    }
+}
+
+/// Whom a lock of the works waits for, by what it was told.
+fn holder(domain: Domain, told: Short) -> Option<ActorId>
+    ensures { result ≡ holder domain told }
+{
+    match (domain, told) {
+        (Domain::Work, Short::Held(owner)) => Some(owner),
+        _ => None,
+    }
+}
+
+/// Whom the line of an entry waits for, where these lines are kept.
+pub(crate) fn entry_waits(entry: &Packed, kept: &[Line]) -> Option<ActorId>
+    requires { IsThere (length kept.now) entry.now }
+    ensures { result ≡ waits_for (line_of kept.now entry.now) }
+{
+    match entry {
+        Packed::LockRange(domain, _, by) => holder(*domain, by.told),
+        Packed::LockName(domain, _, _, by) => holder(*domain, by.told),
+        Packed::Kept(place) => waits_for(&kept[*place]),
+        _ => None,
+    }
+}

@@ -1,0 +1,20 @@
+-- A line that is no request is one line of the actor, whatever its answers would have asked.
+use Rattle.std.proofs.Common.{ℕ, List}
+use Rattle.afr_base.specs.declared.ids.ActorId.{ActorId}
+use Rattle.afr_lines.specs.declared.line.Line.{Line}
+use Rattle.afr_lines.specs.declared.line.Next.{Next}
+use Rattle.afr_lines.specs.declared.line.Next.TheVariants as next
+use Rattle.afr_server.specs.Serving.{Serving}
+use Rattle.afr_works.specs.Work.{next_of}
+use Rattle.afr_volume.specs.Acting.{Adds, Hearing, Stepped, SteppedBy, Written, WrittenBy}
+use Rattle.afr_volume.specs.declared.actor.Actor.{Actor}
+
+steps_by : (Hears : Hearing) (a : ActorId) (at : ℕ) (x y : Actor) (old new : List Serving) (line : Line) (n : Next) → WrittenBy a at x y old new line n → SteppedBy Hears a at x y old new line n
+steps_by Hears a at x y old new line (next.Ask b request) k = absurd k
+steps_by Hears a at x y old new line (next.Begin change) k = k
+steps_by Hears a at x y old new line (next.HealBegin g kind) k = absurd k
+steps_by Hears a at x y old new line (next.End said) k = k
+steps_by Hears a at x y old new line (next.HealEnd g kind said) k = absurd k
+
+pub written_steps : (Hears : Hearing) (a : ActorId) (at : ℕ) (x y : Actor) (old new : List Serving) (before after : List Line) → Adds (λ (line : Line). Written a at x y old new line) before after → Adds (λ (line : Line). Stepped Hears a at x y old new line) before after
+written_steps Hears a at x y old new before after k = record { line = k.line; added = k.added; is_so = steps_by Hears a at x y old new k.line (next_of at x.work) k.is_so }
