@@ -2,9 +2,10 @@
 ghost use Rattle.std.specs.Prelude.{◌≡◌, ◌++◌, IfSome, OnOk, codes, decimal, string_bytes};
 ghost use Rattle.afr_log.specs.Log.{asked_line};
 ghost use Rattle.afr_model.specs.ReportReplies.{actor_text, heal_text, reply_text};
-ghost use Rattle.afr_trace.specs.Answers.{event_text};
+ghost use Rattle.afr_trace.specs.Answers.{event_text, told_text};
 ghost use Rattle.afr_trace.specs.Changes.{change_text};
 ghost use Rattle.afr_trace.specs.Lines.{healed_text, line_text, said_text};
+ghost use Rattle.afr_trace.specs.Requests.{request_text};
 
 use crate::answers::{push_event, push_told};
 use crate::changes::push_change;
@@ -45,9 +46,67 @@ pub(crate) fn push_asked(
     ensures ok { OnOk result (string_bytes out.new ≡ string_bytes out.old ++ line_text plan.now position (asked_line by request.now told.now)) }
 {
     push_number(out, position as u64)?;
-    out.push(' ')?;
-    push_ask(out, plan, by.actor, by.brick, request, told, by.took)?;
-    out.push('\n')?;
+    push_asks(out, plan, by.actor, by.brick, request)?;
+    push_last(out, told, by.took)?;
+    Ok(())
+}
+
+/// Adds who asked which brick for what, after a space.
+fn push_asks(
+    out: &mut String,
+    plan: &Plan,
+    actor: ActorId,
+    brick: BrickId,
+    request: &Request,
+) -> Result<(), NoMemory>
+    ensures ok { OnOk result (string_bytes out.new ≡ string_bytes out.old ++ (codes " " ++ actor_text actor ++ codes " b" ++ decimal brick.0 ++ codes " " ++ request_text plan.now request.now)) }
+{
+    push_asker(out, actor)?;
+    push_brick(out, brick)?;
+    push_request(out, plan, request)?;
+    Ok(())
+}
+
+/// Adds who asked, after a space. Most have a word of their own, which is added at once.
+fn push_asker(out: &mut String, actor: ActorId) -> Result<(), NoMemory>
+    ensures ok { OnOk result (string_bytes out.new ≡ string_bytes out.old ++ (codes " " ++ actor_text actor)) }
+{
+    match actor_word(actor) {
+        Some(word) => out.push_str(word)?,
+        None => {
+            out.push(' ')?;
+            push_actor(out, actor)?;
+        }
+    }
+    Ok(())
+}
+
+fn actor_word(actor: ActorId) -> Option<&'static str>
+    ensures { IfSome result (λ word. word.now ≡ codes " " ++ actor_text actor) }
+{
+    match actor.0 {
+        1 => Some(" c1"),
+        2 => Some(" c2"),
+        3 => Some(" c3"),
+        4 => Some(" c4"),
+        _ => None,
+    }
+}
+
+/// Adds what was told, between a space and the end of the line: most answers at once.
+fn push_last(out: &mut String, told: &Told, took: bool) -> Result<(), NoMemory>
+    ensures ok { OnOk result (string_bytes out.new ≡ string_bytes out.old ++ (codes " " ++ told_text told.now took ++ codes "\n")) }
+{
+    match told {
+        Told::Granted => out.push_str(" granted\n")?,
+        Told::Seen(_) => out.push_str(" seen\n")?,
+        Told::Done => out.push_str(" done\n")?,
+        _ => {
+            out.push(' ')?;
+            push_told(out, told, took)?;
+            out.push('\n')?;
+        }
+    }
     Ok(())
 }
 

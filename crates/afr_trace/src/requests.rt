@@ -51,17 +51,18 @@ fn push_lock(
     ensures ok { OnOk result (string_bytes out.new ≡ string_bytes out.old ++ (word.now ++ domain_text domain ++ area_text plan.now area)) }
 {
     out.push_str(word)?;
-    out.push_str(domain_word(domain))?;
+    push_domain(out, domain)?;
     push_area(out, plan, area)
 }
 
-fn domain_word(domain: Domain) -> &'static str
-    ensures { result.now ≡ domain_text domain }
+fn push_domain(out: &mut String, domain: Domain) -> Result<(), NoMemory>
+    ensures ok { OnOk result (string_bytes out.new ≡ string_bytes out.old ++ domain_text domain) }
 {
     match domain {
-        Domain::Work => "",
-        Domain::Heal => "heal ",
+        Domain::Work => {}
+        Domain::Heal => out.push_str("heal ")?,
     }
+    Ok(())
 }
 
 /// Adds a request that has a word and an object alone.
