@@ -1,6 +1,9 @@
 //! The program: standard input and output, the words of the call, and the exit status.
 #![tactic(auto)]
 
+#[cfg(test)]
+mod tests;
+
 use afr_cli::afr_top;
 use afr_rule::{ReadRule, Rules, SourceRule, shipped};
 use afr_text::{StdSink, StdSource};

@@ -3,6 +3,7 @@ mod Decides
 mod Decisions
 mod HealDecisions
 mod SetsOfFive
+mod LeftLemmas
 mod NotedLaw
 mod NotedShape
 mod NotedUpto

@@ -5,4 +5,5 @@ pub mod Five
 pub mod Inside
 pub mod Notes
 pub mod Turns
+pub mod Left
 pub mod Laws

@@ -1,15 +1,18 @@
 //! The bricks that each step of a heal asks, if one copy is its source.
-ghost use Rattle.std.specs.Prelude.{◌≡◌, ◌<◌, ◌≤◌, ◌||◌, not};
+ghost use Rattle.std.specs.Prelude.{◌≡◌, ℕ, ◌<◌, ◌≤◌};
 ghost use Rattle.afr_moves.specs.Register.{asked_in, holder, over};
 ghost use Rattle.afr_moves.specs.Steps.{locks_at, looks_at, mends_at, other, passed, pres_at, reads_at, set_of, settles_at, sink, turn};
 ghost use Rattle.afr_moves.specs.Keeps.{keeps_in};
+ghost use Rattle.afr_base.specs.Bricks.{member};
+ghost use Rattle.afr_discipline.specs.Left.{AreLeft, waits};
 ghost use Rattle.afr_discipline.specs.Stands.{phase_of, seen_as, step_of};
 
-use crate::of_five::all_of;
+use crate::note_steps::asked_at;
+use crate::of_five::picked;
 use crate::register::{Phase, Register, Step};
 use crate::steps::{rank, was_asked};
-use crate::views::{holds, is_good, keeps};
-use afr_base::{BrickId, Kind};
+use crate::views::{has_some, holds, is_good, keeps};
+use afr_base::{BrickId, BrickSet, Kind};
 
 /// A holder by the first looks that is neither the source nor an arbiter.
 pub(crate) fn is_sink(register: &Register, s: BrickId, x: BrickId) -> bool
@@ -120,28 +123,71 @@ pub(crate) fn is_in(register: &Register, s: BrickId, step: Step, x: BrickId) -> 
     }
 }
 
-fn is_left_out(register: &Register, s: BrickId, step: Step, x: BrickId) -> bool
+/// Whether the step asks the brick, and hasn't yet.
+fn is_left(register: &Register, s: BrickId, step: Step, x: BrickId) -> bool
     requires few { register.now.shape.n ≤ 5 }
     requires small { x.0 < 5 }
-    ensures { result ≡ (not (set_of register.now.shape.n (keeps_in register.now.shape) (seen_as register.now) s.0 (step_of step) x.0) || asked_in (seen_as register.now) (step_of step) x.0) }
+    ensures { result ≡ waits register.now.shape.n (keeps_in register.now.shape) (seen_as register.now) s.0 (step_of step) x.0 }
 {
-    !is_in(register, s, step, x) || was_asked(register, step, x)
+    is_in(register, s, step, x) && !was_asked(register, step, x)
+}
+
+/// The bricks that the step has not asked, one by one.
+#[tactic(auto, using(crate::proofs::SetsOfFive::member_picked))]
+fn each_left(register: &Register, s: BrickId, step: Step) -> BrickSet
+    requires { register.now.shape.n ≤ 5 }
+    ensures { AreLeft register.now s.0 step result }
+{
+    picked(
+        is_left(register, s, step, BrickId(0)),
+        is_left(register, s, step, BrickId(1)),
+        is_left(register, s, step, BrickId(2)),
+        is_left(register, s, step, BrickId(3)),
+        is_left(register, s, step, BrickId(4)),
+    )
+}
+
+fn locked(register: &Register) -> BrickSet
+    ensures { (x : ℕ) → x < 5 → member result x ≡ locks_at (seen_as register.now) (phase_of register.now.phase) x }
+{
+    match register.phase {
+        Phase::Opening => register.healing,
+        Phase::Piece | Phase::Finish => register.seen.reached,
+    }
+}
+
+fn looked_at(register: &Register) -> BrickSet
+    ensures { (x : ℕ) → x < 5 → member result x ≡ looks_at (seen_as register.now) (phase_of register.now.phase) x }
+{
+    match register.phase {
+        Phase::Opening => register.held,
+        Phase::Piece | Phase::Finish => register.seen.reached,
+    }
+}
+
+/// The bricks that the step has not asked. Those of its locks, looks and unlocks are a set already.
+pub(crate) fn left_in(register: &Register, s: BrickId, step: Step) -> BrickSet
+    requires { register.now.shape.n ≤ 5 }
+    ensures { AreLeft register.now s.0 step result }
+{
+    match step {
+        Step::HealLocks => BrickSet::all(5).minus(asked_at(register, step)),
+        Step::WorkLocks => locked(register).minus(asked_at(register, step)),
+        Step::Looks => looked_at(register).minus(asked_at(register, step)),
+        Step::Unlocks => register.held.minus(asked_at(register, step)),
+        Step::HealUnlocks => register.healing.minus(asked_at(register, step)),
+        _ => each_left(register, s, step),
+    }
 }
 
 /// Whether each brick of the step below a number was asked.
+#[tactic(auto, using(crate::proofs::LeftLemmas::over_is_none_left))]
 pub(crate) fn is_over(register: &Register, s: BrickId, step: Step, upto: u8) -> bool
     requires few { register.now.shape.n ≤ 5 }
     requires small { upto ≤ 5 }
     ensures { result ≡ over upto (set_of register.now.shape.n (keeps_in register.now.shape) (seen_as register.now) s.0 (step_of step)) (asked_in (seen_as register.now) (step_of step)) }
 {
-    all_of(
-        upto,
-        is_left_out(register, s, step, BrickId(0)),
-        is_left_out(register, s, step, BrickId(1)),
-        is_left_out(register, s, step, BrickId(2)),
-        is_left_out(register, s, step, BrickId(3)),
-        is_left_out(register, s, step, BrickId(4)),
-    )
+    !has_some(upto, left_in(register, s, step))
 }
 
 /// Whether the step is behind the actor, or the present one and over.

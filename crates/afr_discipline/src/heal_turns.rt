@@ -6,9 +6,10 @@ ghost use Rattle.afr_discipline.specs.Five.{Gives};
 ghost use Rattle.afr_discipline.specs.Stands.{seen_as, step_of};
 ghost use Rattle.afr_discipline.specs.Turns.{brick_of, candidate, find, turn_of};
 
-use crate::heal_sets::is_turn;
+use crate::heal_sets::left_in;
 use crate::note_stops::may_be_source;
 use crate::register::{Register, Step};
+use crate::steps::rank;
 use afr_base::{BrickId, BrickSet};
 
 /// The lowest of the five below `n` that passes.
@@ -43,14 +44,10 @@ pub fn turn_of(register: &Register, source: BrickId, step: Step) -> Option<Brick
     requires few { register.now.shape.n ≤ 5 }
     ensures { result ≡ brick_of (turn_of register.now.shape.n (keeps_in register.now.shape) (seen_as register.now) source.0 (step_of step)) }
 {
-    found_of(
-        register.shape.n,
-        is_turn(register, source, step, BrickId(0)),
-        is_turn(register, source, step, BrickId(1)),
-        is_turn(register, source, step, BrickId(2)),
-        is_turn(register, source, step, BrickId(3)),
-        is_turn(register, source, step, BrickId(4)),
-    )
+    if rank(step) < rank(register.step) {
+        return None;
+    }
+    first_of(register.shape.n, left_in(register, source, step))
 }
 
 /// The lowest brick of a set below `n`.

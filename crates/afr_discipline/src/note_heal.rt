@@ -1,7 +1,7 @@
 //! What a request of a heal and its answer leave in a register: the step, the looks, the reads and the part.
 ghost use Rattle.std.specs.Prelude.{◌≡◌, ◌+◌, ◌^◌, ◌<◌, ◌≤◌, false};
 ghost use Rattle.afr_moves.specs.Register.{is_piece, span};
-ghost use Rattle.afr_discipline.specs.Notes.{broken_by, leaves_open, looked_inside, noted_inside, noted_steps, part_after, picked, read_inside, still_possible, upto_after};
+ghost use Rattle.afr_discipline.specs.Notes.{broken_by, leaves_open, looked_inside, noted_inside, noted_steps, part_after, read_inside, still_possible, upto_after};
 ghost use Rattle.afr_discipline.specs.Stands.{phase_of};
 
 use crate::answers::{
@@ -12,6 +12,7 @@ use crate::heal_asks::is_allowed_by;
 use crate::heal_moves::whole;
 use crate::heal_reads::is_in_opening;
 use crate::note_steps::{entered, noted_outside, shown, shown_if};
+use crate::of_five::picked;
 use crate::register::{Phase, Register, Step};
 use crate::steps::{is_same_step, rank};
 use afr_base::{BrickId, BrickSet, HEAL_BLOCK, Kind};
@@ -168,17 +169,6 @@ fn broken_by(register: &Register, request: &Request, told: &Told) -> bool
         | Request::Mend { .. }
         | Request::Settle { .. } => fails(told),
     }
-}
-
-fn picked(first: bool, second: bool, third: bool, fourth: bool, fifth: bool) -> BrickSet
-    ensures { result ≡ picked first second third fourth fifth }
-{
-    BrickSet::none()
-        .with_if(first, BrickId(0))
-        .with_if(second, BrickId(1))
-        .with_if(third, BrickId(2))
-        .with_if(fourth, BrickId(3))
-        .with_if(fifth, BrickId(4))
 }
 
 /// The copies that may still be the source.

@@ -1,12 +1,13 @@
-//! A condition on the bricks below `n`, told for each of five: whether some meet it, all, most, and which alone does.
+//! A condition on the bricks below `n`, told for each of five: whether some meet it, all, most, and which alone does; and which of the five do.
 ghost use Rattle.std.specs.Prelude.{◌≡◌, ℕ, Bool, ◌≤◌, ◌==◌, if◌then◌else◌};
 ghost use Rattle.afr_base.specs.Majority.{count_below, is_most};
 ghost use Rattle.afr_moves.specs.Sets.{any};
 ghost use Rattle.afr_moves.specs.Register.{all};
 ghost use Rattle.afr_discipline.specs.Five.{Gives};
+ghost use Rattle.afr_discipline.specs.Notes.{picked};
 ghost use Rattle.afr_discipline.specs.Stands.{least, sole};
 
-use afr_base::BrickId;
+use afr_base::{BrickId, BrickSet};
 
 pub(crate) fn any_of(n: u8, a: bool, b: bool, c: bool, d: bool, e: bool) -> bool
     requires { n ≤ 5 }
@@ -93,4 +94,16 @@ fn one_if(flag: bool) -> u8
     ensures { result ≡ (if flag then 1 else 0) }
 {
     if flag { 1 } else { 0 }
+}
+
+/// The bricks of the five whose flags are set.
+pub(crate) fn picked(first: bool, second: bool, third: bool, fourth: bool, fifth: bool) -> BrickSet
+    ensures { result ≡ picked first second third fourth fifth }
+{
+    BrickSet::none()
+        .with_if(first, BrickId(0))
+        .with_if(second, BrickId(1))
+        .with_if(third, BrickId(2))
+        .with_if(fourth, BrickId(3))
+        .with_if(fifth, BrickId(4))
 }

@@ -2,7 +2,7 @@
 ghost use Rattle.std.specs.Prelude.{◌≡◌, ◌<◌, ◌≤◌};
 ghost use Rattle.afr_discipline.specs.Stands.{phase_of, seen_as, step_of};
 ghost use Rattle.afr_heal.specs.Carried.{next_by};
-ghost use Rattle.afr_heal.specs.Coming.{RoomEach, StepOr, coming_of};
+ghost use Rattle.afr_heal.specs.Coming.{Asks, RoomEach, StepOr, coming_of};
 ghost use Rattle.afr_heal.specs.Engine.{after_looks, broken_next, has_part, part_or_end, whole_next};
 ghost use Rattle.afr_moves.specs.Keeps.{keeps_in};
 
@@ -12,6 +12,19 @@ use afr_base::{BrickId, Gfid, Kind};
 use afr_discipline::{Phase, Register, Step, first_of, present_part, present_step, turn_of};
 use afr_lines::Request;
 use afr_range_locks::Domain;
+
+/// The step's request, if it is somebody's turn.
+fn asked(register: &Register, source: BrickId, gfid: Gfid, kind: Kind, step: Step) -> Option<Coming>
+    requires few { register.now.shape.n ≤ 5 }
+    requires source { source.0 < 5 }
+    requires room { RoomEach register.now kind }
+    ensures { Asks register.now source.0 gfid kind step result }
+{
+    match turn_of(register, source, step) {
+        Some(b) => Some(Coming::Ask(b, request_of(register, source, gfid, kind, step, b))),
+        None => None,
+    }
+}
 
 /// The step's request, if it is somebody's turn; else the line that is there.
 fn step_or(
@@ -27,8 +40,8 @@ fn step_or(
     requires room { RoomEach register.now kind }
     ensures { StepOr register.now source.0 gfid kind step rest result }
 {
-    match turn_of(register, source, step) {
-        Some(b) => Coming::Ask(b, request_of(register, source, gfid, kind, step, b)),
+    match asked(register, source, gfid, kind, step) {
+        Some(coming) => coming,
         None => rest,
     }
 }
@@ -67,19 +80,29 @@ fn end_or_giving(register: &Register, source: BrickId, gfid: Gfid, kind: Kind) -
     }
 }
 
-/// From the reads of a part to the end. The last step stands first here, since each step hands over to the next one.
+/// From the reads of a part to the end: the first step in which it is somebody's turn.
 fn after_looks(register: &Register, source: BrickId, gfid: Gfid, kind: Kind) -> Coming
     requires few { register.now.shape.n ≤ 5 }
     requires source { source.0 < 5 }
     requires room { RoomEach register.now kind }
     ensures { result ≡ coming_of (after_looks register.now.shape.n (keeps_in register.now.shape) (seen_as register.now) source.0 gfid kind) }
 {
-    let last = end_or_giving(register, source, gfid, kind);
-    let unlocks = step_or(register, source, gfid, kind, Step::Unlocks, last);
-    let settles = step_or(register, source, gfid, kind, Step::Settles, unlocks);
-    let mends = step_or(register, source, gfid, kind, Step::Mends, settles);
-    let pres = step_or(register, source, gfid, kind, Step::HealPres, mends);
-    step_or(register, source, gfid, kind, Step::Reads, pres)
+    if let Some(reads) = asked(register, source, gfid, kind, Step::Reads) {
+        return reads;
+    }
+    if let Some(raises) = asked(register, source, gfid, kind, Step::HealPres) {
+        return raises;
+    }
+    if let Some(mends) = asked(register, source, gfid, kind, Step::Mends) {
+        return mends;
+    }
+    if let Some(settles) = asked(register, source, gfid, kind, Step::Settles) {
+        return settles;
+    }
+    if let Some(unlocks) = asked(register, source, gfid, kind, Step::Unlocks) {
+        return unlocks;
+    }
+    end_or_giving(register, source, gfid, kind)
 }
 
 /// A broken heal gives back its Work locks, then its Heal locks, the lowest brick first.
@@ -123,15 +146,15 @@ fn whole(register: &Register, source: BrickId, gfid: Gfid, kind: Kind) -> Coming
                 area: heal_range(gfid),
             },
         ),
-        Step::HealLocks => {
-            let works = step_or(register, source, gfid, kind, Step::WorkLocks, Coming::End);
-            step_or(register, source, gfid, kind, Step::HealLocks, works)
-        }
+        Step::HealLocks => match asked(register, source, gfid, kind, Step::HealLocks) {
+            Some(locks) => locks,
+            None => step_or(register, source, gfid, kind, Step::WorkLocks, Coming::End),
+        },
         Step::WorkLocks => { step_or(register, source, gfid, kind, Step::WorkLocks, Coming::Begin) }
-        _ => {
-            let rest = after_looks(register, source, gfid, kind);
-            step_or(register, source, gfid, kind, Step::Looks, rest)
-        }
+        _ => match asked(register, source, gfid, kind, Step::Looks) {
+            Some(looks) => looks,
+            None => after_looks(register, source, gfid, kind),
+        },
     }
 }
 

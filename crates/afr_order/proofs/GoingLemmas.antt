@@ -1,5 +1,5 @@
 -- Turns after turns, and what one turn does to the log.
-use Rattle.std.proofs.Common.{◌≡◌, ℕ, zero, suc, ◌≤◌, Bool, true, false, Option, Some, None, List, [], ◌∷◌, ◌++◌, length, replicate, refl, sym, ◌∙◌, ap, arith, append_assoc}
+use Rattle.std.proofs.Common.{◌≡◌, ℕ, zero, suc, ◌+◌, ◌≤◌, Bool, true, false, Option, Some, None, List, [], ◌∷◌, ◌++◌, length, replicate, refl, sym, ◌∙◌, ap, arith, append_assoc}
 use Rattle.std.proofs.lemmas.List.{append-nil}
 use Rattle.afr_base.specs.declared.ids.ActorId.{ActorId}
 use Rattle.afr_lines.specs.declared.line.Line.{Line}
@@ -12,17 +12,23 @@ use Rattle.afr_model.specs.Ordered.Writes.{Moves, PassesOver, Happens}
 use Rattle.afr_volume.specs.Turning.{Turns, Comes, AddsLine}
 use Rattle.afr_volume.specs.declared.turned.Turned.{Turned}
 use Rattle.afr_volume.specs.declared.turned.Turned.TheVariants.{Moved, Waits, Ended, Full}
-use Rattle.afr_order.specs.Going.{Goes, IsHappening, Later, Still, Takes, TakesFront, Ends, goes_on_after}
+use Rattle.afr_order.proofs.StayLemmas.{done_more}
+use Rattle.afr_order.specs.Going.{AreDone, Goes, IsHappening, Later, Still, Takes, TakesFront, Ends, goes_on_after}
 
 pub goes_nowhere : (s : State) → Goes s s
-goes_nowhere s = record { plan = refl; grows = omega arith; same = λ h. refl }
+goes_nowhere s = record { plan = refl; grows = omega arith; same = λ h. refl; stays = λ a d. d }
 
 pub goes_then : (a b c : State) → Goes a b → Goes b c → Goes a c
 goes_then a b c f g = record {
   plan = g.plan ∙ f.plan;
   grows = omega (arith, f.grows, g.grows);
   same = λ h. g.same (omega (arith, f.grows, h)) ∙ f.same (omega (arith, g.grows, h));
+  stays = λ a d. g.stays a (f.stays a d);
 }
+
+-- the clients that are done stay done
+pub done_then : (a b : State) (count : ℕ) → Goes a b → AreDone count a → AreDone count b
+done_then a b count g d = record { within = rw g.plan d.within; done = λ k l. g.stays (1 + k) (d.done k l) }
 
 pub takes_none : (p : Plan) (log : List Line) → Takes p [] log log
 takes_none p log = record { written = λ before w. rw append-nil w }
@@ -64,7 +70,12 @@ ends_then a b c xs ys true g f t = takes_then a b c xs ys g f t
 ends_then a b c xs ys false g f t = t
 
 adds_goes : (old new : State) (line : Line) → new.plan ≡ old.plan → new.log ≡ line ∷ old.log → Goes old new
-adds_goes old new line same added = record { plan = same; grows = omega (arith, ap length added); same = λ h. absurd (omega (arith, h, ap length added)) }
+adds_goes old new line same added = record {
+  plan = same;
+  grows = omega (arith, ap length added);
+  same = λ h. absurd (omega (arith, h, ap length added));
+  stays = λ a d. rw (same, added) (done_more old.plan a line old.log d);
+}
 
 pub event_goes : (old new : State) → Comes old new → Goes old new
 event_goes old new h = adds_goes old new _ (ap (λ (s : State). s.plan) h.added) (ap (λ (s : State). s.log) h.added)

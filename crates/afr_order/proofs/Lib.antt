@@ -1,3 +1,4 @@
+pub mod StayLemmas
 pub mod GoingLemmas
 pub mod OrderLemmas
 pub mod DoneLemmas

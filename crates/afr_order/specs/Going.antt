@@ -1,5 +1,5 @@
 -- How turns and events take a log to a longer one.
-use Rattle.std.specs.Prelude.{◌≡◌, ℕ, ◌≤◌, ◌<◌, Bool, true, false, List, ◌++◌, length}
+use Rattle.std.specs.Prelude.{◌≡◌, ℕ, ◌+◌, ◌≤◌, ◌<◌, Bool, true, false, List, ◌++◌, length}
 use Rattle.afr_lines.specs.declared.line.Line.{Line}
 use Rattle.afr_plan.specs.declared.plan.Plan.{Plan}
 use Rattle.afr_volume.specs.State.{State}
@@ -10,11 +10,12 @@ use Rattle.afr_model.specs.Ordered.{Writes}
 use Rattle.afr_volume.specs.declared.turned.Turned.{Turned}
 use Rattle.afr_volume.specs.declared.turned.Turned.TheVariants.{Full}
 
--- the plan stays, and the log grows or all is as it was
+-- the plan stays, the log grows or all is as it was, and who is done stays done
 pub record Goes (old new : State) : Type 0 where
   pub plan : new.plan ≡ old.plan
   pub grows : length old.log ≤ length new.log
   pub same : length new.log ≤ length old.log → new ≡ old
+  pub stays : (a : ℕ) → is_done old.plan a old.log ≡ true → is_done new.plan a new.log ≡ true
 
 -- events that were due took the old volume to the new one
 pub data IsHappening (old : State) : State → Type 0 where
@@ -36,6 +37,11 @@ pub record TakesFront (p : Plan) (turns : List ℕ) (old new : List Line) : Type
 abbrev pub Ends : List ℕ → State → Bool → State → Type 0
 Ends turns old true new = Takes old.plan turns old.log new.log
 Ends turns old false new = length new.log ≡ new.plan.turns
+
+-- so many clients from the first on are done
+pub record AreDone (count : ℕ) (s : State) : Type 0 where
+  pub within : count ≤ length s.plan.clients
+  pub done : (k : ℕ) → k < count → is_done s.plan (1 + k) s.log ≡ true
 
 -- every actor is done, and no event is due
 pub record IsIdle (s : State) : Type 0 where

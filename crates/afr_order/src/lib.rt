@@ -21,7 +21,7 @@ ghost use Rattle.afr_volume.specs.State.{IsChosen};
 mod rows;
 mod turns;
 
-use crate::rows::{take_orders, take_pass};
+use crate::rows::{count_done, take_orders, take_pass};
 use afr_base::NoMemory;
 use afr_rule::{Candidate, Rules};
 use afr_volume::Volume;
@@ -29,7 +29,7 @@ use afr_volume::Volume;
 /// Runs the plan that the volume was set up with, until every actor is done or the log is full.
 /// First come the orders of the plan, then passes over all actors in rising order: clients, then
 /// healers. Before each turn, and at the end, all due events come. It takes one turn for each line;
-/// an order asks its actor at most once more, and a pass each actor.
+/// an order asks its actor at most once more, and a pass each actor but the clients that are done, from the first on.
 /// Heals ask one of the rules for their sources, and clients the other for the copies that they read.
 pub fn drive<F: Fn(&[Candidate]) -> usize, G: Fn(&[Candidate]) -> usize>(
     volume: &mut Volume,
@@ -74,9 +74,11 @@ fn take_all<F: Fn(&[Candidate]) -> usize, G: Fn(&[Candidate]) -> usize>(
     if !take_orders(volume, rules)? {
         return Ok(());
     }
+    let mut done = 0;
     loop {
+        done = count_done(volume, done);
         let before = volume.len();
-        if !take_pass(volume, rules)? {
+        if !take_pass(volume, done, rules)? {
             return Ok(());
         }
         volume.every_line();

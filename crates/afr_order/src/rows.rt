@@ -6,9 +6,9 @@ ghost use Rattle.afr_model.specs.Ordered.{actors_of, ordered_turns};
 ghost use Rattle.afr_rule.specs.Choosing.{IsRule};
 ghost use Rattle.afr_sources.specs.Sources.{picks_of};
 ghost use Rattle.afr_volume.specs.State.{IsChosen};
-ghost use Rattle.afr_order.specs.Going.{Goes, TakesFront, Ends, IsIdle};
+ghost use Rattle.afr_order.specs.Going.{AreDone, Goes, TakesFront, Ends, IsIdle};
 
-use crate::turns::{come_due, take_turn, take_turns};
+use crate::turns::{come_due, take_next, take_turns};
 use afr_base::{ActorId, FIRST_CLIENT, FIRST_HEALER, NoMemory};
 use afr_rule::{Candidate, Rules};
 use afr_volume::Volume;
@@ -54,20 +54,60 @@ fn take_row<F: Fn(&[Candidate]) -> usize, G: Fn(&[Candidate]) -> usize>(
     ensures chosen { IsChosen (picks_of G.Fn rules.now.read) (picks_of F.Fn rules.now.heal) volume.old → IsChosen (picks_of G.Fn rules.now.read) (picks_of F.Fn rules.now.heal) volume.new }
 {
     for i in 0..count {
-        if !take_turn(volume, ActorId(first + i), rules)? {
+        if !take_next(volume, ActorId(first + i), rules)? {
             return Ok(false);
         }
     }
     Ok(true)
 }
 
-/// A turn of each actor, and the events that are due then. It answers whether the log had room.
-pub(crate) fn take_pass<F: Fn(&[Candidate]) -> usize, G: Fn(&[Candidate]) -> usize>(
+/// How many clients from the first on are done; so many are known to be.
+pub(crate) fn count_done(volume: &Volume, known: u16) -> u16
+    requires { AreDone known volume.now }
+    ensures { AreDone result volume.now }
+{
+    volume.every_line();
+    let clients = volume.plan().clients.len() as u16;
+    for i in known..clients {
+        if !volume.is_done(ActorId(FIRST_CLIENT + i)) {
+            return i;
+        }
+    }
+    clients
+}
+
+/// A turn of each client; so many from the first on are done, and are passed over. It answers whether the log had room.
+fn take_clients<F: Fn(&[Candidate]) -> usize, G: Fn(&[Candidate]) -> usize>(
     volume: &mut Volume,
+    done: u16,
+    clients: u16,
     rules: &Rules<F, G>,
 ) -> Result<bool, NoMemory>
     requires rule { IsRule F.Fn rules.now.heal }
     requires read_rule { IsRule G.Fn rules.now.read }
+    requires fits { 1 + clients < 2 ^ 16 }
+    requires within { done ≤ clients }
+    requires done { (k : ℕ) → k < done → is_done volume.old.plan (1 + k) volume.old.log ≡ true }
+    requires actors { (k : ℕ) → k < clients → IsActor volume.old.plan (1 + k) }
+    ensures goes { Goes volume.old volume.new }
+    ensures front { TakesFront volume.old.plan (range_with_len 1 clients) volume.old.log volume.new.log }
+    ensures ok { IfOk result (λ on. Ends (range_with_len 1 clients) volume.old on volume.new) }
+    ensures done { result ≡ Ok true → length volume.new.log ≤ length volume.old.log → (k : ℕ) → k < clients → is_done volume.new.plan (1 + k) volume.new.log ≡ true }
+    ensures chosen { IsChosen (picks_of G.Fn rules.now.read) (picks_of F.Fn rules.now.heal) volume.old → IsChosen (picks_of G.Fn rules.now.read) (picks_of F.Fn rules.now.heal) volume.new }
+{
+    take_row(volume, FIRST_CLIENT + done, clients - done, rules)
+}
+
+/// A turn of each actor, and the events that are due then; so many clients from the first on are done. It answers whether the
+/// log had room.
+pub(crate) fn take_pass<F: Fn(&[Candidate]) -> usize, G: Fn(&[Candidate]) -> usize>(
+    volume: &mut Volume,
+    done: u16,
+    rules: &Rules<F, G>,
+) -> Result<bool, NoMemory>
+    requires rule { IsRule F.Fn rules.now.heal }
+    requires read_rule { IsRule G.Fn rules.now.read }
+    requires done { AreDone done volume.old }
     ensures goes { Goes volume.old volume.new }
     ensures front { TakesFront volume.old.plan (actors_of volume.old.plan) volume.old.log volume.new.log }
     ensures ok { IfOk result (λ on. Ends (actors_of volume.old.plan) volume.old on volume.new) }
@@ -77,7 +117,7 @@ pub(crate) fn take_pass<F: Fn(&[Candidate]) -> usize, G: Fn(&[Candidate]) -> usi
     volume.every_line();
     let clients = volume.plan().clients.len() as u16;
     let healers = volume.plan().healers.len() as u16;
-    if !take_row(volume, FIRST_CLIENT, clients, rules)? {
+    if !take_clients(volume, done, clients, rules)? {
         return Ok(false);
     }
     if !take_row(volume, FIRST_HEALER, healers, rules)? {

@@ -9,8 +9,8 @@ use itoa::Buffer;
 pub fn push_number(out: &mut String, number: u64) -> Result<(), NoMemory>
     ensures ok { OnOk result (string_bytes out.new ≡ string_bytes out.old ++ decimal number) }
 {
-    if number < 10 {
-        return push_digit(out, number as u8);
+    if number < 100 {
+        return push_short_number(out, number as u8);
     }
     let mut buffer = Buffer::new();
     out.push_str(buffer.format(number))?;
@@ -21,12 +21,33 @@ pub fn push_number(out: &mut String, number: u64) -> Result<(), NoMemory>
 pub fn push_long_number(out: &mut String, number: u128) -> Result<(), NoMemory>
     ensures ok { OnOk result (string_bytes out.new ≡ string_bytes out.old ++ decimal number) }
 {
-    if number < 10 {
-        return push_digit(out, number as u8);
+    if number <= u128::from(u64::MAX) {
+        return push_number(out, number as u64);
     }
     let mut buffer = Buffer::new();
     out.push_str(buffer.format(number))?;
     Ok(())
+}
+
+/// A number of one digit or two.
+#[tactic(auto, using(crate::proofs::NumberLemmas::two_digits))]
+fn push_short_number(out: &mut String, number: u8) -> Result<(), NoMemory>
+    requires { number < 100 }
+    ensures ok { OnOk result (string_bytes out.new ≡ string_bytes out.old ++ decimal number) }
+{
+    if number < 10 {
+        return push_digit(out, number);
+    }
+    push_digits(out, number / 10, number % 10)
+}
+
+fn push_digits(out: &mut String, tens: u8, units: u8) -> Result<(), NoMemory>
+    requires tens { tens < 10 }
+    requires units { units < 10 }
+    ensures ok { OnOk result (string_bytes out.new ≡ string_bytes out.old ++ (decimal tens ++ decimal units)) }
+{
+    push_digit(out, tens)?;
+    push_digit(out, units)
 }
 
 #[tactic(auto, using(crate::proofs::NumberLemmas::one_digit))]

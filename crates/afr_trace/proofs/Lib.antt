@@ -1,2 +1,3 @@
+mod ActorLemmas
 mod FiveLemmas
 mod TraceLemmas

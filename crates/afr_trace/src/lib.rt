@@ -2,6 +2,7 @@
 #![tactic(auto)]
 
 mod answers;
+mod askers;
 mod changes;
 mod lines;
 mod numbers;

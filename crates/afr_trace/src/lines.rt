@@ -8,6 +8,7 @@ ghost use Rattle.afr_trace.specs.Lines.{healed_text, line_text, said_text};
 ghost use Rattle.afr_trace.specs.Requests.{request_text};
 
 use crate::answers::{push_event, push_told};
+use crate::askers::push_asker;
 use crate::changes::push_change;
 use crate::objects::push_object;
 use crate::requests::push_request;
@@ -67,32 +68,6 @@ fn push_asks(
     Ok(())
 }
 
-/// Adds who asked, after a space. Most have a word of their own, which is added at once.
-fn push_asker(out: &mut String, actor: ActorId) -> Result<(), NoMemory>
-    ensures ok { OnOk result (string_bytes out.new ≡ string_bytes out.old ++ (codes " " ++ actor_text actor)) }
-{
-    match actor_word(actor) {
-        Some(word) => out.push_str(word)?,
-        None => {
-            out.push(' ')?;
-            push_actor(out, actor)?;
-        }
-    }
-    Ok(())
-}
-
-fn actor_word(actor: ActorId) -> Option<&'static str>
-    ensures { IfSome result (λ word. word.now ≡ codes " " ++ actor_text actor) }
-{
-    match actor.0 {
-        1 => Some(" c1"),
-        2 => Some(" c2"),
-        3 => Some(" c3"),
-        4 => Some(" c4"),
-        _ => None,
-    }
-}
-
 /// Adds what was told, between a space and the end of the line: most answers at once.
 fn push_last(out: &mut String, told: &Told, took: bool) -> Result<(), NoMemory>
     ensures ok { OnOk result (string_bytes out.new ≡ string_bytes out.old ++ (codes " " ++ told_text told.now took ++ codes "\n")) }
@@ -101,6 +76,11 @@ fn push_last(out: &mut String, told: &Told, took: bool) -> Result<(), NoMemory>
         Told::Granted => out.push_str(" granted\n")?,
         Told::Seen(_) => out.push_str(" seen\n")?,
         Told::Done => out.push_str(" done\n")?,
+        Told::Held(owner) => {
+            out.push_str(" held")?;
+            push_asker(out, *owner)?;
+            out.push('\n')?;
+        }
         _ => {
             out.push(' ')?;
             push_told(out, told, took)?;

@@ -20,8 +20,8 @@ pub fn push_request(out: &mut String, plan: &Plan, request: &Request) -> Result<
     ensures ok { OnOk result (string_bytes out.new ≡ string_bytes out.old ++ request_text plan.now request.now) }
 {
     match request {
-        Request::Lock { domain, area } => push_lock(out, plan, "lock ", *domain, *area),
-        Request::Unlock { domain, area } => push_lock(out, plan, "unlock ", *domain, *area),
+        Request::Lock { domain, area } => push_covered(out, plan, lock_word(*domain), *area),
+        Request::Unlock { domain, area } => push_covered(out, plan, unlock_word(*domain), *area),
         Request::Look { gfid } => push_about(out, plan, "look ", *gfid),
         Request::ReadBytes { gfid, at, len } => push_read(out, plan, *gfid, *at, *len),
         Request::ReadName { gfid, name } => push_read_name(out, plan, *gfid, *name),
@@ -41,28 +41,30 @@ pub fn push_request(out: &mut String, plan: &Plan, request: &Request) -> Result<
     }
 }
 
-fn push_lock(
-    out: &mut String,
-    plan: &Plan,
-    word: &str,
-    domain: Domain,
-    area: Area,
-) -> Result<(), NoMemory>
-    ensures ok { OnOk result (string_bytes out.new ≡ string_bytes out.old ++ (word.now ++ domain_text domain ++ area_text plan.now area)) }
-{
-    out.push_str(word)?;
-    push_domain(out, domain)?;
-    push_area(out, plan, area)
-}
-
-fn push_domain(out: &mut String, domain: Domain) -> Result<(), NoMemory>
-    ensures ok { OnOk result (string_bytes out.new ≡ string_bytes out.old ++ domain_text domain) }
+fn lock_word(domain: Domain) -> &'static str
+    ensures { result.now ≡ codes "lock " ++ domain_text domain }
 {
     match domain {
-        Domain::Work => {}
-        Domain::Heal => out.push_str("heal ")?,
+        Domain::Work => "lock ",
+        Domain::Heal => "lock heal ",
     }
-    Ok(())
+}
+
+fn unlock_word(domain: Domain) -> &'static str
+    ensures { result.now ≡ codes "unlock " ++ domain_text domain }
+{
+    match domain {
+        Domain::Work => "unlock ",
+        Domain::Heal => "unlock heal ",
+    }
+}
+
+/// Adds a lock or an unlock: its words, and what it covers.
+fn push_covered(out: &mut String, plan: &Plan, words: &str, area: Area) -> Result<(), NoMemory>
+    ensures ok { OnOk result (string_bytes out.new ≡ string_bytes out.old ++ (words.now ++ area_text plan.now area)) }
+{
+    out.push_str(words)?;
+    push_area(out, plan, area)
 }
 
 /// Adds a request that has a word and an object alone.

@@ -6,10 +6,10 @@ use Rattle.afr_heal.specs.Coming.{coming_of}
 use Rattle.afr_heal.specs.Engine.{Begins, Ends, whole_next}
 use Rattle.afr_moves.specs.Keeps.{keeps_in}
 
-pub returns-in-HealLocks : goal.returns-in-HealLocks
-returns-in-HealLocks c =
+pub returns-in-None : goal.returns-in-None
+returns-in-None c =
     subst (λ (step : Step). c.step_or.result ≡ coming_of (whole_next c.args.register.now.shape.n (keeps_in c.args.register.now.shape) (seen_as c.args.register.now) c.args.source.0 c.args.gfid c.args.kind (step_of step)))
-    (sym c.in-HealLocks.is ∙ c.present_step.ensures) (c.step_or.ensures _ (c.step_or-works.ensures Ends refl))
+    (sym c.in-HealLocks.is ∙ c.present_step.ensures) (c.step_or.ensures Ends refl ∙ c.in-None.ensures _)
 
 pub returns-in-WorkLocks : goal.returns-in-WorkLocks
 returns-in-WorkLocks c =
