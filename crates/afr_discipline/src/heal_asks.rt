@@ -68,6 +68,7 @@ pub(crate) fn may_heal(register: &Register, s: BrickId, b: BrickId, request: &Re
 }
 
 /// Whether the copy may be the source by all the lines, and as the source it allows the request.
+#[inline]
 pub(crate) fn is_allowed_by(register: &Register, s: BrickId, b: BrickId, request: &Request) -> bool
     requires few { register.now.shape.n ≤ 5 }
     requires source { s.0 < 5 }

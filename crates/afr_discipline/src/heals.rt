@@ -12,7 +12,7 @@ use crate::heal_sets::{has_passed, is_other, is_sink};
 use crate::of_five::{all_of, any_of};
 use crate::register::{Phase, Register, Step};
 use crate::steps::rank;
-use crate::views::{holds, is_good, is_unaccused, most_hold};
+use crate::views::{holds, is_good, is_unaccused, marks_shown, most_hold};
 use afr_base::{BrickId, Gfid, Kind, Marks};
 use afr_choice::Looked;
 use afr_object::View;
@@ -47,7 +47,7 @@ fn shows(view: &Option<View>, kind: Kind) -> bool
     ensures { result ≡ shows_number kind view.now }
 {
     match view {
-        Some(view) => is_numbered(&view.marks.of(kind)),
+        Some(view) => is_numbered(marks_shown(view, kind)),
         None => false,
     }
 }

@@ -7,12 +7,13 @@ ghost use Rattle.afr_moves.specs.Rules.{fits_change};
 ghost use Rattle.afr_moves.specs.Cells.{what_code};
 ghost use Rattle.afr_moves.specs.Register.{accuses, good, holder, unaccused, all};
 ghost use Rattle.afr_base.specs.Keeping.{is_bytes, keeps};
+ghost use Rattle.afr_base.specs.Marks.{marks_of};
 ghost use Rattle.afr_moves.specs.Keeps.{keeps_in};
 ghost use Rattle.afr_discipline.specs.Stands.{views_of};
 ghost use Rattle.afr_discipline.specs.Tests.{carried, fits_view};
 
 use crate::of_five::{all_of, any_of, most_of};
-use afr_base::{BrickId, BrickSet, Kind, Shape, What};
+use afr_base::{BrickId, BrickSet, Kind, Marks, Shape, What};
 use afr_choice::Looked;
 use afr_object::{Change, View};
 
@@ -39,12 +40,23 @@ pub(crate) fn keeps(shape: Shape, b: BrickId, kind: Kind) -> bool
     b.0 < 5 && !(shape.arbiter && is_data(kind) && b.0 == 2)
 }
 
+/// The numbers of one kind that a view shows, where they lie.
+pub(crate) fn marks_shown(view: &View, kind: Kind) -> &Marks
+    ensures { result.now ≡ marks_of kind view.now.marks }
+{
+    match kind {
+        Kind::Bytes => &view.marks.bytes,
+        Kind::Attrs => &view.marks.attrs,
+        Kind::Names => &view.marks.names,
+    }
+}
+
 fn shows_missed(view: &Option<View>, kind: Kind, s: BrickId) -> bool
     requires { s.0 < 5 }
     ensures { result ≡ accuses kind view.now s.0 }
 {
     match view {
-        Some(view) => view.marks.of(kind).pending[s.0 as usize] != 0,
+        Some(view) => marks_shown(view, kind).pending[s.0 as usize] != 0,
         None => false,
     }
 }

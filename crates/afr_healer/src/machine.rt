@@ -1,5 +1,5 @@
 //! A round: what it asks next, and what it makes of the answers.
-ghost use Rattle.std.specs.Prelude.{◌≡◌, ◌<◌, ◌≤◌, true, IfOk, OnOk, OnErr, option_map};
+ghost use Rattle.std.specs.Prelude.{◌≡◌, ◌<◌, ◌≤◌, true, IfOk, None, OnOk, OnErr, Some, option_map};
 ghost use Rattle.afr_rule.specs.Choosing.{IsRule};
 ghost use Rattle.afr_daemon.specs.Round.{next_due, without_next};
 ghost use Rattle.afr_healer.specs.Rounding.{CanHear, CarriesNext, IsFed, IsRounding, begun, heal_at, healed, is_beginning, is_ending, made_ready, next_of, reply_of, round_from, round_indexed, stage_due, stage_indexed};
@@ -72,6 +72,21 @@ impl RoundMachine {
         }
     }
 
+    /// Whom the next line asks, where it is a request; that is written where it is to stand.
+    pub fn asks(&self, request: &mut Request) -> Option<BrickId>
+        ensures some { (b : BrickId) → result ≡ Some b → next_of self.now ≡ Next.Ask b request.new }
+        ensures none { (b : BrickId) (asked : Request) → result ≡ None → next_of self.now ≡ Next.Ask b asked → ⊥ }
+    {
+        match &self.stage {
+            RoundStage::Asking => {
+                *request = Request::Index;
+                Some(self.round.brick())
+            }
+            RoundStage::Healing(heal) => heal.asks(request),
+            RoundStage::Over { .. } => None,
+        }
+    }
+
     /// What a heal read, which goes with a repair.
     pub fn load(&self) -> Load<'_>
         ensures { CarriesNext self.now result }
@@ -85,11 +100,14 @@ impl RoundMachine {
     /// The request was written at this position, and the brick has answered. What a read gave is taken out of the answer.
     pub fn hear<F: Fn(&[Candidate]) -> usize>(
         &mut self,
+        brick: BrickId,
+        request: &Request,
         answer: &mut Answer,
         at: u32,
         rule: &SourceRule<F>,
     )
         requires rule { IsRule F.Fn rule.now }
+        requires asked { next_of self.old ≡ Next.Ask brick request.now }
         requires can { CanHear self.old answer.old }
         ensures { IsFed F.Fn rule.now answer.old at self.old self.new }
     {
@@ -99,7 +117,7 @@ impl RoundMachine {
             }
             RoundStage::Healing(heal) => {
                 each_note_stands();
-                heal.hear(answer, at, rule);
+                heal.hear(brick, request, answer, at, rule);
                 heal.stays_sound();
             }
             RoundStage::Over { .. } => unreachable!(),

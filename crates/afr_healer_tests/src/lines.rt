@@ -27,8 +27,11 @@ fn index(alloc: Global) -> Result<IndexList, NoMemory> {
 
 pub(crate) fn hears(machine: &mut RoundMachine, mut answer: Answer, at: u32) {
     let rule = SourceRule::new(longest);
-    if machine.can_hear(&answer) {
-        machine.hear(&mut answer, at, &rule);
+    let mut request = Request::Index;
+    if let Some(brick) = machine.asks(&mut request) {
+        if machine.can_hear(&answer) {
+            machine.hear(brick, &request, &mut answer, at, &rule);
+        }
     }
 }
 
@@ -82,17 +85,19 @@ pub(crate) fn ends_with_nothing(machine: &mut RoundMachine, kind: Kind) -> bool 
 }
 
 pub(crate) fn asks_for_the_index(machine: &RoundMachine) -> bool {
-    match machine.next() {
-        Ok(Next::Ask(brick, Request::Index)) => brick == BrickId(1),
-        _ => false,
+    let mut request = Request::ReadAttrs { gfid: OBJECT };
+    match machine.asks(&mut request) {
+        Some(brick) => brick == BrickId(1) && matches!(request, Request::Index),
+        None => false,
     }
 }
 
 /// A heal asks brick 0 for its first lock.
 pub(crate) fn asks_for_a_lock(machine: &RoundMachine) -> bool {
-    match machine.next() {
-        Ok(Next::Ask(brick, Request::Lock { .. })) => brick == BrickId(0),
-        _ => false,
+    let mut request = Request::Index;
+    match machine.asks(&mut request) {
+        Some(brick) => brick == BrickId(0) && matches!(request, Request::Lock { .. }),
+        None => false,
     }
 }
 

@@ -45,11 +45,13 @@ module _ (kept : List Line) (line : Line) where
 
   -- with one line more that is kept, each entry names the line that it named
   one : (x : Packed) → IsThere (length kept) x → IsThere (length kept + 1) x × (line_of more x ≡ line_of kept x)
-  one (entry.LockRange a b c) there = (tt, refl)
+  one (entry.LockRange a b c d e) there = (tt, refl)
   one (entry.LockName a b c d) there = (tt, refl)
-  one (entry.UnlockRange a b c) there = (tt, refl)
+  one (entry.UnlockRange a b c d e) there = (tt, refl)
   one (entry.UnlockName a b c d) there = (tt, refl)
   one (entry.Look a b) there = (tt, refl)
+  one (entry.MarkedFile a b c d e f) there = (tt, refl)
+  one (entry.MarkedDir a b c d e f) there = (tt, refl)
   one (entry.ReadBytes a b c d) there = (tt, refl)
   one (entry.ReadName a b c) there = (tt, refl)
   one (entry.List a b) there = (tt, refl)
@@ -59,6 +61,10 @@ module _ (kept : List Line) (line : Line) where
   one (entry.Pre a b c) there = (tt, refl)
   one (entry.Apply a b) there = (tt, refl)
   one (entry.Post a b c d e) there = (tt, refl)
+  one (entry.CutTo a b c) there = (tt, refl)
+  one (entry.Copy a b c d e) there = (tt, refl)
+  one (entry.PutAttrs a b c) there = (tt, refl)
+  one (entry.Settled a b c d) there = (tt, refl)
   one (entry.Kept place) there = (omega (arith, there), get_or_append_left kept (line ∷ []) no_line place there)
 
   each : (packed : List Packed) → AreThere (length kept) packed → AreThere (length kept + 1) packed × (lines_in more packed ≡ lines_in kept packed)

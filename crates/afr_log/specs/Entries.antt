@@ -1,6 +1,10 @@
 -- Which line each entry of the log stands for.
-use Rattle.std.specs.Prelude.{ℕ, ◌<◌, not, ◌&&◌, Bool, true, false, List, [], ◌∷◌, map, slice_index_or}
-use Rattle.afr_base.specs.Marks.{no_marks}
+use Rattle.std.specs.Prelude.{ℕ, ◌+◌, ◌<◌, ◌^◌, nat_lt, if◌then◌else◌, not, ◌&&◌, Bool, true, false, List, [], ◌∷◌, map, slice_index_or}
+use Rattle.afr_base.specs.Marks.{no_marks, with_marks}
+use Rattle.afr_base.specs.declared.ids.Gfid.{Gfid}
+use Rattle.afr_base.specs.declared.ids.Kind.{Kind}
+use Rattle.afr_base.specs.declared.marks.Marks.{Marks}
+use Rattle.afr_base.specs.declared.ids.What.{What}
 use Rattle.afr_base.specs.declared.ids.What.TheVariants.{File, Dir}
 use Rattle.afr_lines.specs.declared.answer.Told.{Told}
 use Rattle.afr_lines.specs.declared.answer.Told.TheVariants as told
@@ -10,11 +14,18 @@ use Rattle.afr_lines.specs.declared.line.Line.TheVariants.{Ask, Event}
 use Rattle.afr_lines.specs.declared.request.Area.TheVariants.{Range, Name}
 use Rattle.afr_lines.specs.declared.request.Request.{Request}
 use Rattle.afr_lines.specs.declared.request.Request.TheVariants as request
+use Rattle.afr_object.specs.declared.change.Repair.TheVariants as repair
+use Rattle.afr_log.specs.Log.{asked_line}
+use Rattle.afr_log.specs.declared.id.Id.{Id}
 use Rattle.afr_log.specs.declared.packed.By.{By}
 use Rattle.afr_log.specs.declared.packed.Short.{Short}
 use Rattle.afr_log.specs.declared.packed.Short.TheVariants as short
 use Rattle.afr_log.specs.declared.packed.Packed.{Packed}
 use Rattle.afr_log.specs.declared.packed.Packed.TheVariants as entry
+
+-- the gfid that a short one stands for: as it is below 2 ^ 63, and from there on those from 2 ^ 64 on
+abbrev pub gfid_in : Id → Gfid
+gfid_in id = record { 0 = if nat_lt id.0 (2 ^ 63) then id.0 else id.0 + 2 ^ 63 }
 
 -- the answer that a short one stands for
 abbrev pub told_in : Short → Told
@@ -28,15 +39,13 @@ told_in short.NoObject = told.NoObject
 told_in short.NotConnected = told.NotConnected
 told_in short.Failed = told.Failed
 
+-- what a look tells that shows numbers of one kind alone
+abbrev pub marked : What → ℕ → Kind → Marks → Told
+marked what len kind marks = told.Seen (record { what = what; len = len; marks = with_marks kind marks no_marks })
+
 -- the line of a request
 abbrev pub ask_by : By → Request → Line
 ask_by by asked = Ask by.actor by.brick asked (told_in by.told) by.took
-
--- a request that has an entry of its own, as every one but a heal's repairs
-abbrev pub is_plain : Request → Bool
-is_plain (request.Mend repair) = false
-is_plain (request.Settle g kind less) = false
-is_plain asked = true
 
 -- a line that no log shows: it only stands where no line is kept
 abbrev pub no_line : Line
@@ -44,42 +53,66 @@ no_line = Event (Stop (record { 0 = 0 }))
 
 -- the line of an entry, where these lines are kept
 abbrev pub line_of : List Line → Packed → Line
-line_of kept (entry.LockRange domain range by) = ask_by by (request.Lock domain (Range range.gfid range.from range.to))
-line_of kept (entry.LockName domain g name by) = ask_by by (request.Lock domain (Name g name))
-line_of kept (entry.UnlockRange domain range by) = ask_by by (request.Unlock domain (Range range.gfid range.from range.to))
-line_of kept (entry.UnlockName domain g name by) = ask_by by (request.Unlock domain (Name g name))
-line_of kept (entry.Look g by) = ask_by by (request.Look g)
-line_of kept (entry.ReadBytes g at len by) = ask_by by (request.ReadBytes g at len)
-line_of kept (entry.ReadName g name by) = ask_by by (request.ReadName g name)
-line_of kept (entry.List g by) = ask_by by (request.List g)
-line_of kept (entry.ReadAttr g key by) = ask_by by (request.ReadAttr g key)
-line_of kept (entry.ReadAttrs g by) = ask_by by (request.ReadAttrs g)
+line_of kept (entry.LockRange domain by id from to) = ask_by by (request.Lock domain (Range (gfid_in id) from to))
+line_of kept (entry.LockName domain by id name) = ask_by by (request.Lock domain (Name (gfid_in id) name))
+line_of kept (entry.UnlockRange domain by id from to) = ask_by by (request.Unlock domain (Range (gfid_in id) from to))
+line_of kept (entry.UnlockName domain by id name) = ask_by by (request.Unlock domain (Name (gfid_in id) name))
+line_of kept (entry.Look by id) = ask_by by (request.Look (gfid_in id))
+line_of kept (entry.MarkedFile kind actor brick id len marks) = Ask actor brick (request.Look (gfid_in id)) (marked File len kind marks) true
+line_of kept (entry.MarkedDir kind actor brick id len marks) = Ask actor brick (request.Look (gfid_in id)) (marked Dir len kind marks) true
+line_of kept (entry.ReadBytes by id at len) = ask_by by (request.ReadBytes (gfid_in id) at len)
+line_of kept (entry.ReadName by id name) = ask_by by (request.ReadName (gfid_in id) name)
+line_of kept (entry.List by id) = ask_by by (request.List (gfid_in id))
+line_of kept (entry.ReadAttr by id key) = ask_by by (request.ReadAttr (gfid_in id) key)
+line_of kept (entry.ReadAttrs by id) = ask_by by (request.ReadAttrs (gfid_in id))
 line_of kept (entry.Index by) = ask_by by request.Index
-line_of kept (entry.Pre g kind by) = ask_by by (request.Pre g kind)
-line_of kept (entry.Apply attempt by) = ask_by by (request.Apply attempt)
-line_of kept (entry.Post g attempt kind missed by) = ask_by by (request.Post attempt g kind missed)
+line_of kept (entry.Pre kind by id) = ask_by by (request.Pre (gfid_in id) kind)
+line_of kept (entry.Apply by attempt) = ask_by by (request.Apply attempt)
+line_of kept (entry.Post kind missed by id attempt) = ask_by by (request.Post attempt (gfid_in id) kind missed)
+line_of kept (entry.CutTo by id len) = ask_by by (request.Mend (repair.CutTo (gfid_in id) len))
+line_of kept (entry.Copy by id at span read) = ask_by by (request.Mend (repair.Copy (gfid_in id) at span read))
+line_of kept (entry.PutAttrs by id read) = ask_by by (request.Mend (repair.PutAttrs (gfid_in id) read))
+line_of kept (entry.Settled kind by id less) = asked_line by (request.Settle (gfid_in id) kind less) told.Done
 line_of kept (entry.Kept place) = slice_index_or kept place no_line
 
--- which entries are locks and unlocks, and which are parts of an attempt; what is left is read, or kept
+-- which entries are locks, unlocks, parts of an attempt, repairs and settlings; what is left is read, or shows numbers, or is kept
 abbrev pub is_lock : Packed → Bool
-is_lock (entry.LockRange domain range by) = true
-is_lock (entry.LockName domain g name by) = true
-is_lock (entry.UnlockRange domain range by) = true
-is_lock (entry.UnlockName domain g name by) = true
+is_lock (entry.LockRange domain by id from to) = true
+is_lock (entry.LockName domain by id name) = true
 is_lock packed = false
 
+abbrev pub is_unlock : Packed → Bool
+is_unlock (entry.UnlockRange domain by id from to) = true
+is_unlock (entry.UnlockName domain by id name) = true
+is_unlock packed = false
+
 abbrev pub is_change : Packed → Bool
-is_change (entry.Pre g kind by) = true
-is_change (entry.Apply attempt by) = true
-is_change (entry.Post g attempt kind missed by) = true
+is_change (entry.Pre kind by id) = true
+is_change (entry.Apply by attempt) = true
+is_change (entry.Post kind missed by id attempt) = true
 is_change packed = false
+
+abbrev pub is_mend : Packed → Bool
+is_mend (entry.CutTo by id len) = true
+is_mend (entry.Copy by id at span read) = true
+is_mend (entry.PutAttrs by id read) = true
+is_mend packed = false
+
+abbrev pub is_settled : Packed → Bool
+is_settled (entry.Settled kind by id less) = true
+is_settled packed = false
+
+abbrev pub is_marked : Packed → Bool
+is_marked (entry.MarkedFile kind actor brick id len marks) = true
+is_marked (entry.MarkedDir kind actor brick id len marks) = true
+is_marked packed = false
 
 abbrev pub is_kept : Packed → Bool
 is_kept (entry.Kept place) = true
 is_kept packed = false
 
 abbrev pub is_read : Packed → Bool
-is_read packed = not (is_lock packed) && not (is_change packed) && not (is_kept packed)
+is_read packed = not (is_lock packed) && not (is_unlock packed) && not (is_change packed) && not (is_mend packed) && not (is_settled packed) && not (is_marked packed) && not (is_kept packed)
 
 -- an entry that names a kept line names one of this many
 abbrev pub IsThere : ℕ → Packed → Type 0

@@ -1,8 +1,10 @@
-//! The log of a volume: one entry a line, most requests in 64 bytes each.
+//! The log of a volume: one entry a line, nearly all requests in 48 bytes each.
 #![tactic(auto)]
 
 mod asked;
+mod id;
 mod log;
+mod marked;
 mod packed;
 mod shown;
 mod waits;

@@ -8,7 +8,8 @@ ghost use Rattle.afr_log.specs.Entries.{ask_by};
 ghost use Rattle.afr_log.specs.Log.{asked_line, shown_line, unasked, waits_for};
 
 use crate::asked::{Asker, unpack};
-use crate::packed::{By, Packed, is_plain, pack, short_of};
+use crate::marked::pack_shown;
+use crate::packed::{By, Packed, pack, short_of};
 use crate::shown::{Shown, show};
 use crate::waits::{entry_unasked, entry_waits};
 use afr_base::{ActorId, BrickId, NoMemory};
@@ -113,6 +114,26 @@ impl Log {
                 };
                 self.add_short(request, by);
             }
+            None => self.add_shown(actor, brick, request, answer, took),
+        }
+    }
+
+    /// A request whose answer isn't short: a look that shows numbers. It stands apart, so that only such requests pay for its
+    /// frame.
+    #[inline(never)]
+    fn add_shown(
+        &mut self,
+        actor: ActorId,
+        brick: BrickId,
+        request: &Request,
+        answer: &Answer,
+        took: bool,
+    )
+        requires { self.old.room ≡ true }
+        ensures { self.new.items ≡ self.old.items ++ Ask actor brick request.now (told_by answer.now) took ∷ [] }
+    {
+        match pack_shown(actor, brick, request, answer, took) {
+            Some(entry) => push_entry(&mut self.packed, entry),
             None => self.keep_ask(actor, brick, request, answer, took),
         }
     }
@@ -139,7 +160,7 @@ impl Log {
         });
     }
 
-    /// A heal's repair. It stands apart for the same reason.
+    /// A request whose answer is short, where it has no entry of its own. It stands apart for the same reason.
     #[inline(never)]
     fn keep_short(&mut self, request: &Request, by: By)
         requires { self.old.room ≡ true }
@@ -153,11 +174,10 @@ impl Log {
         requires { self.old.room ≡ true }
         ensures { self.new.items ≡ self.old.items ++ ask_by by request.now ∷ [] }
     {
-        if !is_plain(request) {
-            self.keep_short(request, by);
-            return;
+        match pack(request, by) {
+            Some(entry) => push_entry(&mut self.packed, entry),
+            None => self.keep_short(request, by),
         }
-        push_entry(&mut self.packed, pack(request, by));
     }
 
     /// The line at a position.

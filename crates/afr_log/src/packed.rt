@@ -1,16 +1,19 @@
-//! The entries of the log: most requests with their answers in 64 bytes, and the places of the lines that are kept as they are.
-ghost use Rattle.std.specs.Prelude.{◌≡◌, ℕ, List, IfSome, true};
+//! The entries of the log: nearly all requests with their answers in 48 bytes, and the places of the lines that are kept as
+//! they are.
+ghost use Rattle.std.specs.Prelude.{◌≡◌, ℕ, List, IfSome, Some};
 ghost use Rattle.afr_lines.specs.Told.{told_by};
 ghost use Rattle.afr_lines.specs.declared.answer.Told.TheVariants.{Seen};
 ghost use Rattle.afr_lines.specs.declared.line.Line.{Line};
 ghost use Rattle.afr_base.specs.Marks.{no_marks};
-ghost use Rattle.afr_lines.specs.declared.request.Request.TheVariants.{Lock, Unlock};
-ghost use Rattle.afr_log.specs.Entries.{IsThere, ask_by, is_plain, line_of, told_in};
+ghost use Rattle.afr_lines.specs.declared.request.Request.TheVariants.{Lock, Mend, Settle, Unlock};
+ghost use Rattle.afr_log.specs.Entries.{IsThere, ask_by, line_of, told_in};
 
-use afr_base::{ActorId, AllMarks, BrickId, BrickSet, Gfid, KeyId, Kind, NameId, What};
+use crate::asked::Asker;
+use crate::id::{Id, id_of};
+use afr_base::{ActorId, AllMarks, BrickId, BrickSet, Gfid, KeyId, Kind, Marks, NameId, What};
 use afr_lines::{Answer, Area, Line, Request, Told};
-use afr_object::View;
-use afr_range_locks::{Domain, ObjectRange};
+use afr_object::{Repair, View};
+use afr_range_locks::Domain;
 use std::mem::size_of;
 
 /// What the log keeps of an answer, in 8 bytes. A look is clean where all its changelog numbers are 0.
@@ -36,66 +39,129 @@ pub(crate) struct By {
     pub told: Short,
 }
 
-/// One entry of the log. No variant holds an enum with a gfid, whose tag alone takes 16 bytes.
+/// One entry of the log, small fields first: they lie beside the tag.
 #[derive(Clone, Copy, Debug)]
 pub(crate) enum Packed {
-    LockRange(Domain, ObjectRange, By),
-    LockName(Domain, Gfid, Option<NameId>, By),
-    UnlockRange(Domain, ObjectRange, By),
-    UnlockName(Domain, Gfid, Option<NameId>, By),
-    Look {
-        gfid: Gfid,
+    LockRange {
+        domain: Domain,
         by: By,
+        id: Id,
+        from: u64,
+        to: u64,
+    },
+    LockName {
+        domain: Domain,
+        by: By,
+        id: Id,
+        name: Option<NameId>,
+    },
+    UnlockRange {
+        domain: Domain,
+        by: By,
+        id: Id,
+        from: u64,
+        to: u64,
+    },
+    UnlockName {
+        domain: Domain,
+        by: By,
+        id: Id,
+        name: Option<NameId>,
+    },
+    Look {
+        by: By,
+        id: Id,
+    },
+    /// A look at a file that shows changelog numbers of this kind alone. The brick carried it out.
+    MarkedFile {
+        kind: Kind,
+        actor: ActorId,
+        brick: BrickId,
+        id: Id,
+        len: u32,
+        marks: Marks,
+    },
+    MarkedDir {
+        kind: Kind,
+        actor: ActorId,
+        brick: BrickId,
+        id: Id,
+        len: u32,
+        marks: Marks,
     },
     ReadBytes {
-        gfid: Gfid,
+        by: By,
+        id: Id,
         at: u32,
         len: u32,
-        by: By,
     },
     ReadName {
-        gfid: Gfid,
-        name: NameId,
         by: By,
+        id: Id,
+        name: NameId,
     },
     List {
-        gfid: Gfid,
         by: By,
+        id: Id,
     },
     ReadAttr {
-        gfid: Gfid,
-        key: KeyId,
         by: By,
+        id: Id,
+        key: KeyId,
     },
     ReadAttrs {
-        gfid: Gfid,
         by: By,
+        id: Id,
     },
     Index {
         by: By,
     },
     Pre {
-        gfid: Gfid,
         kind: Kind,
         by: By,
+        id: Id,
     },
     Apply {
-        attempt: u32,
         by: By,
+        attempt: u32,
     },
     Post {
-        gfid: Gfid,
-        attempt: u32,
         kind: Kind,
         missed: BrickSet,
         by: By,
+        id: Id,
+        attempt: u32,
+    },
+    CutTo {
+        by: By,
+        id: Id,
+        len: u32,
+    },
+    Copy {
+        by: By,
+        id: Id,
+        at: u32,
+        span: u32,
+        read: u32,
+    },
+    PutAttrs {
+        by: By,
+        id: Id,
+        read: u32,
+    },
+    /// A settling that was done.
+    Settled {
+        kind: Kind,
+        by: Asker,
+        id: Id,
+        less: Marks,
     },
     /// The line at this place of those that are kept.
     Kept(usize),
 }
 
-// An entry takes no more than 64 bytes.
-const _: () = prove!(size_of::<Packed>() <= 64);
+// An entry takes no more than 48 bytes.
+const _: () = prove!(size_of::<Packed>() <= 48);
 
 /// What is kept of an answer, where it is short.
 pub(crate) fn short_of(answer: &Answer) -> Option<Short>
@@ -131,84 +197,179 @@ fn clean(view: &View) -> Option<Short>
     }
 }
 
-/// Whether a request has an entry of its own.
-pub(crate) fn is_plain(request: &Request) -> bool
-    ensures { result ≡ is_plain request.now }
-{
-    match request {
-        Request::Mend { .. } => false,
-        Request::Settle { .. } => false,
-        Request::Lock { .. } => true,
-        Request::Unlock { .. } => true,
-        Request::Look { .. } => true,
-        Request::ReadBytes { .. } => true,
-        Request::ReadName { .. } => true,
-        Request::List { .. } => true,
-        Request::ReadAttr { .. } => true,
-        Request::ReadAttrs { .. } => true,
-        Request::Index => true,
-        Request::Pre { .. } => true,
-        Request::Apply { .. } => true,
-        Request::Post { .. } => true,
-    }
-}
-
-/// The entry of a request.
-pub(crate) fn pack(request: &Request, by: By) -> Packed
-    requires { is_plain request.now ≡ true }
-    ensures line { (kept : List Line) → line_of kept result ≡ ask_by by request.now }
-    ensures there { (count : ℕ) → IsThere count result }
+/// The entry of a request, if it has one: a repair of names holds too many numbers, and a settling has one where it was done.
+pub(crate) fn pack(request: &Request, by: By) -> Option<Packed>
+    ensures line { (entry : Packed) → result ≡ Some entry → (kept : List Line) → line_of kept entry ≡ ask_by by request.now }
+    ensures there { (entry : Packed) → result ≡ Some entry → (count : ℕ) → IsThere count entry }
 {
     match *request {
         Request::Lock { domain, area } => pack_lock(domain, &area, by),
         Request::Unlock { domain, area } => pack_unlock(domain, &area, by),
-        Request::Look { gfid } => Packed::Look { gfid, by },
-        Request::ReadBytes { gfid, at, len } => Packed::ReadBytes { gfid, at, len, by },
-        Request::ReadName { gfid, name } => Packed::ReadName { gfid, name, by },
-        Request::List { gfid } => Packed::List { gfid, by },
-        Request::ReadAttr { gfid, key } => Packed::ReadAttr { gfid, key, by },
-        Request::ReadAttrs { gfid } => Packed::ReadAttrs { gfid, by },
-        Request::Index => Packed::Index { by },
-        Request::Pre { gfid, kind } => Packed::Pre { gfid, kind, by },
-        Request::Apply { attempt } => Packed::Apply { attempt, by },
+        Request::Pre { .. } | Request::Apply { .. } | Request::Post { .. } => {
+            pack_change(request, by)
+        }
+        Request::Mend { repair } => pack_repair(&repair, by),
+        Request::Settle { gfid, kind, less } => pack_settle(gfid, kind, &less, by),
+        _ => pack_read(request, by),
+    }
+}
+
+fn pack_read(request: &Request, by: By) -> Option<Packed>
+    ensures line { (entry : Packed) → result ≡ Some entry → (kept : List Line) → line_of kept entry ≡ ask_by by request.now }
+    ensures there { (entry : Packed) → result ≡ Some entry → (count : ℕ) → IsThere count entry }
+{
+    match *request {
+        Request::Look { gfid } => Some(Packed::Look {
+            by,
+            id: id_of(gfid)?,
+        }),
+        Request::ReadBytes { gfid, at, len } => Some(Packed::ReadBytes {
+            by,
+            id: id_of(gfid)?,
+            at,
+            len,
+        }),
+        Request::ReadName { gfid, name } => Some(Packed::ReadName {
+            by,
+            id: id_of(gfid)?,
+            name,
+        }),
+        Request::List { gfid } => Some(Packed::List {
+            by,
+            id: id_of(gfid)?,
+        }),
+        Request::ReadAttr { gfid, key } => Some(Packed::ReadAttr {
+            by,
+            id: id_of(gfid)?,
+            key,
+        }),
+        Request::ReadAttrs { gfid } => Some(Packed::ReadAttrs {
+            by,
+            id: id_of(gfid)?,
+        }),
+        Request::Index => Some(Packed::Index { by }),
+        _ => None,
+    }
+}
+
+fn pack_change(request: &Request, by: By) -> Option<Packed>
+    ensures line { (entry : Packed) → result ≡ Some entry → (kept : List Line) → line_of kept entry ≡ ask_by by request.now }
+    ensures there { (entry : Packed) → result ≡ Some entry → (count : ℕ) → IsThere count entry }
+{
+    match *request {
+        Request::Pre { gfid, kind } => Some(Packed::Pre {
+            kind,
+            by,
+            id: id_of(gfid)?,
+        }),
+        Request::Apply { attempt } => Some(Packed::Apply { by, attempt }),
         Request::Post {
             attempt,
             gfid,
             kind,
             missed,
-        } => Packed::Post {
-            gfid,
-            attempt,
+        } => Some(Packed::Post {
             kind,
             missed,
             by,
-        },
-        Request::Mend { .. } => unreachable!(),
-        Request::Settle { .. } => unreachable!(),
+            id: id_of(gfid)?,
+            attempt,
+        }),
+        _ => None,
     }
 }
 
-fn pack_lock(domain: Domain, area: &Area, by: By) -> Packed
-    ensures line { (kept : List Line) → line_of kept result ≡ ask_by by (Lock domain area.now) }
-    ensures there { (count : ℕ) → IsThere count result }
+fn pack_lock(domain: Domain, area: &Area, by: By) -> Option<Packed>
+    ensures line { (entry : Packed) → result ≡ Some entry → (kept : List Line) → line_of kept entry ≡ ask_by by (Lock domain area.now) }
+    ensures there { (entry : Packed) → result ≡ Some entry → (count : ℕ) → IsThere count entry }
 {
     match *area {
-        Area::Range { gfid, from, to } => {
-            Packed::LockRange(domain, ObjectRange { gfid, from, to }, by)
+        Area::Range { gfid, from, to } => Some(Packed::LockRange {
+            domain,
+            by,
+            id: id_of(gfid)?,
+            from,
+            to,
+        }),
+        Area::Name { gfid, name } => {
+            let id = id_of(gfid)?;
+            Some(Packed::LockName {
+                domain,
+                by,
+                id,
+                name,
+            })
         }
-        Area::Name { gfid, name } => Packed::LockName(domain, gfid, name, by),
     }
 }
 
-fn pack_unlock(domain: Domain, area: &Area, by: By) -> Packed
-    ensures line { (kept : List Line) → line_of kept result ≡ ask_by by (Unlock domain area.now) }
-    ensures there { (count : ℕ) → IsThere count result }
+fn pack_unlock(domain: Domain, area: &Area, by: By) -> Option<Packed>
+    ensures line { (entry : Packed) → result ≡ Some entry → (kept : List Line) → line_of kept entry ≡ ask_by by (Unlock domain area.now) }
+    ensures there { (entry : Packed) → result ≡ Some entry → (count : ℕ) → IsThere count entry }
 {
     match *area {
-        Area::Range { gfid, from, to } => {
-            Packed::UnlockRange(domain, ObjectRange { gfid, from, to }, by)
+        Area::Range { gfid, from, to } => Some(Packed::UnlockRange {
+            domain,
+            by,
+            id: id_of(gfid)?,
+            from,
+            to,
+        }),
+        Area::Name { gfid, name } => {
+            let id = id_of(gfid)?;
+            Some(Packed::UnlockName {
+                domain,
+                by,
+                id,
+                name,
+            })
         }
-        Area::Name { gfid, name } => Packed::UnlockName(domain, gfid, name, by),
+    }
+}
+
+fn pack_repair(repair: &Repair, by: By) -> Option<Packed>
+    ensures line { (entry : Packed) → result ≡ Some entry → (kept : List Line) → line_of kept entry ≡ ask_by by (Mend repair.now) }
+    ensures there { (entry : Packed) → result ≡ Some entry → (count : ℕ) → IsThere count entry }
+{
+    match *repair {
+        Repair::CutTo { gfid, len } => Some(Packed::CutTo {
+            by,
+            id: id_of(gfid)?,
+            len,
+        }),
+        Repair::Copy {
+            gfid,
+            at,
+            span,
+            read,
+        } => Some(Packed::Copy {
+            by,
+            id: id_of(gfid)?,
+            at,
+            span,
+            read,
+        }),
+        Repair::PutAttrs { gfid, read } => Some(Packed::PutAttrs {
+            by,
+            id: id_of(gfid)?,
+            read,
+        }),
+        Repair::PutNames { .. } => None,
+    }
+}
+
+fn pack_settle(gfid: Gfid, kind: Kind, less: &Marks, by: By) -> Option<Packed>
+    ensures line { (entry : Packed) → result ≡ Some entry → (kept : List Line) → line_of kept entry ≡ ask_by by (Settle gfid kind less.now) }
+    ensures there { (entry : Packed) → result ≡ Some entry → (count : ℕ) → IsThere count entry }
+{
+    match by.told {
+        Short::Done => Some(Packed::Settled {
+            kind,
+            by: by.asker(),
+            id: id_of(gfid)?,
+            less: *less,
+        }),
+        _ => None,
     }
 }
 

@@ -1,13 +1,13 @@
 //! A line of the log, as it is shown.
-ghost use Rattle.std.specs.Prelude.{◌≡◌, length};
-ghost use Rattle.afr_lines.specs.declared.request.Area.TheVariants.{Range};
-ghost use Rattle.afr_log.specs.Entries.{IsThere, line_of};
+ghost use Rattle.std.specs.Prelude.{◌≡◌, ◌||◌, List, false, length, true};
+ghost use Rattle.afr_lines.specs.declared.line.Line.{Line};
+ghost use Rattle.afr_log.specs.Entries.{IsThere, is_kept, is_marked, line_of};
 ghost use Rattle.afr_log.specs.Log.{shown_line};
 
 use crate::asked::put_request;
+use crate::marked::put_marked;
 use crate::packed::Packed;
-use afr_lines::{Area, Line, Request};
-use afr_range_locks::ObjectRange;
+use afr_lines::{Line, Request, Told};
 
 /// A line that was made of its entry, or one that the log keeps.
 #[derive(Debug, Drop)]
@@ -32,20 +32,36 @@ pub(crate) fn show<'a>(entry: &Packed, kept: &'a [Line]) -> Shown<'a>
     requires { IsThere (length kept.now) entry.now }
     ensures { shown_line result ≡ line_of kept.now entry.now }
 {
-    if let Packed::Kept(place) = entry {
-        return Shown::Kept(&kept[*place]);
-    }
-    let mut request = Request::Index;
-    match put_request(entry, &mut request) {
-        Some(by) => Shown::Made(by.ask(request)),
-        None => unreachable!(),
+    match entry {
+        Packed::Kept(place) => Shown::Kept(&kept[*place]),
+        Packed::MarkedFile { .. } | Packed::MarkedDir { .. } => Shown::Made(marked_line(entry)),
+        _ => Shown::Made(made(entry)),
     }
 }
 
-/// The range of an object, as a lock covers it.
-pub(crate) fn area_of(range: ObjectRange) -> Area
-    ensures { result ≡ Range range.gfid range.from range.to }
+/// The line of an entry that holds its request and a short answer.
+fn made(entry: &Packed) -> Line
+    requires { (is_kept entry.now || is_marked entry.now) ≡ false }
+    ensures { (kept : List Line) → result ≡ line_of kept entry.now }
 {
-    let ObjectRange { gfid, from, to } = range;
-    Area::Range { gfid, from, to }
+    let mut request = Request::Index;
+    let by = put_request(entry, &mut request);
+    by.ask(request)
+}
+
+/// The line of a look that shows numbers.
+fn marked_line(entry: &Packed) -> Line
+    requires { is_marked entry.now ≡ true }
+    ensures { (kept : List Line) → result ≡ line_of kept entry.now }
+{
+    let mut request = Request::Index;
+    let mut told = Told::Done;
+    let by = put_marked(entry, &mut request, &mut told);
+    Line::Ask {
+        actor: by.actor,
+        brick: by.brick,
+        request,
+        told,
+        took: by.took,
+    }
 }

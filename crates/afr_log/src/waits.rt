@@ -63,8 +63,8 @@ pub(crate) fn entry_waits(entry: &Packed, kept: &[Line]) -> Option<ActorId>
     ensures { result ≡ waits_for (line_of kept.now entry.now) }
 {
     match entry {
-        Packed::LockRange(domain, _, by) => holder(*domain, by.told),
-        Packed::LockName(domain, _, _, by) => holder(*domain, by.told),
+        Packed::LockRange { domain, by, .. } => holder(*domain, by.told),
+        Packed::LockName { domain, by, .. } => holder(*domain, by.told),
         Packed::Kept(place) => waits_for(&kept[*place]),
         _ => None,
     }

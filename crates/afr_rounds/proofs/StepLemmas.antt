@@ -13,7 +13,7 @@ use Rattle.afr_lines.specs.declared.request.Request.{Request}
 use Rattle.afr_moves.specs.Ranges.{RequestInRange}
 use Rattle.afr_object.specs.declared.change.Change.{Change}
 use Rattle.afr_rounds.specs.Acting.{Adds, Hearing, Stepped, SteppedBy, met_after}
-use Rattle.afr_rounds.specs.Stepping.{AddsNext, HasHeard, IsServedNext, OfRound, WritesNext}
+use Rattle.afr_rounds.specs.Stepping.{AddsNext, AddsWritten, AsksNobody, HasHeard, IsServedNext, OfRound, WritesNext, WrittenBy}
 use Rattle.afr_rounds.specs.declared.healer.Healer.{Healer}
 use Rattle.afr_self_heal.specs.Healing.{Healing as Heal, coming, line_of}
 use Rattle.afr_server.specs.NextLine.{told_line}
@@ -52,6 +52,42 @@ stepped Hears a at x y old new line before after busy writes adds = by x.round r
       line = (adds m e).line;
       added = (adds m e).added;
       is_so = record { round = m; present = e; steps = subst (λ (n : Next). SteppedBy Hears a at x y m old new (adds m e).line n) (sym (writes m e)) (adds m e).is_so };
+    }
+
+-- a round that asks nobody writes no request
+pub asks_nobody : (x : Healer) (b : BrickId) (request : Request) → is_some x.round ≡ true → AsksNobody x → WritesNext x (next.Ask b request) → ⊥
+asks_nobody x b request busy none writes = by x.round refl busy
+  where
+    by : (round : Option Rounding) → x.round ≡ round → is_some round ≡ true → ⊥
+    by None e is = absurd (cc is)
+    by (Some m) e is = none m e b request (writes m e)
+
+-- the line that the present round writes
+pub wrote : (a : ActorId) (at : ℕ) (x y : Healer) (bricks : List Serving) (line : Next) (before after : List Line) → WritesNext x line → OfRound x (λ m. Adds (λ (written : Line). WrittenBy a at x y m bricks written line) before after) → AddsWritten a at x y bricks before after
+wrote a at x y bricks line before after writes adds = λ m is. record {
+  line = (adds m is).line;
+  added = (adds m is).added;
+  is_so = subst (λ (n : Next). WrittenBy a at x y m bricks (adds m is).line n) (sym (writes m is)) (adds m is).is_so;
+}
+
+-- a line that is no request is one line of the healer, whatever it hears
+pub stepped_unheard : (Hears : Hearing) (a : ActorId) (at : ℕ) (x y : Healer) (bricks : List Serving) (before after : List Line) → is_some x.round ≡ true → AddsWritten a at x y bricks before after
+    → Adds (λ (written : Line). Stepped Hears a at x y bricks bricks written) before after
+stepped_unheard Hears a at x y bricks before after busy adds = by x.round refl busy
+  where
+    unheard : (m : Rounding) (written : Line) (line : Next) → WrittenBy a at x y m bricks written line → SteppedBy Hears a at x y m bricks bricks written line
+    unheard m written (next.Ask b request) k = absurd k
+    unheard m written (next.HealBegin g kind) k = k
+    unheard m written (next.HealEnd g kind said) k = k
+    unheard m written (next.End said) k = k
+    unheard m written (next.Begin change) k = absurd k
+
+    by : (round : Option Rounding) → x.round ≡ round → is_some round ≡ true → Adds (λ (written : Line). Stepped Hears a at x y bricks bricks written) before after
+    by None e is = absurd (cc is)
+    by (Some m) e is = record {
+      line = (adds m e).line;
+      added = (adds m e).added;
+      is_so = record { round = m; present = e; steps = unheard m (adds m e).line (next_of m) (adds m e).is_so };
     }
 
 -- a request that was served, its line added and its answer heard

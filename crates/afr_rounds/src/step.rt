@@ -1,9 +1,9 @@
 //! One line of a healer.
-ghost use Rattle.std.specs.Prelude.{◌≡◌, ◌<◌, ◌≤◌, ◌^◌, ◌-◌, ℕ, List, IfOk, OnOk, OnErr, is_some, true, false};
+ghost use Rattle.std.specs.Prelude.{◌≡◌, ◌<◌, ◌≤◌, ◌^◌, ◌-◌, ℕ, List, IfOk, None, OnOk, OnErr, Some, is_some, true, false};
 ghost use Rattle.afr_healer.specs.Rounding.{IsFed};
 ghost use Rattle.afr_lines.specs.declared.line.Next.TheVariants as next;
 ghost use Rattle.afr_rounds.specs.Acting.{Adds, CanStep, IsBegun, IsEnded, IsHealed, Readies, Stepped, met_after};
-ghost use Rattle.afr_rounds.specs.Stepping.{AddsNext, CanAskNext, CanHearNext, HasHeard, IsServedNext, OfRound, WritesNext};
+ghost use Rattle.afr_rounds.specs.Stepping.{AddsNext, AddsWritten, AsksNobody, CanAskNext, CanHearNext, HasHeard, IsServedNext, OfRound, WritesNext};
 ghost use Rattle.afr_rule.specs.Choosing.{IsRule};
 ghost use Rattle.afr_server.specs.Serving.{HasEpoch, Serving};
 ghost use Rattle.afr_servers.specs.Calls.{At};
@@ -58,11 +58,41 @@ pub fn step_round<F: Fn(&[Candidate]) -> usize>(
     ensures ok { OnOk result (Adds (λ line. Stepped (IsFed F.Fn rule.now) a position healer.old healer.new servers.old servers.new line) log.old.items log.new.items) }
     ensures err { OnErr result ((healer.new ≡ healer.old) × (servers.new ≡ servers.old) × (log.new.items ≡ log.old.items)) }
 {
+    let mut request = Request::Index;
+    match next_asked(healer, &mut request) {
+        Some(brick) => asks(healer, a, brick, &request, servers, position, log, rule),
+        None => writes(healer, a, position, log),
+    }
+}
+
+/// Whom the round would ask next, if its next line is a request.
+fn next_asked(healer: &Healer, request: &mut Request) -> Option<BrickId>
+    requires busy { is_some healer.now.round ≡ true }
+    ensures some { (b : BrickId) → result ≡ Some b → WritesNext healer.now (next.Ask b request.new) }
+    ensures none { result ≡ None → AsksNobody healer.now }
+{
+    match &healer.round {
+        Some(round) => round.asks(request),
+        None => unreachable!(),
+    }
+}
+
+/// A line that is no request: a part of a heal begins, a heal ends, or the round. It stands apart, so that only such lines pay
+/// for its frame.
+#[inline(never)]
+fn writes(healer: &mut Healer, a: ActorId, position: u32, log: &mut Log) -> Result<(), NoMemory>
+    requires busy { is_some healer.old.round ≡ true }
+    requires other { AsksNobody healer.old }
+    requires room { healer.old.ended < 2 ^ 32 - 1 }
+    requires space { log.old.room ≡ true }
+    ensures ok { OnOk result ((bricks : List Serving) → AddsWritten a position healer.old healer.new bricks log.old.items log.new.items) }
+    ensures err { OnErr result ((healer.new ≡ healer.old) × (log.new.items ≡ log.old.items)) }
+{
     match next_line(healer)? {
-        Next::Ask(brick, request) => asks(healer, a, brick, &request, servers, position, log, rule),
         Next::HealBegin(gfid, kind) => Ok(heal_begins(healer, a, gfid, kind, position, log)),
         Next::HealEnd(gfid, kind, reply) => Ok(heal_ends(healer, a, gfid, kind, reply, log)),
         Next::End(reply) => Ok(ends(healer, a, reply, log)),
+        Next::Ask(..) => unreachable!(),
         Next::Begin(_) => unreachable!(),
     }
 }
@@ -159,20 +189,23 @@ fn stays_met(request: &Request) -> bool
     }
 }
 
-/// The round hears the answer.
+/// The round hears the answer to this request.
 fn hear<F: Fn(&[Candidate]) -> usize>(
     healer: &mut Healer,
+    brick: BrickId,
+    request: &Request,
     answer: &mut Answer,
     position: u32,
     rule: &SourceRule<F>,
 )
     requires rule { IsRule F.Fn rule.now }
     requires busy { is_some healer.old.round ≡ true }
+    requires asked { WritesNext healer.old (next.Ask brick request.now) }
     requires can { CanHearNext healer.old answer.old }
     ensures { OfRound healer.old (HasHeard (IsFed F.Fn rule.now) answer.old position healer.old healer.new) }
 {
     match &mut healer.round {
-        Some(round) => round.hear(answer, position, rule),
+        Some(round) => round.hear(brick, request, answer, position, rule),
         None => unreachable!(),
     }
 }
@@ -196,9 +229,9 @@ fn asks<F: Fn(&[Candidate]) -> usize>(
     ensures err { OnErr result ((healer.new ≡ healer.old) × (servers.new ≡ servers.old) × (log.new.items ≡ log.old.items)) }
 {
     request_fits_its_types(request);
-    let Asked { mut answer, took } = ask(healer, a, brick, request, servers)?;
-    log.add_ask(a, brick, request, &answer, took);
-    hear(healer, &mut answer, position, rule);
+    let mut given = ask(healer, a, brick, request, servers)?;
+    log.add_ask(a, brick, request, &given.answer, given.took);
+    hear(healer, brick, request, &mut given.answer, position, rule);
     healer.met = stays_met(request);
     Ok(())
 }

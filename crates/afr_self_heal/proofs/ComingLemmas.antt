@@ -49,11 +49,21 @@ next_begins m said e f = ap (line_of m) (sym (begins (coming m) (sym e ∙ f)))
 pub next_ends : (m : Healing) (reply : HealReply) (said : Coming) → said ≡ coming_of (coming m) → said ≡ coming_line.End → reply ≡ reply_of m.outcome m.register.seen → line.HealEnd m.gfid m.kind reply ≡ next_of m
 next_ends m reply said e f g = ap (λ (r : HealReply). line.HealEnd m.gfid m.kind r) g ∙ ap (line_of m) (sym (ends (coming m) (sym e ∙ f)))
 
--- an answer comes to a request alone
-pub must_ask : (next : Next) (answer : Answer) → CanHear next answer → (said : Coming) → said ≡ coming_of next → ((b : BrickId) (request : Request) → said ≡ coming_line.Ask b request → ⊥) → ⊥
-must_ask (Ask b request) answer can said e never = never (record { 0 = b }) request e
-must_ask Begins answer can said e never = can
-must_ask Ends answer can said e never = can
+-- the request of the next line is the engine's
+pub line_asks : (m : Healing) (b : BrickId) (request : Request) → next_of m ≡ line.Ask b request → coming m ≡ Ask b.0 request
+line_asks m b request e = by (coming m) refl e
+  where
+    by : (next : Next) → coming m ≡ next → line_of m next ≡ line.Ask b request → coming m ≡ Ask b.0 request
+    by (Ask x other) is e =
+        let first : record { 0 = x } ≡ b = cc e in
+        let second : other ≡ request = cc e in
+        is ∙ (λ i. Ask (first i).0 (second i))
+    by Begins is e = absurd (cc e)
+    by Ends is e = absurd (cc e)
+
+-- where the engine asks nobody, no more does the next line
+pub line_asks_none : (m : Healing) (said : Coming) → said ≡ coming_of (coming m) → ((b : BrickId) (request : Request) → said ≡ coming_line.Ask b request → ⊥) → (b : BrickId) (request : Request) → next_of m ≡ line.Ask b request → ⊥
+line_asks_none m said e never b request next = never b request (e ∙ ap coming_of (line_asks m b request next))
 
 -- ---- what an answer leaves
 -- where the first looks are over, a copy may be the source

@@ -1,5 +1,5 @@
 //! The machine of a heal: what it asks next, and what it makes of the answers.
-ghost use Rattle.std.specs.Prelude.{◌≡◌, ◌<◌, ◌≤◌, ◌||◌, IfOk, OnOk, OnErr, not, true};
+ghost use Rattle.std.specs.Prelude.{◌≡◌, ◌<◌, ◌≤◌, ◌||◌, IfOk, None, OnOk, OnErr, Some, not, true};
 ghost use Rattle.afr_discipline.specs.Stands.{phase_of, seen_as};
 ghost use Rattle.afr_heal.specs.Engine.{Begins};
 ghost use Rattle.afr_moves.specs.Keeps.{keeps_in};
@@ -19,7 +19,7 @@ use crate::outcome::Outcome;
 use afr_base::{BrickId, Gfid, Kind, NoMemory, Shape};
 use afr_discipline::{Move, Register, fresh, note, present_part};
 use afr_heal::{Coming, heal_next};
-use afr_lines::{Answer, Next, Told, told_of};
+use afr_lines::{Answer, Next, Request, Told, told_of};
 use afr_object::Load;
 use afr_rule::{Candidate, SourceRule};
 use std::alloc::Global;
@@ -89,6 +89,20 @@ impl HealMachine {
         }
     }
 
+    /// Whom the next line asks, where it is a request; that is written where it is to stand.
+    pub fn asks(&self, request: &mut Request) -> Option<BrickId>
+        ensures some { (b : BrickId) → result ≡ Some b → next_of self.now ≡ Next.Ask b request.new }
+        ensures none { (b : BrickId) (asked : Request) → result ≡ None → next_of self.now ≡ Next.Ask b asked → ⊥ }
+    {
+        match heal_next(&self.register, self.source, self.gfid, self.kind) {
+            Coming::Ask(brick, asked) => {
+                *request = asked;
+                Some(brick)
+            }
+            Coming::Begin | Coming::End => None,
+        }
+    }
+
     /// What was read, which goes with a repair.
     pub fn load(&self) -> Load<'_>
         ensures { load_in self.now.contents result }
@@ -100,35 +114,23 @@ impl HealMachine {
     /// the source; what a read gave is taken out of the answer.
     pub fn hear<F: Fn(&[Candidate]) -> usize>(
         &mut self,
+        brick: BrickId,
+        request: &Request,
         answer: &mut Answer,
         at: u32,
         rule: &SourceRule<F>,
     )
         requires rule { IsRule F.Fn rule.now }
+        requires asked { next_of self.old ≡ Next.Ask brick request.now }
         requires can { CanHear (coming self.old) answer.old }
         ensures { IsFed F.Fn rule.now answer.old at self.old self.new }
     {
         a_heal_stays_sound();
-        let Coming::Ask(brick, request) = heal_next(
-            &self.register,
-            self.source,
-            self.gfid,
-            self.kind,
-        ) else {
-            unreachable!()
-        };
         let told = told_of(answer);
         let was = self.register.broken;
         let part = present_part(&self.register);
-        note_answer(&mut self.register, brick, &request, &told, at);
-        let caused = cause(
-            &self.register,
-            self.kind,
-            part,
-            self.source,
-            &request,
-            &told,
-        );
+        note_answer(&mut self.register, brick, request, &told, at);
+        let caused = cause(&self.register, self.kind, part, self.source, request, &told);
         self.outcome = outcome_after(was, self.register.broken, self.outcome, caused);
         self.source = source_after(&self.register, self.kind, self.source, rule);
         keep(&mut self.contents, brick, answer);

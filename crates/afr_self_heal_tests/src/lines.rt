@@ -40,8 +40,11 @@ pub(crate) fn seen(what: What, kind: Kind, missed: bool) -> Answer {
 
 pub(crate) fn hears(machine: &mut HealMachine, mut answer: Answer, at: u32) {
     let rule = SourceRule::new(longest);
-    if machine.can_hear(&answer) {
-        machine.hear(&mut answer, at, &rule);
+    let mut request = Request::Index;
+    if let Some(brick) = machine.asks(&mut request) {
+        if machine.can_hear(&answer) {
+            machine.hear(brick, &request, &mut answer, at, &rule);
+        }
     }
 }
 
@@ -72,10 +75,10 @@ pub(crate) fn sees_behind(machine: &mut HealMachine, what: What, kind: Kind) {
 
 /// What is asked of this brick next.
 pub(crate) fn asks(machine: &HealMachine, brick: u8) -> Option<Request> {
-    let next = machine.next();
-    match &next {
-        Ok(Next::Ask(b, request)) => { if b.0 == brick { Some(*request) } else { None } }
-        _ => None,
+    let mut request = Request::Index;
+    match machine.asks(&mut request) {
+        Some(b) => { if b.0 == brick { Some(request) } else { None } }
+        None => None,
     }
 }
 

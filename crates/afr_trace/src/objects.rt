@@ -55,11 +55,23 @@ pub fn push_range(
     ensures ok { OnOk result (string_bytes out.new ≡ string_bytes out.old ++ range_text plan.now gfid from to) }
 {
     push_object(out, plan, gfid)?;
+    push_start(out, from)?;
+    push_number(out, to)?;
+    out.push(')')?;
+    Ok(())
+}
+
+/// Adds where a range begins: most begin at 0, which is added at once.
+fn push_start(out: &mut String, from: u64) -> Result<(), NoMemory>
+    ensures ok { OnOk result (string_bytes out.new ≡ string_bytes out.old ++ (codes "[" ++ decimal from ++ codes ",")) }
+{
+    if from == 0 {
+        out.push_str("[0,")?;
+        return Ok(());
+    }
     out.push('[')?;
     push_number(out, from)?;
     out.push(',')?;
-    push_number(out, to)?;
-    out.push(')')?;
     Ok(())
 }
 
@@ -115,8 +127,7 @@ fn push_unended(out: &mut String, plan: &Plan, gfid: Gfid, from: u64) -> Result<
     ensures ok { OnOk result (string_bytes out.new ≡ string_bytes out.old ++ (object_text plan.now gfid ++ codes "[" ++ decimal from ++ codes ",end)")) }
 {
     push_object(out, plan, gfid)?;
-    out.push('[')?;
-    push_number(out, from)?;
-    out.push_str(",end)")?;
+    push_start(out, from)?;
+    out.push_str("end)")?;
     Ok(())
 }
