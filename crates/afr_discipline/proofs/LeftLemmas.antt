@@ -7,7 +7,7 @@ use Rattle.afr_base.specs.declared.ids.Kind.{Kind}
 use Rattle.afr_moves.specs.Keeps.{keeps_in}
 use Rattle.afr_moves.specs.Register.{Exact, Step, asked_in, over, rank, same_step}
 use Rattle.afr_moves.specs.Sets.{any, empty}
-use Rattle.afr_moves.specs.Steps.{set_of}
+use Rattle.afr_moves.specs.Steps.{set_of, turn}
 use Rattle.afr_discipline.specs.Left.{AreLeft}
 use Rattle.afr_discipline.specs.Notes.{asked_at}
 use Rattle.afr_discipline.specs.Stands.{seen_as, step_of}
@@ -127,3 +127,27 @@ is_behind a b x y here there h = grind (arith, nat_tests, here, there, h)
 
 pub is_ahead : (a b x y : ℕ) → x ≡ a → y ≡ b → y ≤ x → nat_le b a ≡ true
 is_ahead a b x y here there h = grind (arith, nat_tests, here, there, h)
+
+-- a step that asks nobody leaves none
+pub none_left : (p : Register) (s : ℕ) (step given : TheStep) → step ≡ given → ((x : ℕ) → set_of p.shape.n (keeps_in p.shape) (seen_as p) s (step_of given) x ≡ false) → AreLeft p s step []
+none_left p s step given e none x few =
+    sym (ap (λ (there : Bool). there && not (asked_in (seen_as p) (step_of step) x)) (ap (λ (step : TheStep). set_of p.shape.n (keeps_in p.shape) (seen_as p) s (step_of step) x) e ∙ none x))
+
+-- in a step that is behind the actor it is nobody's turn
+pub not_its_turn : (n : ℕ) (keeps : ℕ → Kind → Bool) (r : Exact) (s : ℕ) (step : Step) (b : ℕ) → nat_le (rank r.step) (rank step) ≡ false → turn n keeps r s step b ≡ false
+not_its_turn n keeps r s step b behind = ap (λ (e : Bool). e && set_of n keeps r s step b && not (asked_in r step b) && over b (set_of n keeps r s step) (asked_in r step)) behind
+
+together : (a b c : Bool) → (a && b && c) ≡ ((a && b) && c)
+together true b c = refl
+together false b c = refl
+
+-- else it is the turn of a brick that is left where none below it is
+pub its_turn : (p : Register) (s : ℕ) (step : TheStep) (b : ℕ) → b < 5 → (left : List ℕ) → AreLeft p s step left → nat_le (rank (seen_as p).step) (rank (step_of step)) ≡ true
+    → turn p.shape.n (keeps_in p.shape) (seen_as p) s (step_of step) b ≡ (member left b && not (any b (member left)))
+its_turn p s step b few left are ahead =
+    let set : ℕ → Bool = set_of p.shape.n (keeps_in p.shape) (seen_as p) s (step_of step) in
+    let asked : ℕ → Bool = asked_in (seen_as p) (step_of step) in
+    ap (λ (e : Bool). e && set b && not (asked b) && over b set asked) ahead
+    ∙ together (set b) (not (asked b)) (over b set asked)
+    ∙ ap (λ (there : Bool). there && over b set asked) (sym (are b few))
+    ∙ ap (λ (o : Bool). member left b && o) (over_left b (omega arith) set asked (member left) are)

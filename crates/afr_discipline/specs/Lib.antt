@@ -2,6 +2,7 @@ pub mod Stands
 pub mod Moves
 pub mod Tests
 pub mod Five
+pub mod Alike
 pub mod Inside
 pub mod Notes
 pub mod Turns

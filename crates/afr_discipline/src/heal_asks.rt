@@ -42,7 +42,9 @@ fn may_unlock(register: &Register, s: BrickId, b: BrickId, domain: Domain, area:
     }
 }
 
-/// Whether a heal may ask this, if the copy is its source.
+/// Whether a heal may ask this, if the copy is its source. It stands apart, so that a copy which can't be the source costs
+/// one test of a set.
+#[inline(never)]
 pub(crate) fn may_heal(register: &Register, s: BrickId, b: BrickId, request: &Request) -> bool
     requires few { register.now.shape.n ≤ 5 }
     requires source { s.0 < 5 }

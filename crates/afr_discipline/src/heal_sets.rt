@@ -1,16 +1,18 @@
 //! The bricks that each step of a heal asks, if one copy is its source.
-ghost use Rattle.std.specs.Prelude.{◌≡◌, ℕ, ◌<◌, ◌≤◌};
-ghost use Rattle.afr_moves.specs.Register.{asked_in, holder, over};
-ghost use Rattle.afr_moves.specs.Steps.{locks_at, looks_at, mends_at, other, passed, pres_at, reads_at, set_of, settles_at, sink, turn};
+ghost use Rattle.std.specs.Prelude.{◌≡◌, ℕ, ◌<◌, ◌≤◌, ◌&&◌, not};
+ghost use Rattle.afr_base.specs.declared.ids.Kind.{Kind};
+ghost use Rattle.afr_moves.specs.Register.{asked_in, good, holder, over};
+ghost use Rattle.afr_moves.specs.Steps.{is_only, locks_at, looks_at, mends_at, other, passed, pres_at, reads_at, set_of, settles_at, sink, turn};
 ghost use Rattle.afr_moves.specs.Keeps.{keeps_in};
+ghost use Rattle.afr_moves.specs.Sets.{any};
 ghost use Rattle.afr_base.specs.Bricks.{member};
-ghost use Rattle.afr_discipline.specs.Left.{AreLeft, waits};
-ghost use Rattle.afr_discipline.specs.Stands.{phase_of, seen_as, step_of};
+ghost use Rattle.afr_discipline.specs.Left.{AreLeft};
+ghost use Rattle.afr_discipline.specs.Stands.{phase_of, seen_as, step_of, views_of};
 
 use crate::note_steps::asked_at;
 use crate::of_five::picked;
 use crate::register::{Phase, Register, Step};
-use crate::steps::{rank, was_asked};
+use crate::steps::rank;
 use crate::views::{has_some, holds, is_good, keeps};
 use afr_base::{BrickId, BrickSet, Kind};
 
@@ -30,56 +32,113 @@ pub(crate) fn is_other(register: &Register, s: BrickId, x: BrickId) -> bool
     holds(&register.seen, x) && x.0 != s.0
 }
 
-fn is_read(register: &Register, s: BrickId, x: BrickId) -> bool
-    requires few { register.now.shape.n ≤ 5 }
-    requires small { x.0 < 5 }
-    ensures { result ≡ reads_at register.now.shape.n (keeps_in register.now.shape) (seen_as register.now) s.0 register.now.kind (phase_of register.now.phase) x.0 }
+/// The bricks with a copy by the first looks.
+fn holders(register: &Register) -> BrickSet
+    ensures { (x : ℕ) → x < 5 → member result x ≡ holder (views_of register.now.seen) x }
+{
+    picked(
+        holds(&register.seen, BrickId(0)),
+        holds(&register.seen, BrickId(1)),
+        holds(&register.seen, BrickId(2)),
+        holds(&register.seen, BrickId(3)),
+        holds(&register.seen, BrickId(4)),
+    )
+}
+
+/// Those of them that are not the source.
+fn others(register: &Register, s: BrickId) -> BrickSet
+    ensures { (x : ℕ) → x < 5 → member result x ≡ other (seen_as register.now) s.0 x }
+{
+    picked(
+        is_other(register, s, BrickId(0)),
+        is_other(register, s, BrickId(1)),
+        is_other(register, s, BrickId(2)),
+        is_other(register, s, BrickId(3)),
+        is_other(register, s, BrickId(4)),
+    )
+}
+
+/// Those of them that keep bytes.
+fn sinks(register: &Register, s: BrickId) -> BrickSet
+    ensures { (x : ℕ) → x < 5 → member result x ≡ sink (keeps_in register.now.shape) (seen_as register.now) s.0 x }
+{
+    picked(
+        is_sink(register, s, BrickId(0)),
+        is_sink(register, s, BrickId(1)),
+        is_sink(register, s, BrickId(2)),
+        is_sink(register, s, BrickId(3)),
+        is_sink(register, s, BrickId(4)),
+    )
+}
+
+/// The copies of names that are good by the first looks.
+fn good_names(register: &Register) -> BrickSet
+    requires { register.now.shape.n ≤ 5 }
+    ensures { (x : ℕ) → x < 5 → member result x ≡ good register.now.shape.n (keeps_in register.now.shape) Kind.Names (views_of register.now.seen) x }
+{
+    picked(
+        is_good(register.shape, &register.seen, Kind::Names, BrickId(0)),
+        is_good(register.shape, &register.seen, Kind::Names, BrickId(1)),
+        is_good(register.shape, &register.seen, Kind::Names, BrickId(2)),
+        is_good(register.shape, &register.seen, Kind::Names, BrickId(3)),
+        is_good(register.shape, &register.seen, Kind::Names, BrickId(4)),
+    )
+}
+
+/// The one brick.
+#[tactic(auto, using(crate::proofs::SetsOfFive::member_picked))]
+fn only(s: BrickId) -> BrickSet
+    ensures { (x : ℕ) → x < 5 → member result x ≡ is_only s.0 x }
+{
+    picked(0 == s.0, 1 == s.0, 2 == s.0, 3 == s.0, 4 == s.0)
+}
+
+fn read(register: &Register, s: BrickId) -> BrickSet
+    requires { register.now.shape.n ≤ 5 }
+    ensures { (x : ℕ) → x < 5 → member result x ≡ reads_at register.now.shape.n (keeps_in register.now.shape) (seen_as register.now) s.0 register.now.kind (phase_of register.now.phase) x }
 {
     match (register.kind, register.phase) {
-        (Kind::Bytes, Phase::Piece) => x.0 == s.0,
-        (Kind::Bytes, Phase::Opening) => false,
-        (Kind::Bytes, Phase::Finish) => false,
-        (Kind::Attrs, _) => x.0 == s.0,
-        (Kind::Names, _) => is_good(register.shape, &register.seen, Kind::Names, x),
+        (Kind::Bytes, Phase::Piece) => only(s),
+        (Kind::Bytes, Phase::Opening) => BrickSet::none(),
+        (Kind::Bytes, Phase::Finish) => BrickSet::none(),
+        (Kind::Attrs, _) => only(s),
+        (Kind::Names, _) => good_names(register),
     }
 }
 
-fn is_raised_first(register: &Register, s: BrickId, x: BrickId) -> bool
-    requires { x.0 < 5 }
-    ensures { result ≡ pres_at (keeps_in register.now.shape) (seen_as register.now) s.0 register.now.kind (phase_of register.now.phase) x.0 }
+fn raised_first(register: &Register, s: BrickId) -> BrickSet
+    ensures { (x : ℕ) → x < 5 → member result x ≡ pres_at (keeps_in register.now.shape) (seen_as register.now) s.0 register.now.kind (phase_of register.now.phase) x }
 {
     match (register.kind, register.phase) {
-        (Kind::Bytes, Phase::Opening) => is_sink(register, s, x),
-        (Kind::Bytes, Phase::Piece) => false,
-        (Kind::Bytes, Phase::Finish) => false,
-        (Kind::Attrs, _) => is_other(register, s, x),
-        (Kind::Names, _) => holds(&register.seen, x),
+        (Kind::Bytes, Phase::Opening) => sinks(register, s),
+        (Kind::Bytes, Phase::Piece) => BrickSet::none(),
+        (Kind::Bytes, Phase::Finish) => BrickSet::none(),
+        (Kind::Attrs, _) => others(register, s),
+        (Kind::Names, _) => holders(register),
     }
 }
 
-fn is_mended(register: &Register, s: BrickId, x: BrickId) -> bool
-    requires { x.0 < 5 }
-    ensures { result ≡ mends_at (keeps_in register.now.shape) (seen_as register.now) s.0 register.now.kind (phase_of register.now.phase) x.0 }
+fn mended(register: &Register, s: BrickId) -> BrickSet
+    ensures { (x : ℕ) → x < 5 → member result x ≡ mends_at (keeps_in register.now.shape) (seen_as register.now) s.0 register.now.kind (phase_of register.now.phase) x }
 {
     match (register.kind, register.phase) {
-        (Kind::Bytes, Phase::Finish) => false,
-        (Kind::Bytes, Phase::Opening) => is_sink(register, s, x),
-        (Kind::Bytes, Phase::Piece) => is_sink(register, s, x),
-        (Kind::Attrs, _) => is_other(register, s, x),
-        (Kind::Names, _) => holds(&register.seen, x),
+        (Kind::Bytes, Phase::Finish) => BrickSet::none(),
+        (Kind::Bytes, Phase::Opening) => sinks(register, s),
+        (Kind::Bytes, Phase::Piece) => sinks(register, s),
+        (Kind::Attrs, _) => others(register, s),
+        (Kind::Names, _) => holders(register),
     }
 }
 
-fn is_settled(register: &Register, x: BrickId) -> bool
-    requires { x.0 < 5 }
-    ensures { result ≡ settles_at (seen_as register.now) register.now.kind (phase_of register.now.phase) x.0 }
+fn settled(register: &Register) -> BrickSet
+    ensures { (x : ℕ) → x < 5 → member result x ≡ settles_at (seen_as register.now) register.now.kind (phase_of register.now.phase) x }
 {
     match (register.kind, register.phase) {
-        (Kind::Bytes, Phase::Finish) => holds(&register.seen, x),
-        (Kind::Bytes, Phase::Opening) => false,
-        (Kind::Bytes, Phase::Piece) => false,
-        (Kind::Attrs, _) => holds(&register.seen, x),
-        (Kind::Names, _) => holds(&register.seen, x),
+        (Kind::Bytes, Phase::Finish) => holders(register),
+        (Kind::Bytes, Phase::Opening) => BrickSet::none(),
+        (Kind::Bytes, Phase::Piece) => BrickSet::none(),
+        (Kind::Attrs, _) => holders(register),
+        (Kind::Names, _) => holders(register),
     }
 }
 
@@ -91,60 +150,6 @@ pub(crate) fn is_locked(register: &Register, x: BrickId) -> bool
         Phase::Opening => register.healing.has(x),
         Phase::Piece | Phase::Finish => register.seen.reached.has(x),
     }
-}
-
-fn is_looked_at(register: &Register, x: BrickId) -> bool
-    requires { x.0 < 5 }
-    ensures { result ≡ looks_at (seen_as register.now) (phase_of register.now.phase) x.0 }
-{
-    match register.phase {
-        Phase::Opening => register.held.has(x),
-        Phase::Piece | Phase::Finish => register.seen.reached.has(x),
-    }
-}
-
-/// Whether the step asks the brick.
-pub(crate) fn is_in(register: &Register, s: BrickId, step: Step, x: BrickId) -> bool
-    requires few { register.now.shape.n ≤ 5 }
-    requires small { x.0 < 5 }
-    ensures { result ≡ set_of register.now.shape.n (keeps_in register.now.shape) (seen_as register.now) s.0 (step_of step) x.0 }
-{
-    match step {
-        Step::HealLocks => true,
-        Step::WorkLocks => is_locked(register, x),
-        Step::Looks => is_looked_at(register, x),
-        Step::Reads => is_read(register, s, x),
-        Step::HealPres => is_raised_first(register, s, x),
-        Step::Mends => is_mended(register, s, x),
-        Step::Settles => is_settled(register, x),
-        Step::Unlocks => register.held.has(x),
-        Step::HealUnlocks => register.healing.has(x),
-        Step::Untouched | Step::Open | Step::Pres | Step::Applies | Step::Posts => false,
-    }
-}
-
-/// Whether the step asks the brick, and hasn't yet.
-fn is_left(register: &Register, s: BrickId, step: Step, x: BrickId) -> bool
-    requires few { register.now.shape.n ≤ 5 }
-    requires small { x.0 < 5 }
-    ensures { result ≡ waits register.now.shape.n (keeps_in register.now.shape) (seen_as register.now) s.0 (step_of step) x.0 }
-{
-    is_in(register, s, step, x) && !was_asked(register, step, x)
-}
-
-/// The bricks that the step has not asked, one by one.
-#[tactic(auto, using(crate::proofs::SetsOfFive::member_picked))]
-fn each_left(register: &Register, s: BrickId, step: Step) -> BrickSet
-    requires { register.now.shape.n ≤ 5 }
-    ensures { AreLeft register.now s.0 step result }
-{
-    picked(
-        is_left(register, s, step, BrickId(0)),
-        is_left(register, s, step, BrickId(1)),
-        is_left(register, s, step, BrickId(2)),
-        is_left(register, s, step, BrickId(3)),
-        is_left(register, s, step, BrickId(4)),
-    )
 }
 
 fn locked(register: &Register) -> BrickSet
@@ -165,7 +170,7 @@ fn looked_at(register: &Register) -> BrickSet
     }
 }
 
-/// The bricks that the step has not asked. Those of its locks, looks and unlocks are a set already.
+/// The bricks that the step has not asked.
 pub(crate) fn left_in(register: &Register, s: BrickId, step: Step) -> BrickSet
     requires { register.now.shape.n ≤ 5 }
     ensures { AreLeft register.now s.0 step result }
@@ -174,9 +179,15 @@ pub(crate) fn left_in(register: &Register, s: BrickId, step: Step) -> BrickSet
         Step::HealLocks => BrickSet::all(5).minus(asked_at(register, step)),
         Step::WorkLocks => locked(register).minus(asked_at(register, step)),
         Step::Looks => looked_at(register).minus(asked_at(register, step)),
+        Step::Reads => read(register, s).minus(asked_at(register, step)),
+        Step::HealPres => raised_first(register, s).minus(asked_at(register, step)),
+        Step::Mends => mended(register, s).minus(asked_at(register, step)),
+        Step::Settles => settled(register).minus(asked_at(register, step)),
         Step::Unlocks => register.held.minus(asked_at(register, step)),
         Step::HealUnlocks => register.healing.minus(asked_at(register, step)),
-        _ => each_left(register, s, step),
+        Step::Untouched | Step::Open | Step::Pres | Step::Applies | Step::Posts => {
+            BrickSet::none()
+        }
     }
 }
 
@@ -198,14 +209,21 @@ pub(crate) fn has_passed(register: &Register, s: BrickId, step: Step) -> bool
     rank(step) < rank(register.step) || is_over(register, s, step, register.shape.n)
 }
 
+fn is_lowest(set: BrickSet, b: BrickId) -> bool
+    requires { b.0 < 5 }
+    ensures { result ≡ (member set b.0 && not (any b.0 (member set))) }
+{
+    set.has(b) && !has_some(b.0, set)
+}
+
 /// Whether the brick is the lowest that the step has not asked, and no later step has begun.
 pub(crate) fn is_turn(register: &Register, s: BrickId, step: Step, b: BrickId) -> bool
     requires few { register.now.shape.n ≤ 5 }
     requires small { b.0 < 5 }
     ensures { result ≡ turn register.now.shape.n (keeps_in register.now.shape) (seen_as register.now) s.0 (step_of step) b.0 }
 {
-    rank(register.step) <= rank(step)
-        && is_in(register, s, step, b)
-        && !was_asked(register, step, b)
-        && is_over(register, s, step, b.0)
+    if rank(step) < rank(register.step) {
+        return false;
+    }
+    is_lowest(left_in(register, s, step), b)
 }

@@ -7,6 +7,7 @@ mod heal_asks;
 mod heal_moves;
 mod heal_numbers;
 mod heal_owed;
+mod heal_possible;
 mod heal_reads;
 mod heal_sets;
 mod heal_turns;

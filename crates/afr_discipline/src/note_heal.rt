@@ -1,18 +1,17 @@
 //! What a request of a heal and its answer leave in a register: the step, the looks, the reads and the part.
 ghost use Rattle.std.specs.Prelude.{◌≡◌, ◌+◌, ◌^◌, ◌<◌, ◌≤◌, false};
 ghost use Rattle.afr_moves.specs.Register.{is_piece, span};
-ghost use Rattle.afr_discipline.specs.Notes.{broken_by, leaves_open, looked_inside, noted_inside, noted_steps, part_after, read_inside, still_possible, upto_after};
+ghost use Rattle.afr_discipline.specs.Notes.{broken_by, leaves_open, looked_inside, noted_inside, noted_steps, part_after, read_inside, upto_after};
 ghost use Rattle.afr_discipline.specs.Stands.{phase_of};
 
 use crate::answers::{
     answers, fails, given, is_done, is_failed, is_given, is_gone, is_granted, is_held,
 };
 use crate::areas::is_same_area;
-use crate::heal_asks::is_allowed_by;
 use crate::heal_moves::whole;
+use crate::heal_possible::still_possible;
 use crate::heal_reads::is_in_opening;
 use crate::note_steps::{entered, noted_outside, shown, shown_if};
-use crate::of_five::picked;
 use crate::register::{Phase, Register, Step};
 use crate::steps::{is_same_step, rank};
 use afr_base::{BrickId, BrickSet, HEAL_BLOCK, Kind};
@@ -169,21 +168,6 @@ fn broken_by(register: &Register, request: &Request, told: &Told) -> bool
         | Request::Mend { .. }
         | Request::Settle { .. } => fails(told),
     }
-}
-
-/// The copies that may still be the source.
-fn still_possible(register: &Register, b: BrickId, request: &Request) -> BrickSet
-    requires few { register.now.shape.n ≤ 5 }
-    requires small { b.0 < 5 }
-    ensures { result ≡ still_possible register.now b.0 request.now }
-{
-    picked(
-        is_allowed_by(register, BrickId(0), b, request),
-        is_allowed_by(register, BrickId(1), b, request),
-        is_allowed_by(register, BrickId(2), b, request),
-        is_allowed_by(register, BrickId(3), b, request),
-        is_allowed_by(register, BrickId(4), b, request),
-    )
 }
 
 /// What the steps keep of a request and its answer.

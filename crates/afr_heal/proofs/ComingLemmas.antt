@@ -41,6 +41,15 @@ pub shown_none : (request : ℕ → Request) (o : Option ℕ) (rest : Next) → 
 shown_none request None rest e = refl
 shown_none request (Some c) rest e = absurd (cc e)
 
+-- the same in the engine's own words
+pub due_some : (request : ℕ → Request) (o : Option ℕ) (rest : Next) (b : BrickId) → brick_of o ≡ Some b → Ask b.0 (request b.0) ≡ or_else request o rest
+due_some request None rest b e = absurd (cc e)
+due_some request (Some c) rest b e = let is : record { 0 = c } ≡ b = cc e in subst (λ (b : BrickId). Ask b.0 (request b.0) ≡ Ask c (request c)) is refl
+
+pub due_none : (request : ℕ → Request) (o : Option ℕ) (rest : Next) → brick_of o ≡ None → rest ≡ or_else request o rest
+due_none request None rest e = refl
+due_none request (Some c) rest e = absurd (cc e)
+
 -- the lowest of a set is the lowest that passes
 pub lowest_same : (n : ℕ) (p : ℕ → Bool) → find n (is_lowest p (λ x. false)) ≡ find n p
 lowest_same zero p = refl

@@ -8,4 +8,5 @@ pub mod Moves
 pub mod Verdicts
 pub mod Spare
 pub mod Coming
+pub mod Due
 pub mod Runs

@@ -2,49 +2,19 @@
 ghost use Rattle.std.specs.Prelude.{◌≡◌, ◌<◌, ◌≤◌};
 ghost use Rattle.afr_discipline.specs.Stands.{phase_of, seen_as, step_of};
 ghost use Rattle.afr_heal.specs.Carried.{next_by};
-ghost use Rattle.afr_heal.specs.Coming.{Asks, RoomEach, StepOr, coming_of};
-ghost use Rattle.afr_heal.specs.Engine.{after_looks, broken_next, has_part, part_or_end, whole_next};
+ghost use Rattle.afr_heal.specs.Coming.{RoomEach, coming_of};
+ghost use Rattle.afr_heal.specs.Due.{rest_next};
+ghost use Rattle.afr_heal.specs.Engine.{Ends, broken_next, has_part, part_or_end, step_or, whole_next};
 ghost use Rattle.afr_moves.specs.Keeps.{keeps_in};
+ghost use Rattle.afr_moves.specs.Register.{HealUnlocks};
 
 use crate::coming::Coming;
+use crate::due::{asked, first_due};
 use crate::requests::{area_of, heal_range, next_of, request_of};
 use afr_base::{BrickId, Gfid, Kind};
-use afr_discipline::{Phase, Register, Step, first_of, present_part, present_step, turn_of};
+use afr_discipline::{Phase, Register, Step, first_of, present_part, present_step};
 use afr_lines::Request;
 use afr_range_locks::Domain;
-
-/// The step's request, if it is somebody's turn.
-fn asked(register: &Register, source: BrickId, gfid: Gfid, kind: Kind, step: Step) -> Option<Coming>
-    requires few { register.now.shape.n ≤ 5 }
-    requires source { source.0 < 5 }
-    requires room { RoomEach register.now kind }
-    ensures { Asks register.now source.0 gfid kind step result }
-{
-    match turn_of(register, source, step) {
-        Some(b) => Some(Coming::Ask(b, request_of(register, source, gfid, kind, step, b))),
-        None => None,
-    }
-}
-
-/// The step's request, if it is somebody's turn; else the line that is there.
-fn step_or(
-    register: &Register,
-    source: BrickId,
-    gfid: Gfid,
-    kind: Kind,
-    step: Step,
-    rest: Coming,
-) -> Coming
-    requires few { register.now.shape.n ≤ 5 }
-    requires source { source.0 < 5 }
-    requires room { RoomEach register.now kind }
-    ensures { StepOr register.now source.0 gfid kind step rest result }
-{
-    match asked(register, source, gfid, kind, step) {
-        Some(coming) => coming,
-        None => rest,
-    }
-}
 
 /// Whether another part is to come: only a heal of bytes has more than the first.
 fn is_part_left(register: &Register, kind: Kind) -> bool
@@ -54,6 +24,22 @@ fn is_part_left(register: &Register, kind: Kind) -> bool
         (Kind::Bytes, Phase::Finish) => false,
         (Kind::Bytes, _) => true,
         (_, _) => false,
+    }
+}
+
+/// The Heal locks are given back, one after another.
+fn unlock_or_end(register: &Register, source: BrickId, gfid: Gfid, kind: Kind) -> Coming
+    requires few { register.now.shape.n ≤ 5 }
+    requires source { source.0 < 5 }
+    requires room { RoomEach register.now kind }
+    ensures { result ≡ coming_of (step_or register.now.shape.n (keeps_in register.now.shape) (seen_as register.now) source.0 gfid kind HealUnlocks Ends) }
+{
+    match asked(register, source, Step::HealUnlocks) {
+        Some(due) => Coming::Ask(
+            due.brick,
+            request_of(register, source, gfid, kind, due.step, due.brick),
+        ),
+        None => Coming::End,
     }
 }
 
@@ -76,33 +62,8 @@ fn end_or_giving(register: &Register, source: BrickId, gfid: Gfid, kind: Kind) -
             None => Coming::End,
         }
     } else {
-        step_or(register, source, gfid, kind, Step::HealUnlocks, Coming::End)
+        unlock_or_end(register, source, gfid, kind)
     }
-}
-
-/// From the reads of a part to the end: the first step in which it is somebody's turn.
-fn after_looks(register: &Register, source: BrickId, gfid: Gfid, kind: Kind) -> Coming
-    requires few { register.now.shape.n ≤ 5 }
-    requires source { source.0 < 5 }
-    requires room { RoomEach register.now kind }
-    ensures { result ≡ coming_of (after_looks register.now.shape.n (keeps_in register.now.shape) (seen_as register.now) source.0 gfid kind) }
-{
-    if let Some(reads) = asked(register, source, gfid, kind, Step::Reads) {
-        return reads;
-    }
-    if let Some(raises) = asked(register, source, gfid, kind, Step::HealPres) {
-        return raises;
-    }
-    if let Some(mends) = asked(register, source, gfid, kind, Step::Mends) {
-        return mends;
-    }
-    if let Some(settles) = asked(register, source, gfid, kind, Step::Settles) {
-        return settles;
-    }
-    if let Some(unlocks) = asked(register, source, gfid, kind, Step::Unlocks) {
-        return unlocks;
-    }
-    end_or_giving(register, source, gfid, kind)
 }
 
 /// A broken heal gives back its Work locks, then its Heal locks, the lowest brick first.
@@ -131,14 +92,14 @@ fn giving(register: &Register, gfid: Gfid, kind: Kind) -> Coming
     }
 }
 
-/// A heal that goes on, by the step that it is in.
-fn whole(register: &Register, source: BrickId, gfid: Gfid, kind: Kind) -> Coming
+/// Where no step asks anybody.
+fn rest(register: &Register, source: BrickId, gfid: Gfid, kind: Kind, step: Step) -> Coming
     requires few { register.now.shape.n ≤ 5 }
     requires source { source.0 < 5 }
     requires room { RoomEach register.now kind }
-    ensures { result ≡ coming_of (whole_next register.now.shape.n (keeps_in register.now.shape) (seen_as register.now) source.0 gfid kind (step_of register.now.step)) }
+    ensures { result ≡ coming_of (rest_next register.now.shape.n (keeps_in register.now.shape) (seen_as register.now) source.0 gfid kind (step_of step)) }
 {
-    match present_step(register) {
+    match step {
         Step::Untouched => Coming::Ask(
             BrickId(0),
             Request::Lock {
@@ -146,15 +107,26 @@ fn whole(register: &Register, source: BrickId, gfid: Gfid, kind: Kind) -> Coming
                 area: heal_range(gfid),
             },
         ),
-        Step::HealLocks => match asked(register, source, gfid, kind, Step::HealLocks) {
-            Some(locks) => locks,
-            None => step_or(register, source, gfid, kind, Step::WorkLocks, Coming::End),
-        },
-        Step::WorkLocks => { step_or(register, source, gfid, kind, Step::WorkLocks, Coming::Begin) }
-        _ => match asked(register, source, gfid, kind, Step::Looks) {
-            Some(looks) => looks,
-            None => after_looks(register, source, gfid, kind),
-        },
+        Step::HealLocks => Coming::End,
+        Step::WorkLocks => Coming::Begin,
+        _ => end_or_giving(register, source, gfid, kind),
+    }
+}
+
+/// A heal that goes on, by the step that it is in.
+fn whole(register: &Register, source: BrickId, gfid: Gfid, kind: Kind) -> Coming
+    requires few { register.now.shape.n ≤ 5 }
+    requires source { source.0 < 5 }
+    requires room { RoomEach register.now kind }
+    ensures { result ≡ coming_of (whole_next register.now.shape.n (keeps_in register.now.shape) (seen_as register.now) source.0 gfid kind (step_of register.now.step)) }
+{
+    let step = present_step(register);
+    match first_due(register, source, step) {
+        Some(due) => Coming::Ask(
+            due.brick,
+            request_of(register, source, gfid, kind, due.step, due.brick),
+        ),
+        None => rest(register, source, gfid, kind, step),
     }
 }
 

@@ -2,6 +2,7 @@
 #![tactic(auto)]
 
 mod coming;
+mod due;
 mod engine;
 mod laws;
 mod requests;

@@ -2,7 +2,7 @@
 ghost use Rattle.std.specs.Prelude.{◌≡◌, ◌<◌, ◌≤◌, true, IfOk, None, OnOk, OnErr, Some, option_map};
 ghost use Rattle.afr_rule.specs.Choosing.{IsRule};
 ghost use Rattle.afr_daemon.specs.Round.{next_due, without_next};
-ghost use Rattle.afr_healer.specs.Rounding.{CanHear, CarriesNext, IsFed, IsRounding, begun, heal_at, healed, is_beginning, is_ending, made_ready, next_of, reply_of, round_from, round_indexed, stage_due, stage_indexed};
+ghost use Rattle.afr_healer.specs.Rounding.{CanHear, CarriesNext, IsFed, IsRounding, begun, heal_at, healed, indexed, is_beginning, is_ending, made_ready, next_of, reply_of, round_from, round_indexed, stage_due, stage_indexed};
 
 use crate::stage::RoundStage;
 use afr_base::{BrickId, NoMemory, Shape};
@@ -113,7 +113,7 @@ impl RoundMachine {
     {
         match &mut self.stage {
             RoundStage::Asking => {
-                self.stage = indexed(self.alloc, self.shape, &mut self.round, answer);
+                self.hear_index(answer);
             }
             RoundStage::Healing(heal) => {
                 each_note_stands();
@@ -122,6 +122,14 @@ impl RoundMachine {
             }
             RoundStage::Over { .. } => unreachable!(),
         }
+    }
+
+    /// The index was answered. It stands apart, so that only such an answer pays for a frame that holds a whole heal.
+    #[inline(never)]
+    fn hear_index(&mut self, answer: &mut Answer)
+        ensures { self.new ≡ indexed answer.old self.old }
+    {
+        self.stage = indexed(self.alloc, self.shape, &mut self.round, answer);
     }
 
     /// Whether bricks give this answer to the next line.

@@ -80,7 +80,9 @@ fn by_look(register: &Register, kind: Kind, source: BrickId, told: &Told) -> Out
 }
 
 /// What the request whose answer ends the heal ends it with; `part` is the heal's part before it, the register that after it.
-pub(crate) fn cause(
+/// It stands apart, for only such answers ask for it.
+#[inline(never)]
+fn cause(
     register: &Register,
     kind: Kind,
     part: Phase,
@@ -106,9 +108,24 @@ pub(crate) fn cause(
     }
 }
 
-/// How the heal ends after an answer: the first that breaks it says so.
-pub(crate) fn outcome_after(was: bool, now: bool, before: Outcome, caused: Outcome) -> Outcome
-    ensures { result ≡ outcome_after was now before caused }
+/// How the heal ends after an answer: the first that breaks it says so. `was` says whether it was broken before.
+pub(crate) fn outcome_after(
+    register: &Register,
+    kind: Kind,
+    part: Phase,
+    source: BrickId,
+    request: &Request,
+    told: &Told,
+    was: bool,
+    before: Outcome,
+) -> Outcome
+    requires few { register.now.shape.n ≤ 5 }
+    requires small { source.0 < 5 }
+    ensures { result ≡ outcome_after was register.now.broken before (cause register.now.shape kind (phase_of part) (phase_of register.now.phase) source.0 register.now.seen register.now.looked request.now told.now) }
 {
-    if !was && now { caused } else { before }
+    if !was && register.broken {
+        cause(register, kind, part, source, request, told)
+    } else {
+        before
+    }
 }

@@ -10,7 +10,7 @@ ghost use Rattle.afr_self_heal.specs.Contents.{load_in};
 ghost use Rattle.afr_self_heal.specs.Healing.{CanHear, IsFed, IsHealing, begun, coming, heal_from, made_ready, next_of};
 
 use crate::answers::{fits, is_tellable};
-use crate::causes::{cause, outcome_after};
+use crate::causes::outcome_after;
 use crate::contents::{Contents, keep, load, nothing, ready};
 use crate::ending::ending;
 use crate::hearing::{has_looked, note_answer, source_after};
@@ -130,8 +130,16 @@ impl HealMachine {
         let was = self.register.broken;
         let part = present_part(&self.register);
         note_answer(&mut self.register, brick, request, &told, at);
-        let caused = cause(&self.register, self.kind, part, self.source, request, &told);
-        self.outcome = outcome_after(was, self.register.broken, self.outcome, caused);
+        self.outcome = outcome_after(
+            &self.register,
+            self.kind,
+            part,
+            self.source,
+            request,
+            &told,
+            was,
+            self.outcome,
+        );
         self.source = source_after(&self.register, self.kind, self.source, rule);
         keep(&mut self.contents, brick, answer);
     }

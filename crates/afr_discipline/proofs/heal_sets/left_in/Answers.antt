@@ -19,3 +19,15 @@ returns-in-Unlocks c = rw (c.minus-in-Unlocks.ensures, c.asked_at-in-Unlocks.ens
 
 pub returns-in-HealUnlocks : goal.returns-in-HealUnlocks
 returns-in-HealUnlocks c = rw (c.minus-in-HealUnlocks.ensures, c.asked_at-in-HealUnlocks.ensures) (left_in_step c.args.register.now c.args.s.0 c.args.step step.HealUnlocks c.in-HealUnlocks.is c.args.register.now.healing (λ x few. refl))
+
+pub returns-in-Reads : goal.returns-in-Reads
+returns-in-Reads c = rw (c.minus-in-Reads.ensures, c.asked_at-in-Reads.ensures) (left_in_step c.args.register.now c.args.s.0 c.args.step step.Reads c.in-Reads.is c.read.result c.read.ensures)
+
+pub returns-in-HealPres : goal.returns-in-HealPres
+returns-in-HealPres c = rw (c.minus-in-HealPres.ensures, c.asked_at-in-HealPres.ensures) (left_in_step c.args.register.now c.args.s.0 c.args.step step.HealPres c.in-HealPres.is c.raised_first.result c.raised_first.ensures)
+
+pub returns-in-Mends : goal.returns-in-Mends
+returns-in-Mends c = rw (c.minus-in-Mends.ensures, c.asked_at-in-Mends.ensures) (left_in_step c.args.register.now c.args.s.0 c.args.step step.Mends c.in-Mends.is c.mended.result c.mended.ensures)
+
+pub returns-in-Settles : goal.returns-in-Settles
+returns-in-Settles c = rw (c.minus-in-Settles.ensures, c.asked_at-in-Settles.ensures) (left_in_step c.args.register.now c.args.s.0 c.args.step step.Settles c.in-Settles.is c.settled.result c.settled.ensures)

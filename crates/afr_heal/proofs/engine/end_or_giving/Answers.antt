@@ -1,4 +1,4 @@
-use Rattle.std.proofs.Common.{◌∙◌, ◌≡◌, Bool, ap, refl, subst, sym, true}
+use Rattle.std.proofs.Common.{◌∙◌, ◌≡◌, Bool, ap, subst, sym, true}
 use Rattle.afr_base.specs.Bricks.{member}
 use Rattle.afr_discipline.specs.Stands.{seen_as}
 use Rattle.afr_discipline.specs.Turns.{brick_of}
@@ -29,5 +29,5 @@ returns-in-None c =
 
 pub returns-else-is_part_left : goal.returns-else-is_part_left
 returns-else-is_part_left c =
-    subst (λ (f : Bool). c.step_or.result ≡ coming_of (part_or_end c.args.register.now.shape.n (keeps_in c.args.register.now.shape) (seen_as c.args.register.now) c.args.source.0 c.args.gfid c.args.kind f))
-    (sym c.if-is_part_left.false ∙ c.is_part_left.ensures) (c.step_or.ensures Ends refl)
+    subst (λ (f : Bool). c.unlock_or_end.result ≡ coming_of (part_or_end c.args.register.now.shape.n (keeps_in c.args.register.now.shape) (seen_as c.args.register.now) c.args.source.0 c.args.gfid c.args.kind f))
+    (sym c.if-is_part_left.false ∙ c.is_part_left.ensures) c.unlock_or_end.ensures

@@ -1,4 +1,4 @@
-use Rattle.std.proofs.Common.{◌≡◌, ◌∙◌, ap, subst, sym}
+use Rattle.std.proofs.Common.{◌≡◌, ◌∙◌, ap, refl, subst, sym}
 use Rattle.afr_discipline.specs.Notes.{noted_ask}
 use Rattle.afr_lines.specs.Told.{told_by}
 use Rattle.afr_lines.specs.declared.answer.Told.{Told}
@@ -30,7 +30,7 @@ invariant_of-self g c =
     heard_stays g.F.Fn c.args.rule.now (record { gfid = c.self.inside.gfid; kind = c.self.inside.kind; register = c.self.inside.register; source = c.self.inside.source; outcome = c.self.inside.outcome; contents = c.self.inside.contents }) c.args.brick.0 c.args.request.now c.args.answer.now c.args.at c.note_answer.new.register c.source_after-self-inside.result c.outcome_after-self-inside.result c.keep.new.contents
     (c.note_answer.ensures.value ∙ ap (λ (told : Told). noted_ask c.self.inside.register c.args.at c.args.brick.0 c.args.request.now told) c.told_of-told.ensures)
     c.note_answer.ensures.shape c.source_after-self-inside.ensures.chosen c.source_after-self-inside.ensures.kept
-    (heard_outcome c.self.inside.register c.note_answer.new.register c.self.inside.source.0 c.self.inside.kind c.args.request.now (told_by c.args.answer.now) c.told_of-told.result c.self.inside.outcome c.outcome_after-self-inside.result c.cause-caused.result c.present_part-part.result c.note_answer.ensures.shape c.present_part-part.ensures c.told_of-told.ensures c.cause-caused.ensures c.outcome_after-self-inside.ensures)
+    (heard_outcome c.self.inside.register c.note_answer.new.register c.self.inside.source.0 c.self.inside.kind c.args.request.now (told_by c.args.answer.now) c.told_of-told.result c.self.inside.outcome c.outcome_after-self-inside.result _ c.present_part-part.result c.note_answer.ensures.shape c.present_part-part.ensures c.told_of-told.ensures refl c.outcome_after-self-inside.ensures)
     c.keep.ensures
     c.a_heal_stays_sound.ensures.stays c.self.invariant
     (line_asks (record { gfid = c.self.inside.gfid; kind = c.self.inside.kind; register = c.self.inside.register; source = c.self.inside.source; outcome = c.self.inside.outcome; contents = c.self.inside.contents }) c.args.brick c.args.request.now (subst (λ (m : Healing). next_of m ≡ line.Ask c.args.brick c.args.request.now) (sym c.self.view_is) c.requires.asked))
@@ -42,6 +42,6 @@ returns g c =
     (heard_fed g.F.Fn c.args.rule.now (record { gfid = c.self.inside.gfid; kind = c.self.inside.kind; register = c.self.inside.register; source = c.self.inside.source; outcome = c.self.inside.outcome; contents = c.self.inside.contents }) c.args.brick.0 c.args.request.now c.args.answer.now c.args.at c.note_answer.new.register c.source_after-self-inside.result c.outcome_after-self-inside.result c.keep.new.contents
     (c.note_answer.ensures.value ∙ ap (λ (told : Told). noted_ask c.self.inside.register c.args.at c.args.brick.0 c.args.request.now told) c.told_of-told.ensures)
     c.note_answer.ensures.shape c.source_after-self-inside.ensures.chosen c.source_after-self-inside.ensures.kept
-    (heard_outcome c.self.inside.register c.note_answer.new.register c.self.inside.source.0 c.self.inside.kind c.args.request.now (told_by c.args.answer.now) c.told_of-told.result c.self.inside.outcome c.outcome_after-self-inside.result c.cause-caused.result c.present_part-part.result c.note_answer.ensures.shape c.present_part-part.ensures c.told_of-told.ensures c.cause-caused.ensures c.outcome_after-self-inside.ensures)
+    (heard_outcome c.self.inside.register c.note_answer.new.register c.self.inside.source.0 c.self.inside.kind c.args.request.now (told_by c.args.answer.now) c.told_of-told.result c.self.inside.outcome c.outcome_after-self-inside.result _ c.present_part-part.result c.note_answer.ensures.shape c.present_part-part.ensures c.told_of-told.ensures refl c.outcome_after-self-inside.ensures)
     c.keep.ensures
     (line_asks (record { gfid = c.self.inside.gfid; kind = c.self.inside.kind; register = c.self.inside.register; source = c.self.inside.source; outcome = c.self.inside.outcome; contents = c.self.inside.contents }) c.args.brick c.args.request.now (subst (λ (m : Healing). next_of m ≡ line.Ask c.args.brick c.args.request.now) (sym c.self.view_is) c.requires.asked)))

@@ -1,0 +1,83 @@
+//! The copies that may still be the source of a heal after a request.
+ghost use Rattle.std.specs.Prelude.{◌≡◌, ◌<◌, ◌≤◌, true};
+ghost use Rattle.afr_lines.specs.declared.request.Request.{Request};
+ghost use Rattle.afr_moves.specs.Keeps.{keeps_in};
+ghost use Rattle.afr_discipline.specs.Alike.{IsAlike};
+ghost use Rattle.afr_discipline.specs.Notes.{still_possible};
+ghost use Rattle.afr_discipline.specs.Stands.{seen_as};
+
+use crate::heal_asks::{is_allowed_by, may_heal};
+use crate::of_five::picked;
+use crate::register::{Register, Step};
+use afr_base::{BrickId, BrickSet};
+use afr_lines::{Area, Request};
+use afr_range_locks::Domain;
+
+/// Whether a lock may be asked for alike: a Work lock till the first part's looks begin, and in the midst of a part's locks.
+fn is_alike_lock(register: &Register, domain: Domain, area: Area) -> bool
+    ensures { result ≡ true → IsAlike (keeps_in register.now.shape) (seen_as register.now) (Request.Lock domain area) }
+{
+    match (domain, register.step) {
+        (Domain::Heal, _) => true,
+        (Domain::Work, Step::HealLocks) => true,
+        (Domain::Work, Step::WorkLocks) => true,
+        (_, _) => false,
+    }
+}
+
+/// Whether the request may be made by each source, or by none: by a Heal lock, a look and most Work locks no source is told
+/// from another.
+fn is_alike(register: &Register, request: &Request) -> bool
+    ensures { result ≡ true → IsAlike (keeps_in register.now.shape) (seen_as register.now) request.now }
+{
+    match request {
+        Request::Lock { domain, area } => is_alike_lock(register, *domain, *area),
+        Request::Look { .. } => true,
+        _ => false,
+    }
+}
+
+/// The copies that may still be the source, where it is the same for each.
+fn alike_possible(register: &Register, b: BrickId, request: &Request) -> BrickSet
+    requires few { register.now.shape.n ≤ 5 }
+    requires small { b.0 < 5 }
+    requires alike { IsAlike (keeps_in register.now.shape) (seen_as register.now) request.now }
+    ensures { result ≡ still_possible register.now b.0 request.now }
+{
+    let may = may_heal(register, BrickId(0), b, request);
+    picked(
+        register.possible.has(BrickId(0)) && may,
+        register.possible.has(BrickId(1)) && may,
+        register.possible.has(BrickId(2)) && may,
+        register.possible.has(BrickId(3)) && may,
+        register.possible.has(BrickId(4)) && may,
+    )
+}
+
+/// The copies that may still be the source, one by one.
+fn each_possible(register: &Register, b: BrickId, request: &Request) -> BrickSet
+    requires few { register.now.shape.n ≤ 5 }
+    requires small { b.0 < 5 }
+    ensures { result ≡ still_possible register.now b.0 request.now }
+{
+    picked(
+        is_allowed_by(register, BrickId(0), b, request),
+        is_allowed_by(register, BrickId(1), b, request),
+        is_allowed_by(register, BrickId(2), b, request),
+        is_allowed_by(register, BrickId(3), b, request),
+        is_allowed_by(register, BrickId(4), b, request),
+    )
+}
+
+/// The copies that may still be the source.
+pub(crate) fn still_possible(register: &Register, b: BrickId, request: &Request) -> BrickSet
+    requires few { register.now.shape.n ≤ 5 }
+    requires small { b.0 < 5 }
+    ensures { result ≡ still_possible register.now b.0 request.now }
+{
+    if is_alike(register, request) {
+        alike_possible(register, b, request)
+    } else {
+        each_possible(register, b, request)
+    }
+}
