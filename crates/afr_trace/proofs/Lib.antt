@@ -1,3 +1,4 @@
 mod ActorLemmas
 mod FiveLemmas
+mod HeadLemmas
 mod TraceLemmas

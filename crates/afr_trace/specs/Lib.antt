@@ -5,3 +5,5 @@ pub mod Repairs
 pub mod Requests
 pub mod Answers
 pub mod Lines
+pub mod Heads
+pub mod Endings

@@ -4,11 +4,16 @@
 mod answers;
 mod askers;
 mod changes;
+mod endings;
+mod heads;
 mod lines;
 mod numbers;
 mod objects;
+mod page;
 mod repairs;
+mod repeats;
 mod requests;
+mod spelled;
 mod trace;
 
 pub use lines::push_line;

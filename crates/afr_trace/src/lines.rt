@@ -1,17 +1,22 @@
 //! The text of each line of a log.
-ghost use Rattle.std.specs.Prelude.{◌≡◌, ◌++◌, IfSome, OnOk, codes, decimal, string_bytes};
+ghost use Rattle.std.specs.Prelude.{◌≡◌, ◌++◌, ◌/◌, All, OnOk, codes, decimal, string_bytes};
 ghost use Rattle.afr_log.specs.Log.{asked_line};
 ghost use Rattle.afr_model.specs.ReportReplies.{actor_text, heal_text, reply_text};
 ghost use Rattle.afr_trace.specs.Answers.{event_text, told_text};
 ghost use Rattle.afr_trace.specs.Changes.{change_text};
+ghost use Rattle.afr_trace.specs.Endings.{ending_text};
+ghost use Rattle.afr_trace.specs.Heads.{tens_text};
 ghost use Rattle.afr_trace.specs.Lines.{healed_text, line_text, said_text};
 ghost use Rattle.afr_trace.specs.Requests.{request_text};
 
 use crate::answers::{push_event, push_told};
-use crate::askers::push_asker;
+use crate::askers::push_brick;
 use crate::changes::push_change;
+use crate::endings::ending_of;
 use crate::objects::push_object;
+use crate::page::{Page, push_head};
 use crate::requests::push_request;
+use crate::spelled::push_ended;
 use afr_base::{ActorId, BrickId, Gfid, Kind, NoMemory};
 use afr_lines::{Event, HealReply, Line, Reply, Request, Told};
 use afr_log::Asker;
@@ -35,58 +40,31 @@ pub fn push_line(
     Ok(())
 }
 
-/// The same of a request.
+/// The same of a request. Its pieces are taken from the page, which is turned to the position.
 pub(crate) fn push_asked(
     out: &mut String,
     plan: &Plan,
+    page: &mut Page,
     position: usize,
     by: Asker,
     request: &Request,
     told: &Told,
 ) -> Result<(), NoMemory>
+    requires tens { string_bytes page.old.tens ≡ tens_text (position / 10) }
+    requires words { All (λ last. string_bytes last.words ≡ request_text plan.now last.request ++ ending_text last.ending) page.old.places.items }
     ensures ok { OnOk result (string_bytes out.new ≡ string_bytes out.old ++ line_text plan.now position (asked_line by request.now told.now)) }
+    ensures words { OnOk result (All (λ last. string_bytes last.words ≡ request_text plan.now last.request ++ ending_text last.ending) page.new.places.items) }
+    ensures tens { page.new.tens ≡ page.old.tens }
 {
-    push_number(out, position as u64)?;
-    push_asks(out, plan, by.actor, by.brick, request)?;
-    push_last(out, told, by.took)?;
-    Ok(())
-}
-
-/// Adds who asked which brick for what, after a space.
-fn push_asks(
-    out: &mut String,
-    plan: &Plan,
-    actor: ActorId,
-    brick: BrickId,
-    request: &Request,
-) -> Result<(), NoMemory>
-    ensures ok { OnOk result (string_bytes out.new ≡ string_bytes out.old ++ (codes " " ++ actor_text actor ++ codes " b" ++ decimal brick.0 ++ codes " " ++ request_text plan.now request.now)) }
-{
-    push_asker(out, actor)?;
-    push_brick(out, brick)?;
-    push_request(out, plan, request)?;
-    Ok(())
-}
-
-/// Adds what was told, between a space and the end of the line: most answers at once.
-fn push_last(out: &mut String, told: &Told, took: bool) -> Result<(), NoMemory>
-    ensures ok { OnOk result (string_bytes out.new ≡ string_bytes out.old ++ (codes " " ++ told_text told.now took ++ codes "\n")) }
-{
-    match told {
-        Told::Granted => out.push_str(" granted\n")?,
-        Told::Seen(_) => out.push_str(" seen\n")?,
-        Told::Done => out.push_str(" done\n")?,
-        Told::Held(owner) => {
-            out.push_str(" held")?;
-            push_asker(out, *owner)?;
-            out.push('\n')?;
-        }
-        _ => {
-            out.push(' ')?;
-            push_told(out, told, took)?;
-            out.push('\n')?;
-        }
-    }
+    push_head(out, page, position, by.actor, by.brick)?;
+    push_ended(
+        out,
+        plan,
+        page.places.as_mut_slice(),
+        by.actor,
+        request,
+        ending_of(told, by.took),
+    )?;
     Ok(())
 }
 
@@ -130,34 +108,6 @@ fn push_ask(
     push_request(out, plan, request)?;
     out.push(' ')?;
     push_told(out, told, took)
-}
-
-/// Adds the brick that was asked, between two spaces. A brick of a volume has a word of its own, which is added at once.
-fn push_brick(out: &mut String, brick: BrickId) -> Result<(), NoMemory>
-    ensures ok { OnOk result (string_bytes out.new ≡ string_bytes out.old ++ (codes " b" ++ decimal brick.0 ++ codes " ")) }
-{
-    match brick_word(brick) {
-        Some(word) => out.push_str(word)?,
-        None => {
-            out.push_str(" b")?;
-            push_number(out, u64::from(brick.0))?;
-            out.push(' ')?;
-        }
-    }
-    Ok(())
-}
-
-fn brick_word(brick: BrickId) -> Option<&'static str>
-    ensures { IfSome result (λ word. word.now ≡ codes " b" ++ decimal brick.0 ++ codes " ") }
-{
-    match brick.0 {
-        0 => Some(" b0 "),
-        1 => Some(" b1 "),
-        2 => Some(" b2 "),
-        3 => Some(" b3 "),
-        4 => Some(" b4 "),
-        _ => None,
-    }
 }
 
 fn push_begin(

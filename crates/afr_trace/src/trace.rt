@@ -1,8 +1,12 @@
 //! The whole text of a log.
-ghost use Rattle.std.specs.Prelude.{◌≡◌, ◌++◌, IfOk, OnOk, reverse, slice_get, string_bytes};
+ghost use Rattle.std.specs.Prelude.{◌≡◌, ◌++◌, ◌/◌, All, IfOk, OnOk, reverse, slice_get, string_bytes};
+ghost use Rattle.afr_trace.specs.Endings.{ending_text};
+ghost use Rattle.afr_trace.specs.Heads.{tens_text};
 ghost use Rattle.afr_trace.specs.Lines.{text_at, trace_of};
+ghost use Rattle.afr_trace.specs.Requests.{request_text};
 
 use crate::lines::{push_asked, push_line};
+use crate::page::Page;
 use afr_base::NoMemory;
 use afr_lines::{Request, Told};
 use afr_log::Log;
@@ -15,10 +19,20 @@ pub fn print_trace(alloc: Global, plan: &Plan, log: &Log) -> Result<String, NoMe
     ensures ok { IfOk result (λ text. string_bytes text ≡ trace_of plan.now (reverse log.now.items)) }
 {
     let mut out = String::new(alloc);
+    let mut page = Page::new(alloc, plan)?;
     let mut request = Request::Index;
     let mut told = Told::Done;
     for position in 0..log.len() {
-        push_at(&mut out, plan, position, log, &mut request, &mut told)?;
+        page.turn(position)?;
+        push_at(
+            &mut out,
+            plan,
+            &mut page,
+            position,
+            log,
+            &mut request,
+            &mut told,
+        )?;
     }
     Ok(out)
 }
@@ -28,15 +42,20 @@ pub fn print_trace(alloc: Global, plan: &Plan, log: &Log) -> Result<String, NoMe
 fn push_at(
     out: &mut String,
     plan: &Plan,
+    page: &mut Page,
     position: usize,
     log: &Log,
     request: &mut Request,
     told: &mut Told,
 ) -> Result<(), NoMemory>
+    requires tens { string_bytes page.old.tens ≡ tens_text (position / 10) }
+    requires words { All (λ last. string_bytes last.words ≡ request_text plan.now last.request ++ ending_text last.ending) page.old.places.items }
     ensures ok { OnOk result (string_bytes out.new ≡ string_bytes out.old ++ text_at plan.now position (slice_get log.now.items position)) }
+    ensures words { OnOk result (All (λ last. string_bytes last.words ≡ request_text plan.now last.request ++ ending_text last.ending) page.new.places.items) }
+    ensures tens { page.new.tens ≡ page.old.tens }
 {
     match log.asked_at(position, request, told) {
-        Some(by) => push_asked(out, plan, position, by, request, told),
+        Some(by) => push_asked(out, plan, page, position, by, request, told),
         None => push_kept(out, plan, position, log),
     }
 }

@@ -1,7 +1,7 @@
 use Rattle.std.specs.Prelude.{ℕ, List, ◌++◌, codes, decimal}
 use Rattle.std.proofs.Common.{ap, sym, ◌∙◌, arith}
 use Rattle.std.proofs.lemmas.Fmt.{decimal_digit}
-use Rattle.afr_trace.proofs.lines.brick_word.Goals as goal
+use Rattle.afr_trace.proofs.askers.brick_word.Goals as goal
 
 pub returns-in-0 : goal.returns-in-0
 returns-in-0 c = ap (λ (t : List ℕ). codes " b" ++ t ++ codes " ") (sym (decimal_digit 0 (omega arith))) ∙ ap (λ (n : ℕ). codes " b" ++ decimal n ++ codes " ") (sym c.in-0.is)
