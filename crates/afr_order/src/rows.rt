@@ -8,7 +8,7 @@ ghost use Rattle.afr_sources.specs.Sources.{picks_of};
 ghost use Rattle.afr_volume.specs.State.{IsChosen};
 ghost use Rattle.afr_order.specs.Going.{AreDone, Goes, TakesFront, Ends, IsIdle};
 
-use crate::turns::{come_due, take_next, take_turns};
+use crate::turns::{come_due, take_turn, take_turns};
 use afr_base::{ActorId, FIRST_CLIENT, FIRST_HEALER, NoMemory};
 use afr_rule::{Candidate, Rules};
 use afr_volume::Volume;
@@ -54,7 +54,7 @@ fn take_row<F: Fn(&[Candidate]) -> usize, G: Fn(&[Candidate]) -> usize>(
     ensures chosen { IsChosen (picks_of G.Fn rules.now.read) (picks_of F.Fn rules.now.heal) volume.old → IsChosen (picks_of G.Fn rules.now.read) (picks_of F.Fn rules.now.heal) volume.new }
 {
     for i in 0..count {
-        if !take_next(volume, ActorId(first + i), rules)? {
+        if !take_turn(volume, ActorId(first + i), rules)? {
             return Ok(false);
         }
     }

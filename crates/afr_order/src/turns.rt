@@ -12,9 +12,24 @@ use afr_base::{ActorId, NoMemory};
 use afr_rule::{Candidate, Rules};
 use afr_volume::{Turned, Volume};
 
-/// All events that are due.
+/// All events that are due. Where none is left, that is one comparison.
 #[inline]
 pub(crate) fn come_due(volume: &mut Volume) -> Result<(), NoMemory>
+    ensures goes { Goes volume.old volume.new }
+    ensures taken { Takes volume.old.plan [] volume.old.log volume.new.log }
+    ensures none { OnOk result (due_of volume.new ≡ None) }
+    ensures events { OnOk result (length volume.new.log < volume.new.plan.turns → NoneDue volume.new.plan volume.new.log) }
+    ensures happens { IsHappening volume.old volume.new }
+{
+    if volume.has_due() {
+        return all_come(volume);
+    }
+    Ok(())
+}
+
+/// One event after another, until none is due. It stands apart, so that a turn before which none is due pays for no call.
+#[inline(never)]
+fn all_come(volume: &mut Volume) -> Result<(), NoMemory>
     ensures goes { Goes volume.old volume.new }
     ensures taken { Takes volume.old.plan [] volume.old.log volume.new.log }
     ensures none { OnOk result (due_of volume.new ≡ None) }
@@ -36,7 +51,7 @@ fn goes_on(turned: Turned) -> bool
     }
 }
 
-/// The due events, and then one turn. It answers whether the log had room.
+/// The due events, and then one turn, which passes an actor over that is done. It answers whether the log had room.
 pub(crate) fn take_turn<F: Fn(&[Candidate]) -> usize, G: Fn(&[Candidate]) -> usize>(
     volume: &mut Volume,
     a: ActorId,
@@ -54,27 +69,6 @@ pub(crate) fn take_turn<F: Fn(&[Candidate]) -> usize, G: Fn(&[Candidate]) -> usi
     come_due(volume)?;
     let turned = volume.turn(a, rules)?;
     Ok(goes_on(turned))
-}
-
-/// The same; but an actor that is done is passed over at once. Before the next line the due events come all the same.
-pub(crate) fn take_next<F: Fn(&[Candidate]) -> usize, G: Fn(&[Candidate]) -> usize>(
-    volume: &mut Volume,
-    a: ActorId,
-    rules: &Rules<F, G>,
-) -> Result<bool, NoMemory>
-    requires rule { IsRule F.Fn rules.now.heal }
-    requires read_rule { IsRule G.Fn rules.now.read }
-    requires actor { IsActor volume.old.plan a.0 }
-    ensures goes { Goes volume.old volume.new }
-    ensures front { TakesFront volume.old.plan (a.0 ∷ []) volume.old.log volume.new.log }
-    ensures ok { IfOk result (λ on. Ends (a.0 ∷ []) volume.old on volume.new) }
-    ensures done { result ≡ Ok true → length volume.new.log ≤ length volume.old.log → is_done volume.new.plan a.0 volume.new.log ≡ true }
-    ensures chosen { IsChosen (picks_of G.Fn rules.now.read) (picks_of F.Fn rules.now.heal) volume.old → IsChosen (picks_of G.Fn rules.now.read) (picks_of F.Fn rules.now.heal) volume.new }
-{
-    if volume.is_done(a) {
-        return Ok(true);
-    }
-    take_turn(volume, a, rules)
 }
 
 /// So many turns of one actor, which end early where it is done: each that is left would be passed

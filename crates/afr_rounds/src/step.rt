@@ -1,10 +1,11 @@
 //! One line of a healer.
-ghost use Rattle.std.specs.Prelude.{◌≡◌, ◌<◌, ◌≤◌, ◌^◌, ◌-◌, ℕ, List, IfOk, None, OnOk, OnErr, Some, is_some, true, false};
+ghost use Rattle.std.specs.Prelude.{◌≡◌, ◌<◌, ◌≤◌, ◌^◌, ◌-◌, ◌++◌, ◌∷◌, [], ℕ, List, IfOk, None, OnOk, OnErr, Some, is_some, true, false};
 ghost use Rattle.afr_healer.specs.Rounding.{IsFed};
 ghost use Rattle.afr_lines.specs.declared.line.Next.TheVariants as next;
 ghost use Rattle.afr_rounds.specs.Acting.{Adds, CanStep, IsBegun, IsEnded, IsHealed, Readies, Stepped, met_after};
 ghost use Rattle.afr_rounds.specs.Stepping.{AddsNext, AddsWritten, AsksNobody, CanAskNext, CanHearNext, HasHeard, IsServedNext, OfRound, WritesNext};
 ghost use Rattle.afr_rule.specs.Choosing.{IsRule};
+ghost use Rattle.afr_server.specs.NextLine.{told_line};
 ghost use Rattle.afr_server.specs.Serving.{HasEpoch, Serving};
 ghost use Rattle.afr_servers.specs.Calls.{At};
 
@@ -108,30 +109,7 @@ fn next_line(healer: &Healer) -> Result<Next, NoMemory>
     }
 }
 
-/// The request, over the sessions that the heal has met; its first line meets every brick.
-fn ask(
-    healer: &mut Healer,
-    a: ActorId,
-    brick: BrickId,
-    request: &Request,
-    servers: &mut Servers,
-) -> Result<Asked, NoMemory>
-    requires busy { is_some healer.old.round ≡ true }
-    requires known { a.0 < 20 }
-    requires room { (b : ℕ) → At b servers.old (HasEpoch a) }
-    requires can { CanAskNext a healer.old brick request.now servers.old }
-    ensures ok { IfOk result (λ given. IsServedNext a healer.old brick request.now servers.old servers.new healer.new.epochs given) }
-    ensures same { healer.new ≡ record healer.old { epochs = healer.new.epochs } }
-    ensures err { OnErr result ((healer.new ≡ healer.old) × (servers.new ≡ servers.old)) }
-{
-    if healer.met {
-        ask_again(healer, a, brick, request, servers)
-    } else {
-        ask_first(healer, a, brick, request, servers)
-    }
-}
-
-/// A request within a heal.
+/// A request within a heal, over the sessions that the heal has met.
 fn ask_again(
     healer: &Healer,
     a: ActorId,
@@ -152,8 +130,7 @@ fn ask_again(
     }
 }
 
-/// A request that meets every brick. It stands apart, so that only first lines pay for its frame.
-#[inline(never)]
+/// A request that meets every brick.
 fn ask_first(
     healer: &mut Healer,
     a: ActorId,
@@ -210,6 +187,30 @@ fn hear<F: Fn(&[Candidate]) -> usize>(
     }
 }
 
+/// The line of a request that was served, and the round hears its answer.
+fn tells<F: Fn(&[Candidate]) -> usize>(
+    healer: &mut Healer,
+    a: ActorId,
+    brick: BrickId,
+    request: &Request,
+    given: &mut Asked,
+    position: u32,
+    log: &mut Log,
+    rule: &SourceRule<F>,
+)
+    requires rule { IsRule F.Fn rule.now }
+    requires busy { is_some healer.old.round ≡ true }
+    requires asked { WritesNext healer.old (next.Ask brick request.now) }
+    requires can { CanHearNext healer.old given.old.answer }
+    requires space { log.old.room ≡ true }
+    ensures added { log.new.items ≡ log.old.items ++ told_line a brick request.now given.old ∷ [] }
+    ensures heard { OfRound healer.old (HasHeard (IsFed F.Fn rule.now) given.old.answer position healer.old healer.new) }
+{
+    log.add_ask(a, brick, request, &given.answer, given.took);
+    hear(healer, brick, request, &mut given.answer, position, rule);
+}
+
+/// The request of a line, and what the round makes of the answer. The first line of a heal meets every brick.
 fn asks<F: Fn(&[Candidate]) -> usize>(
     healer: &mut Healer,
     a: ActorId,
@@ -228,12 +229,54 @@ fn asks<F: Fn(&[Candidate]) -> usize>(
     ensures ok { OnOk result (AddsNext (IsFed F.Fn rule.now) a position healer.old healer.new servers.old servers.new (next.Ask brick request.now) log.old.items log.new.items) }
     ensures err { OnErr result ((healer.new ≡ healer.old) × (servers.new ≡ servers.old) × (log.new.items ≡ log.old.items)) }
 {
+    if !healer.met {
+        return asks_first(healer, a, brick, request, servers, position, log, rule);
+    }
     request_fits_its_types(request);
-    let mut given = ask(healer, a, brick, request, servers)?;
-    log.add_ask(a, brick, request, &given.answer, given.took);
-    hear(healer, brick, request, &mut given.answer, position, rule);
-    healer.met = stays_met(request);
-    Ok(())
+    // The answer is told and heard where it lies: it is large, and neither `?` nor a branch is to move it.
+    let mut asked = ask_again(healer, a, brick, request, servers);
+    match &mut asked {
+        Ok(given) => {
+            tells(healer, a, brick, request, given, position, log, rule);
+            healer.met = stays_met(request);
+            Ok(())
+        }
+        Err(_) => Err(NoMemory),
+    }
+}
+
+/// The request of a first line. It stands apart, so that only such lines pay for its frame, and no other moves its answer.
+#[inline(never)]
+fn asks_first<F: Fn(&[Candidate]) -> usize>(
+    healer: &mut Healer,
+    a: ActorId,
+    brick: BrickId,
+    request: &Request,
+    servers: &mut Servers,
+    position: u32,
+    log: &mut Log,
+    rule: &SourceRule<F>,
+) -> Result<(), NoMemory>
+    requires rule { IsRule F.Fn rule.now }
+    requires busy { is_some healer.old.round ≡ true }
+    requires first { healer.old.met ≡ false }
+    requires next { WritesNext healer.old (next.Ask brick request.now) }
+    requires can { CanStep a position healer.old servers.old }
+    requires space { log.old.room ≡ true }
+    ensures ok { OnOk result (AddsNext (IsFed F.Fn rule.now) a position healer.old healer.new servers.old servers.new (next.Ask brick request.now) log.old.items log.new.items) }
+    ensures err { OnErr result ((healer.new ≡ healer.old) × (servers.new ≡ servers.old) × (log.new.items ≡ log.old.items)) }
+{
+    request_fits_its_types(request);
+    // The answer is told and heard where it lies: it is large, and neither `?` nor a branch is to move it.
+    let mut asked = ask_first(healer, a, brick, request, servers);
+    match &mut asked {
+        Ok(given) => {
+            tells(healer, a, brick, request, given, position, log, rule);
+            healer.met = stays_met(request);
+            Ok(())
+        }
+        Err(_) => Err(NoMemory),
+    }
 }
 
 #[inline(never)]

@@ -1,6 +1,7 @@
 //! An actor: the machine of its present command, the sessions that it works over, and how many commands it has ended.
-ghost use Rattle.std.specs.Prelude.{true, false, ◌≡◌, ◌<◌, ◌-◌, ◌^◌, ℕ, IfOk, OnOk, OnErr};
+ghost use Rattle.std.specs.Prelude.{true, false, ◌≡◌, ◌<◌, ◌-◌, ◌^◌, ◌++◌, ◌∷◌, [], ℕ, IfOk, OnOk, OnErr};
 ghost use Rattle.afr_rule.specs.Choosing.{IsRule};
+ghost use Rattle.afr_server.specs.NextLine.{told_line};
 ghost use Rattle.afr_server.specs.Serving.{HasEpoch};
 ghost use Rattle.afr_servers.specs.Calls.{At};
 ghost use Rattle.afr_walk.specs.Free.{is_ask};
@@ -82,31 +83,25 @@ fn writes(
     }
 }
 
-/// The request, over the sessions that the work has met; its first line meets every brick.
-fn ask(
-    actor: &mut Actor,
+/// A request within a work, over the sessions that the work has met.
+fn ask_again(
+    actor: &Actor,
     a: ActorId,
     brick: BrickId,
     request: &Request,
     servers: &mut Servers,
 ) -> Result<Asked, NoMemory>
+    requires again { actor.now.met ≡ true }
     requires known { a.0 < 20 }
-    requires room { (b : ℕ) → At b servers.old (HasEpoch a) }
-    requires can { CanAsk a actor.old brick request.now servers.old }
-    ensures ok { IfOk result (λ given. IsServed a actor.old brick request.now servers.old servers.new actor.new.epochs given) }
-    ensures same { actor.new ≡ record actor.old { epochs = actor.new.epochs } }
-    ensures err { OnErr result ((actor.new ≡ actor.old) × (servers.new ≡ servers.old)) }
+    requires can { CanAsk a actor.now brick request.now servers.old }
+    ensures ok { IfOk result (λ given. IsServed a actor.now brick request.now servers.old servers.new actor.now.epochs given) }
+    ensures err { OnErr result (servers.new ≡ servers.old) }
 {
-    if actor.met {
-        let load = actor.work.load();
-        servers.ask(a, &actor.epochs, brick, request, load)
-    } else {
-        ask_first(actor, a, brick, request, servers)
-    }
+    let load = actor.work.load();
+    servers.ask(a, &actor.epochs, brick, request, load)
 }
 
-/// A request that meets every brick. It stands apart, so that only first lines pay for its frame.
-#[inline(never)]
+/// A request that meets every brick.
 fn ask_first(
     actor: &mut Actor,
     a: ActorId,
@@ -164,6 +159,29 @@ fn hear<G: Fn(&[Candidate]) -> usize>(
     actor.met = true;
 }
 
+/// The line of a request that was served, and the work hears its answer.
+fn tells<G: Fn(&[Candidate]) -> usize>(
+    actor: &mut Actor,
+    a: ActorId,
+    brick: BrickId,
+    request: &Request,
+    given: &mut Asked,
+    position: u32,
+    log: &mut Log,
+    rule: &ReadRule<G>,
+)
+    requires rule { IsRule G.Fn rule.now }
+    requires more { is_over actor.old.work ≡ false }
+    requires asked { next_of position actor.old.work ≡ Next.Ask brick request.now }
+    requires space { log.old.room ≡ true }
+    ensures added { log.new.items ≡ log.old.items ++ told_line a brick request.now given.old ∷ [] }
+    ensures heard { HasHeard (HearsBy G.Fn rule.now) given.old.answer position request.now actor.old actor.new }
+{
+    log.add_ask(a, brick, request, &given.answer, given.took);
+    hear(actor, brick, request, &mut given.answer, position, rule);
+}
+
+/// The request of a line, and what the work makes of the answer. The first line of a work meets every brick.
 fn asks<G: Fn(&[Candidate]) -> usize>(
     actor: &mut Actor,
     a: ActorId,
@@ -181,12 +199,54 @@ fn asks<G: Fn(&[Candidate]) -> usize>(
     ensures ok { OnOk result (Adds (λ line. IsAsked (HearsBy G.Fn rule.now) a position brick request.now actor.old actor.new servers.old servers.new line) log.old.items log.new.items) }
     ensures err { OnErr result ((actor.new ≡ actor.old) × (servers.new ≡ servers.old) × (log.new.items ≡ log.old.items)) }
 {
+    let first = !actor.met;
+    if first {
+        return asks_first(actor, a, brick, request, servers, position, log, rule);
+    }
     request_fits_its_types(request);
     a_work_stays_sound();
-    let mut given = ask(actor, a, brick, request, servers)?;
-    log.add_ask(a, brick, request, &given.answer, given.took);
-    hear(actor, brick, request, &mut given.answer, position, rule);
-    Ok(())
+    // The answer is told and heard where it lies: it is large, and neither `?` nor a branch is to move it.
+    let mut asked = ask_again(actor, a, brick, request, servers);
+    match &mut asked {
+        Ok(given) => {
+            tells(actor, a, brick, request, given, position, log, rule);
+            Ok(())
+        }
+        Err(_) => Err(NoMemory),
+    }
+}
+
+/// The request of a first line. It stands apart, so that only such lines pay for its frame, and no other moves its answer.
+#[inline(never)]
+fn asks_first<G: Fn(&[Candidate]) -> usize>(
+    actor: &mut Actor,
+    a: ActorId,
+    brick: BrickId,
+    request: &Request,
+    servers: &mut Servers,
+    position: u32,
+    log: &mut Log,
+    rule: &ReadRule<G>,
+) -> Result<(), NoMemory>
+    requires rule { IsRule G.Fn rule.now }
+    requires first { actor.old.met ≡ false }
+    requires next { next_of position actor.old.work ≡ Next.Ask brick request.now }
+    requires can { CanStep a position actor.old servers.old }
+    requires space { log.old.room ≡ true }
+    ensures ok { OnOk result (Adds (λ line. IsAsked (HearsBy G.Fn rule.now) a position brick request.now actor.old actor.new servers.old servers.new line) log.old.items log.new.items) }
+    ensures err { OnErr result ((actor.new ≡ actor.old) × (servers.new ≡ servers.old) × (log.new.items ≡ log.old.items)) }
+{
+    request_fits_its_types(request);
+    a_work_stays_sound();
+    // The answer is told and heard where it lies: it is large, and neither `?` nor a branch is to move it.
+    let mut asked = ask_first(actor, a, brick, request, servers);
+    match &mut asked {
+        Ok(given) => {
+            tells(actor, a, brick, request, given, position, log, rule);
+            Ok(())
+        }
+        Err(_) => Err(NoMemory),
+    }
 }
 
 /// A first line that is no request meets every brick, too. It asks no rule.

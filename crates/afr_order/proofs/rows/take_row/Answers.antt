@@ -6,25 +6,25 @@ use Rattle.afr_order.proofs.OrderLemmas.{range_more, front_of_range}
 use Rattle.afr_order.proofs.DoneLemmas.{row_done}
 use Rattle.afr_order.proofs.rows.take_row.Goals as goal
 
-pub take_next-requires : goal.take_next-requires
-take_next-requires g c = record { rule = c.requires.rule; read_rule = c.requires.read_rule; actor = rw c.loop-i.invariant.goes.plan (c.requires.actors c.loop-i.i c.loop-i-test.true) }
+pub take_turn-requires : goal.take_turn-requires
+take_turn-requires g c = record { rule = c.requires.rule; read_rule = c.requires.read_rule; actor = rw c.loop-i.invariant.goes.plan (c.requires.actors c.loop-i.i c.loop-i-test.true) }
 
-pub returns-in_err-take_next-clause-front : goal.returns-in_err-take_next-clause-front
-returns-in_err-take_next-clause-front g c =
-    front_of_range c.args.volume.now.plan c.args.volume.now.log c.take_next.new.volume.log c.args.first (c.loop-i.i + 1) c.args.count (omega arith)
-    (rw range_more (front_then c.args.volume.now c.loop-i.volume c.take_next.new.volume (range_with_len c.args.first c.loop-i.i) ((c.args.first + c.loop-i.i) ∷ []) c.loop-i.invariant.goes c.loop-i.invariant.taken c.take_next.ensures.front))
+pub returns-in_err-take_turn-clause-front : goal.returns-in_err-take_turn-clause-front
+returns-in_err-take_turn-clause-front g c =
+    front_of_range c.args.volume.now.plan c.args.volume.now.log c.take_turn.new.volume.log c.args.first (c.loop-i.i + 1) c.args.count (omega arith)
+    (rw range_more (front_then c.args.volume.now c.loop-i.volume c.take_turn.new.volume (range_with_len c.args.first c.loop-i.i) ((c.args.first + c.loop-i.i) ∷ []) c.loop-i.invariant.goes c.loop-i.invariant.taken c.take_turn.ensures.front))
 
 pub returns-then-not-branch-clause-front : goal.returns-then-not-branch-clause-front
 returns-then-not-branch-clause-front g c =
-    front_of_range c.args.volume.now.plan c.args.volume.now.log c.take_next.new.volume.log c.args.first (c.loop-i.i + 1) c.args.count (omega arith)
-    (rw range_more (front_then c.args.volume.now c.loop-i.volume c.take_next.new.volume (range_with_len c.args.first c.loop-i.i) ((c.args.first + c.loop-i.i) ∷ []) c.loop-i.invariant.goes c.loop-i.invariant.taken c.take_next.ensures.front))
+    front_of_range c.args.volume.now.plan c.args.volume.now.log c.take_turn.new.volume.log c.args.first (c.loop-i.i + 1) c.args.count (omega arith)
+    (rw range_more (front_then c.args.volume.now c.loop-i.volume c.take_turn.new.volume (range_with_len c.args.first c.loop-i.i) ((c.args.first + c.loop-i.i) ∷ []) c.loop-i.invariant.goes c.loop-i.invariant.taken c.take_turn.ensures.front))
 
 pub loop-i-preserved : goal.loop-i-preserved
 loop-i-preserved g c =
-    let on : c.in_ok-take_next.field-0 ≡ true = grind (arith, common_steps) in
+    let on : c.in_ok-take_turn.field-0 ≡ true = grind (arith, common_steps) in
     record {
-      goes = goes_then c.args.volume.now c.loop-i.volume c.take_next.new.volume c.loop-i.invariant.goes c.take_next.ensures.goes;
-      taken = rw range_more (takes_then c.args.volume.now c.loop-i.volume c.take_next.new.volume (range_with_len c.args.first c.loop-i.i) ((c.args.first + c.loop-i.i) ∷ []) c.loop-i.invariant.goes c.loop-i.invariant.taken (ends_true c.loop-i.volume c.take_next.new.volume _ _ on c.in_ok-take_next.ensures.ok));
-      done = row_done c.args.volume.now c.loop-i.volume c.take_next.new.volume c.args.first c.loop-i.i c.loop-i.invariant.goes c.take_next.ensures.goes c.loop-i.invariant.done (c.in_ok-take_next.ensures.done (ap Ok on));
-      chosen = λ h. c.take_next.ensures.chosen (c.loop-i.invariant.chosen h);
+      goes = goes_then c.args.volume.now c.loop-i.volume c.take_turn.new.volume c.loop-i.invariant.goes c.take_turn.ensures.goes;
+      taken = rw range_more (takes_then c.args.volume.now c.loop-i.volume c.take_turn.new.volume (range_with_len c.args.first c.loop-i.i) ((c.args.first + c.loop-i.i) ∷ []) c.loop-i.invariant.goes c.loop-i.invariant.taken (ends_true c.loop-i.volume c.take_turn.new.volume _ _ on c.in_ok-take_turn.ensures.ok));
+      done = row_done c.args.volume.now c.loop-i.volume c.take_turn.new.volume c.args.first c.loop-i.i c.loop-i.invariant.goes c.take_turn.ensures.goes c.loop-i.invariant.done (c.in_ok-take_turn.ensures.done (ap Ok on));
+      chosen = λ h. c.take_turn.ensures.chosen (c.loop-i.invariant.chosen h);
     }
