@@ -181,9 +181,6 @@ pub(crate) fn counted(counts: Counts, spoken: &Spoken) -> Counts
             orders: counts.orders + 1,
             ..counts
         },
-        Spoken::Afr(_) => counts,
-        Spoken::Files(_) => counts,
-        Spoken::Turns(_) => counts,
-        Spoken::End => counts,
+        Spoken::Afr(_) | Spoken::Files(_) | Spoken::Turns(_) | Spoken::End => counts,
     }
 }
