@@ -2,9 +2,12 @@
 #![tactic(auto)]
 
 #[cfg(test)]
+mod live_tests;
+#[cfg(test)]
 mod tests;
 
-use afr_cli::afr_top;
+use afr_cli::{afr_live, afr_top};
+use afr_live::NoGate;
 use afr_rule::{ReadRule, Rules, SourceRule, shipped};
 use afr_text::{StdSink, StdSource};
 use afr_volume::Volume;
@@ -29,14 +32,27 @@ fn main(rt: HostRuntime) -> ExitCode {
         heal: SourceRule::new(shipped::longest),
         read: ReadRule::new(shipped::first),
     };
-    let status = afr_top(
-        rt.alloc(),
-        &words,
-        &mut source,
-        &mut sink,
-        &mut *volume,
-        &rules,
-    );
+    let status = if is_live(&words) {
+        afr_live(
+            &rt,
+            rt.alloc(),
+            &words,
+            &mut source,
+            &mut sink,
+            &mut *volume,
+            &rules,
+            &NoGate,
+        )
+    } else {
+        afr_top(
+            rt.alloc(),
+            &words,
+            &mut source,
+            &mut sink,
+            &mut *volume,
+            &rules,
+        )
+    };
     ExitCode::from(status)
 }
 
@@ -48,4 +64,12 @@ fn words_after_the_name<R: Env + Alloc<A = Global>>(
     let mut words = env::args(rt)?;
     let _name = words.next();
     Ok(words.collect(alloc)?)
+}
+
+/// Whether the call for runs by threads serves these words: the first is `live`.
+fn is_live(words: &[String]) -> bool {
+    match words.first() {
+        Some(first) => first.as_str() == "live",
+        None => false,
+    }
 }

@@ -3,10 +3,12 @@
 
 mod finished;
 mod generated;
+mod live;
 mod messages;
 mod program;
 mod reading;
 mod running;
 mod status;
 
+pub use live::afr_live;
 pub use program::afr_top;

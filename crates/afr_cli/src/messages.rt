@@ -11,6 +11,9 @@ use afr_plan::PlanFault;
 use afr_text::{Sink, write_all};
 use std::alloc::Global;
 
+/// The line that tells how the program is called.
+pub const USAGE: &[u8] = b"usage: afr run | trace | info | gen N | live\n";
+
 /// Writes a text, and answers the status, or 5 where the sink failed.
 pub fn answer<K: Sink>(sink: &mut K, text: &[u8], status: u8) -> u8
     requires { status ≢ 5 }

@@ -26,7 +26,7 @@ ghost use Rattle.afr_cli.specs.Forms.{reads, text_of};
 ghost use Rattle.afr_cli.specs.Statuses.{AreDone, HasFault, AreGiven, IsFull, IsPlanOf, IsPlanned, IsRefusal, IsSpelled, IsWorkLeft, Reports, StopsWriting, refusal_line, usage_line};
 
 use crate::generated::make_and_run;
-use crate::messages::{answer, refuse};
+use crate::messages::{USAGE, answer, refuse};
 use crate::reading::{Unread, read_runnable};
 use crate::running::run_plan;
 use crate::status::Status;
@@ -102,11 +102,7 @@ pub fn afr_top<S: Source, K: Sink, F: Fn(&[Candidate]) -> usize, G: Fn(&[Candida
 {
     let status = match form_of(alloc, words) {
         Ok(Some(form)) => serve(alloc, form, source, sink, volume, rules),
-        Ok(None) => answer(
-            sink,
-            b"usage: afr run | trace | info | gen N | live\n",
-            Status::Usage as u8,
-        ),
+        Ok(None) => answer(sink, USAGE, Status::Usage as u8),
         Err(_) => Status::NoMemory as u8,
     };
     volume.every_line();

@@ -59,6 +59,23 @@ pub fn run_plan<K: Sink, F: Fn(&[Candidate]) -> usize, G: Fn(&[Candidate]) -> us
     if drive(volume, rules).is_err() {
         return Status::NoMemory as u8;
     }
+    volume.every_line();
+    tell(alloc, form, sink, volume)
+}
+
+/// Writes the text of the form of a run that is over, and answers how it ended.
+pub fn tell<K: Sink>(alloc: Global, form: Form, sink: &mut K, volume: &Volume) -> u8
+    requires actors { length volume.now.plan.healers ≤ 16 }
+    requires complete { IsComplete volume.now.plan volume.now.log }
+    ensures few { (result ≡ 0) ⊎ (result ≡ 5) ⊎ (result ≡ 6) ⊎ (result ≡ 7) }
+    ensures ok { result ≡ 0 → AreDone volume.now.plan volume.now.log }
+    ensures unfinished { result ≡ 7 → Appends (K.taken sink.old) (K.taken sink.new) (text_of form volume.now.plan volume.now.log)
+        × IsFull volume.now.plan volume.now.log × IsWorkLeft volume.now.plan volume.now.log }
+    ensures text { result ≡ 0 → Appends (K.taken sink.old) (K.taken sink.new) (text_of form volume.now.plan volume.now.log) }
+    ensures write { result ≡ 5 → Rose (K.faults sink.old) (K.faults sink.new) × AppendsFront (K.taken sink.old) (K.taken sink.new) (text_of form volume.now.plan volume.now.log)
+        × IsOver volume.now.plan volume.now.log }
+    ensures memory { result ≡ 6 → sink.new ≡ sink.old }
+{
     let status = status_after(volume);
     match text_of(alloc, form, volume) {
         Ok(text) => answer(sink, text.as_bytes(), status),

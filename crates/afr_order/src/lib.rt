@@ -25,6 +25,7 @@ use crate::rows::{count_done, take_orders, take_pass};
 use afr_base::NoMemory;
 use afr_rule::{Candidate, Rules};
 use afr_volume::Volume;
+pub use turns::come_due;
 
 /// Runs the plan that the volume was set up with, until every actor is done or the log is full.
 /// First come the orders of the plan, then passes over all actors in rising order: clients, then

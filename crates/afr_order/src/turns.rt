@@ -14,7 +14,7 @@ use afr_volume::{Turned, Volume};
 
 /// All events that are due. Where none is left, that is one comparison.
 #[inline]
-pub(crate) fn come_due(volume: &mut Volume) -> Result<(), NoMemory>
+pub fn come_due(volume: &mut Volume) -> Result<(), NoMemory>
     ensures goes { Goes volume.old volume.new }
     ensures taken { Takes volume.old.plan [] volume.old.log volume.new.log }
     ensures none { OnOk result (due_of volume.new ≡ None) }

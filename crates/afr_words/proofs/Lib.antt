@@ -1,5 +1,6 @@
 -- Lemmas of this crate.
 pub mod FormLemmas
+pub mod LiveLemmas
 pub mod LoadLemmas
 pub mod ReadingLemmas
 pub mod RefusedLemmas

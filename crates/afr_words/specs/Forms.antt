@@ -27,3 +27,7 @@ IsDashed word = slice_get (string_bytes word) 0 ≡ Some 45
 -- there are no words, the first is `help`, or one begins with `-`
 abbrev pub AreRefused : List (String Global) → Type 0
 AreRefused words = (words ≡ []) ⊎ (option_map string_bytes (slice_get words 0) ≡ Some (codes "help")) ⊎ Any IsDashed words
+
+-- the words ask for a run by threads, which the other forms don't name
+abbrev pub AreLive : List (String Global) → Type 0
+AreLive words = map string_bytes words ≡ codes "live" ∷ []

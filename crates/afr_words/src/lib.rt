@@ -2,10 +2,12 @@
 #![tactic(auto)]
 
 mod form;
+mod live;
 mod load;
 mod reading;
 mod refused;
 
 pub use form::Form;
+pub use live::are_live;
 pub use reading::form_of;
 pub use refused::are_refused;

@@ -1,0 +1,137 @@
+//! Tests of a run by threads.
+ghost use Rattle.afr_rule.specs.Choosing.{IsRule};
+
+use afr_base::ActorId;
+use afr_cli::afr_live;
+use afr_live::{Gate, NoGate};
+use afr_rule::{ReadRule, Rules, SourceRule, shipped};
+use afr_text::{MemSink, MemSource};
+use afr_volume::Volume;
+use std::alloc::Global;
+use std::sync::{Mutex, Wait};
+use std::test::Fail;
+use std::thread;
+use std::thread::Threads;
+
+/// Two clients that share no range, so every order of turns has one report.
+const APART: &str =
+    "afr 1\nvolume replica\nfiles 2\nturns 100000\nclient 1\nwrite /f1 0 \"a\"\nclient 2\nwrite /f2 0 \"b\"\nend\n";
+
+const APART_REPORT: &str =
+    "afr replica 3\nlines 48\nc1 1 of 1\n1 write ok\nc2 1 of 1\n1 write ok\nreach 0 1 2\nobjects 0\nsplit-brain 0\n";
+
+/// Four clients that make files in one directory while a brick is away and comes back, and three healers.
+const TREE: &str =
+    "afr 1\nvolume replica\nfiles 0\nturns 100000\nclient 1\nmkdir /src\ncreate /src/a\nwrite /src/a 0 \"one\"\nclient 2\ncreate /src/b\nwrite /src/b 0 \"two\"\nclient 3\ncreate /src/c\nwrite /src/c 0 \"three\"\nclient 4\ncreate /src/d\nwrite /src/d 0 \"four\"\nhealer 1\nround 0\nhealer 2\nround 1\nhealer 3\nround 2\nat 0 stop 2\nat 189 start 2\ngo c1 59\ngo c2 43\ngo c3 43\ngo c4 43\ngo h1 348\nend\n";
+
+/// The turn at which two clients meet.
+const MEETING: u64 = 15;
+
+/// How often a client looks for the other at most.
+const MOST_LOOKS: u32 = 10_000_000;
+
+/// Who has come to the meeting.
+#[derive(Clone, Copy, Debug)]
+struct Come {
+    first: bool,
+    second: bool,
+    /// A client didn't meet the other, however often it looked.
+    missed: bool,
+}
+
+/// A gate that holds two clients at one of their turns, each until the other has come to its own. A run on one thread
+/// doesn't pass it, in whatever order it takes the clients.
+#[derive(Drop)]
+struct Meeting<'a, R: Wait> {
+    rt: &'a R,
+    come: Mutex<Come>,
+}
+
+impl<R: Wait> Meeting<'_, R> {
+    /// Notes that a client has come.
+    fn note(&self, a: ActorId) {
+        let mut come = self.come.lock(self.rt);
+        if a == ActorId(1) {
+            come.first = true;
+        } else {
+            come.second = true;
+        }
+    }
+
+    fn have_both_come(&self) -> bool {
+        let come = *self.come.lock(self.rt);
+        come.first && come.second
+    }
+}
+
+impl<R: Wait> Gate for Meeting<'_, R> {
+    fn pass(&self, a: ActorId, turn: u64) {
+        if turn != MEETING {
+            return;
+        }
+        self.note(a);
+        for _ in 0..MOST_LOOKS {
+            if self.have_both_come() {
+                return;
+            }
+        }
+        self.come.lock(self.rt).missed = true;
+    }
+}
+
+/// The status and the text of a run of the plan by threads.
+fn live_run<R: Threads + Wait + Alloc<A = Global> + Sync, H: Gate + Sync>(
+    rt: &R,
+    plan: &str,
+    gate: &H,
+) -> Result<(u8, MemSink), Fail> {
+    let alloc = rt.alloc();
+    let words = vec![in alloc; String::from_str(alloc, "live")?]?;
+    let mut bytes = Vec::new(alloc);
+    bytes.extend_from_slice(plan.as_bytes())?;
+    let mut source = MemSource::new(bytes, 4096, Vec::new(alloc));
+    let mut sink = MemSink::new(alloc, 4096, Vec::new(alloc));
+    let mut volume = Volume::empty(alloc);
+    let rules = Rules {
+        heal: SourceRule::new(shipped::longest),
+        read: ReadRule::new(shipped::first),
+    };
+    let status = afr_live(
+        rt,
+        alloc,
+        &words,
+        &mut source,
+        &mut sink,
+        &mut volume,
+        &rules,
+        gate,
+    );
+    Ok((status, sink))
+}
+
+#[test]
+fn two_clients_run_in_two_threads(rt: HostRuntime) -> Result<(), Fail> {
+    let nobody = Come {
+        first: false,
+        second: false,
+        missed: false,
+    };
+    let gate = Meeting {
+        rt: &rt,
+        come: Mutex::new(nobody),
+    };
+    let (status, sink) = live_run(&rt, APART, &gate)?;
+    assert_eq!(rt; status, 0);
+    assert_eq!(rt; sink.taken(), APART_REPORT.as_bytes());
+    assert!(rt; gate.have_both_come());
+    assert!(rt; !gate.come.lock(&rt).missed);
+    Ok(())
+}
+
+#[test]
+fn clients_and_healers_run_to_their_ends(rt: HostRuntime) -> Result<(), Fail> {
+    let (status, sink) = live_run(&rt, TREE, &NoGate)?;
+    assert_eq!(rt; status, 0);
+    assert!(rt; sink.taken().starts_with(b"afr replica 3\nlines "));
+    Ok(())
+}

@@ -1,0 +1,9 @@
+-- A report that was cut off is one of a run that is over.
+use Rattle.std.proofs.Common.{rules}
+use Rattle.afr_model.specs.Complete.{IsComplete}
+use Rattle.afr_cli.proofs.live.run_live.Goals as goal
+
+pub returns-clause-write : goal.returns-clause-write
+returns-clause-write g c =
+    let complete : IsComplete c.run_lent.new.volume.plan c.run_lent.new.volume.log = search rules in
+    λ e. let cut = c.tell.ensures.write e in (cut.0, cut.1, complete, cut.2)

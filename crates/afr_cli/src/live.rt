@@ -1,0 +1,223 @@
+//! The call for a run by threads.
+ghost use Rattle.std.specs.Prelude.{◌≡◌, ◌≢◌, ◌≤◌, ◌⊎◌, ℕ, List, [], OnOk, String, length};
+ghost use Rattle.std.specs.Global.{Global};
+ghost use Rattle.std.specs.Io.KnownBytes.{Appends};
+ghost use Rattle.afr_text.specs.Causes.{Rose};
+ghost use Rattle.afr_text.specs.Parts.{AppendsFront};
+ghost use Rattle.afr_law.specs.Exactly.{IsLawfulExactly};
+ghost use Rattle.afr_law.specs.ModelAlike.{AreAlike};
+ghost use Rattle.afr_law.specs.ModelCauses.{HaveCauses};
+ghost use Rattle.afr_lines.specs.Log.{EveryPrefix};
+ghost use Rattle.afr_model.specs.Blamed.{AreBlamed};
+ghost use Rattle.afr_model.specs.Complete.{IsComplete};
+ghost use Rattle.afr_model.specs.Following.{Follows};
+ghost use Rattle.afr_model.specs.Honest.{Honest};
+ghost use Rattle.afr_model.specs.ReportHealers.{report_of};
+ghost use Rattle.afr_model.specs.Replied.{Replied};
+ghost use Rattle.afr_model.specs.Safe.{AreFresh, IsAlwaysSafe};
+ghost use Rattle.afr_plan.specs.declared.plan.Plan.{Plan};
+ghost use Rattle.afr_plan.specs.declared.plan.PlanFault.{PlanFault};
+ghost use Rattle.afr_plan.specs.Spells.{Spells};
+ghost use Rattle.afr_quiet.specs.Undisturbed.{AreQuietWhole};
+ghost use Rattle.afr_rule.specs.Choosing.{IsRule};
+ghost use Rattle.afr_runnable.specs.Runnable.{IsRunnable};
+ghost use Rattle.afr_volume.specs.State.{no_volume};
+ghost use Rattle.afr_words.specs.Forms.{AreLive};
+ghost use Rattle.afr_cli.specs.Live.{IsGivenLive, StopsLive};
+ghost use Rattle.afr_cli.specs.Statuses.{AreDone, HasFault, IsFull, IsOver, IsRefusal, IsSpelled, IsWorkLeft, refusal_line, usage_line};
+
+use crate::messages::{USAGE, answer, refuse};
+use crate::reading::{Unread, read_runnable};
+use crate::running::tell;
+use crate::status::Status;
+use afr_base::NoMemory;
+use afr_live::{Gate, live};
+use afr_plan::Plan;
+use afr_rule::{Candidate, Rules};
+use afr_text::{Sink, Source};
+use afr_volume::Volume;
+use afr_words::{Form, are_live};
+use std::alloc::Global;
+use std::mem;
+use std::sync::Wait;
+use std::thread::Threads;
+
+/// Serves the word `live`, and answers the status: the plan is read from the source and run by threads, in whatever order
+/// they come, and its report is written. The statuses are those of `afr_top`; it ends with 2 where the words are others.
+/// While the threads run, the empty volume stands in the place of the one that was lent. Each thread passes the gate
+/// before each of its turns. It returns if the threads do.
+pub fn afr_live<
+    R: Threads + Wait + Sync,
+    S: Source,
+    K: Sink,
+    F: Fn(&[Candidate]) -> usize + Sync,
+    G: Fn(&[Candidate]) -> usize + Sync,
+    H: Gate + Sync,
+>(
+    rt: &R,
+    alloc: Global,
+    words: &[String],
+    source: &mut S,
+    sink: &mut K,
+    volume: &mut Volume,
+    rules: &Rules<F, G>,
+    gate: &H,
+) -> u8
+    requires rule { IsRule F.Fn rules.now.heal }
+    requires read_rule { IsRule G.Fn rules.now.read }
+    requires fresh { volume.old ≡ no_volume }
+
+    // A plan was run, and its report is written.
+    ensures ok { result ≡ 0 → AreLive words.now × IsSpelled (S.left source.old) (S.left source.new) volume.new.plan
+        × Appends (K.taken sink.old) (K.taken sink.new) (report_of volume.new.plan volume.new.log) × IsComplete volume.new.plan volume.new.log × AreDone volume.new.plan volume.new.log }
+    ensures unfinished { result ≡ 7 → AreLive words.now × IsSpelled (S.left source.old) (S.left source.new) volume.new.plan
+        × Appends (K.taken sink.old) (K.taken sink.new) (report_of volume.new.plan volume.new.log) × IsFull volume.new.plan volume.new.log × IsWorkLeft volume.new.plan volume.new.log }
+
+    // No plan was run.
+    ensures usage { result ≡ 2 → (AreLive words.now → ⊥) × Appends (K.taken sink.old) (K.taken sink.new) usage_line × (source.new ≡ source.old) × (volume.new ≡ no_volume) }
+    ensures refused { result ≡ 3 → IsRefusal (S.left source.old) (S.left source.new) (K.taken sink.old) (K.taken sink.new) × (volume.new ≡ no_volume) }
+    ensures read { result ≡ 4 → Rose (S.faults source.old) (S.faults source.new) × (sink.new ≡ sink.old) × (volume.new ≡ no_volume) }
+
+    // The text is not whole.
+    ensures write { result ≡ 5 → Rose (K.faults sink.old) (K.faults sink.new)
+        × StopsLive words.now S.left source.old source.new (K.taken sink.old) (K.taken sink.new) volume.new }
+    ensures memory { result ≡ 6 → sink.new ≡ sink.old }
+
+    // The source tells its bytes, and no read failed.
+    ensures faulty { (bytes : List ℕ) (fault : PlanFault) → IsGivenLive words.now (S.left source.old) (S.faults source.old) (S.faults source.new) bytes
+        → HasFault bytes fault
+        → ((result ≡ 3) × Appends (K.taken sink.old) (K.taken sink.new) (refusal_line fault)) ⊎ (result ≡ 5) ⊎ (result ≡ 6) }
+    ensures spelled { (bytes : List ℕ) (plan : Plan) → IsGivenLive words.now (S.left source.old) (S.faults source.old) (S.faults source.new) bytes
+        → length bytes ≤ 16777216 → Spells bytes plan
+        → (result ≡ 0) ⊎ (result ≡ 7) ⊎ (result ≡ 5) ⊎ (result ≡ 6) }
+
+    // At every status.
+    ensures plan { (volume.new ≡ no_volume) ⊎ (AreLive words.now × IsSpelled (S.left source.old) (S.left source.new) volume.new.plan) }
+    ensures others { (AreLive words.now → ⊥) → (result ≡ 2) ⊎ (result ≡ 5) }
+    ensures few { (result ≡ 0) ⊎ (result ≡ 2) ⊎ (result ≡ 3) ⊎ (result ≡ 4) ⊎ (result ≡ 5) ⊎ (result ≡ 6) ⊎ (result ≡ 7) }
+    ensures follows { Follows volume.new.plan volume.new.log }
+    ensures honest { Honest volume.new.plan volume.new.log }
+    ensures lawful { IsLawfulExactly volume.new.plan volume.new.log }
+    ensures replied { Replied volume.new.plan volume.new.log }
+    ensures blamed { AreBlamed volume.new.plan volume.new.log }
+    ensures safe { IsAlwaysSafe volume.new.plan volume.new.log }
+    ensures fresh { AreFresh volume.new.plan volume.new.log }
+    ensures causes { EveryPrefix (HaveCauses volume.new.plan) volume.new.log }
+    ensures alike { EveryPrefix (AreAlike volume.new.plan) volume.new.log }
+    ensures quiet { AreQuietWhole volume.new.plan volume.new.log }
+{
+    let status = if are_live(words) {
+        read_and_run(rt, alloc, source, sink, volume, rules, gate)
+    } else {
+        answer(sink, USAGE, Status::Usage as u8)
+    };
+    volume.every_line();
+    status
+}
+
+/// Reads a plan from the source, and runs it by threads.
+fn read_and_run<
+    R: Threads + Wait + Sync,
+    S: Source,
+    K: Sink,
+    F: Fn(&[Candidate]) -> usize + Sync,
+    G: Fn(&[Candidate]) -> usize + Sync,
+    H: Gate + Sync,
+>(
+    rt: &R,
+    alloc: Global,
+    source: &mut S,
+    sink: &mut K,
+    volume: &mut Volume,
+    rules: &Rules<F, G>,
+    gate: &H,
+) -> u8
+    requires rule { IsRule F.Fn rules.now.heal }
+    requires read_rule { IsRule G.Fn rules.now.read }
+    requires fresh { volume.old ≡ no_volume }
+    ensures ok { result ≡ 0 → IsSpelled (S.left source.old) (S.left source.new) volume.new.plan × Appends (K.taken sink.old) (K.taken sink.new) (report_of volume.new.plan volume.new.log)
+        × IsComplete volume.new.plan volume.new.log × AreDone volume.new.plan volume.new.log }
+    ensures unfinished { result ≡ 7 → IsSpelled (S.left source.old) (S.left source.new) volume.new.plan × Appends (K.taken sink.old) (K.taken sink.new) (report_of volume.new.plan volume.new.log)
+        × IsFull volume.new.plan volume.new.log × IsWorkLeft volume.new.plan volume.new.log }
+    ensures refused { result ≡ 3 → IsRefusal (S.left source.old) (S.left source.new) (K.taken sink.old) (K.taken sink.new) × (volume.new ≡ no_volume) }
+    ensures read { result ≡ 4 → Rose (S.faults source.old) (S.faults source.new) × (sink.new ≡ sink.old) × (volume.new ≡ no_volume) }
+    ensures write { result ≡ 5 → Rose (K.faults sink.old) (K.faults sink.new)
+        × ((words : List (String Global)) → AreLive words → StopsLive words S.left source.old source.new (K.taken sink.old) (K.taken sink.new) volume.new) }
+    ensures memory { result ≡ 6 → sink.new ≡ sink.old }
+    ensures plan { (volume.new ≡ no_volume) ⊎ IsSpelled (S.left source.old) (S.left source.new) volume.new.plan }
+    ensures few { (result ≡ 0) ⊎ (result ≡ 3) ⊎ (result ≡ 4) ⊎ (result ≡ 5) ⊎ (result ≡ 6) ⊎ (result ≡ 7) }
+{
+    match read_runnable(alloc, source) {
+        Ok(plan) => run_live(rt, alloc, plan, sink, volume, rules, gate),
+        Err(Unread::Refused(fault)) => refuse(alloc, sink, fault),
+        Err(Unread::ReadFault) => Status::ReadFault as u8,
+        Err(Unread::NoMemory) => Status::NoMemory as u8,
+    }
+}
+
+/// Runs a plan by threads and writes its report, also where the log got full in the middle of the work.
+fn run_live<
+    R: Threads + Wait + Sync,
+    K: Sink,
+    F: Fn(&[Candidate]) -> usize + Sync,
+    G: Fn(&[Candidate]) -> usize + Sync,
+    H: Gate + Sync,
+>(
+    rt: &R,
+    alloc: Global,
+    plan: Plan,
+    sink: &mut K,
+    volume: &mut Volume,
+    rules: &Rules<F, G>,
+    gate: &H,
+) -> u8
+    requires rule { IsRule F.Fn rules.now.heal }
+    requires read_rule { IsRule G.Fn rules.now.read }
+    requires runnable { IsRunnable plan }
+    requires fresh { volume.old ≡ no_volume }
+    ensures few { (result ≡ 0) ⊎ (result ≡ 5) ⊎ (result ≡ 6) ⊎ (result ≡ 7) }
+    ensures plan { (volume.new ≡ no_volume) ⊎ (volume.new.plan ≡ plan) }
+    ensures ran { result ≢ 6 → volume.new.plan ≡ plan }
+    ensures ok { result ≡ 0 → IsComplete volume.new.plan volume.new.log × AreDone volume.new.plan volume.new.log }
+    ensures unfinished { result ≡ 7 → Appends (K.taken sink.old) (K.taken sink.new) (report_of volume.new.plan volume.new.log)
+        × IsFull volume.new.plan volume.new.log × IsWorkLeft volume.new.plan volume.new.log }
+    ensures text { result ≡ 0 → Appends (K.taken sink.old) (K.taken sink.new) (report_of volume.new.plan volume.new.log) }
+    ensures write { result ≡ 5 → Rose (K.faults sink.old) (K.faults sink.new) × AppendsFront (K.taken sink.old) (K.taken sink.new) (report_of volume.new.plan volume.new.log)
+        × IsComplete volume.new.plan volume.new.log × IsOver volume.new.plan volume.new.log }
+    ensures memory { result ≡ 6 → sink.new ≡ sink.old }
+{
+    if volume.set_up(plan).is_err() {
+        return Status::NoMemory as u8;
+    }
+    if run_lent(rt, alloc, volume, rules, gate).is_err() {
+        return Status::NoMemory as u8;
+    }
+    volume.every_line();
+    tell(alloc, Form::Run, sink, volume)
+}
+
+/// Lends the volume to the threads, and puts the one that they hand back in its place.
+fn run_lent<
+    R: Threads + Wait + Sync,
+    F: Fn(&[Candidate]) -> usize + Sync,
+    G: Fn(&[Candidate]) -> usize + Sync,
+    H: Gate + Sync,
+>(rt: &R, alloc: Global, volume: &mut Volume, rules: &Rules<F, G>, gate: &H) -> Result<(), NoMemory>
+    requires rule { IsRule F.Fn rules.now.heal }
+    requires read_rule { IsRule G.Fn rules.now.read }
+    requires fresh { volume.old.log ≡ [] }
+    ensures plan { volume.new.plan ≡ volume.old.plan }
+    ensures ok { OnOk result (IsComplete volume.new.plan volume.new.log) }
+{
+    let lent = mem::replace(volume, Volume::empty(alloc));
+    match live(rt, alloc, lent, rules, gate) {
+        Ok((ran, _ended)) => {
+            *volume = ran;
+            Ok(())
+        }
+        Err((stopped, stop)) => {
+            *volume = stopped;
+            Err(stop)
+        }
+    }
+}

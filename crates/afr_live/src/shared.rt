@@ -1,0 +1,190 @@
+//! What lies under the lock: the volume, and what its threads tell each other.
+ghost use Rattle.std.specs.Prelude.{◌≡◌, ◌⊎◌, ◌<◌, ◌+◌, ℕ, true, None, OnOk, IfOk, List, [], ◌∷◌, length};
+ghost use Rattle.afr_live.specs.Ends.{ends_in};
+ghost use Rattle.afr_live.specs.Turns.{Takes};
+ghost use Rattle.afr_lines.specs.Work.{is_end};
+ghost use Rattle.afr_lines.specs.declared.line.Line.{Line};
+ghost use Rattle.afr_model.specs.Actors.{IsActor, is_done};
+ghost use Rattle.afr_model.specs.Following.{NoneDue};
+ghost use Rattle.afr_order.specs.Going.{Goes};
+ghost use Rattle.afr_rule.specs.Choosing.{IsRule};
+ghost use Rattle.afr_volume.specs.Turning.{due_of};
+
+use crate::tally::{Handed, Run, Tally};
+use afr_base::{ActorId, NoMemory};
+use afr_lines::Line;
+use afr_order::come_due;
+use afr_rule::{Candidate, Rules};
+use afr_volume::{Turned, Volume};
+use std::sync::ledger::Book;
+
+/// A volume that threads share. Whenever its lock is free, its plan is that of the run, and its book has counted the End
+/// lines of its log.
+#[derive(Drop)]
+pub struct Shared<J: Run> {
+    pub volume: Volume,
+    ended: Book<J>,
+    /// The length of the log after the last line that wasn't told Held on a transaction's lock.
+    moved: u32,
+    /// A turn or an event wanted memory.
+    pub no_memory: bool,
+    /// The last actor for which no thread could be made.
+    unstarted: Option<ActorId>,
+    ghost planned: { volume.plan ≡ J.plan },
+    ghost counted: { ended.total ≡ ends_in volume.log },
+}
+
+/// How a thread goes on after a turn.
+#[derive(Clone, Copy, Debug)]
+pub enum After {
+    /// It takes its next turn.
+    Goes,
+    /// It waits for a line that comes after so many, and isn't told Held on a transaction's lock.
+    Waits(u32),
+    /// It ends.
+    Ends,
+}
+
+impl<J: Run> Shared<J> {
+    pub fn new(volume: Volume, ended: Book<J>) -> Shared<J>
+        requires plan { volume.plan ≡ J.plan }
+        requires fresh { volume.log ≡ [] }
+        requires none { ended.total ≡ 0 }
+    {
+        Shared {
+            volume,
+            ended,
+            moved: 0,
+            no_memory: false,
+            unstarted: None,
+        }
+    }
+
+    /// All events that are due. Each of them lets a thread that waits go on.
+    pub fn come_due(&mut self) -> Result<(), NoMemory>
+        ensures goes { Goes self.old.volume self.new.volume }
+        ensures none { OnOk result (due_of self.new.volume ≡ None) }
+        ensures events { OnOk result (length self.new.volume.log < self.new.volume.plan.turns → NoneDue self.new.volume.plan self.new.volume.log) }
+    {
+        let Shared { volume, moved, .. } = self;
+        let before = volume.len();
+        let come = come_due(volume);
+        if volume.len() > before {
+            *moved = volume.len();
+        }
+        come
+    }
+
+    /// The events that are due, and then one turn of an actor, which counts a work that it ends.
+    pub fn take_turn<F: Fn(&[Candidate]) -> usize, G: Fn(&[Candidate]) -> usize>(
+        &mut self,
+        a: ActorId,
+        rules: &Rules<F, G>,
+        mine: &mut Tally<J>,
+    ) -> Result<Turned, NoMemory>
+        requires rule { IsRule F.Fn rules.now.heal }
+        requires read_rule { IsRule G.Fn rules.now.read }
+        requires actor { IsActor J.plan a.0 }
+        requires backed { 0 < mine.old.share.parts }
+        ensures goes { Goes self.old.volume self.new.volume }
+        ensures ok { IfOk result (λ turned. Takes a self.old.volume turned self.new.volume) }
+        ensures parts { mine.new.share.parts ≡ mine.old.share.parts }
+    {
+        self.come_due()?;
+        let Shared {
+            volume,
+            ended,
+            moved,
+            ..
+        } = self;
+        let turned = volume.turn(a, rules)?;
+        if let Turned::Moved = turned {
+            *moved = volume.len();
+            if is_last_end(volume) {
+                mine.add(ended);
+            }
+        }
+        Ok(turned)
+    }
+
+    /// One turn of a thread. Where memory was wanting, it takes no further turn.
+    pub fn step<F: Fn(&[Candidate]) -> usize, G: Fn(&[Candidate]) -> usize>(
+        &mut self,
+        a: ActorId,
+        rules: &Rules<F, G>,
+        mine: &mut Tally<J>,
+    ) -> After
+        requires rule { IsRule F.Fn rules.now.heal }
+        requires read_rule { IsRule G.Fn rules.now.read }
+        requires actor { IsActor J.plan a.0 }
+        requires backed { 0 < mine.old.share.parts }
+        ensures goes { Goes self.old.volume self.new.volume }
+        ensures more { result ≡ After.Goes → length self.old.volume.log < length self.new.volume.log }
+        ensures waits { (seen : ℕ) → result ≡ After.Waits seen → seen ≡ length self.new.volume.log }
+        ensures ends { result ≡ After.Ends → (self.new.no_memory ≡ true) ⊎ (is_done self.new.volume.plan a.0 self.new.volume.log ≡ true) ⊎ (length self.new.volume.log ≡ self.new.volume.plan.turns) }
+        ensures parts { mine.new.share.parts ≡ mine.old.share.parts }
+    {
+        if self.no_memory {
+            return After::Ends;
+        }
+        match self.take_turn(a, rules, mine) {
+            Ok(Turned::Moved) => After::Goes,
+            Ok(Turned::Waits(_)) => After::Waits(self.volume.len()),
+            Ok(Turned::Ended | Turned::Full) => After::Ends,
+            Err(NoMemory) => {
+                self.no_memory = true;
+                After::Ends
+            }
+        }
+    }
+
+    /// Takes over what a thread has counted.
+    pub fn gather(&mut self, all: &mut Tally<J>, handed: Handed<J>)
+        ensures parts { all.new.share.parts ≡ all.old.share.parts + 1 }
+        ensures same { self.new.volume ≡ self.old.volume }
+    {
+        let _len = self.volume.len();
+        all.gather(&mut self.ended, handed);
+    }
+
+    /// How many works have ended, where every part of the ledger is there.
+    pub fn sum(&mut self, all: &mut Tally<J>) -> u64
+        requires { all.old.share.parts ≡ J.parts }
+        ensures sum { result ≡ ends_in self.new.volume.log }
+        ensures same { self.new.volume ≡ self.old.volume }
+    {
+        all.sum(&mut self.ended)
+    }
+
+    /// Notes that no thread can be made for an actor: from then on no thread waits.
+    pub fn note_unstarted(&mut self, a: ActorId) {
+        self.unstarted = Some(a);
+    }
+
+    /// Whether this actor was the last for which no thread could be made.
+    pub fn is_unstarted(&self, a: ActorId) -> bool {
+        self.unstarted == Some(a)
+    }
+
+    /// Whether a line that lets a waiting actor go on has come after so many lines, or none can come any more.
+    pub fn may_go(&self, seen: u32) -> bool {
+        self.moved > seen || self.volume.len() >= self.volume.plan().turns
+    }
+
+    /// Whether a thread that has seen so many lines goes on waiting.
+    pub fn holds(&self, seen: u32) -> bool {
+        !self.may_go(seen) && !self.no_memory && self.unstarted.is_none()
+    }
+}
+
+/// Whether the newest line ends a work.
+fn is_last_end(volume: &Volume) -> bool
+    requires some { 0 < length volume.now.log }
+    ensures { (line : Line) (older : List Line) → volume.now.log ≡ line ∷ older → result ≡ is_end line }
+{
+    let newest = volume.line(volume.len() - 1);
+    match newest.as_line() {
+        Line::End { .. } => true,
+        _ => false,
+    }
+}
