@@ -7,8 +7,8 @@ ghost use Rattle.afr_gen.specs.Generated.{generated};
 ghost use Rattle.afr_model.specs.Complete.{IsComplete};
 ghost use Rattle.afr_model.specs.Ordered.{IsOrdered};
 ghost use Rattle.afr_rule.specs.Choosing.{IsRule};
-ghost use Rattle.afr_sources.specs.Sources.{picks_of};
-ghost use Rattle.afr_volume.specs.State.{IsChosen, no_volume};
+ghost use Rattle.afr_volume.specs.Right.{IsChosenBy};
+ghost use Rattle.afr_volume.specs.State.{no_volume};
 ghost use Rattle.afr_cli.specs.Forms.{text_of};
 ghost use Rattle.afr_cli.specs.Statuses.{AreDone, IsFull, IsOver, IsWorkLeft};
 
@@ -46,7 +46,7 @@ pub fn make_and_run<K: Sink, F: Fn(&[Candidate]) -> usize, G: Fn(&[Candidate]) -
     ensures write { result ≡ 5 → Rose (K.faults sink.old) (K.faults sink.new) × AppendsFront (K.taken sink.old) (K.taken sink.new) (text_of (Form.Gen n) volume.new.plan volume.new.log)
         × IsComplete volume.new.plan volume.new.log × IsOver volume.new.plan volume.new.log }
     ensures memory { result ≡ 6 → sink.new ≡ sink.old }
-    ensures chosen { IsChosen (picks_of G.Fn rules.now.read) (picks_of F.Fn rules.now.heal) volume.new }
+    ensures chosen { IsChosenBy F.Fn G.Fn rules.now volume.new }
 {
     match gen_plan(alloc, n) {
         Ok(plan) => {

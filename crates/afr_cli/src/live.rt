@@ -4,23 +4,14 @@ ghost use Rattle.std.specs.Global.{Global};
 ghost use Rattle.std.specs.Io.KnownBytes.{Appends};
 ghost use Rattle.afr_text.specs.Causes.{Rose};
 ghost use Rattle.afr_text.specs.Parts.{AppendsFront};
-ghost use Rattle.afr_law.specs.Exactly.{IsLawfulExactly};
-ghost use Rattle.afr_law.specs.ModelAlike.{AreAlike};
-ghost use Rattle.afr_law.specs.ModelCauses.{HaveCauses};
-ghost use Rattle.afr_lines.specs.Log.{EveryPrefix};
-ghost use Rattle.afr_model.specs.Blamed.{AreBlamed};
 ghost use Rattle.afr_model.specs.Complete.{IsComplete};
-ghost use Rattle.afr_model.specs.Following.{Follows};
-ghost use Rattle.afr_model.specs.Honest.{Honest};
 ghost use Rattle.afr_model.specs.ReportHealers.{report_of};
-ghost use Rattle.afr_model.specs.Replied.{Replied};
-ghost use Rattle.afr_model.specs.Safe.{AreFresh, IsAlwaysSafe};
 ghost use Rattle.afr_plan.specs.declared.plan.Plan.{Plan};
 ghost use Rattle.afr_plan.specs.declared.plan.PlanFault.{PlanFault};
 ghost use Rattle.afr_plan.specs.Spells.{Spells};
-ghost use Rattle.afr_quiet.specs.Undisturbed.{AreQuietWhole};
 ghost use Rattle.afr_rule.specs.Choosing.{IsRule};
 ghost use Rattle.afr_runnable.specs.Runnable.{IsRunnable};
+ghost use Rattle.afr_volume.specs.Right.{IsRight};
 ghost use Rattle.afr_volume.specs.State.{no_volume};
 ghost use Rattle.afr_words.specs.Forms.{AreLive};
 ghost use Rattle.afr_cli.specs.Live.{IsGivenLive, StopsLive};
@@ -95,16 +86,7 @@ pub fn afr_live<
     ensures plan { (volume.new ≡ no_volume) ⊎ (AreLive words.now × IsSpelled (S.left source.old) (S.left source.new) volume.new.plan) }
     ensures others { (AreLive words.now → ⊥) → (result ≡ 2) ⊎ (result ≡ 5) }
     ensures few { (result ≡ 0) ⊎ (result ≡ 2) ⊎ (result ≡ 3) ⊎ (result ≡ 4) ⊎ (result ≡ 5) ⊎ (result ≡ 6) ⊎ (result ≡ 7) }
-    ensures follows { Follows volume.new.plan volume.new.log }
-    ensures honest { Honest volume.new.plan volume.new.log }
-    ensures lawful { IsLawfulExactly volume.new.plan volume.new.log }
-    ensures replied { Replied volume.new.plan volume.new.log }
-    ensures blamed { AreBlamed volume.new.plan volume.new.log }
-    ensures safe { IsAlwaysSafe volume.new.plan volume.new.log }
-    ensures fresh { AreFresh volume.new.plan volume.new.log }
-    ensures causes { EveryPrefix (HaveCauses volume.new.plan) volume.new.log }
-    ensures alike { EveryPrefix (AreAlike volume.new.plan) volume.new.log }
-    ensures quiet { AreQuietWhole volume.new.plan volume.new.log }
+    ensures right { IsRight volume.new.plan volume.new.log }
 {
     let status = if are_live(words) {
         read_and_run(rt, alloc, source, sink, volume, rules, gate)

@@ -2,25 +2,15 @@
 ghost use Rattle.std.specs.Prelude.{◌≡◌, ◌≤◌, ◌⊎◌, ℕ, List, String, length, false, true};
 ghost use Rattle.std.specs.Global.{Global};
 ghost use Rattle.afr_text.specs.Causes.{Rose};
-ghost use Rattle.afr_law.specs.Exactly.{IsLawfulExactly};
-ghost use Rattle.afr_law.specs.ModelAlike.{AreAlike};
-ghost use Rattle.afr_law.specs.ModelCauses.{HaveCauses};
-ghost use Rattle.afr_lines.specs.Log.{EveryPrefix};
-ghost use Rattle.afr_model.specs.Blamed.{AreBlamed};
 ghost use Rattle.afr_model.specs.Complete.{IsComplete};
-ghost use Rattle.afr_model.specs.Following.{Follows};
-ghost use Rattle.afr_model.specs.Honest.{Honest};
 ghost use Rattle.afr_model.specs.Ordered.{IsOrdered};
-ghost use Rattle.afr_model.specs.Replied.{Replied};
-ghost use Rattle.afr_model.specs.Safe.{AreFresh, IsAlwaysSafe};
 ghost use Rattle.std.specs.Io.KnownBytes.{Appends};
 ghost use Rattle.afr_plan.specs.declared.plan.Plan.{Plan};
 ghost use Rattle.afr_plan.specs.declared.plan.PlanFault.{PlanFault};
 ghost use Rattle.afr_plan.specs.Spells.{Spells};
-ghost use Rattle.afr_quiet.specs.Undisturbed.{AreQuietWhole};
 ghost use Rattle.afr_rule.specs.Choosing.{IsRule};
-ghost use Rattle.afr_sources.specs.Sources.{picks_of};
-ghost use Rattle.afr_volume.specs.State.{IsChosen, no_volume};
+ghost use Rattle.afr_volume.specs.Right.{IsChosenBy, IsRight};
+ghost use Rattle.afr_volume.specs.State.{no_volume};
 ghost use Rattle.afr_words.specs.Forms.{AreForm, AreRefused, AskFor};
 ghost use Rattle.afr_cli.specs.Forms.{reads, text_of};
 ghost use Rattle.afr_cli.specs.Statuses.{AreDone, HasFault, AreGiven, IsFull, IsPlanOf, IsPlanned, IsRefusal, IsSpelled, IsWorkLeft, Reports, StopsWriting, refusal_line, usage_line};
@@ -71,8 +61,7 @@ pub fn afr_top<S: Source, K: Sink, F: Fn(&[Candidate]) -> usize, G: Fn(&[Candida
     ensures memory { result ≡ 6 → sink.new ≡ sink.old }
 
     // The words ask for a generated load.
-    ensures unread { (n : ℕ) → AskFor words.now (Form.Gen n) → source.new ≡ source.old }
-    ensures generated { (n : ℕ) → AskFor words.now (Form.Gen n) → (result ≡ 0) ⊎ (result ≡ 7) ⊎ (result ≡ 5) ⊎ (result ≡ 6) }
+    ensures generated { (n : ℕ) → AskFor words.now (Form.Gen n) → (source.new ≡ source.old) × ((result ≡ 0) ⊎ (result ≡ 7) ⊎ (result ≡ 5) ⊎ (result ≡ 6)) }
 
     // The words ask for a form that reads, the source tells its bytes, and no read failed.
     ensures faulty { (bytes : List ℕ) (fault : PlanFault) → AreGiven words.now (S.left source.old) (S.faults source.old) (S.faults source.new) bytes
@@ -84,21 +73,11 @@ pub fn afr_top<S: Source, K: Sink, F: Fn(&[Candidate]) -> usize, G: Fn(&[Candida
 
     // At every status.
     ensures plan { (volume.new ≡ no_volume) ⊎ IsPlanned words.now (S.left source.old) (S.left source.new) volume.new.plan }
-    ensures others { (AreForm words.now → ⊥) → (result ≡ 2) ⊎ (result ≡ 5) ⊎ (result ≡ 6) }
-    ensures bare { AreRefused words.now → (result ≡ 2) ⊎ (result ≡ 5) }
+    ensures others { ((AreForm words.now → ⊥) → (result ≡ 2) ⊎ (result ≡ 5) ⊎ (result ≡ 6)) × (AreRefused words.now → (result ≡ 2) ⊎ (result ≡ 5)) }
     ensures few { (result ≡ 0) ⊎ (result ≡ 2) ⊎ (result ≡ 3) ⊎ (result ≡ 4) ⊎ (result ≡ 5) ⊎ (result ≡ 6) ⊎ (result ≡ 7) }
-    ensures follows { Follows volume.new.plan volume.new.log }
+    ensures right { IsRight volume.new.plan volume.new.log }
     ensures ordered { IsOrdered volume.new.plan volume.new.log }
-    ensures honest { Honest volume.new.plan volume.new.log }
-    ensures lawful { IsLawfulExactly volume.new.plan volume.new.log }
-    ensures replied { Replied volume.new.plan volume.new.log }
-    ensures blamed { AreBlamed volume.new.plan volume.new.log }
-    ensures safe { IsAlwaysSafe volume.new.plan volume.new.log }
-    ensures fresh { AreFresh volume.new.plan volume.new.log }
-    ensures causes { EveryPrefix (HaveCauses volume.new.plan) volume.new.log }
-    ensures alike { EveryPrefix (AreAlike volume.new.plan) volume.new.log }
-    ensures quiet { AreQuietWhole volume.new.plan volume.new.log }
-    ensures chosen { IsChosen (picks_of G.Fn rules.now.read) (picks_of F.Fn rules.now.heal) volume.new }
+    ensures chosen { IsChosenBy F.Fn G.Fn rules.now volume.new }
 {
     let status = match form_of(alloc, words) {
         Ok(Some(form)) => serve(alloc, form, source, sink, volume, rules),
@@ -137,7 +116,7 @@ fn serve<S: Source, K: Sink, F: Fn(&[Candidate]) -> usize, G: Fn(&[Candidate]) -
     ensures plan { (volume.new ≡ no_volume) ⊎ IsPlanOf form (S.left source.old) (S.left source.new) volume.new.plan }
     ensures few { (result ≡ 0) ⊎ (result ≡ 3) ⊎ (result ≡ 4) ⊎ (result ≡ 5) ⊎ (result ≡ 6) ⊎ (result ≡ 7) }
     ensures ordered { IsOrdered volume.new.plan volume.new.log }
-    ensures chosen { IsChosen (picks_of G.Fn rules.now.read) (picks_of F.Fn rules.now.heal) volume.new }
+    ensures chosen { IsChosenBy F.Fn G.Fn rules.now volume.new }
 {
     match form {
         Form::Gen(n) => make_and_run(alloc, n, sink, volume, rules),
@@ -171,7 +150,7 @@ fn read_and_run<S: Source, K: Sink, F: Fn(&[Candidate]) -> usize, G: Fn(&[Candid
     ensures plan { (volume.new ≡ no_volume) ⊎ IsSpelled (S.left source.old) (S.left source.new) volume.new.plan }
     ensures few { (result ≡ 0) ⊎ (result ≡ 3) ⊎ (result ≡ 4) ⊎ (result ≡ 5) ⊎ (result ≡ 6) ⊎ (result ≡ 7) }
     ensures ordered { IsOrdered volume.new.plan volume.new.log }
-    ensures chosen { IsChosen (picks_of G.Fn rules.now.read) (picks_of F.Fn rules.now.heal) volume.new }
+    ensures chosen { IsChosenBy F.Fn G.Fn rules.now volume.new }
 {
     match read_runnable(alloc, source) {
         Ok(plan) => run_plan(alloc, form, plan, sink, volume, rules),

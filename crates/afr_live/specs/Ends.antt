@@ -4,6 +4,6 @@ use Rattle.afr_lines.specs.declared.line.Line.{Line}
 use Rattle.afr_lines.specs.Work.{is_end}
 
 -- the End lines of a log
-abbrev pub ends_in : List Line → ℕ
-ends_in [] = 0
-ends_in (line ∷ older) = if is_end line then ends_in older + 1 else ends_in older
+abbrev pub works_ended : List Line → ℕ
+works_ended [] = 0
+works_ended (line ∷ older) = if is_end line then works_ended older + 1 else works_ended older

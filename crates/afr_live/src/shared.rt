@@ -1,6 +1,6 @@
 //! What lies under the lock: the volume, and what its threads tell each other.
 ghost use Rattle.std.specs.Prelude.{◌≡◌, ◌⊎◌, ◌<◌, ◌+◌, ℕ, true, None, OnOk, IfOk, List, [], ◌∷◌, length};
-ghost use Rattle.afr_live.specs.Ends.{ends_in};
+ghost use Rattle.afr_live.specs.Ends.{works_ended};
 ghost use Rattle.afr_live.specs.Turns.{Takes};
 ghost use Rattle.afr_lines.specs.Work.{is_end};
 ghost use Rattle.afr_lines.specs.declared.line.Line.{Line};
@@ -18,6 +18,9 @@ use afr_rule::{Candidate, Rules};
 use afr_volume::{Turned, Volume};
 use std::sync::ledger::Book;
 
+/// One more than the highest number of an actor.
+const ACTORS: usize = 20;
+
 /// A volume that threads share. Whenever its lock is free, its plan is that of the run, and its book has counted the End
 /// lines of its log.
 #[derive(Drop)]
@@ -26,12 +29,14 @@ pub struct Shared<J: Run> {
     ended: Book<J>,
     /// The length of the log after the last line that wasn't told Held on a transaction's lock.
     moved: u32,
+    /// By the numbers of the actors: the length of the log after the last line of each that was told so.
+    told_held: [u32; ACTORS],
     /// A turn or an event wanted memory.
     pub no_memory: bool,
     /// The last actor for which no thread could be made.
     unstarted: Option<ActorId>,
     ghost planned: { volume.plan ≡ J.plan },
-    ghost counted: { ended.total ≡ ends_in volume.log },
+    ghost counted: { ended.total ≡ works_ended volume.log },
 }
 
 /// How a thread goes on after a turn.
@@ -39,8 +44,8 @@ pub struct Shared<J: Run> {
 pub enum After {
     /// It takes its next turn.
     Goes,
-    /// It waits for a line that comes after so many, and isn't told Held on a transaction's lock.
-    Waits(u32),
+    /// It waits for another line than one that is told Held on a transaction's lock.
+    Waits,
     /// It ends.
     Ends,
 }
@@ -55,6 +60,7 @@ impl<J: Run> Shared<J> {
             volume,
             ended,
             moved: 0,
+            told_held: [0; ACTORS],
             no_memory: false,
             unstarted: None,
         }
@@ -95,19 +101,24 @@ impl<J: Run> Shared<J> {
             volume,
             ended,
             moved,
+            told_held,
             ..
         } = self;
         let turned = volume.turn(a, rules)?;
-        if let Turned::Moved = turned {
-            *moved = volume.len();
-            if is_last_end(volume) {
-                mine.add(ended);
+        match turned {
+            Turned::Moved => {
+                *moved = volume.len();
+                if is_last_end(volume) {
+                    mine.add(ended);
+                }
             }
+            Turned::Waits(_) => note_held(told_held, a, volume.len()),
+            Turned::Ended | Turned::Full => {}
         }
         Ok(turned)
     }
 
-    /// One turn of a thread. Where memory was wanting, it takes no further turn.
+    /// One turn of a thread. An actor that is held takes none, and where memory was wanting nobody takes a further one.
     pub fn step<F: Fn(&[Candidate]) -> usize, G: Fn(&[Candidate]) -> usize>(
         &mut self,
         a: ActorId,
@@ -120,16 +131,18 @@ impl<J: Run> Shared<J> {
         requires backed { 0 < mine.old.share.parts }
         ensures goes { Goes self.old.volume self.new.volume }
         ensures more { result ≡ After.Goes → length self.old.volume.log < length self.new.volume.log }
-        ensures waits { (seen : ℕ) → result ≡ After.Waits seen → seen ≡ length self.new.volume.log }
         ensures ends { result ≡ After.Ends → (self.new.no_memory ≡ true) ⊎ (is_done self.new.volume.plan a.0 self.new.volume.log ≡ true) ⊎ (length self.new.volume.log ≡ self.new.volume.plan.turns) }
         ensures parts { mine.new.share.parts ≡ mine.old.share.parts }
     {
         if self.no_memory {
             return After::Ends;
         }
+        if self.waits(a) {
+            return After::Waits;
+        }
         match self.take_turn(a, rules, mine) {
             Ok(Turned::Moved) => After::Goes,
-            Ok(Turned::Waits(_)) => After::Waits(self.volume.len()),
+            Ok(Turned::Waits(_)) => After::Waits,
             Ok(Turned::Ended | Turned::Full) => After::Ends,
             Err(NoMemory) => {
                 self.no_memory = true;
@@ -150,7 +163,7 @@ impl<J: Run> Shared<J> {
     /// How many works have ended, where every part of the ledger is there.
     pub fn sum(&mut self, all: &mut Tally<J>) -> u64
         requires { all.old.share.parts ≡ J.parts }
-        ensures sum { result ≡ ends_in self.new.volume.log }
+        ensures sum { result ≡ works_ended self.new.volume.log }
         ensures same { self.new.volume ≡ self.old.volume }
     {
         all.sum(&mut self.ended)
@@ -166,14 +179,38 @@ impl<J: Run> Shared<J> {
         self.unstarted == Some(a)
     }
 
-    /// Whether a line that lets a waiting actor go on has come after so many lines, or none can come any more.
-    pub fn may_go(&self, seen: u32) -> bool {
-        self.moved > seen || self.volume.len() >= self.volume.plan().turns
+    /// Whether the actor was told Held on a transaction's lock, and since then came no other line than such ones.
+    pub fn is_held(&self, a: ActorId) -> bool {
+        match self.told_held.get(a.0 as usize) {
+            Some(told) => *told > self.moved,
+            None => false,
+        }
     }
 
-    /// Whether a thread that has seen so many lines goes on waiting.
-    pub fn holds(&self, seen: u32) -> bool {
-        !self.may_go(seen) && !self.no_memory && self.unstarted.is_none()
+    /// Whether the actor's next turn waits: it is held, and the log has room for a line that lets it go on.
+    pub fn waits(&self, a: ActorId) -> bool {
+        self.is_held(a) && !self.is_full()
+    }
+
+    /// Whether the actor's thread goes on waiting.
+    pub fn sleeps(&self, a: ActorId) -> bool {
+        self.waits(a) && !self.no_memory && self.unstarted.is_none()
+    }
+
+    /// Whether what came after so many lines may let a thread go on that waits.
+    pub fn wakes(&self, before: u32) -> bool {
+        self.moved > before || self.is_full() || self.no_memory
+    }
+
+    fn is_full(&self) -> bool {
+        self.volume.len() >= self.volume.plan().turns
+    }
+}
+
+/// Notes the length of the log after an actor was told Held.
+fn note_held(told_held: &mut [u32; ACTORS], a: ActorId, len: u32) {
+    if let Some(told) = told_held.get_mut(a.0 as usize) {
+        *told = len;
     }
 }
 

@@ -1,20 +1,11 @@
 //! A thread for each actor, and what is done once they have ended.
 ghost use Rattle.std.specs.Prelude.{◌≡◌, ◌≤◌, ◌<◌, ◌+◌, IfOk, [], length};
-ghost use Rattle.afr_law.specs.Exactly.{IsLawfulExactly};
-ghost use Rattle.afr_law.specs.ModelAlike.{AreAlike};
-ghost use Rattle.afr_law.specs.ModelCauses.{HaveCauses};
-ghost use Rattle.afr_lines.specs.Log.{EveryPrefix};
-ghost use Rattle.afr_live.specs.Ends.{ends_in};
+ghost use Rattle.afr_live.specs.Ends.{works_ended};
 ghost use Rattle.afr_live.specs.Handed.{volume_of};
 ghost use Rattle.afr_model.specs.Actors.{IsActor};
-ghost use Rattle.afr_model.specs.Blamed.{AreBlamed};
 ghost use Rattle.afr_model.specs.Complete.{IsComplete};
-ghost use Rattle.afr_model.specs.Following.{Follows};
-ghost use Rattle.afr_model.specs.Honest.{Honest};
-ghost use Rattle.afr_model.specs.Replied.{Replied};
-ghost use Rattle.afr_model.specs.Safe.{AreFresh, IsAlwaysSafe};
-ghost use Rattle.afr_quiet.specs.Undisturbed.{AreQuietWhole};
 ghost use Rattle.afr_rule.specs.Choosing.{IsRule};
+ghost use Rattle.afr_volume.specs.Right.{IsRight};
 
 use crate::gate::Gate;
 use crate::rest::take_rest;
@@ -52,18 +43,9 @@ pub fn live<
     requires read_rule { IsRule G.Fn rules.now.read }
     requires fresh { volume.log ≡ [] }
     ensures plan { (volume_of result).plan ≡ volume.plan }
-    ensures ok { IfOk result (λ ran. IsComplete ran.0.plan ran.0.log) }
-    ensures ended { IfOk result (λ ran. ran.1 ≡ ends_in ran.0.log) }
-    ensures follows { Follows (volume_of result).plan (volume_of result).log }
-    ensures honest { Honest (volume_of result).plan (volume_of result).log }
-    ensures lawful { IsLawfulExactly (volume_of result).plan (volume_of result).log }
-    ensures replied { Replied (volume_of result).plan (volume_of result).log }
-    ensures blamed { AreBlamed (volume_of result).plan (volume_of result).log }
-    ensures safe { IsAlwaysSafe (volume_of result).plan (volume_of result).log }
-    ensures fresh { AreFresh (volume_of result).plan (volume_of result).log }
-    ensures causes { EveryPrefix (HaveCauses (volume_of result).plan) (volume_of result).log }
-    ensures alike { EveryPrefix (AreAlike (volume_of result).plan) (volume_of result).log }
-    ensures quiet { AreQuietWhole (volume_of result).plan (volume_of result).log }
+    ensures complete { IfOk result (λ ran. IsComplete ran.0.plan ran.0.log) }
+    ensures count { IfOk result (λ ran. ran.1 ≡ works_ended ran.0.log) }
+    ensures right { IsRight (volume_of result).plan (volume_of result).log }
 {
     volume.every_line();
     let actors = (volume.plan().clients.len() + volume.plan().healers.len()) as u64;
@@ -102,8 +84,8 @@ fn live_as<
     requires read_rule { IsRule G.Fn rules.now.read }
     requires fresh { volume.log ≡ [] }
     ensures plan { (volume_of result).plan ≡ volume.plan }
-    ensures ok { IfOk result (λ ran. IsComplete ran.0.plan ran.0.log) }
-    ensures ended { IfOk result (λ ran. ran.1 ≡ ends_in ran.0.log) }
+    ensures complete { IfOk result (λ ran. IsComplete ran.0.plan ran.0.log) }
+    ensures count { IfOk result (λ ran. ran.1 ≡ works_ended ran.0.log) }
 {
     volume.every_line();
     let clients = volume.plan().clients.len() as u16;
@@ -297,15 +279,15 @@ fn take_turn<J: Run, R: Wait, F: Fn(&[Candidate]) -> usize, G: Fn(&[Candidate]) 
     let state = &mut *guard;
     let before = state.volume.len();
     let after = state.step(a, rules, mine);
-    if state.may_go(before) || state.no_memory {
+    if state.wakes(before) {
         moved.notify_all();
     }
     match after {
         After::Goes => true,
         After::Ends => false,
-        After::Waits(seen) => {
-            let woken = moved.wait_while(rt, guard, |state| state.holds(seen));
-            woken.may_go(seen)
+        After::Waits => {
+            let woken = moved.wait_while(rt, guard, |state| state.sleeps(a));
+            !woken.waits(a)
         }
     }
 }
@@ -323,8 +305,8 @@ fn finish<J: Run, R: Threads, F: Fn(&[Candidate]) -> usize, G: Fn(&[Candidate]) 
     requires own { 0 < tally.share.parts }
     requires parts { tally.share.parts + running.len ≡ J.parts }
     ensures plan { (volume_of result).plan ≡ J.plan }
-    ensures ok { IfOk result (λ ran. IsComplete ran.0.plan ran.0.log) }
-    ensures ended { IfOk result (λ ran. ran.1 ≡ ends_in ran.0.log) }
+    ensures complete { IfOk result (λ ran. IsComplete ran.0.plan ran.0.log) }
+    ensures count { IfOk result (λ ran. ran.1 ≡ works_ended ran.0.log) }
 {
     let mut state = state;
     let mut tally = tally;

@@ -10,7 +10,7 @@ use Rattle.afr_model.specs.Ordered.{IsOrdered, actors_of, ordered_turns, passes}
 use Rattle.afr_model.specs.Ordered.Writes.{Nothing}
 use Rattle.afr_volume.specs.State.{State}
 use Rattle.afr_model.specs.Actors.{is_done}
-use Rattle.afr_order.specs.Going.{Goes, Takes, TakesFront}
+use Rattle.afr_order.specs.Going.{Goes, Takes, TakesFront, TakesPasses}
 use Rattle.afr_order.proofs.GoingLemmas.{front_more, front_then, takes_then, takes_passes}
 
 pub range_suc : (a n j : ℕ) → a + n ≡ j → range_with_len a (suc n) ≡ range_with_len a n ++ j ∷ []
@@ -68,13 +68,19 @@ ordered_of p old log rounds e t = record { turns = t.front; later = t.later; rou
 pub ordered_by_orders : (p : Plan) (old log : List Line) → old ≡ [] → TakesFront p (ordered_turns p.go) old log → IsOrdered p log
 ordered_by_orders p old log e t = ordered_of p old log 0 e (front_more p old log (ordered_turns p.go) [] t)
 
--- after some passes, one more
-pub ordered_by_pass : (a b c : State) (rounds : ℕ) → a.log ≡ [] → Goes a b → Takes a.plan (ordered_turns a.plan.go ++ passes rounds (actors_of a.plan)) a.log b.log → TakesFront b.plan (actors_of b.plan) b.log c.log → IsOrdered a.plan c.log
-ordered_by_pass a b c rounds e g t f =
-    let k : TakesFront b.plan (actors_of a.plan) b.log c.log = rw (ap actors_of g.plan) at f in
-    ordered_of a.plan a.log c.log (suc rounds) e (rw (← append_assoc (ordered_turns a.plan.go) (passes rounds (actors_of a.plan)) (actors_of a.plan)) (front_then a b c (ordered_turns a.plan.go ++ passes rounds (actors_of a.plan)) (actors_of a.plan) g t k))
+-- after the orders, a front of the passes
+pub ordered_by_passes : (a b c : State) → a.log ≡ [] → Goes a b → Takes a.plan (ordered_turns a.plan.go) a.log b.log → TakesPasses b.plan b.log c.log → IsOrdered a.plan c.log
+ordered_by_passes a b c e g t (rounds, f) =
+    let k : TakesFront b.plan (passes rounds (actors_of a.plan)) b.log c.log = rw (ap actors_of g.plan) at f in
+    ordered_of a.plan a.log c.log rounds e (front_then a b c (ordered_turns a.plan.go) (passes rounds (actors_of a.plan)) g t k)
 
-pub takes_pass : (a b c : State) (rounds : ℕ) → Goes a b → Takes a.plan (ordered_turns a.plan.go ++ passes rounds (actors_of a.plan)) a.log b.log → Takes b.plan (actors_of b.plan) b.log c.log → Takes a.plan (ordered_turns a.plan.go ++ passes (suc rounds) (actors_of a.plan)) a.log c.log
+-- after some passes, a front of one more
+pub front_of_passes : (a b c : State) (rounds : ℕ) → Goes a b → Takes a.plan (passes rounds (actors_of a.plan)) a.log b.log → TakesFront b.plan (actors_of b.plan) b.log c.log → TakesPasses a.plan a.log c.log
+front_of_passes a b c rounds g t f =
+    let k : TakesFront b.plan (actors_of a.plan) b.log c.log = rw (ap actors_of g.plan) at f in
+    (suc rounds, front_then a b c (passes rounds (actors_of a.plan)) (actors_of a.plan) g t k)
+
+pub takes_pass : (a b c : State) (rounds : ℕ) → Goes a b → Takes a.plan (passes rounds (actors_of a.plan)) a.log b.log → Takes b.plan (actors_of b.plan) b.log c.log → Takes a.plan (passes (suc rounds) (actors_of a.plan)) a.log c.log
 takes_pass a b c rounds g t f =
     let k : Takes b.plan (actors_of a.plan) b.log c.log = rw (ap actors_of g.plan) at f in
-    rw (← append_assoc (ordered_turns a.plan.go) (passes rounds (actors_of a.plan)) (actors_of a.plan)) (takes_then a b c (ordered_turns a.plan.go ++ passes rounds (actors_of a.plan)) (actors_of a.plan) g t k)
+    takes_then a b c (passes rounds (actors_of a.plan)) (actors_of a.plan) g t k

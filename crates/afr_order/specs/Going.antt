@@ -6,7 +6,7 @@ use Rattle.afr_volume.specs.State.{State}
 use Rattle.afr_volume.specs.Turning.{Comes}
 use Rattle.afr_model.specs.Actors.{IsActor, is_done}
 use Rattle.afr_model.specs.Following.{NoneDue}
-use Rattle.afr_model.specs.Ordered.{Writes}
+use Rattle.afr_model.specs.Ordered.{Writes, actors_of, passes}
 use Rattle.afr_volume.specs.declared.turned.Turned.{Turned}
 use Rattle.afr_volume.specs.declared.turned.Turned.TheVariants.{Full}
 
@@ -32,6 +32,10 @@ pub record TakesFront (p : Plan) (turns : List ℕ) (old new : List Line) : Type
   pub later : List ℕ
   pub whole : front ++ later ≡ turns
   pub taken : Takes p front old new
+
+-- a number of passes over the actors, of which the last may have been cut off, took the old log to the new one
+abbrev pub TakesPasses : Plan → List Line → List Line → Type 0
+TakesPasses p old new = (rounds : ℕ) × TakesFront p (passes rounds (actors_of p)) old new
 
 -- all of these turns were taken, or the log is full
 abbrev pub Ends : List ℕ → State → Bool → State → Type 0

@@ -1,37 +1,25 @@
 //! Turns of actors in the stated order.
 #![tactic(auto)]
 
-ghost use Rattle.std.specs.Prelude.{◌≡◌, OnOk, []};
-ghost use Rattle.afr_law.specs.Exactly.{IsLawfulExactly};
-ghost use Rattle.afr_law.specs.ModelAlike.{AreAlike};
-ghost use Rattle.afr_law.specs.ModelCauses.{HaveCauses};
-ghost use Rattle.afr_lines.specs.Log.{EveryPrefix};
-ghost use Rattle.afr_model.specs.Blamed.{AreBlamed};
+ghost use Rattle.std.specs.Prelude.{◌≡◌, IfOk, OnOk, []};
 ghost use Rattle.afr_model.specs.Complete.{IsComplete};
-ghost use Rattle.afr_model.specs.Following.{Follows};
-ghost use Rattle.afr_model.specs.Honest.{Honest};
-ghost use Rattle.afr_model.specs.Ordered.{IsOrdered};
-ghost use Rattle.afr_model.specs.Replied.{Replied};
-ghost use Rattle.afr_model.specs.Safe.{AreFresh, IsAlwaysSafe};
-ghost use Rattle.afr_quiet.specs.Undisturbed.{AreQuietWhole};
+ghost use Rattle.afr_model.specs.Ordered.{IsOrdered, ordered_turns};
+ghost use Rattle.afr_order.specs.Going.{Ends, Goes, TakesFront, TakesPasses};
 ghost use Rattle.afr_rule.specs.Choosing.{IsRule};
-ghost use Rattle.afr_sources.specs.Sources.{picks_of};
-ghost use Rattle.afr_volume.specs.State.{IsChosen};
+ghost use Rattle.afr_volume.specs.Right.{IsChosenBy, IsRight, KeepsChosen};
 
 mod rows;
 mod turns;
 
-use crate::rows::{count_done, take_orders, take_pass};
+use crate::rows::{all_orders, all_passes};
 use afr_base::NoMemory;
 use afr_rule::{Candidate, Rules};
 use afr_volume::Volume;
 pub use turns::come_due;
 
-/// Runs the plan that the volume was set up with, until every actor is done or the log is full.
-/// First come the orders of the plan, then passes over all actors in rising order: clients, then
-/// healers. Before each turn, and at the end, all due events come. It takes one turn for each line;
-/// an order asks its actor at most once more, and a pass each actor but the clients that are done, from the first on.
-/// Heals ask one of the rules for their sources, and clients the other for the copies that they read.
+/// Runs the plan that the volume was set up with, until every actor is done or the log is full: first its orders, then
+/// passes over all actors. Heals ask one of the rules for their sources, and clients the other for the copies that they
+/// read.
 pub fn drive<F: Fn(&[Candidate]) -> usize, G: Fn(&[Candidate]) -> usize>(
     volume: &mut Volume,
     rules: &Rules<F, G>,
@@ -42,17 +30,8 @@ pub fn drive<F: Fn(&[Candidate]) -> usize, G: Fn(&[Candidate]) -> usize>(
     ensures plan { volume.new.plan ≡ volume.old.plan }
     ensures ok { OnOk result (IsComplete volume.new.plan volume.new.log) }
     ensures ordered { IsOrdered volume.new.plan volume.new.log }
-    ensures follows { Follows volume.new.plan volume.new.log }
-    ensures honest { Honest volume.new.plan volume.new.log }
-    ensures lawful { IsLawfulExactly volume.new.plan volume.new.log }
-    ensures replied { Replied volume.new.plan volume.new.log }
-    ensures blamed { AreBlamed volume.new.plan volume.new.log }
-    ensures safe { IsAlwaysSafe volume.new.plan volume.new.log }
-    ensures fresh { AreFresh volume.new.plan volume.new.log }
-    ensures causes { EveryPrefix (HaveCauses volume.new.plan) volume.new.log }
-    ensures alike { EveryPrefix (AreAlike volume.new.plan) volume.new.log }
-    ensures quiet { AreQuietWhole volume.new.plan volume.new.log }
-    ensures chosen { IsChosen (picks_of G.Fn rules.now.read) (picks_of F.Fn rules.now.heal) volume.new }
+    ensures right { IsRight volume.new.plan volume.new.log }
+    ensures chosen { IsChosenBy F.Fn G.Fn rules.now volume.new }
 {
     volume.every_line();
     let driven = take_all(volume, rules);
@@ -60,6 +39,47 @@ pub fn drive<F: Fn(&[Candidate]) -> usize, G: Fn(&[Candidate]) -> usize>(
     driven
 }
 
+/// Takes the turns that the orders of the plan give, one order after the other, whatever the log already has. Before each
+/// turn all due events come. An order asks an actor that is done once, and then falls away. It answers whether the log had
+/// room.
+pub fn take_orders<F: Fn(&[Candidate]) -> usize, G: Fn(&[Candidate]) -> usize>(
+    volume: &mut Volume,
+    rules: &Rules<F, G>,
+) -> Result<bool, NoMemory>
+    requires rule { IsRule F.Fn rules.now.heal }
+    requires read_rule { IsRule G.Fn rules.now.read }
+    ensures goes { Goes volume.old volume.new }
+    ensures front { TakesFront volume.old.plan (ordered_turns volume.old.plan.go) volume.old.log volume.new.log }
+    ensures ok { IfOk result (λ on. Ends (ordered_turns volume.old.plan.go) volume.old on volume.new) }
+    ensures right { IsRight volume.new.plan volume.new.log }
+    ensures chosen { KeepsChosen F.Fn G.Fn rules.now volume.old volume.new }
+{
+    let taken = all_orders(volume, rules);
+    volume.every_line();
+    taken
+}
+
+/// Takes passes over all actors in rising order, clients before healers, until every actor is done or the log is full,
+/// whatever the log already has. Before each turn, and at the end, all due events come. It takes one turn for each line; a
+/// pass asks each actor once, but for the clients from the first on that are done.
+pub fn take_passes<F: Fn(&[Candidate]) -> usize, G: Fn(&[Candidate]) -> usize>(
+    volume: &mut Volume,
+    rules: &Rules<F, G>,
+) -> Result<(), NoMemory>
+    requires rule { IsRule F.Fn rules.now.heal }
+    requires read_rule { IsRule G.Fn rules.now.read }
+    ensures goes { Goes volume.old volume.new }
+    ensures front { TakesPasses volume.old.plan volume.old.log volume.new.log }
+    ensures ok { OnOk result (IsComplete volume.new.plan volume.new.log) }
+    ensures right { IsRight volume.new.plan volume.new.log }
+    ensures chosen { KeepsChosen F.Fn G.Fn rules.now volume.old volume.new }
+{
+    let taken = all_passes(volume, rules);
+    volume.every_line();
+    taken
+}
+
+/// The orders, and then the passes.
 fn take_all<F: Fn(&[Candidate]) -> usize, G: Fn(&[Candidate]) -> usize>(
     volume: &mut Volume,
     rules: &Rules<F, G>,
@@ -70,21 +90,10 @@ fn take_all<F: Fn(&[Candidate]) -> usize, G: Fn(&[Candidate]) -> usize>(
     ensures plan { volume.new.plan ≡ volume.old.plan }
     ensures ok { OnOk result (IsComplete volume.new.plan volume.new.log) }
     ensures ordered { IsOrdered volume.new.plan volume.new.log }
-    ensures chosen { IsChosen (picks_of G.Fn rules.now.read) (picks_of F.Fn rules.now.heal) volume.old → IsChosen (picks_of G.Fn rules.now.read) (picks_of F.Fn rules.now.heal) volume.new }
+    ensures chosen { KeepsChosen F.Fn G.Fn rules.now volume.old volume.new }
 {
-    if !take_orders(volume, rules)? {
-        return Ok(());
+    if take_orders(volume, rules)? {
+        return take_passes(volume, rules);
     }
-    let mut done = 0;
-    loop {
-        done = count_done(volume, done);
-        let before = volume.len();
-        if !take_pass(volume, done, rules)? {
-            return Ok(());
-        }
-        volume.every_line();
-        if volume.len() == before {
-            return Ok(());
-        }
-    }
+    Ok(())
 }

@@ -1,12 +1,12 @@
-//! The orders of the plan, and a pass over all actors.
+//! The orders of the plan, and passes over all actors.
 ghost use Rattle.std.specs.Prelude.{◌≡◌, ◌≤◌, ◌<◌, ◌+◌, ◌^◌, ℕ, true, Ok, OnOk, IfOk, length};
 ghost use Rattle.std.specs.List.{range_with_len};
 ghost use Rattle.afr_model.specs.Actors.{IsActor, is_done};
+ghost use Rattle.afr_model.specs.Complete.{IsComplete};
 ghost use Rattle.afr_model.specs.Ordered.{actors_of, ordered_turns};
 ghost use Rattle.afr_rule.specs.Choosing.{IsRule};
-ghost use Rattle.afr_sources.specs.Sources.{picks_of};
-ghost use Rattle.afr_volume.specs.State.{IsChosen};
-ghost use Rattle.afr_order.specs.Going.{AreDone, Goes, TakesFront, Ends, IsIdle};
+ghost use Rattle.afr_volume.specs.Right.{KeepsChosen};
+ghost use Rattle.afr_order.specs.Going.{AreDone, Goes, TakesFront, TakesPasses, Ends, IsIdle};
 
 use crate::turns::{come_due, take_turn, take_turns};
 use afr_base::{ActorId, FIRST_CLIENT, FIRST_HEALER, NoMemory};
@@ -14,7 +14,7 @@ use afr_rule::{Candidate, Rules};
 use afr_volume::Volume;
 
 /// All orders of the plan. It answers whether the log had room.
-pub(crate) fn take_orders<F: Fn(&[Candidate]) -> usize, G: Fn(&[Candidate]) -> usize>(
+pub(crate) fn all_orders<F: Fn(&[Candidate]) -> usize, G: Fn(&[Candidate]) -> usize>(
     volume: &mut Volume,
     rules: &Rules<F, G>,
 ) -> Result<bool, NoMemory>
@@ -23,7 +23,7 @@ pub(crate) fn take_orders<F: Fn(&[Candidate]) -> usize, G: Fn(&[Candidate]) -> u
     ensures goes { Goes volume.old volume.new }
     ensures front { TakesFront volume.old.plan (ordered_turns volume.old.plan.go) volume.old.log volume.new.log }
     ensures ok { IfOk result (λ on. Ends (ordered_turns volume.old.plan.go) volume.old on volume.new) }
-    ensures chosen { IsChosen (picks_of G.Fn rules.now.read) (picks_of F.Fn rules.now.heal) volume.old → IsChosen (picks_of G.Fn rules.now.read) (picks_of F.Fn rules.now.heal) volume.new }
+    ensures chosen { KeepsChosen F.Fn G.Fn rules.now volume.old volume.new }
 {
     volume.every_line();
     let orders = volume.plan().go.len();
@@ -51,7 +51,7 @@ fn take_row<F: Fn(&[Candidate]) -> usize, G: Fn(&[Candidate]) -> usize>(
     ensures front { TakesFront volume.old.plan (range_with_len first count) volume.old.log volume.new.log }
     ensures ok { IfOk result (λ on. Ends (range_with_len first count) volume.old on volume.new) }
     ensures done { result ≡ Ok true → length volume.new.log ≤ length volume.old.log → (k : ℕ) → k < count → is_done volume.new.plan (first + k) volume.new.log ≡ true }
-    ensures chosen { IsChosen (picks_of G.Fn rules.now.read) (picks_of F.Fn rules.now.heal) volume.old → IsChosen (picks_of G.Fn rules.now.read) (picks_of F.Fn rules.now.heal) volume.new }
+    ensures chosen { KeepsChosen F.Fn G.Fn rules.now volume.old volume.new }
 {
     for i in 0..count {
         if !take_turn(volume, ActorId(first + i), rules)? {
@@ -62,7 +62,7 @@ fn take_row<F: Fn(&[Candidate]) -> usize, G: Fn(&[Candidate]) -> usize>(
 }
 
 /// How many clients from the first on are done; so many are known to be.
-pub(crate) fn count_done(volume: &Volume, known: u16) -> u16
+fn count_done(volume: &Volume, known: u16) -> u16
     requires { AreDone known volume.now }
     ensures { AreDone result volume.now }
 {
@@ -93,14 +93,14 @@ fn take_clients<F: Fn(&[Candidate]) -> usize, G: Fn(&[Candidate]) -> usize>(
     ensures front { TakesFront volume.old.plan (range_with_len 1 clients) volume.old.log volume.new.log }
     ensures ok { IfOk result (λ on. Ends (range_with_len 1 clients) volume.old on volume.new) }
     ensures done { result ≡ Ok true → length volume.new.log ≤ length volume.old.log → (k : ℕ) → k < clients → is_done volume.new.plan (1 + k) volume.new.log ≡ true }
-    ensures chosen { IsChosen (picks_of G.Fn rules.now.read) (picks_of F.Fn rules.now.heal) volume.old → IsChosen (picks_of G.Fn rules.now.read) (picks_of F.Fn rules.now.heal) volume.new }
+    ensures chosen { KeepsChosen F.Fn G.Fn rules.now volume.old volume.new }
 {
     take_row(volume, FIRST_CLIENT + done, clients - done, rules)
 }
 
 /// A turn of each actor, and the events that are due then; so many clients from the first on are done. It answers whether the
 /// log had room.
-pub(crate) fn take_pass<F: Fn(&[Candidate]) -> usize, G: Fn(&[Candidate]) -> usize>(
+fn take_pass<F: Fn(&[Candidate]) -> usize, G: Fn(&[Candidate]) -> usize>(
     volume: &mut Volume,
     done: u16,
     rules: &Rules<F, G>,
@@ -112,7 +112,7 @@ pub(crate) fn take_pass<F: Fn(&[Candidate]) -> usize, G: Fn(&[Candidate]) -> usi
     ensures front { TakesFront volume.old.plan (actors_of volume.old.plan) volume.old.log volume.new.log }
     ensures ok { IfOk result (λ on. Ends (actors_of volume.old.plan) volume.old on volume.new) }
     ensures idle { result ≡ Ok true → length volume.new.log ≤ length volume.old.log → IsIdle volume.new }
-    ensures chosen { IsChosen (picks_of G.Fn rules.now.read) (picks_of F.Fn rules.now.heal) volume.old → IsChosen (picks_of G.Fn rules.now.read) (picks_of F.Fn rules.now.heal) volume.new }
+    ensures chosen { KeepsChosen F.Fn G.Fn rules.now volume.old volume.new }
 {
     volume.every_line();
     let clients = volume.plan().clients.len() as u16;
@@ -125,4 +125,30 @@ pub(crate) fn take_pass<F: Fn(&[Candidate]) -> usize, G: Fn(&[Candidate]) -> usi
     }
     come_due(volume)?;
     Ok(true)
+}
+
+/// Pass after pass, until every actor is done or the log is full.
+pub(crate) fn all_passes<F: Fn(&[Candidate]) -> usize, G: Fn(&[Candidate]) -> usize>(
+    volume: &mut Volume,
+    rules: &Rules<F, G>,
+) -> Result<(), NoMemory>
+    requires rule { IsRule F.Fn rules.now.heal }
+    requires read_rule { IsRule G.Fn rules.now.read }
+    ensures goes { Goes volume.old volume.new }
+    ensures front { TakesPasses volume.old.plan volume.old.log volume.new.log }
+    ensures ok { OnOk result (IsComplete volume.new.plan volume.new.log) }
+    ensures chosen { KeepsChosen F.Fn G.Fn rules.now volume.old volume.new }
+{
+    let mut done = 0;
+    loop {
+        done = count_done(volume, done);
+        let before = volume.len();
+        if !take_pass(volume, done, rules)? {
+            return Ok(());
+        }
+        volume.every_line();
+        if volume.len() == before {
+            return Ok(());
+        }
+    }
 }

@@ -3,8 +3,7 @@ ghost use Rattle.std.specs.Prelude.{◌≡◌, ◌≤◌, ◌<◌, ◌∷◌, []
 ghost use Rattle.afr_model.specs.Actors.{IsActor, is_done};
 ghost use Rattle.afr_model.specs.Following.{NoneDue};
 ghost use Rattle.afr_rule.specs.Choosing.{IsRule};
-ghost use Rattle.afr_sources.specs.Sources.{picks_of};
-ghost use Rattle.afr_volume.specs.State.{IsChosen};
+ghost use Rattle.afr_volume.specs.Right.{KeepsChosen};
 ghost use Rattle.afr_volume.specs.Turning.{due_of};
 ghost use Rattle.afr_order.specs.Going.{Goes, Takes, TakesFront, Ends, IsHappening, goes_on_after};
 
@@ -64,7 +63,7 @@ pub(crate) fn take_turn<F: Fn(&[Candidate]) -> usize, G: Fn(&[Candidate]) -> usi
     ensures front { TakesFront volume.old.plan (a.0 ∷ []) volume.old.log volume.new.log }
     ensures ok { IfOk result (λ on. Ends (a.0 ∷ []) volume.old on volume.new) }
     ensures done { result ≡ Ok true → length volume.new.log ≤ length volume.old.log → is_done volume.new.plan a.0 volume.new.log ≡ true }
-    ensures chosen { IsChosen (picks_of G.Fn rules.now.read) (picks_of F.Fn rules.now.heal) volume.old → IsChosen (picks_of G.Fn rules.now.read) (picks_of F.Fn rules.now.heal) volume.new }
+    ensures chosen { KeepsChosen F.Fn G.Fn rules.now volume.old volume.new }
 {
     come_due(volume)?;
     let turned = volume.turn(a, rules)?;
@@ -85,7 +84,7 @@ pub(crate) fn take_turns<F: Fn(&[Candidate]) -> usize, G: Fn(&[Candidate]) -> us
     ensures goes { Goes volume.old volume.new }
     ensures front { TakesFront volume.old.plan (replicate count a.0) volume.old.log volume.new.log }
     ensures ok { IfOk result (λ on. Ends (replicate count a.0) volume.old on volume.new) }
-    ensures chosen { IsChosen (picks_of G.Fn rules.now.read) (picks_of F.Fn rules.now.heal) volume.old → IsChosen (picks_of G.Fn rules.now.read) (picks_of F.Fn rules.now.heal) volume.new }
+    ensures chosen { KeepsChosen F.Fn G.Fn rules.now volume.old volume.new }
 {
     for _taken in 0..count {
         let before = volume.len();

@@ -4,3 +4,4 @@ pub mod Acting
 pub mod Keeping
 pub mod Turning
 pub mod Starting
+pub mod Right

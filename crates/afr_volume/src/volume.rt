@@ -1,29 +1,22 @@
 //! The volume: one log, and beside it the present state of servers and actors.
 ghost use Rattle.std.specs.Prelude.{◌≡◌, ◌<◌, ◌≤◌, ◌-◌, ℕ, Some, None, OnOk, OnErr, IfOk, IsSome, false, is_some, length, option_map, reverse, slice_get, true, []};
 ghost use Rattle.afr_base.specs.Bricks.{member};
-ghost use Rattle.afr_law.specs.Exactly.{IsLawfulExactly};
-ghost use Rattle.afr_law.specs.ModelAlike.{AreAlike};
-ghost use Rattle.afr_law.specs.ModelCauses.{HaveCauses};
-ghost use Rattle.afr_lines.specs.Log.{EveryPrefix, from_oldest};
+ghost use Rattle.afr_lines.specs.Log.{from_oldest};
 ghost use Rattle.afr_lines.specs.Work.{is_killed, work};
 ghost use Rattle.afr_log.specs.Log.{shown_line};
 ghost use Rattle.afr_runnable.specs.Runnable.{IsRunnable};
 ghost use Rattle.afr_plan.specs.declared.schedule.Go.{Go};
 ghost use Rattle.afr_model.specs.Actors.{IsActor, is_done};
-ghost use Rattle.afr_model.specs.Blamed.{AreBlamed};
-ghost use Rattle.afr_model.specs.Following.{Follows, NoneDue};
-ghost use Rattle.afr_model.specs.Honest.{Honest};
-ghost use Rattle.afr_model.specs.Replied.{Replied};
+ghost use Rattle.afr_model.specs.Following.{NoneDue};
 ghost use Rattle.afr_model.specs.Report.{started_bricks};
-ghost use Rattle.afr_model.specs.Safe.{AreFresh, IsAlwaysSafe};
 ghost use Rattle.afr_model.specs.State.{no_plan};
 ghost use Rattle.afr_model.specs.Sums.{AreSums};
 ghost use Rattle.afr_model.specs.Tables.{holds, keeps_bytes};
-ghost use Rattle.afr_quiet.specs.Undisturbed.{AreQuietWhole};
 ghost use Rattle.afr_rule.specs.Choosing.{IsRule};
 ghost use Rattle.afr_server.specs.Serving.{Serving};
 ghost use Rattle.afr_sources.specs.Sources.{picks_of};
-ghost use Rattle.afr_volume.specs.State.{HealsChosen, IsChosen, ReadsChosen, no_volume, opened};
+ghost use Rattle.afr_volume.specs.Right.{IsRight, KeepsChosen};
+ghost use Rattle.afr_volume.specs.State.{HealsChosen, ReadsChosen, no_volume, opened};
 ghost use Rattle.afr_volume.specs.Turning.{Comes, Turns, due_of, if_due};
 
 use crate::actor::Actor;
@@ -32,13 +25,16 @@ use crate::laws::{laws, rule_laws};
 use crate::set_up::all_actors;
 use crate::turned::Turned;
 use crate::turns::{answer_of, kill, ready_actor, step_actor};
+use afr_available::changes_are_available;
 use afr_base::{ActorId, BrickId, BrickSet, NoMemory, Shape};
+use afr_durable::acknowledged_is_durable;
 use afr_law::{
     accusations_have_causes, lawful_is_safe, lawful_lines_fit, nothing_diverges_unrecorded,
     reads_are_fresh,
 };
 use afr_lines::{Event, Line};
 use afr_log::{Log, Shown};
+use afr_missed::split_copies_missed;
 use afr_object::List;
 use afr_plan::{Plan, Words};
 use afr_quiet_rounds::quiet_rounds_are_whole;
@@ -133,17 +129,8 @@ impl Volume {
         requires none { due_of self.old ≡ None }
         ensures ok { IfOk result (λ turned. Turns a self.old turned self.new) }
         ensures err { OnErr result (self.new ≡ self.old) }
-        ensures follows { Follows self.new.plan self.new.log }
-        ensures honest { Honest self.new.plan self.new.log }
-        ensures lawful { IsLawfulExactly self.new.plan self.new.log }
-        ensures replied { Replied self.new.plan self.new.log }
-        ensures blamed { AreBlamed self.new.plan self.new.log }
-        ensures safe { IsAlwaysSafe self.new.plan self.new.log }
-        ensures fresh { AreFresh self.new.plan self.new.log }
-        ensures causes { EveryPrefix (HaveCauses self.new.plan) self.new.log }
-        ensures alike { EveryPrefix (AreAlike self.new.plan) self.new.log }
-        ensures quiet { AreQuietWhole self.new.plan self.new.log }
-        ensures chosen { IsChosen (picks_of G.Fn rules.now.read) (picks_of F.Fn rules.now.heal) self.old → IsChosen (picks_of G.Fn rules.now.read) (picks_of F.Fn rules.now.heal) self.new }
+        ensures right { IsRight self.new.plan self.new.log }
+        ensures chosen { KeepsChosen F.Fn G.Fn rules.now self.old self.new }
     {
         let turned = self.take_turn(a, rules);
         self.every_line();
@@ -373,17 +360,8 @@ impl Volume {
 
     /// What the volume keeps of its log at every moment.
     pub fn every_line(&self)
-        ensures follows { Follows self.now.plan self.now.log }
-        ensures honest { Honest self.now.plan self.now.log }
-        ensures lawful { IsLawfulExactly self.now.plan self.now.log }
-        ensures replied { Replied self.now.plan self.now.log }
-        ensures blamed { AreBlamed self.now.plan self.now.log }
+        ensures right { IsRight self.now.plan self.now.log }
         ensures sums { AreSums self.now.plan self.now.log }
-        ensures safe { IsAlwaysSafe self.now.plan self.now.log }
-        ensures fresh { AreFresh self.now.plan self.now.log }
-        ensures causes { EveryPrefix (HaveCauses self.now.plan) self.now.log }
-        ensures alike { EveryPrefix (AreAlike self.now.plan) self.now.log }
-        ensures quiet { AreQuietWhole self.now.plan self.now.log }
         ensures room { length self.now.log ≤ self.now.plan.turns }
         ensures few { self.now.plan.shape.n ≤ 5 }
         ensures clients { length self.now.plan.clients ≤ 16 }
@@ -400,6 +378,9 @@ impl Volume {
         accusations_have_causes();
         lawful_lines_fit();
         quiet_rounds_are_whole();
+        acknowledged_is_durable();
+        split_copies_missed();
+        changes_are_available();
     }
 }
 

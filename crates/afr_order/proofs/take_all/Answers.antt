@@ -1,43 +1,6 @@
-use Rattle.std.proofs.Common.{◌≡◌, ◌≤◌, Ok, ap, length, true, arith, suc}
+-- The log is that of a front of the orders, or of the orders and a front of the passes.
+use Rattle.std.proofs.Common.{◌≡◌, true, arith}
 use Rattle.std.proofs.lemmas.Grind.{common_steps}
-use Rattle.afr_order.proofs.DoneLemmas.{complete}
-use Rattle.afr_order.proofs.GoingLemmas.{done_then, goes_then, ends_true}
-use Rattle.afr_order.proofs.OrderLemmas.{ordered_by_orders, ordered_by_pass, takes_pass}
+use Rattle.afr_order.proofs.GoingLemmas.{ends_true}
+use Rattle.afr_order.proofs.OrderLemmas.{ordered_by_orders, ordered_by_passes}
 use Rattle.afr_order.proofs.take_all.Goals as goal
-
-pub returns-in_err-take_orders-clause-ordered : goal.returns-in_err-take_orders-clause-ordered
-returns-in_err-take_orders-clause-ordered g c = rw c.take_orders.ensures.goes.plan (ordered_by_orders c.args.volume.now.plan c.args.volume.now.log c.take_orders.new.volume.log c.requires.fresh c.take_orders.ensures.front)
-
-pub returns-then-not-branch-clause-ordered : goal.returns-then-not-branch-clause-ordered
-returns-then-not-branch-clause-ordered g c = rw c.take_orders.ensures.goes.plan (ordered_by_orders c.args.volume.now.plan c.args.volume.now.log c.take_orders.new.volume.log c.requires.fresh c.take_orders.ensures.front)
-
-pub returns-in_err-take_pass-clause-ordered : goal.returns-in_err-take_pass-clause-ordered
-returns-in_err-take_pass-clause-ordered g c =
-    rw (c.take_pass.ensures.goes.plan, c.loop-volume.invariant.goes.plan)
-    (ordered_by_pass c.args.volume.now c.loop-volume.volume c.take_pass.new.volume c.loop-volume.invariant.taken.0 c.requires.fresh c.loop-volume.invariant.goes c.loop-volume.invariant.taken.1 c.take_pass.ensures.front)
-
-pub returns-then-not-branch-2-clause-ordered : goal.returns-then-not-branch-2-clause-ordered
-returns-then-not-branch-2-clause-ordered g c =
-    rw (c.take_pass.ensures.goes.plan, c.loop-volume.invariant.goes.plan)
-    (ordered_by_pass c.args.volume.now c.loop-volume.volume c.take_pass.new.volume c.loop-volume.invariant.taken.0 c.requires.fresh c.loop-volume.invariant.goes c.loop-volume.invariant.taken.1 c.take_pass.ensures.front)
-
-pub returns-then-len-before-clause-ordered : goal.returns-then-len-before-clause-ordered
-returns-then-len-before-clause-ordered g c =
-    rw (c.take_pass.ensures.goes.plan, c.loop-volume.invariant.goes.plan)
-    (ordered_by_pass c.args.volume.now c.loop-volume.volume c.take_pass.new.volume c.loop-volume.invariant.taken.0 c.requires.fresh c.loop-volume.invariant.goes c.loop-volume.invariant.taken.1 c.take_pass.ensures.front)
-
-pub loop-volume-preserved : goal.loop-volume-preserved
-loop-volume-preserved g c =
-    let on : c.in_ok-take_pass.field-0 ≡ true = grind (arith, common_steps) in
-    record {
-      goes = goes_then c.args.volume.now c.loop-volume.volume c.take_pass.new.volume c.loop-volume.invariant.goes c.take_pass.ensures.goes;
-      taken = (suc c.loop-volume.invariant.taken.0, takes_pass c.args.volume.now c.loop-volume.volume c.take_pass.new.volume c.loop-volume.invariant.taken.0 c.loop-volume.invariant.goes c.loop-volume.invariant.taken.1 (ends_true c.loop-volume.volume c.take_pass.new.volume _ _ on c.in_ok-take_pass.ensures.ok));
-      chosen = λ h. c.take_pass.ensures.chosen (c.loop-volume.invariant.chosen h);
-      done = done_then c.loop-volume.volume c.take_pass.new.volume _ c.take_pass.ensures.goes c.count_done-done.ensures;
-    }
-
-pub returns-then-len-before-clause-ok : goal.returns-then-len-before-clause-ok
-returns-then-len-before-clause-ok g c =
-    let on : c.in_ok-take_pass.field-0 ≡ true = grind (arith, common_steps) in
-    let still : length c.take_pass.new.volume.log ≤ length c.loop-volume.volume.log = omega (arith, c.len.ensures, c.len-before.ensures, c.if-len-before.true) in
-    complete c.take_pass.new.volume c.every_line.ensures.room (c.in_ok-take_pass.ensures.idle (ap Ok on) still) c.every_line.ensures.settled

@@ -35,18 +35,12 @@ returns-clause-write g c = elim c.match-form_of.branch [
   | in-Err w ↦ λ e. absurd (omega (arith, w.status-is, e))
 ]
 
-pub returns-clause-unread : goal.returns-clause-unread
-returns-clause-unread g c = λ n. elim c.match-form_of.branch [
-  | in-Ok-Some w ↦ λ load. rw w.source-is (w.serve-status.ensures.unread (is_unread c.args.words.now n _ load (w.in-Ok-Some.ensures.some w.in-Ok-Some.form cc)))
-  | in-Ok-None w ↦ λ load. w.source-is
-  | in-Err w ↦ λ load. w.source-is
-]
-
 pub returns-clause-generated : goal.returns-clause-generated
 returns-clause-generated g c = λ n. elim c.match-form_of.branch [
-  | in-Ok-Some w ↦ λ load. rw w.status-is (w.serve-status.ensures.generated (is_unread c.args.words.now n _ load (w.in-Ok-Some.ensures.some w.in-Ok-Some.form cc)))
-  | in-Ok-None w ↦ let none = w.in-Ok-None.ensures.none cc in λ load. inr (inr (inr (absurd (none (kind.Gen n, load)))))
-  | in-Err w ↦ λ load. inr (inr (inr w.status-is))
+  | in-Ok-Some w ↦ λ load. let asked = is_unread c.args.words.now n _ load (w.in-Ok-Some.ensures.some w.in-Ok-Some.form cc) in
+      (rw w.source-is (w.serve-status.ensures.unread asked), rw w.status-is (w.serve-status.ensures.generated asked))
+  | in-Ok-None w ↦ let none = w.in-Ok-None.ensures.none cc in λ load. (w.source-is, inr (inr (inr (absurd (none (kind.Gen n, load))))))
+  | in-Err w ↦ λ load. (w.source-is, inr (inr (inr w.status-is)))
 ]
 
 pub returns-clause-faulty : goal.returns-clause-faulty

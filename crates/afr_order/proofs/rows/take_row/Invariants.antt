@@ -1,8 +1,7 @@
 use Rattle.std.proofs.Common.{◌≡◌, ◌≤◌, ◌<◌, ◌+◌, ℕ, true, length}
 use Rattle.std.specs.List.{range_with_len}
 use Rattle.afr_model.specs.Actors.{is_done}
-use Rattle.afr_sources.specs.Sources.{picks_of}
-use Rattle.afr_volume.specs.State.{IsChosen}
+use Rattle.afr_volume.specs.Right.{KeepsChosen}
 use Rattle.afr_order.specs.Going.{Goes, Takes}
 use Rattle.afr_order.proofs.rows.take_row.Given as goal
 
@@ -11,5 +10,5 @@ invariant-loop-i g l = record {
   goes : Goes l.fn.volume l.volume;
   taken : Takes l.fn.volume.plan (range_with_len l.first l.i) l.fn.volume.log l.volume.log;
   done : length l.volume.log ≤ length l.fn.volume.log → (k : ℕ) → k < l.i → is_done l.volume.plan (l.first + k) l.volume.log ≡ true;
-  chosen : IsChosen (picks_of g.G.Fn l.fn.rules.read) (picks_of g.F.Fn l.fn.rules.heal) l.fn.volume → IsChosen (picks_of g.G.Fn l.fn.rules.read) (picks_of g.F.Fn l.fn.rules.heal) l.volume;
+  chosen : KeepsChosen g.F.Fn g.G.Fn l.fn.rules l.fn.volume l.volume;
 }

@@ -1,6 +1,5 @@
 use Rattle.std.proofs.Common.{replicate}
-use Rattle.afr_sources.specs.Sources.{picks_of}
-use Rattle.afr_volume.specs.State.{IsChosen}
+use Rattle.afr_volume.specs.Right.{KeepsChosen}
 use Rattle.afr_order.specs.Going.{Goes, Takes}
 use Rattle.afr_order.proofs.turns.take_turns.Given as goal
 
@@ -8,5 +7,5 @@ abbrev pub invariant-loop-taken : goal.invariant-loop-taken
 invariant-loop-taken g l = record {
   goes : Goes l.fn.volume l.volume;
   taken : Takes l.fn.volume.plan (replicate l._taken l.a.0) l.fn.volume.log l.volume.log;
-  chosen : IsChosen (picks_of g.G.Fn l.fn.rules.read) (picks_of g.F.Fn l.fn.rules.heal) l.fn.volume → IsChosen (picks_of g.G.Fn l.fn.rules.read) (picks_of g.F.Fn l.fn.rules.heal) l.volume;
+  chosen : KeepsChosen g.F.Fn g.G.Fn l.fn.rules l.fn.volume l.volume;
 }

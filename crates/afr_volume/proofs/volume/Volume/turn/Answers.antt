@@ -6,5 +6,5 @@ use Rattle.afr_volume.proofs.volume.Volume.turn.Goals as goal
 
 pub returns-clause-chosen : goal.returns-clause-chosen
 returns-clause-chosen g c =
-    turn_chosen (picks_of g.G.Fn c.args.rules.now.read) (picks_of g.F.Fn c.args.rules.now.heal) c.args.a _ _ c.every_line.ensures.follows c.every_line.ensures.replied c.every_line.ensures.clients c.take_turn-turned.ensures.heals c.take_turn-turned.ensures.reads c.take_turn-turned.result
+    turn_chosen (picks_of g.G.Fn c.args.rules.now.read) (picks_of g.F.Fn c.args.rules.now.heal) c.args.a _ _ c.every_line.ensures.right.follows c.every_line.ensures.right.replied c.every_line.ensures.clients c.take_turn-turned.ensures.heals c.take_turn-turned.ensures.reads c.take_turn-turned.result
     c.take_turn-turned.ensures.ok c.take_turn-turned.ensures.err

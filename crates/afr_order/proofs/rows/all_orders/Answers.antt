@@ -4,7 +4,7 @@ use Rattle.std.proofs.lemmas.Grind.{common_steps}
 use Rattle.afr_model.specs.Ordered.{ordered_turns}
 use Rattle.afr_order.proofs.GoingLemmas.{goes_then, takes_then, front_then, ends_true}
 use Rattle.afr_order.proofs.OrderLemmas.{orders_more, front_of_orders}
-use Rattle.afr_order.proofs.rows.take_orders.Goals as goal
+use Rattle.afr_order.proofs.rows.all_orders.Goals as goal
 
 pub returns-in_err-take_turns-clause-front : goal.returns-in_err-take_turns-clause-front
 returns-in_err-take_turns-clause-front g c =

@@ -1,0 +1,50 @@
+-- What a volume keeps of its log at every moment, and what the rules have picked.
+use Rattle.std.specs.Prelude.{List}
+use Rattle.afr_available.specs.Available.{IsAvailable}
+use Rattle.afr_durable.specs.Durable.{IsDurable}
+use Rattle.afr_law.specs.Exactly.{IsLawfulExactly}
+use Rattle.afr_law.specs.ModelAlike.{AreAlike}
+use Rattle.afr_law.specs.ModelCauses.{HaveCauses}
+use Rattle.afr_lines.specs.declared.line.Line.{Line}
+use Rattle.afr_lines.specs.Log.{EachLine, EveryPrefix}
+use Rattle.afr_missed.specs.Missed.{AreAllMissed, HaveCausesSince}
+use Rattle.afr_model.specs.Blamed.{AreBlamed}
+use Rattle.afr_model.specs.Following.{Follows}
+use Rattle.afr_model.specs.Honest.{Honest}
+use Rattle.afr_model.specs.Replied.{Replied}
+use Rattle.afr_model.specs.Safe.{AreFresh, IsAlwaysSafe}
+use Rattle.afr_plan.specs.declared.plan.Plan.{Plan}
+use Rattle.afr_quiet.specs.Undisturbed.{AreQuietWhole}
+use Rattle.afr_rule.specs.Choosing.{Calls}
+use Rattle.afr_rule.specs.declared.rules.Rules.{Rules}
+use Rattle.afr_sources.specs.Sources.{picks_of}
+use Rattle.afr_volume.specs.State.{IsChosen, State}
+
+-- the log is the plan's, its bricks answered by the rules, and its actors kept the discipline; so each reply and each
+-- accusation has its cause, every good copy of every majority is current at every prefix, reads answer current values, and
+-- quiet rounds did all that they say. Where a change was acknowledged, a majority has what it or a later one left, in a
+-- split-brain too; a split-brain needs that each of its copies missed something; and a change that enough bricks didn't fail
+-- is acknowledged
+pub record IsRight (p : Plan) (log : List Line) : Type 0 where
+  pub follows : Follows p log
+  pub honest : Honest p log
+  pub lawful : IsLawfulExactly p log
+  pub replied : Replied p log
+  pub blamed : AreBlamed p log
+  pub safe : IsAlwaysSafe p log
+  pub fresh : AreFresh p log
+  pub causes : EveryPrefix (HaveCauses p) log
+  pub alike : EveryPrefix (AreAlike p) log
+  pub quiet : AreQuietWhole p log
+  pub durable : EveryPrefix (IsDurable p) log
+  pub since : EveryPrefix (HaveCausesSince p) log
+  pub missed : EveryPrefix (AreAllMissed p) log
+  pub available : EachLine (IsAvailable p) log
+
+-- every read went to a copy that the one rule picked, and every heal has a source that the other picked
+abbrev pub IsChosenBy : {F G : Type 0} → Calls F → Calls G → Rules F G → State → Type 0
+IsChosenBy heals reads rules s = IsChosen (picks_of reads rules.read) (picks_of heals rules.heal) s
+
+-- where that was so, it still is
+abbrev pub KeepsChosen : {F G : Type 0} → Calls F → Calls G → Rules F G → State → State → Type 0
+KeepsChosen heals reads rules old new = IsChosenBy heals reads rules old → IsChosenBy heals reads rules new
