@@ -1,0 +1,4 @@
+pub mod Cell
+pub mod Law
+pub mod Sets
+pub mod Model
