@@ -1,0 +1,4 @@
+pub mod Looks
+pub mod Along
+pub mod Chosen
+pub mod Model
