@@ -18,13 +18,14 @@ use Rattle.afr_quiet.specs.Undisturbed.{AreQuietWhole}
 use Rattle.afr_rule.specs.Choosing.{Calls}
 use Rattle.afr_rule.specs.declared.rules.Rules.{Rules}
 use Rattle.afr_sources.specs.Sources.{picks_of}
+use Rattle.afr_whole_copy.specs.Whole.{AreWhole}
 use Rattle.afr_volume.specs.State.{IsChosen, State}
 
 -- the log is the plan's, its bricks answered by the rules, and its actors kept the discipline; so each reply and each
 -- accusation has its cause, every good copy of every majority is current at every prefix, reads answer current values, and
 -- quiet rounds did all that they say. Where a change was acknowledged, a majority has what it or a later one left, in a
--- split-brain too; a split-brain needs that each of its copies missed something; and a change that enough bricks didn't fail
--- is acknowledged
+-- split-brain too; a split-brain needs that each of its copies missed something, and where attempts come one at a time a
+-- whole copy is left in it; a change that enough bricks didn't fail is acknowledged
 pub record IsRight (p : Plan) (log : List Line) : Type 0 where
   pub follows : Follows p log
   pub honest : Honest p log
@@ -39,6 +40,7 @@ pub record IsRight (p : Plan) (log : List Line) : Type 0 where
   pub durable : EveryPrefix (IsDurable p) log
   pub since : EveryPrefix (HaveCausesSince p) log
   pub missed : EveryPrefix (AreAllMissed p) log
+  pub whole : EveryPrefix (AreWhole p) log
   pub available : EachLine (IsAvailable p) log
 
 -- every read went to a copy that the one rule picked, and every heal has a source that the other picked

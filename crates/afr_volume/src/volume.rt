@@ -44,6 +44,7 @@ use afr_rule::{Candidate, ReadRule, Rules, SourceRule};
 use afr_server::Server;
 use afr_servers::Servers;
 use afr_sources::{a_line_keeps_its_source, chosen_source};
+use afr_whole_copy::a_copy_is_whole;
 use std::alloc::Global;
 use std::marker::Model;
 
@@ -380,6 +381,7 @@ impl Volume {
         quiet_rounds_are_whole();
         acknowledged_is_durable();
         split_copies_missed();
+        a_copy_is_whole();
         changes_are_available();
     }
 }

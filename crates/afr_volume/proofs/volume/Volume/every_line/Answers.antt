@@ -29,6 +29,7 @@ returns-clause-right c =
       durable = c.acknowledged_is_durable.ensures.exact c.self.inside.plan (reverse c.self.inside.log.items) kept.runnable.few few kept.honest kept.lawful;
       since = (c.split_copies_missed.ensures.exact c.self.inside.plan (reverse c.self.inside.log.items) kept.runnable.few few kept.honest kept.lawful).0;
       missed = (c.split_copies_missed.ensures.exact c.self.inside.plan (reverse c.self.inside.log.items) kept.runnable.few few kept.honest kept.lawful).1;
+      whole = c.a_copy_is_whole.ensures.exact c.self.inside.plan (reverse c.self.inside.log.items) kept.runnable.few few kept.honest kept.lawful;
       available = c.changes_are_available.ensures.exact c.self.inside.plan (reverse c.self.inside.log.items) kept.runnable.few few kept.follows kept.honest kept.lawful kept.replied;
     })
 
