@@ -1,0 +1,4 @@
+pub mod Same
+pub mod Works
+pub mod Logs
+pub mod Unfailed
