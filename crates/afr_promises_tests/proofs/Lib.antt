@@ -1,0 +1,5 @@
+pub mod Words
+pub mod Durable
+pub mod Missed
+pub mod Available
+pub mod WholeCopy
