@@ -69,6 +69,31 @@ module _ (q : Plan) where
     };
   }
 
+  pub brick_1_missed_the_third : IsMissed split everybody 0 1 root Attrs
+  brick_1_missed_the_third = record {
+    brick = 0;
+    inside = refl;
+    cause = record {
+      cause = record {
+        position = 15;
+        actor = record { 0 = 1 };
+        attempt = 12;
+        missed = 1 ∷ [];
+        told = Done;
+        posted = refl;
+        heard = inl refl;
+        named = refl;
+        change = sets 3;
+        earlier = omega arith;
+        begun = refl;
+        object_same = refl;
+        kind_same = refl;
+        not_done = λ m other low is. none_did split 1 12 15 refl m (Ask other (record { 0 = 1 }) (Apply 12) Done true) low is refl;
+      };
+      after = omega arith;
+    };
+  }
+
   -- a number that stood at the moment needs no cause since then
   pub brick_0_accused_brick_2_before : accuses (three q) (before 6 split) root Attrs 0 2 ≡ true
   brick_0_accused_brick_2_before = refl
