@@ -2,6 +2,8 @@
 #![tactic(auto)]
 
 #[cfg(test)]
+mod hostile_tests;
+#[cfg(test)]
 mod live_tests;
 #[cfg(test)]
 mod tests;
