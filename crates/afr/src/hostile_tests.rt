@@ -94,7 +94,7 @@ const REFUSED: [(&str, &str); 20] = [
     ),
 ];
 
-/// A client's head, a command that is said too often after it, how often, and the line that answers.
+/// A command that a client has too often, how often, and the line that answers.
 const TOO_MANY: [(&str, usize, &str); 2] = [
     (
         "read /f1 0 65536\n",
@@ -104,7 +104,7 @@ const TOO_MANY: [(&str, usize, &str); 2] = [
     ("ls /\n", 257, "plan refused: line 262, code 8 total\n"),
 ];
 
-/// What comes before such commands.
+/// What stands before these commands.
 const HEAD: &str = "afr 1\nvolume replica\nfiles 0\nturns 100000\nclient 1\n";
 
 /// A write and a read of five bytes.
@@ -186,15 +186,14 @@ fn refuses<R: Threads + Wait + Alloc<A = Global> + Sync>(
     Ok(status == 3 && sink.taken() == answer.as_bytes())
 }
 
-/// Whether the call on the plan of a write and a read has this status, and a front of the report so long.
+/// Whether a run by threads of a write and a read has this status, and a front of the report so long.
 fn stops<R: Threads + Wait + Alloc<A = Global> + Sync>(
     rt: &R,
-    word: &str,
     fails: (u32, u32),
     status: u8,
     len: usize,
 ) -> Result<bool, Fail> {
-    let (told, sink) = called(rt, word, PLAN, ("", 0), fails)?;
+    let (told, sink) = called(rt, "live", PLAN, ("", 0), fails)?;
     Ok(told == status && sink.taken().len() == len && REPORT.as_bytes().starts_with(sink.taken()))
 }
 
@@ -213,21 +212,20 @@ fn hostile_plans_are_refused_by_both_calls(rt: HostRuntime) -> Result<(), Fail> 
     Ok(())
 }
 
+// The same of a run in the stated order stands with the tests of that call.
 #[test]
-fn each_failed_read_or_write_has_its_status_by_both_calls(rt: HostRuntime) -> Result<(), Fail> {
+fn each_fault_has_its_status_by_threads(rt: HostRuntime) -> Result<(), Fail> {
     let reads = PLAN.len().div_ceil(7) as u32 + 1;
-    let writes = REPORT.len().div_ceil(5) as u32;
-    for word in WORDS {
-        for read in 1..=reads {
-            let holds = stops(&rt, word, (read, 0), 4, 0)?;
-            assert!(rt; holds, "{word}: read {read}");
-        }
-        for done in 0..writes {
-            let holds = stops(&rt, word, (0, done + 1), 5, done as usize * 5)?;
-            assert!(rt; holds, "{word}: after {done} writes");
-        }
-        let holds = stops(&rt, word, (reads + 1, writes + 1), 0, REPORT.len())?;
-        assert!(rt; holds, "{word}: no fault");
+    for read in 1..=reads {
+        let holds = stops(&rt, (read, 0), 4, 0)?;
+        assert!(rt; holds, "read {read}");
     }
+    let writes = REPORT.len().div_ceil(5) as u32;
+    for done in 0..writes {
+        let holds = stops(&rt, (0, done + 1), 5, done as usize * 5)?;
+        assert!(rt; holds, "after {done} writes");
+    }
+    let holds = stops(&rt, (reads + 1, writes + 1), 0, REPORT.len())?;
+    assert!(rt; holds);
     Ok(())
 }
