@@ -33,7 +33,7 @@ abbrev pub ends_refused : Line → Bool
 ends_refused (End a reply) = is_client a && not (is_ok reply)
 ends_refused line = false
 
--- a heal that brought all copies up to date
+-- a heal that brought every copy up to date that its first looks reached
 abbrev pub is_settled : HealReply → Bool
 is_settled Settled = true
 is_settled reply = false

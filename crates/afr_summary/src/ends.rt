@@ -13,7 +13,7 @@ pub struct Ends {
     pub ok: usize,
     /// Their other commands that ended.
     pub refused: usize,
-    /// The heals that brought all copies up to date.
+    /// The heals that brought every copy up to date that their first looks reached.
     pub settled: usize,
 }
 
