@@ -1,5 +1,5 @@
 //! The turns that are left after the threads: one of each actor, again and again.
-ghost use Rattle.std.specs.Prelude.{◌≡◌, ◌≤◌, ◌<◌, ◌+◌, ◌^◌, ℕ, true, Ok, OnOk, length};
+ghost use Rattle.std.specs.Prelude.{◌≡◌, ◌⊎◌, ◌≤◌, ◌<◌, ◌+◌, ◌^◌, ℕ, true, false, None, Some, Ok, OnOk, IfOk, length};
 ghost use Rattle.afr_model.specs.Actors.{IsActor, is_done};
 ghost use Rattle.afr_model.specs.Complete.{IsComplete};
 ghost use Rattle.afr_order.specs.Going.{Goes, IsIdle};
@@ -22,6 +22,21 @@ enum Pass {
     Whole,
 }
 
+impl Pass {
+    /// How two parts of a pass have gone, the one after the other.
+    fn and(self, other: Pass) -> Pass
+        ensures full { result ≡ Pass.Full → (self ≡ Pass.Full) ⊎ (other ≡ Pass.Full) }
+        ensures waits { result ≡ Pass.Waits → (self ≡ Pass.Waits) ⊎ (other ≡ Pass.Waits) }
+        ensures whole { result ≡ Pass.Whole → (self ≡ Pass.Whole) × (other ≡ Pass.Whole) }
+    {
+        match (self, other) {
+            (Pass::Full, _) | (_, Pass::Full) => Pass::Full,
+            (Pass::Waits, _) | (_, Pass::Waits) => Pass::Waits,
+            (Pass::Whole, Pass::Whole) => Pass::Whole,
+        }
+    }
+}
+
 /// Pass after pass, until every actor is done or the log is full. An actor that is held is passed over; only where such a
 /// pass has added no line is everyone asked again.
 pub fn take_rest<J: Run, F: Fn(&[Candidate]) -> usize, G: Fn(&[Candidate]) -> usize>(
@@ -36,15 +51,38 @@ pub fn take_rest<J: Run, F: Fn(&[Candidate]) -> usize, G: Fn(&[Candidate]) -> us
     ensures parts { mine.new.share.parts ≡ mine.old.share.parts }
 {
     let mut passing_over = true;
-    loop {
-        let before = state.volume.len();
-        let pass = take_pass(state, passing_over, rules, mine)?;
-        state.volume.every_line();
-        let moved = state.volume.len() > before;
-        if pass == Pass::Full || (pass == Pass::Whole && !moved) {
-            return Ok(());
-        }
+    while let Some(moved) = take_on(state, passing_over, rules, mine)? {
         passing_over = moved;
+    }
+    Ok(())
+}
+
+/// One pass. It answers whether it has added a line, and none where nothing is left to do.
+fn take_on<J: Run, F: Fn(&[Candidate]) -> usize, G: Fn(&[Candidate]) -> usize>(
+    state: &mut Shared<J>,
+    passing_over: bool,
+    rules: &Rules<F, G>,
+    mine: &mut Tally<J>,
+) -> Result<Option<bool>, NoMemory>
+    requires rule { IsRule F.Fn rules.now.heal }
+    requires read_rule { IsRule G.Fn rules.now.read }
+    requires backed { 0 < mine.old.share.parts }
+    ensures plan { state.new.volume.plan ≡ state.old.volume.plan }
+    ensures grows { length state.old.volume.log ≤ length state.new.volume.log }
+    ensures room { IfOk result (λ on. length state.new.volume.log ≤ state.new.volume.plan.turns) }
+    ensures over { result ≡ Ok None → IsComplete state.new.volume.plan state.new.volume.log }
+    ensures moved { result ≡ Ok (Some true) → length state.old.volume.log < length state.new.volume.log }
+    ensures still { result ≡ Ok (Some false) → passing_over ≡ true }
+    ensures parts { mine.new.share.parts ≡ mine.old.share.parts }
+{
+    let before = state.volume.len();
+    let pass = take_pass(state, passing_over, rules, mine)?;
+    state.volume.every_line();
+    let moved = state.volume.len() > before;
+    match pass {
+        Pass::Full => Ok(None),
+        Pass::Waits => Ok(Some(moved)),
+        Pass::Whole => { if moved { Ok(Some(true)) } else { Ok(None) } }
     }
 }
 
@@ -76,10 +114,7 @@ fn take_pass<J: Run, F: Fn(&[Candidate]) -> usize, G: Fn(&[Candidate]) -> usize>
         return Ok(Pass::Full);
     }
     state.come_due()?;
-    if first == Pass::Waits {
-        return Ok(Pass::Waits);
-    }
-    Ok(second)
+    Ok(first.and(second))
 }
 
 /// A turn of each of so many actors, but for those that are passed over.
@@ -102,14 +137,41 @@ fn take_row<J: Run, F: Fn(&[Candidate]) -> usize, G: Fn(&[Candidate]) -> usize>(
     ensures done { result ≡ Ok Pass.Whole → length state.new.volume.log ≤ length state.old.volume.log → (k : ℕ) → k < count → is_done state.new.volume.plan (first + k) state.new.volume.log ≡ true }
     ensures parts { mine.new.share.parts ≡ mine.old.share.parts }
 {
-    let mut waits = false;
+    let mut row = Pass::Whole;
     for i in 0..count {
-        let a = ActorId(first + i);
-        if passing_over && state.is_held(a) {
-            waits = true;
-        } else if let Turned::Full = state.take_turn(a, rules, mine)? {
+        let asked = ask(state, ActorId(first + i), passing_over, rules, mine)?;
+        if asked == Pass::Full {
             return Ok(Pass::Full);
         }
+        row = row.and(asked);
     }
-    Ok(if waits { Pass::Waits } else { Pass::Whole })
+    Ok(row)
+}
+
+/// A turn of one actor, where it isn't passed over.
+fn ask<J: Run, F: Fn(&[Candidate]) -> usize, G: Fn(&[Candidate]) -> usize>(
+    state: &mut Shared<J>,
+    a: ActorId,
+    passing_over: bool,
+    rules: &Rules<F, G>,
+    mine: &mut Tally<J>,
+) -> Result<Pass, NoMemory>
+    requires rule { IsRule F.Fn rules.now.heal }
+    requires read_rule { IsRule G.Fn rules.now.read }
+    requires actor { IsActor J.plan a.0 }
+    requires backed { 0 < mine.old.share.parts }
+    ensures goes { Goes state.old.volume state.new.volume }
+    ensures full { result ≡ Ok Pass.Full → length state.new.volume.log ≡ state.new.volume.plan.turns }
+    ensures waits { result ≡ Ok Pass.Waits → passing_over ≡ true }
+    ensures done { result ≡ Ok Pass.Whole → length state.new.volume.log ≤ length state.old.volume.log → is_done state.new.volume.plan a.0 state.new.volume.log ≡ true }
+    ensures parts { mine.new.share.parts ≡ mine.old.share.parts }
+{
+    let _len = state.volume.len();
+    if passing_over && state.is_held(a) {
+        return Ok(Pass::Waits);
+    }
+    match state.take_turn(a, rules, mine)? {
+        Turned::Full => Ok(Pass::Full),
+        _ => Ok(Pass::Whole),
+    }
 }
