@@ -1,0 +1,2 @@
+//! How many of the first numbers pass a test, where the test changes: lemmas alone.
+#![tactic(auto)]
