@@ -1,0 +1,8 @@
+pub mod Sessions
+pub mod Fields
+pub mod Begun
+pub mod Kept
+pub mod Queue
+pub mod Circle
+pub mod Nones
+pub mod Stand
