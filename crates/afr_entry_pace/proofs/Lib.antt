@@ -1,0 +1,4 @@
+pub mod Sets
+pub mod Stages
+pub mod Removals
+pub mod Entries
