@@ -1,0 +1,5 @@
+pub mod Opening
+pub mod Makes
+pub mod Paths
+pub mod Entries
+pub mod Steps

@@ -1,0 +1,9 @@
+use Rattle.afr_descent.proofs.Entries.{leads_down}
+use Rattle.afr_descent.proofs.Steps.{paths_down}
+use Rattle.afr_descent.proofs.entries_lead_down.Goals as goal
+
+pub returns : goal.returns
+returns c = record {
+  tables = λ p log f t was dir name e is. leads_down p log f t was dir name e is;
+  paths = λ p log f a k d o client is same. paths_down p log f a k d o client is same;
+}
