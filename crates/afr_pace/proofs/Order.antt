@@ -21,16 +21,16 @@ pub starts_queued : StartsQueued
 starts_queued change r = λ c x h low. absurd (true≢false (sym h))
 
 -- a list of bricks has its lowest at its head
-Rises : List ℕ → Type 0
+unfoldable pub Rises : List ℕ → Type 0
 Rises [] = Unit {0}
 Rises (x ∷ xs) = ((y : ℕ) → member xs y ≡ true → x < y) × Rises xs
 
-head_lowest : (xs : List ℕ) → Rises xs → (y : ℕ) → member xs y ≡ true → lowest xs ≤ y
+pub head_lowest : (xs : List ℕ) → Rises xs → (y : ℕ) → member xs y ≡ true → lowest xs ≤ y
 unfolding Rises
 head_lowest [] r y h = absurd (true≢false (sym h))
 head_lowest (x ∷ xs) r y h = elim (or_cases (x == y) (member xs y) h) [ inl same ↦ (let e = eqb-true x y same in omega (arith, e)) | inr more ↦ (let l = r.0 y more in omega (arith, l)) ]
 
-minus_rises : (xs t : List ℕ) → Rises xs → Rises (minus xs t)
+pub minus_rises : (xs t : List ℕ) → Rises xs → Rises (minus xs t)
 unfolding Rises
 minus_rises [] t r = tt
 minus_rises (x ∷ xs) t r = go (member t x) (minus_rises xs t r.1)
