@@ -6,7 +6,7 @@ use Rattle.afr_plan.specs.declared.plan.Plan.{Plan}
 use Rattle.afr_model.specs.Actors.{IsActor, is_done}
 use Rattle.afr_model.specs.Following.{NoneDue}
 
--- every event has come, and every living actor has ended each of its works
+-- no event is due, and every living actor has ended each of its works
 pub record IsFinished (p : Plan) (log : List Line) : Type 0 where
   pub events : NoneDue p log
   pub done : (a : ℕ) → IsActor p a → is_done p a log ≡ true
