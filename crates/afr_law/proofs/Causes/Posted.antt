@@ -126,6 +126,10 @@ module _ (n : ℕ) (files : Beginning) (faults : ℕ → ℕ → Option Fault) (
         not_done = λ m y early is. not_done n files.keeps files faults log honest lawful r.p w.a x w.q g kind w.missed w.told w.is c w.within m y early is;
       }
 
+  pub cause_place : (s t x c g : ℕ) (kind : Kind) (r : RaiseSince files log x c g kind s t) → (cause_of s t x c g kind r).p ≡ r.p
+  unfolding cause_of
+  cause_place s t x c g kind r = refl
+
   pub has_cause : (t x c g : ℕ) (kind : Kind) → 0 < pending files log t x c g kind → Cause log t x c g kind
   has_cause t x c g kind some = cause_of 0 t x c g kind (raised files log x c g kind t (omega (arith, some)))
 

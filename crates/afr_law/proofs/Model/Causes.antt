@@ -1,5 +1,5 @@
 -- In honest and lawful logs of the model each accusation has its cause.
-use Rattle.std.proofs.Common.{◌≡◌, ℕ, ◌<◌, true, sym, ◌∙◌, subst, arith, List, [], ◌∷◌, length}
+use Rattle.std.proofs.Common.{◌≡◌, ℕ, ◌<◌, true, refl, sym, ◌∙◌, subst, arith, List, [], ◌∷◌, length}
 use Rattle.std.specs.Prelude.{nat_lt}
 use Rattle.std.proofs.lemmas.Bool.Decides.{nat_tests}
 use Rattle.afr_base.specs.declared.ids.Gfid.{Gfid}
@@ -46,6 +46,10 @@ cause_is L older h x c g kind w = record {
   kind_same = sym (kind_same w.change) ∙ w.kind_same;
   not_done = λ m other early is. w.not_done m other.0 early (past_at L older h m (omega (arith, early, w.past)) ∙ is);
 }
+
+pub cause_position : (L : Log) (older : List Line) (h : IsPast L older) (x c : ℕ) (g : Gfid) (kind : Kind) (w : Cause L (length older) x c g.0 kind) → (cause_is L older h x c g kind w).position ≡ w.p
+unfolding cause_is
+cause_position L older h x c g kind w = refl
 
 module _ (p : Plan) (n : ℕ) (L : Log) (all : (t x c g : ℕ) (kind : Kind) → 0 < pending (start_of p n) L t x c g kind → Cause L t x c g kind) where
   causes_at : (older : List Line) → IsPast L older → LawfulBelow p n older → HaveCauses p older
