@@ -18,7 +18,7 @@ use Rattle.afr_rounds.specs.Acting.{round_or}
 use Rattle.afr_rounds.specs.Keeping.{CarriesIts}
 use Rattle.afr_rounds.specs.declared.healer.Healer.{Healer}
 use Rattle.afr_server.specs.Serving.{Serving}
-use Rattle.afr_standstill.proofs.Tasks.{other_ends}
+use Rattle.afr_law.proofs.Model.Tasks.{other_ends}
 
 pub paced_at_first : RoundPacedAtFirst
 paced_at_first p a x new = subst (IsPacedRound p a []) (sym new.idle) (record { within = λ cost e. omega arith; rooted = tt })
