@@ -1,5 +1,5 @@
 -- The index that a line was given is the one that its brick's tables show.
-use Rattle.std.proofs.Common.{◌≡◌, Bool, true, false, List, None, refl}
+use Rattle.std.proofs.Common.{Bool, true, false, List, refl}
 use Rattle.afr_base.specs.declared.ids.ActorId.{ActorId}
 use Rattle.afr_base.specs.declared.ids.BrickId.{BrickId}
 use Rattle.afr_lines.specs.declared.line.Line.{Line}

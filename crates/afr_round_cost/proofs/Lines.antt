@@ -1,5 +1,5 @@
 -- Each line of a healer keeps its round within its cost, and is within it.
-use Rattle.std.proofs.Common.{◌≡◌, ◌∙◌, ℕ, ◌+◌, ◌≤◌, true, List, Option, None, Some, refl, sym, ap, arith, subst, length}
+use Rattle.std.proofs.Common.{◌≡◌, ◌∙◌, ℕ, ◌+◌, ◌≤◌, List, Option, None, Some, refl, sym, ap, arith, subst, length}
 use Rattle.afr_base.specs.declared.ids.ActorId.{ActorId}
 use Rattle.afr_base.specs.declared.ids.BrickId.{BrickId}
 use Rattle.afr_base.specs.declared.ids.Gfid.{Gfid}
@@ -27,8 +27,8 @@ use Rattle.afr_round_cost.specs.Paced.{IsPacedRound, ListsAtMost}
 use Rattle.afr_round_pace.specs.Laws.{RoundAsksNearer, RoundBeginsNearer, RoundEndLeft, RoundHealedNearer}
 use Rattle.afr_round_pace.specs.Left.{AreRooted, Lists, left_in_stage, round_left, taken_by}
 use Rattle.afr_rounds.specs.Acting.{CanStepWith, IsAsked, IsBegun, IsHealed, SteppedBy}
-use Rattle.afr_rounds.specs.Keeping.{CarriesIts, CarriesRound, IsHealer}
-use Rattle.afr_rounds.specs.Laws.{CanStepNext, IsBeforeRound, IsMadeReady}
+use Rattle.afr_rounds.specs.Keeping.{CarriesIts, CarriesRound}
+use Rattle.afr_rounds.specs.Laws.{CanStepNext}
 use Rattle.afr_rounds.specs.declared.healer.Healer.{Healer}
 use Rattle.afr_self_heal.specs.Healing.{Healing as Heal}
 use Rattle.afr_server.specs.NextLine.{told_line}
