@@ -8,6 +8,7 @@ use Rattle.std.proofs.lemmas.Bool.{eqb-true}
 use Rattle.afr_base.specs.declared.ids.ActorId.{ActorId}
 use Rattle.afr_base.specs.declared.ids.Gfid.{Gfid}
 use Rattle.afr_base.specs.declared.ids.NameId.{NameId}
+use Rattle.afr_base.specs.declared.ids.What.TheVariants.{Dir, File}
 use Rattle.afr_base.specs.declared.ids.What.{What}
 use Rattle.afr_bound.proofs.Sums.{in_range, total_le, total_less}
 use Rattle.afr_bound.specs.Cost.{makes, total}
@@ -62,22 +63,22 @@ count_in x (Some change) = length (numbers_in (Begin x change))
 named_count : (x : ActorId) (h : Gfid) (at : ℕ) (c : Command) → count_in x (change_named h at c) ≤ makes c
 named_count x h at (command.Create path) = go (last_of path)
   where
-    go : (o : Option NameId) → count_in x (option_map (λ name. Make h name (record { 0 = at + 2 }) _) o) ≤ 1
+    go : (o : Option NameId) → count_in x (option_map (λ name. Make h name (record { 0 = at + 2 }) File) o) ≤ 1
     go None = omega arith
     go (Some name) = omega arith
 named_count x h at (command.Mkdir path) = go (last_of path)
   where
-    go : (o : Option NameId) → count_in x (option_map (λ name. Make h name (record { 0 = at + 2 }) _) o) ≤ 1
+    go : (o : Option NameId) → count_in x (option_map (λ name. Make h name (record { 0 = at + 2 }) Dir) o) ≤ 1
     go None = omega arith
     go (Some name) = omega arith
 named_count x h at (command.Unlink path) = go (last_of path)
   where
-    go : (o : Option NameId) → count_in x (option_map (λ name. Remove h name _) o) ≤ 0
+    go : (o : Option NameId) → count_in x (option_map (λ name. Remove h name File) o) ≤ 0
     go None = omega arith
     go (Some name) = omega arith
 named_count x h at (command.Rmdir path) = go (last_of path)
   where
-    go : (o : Option NameId) → count_in x (option_map (λ name. Remove h name _) o) ≤ 0
+    go : (o : Option NameId) → count_in x (option_map (λ name. Remove h name Dir) o) ≤ 0
     go None = omega arith
     go (Some name) = omega arith
 named_count x h at c = omega arith
