@@ -1,0 +1,5 @@
+use Rattle.afr_heal_order.proofs.Rising.{healers_rise}
+use Rattle.afr_heal_order.proofs.heals_ask_in_rising_order.Goals as goal
+
+pub returns : goal.returns
+returns c = record { heals = λ p log f. healers_rise p log f }

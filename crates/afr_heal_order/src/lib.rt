@@ -1,0 +1,11 @@
+//! A heal asks for Work locks in rising order.
+#![tactic(auto)]
+
+ghost use Rattle.afr_heal_order.specs.Heals.{HealersRise};
+
+/// In an honest and lawful log of a plan each Work lock that a heal asks for is above all that its actor holds (`heals`): on a
+/// higher brick, since a heal locks one object alone. The discipline lets a healer ask for Work locks outside of a heal, too,
+/// and in any order; that its machine never does so is no part of this law.
+pub fn heals_ask_in_rising_order()
+    ensures heals { HealersRise }
+{}
