@@ -39,13 +39,14 @@ opening_has zero g k e = go (g == 1) refl (ap of_test (sym (same_gfid (record { 
     go : (hit : Bool) → (g == 1) ≡ hit → kind_code (if hit then Some (new_object Dir) else None) ≡ suc k → (g ≡ 1) ⊎ ⊥
     go true h e = inl (eqb-true g 1 h)
     go false h e = absurd (omega (arith, e))
-opening_has (suc i) g k e = go (kind_in (opening i) g) refl (kind_in (opening i) 1 == 0) ((opening_gfid (suc i)).0 == g) refl (sym (kind_applied true (opening_make i) (opening i) g) ∙ e)
+opening_has (suc i) g k e = go (kind_in (opening i) g) refl (kind_in (opening i) 1 == 0) ((opening_gfid (suc i)).0 == g) refl (sym (kind_applied true (opening_make i) (opening i) g) ∙ e) (λ j was. opening_has i g j was)
   where
-    go : (was : ℕ) → kind_in (opening i) g ≡ was → (lacks hit : Bool) → ((opening_gfid (suc i)).0 == g) ≡ hit → keep was (if lacks then 0 else (if hit then 1 else 0)) ≡ suc k → (g ≡ (opening_gfid (suc i)).0) ⊎ In g (opening_numbers i)
-    go (suc j) was lacks hit h e = inr (opening_has i g j was)
-    go zero was true hit h e = absurd (omega (arith, e))
-    go zero was false true h e = inl (sym (eqb-true (opening_gfid (suc i)).0 g h))
-    go zero was false false h e = absurd (omega (arith, e))
+    go : (was : ℕ) → kind_in (opening i) g ≡ was → (lacks hit : Bool) → ((opening_gfid (suc i)).0 == g) ≡ hit → keep was (if lacks then 0 else (if hit then 1 else 0)) ≡ suc k → ((j : ℕ) → kind_in (opening i) g ≡ suc j → In g (opening_numbers i))
+        → (g ≡ (opening_gfid (suc i)).0) ⊎ In g (opening_numbers i)
+    go (suc j) was lacks hit h e rest = inr (rest j was)
+    go zero was true hit h e rest = absurd (omega (arith, e))
+    go zero was false true h e rest = inl (sym (eqb-true (opening_gfid (suc i)).0 g h))
+    go zero was false false h e rest = absurd (omega (arith, e))
 
 -- ---- by lines
 -- the number that a line gives to what it makes
