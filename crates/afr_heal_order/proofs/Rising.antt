@@ -4,7 +4,7 @@ use Rattle.afr_base.specs.declared.ids.ActorId.{ActorId}
 use Rattle.afr_base.specs.declared.ids.BrickId.{BrickId}
 use Rattle.afr_descent.proofs.Makes.{plan_before}
 use Rattle.afr_descent.specs.Descent.{IsOfPlan}
-use Rattle.afr_heal_order.specs.Heals.{HealersRise, RisesInHeal}
+use Rattle.afr_heal_order.specs.Heals.{HealersRise, NextRises, RisesInHeal}
 use Rattle.afr_law.proofs.Discipline.ByList.{exactly_lawful}
 use Rattle.afr_law.specs.Beginning.{start_of}
 use Rattle.afr_law.specs.Exactly.{name_bound}
@@ -70,3 +70,6 @@ each p (Event event) older f = λ inside. tt
 pub healers_rise : HealersRise
 healers_rise p [] f = tt
 healers_rise p (line ∷ older) f = (each p line older f, healers_rise p older (plan_before p line older f))
+
+pub next_rises : NextRises
+next_rises p log a b request told took r f k inside = each p (Ask a b request told took) log f (k.stands.inside ∙ inside)
