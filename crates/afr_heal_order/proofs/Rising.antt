@@ -31,27 +31,27 @@ use Rattle.afr_waits.proofs.Queue.{queue_now, rises}
 use Rattle.afr_waits.specs.Waiting.{RisesTo}
 
 module _ (p : Plan) (older : List Line) (a : ActorId) (b : BrickId) (area : Area) (told : Told) (took : Bool) (f : IsOfPlan p (Ask a b (Lock Work area) told took ∷ older)) where
-  abbrev line : Line
-  line = Ask a b (Lock Work area) told took
+  abbrev newest : Line
+  newest = Ask a b (Lock Work area) told took
 
   abbrev L : Log
-  L = by_position (line ∷ older)
+  L = by_position (newest ∷ older)
 
   abbrev r : Exact
   r = present p.shape.n (kept_by p) L (length older) a.0
 
   moves : MovesExactly p.shape.n (kept_by p) L
-  moves = (exactly_lawful p.shape.n (start_of p (name_bound p)) (line ∷ older) f.lawful).moves
+  moves = (exactly_lawful p.shape.n (start_of p (name_bound p)) (newest ∷ older) f.lawful).moves
 
   may : MayAskExactly p.shape.n (kept_by p) r b.0 (Lock Work area)
-  may = (subst (MayExactly p.shape.n (kept_by p) (present p.shape.n (kept_by p) L (length older))) (newest_at line older) (moves (length older))).1
+  may = (subst (MayExactly p.shape.n (kept_by p) (present p.shape.n (kept_by p) L (length older))) (newest_at newest older) (moves (length older))).1
 
   -- the register in force at the line, by positions and by the list
-  in_heal : RisesInHeal p line older
-  in_heal inside = subst (λ (x : Exact). RisesTo p.shape.n x.law b.0 area) (present_register p a.0 line older) (go may)
+  in_heal : RisesInHeal p newest older
+  in_heal inside = subst (λ (x : Exact). RisesTo p.shape.n x.law b.0 area) (present_register p a.0 newest older) (go may)
     where
       heal : r.law.heal ≡ true
-      heal = subst (λ (x : Exact). x.law.heal ≡ true) (sym (present_register p a.0 line older)) inside
+      heal = subst (λ (x : Exact). x.law.heal ≡ true) (sym (present_register p a.0 newest older)) inside
 
       go : MayAskExactly p.shape.n (kept_by p) r b.0 (Lock Work area) → RisesTo p.shape.n r.law b.0 area
       go (inl w) = absurd (true≢false (sym heal ∙ w.0))
