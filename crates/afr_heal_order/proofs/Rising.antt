@@ -1,5 +1,5 @@
 -- Each Work lock of a heal is asked above all that its actor holds.
-use Rattle.std.proofs.Common.{◌≡◌, ◌∙◌, ℕ, ◌⊎◌, inl, inr, Bool, true, false, refl, sym, subst, ap, arith, List, [], ◌∷◌, length, Some, true≢false}
+use Rattle.std.proofs.Common.{◌≡◌, ◌∙◌, inl, inr, Bool, true, sym, subst, List, [], ◌∷◌, length, true≢false}
 use Rattle.afr_base.specs.declared.ids.ActorId.{ActorId}
 use Rattle.afr_base.specs.declared.ids.BrickId.{BrickId}
 use Rattle.afr_descent.proofs.Makes.{plan_before}
@@ -14,7 +14,6 @@ use Rattle.afr_lines.specs.declared.line.Line.TheVariants.{Ask, Begin, End, Even
 use Rattle.afr_lines.specs.declared.line.Line.{Line}
 use Rattle.afr_lines.specs.declared.request.Area.{Area}
 use Rattle.afr_lines.specs.declared.request.Request.TheVariants.{Lock}
-use Rattle.afr_lines.specs.declared.request.Request.{Request}
 use Rattle.afr_moves.proofs.ByPosition.{newest_at}
 use Rattle.afr_moves.specs.Discipline.{MayAskExactly, MayExactly, MovesExactly, present}
 use Rattle.afr_moves.specs.Heal.{Gives, Goes}
@@ -22,9 +21,8 @@ use Rattle.afr_moves.specs.Past.{Log}
 use Rattle.afr_moves.specs.Positions.{by_position}
 use Rattle.afr_moves.specs.Register.{Exact}
 use Rattle.afr_plan.specs.declared.plan.Plan.{Plan}
-use Rattle.afr_range_locks.specs.declared.domain.Domain.TheVariants.{Heal, Work}
+use Rattle.afr_range_locks.specs.declared.domain.Domain.TheVariants.{Work}
 use Rattle.afr_standstill.proofs.Positions.{present_register}
-use Rattle.afr_standstill.specs.Order.{locks_at}
 use Rattle.afr_tables.specs.Codes.{kept_by}
 use Rattle.afr_waits.proofs.Begun.{begun_now}
 use Rattle.afr_waits.proofs.Queue.{queue_now, rises}
