@@ -1,8 +1,6 @@
 -- The index of a brick lists at most as many objects as there can be.
-use Rattle.std.proofs.Common.{◌≡◌, ◌∙◌, ℕ, ◌+◌, ◌-◌, ◌<◌, ◌≤◌, ◌==◌, Bool, true, false, refl, sym, ap, subst, arith, List, [], ◌∷◌, ◌++◌, length, Some, length-append}
-use Rattle.std.specs.Prelude.{if◌then◌else◌, None}
-use Rattle.afr_base.specs.declared.ids.BrickId.{BrickId}
-use Rattle.afr_base.specs.declared.ids.Gfid.{Gfid}
+use Rattle.std.proofs.Common.{◌≡◌, ◌∙◌, ℕ, ◌+◌, ◌-◌, ◌≤◌, ◌==◌, Bool, true, false, refl, sym, ap, subst, arith, List, [], ◌∷◌, length, length-append}
+use Rattle.std.specs.Prelude.{if◌then◌else◌}
 use Rattle.afr_bound.specs.Cost.{objects_of}
 use Rattle.afr_descent.proofs.Makes.{plan_before}
 use Rattle.afr_descent.specs.Descent.{IsOfPlan}
@@ -18,16 +16,12 @@ use Rattle.afr_law.proofs.Safety.Objects.{kind_born}
 use Rattle.afr_law.specs.Beginning.{start_of}
 use Rattle.afr_law.specs.Exactly.{name_bound}
 use Rattle.afr_law.specs.ModelKinds.{Before, Now, WasTable}
-use Rattle.afr_lines.specs.Log.{EachLine}
-use Rattle.afr_lines.specs.Told.{told_by}
 use Rattle.afr_lines.specs.declared.answer.Answer.TheVariants as answer
 use Rattle.afr_lines.specs.declared.answer.Answer.{Answer}
-use Rattle.afr_lines.specs.declared.answer.Told.TheVariants.{Given}
 use Rattle.afr_lines.specs.declared.line.Line.TheVariants.{Ask, Begin, End, Event, HealBegin, HealEnd}
 use Rattle.afr_lines.specs.declared.line.Line.{Line}
 use Rattle.afr_lines.specs.declared.request.Request.TheVariants as request
-use Rattle.afr_lines.specs.declared.request.Request.{Request}
-use Rattle.afr_model.specs.Honest.{answer_by, fault_in}
+use Rattle.afr_model.specs.Honest.{fault_in}
 use Rattle.afr_model.specs.Tables.{held_before, holds}
 use Rattle.afr_moves.proofs.ByPosition.{past_whole}
 use Rattle.afr_moves.proofs.Tests.{what_some}
@@ -36,7 +30,7 @@ use Rattle.afr_moves.specs.Honest.{Honest}
 use Rattle.afr_moves.specs.Past.{Log, kind_at}
 use Rattle.afr_moves.specs.Positions.{by_position}
 use Rattle.afr_object.specs.Indexed.{index_of}
-use Rattle.afr_object.specs.Tables.{Table, copy_at}
+use Rattle.afr_object.specs.Tables.{Table}
 use Rattle.afr_plan.specs.declared.plan.Plan.{Plan}
 use Rattle.afr_quiet_lists.proofs.Rises.{Rises, rising}
 use Rattle.afr_round_pace.specs.Left.{Lists}

@@ -1,9 +1,7 @@
 -- The numbers that objects can have: the root's, those of the opening files, and those that the lines of a log give.
-use Rattle.std.proofs.Common.{◌≡◌, ◌∙◌, ℕ, zero, suc, ◌+◌, ◌-◌, ◌==◌, ◌⊎◌, inl, inr, Bool, true, false, refl, sym, ap, subst, arith, List, [], ◌∷◌, ◌++◌, length, Option, Some, None}
+use Rattle.std.proofs.Common.{◌≡◌, ◌∙◌, ℕ, zero, suc, ◌+◌, ◌==◌, ◌⊎◌, inl, inr, Bool, true, false, refl, sym, ap, arith, List, [], ◌∷◌, ◌++◌, length, Some, None}
 use Rattle.std.specs.Prelude.{if◌then◌else◌}
 use Rattle.std.proofs.lemmas.Bool.{eqb-true}
-use Rattle.std.proofs.lemmas.Bool.Decides.{nat_tests}
-use Rattle.afr_base.specs.declared.ids.Gfid.{Gfid}
 use Rattle.afr_bound.proofs.Sums.{in_left, in_right}
 use Rattle.afr_brick.specs.TablesLemmas.{same_gfid}
 use Rattle.afr_lines.specs.Log.{from_oldest}
@@ -12,9 +10,7 @@ use Rattle.afr_lines.specs.declared.line.Line.{Line}
 use Rattle.afr_moves.specs.Past.{keep, made}
 use Rattle.afr_object.specs.Tables.{new_object, opening, opening_gfid, root}
 use Rattle.afr_object.specs.declared.change.Change.TheVariants.{Make}
-use Rattle.afr_object.specs.declared.change.Change.{Change}
 use Rattle.afr_base.specs.declared.ids.What.TheVariants.{Dir}
-use Rattle.afr_base.specs.declared.ids.What.{What}
 use Rattle.afr_tables.proofs.Copies.{kind_applied}
 use Rattle.afr_tables.proofs.Opening.{opening_make}
 use Rattle.afr_tables.specs.Codes.{kind_code, kind_in}

@@ -1,15 +1,14 @@
 -- A table whose gfids rise has no more objects than a list with all their numbers has.
-use Rattle.std.proofs.Common.{◌≡◌, ◌∙◌, ℕ, ◌+◌, ◌<◌, ◌≤◌, ◌==◌, ◌⊎◌, inl, inr, Bool, true, false, cond, refl, sym, arith, List, [], ◌∷◌, length, Option, Some, None}
+use Rattle.std.proofs.Common.{◌≡◌, ℕ, ◌+◌, ◌<◌, ◌≤◌, ◌==◌, ◌⊎◌, inl, inr, Bool, true, false, cond, refl, sym, arith, List, [], ◌∷◌, length, Some}
 use Rattle.std.specs.Prelude.{if◌then◌else◌}
 use Rattle.std.proofs.lemmas.Bool.Decides.{nat_tests}
 use Rattle.std.proofs.lemmas.Bool.{eqb-true}
 use Rattle.afr_base.specs.Marks.{is_no_marks}
-use Rattle.afr_base.specs.declared.ids.Gfid.{Gfid}
+use Rattle.afr_brick.specs.TablesLemmas.{same_gfid}
 use Rattle.afr_object.specs.Indexed.{index_of}
 use Rattle.afr_object.specs.Tables.{Table, copy_at}
 use Rattle.afr_object.specs.declared.object.Object.{Object}
-use Rattle.afr_quiet_lists.proofs.Rises.{AreAbove, Rises, same_gfid}
-use Rattle.afr_tables.specs.Codes.{kind_code, kind_in}
+use Rattle.afr_quiet_lists.proofs.Rises.{AreAbove, Rises}
 use Rattle.afr_waits.proofs.Circle.{In}
 
 apart : (x y : ℕ) → (y == x) ≡ false → x ≡ y → ⊥

@@ -1,5 +1,5 @@
 -- A brick's index lists at most as many objects as there ever can be.
-use Rattle.std.specs.Prelude.{◌≡◌, ℕ, ◌≤◌, List, None, length}
+use Rattle.std.specs.Prelude.{◌≡◌, ◌≤◌, List, None, length}
 use Rattle.afr_base.specs.declared.ids.BrickId.{BrickId}
 use Rattle.afr_bound.specs.Cost.{objects_of}
 use Rattle.afr_descent.specs.Descent.{IsOfPlan}
