@@ -1,0 +1,8 @@
+mod Parts
+mod Spared
+mod Splits
+mod Leaving
+mod Standing
+mod Lines
+mod Rounds
+mod Passes
