@@ -5,4 +5,5 @@ mod Leaving
 mod Standing
 mod Lines
 mod Rounds
+mod Heals
 mod Passes

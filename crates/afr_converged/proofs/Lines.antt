@@ -121,6 +121,10 @@ pub record Still (p : Plan) (a : ℕ) (was : Seq Line) (g : Gfid) (kind : Kind) 
 pub still_fresh : (p : Plan) (a : ℕ) (was : Seq Line) (g : Gfid) (kind : Kind) (older : Seq Line) → Same p a was g kind older → Still p a was g kind older untouched
 still_fresh p a was g kind older same = record { same = same; idle = λ e. refl; looking = λ e. absurd (true≢false (sym e)) }
 
+-- unchanged so far, or in a heal that goes on, or repaired at the end of these lines
+abbrev pub Left : Plan → ℕ → Seq Line → Gfid → Kind → Seq Line → Seq Line → Exact → Type 0
+Left p a was g kind log o z = Still p a was g kind o z ⊎ (Went p a was g kind o ⊎ Gone p a was g kind log)
+
 module _ (p : Plan) (L : Log) (moves : MovesExactly p.shape.n (kept_by p) L) (a : ℕ) (was : Seq Line) (before : Premises p was) (g : Gfid) (kind : Kind) (every : IsEverywhere p was g) (log : Seq Line) (no_command : (k : ℕ) (c : Command) → slice_get (script_of p a) k ≡ Some c → ⊥) (older : Seq Line) where
   abbrev n : ℕ
   n = p.shape.n
@@ -134,9 +138,8 @@ module _ (p : Plan) (L : Log) (moves : MovesExactly p.shape.n (kept_by p) L) (a 
   abbrev r : Exact
   r = present p.shape.n (kept_by p) L (length older) a
 
-  -- what a line leaves
-  abbrev pub State : Seq Line → Exact → Type 0
-  State o z = Still p a was g kind o z ⊎ (Went p a was g kind o ⊎ Gone p a was g kind log)
+  abbrev State : Seq Line → Exact → Type 0
+  State o z = Left p a was g kind log o z
 
   -- ---- a heal of the object and kind goes on
   begun_some : (o : Option (Seq Line)) → (o ≡ None → ⊥) → (first : Seq Line) × (o ≡ Some first)

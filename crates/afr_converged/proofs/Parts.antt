@@ -139,14 +139,13 @@ part_asked kind keeps (request.Post attempt i k missed) older past g t m s h = p
 part_asked kind keeps (request.Settle i k less) older past g t m s h = part_changed kind (with_numbers k (taken_back less)) i g t m (λ e. numbers_part kind k (taken_back less)) h
 part_asked kind keeps r older past g t m s h = h
 
--- a line within a work that leaves the numbers and the part of the object and kind
+-- a line that leaves the numbers and the part of the object and kind
 abbrev pub Spares : Gfid → Kind → Line → Type 0
 Spares g kind (Ask x y (request.Apply q) told took) = ⊥
 Spares g kind (Ask x y (request.Post attempt i k missed) told took) = ⊥
 Spares g kind (Ask x y (request.Mend repair) told took) = IsAside g kind repair
 Spares g kind (Ask x y (request.Pre i k) told took) = i.0 ≡ g.0 → k ≡ kind → ⊥
 Spares g kind (Ask x y (request.Settle i k less) told took) = i.0 ≡ g.0 → k ≡ kind → ⊥
-Spares g kind (End x said) = ⊥
 Spares g kind line = Unit {0}
 
 spares_part : (g : Gfid) (kind : Kind) (x : ActorId) (y : BrickId) (r : Request) (told : Told) (took : Bool) → Spares g kind (Ask x y r told took) → LeavesPart g kind r
@@ -174,6 +173,6 @@ part_on p (Ask x y r told took) older g kind b m s h = go took (y.0 == b)
     go false here = h
 part_on p (Begin x change) older g kind b m s h = h
 part_on p (HealBegin x i k) older g kind b m s h = h
-part_on p (End x said) older g kind b m s h = absurd s
+part_on p (End x said) older g kind b m s h = h
 part_on p (HealEnd x i k said) older g kind b m s h = h
 part_on p (Event e) older g kind b m s h = h

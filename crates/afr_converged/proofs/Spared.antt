@@ -68,7 +68,7 @@ counts_none p g kind (Ask x y (request.ReadAttrs i) told took) older s z = (refl
 counts_none p g kind (Ask x y request.Index told took) older s z = (refl, refl, refl, λ c. (refl, refl))
 counts_none p g kind (Begin x change) older s z = (refl, refl, refl, λ c. (refl, refl))
 counts_none p g kind (HealBegin x i k) older s z = (refl, refl, refl, λ c. (refl, refl))
-counts_none p g kind (End x said) older s z = absurd s
+counts_none p g kind (End x said) older s z = (refl, refl, refl, λ c. (refl, refl))
 counts_none p g kind (HealEnd x i k said) older s z = (refl, refl, refl, λ c. (refl, refl))
 counts_none p g kind (Event e) older s z = (refl, refl, refl, λ c. (refl, refl))
 
