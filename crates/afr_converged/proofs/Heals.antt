@@ -1,5 +1,5 @@
 -- The heal that a round has of an object and kind with a number above 0 on its brick.
-use Rattle.std.proofs.Common.{ap, arith, false, inl, inr, refl, subst, sym, true, true≢false, ℕ, zero, suc, ◌+◌, ◌<◌, ◌∙◌, ◌≡◌, ◌≤◌, ◌×◌, ◌⊎◌, ◌==◌, ◌||◌, ◌++◌, Bool, List, [], ◌∷◌, Option, None, Some, length, if◌then◌else◌}
+use Rattle.std.proofs.Common.{ap, arith, false, inl, inr, refl, subst, sym, true, true≢false, ℕ, zero, suc, ◌+◌, ◌<◌, ◌∙◌, ◌≡◌, ◌≤◌, ◌⊎◌, ◌==◌, ◌||◌, ◌++◌, Bool, List, [], ◌∷◌, Option, None, Some, length, if◌then◌else◌}
 use Rattle.std.specs.Prelude.{slice_get, slice_index}
 use Rattle.std.proofs.lemmas.Bool.{eqb-true, or_parts}
 use Rattle.afr_base.specs.Marks.{is_no_marks, marks_of}

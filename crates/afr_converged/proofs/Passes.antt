@@ -1,5 +1,5 @@
 -- Round after round: what every brick had is clear at last, or was in split-brain from the start.
-use Rattle.std.proofs.Common.{Bool, ap, arith, inl, inr, refl, subst, sym, true, ℕ, zero, suc, ◌+◌, ◌<◌, ◌∙◌, ◌≡◌, ◌≤◌, ◌×◌, ◌⊎◌, [], ◌∷◌, length}
+use Rattle.std.proofs.Common.{Bool, ap, arith, inl, inr, refl, subst, sym, true, ℕ, zero, suc, ◌+◌, ◌<◌, ◌∙◌, ◌≡◌, ◌≤◌, ◌⊎◌, [], ◌∷◌, length}
 use Rattle.std.specs.Prelude.{List as Seq, Option, Some, is_some, slice_get}
 use Rattle.std.proofs.lemmas.Bool.{cases_lt}
 use Rattle.afr_base.specs.Bricks.{below}

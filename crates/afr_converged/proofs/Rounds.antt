@@ -1,5 +1,5 @@
 -- What an undisturbed round leaves of an object that every brick has.
-use Rattle.std.proofs.Common.{ap, arith, inl, inr, refl, subst, sym, true, ℕ, suc, ◌<◌, ◌∙◌, ◌≡◌, ◌≤◌, ◌×◌, ◌⊎◌, [], ◌∷◌, length}
+use Rattle.std.proofs.Common.{ap, arith, inl, inr, refl, subst, sym, true, ℕ, suc, ◌<◌, ◌∙◌, ◌≡◌, ◌≤◌, ◌⊎◌, [], ◌∷◌, length}
 use Rattle.std.specs.Prelude.{Bool, List as Seq, None, Option, Some, slice_get}
 use Rattle.std.proofs.lemmas.Bool.{eqb-true}
 use Rattle.afr_base.specs.declared.ids.ActorId.{ActorId}

@@ -1,5 +1,5 @@
 -- A line that spares an object and kind leaves them unchanged.
-use Rattle.std.proofs.Common.{Bool, ap, arith, false, refl, subst, sym, true, ℕ, ◌+◌, ◌-◌, ◌&&◌, ◌<◌, ◌∙◌, ◌≡◌, ◌×◌, List, ◌∷◌, ◌==◌}
+use Rattle.std.proofs.Common.{Bool, ap, arith, false, refl, subst, sym, true, ℕ, ◌+◌, ◌-◌, ◌&&◌, ◌<◌, ◌∙◌, ◌≡◌, List, ◌∷◌, ◌==◌}
 use Rattle.std.specs.Prelude.{is_some, slice_index, None, Option, Some}
 use Rattle.std.proofs.lemmas.Bool.{eqb-true}
 use Rattle.afr_base.specs.Bricks.{and_left, and_right, member}

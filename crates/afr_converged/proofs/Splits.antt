@@ -1,5 +1,5 @@
 -- Where every brick has the object, a split-brain is that each copy is accused by some brick.
-use Rattle.std.proofs.Common.{Bool, ap, arith, false, inl, inr, not, refl, subst, sym, true, true≢false, ℕ, zero, suc, ◌&&◌, ◌||◌, ◌<◌, ◌∙◌, ◌≡◌, ◌≤◌, ◌×◌, List, [], ◌∷◌, Option, None, Some, ◌==◌, if◌then◌else◌}
+use Rattle.std.proofs.Common.{Bool, ap, arith, false, inl, inr, not, refl, subst, sym, true, true≢false, ℕ, zero, suc, ◌&&◌, ◌||◌, ◌<◌, ◌∙◌, ◌≡◌, ◌≤◌, List, [], ◌∷◌, Option, None, Some, ◌==◌, if◌then◌else◌}
 use Rattle.std.specs.Prelude.{is_some, map, nat_lt, slice_index_or}
 use Rattle.std.specs.Option.{option_map}
 use Rattle.std.proofs.lemmas.Bool.Decides.{nat_tests}
@@ -86,7 +86,7 @@ module _ (p : Plan) (log : List Line) (sums : AreSums p log) (five : p.shape.n �
       copies : is_nothing (copies_of p.shape here kind) ≡ false
       copies = (
           let w = has_some p log 0 g (every 0 some) in
-          some_in (copies_of p.shape here kind) 0 (member_copies p.shape here kind 0 (omega arith) ∙ rw (below_all n 0 five some, view_is 0 some w.0 w.1, first_keeps p kind) refl)
+          some_in (copies_of p.shape here kind) 0 (member_copies p.shape here kind 0 (omega arith) ∙ rw (below_all n 0 five some, w.1, first_keeps p kind) refl)
           )
 
       none_good : is_nothing (good_copies p.shape here kind) ≡ true
