@@ -20,6 +20,7 @@ use Rattle.afr_lines.specs.declared.line.Line.TheVariants.{Ask, Begin, End, Even
 use Rattle.afr_lines.specs.declared.reply.HealReply.{HealReply}
 use Rattle.afr_lines.specs.declared.request.Request.TheVariants.{Index}
 use Rattle.afr_plan.specs.declared.plan.Plan.{Plan}
+use Rattle.afr_brick.specs.TablesLemmas.{same_gfid}
 use Rattle.afr_model.specs.Actors.{rounds_of}
 use Rattle.afr_model.specs.Honest.{IsHonest}
 use Rattle.afr_model.specs.Quiet.{IsQuiet, tells_any_fault}
@@ -31,7 +32,6 @@ use Rattle.afr_model.specs.Tables.{holds}
 use Rattle.afr_quiet.specs.Undisturbed.{EachHeal, ended_heals, ends_one}
 use Rattle.afr_quiet_lists.proofs.Index.{IsOpen, kind_open, open_not_zero}
 use Rattle.afr_quiet_lists.proofs.Premises.{Sound, sound_before}
-use Rattle.afr_quiet_lists.proofs.Rises.{same_gfid}
 use Rattle.afr_quiet_lists.proofs.Runs.{AreMine, Run, before_works, ended_same, run, works, works_are}
 use Rattle.afr_quiet_lists.proofs.Steps.{answered}
 use Rattle.afr_quiet_lists.proofs.Tasks.{Round, round_of}

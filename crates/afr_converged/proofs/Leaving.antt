@@ -113,7 +113,7 @@ module _ (p : Plan) (keeps : ℕ → Kind → Bool) (was : Seq Line) (g : Gfid) 
         where
           found : Looking p was g kind r.step r.phase r.first_views → (z : ℕ) (view : View) → put r.first_views y.0 v z ≡ Some view → (z < n) × ShowsWas p was g kind z view
           found i z view m = elim (here_or y.0 z) [
-            | inl at ↦ subst (λ (j : ℕ). (j < n) × ShowsWas p was g kind j view) at (below, shown view (sym (put_same r.first_views y.0 v) ∙ ap (put r.first_views y.0 v) at ∙ m))
+            | inl at ↦ subst (λ (j : ℕ). (j < n) × ShowsWas p was g kind j view) (sym at) (below, shown view (sym (put_same r.first_views y.0 v) ∙ ap (put r.first_views y.0 v) (sym at) ∙ m))
             | inr other ↦ i.seen z view (sym (put_other r.first_views y.0 z v other) ∙ m)
           ]
 

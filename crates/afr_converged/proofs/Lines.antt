@@ -32,9 +32,10 @@ use Rattle.afr_law.proofs.Heals.Areas.{opening_or}
 use Rattle.afr_law.proofs.Discipline.Untouched.{still_now}
 use Rattle.afr_base.specs.Bricks.{and_left, and_right, below}
 use Rattle.afr_base.specs.Keeping.{keeps as keeps_kind}
+use Rattle.afr_base.specs.Majority.{is_most}
 use Rattle.afr_base.specs.Kinds.{same_kind}
 use Rattle.afr_base.specs.declared.marks.Marks.{Marks}
-use Rattle.afr_lines.specs.Work.{work}
+use Rattle.afr_lines.specs.Work.{ended, work}
 use Rattle.afr_object.specs.declared.change.Change.{Change}
 use Rattle.afr_model.specs.Following.{IsDue, KeepsToTask, ToCommand, ToRound}
 use Rattle.afr_model.specs.Healing.{heal_by}
@@ -179,16 +180,17 @@ module _ (p : Plan) (L : Log) (moves : MovesExactly p.shape.n (kept_by p) L) (a 
       shown = looked_all p keeps older (heal_by (work a older)) r whole.locks s over (whole.looks.shown first.0 first.1 (subst (IsEverywhere p first.0) (sym (gfid_is (gfid r.law.object) g object)) held))
 
       is_good : good n keeps r.law.kind r.first_views s ≡ true
-      is_good = and_left _ _ on
+      is_good = and_left (good n keeps r.law.kind r.first_views s) (goes_on_at n keeps r s r.phase) on
 
       free : unaccused n kind r.first_views s ≡ true
-      free = subst (λ k. unaccused n k r.first_views s ≡ true) kin (and_right _ _ is_good)
+      free = subst (λ k. unaccused n k r.first_views s ≡ true) kin (and_right (holder r.first_views s && keeps s r.law.kind) (unaccused n r.law.kind r.first_views s) is_good)
 
       kept : keeps_kind p.shape kind s ≡ true
-      kept = and_right (nat_lt s 5) _ (subst (λ k. kept_by p s k ≡ true) kin (and_right _ _ (and_left _ _ is_good)))
+      kept = and_right (nat_lt s 5) (keeps_kind p.shape kind s) (subst (λ k. kept_by p s k ≡ true) kin (and_right (holder r.first_views s) (keeps s r.law.kind) (and_left (holder r.first_views s && keeps s r.law.kind) (unaccused n r.law.kind r.first_views s) is_good)))
 
       some : (x : ℕ) × (x < n) × (shows_number r.law.kind (r.first_views x) ≡ true)
-      some = some_yes n (λ x. shows_number r.law.kind (r.first_views x)) (and_right _ _ (subst (λ z. goes_on_at n keeps r s z ≡ true) look.first (and_right _ _ on)))
+      some = some_yes n (λ x. shows_number r.law.kind (r.first_views x)) (and_right (is_most n r.first_reached && is_most n (holder r.first_views)) (any n (λ x. shows_number r.law.kind (r.first_views x)))
+          (subst (λ z. goes_on_at n keeps r s z ≡ true) look.first (and_right (good n keeps r.law.kind r.first_views s) (goes_on_at n keeps r s r.phase) on)))
 
   -- ---- a request
   module _ (x : ActorId) (y : BrickId) (request : Request) (told : Told) (took : Bool) (q : Premises p (Ask x y request told took ∷ older)) (calm : Calm a (Ask x y request told took)) (round : Round p a older r) (h : Still p a was g kind older r) where
@@ -315,6 +317,6 @@ module _ (p : Plan) (L : Log) (moves : MovesExactly p.shape.n (kept_by p) L) (a 
   -- each line of the round
   pub state_own : (line : Line) → Premises p (line ∷ older) → IsPast L (line ∷ older) → Calm a line → OfHeal (λ h k said before. IsTold p h k said (heal_by (work a before))) line older → OfHeal (λ h k said before. IsKept p log h k said (heal_by (work a before))) line older → Round p a older r → State older r
       → MayExactly n keeps (λ x. r) (Some line) → State (line ∷ older) (note n keeps r t (Some line))
-  state_own line q past calm told kept round (inl h) may = still_own line q past calm round h may
-  state_own line q past calm told kept round (inr (inl w)) may = inr (went_on p a was g kind log no_command older line q calm told kept w)
-  state_own line q past calm told kept round (inr (inr gone)) may = inr (inr gone)
+  state_own this q past calm told kept round (inl h) may = still_own this q past calm round h may
+  state_own this q past calm told kept round (inr (inl w)) may = inr (went_on p a was g kind log no_command older this q calm told kept w)
+  state_own this q past calm told kept round (inr (inr gone)) may = inr (inr gone)

@@ -140,9 +140,6 @@ module _ (p : Plan) (start : Seq Line) (g : Gfid) (what : What) (kind : Kind) (a
     facts ((End y reply, before) ∷ w) t k f = (tt, facts w t.1 k.1 f.1)
     facts ((Event event, before) ∷ w) t k f = (tt, facts w t.1 k.1 f.1)
 
-    some_lines : IsIn (g, kind) (ended_heals (work x.0 older)) → work x.0 older ≡ [] → ⊥
-    some_lines w e = absurd (let k : slice_get (ended_heals []) w.0 ≡ Some (g, kind) = subst (λ (l : Lines). slice_get (ended_heals l) w.0 ≡ Some (g, kind)) e w.1 in cc k)
-
     -- where the brick shows a number of the object, the round has a heal of the kind
     has_heal : IsUnchanged p start then_ g kind → IsOpenOn p then_ b.0 g kind → IsIn (g, kind) (ended_heals (work x.0 older))
     has_heal u open_on = subst (IsIn (g, kind)) (sym whole.both) (heals_have (listed_by p (work x.0 older)) g what kind of (subst (λ l. IsIn (g, what) l) (sym list) (subst (λ z. IsIn (g, z) (index_of (holds p then_ b.0))) copy.2
@@ -214,18 +211,18 @@ module _ (p : Plan) (start : Seq Line) (g : Gfid) (what : What) (kind : Kind) (a
 
   pub passes : RoundsAreLow p → (done : Seq BrickId) (log : Seq Line) → Sound p log → AreQuietWhole p log → AreRounds p start done log → Came done log × IsEverywhere p log g
   passes low [] log s whole is = subst (λ l. Came [] l × IsEverywhere p l g) (sym is) (inr (unchanged_self p start g kind, λ b none. absurd (let e = none.1 in cc e)), everywhere_as p start g what held)
-  passes low (b ∷ done) log s whole (r, before) = subst (λ l. Came (b ∷ done) l × IsEverywhere p l g) (sym r.last) (round (subst (Sound p) r.last s) (subst (AreQuietWhole p) r.last whole))
-    where
-      round : Sound p (End r.healer r.said ∷ r.older) → AreQuietWhole p (End r.healer r.said ∷ r.older) → Came (b ∷ done) (End r.healer r.said ∷ r.older) × IsEverywhere p (End r.healer r.said ∷ r.older) g
-      round s whole = (
-          let tail = before_tail r.healer.0 r.older in
-          let then_ = log_before (work r.healer.0 r.older) r.older in
-          let came = passes low done then_ (sound_then p then_ r.older tail (sound_before p (End r.healer r.said) r.older s)) (whole_then then_ r.older tail whole.1) before in
-          (
-            comes r.healer r.said r.older b s r.high r.over (low r.healer.0 (ended r.healer.0 r.older) b r.over) r.quiet (whole.0 r.high b r.over r.quiet) done came.1 came.0,
-            everywhere_later p g then_ (End r.healer r.said ∷ r.older) (inr tail) came.1,
-          )
-          )
+  passes low (b ∷ done) log s whole (r, before) = subst (λ l. Came (b ∷ done) l × IsEverywhere p l g) (sym r.last) (
+      let ended_log : Seq Line = End r.healer r.said ∷ r.older in
+      let then_ : Seq Line = log_before (work r.healer.0 r.older) r.older in
+      let tail : IsTail then_ r.older = before_tail r.healer.0 r.older in
+      let s_end : Sound p ended_log = subst (Sound p) r.last s in
+      let w_end : AreQuietWhole p ended_log = subst (AreQuietWhole p) r.last whole in
+      let came = passes low done then_ (sound_then p then_ r.older tail (sound_before p (End r.healer r.said) r.older s_end)) (whole_then then_ r.older tail w_end.1) before in
+      (
+        comes r.healer r.said r.older b s_end r.high r.over (low r.healer.0 (ended r.healer.0 r.older) b r.over) r.quiet (w_end.0 r.high b r.over r.quiet) done came.1 came.0,
+        everywhere_later p g then_ ended_log (inr tail) came.1,
+      )
+      )
 
   alike_now : (log : Seq Line) → Sound p log → IsClear p log g kind → IsClearAlike p log g kind
   alike_now log s clear = record {

@@ -32,12 +32,12 @@ use Rattle.afr_quiet_copies.proofs.Premises.{Premises, honest_lines, moves, shor
 use Rattle.afr_quiet_copies.proofs.Round.{Round, round_fresh, round_own, work_own}
 use Rattle.afr_quiet_copies.proofs.Stretch.{Calm, IsTail, Stretch, at_tail, before_tail, count, fresh_before, fresh_work, stretch}
 use Rattle.afr_quiet_copies.proofs.Walk.{walk}
-use Rattle.afr_quiet_lists.proofs.Tasks.{no_script}
+use Rattle.afr_standstill.proofs.Tasks.{no_script}
 use Rattle.afr_quiet_rounds.specs.Whole.{QuietRoundsAreWhole, RoundsAreLow}
 use Rattle.afr_converged.specs.Converged.{IsLeft, IsQuietLeft, QuietRoundsLeave}
 use Rattle.afr_converged.proofs.Lines.{Left, state_own, still_fresh}
 use Rattle.afr_converged.proofs.Spared.{clear_still, unchanged_self}
-use Rattle.afr_converged.proofs.Standing.{Gone, Same, Went, went_open}
+use Rattle.afr_converged.proofs.Standing.{BeganSo, Gone, Same, Went, went_open}
 
 -- ---- the moment at which the round began
 pub premises_then : (p : Plan) (cur log : Seq Line) → IsTail cur log → Premises p log → Premises p cur
@@ -127,7 +127,7 @@ module _ (p : Plan) (log : Seq Line) (premises : Premises p log) (a : ℕ) (quie
         same = record {
           same = unchanged_self p start g kind;
           begun = λ first e. absurd (let k : begun_after (heal_by []) ≡ Some first = subst (λ (w : Lines). begun_after (heal_by w) ≡ Some first) nothing_yet e in cc k);
-          heals = subst (EachHeal _) (sym nothing_yet) tt;
+          heals = subst (EachHeal (BeganSo p a start g kind)) (sym nothing_yet) tt;
         }
 
     at_end : State log (now log)
@@ -148,7 +148,7 @@ round_leaves p x said older q clients high quiet b whole g kind every = go (at_e
     go (inr (inl w)) = absurd (went_open p x.0 (log_before (work x.0 older) older) g kind older no_command older x said refl (q.follows.0).1 w)
     go (inr (inr gone)) = inr gone
 
-left : (p : Plan) (a : ℕ) (was log : Seq Line) (g : Gfid) (kind : Kind) → Same p a was g kind log ⊎ Gone p a was g kind log → IsLeft p was log g kind
+pub left : (p : Plan) (a : ℕ) (was log : Seq Line) (g : Gfid) (kind : Kind) → Same p a was g kind log ⊎ Gone p a was g kind log → IsLeft p was log g kind
 left p a was log g kind (inl s) = record { clear = clear_still p was log g kind s.same; split = λ split. s.same }
 left p a was log g kind (inr gone) = record { clear = λ clear. gone.0.clear; split = λ split. absurd (gone.1 split) }
 

@@ -1,9 +1,9 @@
 -- Where every brick has the object, a split-brain is that each copy is accused by some brick.
-use Rattle.std.proofs.Common.{Bool, ap, arith, false, inl, inr, not, refl, subst, sym, true, true≢false, ℕ, zero, suc, ◌&&◌, ◌||◌, ◌<◌, ◌∙◌, ◌≡◌, ◌≤◌, List, [], ◌∷◌, Option, None, Some, ◌==◌, if◌then◌else◌}
-use Rattle.std.specs.Prelude.{is_some, map, nat_lt, slice_index_or}
+use Rattle.std.proofs.Common.{Bool, ap, arith, false, inl, inr, not, refl, subst, sym, true, true≢false, ℕ, ◌&&◌, ◌||◌, ◌<◌, ◌∙◌, ◌≡◌, ◌≤◌, List, [], ◌∷◌, Option, None, Some, ◌==◌, if◌then◌else◌}
+use Rattle.std.specs.Prelude.{is_some, nat_lt}
 use Rattle.std.specs.Option.{option_map}
 use Rattle.std.proofs.lemmas.Bool.Decides.{nat_tests}
-use Rattle.afr_base.specs.Bricks.{all_five, and_left, and_right, below, is_nothing, member}
+use Rattle.afr_base.specs.Bricks.{and_left, and_right, below, is_nothing, member}
 use Rattle.afr_base.specs.Keeping.{is_bytes, keeps}
 use Rattle.afr_base.specs.SetLemmas.{below_all, within_below}
 use Rattle.afr_base.specs.declared.ids.Gfid.{Gfid}
@@ -21,6 +21,7 @@ use Rattle.afr_model.specs.Safe.{accuses}
 use Rattle.afr_model.specs.Splits.{IsSplit, looked_at, view_among}
 use Rattle.afr_model.specs.Sums.{AreSums, has_object, pending_of}
 use Rattle.afr_model.specs.Tables.{holds}
+use Rattle.afr_law.proofs.Model.Looks.{five_at}
 use Rattle.afr_missed.proofs.Views.{split_accused}
 use Rattle.afr_quiet.specs.Undisturbed.{IsEverywhere}
 use Rattle.afr_quiet_lists.proofs.Judged.{below_most}
@@ -30,15 +31,6 @@ use Rattle.afr_converged.proofs.Spared.{has_some}
 -- each copy is accused by some brick
 abbrev pub AllAccused : Plan → List Line → Gfid → Kind → Type 0
 AllAccused p log g kind = (c : ℕ) → c < p.shape.n → keeps p.shape kind c ≡ true → (x : ℕ) × (x < p.shape.n) × (accuses p log g kind x c ≡ true)
-
--- what looks at all bricks show of each
-shows : (f : ℕ → Option View) (b : ℕ) → b < 5 → slice_index_or (map f all_five) b None ≡ f b
-shows f zero low = refl
-shows f (suc zero) low = refl
-shows f (suc (suc zero)) low = refl
-shows f (suc (suc (suc zero))) low = refl
-shows f (suc (suc (suc (suc zero)))) low = refl
-shows f (suc (suc (suc (suc (suc b))))) low = absurd (omega (arith, low))
 
 some_in : (xs : List ℕ) (b : ℕ) → member xs b ≡ true → is_nothing xs ≡ false
 some_in [] b m = absurd (true≢false (sym m))
@@ -71,7 +63,7 @@ module _ (p : Plan) (log : List Line) (sums : AreSums p log) (five : p.shape.n �
       )
 
   view_is : (b : ℕ) (low : b < n) (o : Object) → copy_at g (holds p log b) ≡ Some o → view_at b here ≡ Some (view_of o)
-  view_is b low o e = shows (view_among p log (below n) g) b (omega (arith, low, five)) ∙ rw (below_all n b five low, e) refl
+  view_is b low o e = five_at (view_among p log (below n) g) b (omega (arith, low, five)) ∙ rw (below_all n b five low, e) refl
 
   accuses_here : (x c : ℕ) → x < n → c < n → accuses p log g kind x c ≡ true → accuses_at kind x c here ≡ true
   accuses_here x c low near e = (
