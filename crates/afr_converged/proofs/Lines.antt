@@ -2,7 +2,6 @@
 use Rattle.std.proofs.Common.{Bool, ap, arith, false, inl, inr, not, refl, subst, sym, true, true≢false, ℕ, suc, ◌&&◌, ◌||◌, ◌<◌, ◌∙◌, ◌≡◌, ◌≤◌, ◌⊎◌, ◌∷◌, length}
 use Rattle.std.specs.Prelude.{List as Seq, None, Option, Some, nat_lt, slice_get, slice_index, ◌==◌}
 use Rattle.std.proofs.lemmas.Bool.{cases_lt, eqb-true, or_parts}
-use Rattle.std.proofs.lemmas.Bool.Decides.{nat_tests}
 use Rattle.afr_base.specs.declared.ids.ActorId.{ActorId}
 use Rattle.afr_base.specs.declared.ids.BrickId.{BrickId}
 use Rattle.afr_base.specs.declared.ids.Gfid.{Gfid}
@@ -39,14 +38,12 @@ use Rattle.afr_lines.specs.Work.{ended, work}
 use Rattle.afr_object.specs.declared.change.Change.{Change}
 use Rattle.afr_model.specs.Following.{IsDue, KeepsToTask, ToCommand, ToRound}
 use Rattle.afr_model.specs.Healing.{heal_by}
-use Rattle.afr_model.specs.Rounds.{heal_due}
-use Rattle.afr_model.specs.Safe.{accuses as accuses_now}
 use Rattle.afr_model.specs.Splits.{IsSplit}
 use Rattle.afr_model.specs.Sums.{AreSums, pending_of}
 use Rattle.afr_tables.specs.Clear.{IsClear}
 use Rattle.afr_tables.specs.CopyLaws.{gfid_is}
 use Rattle.afr_moves.specs.Honest.{view_marks}
-use Rattle.afr_moves.specs.Register.{Exact, Opening, Phase, accuses, good, has_number, holder, rank, shows_number, unaccused, untouched}
+use Rattle.afr_moves.specs.Register.{Exact, Opening, accuses, good, has_number, holder, rank, shows_number, unaccused, untouched}
 use Rattle.afr_moves.specs.Sets.{any}
 use Rattle.afr_moves.specs.Steps.{goes_on, goes_on_at, looks_over}
 use Rattle.afr_moves.proofs.Tests.{all_yes, same_kind_self, same_kind_yes, same_self, some_yes}
@@ -63,7 +60,7 @@ use Rattle.afr_converged.specs.Converged.{IsUnchanged}
 use Rattle.afr_converged.proofs.Leaving.{Leaves, Looking, ShowsWas, leaves}
 use Rattle.afr_converged.proofs.Parts.{Spares}
 use Rattle.afr_converged.proofs.Spared.{clear_was, everywhere_still, unchanged_self}
-use Rattle.afr_converged.proofs.Splits.{AllAccused, all_accused}
+use Rattle.afr_converged.proofs.Splits.{all_accused}
 use Rattle.afr_converged.proofs.Standing.{Begun, Gone, Same, Went, same_on, went_on}
 
 -- ---- a heal that goes on

@@ -1,5 +1,5 @@
 -- What leaves a copy's part of a kind as it is: every line but operations, and repairs of that kind.
-use Rattle.std.proofs.Common.{Bool, ap, false, inl, inr, refl, subst, sym, true, ℕ, ◌∙◌, ◌≡◌, ◌⊎◌, ◌&&◌, List, [], ◌∷◌, Option, None, Some, if◌then◌else◌, ◌==◌}
+use Rattle.std.proofs.Common.{Bool, ap, false, inl, inr, refl, subst, true, ℕ, ◌∙◌, ◌≡◌, ◌⊎◌, ◌&&◌, List, [], ◌∷◌, Option, None, Some, if◌then◌else◌, ◌==◌}
 use Rattle.std.proofs.lemmas.Bool.Decides.{eqb_tells}
 use Rattle.std.specs.Prelude.{is_some, take}
 use Rattle.std.specs.Option.{option_map}

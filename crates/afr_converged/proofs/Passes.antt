@@ -1,5 +1,5 @@
 -- Round after round: what every brick had is clear at last, or was in split-brain from the start.
-use Rattle.std.proofs.Common.{Bool, ap, arith, inl, inr, refl, subst, sym, true, ℕ, zero, suc, ◌+◌, ◌<◌, ◌∙◌, ◌≡◌, ◌≤◌, ◌⊎◌, [], ◌∷◌, length}
+use Rattle.std.proofs.Common.{ap, arith, inl, inr, refl, subst, sym, true, ℕ, zero, suc, ◌<◌, ◌∙◌, ◌≡◌, ◌≤◌, ◌⊎◌, [], ◌∷◌}
 use Rattle.std.specs.Prelude.{List as Seq, Option, Some, is_some, slice_get}
 use Rattle.std.proofs.lemmas.Bool.{cases_lt}
 use Rattle.afr_base.specs.Bricks.{below}
@@ -11,7 +11,6 @@ use Rattle.afr_base.specs.declared.ids.Kind.{Kind}
 use Rattle.afr_base.specs.declared.ids.What.{What}
 use Rattle.afr_object.specs.Tables.{copy_at}
 use Rattle.afr_object.specs.declared.object.Object.{Object}
-use Rattle.afr_lines.specs.Log.{EachLine}
 use Rattle.afr_lines.specs.Work.{Work as Lines, ended, work}
 use Rattle.afr_object.specs.Indexed.{index_of}
 use Rattle.afr_lines.specs.declared.line.Line.{Line}
@@ -22,23 +21,23 @@ use Rattle.afr_lines.specs.declared.reply.HealReply.TheVariants as replied
 use Rattle.afr_plan.specs.declared.plan.Plan.{Plan}
 use Rattle.afr_model.specs.Actors.{rounds_of}
 use Rattle.afr_model.specs.Quiet.{IsQuiet}
-use Rattle.afr_model.specs.Cells.{Cell, kind_of_cell, object_of_cell, value_of}
+use Rattle.afr_model.specs.Cells.{kind_of_cell}
 use Rattle.afr_model.specs.Healing.{heal_by}
-use Rattle.afr_model.specs.Rounds.{heals_of, listed_by}
+use Rattle.afr_model.specs.Rounds.{listed_by}
 use Rattle.afr_model.specs.Safe.{log_before}
 use Rattle.afr_model.specs.Splits.{IsSplit}
-use Rattle.afr_model.specs.Sums.{dirty_of, has_object, pending_of}
+use Rattle.afr_model.specs.Sums.{dirty_of, pending_of}
 use Rattle.afr_model.specs.Tables.{holds}
 use Rattle.afr_tables.specs.Clear.{IsClear, IsClearOn}
 use Rattle.afr_tables.specs.TableLaws.{copy_stays}
 use Rattle.afr_law.specs.ModelAlike.{AreAlike}
 use Rattle.afr_law.proofs.Model.Discipline.{exact_alike}
-use Rattle.afr_quiet.specs.Undisturbed.{AreQuietWhole, EachHeal, IsEverywhere, IsKept, IsListed, IsOpenAt, IsRepaired, IsSplitReply, IsTold, IsWholeRound, begun_after, ended_heals}
+use Rattle.afr_quiet.specs.Undisturbed.{AreQuietWhole, EachHeal, IsEverywhere, IsKept, IsListed, IsSplitReply, IsTold, IsWholeRound, begun_after, ended_heals}
 use Rattle.afr_quiet_copies.proofs.Premises.{Premises, sums}
-use Rattle.afr_quiet_copies.proofs.Stretch.{IsTail, at_tail, before_tail, now_of, tail_rest, tail_self}
+use Rattle.afr_quiet_copies.proofs.Stretch.{IsTail, before_tail, now_of, tail_self}
 use Rattle.afr_quiet_lists.proofs.Premises.{Sound, sound_before}
 use Rattle.afr_quiet_rounds.specs.Whole.{QuietRoundsAreWhole, RoundsAreLow}
-use Rattle.afr_converged.specs.Converged.{AreAll, AreRounds, EndsRound, IsClearAlike, IsConverged, IsEverywhereAs, IsKindOf, IsLeft, IsUnchanged, QuietRoundsConverge, part_of}
+use Rattle.afr_converged.specs.Converged.{AreAll, AreRounds, IsClearAlike, IsConverged, IsEverywhereAs, IsKindOf, IsUnchanged, QuietRoundsConverge, part_of}
 use Rattle.afr_converged.proofs.Heals.{Healed, IsIn, IsOpenOn, healed, heals_have, listed_as, open_marked, round_list}
 use Rattle.afr_converged.proofs.Rounds.{left, premises_then, round_leaves}
 use Rattle.afr_converged.proofs.Spared.{clear_still, clear_was, everywhere_still, spared, unchanged_on, unchanged_self}
@@ -217,8 +216,7 @@ module _ (p : Plan) (start : Seq Line) (g : Gfid) (what : What) (kind : Kind) (a
       let tail : IsTail then_ r.older = before_tail r.healer.0 r.older in
       let s_end : Sound p ended_log = subst (Sound p) r.last s in
       let w_end : AreQuietWhole p ended_log = subst (AreQuietWhole p) r.last whole in
-      let came = passes low done then_ (sound_then p then_ r.older tail (sound_before p (End r.healer r.said) r.older s_end)) (whole_then then_ r.older tail w_end.1) before in
-      (
+      let came = passes low done then_ (sound_then p then_ r.older tail (sound_before p (End r.healer r.said) r.older s_end)) (whole_then then_ r.older tail w_end.1) before in (
         comes r.healer r.said r.older b s_end r.high r.over (low r.healer.0 (ended r.healer.0 r.older) b r.over) r.quiet (w_end.0 r.high b r.over r.quiet) done came.1 came.0,
         everywhere_later p g then_ ended_log (inr tail) came.1,
       )

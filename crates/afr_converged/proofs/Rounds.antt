@@ -1,7 +1,6 @@
 -- What an undisturbed round leaves of an object that every brick has.
-use Rattle.std.proofs.Common.{ap, arith, inl, inr, refl, subst, sym, true, ℕ, suc, ◌<◌, ◌∙◌, ◌≡◌, ◌≤◌, ◌⊎◌, [], ◌∷◌, length}
-use Rattle.std.specs.Prelude.{Bool, List as Seq, None, Option, Some, slice_get}
-use Rattle.std.proofs.lemmas.Bool.{eqb-true}
+use Rattle.std.proofs.Common.{ap, arith, inl, inr, refl, subst, sym, ℕ, ◌<◌, ◌∙◌, ◌≡◌, ◌≤◌, ◌⊎◌, [], ◌∷◌, length}
+use Rattle.std.specs.Prelude.{Bool, List as Seq, Some, slice_get}
 use Rattle.afr_base.specs.declared.ids.ActorId.{ActorId}
 use Rattle.afr_base.specs.declared.ids.BrickId.{BrickId}
 use Rattle.afr_base.specs.declared.ids.Gfid.{Gfid}
@@ -15,18 +14,17 @@ use Rattle.afr_lines.specs.declared.reply.HealReply.{HealReply}
 use Rattle.afr_lines.specs.declared.reply.Reply.{Reply}
 use Rattle.afr_plan.specs.declared.command.Command.{Command}
 use Rattle.afr_plan.specs.declared.plan.Plan.{Plan}
-use Rattle.afr_model.specs.Actors.{rounds_of, script_of}
+use Rattle.afr_model.specs.Actors.{script_of}
 use Rattle.afr_model.specs.Healing.{heal_by}
 use Rattle.afr_model.specs.Quiet.{IsQuiet}
 use Rattle.afr_model.specs.Safe.{log_before}
 use Rattle.afr_tables.specs.Codes.{kept_by}
-use Rattle.afr_moves.specs.Discipline.{MayExactly, MovesExactly, in_force, exact, note, present}
+use Rattle.afr_moves.specs.Discipline.{MayExactly, in_force, exact, note, present}
 use Rattle.afr_moves.specs.Past.{Log, opens, place}
 use Rattle.afr_moves.specs.Positions.{by_position}
 use Rattle.afr_moves.specs.Register.{Exact, untouched}
 use Rattle.afr_moves.proofs.ByPosition.{IsPast, past_whole}
 use Rattle.afr_moves.proofs.Places.{place_is}
-use Rattle.afr_law.proofs.Heals.Answers.{Honestly}
 use Rattle.afr_quiet.specs.Undisturbed.{AreQuietWhole, EachHeal, IsEverywhere, IsKept, IsQuietWhole, IsTold, IsWholeRound, begun_after}
 use Rattle.afr_quiet_copies.proofs.Premises.{Premises, honest_lines, moves, shorter}
 use Rattle.afr_quiet_copies.proofs.Round.{Round, round_fresh, round_own, work_own}
@@ -37,7 +35,7 @@ use Rattle.afr_quiet_rounds.specs.Whole.{QuietRoundsAreWhole, RoundsAreLow}
 use Rattle.afr_converged.specs.Converged.{IsLeft, IsQuietLeft, QuietRoundsLeave}
 use Rattle.afr_converged.proofs.Lines.{Left, state_own, still_fresh}
 use Rattle.afr_converged.proofs.Spared.{clear_still, unchanged_self}
-use Rattle.afr_converged.proofs.Standing.{BeganSo, Gone, Same, Went, went_open}
+use Rattle.afr_converged.proofs.Standing.{BeganSo, Gone, Same, went_open}
 
 -- ---- the moment at which the round began
 pub premises_then : (p : Plan) (cur log : Seq Line) → IsTail cur log → Premises p log → Premises p cur
@@ -108,8 +106,7 @@ module _ (p : Plan) (log : Seq Line) (premises : Premises p log) (a : ℕ) (quie
 
     own : (line : Line) (older : Seq Line) → Facts (line ∷ older) → IsPast L (line ∷ older) → Calm a line → State older (now older) → MayExactly n (kept_by p) (λ x. now older) (Some line) → State (line ∷ older) (note n (kept_by p) (now older) (length older) (Some line))
     own line older f past calm h may = (
-        let late : lo ≤ length (line ∷ older) = (let few = h.0 in omega (arith, few)) in
-        (
+        let late : lo ≤ length (line ∷ older) = (let few = h.0 in omega (arith, few)) in (
           late,
           round_own p L (moves p log premises) (honest_lines p log premises) a older line f.premises_now past calm h.1 may,
           state_own p L (moves p log premises) a start before g kind every log no_command older line f.premises_now past calm (subst (EachHeal Tells) (work_own a line older calm) (f.tells late)).0 (subst (EachHeal Keeps) (work_own a line older calm) (f.holds_on late)).0 h.1 h.2 may,

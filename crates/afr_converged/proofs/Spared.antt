@@ -1,26 +1,24 @@
 -- A line that spares an object and kind leaves them unchanged.
-use Rattle.std.proofs.Common.{Bool, ap, arith, false, refl, subst, sym, true, ℕ, ◌+◌, ◌-◌, ◌&&◌, ◌<◌, ◌∙◌, ◌≡◌, List, ◌∷◌, ◌==◌}
+use Rattle.std.proofs.Common.{Bool, ap, arith, false, refl, sym, true, ℕ, ◌&&◌, ◌∙◌, ◌≡◌, List, ◌∷◌, ◌==◌}
 use Rattle.std.specs.Prelude.{is_some, slice_index, None, Option, Some}
 use Rattle.std.proofs.lemmas.Bool.{eqb-true}
-use Rattle.afr_base.specs.Bricks.{and_left, and_right, member}
+use Rattle.afr_base.specs.Bricks.{and_left, and_right}
 use Rattle.afr_base.specs.Kinds.{same_kind}
 use Rattle.afr_base.specs.declared.ids.Gfid.{Gfid}
 use Rattle.afr_base.specs.declared.ids.Kind.{Kind}
-use Rattle.afr_base.specs.declared.ids.What.{What}
-use Rattle.afr_object.specs.Repairs.{Contents}
 use Rattle.afr_object.specs.Tables.{copy_at}
 use Rattle.afr_object.specs.declared.object.Object.{Object}
 use Rattle.afr_lines.specs.declared.line.Line.{Line}
 use Rattle.afr_lines.specs.declared.line.Line.TheVariants.{Ask, Begin, End, Event, HealBegin, HealEnd}
 use Rattle.afr_lines.specs.declared.request.Request.TheVariants as request
 use Rattle.afr_plan.specs.declared.plan.Plan.{Plan}
-use Rattle.afr_model.specs.Sums.{blames, closes_op, counted, dirty_of, has_object, opens_op, pending_of, settles_dirty, settles_pending}
+use Rattle.afr_model.specs.Sums.{blames, closes_op, has_object, opens_op, settles_dirty, settles_pending}
 use Rattle.afr_model.specs.Tables.{holds}
 use Rattle.afr_moves.proofs.Tests.{same_kind_yes}
 use Rattle.afr_tables.specs.Clear.{IsClear}
 use Rattle.afr_quiet.specs.Undisturbed.{IsEverywhere}
 use Rattle.afr_quiet_copies.proofs.Sums.{counted_none}
-use Rattle.afr_converged.specs.Converged.{HasPart, IsUnchanged}
+use Rattle.afr_converged.specs.Converged.{IsUnchanged}
 use Rattle.afr_converged.proofs.Parts.{Spares, part_in, part_on}
 
 -- ---- what is unchanged

@@ -1,7 +1,6 @@
 -- Where every brick has the object, a split-brain is that each copy is accused by some brick.
-use Rattle.std.proofs.Common.{Bool, ap, arith, false, inl, inr, not, refl, subst, sym, true, true≢false, ℕ, ◌&&◌, ◌||◌, ◌<◌, ◌∙◌, ◌≡◌, ◌≤◌, List, [], ◌∷◌, Option, None, Some, ◌==◌, if◌then◌else◌}
+use Rattle.std.proofs.Common.{Bool, ap, arith, false, not, refl, sym, true, true≢false, ℕ, ◌&&◌, ◌<◌, ◌∙◌, ◌≡◌, ◌≤◌, List, [], ◌∷◌, Some, ◌==◌}
 use Rattle.std.specs.Prelude.{is_some, nat_lt}
-use Rattle.std.specs.Option.{option_map}
 use Rattle.std.proofs.lemmas.Bool.Decides.{nat_tests}
 use Rattle.afr_base.specs.Bricks.{and_left, and_right, below, is_nothing, member}
 use Rattle.afr_base.specs.Keeping.{is_bytes, keeps}
@@ -9,17 +8,16 @@ use Rattle.afr_base.specs.SetLemmas.{below_all, within_below}
 use Rattle.afr_base.specs.declared.ids.Gfid.{Gfid}
 use Rattle.afr_base.specs.declared.ids.Kind.{Kind}
 use Rattle.afr_choice.specs.Looks.{view_at}
-use Rattle.afr_choice.specs.Verdict.{accuses_at, copies_of, good_copies, is_accused, is_copy, is_holder, shown_missed}
+use Rattle.afr_choice.specs.Verdict.{accuses_at, copies_of, good_copies, is_copy, is_holder}
 use Rattle.afr_choice.specs.VerdictLemmas.{good_are_copies, good_below, member_copies, nobody_accuses}
 use Rattle.afr_choice.specs.declared.looked.Looked.{Looked}
 use Rattle.afr_object.specs.Tables.{copy_at, view_of}
-use Rattle.afr_object.specs.declared.entry.View.{View}
 use Rattle.afr_object.specs.declared.object.Object.{Object}
 use Rattle.afr_lines.specs.declared.line.Line.{Line}
 use Rattle.afr_plan.specs.declared.plan.Plan.{Plan}
 use Rattle.afr_model.specs.Safe.{accuses}
 use Rattle.afr_model.specs.Splits.{IsSplit, looked_at, view_among}
-use Rattle.afr_model.specs.Sums.{AreSums, has_object, pending_of}
+use Rattle.afr_model.specs.Sums.{AreSums}
 use Rattle.afr_model.specs.Tables.{holds}
 use Rattle.afr_law.proofs.Model.Looks.{five_at}
 use Rattle.afr_missed.proofs.Views.{split_accused}

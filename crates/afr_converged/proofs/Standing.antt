@@ -1,5 +1,5 @@
 -- What the lines of a round have left of an object and kind, as the log alone says it: unchanged so far, and so at the beginning of each heal of them; or a heal of them goes on.
-use Rattle.std.proofs.Common.{Bool, ap, false, inl, inr, refl, subst, sym, true, true≢false, ℕ, ◌<◌, ◌∙◌, ◌≡◌, ◌⊎◌, [], ◌∷◌}
+use Rattle.std.proofs.Common.{Bool, ap, false, inl, inr, refl, subst, sym, true, true≢false, ℕ, ◌∙◌, ◌≡◌, ◌⊎◌, [], ◌∷◌}
 use Rattle.std.specs.Prelude.{List as Seq, None, Option, Some, if◌then◌else◌, slice_get}
 use Rattle.std.proofs.lemmas.Bool.{eqb-true}
 use Rattle.afr_base.specs.Bricks.{below}
@@ -18,7 +18,7 @@ use Rattle.afr_lines.specs.declared.request.Request.{Request}
 use Rattle.afr_lines.specs.declared.request.Request.TheVariants.{Apply, Index, List, Lock, Look, Mend, Post, Pre, ReadAttr, ReadAttrs, ReadBytes, ReadName, Settle, Unlock}
 use Rattle.afr_plan.specs.declared.command.Command.{Command}
 use Rattle.afr_plan.specs.declared.plan.Plan.{Plan}
-use Rattle.afr_model.specs.Actors.{rounds_of, script_of}
+use Rattle.afr_model.specs.Actors.{script_of}
 use Rattle.afr_model.specs.Following.{IsDue, KeepsToTask, ToCommand, ToRound}
 use Rattle.afr_model.specs.Healing.{heal_by, is_border}
 use Rattle.afr_model.specs.Rounds.{KeepsToRound, heal_due}
