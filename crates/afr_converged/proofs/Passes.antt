@@ -39,7 +39,7 @@ use Rattle.afr_quiet_lists.proofs.Premises.{Sound, sound_before}
 use Rattle.afr_quiet_rounds.specs.Whole.{QuietRoundsAreWhole, RoundsAreLow}
 use Rattle.afr_converged.specs.Converged.{AreAll, AreRounds, IsClearAlike, IsConverged, IsEverywhereAs, IsKindOf, IsUnchanged, QuietRoundsConverge, part_of}
 use Rattle.afr_converged.proofs.Heals.{Healed, IsIn, IsOpenOn, healed, heals_have, listed_as, open_marked, round_list}
-use Rattle.afr_converged.proofs.Rounds.{left, premises_then, round_leaves}
+use Rattle.afr_converged.proofs.Rounds.{premises_then, round_clears, round_leaves}
 use Rattle.afr_converged.proofs.Spared.{clear_still, clear_was, everywhere_still, spared, unchanged_on, unchanged_self}
 use Rattle.afr_converged.proofs.Splits.{split_was}
 use Rattle.afr_converged.proofs.Standing.{Begun, Gone, Same}
@@ -178,7 +178,7 @@ module _ (p : Plan) (start : Seq Line) (g : Gfid) (what : What) (kind : Kind) (a
         go (inr (inr split)) = inr (inr (split_was p start tells.begun (sums p start (premises_of start at_start)) (sums p tells.begun begun.premises) s.some s.small g kind (everywhere_as p start g what held) (everywhere_still p then_ tells.begun g kind begun.same every) first (tells.split.0 split)))
 
     pub comes : (done : Seq BrickId) → IsEverywhere p then_ g → Came done then_ → Came (b ∷ done) (End x said ∷ older)
-    comes done every (inl clear) = inl (ended_clear x said older ((left p x.0 then_ older g kind (leaves every)).clear clear))
+    comes done every (inl clear) = inl (ended_clear x said older (round_clears p x older now_premises s.clients high quiet g kind clear))
     comes done every (inr (u, tells)) = go (leaves every)
       where
         ended_same : IsUnchanged p then_ older g kind → IsUnchanged p start (End x said ∷ older) g kind

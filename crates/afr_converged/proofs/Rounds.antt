@@ -18,6 +18,9 @@ use Rattle.afr_model.specs.Actors.{script_of}
 use Rattle.afr_model.specs.Healing.{heal_by}
 use Rattle.afr_model.specs.Quiet.{IsQuiet}
 use Rattle.afr_model.specs.Safe.{log_before}
+use Rattle.afr_model.specs.Splits.{IsSplit}
+use Rattle.afr_tables.specs.Clear.{IsClear}
+use Rattle.afr_base.specs.Bricks.{below}
 use Rattle.afr_tables.specs.Codes.{kept_by}
 use Rattle.afr_moves.specs.Discipline.{MayExactly, in_force, exact, note, present}
 use Rattle.afr_moves.specs.Past.{Log, opens, place}
@@ -26,15 +29,17 @@ use Rattle.afr_moves.specs.Register.{Exact, untouched}
 use Rattle.afr_moves.proofs.ByPosition.{IsPast, past_whole}
 use Rattle.afr_moves.proofs.Places.{place_is}
 use Rattle.afr_quiet.specs.Undisturbed.{AreQuietWhole, EachHeal, IsEverywhere, IsKept, IsQuietWhole, IsTold, IsWholeRound, begun_after}
+use Rattle.afr_quiet_copies.proofs.After.{After, after_fresh}
+use Rattle.afr_quiet_copies.proofs.AfterLines.{after_own}
 use Rattle.afr_quiet_copies.proofs.Premises.{Premises, honest_lines, moves, shorter}
 use Rattle.afr_quiet_copies.proofs.Round.{Round, round_fresh, round_own, work_own}
 use Rattle.afr_quiet_copies.proofs.Stretch.{Calm, IsTail, Stretch, at_tail, before_tail, count, fresh_before, fresh_work, stretch}
 use Rattle.afr_quiet_copies.proofs.Walk.{walk}
 use Rattle.afr_standstill.proofs.Tasks.{no_script}
 use Rattle.afr_quiet_rounds.specs.Whole.{QuietRoundsAreWhole, RoundsAreLow}
-use Rattle.afr_converged.specs.Converged.{IsLeft, IsQuietLeft, QuietRoundsLeave}
+use Rattle.afr_converged.specs.Converged.{IsQuietLeft, IsUnchanged, QuietRoundsLeave}
 use Rattle.afr_converged.proofs.Lines.{Left, state_own, still_fresh}
-use Rattle.afr_converged.proofs.Spared.{clear_still, unchanged_self}
+use Rattle.afr_converged.proofs.Spared.{unchanged_self}
 use Rattle.afr_converged.proofs.Standing.{BeganSo, Gone, Same, went_open}
 
 -- ---- the moment at which the round began
@@ -73,6 +78,21 @@ module _ (p : Plan) (log : Seq Line) (premises : Premises p log) (a : ℕ) (quie
 
   abbrev Keeps : Gfid → Kind → HealReply → Seq Line → Type 0
   Keeps h k said before = IsKept p log h k said (heal_by (work a before))
+
+  at_start : now start ≡ untouched
+  at_start = fresh_then n (kept_by p) L lo a (place_is L a start (past_then L start log (before_tail a log) (past_whole log)) ∙ fresh_before a log)
+
+  -- what is clear stays clear, whoever has the object
+  module _ (g : Gfid) (kind : Kind) (clear : IsClear p (log_before (work a log) log) g kind) where
+    abbrev Any : Seq Line → Type 0
+    Any o = Unit {0}
+
+    clear_rests : After p g kind Any log (now log)
+    clear_rests = walk n (kept_by p) L (moves p log premises) a lo (Premises p) (shorter p) (After p g kind Any) (λ older r none w. after_fresh p g kind Any older w.clear w.kept)
+        (λ line older q past calm w may. after_own p L (moves p log premises) a g kind Any (λ line older q s k. tt) (λ older k c e. no_command (ended a older) c e) older line q past calm w may)
+        log premises (past_whole log) (stretch a log quiet.together quiet.unfailed)
+        (at_tail (λ o. After p g kind Any o (now o)) start log (before_tail a log) (subst (After p g kind Any start) (sym at_start) (after_fresh p g kind Any start clear tt)))
+        (let few = count a log in omega (arith, few))
 
   module _ (told : EachHeal Tells (work a log)) (kept : EachHeal Keeps (work a log)) (g : Gfid) (kind : Kind) (every : IsEverywhere p (log_before (work a log) log) g) where
     before : Premises p start
@@ -117,7 +137,7 @@ module _ (p : Plan) (log : Seq Line) (premises : Premises p log) (a : ℕ) (quie
     nothing_yet = fresh_work a start (fresh_before a log)
 
     begins : State start (now start)
-    begins = subst (State start) (sym (fresh_then n (kept_by p) L lo a (place_is L a start (past_then L start log (before_tail a log) (past_whole log)) ∙ fresh_before a log)))
+    begins = subst (State start) (sym at_start)
         (omega arith, round_fresh p a start (ap heal_by nothing_yet), inl (still_fresh p a start g kind start same))
       where
         same : Same p a start g kind start
@@ -145,18 +165,26 @@ round_leaves p x said older q clients high quiet b whole g kind every = go (at_e
     go (inr (inl w)) = absurd (went_open p x.0 (log_before (work x.0 older) older) g kind older no_command older x said refl (q.follows.0).1 w)
     go (inr (inr gone)) = inr gone
 
-pub left : (p : Plan) (a : ℕ) (was log : Seq Line) (g : Gfid) (kind : Kind) → Same p a was g kind log ⊎ Gone p a was g kind log → IsLeft p was log g kind
-left p a was log g kind (inl s) = record { clear = clear_still p was log g kind s.same; split = λ split. s.same }
-left p a was log g kind (inr gone) = record { clear = λ clear. gone.0.clear; split = λ split. absurd (gone.1 split) }
+-- and leaves clear what was clear
+pub round_clears : (p : Plan) (x : ActorId) (older : Seq Line) → Premises p older → length p.clients ≤ 16 → 17 ≤ x.0 → IsQuiet p x.0 older → (g : Gfid) (kind : Kind) → IsClear p (log_before (work x.0 older) older) g kind → IsClear p older g kind
+round_clears p x older q clients high quiet g kind clear = (clear_rests p older q x.0 quiet (λ k c e. no_script p x.0 k c clients high e) g kind clear).clear
+
+split_left : (p : Plan) (a : ℕ) (was log : Seq Line) (g : Gfid) (kind : Kind) → Same p a was g kind log ⊎ Gone p a was g kind log → IsSplit p was (below p.shape.n) g kind → IsUnchanged p was log g kind
+split_left p a was log g kind (inl s) split = s.same
+split_left p a was log g kind (inr gone) split = absurd (gone.1 split)
 
 lines_left : (p : Plan) → length p.clients ≤ 16 → RoundsAreLow p → (log : Seq Line) → (0 < p.shape.n → Premises p log) → AreQuietWhole p log → EachLine (IsQuietLeft p) log
 lines_left p clients low [] q w = tt
 lines_left p clients low (line ∷ older) q w = (go line q w.0, lines_left p clients low older (λ some. shorter p line older (q some)) w.1)
   where
     go : (line : Line) → (0 < p.shape.n → Premises p (line ∷ older)) → IsQuietWhole p line older → IsQuietLeft p line older
-    go (End x said) q w = λ high b is quiet g kind every. (
+    go (End x said) q w = λ high b is quiet g kind. (
         let small = low x.0 (ended x.0 older) b is in
-        left p x.0 (log_before (work x.0 older) older) older g kind (round_leaves p x said older (q (omega (arith, small))) clients high quiet b (w high b is quiet) g kind every)
+        let sound : Premises p (End x said ∷ older) = q (omega (arith, small)) in
+        record {
+          clear = round_clears p x older (shorter p (End x said) older sound) clients high quiet g kind;
+          split = λ every split. split_left p x.0 (log_before (work x.0 older) older) older g kind (round_leaves p x said older sound clients high quiet b (w high b is quiet) g kind every) split;
+        }
         )
     go (Ask x y request told took) q w = tt
     go (Begin x change) q w = tt

@@ -53,16 +53,16 @@ pub record IsUnchanged (p : Plan) (was log : List Line) (g : Gfid) (kind : Kind)
   pub parts : (x : ℕ) → x < p.shape.n → (part : What × Contents) → HasPart p was x g kind part → HasPart p log x g kind part
 
 -- ---- one round
--- what was clear is clear, and a split-brain is as it was
+-- what was clear is clear, and a split-brain of an object that every brick had is as it was
 pub record IsLeft (p : Plan) (was log : List Line) (g : Gfid) (kind : Kind) : Type 0 where
   pub clear : IsClear p was g kind → IsClear p log g kind
-  pub split : IsSplit p was (below p.shape.n) g kind → IsUnchanged p was log g kind
+  pub split : IsEverywhere p was g → IsSplit p was (below p.shape.n) g kind → IsUnchanged p was log g kind
 
--- so an undisturbed round that a line ends leaves each object that every brick had
+-- so the undisturbed round that a line ends leaves each object and kind
 abbrev pub IsQuietLeft : Plan → Line → List Line → Type 0
 IsQuietLeft p (End a said) older =
     17 ≤ a.0 → (b : BrickId) → slice_get (rounds_of p a.0) (ended a.0 older) ≡ Some b → IsQuiet p a.0 older
-    → (g : Gfid) (kind : Kind) → IsEverywhere p (log_before (work a.0 older) older) g → IsLeft p (log_before (work a.0 older) older) older g kind
+    → (g : Gfid) (kind : Kind) → IsLeft p (log_before (work a.0 older) older) older g kind
 IsQuietLeft p line older = Unit {0}
 
 -- so do all undisturbed rounds of a log that is the plan's, honest, lawful and replied
