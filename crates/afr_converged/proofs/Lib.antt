@@ -1,5 +1,5 @@
-mod Parts
-mod Spared
+pub mod Parts
+pub mod Spared
 mod Splits
 mod Leaving
 mod Standing

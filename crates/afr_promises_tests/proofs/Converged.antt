@@ -1,5 +1,5 @@
 -- A split-brain that rounds at all bricks leave as it was, and numbers that are left where one brick had no round.
-use Rattle.std.proofs.Common.{◌≡◌, ℕ, zero, suc, ◌≤◌, ◌<◌, inl, inr, refl, sym, arith, List, [], ◌∷◌}
+use Rattle.std.proofs.Common.{◌≡◌, ℕ, zero, suc, inl, inr, refl, sym, true, arith, List, [], ◌∷◌}
 use Rattle.std.specs.Prelude.{◌==◌}
 use Rattle.afr_base.specs.Bricks.{below}
 use Rattle.afr_base.specs.declared.ids.BrickId.{BrickId}
@@ -12,18 +12,17 @@ use Rattle.afr_lines.specs.declared.request.Request.TheVariants.{Index}
 use Rattle.afr_plan.specs.declared.plan.Plan.{Plan}
 use Rattle.afr_model.specs.Actors.{IsActor}
 use Rattle.afr_model.specs.ReportObjects.{is_split_verdict}
-use Rattle.afr_model.specs.Splits.{IsSplit}
 use Rattle.afr_model.specs.Sums.{pending_of}
 use Rattle.afr_converged.specs.Converged.{AreAll, AreRounds, EndsRound, IsConverged, IsUnchanged}
 use Rattle.afr_converged.proofs.Spared.{spared, unchanged_on}
 use Rattle.afr_promises_tests.proofs.Words.{first, ok, split, three, told_apart}
 
+abbrev brick : ℕ → BrickId
+brick b = record { 0 = b }
+
 -- the healer has a round over each of the three bricks, and no client is left
 abbrev healing : Plan → Plan
 healing q = record (three q) { clients = []; healers = (brick 0 ∷ brick 1 ∷ brick 2 ∷ []) ∷ [] }
-  where
-    abbrev brick : ℕ → BrickId
-    brick b = record { 0 = b }
 
 -- the healer asks a brick for its index
 abbrev index : ℕ → Line
@@ -38,7 +37,7 @@ abbrev all_rounds : List Line → List Line
 all_rounds start = round 2 (round 1 (round 0 start))
 
 abbrev all_bricks : List BrickId
-all_bricks = record { 0 = 2 } ∷ record { 0 = 1 } ∷ record { 0 = 0 } ∷ []
+all_bricks = brick 2 ∷ brick 1 ∷ brick 0 ∷ []
 
 module _ (q : Plan) where
   -- the healer is the only actor
@@ -47,19 +46,19 @@ module _ (q : Plan) where
   only x (IsActor.Healer least most) = omega (arith, least, most)
 
   pub all_are_rounds : AreRounds (healing q) split all_bricks (all_rounds split)
-  all_are_rounds = (over_2, over_1, over_0, refl)
+  all_are_rounds = (over_2, (over_1, (over_0, refl)))
     where
       healer : IsActor (healing q) 17
       healer = IsActor.Healer (omega arith) (omega arith)
 
-      over_0 : EndsRound (healing q) (record { 0 = 0 }) (round 0 split)
-      over_0 = record { healer = record { 0 = 17 }; said = ok; older = index 0 ∷ split; last = refl; high = omega arith; over = refl; quiet = record { healer = healer; together = refl; unfailed = refl; alone = λ x actor another. absurd (another (only q x actor)) } }
+      over_0 : EndsRound (healing q) (brick 0) (round 0 split)
+      over_0 = record { healer = record { 0 = 17 }; said = ok; older = index 0 ∷ split; last = refl; high = omega arith; over = refl; quiet = record { healer = healer; together = refl; unfailed = refl; alone = λ x actor another. absurd (another (only x actor)) } }
 
-      over_1 : EndsRound (healing q) (record { 0 = 1 }) (round 1 (round 0 split))
-      over_1 = record { healer = record { 0 = 17 }; said = ok; older = index 1 ∷ round 0 split; last = refl; high = omega arith; over = refl; quiet = record { healer = healer; together = refl; unfailed = refl; alone = λ x actor another. absurd (another (only q x actor)) } }
+      over_1 : EndsRound (healing q) (brick 1) (round 1 (round 0 split))
+      over_1 = record { healer = record { 0 = 17 }; said = ok; older = index 1 ∷ round 0 split; last = refl; high = omega arith; over = refl; quiet = record { healer = healer; together = refl; unfailed = refl; alone = λ x actor another. absurd (another (only x actor)) } }
 
-      over_2 : EndsRound (healing q) (record { 0 = 2 }) (all_rounds split)
-      over_2 = record { healer = record { 0 = 17 }; said = ok; older = index 2 ∷ round 1 (round 0 split); last = refl; high = omega arith; over = refl; quiet = record { healer = healer; together = refl; unfailed = refl; alone = λ x actor another. absurd (another (only q x actor)) } }
+      over_2 : EndsRound (healing q) (brick 2) (all_rounds split)
+      over_2 = record { healer = record { 0 = 17 }; said = ok; older = index 2 ∷ round 1 (round 0 split); last = refl; high = omega arith; over = refl; quiet = record { healer = healer; together = refl; unfailed = refl; alone = λ x actor another. absurd (another (only x actor)) } }
 
   pub every_brick_has_one : AreAll (healing q) all_bricks
   every_brick_has_one zero low = (2, refl)
