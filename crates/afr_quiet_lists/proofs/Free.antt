@@ -33,8 +33,8 @@ use Rattle.afr_law.proofs.Safety.Locks.{Grant, held_past}
 use Rattle.afr_law.proofs.Safety.Sessions.{held_joined, held_line}
 use Rattle.afr_law.specs.Beginning.{start_of}
 use Rattle.afr_law.specs.Exactly.{name_bound}
-use Rattle.afr_standstill.proofs.Alive.{killed_apart}
-use Rattle.afr_standstill.proofs.Tasks.{turn_of}
+use Rattle.afr_law.proofs.Model.Alive.{killed_apart}
+use Rattle.afr_law.proofs.Model.Tasks.{turn_of}
 use Rattle.afr_quiet_lists.proofs.Cuts.{cut_of, fair}
 use Rattle.afr_quiet_lists.proofs.Lone.{lone}
 use Rattle.afr_quiet_lists.proofs.Premises.{Sound, sound_before, sound_exactly, sound_honest}

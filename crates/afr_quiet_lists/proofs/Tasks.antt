@@ -16,7 +16,7 @@ use Rattle.afr_model.specs.Actors.{rounds_of, script_of}
 use Rattle.afr_model.specs.Following.{KeepsToTask, ToCommand, ToRound}
 use Rattle.afr_model.specs.HealReplies.{IsHealing}
 use Rattle.afr_model.specs.Rounds.{KeepsToRound}
-use Rattle.afr_standstill.proofs.Tasks.{no_script, turn_of}
+use Rattle.afr_law.proofs.Model.Tasks.{no_script, turn_of}
 use Rattle.afr_quiet_lists.proofs.Premises.{Sound}
 
 module _ (p : Plan) (a : ℕ) (older : List Line) where

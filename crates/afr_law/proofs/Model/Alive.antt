@@ -8,7 +8,7 @@ use Rattle.afr_lines.specs.declared.line.Line.{Line}
 use Rattle.afr_model.specs.Following.{Follows}
 use Rattle.afr_model.specs.Sessions.{ends_session, is_joined, opens_with}
 use Rattle.afr_plan.specs.declared.plan.Plan.{Plan}
-use Rattle.afr_standstill.proofs.Tasks.{turn_of}
+use Rattle.afr_law.proofs.Model.Tasks.{turn_of}
 
 kill_ends : (x b : ℕ) (line : Line) → kills x line ≡ true → ends_session x b line ≡ true
 kill_ends x b (Event (Kill y)) k = k
