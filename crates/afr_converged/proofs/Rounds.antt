@@ -35,7 +35,7 @@ use Rattle.afr_quiet_copies.proofs.Premises.{Premises, honest_lines, moves, shor
 use Rattle.afr_quiet_copies.proofs.Round.{Round, round_fresh, round_own, work_own}
 use Rattle.afr_quiet_copies.proofs.Stretch.{Calm, IsTail, Stretch, at_tail, before_tail, count, fresh_before, fresh_work, stretch}
 use Rattle.afr_quiet_copies.proofs.Walk.{walk}
-use Rattle.afr_standstill.proofs.Tasks.{no_script}
+use Rattle.afr_law.proofs.Model.Tasks.{no_script}
 use Rattle.afr_quiet_rounds.specs.Whole.{QuietRoundsAreWhole, RoundsAreLow}
 use Rattle.afr_converged.specs.Converged.{IsQuietLeft, IsUnchanged, QuietRoundsLeave}
 use Rattle.afr_converged.proofs.Lines.{Left, state_own, still_fresh}
