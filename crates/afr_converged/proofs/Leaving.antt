@@ -1,4 +1,4 @@
--- What a request of a heal leaves of an object and kind, as long as no heal of them goes on: it spares them, and a heal of them has seen them as they were.
+-- A request of a heal leaves an object and kind unchanged, as long as no heal of them goes on past its looks.
 use Rattle.std.proofs.Common.{Bool, ap, arith, inl, inr, refl, subst, sym, true, true≢false, ℕ, ◌<◌, ◌∙◌, ◌≡◌, ◌≤◌}
 use Rattle.std.specs.Prelude.{List as Seq, None, Option, Some, if◌then◌else◌, slice_index}
 use Rattle.std.proofs.lemmas.Bool.{eqb-true}

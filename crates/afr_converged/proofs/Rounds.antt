@@ -1,4 +1,4 @@
--- What an undisturbed round leaves of an object that every brick has.
+-- What an undisturbed round leaves: what was clear, and each object that every brick has.
 use Rattle.std.proofs.Common.{ap, arith, inl, inr, refl, subst, sym, ℕ, ◌<◌, ◌∙◌, ◌≡◌, ◌≤◌, ◌⊎◌, [], ◌∷◌, length}
 use Rattle.std.specs.Prelude.{Bool, List as Seq, Some, slice_get}
 use Rattle.afr_base.specs.declared.ids.ActorId.{ActorId}

@@ -1,4 +1,4 @@
--- What the lines of a round have left of an object and kind, as the log alone says it: unchanged so far, and so at the beginning of each heal of them; or a heal of them goes on.
+-- How an object and kind stand after some lines of a round: unchanged so far, or in a heal that goes on.
 use Rattle.std.proofs.Common.{Bool, ap, false, inl, inr, refl, subst, sym, true, true≢false, ℕ, ◌∙◌, ◌≡◌, ◌⊎◌, [], ◌∷◌}
 use Rattle.std.specs.Prelude.{List as Seq, None, Option, Some, if◌then◌else◌, slice_get}
 use Rattle.std.proofs.lemmas.Bool.{eqb-true}
