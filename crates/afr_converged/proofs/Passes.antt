@@ -11,6 +11,7 @@ use Rattle.afr_base.specs.declared.ids.Kind.{Kind}
 use Rattle.afr_base.specs.declared.ids.What.{What}
 use Rattle.afr_object.specs.Tables.{copy_at}
 use Rattle.afr_object.specs.declared.object.Object.{Object}
+use Rattle.afr_lines.specs.Log.{EveryPrefix}
 use Rattle.afr_lines.specs.Work.{Work as Lines, ended, work}
 use Rattle.afr_object.specs.Indexed.{index_of}
 use Rattle.afr_lines.specs.declared.line.Line.{Line}
@@ -37,7 +38,7 @@ use Rattle.afr_quiet_copies.proofs.Premises.{Premises, sums}
 use Rattle.afr_quiet_copies.proofs.Stretch.{IsTail, before_tail, now_of, tail_self}
 use Rattle.afr_quiet_lists.proofs.Premises.{Sound, sound_before}
 use Rattle.afr_quiet_rounds.specs.Whole.{QuietRoundsAreWhole, RoundsAreLow}
-use Rattle.afr_converged.specs.Converged.{AreAll, AreRounds, IsClearAlike, IsConverged, IsEverywhereAs, IsKindOf, IsUnchanged, QuietRoundsConverge, part_of}
+use Rattle.afr_converged.specs.Converged.{AreAll, AreRounds, IsClearAlike, IsConverged, IsEverywhereAs, IsKindOf, IsUnchanged, QuietRoundsConverge, part_of, HasConverged}
 use Rattle.afr_converged.proofs.Heals.{Healed, IsIn, IsOpenOn, healed, heals_have, listed_as, open_marked, round_list}
 use Rattle.afr_converged.proofs.Rounds.{premises_then, round_clears, round_leaves}
 use Rattle.afr_converged.proofs.Spared.{clear_still, clear_was, everywhere_still, spared, unchanged_on, unchanged_self}
@@ -251,19 +252,26 @@ start_tail p start (b ∷ done) log (r, before) = subst (IsTail start) (sym r.la
     tail_on a b (line ∷ c) s (inl e) = subst (IsTail a) e s
     tail_on a b (line ∷ c) s (inr t) = inr (tail_on a b c s t)
 
+now : QuietRoundsAreWhole → (p : Plan) (log : Seq Line) → Sound p log → RoundsAreLow p → HasConverged p log
+now whole p log s low start bricks rounds all g what kind held of =
+    let at_start = sound_then p start log (start_tail p start bricks log rounds) s in
+    converges p start g what kind at_start held of bricks log s all (passes p start g what kind at_start held of low bricks log s (whole p log s.small s.clients s.short s.follows s.honest s.lawful s.replied s.gives low) rounds).0
+
+moments : QuietRoundsAreWhole → (p : Plan) (log : Seq Line) → Sound p log → RoundsAreLow p → EveryPrefix (HasConverged p) log
+moments whole p [] s low = now whole p [] s low
+moments whole p (line ∷ older) s low = (now whole p (line ∷ older) s low, moments whole p older (sound_before p line older s) low)
+
+-- a volume without bricks has nothing to differ in
+no_brick : (p : Plan) (log : Seq Line) → p.shape.n ≡ 0 → HasConverged p log
+no_brick p log none start bricks rounds all g what kind held of = inl (record { clear = λ x low. absurd (omega (arith, low, none)); alike = λ b c low. absurd (omega (arith, low, none)) })
+
+no_moment : (p : Plan) (log : Seq Line) → p.shape.n ≡ 0 → EveryPrefix (HasConverged p) log
+no_moment p [] none = no_brick p [] none
+no_moment p (line ∷ older) none = (no_brick p (line ∷ older) none, no_moment p older none)
+
 pub quiet_converge : QuietRoundsAreWhole → QuietRoundsConverge
-quiet_converge whole p log five clients short follows honest lawful replies gives low start bricks rounds all g what kind held of = by p.shape.n refl
+quiet_converge whole p log five clients short follows honest lawful replies gives low = by p.shape.n refl
   where
-    sound : 0 < p.shape.n → Sound p log
-    sound some = record { small = five; some = some; clients = clients; short = short; follows = follows; honest = honest; lawful = lawful; replied = replies; gives = gives }
-
-    converged : 0 < p.shape.n → IsConverged p start log g kind
-    converged some = (
-        let s = sound some in
-        let at_start = sound_then p start log (start_tail p start bricks log rounds) s in
-        converges p start g what kind at_start held of bricks log s all (passes p start g what kind at_start held of low bricks log s (whole p log five clients short follows honest lawful replies gives low) rounds).0
-        )
-
-    by : (n : ℕ) → p.shape.n ≡ n → IsConverged p start log g kind
-    by (suc n) many = converged (omega (arith, many))
-    by zero none = inl (record { clear = λ x low. absurd (omega (arith, low, none)); alike = λ b c low. absurd (omega (arith, low, none)) })
+    by : (n : ℕ) → p.shape.n ≡ n → EveryPrefix (HasConverged p) log
+    by (suc n) many = moments whole p log (record { small = five; some = omega (arith, many); clients = clients; short = short; follows = follows; honest = honest; lawful = lawful; replied = replies; gives = gives }) low
+    by zero none = no_moment p log none

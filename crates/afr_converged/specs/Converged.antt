@@ -12,7 +12,7 @@ use Rattle.afr_object.specs.Repairs.{Contents}
 use Rattle.afr_object.specs.Repairs as contents
 use Rattle.afr_object.specs.Tables.{copy_at}
 use Rattle.afr_object.specs.declared.object.Object.{Object}
-use Rattle.afr_lines.specs.Log.{EachLine}
+use Rattle.afr_lines.specs.Log.{EachLine, EveryPrefix}
 use Rattle.afr_lines.specs.Work.{ended, work}
 use Rattle.afr_lines.specs.declared.line.Line.{Line}
 use Rattle.afr_lines.specs.declared.line.Line.TheVariants.{End}
@@ -108,10 +108,14 @@ pub record IsClearAlike (p : Plan) (log : List Line) (g : Gfid) (kind : Kind) : 
 abbrev pub IsConverged : Plan → List Line → List Line → Gfid → Kind → Type 0
 IsConverged p start log g kind = IsClearAlike p log g kind ⊎ (IsSplit p start (below p.shape.n) g kind × IsUnchanged p start log g kind)
 
--- after undisturbed rounds at all bricks, one right after the other, each object that every brick had at their start has converged
+-- where the last lines are undisturbed rounds at all bricks, one right after the other, each object that every brick had at their start has converged
+abbrev pub HasConverged : Plan → List Line → Type 0
+HasConverged p log =
+    (start : List Line) (bricks : List BrickId) → AreRounds p start bricks log → AreAll p bricks
+    → (g : Gfid) (what : What) (kind : Kind) → IsEverywhereAs p start g what → IsKindOf what kind → IsConverged p start log g kind
+
+-- so it is at every moment
 abbrev pub QuietRoundsConverge : Type 0
 QuietRoundsConverge =
     (p : Plan) (log : List Line) → p.shape.n ≤ 5 → length p.clients ≤ 16 → length log ≤ 4000000
-    → Follows p log → Honest p log → IsLawfulExactly p log → Replied p log → EachLine GivesHealLock log → RoundsAreLow p
-    → (start : List Line) (bricks : List BrickId) → AreRounds p start bricks log → AreAll p bricks
-    → (g : Gfid) (what : What) (kind : Kind) → IsEverywhereAs p start g what → IsKindOf what kind → IsConverged p start log g kind
+    → Follows p log → Honest p log → IsLawfulExactly p log → Replied p log → EachLine GivesHealLock log → RoundsAreLow p → EveryPrefix (HasConverged p) log

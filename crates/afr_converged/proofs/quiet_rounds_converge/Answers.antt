@@ -5,5 +5,5 @@ use Rattle.afr_converged.proofs.quiet_rounds_converge.Goals as goal
 pub returns : goal.returns
 returns c = record {
   leave = λ p log five clients short follows honest lawful replied gives low. quiet_leave c.quiet_rounds_are_whole.ensures.whole p log five clients short follows honest lawful replied gives low;
-  converge = λ p log five clients short follows honest lawful replied gives low start bricks rounds all g what kind held of. quiet_converge c.quiet_rounds_are_whole.ensures.whole p log five clients short follows honest lawful replied gives low start bricks rounds all g what kind held of;
+  converge = λ p log five clients short follows honest lawful replied gives low. quiet_converge c.quiet_rounds_are_whole.ensures.whole p log five clients short follows honest lawful replied gives low;
 }
