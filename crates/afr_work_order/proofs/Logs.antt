@@ -64,16 +64,16 @@ module _ (p : Plan) (line : Line) (older : List Line) (k j i : ℕ) (o q : Entry
 
 upto_whole : (p : Plan) (k : ℕ) (w : Lines) (j : ℕ) (o : Entry) → path_by p w ≡ At j o → j ≤ k → path_upto k p w ≡ At j o
 upto_whole p k [] j o e low = e
-upto_whole p k (x ∷ w) j o e low = go (path_by p w) refl e
+upto_whole p k (x ∷ w) j o e low = go (path_by p w) refl e (λ i q is less. upto_whole p k w i q is less)
   where
-    go : (u : Path) → path_by p w ≡ u → path_after p x.0 x.1 u ≡ At j o → kept_at k (path_upto k p w) (path_after p x.0 x.1 (path_upto k p w)) ≡ At j o
-    go (At i q) is h = (
+    go : (u : Path) → path_by p w ≡ u → path_after p x.0 x.1 u ≡ At j o → ((i : ℕ) (q : Entry) → path_by p w ≡ At i q → i ≤ k → path_upto k p w ≡ At i q) → kept_at k (path_upto k p w) (path_after p x.0 x.1 (path_upto k p w)) ≡ At j o
+    go (At i q) is h before = (
         let after = after_is p x.0 x.1 i q in
-        let before : path_upto k p w ≡ At i q = upto_whole p k w i q is (not_past p x.0 x.1 k j i o q low (path_after p x.0 x.1 (At i q)) after h) in
-        subst (λ (u : Path). kept_at k u (path_after p x.0 x.1 u) ≡ At j o) (sym before) (moved p x.0 x.1 k j i o q low (path_after p x.0 x.1 (At i q)) after h (i == k) refl)
+        let same : path_upto k p w ≡ At i q = before i q is (not_past p x.0 x.1 k j i o q low (path_after p x.0 x.1 (At i q)) after h) in
+        subst (λ (u : Path). kept_at k u (path_after p x.0 x.1 u) ≡ At j o) (sym same) (moved p x.0 x.1 k j i o q low (path_after p x.0 x.1 (At i q)) after h (i == k) refl)
         )
-    go NoName is h = absurd (after_off p x.0 x.1 NoName (λ i q f. cc f) j o h)
-    go Untold is h = absurd (after_off p x.0 x.1 Untold (λ i q f. cc f) j o h)
+    go NoName is h before = absurd (after_off p x.0 x.1 NoName (λ i q f. cc f) j o h)
+    go Untold is h before = absurd (after_off p x.0 x.1 Untold (λ i q f. cc f) j o h)
 
 -- where its path has led, whatever its stage
 led_of : (p : Plan) (path : List NameId) (m : Removing) (w : Lines) (stage : RemovalStage) → During stage p path m w → HasLed p path (object_of m.change) m.child.gfid w
@@ -124,6 +124,6 @@ pub client_rises : PathsLeadDown → ClientRises
 client_rises paths p log command w a b area at f client k tells noted q is told took = go noted
   where
     go : IsNotedAt p a.0 log (register_of w) → RisesTo p.shape.n (in_force (opens (place_of a.0 log) (Ask a b (Lock WorkDomain area) told took)) (register_by p.shape.n (kept_by p) a.0 log)).law b.0 area
-    go (inl (within, stood)) = subst (λ (place : Place). RisesTo p.shape.n (in_force (opens place (Ask a b (Lock WorkDomain area) told took)) (register_by p.shape.n (kept_by p) a.0 log)).law b.0 area) (sym within)
-        (λ c mine low held. work_above w k q (tells_down paths p log command w a.0 f client tells) at b area is c mine (by_register (register_of w) (register_by p.shape.n (kept_by p) a.0 log) stood.stands c mine held))
-    go (inr (fresh, none)) = subst (λ (place : Place). RisesTo p.shape.n (in_force (opens place (Ask a b (Lock WorkDomain area) told took)) (register_by p.shape.n (kept_by p) a.0 log)).law b.0 area) (sym fresh) (none_held p.shape.n b.0 area)
+    go (inl h) = subst (λ (place : Place). RisesTo p.shape.n (in_force (opens place (Ask a b (Lock WorkDomain area) told took)) (register_by p.shape.n (kept_by p) a.0 log)).law b.0 area) (sym h.0)
+        (λ c mine low held. work_above w k q (tells_down paths p log command w a.0 f client tells) at b area is c mine (by_register (register_of w) (register_by p.shape.n (kept_by p) a.0 log) h.1.stands c mine held))
+    go (inr h) = subst (λ (place : Place). RisesTo p.shape.n (in_force (opens place (Ask a b (Lock WorkDomain area) told took)) (register_by p.shape.n (kept_by p) a.0 log)).law b.0 area) (sym h.0) (none_held p.shape.n b.0 area)
