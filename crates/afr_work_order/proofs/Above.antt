@@ -1,7 +1,7 @@
 -- A work asks for each lock above all that it holds.
-use Rattle.std.proofs.Common.{◌≡◌, ℕ, ◌<◌, Bool, true, false, inl, inr, refl, sym, ◌∙◌, subst, ap, arith, List, [], Some, true≢false}
+use Rattle.std.proofs.Common.{◌≡◌, ℕ, ◌<◌, Bool, true, false, inl, inr, refl, sym, ◌∙◌, subst, ap, arith, List, Some, true≢false}
 use Rattle.std.specs.Prelude.{if◌then◌else◌}
-use Rattle.afr_base.specs.Bricks.{is_nothing, lowest, member}
+use Rattle.afr_base.specs.Bricks.{lowest, member}
 use Rattle.afr_base.specs.declared.ids.BrickId.{BrickId}
 use Rattle.afr_entry.specs.Entry as entry
 use Rattle.afr_entry.specs.Entry.{Entering}
@@ -23,7 +23,6 @@ use Rattle.afr_lines.specs.Areas.{area_for}
 use Rattle.afr_lines.specs.declared.line.Next.TheVariants as next
 use Rattle.afr_lines.specs.declared.line.Next.{Next}
 use Rattle.afr_lines.specs.declared.request.Area.{Area}
-use Rattle.afr_lines.specs.declared.request.Request.{Request}
 use Rattle.afr_lines.specs.declared.request.Request.TheVariants.{Lock}
 use Rattle.afr_moves.specs.Rules.{area_object}
 use Rattle.afr_object.specs.Tables.{object_of}

@@ -1,28 +1,24 @@
 -- In a log each client asks for its Work locks in rising order.
-use Rattle.std.proofs.Common.{◌≡◌, ℕ, suc, ◌+◌, ◌-◌, ◌<◌, ◌≤◌, ◌==◌, ◌++◌, Bool, true, false, inl, inr, refl, sym, ◌∙◌, subst, ap, arith, List, [], ◌∷◌, length, length-append, None, Some}
+use Rattle.std.proofs.Common.{◌≡◌, ℕ, suc, ◌+◌, ◌-◌, ◌<◌, ◌≤◌, ◌==◌, ◌++◌, Bool, true, false, inl, inr, refl, sym, ◌∙◌, subst, ap, arith, List, [], ◌∷◌, length, length-append}
 use Rattle.std.specs.Prelude.{if◌then◌else◌}
 use Rattle.std.proofs.lemmas.Bool.{eqb-true}
-use Rattle.afr_base.specs.declared.ids.ActorId.{ActorId}
-use Rattle.afr_base.specs.declared.ids.BrickId.{BrickId}
 use Rattle.afr_base.specs.declared.ids.Gfid.{Gfid}
 use Rattle.afr_base.specs.declared.ids.NameId.{NameId}
-use Rattle.afr_descent.proofs.Paths.{After, IsOff, Nothing, Reads, Silence, Stays, after_is, after_off}
+use Rattle.afr_descent.proofs.Paths.{After, Nothing, Reads, Silence, Stays, after_is, after_off}
 use Rattle.afr_descent.specs.Descent.{IsOfPlan, PathsLeadDown}
 use Rattle.afr_discipline.specs.Stands.{Stands}
 use Rattle.afr_discipline.specs.declared.register.Register.{Register}
 use Rattle.afr_entry.specs.declared.stage.EntryStage.TheVariants as entering
 use Rattle.afr_entry.specs.declared.stage.EntryStage.{EntryStage}
 use Rattle.afr_entry_telling.specs.EntryTelling.{TellsIn}
-use Rattle.afr_lines.specs.Places.{Fresh, Place, Within, opens, place_of}
+use Rattle.afr_lines.specs.Places.{Place, opens, place_of}
 use Rattle.afr_lines.specs.Work.{Work as Lines, work}
-use Rattle.afr_lines.specs.declared.answer.Told.{Told}
 use Rattle.afr_lines.specs.declared.line.Line.TheVariants.{Ask}
 use Rattle.afr_lines.specs.declared.line.Line.{Line}
 use Rattle.afr_lines.specs.declared.request.Area.{Area}
 use Rattle.afr_lines.specs.declared.request.Request.TheVariants.{Lock}
 use Rattle.afr_model.specs.Showing.{At, NoName, Path, Untold, path_after, path_by}
 use Rattle.afr_model.specs.Standing.{kept_at, path_upto}
-use Rattle.afr_moves.proofs.Tests.{same_no}
 use Rattle.afr_moves.specs.Discipline.{in_force}
 use Rattle.afr_moves.specs.Followed.{register_by}
 use Rattle.afr_moves.specs.Register.{Exact, untouched}

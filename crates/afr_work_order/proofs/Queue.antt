@@ -1,13 +1,13 @@
 -- A work asks the bricks of each of its locks in rising order, whatever they answer.
 use Rattle.std.proofs.Common.{◌≡◌, ℕ, ◌&&◌, Bool, true, false, inl, inr, refl, sym, ◌∙◌, subst, ap, List, [], Option, Some, None, true≢false}
 use Rattle.std.specs.Prelude.{if◌then◌else◌}
+use Rattle.afr_base.specs.Bricks.{lowest}
 use Rattle.afr_base.specs.declared.ids.BrickId.{BrickId}
 use Rattle.afr_base.specs.declared.ids.Gfid.{Gfid}
 use Rattle.afr_base.specs.declared.ids.Shape.{Shape}
-use Rattle.afr_discipline.specs.Stands.{no_lines}
 use Rattle.afr_discipline.specs.declared.register.Register.{Register}
 use Rattle.afr_entry.specs.Entry as entry
-use Rattle.afr_entry.specs.Entry.{Entering, IsChanging}
+use Rattle.afr_entry.specs.Entry.{Entering}
 use Rattle.afr_entry.specs.Job.{child_by, ruled_out}
 use Rattle.afr_entry.specs.Job as on_name
 use Rattle.afr_entry.specs.declared.job.EntryJob.{EntryJob}
@@ -26,9 +26,9 @@ use Rattle.afr_inode_write.specs.declared.stage.WriteStage.{WriteStage}
 use Rattle.afr_lines.specs.Told.{told_by}
 use Rattle.afr_lines.specs.declared.answer.Answer.{Answer}
 use Rattle.afr_lines.specs.declared.answer.Told.{Told}
-use Rattle.afr_lines.specs.declared.line.Heard.TheVariants as heard
 use Rattle.afr_lines.specs.declared.reply.Good.TheVariants as good
 use Rattle.afr_lines.specs.declared.reply.Reply.TheVariants as reply
+use Rattle.afr_object.specs.Tables.{is_dir}
 use Rattle.afr_pace.proofs.Order.{Rises, starts_queued, stays_queued}
 use Rattle.afr_pace.specs.Left.{IsQueued as Queued}
 use Rattle.afr_plan.specs.declared.command.Command.TheVariants as command
@@ -46,12 +46,10 @@ use Rattle.afr_transaction.specs.Progress.{Progress, answered, begun, fed, is_be
 use Rattle.afr_transaction.specs.Sound.{IsAsking, Sound}
 use Rattle.afr_transaction.specs.declared.stage.Stage.TheVariants.{Applying, Beginning, Closing, Locking, Looking, Posting, Preparing}
 use Rattle.afr_transaction.specs.declared.stage.Stage.{Stage}
-use Rattle.afr_base.specs.Bricks.{lowest}
-use Rattle.afr_object.specs.Tables.{is_dir}
 use Rattle.afr_walk.proofs.WalkLemmas.{is_walked}
 use Rattle.afr_walk.specs.Choosing.{IsAmong}
 use Rattle.afr_walk.specs.Free.{IsFree}
-use Rattle.afr_walk.specs.Walk.{IsWalk, is_walking, walk_from, walked}
+use Rattle.afr_walk.specs.Walk.{walk_from, walked}
 use Rattle.afr_walk.specs.declared.walk.Walk.{Walk}
 use Rattle.afr_walk.specs.declared.walk.WalkStep.TheVariants as walking
 use Rattle.afr_walk.specs.declared.walk.WalkStep.{WalkStep}
@@ -97,17 +95,17 @@ entry_led job w row = go w.step
     go (walking.Stopped why) = tt
 
 -- ---- a work begins
-write_begins : (shape : Shape) (w : Walk) (job : WriteJob) → IsQueuedWrite (write.first_stage job w)
-write_begins shape w job = go (write_jobs.is_too_large job)
+write_begins : (w : Walk) (job : WriteJob) → IsQueuedWrite (write.first_stage job w)
+write_begins w job = go (write_jobs.is_too_large job)
   where
     go : (large : Bool) → IsQueuedWrite (if large then writing.Ending reply.TooLarge else write.after_walk job w)
     go true = tt
     go false = write_led job w
 
 pub work_begins : WorkBeginsQueued
-work_begins shape (command.Write path at bytes) = write_begins shape (walk_from shape path) (write_job.Write at bytes)
-work_begins shape (command.Cut path len) = write_begins shape (walk_from shape path) (write_job.Cut len)
-work_begins shape (command.SetAttr path key value) = write_begins shape (walk_from shape path) (write_job.SetAttr key value)
+work_begins shape (command.Write path at bytes) = write_begins (walk_from shape path) (write_job.Write at bytes)
+work_begins shape (command.Cut path len) = write_begins (walk_from shape path) (write_job.Cut len)
+work_begins shape (command.SetAttr path key value) = write_begins (walk_from shape path) (write_job.SetAttr key value)
 work_begins shape (command.Read path at len) = tt
 work_begins shape (command.GetAttr path key) = tt
 work_begins shape (command.Ls path) = tt
