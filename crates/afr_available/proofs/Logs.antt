@@ -14,7 +14,8 @@ use Rattle.afr_plan.specs.declared.command.Command.{Command}
 use Rattle.afr_plan.specs.declared.plan.Plan.{Plan}
 use Rattle.afr_model.specs.Answered.{IsAbout}
 use Rattle.afr_model.specs.Actors.{script_of}
-use Rattle.afr_model.specs.Following.{Follows, IsTurnOf, KeepsTo, KeepsToTask, ToCommand, ToRound}
+use Rattle.afr_model.specs.Following.{Follows, IsTurnOf, KeepsToTask, ToCommand, ToRound}
+use Rattle.afr_model.specs.Keeping.{KeepsTo}
 use Rattle.afr_model.specs.Replied.{IsOfTask, Replied}
 use Rattle.afr_available.specs.Available.{AnswersBorne, ModelAnswersBorne}
 use Rattle.afr_available.proofs.Works.{AreOf, work_available}

@@ -1,18 +1,25 @@
 -- A change is acknowledged where enough bricks did their part of it, whatever the others did.
-use Rattle.std.specs.Prelude.{◌≡◌, ℕ, ◌≤◌, nat_le, true, false, List, [], Some, length}
+use Rattle.std.specs.Prelude.{◌≡◌, ℕ, ◌≤◌, nat_le, true, false, List, [], Some, length, slice_get}
 use Rattle.afr_base.specs.Bricks.{added_if, member}
+use Rattle.afr_base.specs.declared.ids.Gfid.{Gfid}
+use Rattle.afr_base.specs.declared.ids.NameId.{NameId}
+use Rattle.afr_base.specs.declared.ids.What.TheVariants.{File}
 use Rattle.afr_object.specs.Tables.{object_of}
 use Rattle.afr_object.specs.declared.change.Change.{Change}
+use Rattle.afr_object.specs.declared.change.Change.TheVariants.{Make}
 use Rattle.afr_lines.specs.Areas.{kind_for}
 use Rattle.afr_lines.specs.Log.{EachLine}
-use Rattle.afr_lines.specs.Work.{Work, work}
+use Rattle.afr_lines.specs.Work.{Work, ended, work}
 use Rattle.afr_lines.specs.declared.line.Line.{Line}
 use Rattle.afr_lines.specs.declared.line.Line.TheVariants.{Ask, Begin, End}
 use Rattle.afr_lines.specs.declared.reply.Good.TheVariants as good
-use Rattle.afr_lines.specs.declared.reply.Reply.TheVariants.{Ok}
+use Rattle.afr_lines.specs.declared.reply.Reply.{Reply}
+use Rattle.afr_lines.specs.declared.reply.Reply.TheVariants.{Ok, Half}
 use Rattle.afr_lines.specs.declared.request.Request.TheVariants.{Unlock}
+use Rattle.afr_plan.specs.declared.command.Command.TheVariants.{Rename}
 use Rattle.afr_plan.specs.declared.plan.Plan.{Plan}
 use Rattle.afr_law.specs.Exactly.{IsLawfulExactly}
+use Rattle.afr_model.specs.Actors.{script_of}
 use Rattle.afr_model.specs.Following.{Follows}
 use Rattle.afr_model.specs.Honest.{Honest}
 use Rattle.afr_model.specs.Replied.{Replied}
@@ -34,9 +41,14 @@ pub record IsBorne (p : Plan) (w : Work) : Type 0 where
   pub parts : (b : ℕ) → member bricks b ≡ true → DidItsPart w b
   pub enough : suffices p.shape (kind_for change) (looked_by (object_of change) w) bricks ≡ true
 
--- a client's command whose change such bricks bore ends with ok
+-- the reply says that the change is stored: ok, or half, where it is the making of a rename's new name
+pub data SaysStored (p : Plan) (a : ℕ) (older : List Line) (change : Change) (said : Reply) : Type 0 where
+  ByOk : said ≡ Ok good.Done → SaysStored p a older change said
+  ByHalf : said ≡ Half → (from to : List NameId) → slice_get (script_of p a) (ended a older) ≡ Some (Rename from to) → (dir g : Gfid) (name : NameId) → change ≡ Make dir name g File → SaysStored p a older change said
+
+-- a client's command whose last change such bricks bore ends with a reply that says so
 abbrev pub AnswersBorne : Plan → Line → List Line → Type 0
-AnswersBorne p (End a said) older = nat_le a.0 16 ≡ true → IsBorne p (work a.0 older) → said ≡ Ok good.Done
+AnswersBorne p (End a said) older = nat_le a.0 16 ≡ true → (k : IsBorne p (work a.0 older)) → SaysStored p a.0 older k.change said
 AnswersBorne p line older = Unit {0}
 
 -- so it is with every End line of a log that follows its plan and is replied
@@ -64,9 +76,9 @@ pub record IsUnfailed (p : Plan) (w : Work) : Type 0 where
   pub each : (b : ℕ) → member bricks b ≡ true → FailsNothing w b
   pub enough : suffices p.shape (kind_for change) (looked_by (object_of change) w) bricks ≡ true
 
--- a client's command whose change such bricks were asked for ends with ok, whatever the other bricks told
+-- a client's command whose last change such bricks were asked for ends with a reply that says it is stored, whatever the other bricks told
 abbrev pub IsAvailable : Plan → Line → List Line → Type 0
-IsAvailable p (End a said) older = nat_le a.0 16 ≡ true → IsUnfailed p (work a.0 older) → said ≡ Ok good.Done
+IsAvailable p (End a said) older = nat_le a.0 16 ≡ true → (k : IsUnfailed p (work a.0 older)) → SaysStored p a.0 older k.change said
 IsAvailable p line older = Unit {0}
 
 -- so it is with every End line of an honest log of at most 4,000,000 lines that keeps the discipline in full, follows its plan and is replied

@@ -80,6 +80,7 @@ pub fn answer(
         Command::Mkdir { .. } => by_posts(plan, log, a),
         Command::Unlink { .. } => by_posts(plan, log, a),
         Command::Rmdir { .. } => by_posts(plan, log, a),
+        Command::Rename { .. } => by_posts(plan, log, a),
     }
 }
 

@@ -28,6 +28,7 @@ pub(crate) fn path_of(command: &Command) -> &NamePath
         Command::Stat { path } => path,
         Command::SetAttr { path, .. } => path,
         Command::GetAttr { path, .. } => path,
+        Command::Rename { from, .. } => from,
     }
 }
 
@@ -171,6 +172,7 @@ pub(crate) fn kind_looked(command: &Command, what: What) -> Kind
         Command::Unlink { .. } => kind_of(what),
         Command::Rmdir { .. } => kind_of(what),
         Command::Stat { .. } => kind_of(what),
+        Command::Rename { .. } => kind_of(what),
     }
 }
 

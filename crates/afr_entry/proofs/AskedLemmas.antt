@@ -103,13 +103,13 @@ reader_small w j t b k e = good_below t.register.shape t.register.looked Names b
 
 -- ---- what is asked
 -- a move of a line is one for the transaction too
-moves : (line : Next) (of : Move) → IsMoveOf line of → transaction.IsMoveOf line of
+pub moves : (line : Next) (of : Move) → IsMoveOf line of → transaction.IsMoveOf line of
 moves (next.Ask b request) (move.Ask c asked) is = is
 moves (next.Begin change) (move.Begin of) is = is
 moves (next.End said) (move.End ok) is = is
 moves line of is = absurd is
 
-not_ok : (why : Refusal) → is_ok (reply_to why) ≡ false
+pub not_ok : (why : Refusal) → is_ok (reply_to why) ≡ false
 not_ok refusal.Failed = refl
 not_ok refusal.NoEntry = refl
 not_ok refusal.Exists = refl

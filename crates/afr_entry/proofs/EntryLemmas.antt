@@ -118,7 +118,7 @@ next_fits (Refused why) Preparing x h e = absurd (cc h)
 next_fits (Refused why) Applying x h e = absurd (cc h)
 next_fits (Refused why) Posting x h e = absurd (cc h)
 
-fed_fits : (found : Found) (stage : Stage) (told : Told) (at : ℕ) (t : Progress) → fits_stage found stage ≡ true → is_beginning stage ≡ false → fits_stage found (fed stage told at t).stage ≡ true
+pub fed_fits : (found : Found) (stage : Stage) (told : Told) (at : ℕ) (t : Progress) → fits_stage found stage ≡ true → is_beginning stage ≡ false → fits_stage found (fed stage told at t).stage ≡ true
 fed_fits found Locking told at t h e = next_fits found Locking (answered_by Locking (lowest (left Locking t)) told at t) h e
 fed_fits found Looking told at t h e = next_fits found Looking (answered_by Looking (lowest (left Looking t)) told at t) h e
 fed_fits found Beginning told at t h e = absurd (cc e)
@@ -159,7 +159,7 @@ other_reader w j t b chosen e k = record { sound = k.sound; of_job = k.of_job; i
     same Posting h = absurd (cc h)
 
 -- of the good copies one was chosen, where the looks under the locks are over
-reader_chosen : (t : Progress) → kind_for t.change ≡ Names → progress_sound.Sound t → (chosen : BrickId) → IsAmong (offered t) chosen → HasReader t (Unread chosen)
+pub reader_chosen : (t : Progress) → kind_for t.change ≡ Names → progress_sound.Sound t → (chosen : BrickId) → IsAmong (offered t) chosen → HasReader t (Unread chosen)
 reader_chosen t kind sound chosen among = λ h.
     among_good t.register.shape t.register.looked Names chosen (subst (λ (k : Kind). is_nothing (good_copies t.register.shape t.register.looked k) ≡ false) kind (some_good t sound h))
     (subst (λ (e : Bool). IsAmong (if e then candidates_of t.register.shape t.register.looked Names else []) chosen) h among)
@@ -334,12 +334,12 @@ left_register walking.Arrived j w = go (is_dir w.object.what)
     go false = refl
 left_register (walking.Stopped why) j w = refl
 
-settled_register : (why : Option Refusal) (t : Progress) → (settled why t).register ≡ t.register
+pub settled_register : (why : Option Refusal) (t : Progress) → (settled why t).register ≡ t.register
 settled_register None t = refl
 settled_register (Some why) t = refl
 
 -- a transaction that asks notes its request
-told_notes : (t : Progress) (at : ℕ) (brick : BrickId) (request : Request) (told : Told) → progress.next_at t.stage at t ≡ next.Ask brick request
+pub told_notes : (t : Progress) (at : ℕ) (brick : BrickId) (request : Request) (told : Told) → progress.next_at t.stage at t ≡ next.Ask brick request
     → (told_to told at t).register ≡ noted_ask t.register at brick.0 request told
 told_notes t at brick request told e = go (is_beginning t.stage) (asks_elsewhere t.stage t at brick request e)
   where
@@ -382,7 +382,7 @@ notes_at (Ending said) w j at brick request e chosen a = absurd (cc e)
 pub notes_each : NotesEach
 notes_each m at brick request e chosen a = notes_at m.stage m.walk m.job at brick request e chosen a
 
-begun_notes : (t : Progress) (at : ℕ) (change : Change) → progress.next_at t.stage at t ≡ next.Begin change → (if is_beginning t.stage then begun at t else t).register ≡ noted_begin t.register at
+pub begun_notes : (t : Progress) (at : ℕ) (change : Change) → progress.next_at t.stage at t ≡ next.Begin change → (if is_beginning t.stage then begun at t else t).register ≡ noted_begin t.register at
 begun_notes t at change e = go (is_beginning t.stage) (begins_there t.stage t at change e)
   where
     go : (b : Bool) → b ≡ true → (if b then begun at t else t).register ≡ noted_begin t.register at

@@ -10,5 +10,5 @@ mod stage;
 pub use job::EntryJob;
 pub use laws::{an_entry_keeps_the_discipline, an_entry_reads_good_copies};
 pub use machine::EntryMachine;
-pub use refusal::Refusal;
+pub use refusal::{Refusal, reply_to};
 pub use stage::{EntryStage, Found};

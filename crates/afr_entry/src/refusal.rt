@@ -93,7 +93,8 @@ fn child_in(job: EntryJob, entry: Entry) -> Option<Gfid>
     }
 }
 
-pub(crate) fn reply_to(why: Refusal) -> Reply
+/// The reply of a command that its refusal ends.
+pub fn reply_to(why: Refusal) -> Reply
     ensures { result ≡ reply_to why }
 {
     match why {

@@ -22,7 +22,8 @@ use Rattle.afr_plan.specs.declared.command.Command.TheVariants as command
 use Rattle.afr_plan.specs.declared.plan.Plan.{Plan}
 use Rattle.afr_model.specs.Cells.{IsEntry}
 use Rattle.afr_model.specs.Commands.{change_named, is_on_name, last_of, steps_of}
-use Rattle.afr_model.specs.Following.{Follows, IsFollowing, KeepsToTask, Names, ToCommand, ToRound}
+use Rattle.afr_model.specs.Following.{Follows, IsFollowing, KeepsToTask, ToCommand, ToRound}
+use Rattle.afr_model.specs.Keeping.{Names}
 use Rattle.afr_model.specs.Honest.{Honest}
 use Rattle.afr_model.specs.Showing.{At, NoName, Path, Untold, path_after}
 use Rattle.afr_model.specs.Standing.{kept_at, path_upto, place_by}

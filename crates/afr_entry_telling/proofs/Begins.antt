@@ -26,7 +26,7 @@ use Rattle.afr_plan.specs.declared.command.Command.TheVariants as command
 use Rattle.afr_plan.specs.declared.plan.Plan.{Plan}
 use Rattle.afr_model.specs.Answered.{IsAbout, IsAnswered, Refuses}
 use Rattle.afr_model.specs.Commands.{is_rmdir, path_of, steps_of}
-use Rattle.afr_model.specs.Following.{KeepsTo}
+use Rattle.afr_model.specs.Keeping.{KeepsTo}
 use Rattle.afr_model.specs.Refusals.{by_path, on_way, or_else, read_refused, refusal, too_large}
 use Rattle.afr_model.specs.Showing.{Path, At, NoName, Untold, path_by}
 use Rattle.afr_model.specs.Skipped.{AsksAll, SkipsNothing}

@@ -28,7 +28,7 @@ use Rattle.afr_plan.specs.declared.command.Command.{Command}
 use Rattle.afr_plan.specs.declared.plan.Plan.{Plan}
 use Rattle.afr_model.specs.Answered.{IsAbout}
 use Rattle.afr_model.specs.Commands.{is_rmdir, steps_of}
-use Rattle.afr_model.specs.Following.{KeepsTo, Names}
+use Rattle.afr_model.specs.Keeping.{KeepsTo, Names}
 use Rattle.afr_model.specs.Refusals.{by_locks, by_name}
 use Rattle.afr_model.specs.Showing.{Path, At, NotAsked, has, looked_by, path_by, reading_by, refuses_read}
 use Rattle.afr_model.specs.Standing.{area_here, looks_here, place_by}

@@ -17,7 +17,7 @@ use Rattle.afr_object.specs.declared.change.Change.{Change}
 use Rattle.afr_plan.specs.declared.command.Command.{Command}
 use Rattle.afr_plan.specs.declared.plan.Plan.{Plan}
 use Rattle.afr_model.specs.Answered.{IsAbout, IsAnswered}
-use Rattle.afr_model.specs.Following.{KeepsTo}
+use Rattle.afr_model.specs.Keeping.{KeepsTo}
 use Rattle.afr_walk.specs.Choosing.{IsAmong}
 use Rattle.afr_entry.specs.Entry.{Entering, IsEntry, answered, choices_at, entry_from, heard_by, next_of}
 use Rattle.afr_entry.specs.declared.job.EntryJob.{EntryJob}

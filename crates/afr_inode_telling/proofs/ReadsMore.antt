@@ -29,7 +29,7 @@ use Rattle.afr_lines.specs.declared.request.Request.TheVariants.{Look}
 use Rattle.afr_plan.specs.declared.command.Command.{Command}
 use Rattle.afr_plan.specs.declared.plan.Plan.{Plan}
 use Rattle.afr_model.specs.Answered.{Answers, IsAbout, IsAnswered, MayRead, answer, by_reading, is_by_views}
-use Rattle.afr_model.specs.Following.{KeepsTo}
+use Rattle.afr_model.specs.Keeping.{KeepsTo}
 use Rattle.afr_model.specs.Commands.{path_of}
 use Rattle.afr_model.specs.Honest.{answer_by, copy_answer}
 use Rattle.afr_model.specs.Refusals.{by_looks, refusal}

@@ -20,7 +20,7 @@ use Rattle.afr_plan.specs.declared.plan.Plan.{Plan}
 use Rattle.afr_range_locks.specs.declared.domain.Domain.TheVariants.{Work as WorkDomain}
 use Rattle.afr_model.specs.Answered.{IsAnswered, IsAsked, answer, by_posts}
 use Rattle.afr_model.specs.Commands.{area_on, change_on, is_on_name, path_of, steps_of}
-use Rattle.afr_model.specs.Following.{Names}
+use Rattle.afr_model.specs.Keeping.{Names}
 use Rattle.afr_model.specs.Refusals.{by_locks, refusal, too_large}
 use Rattle.afr_model.specs.Showing.{At, has, looked_by, path_by, reading_by, refuses_read}
 use Rattle.afr_model.specs.Skipped.{takers}

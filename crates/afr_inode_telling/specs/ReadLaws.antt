@@ -14,7 +14,7 @@ use Rattle.afr_lines.specs.declared.reply.Reply.{Reply}
 use Rattle.afr_lines.specs.declared.request.Request.{Request}
 use Rattle.afr_plan.specs.declared.plan.Plan.{Plan}
 use Rattle.afr_model.specs.Answered.{IsAbout, IsAnswered}
-use Rattle.afr_model.specs.Following.{KeepsTo}
+use Rattle.afr_model.specs.Keeping.{KeepsTo}
 use Rattle.afr_walk.specs.Choosing.{IsAmong}
 use Rattle.afr_inode_read.specs.Lookup.{Lookup, IsLookup, answered, choices_of, lookup_from, next_of}
 use Rattle.afr_inode_read.specs.declared.job.LookupJob.{LookupJob}

@@ -15,7 +15,7 @@ use Rattle.afr_plan.specs.declared.command.Command.{Command}
 use Rattle.afr_plan.specs.declared.plan.Plan.{Plan}
 use Rattle.afr_model.specs.Answered.{IsAbout, IsAnswered}
 use Rattle.afr_model.specs.Commands.{path_of, is_on_name}
-use Rattle.afr_model.specs.Following.{KeepsTo}
+use Rattle.afr_model.specs.Keeping.{KeepsTo}
 use Rattle.afr_model.specs.Refusals.{too_large}
 use Rattle.afr_model.specs.Showing.{among, applied_at, applying, begins_attempt, begun_by, has, is_faulted, locks, posted, posting, prepared, preparing}
 use Rattle.afr_model.specs.Standing.{asking, change_by, getting, locks_any, locks_area}

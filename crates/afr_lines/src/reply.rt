@@ -28,6 +28,8 @@ pub enum Reply {
     SplitBrain(Views),
     Failed,
     TooLarge,
+    /// A rename has made the new name, and the old one stands still or is another's.
+    Half,
 }
 
 /// The end of a heal of one kind of one object.
@@ -71,6 +73,7 @@ impl TryCopy for Reply {
             Reply::SplitBrain(views) => copy_split(views),
             Reply::Failed => Ok(Reply::Failed),
             Reply::TooLarge => Ok(Reply::TooLarge),
+            Reply::Half => Ok(Reply::Half),
         }
     }
 }

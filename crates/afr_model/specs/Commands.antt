@@ -17,7 +17,7 @@ use Rattle.afr_lines.specs.declared.request.Request.TheVariants as request
 use Rattle.afr_plan.specs.declared.command.Command.{Command}
 use Rattle.afr_plan.specs.declared.command.Command.TheVariants as command
 
--- the path of a command
+-- the path of a command, the first one of a rename
 abbrev pub path_of : Command → List NameId
 path_of (command.Write path at bytes) = path
 path_of (command.Cut path len) = path
@@ -30,6 +30,7 @@ path_of (command.Ls path) = path
 path_of (command.Stat path) = path
 path_of (command.SetAttr path key value) = path
 path_of (command.GetAttr path key) = path
+path_of (command.Rename from to) = from
 
 -- a command on the last name of its path, in the directory before it
 abbrev pub is_on_name : Command → Bool

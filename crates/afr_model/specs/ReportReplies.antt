@@ -101,6 +101,7 @@ reply_text words reply.FewCopies = codes "few-copies"
 reply_text words (reply.SplitBrain views) = codes "split-brain"
 reply_text words reply.Failed = codes "failed"
 reply_text words reply.TooLarge = codes "too-large"
+reply_text words reply.Half = codes "half"
 
 -- ---- heals
 -- an actor: a client or a healer

@@ -19,7 +19,8 @@ use Rattle.afr_plan.specs.declared.plan.Plan.{Plan}
 use Rattle.afr_plan.specs.declared.schedule.PlannedEvent.{PlannedEvent}
 use Rattle.afr_model.specs.Actors.{IsActor}
 use Rattle.afr_model.specs.Commands.{path_of}
-use Rattle.afr_model.specs.Following.{Follows, IsFollowing, IsNextEvent, IsNextName, IsTurnOf, KeepsTo, KeepsToTask, Names, NoneDue}
+use Rattle.afr_model.specs.Following.{Follows, IsFollowing, IsNextEvent, IsTurnOf, KeepsToTask, NoneDue}
+use Rattle.afr_model.specs.Keeping.{IsNextName, KeepsTo, Names}
 use Rattle.afr_model.specs.Showing.{At, Path, root_entry}
 use Rattle.afr_model_tests.proofs.Means.{from_none, from_some, passes, told_apart}
 use Rattle.afr_model_tests.proofs.Words.{at_each, begin, brick, child_found, client, creates, ends, file, file_entry, file_name, file_path, heal_ask, healer, led_to_file, lock, look_root, name_area, name_line, new_name, object, plan, ready, removes, work_of, write_change, writes}

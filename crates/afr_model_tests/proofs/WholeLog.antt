@@ -19,7 +19,8 @@ use Rattle.afr_model.specs.Answered.{IsAbout, IsAnswered, IsCaused, LooksHere}
 use Rattle.afr_model.specs.Blamed.{AreBlamed}
 use Rattle.afr_model.specs.Chosen.{IsChosen}
 use Rattle.afr_model.specs.Complete.{IsFinished}
-use Rattle.afr_model.specs.Following.{Follows, IsTurnOf, KeepsTo, KeepsToTask, NoneDue}
+use Rattle.afr_model.specs.Following.{Follows, IsTurnOf, KeepsToTask, NoneDue}
+use Rattle.afr_model.specs.Keeping.{KeepsTo}
 use Rattle.afr_model.specs.Honest.{Honest, Outcome}
 use Rattle.afr_model.specs.Replied.{IsOfTask, Replied}
 use Rattle.afr_model.specs.ReportHealers.{report_of}

@@ -20,7 +20,8 @@ use Rattle.afr_plan.specs.declared.plan.Plan.{Plan}
 use Rattle.afr_model.specs.Actors.{IsActor, script_of}
 use Rattle.afr_model.specs.Answered.{Counts, IsAbout, IsAnswered, IsCaused, LooksHere}
 use Rattle.afr_model.specs.Blamed.{AreBlamed, IsBlaming}
-use Rattle.afr_model.specs.Following.{Follows, IsTurnOf, KeepsTo, KeepsToTask, NoneDue}
+use Rattle.afr_model.specs.Following.{Follows, IsTurnOf, KeepsToTask, NoneDue}
+use Rattle.afr_model.specs.Keeping.{KeepsTo}
 use Rattle.afr_model.specs.Honest.{Honest}
 use Rattle.afr_model.specs.Replied.{IsOfTask, Replied}
 use Rattle.afr_model.specs.ReportHealers.{report_of}

@@ -12,7 +12,7 @@ use Rattle.afr_plan.specs.Happening.{Who, OfClient, OfHealer, Happening, Stop, S
 use Rattle.afr_plan.specs.Names.{with_name, with_names, number_of, file_names}
 use Rattle.afr_plan.specs.Said.{three_replicas, Said, Volume, Files, Turns, Client, Healer, Round, Faulty, At, Go}
 use Rattle.afr_plan.specs.Said as said
-use Rattle.afr_plan.specs.Work.{Work, Write, Read, Create, Mkdir, Unlink, Rmdir, Ls, Stat, SetAttr, GetAttr}
+use Rattle.afr_plan.specs.Work.{Work, Write, Read, Create, Mkdir, Unlink, Rmdir, Ls, Stat, SetAttr, GetAttr, Rename}
 use Rattle.afr_plan.specs.Work as work
 
 -- three bricks without an arbiter, and nothing else
@@ -43,11 +43,13 @@ command_of words path Ls = command.Ls (path_of words.names path)
 command_of words path Stat = command.Stat (path_of words.names path)
 command_of words path (SetAttr key value) = command.SetAttr (path_of words.names path) (record { 0 = number_of words.keys key }) (record { 0 = number_of words.values value })
 command_of words path (GetAttr key) = command.GetAttr (path_of words.names path) (record { 0 = number_of words.keys key })
+command_of words path (Rename to) = command.Rename (path_of words.names path) (path_of (with_names words.names path) to)
 
 -- the words with those of a command
 abbrev pub words_with : Words → List (List ℕ) → Work → Words
 words_with words path (SetAttr key value) = record words { names = with_names words.names path; keys = with_name words.keys key; values = with_name words.values value }
 words_with words path (GetAttr key) = record words { names = with_names words.names path; keys = with_name words.keys key }
+words_with words path (Rename to) = record words { names = with_names (with_names words.names path) to }
 words_with words path w = record words { names = with_names words.names path }
 
 -- client i is i, healer j is 16 + j

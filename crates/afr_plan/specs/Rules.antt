@@ -49,13 +49,13 @@ after_round = codes "round" ∷ after_healers
 abbrev pub after_turns : List (List ℕ)
 after_turns = codes "client" ∷ after_healers
 
--- the same after the head of a script and after a command: one of the eleven commands, or what may stand after the turns
+-- the same after the head of a script and after a command: one of the twelve commands, or what may stand after the turns
 abbrev pub after_changes : List (List ℕ)
 after_changes = codes "ls" ∷ codes "stat" ∷ codes "setattr" ∷ codes "getattr" ∷ after_turns
 
 -- after a command, from the commands on names on
 abbrev pub after_bytes : List (List ℕ)
-after_bytes = codes "create" ∷ codes "mkdir" ∷ codes "unlink" ∷ codes "rmdir" ∷ after_changes
+after_bytes = codes "create" ∷ codes "mkdir" ∷ codes "unlink" ∷ codes "rmdir" ∷ codes "rename" ∷ after_changes
 
 -- after a command
 abbrev pub after_command : List (List ℕ)
@@ -120,13 +120,14 @@ is_long word = nat_lt 255 (length word)
 abbrev pub is_path_beyond : List (List ℕ) → Bool
 is_path_beyond path = nat_lt 16 (length path) || list_any is_long path
 
--- a number, a key, a value or a piece of data is beyond its limit
+-- a number, a key, a value, a piece of data or a second path is beyond its limit
 abbrev pub is_work_beyond : Work → Bool
 is_work_beyond (work.Write at bytes) = nat_lt 1048576 at || nat_lt 65536 (length bytes)
 is_work_beyond (work.Cut len) = nat_lt 1048576 len
 is_work_beyond (work.Read at len) = nat_lt 1048576 at || nat_lt 65536 len
 is_work_beyond (work.SetAttr key value) = is_long key || is_long value
 is_work_beyond (work.GetAttr key) = is_long key
+is_work_beyond (work.Rename to) = is_path_beyond to
 is_work_beyond w = false
 
 -- no volume has so high a brick

@@ -8,7 +8,7 @@ use Rattle.afr_plan.specs.Data.{hex_bytes, is_paired, is_pair, quoted_of, filled
 use Rattle.afr_plan.specs.Happening.{Who, OfClient, OfHealer, Happening, Stop, Start, Cut, Join, Kill}
 use Rattle.afr_plan.specs.Reading.{Reader, word_then, word, both, as_a, either, or_else, run_of, whole, path_at, named_path_at, key_at, number_at, small_at, text_at}
 use Rattle.afr_plan.specs.Said.{three_replicas, three_with_arbiter, five_replicas, Said, Afr, Volume, Files, Turns, Client, Command, Healer, Round, Faulty, At, Go, End}
-use Rattle.afr_plan.specs.Work.{Work, Write, Read, Create, Mkdir, Unlink, Rmdir, Ls, Stat, SetAttr, GetAttr}
+use Rattle.afr_plan.specs.Work.{Work, Write, Read, Create, Mkdir, Unlink, Rmdir, Ls, Stat, SetAttr, GetAttr, Rename}
 use Rattle.afr_plan.specs.Work as work
 use Rattle.afr_plan.specs.declared.version.Version.TheVariants.{One, Two}
 
@@ -98,6 +98,10 @@ set_of x = Command x.0 (SetAttr x.1.0 x.1.1)
 abbrev pub get_of : List (List ℕ) × List ℕ → Said
 get_of x = Command x.0 (GetAttr x.1)
 
+-- a rename
+abbrev pub rename_of : List (List ℕ) × List (List ℕ) → Said
+rename_of x = Command x.0 (Rename x.1)
+
 -- a command that has a path alone
 abbrev pub on_path : Work → List (List ℕ) → Said
 on_path w path = Command path w
@@ -159,6 +163,10 @@ set_at = as_a set_of (word_then (codes "setattr ") (both path_at (word_then (cod
 unfoldable pub get_at : Reader Said
 get_at = as_a get_of (word_then (codes "getattr ") (both path_at (word_then (codes " ") key_at)))
 
+-- two paths, neither of which is `/`
+unfoldable pub rename_at : Reader Said
+rename_at = as_a rename_of (word_then (codes "rename ") (both named_path_at (word_then (codes " ") named_path_at)))
+
 -- the head of a healer
 unfoldable pub healer_at : Reader Said
 healer_at = as_a Healer (word_then (codes "healer ") number_at)
@@ -202,7 +210,7 @@ one_of (form ∷ forms) line = or_else (whole form line) (one_of forms line)
 
 -- the forms of commands, each with a first word of its own
 abbrev pub command_forms : List (Reader Said)
-command_forms = write_at ∷ cut_at ∷ read_at ∷ named_line (codes "create ") Create ∷ named_line (codes "mkdir ") Mkdir ∷ named_line (codes "unlink ") Unlink ∷ named_line (codes "rmdir ") Rmdir ∷ path_line (codes "ls ") Ls ∷ path_line (codes "stat ") Stat ∷ set_at ∷ get_at ∷ []
+command_forms = write_at ∷ cut_at ∷ read_at ∷ named_line (codes "create ") Create ∷ named_line (codes "mkdir ") Mkdir ∷ named_line (codes "unlink ") Unlink ∷ named_line (codes "rmdir ") Rmdir ∷ path_line (codes "ls ") Ls ∷ path_line (codes "stat ") Stat ∷ set_at ∷ get_at ∷ rename_at ∷ []
 
 -- the forms of all other lines
 abbrev pub line_forms : List (Reader Said)

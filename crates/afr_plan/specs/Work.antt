@@ -3,7 +3,7 @@ use Rattle.std.specs.Prelude.{ℕ, List, codes}
 use Rattle.afr_plan.specs.Data.{IsData}
 use Rattle.afr_plan.specs.Spelling.{IsKey, IsNamedPath, IsNumber, IsPath, WordThen, Both}
 
--- by its word; bytes, keys and values stand as they are
+-- by its word; bytes, keys and values stand as they are, and the second path of a rename as its names
 pub data Work : Type 0 where
   Write : (at : ℕ) (bytes : List ℕ) → Work
   Cut : (len : ℕ) → Work
@@ -16,6 +16,7 @@ pub data Work : Type 0 where
   Stat : Work
   SetAttr : (key value : List ℕ) → Work
   GetAttr : (key : List ℕ) → Work
+  Rename : (to : List (List ℕ)) → Work
 
 -- the word that stands for the work
 abbrev pub work_word : Work → List ℕ
@@ -30,6 +31,7 @@ work_word Ls = codes "ls"
 work_word Stat = codes "stat"
 work_word (SetAttr key value) = codes "setattr"
 work_word (GetAttr key) = codes "getattr"
+work_word (Rename to) = codes "rename"
 
 -- the bytes of a line say a command on a path
 abbrev pub IsCommand : List ℕ → List (List ℕ) → Work → Type 0
@@ -44,3 +46,4 @@ IsCommand line path Ls = WordThen (codes "ls ") IsPath line path
 IsCommand line path Stat = WordThen (codes "stat ") IsPath line path
 IsCommand line path (SetAttr key value) = WordThen (codes "setattr ") (Both IsPath (WordThen (codes " ") (Both IsKey (WordThen (codes " ") IsKey)))) line (path, (key, value))
 IsCommand line path (GetAttr key) = WordThen (codes "getattr ") (Both IsPath (WordThen (codes " ") IsKey)) line (path, key)
+IsCommand line path (Rename to) = WordThen (codes "rename ") (Both IsNamedPath (WordThen (codes " ") IsNamedPath)) line (path, to)

@@ -57,6 +57,11 @@ pub enum Command {
         path: NamePath,
         key: KeyId,
     },
+    /// The file at the end of the first path gets the second path's last name instead.
+    Rename {
+        from: NamePath,
+        to: NamePath,
+    },
 }
 
 impl TryCopy for Command {
@@ -73,6 +78,7 @@ impl TryCopy for Command {
             Command::Stat { path } => copy_stat(path),
             Command::SetAttr { path, key, value } => copy_set_attr(path, *key, *value),
             Command::GetAttr { path, key } => copy_get_attr(path, *key),
+            Command::Rename { from, to } => copy_rename(from, to),
         }
     }
 }
@@ -153,4 +159,12 @@ fn copy_get_attr(path: &NamePath, key: KeyId) -> Result<Command, NoMemory>
 {
     let path = path.copy()?;
     Ok(Command::GetAttr { path, key })
+}
+
+fn copy_rename(from: &NamePath, to: &NamePath) -> Result<Command, NoMemory>
+    ensures ok { IfOk result (λ command. command ≡ Command.Rename from.now to.now) }
+{
+    let from = from.copy()?;
+    let to = to.copy()?;
+    Ok(Command::Rename { from, to })
 }

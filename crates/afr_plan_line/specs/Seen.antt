@@ -15,7 +15,7 @@ use Rattle.afr_plan_line.specs.declared.spoken.SpokenWho.TheVariants.{OfClient, 
 use Rattle.afr_plan_line.specs.declared.spoken.SpokenEvent.{SpokenEvent}
 use Rattle.afr_plan_line.specs.declared.spoken.SpokenEvent.TheVariants as event
 use Rattle.afr_plan_line.specs.declared.spoken.SpokenWork.{SpokenWork}
-use Rattle.afr_plan_line.specs.declared.spoken.SpokenWork.TheVariants.{Write, Cut, Read, Create, Mkdir, Unlink, Rmdir, Ls, Stat, SetAttr, GetAttr}
+use Rattle.afr_plan_line.specs.declared.spoken.SpokenWork.TheVariants.{Write, Cut, Read, Create, Mkdir, Unlink, Rmdir, Ls, Stat, SetAttr, GetAttr, Rename}
 use Rattle.afr_plan_line.specs.declared.spoken.Spoken.{Spoken}
 use Rattle.afr_plan_line.specs.declared.spoken.Spoken.TheVariants.{Afr, Volume, Files, Turns, Client, Command, Healer, Round, Faulty, At, Go, End}
 
@@ -38,6 +38,7 @@ seen_work Ls = work.Ls
 seen_work Stat = work.Stat
 seen_work (SetAttr key value) = work.SetAttr key.now value.now
 seen_work (GetAttr key) = work.GetAttr key.now
+seen_work (Rename to) = work.Rename (names_in to.now)
 
 -- an actor
 abbrev pub seen_who : SpokenWho → Who

@@ -3,7 +3,7 @@ ghost use Rattle.std.specs.Prelude.{◌≡◌};
 ghost use Rattle.std.specs.Option.{option_map};
 ghost use Rattle.afr_plan.specs.Reading.{all_used, whole};
 ghost use Rattle.afr_plan.specs.Reading as reading;
-ghost use Rattle.afr_plan.specs.SaidReading.{volume_one_at, volume_two_at, files_at, turns_at, client_at, write_at, cut_at, read_at, path_line, named_line, set_at, get_at, healer_at, round_at, fault_at, event_at, order_at, shape_one_at, shape_two_at, kind_at, one_of, command_forms, line_forms, said};
+ghost use Rattle.afr_plan.specs.SaidReading.{volume_one_at, volume_two_at, files_at, turns_at, client_at, write_at, cut_at, read_at, path_line, named_line, set_at, get_at, rename_at, healer_at, round_at, fault_at, event_at, order_at, shape_one_at, shape_two_at, kind_at, one_of, command_forms, line_forms, said};
 ghost use Rattle.afr_plan.specs.Said.{three_replicas, three_with_arbiter, five_replicas};
 ghost use Rattle.afr_plan_line.specs.Seen.{seen, seen_work};
 
@@ -271,6 +271,18 @@ fn get_attr(line: &[u8]) -> Option<Spoken>
     alone(Spoken::Command { path, work }, rest)
 }
 
+#[tactic(auto, unfolding(afr_plan::specs::SaidReading::rename_at))]
+fn rename(line: &[u8]) -> Option<Spoken>
+    ensures { option_map seen result ≡ whole rename_at line.now }
+{
+    let rest = skip(b"rename ", line)?;
+    let (path, rest) = named_path(rest)?;
+    let rest = skip(b" ", rest)?;
+    let (to, rest) = named_path(rest)?;
+    let work = SpokenWork::Rename { to };
+    alone(Spoken::Command { path, work }, rest)
+}
+
 fn plain_word<'a>(word: &[u8], line: &[u8], value: Spoken<'a>) -> Option<Spoken<'a>>
     ensures { option_map seen result ≡ whole (reading.word word.now (seen value.entry)) line.now }
 {
@@ -312,7 +324,10 @@ fn say_command(line: &[u8]) -> Option<Spoken>
     if let Some(s) = set_attr(line) {
         return Some(s);
     }
-    get_attr(line)
+    if let Some(s) = get_attr(line) {
+        return Some(s);
+    }
+    rename(line)
 }
 
 /// What a line says, where it has another form.

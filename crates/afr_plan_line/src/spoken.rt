@@ -27,6 +27,8 @@ pub enum SpokenWork<'a> {
     Stat,
     SetAttr { key: &'a [u8], value: &'a [u8] },
     GetAttr { key: &'a [u8] },
+    /// The second path.
+    Rename { to: &'a [u8] },
 }
 
 /// An actor, by its kind and number.

@@ -4,7 +4,7 @@ use Rattle.afr_base.specs.declared.ids.Shape.{Shape}
 use Rattle.afr_faults.specs.declared.fault.Fault.{Fault}
 use Rattle.afr_faults.specs.declared.fault.Fault.TheVariants.{Fail, Lost}
 use Rattle.afr_plan.specs.Happening.{Who, OfClient, OfHealer, Happening, Stop, Start, Cut, Join, Kill}
-use Rattle.afr_plan.specs.Work.{Work, work_word, Write, Read, Create, Mkdir, Unlink, Rmdir, Ls, Stat, SetAttr, GetAttr}
+use Rattle.afr_plan.specs.Work.{Work, work_word, Write, Read, Create, Mkdir, Unlink, Rmdir, Ls, Stat, SetAttr, GetAttr, Rename}
 use Rattle.afr_plan.specs.Work as work
 use Rattle.afr_plan.specs.Said.{Said, Afr, Volume, Files, Turns, Client, Command, Healer, Round, Faulty, At, Go, End}
 use Rattle.afr_plan.specs.declared.version.Version.{Version}
@@ -27,6 +27,7 @@ work_text (work.Cut len) = codes " " ++ decimal len
 work_text (Read at len) = codes " " ++ (decimal at ++ (codes " " ++ decimal len))
 work_text (SetAttr key value) = codes " " ++ (key ++ (codes " " ++ value))
 work_text (GetAttr key) = codes " " ++ key
+work_text (Rename to) = codes " " ++ path_text to
 work_text w = []
 
 -- an actor

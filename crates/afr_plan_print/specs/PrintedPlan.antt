@@ -54,6 +54,7 @@ said_command words (command.Ls path) = said.Command (names_of words path) work.L
 said_command words (command.Stat path) = said.Command (names_of words path) work.Stat
 said_command words (command.SetAttr path key value) = said.Command (names_of words path) (work.SetAttr (word_at words.keys key.0) (word_at words.values value.0))
 said_command words (command.GetAttr path key) = said.Command (names_of words path) (work.GetAttr (word_at words.keys key.0))
+said_command words (command.Rename from to) = said.Command (names_of words from) (work.Rename (names_of words to))
 
 -- a round
 abbrev pub said_round : BrickId → Said

@@ -33,6 +33,7 @@ pub(crate) fn push_command(
         Command::Stat { path } => push_whole(out, "stat ", words, path),
         Command::SetAttr { path, key, value } => push_set_attr(out, words, path, *key, *value),
         Command::GetAttr { path, key } => push_get_attr(out, words, path, *key),
+        Command::Rename { from, to } => push_rename(out, words, from, to),
     }
 }
 
@@ -111,5 +112,19 @@ fn push_get_attr(
     push_path(out, "getattr ", words, path)?;
     let key = word_at(&words.keys, key.0);
     write!(out, " {key}\n")?;
+    Ok(())
+}
+
+fn push_rename(
+    out: &mut String,
+    words: &Words,
+    from: &NamePath,
+    to: &NamePath,
+) -> Result<(), NoMemory>
+    ensures ok { OnOk result (string_bytes out.new ≡ string_bytes out.old ++ (command_text (names_of words.now from.now) (work.Rename (names_of words.now to.now)) ++ codes "\n")) }
+{
+    push_path(out, "rename ", words, from)?;
+    push_path(out, " ", words, to)?;
+    out.push_str("\n")?;
     Ok(())
 }

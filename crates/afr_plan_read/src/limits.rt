@@ -22,6 +22,7 @@ fn is_work_beyond(work: &SpokenWork) -> bool
         SpokenWork::Read { at, len } => *at > limits::FILE || *len > limits::PIECE,
         SpokenWork::SetAttr { key, value } => is_long(key) || is_long(value),
         SpokenWork::GetAttr { key } => is_long(key),
+        SpokenWork::Rename { to } => is_path_beyond(to),
         SpokenWork::Create => false,
         SpokenWork::Mkdir => false,
         SpokenWork::Unlink => false,

@@ -82,7 +82,8 @@ fn after_bytes(word: &[u8]) -> bool
 {
     is_same(word, b"create")
         || (is_same(word, b"mkdir")
-            || (is_same(word, b"unlink") || (is_same(word, b"rmdir") || after_changes(word))))
+            || (is_same(word, b"unlink")
+                || (is_same(word, b"rmdir") || (is_same(word, b"rename") || after_changes(word)))))
 }
 
 fn after_command(word: &[u8]) -> bool

@@ -68,6 +68,7 @@ fn passes_work(before: &[Spoken], counts: &Counts, work: &SpokenWork) -> bool
         SpokenWork::Stat => false,
         SpokenWork::SetAttr { key: _, value: _ } => false,
         SpokenWork::GetAttr { key: _ } => false,
+        SpokenWork::Rename { to: _ } => false,
     }
 }
 
@@ -127,6 +128,7 @@ fn worked(counts: Counts, work: &SpokenWork) -> Counts
         SpokenWork::Stat => counts,
         SpokenWork::SetAttr { key: _, value: _ } => counts,
         SpokenWork::GetAttr { key: _ } => counts,
+        SpokenWork::Rename { to: _ } => counts,
     }
 }
 

@@ -106,7 +106,17 @@ impl<'t> WordTables<'t> {
             SpokenWork::Stat => Ok(Command::Stat { path }),
             SpokenWork::SetAttr { key, value } => self.set_attr(alloc, path, key, value),
             SpokenWork::GetAttr { key } => self.get_attr(alloc, path, key),
+            SpokenWork::Rename { to } => self.rename(alloc, path, to),
         }
+    }
+
+    /// The second path's names come after the first one's.
+    fn rename(&mut self, alloc: Global, from: NamePath, to: &[u8]) -> Result<Command, NoMemory>
+        ensures ok { IfOk result (λ command. command ≡ commands.Rename from (path_of self.old.names (names_in to.now))) }
+        ensures value { OnOk result (self.new ≡ record self.old { names = with_names self.old.names (names_in to.now) }) }
+    {
+        let to = self.path(alloc, to)?;
+        Ok(Command::Rename { from, to })
     }
 
     fn set_attr(

@@ -57,7 +57,8 @@ use Rattle.afr_walk.specs.Walk.{is_walking, next_in, next_at}
 use Rattle.afr_walk.specs.declared.walk.Walk.{Walk}
 use Rattle.afr_walk.specs.declared.walk.WalkStep.{WalkStep}
 use Rattle.afr_walk.specs.declared.walk.WalkStep.TheVariants.{Arrived, Looking, Naming, Stopped}
-use Rattle.afr_works.specs.Begin.{front, last, work_from}
+use Rattle.afr_rename.specs.Paths.{front, last}
+use Rattle.afr_works.specs.Begin.{work_from}
 use Rattle.afr_works.specs.Work.{IsWork, choices_of, heard_by, next_of}
 use Rattle.afr_works.specs.declared.work.Work.{Work}
 use Rattle.afr_works.specs.declared.work.Work.TheVariants.{Entry, Idle, Lookup, Write}

@@ -19,7 +19,7 @@ use Rattle.afr_object.specs.declared.change.Change.{Change}
 use Rattle.afr_plan.specs.declared.command.Command.{Command}
 use Rattle.afr_plan.specs.declared.plan.Plan.{Plan}
 use Rattle.afr_readings.specs.Picked.{PickedIn}
-use Rattle.afr_readings.specs.Readings.{Answers, asked_for}
+use Rattle.afr_readings.specs.Readings.{Answers, asked_for_command}
 use Rattle.afr_rule.specs.Choosing.{Calls}
 use Rattle.afr_rule.specs.declared.candidate.Candidate.{Candidate}
 use Rattle.afr_sources.specs.Sources.{picks_of}
@@ -54,7 +54,7 @@ KeptOf picked asked from b = (picked ≡ Some b) × (asked ≡ from)
 
 -- the copy that a work reads next is the one that was picked at the last look of its lines, of the good copies by these looks
 abbrev pub KeepsPicked : Plan → Command → Work → Lines → Option ℕ → Type 0
-KeepsPicked p c w lines picked = PickedIn (KeptOf picked (asked_for p c lines)) p w lines
+KeepsPicked p c w lines picked = PickedIn (KeptOf picked (asked_for_command p c lines)) p w lines
 
 -- before its first line a work reads by no copy
 abbrev pub ReadingBegins : Type 0
@@ -83,13 +83,13 @@ BeginKeepsPicked =
 abbrev pub LineReadsPicked : {F : Type 0} → Calls F → F → Type 0
 LineReadsPicked calls choose =
     (p : Plan) (c : Command) (w : Work) (a : ActorId) (b : BrickId) (request : Request) (told : Told) (took : Bool) (log : List Line) (kept : Option ℕ)
-    → IsWork w → WorkTells p c w (work a.0 log) → next_of (length log) w ≡ next.Ask b request → KeepsPicked p c w (work a.0 log) kept → Answers (picks_of calls choose) (asked_for p c (work a.0 log)) kept
+    → IsWork w → WorkTells p c w (work a.0 log) → next_of (length log) w ≡ next.Ask b request → KeepsPicked p c w (work a.0 log) kept → Answers (picks_of calls choose) (asked_for_command p c (work a.0 log)) kept
     → ReadsPicked (picks_of calls choose) p (Ask a b request told took) log
 
 abbrev pub EndReadsPicked : {F : Type 0} → Calls F → F → Type 0
 EndReadsPicked calls choose =
     (p : Plan) (c : Command) (w : Work) (a : ActorId) (said : Reply) (log : List Line) (kept : Option ℕ)
-    → IsWork w → WorkTells p c w (work a.0 log) → next_of (length log) w ≡ next.End said → KeepsPicked p c w (work a.0 log) kept → Answers (picks_of calls choose) (asked_for p c (work a.0 log)) kept
+    → IsWork w → WorkTells p c w (work a.0 log) → next_of (length log) w ≡ next.End said → KeepsPicked p c w (work a.0 log) kept → Answers (picks_of calls choose) (asked_for_command p c (work a.0 log)) kept
     → ReadsPicked (picks_of calls choose) p (End a said) log
 
 -- what the rule that is asked answers, it answers for what it is asked for by the lines; none, exactly where that is nothing
@@ -97,8 +97,8 @@ abbrev pub LineAsksRule : {F : Type 0} → Calls F → F → Type 0
 LineAsksRule calls choose =
     (p : Plan) (c : Command) (old : Work) (lines : Lines) (a : ActorId) (b : BrickId) (request : Request) (heard : Answer) (took : Bool) (log : List Line) (now : Option BrickId) (kept : Option ℕ)
     → IsWork old → WorkTells p c old lines → next_of (length log) old ≡ next.Ask b request → WorkHears old p b.0 request log heard → KeepsPicked p c old lines kept
-    → RuleAnswers calls choose (choices_heard (heard_of.Answer heard (length log)) old) now → Answers (picks_of calls choose) (asked_for p c lines) kept
-    → Answers (picks_of calls choose) (asked_for p c ((Ask a b request (told_by heard) took, log) ∷ lines)) (picked_then request now kept)
+    → RuleAnswers calls choose (choices_heard (heard_of.Answer heard (length log)) old) now → Answers (picks_of calls choose) (asked_for_command p c lines) kept
+    → Answers (picks_of calls choose) (asked_for_command p c ((Ask a b request (told_by heard) took, log) ∷ lines)) (picked_then request now kept)
 
 -- what a rule has answered it has picked of the copies, whatever rule it was
 abbrev pub AnswersOneOf : {F : Type 0} → Calls F → F → Type 0

@@ -33,7 +33,11 @@ use Rattle.afr_walk.specs.declared.walk.Walk.{Walk}
 use Rattle.afr_walk.specs.declared.walk.WalkStep.{WalkStep}
 use Rattle.afr_walk.specs.declared.walk.WalkStep.TheVariants.{Arrived, Looking, Naming, Stopped}
 use Rattle.afr_works.specs.declared.work.Work.{Work}
-use Rattle.afr_works.specs.declared.work.Work.TheVariants.{Idle, Lookup, Write, Entry}
+use Rattle.afr_model.specs.Parts.{the_make, the_removal}
+use Rattle.afr_rename.specs.declared.paths.Paths.{Paths}
+use Rattle.afr_rename.specs.declared.stage.RenameStage.{RenameStage}
+use Rattle.afr_rename.specs.declared.stage.RenameStage.TheVariants as renaming
+use Rattle.afr_works.specs.declared.work.Work.TheVariants.{Idle, Lookup, Write, Entry, Rename}
 
 -- the rule picked this brick by the last looks at an object
 abbrev pub PicksOf : Picks → Plan → Gfid → Kind → Lines → ℕ → Type 0
@@ -84,9 +88,18 @@ PickedEntry picks p (entering.Changing t found) w lines = PickedUnder picks p w.
 PickedEntry picks p (entering.Removes m) w lines = PickedAt picks p m.stage m lines
 PickedEntry picks p (entering.Ending said) w lines = PickedEnd picks p said lines
 
+-- a rename: its walks, and the read of each name under its lock
+abbrev pub PickedRename : Picks → Plan → RenameStage → Paths → Lines → Type 0
+PickedRename picks p renaming.Finding x lines = PickedWalk picks p x.first lines
+PickedRename picks p renaming.Walking x lines = PickedWalk picks p x.second (the_make x.first.path lines)
+PickedRename picks p (renaming.Making t found) x lines = PickedUnder picks p x.second.object.gfid t found (the_make x.first.path lines)
+PickedRename picks p (renaming.Removing t found) x lines = PickedUnder picks p x.dir t found (the_removal x.first.path lines)
+PickedRename picks p (renaming.Ending said) x lines = PickedEnd picks p said lines
+
 -- a client's present work
 abbrev pub PickedIn : Picks → Plan → Work → Lines → Type 0
 PickedIn picks p Idle lines = Unit {0}
 PickedIn picks p (Lookup m) lines = PickedRead picks p m.job m.stage m.walk lines
 PickedIn picks p (Write m) lines = PickedWrite picks p m.stage m.walk lines
 PickedIn picks p (Entry m) lines = PickedEntry picks p m.stage m.walk lines
+PickedIn picks p (Rename m) lines = PickedRename picks p m.stage m.paths lines

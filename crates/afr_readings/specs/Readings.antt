@@ -2,6 +2,7 @@
 use Rattle.std.specs.Prelude.{◌≡◌, ℕ, ◌==◌, ◌&&◌, not, nat_lt, Bool, false, List, [], ◌∷◌, Option, Some, None, filter, is_some, length, slice_get, if◌then◌else◌}
 use Rattle.afr_base.specs.Bricks.{added, all_five, below, is_nothing, member, minus}
 use Rattle.afr_base.specs.declared.ids.Gfid.{Gfid}
+use Rattle.afr_base.specs.declared.ids.NameId.{NameId}
 use Rattle.afr_base.specs.declared.ids.Kind.{Kind}
 use Rattle.afr_base.specs.declared.ids.Kind.TheVariants.{Names}
 use Rattle.afr_lines.specs.Work.{Work, ended, is_of, work}
@@ -13,10 +14,12 @@ use Rattle.afr_lines.specs.declared.request.Request.TheVariants as request
 use Rattle.afr_model.specs.Actors.{script_of}
 use Rattle.afr_model.specs.Chosen.{Picks, candidates_of}
 use Rattle.afr_model.specs.Commands.{area_on, change_on, kind_looked, path_of}
+use Rattle.afr_model.specs.Parts.{Part, Walks, Makes, Removes, part_at, the_walk, the_make, the_removal}
 use Rattle.afr_model.specs.Refusals.{refusal}
 use Rattle.afr_model.specs.Showing.{Path, At, among, has, locks, looked_by, looking, path_by}
 use Rattle.afr_model.specs.Standing.{getting, holding, place_by}
 use Rattle.afr_plan.specs.declared.command.Command.{Command}
+use Rattle.afr_plan.specs.declared.command.Command.TheVariants as command
 use Rattle.afr_plan.specs.declared.plan.Plan.{Plan}
 
 -- the lines of a client's latest work: the present one, or the one that has ended last
@@ -82,6 +85,22 @@ abbrev pub asked_for : Plan → Command → Work → List (ℕ × ℕ)
 asked_for p c [] = []
 asked_for p c (x ∷ w) = or_before (asked_by p c x.0 (x ∷ w)) (asked_for p c w)
 
+-- the same of a rename's lines, by the part to which this one belongs
+abbrev pub asked_by_part : Part → Plan → List NameId → List NameId → Line → Work → Option (List (ℕ × ℕ))
+asked_by_part Walks p from to line w = asked_by p (command.Stat from) line (the_walk from w)
+asked_by_part Makes p from to line w = asked_by p (command.Create to) line (the_make from w)
+asked_by_part Removes p from to line w = asked_by p (command.Unlink from) line (the_removal from w)
+
+-- what it was asked for at the last look of a rename's lines
+abbrev pub asked_for_rename : Plan → List NameId → List NameId → Work → List (ℕ × ℕ)
+asked_for_rename p from to [] = []
+asked_for_rename p from to (x ∷ w) = or_before (asked_by_part (part_at from x.0 w) p from to x.0 (x ∷ w)) (asked_for_rename p from to w)
+
+-- the same of any command's
+abbrev pub asked_for_command : Plan → Command → Work → List (ℕ × ℕ)
+asked_for_command p (command.Rename from to) w = asked_for_rename p from to w
+asked_for_command p c w = asked_for p c w
+
 -- the command of a client's latest work, whose newest line came after so many of its works had ended
 abbrev pub command_by : Plan → ℕ → Work → Option Command
 command_by p a [] = None
@@ -89,7 +108,7 @@ command_by p a (x ∷ w) = slice_get (script_of p a) (ended a x.1)
 
 abbrev pub asked_in : Plan → Option Command → Work → List (ℕ × ℕ)
 asked_in p None w = []
-asked_in p (Some c) w = asked_for p c w
+asked_in p (Some c) w = asked_for_command p c w
 
 -- what the rule was asked for at the last look of a client's latest work
 abbrev pub asked_of : Plan → ℕ → List Line → List (ℕ × ℕ)

@@ -27,7 +27,7 @@ use Rattle.afr_plan.specs.declared.command.Command.{Command}
 use Rattle.afr_plan.specs.declared.command.Command.TheVariants as command
 use Rattle.afr_plan.specs.declared.plan.Plan.{Plan}
 use Rattle.afr_model.specs.Answered.{Counts, IsAbout, IsAnswered, MayRead}
-use Rattle.afr_model.specs.Following.{KeepsTo}
+use Rattle.afr_model.specs.Keeping.{KeepsTo}
 use Rattle.afr_model.specs.Refusals.{by_list, or_else, refusal}
 use Rattle.afr_model.specs.Showing.{Path, Reading, among, applied_at, begins_attempt, begun_by, has, looked_by, path_by, prepared, preparing, reading_by, refuses_read}
 use Rattle.afr_model.specs.Standing.{area_here, getting, looks_here}

@@ -20,7 +20,7 @@ use Rattle.afr_object.specs.declared.change.Change.{Change}
 use Rattle.afr_plan.specs.declared.command.Command.TheVariants as command
 use Rattle.afr_plan.specs.declared.plan.Plan.{Plan}
 use Rattle.afr_model.specs.Answered.{IsAbout, IsAnswered}
-use Rattle.afr_model.specs.Following.{KeepsTo}
+use Rattle.afr_model.specs.Keeping.{KeepsTo}
 use Rattle.afr_model.specs.Showing.{NotAsked, among, has, reading_by, refuses_read}
 use Rattle.afr_model.specs.Standing.{asks_name, holding, up_to}
 use Rattle.afr_removal.specs.Removal.{Removing, answered, begun, next_at, removing}

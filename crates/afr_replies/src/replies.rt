@@ -27,6 +27,7 @@ pub fn push_reply(out: &mut String, words: &Words, reply: &Reply) -> Result<(), 
         Reply::SplitBrain(_) => push_word(out, "split-brain"),
         Reply::Failed => push_word(out, "failed"),
         Reply::TooLarge => push_word(out, "too-large"),
+        Reply::Half => push_word(out, "half"),
     }
 }
 

@@ -45,5 +45,6 @@ fn word(command: &Command) -> &'static str
         Command::Stat { .. } => "stat",
         Command::SetAttr { .. } => "setattr",
         Command::GetAttr { .. } => "getattr",
+        Command::Rename { .. } => "rename",
     }
 }

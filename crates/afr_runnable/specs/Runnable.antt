@@ -1,5 +1,5 @@
 -- The plans that the volume can run: three or five bricks, at most 16 clients and 3 healers, faults, events and orders.
-use Rattle.std.specs.Prelude.{◌≡◌, ◌⊎◌, ℕ, ◌+◌, ◌≤◌, ◌<◌, ◌^◌, List, length, nat_lt, Bool, true, false}
+use Rattle.std.specs.Prelude.{◌≡◌, ◌⊎◌, ℕ, ◌+◌, ◌&&◌, ◌≤◌, ◌<◌, ◌^◌, List, length, nat_lt, Bool, true, false}
 use Rattle.std.specs.List.{All}
 use Rattle.afr_base.specs.declared.ids.BrickId.{BrickId}
 use Rattle.afr_base.specs.declared.ids.NameId.{NameId}
@@ -7,7 +7,7 @@ use Rattle.afr_base.specs.declared.ids.Shape.{Shape}
 use Rattle.afr_lines.specs.declared.line.Event.{Event}
 use Rattle.afr_lines.specs.declared.line.Event.TheVariants as event
 use Rattle.afr_plan.specs.declared.command.Command.{Command}
-use Rattle.afr_plan.specs.declared.command.Command.TheVariants.{Create, Mkdir, Unlink, Rmdir}
+use Rattle.afr_plan.specs.declared.command.Command.TheVariants.{Create, Mkdir, Unlink, Rmdir, Rename}
 use Rattle.afr_plan.specs.declared.plan.Plan.{Plan}
 
 -- three bricks, of which the last may be an arbiter, or five that all keep bytes
@@ -18,12 +18,13 @@ IsRunnableShape shape = (shape.n ≡ 3) ⊎ ((shape.n ≡ 5) × (shape.arbiter �
 abbrev pub has_name : List NameId → Bool
 has_name path = nat_lt 0 (length path)
 
--- a command that makes a name or removes one says which
+-- a command that makes a name or removes one says which; a rename says both
 abbrev pub has_its_name : Command → Bool
 has_its_name (Create path) = has_name path
 has_its_name (Mkdir path) = has_name path
 has_its_name (Unlink path) = has_name path
 has_its_name (Rmdir path) = has_name path
+has_its_name (Rename from to) = has_name from && has_name to
 has_its_name command = true
 
 -- a script of at most 16,384 commands, each of which has the name that it needs

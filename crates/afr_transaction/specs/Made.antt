@@ -1,8 +1,8 @@
 -- What a transaction carries to the bricks: its change with the number that its Begin line gave.
-use Rattle.std.specs.Prelude.{◌≡◌, ℕ, ◌+◌, Option, Some, None}
+use Rattle.std.specs.Prelude.{◌≡◌, ℕ, Option, Some, None}
 use Rattle.afr_object.specs.declared.change.Change.{Change}
 use Rattle.afr_object.specs.declared.change.Change.TheVariants.{Make}
-use Rattle.afr_transaction.specs.Progress.{Progress, number_in, numbered}
+use Rattle.afr_transaction.specs.Progress.{Progress, gfid_at, number_in, numbered}
 use Rattle.afr_transaction.specs.Sound.{Sound}
 use Rattle.afr_transaction.specs.declared.stage.Stage.{Stage}
 use Rattle.afr_transaction.specs.declared.stage.Stage.TheVariants.{Preparing, Applying}
@@ -13,7 +13,7 @@ attempted m = numbered (number_in m.register.begun) m.change
 
 -- the same of a change that makes an object, in an attempt with this number
 abbrev pub made_by : Option ℕ → Change → Option Change
-made_by (Some at) (Make dir name g what) = Some (Make dir name (record { 0 = at + 2 }) what)
+made_by (Some at) (Make dir name g what) = Some (Make dir name (gfid_at at g) what)
 made_by number change = None
 
 -- it is kept from the Begin line until the bricks have been asked for the operation

@@ -1,7 +1,8 @@
 -- How far a transaction is, what it asks next, and what an answer leaves of it.
-use Rattle.std.specs.Prelude.{◌≡◌, ℕ, ◌+◌, not, ◌&&◌, nat_lt, Bool, true, false, List, [], Option, Some, None, if◌then◌else◌}
+use Rattle.std.specs.Prelude.{◌≡◌, ℕ, ◌+◌, ◌==◌, not, ◌&&◌, nat_lt, Bool, true, false, List, [], Option, Some, None, if◌then◌else◌}
 use Rattle.afr_base.specs.Bricks.{added, added_if, below, lowest, member, minus, is_nothing}
 use Rattle.afr_base.specs.Majority.{is_majority}
+use Rattle.afr_base.specs.declared.ids.Gfid.{Gfid}
 use Rattle.afr_base.specs.declared.ids.Kind.{Kind}
 use Rattle.afr_object.specs.Tables.{object_of}
 use Rattle.afr_object.specs.declared.change.Change.{Change}
@@ -45,12 +46,16 @@ abbrev pub number_in : Option ℕ → ℕ
 number_in None = 0
 number_in (Some q) = q
 
+-- an object that has a number keeps it; a new one, which has the number 0 until then, takes it from its position
+abbrev pub gfid_at : ℕ → Gfid → Gfid
+gfid_at at g = if g.0 == 0 then record { 0 = at + 2 } else g
+
 -- the change of a Begin line at this position: a new object takes its number from there
 abbrev pub numbered : ℕ → Change → Change
 numbered at (Write g start bytes) = Write g start bytes
 numbered at (Cut g len) = Cut g len
 numbered at (SetAttr g key value) = SetAttr g key value
-numbered at (Make dir name g what) = Make dir name (record { 0 = at + 2 }) what
+numbered at (Make dir name g what) = Make dir name (gfid_at at g) what
 numbered at (Remove dir name what) = Remove dir name what
 
 -- the bricks that are still to be asked: for the lock, for a view, for pre-op where there is a copy, for the operation

@@ -3,7 +3,7 @@ ghost use Rattle.std.specs.Prelude.{◌≡◌, ◌<◌, ◌+◌, ◌-◌, ◌^�
 ghost use Rattle.afr_lines.specs.Areas.{area_for, kind_for};
 ghost use Rattle.afr_object.specs.Tables.{object_of};
 ghost use Rattle.afr_transaction.specs.Made.{made_by};
-ghost use Rattle.afr_transaction.specs.Progress.{numbered};
+ghost use Rattle.afr_transaction.specs.Progress.{gfid_at, numbered};
 ghost use Rattle.afr_transaction.specs.Sound.{Suits};
 
 use afr_base::{FIRST_ATTRIBUTE, Gfid, Kind, NameId, NoMemory, What};
@@ -90,7 +90,8 @@ pub fn object_of(change: &Change) -> Gfid
     }
 }
 
-/// The change as the Begin line at this position has it: a new object gets the position and 2 as its number.
+/// The change as the Begin line at this position has it: a new object, which has the number 0 until then, gets the position
+/// and 2 as its number.
 pub(crate) fn numbered(change: &Change, at: u32) -> Result<Change, NoMemory>
     ensures { IfOk result (λ copy. copy ≡ numbered at change.now) }
 {
@@ -98,9 +99,9 @@ pub(crate) fn numbered(change: &Change, at: u32) -> Result<Change, NoMemory>
         Change::Make {
             dir,
             name,
-            gfid: _,
+            gfid,
             what,
-        } => Ok(making(*dir, *name, *what, at)),
+        } => Ok(making(*dir, *name, *gfid, *what, at)),
         Change::Write { .. } => change.copy(),
         Change::Cut { .. } => change.copy(),
         Change::SetAttr { .. } => change.copy(),
@@ -116,9 +117,9 @@ pub(crate) fn made_by(change: &Change, at: u32) -> Option<Change>
         Change::Make {
             dir,
             name,
-            gfid: _,
+            gfid,
             what,
-        } => Some(making(*dir, *name, *what, at)),
+        } => Some(making(*dir, *name, *gfid, *what, at)),
         Change::Write { .. } => None,
         Change::Cut { .. } => None,
         Change::SetAttr { .. } => None,
@@ -126,13 +127,23 @@ pub(crate) fn made_by(change: &Change, at: u32) -> Option<Change>
     }
 }
 
-fn making(dir: Gfid, name: NameId, what: What, at: u32) -> Change
-    ensures { result ≡ Change.Make dir name (record { 0 = at + 2 }) what }
+fn making(dir: Gfid, name: NameId, gfid: Gfid, what: What, at: u32) -> Change
+    ensures { result ≡ Change.Make dir name (gfid_at at gfid) what }
 {
     Change::Make {
         dir,
         name,
-        gfid: Gfid(u128::from(at) + 2),
+        gfid: gfid_at(gfid, at),
         what,
+    }
+}
+
+fn gfid_at(gfid: Gfid, at: u32) -> Gfid
+    ensures { result ≡ gfid_at at gfid }
+{
+    if gfid.0 == 0 {
+        Gfid(u128::from(at) + 2)
+    } else {
+        gfid
     }
 }

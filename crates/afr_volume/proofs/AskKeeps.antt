@@ -24,7 +24,8 @@ use Rattle.afr_lines.specs.declared.request.Request.{Request}
 use Rattle.afr_lines.specs.declared.request.Request.TheVariants as request
 use Rattle.afr_model.specs.Actors.{script_of}
 use Rattle.afr_model.specs.Answered.{IsAbout}
-use Rattle.afr_model.specs.Following.{KeepsTo, ToCommand}
+use Rattle.afr_model.specs.Following.{ToCommand}
+use Rattle.afr_model.specs.Keeping.{KeepsTo}
 use Rattle.afr_model.specs.Honest.{IsHonest, Outcome, answer_by, copy_answer, over_session}
 use Rattle.afr_model.specs.Tables.{held_before, holds}
 use Rattle.afr_object.specs.Tables.{copy_at, view_of}

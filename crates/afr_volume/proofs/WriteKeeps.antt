@@ -18,7 +18,8 @@ use Rattle.afr_lines.specs.declared.line.Next.TheVariants as next
 use Rattle.afr_lines.specs.declared.reply.Reply.{Reply}
 use Rattle.afr_model.specs.Actors.{script_of}
 use Rattle.afr_model.specs.Answered.{IsAbout, IsAnswered}
-use Rattle.afr_model.specs.Following.{KeepsTo, ToCommand}
+use Rattle.afr_model.specs.Following.{ToCommand}
+use Rattle.afr_model.specs.Keeping.{KeepsTo}
 use Rattle.afr_moves.specs.Ranges.{InRange}
 use Rattle.afr_object.specs.declared.change.Change.{Change}
 use Rattle.afr_object.specs.declared.change.Change.TheVariants as change_of

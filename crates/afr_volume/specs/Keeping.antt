@@ -17,6 +17,7 @@ use Rattle.afr_plan.specs.declared.schedule.Go.{Go}
 use Rattle.afr_plan.specs.declared.schedule.PlannedEvent.{PlannedEvent}
 use Rattle.afr_model.specs.Actors.{IsActor, rounds_of, script_of}
 use Rattle.afr_model.specs.Blamed.{AreBlamed}
+use Rattle.afr_model.specs.Kept.{AreKept}
 use Rattle.afr_model.specs.Following.{Follows}
 use Rattle.afr_model.specs.Honest.{Honest}
 use Rattle.afr_model.specs.Replied.{Replied}
@@ -116,6 +117,7 @@ pub record IsVolume (p : Plan) (log : List Line) (servers : List Serving) (actor
   pub lawful : IsLawfulExactly p log
   pub replied : Replied p log
   pub blamed : AreBlamed p log
+  pub names : AreKept p log
   pub gives : EachLine GivesHealLock log
 
 -- healers are what their lines say

@@ -6,6 +6,7 @@ use Rattle.afr_next.specs.Ended.{AllowedMayEnd}
 use Rattle.afr_next.specs.Happened.{EventKeepsAll}
 use Rattle.afr_next.specs.Ready.{NextIsReady}
 use Rattle.afr_entry_hears.specs.EntryHears.{EntryBrings, EntryHears, EntryMakesNew}
+use Rattle.afr_rename_hears.specs.RenameHears.{RenameBrings, RenameHears, RenameMakesKnown}
 use Rattle.afr_hears.specs.Hears.{LookupBrings, LookupHears, WriteBrings, WriteHears, WriteMakesNothing}
 use Rattle.afr_readings.specs.Laws.{AnswersOneOf, BeginKeepsPicked, EndReadsPicked, LineAsksRule, LineKeepsPicked, LineReadsPicked, ReadingBegins}
 use Rattle.afr_rounds.specs.Laws.{CanStepNext, LineKeepsRound, OthersStay, RoundsBegin, RoundsEnd}
@@ -13,7 +14,7 @@ use Rattle.afr_rule.specs.Choosing.{Calls}
 use Rattle.afr_servers.specs.Needs.{AnswersAreRead, NeedsAreMet}
 use Rattle.afr_servers.specs.NextLine.{AskedAreServed, EventAreServed, FirstAreServed, MetAreServed, WrittenAreServed}
 use Rattle.afr_works.specs.Laws.{AllowedNext, AsksLow, AsksMore, BeginsFresh, BeginsMore, BeginsWithFive, KeepsFive, KeepsFiveBegun, NotesBegin, NotesEach, StaysOutside, StaysSound}
-use Rattle.afr_works_tell.specs.WorkLaws.{BlamedLines, WorkAbout, WorkBegins, WorkBegun, WorkEnds, WorkTellsMore}
+use Rattle.afr_works_tell.specs.WorkLaws.{BlamedLines, WorkAbout, WorkBegins, WorkBegun, WorkEnds, WorkKeepsName, WorkTellsMore}
 
 -- the register in force at a line, and what it allows
 pub record NextLaws : Type 0 where
@@ -46,6 +47,7 @@ pub record TellingLaws : Type 0 where
   pub about : WorkAbout
   pub blamed : BlamedLines
   pub ends : WorkEnds
+  pub names : WorkKeepsName
   pub lookup_hears : LookupHears
   pub write_hears : WriteHears
   pub lookup_brings : LookupBrings
@@ -54,6 +56,9 @@ pub record TellingLaws : Type 0 where
   pub entry_hears : EntryHears
   pub entry_brings : EntryBrings
   pub makes_new : EntryMakesNew
+  pub rename_hears : RenameHears
+  pub rename_brings : RenameBrings
+  pub rename_known : RenameMakesKnown
 
 -- by which copy it reads
 pub record ReadingLaws : Type 0 where

@@ -9,6 +9,7 @@ use Rattle.afr_lines.specs.declared.line.Line.{Line}
 use Rattle.afr_lines.specs.Log.{EachLine, EveryPrefix}
 use Rattle.afr_missed.specs.Missed.{AreAllMissed, HaveCausesSince}
 use Rattle.afr_model.specs.Blamed.{AreBlamed}
+use Rattle.afr_model.specs.Kept.{AreKept}
 use Rattle.afr_model.specs.Following.{Follows}
 use Rattle.afr_model.specs.Honest.{Honest}
 use Rattle.afr_model.specs.Replied.{Replied}
@@ -25,13 +26,15 @@ use Rattle.afr_volume.specs.State.{IsChosen, State}
 -- accusation has its cause, every good copy of every majority is current at every prefix, reads answer current values, and
 -- quiet rounds did all that they say. Where a change was acknowledged, a majority has what it or a later one left, in a
 -- split-brain too; a split-brain needs that each of its copies missed something, and where attempts come one at a time a
--- whole copy is left in it; a change that enough bricks didn't fail is acknowledged
+-- whole copy is left in it; a change that enough bricks didn't fail is acknowledged; and
+-- a file's old name was never given up before its new one was stored at a majority
 pub record IsRight (p : Plan) (log : List Line) : Type 0 where
   pub follows : Follows p log
   pub honest : Honest p log
   pub lawful : IsLawfulExactly p log
   pub replied : Replied p log
   pub blamed : AreBlamed p log
+  pub names : AreKept p log
   pub safe : IsAlwaysSafe p log
   pub fresh : AreFresh p log
   pub causes : EveryPrefix (HaveCauses p) log

@@ -6,6 +6,7 @@ ghost use Rattle.afr_volume.specs.Laws.{BeginLaws, EventLaws, Laws, RoundLaws, R
 use afr_entry_hears::a_client_hears_of_its_names;
 use afr_hears::a_client_hears_what_it_asked;
 use afr_next::the_next_line_is_lawful;
+use afr_rename_hears::a_client_hears_of_its_renames;
 use afr_readings::{a_work_asks_the_rule, a_work_reads_what_was_picked};
 use afr_rounds::a_healer_keeps_its_round;
 use afr_rule::{Candidate, ReadRule};
@@ -31,6 +32,7 @@ pub(crate) fn laws()
     a_work_reads_what_was_picked();
     a_client_hears_what_it_asked();
     a_client_hears_of_its_names();
+    a_client_hears_of_its_renames();
     servers_follow_their_log();
     a_healer_keeps_its_round();
 }

@@ -15,10 +15,12 @@ use Rattle.afr_pace.proofs.Order.{Rises}
 use Rattle.afr_pace.specs.Left as transaction
 use Rattle.afr_plan.specs.declared.command.Command.{Command}
 use Rattle.afr_removal_order.specs.Queue as removal
+use Rattle.afr_rename.specs.declared.stage.RenameStage.TheVariants as renaming
+use Rattle.afr_rename.specs.declared.stage.RenameStage.{RenameStage}
 use Rattle.afr_walk.specs.Choosing.{IsAmong}
 use Rattle.afr_works.specs.Begin.{work_from}
 use Rattle.afr_works.specs.Work.{IsWork, choices_of, heard_by, next_of}
-use Rattle.afr_works.specs.declared.work.Work.TheVariants.{Entry, Idle, Lookup, Write}
+use Rattle.afr_works.specs.declared.work.Work.TheVariants.{Entry, Idle, Lookup, Rename, Write}
 use Rattle.afr_works.specs.declared.work.Work.{Work}
 
 -- a write: of two bricks its transaction asked the lower one first
@@ -32,12 +34,19 @@ IsQueuedEntry (entering.Changing t found) = transaction.IsQueued t.stage t × Ri
 IsQueuedEntry (entering.Removes m) = removal.IsQueued m.stage m
 IsQueuedEntry stage = Unit {0}
 
+-- a rename: so did each of its transactions
+abbrev pub IsQueuedRename : RenameStage → Type 0
+IsQueuedRename (renaming.Making t found) = transaction.IsQueued t.stage t
+IsQueuedRename (renaming.Removing t found) = transaction.IsQueued t.stage t
+IsQueuedRename stage = Unit {0}
+
 -- of two bricks a work asked the lower one first, for each lock that it takes
 abbrev pub IsQueued : Work → Type 0
 IsQueued Idle = Unit {0}
 IsQueued (Lookup m) = Unit {0}
 IsQueued (Write m) = IsQueuedWrite m.stage
 IsQueued (Entry m) = IsQueuedEntry m.stage
+IsQueued (Rename m) = IsQueuedRename m.stage
 
 -- the work of a command begins so
 abbrev pub WorkBeginsQueued : Type 0

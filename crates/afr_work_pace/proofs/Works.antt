@@ -54,7 +54,8 @@ use Rattle.afr_transaction.specs.declared.stage.Stage.{Stage}
 use Rattle.afr_walk.specs.Choosing.{IsAmong}
 use Rattle.afr_work_pace.proofs.Asking.{AskedAt, asked_at, by_stage, counts_one, removal_asked_at}
 use Rattle.afr_work_pace.specs.Left.{FitsUnlock, WorkBeginsNearer, WorkComesNearer, WorkKeepsEnd, WorkStartsWithin, work_left}
-use Rattle.afr_works.specs.Begin.{front, last, work_from}
+use Rattle.afr_rename.specs.Paths.{front, last}
+use Rattle.afr_works.specs.Begin.{work_from}
 use Rattle.afr_works.specs.declared.work.Work.TheVariants.{Entry, Idle, Lookup, Write}
 
 -- what a line takes and what it counts

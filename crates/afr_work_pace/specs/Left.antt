@@ -21,7 +21,8 @@ use Rattle.afr_plan.specs.declared.command.Command.{Command}
 use Rattle.afr_walk.specs.Choosing.{IsAmong}
 use Rattle.afr_works.specs.Begin.{work_from}
 use Rattle.afr_works.specs.Work.{IsBusy, IsWork, choices_of, heard_by, next_of}
-use Rattle.afr_works.specs.declared.work.Work.TheVariants.{Entry, Idle, Lookup, Write}
+use Rattle.afr_rename_pace.specs.Renames.{rename_left}
+use Rattle.afr_works.specs.declared.work.Work.TheVariants.{Entry, Idle, Lookup, Rename, Write}
 use Rattle.afr_works.specs.declared.work.Work.{Work}
 
 -- the lines that a work has left, its end among them
@@ -30,6 +31,7 @@ work_left Idle = 0
 work_left (Lookup m) = read_left m
 work_left (Write m) = write_left m
 work_left (Entry m) = entry_left m
+work_left (Rename m) = rename_left m
 
 -- the answers that an unlock may get
 abbrev pub FitsUnlock : Request → Told → Type 0

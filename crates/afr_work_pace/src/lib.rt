@@ -4,6 +4,7 @@
 ghost use Rattle.afr_work_pace.specs.Left.{WorkBeginsNearer, WorkComesNearer, WorkKeepsEnd, WorkStartsWithin};
 
 use afr_entry_pace::an_entry_comes_nearer;
+use afr_rename_pace::a_rename_comes_nearer;
 
 /// Whatever command it is and whatever the bricks answer: each line of a work takes what it counts in the log from the lines
 /// that the work has left, and the work of a command begins within the cost of that command.
@@ -14,4 +15,5 @@ pub fn a_work_comes_nearer()
     ensures start { WorkStartsWithin }
 {
     an_entry_comes_nearer();
+    a_rename_comes_nearer();
 }

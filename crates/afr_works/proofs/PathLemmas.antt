@@ -4,7 +4,8 @@ use Rattle.std.proofs.Math.Seq.{take-length}
 use Rattle.std.proofs.lemmas.Bool.Decides.{nat_tests}
 use Rattle.std.proofs.lemmas.List.{take_more}
 use Rattle.afr_base.specs.declared.ids.NameId.{NameId}
-use Rattle.afr_works.specs.Begin.{front, has_name, last}
+use Rattle.afr_rename.specs.Paths.{front, last}
+use Rattle.afr_works.specs.Begin.{has_name}
 
 some_names : (n : ℕ) → nat_lt 0 n ≡ true → 0 < n
 some_names n h = grind (arith, nat_tests, h)

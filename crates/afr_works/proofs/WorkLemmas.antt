@@ -65,7 +65,7 @@ use Rattle.afr_inode_write.specs.declared.stage.WriteStage.{WriteStage}
 use Rattle.afr_inode_write.specs.declared.stage.WriteStage.TheVariants as writing
 use Rattle.afr_inode_write.proofs.WriteLemmas as write_lemmas
 use Rattle.afr_works.specs.Laws.{AllowedNext, AsksLow, AsksMore, BeginsFresh, BeginsMore, FedIsAnswered, HasFew, NotesBegin, NotesEach, StaysOutside, StaysSound}
-use Rattle.afr_works.specs.Begin.{front, last}
+use Rattle.afr_rename.specs.Paths.{front, last}
 use Rattle.afr_works.specs.Work.{choices_heard, idle_register, register_of}
 use Rattle.afr_works.specs.declared.work.Work.TheVariants.{Idle, Lookup, Write, Entry}
 

@@ -1,5 +1,5 @@
 -- The work that a command begins.
-use Rattle.std.specs.Prelude.{◌-◌, nat_lt, Bool, true, false, List, length, take, slice_index_or}
+use Rattle.std.specs.Prelude.{◌&&◌, nat_lt, Bool, true, false, List, length}
 use Rattle.afr_base.specs.declared.ids.NameId.{NameId}
 use Rattle.afr_base.specs.declared.ids.Shape.{Shape}
 use Rattle.afr_plan.specs.declared.command.Command.{Command}
@@ -10,20 +10,14 @@ use Rattle.afr_inode_read.specs.Lookup.{lookup_from}
 use Rattle.afr_inode_read.specs.declared.job.LookupJob.TheVariants.{Read, GetAttr, Ls, Stat}
 use Rattle.afr_inode_write.specs.Write.{write_from}
 use Rattle.afr_inode_write.specs.declared.job.WriteJob.TheVariants as job
+use Rattle.afr_rename.specs.Paths.{front, last}
+use Rattle.afr_rename.specs.Rename.{rename_from}
 use Rattle.afr_works.specs.declared.work.Work.{Work}
-use Rattle.afr_works.specs.declared.work.Work.TheVariants.{Lookup, Write, Entry}
+use Rattle.afr_works.specs.declared.work.Work.TheVariants.{Lookup, Write, Entry, Rename}
 
 -- a path has a name
 abbrev pub has_name : List NameId → Bool
 has_name path = nat_lt 0 (length path)
-
--- the names before its last one
-abbrev pub front : List NameId → List NameId
-front path = take (length path - 1) path
-
--- its last name
-abbrev pub last : List NameId → NameId
-last path = slice_index_or path (length path - 1) (record { 0 = 0 })
 
 -- a command on the last name of its path
 abbrev pub is_on_name : Command → Bool
@@ -33,12 +27,13 @@ is_on_name (command.Unlink path) = true
 is_on_name (command.Rmdir path) = true
 is_on_name other = false
 
--- a machine carries out each command; one on the last name of a path needs that name
+-- a machine carries out each command; one on the last name of a path needs that name, and a rename both of its last names
 abbrev pub has_machine : Command → Bool
 has_machine (command.Create path) = has_name path
 has_machine (command.Mkdir path) = has_name path
 has_machine (command.Unlink path) = has_name path
 has_machine (command.Rmdir path) = has_name path
+has_machine (command.Rename from to) = has_name from && has_name to
 has_machine other = true
 
 -- the work of a command that begins
@@ -54,3 +49,4 @@ work_from shape (command.Create path) = Entry (entry_from shape (front path) (na
 work_from shape (command.Mkdir path) = Entry (entry_from shape (front path) (name.Mkdir (last path)))
 work_from shape (command.Unlink path) = Entry (entry_from shape (front path) (name.Unlink (last path)))
 work_from shape (command.Rmdir path) = Entry (entry_from shape (front path) (name.Rmdir (last path)))
+work_from shape (command.Rename from to) = Rename (rename_from shape from to)

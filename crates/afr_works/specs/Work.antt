@@ -17,8 +17,9 @@ use Rattle.afr_walk.specs.Choosing.{IsAmong, RuleAnswers, reader_of}
 use Rattle.afr_entry.specs.Entry as entry
 use Rattle.afr_inode_read.specs.Lookup as lookup
 use Rattle.afr_inode_write.specs.Write as write
+use Rattle.afr_rename.specs.Rename as rename
 use Rattle.afr_works.specs.declared.work.Work.{Work}
-use Rattle.afr_works.specs.declared.work.Work.TheVariants.{Idle, Lookup, Write, Entry}
+use Rattle.afr_works.specs.declared.work.Work.TheVariants.{Idle, Lookup, Write, Entry, Rename}
 
 -- no command has begun
 abbrev pub is_idle : Work → Bool
@@ -36,6 +37,7 @@ IsWork Idle = Unit {0}
 IsWork (Lookup m) = lookup.IsLookup m.walk m.stage
 IsWork (Write m) = write.IsWrite m.walk m.stage
 IsWork (Entry m) = entry.IsEntry m.walk m.job m.stage
+IsWork (Rename m) = rename.IsRename m.paths m.stage
 
 -- whether no request and no attempt is left
 abbrev pub is_over : Work → Bool
@@ -43,6 +45,7 @@ is_over Idle = true
 is_over (Lookup m) = not (lookup.is_asking m.stage)
 is_over (Write m) = write.is_over m.stage
 is_over (Entry m) = entry.is_over m.stage
+is_over (Rename m) = rename.is_over m.stage
 
 -- the next line, if it is written at this position
 abbrev pub next_of : ℕ → Work → Next
@@ -50,6 +53,7 @@ next_of at Idle = next.End Failed
 next_of at (Lookup m) = lookup.next_of m
 next_of at (Write m) = write.next_of at m
 next_of at (Entry m) = entry.next_of at m
+next_of at (Rename m) = rename.next_of at m
 
 -- the register of a client that has no work is that of no lines, in a volume of one brick
 abbrev pub idle_register : Register
@@ -61,6 +65,7 @@ register_of Idle = idle_register
 register_of (Lookup m) = m.walk.register
 register_of (Write m) = write.register_of m
 register_of (Entry m) = entry.register_of m
+register_of (Rename m) = rename.register_of m
 
 -- the contents that go with the next request
 abbrev pub CarriesNext : Work → Load → Type 0
@@ -68,6 +73,7 @@ CarriesNext Idle carried = carried ≡ load.Nothing
 CarriesNext (Lookup m) carried = carried ≡ load.Nothing
 CarriesNext (Write m) carried = write.CarriesNext m.stage carried
 CarriesNext (Entry m) carried = entry.CarriesNext m.stage carried
+CarriesNext (Rename m) carried = rename.CarriesNext m.stage carried
 
 -- what the rule is asked for by what is heard: the good copies of what is read next, where it ends the looks, and else nothing
 abbrev pub choices_heard : Heard → Work → List Candidate
@@ -75,6 +81,7 @@ choices_heard of Idle = []
 choices_heard of (Lookup m) = lookup.choices_heard of m
 choices_heard of (Write m) = write.choices_heard of m
 choices_heard of (Entry m) = entry.choices_heard of m
+choices_heard of (Rename m) = rename.choices_heard of m
 
 -- the same by an answer at this position
 abbrev pub choices_of : Answer → ℕ → Work → List Candidate
@@ -86,6 +93,7 @@ heard_by chosen of Idle = Idle
 heard_by chosen of (Lookup m) = Lookup (lookup.heard_by chosen of m)
 heard_by chosen of (Write m) = Write (write.heard_by chosen of m)
 heard_by chosen of (Entry m) = Entry (entry.heard_by chosen of m)
+heard_by chosen of (Rename m) = Rename (rename.heard_by chosen of m)
 
 -- the work has heard this: the rule was asked where there was anything to choose from, and its copy is the one that is read
 pub record IsFed {F : Type 0} (calls : Calls F) (choose : F) (of : Heard) (old new : Work) : Type 0 where

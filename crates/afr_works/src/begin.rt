@@ -3,7 +3,9 @@ ghost use Rattle.std.specs.Prelude.{◌≡◌, ◌<◌, ◌≤◌, IfOk, true};
 ghost use Rattle.afr_entry.specs.Entry.{entry_from};
 ghost use Rattle.afr_inode_read.specs.Lookup.{lookup_from};
 ghost use Rattle.afr_inode_write.specs.Write.{write_from};
-ghost use Rattle.afr_works.specs.Begin.{front, has_machine, has_name, is_on_name, last, work_from};
+ghost use Rattle.afr_rename.specs.Rename.{rename_from};
+ghost use Rattle.afr_rename.specs.Paths.{front, last};
+ghost use Rattle.afr_works.specs.Begin.{has_machine, has_name, is_on_name, work_from};
 ghost use Rattle.afr_works.specs.Work.{IsWork};
 
 use crate::on_heap::OnHeap;
@@ -14,9 +16,11 @@ use afr_inode_read::{LookupJob, LookupMachine};
 use afr_inode_write::{WriteJob, WriteMachine};
 use afr_object::{Chunk, TryCopy};
 use afr_plan::{Command, NamePath};
+use afr_rename::RenameMachine;
 use std::alloc::Global;
 
-/// Whether a command is carried out by a machine: all but a command on the last name of a path that has no name.
+/// Whether a command is carried out by a machine: all but a command on the last name of a path that has no name, which a rename
+/// is on both its paths.
 pub fn has_machine(command: &Command) -> bool
     ensures { result ≡ has_machine command.now }
 {
@@ -25,6 +29,7 @@ pub fn has_machine(command: &Command) -> bool
         Command::Mkdir { path } => has_name(path),
         Command::Unlink { path } => has_name(path),
         Command::Rmdir { path } => has_name(path),
+        Command::Rename { from, to } => has_name(from) && has_name(to),
         _ => true,
     }
 }
@@ -63,6 +68,7 @@ pub fn work_for(alloc: Global, shape: Shape, command: &Command) -> Result<Work, 
         }
         Command::Ls { path } => reads(alloc, shape, path, LookupJob::Ls),
         Command::Stat { path } => reads(alloc, shape, path, LookupJob::Stat),
+        Command::Rename { from, to } => renames(alloc, shape, from, to),
         _ => on_name(alloc, shape, command),
     }
 }
@@ -163,6 +169,27 @@ fn enters(alloc: Global, shape: Shape, path: &NamePath, job: EntryJob) -> Result
             machine.stays_sound();
             match OnHeap::new(alloc, machine) {
                 Ok(machine) => Ok(Work::Entry(machine)),
+                Err(_) => Err(NoMemory),
+            }
+        }
+        Err(_) => Err(NoMemory),
+    }
+}
+
+/// Each path has a name.
+fn renames(alloc: Global, shape: Shape, from: &NamePath, to: &NamePath) -> Result<Work, NoMemory>
+    requires few { shape.n ≤ 5 }
+    requires some { 0 < shape.n }
+    requires old { has_name from.now ≡ true }
+    requires new { has_name to.now ≡ true }
+    ensures ok { IfOk result (λ work. work ≡ Work.Rename (rename_from shape from.now to.now)) }
+    ensures sound { IfOk result (λ work. IsWork work) }
+{
+    match RenameMachine::new(alloc, shape, from.as_slice(), to.as_slice()) {
+        Ok(machine) => {
+            machine.stays_sound();
+            match OnHeap::new(alloc, machine) {
+                Ok(machine) => Ok(Work::Rename(machine)),
                 Err(_) => Err(NoMemory),
             }
         }

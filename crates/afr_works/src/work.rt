@@ -14,6 +14,7 @@ use afr_inode_read::LookupMachine;
 use afr_inode_write::WriteMachine;
 use afr_lines::{Answer, Heard, Next, Request};
 use afr_object::Load;
+use afr_rename::RenameMachine;
 use afr_rule::shipped::first;
 use afr_rule::{Candidate, ReadRule};
 
@@ -25,6 +26,7 @@ pub enum Work {
     Lookup(OnHeap<LookupMachine>),
     Write(OnHeap<WriteMachine>),
     Entry(OnHeap<EntryMachine>),
+    Rename(OnHeap<RenameMachine>),
 }
 
 impl Work {
@@ -44,6 +46,7 @@ impl Work {
             Work::Lookup(machine) => machine.value.is_over(),
             Work::Write(machine) => machine.value.is_over(),
             Work::Entry(machine) => machine.value.is_over(),
+            Work::Rename(machine) => machine.value.is_over(),
         }
     }
 
@@ -58,6 +61,7 @@ impl Work {
             Work::Lookup(machine) => machine.value.next(at),
             Work::Write(machine) => machine.value.next(at),
             Work::Entry(machine) => machine.value.next(at),
+            Work::Rename(machine) => machine.value.next(at),
         }
     }
 
@@ -73,6 +77,7 @@ impl Work {
             Work::Lookup(machine) => machine.value.asks(at, request),
             Work::Write(machine) => machine.value.asks(at, request),
             Work::Entry(machine) => machine.value.asks(at, request),
+            Work::Rename(machine) => machine.value.asks(at, request),
         }
     }
 
@@ -85,6 +90,7 @@ impl Work {
             Work::Lookup(machine) => machine.value.load(),
             Work::Write(machine) => machine.value.load(),
             Work::Entry(machine) => machine.value.load(),
+            Work::Rename(machine) => machine.value.load(),
         }
     }
 
@@ -110,6 +116,7 @@ impl Work {
             Work::Lookup(machine) => machine.value.hear(brick, request, answer, at, rule),
             Work::Write(machine) => machine.value.hear(brick, request, answer, at, rule),
             Work::Entry(machine) => machine.value.hear(brick, request, answer, at, rule),
+            Work::Rename(machine) => machine.value.hear(brick, request, answer, at, rule),
         };
         self.stays_sound();
         picked
@@ -127,6 +134,7 @@ impl Work {
             Work::Lookup(machine) => machine.value.feed(Heard::Begun(at), &rule),
             Work::Write(machine) => machine.value.feed(Heard::Begun(at), &rule),
             Work::Entry(machine) => machine.value.feed(Heard::Begun(at), &rule),
+            Work::Rename(machine) => machine.value.feed(Heard::Begun(at), &rule),
         }
         self.stays_sound();
     }
@@ -141,6 +149,7 @@ impl Work {
             Work::Lookup(machine) => machine.value.register(),
             Work::Write(machine) => machine.value.register(),
             Work::Entry(machine) => machine.value.register(),
+            Work::Rename(machine) => machine.value.register(),
         }
     }
 
@@ -160,6 +169,10 @@ impl Work {
                 has_five(machine.value.register());
             }
             Work::Entry(machine) => {
+                machine.value.stays_sound();
+                has_five(machine.value.register());
+            }
+            Work::Rename(machine) => {
                 machine.value.stays_sound();
                 has_five(machine.value.register());
             }

@@ -18,7 +18,7 @@ use Rattle.afr_plan.specs.declared.command.Command.TheVariants as command
 use Rattle.afr_plan.specs.declared.plan.Plan.{Plan}
 use Rattle.afr_model.specs.Answered.{IsAbout, IsAnswered}
 use Rattle.afr_model.specs.Blamed.{Blames}
-use Rattle.afr_model.specs.Following.{KeepsTo}
+use Rattle.afr_model.specs.Keeping.{KeepsTo}
 use Rattle.afr_walk.specs.Walk as walk
 use Rattle.afr_walk.specs.declared.walk.Walk.{Walk}
 use Rattle.afr_walk.specs.declared.walk.WalkStep.{WalkStep}
@@ -45,7 +45,8 @@ use Rattle.afr_entry_telling.proofs.Begins.{begins as entry_begins}
 use Rattle.afr_entry_telling.proofs.Ends as entry
 use Rattle.afr_works.proofs.PathLemmas.{path_is}
 use Rattle.afr_works.proofs.WorkLemmas.{never_begins}
-use Rattle.afr_works.specs.Begin.{front, has_name, last}
+use Rattle.afr_rename.specs.Paths.{front, last}
+use Rattle.afr_works.specs.Begin.{has_name}
 use Rattle.afr_works.specs.Work as work
 use Rattle.afr_works.specs.declared.work.Work.TheVariants.{Idle, Lookup, Write, Entry}
 use Rattle.afr_works_tell.specs.WorkLaws.{BlamedLines, WorkAbout, WorkBegins, WorkBegun, WorkBlames, WorkEnds, WorkTellsMore}

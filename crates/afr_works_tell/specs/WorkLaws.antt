@@ -15,9 +15,10 @@ use Rattle.afr_lines.specs.declared.request.Request.{Request}
 use Rattle.afr_object.specs.declared.change.Change.{Change}
 use Rattle.afr_plan.specs.declared.command.Command.{Command}
 use Rattle.afr_plan.specs.declared.plan.Plan.{Plan}
-use Rattle.afr_model.specs.Answered.{IsAbout, IsAnswered}
 use Rattle.afr_model.specs.Blamed.{Blames}
-use Rattle.afr_model.specs.Following.{KeepsTo}
+use Rattle.afr_model.specs.Following.{KeepsToCommand}
+use Rattle.afr_model.specs.Kept.{IsKept}
+use Rattle.afr_model.specs.Replied.{IsOf}
 use Rattle.afr_transaction_tells.specs.About.{BlamesNext}
 use Rattle.afr_transaction_tells.specs.Laws.{IsNextLine}
 use Rattle.afr_walk.specs.Choosing.{IsAmong}
@@ -47,7 +48,7 @@ WorkBegun =
 abbrev pub WorkAbout : Type 0
 WorkAbout =
     (p : Plan) (c : Command) (w : Work) (lines : Lines) (a : ActorId) (told : Told) (line : Line) (log : List Line)
-    → IsWork w → WorkTells p c w lines → IsNextLine a (next_of (length log) w) told line → IsAbout p c line lines × KeepsTo p c line (length log) lines
+    → IsWork w → WorkTells p c w lines → IsNextLine a (next_of (length log) w) told line → IsOf p c line lines × KeepsToCommand p c line (length log) lines
 
 -- each post-op accuses exactly those that missed the operation, with the cause
 abbrev pub WorkBlames : Type 0
@@ -63,4 +64,8 @@ BlamedLines =
 abbrev pub WorkEnds : Type 0
 WorkEnds =
     (p : Plan) (c : Command) (w : Work) (lines : Lines) (at : ℕ) (said : Reply) → IsWork w → WorkTells p c w lines → next_of at w ≡ next.End said
-    → IsAnswered p c lines said × ((a : ActorId) → KeepsTo p c (End a said) at lines)
+    → (a : ActorId) → IsOf p c (End a said) lines × KeepsToCommand p c (End a said) at lines
+
+-- a name is given up after a making only where the object that was made stands at a majority and the name leads to it
+abbrev pub WorkKeepsName : Type 0
+WorkKeepsName = (p : Plan) (c : Command) (w : Work) (a : ActorId) (change : Change) (log : List Line) → IsWork w → WorkTells p c w (work a.0 log) → next_of (length log) w ≡ next.Begin change → IsKept p (Begin a change) log

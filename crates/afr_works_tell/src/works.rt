@@ -1,5 +1,7 @@
 //! A client's present work and its lines: each line is about the command, and the reply is the command's answer.
-ghost use Rattle.afr_works_tell.specs.WorkLaws.{BlamedLines, WorkAbout, WorkBegins, WorkBegun, WorkBlames, WorkEnds, WorkTellsMore};
+ghost use Rattle.afr_works_tell.specs.WorkLaws.{BlamedLines, WorkAbout, WorkBegins, WorkBegun, WorkBlames, WorkEnds, WorkKeepsName, WorkTellsMore};
+
+use afr_rename_telling::a_rename_tells_its_lines;
 
 /// The lines of a work show where it stands, whatever the bricks answer: from its first line to its end, each line is about
 /// what the command's words name, each post-op accuses with cause, and the reply has its cause.
@@ -11,4 +13,7 @@ pub fn a_work_tells_its_lines()
     ensures blames { WorkBlames }
     ensures blamed { BlamedLines }
     ensures ends { WorkEnds }
-{}
+    ensures names { WorkKeepsName }
+{
+    a_rename_tells_its_lines();
+}

@@ -14,7 +14,7 @@ use Rattle.afr_lines.specs.declared.request.Request.{Request}
 use Rattle.afr_plan.specs.declared.command.Command.{Command}
 use Rattle.afr_plan.specs.declared.plan.Plan.{Plan}
 use Rattle.afr_model.specs.Answered.{IsAbout, IsAnswered}
-use Rattle.afr_model.specs.Following.{KeepsTo}
+use Rattle.afr_model.specs.Keeping.{KeepsTo}
 use Rattle.afr_model.specs.Refusals.{too_large}
 use Rattle.afr_walk.specs.Choosing.{IsAmong}
 use Rattle.afr_walk.specs.Walk.{IsStep, choices_of, is_walking, next_in, walked}

@@ -32,7 +32,7 @@ use Rattle.afr_plan.specs.declared.command.Command.{Command}
 use Rattle.afr_plan.specs.declared.command.Command.TheVariants as command
 use Rattle.afr_plan.specs.declared.plan.Plan.{Plan}
 use Rattle.afr_model.specs.Answered.{IsAbout, IsAnswered}
-use Rattle.afr_model.specs.Following.{KeepsTo, Names}
+use Rattle.afr_model.specs.Keeping.{KeepsTo, Names}
 use Rattle.afr_model.specs.Showing.{Path, has, locks, look_shows, looked_by}
 use Rattle.afr_model.specs.Standing.{area_here}
 use Rattle.afr_transaction.specs.Outcome.{reply_of}

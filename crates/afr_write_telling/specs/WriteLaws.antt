@@ -17,7 +17,7 @@ use Rattle.afr_object.specs.declared.change.Change.{Change}
 use Rattle.afr_plan.specs.declared.command.Command.{Command}
 use Rattle.afr_plan.specs.declared.plan.Plan.{Plan}
 use Rattle.afr_model.specs.Answered.{IsAbout, IsAnswered}
-use Rattle.afr_model.specs.Following.{KeepsTo}
+use Rattle.afr_model.specs.Keeping.{KeepsTo}
 use Rattle.afr_walk.specs.Choosing.{IsAmong}
 use Rattle.afr_inode_write.specs.Write.{Write, IsWrite, answered, choices_at, heard_by, next_of, write_from}
 use Rattle.afr_inode_write.specs.declared.job.WriteJob.{WriteJob}

@@ -1,0 +1,256 @@
+-- What a rename hears is an answer to what its next line has asked.
+use Rattle.std.proofs.Common.{◌≡◌, ◌⊎◌, ℕ, ◌<◌, ◌&&◌, not, Bool, true, false, [], Option, None, inl, inr, refl, ap, subst, sym, ◌∙◌, if◌then◌else◌}
+use Rattle.afr_base.specs.Bricks.{is_nothing}
+use Rattle.afr_base.specs.declared.ids.BrickId.{BrickId}
+use Rattle.afr_base.specs.declared.ids.Kind.TheVariants.{Names}
+use Rattle.afr_object.specs.declared.change.Change.{Change}
+use Rattle.afr_choice.specs.VerdictLemmas.{good_below}
+use Rattle.afr_lines.specs.Areas.{kind_for}
+use Rattle.afr_lines.specs.Told.{told_by}
+use Rattle.afr_lines.specs.declared.answer.Answer.{Answer}
+use Rattle.afr_lines.specs.declared.answer.Told.{Told}
+use Rattle.afr_lines.specs.declared.line.Heard.TheVariants as heard
+use Rattle.afr_lines.specs.declared.line.Next.TheVariants as next
+use Rattle.afr_lines.specs.declared.request.Request.{Request}
+use Rattle.afr_rule.specs.Choosing.{Calls}
+use Rattle.afr_walk.specs.Choosing.{reader_of}
+use Rattle.afr_walk.specs.Free.{is_ask}
+use Rattle.afr_transaction.specs.Between.{is_read, noted_read}
+use Rattle.afr_transaction.specs.Outcome.{outcome_of, reply_of}
+use Rattle.afr_transaction.specs.Progress as progress
+use Rattle.afr_transaction.specs.Progress.{Progress, answered, asks, fed, is_beginning}
+use Rattle.afr_transaction.specs.declared.stage.Stage.{Stage}
+use Rattle.afr_transaction.specs.declared.stage.Stage.TheVariants.{Locking, Looking, Beginning, Preparing, Applying, Posting, Closing}
+use Rattle.afr_transaction.proofs.NoteLemmas.{fed_change}
+use Rattle.afr_entry.specs.Entry.{found_by, offered, settled, told_to}
+use Rattle.afr_entry.specs.Job.{reply_to}
+use Rattle.afr_entry.specs.declared.refusal.Refusal.{Refusal}
+use Rattle.afr_entry.specs.declared.stage.Found.{Found}
+use Rattle.afr_entry.specs.declared.stage.Found.TheVariants.{Unread, Fits, Refused}
+use Rattle.afr_rename.specs.Against.{against_new, against_old, half_reply}
+use Rattle.afr_rename.specs.Paths.{reads_new, reads_old}
+use Rattle.afr_rename.specs.Rename.{IsFed, Renaming, is_done, is_over, making_after, next_at, next_of, second_begun, turned}
+use Rattle.afr_rename.specs.Under.{IsUnder, choices_under, found_after, next_under, progress_after}
+use Rattle.afr_rename.proofs.RenameLemmas.{over_not_done}
+use Rattle.afr_rename.specs.declared.stage.RenameStage.{RenameStage}
+use Rattle.afr_rename.specs.declared.stage.RenameStage.TheVariants.{Finding, Walking, Making, Removing, Ending}
+
+-- where a transaction asks, its answer is what it is fed
+pub fed_is : (stage : Stage) (t : Progress) (at : ℕ) (b : BrickId) (q : Request) (told : Told) → progress.next_at stage at t ≡ next.Ask b q → answered stage told at t ≡ fed stage told at t
+fed_is Beginning t at b q told e = absurd (cc e)
+fed_is Locking t at b q told e = refl
+fed_is Looking t at b q told e = refl
+fed_is Preparing t at b q told e = refl
+fed_is Applying t at b q told e = refl
+fed_is Posting t at b q told e = refl
+fed_is Closing t at b q told e = refl
+
+-- and it isn't at its Begin line
+pub asks_on : (stage : Stage) (t : Progress) (at : ℕ) (b : BrickId) (q : Request) → progress.next_at stage at t ≡ next.Ask b q → is_beginning stage ≡ false
+asks_on Beginning t at b q e = absurd (cc e)
+asks_on Locking t at b q e = refl
+asks_on Looking t at b q e = refl
+asks_on Preparing t at b q e = refl
+asks_on Applying t at b q e = refl
+asks_on Posting t at b q e = refl
+asks_on Closing t at b q e = refl
+
+-- whether the name is still to be read
+abbrev pub is_unread : Found → Bool
+is_unread (Unread reader) = true
+is_unread found = false
+
+-- what was found, where the name was read
+pub name_read : (found : Found) → (found ≡ Fits) ⊎ ((why : Refusal) × (found ≡ Refused why)) → is_unread found ≡ false
+name_read found (inl e) = ap is_unread e
+name_read found (inr e) = ap is_unread e.1
+
+-- ---- while the name isn't asked for
+pub unread_asks : (asked : Request) (t : Progress) (reader b : BrickId) (q : Request) (at : ℕ) → is_beginning t.stage ≡ false → next_under (Unread reader) at asked t ≡ next.Ask b q → progress.next_at t.stage at t ≡ next.Ask b q
+unread_asks asked t reader b q at f e = go (is_beginning t.stage) f e
+  where
+    go : (x : Bool) → x ≡ false → (if x then next.Ask reader asked else progress.next_at t.stage at t) ≡ next.Ask b q → progress.next_at t.stage at t ≡ next.Ask b q
+    go true f e = absurd (cc f)
+    go false f e = e
+
+pub progress_fed : (why : Option Refusal) (asked : Request) (t x : Progress) (reader : BrickId) (at : ℕ) (told : Told) → is_beginning t.stage ≡ false → x ≡ fed t.stage told at t → x ≡ progress_after (Unread reader) why asked told at t
+progress_fed why asked t x reader at told f ex = go (is_beginning t.stage) f
+  where
+    go : (s : Bool) → s ≡ false → x ≡ (if s then settled why (noted_read reader.0 asked told at t) else fed t.stage told at t)
+    go true f = absurd (cc f)
+    go false f = ex
+
+-- the rule is asked for what the answer has left
+pub offered_fed : (t x : Progress) (reader : BrickId) (at : ℕ) (told : Told) → is_beginning t.stage ≡ false → x ≡ fed t.stage told at t → offered x ≡ choices_under (Unread reader) told at t
+offered_fed t x reader at told f ex = go (is_beginning t.stage) f
+  where
+    go : (s : Bool) → s ≡ false → offered x ≡ (if s then [] else offered (fed t.stage told at t))
+    go true f = absurd (cc f)
+    go false f = ap offered ex
+
+pub found_unread : (chosen x reader : BrickId) (why : Option Refusal) (stage : Stage) → is_beginning stage ≡ false → x ≡ chosen → Unread x ≡ found_after chosen (Unread reader) why stage
+found_unread chosen x reader why stage f ex = go (is_beginning stage) f
+  where
+    go : (s : Bool) → s ≡ false → Unread x ≡ (if s then found_by why else Unread chosen)
+    go true f = absurd (cc f)
+    go false f = ap Unread ex
+
+-- the change stays that of a name
+pub names_fed : (t x : Progress) (at : ℕ) (told : Told) → kind_for t.change ≡ Names → x ≡ fed t.stage told at t → kind_for x.change ≡ Names
+names_fed t x at told names ex = ap (λ (p : Progress). kind_for p.change) ex ∙ ap kind_for (fed_change t.stage told at t) ∙ names
+
+-- ---- where the name is asked for
+pub name_brick : (asked : Request) (t : Progress) (reader b : BrickId) (q : Request) (at : ℕ) → is_beginning t.stage ≡ true → next_under (Unread reader) at asked t ≡ next.Ask b q → reader ≡ b
+name_brick asked t reader b q at f e = go (is_beginning t.stage) f e
+  where
+    go : (x : Bool) → x ≡ true → (if x then next.Ask reader asked else progress.next_at t.stage at t) ≡ next.Ask b q → reader ≡ b
+    go true f e = cc e
+    go false f e = absurd (cc f)
+
+pub name_request : (asked : Request) (t : Progress) (reader b : BrickId) (q : Request) (at : ℕ) → is_beginning t.stage ≡ true → next_under (Unread reader) at asked t ≡ next.Ask b q → asked ≡ q
+name_request asked t reader b q at f e = go (is_beginning t.stage) f e
+  where
+    go : (x : Bool) → x ≡ true → (if x then next.Ask reader asked else progress.next_at t.stage at t) ≡ next.Ask b q → asked ≡ q
+    go true f e = cc e
+    go false f e = absurd (cc f)
+
+pub name_small : (c : Change) (asked : Request) (t : Progress) (reader b : BrickId) (q : Request) (at : ℕ) → IsUnder c t (Unread reader) → is_beginning t.stage ≡ true → next_under (Unread reader) at asked t ≡ next.Ask b q → b.0 < 5
+name_small c asked t reader b q at k f e = subst (λ (x : BrickId). x.0 < 5) (name_brick asked t reader b q at f e) (good_below t.register.shape t.register.looked Names reader.0 (k.reads f))
+
+pub name_reads : (asked : Request) (t : Progress) (reader b : BrickId) (q : Request) (at : ℕ) → is_read asked ≡ true → is_beginning t.stage ≡ true → next_under (Unread reader) at asked t ≡ next.Ask b q → is_read q ≡ true
+name_reads asked t reader b q at reads f e = subst (λ (x : Request). is_read x ≡ true) (name_request asked t reader b q at f e) reads
+
+pub name_heard : (why : Option Refusal) (asked : Request) (t x y : Progress) (reader b : BrickId) (q : Request) (at : ℕ) (told : Told) → is_beginning t.stage ≡ true → next_under (Unread reader) at asked t ≡ next.Ask b q
+    → x ≡ noted_read b.0 q told at t → y ≡ settled why x → y ≡ progress_after (Unread reader) why asked told at t
+name_heard why asked t x y reader b q at told f e ex ey = go (is_beginning t.stage) f
+  where
+    same : x ≡ noted_read reader.0 asked told at t
+    same = ex ∙ ap (λ (c : BrickId). noted_read c.0 q told at t) (sym (name_brick asked t reader b q at f e)) ∙ ap (λ (r : Request). noted_read reader.0 r told at t) (sym (name_request asked t reader b q at f e))
+
+    go : (s : Bool) → s ≡ true → y ≡ (if s then settled why (noted_read reader.0 asked told at t) else fed t.stage told at t)
+    go true f = ey ∙ ap (λ (p : Progress). settled why p) same
+    go false f = absurd (cc f)
+
+-- what the name says leaves nothing to choose from
+pub nothing_offered : (t : Progress) (reader : BrickId) (at : ℕ) (told : Told) → is_beginning t.stage ≡ true → [] ≡ choices_under (Unread reader) told at t
+nothing_offered t reader at told f = go (is_beginning t.stage) f
+  where
+    go : (s : Bool) → s ≡ true → [] ≡ (if s then [] else offered (fed t.stage told at t))
+    go true f = refl
+    go false f = absurd (cc f)
+
+pub found_named : (chosen reader : BrickId) (found : Found) (why : Option Refusal) (stage : Stage) → is_beginning stage ≡ true → found ≡ found_by why → found ≡ found_after chosen (Unread reader) why stage
+found_named chosen reader found why stage f e = go (is_beginning stage) f
+  where
+    go : (s : Bool) → s ≡ true → found ≡ (if s then found_by why else Unread chosen)
+    go true f = e
+    go false f = absurd (cc f)
+
+-- ---- once the name is read
+pub found_asks : (asked : Request) (t : Progress) (found : Found) (b : BrickId) (q : Request) (at : ℕ) → is_unread found ≡ false → next_under found at asked t ≡ next.Ask b q → progress.next_at t.stage at t ≡ next.Ask b q
+found_asks asked t (Unread reader) b q at u e = absurd (cc u)
+found_asks asked t Fits b q at u e = e
+found_asks asked t (Refused why) b q at u e = go (progress.is_over t.stage t) e
+  where
+    go : (x : Bool) → (if x then next.End (reply_to why) else progress.next_at t.stage at t) ≡ next.Ask b q → progress.next_at t.stage at t ≡ next.Ask b q
+    go true e = absurd (cc e)
+    go false e = e
+
+-- a transaction that has asked is told
+told_fed : (t x : Progress) (at : ℕ) (told : Told) → is_beginning t.stage ≡ false → x ≡ fed t.stage told at t → x ≡ told_to told at t
+told_fed t x at told f ex = go (is_beginning t.stage) f
+  where
+    go : (s : Bool) → s ≡ false → x ≡ (if s then t else fed t.stage told at t)
+    go true f = absurd (cc f)
+    go false f = ex
+
+pub found_told : (why : Option Refusal) (asked : Request) (t x : Progress) (found : Found) (at : ℕ) (told : Told) → is_unread found ≡ false → is_beginning t.stage ≡ false → x ≡ fed t.stage told at t → x ≡ progress_after found why asked told at t
+found_told why asked t x (Unread reader) at told u f ex = absurd (cc u)
+found_told why asked t x Fits at told u f ex = told_fed t x at told f ex
+found_told why asked t x (Refused r) at told u f ex = told_fed t x at told f ex
+
+pub found_same : (chosen : BrickId) (found : Found) (why : Option Refusal) (stage : Stage) → is_unread found ≡ false → found ≡ found_after chosen found why stage
+found_same chosen (Unread reader) why stage u = absurd (cc u)
+found_same chosen Fits why stage u = refl
+found_same chosen (Refused r) why stage u = refl
+
+pub found_offers : (found : Found) (t : Progress) (at : ℕ) (told : Told) → is_unread found ≡ false → [] ≡ choices_under found told at t
+found_offers (Unread reader) t at told u = absurd (cc u)
+found_offers Fits t at told u = refl
+found_offers (Refused why) t at told u = refl
+
+-- ---- where nobody is asked
+-- a transaction that isn't over and asks nobody is at its Begin line
+beginning_where : (stage : Stage) (t : Progress) (at : ℕ) → is_ask (progress.next_at stage at t) ≡ false → progress.is_over stage t ≡ false → is_beginning stage ≡ true
+beginning_where Locking t at none more = absurd (cc none)
+beginning_where Looking t at none more = absurd (cc none)
+beginning_where Beginning t at none more = refl
+beginning_where Preparing t at none more = absurd (cc none)
+beginning_where Applying t at none more = absurd (cc none)
+beginning_where Posting t at none more = absurd (cc none)
+beginning_where Closing t at none more = go (is_nothing t.register.held) none more
+  where
+    go : (over : Bool) → is_ask (if over then next.End (reply_of t.change t.register) else asks Closing t) ≡ false → over ≡ false → false ≡ true
+    go true none more = absurd (cc more)
+    go false none more = absurd (cc none)
+
+-- there an answer changes nothing
+untold : (told : Told) (at : ℕ) (t : Progress) → is_beginning t.stage ≡ true → t ≡ told_to told at t
+untold told at t f = go (is_beginning t.stage) f
+  where
+    go : (s : Bool) → s ≡ true → t ≡ (if s then t else fed t.stage told at t)
+    go true f = refl
+    go false f = absurd (cc f)
+
+-- under the locks of a name: nothing to choose from, and all stays
+pub unheard_under : (why : Option Refusal) (asked : Request) (chosen : BrickId) (found : Found) (told : Told) (at : ℕ) (t : Progress) → is_ask (next_under found at asked t) ≡ false → progress.is_over t.stage t ≡ false
+    → (choices_under found told at t ≡ []) × (t ≡ progress_after found why asked told at t) × (found ≡ found_after chosen found why t.stage)
+unheard_under why asked chosen (Unread reader) told at t none more = absurd (go (is_beginning t.stage) refl none)
+  where
+    go : (s : Bool) → is_beginning t.stage ≡ s → is_ask (if s then next.Ask reader asked else progress.next_at t.stage at t) ≡ false → ⊥
+    go true f none = cc none
+    go false f none = let g = beginning_where t.stage t at none more in cc (f, g)
+unheard_under why asked chosen Fits told at t none more = (refl, untold told at t (beginning_where t.stage t at none more), refl)
+unheard_under why asked chosen (Refused r) told at t none more = (refl, untold told at t (go (progress.is_over t.stage t) more none), refl)
+  where
+    go : (s : Bool) → s ≡ false → is_ask (if s then next.End (reply_to r) else progress.next_at t.stage at t) ≡ false → is_beginning t.stage ≡ true
+    go true f none = absurd (cc f)
+    go false f none = beginning_where t.stage t at none more
+
+-- the same of a whole rename
+pub unheard : {F : Type 0} (calls : Calls F) (choose : F) (m : Renaming) (a : Answer) (at : ℕ) → is_ask (next_of at m) ≡ false → is_over m.stage ≡ false → IsFed calls choose (heard.Answer a at) m m
+unheard calls choose m a at none more = go m.stage none more
+  where
+    making : (t : Progress) (found : Found) → (d : Bool) → is_done t ≡ d → is_over (Making t found) ≡ false
+        → is_ask (if d then progress.next_at Locking at (turned m.paths t) else next_under found at (reads_new m.paths) t) ≡ false
+        → IsFed calls choose (heard.Answer a at) (record { paths = m.paths; stage = Making t found }) (record { paths = m.paths; stage = Making t found })
+    making t found true e more none = absurd (cc none)
+    making t found false e more none =
+        let u = unheard_under (against_new a) (reads_new m.paths) (reader_of None) found (told_by a) at t none (over_not_done (progress.is_over t.stage t) (is_done t) more e) in
+        record {
+          picked = None;
+          answers = subst (λ (d : Bool). (if d then [] else choices_under found (told_by a) at t) ≡ []) (sym e) u.0;
+          value =
+            subst (λ (d : Bool). record { paths = m.paths; stage = Making t found } ≡ record { paths = m.paths; stage = if d then second_begun (told_by a) at m.paths t else making_after (reader_of None) found a at m.paths t }) (sym e)
+            (ap (λ (x : Progress). record { paths = m.paths; stage = Making x found }) u.1
+            ∙ ap (λ (f : Found). record { paths = m.paths; stage = Making (progress_after found (against_new a) (reads_new m.paths) (told_by a) at t) f }) u.2);
+        }
+
+    go : (stage : RenameStage) → is_ask (next_at at stage m.paths) ≡ false → is_over stage ≡ false → IsFed calls choose (heard.Answer a at) (record { paths = m.paths; stage = stage }) (record { paths = m.paths; stage = stage })
+    go Finding none more = absurd (cc none)
+    go Walking none more = absurd (cc none)
+    go (Making t found) none more = making t found (is_done t) refl more none
+    go (Removing t found) none more =
+        let u = unheard_under (against_old m.paths.first.object.gfid a) (reads_old m.paths) (reader_of None) found (told_by a) at t (asked (progress.is_over t.stage t) more none) more in
+        record {
+          picked = None;
+          answers = u.0;
+          value =
+            ap (λ (x : Progress). record { paths = m.paths; stage = Removing x found }) u.1
+            ∙ ap (λ (f : Found). record { paths = m.paths; stage = Removing (progress_after found (against_old m.paths.first.object.gfid a) (reads_old m.paths) (told_by a) at t) f }) u.2;
+        }
+      where
+        asked : (d : Bool) → d ≡ false → is_ask (if d then next.End (half_reply (outcome_of t.change t.register)) else next_under found at (reads_old m.paths) t) ≡ false → is_ask (next_under found at (reads_old m.paths) t) ≡ false
+        asked true e none = absurd (cc e)
+        asked false e none = none
+    go (Ending said) none more = absurd (cc more)

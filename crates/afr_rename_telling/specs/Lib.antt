@@ -1,0 +1,2 @@
+pub mod RenameTelling
+pub mod RenameLaws
