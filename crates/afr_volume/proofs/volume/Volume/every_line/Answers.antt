@@ -31,6 +31,8 @@ returns-clause-right c =
       missed = (c.split_copies_missed.ensures.exact c.self.inside.plan (reverse c.self.inside.log.items) kept.runnable.few few kept.honest kept.lawful).1;
       whole = c.a_copy_is_whole.ensures.exact c.self.inside.plan (reverse c.self.inside.log.items) kept.runnable.few few kept.honest kept.lawful;
       available = c.changes_are_available.ensures.exact c.self.inside.plan (reverse c.self.inside.log.items) kept.runnable.few few kept.follows kept.honest kept.lawful kept.replied;
+      rising = c.self.invariant.pacing.rising;
+      within = c.self.invariant.pacing.within;
     })
 
 pub returns-clause-sums : goal.returns-clause-sums
