@@ -16,6 +16,7 @@ use Rattle.afr_lines.specs.declared.request.Request.{Request}
 use Rattle.afr_lines.specs.declared.request.Request.TheVariants as request
 use Rattle.afr_model.specs.Honest.{IsHonest, Outcome, over_session}
 use Rattle.afr_plan.specs.declared.plan.Plan.{Plan}
+use Rattle.afr_quiet_lists.proofs.Runs.{work_more}
 use Rattle.afr_work_pace.specs.Left.{FitsUnlock}
 use Rattle.afr_volume.specs.Pacing.{HasLeft}
 use Rattle.afr_volume.proofs.SourceLemmas.{own_of}
@@ -47,17 +48,14 @@ unlock_fits p a b (request.Settle g kind less) told took log honest = tt
 owner_is : (a c : ℕ) (line : Line) → is_of a line ≡ true → is_of c line ≡ true → c ≡ a
 owner_is a c line own mine = let e : (a == c) ≡ true = sym (own_of a line own c) ∙ mine in grind (arith, nat_tests, e)
 
--- the present work of the line's actor, and the works that it ended
-own_work : (a : ℕ) (line : Line) (log : List Line) → is_of a line ≡ true → is_end line ≡ false → work a (line ∷ log) ≡ (line, log) ∷ work a log
-own_work a line log own more = rw (own, more) refl
-
-own_ended : (a : ℕ) (line : Line) (log : List Line) → is_end line ≡ false → ended a (line ∷ log) ≡ ended a log
-own_ended a (line_of.Ask x b asked told took) log more = refl
-own_ended a (line_of.Begin x change) log more = refl
-own_ended a (line_of.HealBegin x g kind) log more = refl
-own_ended a (line_of.End x said) log more = absurd (cc more)
-own_ended a (line_of.HealEnd x g kind said) log more = refl
-own_ended a (line_of.Event event) log more = refl
+-- a line that ends no work leaves the count of those that ended
+still_ended : (a : ℕ) (line : Line) (log : List Line) → is_end line ≡ false → ended a (line ∷ log) ≡ ended a log
+still_ended a (line_of.Ask x b asked told took) log more = refl
+still_ended a (line_of.Begin x change) log more = refl
+still_ended a (line_of.HealBegin x g kind) log more = refl
+still_ended a (line_of.End x said) log more = absurd (cc more)
+still_ended a (line_of.HealEnd x g kind said) log more = refl
+still_ended a (line_of.Event event) log more = refl
 
 -- ---- within the cost
 module _ (p : Plan) (a : ℕ) (line : Line) (log : List Line) (before : ℕ) (own : is_of a line ≡ true) (k : HasLeft p a log before) where
@@ -69,7 +67,7 @@ module _ (p : Plan) (a : ℕ) (line : Line) (log : List Line) (before : ℕ) (ow
 
   -- and what is left after it
   pub has_left : is_end line ≡ false → (after : ℕ) → after + counted line ≤ before → HasLeft p a (line ∷ log) after
-  has_left more after nearer cost is = rw (own_work a line log own more) (let most = k cost (rw (own_ended a line log more) at is) in omega (arith, most, nearer))
+  has_left more after nearer cost is = rw (work_more a line log own more) (let most = k cost (rw (still_ended a line log more) at is) in omega (arith, most, nearer))
 
 -- a line of another leaves it as it was
 pub left_on : (p : Plan) (c : ℕ) (line : Line) (log : List Line) (left : ℕ) → work c (line ∷ log) ≡ work c log → ended c (line ∷ log) ≡ ended c log → HasLeft p c log left → HasLeft p c (line ∷ log) left

@@ -67,9 +67,10 @@ noted_at false p a log r k = inr k
 module _ (paces : PaceLaws) (p : Plan) (a : ActorId) (log : List Line) (servers new : List Serving) (x y : Actor) (written : Line) (of : IsOfPlan p log) (client : a.0 ≤ 16) (c : CarriesOut p a.0 log x.met x.epochs servers x.work) (busy : IsBusy x.work) (k : IsPaced p a.0 log x.work) where
   -- a line that isn't the last leaves so many lines less
   goes_on : (line : Line) (after : Work) → is_of a.0 line ≡ true → is_end line ≡ false → IsBusy after → work_left after + counted line ≤ work_left x.work → IsWithinCost p line log × HasLeft p a.0 (line ∷ log) (work_left after)
-  goes_on line after own more still nearer =
-      (is_within p a.0 line log (work_left x.work) own k.within (rw more (let some = paces.ends after still in omega (arith, some, nearer))),
-      has_left p a.0 line log (work_left x.work) own k.within more (work_left after) nearer)
+  goes_on line after own more still nearer = (
+    is_within p a.0 line log (work_left x.work) own k.within (rw more (let some = paces.ends after still in omega (arith, some, nearer))),
+    has_left p a.0 line log (work_left x.work) own k.within more (work_left after) nearer,
+  )
 
   -- ---- a request
   module _ (b : BrickId) (asked : Request) (e : next_of (length log) x.work ≡ next.Ask b asked) (s : IsAsked HearsAny a (length log) b asked x y servers new written) where
