@@ -1,0 +1,4 @@
+pub mod Numbers
+pub mod Known
+pub mod Scripts
+pub mod Indexes
