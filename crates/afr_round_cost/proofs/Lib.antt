@@ -1,0 +1,5 @@
+mod Counting
+mod Beginning
+mod Spending
+mod Lines
+mod Indexes
