@@ -1,5 +1,5 @@
 -- One actor among all: what holds of it and of the others holds of all.
-use Rattle.std.proofs.Common.{◌≡◌, ℕ, zero, suc, List, [], ◌∷◌, ap, arith, subst, Some, slice_get, set}
+use Rattle.std.proofs.Common.{◌≡◌, ℕ, zero, suc, List, [], ◌∷◌, arith, subst, Some, slice_get, set}
 
 -- one place of a list is set: what holds there, and elsewhere as before, holds of all
 pub set_each : {A : Type 0} (P : ℕ → A → Type 0) (l : List A) (at : ℕ) (y : A) → ((i : ℕ) (z : A) → (at ≡ i → ⊥) → slice_get l i ≡ Some z → P i z) → P at y → (i : ℕ) (z : A) → slice_get (set l at y) i ≡ Some z → P i z

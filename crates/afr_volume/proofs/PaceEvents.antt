@@ -1,5 +1,5 @@
 -- An event keeps the pace of all actors, and before the first line all keep it.
-use Rattle.std.proofs.Common.{◌≡◌, ◌∙◌, ℕ, ◌+◌, List, [], ◌∷◌, refl, sym, ap, arith, subst, length, Some, slice_get, get_or}
+use Rattle.std.proofs.Common.{◌≡◌, ℕ, ◌+◌, List, [], ◌∷◌, refl, sym, ap, arith, subst, length, Some, slice_get, get_or}
 use Rattle.std.proofs.lemmas.Option.{slice_get-get_or, slice_get_within}
 use Rattle.afr_lines.specs.declared.line.Event.{Event}
 use Rattle.afr_lines.specs.declared.line.Line.{Line}
@@ -7,7 +7,6 @@ use Rattle.afr_lines.specs.declared.line.Line.TheVariants as line_of
 use Rattle.afr_plan.specs.declared.plan.Plan.{Plan}
 use Rattle.afr_round_cost.specs.Paced.{IsPacedRound}
 use Rattle.afr_rounds.specs.declared.healer.Healer.{Healer}
-use Rattle.afr_works.specs.declared.work.Work.{Work}
 use Rattle.afr_volume.specs.Laws.{PaceLaws}
 use Rattle.afr_volume.specs.Pacing.{ArePaced, IsPaced}
 use Rattle.afr_volume.specs.Starting.{AreNewActors, AreNewHealers}

@@ -1,12 +1,12 @@
 -- A healer asks for Work locks in its heals alone, so in rising order.
-use Rattle.std.proofs.Common.{◌≡◌, ◌∙◌, ◌⊎◌, ℕ, Bool, true, false, List, ◌∷◌, refl, sym, ap, subst, length, Some, inl, inr}
+use Rattle.std.proofs.Common.{◌≡◌, ◌∙◌, ◌⊎◌, Bool, true, false, List, ◌∷◌, refl, sym, ap, subst, length, inl, inr}
 use Rattle.afr_base.specs.declared.ids.ActorId.{ActorId}
 use Rattle.afr_base.specs.declared.ids.BrickId.{BrickId}
 use Rattle.afr_descent.specs.Descent.{IsOfPlan}
 use Rattle.afr_discipline.specs.declared.register.Register.{Register}
 use Rattle.afr_heal.specs.Engine.{Ask as Asks, Next as Coming}
 use Rattle.afr_heal_order.specs.Heals.{RisesInHeal}
-use Rattle.afr_healer.specs.Rounding.{IsAnswered, Rounding, next_at, next_of}
+use Rattle.afr_healer.specs.Rounding.{IsAnswered, next_at, next_of}
 use Rattle.afr_healer.specs.declared.stage.RoundStage.{RoundStage}
 use Rattle.afr_healer.specs.declared.stage.RoundStage.TheVariants.{Asking, Healing as At, Over}
 use Rattle.afr_lines.specs.Places.{Place, opens}

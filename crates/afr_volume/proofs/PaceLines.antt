@@ -1,12 +1,12 @@
 -- A line within the cost of its actor's work, by what the work had left before it and has left after it.
-use Rattle.std.proofs.Common.{◌≡◌, ◌⊎◌, ℕ, ◌+◌, ◌≤◌, ◌==◌, Bool, true, false, List, [], ◌∷◌, refl, sym, ap, arith, subst, Option, Some, None, slice_get, inl, inr, if◌then◌else◌, ◌∙◌}
+use Rattle.std.proofs.Common.{◌≡◌, ◌⊎◌, ℕ, ◌+◌, ◌≤◌, ◌==◌, Bool, true, false, List, ◌∷◌, refl, sym, ap, arith, subst, Option, Some, None, slice_get, inl, inr, if◌then◌else◌, ◌∙◌}
 use Rattle.std.proofs.lemmas.Bool.Decides.{nat_tests}
 use Rattle.afr_base.specs.declared.ids.ActorId.{ActorId}
 use Rattle.afr_base.specs.declared.ids.BrickId.{BrickId}
 use Rattle.afr_bound.specs.Cost.{IsWithinCost, costs_of, counted, spent}
 use Rattle.afr_faults.specs.declared.fault.Fault.{Fault}
 use Rattle.afr_faults.specs.declared.fault.Fault.TheVariants.{Fail, Lost}
-use Rattle.afr_lines.specs.Work.{ended, ends_work, is_end, is_of, work}
+use Rattle.afr_lines.specs.Work.{ended, is_end, is_of, work}
 use Rattle.afr_lines.specs.declared.answer.Told.{Told}
 use Rattle.afr_lines.specs.declared.answer.Told.TheVariants.{Done, Failed, NotConnected}
 use Rattle.afr_lines.specs.declared.line.Event.{Event}

@@ -1,12 +1,10 @@
 -- A healer's turn keeps the pace of all actors.
-use Rattle.std.proofs.Common.{◌≡◌, ℕ, ◌+◌, ◌-◌, ◌<◌, ◌≤◌, false, List, ◌∷◌, refl, sym, arith, subst, length, Some, slice_get, set}
+use Rattle.std.proofs.Common.{◌≡◌, ℕ, ◌+◌, ◌-◌, ◌<◌, ◌≤◌, List, ◌∷◌, sym, arith, subst, length, Some, slice_get, set}
 use Rattle.std.proofs.lemmas.Option.{slice_get_within}
 use Rattle.afr_base.specs.declared.ids.ActorId.{ActorId}
 use Rattle.afr_bound.specs.Cost.{IsWithinCost, objects_of}
-use Rattle.afr_descent.specs.Descent.{IsOfPlan}
 use Rattle.afr_healer.specs.Rounding.{IsAnswered}
 use Rattle.afr_lines.specs.declared.line.Line.{Line}
-use Rattle.afr_model.specs.Actors.{IsActor}
 use Rattle.afr_plan.specs.declared.plan.Plan.{Plan}
 use Rattle.afr_round_cost.specs.Paced.{IsPacedRound, ListsAtMost}
 use Rattle.afr_rounds.specs.Acting.{Stepped}
@@ -15,9 +13,9 @@ use Rattle.afr_rounds.specs.Laws.{IsBeforeRound, IsMadeReady}
 use Rattle.afr_rounds.specs.declared.healer.Healer.{Healer}
 use Rattle.afr_server.specs.Serving.{Serving}
 use Rattle.afr_standstill.specs.Order.{IsRisingLine}
-use Rattle.afr_volume.specs.Keeping.{AreHealers, IsVolume, IsWhole}
+use Rattle.afr_volume.specs.Keeping.{AreHealers, IsWhole}
 use Rattle.afr_volume.specs.Laws.{PaceLaws}
-use Rattle.afr_volume.specs.Pacing.{ArePaced, IsPaced}
+use Rattle.afr_volume.specs.Pacing.{ArePaced}
 use Rattle.afr_volume.specs.Turning.{ReadiedHealerAt}
 use Rattle.afr_volume.specs.declared.actor.Actor.{Actor}
 use Rattle.afr_volume.proofs.HealersKeep.{before_round, differ}

@@ -1,5 +1,5 @@
 -- One line of a client: it is within the cost of its command, and its lock is asked in order.
-use Rattle.std.proofs.Common.{◌≡◌, ◌∙◌, ℕ, ◌+◌, ◌≤◌, Bool, true, false, List, [], ◌∷◌, refl, sym, ap, arith, subst, length, None, Some, inl, inr, map, slice_get, nat_lt, if◌then◌else◌}
+use Rattle.std.proofs.Common.{◌≡◌, ◌∙◌, ℕ, ◌+◌, ◌≤◌, Bool, true, false, List, [], ◌∷◌, refl, sym, ap, arith, subst, length, None, Some, inl, inr, map, slice_get, nat_lt}
 use Rattle.std.specs.Prelude.{option_map}
 use Rattle.std.proofs.lemmas.Bool.Decides.{nat_tests}
 use Rattle.std.proofs.lemmas.Option.{slice_get-map}
@@ -30,14 +30,12 @@ use Rattle.afr_server.specs.Serving.{Serving}
 use Rattle.afr_standstill.specs.Order.{IsRisingLine}
 use Rattle.afr_walk.specs.Choosing.{IsAmong, reader_of}
 use Rattle.afr_work_order.specs.Logs.{IsNotedAt}
-use Rattle.afr_work_order.specs.Queue.{IsQueued}
 use Rattle.afr_work_pace.specs.Left.{work_left}
-use Rattle.afr_works.specs.Begin.{work_from}
-use Rattle.afr_works.specs.Work.{IsBusy, IsWork, choices_of, heard_by, next_of, register_of}
+use Rattle.afr_works.specs.Work.{IsBusy, choices_of, heard_by, next_of, register_of}
 use Rattle.afr_works.specs.declared.work.Work.{Work}
 use Rattle.afr_works.specs.declared.work.Work.TheVariants.{Entry, Idle, Lookup, Write}
 use Rattle.afr_volume.specs.Acting.{HearsAny, IsAsked, IsBegun, IsEnded, Stepped, SteppedBy}
-use Rattle.afr_volume.specs.Keeping.{Carries, CarriesOut, IsActing, IsNoted}
+use Rattle.afr_volume.specs.Keeping.{CarriesOut, IsActing, IsNoted}
 use Rattle.afr_volume.specs.Laws.{PaceLaws}
 use Rattle.afr_volume.specs.Pacing.{HasLeft, IsPaced}
 use Rattle.afr_volume.specs.Turning.{Readies}
