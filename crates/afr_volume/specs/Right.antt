@@ -28,7 +28,7 @@ use Rattle.afr_volume.specs.State.{IsChosen, State}
 -- quiet rounds did all that they say. Where a change was acknowledged, a majority has what it or a later one left, in a
 -- split-brain too; a split-brain needs that each of its copies missed something, and where attempts come one at a time a
 -- whole copy is left in it; a change that enough bricks didn't fail is acknowledged. Each work took no more lines than it
--- costs, and each lock was asked above all that its actor held
+-- costs, and each Work lock was asked above all those that its actor held
 pub record IsRight (p : Plan) (log : List Line) : Type 0 where
   pub follows : Follows p log
   pub honest : Honest p log
