@@ -3,3 +3,4 @@ pub mod Durable
 pub mod Missed
 pub mod Available
 pub mod WholeCopy
+pub mod Converged

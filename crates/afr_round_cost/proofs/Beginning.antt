@@ -1,5 +1,5 @@
 -- A healer is within its costs at first and as a round begins, and a line beside it changes nothing.
-use Rattle.std.proofs.Common.{◌≡◌, ℕ, [], Option, None, Some, refl, sym, ap, arith, subst}
+use Rattle.std.proofs.Common.{◌≡◌, ℕ, [], ◌∷◌, Option, None, Some, refl, sym, ap, arith, subst}
 use Rattle.afr_bound.specs.Cost.{objects_of, spent}
 use Rattle.afr_daemon.specs.Round.{Progress}
 use Rattle.afr_healer.specs.Rounding.{Rounding, made_ready, ready_at}
@@ -52,4 +52,11 @@ paced_ready costs p a log servers b x z healer acting is k = subst (IsPacedRound
 
 -- ---- a line of anybody else
 pub paced_other : RoundPacedOther
-paced_other p c line log round other k = record { within = λ cost e. (let not_ended = other_ends c line other in rw other (k.within cost (rw not_ended at e))); rooted = k.rooted }
+paced_other p c line log round other k = record {
+  within = λ cost e. (
+      let not_ended = other_ends c line other in
+      let same : spent (work c (line ∷ log)) ≡ spent (work c log) = rw other refl in
+      let h = k.within cost (rw not_ended at e) in
+      omega (arith, same, h));
+  rooted = k.rooted;
+}

@@ -1,0 +1,9 @@
+pub mod Parts
+pub mod Spared
+mod Splits
+mod Leaving
+mod Standing
+mod Lines
+mod Rounds
+mod Heals
+mod Passes
