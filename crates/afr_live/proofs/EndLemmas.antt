@@ -1,5 +1,5 @@
 -- What a turn and an event add to the works that have ended.
-use Rattle.std.proofs.Common.{◌≡◌, ◌≤◌, ◌<◌, ◌+◌, ◌-◌, ◌*◌, ◌^◌, ℕ, Bool, true, false, None, Ok, Result, List, [], ◌∷◌, length, refl, sym, ap, arith, ◌∙◌}
+use Rattle.std.proofs.Common.{◌≡◌, ◌≤◌, ◌<◌, ◌+◌, ◌^◌, ℕ, Bool, true, false, None, List, [], ◌∷◌, length, refl, sym, ap, arith, ◌∙◌}
 use Rattle.afr_base.specs.declared.ids.ActorId.{ActorId}
 use Rattle.afr_lines.specs.Work.{is_end}
 use Rattle.afr_lines.specs.declared.line.Line.{Line}
@@ -39,19 +39,3 @@ moved_ends a old new turned h moved b tells is =
     let adds = moved_line a old new turned h moved in
     let ends : is_end adds.line ≡ true = sym (tells adds.line old.log adds.added) ∙ is in
     rw (adds.added, ends) refl
-
--- what two answers hand out is the same where the answers are
-pub ok_same : {A B : Type 0} (x y : A) → ◌≡◌ {A = Result A B} (Ok x) (Ok y) → x ≡ y
-ok_same x y h = cc
-
--- the lines that passes may still add, counted twice, and once more while a pass may pass somebody over
-abbrev pub left : ℕ → ℕ → Bool → ℕ
-left turns len true = 2 * (turns - len) + 1
-left turns len false = 2 * (turns - len)
-
-pub left_falls : (turns turns' before after : ℕ) (passing moved : Bool) → turns' ≡ turns → before ≤ after → after ≤ turns' → (moved ≡ true → before < after) → (moved ≡ false → passing ≡ true)
-    → left turns' after moved < left turns before passing
-left_falls turns turns' before after true true same grows room more still = omega (arith, same, room, more refl)
-left_falls turns turns' before after false true same grows room more still = omega (arith, same, room, more refl)
-left_falls turns turns' before after true false same grows room more still = omega (arith, same, grows, room)
-left_falls turns turns' before after false false same grows room more still = let e : false ≡ true = still refl in cc

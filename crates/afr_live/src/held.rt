@@ -1,0 +1,58 @@
+//! Who was told that another holds its lock, since the last line that told of something else.
+ghost use Rattle.std.specs.Prelude.{◌≡◌, ◌<◌, nat_lt, length, replicate, slice_set};
+ghost use Rattle.afr_live.specs.Noted.{is_noted};
+
+use afr_base::ActorId;
+
+/// One more than the highest number of an actor.
+const ACTORS: usize = 20;
+
+/// What is noted of the lines that told an actor Held on a transaction's lock.
+#[derive(Drop)]
+pub struct Held {
+    /// The length of the log after the last line that wasn't told so.
+    moved: u32,
+    /// By the numbers of the actors: the length of the log after the last line of each that was told so.
+    told: [u32; ACTORS],
+}
+
+impl Held {
+    pub fn new() -> Held
+        ensures { result ≡ record { moved = 0; told = replicate 20 0 } }
+    {
+        Held {
+            moved: 0,
+            told: [0; ACTORS],
+        }
+    }
+
+    /// Notes the length of the log after another line.
+    pub fn note_moved(&mut self, len: u32)
+        ensures { self.new ≡ record self.old { moved = len } }
+    {
+        self.moved = len;
+    }
+
+    /// Notes the length of the log after an actor was told so.
+    pub fn note_held(&mut self, a: ActorId, len: u32)
+        requires { a.0 < 20 }
+        ensures { self.new ≡ record self.old { told = slice_set self.old.told a.0 len } }
+    {
+        self.told[a.0 as usize] = len;
+    }
+
+    /// Whether the actor was told so, and since then came no other line than such ones.
+    pub fn has(&self, a: ActorId) -> bool
+        ensures { a.0 < 20 → result ≡ is_noted self.now a.0 }
+    {
+        match self.told.get(a.0 as usize) {
+            Some(told) => *told > self.moved,
+            None => false,
+        }
+    }
+
+    /// Whether another line came after so many lines.
+    pub fn has_moved(&self, before: u32) -> bool {
+        self.moved > before
+    }
+}
