@@ -33,8 +33,8 @@ const SHORT: &str =
 /// The summary of the load of number 1.
 const SUMMARY: &str = "gen 1\nlines 79\nok 4\nrefused 0\nsettled 0\nobjects 3\nsplit-brain 0\n";
 
-/// Words, plan, status and text.
-const CASES: [(&[&str], &str, u8, &str); 58] = [
+/// Words, plan, status and text. The plans that stand in plans/ are compared from there, by plans/check.
+const CASES: [(&[&str], &str, u8, &str); 31] = [
     (&[], PLAN, 2, USAGE),
     (&["help"], "", 2, USAGE),
     (&["run", "x"], PLAN, 2, USAGE),
@@ -78,85 +78,7 @@ const CASES: [(&[&str], &str, u8, &str); 58] = [
         0,
         "afr arbiter 3\nlines 0\nreach 0 1 2\nobjects 0\nsplit-brain 0\n",
     ),
-    (
-        &["run"],
-        "afr 1\nvolume replica\nfiles 0\nturns 100000\nend\n",
-        0,
-        "afr replica 3\nlines 0\nreach 0 1 2\nobjects 0\nsplit-brain 0\n",
-    ),
-    (
-        &["run"],
-        "afr 1\nvolume replica\nfiles 1\nturns 100000\nclient 1\nmkdir /d\ncreate /d/a\nrmdir /d\nunlink /d\nunlink /d/a\nrmdir /d\nls /\ncreate /f1/x\nmkdir /d2/e\ncreate /f1\nend\n",
-        0,
-        "afr replica 3\nlines 160\nc1 10 of 10\n1 mkdir ok\n2 create ok\n3 rmdir not-empty\n4 unlink is-dir\n5 unlink ok\n6 rmdir ok\n7 ls ok f1\n8 create not-dir\n9 mkdir no-entry\n10 create exists\nreach 0 1 2\nobjects 0\nsplit-brain 0\n",
-    ),
-    (
-        &["run"],
-        "afr 1\nvolume replica\nfiles 0\nturns 100000\nclient 1\ncreate /a\nclient 2\ncreate /a\nend\n",
-        0,
-        "afr replica 3\nlines 49\nc1 1 of 1\n1 create ok\nc2 1 of 1\n1 create exists\nreach 0 1 2\nobjects 0\nsplit-brain 0\n",
-    ),
-    (
-        &["run"],
-        "afr 1\nvolume replica\nfiles 1\nturns 100000\nclient 1\nunlink /f1\nclient 2\nstat /f1\nat 0 stop 2\nat 17 start 2\ngo c1 16\nend\n",
-        0,
-        "afr replica 3\nlines 23\nc1 1 of 1\n1 unlink ok\nc2 1 of 1\n1 stat no-entry\nreach 0 1 2\nobjects 1\nobject 00000000-0000-0000-0000-000000000001\nentry good 0 1\nb0 trusted.afr.vol-client-2=0x000000000000000000000001\nb1 trusted.afr.vol-client-2=0x000000000000000000000001\nsplit-brain 0\n",
-    ),
     (&["run"], PLAN, 0, REPORT),
-    (
-        &["run"],
-        "afr 1\nvolume replica\nfiles 1\nturns 100000\nclient 1\nwrite /f1 0 \"hello\"\nread /f1 3 10\nread /f1 9 4\nread /f1 0 0\nwrite /f1 0 \"\"\nend\n",
-        0,
-        "afr replica 3\nlines 55\nc1 5 of 5\n1 write ok\n2 read ok 6c6f\n3 read ok -\n4 read ok -\n5 write ok\nreach 0 1 2\nobjects 0\nsplit-brain 0\n",
-    ),
-    (
-        &["run"],
-        "afr 1\nvolume replica\nfiles 1\nturns 100000\nclient 1\nwrite /f1 0 \"a\"\nclient 2\nwrite /f1 0 \"b\"\nend\n",
-        0,
-        "afr replica 3\nlines 64\nc1 1 of 1\n1 write ok\nc2 1 of 1\n1 write ok\nreach 0 1 2\nobjects 0\nsplit-brain 0\n",
-    ),
-    (
-        &["run"],
-        "afr 1\nvolume replica\nfiles 1\nturns 100000\nclient 1\nwrite /f1 0 \"hello\"\nat 0 stop 2\nend\n",
-        0,
-        "afr replica 3\nlines 20\nc1 1 of 1\n1 write ok\nreach 0 1\nobjects 1\nobject 00000000-0000-0001-0000-000000000001\ndata good 0 1\nb0 trusted.afr.vol-client-2=0x000000010000000000000000\nb1 trusted.afr.vol-client-2=0x000000010000000000000000\nsplit-brain 0\n",
-    ),
-    (
-        &["run"],
-        "afr 1\nvolume replica\nfiles 1\nturns 100000\nclient 1\nwrite /f1 0 \"hello\"\nfault 2 5 lost\nend\n",
-        0,
-        "afr replica 3\nlines 22\nc1 1 of 1\n1 write ok\nreach 0 1 2\nobjects 1\nobject 00000000-0000-0001-0000-000000000001\ndata good 0 1\nb0 trusted.afr.vol-client-2=0x000000010000000000000000\nb1 trusted.afr.vol-client-2=0x000000010000000000000000\nb2 trusted.afr.dirty=0x000000010000000000000000\nsplit-brain 0\n",
-    ),
-    (
-        &["run"],
-        "afr 1\nvolume replica\nfiles 1\nturns 100000\nclient 1\nwrite /f1 0 \"hello\"\nfault 1 5 fail\nfault 2 5 fail\nend\n",
-        0,
-        "afr replica 3\nlines 21\nc1 1 of 1\n1 write failed\nreach 0 1 2\nobjects 1\nobject 00000000-0000-0001-0000-000000000001\ndata good 0 1 2\nb0 trusted.afr.dirty=0x000000010000000000000000\nb1 trusted.afr.dirty=0x000000010000000000000000\nb2 trusted.afr.dirty=0x000000010000000000000000\nsplit-brain 0\n",
-    ),
-    (
-        &["run"],
-        "afr 1\nvolume replica\nfiles 1\nturns 100000\nclient 1\nwrite /f1 0 \"1\"\nwrite /f1 0 \"2\"\nwrite /f1 0 \"3\"\nread /f1 0 1\nfault 1 8 fail\nfault 2 6 fail\nat 0 stop 1\nat 20 start 1\nat 20 stop 2\nat 41 start 2\nat 41 stop 0\nat 62 start 0\nend\n",
-        0,
-        "afr replica 3\nlines 71\nc1 4 of 4\n1 write failed\n2 write failed\n3 write ok\n4 read split-brain\nreach 0 1 2\nobjects 1\nobject 00000000-0000-0001-0000-000000000001\ndata split\nb0 trusted.afr.vol-client-1=0x000000010000000000000000\nb0 trusted.afr.vol-client-2=0x000000010000000000000000\nb1 trusted.afr.dirty=0x000000010000000000000000\nb1 trusted.afr.vol-client-0=0x000000010000000000000000\nb2 trusted.afr.dirty=0x000000010000000000000000\nb2 trusted.afr.vol-client-0=0x000000010000000000000000\nsplit-brain 1\n",
-    ),
-    (
-        &["run"],
-        "afr 1\nvolume replica\nfiles 1\nturns 100000\nclient 1\nwrite /f1 0 \"hello\"\nclient 2\nread /f1 0 5\nread /f1 0 5\nat 15 kill c1\nat 25 stop 0\ngo c1 15\nend\n",
-        0,
-        "afr replica 3\nlines 35\nc1 0 of 1 dead\nc2 2 of 2\n1 read ok 68656c6c6f\n2 read ok -\nreach 1 2\nobjects 1\nobject 00000000-0000-0001-0000-000000000001\ndata good 1 2\nb1 trusted.afr.dirty=0x000000010000000000000000\nb2 trusted.afr.dirty=0x000000010000000000000000\nsplit-brain 0\n",
-    ),
-    (
-        &["run"],
-        "afr 1\nvolume replica\nfiles 1\nturns 100000\nclient 1\nwrite /f1 0 \"A\"\nclient 2\nwrite /f1 0 \"B\"\nat 0 cut c1 2\nat 0 cut c2 1\nat 14 stop 0\nat 14 start 0\ngo c1 12\ngo c2 19\nend\n",
-        0,
-        "afr replica 3\nlines 39\nc1 1 of 1\n1 write failed\nc2 1 of 1\n1 write ok\nreach 0 1 2\nobjects 1\nobject 00000000-0000-0001-0000-000000000001\ndata good 0 2\nb0 trusted.afr.dirty=0x000000010000000000000000\nb0 trusted.afr.vol-client-1=0x000000010000000000000000\nb1 trusted.afr.dirty=0x000000010000000000000000\nb2 trusted.afr.vol-client-1=0x000000010000000000000000\nsplit-brain 0\n",
-    ),
-    (
-        &["run"],
-        "afr 1\nvolume replica\nfiles 2\nturns 1000\nclient 1\nwrite /f1 0 \"hello, world\"\nsetattr /f1 note draft\ngetattr /f1 note\ncut /f1 5\nstat /f1\nread /f1 0 100\nclient 2\ngetattr /f2 none\nstat /f2\nstat /none\nsetattr / note root\nend\n",
-        0,
-        "afr replica 3\nlines 140\nc1 6 of 6\n1 write ok\n2 setattr ok\n3 getattr ok draft\n4 cut ok\n5 stat ok file 00000000-0000-0001-0000-000000000001 5\n6 read ok 68656c6c6f\nc2 4 of 4\n1 getattr ok -\n2 stat ok file 00000000-0000-0001-0000-000000000002 0\n3 stat no-entry\n4 setattr ok\nreach 0 1 2\nobjects 0\nsplit-brain 0\n",
-    ),
     (
         &["run"],
         "afr 1\nvolume replica\nfiles 10\nturns 1000\nclient 1\nls /\nls /f1\nls /none\nend\n",
@@ -186,12 +108,6 @@ const CASES: [(&[&str], &str, u8, &str); 58] = [
         "afr 1\nvolume replica\nfiles 1\nturns 100000\nclient 1\nsetattr /f1 owner alice\nhealer 1\nround 0\nat 0 stop 1\nat 20 start 1\ngo c1 19\nend\n",
         0,
         "afr replica 3\nlines 65\nc1 1 of 1\n1 setattr ok\nh1 1 of 1\n1 round ok\nmetadata 00000000-0000-0001-0000-000000000001 settled\nreach 0 1 2\nobjects 0\nsplit-brain 0\n",
-    ),
-    (
-        &["run"],
-        "afr 1\nvolume replica\nfiles 1\nturns 100000\nclient 1\nwrite /f1 0 \"aaaaa\"\nwrite /f1 0 \"bbbbb\"\nhealer 1\nround 0\nat 0 stop 2\nat 20 start 2\nat 20 cut h1 1\nat 54 stop 0\nat 54 start 0\nat 54 cut c1 2\ngo c1 19\ngo h1 32\ngo c1 19\nend\n",
-        0,
-        "afr replica 3\nlines 82\nc1 2 of 2\n1 write ok\n2 write ok\nh1 1 of 1\n1 round ok\ndata 00000000-0000-0001-0000-000000000001 failed\nreach 0 1 2\nobjects 1\nobject 00000000-0000-0001-0000-000000000001\ndata good 0 1\nb0 trusted.afr.vol-client-2=0x000000020000000000000000\nb1 trusted.afr.vol-client-2=0x000000020000000000000000\nb2 trusted.afr.dirty=0x000000010000000000000000\nsplit-brain 0\n",
     ),
     (
         &["run"],
@@ -235,84 +151,6 @@ const CASES: [(&[&str], &str, u8, &str); 58] = [
         "afr 1\nvolume replica\nfiles 1\nturns 1127\nclient 1\nwrite /f1 0 \"1\"\nwrite /f1 0 \"2\"\nwrite /f1 0 \"3\"\nread /f1 0 1\nhealer 1\nround 0\nfault 1 8 fail\nfault 2 6 fail\nat 0 stop 1\nat 20 start 1\nat 20 stop 2\nat 41 start 2\nat 41 stop 0\nat 62 start 0\ngo c1 65\nend\n",
         0,
         "afr replica 3\nlines 107\nc1 4 of 4\n1 write failed\n2 write failed\n3 write ok\n4 read split-brain\nh1 1 of 1\n1 round ok\ndata 00000000-0000-0001-0000-000000000001 split\nreach 0 1 2\nobjects 1\nobject 00000000-0000-0001-0000-000000000001\ndata split\nb0 trusted.afr.vol-client-1=0x000000010000000000000000\nb0 trusted.afr.vol-client-2=0x000000010000000000000000\nb1 trusted.afr.dirty=0x000000010000000000000000\nb1 trusted.afr.vol-client-0=0x000000010000000000000000\nb2 trusted.afr.dirty=0x000000010000000000000000\nb2 trusted.afr.vol-client-0=0x000000010000000000000000\nsplit-brain 1\n",
-    ),
-    (
-        &["run"],
-        "afr 1\nvolume arbiter\nfiles 1\nturns 100000\nclient 1\nwrite /f1 0 \"1\"\nwrite /f1 0 \"2\"\nwrite /f1 0 \"3\"\nat 0 stop 0\nat 20 start 0\nat 20 stop 1\nat 34 start 1\nat 34 stop 2\nend\n",
-        0,
-        "afr arbiter 3\nlines 55\nc1 3 of 3\n1 write ok\n2 write split-brain\n3 write ok\nreach 0 1\nobjects 1\nobject 00000000-0000-0001-0000-000000000001\ndata good 1\nb0 trusted.afr.vol-client-2=0x000000010000000000000000\nb1 trusted.afr.vol-client-0=0x000000010000000000000000\nb1 trusted.afr.vol-client-2=0x000000010000000000000000\nsplit-brain 0\n",
-    ),
-    (
-        &["run"],
-        "afr 1\nvolume arbiter\nfiles 1\nturns 100000\nclient 1\nwrite /f1 0 \"hello\"\nhealer 1\nround 0\nat 0 stop 1\nat 20 start 1\ngo c1 19\nend\n",
-        0,
-        "afr arbiter 3\nlines 84\nc1 1 of 1\n1 write ok\nh1 1 of 1\n1 round ok\ndata 00000000-0000-0001-0000-000000000001 settled\nreach 0 1 2\nobjects 0\nsplit-brain 0\n",
-    ),
-    (
-        &["run"],
-        "afr 2\nvolume replica 5\nfiles 1\nturns 100000\nclient 1\nwrite /f1 0 \"hello\"\nat 0 stop 3\nat 0 stop 4\nend\n",
-        0,
-        "afr replica 5\nlines 30\nc1 1 of 1\n1 write ok\nreach 0 1 2\nobjects 1\nobject 00000000-0000-0001-0000-000000000001\ndata good 0 1 2\nb0 trusted.afr.vol-client-3=0x000000010000000000000000\nb0 trusted.afr.vol-client-4=0x000000010000000000000000\nb1 trusted.afr.vol-client-3=0x000000010000000000000000\nb1 trusted.afr.vol-client-4=0x000000010000000000000000\nb2 trusted.afr.vol-client-3=0x000000010000000000000000\nb2 trusted.afr.vol-client-4=0x000000010000000000000000\nsplit-brain 0\n",
-    ),
-    (
-        &["run"],
-        "afr 1\nvolume replica\nfiles 1\nturns 100000\nclient 1\nmkdir /d\ncreate /d/a\nwrite /d/a 0 \"hello\"\nls /d\nunlink /d/a\nunlink /d\ncreate /f1/x\nmkdir /d2/e\ncreate /f1\nstat /d/a\nend\n",
-        0,
-        "afr replica 3\nlines 149\nc1 10 of 10\n1 mkdir ok\n2 create ok\n3 write ok\n4 ls ok a\n5 unlink ok\n6 unlink is-dir\n7 create not-dir\n8 mkdir no-entry\n9 create exists\n10 stat no-entry\nreach 0 1 2\nobjects 0\nsplit-brain 0\n",
-    ),
-    (
-        &["run"],
-        "afr 1\nvolume replica\nfiles 10\nturns 1000\nclient 1\nls /\nls /f1\nls /none\nls /\nls /\nat 15 stop 0\nat 21 stop 1\nend\n",
-        0,
-        "afr replica 3\nlines 26\nc1 5 of 5\n1 ls ok f1 f10 f2 f3 f4 f5 f6 f7 f8 f9\n2 ls not-dir\n3 ls no-entry\n4 ls ok f1 f10 f2 f3 f4 f5 f6 f7 f8 f9\n5 ls no-quorum\nreach 2 short\nobjects 0\nsplit-brain 0\n",
-    ),
-    (
-        &["run"],
-        "afr 1\nvolume replica\nfiles 0\nturns 100000\nclient 1\nmkdir /d\ncreate /d/a\nstat /d/a\nat 0 stop 2\nat 20 start 2\nend\n",
-        0,
-        "afr replica 3\nlines 50\nc1 3 of 3\n1 mkdir ok\n2 create ok\n3 stat ok file 00000000-0000-0000-0000-00000000001e 0\nreach 0 1 2\nobjects 2\nobject 00000000-0000-0000-0000-000000000001\nentry good 0 1\nb0 trusted.afr.vol-client-2=0x000000000000000000000001\nb1 trusted.afr.vol-client-2=0x000000000000000000000001\nobject 00000000-0000-0000-0000-000000000009\nentry good 0 1\nb0 trusted.afr.vol-client-2=0x000000000000000000000001\nb1 trusted.afr.vol-client-2=0x000000000000000000000001\nsplit-brain 0\n",
-    ),
-    (
-        &["run"],
-        "afr 1\nvolume replica\nfiles 1\nturns 100000\nclient 1\nwrite /f1 0 \"hello\"\nhealer 1\nround 0\nat 0 stop 2\nat 20 start 2\ngo c1 100\nend\n",
-        0,
-        "afr replica 3\nlines 87\nc1 1 of 1\n1 write ok\nh1 1 of 1\n1 round ok\ndata 00000000-0000-0001-0000-000000000001 settled\nreach 0 1 2\nobjects 0\nsplit-brain 0\n",
-    ),
-    (
-        &["run"],
-        "afr 1\nvolume replica\nfiles 1\nturns 100000\nclient 1\nsetattr /f1 owner alice\nhealer 1\nround 0\nat 0 stop 2\nat 20 start 2\ngo c1 100\nend\n",
-        0,
-        "afr replica 3\nlines 65\nc1 1 of 1\n1 setattr ok\nh1 1 of 1\n1 round ok\nmetadata 00000000-0000-0001-0000-000000000001 settled\nreach 0 1 2\nobjects 0\nsplit-brain 0\n",
-    ),
-    (
-        &["run"],
-        "afr 1\nvolume replica\nfiles 0\nturns 100000\nclient 1\ncreate /a\nclient 2\ncreate /a\nclient 3\nstat /a\nstat /a\nhealer 1\nround 0\nat 12 kill c1\nat 12 cut c2 0\nat 24 kill c2\ngo c1 12\ngo c2 10\ngo c3 8\ngo h1 1000\nend\n",
-        0,
-        "afr replica 3\nlines 89\nc1 0 of 1 dead\nc2 0 of 1 dead\nc3 2 of 2\n1 stat ok file 00000000-0000-0000-0000-000000000009 0\n2 stat ok file 00000000-0000-0000-0000-000000000016 0\nh1 1 of 1\n1 round ok\nentry 00000000-0000-0000-0000-000000000001 settled\nreach 0 1 2\nobjects 0\nsplit-brain 0\n",
-    ),
-    (
-        &["run"],
-        "afr 1\nvolume replica\nfiles 1\nturns 100000\nclient 1\nwrite /f1 0 \"1\"\nwrite /f1 0 \"2\"\nwrite /f1 0 \"3\"\nread /f1 0 1\nhealer 1\nround 0\nfault 1 8 fail\nfault 2 6 fail\nat 0 stop 1\nat 20 start 1\nat 20 stop 2\nat 41 start 2\nat 41 stop 0\nat 62 start 0\ngo c1 1000\nend\n",
-        0,
-        "afr replica 3\nlines 107\nc1 4 of 4\n1 write failed\n2 write failed\n3 write ok\n4 read split-brain\nh1 1 of 1\n1 round ok\ndata 00000000-0000-0001-0000-000000000001 split\nreach 0 1 2\nobjects 1\nobject 00000000-0000-0001-0000-000000000001\ndata split\nb0 trusted.afr.vol-client-1=0x000000010000000000000000\nb0 trusted.afr.vol-client-2=0x000000010000000000000000\nb1 trusted.afr.dirty=0x000000010000000000000000\nb1 trusted.afr.vol-client-0=0x000000010000000000000000\nb2 trusted.afr.dirty=0x000000010000000000000000\nb2 trusted.afr.vol-client-0=0x000000010000000000000000\nsplit-brain 1\n",
-    ),
-    (
-        &["run"],
-        "afr 1\nvolume replica\nfiles 1\nturns 100000\nclient 1\nsetattr /f1 owner alice\nhealer 1\nround 0\nhealer 2\nround 1\nat 0 stop 2\nat 20 start 2\ngo c1 100\nend\n",
-        0,
-        "afr replica 3\nlines 71\nc1 1 of 1\n1 setattr ok\nh1 1 of 1\n1 round ok\nmetadata 00000000-0000-0001-0000-000000000001 settled\nh2 1 of 1\n1 round ok\nmetadata 00000000-0000-0001-0000-000000000001 busy h1\ndata 00000000-0000-0001-0000-000000000001 busy h1\nreach 0 1 2\nobjects 0\nsplit-brain 0\n",
-    ),
-    (
-        &["run"],
-        "afr 1\nvolume replica\nfiles 1\nturns 100000\nclient 1\nwrite /f1 0 \"hello\"\nwrite /f1 0 \"HELLO\"\nhealer 1\nround 0\nat 0 stop 2\nat 20 start 2\nat 20 cut c1 2\ngo c1 19\ngo h1 37\nend\n",
-        0,
-        "afr replica 3\nlines 122\nc1 2 of 2\n1 write ok\n2 write ok\nh1 1 of 1\n1 round ok\ndata 00000000-0000-0001-0000-000000000001 settled\nreach 0 1 2\nobjects 1\nobject 00000000-0000-0001-0000-000000000001\ndata good 0 1\nb0 trusted.afr.vol-client-2=0x000000010000000000000000\nb1 trusted.afr.vol-client-2=0x000000010000000000000000\nsplit-brain 0\n",
-    ),
-    (
-        &["run"],
-        "afr 1\nvolume replica\nfiles 1\nturns 100000\nclient 1\nwrite /f1 0 \"hello\"\nwrite /f1 0 \"HELLO\"\nhealer 1\nround 0\nround 1\nat 0 stop 2\nat 20 start 2\nat 20 cut c1 0\ngo c1 19\ngo h1 35\ngo c1 100\nend\n",
-        0,
-        "afr replica 3\nlines 157\nc1 2 of 2\n1 write ok\n2 write ok\nh1 2 of 2\n1 round ok\ndata 00000000-0000-0001-0000-000000000001 moved 1\n2 round ok\ndata 00000000-0000-0001-0000-000000000001 settled\nreach 0 1 2\nobjects 0\nsplit-brain 0\n",
     ),
 ];
 
