@@ -1,13 +1,15 @@
 -- What a turn and an event add to the works that have ended.
-use Rattle.std.proofs.Common.{◌≡◌, ◌≤◌, ◌<◌, ◌+◌, ◌^◌, ℕ, Bool, true, false, None, List, [], ◌∷◌, length, refl, sym, ap, arith, ◌∙◌}
+use Rattle.std.proofs.Common.{◌≡◌, ◌≤◌, ◌<◌, ◌+◌, ◌^◌, ℕ, Bool, true, false, None, Some, List, [], ◌∷◌, length, refl, sym, ap, arith, ◌∙◌}
 use Rattle.afr_base.specs.declared.ids.ActorId.{ActorId}
 use Rattle.afr_lines.specs.Work.{is_end}
+use Rattle.afr_lines.specs.declared.line.Line.TheVariants.{End}
 use Rattle.afr_lines.specs.declared.line.Line.{Line}
+use Rattle.afr_log.specs.Log.{waits_for}
 use Rattle.afr_order.specs.Going.{IsHappening, Still, Later}
 use Rattle.afr_volume.specs.State.{State}
 use Rattle.afr_volume.specs.Turning.{AddsLine, Turns}
 use Rattle.afr_volume.specs.declared.turned.Turned.{Turned}
-use Rattle.afr_volume.specs.declared.turned.Turned.TheVariants.{Moved}
+use Rattle.afr_volume.specs.declared.turned.Turned.TheVariants.{Moved, Waits, Ended, Full}
 use Rattle.afr_live.specs.Ends.{works_ended}
 
 few_at : (line : Line) (older : List Line) (b : Bool) → is_end line ≡ b → works_ended older ≤ length older → works_ended (line ∷ older) ≤ length (line ∷ older)
@@ -39,3 +41,23 @@ moved_ends a old new turned h moved b tells is =
     let adds = moved_line a old new turned h moved in
     let ends : is_end adds.line ≡ true = sym (tells adds.line old.log adds.added) ∙ is in
     rw (adds.added, ends) refl
+
+-- a line that waits for somebody ends nothing
+waits_on : (line : Line) (owner : ActorId) → waits_for line ≡ Some owner → is_end line ≡ false
+waits_on (End a said) owner e = absurd (cc e)
+waits_on line owner e = refl
+
+-- where it ends no work, or no line was added, as many have ended
+pub still_ends : (a : ActorId) (old new : State) (turned : Turned) → Turns a old turned new → turned ≡ Moved
+    → (b : Bool) → ((line : Line) (older : List Line) → new.log ≡ line ∷ older → b ≡ is_end line) → b ≡ false
+    → works_ended new.log ≡ works_ended old.log
+still_ends a old new turned h moved b tells is =
+    let adds = moved_line a old new turned h moved in
+    let goes_on : is_end adds.line ≡ false = sym (tells adds.line old.log adds.added) ∙ is in
+    rw (adds.added, goes_on) refl
+
+pub unmoved_ends : (a : ActorId) (old new : State) (turned : Turned) → Turns a old turned new → (turned ≡ Moved → ⊥) → works_ended new.log ≡ works_ended old.log
+unmoved_ends a old new Moved h other = absurd (other refl)
+unmoved_ends a old new (Waits owner) h other = (let goes_on : is_end h.line ≡ false = waits_on h.line owner h.waiting in rw (h.added, goes_on) refl)
+unmoved_ends a old new Ended h other = rw h.1 refl
+unmoved_ends a old new Full h other = rw h.2 refl

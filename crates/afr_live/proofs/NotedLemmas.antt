@@ -1,7 +1,7 @@
 -- What is noted of those who were told that another holds their lock follows the log.
 use Rattle.std.proofs.Common.{◌≡◌, ◌⊎◌, ◌||◌, ◌≤◌, ◌<◌, ◌+◌, ℕ, zero, suc, Bool, true, false, None, Some, List, [], ◌∷◌, length, get_or, set, get_or-set_same, get_or-set_other, length-set, replicate, inl, inr, refl, sym, subst, ap, arith, ◌∙◌, true≢false}
 use Rattle.std.specs.Prelude.{is_some, nat_lt}
-use Rattle.std.proofs.lemmas.Bool.{cases_eq, eqb-true}
+use Rattle.std.proofs.lemmas.Bool.{cases_eq, cases_lt, eqb-true}
 use Rattle.std.proofs.lemmas.Bool.Decides.{nat_tests}
 use Rattle.afr_base.specs.declared.ids.ActorId.{ActorId}
 use Rattle.afr_bound.specs.Cost.{is_held_back}
@@ -11,7 +11,7 @@ use Rattle.afr_lines.specs.declared.answer.Told.TheVariants.{Held as HeldBy}
 use Rattle.afr_lines.specs.declared.line.Line.TheVariants.{Ask, Begin, End, Event, HealBegin, HealEnd}
 use Rattle.afr_lines.specs.declared.line.Line.{Line}
 use Rattle.afr_lines.specs.declared.request.Request.TheVariants.{Lock}
-use Rattle.afr_live.specs.Noted.{AreNoted, MayAsk, is_noted, told_at}
+use Rattle.afr_live.specs.Noted.{AreNoted, MayAsk, is_noted, noted_after, told_at}
 use Rattle.afr_live.specs.declared.held.Held.{Held}
 use Rattle.afr_log.specs.Log.{waits_for}
 use Rattle.afr_model.specs.Actors.{IsActor}
@@ -60,6 +60,9 @@ none_noted log held none is = rw (none, is) (record {
   where
     none_told : (a : ℕ) → ◌≡◌ {A = ℕ} (get_or (replicate 20 0) a 0) 0
     none_told a = zeros 20 a
+
+pub none_eager : (log : List Line) → log ≡ [] → AreEager log
+none_eager log none = rw none tt
 
 -- after another line nobody was told so since
 late : (len told : ℕ) → told ≤ len → false ≡ nat_lt len told
@@ -113,10 +116,17 @@ happened_grows : (old new : State) → IsHappening old new → length old.log �
 happened_grows old new Still = omega arith
 happened_grows old new (Later mid _ h comes) = (let low = happened_grows old mid h in rw comes.added (omega (arith, low)))
 
-pub events_noted : (old new : State) (held : Held) (len : ℕ) → IsHappening old new → length old.log < length new.log → len ≡ length new.log → AreNoted old.log held → AreNoted new.log (record held { moved = len })
-events_noted old new held len Still more size n = absurd (omega (arith, more))
-events_noted old new held len (Later mid _ h comes) more size n =
+event_noted : (old new : State) (held : Held) (len : ℕ) → IsHappening old new → length old.log < length new.log → len ≡ length new.log → AreNoted old.log held → AreNoted new.log (record held { moved = len })
+event_noted old new held len Still more size n = absurd (omega (arith, more))
+event_noted old new held len (Later mid _ h comes) more size n =
     noted_moved old.log mid.log new.log (Event comes.event) held len (ap (λ (s : State). s.log) comes.added) refl (happened_grows old mid h) size n
+
+pub events_noted : (old new : State) (held held' : Held) (before len : ℕ) → Goes old new → IsHappening old new → before ≡ length old.log → len ≡ length new.log
+    → (before < len → held' ≡ record held { moved = len }) → (len ≤ before → held' ≡ held) → AreNoted old.log held → AreNoted new.log held'
+events_noted old new held held' before len goes h was size some none n = elim (cases_lt before len) [
+  | inl more ↦ rw (some more) (event_noted old new held len h (omega (arith, more, was, size)) size n)
+  | inr still ↦ rw (none still, goes.same (omega (arith, still, was, size))) n
+]
 
 pub events_eager : (old new : State) → IsHappening old new → AreEager old.log → AreEager new.log
 events_eager old new Still eager = eager
@@ -133,31 +143,22 @@ turn_held a old new owner adds = held_back adds.line ∙ ap is_some adds.waiting
 turn_moved : (a : ActorId) (old new : State) (adds : AddsLine a old None new) → is_held_back adds.line ≡ false
 turn_moved a old new adds = held_back adds.line ∙ ap is_some adds.waiting
 
-pub moved_noted : (a : ActorId) (old new : State) (turned : Turned) (held : Held) (len : ℕ) → Turns a old turned new → turned ≡ Moved → len ≡ length new.log → AreNoted old.log held → AreNoted new.log (record held { moved = len })
-moved_noted a old new turned held len h moved size n = (let adds : AddsLine a old None new = rw moved at h in noted_moved old.log old.log new.log adds.line held len adds.added (turn_moved a old new adds) (omega arith) size n)
-
-pub moved_eager : (a : ActorId) (old new : State) (turned : Turned) → Turns a old turned new → turned ≡ Moved → AreEager old.log → AreEager new.log
-moved_eager a old new turned h moved eager = go (rw moved at h)
-  where
-    go : AddsLine a old None new → AreEager new.log
-    go adds = subst AreEager (sym adds.added) ((λ held b own. absurd (true≢false (sym held ∙ turn_moved a old new adds))), eager)
-
-pub held_noted : (a : ActorId) (old new : State) (turned : Turned) (owner : ActorId) (held : Held) (len : ℕ) → Turns a old turned new → turned ≡ Waits owner → a.0 < 20 → len ≡ length new.log → AreNoted old.log held
-    → AreNoted new.log (record held { told = set held.told a.0 len })
-held_noted a old new turned owner held len h waits low size n = go (rw waits at h)
-  where
-    go : AddsLine a old (Some owner) new → AreNoted new.log (record held { told = set held.told a.0 len })
-    go adds = noted_held old.log new.log adds.line a.0 held len adds.added (turn_held a old new owner adds) adds.own low size n
+-- what is noted after a turn
+pub turn_noted : (a : ActorId) (old new : State) (turned : Turned) (held : Held) (len : ℕ) → Turns a old turned new → a.0 < 20 → len ≡ length new.log → AreNoted old.log held → AreNoted new.log (noted_after held a turned len)
+turn_noted a old new Moved held len h low size n = noted_moved old.log old.log new.log h.line held len h.added (turn_moved a old new h) (omega arith) size n
+turn_noted a old new (Waits owner) held len h low size n = noted_held old.log new.log h.line a.0 held len h.added (turn_held a old new owner h) h.own low size n
+turn_noted a old new Ended held len h low size n = rw h.1 n
+turn_noted a old new Full held len h low size n = rw h.2 n
 
 -- who was told so may ask again only once another line has come
-pub held_eager : (a : ActorId) (old new : State) (turned : Turned) (owner : ActorId) → Turns a old turned new → turned ≡ Waits owner → length new.log ≤ new.plan.turns → MayAsk a.0 old.plan old.log → AreEager old.log → AreEager new.log
-held_eager a old new turned owner h waits room may eager = go (rw waits at h)
+pub turn_eager : (a : ActorId) (old new : State) (turned : Turned) → Turns a old turned new → length new.log ≤ new.plan.turns → MayAsk a.0 old.plan old.log → AreEager old.log → AreEager new.log
+turn_eager a old new Moved h room may eager = subst AreEager (sym h.added) ((λ held b own. absurd (true≢false (sym held ∙ turn_moved a old new h))), eager)
+turn_eager a old new (Waits owner) h room may eager = subst AreEager (sym h.added) ((λ held b own. rw (one_actor h.line a.0 b h.own own) free), eager)
   where
-    free : AddsLine a old (Some owner) new → is_back a.0 old.log ≡ false
-    free adds = elim may [
+    free : is_back a.0 old.log ≡ false
+    free = elim may [
       | inl is ↦ is
-      | inr full ↦ absurd (omega (arith, full, room, ap length adds.added, ap (λ (p : Plan). p.turns) adds.plan))
+      | inr full ↦ absurd (omega (arith, full, room, ap length h.added, ap (λ (p : Plan). p.turns) h.plan))
     ]
-
-    go : AddsLine a old (Some owner) new → AreEager new.log
-    go adds = subst AreEager (sym adds.added) ((λ held b own. rw (one_actor adds.line a.0 b adds.own own) (free adds)), eager)
+turn_eager a old new Ended h room may eager = rw h.1 eager
+turn_eager a old new Full h room may eager = rw h.2 eager

@@ -1,13 +1,16 @@
 -- What is noted of those who were told that another holds their lock.
-use Rattle.std.specs.Prelude.{◌≡◌, ◌⊎◌, ℕ, ◌<◌, ◌≤◌, nat_lt, Bool, true, false, List, [], ◌∷◌, length, slice_index_or}
+use Rattle.std.specs.Prelude.{◌≡◌, ◌⊎◌, ℕ, ◌<◌, ◌≤◌, nat_lt, Bool, true, false, List, [], ◌∷◌, length, slice_index_or, slice_set}
 use Rattle.std.specs.Coded.{×_prop, Unit-prop}
 use Rattle.std.proofs.Props.{props}
+use Rattle.afr_base.specs.declared.ids.ActorId.{ActorId}
 use Rattle.afr_bound.specs.Law.{AreEager, is_back}
 use Rattle.afr_lines.specs.declared.line.Line.{Line}
 use Rattle.afr_live.specs.declared.held.Held.{Held}
 use Rattle.afr_model.specs.Actors.{is_done}
 use Rattle.afr_plan.specs.declared.plan.Plan.{Plan}
 use Rattle.afr_volume.specs.State.{State}
+use Rattle.afr_volume.specs.declared.turned.Turned.{Turned}
+use Rattle.afr_volume.specs.declared.turned.Turned.TheVariants.{Moved, Waits, Ended, Full}
 
 -- how long the log was after the last line that told an actor so
 abbrev pub told_at : Held → ℕ → ℕ
@@ -16,6 +19,13 @@ told_at held a = slice_index_or held.told a 0
 -- whether an actor was told so since the last other line, by what is noted
 abbrev pub is_noted : Held → ℕ → Bool
 is_noted held a = nat_lt held.moved (told_at held a)
+
+-- what is noted after a turn, which left the log so long
+abbrev pub noted_after : Held → ActorId → Turned → ℕ → Held
+noted_after held a Moved len = record held { moved = len }
+noted_after held a (Waits owner) len = record held { told = slice_set held.told a.0 len }
+noted_after held a Ended len = held
+noted_after held a Full len = held
 
 -- what is noted is what the log says
 pub record AreNoted (log : List Line) (held : Held) : Type 0 where

@@ -1,8 +1,9 @@
 //! Who was told that another holds its lock, since the last line that told of something else.
-ghost use Rattle.std.specs.Prelude.{◌≡◌, ◌<◌, nat_lt, length, replicate, slice_set};
-ghost use Rattle.afr_live.specs.Noted.{is_noted};
+ghost use Rattle.std.specs.Prelude.{◌≡◌, ◌<◌, ◌≤◌, replicate};
+ghost use Rattle.afr_live.specs.Noted.{is_noted, noted_after};
 
 use afr_base::ActorId;
+use afr_volume::Turned;
 
 /// One more than the highest number of an actor.
 const ACTORS: usize = 20;
@@ -26,19 +27,26 @@ impl Held {
         }
     }
 
-    /// Notes the length of the log after another line.
-    pub fn note_moved(&mut self, len: u32)
-        ensures { self.new ≡ record self.old { moved = len } }
+    /// Notes the events that came since the log had so many lines.
+    pub fn note_events(&mut self, before: u32, len: u32)
+        ensures some { before < len → self.new ≡ record self.old { moved = len } }
+        ensures none { len ≤ before → self.new ≡ self.old }
     {
-        self.moved = len;
+        if len > before {
+            self.moved = len;
+        }
     }
 
-    /// Notes the length of the log after an actor was told so.
-    pub fn note_held(&mut self, a: ActorId, len: u32)
+    /// Notes the line of an actor's turn, which left the log so long.
+    pub fn note(&mut self, a: ActorId, turned: Turned, len: u32)
         requires { a.0 < 20 }
-        ensures { self.new ≡ record self.old { told = slice_set self.old.told a.0 len } }
+        ensures { self.new ≡ noted_after self.old a turned len }
     {
-        self.told[a.0 as usize] = len;
+        match turned {
+            Turned::Moved => self.moved = len,
+            Turned::Waits(_) => self.told[a.0 as usize] = len,
+            Turned::Ended | Turned::Full => {}
+        }
     }
 
     /// Whether the actor was told so, and since then came no other line than such ones.

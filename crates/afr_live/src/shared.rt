@@ -10,7 +10,8 @@ ghost use Rattle.afr_model.specs.Actors.{IsActor, is_done};
 ghost use Rattle.afr_model.specs.Following.{NoneDue};
 ghost use Rattle.afr_order.specs.Going.{Goes};
 ghost use Rattle.afr_rule.specs.Choosing.{IsRule};
-ghost use Rattle.afr_volume.specs.Turning.{due_of};
+ghost use Rattle.afr_volume.specs.State.{State};
+ghost use Rattle.afr_volume.specs.Turning.{Turns, due_of};
 
 use crate::held::Held;
 use crate::tally::{Handed, Run, Tally};
@@ -75,9 +76,7 @@ impl<J: Run> Shared<J> {
         let Shared { volume, held, .. } = self;
         let before = volume.len();
         let come = come_due(volume);
-        if volume.len() > before {
-            held.note_moved(volume.len());
-        }
+        held.note_events(before, volume.len());
         come
     }
 
@@ -105,19 +104,9 @@ impl<J: Run> Shared<J> {
             ..
         } = self;
         let turned = volume.turn(a, rules)?;
-        match turned {
-            Turned::Moved => {
-                held.note_moved(volume.len());
-                if is_last_end(volume) {
-                    mine.add(ended);
-                }
-            }
-            Turned::Waits(_) => {
-                volume.every_line();
-                held.note_held(a, volume.len());
-            }
-            Turned::Ended | Turned::Full => {}
-        }
+        volume.every_line();
+        held.note(a, turned, volume.len());
+        count(volume, a, turned, ended, mine);
         Ok(turned)
     }
 
@@ -194,7 +183,10 @@ impl<J: Run> Shared<J> {
     pub fn waits(&self, a: ActorId) -> bool
         ensures { IsActor J.plan a.0 → result ≡ false → MayAsk a.0 self.now.volume.plan self.now.volume.log }
     {
-        self.is_held(a) && !self.is_full()
+        if self.is_full() {
+            return false;
+        }
+        self.is_held(a)
     }
 
     /// Whether the actor's thread goes on waiting.
@@ -211,6 +203,30 @@ impl<J: Run> Shared<J> {
         ensures { result ≡ true → self.now.volume.plan.turns ≤ length self.now.volume.log }
     {
         self.volume.len() >= self.volume.plan().turns
+    }
+}
+
+/// Counts the work that the line of an actor's turn has ended.
+fn count<J: Run>(
+    volume: &Volume,
+    a: ActorId,
+    turned: Turned,
+    ended: &mut Book<J>,
+    mine: &mut Tally<J>,
+)
+    requires counted { (old : State) × Turns a old turned volume.now × (ended.old.total ≡ works_ended old.log) }
+    requires backed { 0 < mine.old.share.parts }
+    ensures counted { ended.new.total ≡ works_ended volume.now.log }
+    ensures parts { mine.new.share.parts ≡ mine.old.share.parts }
+{
+    let _len = volume.len();
+    match turned {
+        Turned::Moved => {
+            if is_last_end(volume) {
+                mine.add(ended);
+            }
+        }
+        _ => {}
     }
 }
 
