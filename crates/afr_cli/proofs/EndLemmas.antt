@@ -1,5 +1,6 @@
 -- A log that is full too early is one of a plan with fewer turns than its bound.
-use Rattle.std.proofs.Common.{◌≡◌, ◌⊎◌, ◌+◌, ◌*◌, ◌≤◌, ◌<◌, ℕ, List, [], true, false, length, inl, inr, sym, ◌∙◌, subst, true≢false}
+use Rattle.std.proofs.Common.{Result, Ok, Err, ◌≡◌, ◌⊎◌, ◌+◌, ◌*◌, ◌≤◌, ◌<◌, ℕ, List, [], true, false, length, inl, inr, sym, ◌∙◌, subst, true≢false}
+use Rattle.std.specs.Prelude.{OnOk, is_err}
 use Rattle.std.proofs.lemmas.Bool.{cases_lt}
 use Rattle.afr_bound.specs.Law.{AreEager}
 use Rattle.afr_bound.specs.Left.{bound_of}
@@ -11,6 +12,11 @@ use Rattle.afr_model.specs.Ordered.{actors_of}
 use Rattle.afr_order.specs.Ending.{EndsInBound}
 use Rattle.afr_plan.specs.declared.plan.Plan.{Plan}
 use Rattle.afr_volume.specs.State.{State, no_volume}
+
+-- what an answer promises that is no error
+pub unless_err : {A E : Type 0} (result : Result A E) (P : Type 0) → is_err result ≡ false → OnOk result P → P
+unless_err (Ok x) P none h = h
+unless_err (Err e) P none h = absurd (true≢false none)
 
 pub short_plan : (p : Plan) (log : List Line) → EndsInBound p log → IsWorkLeft p log → IsShort p
 short_plan p log ends work = elim (cases_lt p.turns (bound_of p)) [

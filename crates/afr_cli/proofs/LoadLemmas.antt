@@ -1,5 +1,5 @@
 -- The plan of a generated load has more turns than its bound.
-use Rattle.std.proofs.Common.{◌≡◌, ◌+◌, ◌*◌, ◌≤◌, ◌<◌, ◌%◌, ◌==◌, ℕ, zero, suc, Bool, true, false, List, [], ◌∷◌, ◌++◌, length, refl, sym, ap, arith, ◌∙◌}
+use Rattle.std.proofs.Common.{◌≡◌, ◌≢◌, ◌⊎◌, ◌+◌, ◌*◌, ◌≤◌, ◌<◌, ◌%◌, ◌==◌, ℕ, zero, suc, Bool, true, false, List, [], ◌∷◌, ◌++◌, length, inl, inr, refl, sym, subst, ap, arith, ◌∙◌}
 use Rattle.std.specs.Prelude.{map, if◌then◌else◌}
 use Rattle.afr_bound.specs.Cost.{cost_of, makes, total}
 use Rattle.afr_bound.specs.Left.{bound_of, itself}
@@ -7,6 +7,7 @@ use Rattle.afr_cli.specs.Statuses.{IsShort}
 use Rattle.afr_gen.specs.Generated.{block, command, generated, lot, offset, path, plan_with, script, sets, values}
 use Rattle.afr_plan.specs.declared.command.Command.{Command}
 use Rattle.afr_plan.specs.declared.command.Command.TheVariants.{Read, SetAttr, Write}
+use Rattle.afr_plan.specs.declared.plan.Plan.{Plan}
 
 total-append : {A : Type 0} (f : A → ℕ) (xs ys : List A) → total f (xs ++ ys) ≡ total f xs + total f ys
 total-append f [] ys = omega arith
@@ -83,3 +84,15 @@ load_turns n = refl
 -- so it isn't short
 pub load_long : (n : ℕ) → n ≤ 2000 → IsShort (generated n) → ⊥
 load_long n few short = (let bound = load_bound n few in let turns = load_turns n in omega (arith, bound, turns, short))
+
+-- so a run of it doesn't end with a log that is full too early
+pub load_few : (n r : ℕ) (p : Plan) → n ≤ 2000 → (r ≡ 7 → IsShort p) → (r ≢ 6 → p ≡ generated n) → (r ≡ 0) ⊎ (r ≡ 5) ⊎ (r ≡ 6) ⊎ (r ≡ 7) → (r ≡ 0) ⊎ (r ≡ 5) ⊎ (r ≡ 6)
+load_few n r p few short ran (inl e) = inl e
+load_few n r p few short ran (inr (inl e)) = inr (inl e)
+load_few n r p few short ran (inr (inr (inl e))) = inr (inr e)
+load_few n r p few short ran (inr (inr (inr e))) = absurd (load_long n few (subst IsShort (ran (λ six. omega (arith, six, e))) (short e)))
+
+pub not_full : (r : ℕ) → (r ≡ 0) ⊎ (r ≡ 5) ⊎ (r ≡ 6) → r ≡ 7 → ⊥
+not_full r (inl e) seven = omega (arith, e, seven)
+not_full r (inr (inl e)) seven = omega (arith, e, seven)
+not_full r (inr (inr e)) seven = omega (arith, e, seven)

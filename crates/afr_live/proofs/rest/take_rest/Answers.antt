@@ -7,5 +7,5 @@ use Rattle.afr_live.proofs.rest.take_rest.Goals as goal
 pub returns-then-len-before-clause-ok : goal.returns-then-len-before-clause-ok
 returns-then-len-before-clause-ok g c =
     let on : c.in_ok-take_pass.field-0 ≡ true = grind (arith, common_steps) in
-    let still : length c.take_pass.new.state.volume.log ≤ length c.loop-state.state.volume.log = omega (arith, c.len.ensures, c.len-before.ensures, c.if-len-before.true) in
+    let still : length c.take_pass.new.state.volume.log ≤ length c.loop.state.volume.log = omega (arith, c.len.ensures, c.len-before.ensures, c.if-len-before.true) in
     complete c.take_pass.new.state.volume c.every_line.ensures.room (c.in_ok-take_pass.ensures.idle (ap Ok on) still) c.every_line.ensures.settled

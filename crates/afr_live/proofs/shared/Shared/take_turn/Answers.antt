@@ -12,8 +12,8 @@ note-requires g c =
 pub count-requires-clause-counted : goal.count-requires-clause-counted
 count-requires-clause-counted g c = (c.come_due.new.self.volume, c.in_ok-turned.ensures.ok, c.come_due.new.self.counted)
 
-pub invariant_of-self : goal.invariant_of-self
-invariant_of-self g c =
+pub invariant_of-self-2 : goal.invariant_of-self-2
+invariant_of-self-2 g c =
     let same = (turn_goes c.args.a c.come_due.new.self.volume c.turn.new.self c.in_ok-turned.turned c.in_ok-turned.ensures.ok).plan ∙ c.come_due.new.self.planned in
     let low : c.args.a.0 < 20 = low_actor g.J.Run.plan c.args.a.0 (rw same at c.every_line.ensures.clients) (rw same at c.every_line.ensures.healers) c.requires.actor in
     record {
@@ -23,8 +23,8 @@ invariant_of-self g c =
       eager = turn_eager c.args.a c.come_due.new.self.volume c.turn.new.self c.in_ok-turned.turned c.in_ok-turned.ensures.ok c.every_line.ensures.room (c.in_ok-come_due.ensures.free c.args.a.0 c.requires.free) c.come_due.new.self.eager;
     }
 
-pub invariant_of-self-in_err-turned : goal.invariant_of-self-in_err-turned
-invariant_of-self-in_err-turned g c = rw c.in_err-turned.ensures.err (record {
+pub invariant_of-self : goal.invariant_of-self
+invariant_of-self g c = rw c.in_err-turned.ensures.err (record {
   planned = c.come_due.new.self.planned;
   counted = c.come_due.new.self.counted;
   noted = c.come_due.new.self.noted;
