@@ -364,6 +364,7 @@ impl Volume {
         ensures right { IsRight self.now.plan self.now.log }
         ensures sums { AreSums self.now.plan self.now.log }
         ensures room { length self.now.log ≤ self.now.plan.turns }
+        ensures turns { self.now.plan.turns ≤ 4000000 }
         ensures few { self.now.plan.shape.n ≤ 5 }
         ensures clients { length self.now.plan.clients ≤ 16 }
         ensures healers { length self.now.plan.healers ≤ 3 }
