@@ -16,7 +16,7 @@ use Rattle.afr_model.specs.Actors.{IsActor}
 use Rattle.afr_model.specs.Ordered.{actors_of}
 use Rattle.afr_moves.proofs.Tests.{same_self}
 use Rattle.afr_plan.specs.declared.plan.Plan.{Plan}
-use Rattle.afr_standstill.proofs.Tasks.{turn_of}
+use Rattle.afr_law.proofs.Model.Tasks.{turn_of}
 
 one_if : Bool → ℕ
 one_if true = 1

@@ -15,7 +15,7 @@ use Rattle.afr_model.specs.Actors.{IsActor, is_done}
 use Rattle.afr_model.specs.Ordered.{actors_of}
 use Rattle.afr_plan.specs.declared.plan.Plan.{Plan}
 use Rattle.afr_standstill.proofs.Standing.{kept_before}
-use Rattle.afr_standstill.proofs.Tasks.{HasTask, task_here, turn_of}
+use Rattle.afr_law.proofs.Model.Tasks.{HasTask, task_here, turn_of}
 use Rattle.afr_standstill.specs.Law.{IsKept}
 
 -- what is presumed of a log

@@ -11,7 +11,7 @@ use Rattle.afr_model.specs.Actors.{is_done, rounds_of, script_of, works_of}
 use Rattle.afr_plan.specs.declared.command.Command.{Command}
 use Rattle.afr_plan.specs.declared.plan.Plan.{Plan}
 use Rattle.afr_base.specs.declared.ids.BrickId.{BrickId}
-use Rattle.afr_standstill.proofs.Tasks.{other_ends}
+use Rattle.afr_law.proofs.Model.Tasks.{other_ends}
 
 -- ---- lines and works
 pub own_kills : (a : ℕ) (line : Line) → is_of a line ≡ true → kills a line ≡ false

@@ -1,5 +1,5 @@
 -- What a command makes has the number of its own line.
-use Rattle.std.proofs.Common.{◌≡◌, ℕ, suc, ◌+◌, ◌<◌, ◌==◌, Bool, true, false, refl, sym, subst, ap, arith, List, [], ◌∷◌, length, Option, Some, None}
+use Rattle.std.proofs.Common.{◌≡◌, ℕ, suc, ◌+◌, ◌<◌, ◌==◌, Bool, true, false, refl, sym, subst, ap, arith, List, [], ◌∷◌, length, Option, Some, None, ◌∙◌}
 use Rattle.std.specs.Prelude.{if◌then◌else◌}
 use Rattle.std.specs.Option.{option_map}
 use Rattle.std.proofs.lemmas.Bool.{eqb-true}
@@ -10,14 +10,14 @@ use Rattle.afr_base.specs.declared.ids.What.{What}
 use Rattle.afr_descent.specs.Descent.{IsOfPlan}
 use Rattle.afr_lines.specs.Log.{from_oldest}
 use Rattle.afr_lines.specs.Work.{work}
-use Rattle.afr_lines.specs.declared.line.Line.TheVariants.{Begin}
 use Rattle.afr_lines.specs.declared.line.Line.{Line}
+use Rattle.afr_law.proofs.Safety.Objects.{entry_left}
 use Rattle.afr_model.specs.Commands.{change_named, is_on_name, last_of, steps_of}
 use Rattle.afr_model.specs.Following.{IsFollowing, KeepsToTask, ToCommand, ToRound}
 use Rattle.afr_model.specs.Showing.{At, path_by}
 use Rattle.afr_model.specs.Standing.{path_upto}
 use Rattle.afr_moves.proofs.Tests.{first_equal}
-use Rattle.afr_moves.specs.Cells.{Entry, entry_code, leaves, touches}
+use Rattle.afr_moves.specs.Cells.{Entry, entry_code, touches}
 use Rattle.afr_moves.specs.Lines.{begin_by, make_in}
 use Rattle.afr_moves.specs.Past.{changes, leaves_of}
 use Rattle.afr_object.specs.declared.change.Change.TheVariants.{Make, Remove}
@@ -26,7 +26,6 @@ use Rattle.afr_object.specs.declared.entry.Entry.{Entry as NameEntry}
 use Rattle.afr_plan.specs.declared.command.Command.TheVariants as command
 use Rattle.afr_plan.specs.declared.command.Command.{Command}
 use Rattle.afr_plan.specs.declared.plan.Plan.{Plan}
-use Rattle.afr_tables.proofs.Entries.{entry_same, entry_some}
 
 -- ---- a line of the log
 pub plan_before : (p : Plan) (line : Line) (older : List Line) → IsOfPlan p (line ∷ older) → IsOfPlan p older
@@ -54,13 +53,11 @@ found p (new ∷ older) f q line e = go (q == length older) refl e (λ k. found 
 -- ---- what it makes
 -- what changes an entry and leaves a name there is a Make
 pub made_by : (line : Option Line) (d m g : ℕ) (what : What) → changes line (Entry d m) ≡ true → leaves_of line (Entry d m) ≡ entry_code g what → (x : ℕ) × (name : ℕ) × (other : What) × (line ≡ Some (begin_by x (make_in d name g other)))
-unfolding leaves touches
-made_by (Some (Begin x (Make dir name h other))) d m g what hit e = (
-    let at : dir.0 ≡ d = first_equal dir.0 d (name.0 == m) hit in
-    let w = entry_same h.0 g other what e in
-    (x.0, name.0, other, λ i. Some (begin_by x.0 (make_in (at i) name.0 (w.0 i) other)))
-    )
-made_by _ d m g what hit e = absurd (entry_some g what (sym e))
+unfolding touches
+made_by line d m g what hit e =
+    let w = entry_left line d m g what e in
+    let at : w.1 ≡ d = first_equal w.1 d (w.2 == m) (subst (λ (l : Option Line). changes l (Entry d m) ≡ true) w.5 hit) in
+    (w.0, w.2, w.4, w.5 ∙ (λ i. Some (begin_by w.0 (make_in (at i) w.2 (w.6 i) w.4))))
 
 -- the change that a command's words name
 pub record NamedMake (c : Command) (h : Gfid) (at d g : ℕ) : Type 0 where

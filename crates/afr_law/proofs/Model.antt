@@ -26,3 +26,5 @@ pub mod Found
 pub mod Kinds
 pub mod Covered
 pub mod Answered
+pub mod Tasks
+pub mod Alive

@@ -1,6 +1,7 @@
 pub mod Core
 pub mod Areas
 pub mod Locks
+pub mod Sessions
 pub mod Standing
 pub mod Registers
 pub mod Numbers

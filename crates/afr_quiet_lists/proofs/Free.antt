@@ -1,5 +1,5 @@
 -- In a quiet round nobody else holds a Heal lock.
-use Rattle.std.proofs.Common.{◌≡◌, ℕ, zero, suc, ◌<◌, ◌&&◌, ◌||◌, not, ◌==◌, Bool, true, false, ◌⊎◌, inl, inr, refl, sym, ◌∙◌, subst, ap, arith, List, [], ◌∷◌, ◌++◌, length, Option, Some, None, true≢false}
+use Rattle.std.proofs.Common.{◌≡◌, ℕ, suc, ◌<◌, ◌&&◌, ◌||◌, not, ◌==◌, Bool, true, false, ◌⊎◌, inl, inr, refl, sym, ◌∙◌, subst, ap, arith, List, [], ◌∷◌, ◌++◌, length, Option, Some, None, true≢false}
 use Rattle.std.specs.Prelude.{if◌then◌else◌}
 use Rattle.std.proofs.lemmas.Bool.{eqb-true}
 use Rattle.std.proofs.lemmas.Bool.Decides.{nat_tests}
@@ -12,8 +12,6 @@ use Rattle.afr_lines.specs.Overlap.{overlap}
 use Rattle.afr_lines.specs.Places.{Fresh, Place, Within, next_place, place_of, Indexed, Between}
 use Rattle.afr_lines.specs.Work.{is_end, is_killed, is_of, kills, work}
 use Rattle.afr_lines.specs.declared.answer.Told.TheVariants.{Granted, Held}
-use Rattle.afr_lines.specs.declared.line.Event.TheVariants.{Kill}
-use Rattle.afr_lines.specs.declared.line.Event.TheVariants as event_of
 use Rattle.afr_lines.specs.declared.line.Line.{Line}
 use Rattle.afr_lines.specs.declared.line.Line.TheVariants.{Ask, Begin, End, Event, HealBegin, HealEnd}
 use Rattle.afr_lines.specs.declared.request.Area.{Area}
@@ -23,58 +21,26 @@ use Rattle.afr_range_locks.specs.declared.domain.Domain.TheVariants.{Heal, Work 
 use Rattle.afr_plan.specs.declared.plan.Plan.{Plan}
 use Rattle.afr_model.specs.Actors.{IsActor}
 use Rattle.afr_model.specs.Honest.{fault_in}
-use Rattle.afr_model.specs.Sessions.{ends_session, is_joined, opens_with}
 use Rattle.afr_moves.proofs.ByPosition.{past_whole}
 use Rattle.afr_moves.proofs.Places.{place_is}
 use Rattle.afr_moves.proofs.Tests.{same_self}
 use Rattle.afr_moves.specs.Honest.{HonestAsk, HonestLine, asked}
 use Rattle.afr_moves.specs.Lines.{ask_by}
-use Rattle.afr_moves.specs.Past.{Log, before, blocks, frees, grants, held, joined, opening, place}
+use Rattle.afr_moves.specs.Past.{Log, before, blocks, held, joined, opening, place}
 use Rattle.afr_moves.specs.Positions.{by_position}
 use Rattle.afr_law.proofs.Model.Sessions.{joined_is}
-use Rattle.afr_law.proofs.Safety.Locks.{Grant, held_past, step_cases}
+use Rattle.afr_law.proofs.Safety.Locks.{Grant, held_past}
+use Rattle.afr_law.proofs.Safety.Sessions.{held_joined, held_line}
 use Rattle.afr_law.specs.Beginning.{start_of}
 use Rattle.afr_law.specs.Exactly.{name_bound}
+use Rattle.afr_law.proofs.Model.Alive.{killed_apart}
+use Rattle.afr_law.proofs.Model.Tasks.{turn_of}
 use Rattle.afr_quiet_lists.proofs.Cuts.{cut_of, fair}
-use Rattle.afr_quiet_lists.proofs.Lone.{held_joined, lone}
+use Rattle.afr_quiet_lists.proofs.Lone.{lone}
 use Rattle.afr_quiet_lists.proofs.Premises.{Sound, sound_before, sound_exactly, sound_honest}
 use Rattle.afr_quiet_lists.proofs.Runs.{AreMine, work_more}
-use Rattle.afr_quiet_lists.proofs.Tasks.{turn_of}
 
 -- ---- actors that are dead, or between works
--- who was killed has no session
-killed_apart : (p : Plan) (x b : ℕ) (log : List Line) → Sound p log → is_killed x log ≡ true → is_joined p x b log ≡ false
-killed_apart p x b [] s e = absurd (true≢false (sym e))
-killed_apart p x b (line ∷ older) s e = go (kills x line) refl (is_killed x older) refl e (λ k. killed_apart p x b older (sound_before p line older s) k)
-  where
-    kill_ends : (line : Line) → kills x line ≡ true → ends_session x b line ≡ true
-    kill_ends (Event (Kill y)) k = k
-    kill_ends (Event (event_of.Stop y)) k = absurd (true≢false (sym k))
-    kill_ends (Event (event_of.Start y)) k = absurd (true≢false (sym k))
-    kill_ends (Event (event_of.Cut y z)) k = absurd (true≢false (sym k))
-    kill_ends (Event (event_of.Join y z)) k = absurd (true≢false (sym k))
-    kill_ends (Ask y z r told took) k = absurd (true≢false (sym k))
-    kill_ends (Begin y change) k = absurd (true≢false (sym k))
-    kill_ends (HealBegin y g kind) k = absurd (true≢false (sym k))
-    kill_ends (End y said) k = absurd (true≢false (sym k))
-    kill_ends (HealEnd y g kind said) k = absurd (true≢false (sym k))
-
-    ended : (live end : Bool) → end ≡ true → (live && not end) ≡ false
-    ended true end k = rw k refl
-    ended false end k = refl
-
-    quiet : (was new end : Bool) → was ≡ false → new ≡ false → ((was || new) && not end) ≡ false
-    quiet was new end k l = rw (k, l) refl
-
-    unopened : (mine : Bool) → is_of x line ≡ mine → is_killed x older ≡ true → opens_with p x b line older ≡ false
-    unopened true f dead = absurd (true≢false (sym dead ∙ (turn_of p x older line f s).alive))
-    unopened false f dead = rw f refl
-
-    go : (k : Bool) → kills x line ≡ k → (d : Bool) → is_killed x older ≡ d → (k || d) ≡ true → (is_killed x older ≡ true → is_joined p x b older ≡ false) → is_joined p x b (line ∷ older) ≡ false
-    go true f d g h rest = ended (is_joined p x b older || opens_with p x b line older) (ends_session x b line) (kill_ends line f)
-    go false f true g h rest = quiet (is_joined p x b older) (opens_with p x b line older) (ends_session x b line) (rest g) (unopened (is_of x line) refl g)
-    go false f false g h rest = absurd (true≢false (sym h))
-
 still_killed : (x : ℕ) (ls base : List Line) → is_killed x base ≡ true → is_killed x (ls ++ base) ≡ true
 still_killed x [] base e = e
 still_killed x (line ∷ ls) base e = or_true (kills x line) (is_killed x (ls ++ base)) (still_killed x ls base e)
@@ -130,18 +96,6 @@ place_kept a x [] base mine apart = refl
 place_kept a x (line ∷ ls) base mine apart = rw (not_other a x line mine.0.0 apart) (place_kept a x ls base mine.1 apart)
 
 -- ---- the lock that is in the way
-granted_line : (b : ℕ) (line : Option Line) → grants b line ≡ true → (x : ℕ) × (domain : Domain) × (area : Area) × (took : Bool) × (line ≡ Some (ask_by x b (Lock domain area) Granted took))
-granted_line b (Some (Ask x y (Lock domain area) Granted took)) e = (x.0, domain, area, took, ap (λ (k : ℕ). Some (ask_by x.0 k (Lock domain area) Granted took)) (eqb-true y.0 b e))
-granted_line b line e = absurd (true≢false (sym e))
-
-held_line : (log : Log) (t b q : ℕ) → held log t b q ≡ true → (x : ℕ) × (domain : Domain) × (area : Area) × (took : Bool) × (log q ≡ Some (ask_by x b (Lock domain area) Granted took))
-unfolding held
-held_line log zero b q h = absurd (true≢false (sym h))
-held_line log (suc t) b q h = elim (step_cases (q == t) (grants b (log t)) (held log t b q) (frees b (before log t q) (log t)) h) [
-  | inl w ↦ granted_line b (log q) (ap (λ (u : ℕ). grants b (log u)) (eqb-true q t w.0) ∙ w.1)
-  | inr w ↦ held_line log t b q w.1
-]
-
 -- what is in the way is held by another in the same domain
 blocking : (a x b : ℕ) (domain : Domain) (area e : Area) (took : Bool) → blocks a Heal area (Some (ask_by x b (Lock domain e) Granted took)) ≡ true → (domain ≡ Heal) × (x ≡ a → ⊥)
 blocking a x b WorkDomain area e took h = absurd (true≢false (sym h))
@@ -160,10 +114,10 @@ module _ (p : Plan) (a : ℕ) (ls base : List Line) (mine : AreMine a ls) (alone
       let before = sound_before p line (ls ++ base) s in
       let honest = sound_honest p (line ∷ (ls ++ base)) s in
       let cut = cut_of p L (line ∷ (ls ++ base)) whole s q (ask_by x b (Lock Heal area) Granted grant.took) (let past = held_past L (length (ls ++ base)) b q k in omega (arith, past)) grant.is in
-      let actor : IsActor p x = (turn_of p x cut.older (ask_by x b (Lock Heal area) Granted grant.took) (same_self x) cut.sound).actor in
+      let actor : IsActor p x = (turn_of p x (ask_by x b (Lock Heal area) Granted grant.took) cut.older (same_self x) cut.sound.follows).actor in
       let live : joined L (length (ls ++ base)) x b ≡ true = held_joined (start_of p (name_bound p)) (fault_in p.faults) L honest (length (ls ++ base)) x b q Heal area grant k in
       elim (alone x actor apart) [
-        | inl dead ↦ true≢false (sym (sym (joined_is L p x b (below_all p.shape.n b s.small low) (ls ++ base) whole.1) ∙ live) ∙ killed_apart p x b (ls ++ base) before (still_killed x ls base dead))
+        | inl dead ↦ true≢false (sym (sym (joined_is L p x b (below_all p.shape.n b s.small low) (ls ++ base) whole.1) ∙ live) ∙ killed_apart p x b (ls ++ base) before.follows (still_killed x ls base dead))
         | inr rests ↦ (let l = lone p.shape.n (start_of p (name_bound p)) (fault_in p.faults) L honest (sound_exactly p (line ∷ (ls ++ base)) s).moves (fair p (line ∷ (ls ++ base)) s) (length (ls ++ base)) x in
             let at : place L (length (ls ++ base)) x ≡ Fresh = place_is L x (ls ++ base) whole.1 ∙ place_kept a x ls base mine apart ∙ rests_fresh x base rests in
             let w = l.locks b q area grant k in

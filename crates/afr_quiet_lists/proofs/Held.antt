@@ -1,5 +1,5 @@
 -- An object that is open on a brick is held by a majority of the bricks.
-use Rattle.std.proofs.Common.{◌≡◌, ℕ, ◌+◌, ◌<◌, ◌&&◌, ◌==◌, Bool, true, false, inl, inr, refl, sym, ◌∙◌, subst, ap, arith, List, [], ◌∷◌, length, Option, Some, None}
+use Rattle.std.proofs.Common.{◌≡◌, ℕ, ◌+◌, ◌<◌, ◌&&◌, ◌==◌, Bool, true, false, inl, inr, refl, sym, ◌∙◌, subst, arith, List, [], ◌∷◌, length, Option, Some, None}
 use Rattle.std.specs.Prelude.{is_some, if◌then◌else◌}
 use Rattle.std.proofs.lemmas.Bool.{eqb-true}
 use Rattle.afr_base.specs.Bricks.{member}
@@ -28,6 +28,7 @@ use Rattle.afr_moves.specs.Positions.{by_position}
 use Rattle.afr_tables.specs.Fits.{FitsSums}
 use Rattle.afr_tables.specs.SumLaws.{all_true, numbers_are_sums}
 use Rattle.afr_tables.specs.TableLaws.{copy_stays}
+use Rattle.afr_tables.specs.CopyLaws.{gfid_is}
 use Rattle.afr_law.specs.Beginning.{start_of}
 use Rattle.afr_law.specs.Exactly.{name_bound}
 use Rattle.afr_law.proofs.Model.Sums.{holds_is}
@@ -51,9 +52,6 @@ pre_held p a y h k told took older s =
     let seen = pre_spread p.shape.n (start_of p (name_bound p)) (fault_in p.faults) (by_position (line ∷ older)) (sound_honest p (line ∷ older) s) (sound_exactly p (line ∷ older) s) (length older) a.0 y.0 h.0 k told took whole.0 in
     most_more p.shape.n (λ x. past.holds (start_of p (name_bound p)) (by_position (line ∷ older)) (length older) x h.0) (has_object p older h)
     (λ x low m. sym (holds_is p (name_bound p) (by_position (line ∷ older)) x older whole.1 below.1 h.0) ∙ m) seen
-
-gfid_is : (g q : Gfid) → g.0 ≡ q.0 → g ≡ q
-gfid_is g q e = ap (λ (n : ℕ). record { 0 = n }) e
 
 pub opens_held : (p : Plan) (log : List Line) → Sound p log → (x : ℕ) (g : Gfid) (kind : Kind) → 0 < sum_over (opens_op p x g kind) log → IsHeld p log g
 opens_held p [] s x g kind some = absurd (omega (arith, some))

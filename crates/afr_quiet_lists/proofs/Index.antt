@@ -14,8 +14,10 @@ use Rattle.afr_base.specs.declared.marks.AllMarks.{AllMarks}
 use Rattle.afr_object.specs.Indexed.{index_of}
 use Rattle.afr_object.specs.Tables.{Table, copy_at}
 use Rattle.afr_object.specs.declared.object.Object.{Object}
+use Rattle.afr_brick.specs.TablesLemmas.{same_gfid}
+use Rattle.afr_moves.proofs.Tests.{three_parts}
 use Rattle.afr_quiet.specs.Undisturbed.{IsListed}
-use Rattle.afr_quiet_lists.proofs.Rises.{AreAbove, Rises, above_none, same_gfid}
+use Rattle.afr_quiet_lists.proofs.Rises.{AreAbove, Rises, above_none}
 
 -- ---- the list by the table
 -- a copy with a number above 0
@@ -128,16 +130,10 @@ open_kind all h = go (is_zero_marks all.bytes) refl (is_zero_marks all.attrs) re
 pub kind_open : (all : AllMarks) (kind : Kind) → is_zero_marks (marks_of kind all) ≡ false → is_no_marks all ≡ false
 kind_open all kind h = go (is_no_marks all) refl
   where
-    all_are : (x y z : Bool) → (x && y && z) ≡ true → (x ≡ true) × (y ≡ true) × (z ≡ true)
-    all_are true true true e = (refl, refl, refl)
-    all_are true true false e = absurd (cc e)
-    all_are true false z e = absurd (cc e)
-    all_are false y z e = absurd (cc e)
-
     at : (k : Kind) → is_no_marks all ≡ true → is_zero_marks (marks_of k all) ≡ true
-    at Bytes e = (all_are (is_zero_marks all.bytes) (is_zero_marks all.attrs) (is_zero_marks all.names) e).0
-    at Attrs e = (all_are (is_zero_marks all.bytes) (is_zero_marks all.attrs) (is_zero_marks all.names) e).1
-    at Names e = (all_are (is_zero_marks all.bytes) (is_zero_marks all.attrs) (is_zero_marks all.names) e).2
+    at Bytes e = (three_parts (is_zero_marks all.bytes) (is_zero_marks all.attrs) (is_zero_marks all.names) e).0
+    at Attrs e = (three_parts (is_zero_marks all.bytes) (is_zero_marks all.attrs) (is_zero_marks all.names) e).1
+    at Names e = (three_parts (is_zero_marks all.bytes) (is_zero_marks all.attrs) (is_zero_marks all.names) e).2
 
     go : (none : Bool) → is_no_marks all ≡ none → is_no_marks all ≡ false
     go true e = absurd (true≢false (sym (at kind e) ∙ h))

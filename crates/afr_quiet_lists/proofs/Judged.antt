@@ -1,6 +1,6 @@
 -- Looks at all bricks of a volume show what stands there: which numbers are above 0, and whether a copy is good.
 use Rattle.std.proofs.Common.{◌≡◌, ℕ, zero, suc, ◌<◌, ◌≤◌, ◌&&◌, ◌||◌, not, ◌==◌, Bool, true, false, inl, inr, refl, sym, ◌∙◌, subst, ap, arith, List, [], ◌∷◌, filter, Option, Some, None, true≢false}
-use Rattle.std.specs.Prelude.{is_some, map, slice_index, slice_index_or, if◌then◌else◌}
+use Rattle.std.specs.Prelude.{is_some, slice_index, if◌then◌else◌}
 use Rattle.std.specs.List.{list_all, list_any}
 use Rattle.std.specs.Option.{option_map}
 use Rattle.std.proofs.lemmas.Bool.{eqb-true, cases_lt}
@@ -22,6 +22,7 @@ use Rattle.afr_object.specs.declared.object.Object.{Object}
 use Rattle.afr_lines.specs.Log.{EachLine}
 use Rattle.afr_lines.specs.declared.line.Line.{Line}
 use Rattle.afr_plan.specs.declared.plan.Plan.{Plan}
+use Rattle.afr_law.proofs.Model.Looks.{but_third, five_at}
 use Rattle.afr_model.specs.HealReplies.{is_clean}
 use Rattle.afr_model.specs.Healing.{marks_in}
 use Rattle.afr_model.specs.Splits.{IsSplit, looked_at, view_among}
@@ -60,24 +61,6 @@ none_any test (x ∷ xs) h = rw (h x) (none_any test xs h)
 some_member : (xs : List ℕ) (b : ℕ) → member xs b ≡ true → is_nothing xs ≡ false
 some_member [] b m = absurd (cc m)
 some_member (x ∷ xs) b m = refl
-
-five_at : (f : ℕ → Option View) (b : ℕ) → b < 5 → slice_index_or (map f all_five) b None ≡ f b
-five_at f zero low = refl
-five_at f (suc zero) low = refl
-five_at f (suc (suc zero)) low = refl
-five_at f (suc (suc (suc zero))) low = refl
-five_at f (suc (suc (suc (suc zero)))) low = refl
-five_at f (suc (suc (suc (suc (suc b))))) low = absurd (omega arith)
-
--- all bricks but the third are a majority
-but_third : (n : ℕ) → 0 < n → n ≤ 5 → IsMajority n (λ b. not (b == 2))
-but_third zero some small = absurd (omega arith)
-but_third (suc zero) some small = omega arith
-but_third (suc (suc zero)) some small = omega arith
-but_third (suc (suc (suc zero))) some small = omega arith
-but_third (suc (suc (suc (suc zero)))) some small = omega arith
-but_third (suc (suc (suc (suc (suc zero))))) some small = omega arith
-but_third (suc (suc (suc (suc (suc (suc n)))))) some small = absurd (omega arith)
 
 -- all bricks are a majority
 pub below_most : (n : ℕ) → 0 < n → n ≤ 5 → is_majority n (below n) ≡ true

@@ -1,7 +1,7 @@
 -- Quiet rounds are listed: the parts put together.
-use Rattle.std.proofs.Common.{◌≡◌, ℕ, zero, suc, ◌≤◌, ◌||◌, Bool, true, false, ◌⊎◌, refl, sym, ◌∙◌, subst, ap, List, [], ◌∷◌, ◌++◌, Option, Some, true≢false}
+use Rattle.std.proofs.Common.{◌≡◌, ℕ, zero, suc, ◌≤◌, true, false, ◌⊎◌, sym, ◌∙◌, subst, ap, List, [], ◌∷◌, ◌++◌, Option, Some}
 use Rattle.std.specs.Prelude.{slice_get, ◌↔◌}
-use Rattle.std.proofs.lemmas.Bool.{eqb-true}
+use Rattle.std.proofs.lemmas.Bool.{eqb-true, or_parts}
 use Rattle.afr_base.specs.declared.ids.ActorId.{ActorId}
 use Rattle.afr_base.specs.declared.ids.BrickId.{BrickId}
 use Rattle.afr_base.specs.declared.ids.Gfid.{Gfid}
@@ -45,14 +45,6 @@ use Rattle.afr_quiet_lists.proofs.Steps.{AsksBelow, Goes, IsFree, Step, all_ende
 use Rattle.afr_quiet_lists.proofs.Tails.{most_more, stays_more}
 use Rattle.afr_quiet_lists.proofs.Tasks.{Round, healing_of, round_of}
 use Rattle.afr_quiet_lists.proofs.Told.{heal_told}
-
-or_first : (x y : Bool) → (x || y) ≡ false → x ≡ false
-or_first true y e = absurd (true≢false e)
-or_first false y e = refl
-
-or_second : (x y : Bool) → (x || y) ≡ false → y ≡ false
-or_second true y e = absurd (true≢false e)
-or_second false y e = e
 
 brick_is : (x y : BrickId) → Some x ≡ Some y → x ≡ y
 brick_is x y e = cc e
@@ -98,11 +90,11 @@ module _ (p : Plan) (a : ℕ) (high : 17 ≤ a) (b : BrickId) (base : List Line)
       keeps = at_brick line ls mine.1 (round_of p a (ls ++ base) line mine.0.0 s high);
       healing = subst (λ (w : Work). IsHealing p.shape line w) (works_are a ls base mine.1 rests) (healing_of p a (ls ++ base) line b mine.0.0 s high (ap (slice_get (rounds_of p a)) (ended_same a ls base mine.1) ∙ is));
       honest = s.honest.0;
-      unfailed = or_first _ _ ok;
+      unfailed = (or_parts (tells_any_fault line) (has tells_any_fault (works ls base)) ok).0;
       free = free_of line ls mine.1 mine.0.0 s;
       within = asks_below p line (ls ++ base) s;
     },
-    goes ls mine.1 (sound_before p line (ls ++ base) s) (or_second (tells_any_fault line) (has tells_any_fault (works ls base)) ok),
+    goes ls mine.1 (sound_before p line (ls ++ base) s) (or_parts (tells_any_fault line) (has tells_any_fault (works ls base)) ok).1,
   )
 
   -- ---- each heal

@@ -1,11 +1,9 @@
 -- A Heal lock that is held is one that its owner's heal has, and between heals an actor holds none.
-use Rattle.std.proofs.Common.{◌≡◌, ℕ, zero, suc, ◌<◌, ◌&&◌, ◌||◌, not, ◌==◌, Bool, true, false, ◌⊎◌, inl, inr, refl, sym, ◌∙◌, subst, ap, arith, Option, Some, None, true≢false}
+use Rattle.std.proofs.Common.{◌≡◌, ℕ, zero, suc, ◌<◌, ◌&&◌, ◌||◌, ◌==◌, Bool, true, false, inl, inr, refl, sym, ◌∙◌, subst, ap, arith, Option, Some, None, true≢false}
 use Rattle.std.specs.Prelude.{if◌then◌else◌}
 use Rattle.std.proofs.lemmas.Bool.{eqb-true}
-use Rattle.afr_base.specs.declared.ids.ActorId.{ActorId}
 use Rattle.afr_base.specs.declared.ids.Kind.{Kind}
 use Rattle.afr_faults.specs.declared.fault.Fault.{Fault}
-use Rattle.afr_faults.specs.declared.fault.Fault.TheVariants.{Fail, Lost}
 use Rattle.afr_lines.specs.Overlap.{same_area}
 use Rattle.afr_lines.specs.Places.{Between, Fresh, Indexed, Place, Within, next_place}
 use Rattle.afr_lines.specs.declared.answer.Told.{Told}
@@ -15,35 +13,26 @@ use Rattle.afr_lines.specs.declared.line.Line.TheVariants.{Ask, Begin, End, Even
 use Rattle.afr_lines.specs.declared.request.Area.{Area}
 use Rattle.afr_lines.specs.declared.request.Request.{Request}
 use Rattle.afr_lines.specs.declared.request.Request.TheVariants.{Index, Lock, Unlock}
-use Rattle.afr_range_locks.specs.declared.domain.Domain.{Domain}
 use Rattle.afr_range_locks.specs.declared.domain.Domain.TheVariants.{Heal, Work}
 use Rattle.afr_moves.proofs.AreaLemmas.{same_area_is}
 use Rattle.afr_moves.proofs.Tests.{same_self, some_no, with_more, with_self}
 use Rattle.afr_moves.specs.Discipline.{MayAskExactly, MayExactly, MovesExactly, exact, exact_after, in_force, note, present}
 use Rattle.afr_moves.specs.Heal.{Gives, Goes, InHeal}
-use Rattle.afr_moves.specs.Honest.{Honest, HonestAsk, HonestLine, asked}
+use Rattle.afr_moves.specs.Honest.{Honest, asked}
 use Rattle.afr_moves.specs.Lines.{ask_by}
-use Rattle.afr_moves.specs.Past.{Beginning, Log, before, ends, frees, grants, held, is_gone, is_of, joined, opening, opens, place, place_after, unlocks}
+use Rattle.afr_moves.specs.Past.{Beginning, Log, ends, held, is_gone, is_of, joined, opening, opens, place, place_after, unlocks}
 use Rattle.afr_moves.specs.Register.{Exact}
 use Rattle.afr_moves.specs.Rules as weak
 use Rattle.afr_moves.specs.Rules.{Register, area_object, heal_area}
-use Rattle.afr_moves.specs.Sets.{any, without}
+use Rattle.afr_moves.specs.Sets.{any}
 use Rattle.afr_law.proofs.Discipline.Asks.{IsHealLock}
 use Rattle.afr_law.proofs.Discipline.Projection.{same_actor}
 use Rattle.afr_law.proofs.Heals.Conditions.{heal_lock_area}
-use Rattle.afr_law.proofs.Safety.Locks.{Grant, before_is, held_past, step_cases}
+use Rattle.afr_law.proofs.Safety.Acks.{opens_out}
+use Rattle.afr_law.proofs.Safety.Locks.{Grant, held_past}
 use Rattle.afr_law.proofs.Safety.Numbers.{done_took}
+use Rattle.afr_law.proofs.Safety.Sessions.{all_four, begin_place, gone_apart, heal_place, held_joined, honest_at, inner_place, kept_freed, step_of, without_other}
 use Rattle.afr_quiet_lists.proofs.Aside.{IsHealUnlock, aside}
-use Rattle.afr_object.specs.declared.change.Change.{Change}
-use Rattle.afr_base.specs.declared.ids.Gfid.{Gfid}
-
-or_first : (x y : Bool) → (x || y) ≡ false → x ≡ false
-or_first true y e = absurd (true≢false e)
-or_first false y e = refl
-
-or_second : (x y : Bool) → (x || y) ≡ false → y ≡ false
-or_second true y e = absurd (true≢false e)
-or_second false y e = e
 
 none_at : (n : ℕ) (set : ℕ → Bool) → any n set ≡ false → (b : ℕ) → b < n → set b ≡ false
 none_at n set none b low = go (set b) refl
@@ -52,88 +41,8 @@ none_at n set none b low = go (set b) refl
     go true e = absurd (true≢false (sym (some_no n set b low e) ∙ none))
     go false e = e
 
-without_other : (set : ℕ → Bool) (b x : ℕ) → (x ≡ b → ⊥) → set x ≡ true → without set b x ≡ true
-without_other set b x apart m = go (x == b) refl
-  where
-    go : (same : Bool) → (x == b) ≡ same → (if same then false else set x) ≡ true
-    go true e = absurd (apart (eqb-true x b e))
-    go false e = m
-
 same_heal_area : (g : ℕ) → same_area (heal_area g) (heal_area g) ≡ true
 same_heal_area g = rw (same_self g) refl
-
-all_four : (x y z w : Bool) → x ≡ true → y ≡ true → z ≡ true → w ≡ true → (x && y && z && w) ≡ true
-all_four x y z w p q r s = rw (p, q, r, s) refl
-
--- what opens a work or a heal isn't within one
-closed : (p : Place) (line : Option Line) → opens p line ≡ true → p ≡ Within → ⊥
-unfolding opens
-closed Fresh line e f = cc f
-closed Indexed line e f = cc f
-closed Between line e f = cc f
-closed Within line e f = true≢false (sym e)
-
--- a lock that is held after a line is that line's, or was held before
-step_of : (log : Log) (t b q : ℕ) → held log (suc t) b q ≡ true → (q ≡ t) ⊎ ((held log t b q ≡ true) × (frees b (before log t q) (log t) ≡ false))
-unfolding held
-step_of log t b q h = elim (step_cases (q == t) (grants b (log t)) (held log t b q) (frees b (before log t q) (log t)) h) [ inl w ↦ inl (eqb-true q t w.0) | inr w ↦ inr (w.1, w.2) ]
-
--- ---- sessions
-module _ (files : Beginning) (faults : ℕ → ℕ → Option Fault) (log : Log) (honest : Honest files faults log) where
-  honest_at : (t a b : ℕ) (request : Request) (told : Told) (took : Bool) → log t ≡ Some (ask_by a b request told took) → HonestAsk files log t a b request told took (joined log t a b || opening log t a b) (faults b (suc (asked log t b)))
-  honest_at t a b request told took is = subst (HonestLine files faults log t) is (honest t)
-
-  live_granted : (t a b : ℕ) (domain : Domain) (area : Area) (took live : Bool) (fault : Option Fault) → HonestAsk files log t a b (Lock domain area) Granted took live fault → live ≡ true
-  live_granted t a b domain area took true fault h = refl
-  live_granted t a b domain area took false fault h = absurd (cc h.0)
-
-  kept_freed : (t a b q : ℕ) (domain : Domain) (area : Area) → Grant log q a b domain area → q < t → frees b (before log t q) (log t) ≡ false → (ends a b (log t) ≡ false) × (unlocks a b domain area (log t) ≡ false)
-  kept_freed t a b q domain area grant past free =
-      let e : (ends a b (log t) || unlocks a b domain area (log t)) ≡ false = subst (λ (l : Option Line). frees b l (log t) ≡ false) (before_is log t q past ∙ grant.is) free in
-      (or_first _ _ e, or_second _ _ e)
-
-  -- who holds a lock has a session
-  pub held_joined : (t a b q : ℕ) (domain : Domain) (area : Area) → Grant log q a b domain area → held log t b q ≡ true → joined log t a b ≡ true
-  unfolding held joined ends
-  held_joined zero a b q domain area grant h = absurd (true≢false (sym h))
-  held_joined (suc t) a b q domain area grant h =
-      elim (step_cases (q == t) (grants b (log t)) (held log t b q) (frees b (before log t q) (log t)) h) [
-        | inl w ↦ new (eqb-true q t w.0)
-        | inr w ↦ rw (held_joined t a b q domain area grant w.1, (kept_freed t a b q domain area grant (held_past log t b q w.1) w.2).0) refl
-      ]
-    where
-      stays : (live end : Bool) → live ≡ true → end ≡ false → (live && not end) ≡ true
-      stays live end e f = rw (e, f) refl
-
-      new : q ≡ t → ((joined log t a b || opening log t a b) && not (ends a b (log t))) ≡ true
-      new same = (
-          let is : log t ≡ Some (ask_by a b (Lock domain area) Granted grant.took) = ap log (sym same) ∙ grant.is in
-          let live = live_granted t a b domain area grant.took (joined log t a b || opening log t a b) (faults b (suc (asked log t b))) (honest_at t a b (Lock domain area) Granted grant.took is) in
-          stays (joined log t a b || opening log t a b) (ends a b (log t)) live (ap (ends a b) is ∙ answered (a == a) (b == b) grant.took)
-          )
-        where
-          answered : (x y z : Bool) → (x && y && z && false) ≡ false
-          answered true true true = refl
-          answered true true false = refl
-          answered true false z = refl
-          answered false y z = refl
-
-  -- who is told that it has no session and holds a lock loses it
-  gone_apart : (t a b y : ℕ) (request : Request) (told : Told) (took : Bool) → log t ≡ Some (ask_by a y request told took) → joined log t a b ≡ true → ends a b (log t) ≡ false → is_gone told ≡ true → b ≡ y → ⊥
-  unfolding ends
-  gone_apart t a b y request told took is live lasts gone same = go (joined log t a y || opening log t a y) refl (faults y (suc (asked log t y))) (honest_at t a y request told took is)
-    where
-      live_here : (joined log t a y || opening log t a y) ≡ true
-      live_here = rw (subst (λ (x : ℕ). joined log t a x ≡ true) same live) refl
-
-      took_not : took ≡ true → ⊥
-      took_not e = true≢false (sym (ap (ends a b) is ∙ all_four (a == a) (y == b) took (is_gone told) (same_self a) (subst (λ (x : ℕ). (x == b) ≡ true) same (same_self b)) e gone) ∙ lasts)
-
-      go : (l : Bool) → (joined log t a y || opening log t a y) ≡ l → (fault : Option Fault) → HonestAsk files log t a y request told took l fault → ⊥
-      go false e fault h = true≢false (sym live_here ∙ e)
-      go true e (Some Fail) h = true≢false (sym gone ∙ ap is_gone h.0)
-      go true e (Some Lost) h = took_not h.1
-      go true e None h = took_not h.1
 
 -- ---- the register has each Heal lock that is held
 pub record Has (n : ℕ) (w : Register) (b : ℕ) (area : Area) : Type 0 where
@@ -229,28 +138,13 @@ module _ (n : ℕ) (files : Beginning) (faults : ℕ → ℕ → Option Fault) (
   rest_asked Between r t y x request told took out b = absurd (out refl)
   rest_asked Within r t y x request told took out b = absurd (out refl)
 
-  inner_place : (at : Place) (line : Line) → ((p : Place) → next_place p line ≡ Within) → (next_place at line ≡ Within → ⊥) → ⊥
-  inner_place at line all out = out (all at)
-
-  begin_place : (x : ActorId) (change : Change) (p : Place) → next_place p (Begin x change) ≡ Within
-  begin_place x change Fresh = refl
-  begin_place x change Indexed = refl
-  begin_place x change Between = refl
-  begin_place x change Within = refl
-
-  heal_place : (x : ActorId) (g : Gfid) (kind : Kind) (p : Place) → next_place p (HealBegin x g kind) ≡ Within
-  heal_place x g kind Fresh = refl
-  heal_place x g kind Indexed = refl
-  heal_place x g kind Between = refl
-  heal_place x g kind Within = refl
-
   -- what stands in the register in force
   force_locks : (t a : ℕ) (r : Exact) (at : Place) → Lone n log t a r at → (b q : ℕ) (area : Area) → Grant log q a b Heal area → held log t b q ≡ true → Has n (in_force (opens at (log t)) r).law b area
   force_locks t a r at h b q area grant k = go (opens at (log t)) refl
     where
       go : (first : Bool) → opens at (log t) ≡ first → Has n (in_force first r).law b area
       go false e = h.locks b q area grant k
-      go true e = (let w = h.locks b q area grant k in absurd (true≢false (sym w.healing ∙ h.rest (closed at (log t) e) b w.below)))
+      go true e = (let w = h.locks b q area grant k in absurd (true≢false (sym w.healing ∙ h.rest (opens_out at (log t) e) b w.below)))
 
   -- a line of the actor
   own : (t a : ℕ) (r : Exact) (line : Option Line) → log t ≡ line → is_of a line ≡ true → r ≡ present n files.keeps log t a → MayExactly n files.keeps (λ x. r) line

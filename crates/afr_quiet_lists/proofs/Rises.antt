@@ -21,6 +21,7 @@ use Rattle.afr_object.specs.declared.change.Repair.{Repair}
 use Rattle.afr_object.specs.declared.change.Repair.TheVariants.{CutTo, Copy, PutAttrs, PutNames}
 use Rattle.afr_object.specs.declared.entry.Entry.{Entry}
 use Rattle.afr_object.specs.declared.object.Object.{Object}
+use Rattle.afr_brick.specs.TablesLemmas.{same_gfid}
 use Rattle.afr_lines.specs.Log.{change_at}
 use Rattle.afr_lines.specs.declared.line.Line.{Line}
 use Rattle.afr_lines.specs.declared.line.Line.TheVariants.{Ask}
@@ -42,9 +43,6 @@ Rises (x ∷ t) = AreAbove x.0.0 t × Rises t
 above_lower : (m k : ℕ) (t : Table) → k ≤ m → AreAbove m t → AreAbove k t
 above_lower m k [] low h = tt
 above_lower m k (x ∷ t) low h = (omega (arith, h.0, low), above_lower m k t low h.1)
-
-pub same_gfid : (n k : Gfid) → is_at (gfid_cmp n) k ≡ (n.0 == k.0)
-same_gfid n k = grind (arith, nat_tests)
 
 -- what lies below all gfids isn't there
 pub above_none : (q : Gfid) (m : ℕ) (t : Table) → q.0 ≤ m → AreAbove m t → copy_at q t ≡ None

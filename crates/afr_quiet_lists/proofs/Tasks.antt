@@ -1,6 +1,6 @@
 -- What a line has to do with its actor's task: a healer keeps to its round, and a client asks for no Heal lock.
-use Rattle.std.proofs.Common.{◌≡◌, ℕ, zero, suc, ◌-◌, ◌≤◌, Bool, true, refl, sym, subst, arith, List, [], ◌∷◌, length, Some, true≢false}
-use Rattle.std.specs.Prelude.{slice_get, slice_index_or}
+use Rattle.std.proofs.Common.{◌≡◌, ℕ, ◌≤◌, Bool, true, sym, subst, List, ◌∷◌, Some, true≢false}
+use Rattle.std.specs.Prelude.{slice_get}
 use Rattle.std.proofs.lemmas.Bool.{eqb-true}
 use Rattle.afr_base.specs.declared.ids.ActorId.{ActorId}
 use Rattle.afr_base.specs.declared.ids.BrickId.{BrickId}
@@ -11,33 +11,15 @@ use Rattle.afr_lines.specs.declared.line.Line.TheVariants.{Ask, Begin, End, Even
 use Rattle.afr_lines.specs.declared.request.Area.{Area}
 use Rattle.afr_lines.specs.declared.request.Request.TheVariants.{Lock, Unlock}
 use Rattle.afr_range_locks.specs.declared.domain.Domain.TheVariants.{Heal}
-use Rattle.afr_plan.specs.declared.command.Command.{Command}
 use Rattle.afr_plan.specs.declared.plan.Plan.{Plan}
 use Rattle.afr_model.specs.Actors.{rounds_of, script_of}
-use Rattle.afr_model.specs.Following.{IsTurnOf, KeepsToTask, ToCommand, ToRound}
+use Rattle.afr_model.specs.Following.{KeepsToTask, ToCommand, ToRound}
 use Rattle.afr_model.specs.HealReplies.{IsHealing}
 use Rattle.afr_model.specs.Rounds.{KeepsToRound}
+use Rattle.afr_law.proofs.Model.Tasks.{no_script, turn_of}
 use Rattle.afr_quiet_lists.proofs.Premises.{Sound}
 
-past_end : (xs : List (List Command)) (i : ℕ) → length xs ≤ i → slice_index_or xs i [] ≡ []
-past_end [] i high = refl
-past_end (x ∷ xs) zero high = absurd (omega (arith, high))
-past_end (x ∷ xs) (suc i) high = past_end xs i (omega (arith, high))
-
--- a healer has no script
-pub no_script : (p : Plan) (a k : ℕ) (c : Command) → length p.clients ≤ 16 → 17 ≤ a → slice_get (script_of p a) k ≡ Some c → ⊥
-no_script p a k c few high e = (let none : script_of p a ≡ [] = past_end p.clients (a - 1) (omega (arith, few, high)) in let l : slice_get [] k ≡ Some c = subst (λ (s : List Command). slice_get s k ≡ Some c) none e in cc)
-
 module _ (p : Plan) (a : ℕ) (older : List Line) where
-  -- it is the actor's turn
-  pub turn_of : (line : Line) → is_of a line ≡ true → Sound p (line ∷ older) → IsTurnOf p a line older
-  turn_of (Ask x b r told took) mine s = subst (λ (k : ℕ). IsTurnOf p k (Ask x b r told took) older) (eqb-true x.0 a mine) s.follows.0.1.0
-  turn_of (Begin x change) mine s = subst (λ (k : ℕ). IsTurnOf p k (Begin x change) older) (eqb-true x.0 a mine) s.follows.0.1.0
-  turn_of (HealBegin x g kind) mine s = subst (λ (k : ℕ). IsTurnOf p k (HealBegin x g kind) older) (eqb-true x.0 a mine) s.follows.0.1.0
-  turn_of (End x said) mine s = subst (λ (k : ℕ). IsTurnOf p k (End x said) older) (eqb-true x.0 a mine) s.follows.0.1.0
-  turn_of (HealEnd x g kind said) mine s = subst (λ (k : ℕ). IsTurnOf p k (HealEnd x g kind said) older) (eqb-true x.0 a mine) s.follows.0.1.0
-  turn_of (Event event) mine s = absurd (true≢false (sym mine))
-
   -- the brick of a round, and that a line keeps to it
   pub record Round (line : Line) : Type 0 where
     pub healer : 17 ≤ a
@@ -47,7 +29,7 @@ module _ (p : Plan) (a : ℕ) (older : List Line) where
 
   -- a healer's line keeps to its round
   pub round_of : (line : Line) → is_of a line ≡ true → Sound p (line ∷ older) → 17 ≤ a → Round line
-  round_of line mine s high = go (turn_of line mine s).keeps
+  round_of line mine s high = go (turn_of p a line older mine s.follows).keeps
     where
       go : KeepsToTask p a line older → Round line
       go (ToCommand c e k) = absurd (no_script p a (ended a older) c s.clients high e)
@@ -55,7 +37,7 @@ module _ (p : Plan) (a : ℕ) (older : List Line) where
 
   -- who asks for a Heal lock is a healer
   pub lock_round : (x : ActorId) (b : BrickId) (area : Area) (told : Told) (took : Bool) → is_of a (Ask x b (Lock Heal area) told took) ≡ true → Sound p (Ask x b (Lock Heal area) told took ∷ older) → Round (Ask x b (Lock Heal area) told took)
-  lock_round x b area told took mine s = go (turn_of (Ask x b (Lock Heal area) told took) mine s).keeps
+  lock_round x b area told took mine s = go (turn_of p a (Ask x b (Lock Heal area) told took) older mine s.follows).keeps
     where
       same : a ≡ x.0
       same = sym (eqb-true x.0 a mine)
@@ -66,7 +48,7 @@ module _ (p : Plan) (a : ℕ) (older : List Line) where
 
   -- and who gives one back
   pub unlock_round : (x : ActorId) (b : BrickId) (area : Area) (told : Told) (took : Bool) → is_of a (Ask x b (Unlock Heal area) told took) ≡ true → Sound p (Ask x b (Unlock Heal area) told took ∷ older) → Round (Ask x b (Unlock Heal area) told took)
-  unlock_round x b area told took mine s = go (turn_of (Ask x b (Unlock Heal area) told took) mine s).keeps
+  unlock_round x b area told took mine s = go (turn_of p a (Ask x b (Unlock Heal area) told took) older mine s.follows).keeps
     where
       same : a ≡ x.0
       same = sym (eqb-true x.0 a mine)

@@ -27,9 +27,9 @@ use Rattle.afr_moves.specs.Positions.{by_position}
 use Rattle.afr_moves.specs.Register.{Exact}
 use Rattle.afr_plan.specs.declared.plan.Plan.{Plan}
 use Rattle.afr_range_locks.specs.declared.domain.Domain.TheVariants.{Work}
-use Rattle.afr_standstill.proofs.Alive.{joined_alive}
+use Rattle.afr_law.proofs.Model.Alive.{joined_alive}
 use Rattle.afr_standstill.proofs.Positions.{fair, older_register, present_register, register_at}
-use Rattle.afr_standstill.proofs.Tasks.{task_of}
+use Rattle.afr_law.proofs.Model.Tasks.{task_of}
 use Rattle.afr_standstill.specs.Law.{HeldWaits, IsKept, NotAllWait, WaitsOn}
 use Rattle.afr_standstill.specs.Order.{IsStillLine, IsWaiting, locks_by}
 use Rattle.afr_tables.specs.Codes.{kept_by}

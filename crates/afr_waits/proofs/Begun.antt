@@ -1,5 +1,5 @@
 -- No Work lock is held where a heal still asks for its Heal locks, and a heal holds locks of one area alone.
-use Rattle.std.proofs.Common.{◌≡◌, ℕ, suc, ◌&&◌, ◌||◌, not, Bool, true, false, ◌⊎◌, inl, inr, refl, sym, ◌∙◌, arith, Option, Some, None, true≢false}
+use Rattle.std.proofs.Common.{◌≡◌, ℕ, zero, suc, ◌&&◌, ◌||◌, not, Bool, true, false, ◌⊎◌, inl, inr, refl, sym, ◌∙◌, arith, Option, Some, None, true≢false}
 use Rattle.std.specs.Prelude.{if◌then◌else◌}
 use Rattle.std.proofs.lemmas.Bool.{not-true}
 use Rattle.afr_base.specs.Bricks.{and_left, and_right}
@@ -19,14 +19,13 @@ use Rattle.afr_moves.specs.Register.{Applies, Exact, HealLocks, HealPres, HealUn
 use Rattle.afr_moves.specs.Rules as weak
 use Rattle.afr_moves.specs.Rules.{Register, begun, busy, is_area, no_views}
 use Rattle.afr_moves.specs.Transaction.{Outside}
-use Rattle.afr_moves.specs.Sets.{empty, with}
+use Rattle.afr_moves.specs.Sets.{any, empty, with}
 use Rattle.afr_moves.specs.Steps.{after_unlocks, is_lowest, is_next, locks_at, may_heal, may_heal_work}
 use Rattle.afr_moves.specs.Register.{is_finish}
 use Rattle.afr_range_locks.specs.declared.domain.Domain.TheVariants.{Heal, Work}
 use Rattle.afr_waits.proofs.Fields.{Still, busy_less, heal_kept, heal_locked, less_dropped, less_still, second_dropped, second_unlocked, still}
 use Rattle.afr_law.proofs.Discipline.Asks.{IsHealLock, heal_dropped}
 use Rattle.afr_law.proofs.Discipline.Projection.{along_now}
-use Rattle.afr_waits.proofs.Sessions.{none_any}
 
 -- what is so before the first Work lock of a heal, and of the second area in a heal
 pub record Begun (n : ℕ) (step : Step) (phase : Phase) (w : Register) : Type 0 where
@@ -37,6 +36,10 @@ pub record Begun (n : ℕ) (step : Step) (phase : Phase) (w : Register) : Type 0
 pub heal_locks : (step : Step) → same_step step HealLocks ≡ true → step ≡ HealLocks
 heal_locks HealLocks h = refl
 heal_locks _ h = absurd (cc h)
+
+none_any : (n : ℕ) (set : ℕ → Bool) → ((x : ℕ) → set x ≡ false) → any n set ≡ false
+none_any zero set none = refl
+none_any (suc n) set none = rw (none n) (none_any n set none)
 
 pub no_busy : (n : ℕ) → busy n weak.fresh ≡ false
 no_busy n = rw (none_any n empty (λ x. refl)) refl

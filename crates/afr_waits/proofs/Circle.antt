@@ -1,6 +1,7 @@
 -- In a finite list not each element can have a greater one in it.
 use Rattle.std.proofs.Common.{◌≡◌, ◌∙◌, ℕ, zero, suc, ◌<◌, ◌≤◌, ◌⊎◌, Bool, true, false, inl, inr, refl, sym, subst, arith, List, [], ◌∷◌, true≢false}
 use Rattle.afr_counting.proofs.Counts.{last_or}
+use Rattle.afr_law.proofs.Safety.Locks.{min_both}
 
 -- an element of a list
 abbrev pub In : {A : Type 0} → A → List A → Type 0
@@ -13,14 +14,11 @@ pub record Greatest {A : Type 0} (m : A → ℕ) (xs : List A) : Type 0 where
   pub among : In one xs
   pub most : (y : A) → In y xs → m y ≤ m one
 
-two : (a b : ℕ) → (a ≤ b) ⊎ (b ≤ a)
-two a b = grind arith
-
 pub greatest : {A : Type 0} (m : A → ℕ) (x : A) (xs : List A) → Greatest m (x ∷ xs)
 greatest m x [] = record { one = x; among = inl refl; most = λ y h. elim h [ inl e ↦ subst (λ z. m z ≤ m x) (sym e) (omega arith) | inr none ↦ absurd none ] }
 greatest m x (y ∷ ys) = (
     let g = greatest m y ys in
-    elim (two (m x) (m g.one)) [
+    elim (min_both (m x) (m g.one)) [
       | inl low ↦ record { one = g.one; among = inr g.among; most = λ z h. elim h [ inl e ↦ subst (λ k. m k ≤ m g.one) (sym e) low | inr rest ↦ g.most z rest ] }
       | inr high ↦ record {
         one = x;

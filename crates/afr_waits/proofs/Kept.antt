@@ -27,10 +27,11 @@ use Rattle.afr_moves.specs.Rules.{Register, busy, is_area}
 use Rattle.afr_moves.specs.Sets.{any, empty, with, without}
 use Rattle.afr_range_locks.specs.declared.domain.Domain.TheVariants.{Heal, Work}
 use Rattle.afr_waits.proofs.Begun.{IsBegun, begun_now, no_busy, own_or_idle}
+use Rattle.afr_law.proofs.Safety.Acks.{opens_out}
+use Rattle.afr_law.proofs.Safety.Sessions.{all_four, begin_place, gone_apart, heal_place, held_joined, honest_at, inner_place, kept_freed, step_of, without_other}
 use Rattle.afr_law.proofs.Discipline.Projection.{same_actor}
 use Rattle.afr_law.proofs.Safety.Locks.{Grant, held_past}
 use Rattle.afr_law.proofs.Safety.Numbers.{done_took}
-use Rattle.afr_waits.proofs.Sessions.{all_four, begin_place, closed, gone_apart, heal_place, held_joined, honest_at, inner_place, kept_freed, step_of, without_other}
 use Rattle.afr_waits.proofs.Fields.{Still, busy_less, less_dropped, less_still, still}
 use Rattle.afr_waits.specs.Waiting.{First, Holds, Second}
 
@@ -210,7 +211,7 @@ module _ (n : ℕ) (files : Beginning) (faults : ℕ → ℕ → Option Fault) (
     where
       go : (first : Bool) → opens at (log t) ≡ first → Has n (in_force first r).law b area
       go false e = h.locks b q area grant k
-      go true e = absurd (true≢false (sym (has_busy n r.law b area (h.locks b q area grant k)) ∙ h.rest (closed at (log t) e)))
+      go true e = absurd (true≢false (sym (has_busy n r.law b area (h.locks b q area grant k)) ∙ h.rest (opens_out at (log t) e)))
 
   -- a line of the actor
   own : (t a : ℕ) (r : Exact) (line : Option Line) → log t ≡ line → is_of a line ≡ true → IsBegun n files.keeps r → MayExactly n files.keeps (λ x. r) line

@@ -1,4 +1,3 @@
-pub mod Sessions
 pub mod Fields
 pub mod Begun
 pub mod Kept

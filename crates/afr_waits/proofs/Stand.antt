@@ -28,9 +28,10 @@ use Rattle.afr_waits.proofs.Begun.{begun_now}
 use Rattle.afr_waits.proofs.Circle.{Gathered, In, gather, no_rise}
 use Rattle.afr_waits.proofs.Kept.{Has, IsOneOf, has_busy, kept, locks, one_of}
 use Rattle.afr_waits.proofs.Nones.{NoSecond, nones_now}
+use Rattle.afr_law.proofs.Safety.Acks.{opens_out}
+use Rattle.afr_law.proofs.Safety.Sessions.{held_joined, held_line, honest_at}
 use Rattle.afr_law.proofs.Discipline.Projection.{same_actor}
 use Rattle.afr_law.proofs.Safety.Locks.{Grant}
-use Rattle.afr_waits.proofs.Sessions.{closed, held_joined, held_line, honest_at}
 use Rattle.afr_waits.specs.Waiting.{First, Holds, IsBelow, IsStill, RisesTo, Second, Waits}
 
 overlap_object : (x y : Area) → overlap x y ≡ true → area_object x ≡ area_object y
@@ -149,7 +150,7 @@ module _ (n : ℕ) (files : Beginning) (faults : ℕ → ℕ → Option Fault) (
       where
         forced : (first : Bool) → opens (place log t a) (log t) ≡ first → Has n (in_force first (exact n files.keeps log t a)).law c taken
         forced false e = record { below = low; holds = h }
-        forced true e = absurd (true≢false (sym (has_busy n (register t a) c taken (record { below = low; holds = h })) ∙ (kept n files faults log honest moves t a).rest (closed (place log t a) (log t) e)))
+        forced true e = absurd (true≢false (sym (has_busy n (register t a) c taken (record { below = low; holds = h })) ∙ (kept n files faults log honest moves t a).rest (opens_out (place log t a) (log t) e)))
 
   -- ---- further lines
   -- an actor that waits goes on waiting while others are told of nothing done

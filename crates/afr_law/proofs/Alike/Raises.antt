@@ -22,6 +22,7 @@ use Rattle.afr_moves.specs.Honest.{HonestLine, Honest, view_marks, plane_kind, a
 use Rattle.afr_moves.specs.Rules.{PlaneIs, SomeCell, MayPre, MayPost, MaySettle, Full, one_if, Lawful, present, opened, register, in_force}
 use Rattle.afr_moves.specs.Lines.{ask_by, begin_by, heal_begin_by, look_at, pre_on, post_on, settle_on}
 use Rattle.afr_law.proofs.Safety.Numbers.{Prepared, Piece}
+use Rattle.afr_law.proofs.Safety.Sessions.{all_four}
 use Rattle.afr_law.proofs.Safety.Acts.{Act, acts_apart, Working, working, acting, may_ask}
 use Rattle.afr_law.proofs.Heals.Looks.{SettleLine, look_acts, OwnPre, FirstAt, Viewing, done_finds, settle_works}
 use Rattle.afr_law.proofs.Heals.Marks.{ready}
@@ -31,9 +32,6 @@ use Rattle.afr_law.proofs.Alike.Tallies.{present_tallied}
 use Rattle.afr_law.proofs.Alike.Units.{Step, Still, Raises, Lowers, Takes, TakesOwn, clears, single, seen, gone, covers_all}
 use Rattle.afr_moves.proofs.Tests.{same_self, three_cases, same_kind_self, four_parts, same_kind_yes, positive}
 use Rattle.std.proofs.lemmas.Bool.{eqb-true, or_cases, ltb-true}
-
-all_four : (y k o s : Bool) → y ≡ true → k ≡ true → o ≡ true → s ≡ true → (y && k && o && s) ≡ true
-all_four y k o s p q r u = rw (p, q, r, u) refl
 
 equal_is : (x p : ℕ) → (x == p) ≡ true → p ≡ x
 equal_is x p e = grind (arith, nat_tests)

@@ -1,5 +1,5 @@
 -- What a brick holds against another was posted there.
-use Rattle.std.proofs.Common.{◌≡◌, ℕ, zero, suc, ◌+◌, ◌<◌, Bool, true, false, ◌&&◌, ◌||◌, ◌⊎◌, inl, inr, refl, sym, subst, arith, true≢false, List}
+use Rattle.std.proofs.Common.{◌≡◌, ℕ, zero, suc, ◌+◌, ◌<◌, ◌≤◌, Bool, true, false, ◌&&◌, ◌||◌, ◌⊎◌, inl, inr, refl, sym, ap, subst, arith, true≢false, List}
 use Rattle.std.specs.Prelude.{Option, None, Some, ◌==◌, slice_get, if◌then◌else◌}
 use Rattle.afr_base.specs.Bricks.{member}
 use Rattle.afr_base.specs.declared.ids.Kind.{Kind}
@@ -19,7 +19,7 @@ use Rattle.afr_moves.specs.Lines.{ask_by, begin_by, post_on}
 use Rattle.afr_law.proofs.Freshness.Misses.{not_done}
 use Rattle.afr_moves.specs.Past.{Beginning, Log, holds, joined, named, opening, pending, posts}
 use Rattle.afr_law.proofs.Safety.Steps.{honest_whole, lawful_whole}
-use Rattle.std.proofs.lemmas.Bool.{eqb-true}
+use Rattle.std.proofs.lemmas.Bool.{cases_lt, eqb-true}
 use Rattle.afr_moves.proofs.Tests.{same_kind_yes}
 use Rattle.afr_tables.specs.SumLaws.{all_true}
 
@@ -58,32 +58,51 @@ post_told files log t a b q g kind missed told true None h there = inl (go told 
     go _ h = absurd h
 
 module _ (files : Beginning) (log : Log) (x c g : ℕ) (kind : Kind) where
-  -- some line before t raised the number
-  record Raise (t : ℕ) : Type 0 where
-    p : ℕ
-    past : p < t
-    there : holds files log p x g ≡ true
-    names : named x c g kind (log p) ≡ true
+  -- some line from s on and before t raised the number
+  pub record RaiseSince (s t : ℕ) : Type 0 where
+    pub p : ℕ
+    pub after : s ≤ p
+    pub past : p < t
+    pub there : holds files log p x g ≡ true
+    pub names : named x c g kind (log p) ≡ true
 
-  raise_next : (t : ℕ) → Raise t → Raise (suc t)
-  raise_next t w = record { p = w.p; past = omega (arith, w.past); there = w.there; names = w.names }
+  raise_next : (s t : ℕ) → RaiseSince s t → RaiseSince s (suc t)
+  raise_next s t w = record { p = w.p; after = w.after; past = omega (arith, w.past); there = w.there; names = w.names }
 
-  raised : (t : ℕ) → 0 < posts files log t x c g kind → Raise t
+  posts_next : (t : ℕ) → posts files log (suc t) x c g kind ≡ (if holds files log t x g && named x c g kind (log t) then 1 else 0) + posts files log t x c g kind
   unfolding posts
-  raised zero some = absurd (omega (arith, some))
-  raised (suc t) some = go (holds files log t x g) refl (named x c g kind (log t)) refl (λ more. raise_next t (raised t more)) some
-    where
-      less : (m : ℕ) → 0 < 0 + m → 0 < m
-      less m h = omega (arith, h)
+  posts_next t = refl
 
-      go : (there : Bool) → holds files log t x g ≡ there → (hit : Bool) → named x c g kind (log t) ≡ hit → (0 < posts files log t x c g kind → Raise (suc t)) → 0 < (if there && hit then 1 else 0) + posts files log t x c g kind → Raise (suc t)
-      go true e true f rest some = record { p = t; past = omega arith; there = e; names = f }
-      go true e false f rest some = rest (less _ some)
-      go false e hit f rest some = rest (less _ some)
+  same_posts : (s t : ℕ) → s ≡ t → posts files log s x c g kind < posts files log t x c g kind → ⊥
+  same_posts s t e more = (let same : posts files log s x c g kind ≡ posts files log t x c g kind = ap (λ (k : ℕ). posts files log k x c g kind) e in absurd (omega (arith, same, more)))
+
+  -- a number that is greater than it was has been raised since
+  pub raised_since : (s t : ℕ) → s ≤ t → posts files log s x c g kind < posts files log t x c g kind → RaiseSince s t
+  raised_since s zero low more = absurd (same_posts s 0 (omega arith) more)
+  raised_since s (suc t) low more = elim (cases_lt t s) [
+    | inl over ↦ absurd (same_posts s (suc t) (omega arith) more)
+    | inr under ↦ go under (holds files log t x g) refl (named x c g kind (log t)) refl (subst (λ (m : ℕ). posts files log s x c g kind < m) (posts_next t) more) (λ some. raised_since s t under some)
+  ]
+    where
+      less : (k m : ℕ) → k < 0 + m → k < m
+      less k m h = omega (arith, h)
+
+      go : s ≤ t → (there : Bool) → holds files log t x g ≡ there → (hit : Bool) → named x c g kind (log t) ≡ hit → posts files log s x c g kind < (if there && hit then 1 else 0) + posts files log t x c g kind → (posts files log s x c g kind < posts files log t x c g kind → RaiseSince s t) → RaiseSince s (suc t)
+      go under true e true f some rest = record { p = t; after = under; past = omega arith; there = e; names = f }
+      go under true e false f some rest = raise_next s t (rest (less (posts files log s x c g kind) (posts files log t x c g kind) some))
+      go under false e hit f some rest = raise_next s t (rest (less (posts files log s x c g kind) (posts files log t x c g kind) some))
+
+  none_first : posts files log 0 x c g kind ≡ 0
+  unfolding posts
+  none_first = refl
+
+  raised : (t : ℕ) → 0 < posts files log t x c g kind → RaiseSince 0 t
+  raised t some = raised_since 0 t (omega arith) (omega (arith, none_first, some))
 
 module _ (n : ℕ) (files : Beginning) (faults : ℕ → ℕ → Option Fault) (log : Log) (honest : Honest files faults log) (lawful : Lawful n files.keeps log) where
-  cause_of : (t x c g : ℕ) (kind : Kind) → Raise files log x c g kind t → Cause log t x c g kind
-  cause_of t x c g kind r =
+  -- what raised the number is its cause
+  pub cause_of : (s t x c g : ℕ) (kind : Kind) → RaiseSince files log x c g kind s t → Cause log t x c g kind
+  cause_of s t x c g kind r =
       let w = names_line x c g kind (log r.p) r.names in
       let may : MayPost n log r.p w.a (present n log r.p w.a) x w.q g kind (member w.missed) = may_ask n files.keeps files faults log honest lawful r.p w.a x (post_on w.q g kind w.missed) w.told true w.is in
       let work = working n files.keeps files faults log honest lawful r.p w.a x (post_on w.q g kind w.missed) w.told w.q w.is may.own in
@@ -107,8 +126,12 @@ module _ (n : ℕ) (files : Beginning) (faults : ℕ → ℕ → Option Fault) (
         not_done = λ m y early is. not_done n files.keeps files faults log honest lawful r.p w.a x w.q g kind w.missed w.told w.is c w.within m y early is;
       }
 
+  pub cause_place : (s t x c g : ℕ) (kind : Kind) (r : RaiseSince files log x c g kind s t) → (cause_of s t x c g kind r).p ≡ r.p
+  unfolding cause_of
+  cause_place s t x c g kind r = refl
+
   pub has_cause : (t x c g : ℕ) (kind : Kind) → 0 < pending files log t x c g kind → Cause log t x c g kind
-  has_cause t x c g kind some = cause_of t x c g kind (raised files log x c g kind t (omega (arith, some)))
+  has_cause t x c g kind some = cause_of 0 t x c g kind (raised files log x c g kind t (omega (arith, some)))
 
 -- the law, of lists of lines
 pub accusations : AccusationsHaveCauses

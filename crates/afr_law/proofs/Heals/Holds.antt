@@ -2,7 +2,7 @@
 use Rattle.afr_base.specs.declared.ids.Kind.{Kind}
 use Rattle.afr_base.specs.declared.ids.Kind.TheVariants.{Attrs, Bytes, Names}
 use Rattle.afr_base.specs.declared.marks.Marks.{Marks}
-use Rattle.afr_law.proofs.Discipline.AskFields.{frees_heal, frees_work, sees, without_or, work_locked}
+use Rattle.afr_law.proofs.Discipline.AskFields.{frees_heal, frees_work, sees, work_locked}
 use Rattle.afr_moves.specs.Discipline.{MovesExactly, note, present}
 use Rattle.afr_moves.specs.Heal.{MayHealBegin}
 use Rattle.afr_moves.specs.Note.{breaks, fails, is_given, left_in_heal, next_phase, put}
@@ -12,6 +12,7 @@ use Rattle.afr_law.proofs.Discipline.Firsts.{FirstsOf, firsts_now}
 use Rattle.afr_law.proofs.Heals.Along.{healing_now, opened_by}
 use Rattle.afr_law.proofs.Heals.Conditions.{Resumes, Starts, Waits, WorkPlace, attrs_turn, bytes_turn, heal_lock_step, list_turn, look_step, look_turn, mend_turn, pre_turn, settle_turn, settles_is, unlock_turn, work_place}
 use Rattle.afr_law.proofs.Discipline.Inner.{turn_in, turn_low}
+use Rattle.afr_law.proofs.Safety.Sessions.{without_other}
 use Rattle.afr_moves.specs.Rules.{fresh}
 use Rattle.afr_moves.specs.Lines.{heal_begin_by, look_at, settle_on}
 use Rattle.afr_moves.specs.Sets.{empty, with, without}
@@ -29,7 +30,7 @@ use Rattle.std.proofs.Common.{Bool, ap, arith, false, inl, inr, not, refl, subst
 use Rattle.std.proofs.lemmas.Bool.Decides.{nat_tests}
 use Rattle.std.specs.Prelude.{Some, if◌then◌else◌, ◌==◌}
 use Rattle.afr_moves.specs.Rules as weak
-use Rattle.afr_moves.specs.Rules.{Register, is_area, heal_area}
+use Rattle.afr_moves.specs.Rules.{Register, heal_area}
 use Rattle.afr_moves.specs.Past.{Log, is_gone}
 use Rattle.afr_moves.proofs.Tests.{with_more, with_self, with_cases, without_in, next_not_opening}
 
@@ -71,9 +72,6 @@ fails_gone _ e = refl
 pub kept_law : (gone : Bool) (b : ℕ) (w : Register) → gone ≡ false → weak.dropping gone b w ≡ w
 kept_law true b w e = absurd (true≢false e)
 kept_law false b w e = refl
-
-without_other : (set : ℕ → Bool) (b x : ℕ) → (x ≡ b → ⊥) → set x ≡ true → without set b x ≡ true
-without_other set b x h e = elim (without_or set b x e) [ inl here ↦ absurd (h here) | inr still ↦ still ]
 
 without_not : (set : ℕ → Bool) (b x : ℕ) → without set b x ≡ true → x ≡ b → ⊥
 without_not set b x h e = grind (arith, nat_tests)

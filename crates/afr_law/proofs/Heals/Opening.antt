@@ -21,7 +21,7 @@ use Rattle.std.specs.Prelude.{None, Option, Some}
 use Rattle.afr_moves.specs.Rules as weak
 use Rattle.afr_moves.specs.Past.{Log, is_of, opens, place, place_after}
 
-ended : (p : Place) (x : ActorId) (reply : Reply) → next_place p (End x reply) ≡ Within → ⊥
+pub ended : (p : Place) (x : ActorId) (reply : Reply) → next_place p (End x reply) ≡ Within → ⊥
 ended Fresh x reply e = cc e
 ended Indexed x reply e = cc e
 ended Between x reply e = cc e

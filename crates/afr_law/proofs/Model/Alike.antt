@@ -34,7 +34,8 @@ use Rattle.afr_tables.specs.Clear.{IsClear}
 
 -- ---- one moment
 module _ (p : Plan) (n : ℕ) (L : Log) (five : p.shape.n ≤ 5) (older : List Line) (h : IsPast L older) (lawful : LawfulBelow p n older) where
-  kept_is : (b : ℕ) (kind : Kind) → b < p.shape.n → keeps p.shape kind b ≡ true → kept_by p b kind ≡ true
+  -- a brick that keeps the kind in the plan keeps it in the laws by positions
+  pub kept_is : (b : ℕ) (kind : Kind) → b < p.shape.n → keeps p.shape kind b ≡ true → kept_by p b kind ≡ true
   kept_is b kind low kept = (let small : nat_lt b 5 ≡ true = below b p.shape.n low five in rw small kept)
     where
       below : (b n : ℕ) → b < n → n ≤ 5 → nat_lt b 5 ≡ true

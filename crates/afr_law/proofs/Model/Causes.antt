@@ -1,7 +1,8 @@
 -- In honest and lawful logs of the model each accusation has its cause.
-use Rattle.std.proofs.Common.{◌≡◌, ℕ, ◌<◌, true, sym, ◌∙◌, subst, arith, List, [], ◌∷◌, length}
+use Rattle.std.proofs.Common.{◌≡◌, ℕ, ◌<◌, true, refl, sym, ◌∙◌, subst, arith, List, [], ◌∷◌, length}
 use Rattle.std.specs.Prelude.{nat_lt}
 use Rattle.std.proofs.lemmas.Bool.Decides.{nat_tests}
+use Rattle.afr_base.specs.declared.ids.Gfid.{Gfid}
 use Rattle.afr_base.specs.declared.ids.Kind.{Kind}
 use Rattle.afr_object.specs.Tables.{object_of}
 use Rattle.afr_lines.specs.Log.{EveryPrefix}
@@ -17,36 +18,42 @@ use Rattle.afr_law.proofs.Model.Sums.{pending_is}
 use Rattle.afr_law.proofs.Causes.Posted.{has_cause}
 use Rattle.afr_law.specs.Causes.{Cause}
 use Rattle.afr_moves.specs.Honest.{Honest}
-use Rattle.afr_law.specs.ModelCauses.{HaveCauses, ModelAccusationsHaveCauses, ModelExactAccusations}
+use Rattle.afr_law.specs.ModelCauses.{HaveCauses, IsCause, ModelAccusationsHaveCauses, ModelExactAccusations}
 use Rattle.afr_moves.specs.Past.{Log, pending}
 use Rattle.afr_moves.specs.Positions.{by_position}
 use Rattle.afr_moves.proofs.ByPosition.{IsPast, past_at, past_whole}
 use Rattle.afr_tables.specs.CopyLaws.{gfid_is}
 use Rattle.afr_moves.proofs.Changes.{object_same, kind_same}
 
-some_is : (m : ℕ) → nat_lt 0 m ≡ true → 0 < m
+pub some_is : (m : ℕ) → nat_lt 0 m ≡ true → 0 < m
 some_is m e = grind (arith, nat_tests)
+
+-- a cause by positions, in the words of the model
+pub cause_is : (L : Log) (older : List Line) → IsPast L older → (x c : ℕ) (g : Gfid) (kind : Kind) → Cause L (length older) x c g.0 kind → IsCause older x c g kind
+cause_is L older h x c g kind w = record {
+  position = w.p;
+  actor = record { 0 = w.a };
+  attempt = w.q;
+  missed = w.missed;
+  told = w.told;
+  posted = sym (past_at L older h w.p w.past) ∙ w.posted;
+  heard = w.heard;
+  named = w.named;
+  change = w.change;
+  earlier = w.earlier;
+  begun = sym (past_at L older h w.q (omega (arith, w.earlier, w.past))) ∙ w.begun;
+  object_same = gfid_is (object_of w.change) g (sym (object_same w.change) ∙ w.object_same);
+  kind_same = sym (kind_same w.change) ∙ w.kind_same;
+  not_done = λ m other early is. w.not_done m other.0 early (past_at L older h m (omega (arith, early, w.past)) ∙ is);
+}
+
+pub cause_position : (L : Log) (older : List Line) (h : IsPast L older) (x c : ℕ) (g : Gfid) (kind : Kind) (w : Cause L (length older) x c g.0 kind) → (cause_is L older h x c g kind w).position ≡ w.p
+unfolding cause_is
+cause_position L older h x c g kind w = refl
 
 module _ (p : Plan) (n : ℕ) (L : Log) (all : (t x c g : ℕ) (kind : Kind) → 0 < pending (start_of p n) L t x c g kind → Cause L t x c g kind) where
   causes_at : (older : List Line) → IsPast L older → LawfulBelow p n older → HaveCauses p older
-  causes_at older h lawful x c g kind hit =
-      let w = all (length older) x c g.0 kind (subst (λ (m : ℕ). 0 < m) (sym (pending_is p n L x c g kind older h lawful)) (some_is (pending_of p older x c g kind) hit)) in
-      record {
-        position = w.p;
-        actor = record { 0 = w.a };
-        attempt = w.q;
-        missed = w.missed;
-        told = w.told;
-        posted = sym (past_at L older h w.p w.past) ∙ w.posted;
-        heard = w.heard;
-        named = w.named;
-        change = w.change;
-        earlier = w.earlier;
-        begun = sym (past_at L older h w.q (omega (arith, w.earlier, w.past))) ∙ w.begun;
-        object_same = gfid_is (object_of w.change) g (sym (object_same w.change) ∙ w.object_same);
-        kind_same = sym (kind_same w.change) ∙ w.kind_same;
-        not_done = λ m other early is. w.not_done m other.0 early (past_at L older h m (omega (arith, early, w.past)) ∙ is);
-      }
+  causes_at older h lawful x c g kind hit = cause_is L older h x c g kind (all (length older) x c g.0 kind (subst (λ (m : ℕ). 0 < m) (sym (pending_is p n L x c g kind older h lawful)) (some_is (pending_of p older x c g kind) hit)))
 
   each_moment : (older : List Line) → IsPast L older → LawfulBelow p n older → EveryPrefix (HaveCauses p) older
   each_moment [] h lawful = causes_at [] h lawful

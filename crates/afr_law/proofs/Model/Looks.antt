@@ -1,8 +1,9 @@
 -- What the last looks of a work show stands in lines of its actor.
-use Rattle.std.proofs.Common.{◌≡◌, ◌≢◌, ℕ, suc, ◌<◌, ◌≤◌, Bool, true, false, ◌&&◌, not, ◌⊎◌, inl, inr, refl, sym, ap, ◌∙◌, subst, arith, List, [], ◌∷◌, length, Option, None, Some, ◌==◌, if◌then◌else◌, true≢false}
-use Rattle.std.specs.Prelude.{nat_lt}
+use Rattle.std.proofs.Common.{◌≡◌, ◌≢◌, ℕ, suc, ◌<◌, ◌≤◌, Bool, true, false, ◌&&◌, not, ◌⊎◌, inl, inr, refl, sym, ap, ◌∙◌, subst, arith, List, [], ◌∷◌, length, Option, None, Some, ◌==◌, if◌then◌else◌, true≢false, zero}
+use Rattle.std.specs.Prelude.{map, nat_lt, slice_index_or}
 use Rattle.std.proofs.lemmas.Bool.Decides.{nat_tests}
-use Rattle.afr_base.specs.Bricks.{member, and_left, and_right}
+use Rattle.afr_base.specs.Bricks.{all_five, member, and_left, and_right}
+use Rattle.afr_base.specs.Majority.{IsMajority}
 use Rattle.afr_base.specs.SetLemmas.{member_added, member_removed}
 use Rattle.afr_base.specs.declared.ids.Gfid.{Gfid}
 use Rattle.afr_base.specs.declared.ids.Kind.{Kind}
@@ -46,6 +47,25 @@ five_after g line looked e = e
 five_views : (g : Gfid) (w : Work) → length (looked_by g w).views ≡ 5
 five_views g [] = refl
 five_views g (y ∷ w) = five_after g y.0 (looked_by g w) (five_views g w)
+
+-- one of five values, by its place
+pub five_at : (f : ℕ → Option View) (b : ℕ) → b < 5 → slice_index_or (map f all_five) b None ≡ f b
+five_at f zero low = refl
+five_at f (suc zero) low = refl
+five_at f (suc (suc zero)) low = refl
+five_at f (suc (suc (suc zero))) low = refl
+five_at f (suc (suc (suc (suc zero)))) low = refl
+five_at f (suc (suc (suc (suc (suc b))))) low = absurd (omega (arith, low))
+
+-- all bricks but the third are a majority
+pub but_third : (n : ℕ) → 0 < n → n ≤ 5 → IsMajority n (λ b. not (b == 2))
+but_third zero some small = absurd (omega arith)
+but_third (suc zero) some small = omega arith
+but_third (suc (suc zero)) some small = omega arith
+but_third (suc (suc (suc zero))) some small = omega arith
+but_third (suc (suc (suc (suc zero)))) some small = omega arith
+but_third (suc (suc (suc (suc (suc zero))))) some small = omega arith
+but_third (suc (suc (suc (suc (suc (suc n)))))) some small = absurd (omega arith)
 
 -- the work's first line stands in the log
 begun_within : (a : ℕ) (log : List Line) → length (log_before (work a log) log) ≤ length log

@@ -75,7 +75,7 @@ nothing_far p n log lawful b g i e = go (copy_at g (holds p log b)) refl
     go (Some o) k = ap IsByte (get_or_past o.content i 0 (omega (arith, ((all_sound p n log lawful).0 b g o k).2, far i e)))
 
 -- and a change that ends in time leaves nothing there
-leaves_nothing : (c : Change) (g : Gfid) (i : ℕ) → nat_lt i (2 ^ 63) ≡ false → EndsInTime c → touches c (Byte g i) ≡ true → leaves c (Byte g i) ≡ IsByte 0
+pub leaves_nothing : (c : Change) (g : Gfid) (i : ℕ) → nat_lt i (2 ^ 63) ≡ false → EndsInTime c → touches c (Byte g i) ≡ true → leaves c (Byte g i) ≡ IsByte 0
 leaves_nothing (Write h at bytes) g i e ends hit = absurd (omega (arith, far i e, ends, inside (h.0 == g.0) at (length bytes) i hit))
   where
     inside : (s : Bool) (at n i : ℕ) → (s && (nat_le at i && nat_lt i (at + n))) ≡ true → i < at + n

@@ -102,7 +102,8 @@ fate_next n log t a r s none other numbers keeps place heal f = record {
     earlier : (q : ℕ) (change : Change) → log q ≡ Some (begin_by a change) → q < suc t → q < t
     earlier q change is past = elim (cases_lt q t) [ inl fine ↦ fine | inr late ↦ absurd (let e : q ≡ t = omega arith in other change (sym (ap log e) ∙ is)) ]
 
-opens_out : (p : Place) (line : Option Line) → opens p line ≡ true → p ≡ Within → ⊥
+-- what opens a work or a heal isn't within one
+pub opens_out : (p : Place) (line : Option Line) → opens p line ≡ true → p ≡ Within → ⊥
 unfolding opens
 opens_out Fresh line e k = cc
 opens_out Indexed line e k = cc

@@ -26,7 +26,7 @@ use Rattle.std.specs.Prelude.{slice_index, nat_le, nat_lt, length, List as Seq}
 use Rattle.afr_object.specs.declared.change.Change.TheVariants.{Write, Cut}
 use Rattle.afr_moves.specs.Cells.{fits, is_cell, touches}
 use Rattle.afr_law.specs.Safe.{Acknowledged, Current, Opening, Left, Good, Safe}
-use Rattle.afr_law.proofs.Safety.Core.{History, Clean, one_cell, one_read, reached, stamp_rises}
+use Rattle.afr_law.proofs.Safety.Core.{History, Clean, kept_on, one_cell, one_read, reached, stamp_rises}
 use Rattle.afr_law.proofs.Safety.Locks.{before_is}
 use Rattle.afr_law.proofs.Safety.Numbers.{Recorded, Piece}
 use Rattle.afr_law.proofs.Safety.Acts.{Act, act_later, acts_apart, working, may_ask, mend_covers, apply_acts, post_acts, post_exact, post_plane}
@@ -56,7 +56,8 @@ module _ (n : ℕ) (files : Beginning) (faults : ℕ → ℕ → Option Fault) (
       equal : (g h : ℕ) → g ≡ h → (g == h) ≡ true
       equal g h e = grind (arith, nat_tests)
 
-  applied_touch : (a b q m : ℕ) → log m ≡ Some (ask_by a b (Apply q) Done true) → changes (log q) cell ≡ true → object_of_line (log q) ≡ object_of cell → touch files log m b cell ≡ suc q
+  -- an operation that was told Done put its number on the cell
+  pub applied_touch : (a b q m : ℕ) → log m ≡ Some (ask_by a b (Apply q) Done true) → changes (log q) cell ≡ true → object_of_line (log q) ≡ object_of cell → touch files log m b cell ≡ suc q
   applied_touch a b q m is hit object_is =
       let less : q < m = act_later log cell q b m (apply_acts n files.keeps files faults log honest lawful cell m a b q Done is hit) in
       let same = before_is log m q less in
@@ -279,6 +280,12 @@ module _ (n : ℕ) (files : Beginning) (faults : ℕ → ℕ → Option Fault) (
   pub copy_rises : (c : ℕ) → files.keeps c (kind_of cell) ≡ true → (t u : ℕ) → t ≤ u → stamp files log t c cell ≤ stamp files log u c cell
   unfolding history
   copy_rises c copy t u low = stamp_rises history c copy t u low
+
+  -- what a counted attempt put on a copy stays there, or something later
+  pub copy_keeps : (t b q m : ℕ) → files.keeps b (kind_of cell) ≡ true → CountsAt n files log cell q → m < t → stamp files log (suc m) b cell ≡ suc q
+      → (from : ℕ) × IsOriginAt log cell t from × (value files log t b cell ≡ leaves_at files log cell from) × (q < from)
+  unfolding history
+  copy_keeps t b q m copy counts past put = kept_on history t b q m copy counts past put
 
   -- what a copy has that some looks at a majority, since a moment, didn't accuse is left by no attempt before one that was acknowledged by then
   pub copy_read : (r b since : ℕ) (among : ℕ → Bool) → IsMajority n among → files.keeps b (kind_of cell) ≡ true → b < n

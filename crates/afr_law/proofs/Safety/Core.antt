@@ -49,6 +49,15 @@ pub record History : Type 1 where
   -- acknowledgement
   pub counted : (q : ℕ) → Counts q → (among : ℕ → Bool) × IsMajority bricks among × ((x : ℕ) → x < bricks → among x ≡ true → (p : ℕ) × Posted q x p)
 
+-- what rises from each moment to the next is no less later
+pub rises : (f : ℕ → ℕ) → ((t : ℕ) → f t ≤ f (suc t)) → (t u : ℕ) → t ≤ u → f t ≤ f u
+rises f up t zero h = let e : t ≡ 0 = omega arith in rw e (omega arith)
+rises f up t (suc u) h =
+    elim (cases_lt u t) [
+      | inl over ↦ (let e : t ≡ suc u = omega arith in rw e (omega arith))
+      | inr under ↦ (let before = rises f up t u under in omega (arith, before, up u))
+    ]
+
 module _ (H : History) where
   -- a number is on the cell only after a line that put it there
   stamped : (t b n : ℕ) → H.IsCopy b → H.stamp t b ≡ suc n → (m : ℕ) × (m < t) × H.Acts n b m
@@ -82,15 +91,6 @@ module _ (H : History) where
         | inl same ↦ omega (arith, same.0)
         | inr (inl w) ↦ omega (arith, w.2, kept_under t b w.0 copy w.1)
         | inr (inr w) ↦ omega (arith, w.4, kept_under t b w.0 copy w.3)
-      ]
-
-  -- what rises from each moment to the next is no less later
-  rises : (f : ℕ → ℕ) → ((t : ℕ) → f t ≤ f (suc t)) → (t u : ℕ) → t ≤ u → f t ≤ f u
-  rises f up t zero h = let e : t ≡ 0 = omega arith in rw e (omega arith)
-  rises f up t (suc u) h =
-      elim (cases_lt u t) [
-        | inl over ↦ (let e : t ≡ suc u = omega arith in rw e (omega arith))
-        | inr under ↦ (let before = rises f up t u under in omega (arith, before, up u))
       ]
 
   pub stamp_rises : (b : ℕ) → H.IsCopy b → (t u : ℕ) → t ≤ u → H.stamp t b ≤ H.stamp u b
@@ -240,6 +240,12 @@ module _ (H : History) where
             }
             | inr (inr w) ↦ origin_mended t b w.0 w.1 w.2 w.4 w.5 w.6 w.7 w.8 w.9 w.10 w.11 (before w.1 w.2 w.8 w.7)
           ]
+
+  -- what a counted attempt put on a copy stays there, or something later
+  pub kept_on : (t b q m : ℕ) → H.IsCopy b → H.Counts q → m < t → H.stamp (suc m) b ≡ suc q → (from : ℕ) × H.IsOrigin t from × (H.value t b ≡ H.leaves from) × (q < from)
+  kept_on t b q m copy counts past put =
+      let o = origins t t b copy (omega arith) in
+      (o.from, o.legal, o.same, o.newest q counts (omega (arith, put, stamp_rises b copy (suc m) t past)))
 
   -- the value of a copy that no brick of a majority accuses is left by no attempt before one that was acknowledged
   pub one_cell : (t b : ℕ) (among : ℕ → Bool) → IsMajority H.bricks among → H.IsCopy b → b < H.bricks

@@ -95,7 +95,7 @@ granted_alone files log t a b d e took true None h = h.0
 pub no_way : (d a : Bool) (o : Bool) → (d && not a && o) ≡ false → d ≡ true → a ≡ false → o ≡ true → ⊥
 no_way d a o e p q r = grind arith
 
-min_both : (t u : ℕ) → (t ≤ u) ⊎ (u ≤ t)
+pub min_both : (t u : ℕ) → (t ≤ u) ⊎ (u ≤ t)
 min_both t u = grind arith
 
 -- number n of actor a acts on the cell at brick b, at time t

@@ -3,7 +3,7 @@ use Rattle.afr_tables.proofs.Entries.{entry_some, entry_same}
 use Rattle.afr_faults.specs.declared.fault.Fault.TheVariants.{Fail, Lost}
 use Rattle.afr_faults.specs.declared.fault.Fault.{Fault}
 use Rattle.std.proofs.Common.{◌≡◌, ℕ, zero, suc, ◌+◌, ◌<◌, Bool, true, false, ◌&&◌, ◌||◌, not, ◌⊎◌, inl, inr, refl, sym, ap, ◌∙◌, subst, arith, true≢false}
-use Rattle.std.specs.Prelude.{Option, None, Some, ◌==◌, if◌then◌else◌}
+use Rattle.std.specs.Prelude.{Option, None, Some, ◌==◌, if◌then◌else◌, []}
 use Rattle.afr_object.specs.declared.entry.View.{View}
 use Rattle.afr_object.specs.declared.change.Repair.{Repair}
 use Rattle.afr_object.specs.declared.change.Change.{Change}
@@ -21,7 +21,7 @@ use Rattle.afr_moves.specs.Honest.{HonestAsk, HonestLine, Honest, Shows, KnownMa
 use Rattle.afr_moves.specs.Rules.{fresh, SeenFit, fits_change}
 use Rattle.afr_moves.specs.Cells.{what_code, entry_code, fits, touches, leaves, object_of, Byte, Attr, Entry}
 use Rattle.afr_object.specs.declared.change.Repair.TheVariants.{CutTo, Copy, PutAttrs, PutNames}
-use Rattle.std.specs.Prelude.{nat_le, nat_lt, max, ◌-◌, List as Seq, [], ◌∷◌}
+use Rattle.std.specs.Prelude.{nat_le, nat_lt, max, ◌-◌, List as Seq, ◌∷◌}
 use Rattle.afr_law.proofs.Safety.Locks.{before_is}
 use Rattle.afr_law.proofs.Safety.Touches.{Touched, touched, Not, Made, Mended, kind_next, begin_kinds}
 use Rattle.afr_moves.specs.Lines.{ask_by, begin_by, look_at, make_in}
@@ -94,7 +94,7 @@ made_line (Some (Begin x (Make dir name h what))) g k e = go (h.0 == g) refl e
 made_line _ g k e = absurd (omega (arith, e))
 
 -- what leaves an entry is a Make of its gfid and kind
-entry_left : (line : Option Line) (d m g : ℕ) (what : What) → leaves_of line (Entry d m) ≡ entry_code g what → (x : ℕ) × (dir : ℕ) × (name : ℕ) × (h : ℕ) × (other : What) × (line ≡ Some (begin_by x (make_in dir name h other))) × (h ≡ g) × (what_code other ≡ what_code what)
+pub entry_left : (line : Option Line) (d m g : ℕ) (what : What) → leaves_of line (Entry d m) ≡ entry_code g what → (x : ℕ) × (dir : ℕ) × (name : ℕ) × (h : ℕ) × (other : What) × (line ≡ Some (begin_by x (make_in dir name h other))) × (h ≡ g) × (what_code other ≡ what_code what)
 unfolding leaves
 entry_left (Some (Begin x (Make dir name h other))) d m g what e = (let w = entry_same h.0 g other what e in (x.0, dir.0, name.0, h.0, other, refl, w.0, w.1))
 entry_left _ d m g what e = absurd (entry_some g what (sym e))

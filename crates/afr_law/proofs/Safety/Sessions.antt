@@ -1,4 +1,4 @@
--- Who holds a lock has a session and stands within a work; with small facts of tests, sets and places.
+-- Who holds a lock has a session; with small facts of tests, sets and places.
 use Rattle.std.proofs.Common.{◌≡◌, ℕ, zero, suc, ◌<◌, ◌&&◌, ◌||◌, not, ◌==◌, Bool, true, false, ◌⊎◌, inl, inr, refl, sym, ◌∙◌, subst, ap, Option, Some, None, true≢false}
 use Rattle.std.specs.Prelude.{if◌then◌else◌}
 use Rattle.std.proofs.lemmas.Bool.{eqb-true}
@@ -19,8 +19,8 @@ use Rattle.afr_object.specs.declared.change.Change.{Change}
 use Rattle.afr_moves.proofs.Tests.{same_self}
 use Rattle.afr_moves.specs.Honest.{Honest, HonestAsk, HonestLine, asked}
 use Rattle.afr_moves.specs.Lines.{ask_by}
-use Rattle.afr_moves.specs.Past.{Beginning, Log, before, ends, frees, grants, held, is_gone, joined, opening, opens, unlocks}
-use Rattle.afr_moves.specs.Sets.{any, without}
+use Rattle.afr_moves.specs.Past.{Beginning, Log, before, ends, frees, grants, held, is_gone, joined, opening, unlocks}
+use Rattle.afr_moves.specs.Sets.{without}
 use Rattle.afr_range_locks.specs.declared.domain.Domain.{Domain}
 use Rattle.std.proofs.lemmas.Bool.{or_parts}
 use Rattle.afr_law.proofs.Safety.Locks.{Grant, before_is, held_past, step_cases}
@@ -36,10 +36,6 @@ without_other set b x apart m = go (x == b) refl
     go : (same : Bool) → (x == b) ≡ same → (if same then false else set x) ≡ true
     go true e = absurd (apart (eqb-true x b e))
     go false e = m
-
-pub none_any : (n : ℕ) (set : ℕ → Bool) → ((x : ℕ) → set x ≡ false) → any n set ≡ false
-none_any zero set none = refl
-none_any (suc n) set none = rw (none n) (none_any n set none)
 
 -- ---- locks
 -- a lock that is held after a line is that line's, or was held before
@@ -117,14 +113,6 @@ module _ (files : Beginning) (faults : ℕ → ℕ → Option Fault) (log : Log)
       go true e None h = took_not h.1
 
 -- ---- places
--- what opens a work or a heal isn't within one
-pub closed : (p : Place) (line : Option Line) → opens p line ≡ true → p ≡ Within → ⊥
-unfolding opens
-closed Fresh line e f = cc f
-closed Indexed line e f = cc f
-closed Between line e f = cc f
-closed Within line e f = true≢false (sym e)
-
 pub inner_place : (at : Place) (line : Line) → ((p : Place) → next_place p line ≡ Within) → (next_place at line ≡ Within → ⊥) → ⊥
 inner_place at line all out = out (all at)
 

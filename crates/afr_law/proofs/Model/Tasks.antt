@@ -4,12 +4,11 @@ use Rattle.std.specs.Prelude.{if◌then◌else◌, nat_lt, slice_get, slice_inde
 use Rattle.std.proofs.lemmas.Bool.{eqb-true}
 use Rattle.std.proofs.lemmas.Bool.Decides.{nat_tests}
 use Rattle.std.proofs.lemmas.Option.{slice_get_within}
-use Rattle.afr_base.specs.declared.ids.ActorId.{ActorId}
-use Rattle.afr_lines.specs.declared.reply.Reply.{Reply}
-use Rattle.afr_lines.specs.Places.{Between, Fresh, Indexed, Place, Within, next_place, place_of}
+use Rattle.afr_lines.specs.Places.{Within, next_place, place_of}
 use Rattle.afr_lines.specs.Work.{ended, ends_work, is_of}
 use Rattle.afr_lines.specs.declared.line.Line.TheVariants.{Ask, Begin, End, Event, HealBegin, HealEnd}
 use Rattle.afr_lines.specs.declared.line.Line.{Line}
+use Rattle.afr_law.proofs.Heals.Opening.{ended as after_end}
 use Rattle.afr_model.specs.Actors.{IsActor, rounds_of, script_of, works_of}
 use Rattle.afr_model.specs.Following.{Follows, IsTurnOf, KeepsToTask, ToCommand, ToRound}
 use Rattle.afr_plan.specs.declared.command.Command.{Command}
@@ -21,7 +20,7 @@ past_end (x ∷ xs) zero high = absurd (omega (arith, high))
 past_end (x ∷ xs) (suc i) high = past_end xs i (omega (arith, high))
 
 -- a healer has no script
-no_script : (p : Plan) (a k : ℕ) (c : Command) → length p.clients ≤ 16 → 17 ≤ a → slice_get (script_of p a) k ≡ Some c → ⊥
+pub no_script : (p : Plan) (a k : ℕ) (c : Command) → length p.clients ≤ 16 → 17 ≤ a → slice_get (script_of p a) k ≡ Some c → ⊥
 no_script p a k c few high e = (let none : script_of p a ≡ [] = past_end p.clients (a - 1) (omega (arith, few, high)) in let l : slice_get [] k ≡ Some c = subst (λ (s : List Command). slice_get s k ≡ Some c) none e in cc)
 
 -- it is the actor's turn
@@ -60,12 +59,6 @@ other_ends a (Begin x change) e = refl
 other_ends a (HealBegin x g kind) e = refl
 other_ends a (HealEnd x g kind said) e = refl
 other_ends a (Event event) e = refl
-
-after_end : (at : Place) (x : ActorId) (said : Reply) → next_place at (End x said) ≡ Within → ⊥
-after_end Fresh x said e = cc e
-after_end Indexed x said e = cc e
-after_end Between x said e = cc e
-after_end Within x said e = cc e
 
 pub task_of : (p : Plan) (log : List Line) (a : ℕ) → length p.clients ≤ 16 → Follows p log → place_of a log ≡ Within → HasTask p a (ended a log)
 task_of p [] a few f e = absurd (cc e)

@@ -8,7 +8,7 @@ use Rattle.afr_lines.specs.declared.line.Line.{Line}
 use Rattle.afr_model.specs.Following.{Follows}
 use Rattle.afr_model.specs.Sessions.{ends_session, is_joined, opens_with}
 use Rattle.afr_plan.specs.declared.plan.Plan.{Plan}
-use Rattle.afr_standstill.proofs.Tasks.{turn_of}
+use Rattle.afr_law.proofs.Model.Tasks.{turn_of}
 
 kill_ends : (x b : ℕ) (line : Line) → kills x line ≡ true → ends_session x b line ≡ true
 kill_ends x b (Event (Kill y)) k = k
@@ -22,7 +22,7 @@ kill_ends x b (HealBegin y g kind) k = absurd (true≢false (sym k))
 kill_ends x b (End y said) k = absurd (true≢false (sym k))
 kill_ends x b (HealEnd y g kind said) k = absurd (true≢false (sym k))
 
-killed_apart : (p : Plan) (x b : ℕ) (log : List Line) → Follows p log → is_killed x log ≡ true → is_joined p x b log ≡ false
+pub killed_apart : (p : Plan) (x b : ℕ) (log : List Line) → Follows p log → is_killed x log ≡ true → is_joined p x b log ≡ false
 killed_apart p x b [] f e = absurd (true≢false (sym e))
 killed_apart p x b (line ∷ older) f e = go (kills x line) refl (is_killed x older) refl e (λ k. killed_apart p x b older f.1 k)
   where
