@@ -34,7 +34,7 @@ const SHORT: &str =
 const SUMMARY: &str = "gen 1\nlines 79\nok 4\nrefused 0\nsettled 0\nobjects 3\nsplit-brain 0\n";
 
 /// Words, plan, status and text. The plans that stand in plans/ are compared from there, by plans/check.
-const CASES: [(&[&str], &str, u8, &str); 27] = [
+const CASES: [(&[&str], &str, u8, &str); 31] = [
     (&[], PLAN, 2, USAGE),
     (&["help"], "", 2, USAGE),
     (&["run", "x"], PLAN, 2, USAGE),
@@ -126,6 +126,31 @@ const CASES: [(&[&str], &str, u8, &str); 27] = [
         SHORT,
         7,
         "afr replica 3\nlines 10\nc1 0 of 2 unfinished\nreach 0 1 2\nobjects 0\nsplit-brain 0\n",
+    ),
+    // With as many turns as its bound a run ends; with as many as it needs, too; with one fewer it doesn't.
+    (
+        &["run"],
+        "afr 1\nvolume replica\nfiles 1\nturns 88\nclient 1\nwrite /f1 0 \"hello\"\nread /f1 0 5\nend\n",
+        0,
+        REPORT,
+    ),
+    (
+        &["run"],
+        "afr 1\nvolume replica\nfiles 1\nturns 33\nclient 1\nwrite /f1 0 \"hello\"\nread /f1 0 5\nend\n",
+        0,
+        REPORT,
+    ),
+    (
+        &["run"],
+        "afr 1\nvolume replica\nfiles 1\nturns 32\nclient 1\nwrite /f1 0 \"hello\"\nread /f1 0 5\nend\n",
+        7,
+        "afr replica 3\nlines 32\nc1 1 of 2 unfinished\n1 write ok\nreach 0 1 2\nobjects 0\nsplit-brain 0\n",
+    ),
+    (
+        &["run"],
+        "afr 1\nvolume replica\nfiles 1\nturns 1127\nclient 1\nwrite /f1 0 \"1\"\nwrite /f1 0 \"2\"\nwrite /f1 0 \"3\"\nread /f1 0 1\nhealer 1\nround 0\nfault 1 8 fail\nfault 2 6 fail\nat 0 stop 1\nat 20 start 1\nat 20 stop 2\nat 41 start 2\nat 41 stop 0\nat 62 start 0\ngo c1 65\nend\n",
+        0,
+        "afr replica 3\nlines 107\nc1 4 of 4\n1 write failed\n2 write failed\n3 write ok\n4 read split-brain\nh1 1 of 1\n1 round ok\ndata 00000000-0000-0001-0000-000000000001 split\nreach 0 1 2\nobjects 1\nobject 00000000-0000-0001-0000-000000000001\ndata split\nb0 trusted.afr.vol-client-1=0x000000010000000000000000\nb0 trusted.afr.vol-client-2=0x000000010000000000000000\nb1 trusted.afr.dirty=0x000000010000000000000000\nb1 trusted.afr.vol-client-0=0x000000010000000000000000\nb2 trusted.afr.dirty=0x000000010000000000000000\nb2 trusted.afr.vol-client-0=0x000000010000000000000000\nsplit-brain 1\n",
     ),
 ];
 

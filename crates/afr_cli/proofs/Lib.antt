@@ -1,6 +1,8 @@
 -- Lemmas of this crate.
 pub mod ActorLemmas
+pub mod EndLemmas
 pub mod FormLemmas
 pub mod LiveLemmas
+pub mod LoadLemmas
 pub mod StatusLemmas
 pub mod ToldLemmas

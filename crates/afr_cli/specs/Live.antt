@@ -1,11 +1,14 @@
 -- What the program says of a run by threads.
-use Rattle.std.specs.Prelude.{◌≡◌, ℕ, List, Option, Some, String}
+use Rattle.std.specs.Prelude.{◌≡◌, ◌<◌, ◌+◌, ◌*◌, ℕ, List, Option, Some, String, length}
 use Rattle.std.specs.Global.{Global}
+use Rattle.afr_bound.specs.Left.{bound_of}
 use Rattle.afr_text.specs.Causes.{Rose}
 use Rattle.afr_text.specs.Parts.{AppendsFront}
+use Rattle.afr_plan.specs.declared.plan.Plan.{Plan}
 use Rattle.afr_plan.specs.declared.plan.PlanFault.{PlanFault}
 use Rattle.afr_volume.specs.State.{State, no_volume}
 use Rattle.afr_model.specs.Complete.{IsComplete}
+use Rattle.afr_model.specs.Ordered.{actors_of}
 use Rattle.afr_model.specs.ReportHealers.{report_of}
 use Rattle.afr_words.specs.Forms.{AreLive}
 use Rattle.afr_cli.specs.Statuses.{IsOver, IsRefused, IsSpelled, refusal_line, usage_line}
@@ -30,3 +33,7 @@ pub record IsGivenLive (words : List (String Global)) (left : Option (List ℕ))
   pub asked : AreLive words
   pub told : left ≡ Some bytes
   pub sound : Rose faults faults' → ⊥
+
+-- the plan gives fewer turns than the bound on its run in whatever order: twice that in the stated one, and one for each actor and event
+abbrev pub IsShortLive : Plan → Type 0
+IsShortLive p = p.turns < 2 * bound_of p + length (actors_of p) * length p.events

@@ -2,6 +2,7 @@
 use Rattle.std.specs.Prelude.{◌≡◌, ◌<◌, ◌≤◌, ◌⊎◌, ℕ, true, false, List, ◌++◌, ◌==◌, if◌then◌else◌, Option, Some, String, codes, decimal, length}
 use Rattle.std.specs.Global.{Global}
 use Rattle.std.specs.Io.KnownBytes.{Appends, Consumes, IsAtEnd}
+use Rattle.afr_bound.specs.Left.{bound_of}
 use Rattle.afr_text.specs.Causes.{Rose}
 use Rattle.afr_text.specs.Parts.{AppendsFront, CameMore}
 use Rattle.afr_lines.specs.declared.line.Line.{Line}
@@ -89,6 +90,10 @@ pub record IsWorkLeft (p : Plan) (log : List Line) : Type 0 where
 -- the log has as many lines as the plan gives room for
 abbrev pub IsFull : Plan → List Line → Type 0
 IsFull p log = length log ≡ p.turns
+
+-- the plan gives fewer turns than the bound on its run in the stated order
+abbrev pub IsShort : Plan → Type 0
+IsShort p = p.turns < bound_of p
 
 -- a run is over: all work is done, or the log is full while a living actor has work left
 abbrev pub IsOver : Plan → List Line → Type 0

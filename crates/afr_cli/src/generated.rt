@@ -10,7 +10,7 @@ ghost use Rattle.afr_rule.specs.Choosing.{IsRule};
 ghost use Rattle.afr_volume.specs.Right.{IsChosenBy};
 ghost use Rattle.afr_volume.specs.State.{no_volume};
 ghost use Rattle.afr_cli.specs.Forms.{text_of};
-ghost use Rattle.afr_cli.specs.Statuses.{AreDone, IsFull, IsOver, IsWorkLeft};
+ghost use Rattle.afr_cli.specs.Statuses.{AreDone, IsOver};
 
 use crate::running::run_plan;
 use crate::status::Status;
@@ -21,7 +21,8 @@ use afr_volume::Volume;
 use afr_words::Form;
 use std::alloc::Global;
 
-/// Makes the plan of the generated load of number `n`, and runs it; then its summary is written.
+/// Makes the plan of the generated load of number `n`, and runs it; then its summary is written. The plan has more turns than
+/// its bound, so all work is done.
 #[tactic(auto, using(crate::proofs::StatusLemmas::nothing_chosen, crate::proofs::StatusLemmas::nothing_ordered))]
 pub fn make_and_run<K: Sink, F: Fn(&[Candidate]) -> usize, G: Fn(&[Candidate]) -> usize>(
     alloc: Global,
@@ -35,13 +36,11 @@ pub fn make_and_run<K: Sink, F: Fn(&[Candidate]) -> usize, G: Fn(&[Candidate]) -
     requires some { 1 ≤ n }
     requires few { n ≤ 2000 }
     requires fresh { volume.old ≡ no_volume }
-    ensures few { (result ≡ 0) ⊎ (result ≡ 5) ⊎ (result ≡ 6) ⊎ (result ≡ 7) }
+    ensures few { (result ≡ 0) ⊎ (result ≡ 5) ⊎ (result ≡ 6) }
     ensures plan { (volume.new ≡ no_volume) ⊎ (volume.new.plan ≡ generated n) }
     ensures ran { result ≢ 6 → volume.new.plan ≡ generated n }
     ensures ordered { IsOrdered volume.new.plan volume.new.log }
     ensures ok { result ≡ 0 → IsComplete volume.new.plan volume.new.log × AreDone volume.new.plan volume.new.log }
-    ensures unfinished { result ≡ 7 → Appends (K.taken sink.old) (K.taken sink.new) (text_of (Form.Gen n) volume.new.plan volume.new.log)
-        × IsFull volume.new.plan volume.new.log × IsWorkLeft volume.new.plan volume.new.log }
     ensures text { result ≡ 0 → Appends (K.taken sink.old) (K.taken sink.new) (text_of (Form.Gen n) volume.new.plan volume.new.log) }
     ensures write { result ≡ 5 → Rose (K.faults sink.old) (K.faults sink.new) × AppendsFront (K.taken sink.old) (K.taken sink.new) (text_of (Form.Gen n) volume.new.plan volume.new.log)
         × IsComplete volume.new.plan volume.new.log × IsOver volume.new.plan volume.new.log }

@@ -2,6 +2,8 @@
 ghost use Rattle.std.specs.Prelude.{◌≡◌, ◌≢◌, ◌≤◌, ◌⊎◌, ℕ, List, [], OnOk, String, length};
 ghost use Rattle.std.specs.Global.{Global};
 ghost use Rattle.std.specs.Io.KnownBytes.{Appends};
+ghost use Rattle.afr_bound.specs.Law.{AreEager};
+ghost use Rattle.afr_live.specs.Ending.{EndsInAnyOrder};
 ghost use Rattle.afr_text.specs.Causes.{Rose};
 ghost use Rattle.afr_text.specs.Parts.{AppendsFront};
 ghost use Rattle.afr_model.specs.Complete.{IsComplete};
@@ -14,7 +16,7 @@ ghost use Rattle.afr_runnable.specs.Runnable.{IsRunnable};
 ghost use Rattle.afr_volume.specs.Right.{IsRight};
 ghost use Rattle.afr_volume.specs.State.{no_volume};
 ghost use Rattle.afr_words.specs.Forms.{AreLive};
-ghost use Rattle.afr_cli.specs.Live.{IsGivenLive, StopsLive};
+ghost use Rattle.afr_cli.specs.Live.{IsGivenLive, IsShortLive, StopsLive};
 ghost use Rattle.afr_cli.specs.Statuses.{AreDone, HasFault, IsFull, IsOver, IsRefusal, IsSpelled, IsWorkLeft, refusal_line, usage_line};
 
 use crate::messages::{USAGE, answer, refuse};
@@ -35,8 +37,10 @@ use std::thread::Threads;
 
 /// Serves the word `live`, and answers the status: the plan is read from the source and run by threads, in whatever order
 /// they come, and its report is written. The statuses are those of `afr_top`; it ends with 2 where the words are others.
-/// While the threads run, the empty volume stands in the place of the one that was lent. Each thread passes the gate
+/// Status 7 needs that the plan has fewer turns than twice its bound and one for each actor and event. While the threads run,
+/// the empty volume stands in the place of the one that was lent. Each thread passes the gate
 /// before each of its turns. It returns if the threads do.
+#[tactic(auto, using(crate::proofs::EndLemmas::nothing_eager))]
 pub fn afr_live<
     R: Threads + Wait + Sync,
     S: Source,
@@ -63,6 +67,7 @@ pub fn afr_live<
         × Appends (K.taken sink.old) (K.taken sink.new) (report_of volume.new.plan volume.new.log) × IsComplete volume.new.plan volume.new.log × AreDone volume.new.plan volume.new.log }
     ensures unfinished { result ≡ 7 → AreLive words.now × IsSpelled (S.left source.old) (S.left source.new) volume.new.plan
         × Appends (K.taken sink.old) (K.taken sink.new) (report_of volume.new.plan volume.new.log) × IsFull volume.new.plan volume.new.log × IsWorkLeft volume.new.plan volume.new.log }
+    ensures short { result ≡ 7 → IsShortLive volume.new.plan }
 
     // No plan was run.
     ensures usage { result ≡ 2 → (AreLive words.now → ⊥) × Appends (K.taken sink.old) (K.taken sink.new) usage_line × (source.new ≡ source.old) × (volume.new ≡ no_volume) }
@@ -86,6 +91,7 @@ pub fn afr_live<
     ensures plan { (volume.new ≡ no_volume) ⊎ (AreLive words.now × IsSpelled (S.left source.old) (S.left source.new) volume.new.plan) }
     ensures others { (AreLive words.now → ⊥) → (result ≡ 2) ⊎ (result ≡ 5) }
     ensures few { (result ≡ 0) ⊎ (result ≡ 2) ⊎ (result ≡ 3) ⊎ (result ≡ 4) ⊎ (result ≡ 5) ⊎ (result ≡ 6) ⊎ (result ≡ 7) }
+    ensures eager { AreEager volume.new.log }
     ensures right { IsRight volume.new.plan volume.new.log }
 {
     let status = if are_live(words) {
@@ -98,6 +104,7 @@ pub fn afr_live<
 }
 
 /// Reads a plan from the source, and runs it by threads.
+#[tactic(auto, using(crate::proofs::EndLemmas::nothing_eager))]
 fn read_and_run<
     R: Threads + Wait + Sync,
     S: Source,
@@ -121,11 +128,13 @@ fn read_and_run<
         × IsComplete volume.new.plan volume.new.log × AreDone volume.new.plan volume.new.log }
     ensures unfinished { result ≡ 7 → IsSpelled (S.left source.old) (S.left source.new) volume.new.plan × Appends (K.taken sink.old) (K.taken sink.new) (report_of volume.new.plan volume.new.log)
         × IsFull volume.new.plan volume.new.log × IsWorkLeft volume.new.plan volume.new.log }
+    ensures short { result ≡ 7 → IsShortLive volume.new.plan }
     ensures refused { result ≡ 3 → IsRefusal (S.left source.old) (S.left source.new) (K.taken sink.old) (K.taken sink.new) × (volume.new ≡ no_volume) }
     ensures read { result ≡ 4 → Rose (S.faults source.old) (S.faults source.new) × (sink.new ≡ sink.old) × (volume.new ≡ no_volume) }
     ensures write { result ≡ 5 → Rose (K.faults sink.old) (K.faults sink.new)
         × ((words : List (String Global)) → AreLive words → StopsLive words S.left source.old source.new (K.taken sink.old) (K.taken sink.new) volume.new) }
     ensures memory { result ≡ 6 → sink.new ≡ sink.old }
+    ensures eager { AreEager volume.new.log }
     ensures plan { (volume.new ≡ no_volume) ⊎ IsSpelled (S.left source.old) (S.left source.new) volume.new.plan }
     ensures few { (result ≡ 0) ⊎ (result ≡ 3) ⊎ (result ≡ 4) ⊎ (result ≡ 5) ⊎ (result ≡ 6) ⊎ (result ≡ 7) }
 {
@@ -138,6 +147,7 @@ fn read_and_run<
 }
 
 /// Runs a plan by threads and writes its report, also where the log got full in the middle of the work.
+#[tactic(auto, using(crate::proofs::EndLemmas::nothing_eager))]
 fn run_live<
     R: Threads + Wait + Sync,
     K: Sink,
@@ -163,10 +173,12 @@ fn run_live<
     ensures ok { result ≡ 0 → IsComplete volume.new.plan volume.new.log × AreDone volume.new.plan volume.new.log }
     ensures unfinished { result ≡ 7 → Appends (K.taken sink.old) (K.taken sink.new) (report_of volume.new.plan volume.new.log)
         × IsFull volume.new.plan volume.new.log × IsWorkLeft volume.new.plan volume.new.log }
+    ensures short { result ≡ 7 → IsShortLive volume.new.plan }
     ensures text { result ≡ 0 → Appends (K.taken sink.old) (K.taken sink.new) (report_of volume.new.plan volume.new.log) }
     ensures write { result ≡ 5 → Rose (K.faults sink.old) (K.faults sink.new) × AppendsFront (K.taken sink.old) (K.taken sink.new) (report_of volume.new.plan volume.new.log)
         × IsComplete volume.new.plan volume.new.log × IsOver volume.new.plan volume.new.log }
     ensures memory { result ≡ 6 → sink.new ≡ sink.old }
+    ensures eager { AreEager volume.new.log }
 {
     if volume.set_up(plan).is_err() {
         return Status::NoMemory as u8;
@@ -190,6 +202,8 @@ fn run_lent<
     requires fresh { volume.old.log ≡ [] }
     ensures plan { volume.new.plan ≡ volume.old.plan }
     ensures ok { OnOk result (IsComplete volume.new.plan volume.new.log) }
+    ensures ends { OnOk result (EndsInAnyOrder volume.new.plan volume.new.log) }
+    ensures eager { AreEager volume.new.log }
 {
     let lent = mem::replace(volume, Volume::empty(alloc));
     match live(rt, alloc, lent, rules, gate) {

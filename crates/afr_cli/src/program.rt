@@ -13,7 +13,7 @@ ghost use Rattle.afr_volume.specs.Right.{IsChosenBy, IsRight};
 ghost use Rattle.afr_volume.specs.State.{no_volume};
 ghost use Rattle.afr_words.specs.Forms.{AreForm, AreRefused, AskFor};
 ghost use Rattle.afr_cli.specs.Forms.{reads, text_of};
-ghost use Rattle.afr_cli.specs.Statuses.{AreDone, HasFault, AreGiven, IsFull, IsPlanOf, IsPlanned, IsRefusal, IsSpelled, IsWorkLeft, Reports, StopsWriting, refusal_line, usage_line};
+ghost use Rattle.afr_cli.specs.Statuses.{AreDone, HasFault, AreGiven, IsFull, IsPlanOf, IsPlanned, IsRefusal, IsShort, IsSpelled, IsWorkLeft, Reports, StopsWriting, refusal_line, usage_line};
 
 use crate::generated::make_and_run;
 use crate::messages::{USAGE, answer, refuse};
@@ -28,8 +28,9 @@ use std::alloc::Global;
 
 /// Serves the words, and answers the status. It ends with 2 where the words are no form that it
 /// serves, 3 where the plan is refused, 4 where the source failed, 5 where the sink failed, 6 where
-/// memory was wanting, and with 7 where the log was full before all work was done; the text of the
-/// form is written of a full log too. Heals ask one of the rules for their sources, and clients the
+/// memory was wanting, and with 7 where the log was full before all work was done, which needs that
+/// the plan has fewer turns than its bound, and comes with no generated load; the text of the form is
+/// written of a full log too. Heals ask one of the rules for their sources, and clients the
 /// other for the copies that they read.
 #[tactic(auto, using(crate::proofs::StatusLemmas::nothing_chosen, crate::proofs::StatusLemmas::nothing_ordered, crate::proofs::StatusLemmas::stops_at_usage))]
 pub fn afr_top<S: Source, K: Sink, F: Fn(&[Candidate]) -> usize, G: Fn(&[Candidate]) -> usize>(
@@ -49,6 +50,7 @@ pub fn afr_top<S: Source, K: Sink, F: Fn(&[Candidate]) -> usize, G: Fn(&[Candida
         × IsComplete volume.new.plan volume.new.log × AreDone volume.new.plan volume.new.log }
     ensures unfinished { result ≡ 7 → Reports words.now (S.left source.old) (S.left source.new) (K.taken sink.old) (K.taken sink.new) volume.new
         × IsFull volume.new.plan volume.new.log × IsWorkLeft volume.new.plan volume.new.log }
+    ensures short { result ≡ 7 → IsShort volume.new.plan }
 
     // No plan was run.
     ensures usage { result ≡ 2 → (AreForm words.now → ⊥) × Appends (K.taken sink.old) (K.taken sink.new) usage_line × (source.new ≡ source.old) × (volume.new ≡ no_volume) }
@@ -61,7 +63,7 @@ pub fn afr_top<S: Source, K: Sink, F: Fn(&[Candidate]) -> usize, G: Fn(&[Candida
     ensures memory { result ≡ 6 → sink.new ≡ sink.old }
 
     // The words ask for a generated load.
-    ensures generated { (n : ℕ) → AskFor words.now (Form.Gen n) → (source.new ≡ source.old) × ((result ≡ 0) ⊎ (result ≡ 7) ⊎ (result ≡ 5) ⊎ (result ≡ 6)) }
+    ensures generated { (n : ℕ) → AskFor words.now (Form.Gen n) → (source.new ≡ source.old) × ((result ≡ 0) ⊎ (result ≡ 5) ⊎ (result ≡ 6)) }
 
     // The words ask for a form that reads, the source tells its bytes, and no read failed.
     ensures faulty { (bytes : List ℕ) (fault : PlanFault) → AreGiven words.now (S.left source.old) (S.faults source.old) (S.faults source.new) bytes
@@ -106,13 +108,14 @@ fn serve<S: Source, K: Sink, F: Fn(&[Candidate]) -> usize, G: Fn(&[Candidate]) -
         × IsComplete volume.new.plan volume.new.log × AreDone volume.new.plan volume.new.log }
     ensures unfinished { result ≡ 7 → IsPlanOf form (S.left source.old) (S.left source.new) volume.new.plan × Appends (K.taken sink.old) (K.taken sink.new) (text_of form volume.new.plan volume.new.log)
         × IsFull volume.new.plan volume.new.log × IsWorkLeft volume.new.plan volume.new.log }
+    ensures short { result ≡ 7 → IsShort volume.new.plan }
     ensures refused { result ≡ 3 → IsRefusal (S.left source.old) (S.left source.new) (K.taken sink.old) (K.taken sink.new) × (volume.new ≡ no_volume) }
     ensures read { result ≡ 4 → Rose (S.faults source.old) (S.faults source.new) × (sink.new ≡ sink.old) × (volume.new ≡ no_volume) }
     ensures write { result ≡ 5 → Rose (K.faults sink.old) (K.faults sink.new)
         × ((words : List (String Global)) → AskFor words form → StopsWriting words S.left source.old source.new (K.taken sink.old) (K.taken sink.new) volume.new) }
     ensures memory { result ≡ 6 → sink.new ≡ sink.old }
     ensures unread { reads form ≡ false → source.new ≡ source.old }
-    ensures generated { reads form ≡ false → (result ≡ 0) ⊎ (result ≡ 7) ⊎ (result ≡ 5) ⊎ (result ≡ 6) }
+    ensures generated { reads form ≡ false → (result ≡ 0) ⊎ (result ≡ 5) ⊎ (result ≡ 6) }
     ensures plan { (volume.new ≡ no_volume) ⊎ IsPlanOf form (S.left source.old) (S.left source.new) volume.new.plan }
     ensures few { (result ≡ 0) ⊎ (result ≡ 3) ⊎ (result ≡ 4) ⊎ (result ≡ 5) ⊎ (result ≡ 6) ⊎ (result ≡ 7) }
     ensures ordered { IsOrdered volume.new.plan volume.new.log }
@@ -142,6 +145,7 @@ fn read_and_run<S: Source, K: Sink, F: Fn(&[Candidate]) -> usize, G: Fn(&[Candid
         × IsComplete volume.new.plan volume.new.log × AreDone volume.new.plan volume.new.log }
     ensures unfinished { result ≡ 7 → IsSpelled (S.left source.old) (S.left source.new) volume.new.plan × Appends (K.taken sink.old) (K.taken sink.new) (text_of form volume.new.plan volume.new.log)
         × IsFull volume.new.plan volume.new.log × IsWorkLeft volume.new.plan volume.new.log }
+    ensures short { result ≡ 7 → IsShort volume.new.plan }
     ensures refused { result ≡ 3 → IsRefusal (S.left source.old) (S.left source.new) (K.taken sink.old) (K.taken sink.new) × (volume.new ≡ no_volume) }
     ensures read { result ≡ 4 → Rose (S.faults source.old) (S.faults source.new) × (sink.new ≡ sink.old) × (volume.new ≡ no_volume) }
     ensures write { result ≡ 5 → Rose (K.faults sink.old) (K.faults sink.new)

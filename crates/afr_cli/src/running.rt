@@ -10,7 +10,7 @@ ghost use Rattle.afr_rule.specs.Choosing.{IsRule};
 ghost use Rattle.afr_volume.specs.Right.{IsChosenBy};
 ghost use Rattle.afr_volume.specs.State.{no_volume};
 ghost use Rattle.afr_cli.specs.Forms.{text_of};
-ghost use Rattle.afr_cli.specs.Statuses.{AreDone, IsFull, IsOver, IsWorkLeft};
+ghost use Rattle.afr_cli.specs.Statuses.{AreDone, IsFull, IsOver, IsShort, IsWorkLeft};
 
 use crate::finished::all_done;
 use crate::messages::answer;
@@ -47,6 +47,7 @@ pub fn run_plan<K: Sink, F: Fn(&[Candidate]) -> usize, G: Fn(&[Candidate]) -> us
     ensures ok { result ≡ 0 → IsComplete volume.new.plan volume.new.log × AreDone volume.new.plan volume.new.log }
     ensures unfinished { result ≡ 7 → Appends (K.taken sink.old) (K.taken sink.new) (text_of form volume.new.plan volume.new.log)
         × IsFull volume.new.plan volume.new.log × IsWorkLeft volume.new.plan volume.new.log }
+    ensures short { result ≡ 7 → IsShort volume.new.plan }
     ensures text { result ≡ 0 → Appends (K.taken sink.old) (K.taken sink.new) (text_of form volume.new.plan volume.new.log) }
     ensures write { result ≡ 5 → Rose (K.faults sink.old) (K.faults sink.new) × AppendsFront (K.taken sink.old) (K.taken sink.new) (text_of form volume.new.plan volume.new.log)
         × IsComplete volume.new.plan volume.new.log × IsOver volume.new.plan volume.new.log }

@@ -1,13 +1,15 @@
 -- What a turn and an event add to the works that have ended.
-use Rattle.std.proofs.Common.{◌≡◌, ◌≤◌, ◌<◌, ◌+◌, ◌-◌, ◌*◌, ◌^◌, ℕ, Bool, true, false, None, Ok, Result, List, [], ◌∷◌, length, refl, sym, ap, arith, ◌∙◌}
+use Rattle.std.proofs.Common.{◌≡◌, ◌≤◌, ◌<◌, ◌+◌, ◌^◌, ℕ, Bool, true, false, None, Some, List, [], ◌∷◌, length, refl, sym, ap, arith, ◌∙◌}
 use Rattle.afr_base.specs.declared.ids.ActorId.{ActorId}
 use Rattle.afr_lines.specs.Work.{is_end}
+use Rattle.afr_lines.specs.declared.line.Line.TheVariants.{End}
 use Rattle.afr_lines.specs.declared.line.Line.{Line}
+use Rattle.afr_log.specs.Log.{waits_for}
 use Rattle.afr_order.specs.Going.{IsHappening, Still, Later}
 use Rattle.afr_volume.specs.State.{State}
 use Rattle.afr_volume.specs.Turning.{AddsLine, Turns}
 use Rattle.afr_volume.specs.declared.turned.Turned.{Turned}
-use Rattle.afr_volume.specs.declared.turned.Turned.TheVariants.{Moved}
+use Rattle.afr_volume.specs.declared.turned.Turned.TheVariants.{Moved, Waits, Ended, Full}
 use Rattle.afr_live.specs.Ends.{works_ended}
 
 few_at : (line : Line) (older : List Line) (b : Bool) → is_end line ≡ b → works_ended older ≤ length older → works_ended (line ∷ older) ≤ length (line ∷ older)
@@ -40,18 +42,22 @@ moved_ends a old new turned h moved b tells is =
     let ends : is_end adds.line ≡ true = sym (tells adds.line old.log adds.added) ∙ is in
     rw (adds.added, ends) refl
 
--- what two answers hand out is the same where the answers are
-pub ok_same : {A B : Type 0} (x y : A) → ◌≡◌ {A = Result A B} (Ok x) (Ok y) → x ≡ y
-ok_same x y h = cc
+-- a line that waits for somebody ends nothing
+waits_on : (line : Line) (owner : ActorId) → waits_for line ≡ Some owner → is_end line ≡ false
+waits_on (End a said) owner e = absurd (cc e)
+waits_on line owner e = refl
 
--- the lines that passes may still add, counted twice, and once more while a pass may pass somebody over
-abbrev pub left : ℕ → ℕ → Bool → ℕ
-left turns len true = 2 * (turns - len) + 1
-left turns len false = 2 * (turns - len)
+-- where it ends no work, or no line was added, as many have ended
+pub still_ends : (a : ActorId) (old new : State) (turned : Turned) → Turns a old turned new → turned ≡ Moved
+    → (b : Bool) → ((line : Line) (older : List Line) → new.log ≡ line ∷ older → b ≡ is_end line) → b ≡ false
+    → works_ended new.log ≡ works_ended old.log
+still_ends a old new turned h moved b tells is =
+    let adds = moved_line a old new turned h moved in
+    let goes_on : is_end adds.line ≡ false = sym (tells adds.line old.log adds.added) ∙ is in
+    rw (adds.added, goes_on) refl
 
-pub left_falls : (turns turns' before after : ℕ) (passing moved : Bool) → turns' ≡ turns → before ≤ after → after ≤ turns' → (moved ≡ true → before < after) → (moved ≡ false → passing ≡ true)
-    → left turns' after moved < left turns before passing
-left_falls turns turns' before after true true same grows room more still = omega (arith, same, room, more refl)
-left_falls turns turns' before after false true same grows room more still = omega (arith, same, room, more refl)
-left_falls turns turns' before after true false same grows room more still = omega (arith, same, grows, room)
-left_falls turns turns' before after false false same grows room more still = let e : false ≡ true = still refl in cc
+pub unmoved_ends : (a : ActorId) (old new : State) (turned : Turned) → Turns a old turned new → (turned ≡ Moved → ⊥) → works_ended new.log ≡ works_ended old.log
+unmoved_ends a old new Moved h other = absurd (other refl)
+unmoved_ends a old new (Waits owner) h other = (let goes_on : is_end h.line ≡ false = waits_on h.line owner h.waiting in rw (h.added, goes_on) refl)
+unmoved_ends a old new Ended h other = rw h.1 refl
+unmoved_ends a old new Full h other = rw h.2 refl

@@ -1,1 +1,4 @@
+pub mod EagerLemmas
 pub mod EndLemmas
+pub mod NotedLemmas
+pub mod SettledLemmas

@@ -2,6 +2,7 @@
 #![tactic(auto)]
 
 mod gate;
+mod held;
 mod rest;
 mod shared;
 mod tally;

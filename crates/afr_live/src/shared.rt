@@ -1,6 +1,8 @@
 //! What lies under the lock: the volume, and what its threads tell each other.
-ghost use Rattle.std.specs.Prelude.{◌≡◌, ◌⊎◌, ◌<◌, ◌+◌, ℕ, true, None, OnOk, IfOk, List, [], ◌∷◌, length};
+ghost use Rattle.std.specs.Prelude.{◌≡◌, ◌⊎◌, ◌<◌, ◌≤◌, ◌+◌, ℕ, true, false, None, OnOk, IfOk, List, [], ◌∷◌, length};
+ghost use Rattle.afr_bound.specs.Law.{AreEager, is_back};
 ghost use Rattle.afr_live.specs.Ends.{works_ended};
+ghost use Rattle.afr_live.specs.Noted.{AreEager-prop, AreNoted, MayAsk};
 ghost use Rattle.afr_live.specs.Turns.{Takes};
 ghost use Rattle.afr_lines.specs.Work.{is_end};
 ghost use Rattle.afr_lines.specs.declared.line.Line.{Line};
@@ -8,8 +10,10 @@ ghost use Rattle.afr_model.specs.Actors.{IsActor, is_done};
 ghost use Rattle.afr_model.specs.Following.{NoneDue};
 ghost use Rattle.afr_order.specs.Going.{Goes};
 ghost use Rattle.afr_rule.specs.Choosing.{IsRule};
-ghost use Rattle.afr_volume.specs.Turning.{due_of};
+ghost use Rattle.afr_volume.specs.State.{State};
+ghost use Rattle.afr_volume.specs.Turning.{Turns, due_of};
 
+use crate::held::Held;
 use crate::tally::{Handed, Run, Tally};
 use afr_base::{ActorId, NoMemory};
 use afr_lines::Line;
@@ -18,25 +22,22 @@ use afr_rule::{Candidate, Rules};
 use afr_volume::{Turned, Volume};
 use std::sync::ledger::Book;
 
-/// One more than the highest number of an actor.
-const ACTORS: usize = 20;
-
-/// A volume that threads share. Whenever its lock is free, its plan is that of the run, and its book has counted the End
-/// lines of its log.
+/// A volume that threads share. Whenever its lock is free, its plan is that of the run, its book has counted the End
+/// lines of its log, and nobody was told Held on a transaction's lock twice running: between two such lines of one actor
+/// another line stands.
 #[derive(Drop)]
 pub struct Shared<J: Run> {
     pub volume: Volume,
     ended: Book<J>,
-    /// The length of the log after the last line that wasn't told Held on a transaction's lock.
-    moved: u32,
-    /// By the numbers of the actors: the length of the log after the last line of each that was told so.
-    told_held: [u32; ACTORS],
+    held: Held,
     /// A turn or an event wanted memory.
     pub no_memory: bool,
     /// The last actor for which no thread could be made.
     unstarted: Option<ActorId>,
     ghost planned: { volume.plan ≡ J.plan },
     ghost counted: { ended.total ≡ works_ended volume.log },
+    ghost noted: { AreNoted volume.log held },
+    ghost eager: { AreEager volume.log } by { AreEager-prop volume.log },
 }
 
 /// How a thread goes on after a turn.
@@ -59,8 +60,7 @@ impl<J: Run> Shared<J> {
         Shared {
             volume,
             ended,
-            moved: 0,
-            told_held: [0; ACTORS],
+            held: Held::new(),
             no_memory: false,
             unstarted: None,
         }
@@ -69,15 +69,14 @@ impl<J: Run> Shared<J> {
     /// All events that are due. Each of them lets a thread that waits go on.
     pub fn come_due(&mut self) -> Result<(), NoMemory>
         ensures goes { Goes self.old.volume self.new.volume }
+        ensures free { (a : ℕ) → MayAsk a self.old.volume.plan self.old.volume.log → MayAsk a self.new.volume.plan self.new.volume.log }
         ensures none { OnOk result (due_of self.new.volume ≡ None) }
         ensures events { OnOk result (length self.new.volume.log < self.new.volume.plan.turns → NoneDue self.new.volume.plan self.new.volume.log) }
     {
-        let Shared { volume, moved, .. } = self;
+        let Shared { volume, held, .. } = self;
         let before = volume.len();
         let come = come_due(volume);
-        if volume.len() > before {
-            *moved = volume.len();
-        }
+        held.note_events(before, volume.len());
         come
     }
 
@@ -91,6 +90,7 @@ impl<J: Run> Shared<J> {
         requires rule { IsRule F.Fn rules.now.heal }
         requires read_rule { IsRule G.Fn rules.now.read }
         requires actor { IsActor J.plan a.0 }
+        requires free { MayAsk a.0 self.old.volume.plan self.old.volume.log }
         requires backed { 0 < mine.old.share.parts }
         ensures goes { Goes self.old.volume self.new.volume }
         ensures ok { IfOk result (λ turned. Takes a self.old.volume turned self.new.volume) }
@@ -100,21 +100,13 @@ impl<J: Run> Shared<J> {
         let Shared {
             volume,
             ended,
-            moved,
-            told_held,
+            held,
             ..
         } = self;
         let turned = volume.turn(a, rules)?;
-        match turned {
-            Turned::Moved => {
-                *moved = volume.len();
-                if is_last_end(volume) {
-                    mine.add(ended);
-                }
-            }
-            Turned::Waits(_) => note_held(told_held, a, volume.len()),
-            Turned::Ended | Turned::Full => {}
-        }
+        volume.every_line();
+        held.note(a, turned, volume.len());
+        count(volume, a, turned, ended, mine);
         Ok(turned)
     }
 
@@ -180,16 +172,21 @@ impl<J: Run> Shared<J> {
     }
 
     /// Whether the actor was told Held on a transaction's lock, and since then came no other line than such ones.
-    pub fn is_held(&self, a: ActorId) -> bool {
-        match self.told_held.get(a.0 as usize) {
-            Some(told) => *told > self.moved,
-            None => false,
-        }
+    pub fn is_held(&self, a: ActorId) -> bool
+        ensures { IsActor J.plan a.0 → result ≡ is_back a.0 self.now.volume.log }
+    {
+        self.volume.every_line();
+        self.held.has(a)
     }
 
     /// Whether the actor's next turn waits: it is held, and the log has room for a line that lets it go on.
-    pub fn waits(&self, a: ActorId) -> bool {
-        self.is_held(a) && !self.is_full()
+    pub fn waits(&self, a: ActorId) -> bool
+        ensures { IsActor J.plan a.0 → result ≡ false → MayAsk a.0 self.now.volume.plan self.now.volume.log }
+    {
+        if self.is_full() {
+            return false;
+        }
+        self.is_held(a)
     }
 
     /// Whether the actor's thread goes on waiting.
@@ -199,18 +196,37 @@ impl<J: Run> Shared<J> {
 
     /// Whether what came after so many lines may let a thread go on that waits.
     pub fn wakes(&self, before: u32) -> bool {
-        self.moved > before || self.is_full() || self.no_memory
+        self.held.has_moved(before) || self.is_full() || self.no_memory
     }
 
-    fn is_full(&self) -> bool {
+    fn is_full(&self) -> bool
+        ensures { result ≡ true → self.now.volume.plan.turns ≤ length self.now.volume.log }
+    {
         self.volume.len() >= self.volume.plan().turns
     }
 }
 
-/// Notes the length of the log after an actor was told Held.
-fn note_held(told_held: &mut [u32; ACTORS], a: ActorId, len: u32) {
-    if let Some(told) = told_held.get_mut(a.0 as usize) {
-        *told = len;
+/// Counts the work that the line of an actor's turn has ended.
+fn count<J: Run>(
+    volume: &Volume,
+    a: ActorId,
+    turned: Turned,
+    ended: &mut Book<J>,
+    mine: &mut Tally<J>,
+)
+    requires counted { (old : State) × Turns a old turned volume.now × (ended.old.total ≡ works_ended old.log) }
+    requires backed { 0 < mine.old.share.parts }
+    ensures counted { ended.new.total ≡ works_ended volume.now.log }
+    ensures parts { mine.new.share.parts ≡ mine.old.share.parts }
+{
+    let _len = volume.len();
+    match turned {
+        Turned::Moved => {
+            if is_last_end(volume) {
+                mine.add(ended);
+            }
+        }
+        _ => {}
     }
 }
 

@@ -1,5 +1,7 @@
 //! A thread for each actor, and what is done once they have ended.
 ghost use Rattle.std.specs.Prelude.{◌≡◌, ◌≤◌, ◌<◌, ◌+◌, IfOk, [], length};
+ghost use Rattle.afr_bound.specs.Law.{AreEager};
+ghost use Rattle.afr_live.specs.Ending.{EndsInAnyOrder};
 ghost use Rattle.afr_live.specs.Ends.{works_ended};
 ghost use Rattle.afr_live.specs.Handed.{volume_of};
 ghost use Rattle.afr_model.specs.Actors.{IsActor};
@@ -12,6 +14,7 @@ use crate::rest::take_rest;
 use crate::shared::{After, Shared};
 use crate::tally::{Handed, Run, Tally};
 use afr_base::{ActorId, FIRST_CLIENT, FIRST_HEALER, NoMemory};
+use afr_bound::an_ordered_run_ends;
 use afr_rule::{Candidate, Rules};
 use afr_volume::Volume;
 use std::alloc::Global;
@@ -26,7 +29,8 @@ use std::thread::{JoinHandle, Scope, Threads};
 /// told Held on a transaction's lock waits for a line that isn't told so. The plan's orders are passed over. Where no
 /// thread can be made for an actor, none waits from then on; the turns that are left are taken here, one actor after the
 /// other, once all threads have ended. It returns if the threads do. Beside the volume stands how many commands and
-/// rounds have ended, which each thread has counted for its actor. Want of memory of any turn ends every thread.
+/// rounds have ended, which each thread has counted for its actor. Want of memory of any turn ends every thread. Nobody
+/// asks twice running for a lock that another holds, so with turns enough the log isn't full before every actor is done.
 pub fn live<
     R: Threads + Wait + Sync,
     F: Fn(&[Candidate]) -> usize + Sync,
@@ -45,6 +49,8 @@ pub fn live<
     ensures plan { (volume_of result).plan ≡ volume.plan }
     ensures complete { IfOk result (λ ran. IsComplete ran.0.plan ran.0.log) }
     ensures count { IfOk result (λ ran. ran.1 ≡ works_ended ran.0.log) }
+    ensures ends { IfOk result (λ ran. EndsInAnyOrder ran.0.plan ran.0.log) }
+    ensures eager { AreEager (volume_of result).log }
     ensures right { IsRight (volume_of result).plan (volume_of result).log }
 {
     volume.every_line();
@@ -52,6 +58,7 @@ pub fn live<
     match live_as::<Brand, R, F, G, H>(rt, alloc, Blank::new(actors + 1), volume, rules, gate) {
         Ok((volume, ended)) => {
             volume.every_line();
+            an_ordered_run_ends();
             Ok((volume, ended))
         }
         Err((volume, stop)) => {
@@ -86,6 +93,7 @@ fn live_as<
     ensures plan { (volume_of result).plan ≡ volume.plan }
     ensures complete { IfOk result (λ ran. IsComplete ran.0.plan ran.0.log) }
     ensures count { IfOk result (λ ran. ran.1 ≡ works_ended ran.0.log) }
+    ensures eager { AreEager (volume_of result).log }
 {
     volume.every_line();
     let clients = volume.plan().clients.len() as u16;
@@ -307,6 +315,7 @@ fn finish<J: Run, R: Threads, F: Fn(&[Candidate]) -> usize, G: Fn(&[Candidate]) 
     ensures plan { (volume_of result).plan ≡ J.plan }
     ensures complete { IfOk result (λ ran. IsComplete ran.0.plan ran.0.log) }
     ensures count { IfOk result (λ ran. ran.1 ≡ works_ended ran.0.log) }
+    ensures eager { AreEager (volume_of result).log }
 {
     let mut state = state;
     let mut tally = tally;

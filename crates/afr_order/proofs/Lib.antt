@@ -3,3 +3,4 @@ pub mod GoingLemmas
 pub mod OrderLemmas
 pub mod DoneLemmas
 pub mod PassLemmas
+pub mod EndLemmas

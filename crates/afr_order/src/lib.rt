@@ -4,6 +4,7 @@
 ghost use Rattle.std.specs.Prelude.{◌≡◌, IfOk, OnOk, []};
 ghost use Rattle.afr_model.specs.Complete.{IsComplete};
 ghost use Rattle.afr_model.specs.Ordered.{IsOrdered, ordered_turns};
+ghost use Rattle.afr_order.specs.Ending.{EndsInBound};
 ghost use Rattle.afr_order.specs.Going.{Ends, Goes, TakesFront, TakesPasses};
 ghost use Rattle.afr_rule.specs.Choosing.{IsRule};
 ghost use Rattle.afr_volume.specs.Right.{IsChosenBy, IsRight, KeepsChosen};
@@ -13,13 +14,14 @@ mod turns;
 
 use crate::rows::{all_orders, all_passes};
 use afr_base::NoMemory;
+use afr_bound::an_ordered_run_ends;
 use afr_rule::{Candidate, Rules};
 use afr_volume::Volume;
 pub use turns::come_due;
 
 /// Runs the plan that the volume was set up with, until every actor is done or the log is full: first its orders, then
 /// passes over all actors. Heals ask one of the rules for their sources, and clients the other for the copies that they
-/// read.
+/// read. Where the plan has as many turns as its bound, the log isn't full before every actor is done.
 pub fn drive<F: Fn(&[Candidate]) -> usize, G: Fn(&[Candidate]) -> usize>(
     volume: &mut Volume,
     rules: &Rules<F, G>,
@@ -30,12 +32,14 @@ pub fn drive<F: Fn(&[Candidate]) -> usize, G: Fn(&[Candidate]) -> usize>(
     ensures plan { volume.new.plan ≡ volume.old.plan }
     ensures ok { OnOk result (IsComplete volume.new.plan volume.new.log) }
     ensures ordered { IsOrdered volume.new.plan volume.new.log }
+    ensures ends { OnOk result (EndsInBound volume.new.plan volume.new.log) }
     ensures right { IsRight volume.new.plan volume.new.log }
     ensures chosen { IsChosenBy F.Fn G.Fn rules.now volume.new }
 {
     volume.every_line();
     let driven = take_all(volume, rules);
     volume.every_line();
+    an_ordered_run_ends();
     driven
 }
 

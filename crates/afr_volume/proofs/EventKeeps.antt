@@ -24,12 +24,13 @@ use Rattle.afr_rounds.specs.declared.healer.Healer.{Healer}
 use Rattle.afr_volume.specs.Keeping.{CanRun, IsActing, IsEventOf, IsVolume, IsWhole}
 use Rattle.afr_volume.specs.Turning.{HasHealer, HasVictim, KillsHealersIn, KillsIn, due_at, if_due}
 use Rattle.afr_volume.specs.declared.actor.Actor.{Actor}
-use Rattle.afr_volume.specs.Laws.{EventLaws, RoundLaws}
+use Rattle.afr_volume.specs.Laws.{EventLaws, PaceLaws, RoundLaws}
 use Rattle.afr_volume.proofs.Before.{client_is, healer_is}
 use Rattle.afr_volume.proofs.HealersKeep.{healers_happen}
 use Rattle.afr_volume.proofs.LineKeeps.{stays}
 use Rattle.afr_volume.proofs.ReadingLemmas.{reading_stays}
 use Rattle.afr_volume.proofs.LogLemmas.{reverse_push}
+use Rattle.afr_volume.proofs.PaceEvents.{event_paced}
 
 -- ---- the event that is due
 pub record IsDueNow (p : Plan) (log : List Line) (event : Event) : Type 0 where
@@ -108,14 +109,15 @@ happened laws p items added servers new actors after made event v fits due meets
     (kept_event laws.happened laws.comes p (reverse items) servers new actors after made event v fits (due_gives p (reverse items) event due) meets kills)
 
 -- and so of the healers
-pub whole_happened : (rounds : RoundLaws) (laws : EventLaws) (p : Plan) (items added : List Line) (servers new : List Serving) (actors after : List Actor) (healers healers_after : List Healer) (made : ℕ) (event : Event)
+pub whole_happened : (paces : PaceLaws) (rounds : RoundLaws) (laws : EventLaws) (p : Plan) (items added : List Line) (servers new : List Serving) (actors after : List Actor) (healers healers_after : List Healer) (made : ℕ) (event : Event)
     → IsWhole p (reverse items) servers actors healers made → InRange (line_of.Event event) → due_at p (reverse items) ≡ Some event → MeetsEach event servers new → KillsIn event actors after → KillsHealersIn event healers healers_after
     → added ≡ items ++ line_of.Event event ∷ [] → IsWhole p (reverse added) new after healers_after (made + 1)
-whole_happened rounds laws p items added servers new actors after healers healers_after made event w fits due meets kills healers_killed grown = record {
+whole_happened paces rounds laws p items added servers new actors after healers healers_after made event w fits due meets kills healers_killed grown = record {
   kept = happened laws p items added servers new actors after made event w.kept fits due meets kills grown;
   healing =
       rw (grown, reverse_push items (line_of.Event event))
       (healers_happen rounds laws p event (reverse items) servers new healers healers_after fits (laws.comes p (reverse items) event servers new w.kept.runnable.few w.kept.served meets).1 healers_killed w.healing);
+  pacing = rw (grown, reverse_push items (line_of.Event event)) (event_paced paces p event (reverse items) actors after healers healers_after kills healers_killed w.pacing);
 }
 
 -- ---- whom it kills is there

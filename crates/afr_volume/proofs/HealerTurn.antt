@@ -21,13 +21,17 @@ use Rattle.afr_sources.proofs.HealerTurn.{healer_turn}
 use Rattle.afr_sources.specs.Chosen.{AreChosen}
 use Rattle.afr_sources.specs.Laws.{LineKeepsSource}
 use Rattle.afr_sources.specs.Sources.{picks_of, sources_of}
-use Rattle.afr_volume.specs.Keeping.{AreHealers, CanRun, IsWhole}
-use Rattle.afr_volume.specs.Laws.{RoundLaws}
+use Rattle.afr_volume.specs.Keeping.{AreHealers, CanRun, IsVolume, IsWhole}
+use Rattle.afr_volume.specs.Laws.{PaceLaws, RoundLaws}
+use Rattle.afr_volume.specs.Pacing.{ArePaced}
 use Rattle.afr_volume.specs.Turning.{ReadiedHealerAt, StepsHealerAt, due_at}
 use Rattle.afr_volume.specs.declared.actor.Actor.{Actor}
 use Rattle.afr_volume.proofs.Before.{healer_is}
-use Rattle.afr_volume.proofs.HealersKeep.{before_round, kept_healer, kept_round, low_brick, ready_healer, round_wrote}
-use Rattle.afr_volume.proofs.LineKeeps.{wrote_own}
+use Rattle.afr_volume.proofs.HealersKeep.{before_round, kept_healer, kept_line, kept_round, low_brick, ready_healer, round_wrote}
+use Rattle.afr_volume.proofs.LineKeeps.{Wrote, wrote_own}
+use Rattle.afr_volume.proofs.PaceHeals.{heal_rises}
+use Rattle.afr_volume.proofs.PaceRounds.{ready_rounds, round_paced}
+use Rattle.afr_volume.proofs.PaceTurns.{is_of_plan}
 use Rattle.afr_volume.proofs.SourceLemmas.{readied_sources}
 use Rattle.afr_volume.proofs.LogLemmas.{reverse_push}
 use Rattle.afr_volume.proofs.WholeTurn.{ended_le, none_due, not_killed, settled}
@@ -53,7 +57,7 @@ got_set [] i y z small e = absurd (omega (arith, small))
 got_set (x ∷ l) zero y z small e = sym (cc e)
 got_set (x ∷ l) (suc i) y z small e = got_set l i y z (omega (arith, small)) e
 
-module _ (laws : RoundLaws) (p : Plan) (a : ActorId) (items : List Line) (actors : List Actor) (healers readied : List Healer) (servers : List Serving) (made : ℕ) (w : IsWhole p (reverse items) servers actors healers made) (healer : 17 ≤ a.0) (actor : IsActor p a.0)
+module _ (laws : RoundLaws) (paces : PaceLaws) (p : Plan) (a : ActorId) (items : List Line) (actors : List Actor) (healers readied : List Healer) (servers : List Serving) (made : ℕ) (w : IsWhole p (reverse items) servers actors healers made) (healer : 17 ≤ a.0) (actor : IsActor p a.0)
     (room : length items < p.turns) (r : ReadiedHealerAt p a.0 healers readied) where
   known : a.0 < 20
   known = (healer_is p a.0 w.kept.runnable (above a.0 healer) actor).2
@@ -68,7 +72,11 @@ module _ (laws : RoundLaws) (p : Plan) (a : ActorId) (items : List Line) (actors
   few = omega (arith, length-reverse items, room)
 
   pub ready_whole : IsWhole p (reverse items) servers actors readied made
-  ready_whole = record { kept = w.kept; healing = kept_healer laws p a.0 (reverse items) servers healers readied healer w.kept.runnable.few (w.kept.runnable.rounds a.0) w.healing r }
+  ready_whole = record {
+    kept = w.kept;
+    healing = kept_healer laws p a.0 (reverse items) servers healers readied healer w.kept.runnable.few (w.kept.runnable.rounds a.0) w.healing r;
+    pacing = ready_rounds paces p a.0 (reverse items) servers actors healers readied w.healing r w.pacing;
+  }
 
   mine : (x : Healer) → slice_get readied (a.0 - 17) ≡ Some x → IsHealer p (reverse items) a.0 servers x
   mine x is = (let e : 17 + (a.0 - 17) ≡ a.0 = omega (arith, healer) in subst (λ (c : ℕ). IsHealer p (reverse items) c servers x) e (ready_whole.healing.each (a.0 - 17) x is))
@@ -101,16 +109,27 @@ module _ (laws : RoundLaws) (p : Plan) (a : ActorId) (items : List Line) (actors
       → StepsHealerAt IsAnswered a at readied new_healers servers new_servers line → added ≡ items ++ line ∷ [] → Healed added new_servers new_healers line
   healed at added new_healers new_servers line left none position s grown = record {
     whole = rw (grown, reverse_push items line, s.set_is) kept;
-    own = wrote_own a line (round_wrote laws p a (reverse items) servers new_servers actors readied made line s.before s.after ready_whole healer known some s.was (made_so s.before s.was) few stepped);
+    own = wrote_own a line wrote;
     log = rw grown (reverse_push items line);
   }
     where
       stepped : Stepped IsAnswered a (length (reverse items)) s.before s.after servers new_servers line
       stepped = subst (λ (at : ℕ). Stepped IsAnswered a at s.before s.after servers new_servers line) (position ∙ sym (length-reverse items)) s.steps
 
+      wrote : Wrote a line
+      wrote = round_wrote laws p a (reverse items) servers new_servers actors readied made line s.before s.after ready_whole healer known some s.was (made_so s.before s.was) few stepped
+
+      volume : IsVolume p (line ∷ reverse items) new_servers actors made
+      volume = kept_line laws p a (reverse items) servers new_servers actors readied made line s.before s.after ready_whole healer known some s.was (made_so s.before s.was) few stepped actor (not_killed p a.0 (reverse items) left)
+          (none_due p (reverse items) few none)
+
+      paced : ArePaced p (line ∷ reverse items) actors (set readied (a.0 - 17) s.after)
+      paced = round_paced paces p a (reverse items) servers new_servers actors readied made line s.before s.after ready_whole healer known some s.was (made_so s.before s.was) few stepped wrote
+          (heal_rises paces p a (reverse items) servers new_servers s.before s.after line (mine s.before s.was) stepped (is_of_plan p (line ∷ reverse items) new_servers actors made volume))
+
       kept : IsWhole p (line ∷ reverse items) new_servers actors (set readied (a.0 - 17) s.after) made
       kept = kept_round laws p a (reverse items) servers new_servers actors readied made line s.before s.after ready_whole healer known some s.was (made_so s.before s.was) few stepped actor (not_killed p a.0 (reverse items) left)
-          (none_due p (reverse items) few none)
+          (none_due p (reverse items) few none) paced
 
   -- where the turn asks a rule, what that picked is kept
   pub sources_kept : {F : Type 0} (calls : Calls F) (choose : F) → LineKeepsSource calls choose → (at : ℕ) (added : List Line) (new_healers : List Healer) (new_servers : List Serving) (line : Line) → at ≡ length items

@@ -25,6 +25,7 @@ use Rattle.afr_servers.specs.declared.epochs.Epochs.{Epochs}
 use Rattle.afr_transaction.specs.Turn.{Stood}
 use Rattle.afr_volume.specs.Keeping.{AreHealers, IsActing, IsVolume, IsWhole}
 use Rattle.afr_volume.specs.Laws.{EventLaws, RoundLaws}
+use Rattle.afr_volume.specs.Pacing.{ArePaced}
 use Rattle.afr_volume.specs.Turning.{KillsHealersIn, ReadiedHealerAt}
 use Rattle.afr_volume.specs.declared.actor.Actor.{Actor}
 use Rattle.afr_volume.proofs.HealLockLemmas.{healer_gives}
@@ -43,7 +44,7 @@ got_other (x ∷ l) zero (suc j) y z apart e = e
 got_other (x ∷ l) (suc i) zero y z apart e = e
 got_other (x ∷ l) (suc i) (suc j) y z apart e = got_other l i j y z (λ same. apart (ap suc same)) e
 
-differ : (a c : ℕ) → (a ≡ c → ⊥) → (a == c) ≡ false
+pub differ : (a c : ℕ) → (a ≡ c → ⊥) → (a == c) ≡ false
 differ a c apart = by (eqb_tells a c)
   where
     by : ((a == c) ≡ true) × (a ≡ c) ⊎ ((a == c) ≡ false) × (a ≢ c) → (a == c) ≡ false
@@ -141,26 +142,30 @@ module _ (laws : RoundLaws) (p : Plan) (a : ActorId) (log : List Line) (servers 
       let apart : (a.0 ≡ i + 1 → ⊥) = λ e. absurd (omega (arith, healer, low, e)) in
       others_stay p a (i + 1) line log servers new z round_wrote (differ a.0 (i + 1) apart) (λ r. round_keeps.stands (i + 1) r apart) (λ epochs. round_keeps.found (i + 1) epochs (λ e. apart (sym e))) k
 
-  pub kept_round : IsActor p a.0 → is_killed a.0 log ≡ false → NoneDue p log → IsWhole p (line ∷ log) new actors (set healers (a.0 - 17) y) made
-  kept_round actor alive none = record {
-    kept = record {
-      runnable = w.kept.runnable;
-      room = room;
-      served = round_keeps.served;
-      same = w.kept.same;
-      each = λ i z h. client_stays i z (omega (arith, slice_get_within actors i z h, w.kept.same, w.kept.runnable.clients)) (w.kept.each i z h);
-      made_is = w.kept.made_is ∙ sym (wrote_made a line log round_wrote);
-      follows = ((room, wrote_due p a line log round_wrote (record { actor = actor; alive = alive; keeps = round_keeps.keeps }) none), w.kept.follows);
-      honest = (round_keeps.honest, w.kept.honest);
-      lawful = round_keeps.lawful;
-      replied = (round_keeps.replied, w.kept.replied);
-      blamed = (round_keeps.blamed, w.kept.blamed);
-      gives = (healer_gives IsAnswered a (length log) x y servers new line log s, w.kept.gives);
-    };
+  pub kept_line : IsActor p a.0 → is_killed a.0 log ≡ false → NoneDue p log → IsVolume p (line ∷ log) new actors made
+  kept_line actor alive none = record {
+    runnable = w.kept.runnable;
+    room = room;
+    served = round_keeps.served;
+    same = w.kept.same;
+    each = λ i z h. client_stays i z (omega (arith, slice_get_within actors i z h, w.kept.same, w.kept.runnable.clients)) (w.kept.each i z h);
+    made_is = w.kept.made_is ∙ sym (wrote_made a line log round_wrote);
+    follows = ((room, wrote_due p a line log round_wrote (record { actor = actor; alive = alive; keeps = round_keeps.keeps }) none), w.kept.follows);
+    honest = (round_keeps.honest, w.kept.honest);
+    lawful = round_keeps.lawful;
+    replied = (round_keeps.replied, w.kept.replied);
+    blamed = (round_keeps.blamed, w.kept.blamed);
+    gives = (healer_gives IsAnswered a (length log) x y servers new line log s, w.kept.gives);
+  }
+
+  pub kept_round : IsActor p a.0 → is_killed a.0 log ≡ false → NoneDue p log → ArePaced p (line ∷ log) actors (set healers (a.0 - 17) y) → IsWhole p (line ∷ log) new actors (set healers (a.0 - 17) y) made
+  kept_round actor alive none paced = record {
+    kept = kept_line actor alive none;
     healing = record {
       same = length-set healers (a.0 - 17) y ∙ w.healing.same;
       each = λ i z h. each i z h (eqb_tells a.0 (17 + i));
     };
+    pacing = paced;
   }
     where
       each : (i : ℕ) (z : Healer) → slice_get (set healers (a.0 - 17) y) i ≡ Some z → ((a.0 == 17 + i) ≡ true) × (a.0 ≡ 17 + i) ⊎ ((a.0 == 17 + i) ≡ false) × (a.0 ≢ 17 + i) → IsHealer p (line ∷ log) (17 + i) new z

@@ -20,3 +20,10 @@ mod ReadsKeep
 pub mod ChosenLemmas
 mod SourceLemmas
 mod HealLockLemmas
+mod PaceAll
+mod PaceLines
+mod PaceWorks
+mod PaceTurns
+mod PaceHeals
+mod PaceRounds
+mod PaceEvents

@@ -9,8 +9,10 @@ use Rattle.afr_rounds.specs.Acting.{IsNewHealer}
 use Rattle.afr_rounds.specs.Keeping.{IsHealer}
 use Rattle.afr_rounds.specs.declared.healer.Healer.{Healer}
 use Rattle.afr_volume.specs.Keeping.{CanRun, IsActing, IsVolume, IsWhole}
+use Rattle.afr_volume.specs.Laws.{PaceLaws}
 use Rattle.afr_volume.specs.Starting.{AreNewActors, AreNewHealers, IsNewActor}
 use Rattle.afr_volume.specs.declared.actor.Actor.{Actor}
+use Rattle.afr_volume.proofs.PaceEvents.{fresh_paced}
 
 -- an actor that has begun nothing stands for no line
 opens_idle : (p : Plan) (servers : List Serving) (a : ℕ) (x : Actor) → IsNewActor x → IsActing p [] a servers x
@@ -50,9 +52,10 @@ opens_resting p servers a x k = record {
   carries = rw k.idle (record { unmet = k.met; fresh = refl; none = refl });
 }
 
-pub fresh_whole : (laws : NewAreServed) (p : Plan) (log : List Line) (servers : List Serving) (actors : List Actor) (healers : List Healer) → CanRun p → log ≡ [] → AreNew p servers → AreNewActors (length p.clients) actors → AreNewHealers (length p.healers) healers
+pub fresh_whole : (paces : PaceLaws) (laws : NewAreServed) (p : Plan) (log : List Line) (servers : List Serving) (actors : List Actor) (healers : List Healer) → CanRun p → log ≡ [] → AreNew p servers → AreNewActors (length p.clients) actors → AreNewHealers (length p.healers) healers
     → IsWhole p log servers actors healers 0
-fresh_whole laws p log servers actors healers run none opened idle resting = record {
+fresh_whole paces laws p log servers actors healers run none opened idle resting = record {
   kept = fresh_volume laws p log servers actors run none opened idle;
   healing = rw none (record { same = resting.many; each = λ i x h. opens_resting p servers (17 + i) x (resting.each i x h) });
+  pacing = rw none (fresh_paced paces p actors healers idle resting);
 }

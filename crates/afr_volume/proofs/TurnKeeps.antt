@@ -134,7 +134,7 @@ as_carries p a log met epochs servers (Write m) k = k
 as_carries p a log met epochs servers (Entry m) k = k
 
 -- an idle actor has written no line of its next work
-between : (p : Plan) (log : List Line) (a : ℕ) (servers : List Serving) (x : Actor) → IsActing p log a servers x → x.work ≡ Idle → IsBetween a log x.met
+pub between : (p : Plan) (log : List Line) (a : ℕ) (servers : List Serving) (x : Actor) → IsActing p log a servers x → x.work ≡ Idle → IsBetween a log x.met
 between p log a servers x k idle = subst (λ (w : Work). Carries p a log x.met x.epochs servers w) idle k.carries
 
 starts : (laws : BeginLaws) (p : Plan) (log : List Line) (a : ℕ) (servers : List Serving) (met : Bool) (epochs : Epochs) (command : Command) → CanRun p → 0 < p.shape.n → IsBetween a log met → slice_get (script_of p a) (ended a log) ≡ Some command

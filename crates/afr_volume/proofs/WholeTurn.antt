@@ -22,6 +22,7 @@ use Rattle.afr_model.specs.Following.{NoneDue}
 use Rattle.afr_volume.specs.Acting.{CanStep, HearsAny, Stepped}
 use Rattle.afr_volume.specs.Keeping.{AreHealers, CanRun, Carries, IsActing, IsVolume, IsWhole}
 use Rattle.afr_volume.specs.Laws.{BeginLaws, Laws, RoundLaws}
+use Rattle.afr_volume.specs.Pacing.{ArePaced}
 use Rattle.afr_volume.specs.State.{State}
 use Rattle.afr_log.specs.Log.{waits_for}
 use Rattle.afr_volume.specs.Turning.{Turns, AddsLine, Readies, ReadiedAt, StepsAt, due_at, if_due}
@@ -134,10 +135,11 @@ module _ (laws : Laws) (starts : BeginLaws) (p : Plan) (a : ActorId) (items : Li
 
   -- with the healers, which the line leaves as they were
   pub whole : (rounds : RoundLaws) (healers : List Healer) (added : List Line) (new_servers : List Serving) (new_actors : List Actor) (line : Line) → Took added new_servers new_actors line → AreHealers p (reverse items) servers healers
-      → IsWhole p (reverse added) new_servers new_actors healers made
-  whole rounds healers added new_servers new_actors line t k = record {
+      → ArePaced p (reverse added) new_actors healers → IsWhole p (reverse added) new_servers new_actors healers made
+  whole rounds healers added new_servers new_actors line t k paced = record {
     kept = t.volume;
     healing = subst (λ (log : List Line). AreHealers p log new_servers healers) (sym t.log) (healers_stay rounds p a line (reverse items) servers new_servers healers client t.wrote t.stands t.found k);
+    pacing = paced;
   }
 
   pub took : (at : ℕ) (added : List Line) (new_actors : List Actor) (new_servers : List Serving) (line : Line) → is_done p a.0 (reverse items) ≡ false → due_at p (reverse items) ≡ None → at ≡ length items

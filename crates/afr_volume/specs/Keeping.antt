@@ -36,6 +36,7 @@ use Rattle.afr_works.specs.declared.work.Work.{Work}
 use Rattle.afr_works.specs.declared.work.Work.TheVariants.{Idle}
 use Rattle.afr_works_tell.specs.WorkTelling.{WorkTells}
 use Rattle.afr_volume.specs.Acting.{still_picked}
+use Rattle.afr_volume.specs.Pacing.{ArePaced}
 use Rattle.afr_volume.specs.declared.actor.Actor.{Actor}
 
 -- an event names an actor of the plan and a brick of the volume
@@ -125,7 +126,8 @@ pub record AreHealers (p : Plan) (log : List Line) (servers : List Serving) (hea
   pub same : length healers ≡ length p.healers
   pub each : (i : ℕ) (x : Healer) → slice_get healers i ≡ Some x → IsHealer p log (17 + i) servers x
 
--- and of the healers
+-- and of the healers; and all keep their pace
 pub record IsWhole (p : Plan) (log : List Line) (servers : List Serving) (actors : List Actor) (healers : List Healer) (made : ℕ) : Type 0 where
   pub kept : IsVolume p log servers actors made
   pub healing : AreHealers p log servers healers
+  pub pacing : ArePaced p log actors healers

@@ -7,12 +7,19 @@ use Rattle.afr_next.specs.Happened.{EventKeepsAll}
 use Rattle.afr_next.specs.Ready.{NextIsReady}
 use Rattle.afr_entry_hears.specs.EntryHears.{EntryBrings, EntryHears, EntryMakesNew}
 use Rattle.afr_rename_hears.specs.RenameHears.{RenameBrings, RenameHears, RenameMakesKnown}
+use Rattle.afr_heal_order.specs.Heals.{HealersRise}
 use Rattle.afr_hears.specs.Hears.{LookupBrings, LookupHears, WriteBrings, WriteHears, WriteMakesNothing}
+use Rattle.afr_index_length.specs.Indexes.{NextIndexIsShort}
 use Rattle.afr_readings.specs.Laws.{AnswersOneOf, BeginKeepsPicked, EndReadsPicked, LineAsksRule, LineKeepsPicked, LineReadsPicked, ReadingBegins}
+use Rattle.afr_round_cost.specs.Laws.{IndexIsShown, RoundPacedAtFirst, RoundPacedLine, RoundPacedOther, RoundPacedReady}
 use Rattle.afr_rounds.specs.Laws.{CanStepNext, LineKeepsRound, OthersStay, RoundsBegin, RoundsEnd}
 use Rattle.afr_rule.specs.Choosing.{Calls}
+use Rattle.afr_self_heal.specs.Laws.{HealIsInside}
 use Rattle.afr_servers.specs.Needs.{AnswersAreRead, NeedsAreMet}
 use Rattle.afr_servers.specs.NextLine.{AskedAreServed, EventAreServed, FirstAreServed, MetAreServed, WrittenAreServed}
+use Rattle.afr_work_order.specs.Logs.{ClientRises}
+use Rattle.afr_work_order.specs.Queue.{WorkBeginsQueued, WorkBegunQueued, WorkStaysQueued}
+use Rattle.afr_work_pace.specs.Left.{WorkBeginsNearer, WorkComesNearer, WorkKeepsEnd, WorkStartsWithin}
 use Rattle.afr_works.specs.Laws.{AllowedNext, AsksLow, AsksMore, BeginsFresh, BeginsMore, BeginsWithFive, KeepsFive, KeepsFiveBegun, NotesBegin, NotesEach, StaysOutside, StaysSound}
 use Rattle.afr_works_tell.specs.WorkLaws.{BlamedLines, WorkAbout, WorkBegins, WorkBegun, WorkEnds, WorkKeepsName, WorkTellsMore}
 
@@ -100,6 +107,25 @@ pub record RoundLaws : Type 0 where
   pub others : OthersStay
   pub begins : RoundsBegin
   pub ends : RoundsEnd
+
+-- how far the works and rounds come with each line, and in which order they ask for their locks
+pub record PaceLaws : Type 0 where
+  pub asked : WorkComesNearer
+  pub begun : WorkBeginsNearer
+  pub ends : WorkKeepsEnd
+  pub start : WorkStartsWithin
+  pub queues : WorkBeginsQueued
+  pub stays : WorkStaysQueued
+  pub begun_queued : WorkBegunQueued
+  pub rises : ClientRises
+  pub first : RoundPacedAtFirst
+  pub ready : RoundPacedReady
+  pub line : RoundPacedLine
+  pub beside : RoundPacedOther
+  pub shown : IndexIsShown
+  pub index : NextIndexIsShort
+  pub inside : HealIsInside
+  pub heals : HealersRise
 
 -- all laws of a turn
 pub record Laws : Type 0 where

@@ -1,6 +1,7 @@
 pub mod State
 pub mod Laws
 pub mod Acting
+pub mod Pacing
 pub mod Keeping
 pub mod Turning
 pub mod Starting

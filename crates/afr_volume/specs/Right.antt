@@ -1,6 +1,8 @@
 -- What a volume keeps of its log at every moment, and what the rules have picked.
 use Rattle.std.specs.Prelude.{List}
 use Rattle.afr_available.specs.Available.{IsAvailable}
+use Rattle.afr_bound.specs.Cost.{AreWithinCost}
+use Rattle.afr_converged.specs.Converged.{HasConverged, IsQuietLeft}
 use Rattle.afr_durable.specs.Durable.{IsDurable}
 use Rattle.afr_law.specs.Exactly.{IsLawfulExactly}
 use Rattle.afr_law.specs.ModelAlike.{AreAlike}
@@ -19,15 +21,17 @@ use Rattle.afr_quiet.specs.Undisturbed.{AreQuietWhole}
 use Rattle.afr_rule.specs.Choosing.{Calls}
 use Rattle.afr_rule.specs.declared.rules.Rules.{Rules}
 use Rattle.afr_sources.specs.Sources.{picks_of}
+use Rattle.afr_standstill.specs.Order.{AreRising}
 use Rattle.afr_whole_copy.specs.Whole.{AreWhole}
 use Rattle.afr_volume.specs.State.{IsChosen, State}
 
 -- the log is the plan's, its bricks answered by the rules, and its actors kept the discipline; so each reply and each
 -- accusation has its cause, every good copy of every majority is current at every prefix, reads answer current values, and
--- quiet rounds did all that they say. Where a change was acknowledged, a majority has what it or a later one left, in a
+-- quiet rounds did all that they say, left what was clear clear and a split-brain as it was, and at all bricks converged. Where a change was acknowledged, a majority has what it or a later one left, in a
 -- split-brain too; a split-brain needs that each of its copies missed something, and where attempts come one at a time a
--- whole copy is left in it; a change that enough bricks didn't fail is acknowledged; and
--- a file's old name was never given up before its new one was stored at a majority
+-- whole copy is left in it; a change that enough bricks didn't fail is acknowledged. Each work took no more lines than it
+-- costs, and each Work lock was asked above all those that its actor held; and a file's old name was never given up before
+-- its new one was stored at a majority
 pub record IsRight (p : Plan) (log : List Line) : Type 0 where
   pub follows : Follows p log
   pub honest : Honest p log
@@ -40,11 +44,15 @@ pub record IsRight (p : Plan) (log : List Line) : Type 0 where
   pub causes : EveryPrefix (HaveCauses p) log
   pub alike : EveryPrefix (AreAlike p) log
   pub quiet : AreQuietWhole p log
+  pub left : EachLine (IsQuietLeft p) log
+  pub converged : EveryPrefix (HasConverged p) log
   pub durable : EveryPrefix (IsDurable p) log
   pub since : EveryPrefix (HaveCausesSince p) log
   pub missed : EveryPrefix (AreAllMissed p) log
   pub whole : EveryPrefix (AreWhole p) log
   pub available : EachLine (IsAvailable p) log
+  pub rising : AreRising p log
+  pub within : AreWithinCost p log
 
 -- every read went to a copy that the one rule picked, and every heal has a source that the other picked
 abbrev pub IsChosenBy : {F G : Type 0} → Calls F → Calls G → Rules F G → State → Type 0

@@ -27,6 +27,7 @@ use crate::turned::Turned;
 use crate::turns::{answer_of, kill, ready_actor, step_actor};
 use afr_available::changes_are_available;
 use afr_base::{ActorId, BrickId, BrickSet, NoMemory, Shape};
+use afr_converged::quiet_rounds_converge;
 use afr_durable::acknowledged_is_durable;
 use afr_law::{
     accusations_have_causes, lawful_is_safe, lawful_lines_fit, nothing_diverges_unrecorded,
@@ -364,6 +365,7 @@ impl Volume {
         ensures right { IsRight self.now.plan self.now.log }
         ensures sums { AreSums self.now.plan self.now.log }
         ensures room { length self.now.log ≤ self.now.plan.turns }
+        ensures turns { self.now.plan.turns ≤ 4000000 }
         ensures few { self.now.plan.shape.n ≤ 5 }
         ensures clients { length self.now.plan.clients ≤ 16 }
         ensures healers { length self.now.plan.healers ≤ 3 }
@@ -379,6 +381,7 @@ impl Volume {
         accusations_have_causes();
         lawful_lines_fit();
         quiet_rounds_are_whole();
+        quiet_rounds_converge();
         acknowledged_is_durable();
         split_copies_missed();
         a_copy_is_whole();

@@ -26,6 +26,13 @@ returns-clause-unfinished g c = elim c.match-form_of.branch [
   | in-Err w ↦ λ e. absurd (omega (arith, w.status-is, e))
 ]
 
+pub returns-clause-short : goal.returns-clause-short
+returns-clause-short g c = elim c.match-form_of.branch [
+  | in-Ok-Some w ↦ λ e. rw w.volume-is (w.serve-status.ensures.short (sym w.status-is ∙ e))
+  | in-Ok-None w ↦ λ e. absurd (other_status _ _ 7 _ w.answer-status.ensures.whole (λ h. cc) (λ h. cc) (sym w.status-is ∙ e))
+  | in-Err w ↦ λ e. absurd (omega (arith, w.status-is, e))
+]
+
 pub returns-clause-write : goal.returns-clause-write
 returns-clause-write g c = elim c.match-form_of.branch [
   | in-Ok-Some w ↦ λ e. let cut = w.serve-status.ensures.write (sym w.status-is ∙ e) in
@@ -39,8 +46,8 @@ pub returns-clause-generated : goal.returns-clause-generated
 returns-clause-generated g c = λ n. elim c.match-form_of.branch [
   | in-Ok-Some w ↦ λ load. let asked = is_unread c.args.words.now n _ load (w.in-Ok-Some.ensures.some w.in-Ok-Some.form cc) in
       (rw w.source-is (w.serve-status.ensures.unread asked), rw w.status-is (w.serve-status.ensures.generated asked))
-  | in-Ok-None w ↦ let none = w.in-Ok-None.ensures.none cc in λ load. (w.source-is, inr (inr (inr (absurd (none (kind.Gen n, load))))))
-  | in-Err w ↦ λ load. (w.source-is, inr (inr (inr w.status-is)))
+  | in-Ok-None w ↦ let none = w.in-Ok-None.ensures.none cc in λ load. (w.source-is, inr (inr (absurd (none (kind.Gen n, load)))))
+  | in-Err w ↦ λ load. (w.source-is, inr (inr w.status-is))
 ]
 
 pub returns-clause-faulty : goal.returns-clause-faulty

@@ -1,10 +1,11 @@
--- A pass adds a line, or is followed by one that asks everybody.
-use Rattle.std.proofs.Common.{Ok, Some, ap, length, ◌∙◌}
-use Rattle.afr_plan.specs.declared.plan.Plan.{Plan}
-use Rattle.afr_live.proofs.EndLemmas.{left_falls}
+-- A pass that added no line was the last one.
+use Rattle.std.proofs.Common.{◌≡◌, ◌≤◌, Ok, true, ap, arith, length}
+use Rattle.std.proofs.lemmas.Grind.{common_steps}
+use Rattle.afr_order.proofs.DoneLemmas.{complete}
 use Rattle.afr_live.proofs.rest.take_rest.Goals as goal
 
-pub loop-moved-smaller : goal.loop-moved-smaller
-loop-moved-smaller g c =
-    left_falls _ _ (length c.loop-moved.state.volume.log) (length c.take_on.new.state.volume.log) c.loop-moved.passing_over c.in-Some.moved (ap (λ (p : Plan). p.turns) c.take_on.ensures.plan) c.take_on.ensures.grows c.in_ok-moved.ensures.room
-    (λ e. c.in_ok-moved.ensures.moved (ap Ok (c.in-Some.is ∙ ap Some e))) (λ e. c.in_ok-moved.ensures.still (ap Ok (c.in-Some.is ∙ ap Some e)))
+pub returns-then-len-before-clause-ok : goal.returns-then-len-before-clause-ok
+returns-then-len-before-clause-ok g c =
+    let on : c.in_ok-take_pass.field-0 ≡ true = grind (arith, common_steps) in
+    let still : length c.take_pass.new.state.volume.log ≤ length c.loop.state.volume.log = omega (arith, c.len.ensures, c.len-before.ensures, c.if-len-before.true) in
+    complete c.take_pass.new.state.volume c.every_line.ensures.room (c.in_ok-take_pass.ensures.idle (ap Ok on) still) c.every_line.ensures.settled

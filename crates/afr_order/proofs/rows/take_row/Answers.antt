@@ -1,9 +1,10 @@
 use Rattle.std.proofs.Common.{[], ◌∷◌, ◌+◌, ◌≡◌, true, Ok, ap, arith}
 use Rattle.std.specs.List.{range_with_len}
 use Rattle.std.proofs.lemmas.Grind.{common_steps}
+use Rattle.afr_model.specs.Actors.{is_done}
 use Rattle.afr_order.proofs.GoingLemmas.{goes_then, takes_then, front_then, ends_true}
 use Rattle.afr_order.proofs.OrderLemmas.{range_more, front_of_range}
-use Rattle.afr_order.proofs.DoneLemmas.{row_done}
+use Rattle.afr_order.proofs.DoneLemmas.{row_each}
 use Rattle.afr_order.proofs.rows.take_row.Goals as goal
 
 pub take_turn-requires : goal.take_turn-requires
@@ -25,6 +26,6 @@ loop-i-preserved g c =
     record {
       goes = goes_then c.args.volume.now c.loop-i.volume c.take_turn.new.volume c.loop-i.invariant.goes c.take_turn.ensures.goes;
       taken = rw range_more (takes_then c.args.volume.now c.loop-i.volume c.take_turn.new.volume (range_with_len c.args.first c.loop-i.i) ((c.args.first + c.loop-i.i) ∷ []) c.loop-i.invariant.goes c.loop-i.invariant.taken (ends_true c.loop-i.volume c.take_turn.new.volume _ _ on c.in_ok-take_turn.ensures.ok));
-      done = row_done c.args.volume.now c.loop-i.volume c.take_turn.new.volume c.args.first c.loop-i.i c.loop-i.invariant.goes c.take_turn.ensures.goes c.loop-i.invariant.done (c.in_ok-take_turn.ensures.done (ap Ok on));
+      done = row_each (λ a s. is_done s.plan a s.log ≡ true) c.args.volume.now c.loop-i.volume c.take_turn.new.volume c.args.first c.loop-i.i c.loop-i.invariant.goes c.take_turn.ensures.goes c.loop-i.invariant.done (c.in_ok-take_turn.ensures.done (ap Ok on));
       chosen = λ h. c.take_turn.ensures.chosen (c.loop-i.invariant.chosen h);
     }

@@ -78,3 +78,23 @@ returns-clause-rounds c = record {
   begins = c.a_healer_keeps_its_round.ensures.begins;
   ends = c.a_healer_keeps_its_round.ensures.ends;
 }
+
+pub returns-clause-paces : goal.returns-clause-paces
+returns-clause-paces c = record {
+  asked = c.a_work_comes_nearer.ensures.asked;
+  begun = c.a_work_comes_nearer.ensures.begun;
+  ends = c.a_work_comes_nearer.ensures.end;
+  start = c.a_work_comes_nearer.ensures.start;
+  queues = c.a_client_asks_in_rising_order.ensures.start;
+  stays = c.a_client_asks_in_rising_order.ensures.stays;
+  begun_queued = c.a_client_asks_in_rising_order.ensures.begun;
+  rises = c.a_client_asks_in_rising_order.ensures.rises;
+  first = c.a_round_keeps_within_its_cost.ensures.first;
+  ready = c.a_round_keeps_within_its_cost.ensures.ready;
+  line = c.a_round_keeps_within_its_cost.ensures.line;
+  beside = c.a_round_keeps_within_its_cost.ensures.others;
+  shown = c.a_round_keeps_within_its_cost.ensures.index;
+  index = c.indexes_are_short.ensures.next;
+  inside = c.a_heal_stays_sound.ensures.inside;
+  heals = c.heals_ask_in_rising_order.ensures.heals;
+}

@@ -1,20 +1,32 @@
--- A line that ends a work is counted.
-use Rattle.std.proofs.Common.{◌≡◌, ◌∙◌, ◌<◌, ◌+◌, ◌^◌, sym, ap, arith, length}
-use Rattle.afr_live.proofs.EndLemmas.{moved_few, moved_ends}
+-- What a turn tells of locks is noted, and the work that its line ends is counted.
+use Rattle.std.proofs.Common.{◌∙◌, ◌<◌}
+use Rattle.afr_live.proofs.NotedLemmas.{low_actor, turn_eager, turn_noted}
 use Rattle.afr_order.proofs.GoingLemmas.{turn_goes}
-use Rattle.afr_live.specs.Ends.{works_ended}
 use Rattle.afr_live.proofs.shared.Shared.take_turn.Goals as goal
 
-pub add-requires-clause-few : goal.add-requires-clause-few
-add-requires-clause-few g c =
-    let few : length c.turn.new.self.log < 2 ^ 32 = omega (arith, c.len.ensures, c.len.auto) in
-    let ends : works_ended c.come_due.new.self.volume.log < 2 ^ 32 = moved_few c.args.a c.come_due.new.self.volume c.turn.new.self c.in_ok-turned.turned c.in_ok-turned.ensures.ok c.in-Moved.is few in
-    omega (arith, c.come_due.new.self.counted, ends)
+pub note-requires : goal.note-requires
+note-requires g c =
+    let same = (turn_goes c.args.a c.come_due.new.self.volume c.turn.new.self c.in_ok-turned.turned c.in_ok-turned.ensures.ok).plan ∙ c.come_due.new.self.planned in
+    low_actor g.J.Run.plan c.args.a.0 (rw same at c.every_line.ensures.clients) (rw same at c.every_line.ensures.healers) c.requires.actor
 
-pub invariant_of-self-then-is_last_end : goal.invariant_of-self-then-is_last_end
-invariant_of-self-then-is_last_end g c =
-    let ends : works_ended c.turn.new.self.log ≡ works_ended c.come_due.new.self.volume.log + 1 = moved_ends c.args.a c.come_due.new.self.volume c.turn.new.self c.in_ok-turned.turned c.in_ok-turned.ensures.ok c.in-Moved.is c.is_last_end.result c.is_last_end.ensures c.if-is_last_end.true in
+pub count-requires-clause-counted : goal.count-requires-clause-counted
+count-requires-clause-counted g c = (c.come_due.new.self.volume, c.in_ok-turned.ensures.ok, c.come_due.new.self.counted)
+
+pub invariant_of-self-2 : goal.invariant_of-self-2
+invariant_of-self-2 g c =
+    let same = (turn_goes c.args.a c.come_due.new.self.volume c.turn.new.self c.in_ok-turned.turned c.in_ok-turned.ensures.ok).plan ∙ c.come_due.new.self.planned in
+    let low : c.args.a.0 < 20 = low_actor g.J.Run.plan c.args.a.0 (rw same at c.every_line.ensures.clients) (rw same at c.every_line.ensures.healers) c.requires.actor in
     record {
-      planned = (turn_goes c.args.a c.come_due.new.self.volume c.turn.new.self c.in_ok-turned.turned c.in_ok-turned.ensures.ok).plan ∙ c.come_due.new.self.planned;
-      counted = c.add.ensures.total ∙ ap (λ n. n + 1) c.come_due.new.self.counted ∙ sym ends;
+      planned = same;
+      counted = c.count.ensures.counted;
+      noted = rw c.note.ensures (turn_noted c.args.a c.come_due.new.self.volume c.turn.new.self c.in_ok-turned.turned c.come_due.new.self.held c.len.result c.in_ok-turned.ensures.ok low c.len.ensures c.come_due.new.self.noted);
+      eager = turn_eager c.args.a c.come_due.new.self.volume c.turn.new.self c.in_ok-turned.turned c.in_ok-turned.ensures.ok c.every_line.ensures.room (c.in_ok-come_due.ensures.free c.args.a.0 c.requires.free) c.come_due.new.self.eager;
     }
+
+pub invariant_of-self : goal.invariant_of-self
+invariant_of-self g c = rw c.in_err-turned.ensures.err (record {
+  planned = c.come_due.new.self.planned;
+  counted = c.come_due.new.self.counted;
+  noted = c.come_due.new.self.noted;
+  eager = c.come_due.new.self.eager;
+})

@@ -1,6 +1,7 @@
 use Rattle.std.proofs.Common.{◌∙◌, arith, refl, subst, sym}
 use Rattle.std.proofs.lemmas.Bool.Decides.{nat_tests}
 use Rattle.afr_volume.proofs.LogLemmas.{few_items, newest_at}
+use Rattle.afr_volume.proofs.PaceTurns.{ready_paced, turn_paced}
 use Rattle.afr_volume.proofs.PickedLemmas.{client_others, unwritten}
 use Rattle.afr_volume.proofs.ReadsKeep.{any_steps, reads_kept}
 use Rattle.afr_volume.proofs.SourceLemmas.{own_of, whatever}
@@ -30,6 +31,8 @@ invariant_of-self-in_err-step_actor g c =
       kept = ready_volume c.laws.ensures.turns c.laws.ensures.begins c.self.inside.plan c.args.a c.self.inside.log.items c.self.inside.actors.items c.ready_actor.new.actors.items c.self.inside.servers c.self.inside.made c.self.invariant.kept c.requires.client (rw (← c.self.view_is) at c.requires.actor)
           (few_items c.self.inside.plan c.self.inside.log.items (rw (← c.self.view_is) at c.requires.room)) c.in_ok-ready_actor.ensures.ok;
       healing = c.self.invariant.healing;
+      pacing = ready_paced c.laws.ensures.paces c.laws.ensures.turns c.laws.ensures.begins c.self.inside.plan c.args.a c.self.inside.log.items c.self.inside.actors.items c.ready_actor.new.actors.items c.self.inside.servers c.self.inside.made c.self.invariant.kept c.requires.client (rw (← c.self.view_is) at c.requires.actor)
+          (few_items c.self.inside.plan c.self.inside.log.items (rw (← c.self.view_is) at c.requires.room)) c.in_ok-ready_actor.ensures.ok c.self.inside.healers.items c.self.invariant.pacing;
     })
 
 pub invariant_of-self-2 : goal.invariant_of-self-2
@@ -41,6 +44,9 @@ invariant_of-self-2 g c =
     (few_items c.self.inside.plan c.self.inside.log.items (rw (← c.self.view_is) at c.requires.room)) c.in_ok-ready_actor.ensures.ok c.len-position.result c.step_actor.new.log.items c.step_actor.new.actors.items c.step_actor.new.servers c.in_ok-step_actor.ensures.ok.line
     (rw (← c.self.view_is) at c.requires.left) (rw (← c.self.view_is) at c.requires.none) (grind (arith, nat_tests, c.len-position.ensures)) (any_steps g.G.Fn c.args.rule.now c.rule_laws.ensures _ _ _ _ _ _ _ c.in_ok-step_actor.ensures.ok.is_so)
     (rw (← c.in_ok-make_room.ensures.items) c.in_ok-step_actor.ensures.ok.added)) c.self.invariant.healing
+    (turn_paced c.laws.ensures.paces c.laws.ensures.turns c.laws.ensures.begins c.self.inside.plan c.args.a c.self.inside.log.items c.self.inside.actors.items c.ready_actor.new.actors.items c.self.inside.servers c.self.inside.made c.self.invariant.kept c.requires.client (rw (← c.self.view_is) at c.requires.actor)
+    (few_items c.self.inside.plan c.self.inside.log.items (rw (← c.self.view_is) at c.requires.room)) c.in_ok-ready_actor.ensures.ok c.self.inside.healers.items c.self.invariant.pacing c.len-position.result c.step_actor.new.log.items c.step_actor.new.actors.items c.step_actor.new.servers c.in_ok-step_actor.ensures.ok.line
+    (grind (arith, nat_tests, c.len-position.ensures)) (any_steps g.G.Fn c.args.rule.now c.rule_laws.ensures _ _ _ _ _ _ _ c.in_ok-step_actor.ensures.ok.is_so) (rw (← c.in_ok-make_room.ensures.items) c.in_ok-step_actor.ensures.ok.added))
 
 pub returns-clause-ok : goal.returns-clause-ok
 returns-clause-ok g c =

@@ -26,11 +26,15 @@ returns-clause-right c =
       causes = c.accusations_have_causes.ensures.exact c.self.inside.plan (reverse c.self.inside.log.items) kept.runnable.few few kept.honest kept.lawful;
       alike = c.nothing_diverges_unrecorded.ensures.exact c.self.inside.plan (reverse c.self.inside.log.items) kept.runnable.few few kept.honest kept.lawful;
       quiet = c.quiet_rounds_are_whole.ensures.whole c.self.inside.plan (reverse c.self.inside.log.items) kept.runnable.few kept.runnable.clients few kept.follows kept.honest kept.lawful kept.replied kept.gives kept.runnable.rounds;
+      left = c.quiet_rounds_converge.ensures.leave c.self.inside.plan (reverse c.self.inside.log.items) kept.runnable.few kept.runnable.clients few kept.follows kept.honest kept.lawful kept.replied kept.gives kept.runnable.rounds;
+      converged = c.quiet_rounds_converge.ensures.converge c.self.inside.plan (reverse c.self.inside.log.items) kept.runnable.few kept.runnable.clients few kept.follows kept.honest kept.lawful kept.replied kept.gives kept.runnable.rounds;
       durable = c.acknowledged_is_durable.ensures.exact c.self.inside.plan (reverse c.self.inside.log.items) kept.runnable.few few kept.honest kept.lawful;
       since = (c.split_copies_missed.ensures.exact c.self.inside.plan (reverse c.self.inside.log.items) kept.runnable.few few kept.honest kept.lawful).0;
       missed = (c.split_copies_missed.ensures.exact c.self.inside.plan (reverse c.self.inside.log.items) kept.runnable.few few kept.honest kept.lawful).1;
       whole = c.a_copy_is_whole.ensures.exact c.self.inside.plan (reverse c.self.inside.log.items) kept.runnable.few few kept.honest kept.lawful;
       available = c.changes_are_available.ensures.exact c.self.inside.plan (reverse c.self.inside.log.items) kept.runnable.few few kept.follows kept.honest kept.lawful kept.replied;
+      rising = c.self.invariant.pacing.rising;
+      within = c.self.invariant.pacing.within;
     })
 
 pub returns-clause-sums : goal.returns-clause-sums

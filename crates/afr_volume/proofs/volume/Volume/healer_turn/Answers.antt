@@ -10,21 +10,21 @@ use Rattle.afr_volume.proofs.WholeTurn.{turned}
 use Rattle.afr_volume.proofs.volume.Volume.healer_turn.Goals as goal
 
 pub step_healer-requires-clause-busy : goal.step_healer-requires-clause-busy
-step_healer-requires-clause-busy g c = busy c.laws.ensures.rounds c.self.inside.plan c.args.a c.self.inside.log.items c.self.inside.actors.items c.self.inside.healers.items c.ready_healer.new.healers.items c.self.inside.servers c.self.inside.made c.self.invariant c.requires.healer (rw (← c.self.view_is) at c.requires.actor)
+step_healer-requires-clause-busy g c = busy c.laws.ensures.rounds c.laws.ensures.paces c.self.inside.plan c.args.a c.self.inside.log.items c.self.inside.actors.items c.self.inside.healers.items c.ready_healer.new.healers.items c.self.inside.servers c.self.inside.made c.self.invariant c.requires.healer (rw (← c.self.view_is) at c.requires.actor)
     (few_items c.self.inside.plan c.self.inside.log.items (rw (← c.self.view_is) at c.requires.room)) c.in_ok-ready_healer.ensures.ok
 
 pub step_healer-requires-clause-can : goal.step_healer-requires-clause-can
-step_healer-requires-clause-can g c = steps c.laws.ensures.rounds c.self.inside.plan c.args.a c.self.inside.log.items c.self.inside.actors.items c.self.inside.healers.items c.ready_healer.new.healers.items c.self.inside.servers c.self.inside.made c.self.invariant c.requires.healer (rw (← c.self.view_is) at c.requires.actor)
+step_healer-requires-clause-can g c = steps c.laws.ensures.rounds c.laws.ensures.paces c.self.inside.plan c.args.a c.self.inside.log.items c.self.inside.actors.items c.self.inside.healers.items c.ready_healer.new.healers.items c.self.inside.servers c.self.inside.made c.self.invariant c.requires.healer (rw (← c.self.view_is) at c.requires.actor)
     (few_items c.self.inside.plan c.self.inside.log.items (rw (← c.self.view_is) at c.requires.room)) c.in_ok-ready_healer.ensures.ok c.len-position.result (grind (arith, nat_tests, c.len-position.ensures))
 
 pub invariant_of-self-in_err-step_healer : goal.invariant_of-self-in_err-step_healer
 invariant_of-self-in_err-step_healer g c =
     rw (c.in_err-step_healer.ensures.err.2, c.in_ok-make_room.ensures.items, c.in_err-step_healer.ensures.err.0, c.in_err-step_healer.ensures.err.1)
-    (ready_whole c.laws.ensures.rounds c.self.inside.plan c.args.a c.self.inside.log.items c.self.inside.actors.items c.self.inside.healers.items c.ready_healer.new.healers.items c.self.inside.servers c.self.inside.made c.self.invariant c.requires.healer (rw (← c.self.view_is) at c.requires.actor)
+    (ready_whole c.laws.ensures.rounds c.laws.ensures.paces c.self.inside.plan c.args.a c.self.inside.log.items c.self.inside.actors.items c.self.inside.healers.items c.ready_healer.new.healers.items c.self.inside.servers c.self.inside.made c.self.invariant c.requires.healer (rw (← c.self.view_is) at c.requires.actor)
     (few_items c.self.inside.plan c.self.inside.log.items (rw (← c.self.view_is) at c.requires.room)) c.in_ok-ready_healer.ensures.ok)
 
 pub invariant_of-self-2 : goal.invariant_of-self-2
-invariant_of-self-2 g c = (healed c.laws.ensures.rounds c.self.inside.plan c.args.a c.self.inside.log.items c.self.inside.actors.items c.self.inside.healers.items c.ready_healer.new.healers.items c.self.inside.servers c.self.inside.made c.self.invariant c.requires.healer (rw (← c.self.view_is) at c.requires.actor)
+invariant_of-self-2 g c = (healed c.laws.ensures.rounds c.laws.ensures.paces c.self.inside.plan c.args.a c.self.inside.log.items c.self.inside.actors.items c.self.inside.healers.items c.ready_healer.new.healers.items c.self.inside.servers c.self.inside.made c.self.invariant c.requires.healer (rw (← c.self.view_is) at c.requires.actor)
     (few_items c.self.inside.plan c.self.inside.log.items (rw (← c.self.view_is) at c.requires.room)) c.in_ok-ready_healer.ensures.ok c.len-position.result c.step_healer.new.log.items c.step_healer.new.healers.items c.step_healer.new.servers c.in_ok-step_healer.ensures.ok.line
     (rw (← c.self.view_is) at c.requires.left) (rw (← c.self.view_is) at c.requires.none) (grind (arith, nat_tests, c.len-position.ensures)) (answered_at _ _ _ _ _ _ _ _ _ c.in_ok-step_healer.ensures.ok.is_so)
     (rw (← c.in_ok-make_room.ensures.items) c.in_ok-step_healer.ensures.ok.added)).whole
@@ -32,7 +32,7 @@ invariant_of-self-2 g c = (healed c.laws.ensures.rounds c.self.inside.plan c.arg
 pub returns-clause-ok : goal.returns-clause-ok
 returns-clause-ok g c =
     let t =
-    healed c.laws.ensures.rounds c.self.inside.plan c.args.a c.self.inside.log.items c.self.inside.actors.items c.self.inside.healers.items c.ready_healer.new.healers.items c.self.inside.servers c.self.inside.made c.self.invariant c.requires.healer (rw (← c.self.view_is) at c.requires.actor)
+    healed c.laws.ensures.rounds c.laws.ensures.paces c.self.inside.plan c.args.a c.self.inside.log.items c.self.inside.actors.items c.self.inside.healers.items c.ready_healer.new.healers.items c.self.inside.servers c.self.inside.made c.self.invariant c.requires.healer (rw (← c.self.view_is) at c.requires.actor)
     (few_items c.self.inside.plan c.self.inside.log.items (rw (← c.self.view_is) at c.requires.room)) c.in_ok-ready_healer.ensures.ok c.len-position.result c.step_healer.new.log.items c.step_healer.new.healers.items c.step_healer.new.servers c.in_ok-step_healer.ensures.ok.line
     (rw (← c.self.view_is) at c.requires.left) (rw (← c.self.view_is) at c.requires.none) (grind (arith, nat_tests, c.len-position.ensures)) (answered_at _ _ _ _ _ _ _ _ _ c.in_ok-step_healer.ensures.ok.is_so)
     (rw (← c.in_ok-make_room.ensures.items) c.in_ok-step_healer.ensures.ok.added) in
@@ -58,6 +58,6 @@ returns-in_err-step_healer-clause-heals g c =
 pub returns-clause-heals : goal.returns-clause-heals
 returns-clause-heals g c =
     rw (← c.self.view_is)
-    (sources_kept c.laws.ensures.rounds c.self.inside.plan c.args.a c.self.inside.log.items c.self.inside.actors.items c.self.inside.healers.items c.ready_healer.new.healers.items c.self.inside.servers c.self.inside.made c.self.invariant c.requires.healer (rw (← c.self.view_is) at c.requires.actor)
+    (sources_kept c.laws.ensures.rounds c.laws.ensures.paces c.self.inside.plan c.args.a c.self.inside.log.items c.self.inside.actors.items c.self.inside.healers.items c.ready_healer.new.healers.items c.self.inside.servers c.self.inside.made c.self.invariant c.requires.healer (rw (← c.self.view_is) at c.requires.actor)
     (few_items c.self.inside.plan c.self.inside.log.items (rw (← c.self.view_is) at c.requires.room)) c.in_ok-ready_healer.ensures.ok g.F.Fn c.args.rule.now c.a_line_keeps_its_source.ensures.keeps c.len-position.result c.step_healer.new.log.items c.step_healer.new.healers.items c.step_healer.new.servers c.in_ok-step_healer.ensures.ok.line
     (grind (arith, nat_tests, c.len-position.ensures)) c.in_ok-step_healer.ensures.ok.is_so (rw (← c.in_ok-make_room.ensures.items) c.in_ok-step_healer.ensures.ok.added))

@@ -1,0 +1,12 @@
+-- Before the first line nobody was told anything.
+use Rattle.std.proofs.Common.{sym, ◌∙◌}
+use Rattle.afr_live.proofs.NotedLemmas.{none_eager, none_noted}
+use Rattle.afr_live.proofs.shared.Shared.new.Goals as goal
+
+pub invariant_of-result : goal.invariant_of-result
+invariant_of-result g c = record {
+  planned = c.requires.plan;
+  counted = rw c.requires.fresh c.requires.none;
+  noted = none_noted _ _ c.requires.fresh c.new.ensures;
+  eager = none_eager _ c.requires.fresh;
+}

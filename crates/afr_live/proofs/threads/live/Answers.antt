@@ -1,0 +1,11 @@
+-- A run that has turns enough has done all.
+use Rattle.afr_live.proofs.EagerLemmas.{eager_done}
+use Rattle.afr_order.proofs.EndLemmas.{kept_of}
+use Rattle.afr_live.proofs.threads.live.Goals as goal
+
+pub returns-in-Ok-clause-ends : goal.returns-in-Ok-clause-ends
+returns-in-Ok-clause-ends g c =
+    let now = c.every_line-in-Ok.ensures in
+    eager_done c.an_ordered_run_ends.ensures.eager c.in-Ok.volume.plan c.in-Ok.volume.log
+    (kept_of c.in-Ok.volume.plan c.in-Ok.volume.log (record { few = now.few; clients = now.clients; healers = now.healers; turns = now.turns }) now.room now.right)
+    now.right.within c.in-Ok.ensures.eager c.in-Ok.ensures.complete
