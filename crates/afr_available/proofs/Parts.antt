@@ -33,10 +33,10 @@ use Rattle.afr_model.specs.Commands.{area_on, is_on_name, last_of, steps_of}
 use Rattle.afr_model.specs.Following.{KeepsToCommand}
 use Rattle.afr_model.specs.Keeping.{KeepsTo, Names as IsNamed}
 use Rattle.afr_model.specs.Parts.{Makes, Removes, Walks, first_part, is_again, names_asked, second_part, the_make, the_removal, the_walk, upto_names}
-use Rattle.afr_model.specs.Refusals.{at_end, by_area, by_path, in_directory, or_else, refusal}
+use Rattle.afr_model.specs.Refusals.{at_end, at_object, by_area, by_name, by_path, by_views, in_directory, on_way, or_else, read_refused, refusal, too_large}
 use Rattle.afr_model.specs.Renamed.{HasFound, IsMade, IsOfPart, IsOfRename, KeepsToPart, MakesLink}
 use Rattle.afr_model.specs.Replied.{IsOf}
-use Rattle.afr_model.specs.Showing.{At, Path, among, begins_attempt, has, is_granted, locks, path_by, posted}
+use Rattle.afr_model.specs.Showing.{At, Path, among, begins_attempt, has, is_granted, locks, looked_by, path_by, posted}
 use Rattle.afr_model.specs.Standing.{area_here, change_after, change_by, getting, locks_any, place_by}
 use Rattle.afr_moves.proofs.AreaLemmas.{same_area_is}
 use Rattle.afr_cut.proofs.Anew.{has_first}
@@ -98,12 +98,25 @@ module _ (area : Area) where
       go true e = refl
       go false e = absurd (no_majority n (subst (λ (s : List ℕ). is_majority n s ≡ true) (none_got w e) most))
 
+-- lines without a lock lock no object
+locks_no : (g : Gfid) (line : Line) → locks_any line ≡ false → locks g line ≡ false
+locks_no g (Ask a b (request.Lock WorkDomain area) told took) f = absurd (true≢false f)
+locks_no g line f = refl
+
+unlocked : (g : Gfid) (v : Work) → has locks_any v ≡ false → has (locks g) v ≡ false
+unlocked g [] f = refl
+unlocked g (x ∷ v) f = each (locks_any x.0) (has locks_any v) refl refl f (λ h. unlocked g v h)
+  where
+    each : (now before : Bool) → locks_any x.0 ≡ now → has locks_any v ≡ before → (now || before) ≡ false → (has locks_any v ≡ false → has (locks g) v ≡ false) → has (locks g) (x ∷ v) ≡ false
+    each true before h i f rest = absurd (true≢false f)
+    each false before h i f rest = or_none (locks g x.0) (has (locks g) v) (locks_no g x.0 h) (rest (i ∙ f))
+
 -- where nothing refuses a change of a name, its area was locked
 locked_where : (p : Plan) (c : Command) (object : Entry) (area : Area) (w : Work) → is_on_name c ≡ true → refusal p c w ≡ None → place_by p c w ≡ At (steps_of c) object → area_on object.gfid c ≡ Some area → has (locks (object_of_area area)) w ≡ true
-locked_where p c object area w on_name goes led is = locked area p.shape.n w (most (is_majority p.shape.n (among (getting area) w)) refl by_locked)
+locked_where p c object area w on_name goes led is = locked area p.shape.n w (most (is_majority p.shape.n (among (getting area) w)) refl (by_views p.shape Names (looked_by (object_of_area area) w)) by_locked)
   where
     at_place : by_path p c (At (steps_of c) object) w ≡ None
-    at_place = subst (λ (path : Path). by_path p c path w ≡ None) led (or_next _ _ (or_next _ _ goes))
+    at_place = subst (λ (path : Path). by_path p c path w ≡ None) led (or_next (read_refused w) (by_path p c (place_by p c w) w) (or_next (too_large c) (or_else (read_refused w) (by_path p c (place_by p c w) w)) goes))
 
     late : (n : ℕ) → nat_lt n n ≡ true → ⊥
     late n e = grind (arith, nat_tests, e)
@@ -117,14 +130,14 @@ locked_where p c object area w on_name goes led is = locked area p.shape.n w (mo
     named false f x y e = absurd (true≢false (sym f))
 
     directory : in_directory p c object w ≡ None
-    directory = named (is_on_name c) on_name _ _ (ends (nat_lt (steps_of c) (steps_of c)) refl _ (at_end p c object w) at_place)
+    directory = named (is_on_name c) on_name (in_directory p c object w) (at_object p c object w) (ends (nat_lt (steps_of c) (steps_of c)) refl (on_way p.shape object w) (at_end p c object w) at_place)
 
     dir : (file : Bool) (x y : Option Reply) → (if file then Some reply.NotDir else or_else x y) ≡ None → x ≡ None
     dir true x y e = absurd (cc e)
     dir false x y e = or_first x y e
 
     by_locked : by_area p.shape Names (Some area) w ≡ None
-    by_locked = subst (λ (o : Option Area). by_area p.shape Names o w ≡ None) is (dir (is_file object.what) (by_area p.shape Names (area_on object.gfid c) w) _ directory)
+    by_locked = subst (λ (o : Option Area). by_area p.shape Names o w ≡ None) is (dir (is_file object.what) (by_area p.shape Names (area_on object.gfid c) w) (by_name p c object (path_by p w) w) directory)
 
     most : (m : Bool) → is_majority p.shape.n (among (getting area) w) ≡ m → (x : Option Reply) → (if not m then Some reply.NoQuorum else x) ≡ None → m ≡ true
     most true f x e = refl
@@ -190,11 +203,11 @@ module _ (p : Plan) (from to : List NameId) where
       k : MakesLink p from to w begun
       k = keeps.1
 
-      go : (last : Option NameId) → last_of to ≡ last → option_map (λ name. Make k.dir.gfid name k.file File) last ≡ Some begun → IsLink change (the_make from w)
+      go : (last : Option NameId) → last_of to ≡ last → option_map (λ (name : NameId). Make k.dir.gfid name k.file File) last ≡ Some begun → IsLink change (the_make from w)
       go None l n = absurd (cc n)
       go (Some name) l n =
           let is : change ≡ Make k.dir.gfid name k.file File = cc (n, e) in
-          let there : has (locks k.dir.gfid) (the_make from w) ≡ true = locked_where p (command.Create to) k.dir (Name k.dir.gfid (Some name)) (the_make from w) refl about.0 k.led (ap (option_map (λ name. Name k.dir.gfid (Some name))) l) in
+          let there : has (locks k.dir.gfid) (the_make from w) ≡ true = locked_where p (command.Create to) k.dir (Name k.dir.gfid (Some name)) (the_make from w) refl about.0 k.led (ap (option_map (λ (name : NameId). Name k.dir.gfid (Some name))) l) in
           record { dir = k.dir.gfid; file = k.file; name = name; is = is; locked = subst (λ (c : Change). has (locks (object_of c)) (the_make from w) ≡ true) (sym is) there }
   make_line line at w about keeps change e rest = rest e
 
@@ -207,23 +220,11 @@ module _ (p : Plan) (from to : List NameId) where
       k : IsNamed p (command.Unlink from) (the_removal from w) at begun
       k = keeps.1
 
-      locks_no : (g : Gfid) (line : Line) → locks_any line ≡ false → locks g line ≡ false
-      locks_no g (Ask a b (request.Lock WorkDomain area) told took) f = absurd (true≢false f)
-      locks_no g line f = refl
-
-      unlocked : (g : Gfid) (v : Work) → has locks_any v ≡ false → has (locks g) v ≡ false
-      unlocked g [] f = refl
-      unlocked g (x ∷ v) f = each (locks_any x.0) (has locks_any v) refl refl f (λ h. unlocked g v h)
-        where
-          each : (now before : Bool) → locks_any x.0 ≡ now → has locks_any v ≡ before → (now || before) ≡ false → (has locks_any v ≡ false → has (locks g) v ≡ false) → has (locks g) (x ∷ v) ≡ false
-          each true before h i f rest = absurd (true≢false f)
-          each false before h i f rest = or_none (locks g x.0) (has (locks g) v) (locks_no g x.0 h) (rest (i ∙ f))
-
-      go : (last : Option NameId) → last_of from ≡ last → option_map (λ name. Remove k.object.gfid name File) last ≡ Some begun → has (locks (object_of change)) (second_part w) ≡ true
+      go : (last : Option NameId) → last_of from ≡ last → option_map (λ (name : NameId). Remove k.object.gfid name File) last ≡ Some begun → has (locks (object_of change)) (second_part w) ≡ true
       go None l n = absurd (cc n)
       go (Some name) l n =
           let is : change ≡ Remove k.object.gfid name File = cc (n, e) in
-          let there : has (locks k.object.gfid) (the_removal from w) ≡ true = locked_where p (command.Unlink from) k.object (Name k.object.gfid (Some name)) (the_removal from w) refl about.0 k.led (ap (option_map (λ name. Name k.object.gfid (Some name))) l) in
+          let there : has (locks k.object.gfid) (the_removal from w) ≡ true = locked_where p (command.Unlink from) k.object (Name k.object.gfid (Some name)) (the_removal from w) refl about.0 k.led (ap (option_map (λ (name : NameId). Name k.object.gfid (Some name))) l) in
           let second : has (locks k.object.gfid) (second_part w) ≡ true = has_first (locks k.object.gfid) (second_part w) (upto_names (length from - 1) w) (unlocked k.object.gfid (upto_names (length from - 1) w) (earlier_none locks_any (length from - 1) (length from) w (omega arith) free)) there in
           subst (λ (c : Change). has (locks (object_of c)) (second_part w) ≡ true) (sym is) second
   removal_line line at w about keeps free change begins e rest = rest begins e

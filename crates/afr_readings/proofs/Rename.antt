@@ -16,6 +16,7 @@ use Rattle.afr_entry.specs.declared.stage.Found.{Found}
 use Rattle.afr_entry.specs.declared.stage.Found.TheVariants.{Fits, Refused, Unread}
 use Rattle.afr_entry_telling.proofs.Changing.{begins_at}
 use Rattle.afr_entry_telling.specs.EntryTelling.{OnChange}
+use Rattle.afr_inode_telling.proofs.Walking.{path_kept}
 use Rattle.afr_inode_telling.specs.WalkTelling.{TellsAt}
 use Rattle.afr_lines.specs.Told.{told_by}
 use Rattle.afr_lines.specs.Work.{Work, work}
@@ -158,16 +159,19 @@ module _ (picks : Picks) (p : Plan) where
         → PickedRename picks p (now Finding) (x Finding) more
     finding sound k e answers was =
         ask_same (λ y r. PickedRename picks p (now Finding) (x Finding) ((Ask a y r (told_by heard) took, log) ∷ lines)) (next_in m.paths.first).0 b (next_in m.paths.first).1 request e
-        (first_moved (x Finding) here (subst (λ (v : Work). PickedWalk picks p (x Finding).second v) (sym none) second) (walk_picked picks p (command.Stat own) m.paths.first lines a picked heard took log at sound.paths.first sound.sound k.tells answers was))
+        (first_moved (x Finding) ((Ask a (next_in m.paths.first).0 (next_in m.paths.first).1 (told_by heard) took, log) ∷ lines) second
+        (walk_picked picks p (command.Stat own) m.paths.first lines a picked heard took log at sound.paths.first sound.sound k.tells answers was))
       where
-        abbrev here : Work
-        here = (Ask a (next_in m.paths.first).0 (next_in m.paths.first).1 (told_by heard) took, log) ∷ lines
-
         none : the_make own ((Ask a (next_in m.paths.first).0 (next_in m.paths.first).1 (told_by heard) took, log) ∷ lines) ≡ []
         none = make_waits own (Ask a (next_in m.paths.first).0 (next_in m.paths.first).1 (told_by heard) took, log) lines (not_all_asked p m.paths lines k sound.paths.first sound.sound) (finds_again p m.paths lines k sound.paths.first sound.sound a (told_by heard) took)
 
-        second : PickedWalk picks p (x Finding).second []
-        second = subst (λ (w : Walk). PickedStep picks p w.step w.object.gfid []) (sym k.waits) (walk_begins picks p p.shape (length m.paths.second.path) (walk_from p.shape m.paths.second.path).object)
+        -- the second walk waits, and no line is its own yet
+        waits : PickedWalk picks p (x Finding).second []
+        waits = subst (λ (w : Walk). PickedStep picks p w.step w.object.gfid []) (sym k.waits) (walk_begins picks p p.shape (length m.paths.second.path) (walk_from p.shape m.paths.second.path).object)
+
+        second : PickedWalk picks p (x Finding).second (the_make (walked chosen heard at m.paths.first).path ((Ask a (next_in m.paths.first).0 (next_in m.paths.first).1 (told_by heard) took, log) ∷ lines))
+        second = subst (λ (names : List NameId). PickedWalk picks p (x Finding).second (the_make names ((Ask a (next_in m.paths.first).0 (next_in m.paths.first).1 (told_by heard) took, log) ∷ lines))) (sym (path_kept chosen heard at m.paths.first))
+            (subst (λ (v : Work). PickedWalk picks p (x Finding).second v) (sym none) waits)
 
     walking_on : IsRename m.paths Walking → TellsIn p Walking m.paths lines → next.Ask (next_in m.paths.second).0 (next_in m.paths.second).1 ≡ next.Ask b request → Picked picks (walks.choices_of heard m.paths.second) picked
         → PickedWalk picks p m.paths.second (the_make own lines) → PickedRename picks p (now Walking) (x Walking) more
