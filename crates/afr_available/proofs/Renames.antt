@@ -26,7 +26,7 @@ use Rattle.afr_model.specs.Answered.{IsAbout}
 use Rattle.afr_model.specs.Parts.{first_part, second_part, the_make, the_removal, the_walk, upto_names}
 use Rattle.afr_model.specs.Refusals.{refusal}
 use Rattle.afr_model.specs.Renamed.{HasFound, IsMade, IsRenamed, by_halves, or_halves, refusal_at, rename_refusal}
-use Rattle.afr_model.specs.Showing.{At, Path, among, applied_at, applying, begins_attempt, begun_after, begun_by, has, locks, looked_by, path_by, posted, posting, prepared, preparing}
+use Rattle.afr_model.specs.Showing.{Path, among, begins_attempt, begun_after, begun_by, has, locks, looked_by, posted}
 use Rattle.afr_model.specs.Skipped.{IsCarried}
 use Rattle.afr_model.specs.Standing.{change_by, suffices}
 use Rattle.afr_cut.proofs.Anew.{has_first, same_applied, same_applying, same_change, same_looks, same_posted, same_posting, same_prepared, unbegun_change}
