@@ -66,7 +66,7 @@ module _ (picks : Picks) (p : Plan) (m : Renaming) (a : ActorId) (log : List Lin
 
     -- the second walk
     second_reads : (few : p.shape.n ≤ 5) → TellsIn p Walking m.paths lines → is_walking m.paths.second.step ≡ true → PickedRename picks p Walking m.paths lines → Reads (next_in m.paths.second).0 (next_in m.paths.second).1
-    second_reads few k walks was = by m.paths.second.step walks k.tells.tells.step was
+    second_reads few k moving was = by m.paths.second.step moving k.tells.tells.step was
       where
         by : (step : WalkStep) → is_walking step ≡ true → TellsAt p (command.Ls m.paths.second.path) step m.paths.second.read m.paths.second.object (the_make own lines) → PickedStep picks p step m.paths.second.object.gfid (the_make own lines)
             → Reads (walks.next_at step m.paths.second).0 (walks.next_at step m.paths.second).1
