@@ -16,11 +16,11 @@ use Rattle.afr_lines.specs.declared.reply.HealReply.{HealReply}
 use Rattle.afr_lines.specs.declared.reply.Reply.{Reply}
 use Rattle.afr_lines.specs.declared.request.Request.{Request}
 use Rattle.afr_model.specs.Actors.{script_of}
-use Rattle.afr_model.specs.Answered.{IsAbout}
 use Rattle.afr_model.specs.Blamed.{Blames}
 use Rattle.afr_model.specs.Following.{IsDue, IsTurnOf, KeepsToTask, NoneDue}
 use Rattle.afr_model.specs.Honest.{IsHonest}
-use Rattle.afr_model.specs.Replied.{IsOfTask, IsReplied}
+use Rattle.afr_model.specs.Kept.{IsKept}
+use Rattle.afr_model.specs.Replied.{IsOf, IsOfTask, IsReplied}
 use Rattle.afr_object.specs.declared.change.Change.{Change}
 use Rattle.afr_plan.specs.declared.command.Command.{Command}
 use Rattle.afr_plan.specs.declared.plan.Plan.{Plan}
@@ -30,7 +30,7 @@ use Rattle.afr_servers.specs.declared.epochs.Epochs.{Epochs}
 use Rattle.afr_transaction.specs.Turn.{Stood}
 use Rattle.afr_works.specs.Work.{register_of}
 use Rattle.afr_works.specs.declared.work.Work.{Work}
-use Rattle.afr_works.specs.declared.work.Work.TheVariants.{Entry, Idle, Lookup, Write}
+use Rattle.afr_works.specs.declared.work.Work.TheVariants.{Entry, Idle, Lookup, Rename, Write}
 use Rattle.afr_works_tell.specs.WorkTelling.{WorkTells}
 use Rattle.afr_volume.specs.Keeping.{Carries, CarriesOut, IsActing, IsInSession, IsNoted}
 use Rattle.afr_volume.specs.declared.actor.Actor.{Actor}
@@ -133,6 +133,7 @@ module _ (p : Plan) (c : ℕ) (line : Line) (log : List Line) (old new : List Se
   stays met epochs (Lookup m) k = carries_on met epochs (Lookup m) k
   stays met epochs (Write m) k = carries_on met epochs (Write m) k
   stays met epochs (Entry m) k = carries_on met epochs (Entry m) k
+  stays met epochs (Rename m) k = carries_on met epochs (Rename m) k
 
 -- every other actor is as it was after a line
 pub others_stay : (p : Plan) (a : ActorId) (c : ℕ) (line : Line) (log : List Line) (old new : List Serving) (x : Actor) → Wrote a line → (a.0 == c) ≡ false
@@ -154,6 +155,7 @@ pub record LineKeeps (p : Plan) (a : ActorId) (log : List Line) (line : Line) (y
   pub keeps : KeepsToTask p a.0 line log
   pub replied : IsReplied p line log
   pub blamed : Blames p line log
+  pub names : IsKept p line log
   pub wrote : Wrote a line
   pub acting : IsActing p (line ∷ log) a.0 new y
   pub stands : (c : ℕ) (r : Register) → (a.0 ≡ c → ⊥) → Stood p.shape c log r → Stood p.shape c (line ∷ log) r
@@ -163,8 +165,8 @@ pub some_same : (c d : Command) → Some c ≡ Some d → c ≡ d
 some_same c d e = cc e
 
 -- a line of a client is about what its present command names; a client has no rounds
-pub of_client : (p : Plan) (a : ActorId) (line : Line) (log : List Line) (command : Command) → a.0 ≤ 16 → slice_get (script_of p a.0) (ended a.0 log) ≡ Some command → IsAbout p command line (work a.0 log) → IsOfTask p a line log
+pub of_client : (p : Plan) (a : ActorId) (line : Line) (log : List Line) (command : Command) → a.0 ≤ 16 → slice_get (script_of p a.0) (ended a.0 log) ≡ Some command → IsOf p command line (work a.0 log) → IsOfTask p a line log
 of_client p a line log command client present about = record {
-  command = λ c is. subst (λ (c : Command). IsAbout p c line (work a.0 log)) (some_same command c (sym present ∙ is)) about;
+  command = λ c is. subst (λ (c : Command). IsOf p c line (work a.0 log)) (some_same command c (sym present ∙ is)) about;
   round = λ healer b due. absurd (omega (arith, healer, client));
 }
