@@ -8,7 +8,7 @@ use Rattle.afr_base.specs.declared.ids.Kind.{Kind}
 use Rattle.afr_discipline.specs.declared.register.Register.{Register}
 use Rattle.afr_law.specs.Exactly.{IsLawfulExactly}
 use Rattle.afr_lines.specs.Places.{place_of}
-use Rattle.afr_lines.specs.Work.{ended, events_made, is_killed, is_of, work}
+use Rattle.afr_lines.specs.Work.{Work as Lines, ended, events_made, is_killed, is_of, work}
 use Rattle.afr_lines.specs.declared.answer.Told.{Told}
 use Rattle.afr_lines.specs.declared.line.Line.{Line}
 use Rattle.afr_lines.specs.declared.line.Line.TheVariants.{Ask, Begin, End, HealBegin, HealEnd}
@@ -16,13 +16,17 @@ use Rattle.afr_lines.specs.declared.reply.HealReply.{HealReply}
 use Rattle.afr_lines.specs.declared.reply.Reply.{Reply}
 use Rattle.afr_lines.specs.declared.request.Request.{Request}
 use Rattle.afr_model.specs.Actors.{script_of}
+use Rattle.afr_model.specs.Answered.{IsAbout}
 use Rattle.afr_model.specs.Blamed.{Blames}
-use Rattle.afr_model.specs.Following.{IsDue, IsTurnOf, KeepsToTask, NoneDue}
+use Rattle.afr_model.specs.Following.{IsDue, IsTurnOf, KeepsToCommand, KeepsToTask, NoneDue}
 use Rattle.afr_model.specs.Honest.{IsHonest}
 use Rattle.afr_model.specs.Kept.{IsKept}
+use Rattle.afr_model.specs.Parts.{Part, Walks, Makes, Removes, part_at, the_make, the_removal, the_walk}
+use Rattle.afr_model.specs.Renamed.{IsOfPart, KeepsToPart}
 use Rattle.afr_model.specs.Replied.{IsOf, IsOfTask, IsReplied}
 use Rattle.afr_object.specs.declared.change.Change.{Change}
 use Rattle.afr_plan.specs.declared.command.Command.{Command}
+use Rattle.afr_plan.specs.declared.command.Command.TheVariants as command
 use Rattle.afr_plan.specs.declared.plan.Plan.{Plan}
 use Rattle.afr_server.specs.Serving.{Serving}
 use Rattle.afr_servers.specs.Log.{AreFound, AreServed}
@@ -170,3 +174,42 @@ of_client p a line log command client present about = record {
   command = λ c is. subst (λ (c : Command). IsOf p c line (work a.0 log)) (some_same command c (sym present ∙ is)) about;
   round = λ healer b due. absurd (omega (arith, healer, client));
 }
+
+-- ---- what no command does, no part of a rename does
+pub asks_none : (p : Plan) (c : Command) (a : ActorId) (b : BrickId) (asked : Request) (told : Told) (took : Bool) (w : Lines) → ((d : Command) (v : Lines) → IsAbout p d (Ask a b asked told took) v → ⊥) → IsOf p c (Ask a b asked told took) w → ⊥
+asks_none p (command.Write path at bytes) a b asked told took w none k = none (command.Write path at bytes) w k
+asks_none p (command.Cut path len) a b asked told took w none k = none (command.Cut path len) w k
+asks_none p (command.Read path at len) a b asked told took w none k = none (command.Read path at len) w k
+asks_none p (command.Create path) a b asked told took w none k = none (command.Create path) w k
+asks_none p (command.Mkdir path) a b asked told took w none k = none (command.Mkdir path) w k
+asks_none p (command.Unlink path) a b asked told took w none k = none (command.Unlink path) w k
+asks_none p (command.Rmdir path) a b asked told took w none k = none (command.Rmdir path) w k
+asks_none p (command.Ls path) a b asked told took w none k = none (command.Ls path) w k
+asks_none p (command.Stat path) a b asked told took w none k = none (command.Stat path) w k
+asks_none p (command.SetAttr path key value) a b asked told took w none k = none (command.SetAttr path key value) w k
+asks_none p (command.GetAttr path key) a b asked told took w none k = none (command.GetAttr path key) w k
+asks_none p (command.Rename from to) a b asked told took w none k = by_part (part_at from (Ask a b asked told took) w) k
+  where
+    by_part : (part : Part) → IsOfPart part p from to (Ask a b asked told took) w → ⊥
+    by_part Walks k = none (command.Stat from) (the_walk from w) k
+    by_part Makes k = none (command.Create to) (the_make from w) k.1
+    by_part Removes k = none (command.Unlink from) (the_removal from w) k.2
+
+pub ends_none : (p : Plan) (c : Command) (a : ActorId) (g : Gfid) (kind : Kind) (said : HealReply) (at : ℕ) (w : Lines) → KeepsToCommand p c (HealEnd a g kind said) at w → ⊥
+ends_none p (command.Write path at bytes) a g kind said at w k = k
+ends_none p (command.Cut path len) a g kind said at w k = k
+ends_none p (command.Read path at len) a g kind said at w k = k
+ends_none p (command.Create path) a g kind said at w k = k
+ends_none p (command.Mkdir path) a g kind said at w k = k
+ends_none p (command.Unlink path) a g kind said at w k = k
+ends_none p (command.Rmdir path) a g kind said at w k = k
+ends_none p (command.Ls path) a g kind said at w k = k
+ends_none p (command.Stat path) a g kind said at w k = k
+ends_none p (command.SetAttr path key value) a g kind said at w k = k
+ends_none p (command.GetAttr path key) a g kind said at w k = k
+ends_none p (command.Rename from to) a g kind said at w k = by_part (part_at from (HealEnd a g kind said) w) k
+  where
+    by_part : (part : Part) → KeepsToPart part p from to (HealEnd a g kind said) at w → ⊥
+    by_part Walks k = k
+    by_part Makes k = k
+    by_part Removes k = k
