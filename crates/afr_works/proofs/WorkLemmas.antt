@@ -227,7 +227,7 @@ removal_begins (removing.Closing why) m change e = go (is_nothing (removal.left 
 removal_begins stage m change e = refl
 
 -- under the locks of its name a command asks as a rename does
-same_under : (of : Found) (j : EntryJob) (w : Walk) (t : Progress) (at : ℕ) → next_under of at (reads_name j w) t ≡ entry.next_under of at j w t
+pub same_under : (of : Found) (j : EntryJob) (w : Walk) (t : Progress) (at : ℕ) → next_under of at (reads_name j w) t ≡ entry.next_under of at j w t
 same_under (found.Unread c) j w t at = refl
 same_under found.Fits j w t at = refl
 same_under (found.Refused why) j w t at = refl
