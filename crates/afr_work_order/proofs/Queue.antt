@@ -47,7 +47,7 @@ use Rattle.afr_rename.proofs.RenameLemmas.{done_is, over_not_done}
 use Rattle.afr_rename.specs.Against.{against_new, against_old}
 use Rattle.afr_rename.specs.Paths.{first_walked, front, last, making_of, reads_new, reads_old, removal_of, second_walked}
 use Rattle.afr_rename.specs.Rename as rename
-use Rattle.afr_rename.specs.Rename.{IsMaking, Renaming, is_done, turned, unread}
+use Rattle.afr_rename.specs.Rename.{IsMaking, Renaming, is_done, turned}
 use Rattle.afr_rename.specs.Under.{progress_after}
 use Rattle.afr_rename.specs.declared.paths.Paths.{Paths}
 use Rattle.afr_rename.specs.declared.stage.RenameStage.TheVariants as renaming
@@ -110,7 +110,7 @@ entry_led job w row = go w.step
 second_led : (x : Paths) → IsQueuedRename (rename.after_second x)
 second_led x = go x.second.step
   where
-    here : (d : Bool) → IsQueuedRename (if d then renaming.Making (starting (making_of x x.second.object.gfid) x.second.register) unread else renaming.Ending reply.NotDir)
+    here : (d : Bool) → IsQueuedRename (if d then renaming.Making (starting (making_of x x.second.object.gfid) x.second.register) rename.unread else renaming.Ending reply.NotDir)
     here true = starts_queued (making_of x x.second.object.gfid) x.second.register
     here false = tt
 
