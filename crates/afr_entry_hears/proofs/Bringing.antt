@@ -3,6 +3,7 @@ use Rattle.std.proofs.Common.{◌≡◌, ℕ, Bool, true, false, List, [], ◌�
 use Rattle.afr_base.specs.Bricks.{is_nothing}
 use Rattle.afr_base.specs.declared.ids.ActorId.{ActorId}
 use Rattle.afr_base.specs.declared.ids.BrickId.{BrickId}
+use Rattle.afr_base.specs.declared.ids.Gfid.{Gfid}
 use Rattle.afr_base.specs.declared.ids.NameId.{NameId}
 use Rattle.afr_lines.specs.Log.{change_at}
 use Rattle.afr_lines.specs.Work.{work}
@@ -12,7 +13,7 @@ use Rattle.afr_lines.specs.declared.line.Next.TheVariants as next
 use Rattle.afr_lines.specs.declared.request.Request.{Request}
 use Rattle.afr_lines.specs.declared.request.Request.TheVariants as request_of
 use Rattle.afr_object.specs.declared.change.Change.{Change}
-use Rattle.afr_object.specs.declared.change.Change.TheVariants.{Write, Cut, SetAttr, Make, Remove}
+use Rattle.afr_object.specs.declared.change.Change.TheVariants.{Remove}
 use Rattle.afr_object.specs.declared.change.Load.{Load}
 use Rattle.afr_object.specs.declared.change.Load.TheVariants as load
 use Rattle.afr_plan.specs.declared.command.Command.{Command}
@@ -35,8 +36,9 @@ use Rattle.afr_removal.specs.Sound.{IsRemoval}
 use Rattle.afr_removal.specs.declared.stage.RemovalStage.{RemovalStage}
 use Rattle.afr_removal.specs.declared.stage.RemovalStage.TheVariants as removing
 use Rattle.afr_entry.specs.Entry.{CarriesNext, IsChanging, IsStage, fits_stage, next_at, next_under, reads_name}
-use Rattle.afr_entry.specs.Job.{reply_to}
+use Rattle.afr_entry.specs.Job.{change_of, reply_to}
 use Rattle.afr_entry.specs.declared.job.EntryJob.{EntryJob}
+use Rattle.afr_entry.specs.declared.job.EntryJob.TheVariants.{Create, Mkdir, Unlink, Rmdir}
 use Rattle.afr_entry.specs.declared.refusal.Refusal.{Refusal}
 use Rattle.afr_entry.specs.declared.stage.EntryStage.{EntryStage}
 use Rattle.afr_entry.specs.declared.stage.EntryStage.TheVariants.{Walking, Changing, Removes, Ending}
@@ -136,38 +138,38 @@ abbrev begun_in : Next → Change → Change
 begun_in (next.Begin change) other = change
 begun_in line other = other
 
-numbered_new : (at : ℕ) (change : Change) → HasNewGfid at (numbered at change)
-numbered_new at (Make dir name g what) = refl
-numbered_new at (Write g start bytes) = tt
-numbered_new at (Cut g len) = tt
-numbered_new at (SetAttr g key value) = tt
-numbered_new at (Remove dir name what) = tt
+-- a new object has the number 0 until then
+numbered_new : (at : ℕ) (g : Gfid) (job : EntryJob) → HasNewGfid at (numbered at (change_of g job))
+numbered_new at g (Create name) = refl
+numbered_new at g (Mkdir name) = refl
+numbered_new at g (Unlink name) = tt
+numbered_new at g (Rmdir name) = tt
 
-stage_new : (stage : Stage) (at : ℕ) (t : Progress) (change : Change) → transaction.next_at stage at t ≡ next.Begin change → HasNewGfid at change
-stage_new Locking at t change e = absurd (cc e)
-stage_new Looking at t change e = absurd (cc e)
-stage_new Beginning at t change e = subst (HasNewGfid at) (ap (λ (line : Next). begun_in line t.change) e) (numbered_new at t.change)
-stage_new Preparing at t change e = absurd (cc e)
-stage_new Applying at t change e = absurd (cc e)
-stage_new Posting at t change e = absurd (cc e)
-stage_new Closing at t change e = absurd (go (is_nothing t.register.held) e)
+stage_new : (stage : Stage) (at : ℕ) (t : Progress) (change : Change) → HasNewGfid at (numbered at t.change) → transaction.next_at stage at t ≡ next.Begin change → HasNewGfid at change
+stage_new Locking at t change new e = absurd (cc e)
+stage_new Looking at t change new e = absurd (cc e)
+stage_new Beginning at t change new e = subst (HasNewGfid at) (ap (λ (line : Next). begun_in line t.change) e) new
+stage_new Preparing at t change new e = absurd (cc e)
+stage_new Applying at t change new e = absurd (cc e)
+stage_new Posting at t change new e = absurd (cc e)
+stage_new Closing at t change new e = absurd (go (is_nothing t.register.held) e)
   where
     go : (x : Bool) → (if x then next.End (reply_of t.change t.register) else asks Closing t) ≡ next.Begin change → ⊥
     go true e = cc e
     go false e = cc e
 
-under_new : (found : Found) (at : ℕ) (job : EntryJob) (w : Walk) (t : Progress) (change : Change) → next_under found at job w t ≡ next.Begin change → HasNewGfid at change
-under_new (Unread copy) at job w t change e = go (is_beginning t.stage) e
+under_new : (found : Found) (at : ℕ) (job : EntryJob) (w : Walk) (t : Progress) (change : Change) → HasNewGfid at (numbered at t.change) → next_under found at job w t ≡ next.Begin change → HasNewGfid at change
+under_new (Unread copy) at job w t change new e = go (is_beginning t.stage) e
   where
     go : (x : Bool) → (if x then next.Ask copy (reads_name job w) else transaction.next_at t.stage at t) ≡ next.Begin change → HasNewGfid at change
     go true e = absurd (cc e)
-    go false e = stage_new t.stage at t change e
-under_new Fits at job w t change e = stage_new t.stage at t change e
-under_new (Refused why) at job w t change e = go (is_over t.stage t) e
+    go false e = stage_new t.stage at t change new e
+under_new Fits at job w t change new e = stage_new t.stage at t change new e
+under_new (Refused why) at job w t change new e = go (is_over t.stage t) e
   where
     go : (x : Bool) → (if x then next.End (reply_to why) else transaction.next_at t.stage at t) ≡ next.Begin change → HasNewGfid at change
     go true e = absurd (cc e)
-    go false e = stage_new t.stage at t change e
+    go false e = stage_new t.stage at t change new e
 
 -- a removal makes nothing
 removed_new : (at : ℕ) (change : Change) → IsRemoval change → HasNewGfid at change
@@ -193,6 +195,6 @@ entry_makes_new m at change sound e = go m.stage sound.ready e
   where
     go : (stage : EntryStage) → IsStage m.walk m.job stage → next_at at stage m.job m.walk ≡ next.Begin change → HasNewGfid at change
     go Walking ready e = absurd (cc e)
-    go (Changing t found) ready e = under_new found at m.job m.walk t change e
+    go (Changing t found) ready e = under_new found at m.job m.walk t change (subst (λ (x : Change). HasNewGfid at (numbered at x)) (sym ready.of_job) (numbered_new at m.walk.object.gfid m.job)) e
     go (Removes r) ready e = removal_stage_new r.stage at r change ready.sound.removes e
     go (Ending said) ready e = absurd (cc e)
