@@ -126,7 +126,8 @@ module _ (p : Plan) (log : List Line) (five : p.shape.n ≤ 5) (short : length l
           of (Opened code) = opened p (suc u) w.dir w.name g what code
           of (Made q y name early line) = (let past = w.past in let less : q < u = omega (arith, early, past) in numbered_later p (suc q) (suc u) g (omega (arith, less)) (before_u q less y w.dir name g what line))
 
-  numbered : (k b d m g : ℕ) (what : What) → value (start_of p N) L k b (Entry d m) ≡ entry_code g what → IsNumbered p k g
+  -- an entry whose value stood at a moment leads to such a number
+  pub numbered : (k b d m g : ℕ) (what : What) → value (start_of p N) L k b (Entry d m) ≡ entry_code g what → IsNumbered p k g
   numbered k b d m g what code = of (origin k b d m g what code)
     where
       of : Origin k d m g what → IsNumbered p k g

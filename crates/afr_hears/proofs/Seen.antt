@@ -86,8 +86,8 @@ line_has p log (Ask a b (Look h) told took) older before g looked said k = go (h
     own same view e =
         let honest : IsHonest p (Ask a b (Look h) (told_of.Seen view) took) older = subst (λ (x : Told). IsHonest p (Ask a b (Look h) x took) older) e said in
         let there = seen_copy _ _ (copy_at h (holds p older b.0)) view took honest in
-        let then : has_object p older g b.0 ≡ true = subst (λ (x : Gfid). has_object p older x b.0 ≡ true) (gfid_is h g same) (ap (λ (o : Option Object). is_some o) there.1) in
-        copy_since p g b.0 (Ask a b (Look h) told took ∷ older) log before (copy_stays p (Ask a b (Look h) told took) older b.0 g then)
+        let was_there : has_object p older g b.0 ≡ true = subst (λ (x : Gfid). has_object p older x b.0 ≡ true) (gfid_is h g same) (ap (λ (o : Option Object). is_some o) there.1) in
+        copy_since p g b.0 (Ask a b (Look h) told took ∷ older) log before (copy_stays p (Ask a b (Look h) told took) older b.0 g was_there)
 
     go : (hit : Bool) → (h.0 == g.0) ≡ hit → AllHave p log g (if hit then look_shows b.0 told looked else looked)
     go true e = shown_have p log g b.0 told looked (own (eqb-true h.0 g.0 e)) k

@@ -99,6 +99,10 @@ under_begins P at t change of (Unread copy) asked e = unread_begins P at t chang
 under_begins P at t change of Fits asked e = fits_begins P at t change of e
 under_begins P at t change of (Refused why) asked e = refused_begins P at t change of (reply_to why) e
 
+-- what the actor begins next is known
+abbrev IsKnown : Plan → List Line → ActorId → Change → Type 0
+IsKnown p log a begun = BeginsKnown (start_of p (name_bound p)) (by_position log) (length log) (Some (Begin a begun))
+
 -- a file that is found keeps its number
 gfid_kept : (at : ℕ) (g : Gfid) → (g.0 == 0) ≡ false → g ≡ gfid_at at g
 gfid_kept at g some = rw some refl
@@ -109,31 +113,28 @@ rename_makes_known known p c m log a change few short honest lawful sound k e = 
     x : Paths
     x = m.paths
 
-    Known : Change → Type 0
-    Known begun = BeginsKnown (start_of p (name_bound p)) (by_position log) (length log) (Some (Begin a begun))
-
-    go : (stage : RenameStage) → IsSound x stage → TellsIn p stage x (work a.0 log) → next_at (length log) stage x ≡ next.Begin change → Known change
+    go : (stage : RenameStage) → IsSound x stage → TellsIn p stage x (work a.0 log) → next_at (length log) stage x ≡ next.Begin change → IsKnown p log a change
     go Finding ready told e = absurd (cc e)
     go Walking ready told e = absurd (cc e)
     go (Making t found) ready told e = pick (is_done t) e
       where
-        linked : Known (Make x.second.object.gfid x.new_name x.first.object.gfid File)
+        linked : IsKnown p log a (Make x.second.object.gfid x.new_name x.first.object.gfid File)
         linked = known p a log x.first.path x.first.object.gfid x.second.object.gfid x.new_name few short honest lawful told.on.walked.found
 
-        of : Known (numbered (length log) t.change)
+        of : IsKnown p log a (numbered (length log) t.change)
         of =
-            subst (λ (y : Change). Known (numbered (length log) y)) (sym ready.under.of)
-            (subst (λ (g : Gfid). Known (Make x.second.object.gfid x.new_name g File)) (gfid_kept (length log) x.first.object.gfid told.on.walked.numbered) linked)
+            subst (λ (y : Change). IsKnown p log a (numbered (length log) y)) (sym ready.under.of)
+            (subst (λ (g : Gfid). IsKnown p log a (Make x.second.object.gfid x.new_name g File)) (gfid_kept (length log) x.first.object.gfid told.on.walked.numbered) linked)
 
-        pick : (done : Bool) → (if done then next_change Locking (length log) (turned x t) else next_under found (length log) (reads_new x) t) ≡ next.Begin change → Known change
+        pick : (done : Bool) → (if done then next_change Locking (length log) (turned x t) else next_under found (length log) (reads_new x) t) ≡ next.Begin change → IsKnown p log a change
         pick true e = absurd (cc e)
-        pick false e = under_begins Known (length log) t change of found (reads_new x) e
+        pick false e = under_begins (IsKnown p log a) (length log) t change of found (reads_new x) e
     go (Removing t found) ready told e = pick (is_over t.stage t) e
       where
-        of : Known (numbered (length log) t.change)
-        of = subst (λ (y : Change). Known (numbered (length log) y)) (sym ready.under.of) tt
+        of : IsKnown p log a (numbered (length log) t.change)
+        of = subst (λ (y : Change). IsKnown p log a (numbered (length log) y)) (sym ready.under.of) tt
 
-        pick : (over : Bool) → (if over then next.End (half_reply (outcome_of t.change t.register)) else next_under found (length log) (reads_old x) t) ≡ next.Begin change → Known change
+        pick : (over : Bool) → (if over then next.End (half_reply (outcome_of t.change t.register)) else next_under found (length log) (reads_old x) t) ≡ next.Begin change → IsKnown p log a change
         pick true e = absurd (cc e)
-        pick false e = under_begins Known (length log) t change of found (reads_old x) e
+        pick false e = under_begins (IsKnown p log a) (length log) t change of found (reads_old x) e
     go (Ending said) ready told e = absurd (cc e)

@@ -1,5 +1,5 @@
 -- A client hears what its rename asks of the bricks' answers, by where the rename stands.
-use Rattle.std.proofs.Common.{◌≡◌, ℕ, ◌==◌, Bool, true, false, arith, List, Option, Some, None, length, refl, ap, ◌∙◌, subst, if◌then◌else◌}
+use Rattle.std.proofs.Common.{◌≡◌, ℕ, ◌==◌, Bool, true, false, arith, List, Option, Some, None, length, refl, sym, ap, ◌∙◌, subst, if◌then◌else◌}
 use Rattle.afr_base.specs.declared.ids.ActorId.{ActorId}
 use Rattle.afr_base.specs.declared.ids.BrickId.{BrickId}
 use Rattle.afr_base.specs.declared.ids.NameId.{NameId}
@@ -34,6 +34,7 @@ use Rattle.afr_transaction.specs.Progress.{Progress, is_over, next_at as next_ch
 use Rattle.afr_transaction.specs.declared.stage.Stage.TheVariants.{Locking}
 use Rattle.afr_entry.specs.Job.{reply_to}
 use Rattle.afr_entry.specs.declared.job.EntryJob.{EntryJob}
+use Rattle.afr_entry.specs.declared.job.EntryJob.TheVariants.{Create}
 use Rattle.afr_entry.specs.declared.stage.Found.{Found}
 use Rattle.afr_entry.specs.declared.stage.Found.TheVariants.{Unread, Fits, Refused}
 use Rattle.afr_inode_telling.specs.Lines.{CanAnswer, is_look}
@@ -51,7 +52,7 @@ use Rattle.afr_rename.specs.Under.{IsUnder, next_under}
 use Rattle.afr_rename.specs.declared.paths.Paths.{Paths}
 use Rattle.afr_rename.specs.declared.stage.RenameStage.{RenameStage}
 use Rattle.afr_rename.specs.declared.stage.RenameStage.TheVariants.{Finding, Walking, Making, Removing, Ending}
-use Rattle.afr_rename_telling.specs.RenameTelling.{CanFind, CanHear, Makes, OldTells, Removes, TellsIn, old_dir}
+use Rattle.afr_rename_telling.specs.RenameTelling.{CanFind, CanHear, Makes, OldTells, Removes, TellsIn, old_dir, to_of}
 use Rattle.afr_hears.specs.Hears.{IsHeard}
 use Rattle.afr_hears.proofs.Hearing.{step_there}
 use Rattle.afr_hears.proofs.SomeLines.{AreIn, work_in}
@@ -91,7 +92,7 @@ module _ (p : Plan) (log : List Line) (a : ActorId) (b : BrickId) (request : Req
     by_step : (step : WalkStep) → is_walking step ≡ true → CanAnswer p (walk.next_at step w).0.0 (walk.next_at step w).1 log heard → (entry : Entry) → heard ≡ answer.Entry (Some entry) → (entry.gfid.0 == 0) ≡ false
     by_step (walking.Looking s) going can entry is =
         let seen = can.given (ap told_by is) in
-        absurd (no_entry entry (copy_at w.object.gfid (holds p log _)) (subst (λ (y : Answer). y ≡ copy_answer (λ o. answer.Seen (view_of o)) (copy_at w.object.gfid (holds p log _))) is seen))
+        absurd (no_entry entry (copy_at w.object.gfid (holds p log (walk.next_at (walking.Looking s) w).0.0)) (sym is ∙ seen))
     by_step (walking.Naming c) going can entry is =
         let named = name_told p c.0 w.object.gfid (walk.name_in w) log (answer.Entry (Some entry)) (subst (λ (y : Answer). CanAnswer p c.0 (ReadName w.object.gfid (walk.name_in w)) log y) is can) in
         numbers p log c.0 w.object.gfid (walk.name_in w) entry h.few (omega (arith, h.short)) h.honest h.lawful (shown p c.0 w.object.gfid (walk.name_in w) log entry named)
@@ -124,7 +125,7 @@ module _ (p : Plan) (log : List Line) (a : ActorId) (b : BrickId) (request : Req
       go true e = can_turn x t e
       go false e =
           under follows (the_make x.first.path (work a.0 log)) (make_in log x.first.path (work a.0 log) (work_in a.0 log)) x.second.object x.new_name (making_of x x.second.object.gfid) refl t found sound.under k.tells.on
-          (led_new found p _ _ x.second.object _ k.tells.name) e
+          (led_new found p (command.Create (to_of x)) (Create x.new_name) x.second.object (the_make x.first.path (work a.0 log)) k.tells.name) e
 
   removing : Follows p log → (x : Paths) (t : Progress) (found : Found) → IsRemoving x t found → Removes p x t found (work a.0 log) → next_at (length log) (Removing t found) x ≡ next.Ask b request → CanHear (Removing t found) p x b.0 request log heard
   removing follows x t found sound k e = go (is_over t.stage t) e
@@ -133,7 +134,7 @@ module _ (p : Plan) (log : List Line) (a : ActorId) (b : BrickId) (request : Req
       go true e = absurd (cc e)
       go false e =
           under follows (the_removal x.first.path (work a.0 log)) (removal_in log x.first.path (work a.0 log) (work_in a.0 log)) (old_dir x) x.old_name (removal_of x) refl t found sound.under k.tells.on
-          (led_old found p x _ k.tells.name) e
+          (led_old found p x (the_removal x.first.path (work a.0 log)) k.tells.name) e
 
 pub rename_hears : EntriesAreNumbered → RenameHears
 rename_hears numbers p c m log a b request heard took sound k e h follows = go m.stage sound.sound k.stage e
