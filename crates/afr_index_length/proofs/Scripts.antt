@@ -108,6 +108,9 @@ data Begun (p : Plan) (x : ActorId) (change : Change) (older : List Line) : Type
   First : has begins_attempt (work x.0 older) ≡ false → length (numbers_in (length older) (Begin x change)) ≤ makes_in (slice_get (script_of p x.0) (ended x.0 older)) → Begun p x change older
   Links : length (numbers_in (length older) (Begin x change)) ≡ 0 → Begun p x change older
 
+differs : (x y : ℕ) → (x ≡ y → ⊥) → (x == y) ≡ false
+differs x y h = grind (arith, nat_tests, h)
+
 -- a file that was found has the number of an earlier line
 linked_count : (p : Plan) (x : ActorId) (older : List Line) → IsOfPlan p older → (from : List NameId) (h file : Gfid) → HasFound p from file (work x.0 older) → (o : Option NameId) → count_in (length older) x (option_map (λ name. Make h name file File) o) ≤ 0
 linked_count p x older f from h file found None = omega arith
@@ -117,8 +120,8 @@ linked_count p x older f from h file found (Some name) = rw other (omega arith)
     read = found_read p x older from file f.few f.short f.honest f.lawful found
 
     apart : IsNumbered p read.r file.0 → (file.0 == length older + 2) ≡ false
-    apart (Opening known high) = (let short = f.short in grind (arith, nat_tests, short, high))
-    apart (Given some low) = (let past = read.past in grind (arith, nat_tests, past, low))
+    apart (Opening known high) = (let short = f.short in differs file.0 (length older + 2) (λ e. omega (arith, e, short, high)))
+    apart (Given some low) = (let past = read.past in differs file.0 (length older + 2) (λ e. omega (arith, e, past, low)))
 
     other : (file.0 == length older + 2) ≡ false
     other = apart (numbered p older f.few f.short f.honest f.lawful read.r read.b read.dir read.name file.0 File read.gave)
