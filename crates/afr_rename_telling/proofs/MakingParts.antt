@@ -47,19 +47,16 @@ has_none_both test s u e f = has_front test s u f ∙ e
 -- what goes over to a work without its last line goes over to what it was at an earlier name
 pub tail_upto : (P : Work → Type 0) → ((x : Line × List Line) (w : Work) → P (x ∷ w) → P w) → (j : ℕ) (w : Work) → P w → P (upto_names j w)
 tail_upto P drop j [] k = k
-tail_upto P drop j (x ∷ w) k = go (nat_le j (names_asked w))
+tail_upto P drop j (x ∷ w) k = go (tail_upto P drop j w (drop x w k)) (nat_le j (names_asked w))
   where
-    shorter : P (upto_names j w)
-    shorter = tail_upto P drop j w (drop x w k)
-
-    go : (t : Bool) → P (if t then upto_names j w else x ∷ w)
-    go true = shorter
-    go false = k
+    go : P (upto_names j w) → (t : Bool) → P (if t then upto_names j w else x ∷ w)
+    go shorter true = shorter
+    go shorter false = k
 
 -- an earlier name is before a later one
 pub upto_twice : (j k : ℕ) (w : Work) → nat_le j k ≡ true → upto_names j (upto_names k w) ≡ upto_names j w
 upto_twice j k [] e = refl
-upto_twice j k (x ∷ w) e = go (nat_le k (names_asked w)) refl
+upto_twice j k (x ∷ w) e = go (upto_twice j k w e) (nat_le k (names_asked w)) refl
   where
     later : nat_le k (names_asked w) ≡ true → nat_le j (names_asked w) ≡ true
     later f = grind (arith, nat_tests, e, f)
@@ -67,9 +64,9 @@ upto_twice j k (x ∷ w) e = go (nat_le k (names_asked w)) refl
     dropped : nat_le k (names_asked w) ≡ true → upto_names j w ≡ upto_names j (x ∷ w)
     dropped f = let g = later f in rw g refl
 
-    go : (t : Bool) → nat_le k (names_asked w) ≡ t → upto_names j (if t then upto_names k w else x ∷ w) ≡ upto_names j (x ∷ w)
-    go true f = upto_twice j k w e ∙ dropped f
-    go false f = refl
+    go : upto_names j (upto_names k w) ≡ upto_names j w → (t : Bool) → nat_le k (names_asked w) ≡ t → upto_names j (if t then upto_names k w else x ∷ w) ≡ upto_names j (x ∷ w)
+    go rest true f = rest ∙ dropped f
+    go rest false f = refl
 
 pub one_less : (k : ℕ) → nat_le (k - 1) k ≡ true
 one_less k = grind (arith, nat_tests)
@@ -77,34 +74,28 @@ one_less k = grind (arith, nat_tests)
 -- the lines after a name and those up to it are all
 pub names_are_whole : (k : ℕ) (w : Work) → after_names k w ++ upto_names k w ≡ w
 names_are_whole k [] = refl
-names_are_whole k (x ∷ w) = go (nat_le k (names_asked w))
+names_are_whole k (x ∷ w) = go (names_are_whole k w) (nat_le k (names_asked w))
   where
-    rest : after_names k w ++ upto_names k w ≡ w
-    rest = names_are_whole k w
-
-    go : (t : Bool) → (if t then x ∷ after_names k w else []) ++ (if t then upto_names k w else x ∷ w) ≡ x ∷ w
-    go true = ap (λ (v : Work). x ∷ v) rest
-    go false = refl
+    go : after_names k w ++ upto_names k w ≡ w → (t : Bool) → (if t then x ∷ after_names k w else []) ++ (if t then upto_names k w else x ∷ w) ≡ x ∷ w
+    go rest true = ap (λ (v : Work). x ∷ v) rest
+    go rest false = refl
 
 -- without a second transaction the making and the walk are all
 pub make_and_walk : (from : List NameId) (w : Work) → second_part w ≡ [] → the_make from w ++ the_walk from w ≡ w
 make_and_walk from w e = ap (λ (v : Work). after_names (length from) v ++ the_walk from w) (first_all w e) ∙ names_are_whole (length from) w
 
 -- lines before those that have asked so many names don't count
+asked_behind : (k : ℕ) (s u : Work) → nat_le k (names_asked u) ≡ true → nat_le k (names_asked (s ++ u)) ≡ true
+asked_behind k [] u e = e
+asked_behind k (y ∷ s) u e = go (asked_behind k s u e) (asks_name y.0)
+  where
+    go : nat_le k (names_asked (s ++ u)) ≡ true → (t : Bool) → nat_le k (if t then names_asked (s ++ u) + 1 else names_asked (s ++ u)) ≡ true
+    go rest true = grind (arith, nat_tests, rest)
+    go rest false = rest
+
 pub upto_behind : (k : ℕ) (s u : Work) → nat_le k (names_asked u) ≡ true → upto_names k (s ++ u) ≡ upto_names k u
 upto_behind k [] u e = refl
-upto_behind k (x ∷ s) u e = let more = asked_behind s in rw more (upto_behind k s u e)
-  where
-    asked_behind : (s : Work) → nat_le k (names_asked (s ++ u)) ≡ true
-    asked_behind [] = e
-    asked_behind (y ∷ s) = go (asks_name y.0)
-      where
-        rest : nat_le k (names_asked (s ++ u)) ≡ true
-        rest = asked_behind s
-
-        go : (t : Bool) → nat_le k (if t then names_asked (s ++ u) + 1 else names_asked (s ++ u)) ≡ true
-        go true = grind (arith, nat_tests, rest)
-        go false = rest
+upto_behind k (x ∷ s) u e = let more = asked_behind k s u e in rw more (upto_behind k s u e)
 
 -- ---- folds
 -- a fold that finds nothing in the lines before is the part's own
@@ -114,14 +105,11 @@ among_front f (x ∷ s) u e = ap (f x.0) (among_front f s u e)
 
 pub changed_front : (s u : Work) (c : Change) → change_by s ≡ Some c → change_by (s ++ u) ≡ Some c
 changed_front [] u c e = absurd (cc e)
-changed_front (x ∷ s) u c e = go (change_of x.0) e
+changed_front (x ∷ s) u c e = go (λ f. changed_front s u c f) (change_of x.0) e
   where
-    rest : change_by s ≡ Some c → change_by (s ++ u) ≡ Some c
-    rest f = changed_front s u c f
-
-    go : (o : Option Change) → change_after o (change_by s) ≡ Some c → change_after o (change_by (s ++ u)) ≡ Some c
-    go None f = rest f
-    go (Some d) f = f
+    go : (change_by s ≡ Some c → change_by (s ++ u) ≡ Some c) → (o : Option Change) → change_after o (change_by s) ≡ Some c → change_after o (change_by (s ++ u)) ≡ Some c
+    go rest None f = rest f
+    go rest (Some d) f = f
 
 -- ---- faults
 and_both : (a b : Bool) → (a && b) ≡ true → (a ≡ true) × (b ≡ true)
