@@ -128,23 +128,33 @@ fault_in (x ∷ s) u none calm e =
     (λ h. or_left (tells_fault x.0) (has tells_fault s) (and_both (has begins_attempt (s ++ u)) (tells_fault x.0) h).1)
     (λ h. or_right (tells_fault x.0) (has tells_fault s) (fault_in s u none calm h))
 
--- and it is one of the part, whatever lines are before it
-pub fault_whole : (s u t : Work) → has begins_attempt u ≡ false → is_faulted u ≡ false → is_faulted (s ++ u) ≡ true → is_faulted (s ++ t) ≡ true
-fault_whole [] u t none calm e = absurd (cc (calm, e))
-fault_whole (x ∷ s) u t none calm e =
-    or_either (is_faulted ((x ∷ s) ++ t) ≡ true) (has begins_attempt (s ++ u) && tells_fault x.0) (is_faulted (s ++ u)) e
-    (λ h. now (and_both (has begins_attempt (s ++ u)) (tells_fault x.0) h))
-    (λ h. or_right (has begins_attempt (s ++ t) && tells_fault x.0) (is_faulted (s ++ t)) (fault_whole s u t none calm h))
+-- lines before a part leave its faults
+both_true : (a b : Bool) → a ≡ true → b ≡ true → (a && b) ≡ true
+both_true true b e f = f
+both_true false b e f = absurd (cc e)
+
+pub fault_more : (s t : Work) → is_faulted s ≡ true → is_faulted (s ++ t) ≡ true
+fault_more [] t e = absurd (cc e)
+fault_more (x ∷ s) t e =
+    or_either (is_faulted ((x ∷ s) ++ t) ≡ true) (has begins_attempt s && tells_fault x.0) (is_faulted s) e
+    (λ h. now (and_both (has begins_attempt s) (tells_fault x.0) h))
+    (λ h. or_right (has begins_attempt (s ++ t) && tells_fault x.0) (is_faulted (s ++ t)) (fault_more s t h))
   where
-    begins : has begins_attempt (s ++ u) ≡ true → has begins_attempt (s ++ t) ≡ true
-    begins h = has_append begins_attempt s t ∙ or_left (has begins_attempt s) (has begins_attempt t) (sym (has_front begins_attempt s u none) ∙ h)
+    now : (has begins_attempt s ≡ true) × (tells_fault x.0 ≡ true) → is_faulted ((x ∷ s) ++ t) ≡ true
+    now h =
+        or_left (has begins_attempt (s ++ t) && tells_fault x.0) (is_faulted (s ++ t))
+        (both_true (has begins_attempt (s ++ t)) (tells_fault x.0) (has_append begins_attempt s t ∙ or_left (has begins_attempt s) (has begins_attempt t) h.0) h.1)
 
-    both : (a b : Bool) → a ≡ true → b ≡ true → (a && b) ≡ true
-    both true b e f = f
-    both false b e f = absurd (cc e)
-
-    now : (has begins_attempt (s ++ u) ≡ true) × (tells_fault x.0 ≡ true) → is_faulted ((x ∷ s) ++ t) ≡ true
-    now h = or_left (has begins_attempt (s ++ t) && tells_fault x.0) (is_faulted (s ++ t)) (both (has begins_attempt (s ++ t)) (tells_fault x.0) (begins h.0) h.1)
+-- where the lines before it have neither an attempt nor a fault, its faults are its own
+pub fault_own : (s u : Work) → has begins_attempt u ≡ false → is_faulted u ≡ false → is_faulted (s ++ u) ≡ true → is_faulted s ≡ true
+fault_own [] u none calm e = absurd (cc (calm, e))
+fault_own (x ∷ s) u none calm e =
+    or_either (is_faulted (x ∷ s) ≡ true) (has begins_attempt (s ++ u) && tells_fault x.0) (is_faulted (s ++ u)) e
+    (λ h. or_left (has begins_attempt s && tells_fault x.0) (is_faulted s) (now (and_both (has begins_attempt (s ++ u)) (tells_fault x.0) h)))
+    (λ h. or_right (has begins_attempt s && tells_fault x.0) (is_faulted s) (fault_own s u none calm h))
+  where
+    now : (has begins_attempt (s ++ u) ≡ true) × (tells_fault x.0 ≡ true) → (has begins_attempt s && tells_fault x.0) ≡ true
+    now h = both_true (has begins_attempt s) (tells_fault x.0) (sym (has_front begins_attempt s u none) ∙ h.0) h.1
 
 -- ---- the second transaction
 -- before it, a line begins it only as a lock after an unlock

@@ -46,7 +46,7 @@ use Rattle.afr_rename_telling.proofs.MakingAbout.{keeps_number}
 use Rattle.afr_rename_telling.proofs.MakingParts.{again_stays}
 use Rattle.afr_rename_telling.proofs.MakingWalked.{walked_more}
 
-none_most : (n : ℕ) → is_majority n [] ≡ true → ⊥
+pub none_most : (n : ℕ) → is_majority n [] ≡ true → ⊥
 none_most n e = let h = majority_some n [] e in cc h
 
 pub over_closing : (stage : Stage) (t : Progress) → is_over stage t ≡ true → stage ≡ Closing
