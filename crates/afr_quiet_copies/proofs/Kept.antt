@@ -42,6 +42,7 @@ use Rattle.afr_law.specs.ModelAlike.{AreAlike}
 use Rattle.afr_law.proofs.Heals.Answers.{Honestly}
 use Rattle.afr_law.proofs.Heals.Holds.{is_last}
 use Rattle.afr_law.proofs.Model.Discipline.{exact_alike}
+use Rattle.afr_law.proofs.Model.Tasks.{heal_ends_no_command, heal_is_no_command}
 use Rattle.afr_moves.specs.Discipline.{MovesExactly, exact, in_force, present}
 use Rattle.afr_moves.specs.Heal.{MayHealEnd}
 use Rattle.afr_moves.specs.Past.{Log, opens, place}
@@ -177,7 +178,7 @@ module _ (p : Plan) (log : Seq Line) (premises : Premises p log) (a : ℕ) (quie
     due = go (q.follows.0).1.0.keeps
       where
         go : KeepsToTask p x.0 line rest → (b : BrickId) × (slice_get (rounds_of p x.0) (ended x.0 rest) ≡ Some b) × (17 ≤ x.0) × (heal_due p (work a rest) ≡ Some (g, kind))
-        go (ToCommand c e k) = absurd k
+        go (ToCommand c e k) = absurd (heal_ends_no_command p c x g kind said (length rest) (work x.0 rest) k)
         go (ToRound i b e k) = (b, e, i, subst (λ o. heal_due p (work o rest) ≡ Some (g, kind)) mine k)
 
     some : (z : ℕ) × (member (among settled_at (heal_by (work a rest))) z ≡ true)
@@ -234,7 +235,7 @@ module _ (p : Plan) (log : Seq Line) (premises : Premises p log) (a : ℕ) (quie
 
     -- a heal's end is no line of a command
     no_command : IsNoCommand p a (line ∷ rest)
-    no_command = no_command_on p a g kind line rest tt (λ c e. (q.replied.0).command c (subst (λ o. slice_get (script_of p o) (ended o rest) ≡ Some c) (sym mine) e))
+    no_command = no_command_on p a g kind line rest tt (λ c e. heal_is_no_command p c x g kind said (work x.0 rest) ((q.replied.0).command c (subst (λ o. slice_get (script_of p o) (ended o rest) ≡ Some c) (sym mine) e)))
 
     abbrev Keeps : Seq Line → Type 0
     Keeps o = AreOfLength p g kind level_end.0 o × IsNoCommand p a o

@@ -51,6 +51,7 @@ use Rattle.afr_quiet_copies.proofs.CountedAsks.{counted_request}
 use Rattle.afr_quiet_copies.proofs.Ended.{HasEnded, IsDueFor, due_asked, ended_asked}
 use Rattle.afr_quiet_copies.proofs.Level.{LevelIn, level_asked}
 use Rattle.afr_law.proofs.Discipline.Firsts.{firsts_now}
+use Rattle.afr_law.proofs.Model.Tasks.{heal_begins_no_command}
 use Rattle.afr_quiet_copies.proofs.Locked.{LockedIn, locked_asked, locked_begun}
 use Rattle.afr_quiet_copies.proofs.Looked.{Looked, LookedIn, gfid, looked_asked, looked_begun}
 use Rattle.afr_quiet_copies.proofs.Premises.{Premises, shorter, sums}
@@ -265,7 +266,7 @@ module _ (p : Plan) (L : Log) (moves : MovesExactly p.shape.n (kept_by p) L) (ho
   begin_due x g kind mine d = go d.0.keeps
     where
       go : KeepsToTask p x.0 (HealBegin x g kind) older → heal_due p (work a older) ≡ Some (g, kind)
-      go (ToCommand c e k) = absurd k
+      go (ToCommand c e k) = absurd (heal_begins_no_command p c x g kind (length older) (work x.0 older) k)
       go (ToRound h b e k) = subst (λ o. heal_due p (work o older) ≡ Some (g, kind)) mine k
 
   module _ (x : ActorId) (g : Gfid) (kind : Kind) (q : Premises p (HealBegin x g kind ∷ older)) (calm : Calm a (HealBegin x g kind)) (h : Round p a older r) (may : MayHealBegin p.shape.n r g.0 kind) where

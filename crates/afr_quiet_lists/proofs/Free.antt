@@ -26,7 +26,7 @@ use Rattle.afr_moves.proofs.Places.{place_is}
 use Rattle.afr_moves.proofs.Tests.{same_self}
 use Rattle.afr_moves.specs.Honest.{HonestAsk, HonestLine, asked}
 use Rattle.afr_moves.specs.Lines.{ask_by}
-use Rattle.afr_moves.specs.Past.{Log, before, blocks, held, joined, opening, place}
+use Rattle.afr_moves.specs.Past.{Log, blocks, held, joined, opening, place}
 use Rattle.afr_moves.specs.Positions.{by_position}
 use Rattle.afr_law.proofs.Model.Sessions.{joined_is}
 use Rattle.afr_law.proofs.Safety.Locks.{Grant, held_past}

@@ -16,7 +16,7 @@ use Rattle.afr_model.specs.Actors.{rounds_of, script_of}
 use Rattle.afr_model.specs.Following.{KeepsToTask, ToCommand, ToRound}
 use Rattle.afr_model.specs.HealReplies.{IsHealing}
 use Rattle.afr_model.specs.Rounds.{KeepsToRound}
-use Rattle.afr_law.proofs.Model.Tasks.{no_script, turn_of}
+use Rattle.afr_law.proofs.Model.Tasks.{heal_locks_no_command, heal_unlocks_no_command, no_script, turn_of}
 use Rattle.afr_quiet_lists.proofs.Premises.{Sound}
 
 module _ (p : Plan) (a : ℕ) (older : List Line) where
@@ -43,7 +43,7 @@ module _ (p : Plan) (a : ℕ) (older : List Line) where
       same = sym (eqb-true x.0 a mine)
 
       go : KeepsToTask p a (Ask x b (Lock Heal area) told took) older → Round (Ask x b (Lock Heal area) told took)
-      go (ToCommand c e k) = absurd (s.replied.0.command c (subst (λ (y : ℕ). slice_get (script_of p y) (ended y older) ≡ Some c) same e))
+      go (ToCommand c e k) = absurd (heal_locks_no_command p c x b area told took (work x.0 older) (s.replied.0.command c (subst (λ (y : ℕ). slice_get (script_of p y) (ended y older) ≡ Some c) same e)))
       go (ToRound h y e k) = record { healer = h; brick = y; is = e; keeps = k }
 
   -- and who gives one back
@@ -54,7 +54,7 @@ module _ (p : Plan) (a : ℕ) (older : List Line) where
       same = sym (eqb-true x.0 a mine)
 
       go : KeepsToTask p a (Ask x b (Unlock Heal area) told took) older → Round (Ask x b (Unlock Heal area) told took)
-      go (ToCommand c e k) = absurd (s.replied.0.command c (subst (λ (y : ℕ). slice_get (script_of p y) (ended y older) ≡ Some c) same e))
+      go (ToCommand c e k) = absurd (heal_unlocks_no_command p c x b area told took (work x.0 older) (s.replied.0.command c (subst (λ (y : ℕ). slice_get (script_of p y) (ended y older) ≡ Some c) same e)))
       go (ToRound h y e k) = record { healer = h; brick = y; is = e; keeps = k }
 
   -- what a healer's line answers

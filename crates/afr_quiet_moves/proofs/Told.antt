@@ -48,6 +48,7 @@ use Rattle.afr_law.proofs.Heals.Areas.{AreasIn, opening_or}
 use Rattle.afr_law.proofs.Heals.Raises.{RaisesIn, pres_opening}
 use Rattle.afr_law.proofs.Heals.Conditions.{Resumes, Starts, Waits, WorkPlace, attrs_onward, bytes_onward, heal_lock_step, heal_unlock_over, list_onward, look_object, look_step, look_turn, looks_far, looks_is, mend_pres, mends_pres, onward_looks, pre_onward, pre_turn, pres_looks, settle_mends, settles_mends, unlock_over, work_place}
 use Rattle.afr_law.proofs.Heals.Sights.{not_opening}
+use Rattle.afr_law.proofs.Model.Tasks.{heal_begins_no_command}
 use Rattle.afr_quiet_moves.proofs.Absent.{IsAbsent, absent_now}
 use Rattle.afr_quiet_moves.proofs.Along.{Joined, Premises, along, earlier, force, reg}
 use Rattle.afr_quiet_moves.proofs.Kept.{KeptIn}
@@ -398,7 +399,7 @@ module _ (p : Plan) (a : ℕ) where
   due_here older g kind follows = go follows.0.1.0.keeps
     where
       go : KeepsToTask p a (heal_begin_by a g kind) older → heal_due p (work a older) ≡ Some (record { 0 = g }, kind)
-      go (ToCommand c e k) = absurd k
+      go (ToCommand c e k) = absurd (heal_begins_no_command p c (record { 0 = a }) (record { 0 = g }) kind (length older) (work a older) k)
       go (ToRound h b e k) = k
 
   begins_told : (older : List Line) (g : ℕ) (kind : Kind) → Premises p (heal_begin_by a g kind ∷ older) → force p a (heal_begin_by a g kind) older ≡ reg p a older → MayHealBegin p.shape.n (reg p a older) g kind

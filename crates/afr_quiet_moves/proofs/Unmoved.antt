@@ -32,6 +32,7 @@ use Rattle.afr_model.specs.Replied.{Replied}
 use Rattle.afr_model.specs.Rounds.{heal_due}
 use Rattle.afr_model.specs.Safe.{log_before}
 use Rattle.afr_model.specs.Showing.{among, looked_by, prepared}
+use Rattle.afr_law.proofs.Model.Tasks.{heal_ends_no_command}
 use Rattle.afr_moves.proofs.Tests.{same_self}
 use Rattle.afr_moves.specs.Register.{Exact}
 use Rattle.afr_plan.specs.declared.plan.Plan.{Plan}
@@ -190,7 +191,7 @@ module _ (p : Plan) (a : ℕ) (b : BrickId) (healer : 17 ≤ a) where
       due = go follows.0.1.0.keeps
         where
           go : KeepsToTask p a (HealEnd (record { 0 = a }) g kind said) older → heal_due p (work a older) ≡ Some (g, kind)
-          go (ToCommand c e k) = absurd k
+          go (ToCommand c e k) = absurd (heal_ends_no_command p c (record { 0 = a }) g kind said (length older) (work a older) k)
           go (ToRound h q e k) = k
 
       inside : (force p a line older).law.heal ≡ true

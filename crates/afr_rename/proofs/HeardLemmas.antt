@@ -22,16 +22,17 @@ use Rattle.afr_transaction.specs.Progress.{Progress, answered, asks, fed, is_beg
 use Rattle.afr_transaction.specs.declared.stage.Stage.{Stage}
 use Rattle.afr_transaction.specs.declared.stage.Stage.TheVariants.{Locking, Looking, Beginning, Preparing, Applying, Posting, Closing}
 use Rattle.afr_transaction.proofs.NoteLemmas.{fed_change}
-use Rattle.afr_entry.specs.Entry.{found_by, offered, settled, told_to}
+use Rattle.afr_entry.specs.Entry.{fits_stage, found_by, offered, settled, told_to}
 use Rattle.afr_entry.specs.Job.{reply_to}
 use Rattle.afr_entry.specs.declared.refusal.Refusal.{Refusal}
 use Rattle.afr_entry.specs.declared.stage.Found.{Found}
 use Rattle.afr_entry.specs.declared.stage.Found.TheVariants.{Unread, Fits, Refused}
 use Rattle.afr_rename.specs.Against.{against_new, against_old, half_reply}
 use Rattle.afr_rename.specs.Paths.{reads_new, reads_old}
-use Rattle.afr_rename.specs.Rename.{IsFed, Renaming, is_done, is_over, making_after, next_at, next_of, second_begun, turned}
+use Rattle.afr_rename.specs.Rename.{IsFed, IsMaking, Renaming, choices_at, is_done, is_over, making_after, making_next, next_at, next_of, removing_next, second_begun, stage_after, turned}
 use Rattle.afr_rename.specs.Under.{IsUnder, choices_under, found_after, next_under, progress_after}
-use Rattle.afr_rename.proofs.RenameLemmas.{over_not_done}
+use Rattle.afr_rename.specs.declared.paths.Paths.{Paths}
+use Rattle.afr_rename.proofs.RenameLemmas.{done_is, over_not_done}
 use Rattle.afr_rename.specs.declared.stage.RenameStage.{RenameStage}
 use Rattle.afr_rename.specs.declared.stage.RenameStage.TheVariants.{Finding, Walking, Making, Removing, Ending}
 
@@ -254,3 +255,76 @@ unheard calls choose m a at none more = go m.stage none more
         asked true e none = absurd (cc e)
         asked false e none = none
     go (Ending said) none more = absurd (cc more)
+
+-- ---- what the code makes of an answer under the locks
+-- by what the answer says
+pub told_same : (found : Found) (t p : Progress) (at : ℕ) (why w : Option Refusal) (asked q : Request) (told h : Told) → why ≡ w → asked ≡ q → told ≡ h → p ≡ progress_after found why asked told at t → p ≡ progress_after found w q h at t
+told_same found t p at why w asked q told h ew eq eh e =
+    e ∙ ap (λ (y : Option Refusal). progress_after found y asked told at t) ew ∙ ap (λ (y : Request). progress_after found w y told at t) eq ∙ ap (λ (y : Told). progress_after found w q y at t) eh
+
+-- it is a transaction of its own change
+pub own_change : (c : Change) (t : Progress) (found : Found) → IsUnder c t found → IsUnder t.change t found
+own_change c t found k = record { sound = k.sound; of = refl; in_turn = k.in_turn; reads = k.reads }
+
+-- ---- the first transaction, as long as it isn't done
+pub making_line : (x : Paths) (t : Progress) (found : Found) (at : ℕ) (b : BrickId) (q : Request) → is_done t ≡ false → making_next found at x t ≡ next.Ask b q → next_under found at (reads_new x) t ≡ next.Ask b q
+making_line x t found at b q e line = go (is_done t) e line
+  where
+    go : (d : Bool) → d ≡ false → (if d then progress.next_at Locking at (turned x t) else next_under found at (reads_new x) t) ≡ next.Ask b q → next_under found at (reads_new x) t ≡ next.Ask b q
+    go true e line = absurd (cc e)
+    go false e line = line
+
+pub making_heard : (chosen : BrickId) (x : Paths) (t p : Progress) (found f : Found) (a : Answer) (at : ℕ) → is_done t ≡ false → p ≡ progress_after found (against_new a) (reads_new x) (told_by a) at t → f ≡ found_after chosen found (against_new a) t.stage
+    → Making p f ≡ stage_after chosen (Making t found) a at x
+making_heard chosen x t p found f a at e ep ef = go (is_done t) e
+  where
+    go : (d : Bool) → d ≡ false → Making p f ≡ (if d then second_begun (told_by a) at x t else making_after chosen found a at x t)
+    go true e = absurd (cc e)
+    go false e = ap (λ (q : Progress). Making q f) ep ∙ ap (λ (g : Found). Making (progress_after found (against_new a) (reads_new x) (told_by a) at t) g) ef
+
+pub making_chooses : (x : Paths) (t : Progress) (found : Found) (a : Answer) (at : ℕ) → is_done t ≡ false → choices_under found (told_by a) at t ≡ choices_at (Making t found) a at x
+making_chooses x t found a at e = go (is_done t) e
+  where
+    go : (d : Bool) → d ≡ false → choices_under found (told_by a) at t ≡ (if d then [] else choices_under found (told_by a) at t)
+    go true e = absurd (cc e)
+    go false e = refl
+
+-- ---- once it is done
+pub done_heard : (chosen : BrickId) (x : Paths) (t : Progress) (found : Found) (a : Answer) (at : ℕ) → is_done t ≡ true → second_begun (told_by a) at x t ≡ stage_after chosen (Making t found) a at x
+done_heard chosen x t found a at e = go (is_done t) e
+  where
+    go : (d : Bool) → d ≡ true → second_begun (told_by a) at x t ≡ (if d then second_begun (told_by a) at x t else making_after chosen found a at x t)
+    go true e = refl
+    go false e = absurd (cc e)
+
+pub done_chooses : (x : Paths) (t : Progress) (found : Found) (a : Answer) (at : ℕ) → is_done t ≡ true → [] ≡ choices_at (Making t found) a at x
+done_chooses x t found a at e = go (is_done t) e
+  where
+    go : (d : Bool) → d ≡ true → [] ≡ (if d then [] else choices_under found (told_by a) at t)
+    go true e = refl
+    go false e = absurd (cc e)
+
+-- what the new name was found to be plays no part there
+pub closes_alike : (x : Paths) (t : Progress) (found : Found) → IsMaking x t found → is_done t ≡ true → IsMaking x t Fits
+closes_alike x t found k e = record {
+  found_file = k.found_file;
+  under = record { sound = k.under.sound; of = k.under.of; in_turn = closed t.stage (done_is t k.under.sound e).0; reads = tt };
+  plain = k.plain;
+}
+  where
+    closed : (stage : Stage) → progress.is_over stage t ≡ true → fits_stage Fits stage ≡ true
+    closed Closing h = refl
+    closed stage h = absurd (cc h)
+
+-- ---- the second transaction, as long as it isn't over
+pub removing_line : (x : Paths) (t : Progress) (found : Found) (at : ℕ) (b : BrickId) (q : Request) → progress.is_over t.stage t ≡ false → removing_next found at x t ≡ next.Ask b q → next_under found at (reads_old x) t ≡ next.Ask b q
+removing_line x t found at b q e line = go (progress.is_over t.stage t) e line
+  where
+    go : (d : Bool) → d ≡ false → (if d then next.End (half_reply (outcome_of t.change t.register)) else next_under found at (reads_old x) t) ≡ next.Ask b q → next_under found at (reads_old x) t ≡ next.Ask b q
+    go true e line = absurd (cc e)
+    go false e line = line
+
+pub removing_heard : (chosen : BrickId) (x : Paths) (t p : Progress) (found f : Found) (a : Answer) (at : ℕ) → p ≡ progress_after found (against_old x.first.object.gfid a) (reads_old x) (told_by a) at t → f ≡ found_after chosen found (against_old x.first.object.gfid a) t.stage
+    → Removing p f ≡ stage_after chosen (Removing t found) a at x
+removing_heard chosen x t p found f a at ep ef =
+    ap (λ (q : Progress). Removing q f) ep ∙ ap (λ (g : Found). Removing (progress_after found (against_old x.first.object.gfid a) (reads_old x) (told_by a) at t) g) ef

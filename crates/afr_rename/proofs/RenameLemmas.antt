@@ -116,7 +116,7 @@ free_plain shape r (inr e) = subst IsPlain (sym e) (plain_first shape).free
 making_suits : (x : Paths) (dir : Gfid) → Suits (making_of x dir)
 making_suits x dir = record { valid = refl; kind = refl }
 
-removal_suits : (x : Paths) → Suits (removal_of x)
+pub removal_suits : (x : Paths) → Suits (removal_of x)
 removal_suits x = record { valid = refl; kind = refl }
 
 -- what a transaction needs of the walk that it goes on from

@@ -1,17 +1,34 @@
--- Who stands within a work has a task left.
+-- Who stands within a work has a task left; and what a line of a command, whichever it is, has to do with one path.
 use Rattle.std.proofs.Common.{◌≡◌, ℕ, zero, suc, ◌+◌, ◌-◌, ◌<◌, ◌≤◌, Bool, true, false, refl, sym, subst, arith, List, [], ◌∷◌, length, Some, true≢false}
 use Rattle.std.specs.Prelude.{if◌then◌else◌, nat_lt, slice_get, slice_index_or}
 use Rattle.std.proofs.lemmas.Bool.{eqb-true}
 use Rattle.std.proofs.lemmas.Bool.Decides.{nat_tests}
 use Rattle.std.proofs.lemmas.Option.{slice_get_within}
 use Rattle.afr_lines.specs.Places.{Within, next_place, place_of}
-use Rattle.afr_lines.specs.Work.{ended, ends_work, is_of}
+use Rattle.afr_base.specs.declared.ids.ActorId.{ActorId}
+use Rattle.afr_base.specs.declared.ids.BrickId.{BrickId}
+use Rattle.afr_base.specs.declared.ids.Gfid.{Gfid}
+use Rattle.afr_base.specs.declared.ids.Kind.{Kind}
+use Rattle.afr_base.specs.declared.ids.NameId.{NameId}
+use Rattle.afr_lines.specs.Work.{Work, ended, ends_work, is_end, is_of}
+use Rattle.afr_lines.specs.declared.answer.Told.{Told}
 use Rattle.afr_lines.specs.declared.line.Line.TheVariants.{Ask, Begin, End, Event, HealBegin, HealEnd}
 use Rattle.afr_lines.specs.declared.line.Line.{Line}
+use Rattle.afr_lines.specs.declared.reply.HealReply.{HealReply}
+use Rattle.afr_lines.specs.declared.request.Area.{Area}
+use Rattle.afr_lines.specs.declared.request.Request.TheVariants.{Lock, Unlock}
+use Rattle.afr_range_locks.specs.declared.domain.Domain.TheVariants.{Heal}
 use Rattle.afr_law.proofs.Heals.Opening.{ended as after_end}
 use Rattle.afr_model.specs.Actors.{IsActor, rounds_of, script_of, works_of}
-use Rattle.afr_model.specs.Following.{Follows, IsTurnOf, KeepsToTask, ToCommand, ToRound}
+use Rattle.afr_model.specs.Answered.{IsAbout}
+use Rattle.afr_model.specs.Following.{Follows, IsTurnOf, KeepsToCommand, KeepsToTask, ToCommand, ToRound}
+use Rattle.afr_model.specs.Keeping.{KeepsTo}
+use Rattle.afr_model.specs.Parts.{Part, Walks, Makes, Removes, part_at, the_walk, the_make, the_removal}
+use Rattle.afr_model.specs.Renamed.{IsOfPart, KeepsToPart}
+use Rattle.afr_model.specs.Replied.{IsOf}
+use Rattle.afr_model.specs.Showing.{begins_attempt}
 use Rattle.afr_plan.specs.declared.command.Command.{Command}
+use Rattle.afr_plan.specs.declared.command.Command.TheVariants as command
 use Rattle.afr_plan.specs.declared.plan.Plan.{Plan}
 
 past_end : (xs : List (List Command)) (i : ℕ) → length xs ≤ i → slice_index_or xs i [] ≡ []
@@ -75,3 +92,43 @@ task_of p (line ∷ older) a few f e = go (is_of a line) refl e (λ w. task_of p
         own (HealBegin x g kind) m w t = task_here p a (HealBegin x g kind) older few t
         own (HealEnd x g kind said) m w t = task_here p a (HealEnd x g kind said) older few t
         own (Event event) m w t = absurd (true≢false (sym m))
+
+-- ---- a line of a command
+-- it is about what one path names: the command's, or that of a part of a rename
+about_part : (part : Part) (p : Plan) (from to : List NameId) (line : Line) (w : Work) → IsOfPart part p from to line w → (d : Command) × (v : Work) × IsAbout p d line v
+about_part Walks p from to line w k = (command.Stat from, the_walk from w, k)
+about_part Makes p from to line w k = (command.Create to, the_make from w, k.1)
+about_part Removes p from to line w k = (command.Unlink from, the_removal from w, k.2)
+
+pub about_path : (p : Plan) (c : Command) (line : Line) (w : Work) → is_end line ≡ false → IsOf p c line w → (d : Command) × (v : Work) × IsAbout p d line v
+about_path p (command.Rename from to) (End x said) w e k = absurd (true≢false e)
+about_path p (command.Rename from to) line w e k = about_part (part_at from line w) p from to line w k
+about_path p c line w e k = (c, w, k)
+
+-- a line that begins nothing keeps to one path
+keeps_part : (part : Part) (p : Plan) (from to : List NameId) (line : Line) (at : ℕ) (w : Work) → begins_attempt line ≡ false → KeepsToPart part p from to line at w → (d : Command) × (v : Work) × KeepsTo p d line at v
+keeps_part Walks p from to line at w e k = (command.Stat from, the_walk from w, k)
+keeps_part Makes p from to (Begin x change) at w e k = absurd (true≢false e)
+keeps_part Makes p from to line at w e k = (command.Create to, the_make from w, k)
+keeps_part Removes p from to line at w e k = (command.Unlink from, the_removal from w, k)
+
+pub keeps_path : (p : Plan) (c : Command) (line : Line) (at : ℕ) (w : Work) → begins_attempt line ≡ false → KeepsToCommand p c line at w → (d : Command) × (v : Work) × KeepsTo p d line at v
+keeps_path p (command.Rename from to) line at w e k = keeps_part (part_at from line w) p from to line at w e k
+keeps_path p c line at w e k = (c, w, k)
+
+-- no command begins a heal or ends one, nor is such a line about what its words name
+pub heal_begins_no_command : (p : Plan) (c : Command) (x : ActorId) (g : Gfid) (kind : Kind) (at : ℕ) (w : Work) → KeepsToCommand p c (HealBegin x g kind) at w → ⊥
+heal_begins_no_command p c x g kind at w k = (keeps_path p c (HealBegin x g kind) at w refl k).2
+
+pub heal_ends_no_command : (p : Plan) (c : Command) (x : ActorId) (g : Gfid) (kind : Kind) (said : HealReply) (at : ℕ) (w : Work) → KeepsToCommand p c (HealEnd x g kind said) at w → ⊥
+heal_ends_no_command p c x g kind said at w k = (keeps_path p c (HealEnd x g kind said) at w refl k).2
+
+pub heal_is_no_command : (p : Plan) (c : Command) (x : ActorId) (g : Gfid) (kind : Kind) (said : HealReply) (w : Work) → IsOf p c (HealEnd x g kind said) w → ⊥
+heal_is_no_command p c x g kind said w k = (about_path p c (HealEnd x g kind said) w refl k).2
+
+-- and none asks for a Heal lock, or gives one back
+pub heal_locks_no_command : (p : Plan) (c : Command) (x : ActorId) (b : BrickId) (area : Area) (told : Told) (took : Bool) (w : Work) → IsOf p c (Ask x b (Lock Heal area) told took) w → ⊥
+heal_locks_no_command p c x b area told took w k = (about_path p c (Ask x b (Lock Heal area) told took) w refl k).2
+
+pub heal_unlocks_no_command : (p : Plan) (c : Command) (x : ActorId) (b : BrickId) (area : Area) (told : Told) (took : Bool) (w : Work) → IsOf p c (Ask x b (Unlock Heal area) told took) w → ⊥
+heal_unlocks_no_command p c x b area told took w k = (about_path p c (Ask x b (Unlock Heal area) told took) w refl k).2
