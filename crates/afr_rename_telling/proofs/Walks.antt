@@ -53,7 +53,7 @@ use Rattle.afr_transaction_tells.specs.About.{BlamesNext}
 use Rattle.afr_entry_telling.proofs.Begins.{about_walk}
 use Rattle.afr_rename.specs.declared.paths.Paths.{Paths}
 use Rattle.afr_rename_telling.specs.RenameTelling.{Finds, IsLeg, LegGoes, OnFirst, WalksOn, command_of, old_dir, to_of}
-use Rattle.afr_rename_telling.proofs.Cut.{asked_before, first_all, first_more, line_makes, line_walks, none_again, not_again, still_asked, still_first, upto_all, upto_more, walk_stays}
+use Rattle.afr_rename_telling.proofs.Cut.{line_makes, line_walks, none_again, not_again, upto_all}
 
 -- ---- what a step of a walk leaves
 -- a walk's lines only look and read
@@ -206,28 +206,6 @@ module _ (p : Plan) (x : Paths) (lines : Work) (k : Finds p x lines) (sound : Is
       part = line_walks x.first.path line lines (finds_again a told took) not_all_asked
 
 -- ---- a line of the second walk
--- a line that is of no second transaction leaves the first walk as it was
-pub on_first_more : (p : Plan) (x : Paths) (line : Line) (log : List Line) (lines : Work) → is_again line lines ≡ false → LegEnds (asks_name line) p.shape.n lines → OnFirst p x lines → OnFirst p x ((line, log) ∷ lines)
-on_first_more p x line log lines again leg k = record {
-  walked = record {
-    all = still_asked (length from) (line, log) lines k.walked.all;
-    goes = subst (λ (w : Work). GoesOn p (length from) (record { gfid = x.first.object.gfid; what = File }) w) (sym stays) k.walked.goes;
-    found = subst (λ (w : Work). path_by p w ≡ At (length from) (record { gfid = x.first.object.gfid; what = File })) (sym stays) k.walked.found;
-    in_dir = subst (λ (w : Work). path_by p w ≡ At (length from - 1) (old_dir x)) (sym (upto_more (length from - 1) (line, log) lines (asked_before (length from) lines k.walked.all))) k.walked.in_dir;
-    numbered = k.walked.numbered;
-    unlocked = subst (λ (w : Work). has locks_any w ≡ false) (sym stays) k.walked.unlocked;
-    walked = subst (λ (w : Work). SkipsNothing p (command.Stat from) w) (sym stays) k.walked.walked;
-    legs = subst (λ (w : Work). AreLegs p.shape.n w) (sym (first_more (line, log) lines again)) (leg, subst (λ (w : Work). AreLegs p.shape.n w) (first_all lines k.first) k.walked.legs);
-  };
-  first = still_first (line, log) lines again;
-}
-  where
-    from : List NameId
-    from = x.first.path
-
-    stays : the_walk from ((line, log) ∷ lines) ≡ the_walk from lines
-    stays = walk_stays from (line, log) lines k.walked.all
-
 module _ (p : Plan) (x : Paths) (lines : Work) (k : WalksOn p x lines) (sound : IsWalk x.second) (walks : is_walking x.second.step ≡ true) where
   pub walks_again : (a : ActorId) (told : Told) (took : Bool) → is_again (Ask a (next_in x.second).0 (next_in x.second).1 told took) lines ≡ false
   walks_again a told took = not_again (Ask a (next_in x.second).0 (next_in x.second).1 told took) lines k.on.first (no_lock x.second x.second.step a told took walks)

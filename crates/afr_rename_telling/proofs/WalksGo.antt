@@ -34,7 +34,8 @@ use Rattle.afr_rename.specs.declared.paths.Paths.{Paths}
 use Rattle.afr_rename.proofs.RenameLemmas.{first_paths}
 use Rattle.afr_rename_telling.specs.RenameTelling.{CanFind, Finds, OnFirst, RenameTells, WalksOn, command_of, to_of, waiting}
 use Rattle.afr_rename_telling.proofs.Cut.{first_all, make_grows, make_waits, walk_grows}
-use Rattle.afr_rename_telling.proofs.Walks.{finds_again, finds_walk, legs_more, not_all_asked, on_first_more, only_of, walks_again}
+use Rattle.afr_rename_telling.proofs.MakingWalked.{first_more_on}
+use Rattle.afr_rename_telling.proofs.Walks.{finds_again, finds_walk, legs_more, not_all_asked, only_of, walks_again}
 use Rattle.afr_rename_telling.proofs.WalksLeave.{AsCreate, first_moved, second_moved}
 use Rattle.afr_rename_telling.proofs.WalksMore.{Stands, asked_more, led_more, on_way_more}
 
@@ -129,7 +130,7 @@ module _ (p : Plan) (c : Command) (x : Paths) (lines : Work) (a : ActorId) (chos
   legs2 = legs_more p.shape x.second lines a chosen heard took log at2 k.tells.tells.shape paths.second.few walks k.leg (subst (λ (v : Work). AreLegs p.shape.n v) (first_all lines k.on.first) k.on.walked.legs)
 
   on_first : OnFirst p (second_walked chosen heard at2 x) lines2
-  on_first = on_first_kept p x w lines2 (on_first_more p x on_line log lines (walks_again p x lines k paths.second walks a (told_by heard) took) legs2.0.0 k.on)
+  on_first = on_first_kept p x w lines2 (first_more_on p x lines k.on on_line log (walks_again p x lines k paths.second walks a (told_by heard) took) legs2.0)
 
   module _ (can : CanAnswer p (next_in x.second).0.0 (next_in x.second).1 log heard) (among : IsAmong (choices_of heard x.second) chosen) where
     only2 : OnlyReads p.shape.n make2

@@ -64,7 +64,7 @@ use Rattle.afr_rename.proofs.RenameLemmas.{first_paths}
 use Rattle.afr_rename_telling.specs.RenameTelling.{CanFind, Finds, HasWalked, IsLeg, LegGoes, OnFirst, RenameTells, TellsIn, WalksOn, command_of, to_of, waiting}
 use Rattle.afr_rename_telling.proofs.Cut.{first_all, make_grows, make_waits, none_again, walk_grows}
 use Rattle.afr_rename_telling.proofs.WalkEnds.{first_directory, first_stopped, reads_skip_nothing, second_ended}
-use Rattle.afr_rename_telling.proofs.Walks.{finds_again, finds_walk, is_looked, leg_begins, legs_more, not_all_asked, on_first_more, only_of, walks_again}
+use Rattle.afr_rename_telling.proofs.Walks.{finds_again, finds_walk, is_looked, leg_begins, legs_more, not_all_asked, only_of, walks_again}
 use Rattle.afr_rename_telling.proofs.WalksMore.{HasLed, Stands, asked_more, is_stopped, led_more, on_way_more}
 
 -- no walk stops half way of a rename
@@ -113,7 +113,9 @@ module _ (p : Plan) (x : Paths) (lines : Work) (on : OnFirst p x lines) (only : 
   at_directory_is since true t = record {
     on = on;
     last_leg = subst (λ (w : Work). IsLooked p.shape.n (since_name w)) (sym (first_all lines on.first)) (is_looked p.shape.n (since_name lines) since);
+    leg = λ locked. absurd (cc (locked, (touches_nothing p.shape.n make only).object_unlocked dir));
     tells = record { place = t.place; directory = t.directory; unread = t.unread; name = t.name; on = (goes t.on.0, holds t.on.1) };
+    holds = tt;
   }
   at_directory_is since false t = second_ended p x lines reply.NotDir on only since (λ h. cc h) t
 

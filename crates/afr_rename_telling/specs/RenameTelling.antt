@@ -18,11 +18,12 @@ use Rattle.afr_plan.specs.declared.command.Command.{Command}
 use Rattle.afr_plan.specs.declared.command.Command.TheVariants as command
 use Rattle.afr_plan.specs.declared.plan.Plan.{Plan}
 use Rattle.afr_model.specs.Kept.{entry_by}
-use Rattle.afr_model.specs.Parts.{first_part, names_asked, second_part, the_make, the_removal, the_walk, upto_names}
+use Rattle.afr_model.specs.Parts.{first_part, is_again, names_asked, second_part, the_make, the_removal, the_walk, upto_names}
+use Rattle.afr_model.specs.Refusals.{refusal}
 use Rattle.afr_model.specs.Renamed.{AreLegs, HasFound, IsMade, IsRenamed, since_name}
-use Rattle.afr_model.specs.Showing.{At, NotAsked, Untold, among, has, looking, path_by, reading_by, refuses_read}
+use Rattle.afr_model.specs.Showing.{At, NotAsked, Untold, among, has, locks, looking, path_by, reading_by, refuses_read}
 use Rattle.afr_model.specs.Skipped.{IsLooked, SkipsNothing}
-use Rattle.afr_model.specs.Standing.{locks_any, place_by}
+use Rattle.afr_model.specs.Standing.{change_by, locks_any, place_by}
 use Rattle.afr_walk.specs.Walk.{walk_from}
 use Rattle.afr_walk.specs.declared.looks.Looks.{Looks}
 use Rattle.afr_walk.specs.declared.walk.Walk.{Walk}
@@ -38,10 +39,12 @@ use Rattle.afr_inode_telling.specs.Lines.{CanAnswer, LookedAll, LookedBut}
 use Rattle.afr_inode_telling.specs.WalkTelling.{GoesOn, WalkTells}
 use Rattle.afr_entry_telling.specs.EntryTelling.{CanHearUnder, Changes, IsUnread, OnChange, Walks, WasGiven}
 use Rattle.afr_rename.specs.Against.{is_same}
+use Rattle.afr_rename.specs.Paths.{making_of}
 use Rattle.afr_rename.specs.Rename.{Renaming, is_done}
 use Rattle.afr_rename.specs.declared.paths.Paths.{Paths}
 use Rattle.afr_rename.specs.declared.stage.RenameStage.{RenameStage}
 use Rattle.afr_rename.specs.declared.stage.RenameStage.TheVariants.{Finding, Walking, Making, Removing, Ending}
+use Rattle.afr_second.specs.Held.{Holds}
 use Rattle.afr_write_telling.specs.WriteTelling.{CanTell}
 
 -- the second path
@@ -83,11 +86,11 @@ pub record Finds (p : Plan) (x : Paths) (lines : Work) : Type 0 where
 -- the first path has led to the file, by a name of this directory; a file that is found has a number above 0
 pub record HasWalked (p : Plan) (x : Paths) (lines : Work) : Type 0 where
   pub all : nat_le (length x.first.path) (names_asked lines) ≡ true
-  pub goes : GoesOn p (length x.first.path) (record { gfid = x.first.object.gfid; what = File }) (the_walk x.first.path lines)
   pub found : HasFound p x.first.path x.first.object.gfid lines
   pub in_dir : path_by p (upto_names (length x.first.path - 1) lines) ≡ At (length x.first.path - 1) (old_dir x)
   pub numbered : (x.first.object.gfid.0 == 0) ≡ false
   pub unlocked : has locks_any (the_walk x.first.path lines) ≡ false
+  pub goes : GoesOn p (length x.first.path) (record { gfid = x.first.object.gfid; what = File }) (the_walk x.first.path lines)
   pub walked : SkipsNothing p (command.Stat x.first.path) (the_walk x.first.path lines)
   pub legs : AreLegs p.shape.n (first_part lines)
 
@@ -103,11 +106,18 @@ pub record WalksOn (p : Plan) (x : Paths) (lines : Work) : Type 0 where
   pub tells : Walks p x.second (the_make x.first.path lines)
   pub leg : IsLeg p.shape.n x.second.step x.second.object.gfid lines
 
+-- where the directory was locked, and the new name isn't read yet, it was locked after the last name that was
+abbrev pub LocksLeg : Found → Gfid → Work → Work → Type 0
+LocksLeg (Unread b) g make lines = has (locks g) make ≡ true → has (locks g) (since_name lines) ≡ true
+LocksLeg found g make lines = Unit {0}
+
 -- the new name is locked, read and made, by the same lines, as a create's
 pub record Makes (p : Plan) (x : Paths) (t : Progress) (found : Found) (lines : Work) : Type 0 where
   pub on : OnFirst p x lines
   pub last_leg : IsLooked p.shape.n (since_name (first_part lines))
+  pub leg : LocksLeg found x.second.object.gfid (the_make x.first.path lines) (first_part lines)
   pub tells : Changes p (command.Create (to_of x)) (Create x.new_name) x.second.object t found (the_make x.first.path lines)
+  pub holds : Holds t (the_make x.first.path lines)
 
 -- ---- the removal
 -- the old name led to the file still
@@ -138,11 +148,15 @@ pub record Drops (p : Plan) (x : Paths) (t : Progress) (found : Found) (w : Work
   pub name : OldTells found p x w
   pub on : OnChange found p t w
 
--- so it is by the lines of the second transaction, put on the walk to the directory; the first one's are over
+-- so it is by the lines of the second transaction, put on the walk to the directory; the first one's are over: under its locks it has made the name, and nothing refuses it
 pub record Removes (p : Plan) (x : Paths) (t : Progress) (found : Found) (lines : Work) : Type 0 where
   pub walked : HasWalked p x lines
+  pub again : (line : Line) → is_again line lines ≡ true
+  pub locked : has locks_any (first_part lines) ≡ true
   pub last_leg : IsLooked p.shape.n (since_name (first_part lines))
   pub made : IsMade p x.first.path lines
+  pub change : change_by (the_make x.first.path lines) ≡ Some (making_of x x.second.object.gfid)
+  pub passed : refusal p (command.Create (to_of x)) (the_make x.first.path lines) ≡ None
   pub whole : SkipsNothing p (command.Create (to_of x)) (the_make x.first.path lines)
   pub last : LastFits found p x lines
   pub tells : Drops p x t found (the_removal x.first.path lines)
