@@ -1,4 +1,6 @@
 pub mod Cut
+pub mod MakingParts
+pub mod MakingWalked
 pub mod Walks
 pub mod WalkEnds
 pub mod WalksMore
