@@ -1,1 +1,9 @@
-mod Cut
+pub mod Cut
+pub mod MakingParts
+pub mod MakingWalked
+pub mod Walks
+pub mod WalkEnds
+pub mod WalksMore
+pub mod WalksLeave
+pub mod WalksGo
+pub mod Begins

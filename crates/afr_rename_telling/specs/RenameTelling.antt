@@ -1,10 +1,13 @@
 -- What the lines of a rename show, part by part, and what its bricks may tell.
 use Rattle.std.specs.Prelude.{◌≡◌, ℕ, ◌-◌, ◌==◌, nat_le, true, false, List, [], ◌∷◌, ◌++◌, Option, Some, None, length, if◌then◌else◌}
+use Rattle.afr_base.specs.Bricks.{member}
 use Rattle.afr_base.specs.declared.ids.Gfid.{Gfid}
 use Rattle.afr_base.specs.declared.ids.NameId.{NameId}
+use Rattle.afr_base.specs.declared.ids.Shape.{Shape}
 use Rattle.afr_base.specs.declared.ids.What.TheVariants.{Dir, File}
 use Rattle.afr_object.specs.Tables.{is_dir}
 use Rattle.afr_object.specs.declared.entry.Entry.{Entry}
+use Rattle.afr_discipline.specs.declared.register.Register.{Register}
 use Rattle.afr_lines.specs.Told.{told_by}
 use Rattle.afr_lines.specs.Work.{Work}
 use Rattle.afr_lines.specs.declared.answer.Answer.{Answer}
@@ -18,17 +21,21 @@ use Rattle.afr_model.specs.Kept.{entry_by}
 use Rattle.afr_model.specs.Parts.{first_part, is_again, names_asked, second_part, the_make, the_removal, the_walk, upto_names}
 use Rattle.afr_model.specs.Refusals.{refusal}
 use Rattle.afr_model.specs.Renamed.{AreLegs, HasFound, IsMade, IsRenamed, since_name}
-use Rattle.afr_model.specs.Showing.{At, NotAsked, Untold, has, locks, path_by, reading_by, refuses_read}
+use Rattle.afr_model.specs.Showing.{At, NotAsked, Untold, among, has, locks, looking, path_by, reading_by, refuses_read}
 use Rattle.afr_model.specs.Skipped.{IsLooked, SkipsNothing}
 use Rattle.afr_model.specs.Standing.{change_by, locks_any, place_by}
+use Rattle.afr_walk.specs.Walk.{walk_from}
+use Rattle.afr_walk.specs.declared.looks.Looks.{Looks}
 use Rattle.afr_walk.specs.declared.walk.Walk.{Walk}
+use Rattle.afr_walk.specs.declared.walk.WalkStep.{WalkStep}
+use Rattle.afr_walk.specs.declared.walk.WalkStep.TheVariants as walking
 use Rattle.afr_transaction.specs.Progress.{Progress}
 use Rattle.afr_transaction.specs.declared.stage.Stage.{Stage}
 use Rattle.afr_transaction.specs.declared.stage.Stage.TheVariants.{Beginning}
 use Rattle.afr_entry.specs.declared.job.EntryJob.TheVariants.{Create}
 use Rattle.afr_entry.specs.declared.stage.Found.{Found}
 use Rattle.afr_entry.specs.declared.stage.Found.TheVariants.{Unread, Fits, Refused}
-use Rattle.afr_inode_telling.specs.Lines.{CanAnswer}
+use Rattle.afr_inode_telling.specs.Lines.{CanAnswer, LookedAll, LookedBut}
 use Rattle.afr_inode_telling.specs.WalkTelling.{GoesOn, WalkTells}
 use Rattle.afr_entry_telling.specs.EntryTelling.{CanHearUnder, Changes, IsUnread, OnChange, Walks, WasGiven}
 use Rattle.afr_rename.specs.Against.{is_same}
@@ -52,12 +59,29 @@ old_dir x = record { gfid = x.dir; what = Dir }
 abbrev pub command_of : Paths → Command
 command_of x = command.Rename x.first.path (to_of x)
 
+-- ---- the looks since a name
+-- while an object is looked at: each brick that the walk has asked was looked at for it, and every brick for any other object
+pub record LegGoes (n : ℕ) (g : Gfid) (s : Looks) (w : Work) : Type 0 where
+  pub own : (b : ℕ) → member s.asked b ≡ true → member (among (looking g) w) b ≡ true
+  pub but : LookedBut n g w
+
+-- by the step of a walk that stands at this object: before a name, and where the walk has ended, every brick was looked at
+abbrev pub IsLeg : ℕ → WalkStep → Gfid → Work → Type 0
+IsLeg n (walking.Looking s) g w = LegGoes n g s (since_name w)
+IsLeg n step g w = LookedAll n (since_name w)
+
 -- ---- the walk
+-- a walk that waits for another, with whose register it will go on
+abbrev pub waiting : Shape → List NameId → Register → Walk
+waiting shape path r = record (walk_from shape path) { register = r }
+
 -- the first path is walked, and no other line was written: not all of its names were asked
 pub record Finds (p : Plan) (x : Paths) (lines : Work) : Type 0 where
   pub tells : WalkTells p (command.Stat x.first.path) x.first lines
   pub asked : names_asked lines ≡ x.first.read
   pub legs : AreLegs p.shape.n lines
+  pub leg : IsLeg p.shape.n x.first.step x.first.object.gfid lines
+  pub waits : x.second ≡ waiting p.shape x.second.path x.second.register
 
 -- the first path has led to the file, by a name of this directory; a file that is found has a number above 0
 pub record HasWalked (p : Plan) (x : Paths) (lines : Work) : Type 0 where
@@ -80,6 +104,7 @@ pub record OnFirst (p : Plan) (x : Paths) (lines : Work) : Type 0 where
 pub record WalksOn (p : Plan) (x : Paths) (lines : Work) : Type 0 where
   pub on : OnFirst p x lines
   pub tells : Walks p x.second (the_make x.first.path lines)
+  pub leg : IsLeg p.shape.n x.second.step x.second.object.gfid lines
 
 -- where the directory was locked, and the new name isn't read yet, it was locked after the last name that was
 abbrev pub LocksLeg : Found → Gfid → Work → Work → Type 0
