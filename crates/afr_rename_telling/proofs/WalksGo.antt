@@ -32,7 +32,7 @@ use Rattle.afr_rename.specs.Paths.{IsPaths, first_walked, second_walked}
 use Rattle.afr_rename.specs.Rename.{after_first, after_second}
 use Rattle.afr_rename.specs.declared.paths.Paths.{Paths}
 use Rattle.afr_rename.proofs.RenameLemmas.{first_paths}
-use Rattle.afr_rename_telling.specs.RenameTelling.{CanFind, Finds, OnFirst, RenameTells, WalksOn, command_of, to_of, waiting}
+use Rattle.afr_rename_telling.specs.RenameTelling.{CanFind, Finds, IsLeg, OnFirst, RenameTells, WalksOn, command_of, to_of, waiting}
 use Rattle.afr_rename_telling.proofs.Cut.{first_all, make_grows, make_waits, walk_grows}
 use Rattle.afr_rename_telling.proofs.MakingWalked.{first_more_on}
 use Rattle.afr_rename_telling.proofs.Walks.{finds_again, finds_walk, legs_more, not_all_asked, only_of, walks_again}
