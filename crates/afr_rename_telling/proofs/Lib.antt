@@ -22,3 +22,4 @@ pub mod Begins
 pub mod EndsMaking
 pub mod EndsRemoving
 pub mod Ends
+pub mod Looks

@@ -1,13 +1,11 @@
 -- A transaction that is acknowledged has asked for an unlock: until then each brick that did post-op has its lock held.
-use Rattle.std.proofs.Common.{◌≡◌, ℕ, ◌&&◌, ◌||◌, Bool, true, false, List, [], ◌∷◌, None, Some, length, nat_le, refl, sym, ◌∙◌, subst, Option, if◌then◌else◌}
+use Rattle.std.proofs.Common.{◌≡◌, ℕ, ◌||◌, Bool, true, false, List, [], ◌∷◌, None, length, nat_le, refl, sym, ap, ◌∙◌, subst, Option, if◌then◌else◌}
 use Rattle.afr_base.specs.Bricks.{IsIn, added, added_if, below, is_nothing, lowest, member, minus}
 use Rattle.afr_base.specs.Majority.{is_majority}
-use Rattle.afr_base.specs.SetLemmas.{lowest_in, lowest_left, majority_some, member_minus, within_below}
+use Rattle.afr_base.specs.SetLemmas.{lowest_in, lowest_left, majority_some, within_below}
 use Rattle.afr_base.specs.declared.ids.ActorId.{ActorId}
-use Rattle.afr_base.specs.declared.ids.BrickId.{BrickId}
 use Rattle.afr_base.specs.declared.ids.Gfid.{Gfid}
 use Rattle.afr_base.specs.declared.ids.Kind.{Kind}
-use Rattle.afr_base.specs.declared.ids.NameId.{NameId}
 use Rattle.afr_object.specs.Tables.{object_of}
 use Rattle.afr_choice.specs.Looks.{no_looks}
 use Rattle.afr_choice.specs.Verdict.{holders_of}
@@ -29,7 +27,7 @@ use Rattle.afr_discipline.specs.Notes.{asked_at, noted_ask, shown, stayed}
 use Rattle.afr_discipline.specs.declared.register.Register.{Register}
 use Rattle.afr_discipline.specs.declared.register.Step.TheVariants as step
 use Rattle.afr_plan.specs.declared.plan.Plan.{Plan}
-use Rattle.afr_model.specs.Parts.{after_names, first_part, is_again, names_asked, the_make, unlocks_any}
+use Rattle.afr_model.specs.Parts.{after_names, first_part, is_again, names_asked, unlocks_any}
 use Rattle.afr_model.specs.Showing.{has}
 use Rattle.afr_transaction.specs.Between.{is_read, noted_read}
 use Rattle.afr_transaction.specs.Outcome.{reply_of}
@@ -45,7 +43,7 @@ use Rattle.afr_transaction_tells.specs.Tells.{During, Tells}
 use Rattle.afr_transaction_tells.proofs.Leaves.{Leaves, apply_asks, apply_leaves, lock_leaves, look_counts, look_leaves, post_asks, post_leaves, pre_asks, pre_leaves}
 use Rattle.afr_transaction_tells.proofs.Small.{no_number, number_named, self}
 use Rattle.afr_second.specs.Held.{AcknowledgedUnlocks, AreHeld, HeldFirst, HeldGivenUp, HeldKept, HeldRead, HeldUnlocked, Holds, HoldsIn, PartUnlocks}
-use Rattle.afr_second.proofs.HeldSets.{DoneBy, asked_more, done_one, held_after, looked_one, next_phase}
+use Rattle.afr_second.proofs.HeldSets.{asked_more, done_one, held_after, looked_one, moved, next_phase}
 
 -- ---- what an answer leaves of the locks that are held
 module _ (r : Register) (b : ℕ) where
@@ -119,7 +117,7 @@ module _ (p : Plan) (w : Work) (m : Progress) (a : ActorId) (told : Told) (older
         majority true =
             subst (λ (looked : Looked). AreHeld (minus (told_at Locking).asked.locked_on (told_at Locking).asked.looked_at) (holders_of looked) (noted_at Locking).held) (sym lock_left.looked_is)
             (next_phase (told_at Locking).asked.locked_on (told_at Locking).asked.looked_at [] (noted_at Locking).held granted_held refl)
-        majority false none = nobody_posted (noted_at Locking).post (noted_at Locking).held lock_left.post_is
+        majority false = λ none. nobody_posted (noted_at Locking).post (noted_at Locking).held lock_left.post_is
 
         go : (e : Bool) → HoldsIn (if e then gone_on Locking m.change (noted_at Locking) (told_at Locking).asked else Locking) (on_stage (if e then gone_on Locking m.change (noted_at Locking) (told_at Locking).asked else Locking) (told_at Locking)) more
         go true = majority (is_majority (noted_at Locking).shape.n (told_at Locking).asked.locked_on)
@@ -146,7 +144,7 @@ module _ (p : Plan) (w : Work) (m : Progress) (a : ActorId) (told : Told) (older
       where
         start : (f : Bool) → HoldsIn (if f then Beginning else Closing) (on_stage (if f then Beginning else Closing) (told_at Looking)) more
         start true = record { left_held = λ c n. absurd (cc n); undone = λ c n. absurd (cc n); did_held = look_more.did_held }
-        start false none = nobody_posted (noted_at Looking).post (noted_at Looking).held (look_left.post_is ∙ q)
+        start false = λ none. nobody_posted (noted_at Looking).post (noted_at Looking).held (look_left.post_is ∙ q)
 
         go : (e : Bool) → HoldsIn (if e then gone_on Looking m.change (noted_at Looking) (told_at Looking).asked else Looking) (on_stage (if e then gone_on Looking m.change (noted_at Looking) (told_at Looking).asked else Looking) (told_at Looking)) more
         go true = start (may_start (noted_at Looking) m.change)
@@ -159,12 +157,10 @@ module _ (p : Plan) (w : Work) (m : Progress) (a : ActorId) (told : Told) (older
 
     pre_more : AreHeld (left Preparing (told_at Preparing)) (noted_at Preparing).pre (noted_at Preparing).held
     pre_more =
-        rw (
-          pre_left.looked_is,
-          pre_left.pre_is,
-          subst (λ (y : Register). asked_at y step.Pres ≡ added (brick Preparing) (asked_at r step.Pres)) (noted_same Preparing) (pre_asks r (brick Preparing) (object_of m.change) (kind_for m.change) told),
-          subst (λ (y : Register). y.held ≡ held_after (is_gone told) (brick Preparing) r.held) (noted_same Preparing) (pre_held r (brick Preparing) (object_of m.change) (kind_for m.change) told),
-        )
+        moved (holders_of r.looked) (holders_of (noted_at Preparing).looked) (added (brick Preparing) (asked_at r step.Pres)) (asked_at (noted_at Preparing) step.Pres) (added_if (is_done told) (brick Preparing) r.pre) (noted_at Preparing).pre
+        (held_after (is_gone told) (brick Preparing) r.held) (noted_at Preparing).held (ap holders_of pre_left.looked_is)
+        (subst (λ (y : Register). asked_at y step.Pres ≡ added (brick Preparing) (asked_at r step.Pres)) (noted_same Preparing) (pre_asks r (brick Preparing) (object_of m.change) (kind_for m.change) told)) pre_left.pre_is
+        (subst (λ (y : Register). y.held ≡ held_after (is_gone told) (brick Preparing) r.held) (noted_same Preparing) (pre_held r (brick Preparing) (object_of m.change) (kind_for m.change) told))
         (asked_more (is_gone told) (holders_of r.looked) (asked_at r step.Pres) r.pre (added_if (is_done told) (brick Preparing) r.pre) r.held (brick Preparing) h (lowest_in (left Preparing m) e)
         (done_one (is_done told) (is_gone told) (brick Preparing) r.pre (done_there told)))
 
@@ -173,7 +169,7 @@ module _ (p : Plan) (w : Work) (m : Progress) (a : ActorId) (told : Told) (older
       where
         next_is : (f : Bool) → HoldsIn (if f then Applying else Closing) (on_stage (if f then Applying else Closing) (told_at Preparing)) more
         next_is true = next_phase (noted_at Preparing).pre (asked_at (noted_at Preparing) step.Applies) (noted_at Preparing).done (noted_at Preparing).held pre_more.did_held (pre_left.done_is ∙ t.sets.applied ∙ d.1.no_apply_did)
-        next_is false none = nobody_posted (noted_at Preparing).post (noted_at Preparing).held (pre_left.post_is ∙ t.sets.posted ∙ d.1.no_post_did)
+        next_is false = λ none. nobody_posted (noted_at Preparing).post (noted_at Preparing).held (pre_left.post_is ∙ t.sets.posted ∙ d.1.no_post_did)
 
         go : (e : Bool) → HoldsIn (if e then gone_on Preparing m.change (noted_at Preparing) (told_at Preparing).asked else Preparing) (on_stage (if e then gone_on Preparing m.change (noted_at Preparing) (told_at Preparing).asked else Preparing) (told_at Preparing)) more
         go true = next_is (enough (noted_at Preparing) (kind_for m.change) (noted_at Preparing).pre)
@@ -185,12 +181,10 @@ module _ (p : Plan) (w : Work) (m : Progress) (a : ActorId) (told : Told) (older
 
     apply_more : AreHeld (left Applying (told_at Applying)) (noted_at Applying).done (noted_at Applying).held
     apply_more =
-        rw (
-          apply_left.pre_is,
-          apply_left.done_is,
-          subst (λ (y : Register). asked_at y step.Applies ≡ added (brick Applying) (asked_at r step.Applies)) (noted_same Applying) (apply_asks r (brick Applying) (number_in r.begun) told),
-          subst (λ (y : Register). y.held ≡ held_after (is_gone told) (brick Applying) r.held) (noted_same Applying) (apply_held r (brick Applying) (number_in r.begun) told),
-        )
+        moved r.pre (noted_at Applying).pre (added (brick Applying) (asked_at r step.Applies)) (asked_at (noted_at Applying) step.Applies) (added_if (is_done told) (brick Applying) r.done) (noted_at Applying).done
+        (held_after (is_gone told) (brick Applying) r.held) (noted_at Applying).held apply_left.pre_is
+        (subst (λ (y : Register). asked_at y step.Applies ≡ added (brick Applying) (asked_at r step.Applies)) (noted_same Applying) (apply_asks r (brick Applying) (number_in r.begun) told)) apply_left.done_is
+        (subst (λ (y : Register). y.held ≡ held_after (is_gone told) (brick Applying) r.held) (noted_same Applying) (apply_held r (brick Applying) (number_in r.begun) told))
         (asked_more (is_gone told) r.pre (asked_at r step.Applies) r.done (added_if (is_done told) (brick Applying) r.done) r.held (brick Applying) h (lowest_in (left Applying m) e)
         (done_one (is_done told) (is_gone told) (brick Applying) r.done (done_there told)))
 
@@ -202,7 +196,7 @@ module _ (p : Plan) (w : Work) (m : Progress) (a : ActorId) (told : Told) (older
 
         next_is : (f : Bool) → HoldsIn (if f then Posting else Closing) (on_stage (if f then Posting else Closing) (told_at Applying)) more
         next_is true = next_phase (noted_at Applying).done (asked_at (noted_at Applying) step.Posts) (noted_at Applying).post (noted_at Applying).held apply_more.did_held none_posted
-        next_is false none = nobody_posted (noted_at Applying).post (noted_at Applying).held none_posted
+        next_is false = λ none. nobody_posted (noted_at Applying).post (noted_at Applying).held none_posted
 
         go : (e : Bool) → HoldsIn (if e then gone_on Applying m.change (noted_at Applying) (told_at Applying).asked else Applying) (on_stage (if e then gone_on Applying m.change (noted_at Applying) (told_at Applying).asked else Applying) (told_at Applying)) more
         go true = next_is (enough (noted_at Applying) (kind_for m.change) (noted_at Applying).done)
@@ -219,12 +213,10 @@ module _ (p : Plan) (w : Work) (m : Progress) (a : ActorId) (told : Told) (older
 
     post_more : AreHeld (left Posting (told_at Posting)) (noted_at Posting).post (noted_at Posting).held
     post_more =
-        rw (
-          post_left.done_is,
-          post_left.post_is,
-          subst (λ (y : Register). asked_at y step.Posts ≡ added (brick Posting) (asked_at r step.Posts)) (noted_same Posting) (post_asks r (brick Posting) (number_in r.begun) (object_of m.change) (kind_for m.change) missed told),
-          subst (λ (y : Register). y.held ≡ held_after (is_gone told) (brick Posting) r.held) (noted_same Posting) (post_held r (brick Posting) (number_in r.begun) (object_of m.change) (kind_for m.change) missed told),
-        )
+        moved r.done (noted_at Posting).done (added (brick Posting) (asked_at r step.Posts)) (asked_at (noted_at Posting) step.Posts) (added_if (is_done told) (brick Posting) r.post) (noted_at Posting).post
+        (held_after (is_gone told) (brick Posting) r.held) (noted_at Posting).held post_left.done_is
+        (subst (λ (y : Register). asked_at y step.Posts ≡ added (brick Posting) (asked_at r step.Posts)) (noted_same Posting) (post_asks r (brick Posting) (number_in r.begun) (object_of m.change) (kind_for m.change) missed told)) post_left.post_is
+        (subst (λ (y : Register). y.held ≡ held_after (is_gone told) (brick Posting) r.held) (noted_same Posting) (post_held r (brick Posting) (number_in r.begun) (object_of m.change) (kind_for m.change) missed told))
         (asked_more (is_gone told) r.done (asked_at r step.Posts) r.post (added_if (is_done told) (brick Posting) r.post) r.held (brick Posting) h (lowest_in (left Posting m) e)
         (done_one (is_done told) (is_gone told) (brick Posting) r.post (done_there told)))
 
@@ -232,7 +224,7 @@ module _ (p : Plan) (w : Work) (m : Progress) (a : ActorId) (told : Told) (older
     after_post = go (is_nothing (left Posting (told_at Posting)))
       where
         go : (e : Bool) → HoldsIn (if e then Closing else Posting) (on_stage (if e then Closing else Posting) (told_at Posting)) more
-        go true none = post_more.did_held
+        go true = λ none. post_more.did_held
         go false = post_more
 
 -- ---- an unlock
@@ -241,8 +233,8 @@ unlocked_by : (m : Progress) (a : ActorId) (told : Told) (took : Bool) (older : 
 unlocked_by m a told took older w = go (is_nothing (left Closing (answered_by Closing (lowest (left Closing m)) told (length older) m)))
   where
     go : (e : Bool) → HoldsIn (if e then Closing else Closing) (answered Closing told (length older) m) ((Ask a (record { 0 = lowest (left Closing m) }) (request_at Closing m) told took, older) ∷ w)
-    go true none = absurd (cc none)
-    go false none = absurd (cc none)
+    go true = λ none. absurd (cc none)
+    go false = λ none. absurd (cc none)
 
 module _ (w : Work) (m : Progress) (a : ActorId) (told : Told) (older : List Line) where
   abbrev Later : Stage → Line → Type 0
@@ -297,22 +289,29 @@ read_held r b asked told is there = subst (λ (q : Register). (q.looked ≡ r.lo
     by told_of.NotConnected e = absurd (cc e)
     by told e = (refl, refl)
 
+-- the same copies are held where the same locks are
+in_same : (x y : Looked) (s t : List ℕ) → y ≡ x → t ≡ s → IsIn (holders_of x) s → IsIn (holders_of y) t
+in_same x y s t ex et k = rw (ex, et) k
+
 pub held_read : HeldRead
-held_read w m a b asked told took older at s is there h = subst (λ (stage : Stage). HoldsIn stage (noted_read b.0 asked told (length older) m) ((Ask a b asked told took, older) ∷ w)) (sym at) (record {
-  left_held = λ c n. absurd (cc n);
-  undone = λ c n. absurd (cc n);
-  did_held = rw (noted_is m.register (length older) b.0 asked told s.base.outside, left_by.0, left_by.1) before.did_held;
-})
+held_read w m a b asked told took older is s reads there h =
+    subst (λ (stage : Stage). HoldsIn stage (noted_read b.0 asked told (length older) m) ((Ask a b asked told took, older) ∷ w)) (sym is)
+    (record { left_held = λ c n. absurd (cc n); undone = λ c n. absurd (cc n); did_held = after_it })
   where
     left_by : ((after_outside m.register b.0 asked told).looked ≡ m.register.looked) × ((after_outside m.register b.0 asked told).held ≡ m.register.held)
-    left_by = read_held m.register b.0 asked told is there
+    left_by = read_held m.register b.0 asked told reads there
 
     before : HoldsIn Beginning m w
-    before = subst (λ (stage : Stage). HoldsIn stage m w) at h
+    before = subst (λ (stage : Stage). HoldsIn stage m w) is h
+
+    after_it : IsIn (holders_of (noted_ask m.register (length older) b.0 asked told).looked) (noted_ask m.register (length older) b.0 asked told).held
+    after_it =
+        subst (λ (q : Register). IsIn (holders_of q.looked) q.held) (sym (noted_is m.register (length older) b.0 asked told s.base.outside))
+        (in_same m.register.looked (after_outside m.register b.0 asked told).looked m.register.held (after_outside m.register b.0 asked told).held left_by.0 left_by.1 before.did_held)
 
 pub held_given_up : HeldGivenUp
-held_given_up w m at s none c h =
-    let q : m.register.post ≡ [] = subst (λ (stage : Stage). Posted stage m) at s.posted in
+held_given_up w m is s none c h =
+    let q : m.register.post ≡ [] = subst (λ (stage : Stage). Posted stage m) is s.posted in
     let nobody : member [] c ≡ true = rw q at h in absurd (cc nobody)
 
 -- ---- the end
@@ -325,7 +324,7 @@ some_posted n s h = lowest_in s (by s (majority_some n s h))
     by (x ∷ xs) e = refl
 
 pub acknowledged_unlocks : AcknowledgedUnlocks
-acknowledged_unlocks w m s h over done = at m.stage over h
+acknowledged_unlocks w m s h over done = go m.stage over h
   where
     posted : is_majority m.register.shape.n m.register.post ≡ true
     posted = (acknowledged_exactly m s).1 done
@@ -338,14 +337,14 @@ acknowledged_unlocks w m s h over done = at m.stage over h
     asked none held true e = refl
     asked none held false e = absurd (nobody m.register.held (lowest m.register.post) none (held e (lowest m.register.post) (some_posted m.register.shape.n m.register.post posted)))
 
-    at : (stage : Stage) → is_over stage m ≡ true → HoldsIn stage m w → has unlocks_any w ≡ true
-    at Closing e held = asked e held (has unlocks_any w) refl
-    at Locking e held = absurd (cc e)
-    at Looking e held = absurd (cc e)
-    at Beginning e held = absurd (cc e)
-    at Preparing e held = absurd (cc e)
-    at Applying e held = absurd (cc e)
-    at Posting e held = absurd (cc e)
+    go : (stage : Stage) → is_over stage m ≡ true → HoldsIn stage m w → has unlocks_any w ≡ true
+    go Closing e held = asked e held (has unlocks_any w) refl
+    go Locking e held = absurd (cc e)
+    go Looking e held = absurd (cc e)
+    go Beginning e held = absurd (cc e)
+    go Preparing e held = absurd (cc e)
+    go Applying e held = absurd (cc e)
+    go Posting e held = absurd (cc e)
 
 -- ---- parts
 either : (x y z : Bool) → (y ≡ true → z ≡ true) → (x || y) ≡ true → (x || z) ≡ true

@@ -1,12 +1,12 @@
 -- The sets of a transaction after one more brick was asked: who is still to be asked, who did it, and where the locks are held.
-use Rattle.std.proofs.Common.{◌≡◌, ◌⊎◌, inl, inr, ℕ, ◌<◌, ◌==◌, ◌&&◌, ◌||◌, not, Bool, true, false, List, [], refl, sym, ◌∙◌, arith, subst, Option, if◌then◌else◌}
-use Rattle.std.proofs.lemmas.Bool.Decides.{eqb_tells, nat_tests}
+use Rattle.std.proofs.Common.{◌≡◌, ◌⊎◌, inl, inr, ℕ, ◌==◌, ◌&&◌, ◌||◌, not, Bool, true, false, List, [], refl, sym, ◌∙◌, subst, Option, if◌then◌else◌}
+use Rattle.std.proofs.lemmas.Bool.Decides.{eqb_tells}
 use Rattle.afr_base.specs.Bricks.{IsIn, added, added_if, member, minus, removed}
-use Rattle.afr_base.specs.SetLemmas.{member_added, member_added_if, member_minus, member_removed}
+use Rattle.afr_base.specs.SetLemmas.{member_added, member_minus, member_removed}
 use Rattle.afr_object.specs.declared.entry.View.{View}
 use Rattle.afr_choice.specs.Looks.{with_look, without_look}
 use Rattle.afr_choice.specs.LooksLemmas.{holder_after_loss, holder_after_other_look, holder_after_other_loss}
-use Rattle.afr_choice.specs.Verdict.{holders_of}
+use Rattle.afr_choice.specs.Verdict.{holders_of, is_holder}
 use Rattle.afr_choice.specs.VerdictLemmas.{holders_below, member_holders}
 use Rattle.afr_choice.specs.declared.looked.Looked.{Looked}
 use Rattle.afr_second.specs.Held.{AreHeld}
@@ -24,9 +24,18 @@ left_one : (s asked : List ℕ) (b c : ℕ) → member (minus s (added b asked))
 left_one s asked b c h = by (b == c) refl (member asked c) refl (sym (member_minus s (added b asked) c) ∙ h)
   where
     by : (same : Bool) → (b == c) ≡ same → (before : Bool) → member asked c ≡ before → (not (member (added b asked) c) && member s c) ≡ true → ((b == c) ≡ false) × (member (minus s asked) c ≡ true)
-    by true e before f k = let in_added : member (added b asked) c ≡ true = member_added b asked c ∙ rw e refl in absurd (cc (rw in_added at k))
-    by false e true f k = let in_added : member (added b asked) c ≡ true = member_added b asked c ∙ rw (e, f) refl in absurd (cc (rw in_added at k))
-    by false e false f k = let out : member (added b asked) c ≡ false = member_added b asked c ∙ rw (e, f) refl in (e, member_minus s asked c ∙ rw f (rw out at k))
+    by true e before f k =
+        let known : member (added b asked) c ≡ true = member_added b asked c ∙ rw e refl in
+        let none : (not true && member s c) ≡ true = rw known at k in
+        absurd (cc none)
+    by false e true f k =
+        let known : member (added b asked) c ≡ true = member_added b asked c ∙ rw (e, f) refl in
+        let none : (not true && member s c) ≡ true = rw known at k in
+        absurd (cc none)
+    by false e false f k =
+        let out : member (added b asked) c ≡ false = member_added b asked c ∙ rw (e, f) refl in
+        let there : (not false && member s c) ≡ true = rw out at k in
+        (e, member_minus s asked c ∙ rw f there)
 
 -- another brick's lock is held as before
 stays_held : (gone : Bool) (b c : ℕ) (held : List ℕ) → (b == c) ≡ false → member held c ≡ true → member (held_after gone b held) c ≡ true
@@ -65,6 +74,10 @@ asked_more gone s asked before after held b k is_left done = record {
       | inr e ↦ (let other = e.0 in let same = new.0 in absurd (cc (other, same)))
     ]
 
+-- the same by sets that are these
+pub moved : (s s2 asked asked2 did did2 held held2 : List ℕ) → s2 ≡ s → asked2 ≡ asked → did2 ≡ did → held2 ≡ held → AreHeld (minus s asked) did held → AreHeld (minus s2 asked2) did2 held2
+moved s s2 asked asked2 did did2 held held2 es ea ed eh k = rw (es, ea, ed, eh) k
+
 -- nobody has done the next phase
 pub next_phase : (did asked later held : List ℕ) → IsIn did held → later ≡ [] → AreHeld (minus did asked) later held
 next_phase did asked later held did_held none = record {
@@ -96,17 +109,17 @@ pub looked_one : (answers gone : Bool) (b : ℕ) (view : Option View) (looked : 
 looked_one true gone b view looked stays c h = elim (eqb_tells b c) [
   | inl e ↦ inr (e.0, stays refl)
   | inr e ↦
-    (let other = e.1 in
-    let small = holders_below (with_look b view looked) c h in
-    inl (member_holders looked c small ∙ sym (holder_after_other_look b c view looked (λ f. other (sym f))) ∙ sym (member_holders (with_look b view looked) c small) ∙ h))
+      (let other = e.1 in
+      let small = holders_below (with_look b view looked) c h in
+      inl (member_holders looked c small ∙ sym (holder_after_other_look b c view looked (λ f. other (sym f))) ∙ sym (member_holders (with_look b view looked) c small) ∙ h))
 ]
 looked_one false gone b view looked stays c h = elim (eqb_tells b c) [
   | inl e ↦
-    (let small = holders_below (without_look b looked) c h in
-    let none : member (holders_of (without_look b looked)) c ≡ false = member_holders (without_look b looked) c small ∙ subst (λ (x : ℕ). Rattle.afr_choice.specs.Verdict.is_holder (without_look b looked) x ≡ false) e.1 (holder_after_loss b looked) in
-    absurd (cc (none, h)))
+      (let small = holders_below (without_look b looked) c h in
+      let none : member (holders_of (without_look b looked)) c ≡ false = member_holders (without_look b looked) c small ∙ subst (λ (x : ℕ). is_holder (without_look b looked) x ≡ false) e.1 (holder_after_loss b looked) in
+      absurd (cc (none, h)))
   | inr e ↦
-    (let other = e.1 in
-    let small = holders_below (without_look b looked) c h in
-    inl (member_holders looked c small ∙ sym (holder_after_other_loss b c looked (λ f. other (sym f))) ∙ sym (member_holders (without_look b looked) c small) ∙ h))
+      (let other = e.1 in
+      let small = holders_below (without_look b looked) c h in
+      inl (member_holders looked c small ∙ sym (holder_after_other_loss b c looked (λ f. other (sym f))) ∙ sym (member_holders (without_look b looked) c small) ∙ h))
 ]

@@ -154,7 +154,7 @@ module _ (laws : Laws) (p : Plan) (a : ActorId) (log : List Line) (servers : Lis
     hears : (w : Work) → IsWork w → WorkTells p c.command w (work a.0 log) → next_of (length log) w ≡ next.Ask b asked → WorkHears w p b.0 asked log s.given.answer
     hears Idle sound tells e = absurd tells
     hears (Lookup m) sound tells e = laws.telling.lookup_hears p m log a b asked s.given.answer s.given.took sound tells.1 e heard
-    hears (Write m) sound tells e = laws.telling.write_hears p c.command m log a b asked s.given.answer s.given.took sound tells e heard
+    hears (Write m) sound tells e = laws.telling.write_hears p c.command m log a b asked s.given.answer s.given.took sound tells.1 e heard
     hears (Entry m) sound tells e = laws.telling.entry_hears p c.command m log a b asked s.given.answer s.given.took sound tells e heard before.follows
     hears (Rename m) sound tells e = laws.telling.rename_hears p c.command m log a b asked s.given.answer s.given.took sound tells e heard before.follows
 

@@ -87,7 +87,7 @@ module _ (laws : Laws) (p : Plan) (a : ActorId) (log : List Line) (servers : Lis
       → Brings asked carried log (held_before p log)
   brings Idle met epochs c b asked carried e k = absurd c.tells
   brings (Lookup m) met epochs c b asked carried e k = subst (λ (l : Load). Brings asked l log (held_before p log)) (sym k) (laws.telling.lookup_brings m log (held_before p log) b asked e)
-  brings (Write m) met epochs c b asked carried e k = laws.telling.write_brings p c.command m log a b asked carried c.sound c.tells e k
+  brings (Write m) met epochs c b asked carried e k = laws.telling.write_brings p c.command m log a b asked carried c.sound c.tells.1 e k
   brings (Entry m) met epochs c b asked carried e k = laws.telling.entry_brings p c.command m log a b asked carried c.sound c.tells e k
   brings (Rename m) met epochs c b asked carried e k = laws.telling.rename_brings p c.command m log a b asked carried c.sound c.tells e k
 

@@ -86,7 +86,7 @@ module _ (paces : PaceLaws) (p : Plan) (a : ActorId) (log : List Line) (servers 
     among = one_among (choices_of s.given.answer (length log) x.work) s.heard.picked s.heard.hears.among
 
     rises : (asked : Request) → next_of (length log) x.work ≡ next.Ask b asked → (told : Told) (took : Bool) → IsRisingLine p (Ask a b asked told took) log
-    rises (request.Lock WorkDomain area) e told took = paces.rises p log c.command x.work a b area (length log) of client c.sound c.tells (noted_at x.met p a.0 log (register_of x.work) c.noted) k.queued e told took
+    rises (request.Lock WorkDomain area) e told took = paces.rises p log c.command x.work a b area (length log) of client c.present c.sound c.tells (noted_at x.met p a.0 log (register_of x.work) c.noted) k.queued e told took
     rises (request.Lock Heal area) e told took = tt
     rises (request.Unlock domain area) e told took = tt
     rises (request.Look g) e told took = tt

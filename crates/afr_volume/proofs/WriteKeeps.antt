@@ -114,7 +114,7 @@ module _ (laws : Laws) (p : Plan) (a : ActorId) (log : List Line) (servers : Lis
     made_known : (z : Work) → IsWork z → WorkTells p c.command z (work a.0 log) → next_of (length log) z ≡ next.Begin change → BeginsKnown (start_of p (name_bound p)) (by_position log) (length log) (Some begin_line)
     made_known Idle sound tells e = absurd tells
     made_known (Lookup m) sound tells e = absurd (no_begin m change e)
-    made_known (Write m) sound tells e = new_known p log a change (new_gfid (length log) change (laws.telling.makes_nothing p c.command m (work a.0 log) (length log) change sound tells e))
+    made_known (Write m) sound tells e = new_known p log a change (new_gfid (length log) change (laws.telling.makes_nothing p c.command m (work a.0 log) (length log) change sound tells.1 e))
     made_known (Entry m) sound tells e = new_known p log a change (laws.telling.makes_new m (length log) change sound e)
     made_known (Rename m) sound tells e = laws.telling.rename_known p c.command m log a change before.runnable.few (omega (arith, known.short laws p a log servers before)) before.honest before.lawful sound tells e
 

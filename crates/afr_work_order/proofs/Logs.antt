@@ -37,7 +37,7 @@ use Rattle.afr_work_order.proofs.Above.{work_above}
 use Rattle.afr_work_order.specs.Logs.{ClientRises, IsNotedAt, TellsLeadDown}
 use Rattle.afr_work_order.specs.Rising.{First, LeadsDownAt, Locks, Second}
 use Rattle.afr_works.specs.Work.{register_of}
-use Rattle.afr_works.specs.declared.work.Work.TheVariants.{Entry as EntryWork, Idle, Lookup, Write}
+use Rattle.afr_works.specs.declared.work.Work.TheVariants.{Entry as EntryWork, Idle, Lookup, Rename, Write}
 
 -- ---- a removal's two locks
 -- what the whole path has led to after no more than k names, its first k names have led to
@@ -94,6 +94,7 @@ pub tells_down : PathsLeadDown → TellsLeadDown
 tells_down paths p log command Idle a f client tells = tt
 tells_down paths p log command (Lookup m) a f client tells = tt
 tells_down paths p log command (Write m) a f client tells = tt
+tells_down paths p log command (Rename m) a f client tells = tt
 tells_down paths p log command (EntryWork m) a f client tells = go m.stage tells.stage
   where
     go : (stage : EntryStage) → TellsIn p command m.job stage m.walk (work a log) → LeadsDownAt stage
