@@ -42,7 +42,7 @@ use Rattle.afr_rename.specs.declared.paths.Paths.{Paths}
 use Rattle.afr_rename.specs.declared.stage.RenameStage.{RenameStage}
 use Rattle.afr_rename.specs.declared.stage.RenameStage.TheVariants.{Finding, Walking, Making, Removing, Ending}
 use Rattle.afr_rename_telling.specs.RenameLaws.{RenameAbout, RenameBegun, RenameBlames, RenameEnds, RenameKeepsName, RenameTellsMore}
-use Rattle.afr_rename_telling.specs.RenameTelling.{CanHear, Makes, Removes, RenameTells, TellsIn, command_of, old_dir, to_of}
+use Rattle.afr_rename_telling.specs.RenameTelling.{CanHear, CanHearMaking, Makes, Removes, RenameTells, TellsIn, command_of, old_dir, to_of}
 use Rattle.afr_rename_telling.proofs.Begins.{about_walks, blames_walks, ends_walks, more_walks}
 use Rattle.afr_rename_telling.proofs.EndsMaking.{making_ends}
 use Rattle.afr_rename_telling.proofs.EndsRemoving.{removing_ends}
@@ -116,7 +116,7 @@ more p c m lines a b request chosen heard took log sound k e can among = go m.st
     go (Making t found) s y e can among = by (is_done t) refl e can
       where
         by : (d : Bool) → is_done t ≡ d → (if d then next_change Locking (length log) (turned m.paths t) else next_under found (length log) (reads_new m.paths) t) ≡ next.Ask b request
-            → (if d then CanTell (old_dir m.paths) request (told_by heard) else CanHearUnder found t.stage p m.paths.second.object b.0 request log heard)
+            → CanHearMaking d found t.stage p m.paths b.0 request log heard
             → RenameTells p c (record { paths = m.paths; stage = if d then second_begun (told_by heard) (length log) m.paths t else making_after chosen found heard (length log) m.paths t }) ((Ask a b request (told_by heard) took, log) ∷ lines)
         by true f e can = record {
           shape = k.shape;

@@ -121,7 +121,7 @@ asks_there p x lines k all =
     subst (λ (q : Path). AsksAllOf p (asks_at q x.first.path (to_of x)) (asked_lines q x.first.path lines)) (sym k.found)
     (subst (λ (b : Bool). AsksAllOf p (if b then command.Create (to_of x) else command.Stat x.first.path) (if b then the_make x.first.path lines else the_walk x.first.path lines)) (sym (self (length x.first.path))) all)
 
-halves_else : (a b : Option Reply) → or_halves a b ≡ or_else a b
+pub halves_else : (a b : Option Reply) → or_halves a b ≡ or_else a b
 halves_else None b = refl
 halves_else (Some said) b = refl
 

@@ -66,7 +66,7 @@ last_new : (x : Paths) → last_of (to_of x) ≡ Some x.new_name
 last_new x = named_alike (record { 0 = 0 }) (record { 0 = 2 }) x.new_name (last_of (to_of x)) (named_is (Create x.new_name) x.second.path (record { 0 = 0 }) 0)
 
 -- a file that has a number keeps it
-keeps_number : (at : ℕ) (g : Gfid) → (g.0 == 0) ≡ false → gfid_at at g ≡ g
+pub keeps_number : (at : ℕ) (g : Gfid) → (g.0 == 0) ≡ false → gfid_at at g ≡ g
 keeps_number at g e = rw e refl
 
 module _ (p : Plan) (x : Paths) (t : Progress) (found : Found) (lines : Work) (a : ActorId) (log : List Line) (k : Makes p x t found lines) (sound : IsMaking x t found) where

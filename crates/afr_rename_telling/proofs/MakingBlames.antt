@@ -1,5 +1,6 @@
 -- Who is accused while the new name is made: what its part says of a post-op, the whole work says.
 use Rattle.std.proofs.Common.{◌≡◌, ℕ, ◌||◌, ◌==◌, Bool, true, false, List, [], ◌∷◌, ◌++◌, Option, Some, None, length, refl, sym, ap, ◌∙◌, subst, if◌then◌else◌}
+use Rattle.std.proofs.lemmas.List.{append-nil}
 use Rattle.afr_base.specs.Bricks.{below, is_nothing, member, minus}
 use Rattle.afr_base.specs.declared.ids.BrickId.{BrickId}
 use Rattle.afr_base.specs.declared.ids.Gfid.{Gfid}
@@ -35,6 +36,7 @@ use Rattle.afr_entry.specs.declared.stage.Found.TheVariants.{Unread, Fits, Refus
 use Rattle.afr_inode_telling.specs.WalkLaws.{IsUntouched}
 use Rattle.afr_entry_telling.specs.EntryTelling.{Goes, OnChange}
 use Rattle.afr_rename.specs.Under.{next_under}
+use Rattle.afr_second.proofs.Folds.{same_looks}
 use Rattle.afr_rename_telling.proofs.MakingParts.{among_front, changed_front, has_front}
 
 -- ---- lines before that have locked and begun nothing don't count
@@ -46,20 +48,8 @@ begun_front (x ∷ s) u n e = go x.0 (λ f. begun_front s u n f) e
     go (Begin a change) rest f = f
     go line rest f = rest f
 
-looked_anew : (g : Gfid) (line : Line) (v w : Looked) → locks g line ≡ true → looked_after g line v ≡ looked_after g line w
-looked_anew g (Ask a b (request.Lock WorkDomain area) told took) v w e = rw e refl
-looked_anew g line v w e = absurd (cc e)
-
-pub looked_front : (g : Gfid) (s u : Work) → has (locks g) s ≡ true → looked_by g (s ++ u) ≡ looked_by g s
-looked_front g [] u e = absurd (cc e)
-looked_front g (x ∷ s) u e = go (locks g x.0) refl e
-  where
-    rest : has (locks g) s ≡ true → looked_by g (s ++ u) ≡ looked_by g s
-    rest f = looked_front g s u f
-
-    go : (l : Bool) → locks g x.0 ≡ l → (l || has (locks g) s) ≡ true → looked_after g x.0 (looked_by g (s ++ u)) ≡ looked_after g x.0 (looked_by g s)
-    go true f h = looked_anew g x.0 (looked_by g (s ++ u)) (looked_by g s) f
-    go false f h = ap (looked_after g x.0) (rest h)
+looked_front : (g : Gfid) (s u : Work) → has (locks g) s ≡ true → looked_by g (s ++ u) ≡ looked_by g s
+looked_front g s u e = same_looks g s u [] e ∙ ap (looked_by g) (append-nil s)
 
 since_front : (s u : Work) → has locks_any u ≡ false → since locks_any (s ++ u) ≡ since locks_any s
 since_front [] u e = none u e

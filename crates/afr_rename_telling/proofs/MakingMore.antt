@@ -44,7 +44,6 @@ use Rattle.afr_write_telling.specs.WriteTelling.{CanTell}
 use Rattle.afr_write_telling.proofs.Goes.{asked_stage}
 use Rattle.afr_entry_telling.specs.EntryTelling.{CanHearUnder, CanName, Changes, Goes, NameTells, OnChange}
 use Rattle.afr_entry_telling.proofs.Changing.{IsLike, begins_at, name_goes, name_read}
-use Rattle.afr_entry_telling.proofs.Heard.{hears_name, hears_told}
 use Rattle.afr_entry_telling.proofs.Names.{Quiet, name_told, quiet}
 use Rattle.afr_entry_telling.proofs.Under.{name_more, place_more}
 use Rattle.afr_entry_telling.proofs.Words.{suits_view}
@@ -84,7 +83,7 @@ ruled_new x answer.NotConnected = refl
 ruled_new x answer.Failed = refl
 
 -- nothing is said against it by a brick that can't be reached
-given_new : (heard : Answer) → against_new heard ≡ None → told_by heard ≡ told_of.Given
+pub given_new : (heard : Answer) → against_new heard ≡ None → told_by heard ≡ told_of.Given
 given_new (answer.Entry None) e = refl
 given_new (answer.Entry (Some entry)) e = absurd (cc e)
 given_new heard e = absurd (cc e)
@@ -136,17 +135,17 @@ module _ (p : Plan) (x : Paths) (t : Progress) (found : Found) (lines : Work) (a
   stage_waits Closing b told took f = waits_unlocked p x lines k.on (Ask a b (request_at Closing t) told took) refl
 
   -- ---- a line that goes to the making
-  module _ (line : Line) (waits : is_again line lines ≡ false) (after : Progress) (then : Found) where
-    pub goes_to : AreLegs p.shape.n ((line, log) ∷ lines) → IsLooked p.shape.n (since_name ((line, log) ∷ lines)) → LocksLeg then dir.gfid ((line, log) ∷ make) ((line, log) ∷ lines) → Changes p c job dir after then ((line, log) ∷ make)
-        → Holds after ((line, log) ∷ make) → Makes p x after then ((line, log) ∷ lines)
+  module _ (line : Line) (waits : is_again line lines ≡ false) (after : Progress) (left : Found) where
+    pub goes_to : AreLegs p.shape.n ((line, log) ∷ lines) → IsLooked p.shape.n (since_name ((line, log) ∷ lines)) → LocksLeg left dir.gfid ((line, log) ∷ make) ((line, log) ∷ lines) → Changes p c job dir after left ((line, log) ∷ make)
+        → Holds after ((line, log) ∷ make) → Makes p x after left ((line, log) ∷ lines)
     goes_to legs last leg tells holds =
         let grown = sym (grows p x lines k.on line log waits) in
         let first = sym (all_first p x lines k.on line log waits) in
         record {
           on = first_more_on p x lines k.on line log waits legs;
           last_leg = subst (λ (w : Work). IsLooked p.shape.n (since_name w)) first last;
-          leg = subst (λ (w : Work). LocksLeg then dir.gfid w (first_part ((line, log) ∷ lines))) grown (subst (λ (w : Work). LocksLeg then dir.gfid ((line, log) ∷ make) w) first leg);
-          tells = subst (λ (w : Work). Changes p c job dir after then w) grown tells;
+          leg = subst (λ (w : Work). LocksLeg left dir.gfid w (first_part ((line, log) ∷ lines))) grown (subst (λ (w : Work). LocksLeg left dir.gfid ((line, log) ∷ make) w) first leg);
+          tells = subst (λ (w : Work). Changes p c job dir after left w) grown tells;
           holds = subst (λ (w : Work). Holds after w) grown holds;
         }
 
@@ -204,7 +203,7 @@ module _ (p : Plan) (x : Paths) (t : Progress) (found : Found) (lines : Work) (a
     leg_on Posting h m = h m
     leg_on Closing h m = h m
 
-    asks_leg : (then : Found) → ((copy : BrickId) → then ≡ Unread copy → has (locks dir.gfid) make ≡ true → has (locks dir.gfid) (since_name lines) ≡ true) → LocksLeg then dir.gfid ((asks, log) ∷ make) ((asks, log) ∷ lines)
+    asks_leg : (left : Found) → ((copy : BrickId) → left ≡ Unread copy → has (locks dir.gfid) make ≡ true → has (locks dir.gfid) (since_name lines) ≡ true) → LocksLeg left dir.gfid ((asks, log) ∷ make) ((asks, log) ∷ lines)
     asks_leg (Unread copy) was =
         subst (λ (y : Bool). has (locks dir.gfid) ((asks, log) ∷ make) ≡ true → has (locks dir.gfid) (if y then [] else (asks, log) ∷ since_name lines) ≡ true) (sym no_name)
         (by_stage (λ (r : Request). has (locks dir.gfid) ((Ask a b r told took, log) ∷ make) ≡ true → has (locks dir.gfid) ((Ask a b r told took, log) ∷ since_name lines) ≡ true) (leg_on t.stage (was copy refl)))

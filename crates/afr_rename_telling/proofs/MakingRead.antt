@@ -31,7 +31,7 @@ use Rattle.afr_entry.specs.declared.stage.Found.TheVariants.{Unread, Fits, Refus
 use Rattle.afr_inode_telling.proofs.ReadsMore.{asks_same}
 use Rattle.afr_entry_telling.specs.EntryTelling.{CanHearUnder, CanName, Changes, Goes}
 use Rattle.afr_entry_telling.proofs.Changing.{begins_at, name_goes, name_read}
-use Rattle.afr_entry_telling.proofs.Heard.{hears_name, hears_told}
+use Rattle.afr_entry_telling.proofs.Heard.{hears_name}
 use Rattle.afr_entry_telling.proofs.Names.{Quiet, name_told, quiet}
 use Rattle.afr_entry_telling.proofs.Under.{name_more, place_more}
 use Rattle.afr_rename.specs.Against.{against_new}
@@ -43,7 +43,7 @@ use Rattle.afr_second.specs.Held.{Holds}
 use Rattle.afr_second.proofs.HeldLemmas.{held_given_up, held_read}
 use Rattle.afr_write_telling.specs.WriteTelling.{CanTell}
 use Rattle.afr_rename_telling.specs.RenameTelling.{LocksLeg, Makes, to_of}
-use Rattle.afr_rename_telling.proofs.MakingLocks.{asks_own, begins_own, begun_held, begun_on}
+use Rattle.afr_rename_telling.proofs.MakingLocks.{asks_own, begins_own, begun_held, begun_on, hears_told}
 use Rattle.afr_rename_telling.proofs.MakingMore.{asked_makes, given_new, goes_to, last_now, legs_now, like, ruled_new}
 use Rattle.afr_rename_telling.proofs.MakingWalked.{waits_unlocked}
 
@@ -71,11 +71,11 @@ module _ (p : Plan) (x : Paths) (t : Progress) (lines : Work) (a : ActorId) (log
     abbrev noted : Progress
     noted = noted_read copy.0 (reads_new x) (told_by heard) (length log) t
 
-    abbrev Told : Option Refusal → Type 0
-    Told why = Changes p c job dir (settled why noted) (found_by why) ((reads, log) ∷ make)
+    abbrev Left : Option Refusal → Type 0
+    Left why = Changes p c job dir (settled why noted) (found_by why) ((reads, log) ∷ make)
 
-    told_name : CanName p dir copy.0 (reads_new x) log heard → Told (against_new heard)
-    told_name can = subst Told (ruled_new x heard)
+    told_name : CanName p dir copy.0 (reads_new x) log heard → Left (against_new heard)
+    told_name can = subst Left (ruled_new x heard)
         (name_read p job x.second make t k.tells.place k.tells.directory k.tells.unread a log copy sound.under.sound (like p x t (Unread copy) lines a log k sound) sound.under.reads k.tells.on.0 k.tells.name at_begin heard took
         (name_told p copy.0 dir.gfid x.new_name log heard can.answers))
 

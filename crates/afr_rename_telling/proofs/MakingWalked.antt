@@ -26,7 +26,8 @@ use Rattle.afr_inode_telling.proofs.Untouched.{touches_nothing}
 use Rattle.afr_rename.specs.declared.paths.Paths.{Paths}
 use Rattle.afr_rename_telling.specs.RenameTelling.{HasWalked, OnFirst, old_dir}
 use Rattle.afr_rename_telling.proofs.Cut.{asked_before, first_more, make_grows, make_stays, still_asked, still_first, upto_more, walk_stays}
-use Rattle.afr_rename_telling.proofs.MakingParts.{again_by, has_append, has_front, has_none_both, make_and_walk}
+use Rattle.afr_rename_telling.proofs.Looks.{make_and_walk}
+use Rattle.afr_rename_telling.proofs.MakingParts.{again_by, has_append, has_front}
 
 -- a look or a read is no unlock
 pub quiet_unlocks : IsQuiet unlocks_any

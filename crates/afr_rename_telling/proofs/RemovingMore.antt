@@ -51,7 +51,7 @@ use Rattle.afr_write_telling.specs.WriteTelling.{CanTell}
 use Rattle.afr_write_telling.proofs.Goes.{asked_stage}
 use Rattle.afr_entry_telling.specs.EntryTelling.{CanHearUnder, CanName, Goes, OnChange, WasGiven}
 use Rattle.afr_entry_telling.proofs.Changing.{begins_at}
-use Rattle.afr_entry_telling.proofs.Heard.{hears_name, hears_told}
+use Rattle.afr_entry_telling.proofs.Heard.{hears_name}
 use Rattle.afr_entry_telling.proofs.Names as name_told
 use Rattle.afr_entry_telling.proofs.Names.{NameTold, Quiet, quiet, upto_stays}
 use Rattle.afr_entry_telling.proofs.Words.{suits_view}
@@ -61,7 +61,7 @@ use Rattle.afr_rename.specs.Rename.{IsRemoving}
 use Rattle.afr_rename.specs.Under.{found_after, next_under, progress_after}
 use Rattle.afr_rename.specs.declared.paths.Paths.{Paths}
 use Rattle.afr_rename_telling.specs.RenameTelling.{ByFault, ByNothing, ByOther, Drops, LastFits, LedElsewhere, OldTells, Removes, old_dir}
-use Rattle.afr_rename_telling.proofs.MakingLocks.{asked_on, asks_own, begins_own, begun_on, of_change, settled_on}
+use Rattle.afr_rename_telling.proofs.MakingLocks.{asked_on, asks_own, begins_own, begun_on, hears_told, of_change, settled_on}
 use Rattle.afr_rename_telling.proofs.RemovingTurn.{has_made, removes_more}
 
 -- ---- what a line of the transaction leaves of the old name

@@ -140,9 +140,9 @@ made_stays p x lines line log again k =
     }
 
 -- with it a line goes to the removal
-pub removes_more : (p : Plan) (x : Paths) (lines : Work) (line : Line) (log : List Line) (after : Progress) (then : Found) → is_again line lines ≡ true → HasMade p x lines → LastFits then p x ((line, log) ∷ lines)
-    → Drops p x after then ((line, log) ∷ the_removal x.first.path lines) → Removes p x after then ((line, log) ∷ lines)
-removes_more p x lines line log after then again k last tells =
+pub removes_more : (p : Plan) (x : Paths) (lines : Work) (line : Line) (log : List Line) (after : Progress) (left : Found) → is_again line lines ≡ true → HasMade p x lines → LastFits left p x ((line, log) ∷ lines)
+    → Drops p x after left ((line, log) ∷ the_removal x.first.path lines) → Removes p x after left ((line, log) ∷ lines)
+removes_more p x lines line log after left again k last tells =
     let m = made_stays p x lines line log again k in
     record {
       walked = m.walked;
@@ -154,7 +154,7 @@ removes_more p x lines line log after then again k last tells =
       passed = m.done.passed;
       whole = m.done.whole;
       last = last;
-      tells = subst (λ (w : Work). Drops p x after then w) (sym (removal_grows x.first.path (line, log) lines k.walked.all again)) tells;
+      tells = subst (λ (w : Work). Drops p x after left w) (sym (removal_grows x.first.path (line, log) lines k.walked.all again)) tells;
     }
 
 pub has_made : (p : Plan) (x : Paths) (t : Progress) (found : Found) (lines : Work) → Removes p x t found lines → HasMade p x lines
