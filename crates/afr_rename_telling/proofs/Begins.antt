@@ -28,7 +28,7 @@ use Rattle.afr_inode_telling.proofs.Walking.{walk_tells_first}
 use Rattle.afr_transaction_tells.specs.About.{BlamesNext}
 use Rattle.afr_transaction_tells.specs.Laws.{IsNextLine}
 use Rattle.afr_rename.specs.Paths.{front, last}
-use Rattle.afr_rename.specs.Rename.{IsRename, Renaming, answered, choices_at, next_at}
+use Rattle.afr_rename.specs.Rename.{IsRename, answered, choices_at, next_at}
 use Rattle.afr_rename.specs.declared.paths.Paths.{Paths}
 use Rattle.afr_rename.specs.declared.stage.RenameStage.{RenameStage}
 use Rattle.afr_rename.specs.declared.stage.RenameStage.TheVariants.{Finding, Walking, Ending}

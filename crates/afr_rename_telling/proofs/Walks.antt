@@ -1,15 +1,13 @@
 -- The walks of a rename: the looks since a name, and what a line of a walk is about.
-use Rattle.std.proofs.Common.{◌≡◌, ℕ, ◌+◌, ◌-◌, ◌<◌, ◌≤◌, ◌==◌, ◌||◌, nat_le, Bool, true, false, List, [], ◌∷◌, Some, None, length, refl, sym, ap, ◌∙◌, subst, arith, if◌then◌else◌}
+use Rattle.std.proofs.Common.{◌≡◌, ℕ, ◌+◌, ◌<◌, ◌≤◌, ◌==◌, ◌||◌, nat_le, Bool, true, false, List, [], ◌∷◌, Some, None, length, refl, sym, ◌∙◌, subst, arith, if◌then◌else◌}
 use Rattle.std.proofs.lemmas.Bool.Decides.{nat_tests}
-use Rattle.afr_base.specs.Bricks.{added, below, is_nothing, lowest, member}
+use Rattle.afr_base.specs.Bricks.{below, is_nothing, lowest, member}
 use Rattle.afr_base.specs.SetLemmas.{below_all, member_added, none_left}
 use Rattle.afr_base.specs.declared.ids.ActorId.{ActorId}
 use Rattle.afr_base.specs.declared.ids.BrickId.{BrickId}
 use Rattle.afr_base.specs.declared.ids.Gfid.{Gfid}
 use Rattle.afr_base.specs.declared.ids.Kind.TheVariants.{Names}
-use Rattle.afr_base.specs.declared.ids.NameId.{NameId}
 use Rattle.afr_base.specs.declared.ids.Shape.{Shape}
-use Rattle.afr_base.specs.declared.ids.What.TheVariants.{File}
 use Rattle.afr_choice.specs.Verdict.{verdict_of}
 use Rattle.afr_choice.specs.declared.verdict.Verdict.{Verdict}
 use Rattle.afr_choice.specs.declared.verdict.Verdict.TheVariants.{Short, Bare, Split, Sources}
@@ -31,28 +29,28 @@ use Rattle.afr_model.specs.Answered.{IsAbout}
 use Rattle.afr_model.specs.Following.{KeepsToCommand}
 use Rattle.afr_model.specs.Keeping.{KeepsTo}
 use Rattle.afr_model.specs.Parts.{Part, Walks, Makes, is_again, names_asked, part_at, the_make, the_walk}
-use Rattle.afr_model.specs.Renamed.{AreLegs, IsOfPart, KeepsToPart, LegEnds, since_name}
+use Rattle.afr_model.specs.Renamed.{AreLegs, IsOfPart, KeepsToPart, since_name}
 use Rattle.afr_model.specs.Replied.{IsOf}
-use Rattle.afr_model.specs.Showing.{At, among, has, looking, path_by}
-use Rattle.afr_model.specs.Skipped.{IsLooked, SkipsNothing}
-use Rattle.afr_model.specs.Standing.{asks_name, locks_any}
+use Rattle.afr_model.specs.Showing.{among, looking}
+use Rattle.afr_model.specs.Skipped.{IsLooked}
+use Rattle.afr_model.specs.Standing.{locks_any}
 use Rattle.afr_walk.specs.Looks.{heard_look, left_to_look, no_look}
-use Rattle.afr_walk.specs.Walk.{IsStep, IsWalk, after_looks, is_walking, named, next_at, next_in, noted, step_at, verdict_step, walked, walked_at}
+use Rattle.afr_walk.specs.Walk.{IsStep, IsWalk, after_looks, is_walking, named, next_at, next_in, noted, verdict_step, walked, walked_at}
 use Rattle.afr_walk.specs.declared.looks.Looks.{Looks}
 use Rattle.afr_walk.specs.declared.stop.Stop.TheVariants as stop
 use Rattle.afr_walk.specs.declared.walk.Walk.{Walk}
 use Rattle.afr_walk.specs.declared.walk.WalkStep.{WalkStep}
 use Rattle.afr_walk.specs.declared.walk.WalkStep.TheVariants.{Looking, Naming, Arrived, Stopped}
 use Rattle.afr_entry.specs.declared.job.EntryJob.TheVariants.{Create}
-use Rattle.afr_inode_telling.specs.Lines.{LookedAll, LookedBut, OnlyReads}
-use Rattle.afr_inode_telling.specs.WalkTelling.{GoesOn, TellsAt}
+use Rattle.afr_inode_telling.specs.Lines.{LookedAll, OnlyReads}
+use Rattle.afr_inode_telling.specs.WalkTelling.{TellsAt}
 use Rattle.afr_inode_telling.proofs.Quiet.{all_from_but, looked_but_more, looking_more}
 use Rattle.afr_inode_telling.proofs.Untouched.{touches_nothing}
 use Rattle.afr_inode_telling.proofs.WalksEnd as walk_ends
 use Rattle.afr_transaction_tells.specs.About.{BlamesNext}
 use Rattle.afr_entry_telling.proofs.Begins.{about_walk}
 use Rattle.afr_rename.specs.declared.paths.Paths.{Paths}
-use Rattle.afr_rename_telling.specs.RenameTelling.{Finds, IsLeg, LegGoes, OnFirst, WalksOn, command_of, old_dir, to_of}
+use Rattle.afr_rename_telling.specs.RenameTelling.{Finds, IsLeg, LegGoes, WalksOn, command_of, to_of}
 use Rattle.afr_rename_telling.proofs.Cut.{line_makes, line_walks, none_again, not_again, upto_all}
 
 -- ---- what a step of a walk leaves

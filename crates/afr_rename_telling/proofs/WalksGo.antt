@@ -1,9 +1,8 @@
 -- After one line more of a walk the lines of a rename show where it stands.
-use Rattle.std.proofs.Common.{◌≡◌, ℕ, ◌≤◌, Bool, true, false, List, [], ◌∷◌, ◌++◌, length, refl, sym, ap, ◌∙◌, subst}
+use Rattle.std.proofs.Common.{◌≡◌, ℕ, Bool, true, List, [], ◌∷◌, ◌++◌, length, refl, sym, ap, ◌∙◌, subst}
 use Rattle.afr_base.specs.declared.ids.ActorId.{ActorId}
 use Rattle.afr_base.specs.declared.ids.BrickId.{BrickId}
 use Rattle.afr_base.specs.declared.ids.NameId.{NameId}
-use Rattle.afr_base.specs.declared.ids.Shape.{Shape}
 use Rattle.afr_lines.specs.Told.{told_by}
 use Rattle.afr_lines.specs.Work.{Work}
 use Rattle.afr_lines.specs.declared.answer.Answer.{Answer}
@@ -14,25 +13,24 @@ use Rattle.afr_lines.specs.declared.request.Request.{Request}
 use Rattle.afr_plan.specs.declared.command.Command.{Command}
 use Rattle.afr_plan.specs.declared.command.Command.TheVariants as command
 use Rattle.afr_plan.specs.declared.plan.Plan.{Plan}
-use Rattle.afr_model.specs.Parts.{the_make, the_walk}
+use Rattle.afr_model.specs.Parts.{the_make}
 use Rattle.afr_model.specs.Renamed.{AreLegs}
 use Rattle.afr_walk.specs.Choosing.{IsAmong}
-use Rattle.afr_walk.specs.Walk.{IsWalk, choices_of, is_walking, next_in, walk_from, walked}
+use Rattle.afr_walk.specs.Walk.{choices_of, is_walking, next_in, walked}
 use Rattle.afr_walk.specs.declared.walk.Walk.{Walk}
 use Rattle.afr_entry.specs.Entry.{after_walk}
 use Rattle.afr_entry.specs.declared.job.EntryJob.TheVariants.{Create}
 use Rattle.afr_inode_telling.specs.Lines.{CanAnswer, OnlyReads}
-use Rattle.afr_inode_telling.specs.WalkTelling.{WalkTells}
 use Rattle.afr_inode_telling.proofs.ReadsMore.{asks_same}
 use Rattle.afr_inode_telling.proofs.Walking.{path_kept, walk_tells_more}
 use Rattle.afr_entry_telling.specs.EntryTelling as entry
-use Rattle.afr_entry_telling.specs.EntryTelling.{EntryTells, command_of as job_command}
+use Rattle.afr_entry_telling.specs.EntryTelling.{command_of as job_command}
 use Rattle.afr_entry_telling.proofs.Walks.{walks_more}
 use Rattle.afr_rename.specs.Paths.{IsPaths, first_walked, second_walked}
 use Rattle.afr_rename.specs.Rename.{after_first, after_second}
 use Rattle.afr_rename.specs.declared.paths.Paths.{Paths}
 use Rattle.afr_rename.proofs.RenameLemmas.{first_paths}
-use Rattle.afr_rename_telling.specs.RenameTelling.{CanFind, Finds, OnFirst, RenameTells, WalksOn, command_of, to_of, waiting}
+use Rattle.afr_rename_telling.specs.RenameTelling.{CanFind, Finds, IsLeg, OnFirst, RenameTells, WalksOn, command_of, to_of}
 use Rattle.afr_rename_telling.proofs.Cut.{first_all, make_grows, make_waits, walk_grows}
 use Rattle.afr_rename_telling.proofs.MakingWalked.{first_more_on}
 use Rattle.afr_rename_telling.proofs.Walks.{finds_again, finds_walk, legs_more, not_all_asked, only_of, walks_again}

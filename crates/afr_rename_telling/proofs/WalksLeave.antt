@@ -1,38 +1,23 @@
 -- Where its walks leave a rename: on the way, with the locks of the new name next, or at its end.
-use Rattle.std.proofs.Common.{◌≡◌, ℕ, ◌+◌, ◌-◌, ◌<◌, ◌≤◌, ◌==◌, nat_le, Bool, true, false, List, [], ◌∷◌, ◌++◌, Option, Some, None, length, refl, sym, ap, ◌∙◌, subst, arith, if◌then◌else◌}
+use Rattle.std.proofs.Common.{◌≡◌, ℕ, ◌==◌, nat_le, Bool, true, false, [], length, refl, sym, ap, ◌∙◌, subst, arith, if◌then◌else◌}
 use Rattle.std.proofs.lemmas.Bool.Decides.{nat_tests}
-use Rattle.afr_base.specs.declared.ids.ActorId.{ActorId}
-use Rattle.afr_base.specs.declared.ids.BrickId.{BrickId}
 use Rattle.afr_base.specs.declared.ids.Gfid.{Gfid}
-use Rattle.afr_base.specs.declared.ids.NameId.{NameId}
-use Rattle.afr_base.specs.declared.ids.Shape.{Shape}
 use Rattle.afr_base.specs.declared.ids.What.{What}
 use Rattle.afr_base.specs.declared.ids.What.TheVariants.{File, Dir}
-use Rattle.afr_lines.specs.Told.{told_by}
 use Rattle.afr_lines.specs.Work.{Work}
-use Rattle.afr_lines.specs.declared.answer.Answer.{Answer}
-use Rattle.afr_lines.specs.declared.answer.Told.{Told}
-use Rattle.afr_lines.specs.declared.line.Line.{Line}
-use Rattle.afr_lines.specs.declared.line.Line.TheVariants.{Ask}
-use Rattle.afr_lines.specs.declared.line.Next.TheVariants as next
-use Rattle.afr_lines.specs.declared.reply.Reply.{Reply}
 use Rattle.afr_lines.specs.declared.reply.Reply.TheVariants as reply
-use Rattle.afr_lines.specs.declared.request.Request.{Request}
 use Rattle.afr_object.specs.Tables.{is_dir, object_of}
 use Rattle.afr_object.specs.declared.change.Change.{Change}
-use Rattle.afr_object.specs.declared.entry.Entry.{Entry}
-use Rattle.afr_plan.specs.declared.command.Command.{Command}
 use Rattle.afr_plan.specs.declared.command.Command.TheVariants as command
 use Rattle.afr_plan.specs.declared.plan.Plan.{Plan}
-use Rattle.afr_model.specs.Parts.{names_asked, the_make, the_walk}
-use Rattle.afr_model.specs.Renamed.{AreLegs, IsRenamed, since_name}
-use Rattle.afr_model.specs.Showing.{Path, At, has, path_by}
+use Rattle.afr_model.specs.Parts.{names_asked, the_make}
+use Rattle.afr_model.specs.Renamed.{AreLegs, since_name}
+use Rattle.afr_model.specs.Showing.{At, has}
 use Rattle.afr_model.specs.Skipped.{IsLooked, SkipsNothing}
 use Rattle.afr_model.specs.Standing.{locks_any}
-use Rattle.afr_walk.specs.Choosing.{IsAmong}
 use Rattle.afr_walk.specs.Looks.{no_look}
 use Rattle.afr_walk.specs.Stops.{reply_of}
-use Rattle.afr_walk.specs.Walk.{IsWalk, choices_of, is_walking, next_in, root_entry, walk_from, walked}
+use Rattle.afr_walk.specs.Walk.{root_entry, walked}
 use Rattle.afr_walk.specs.declared.stop.Stop.{Stop}
 use Rattle.afr_walk.specs.declared.stop.Stop.TheVariants as stop
 use Rattle.afr_walk.specs.declared.walk.Walk.{Walk}
@@ -41,31 +26,27 @@ use Rattle.afr_walk.specs.declared.walk.WalkStep.TheVariants as walking
 use Rattle.afr_transaction.specs.Progress.{starting}
 use Rattle.afr_entry.specs.Entry.{after_step, after_walk}
 use Rattle.afr_entry.specs.Job.{change_of}
-use Rattle.afr_entry.specs.declared.job.EntryJob.{EntryJob}
 use Rattle.afr_entry.specs.declared.job.EntryJob.TheVariants.{Create}
 use Rattle.afr_entry.specs.declared.stage.EntryStage.TheVariants.{Changing, Ending as EntryEnding}
 use Rattle.afr_entry.specs.declared.stage.Found.TheVariants.{Unread}
-use Rattle.afr_inode_telling.specs.Lines.{CanAnswer, LookedAll, OnlyReads}
+use Rattle.afr_inode_telling.specs.Lines.{LookedAll, OnlyReads}
 use Rattle.afr_inode_telling.specs.WalkLaws.{HasArrived}
-use Rattle.afr_inode_telling.specs.WalkTelling.{GoesOn, TellsAt, WalkTells}
-use Rattle.afr_inode_telling.proofs.ReadsMore.{asks_same}
+use Rattle.afr_inode_telling.specs.WalkTelling.{GoesOn, TellsAt}
 use Rattle.afr_inode_telling.proofs.Untouched.{touches_nothing}
-use Rattle.afr_inode_telling.proofs.Walking.{path_kept, walk_tells_first, walk_tells_more}
+use Rattle.afr_inode_telling.proofs.Walking.{walk_tells_first}
 use Rattle.afr_inode_telling.proofs.WalksEnd.{arrives}
 use Rattle.afr_entry_telling.specs.EntryTelling as entry
-use Rattle.afr_entry_telling.specs.EntryTelling.{EntryTells, Goes, HoldsName, command_of as job_command}
-use Rattle.afr_entry_telling.proofs.Begins.{IsOnWay, moved}
-use Rattle.afr_entry_telling.proofs.Walks.{walks_more}
-use Rattle.afr_rename.specs.Paths.{IsPaths, first_walked, making_of, second_walked}
+use Rattle.afr_entry_telling.specs.EntryTelling.{Goes, HoldsName}
+use Rattle.afr_entry_telling.proofs.Begins.{moved}
+use Rattle.afr_rename.specs.Paths.{IsPaths, making_of}
 use Rattle.afr_rename.specs.Rename.{after_first, after_second, first_left, second_left, unread}
 use Rattle.afr_rename.specs.declared.paths.Paths.{Paths}
-use Rattle.afr_rename.specs.declared.stage.RenameStage.TheVariants.{Finding, Walking, Making, Ending}
-use Rattle.afr_rename.proofs.RenameLemmas.{first_paths}
-use Rattle.afr_rename_telling.specs.RenameTelling.{CanFind, Finds, HasWalked, IsLeg, LegGoes, OnFirst, RenameTells, TellsIn, WalksOn, command_of, to_of, waiting}
-use Rattle.afr_rename_telling.proofs.Cut.{first_all, make_grows, make_waits, none_again, walk_grows}
+use Rattle.afr_rename.specs.declared.stage.RenameStage.TheVariants.{Making, Ending}
+use Rattle.afr_rename_telling.specs.RenameTelling.{HasWalked, IsLeg, LegGoes, OnFirst, TellsIn, to_of, waiting}
+use Rattle.afr_rename_telling.proofs.Cut.{first_all, none_again}
 use Rattle.afr_rename_telling.proofs.WalkEnds.{first_directory, first_stopped, reads_skip_nothing, second_ended}
-use Rattle.afr_rename_telling.proofs.Walks.{finds_again, finds_walk, is_looked, leg_begins, legs_more, not_all_asked, only_of, walks_again}
-use Rattle.afr_rename_telling.proofs.WalksMore.{HasLed, Stands, asked_more, is_stopped, led_more, on_way_more}
+use Rattle.afr_rename_telling.proofs.Walks.{is_looked, leg_begins}
+use Rattle.afr_rename_telling.proofs.WalksMore.{HasLed, Stands, is_stopped}
 
 -- no walk stops half way of a rename
 no_half : (why : Stop) → reply_of why ≡ reply.Half → ⊥

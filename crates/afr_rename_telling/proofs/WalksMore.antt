@@ -1,5 +1,5 @@
 -- What the lines of a rename show after a line of one of its walks.
-use Rattle.std.proofs.Common.{◌≡◌, ◌≢◌, ◌⊎◌, ℕ, ◌+◌, ◌-◌, ◌<◌, ◌≤◌, ◌==◌, nat_le, Bool, true, false, List, [], ◌∷◌, ◌++◌, Option, Some, None, length, refl, sym, ap, ◌∙◌, subst, arith, if◌then◌else◌, inl, inr}
+use Rattle.std.proofs.Common.{◌≡◌, ◌≢◌, ◌⊎◌, ℕ, ◌+◌, ◌-◌, ◌<◌, ◌==◌, nat_le, Bool, true, false, List, [], ◌∷◌, Option, Some, None, length, refl, sym, ap, ◌∙◌, subst, arith, if◌then◌else◌, inl, inr}
 use Rattle.std.proofs.lemmas.Bool.Decides.{nat_tests, eqb_tells}
 use Rattle.afr_base.specs.Bricks.{is_nothing}
 use Rattle.afr_base.specs.declared.ids.ActorId.{ActorId}
@@ -8,7 +8,7 @@ use Rattle.afr_base.specs.declared.ids.Gfid.{Gfid}
 use Rattle.afr_base.specs.declared.ids.Kind.TheVariants.{Names}
 use Rattle.afr_base.specs.declared.ids.NameId.{NameId}
 use Rattle.afr_base.specs.declared.ids.What.{What}
-use Rattle.afr_base.specs.declared.ids.What.TheVariants.{File, Dir}
+use Rattle.afr_base.specs.declared.ids.What.TheVariants.{Dir}
 use Rattle.afr_choice.specs.Verdict.{verdict_of}
 use Rattle.afr_choice.specs.declared.verdict.Verdict.{Verdict}
 use Rattle.afr_choice.specs.declared.verdict.Verdict.TheVariants.{Short, Bare, Split, Sources}
@@ -26,11 +26,10 @@ use Rattle.afr_plan.specs.declared.command.Command.TheVariants as command
 use Rattle.afr_plan.specs.declared.plan.Plan.{Plan}
 use Rattle.afr_model.specs.Parts.{names_asked, the_make, the_walk, upto_names}
 use Rattle.afr_model.specs.Renamed.{AreLegs, since_name}
-use Rattle.afr_model.specs.Showing.{Path, At, NoName, Untold, one_name, path_by}
+use Rattle.afr_model.specs.Showing.{Path, At, NoName, Untold, path_by}
 use Rattle.afr_model.specs.Tables.{entry_at, holds}
-use Rattle.afr_walk.specs.Choosing.{IsAmong}
 use Rattle.afr_walk.specs.Looks.{heard_look, left_to_look, no_look}
-use Rattle.afr_walk.specs.Walk.{IsStep, IsWalk, choices_of, is_walking, name_in, named, next_at, next_in, noted, step_at, verdict_step, walked, walked_at}
+use Rattle.afr_walk.specs.Walk.{IsStep, is_walking, name_in, named, next_at, next_in, noted, step_at, verdict_step, walked_at}
 use Rattle.afr_walk.specs.declared.looks.Looks.{Looks}
 use Rattle.afr_walk.specs.declared.stop.Stop.{Stop}
 use Rattle.afr_walk.specs.declared.stop.Stop.TheVariants as stop

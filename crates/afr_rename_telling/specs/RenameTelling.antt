@@ -1,5 +1,5 @@
 -- What the lines of a rename show, part by part, and what its bricks may tell.
-use Rattle.std.specs.Prelude.{◌≡◌, ℕ, ◌-◌, ◌==◌, nat_le, true, false, List, [], ◌∷◌, ◌++◌, Option, Some, None, length, if◌then◌else◌}
+use Rattle.std.specs.Prelude.{◌≡◌, ℕ, ◌-◌, ◌==◌, nat_le, Bool, true, false, List, [], ◌∷◌, ◌++◌, Option, Some, None, length}
 use Rattle.afr_base.specs.Bricks.{member}
 use Rattle.afr_base.specs.declared.ids.Gfid.{Gfid}
 use Rattle.afr_base.specs.declared.ids.NameId.{NameId}
@@ -182,10 +182,15 @@ pub record CanFind (p : Plan) (b : ℕ) (request : Request) (log : List Line) (h
   pub answers : CanAnswer p b request log heard
   pub numbered : (entry : Entry) → heard ≡ answer.Entry (Some entry) → (entry.gfid.0 == 0) ≡ false
 
+-- what it may answer under the locks of the new name; where these are released, that is the old name's lock
+abbrev pub CanHearMaking : Bool → Found → Stage → Plan → Paths → ℕ → Request → List Line → Answer → Type 0
+CanHearMaking true found stage p x b request log heard = CanTell (old_dir x) request (told_by heard)
+CanHearMaking false found stage p x b request log heard = CanHearUnder found stage p x.second.object b request log heard
+
 -- what it may answer, by the stage
 abbrev pub CanHear : RenameStage → Plan → Paths → ℕ → Request → List Line → Answer → Type 0
 CanHear Finding p x b request log heard = CanFind p b request log heard
 CanHear Walking p x b request log heard = CanAnswer p b request log heard
-CanHear (Making t found) p x b request log heard = if is_done t then CanTell (old_dir x) request (told_by heard) else CanHearUnder found t.stage p x.second.object b request log heard
+CanHear (Making t found) p x b request log heard = CanHearMaking (is_done t) found t.stage p x b request log heard
 CanHear (Removing t found) p x b request log heard = CanHearUnder found t.stage p (old_dir x) b request log heard
 CanHear (Ending said) p x b request log heard = Unit {0}
