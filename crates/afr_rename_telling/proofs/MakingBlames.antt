@@ -1,27 +1,21 @@
 -- Who is accused while the new name is made: what its part says of a post-op, the whole work says.
-use Rattle.std.proofs.Common.{◌≡◌, ℕ, ◌||◌, ◌==◌, Bool, true, false, List, [], ◌∷◌, ◌++◌, Option, Some, None, length, refl, sym, ap, ◌∙◌, subst, if◌then◌else◌}
+use Rattle.std.proofs.Common.{◌≡◌, ℕ, ◌||◌, Bool, true, false, List, [], ◌∷◌, ◌++◌, Some, refl, sym, ap, ◌∙◌, subst, if◌then◌else◌}
 use Rattle.std.proofs.lemmas.List.{append-nil}
 use Rattle.afr_base.specs.Bricks.{below, is_nothing, member, minus}
 use Rattle.afr_base.specs.declared.ids.BrickId.{BrickId}
 use Rattle.afr_base.specs.declared.ids.Gfid.{Gfid}
 use Rattle.afr_base.specs.declared.ids.Kind.{Kind}
 use Rattle.afr_choice.specs.declared.looked.Looked.{Looked}
-use Rattle.afr_lines.specs.Areas.{object_of_area}
 use Rattle.afr_lines.specs.Work.{Work}
 use Rattle.afr_lines.specs.declared.line.Line.{Line}
-use Rattle.afr_lines.specs.declared.line.Line.TheVariants.{Ask, Begin}
-use Rattle.afr_lines.specs.declared.line.Next.{Next}
+use Rattle.afr_lines.specs.declared.line.Line.TheVariants.{Begin}
 use Rattle.afr_lines.specs.declared.line.Next.TheVariants as next
 use Rattle.afr_lines.specs.declared.request.Request.{Request}
-use Rattle.afr_lines.specs.declared.request.Request.TheVariants as request
-use Rattle.afr_range_locks.specs.declared.domain.Domain.TheVariants.{Work as WorkDomain}
 use Rattle.afr_object.specs.Tables.{object_of}
-use Rattle.afr_object.specs.declared.change.Change.{Change}
 use Rattle.afr_plan.specs.declared.plan.Plan.{Plan}
 use Rattle.afr_model.specs.Blamed.{IsBlaming, missing}
-use Rattle.afr_model.specs.Parts.{the_make, the_walk}
-use Rattle.afr_model.specs.Showing.{among, applied_at, begins_attempt, begun_after, begun_by, has, locks, looked_after, looked_by, posting}
-use Rattle.afr_model.specs.Standing.{change_by, locks_any, since, suffices}
+use Rattle.afr_model.specs.Showing.{among, applied_at, begins_attempt, begun_after, begun_by, has, locks, looked_by, posting}
+use Rattle.afr_model.specs.Standing.{locks_any, since, suffices}
 use Rattle.afr_transaction.specs.Outcome.{reply_of}
 use Rattle.afr_transaction.specs.Progress.{Progress, asks, is_beginning, is_over, next_at as next_change}
 use Rattle.afr_transaction.specs.Sound.{Sound}
@@ -34,7 +28,7 @@ use Rattle.afr_entry.specs.Job.{reply_to}
 use Rattle.afr_entry.specs.declared.stage.Found.{Found}
 use Rattle.afr_entry.specs.declared.stage.Found.TheVariants.{Unread, Fits, Refused}
 use Rattle.afr_inode_telling.specs.WalkLaws.{IsUntouched}
-use Rattle.afr_entry_telling.specs.EntryTelling.{Goes, OnChange}
+use Rattle.afr_entry_telling.specs.EntryTelling.{OnChange}
 use Rattle.afr_rename.specs.Under.{next_under}
 use Rattle.afr_second.proofs.Folds.{same_looks}
 use Rattle.afr_rename_telling.proofs.MakingParts.{among_front, changed_front, has_front}

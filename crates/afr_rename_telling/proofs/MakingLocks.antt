@@ -1,5 +1,5 @@
 -- Under the locks of a name: what the lines of a rename's transaction show after one more.
-use Rattle.std.proofs.Common.{◌≡◌, ℕ, Bool, true, false, List, ◌∷◌, Option, Some, None, length, refl, sym, ap, ◌∙◌, subst, if◌then◌else◌}
+use Rattle.std.proofs.Common.{◌≡◌, ℕ, Bool, true, false, List, ◌∷◌, Option, Some, None, length, refl, sym, ap, subst, if◌then◌else◌}
 use Rattle.afr_base.specs.declared.ids.ActorId.{ActorId}
 use Rattle.afr_base.specs.declared.ids.BrickId.{BrickId}
 use Rattle.afr_discipline.specs.Tests.{fits_view}
@@ -19,7 +19,7 @@ use Rattle.afr_object.specs.declared.entry.View.{View}
 use Rattle.afr_plan.specs.declared.plan.Plan.{Plan}
 use Rattle.afr_model.specs.Parts.{unlocks_any}
 use Rattle.afr_model.specs.Showing.{has}
-use Rattle.afr_model.specs.Standing.{asks_name, locks_any}
+use Rattle.afr_model.specs.Standing.{asks_name}
 use Rattle.afr_transaction.specs.Between.{noted_read}
 use Rattle.afr_transaction.specs.Progress.{Progress, fed, is_beginning, is_over, next_at as next_change, request_at}
 use Rattle.afr_transaction.specs.Sound.{Sound}

@@ -1,5 +1,5 @@
 -- While the new name is locked, read and made: what the lines show after one more.
-use Rattle.std.proofs.Common.{◌≡◌, ℕ, ◌||◌, Bool, true, false, List, [], ◌∷◌, Option, Some, None, length, refl, sym, ap, ◌∙◌, subst, if◌then◌else◌}
+use Rattle.std.proofs.Common.{◌≡◌, Bool, true, false, List, [], ◌∷◌, Option, Some, None, length, refl, sym, ap, ◌∙◌, subst, if◌then◌else◌}
 use Rattle.afr_base.specs.declared.ids.ActorId.{ActorId}
 use Rattle.afr_base.specs.declared.ids.BrickId.{BrickId}
 use Rattle.afr_base.specs.declared.ids.Gfid.{Gfid}
@@ -12,7 +12,7 @@ use Rattle.afr_lines.specs.declared.answer.Answer.TheVariants as answer
 use Rattle.afr_lines.specs.declared.answer.Told.{Told}
 use Rattle.afr_lines.specs.declared.answer.Told.TheVariants as told_of
 use Rattle.afr_lines.specs.declared.line.Line.{Line}
-use Rattle.afr_lines.specs.declared.line.Line.TheVariants.{Ask, Begin}
+use Rattle.afr_lines.specs.declared.line.Line.TheVariants.{Ask}
 use Rattle.afr_lines.specs.declared.line.Next.TheVariants as next
 use Rattle.afr_lines.specs.declared.request.Request.{Request}
 use Rattle.afr_object.specs.Tables.{object_of}
@@ -26,38 +26,36 @@ use Rattle.afr_model.specs.Parts.{first_part, is_again, the_make}
 use Rattle.afr_model.specs.Renamed.{AreLegs, LegEnds, since_name}
 use Rattle.afr_model.specs.Showing.{has, locks}
 use Rattle.afr_model.specs.Skipped.{IsLooked}
-use Rattle.afr_model.specs.Standing.{asks_name, locks_any}
+use Rattle.afr_model.specs.Standing.{asks_name}
 use Rattle.afr_transaction.specs.Progress.{Progress, is_beginning, next_at as next_change, request_at}
 use Rattle.afr_transaction.specs.declared.stage.Stage.{Stage}
 use Rattle.afr_transaction.specs.declared.stage.Stage.TheVariants.{Locking, Looking, Beginning, Preparing, Applying, Posting, Closing}
 use Rattle.afr_transaction_tells.specs.Tells.{During, Tells}
 use Rattle.afr_transaction_tells.proofs.Small.{object_named, self}
-use Rattle.afr_entry.specs.Entry.{fits_stage, found_by, name_noted, progress_begun, reads_name, settled}
+use Rattle.afr_entry.specs.Entry.{fits_stage}
 use Rattle.afr_entry.specs.Job.{change_of, ruled_out}
 use Rattle.afr_entry.specs.declared.job.EntryJob.{EntryJob}
 use Rattle.afr_entry.specs.declared.job.EntryJob.TheVariants.{Create}
 use Rattle.afr_entry.specs.declared.refusal.Refusal.{Refusal}
 use Rattle.afr_entry.specs.declared.stage.Found.{Found}
 use Rattle.afr_entry.specs.declared.stage.Found.TheVariants.{Unread, Fits, Refused}
-use Rattle.afr_inode_telling.proofs.ReadsMore.{asks_same}
 use Rattle.afr_write_telling.specs.WriteTelling.{CanTell}
 use Rattle.afr_write_telling.proofs.Goes.{asked_stage}
-use Rattle.afr_entry_telling.specs.EntryTelling.{CanHearUnder, CanName, Changes, Goes, NameTells, OnChange}
-use Rattle.afr_entry_telling.proofs.Changing.{IsLike, begins_at, name_goes, name_read}
-use Rattle.afr_entry_telling.proofs.Names.{Quiet, name_told, quiet}
+use Rattle.afr_entry_telling.specs.EntryTelling.{Changes, NameTells, OnChange}
+use Rattle.afr_entry_telling.proofs.Changing.{IsLike}
+use Rattle.afr_entry_telling.proofs.Names.{Quiet, quiet}
 use Rattle.afr_entry_telling.proofs.Under.{name_more, place_more}
 use Rattle.afr_entry_telling.proofs.Words.{suits_view}
 use Rattle.afr_rename.specs.Against.{against_new}
 use Rattle.afr_rename.specs.Paths.{making_of, reads_new}
 use Rattle.afr_rename.specs.Rename.{IsMaking}
-use Rattle.afr_rename.specs.Under.{IsUnder, found_after, next_under, progress_after}
+use Rattle.afr_rename.specs.Under.{found_after, progress_after}
 use Rattle.afr_rename.specs.declared.paths.Paths.{Paths}
 use Rattle.afr_second.specs.Held.{Holds}
-use Rattle.afr_second.proofs.HeldLemmas.{held_given_up, held_read}
-use Rattle.afr_rename_telling.specs.RenameTelling.{LocksLeg, Makes, OnFirst, to_of}
+use Rattle.afr_rename_telling.specs.RenameTelling.{LocksLeg, Makes, to_of}
 use Rattle.afr_rename_telling.proofs.Cut.{first_all}
 use Rattle.afr_rename_telling.proofs.MakingLegs.{leg_more}
-use Rattle.afr_rename_telling.proofs.MakingLocks.{asked_on, asks_own, begins_own, begun_held, begun_on, held_on, kept_locking, of_change, unnamed}
+use Rattle.afr_rename_telling.proofs.MakingLocks.{asked_on, held_on, kept_locking, of_change, unnamed}
 use Rattle.afr_rename_telling.proofs.MakingWalked.{all_first, first_more_on, grows, waits_kept, waits_unlocked}
 
 -- ---- the words
