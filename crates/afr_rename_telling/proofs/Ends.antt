@@ -1,17 +1,13 @@
 -- The machine of a rename and its lines, stage by stage.
-use Rattle.std.proofs.Common.{◌≡◌, ℕ, Bool, true, false, List, [], ◌∷◌, ◌++◌, length, refl, sym, ap, ◌∙◌, subst, if◌then◌else◌}
+use Rattle.std.proofs.Common.{◌≡◌, ℕ, Bool, true, false, List, ◌∷◌, length, refl, sym, ap, ◌∙◌, subst, if◌then◌else◌}
 use Rattle.afr_base.specs.declared.ids.ActorId.{ActorId}
 use Rattle.afr_base.specs.declared.ids.BrickId.{BrickId}
 use Rattle.afr_base.specs.declared.ids.Kind.{Kind}
 use Rattle.afr_lines.specs.Told.{told_by}
 use Rattle.afr_lines.specs.Work.{Work, work}
-use Rattle.afr_lines.specs.declared.answer.Answer.{Answer}
-use Rattle.afr_lines.specs.declared.answer.Told.{Told}
 use Rattle.afr_lines.specs.declared.line.Line.{Line}
 use Rattle.afr_lines.specs.declared.line.Line.TheVariants.{Ask, Begin}
-use Rattle.afr_lines.specs.declared.line.Next.{Next}
 use Rattle.afr_lines.specs.declared.line.Next.TheVariants as next
-use Rattle.afr_lines.specs.declared.reply.Reply.{Reply}
 use Rattle.afr_lines.specs.declared.request.Request.{Request}
 use Rattle.afr_object.specs.Tables.{object_of}
 use Rattle.afr_object.specs.declared.change.Change.{Change}
@@ -32,17 +28,16 @@ use Rattle.afr_transaction_tells.specs.Laws.{IsNextLine}
 use Rattle.afr_walk.specs.Choosing.{IsAmong}
 use Rattle.afr_entry.specs.declared.stage.Found.{Found}
 use Rattle.afr_entry.specs.declared.stage.Found.TheVariants.{Unread, Fits, Refused}
-use Rattle.afr_entry_telling.specs.EntryTelling.{CanHearUnder, OnChange}
-use Rattle.afr_write_telling.specs.WriteTelling.{CanTell}
+use Rattle.afr_entry_telling.specs.EntryTelling.{OnChange}
 use Rattle.afr_rename.specs.Against.{half_reply}
-use Rattle.afr_rename.specs.Paths.{IsPaths, making_of, reads_new, reads_old}
-use Rattle.afr_rename.specs.Rename.{IsMaking, IsRemoving, IsRename, answered, choices_at, is_done, making_after, next_at, removing_next, second_begun, stage_begun, turned}
+use Rattle.afr_rename.specs.Paths.{reads_new, reads_old}
+use Rattle.afr_rename.specs.Rename.{IsMaking, IsRename, answered, choices_at, is_done, making_after, next_at, removing_next, second_begun, stage_begun, turned}
 use Rattle.afr_rename.specs.Under.{next_under}
 use Rattle.afr_rename.specs.declared.paths.Paths.{Paths}
 use Rattle.afr_rename.specs.declared.stage.RenameStage.{RenameStage}
 use Rattle.afr_rename.specs.declared.stage.RenameStage.TheVariants.{Finding, Walking, Making, Removing, Ending}
 use Rattle.afr_rename_telling.specs.RenameLaws.{RenameAbout, RenameBegun, RenameBlames, RenameEnds, RenameKeepsName, RenameTellsMore}
-use Rattle.afr_rename_telling.specs.RenameTelling.{CanHear, Makes, Removes, RenameTells, TellsIn, command_of, old_dir, to_of}
+use Rattle.afr_rename_telling.specs.RenameTelling.{CanHear, CanHearMaking, Makes, RenameTells, TellsIn, command_of, to_of}
 use Rattle.afr_rename_telling.proofs.Begins.{about_walks, blames_walks, ends_walks, more_walks}
 use Rattle.afr_rename_telling.proofs.EndsMaking.{making_ends}
 use Rattle.afr_rename_telling.proofs.EndsRemoving.{removing_ends}
@@ -116,7 +111,7 @@ more p c m lines a b request chosen heard took log sound k e can among = go m.st
     go (Making t found) s y e can among = by (is_done t) refl e can
       where
         by : (d : Bool) → is_done t ≡ d → (if d then next_change Locking (length log) (turned m.paths t) else next_under found (length log) (reads_new m.paths) t) ≡ next.Ask b request
-            → (if d then CanTell (old_dir m.paths) request (told_by heard) else CanHearUnder found t.stage p m.paths.second.object b.0 request log heard)
+            → CanHearMaking d found t.stage p m.paths b.0 request log heard
             → RenameTells p c (record { paths = m.paths; stage = if d then second_begun (told_by heard) (length log) m.paths t else making_after chosen found heard (length log) m.paths t }) ((Ask a b request (told_by heard) took, log) ∷ lines)
         by true f e can = record {
           shape = k.shape;

@@ -1,16 +1,14 @@
 -- A rename that ends before its second transaction: its making is refused, or too few have done it.
-use Rattle.std.proofs.Common.{◌≡◌, ◌⊎◌, ℕ, ◌<◌, ◌==◌, ◌&&◌, ◌||◌, not, Bool, true, false, List, [], ◌∷◌, ◌++◌, Option, Some, None, length, refl, sym, ap, ◌∙◌, subst, if◌then◌else◌, inl, inr}
+use Rattle.std.proofs.Common.{◌≡◌, ℕ, ◌<◌, ◌&&◌, not, Bool, true, false, List, Option, Some, None, length, refl, sym, ap, ◌∙◌, subst, if◌then◌else◌, inl, inr}
 use Rattle.afr_base.specs.Bricks.{is_nothing, member}
 use Rattle.afr_base.specs.Majority.{is_majority}
 use Rattle.afr_base.specs.declared.ids.Kind.{Kind}
 use Rattle.afr_base.specs.declared.ids.NameId.{NameId}
 use Rattle.afr_base.specs.declared.ids.Shape.{Shape}
-use Rattle.afr_base.specs.declared.ids.What.TheVariants.{File}
 use Rattle.afr_discipline.specs.Tests.{ends_low}
 use Rattle.afr_lines.specs.Areas.{area_for, kind_for}
 use Rattle.afr_lines.specs.Work.{Work}
 use Rattle.afr_lines.specs.declared.line.Next.TheVariants as next
-use Rattle.afr_lines.specs.declared.reply.Good.TheVariants as good
 use Rattle.afr_lines.specs.declared.reply.Reply.{Reply}
 use Rattle.afr_lines.specs.declared.reply.Reply.TheVariants as reply
 use Rattle.afr_lines.specs.declared.request.Area.{Area}
@@ -23,9 +21,9 @@ use Rattle.afr_plan.specs.declared.plan.Plan.{Plan}
 use Rattle.afr_model.specs.Answered.{by_posts, is_by_views}
 use Rattle.afr_model.specs.Parts.{first_part, the_make, the_walk}
 use Rattle.afr_model.specs.Refusals.{by_locks, by_name, or_else, read_refused, refusal}
-use Rattle.afr_model.specs.Renamed.{AsksAllOf, IsMade, IsRenamed, asked_lines, asks_at, by_halves, or_halves, refusal_at, rename_refusal, rename_reply}
-use Rattle.afr_model.specs.Showing.{Path, At, among, begins_attempt, has, is_faulted, locks, looked_by, path_by, posted, refuses_read, tells_fault}
-use Rattle.afr_model.specs.Skipped.{AsksAll, SkipsNothing}
+use Rattle.afr_model.specs.Renamed.{AsksAllOf, IsRenamed, asked_lines, asks_at, by_halves, or_halves, refusal_at, rename_refusal, rename_reply}
+use Rattle.afr_model.specs.Showing.{Path, among, begins_attempt, has, is_faulted, locks, looked_by, path_by, posted, refuses_read}
+use Rattle.afr_model.specs.Skipped.{AsksAll}
 use Rattle.afr_model.specs.Standing.{asking, looks_here, place_by}
 use Rattle.afr_transaction.specs.Outcome.{outcome_of, reply_for, reply_of}
 use Rattle.afr_transaction.specs.Progress.{Progress, asks, is_beginning, is_over, next_at as next_change}
@@ -121,7 +119,7 @@ asks_there p x lines k all =
     subst (λ (q : Path). AsksAllOf p (asks_at q x.first.path (to_of x)) (asked_lines q x.first.path lines)) (sym k.found)
     (subst (λ (b : Bool). AsksAllOf p (if b then command.Create (to_of x) else command.Stat x.first.path) (if b then the_make x.first.path lines else the_walk x.first.path lines)) (sym (self (length x.first.path))) all)
 
-halves_else : (a b : Option Reply) → or_halves a b ≡ or_else a b
+pub halves_else : (a b : Option Reply) → or_halves a b ≡ or_else a b
 halves_else None b = refl
 halves_else (Some said) b = refl
 

@@ -1,9 +1,8 @@
 -- A rename that ends after its second transaction: the old name is removed, or the rename stays half.
-use Rattle.std.proofs.Common.{◌≡◌, ◌⊎◌, ℕ, ◌+◌, ◌-◌, ◌<◌, ◌==◌, ◌&&◌, ◌||◌, not, Bool, true, false, List, [], ◌∷◌, ◌++◌, Option, Some, None, length, slice_get, refl, sym, ap, ◌∙◌, subst, if◌then◌else◌, inl, inr}
-use Rattle.afr_base.specs.Bricks.{is_nothing, member}
+use Rattle.std.proofs.Common.{◌≡◌, ◌⊎◌, ℕ, ◌-◌, ◌<◌, ◌||◌, Bool, true, false, List, [], ◌∷◌, Option, Some, None, length, refl, sym, ap, ◌∙◌, subst, if◌then◌else◌, inl, inr}
+use Rattle.afr_base.specs.Bricks.{member}
 use Rattle.afr_base.specs.Majority.{is_majority}
 use Rattle.afr_base.specs.declared.ids.Gfid.{Gfid}
-use Rattle.afr_base.specs.declared.ids.Kind.{Kind}
 use Rattle.afr_base.specs.declared.ids.Kind.TheVariants.{Names}
 use Rattle.afr_base.specs.declared.ids.NameId.{NameId}
 use Rattle.afr_base.specs.declared.ids.Shape.{Shape}
@@ -28,10 +27,10 @@ use Rattle.afr_plan.specs.declared.plan.Plan.{Plan}
 use Rattle.afr_model.specs.Answered.{by_posts}
 use Rattle.afr_model.specs.Parts.{first_part, second_part, the_make, the_removal, upto_names}
 use Rattle.afr_model.specs.Refusals.{by_area, by_locks, or_else}
-use Rattle.afr_model.specs.Renamed.{ByFault as HalfByFault, ByName as HalfByName, ByViews as HalfByViews, HasFound, IsHalved, IsLookedFor, IsRenamed, StillLeads, by_halves, is_some_reply, old_area, or_halves, rename_refusal, rename_reply}
-use Rattle.afr_model.specs.Showing.{Path, At, NoName, among, begins_attempt, has, is_faulted, looked_by, path_by, posted, refuses_read, root_entry, tells_fault}
+use Rattle.afr_model.specs.Renamed.{ByFault as HalfByFault, ByName as HalfByName, ByViews as HalfByViews, HasFound, IsHalved, IsRenamed, StillLeads, by_halves, is_some_reply, old_area, or_halves, rename_reply}
+use Rattle.afr_model.specs.Showing.{Path, At, among, begins_attempt, has, is_faulted, looked_by, posted, refuses_read, root_entry, tells_fault}
 use Rattle.afr_model.specs.Skipped.{SkipsNothing}
-use Rattle.afr_model.specs.Standing.{area_here, asking, change_by, place_by}
+use Rattle.afr_model.specs.Standing.{area_here, asking, change_by}
 use Rattle.afr_transaction.specs.Outcome.{outcome_of, reply_for, reply_of}
 use Rattle.afr_transaction.specs.Progress.{Progress, is_beginning, is_over, next_at as next_change}
 use Rattle.afr_transaction.specs.declared.reply.Outcome.{Outcome}
@@ -40,15 +39,14 @@ use Rattle.afr_transaction.specs.declared.stage.Stage.{Stage}
 use Rattle.afr_transaction.specs.declared.stage.Stage.TheVariants.{Closing}
 use Rattle.afr_transaction.proofs.Acknowledged.{acknowledged_exactly}
 use Rattle.afr_transaction_tells.specs.About.{IsFitting}
-use Rattle.afr_transaction_tells.specs.GivenUp.{GaveUp}
-use Rattle.afr_transaction_tells.specs.Tells.{During, Tells}
+use Rattle.afr_transaction_tells.specs.Tells.{During}
 use Rattle.afr_transaction_tells.proofs.GivenUpLemmas.{given_up_ends}
 use Rattle.afr_transaction_tells.proofs.Over.{asks_all_for_locks, failed_by_brick, replies_exactly, skips_none, undisturbed_is_done}
 use Rattle.afr_transaction_tells.proofs.Small.{no_change, self}
 use Rattle.afr_entry.specs.Job.{reply_to}
 use Rattle.afr_entry.specs.declared.stage.Found.{Found}
 use Rattle.afr_entry.specs.declared.stage.Found.TheVariants.{Unread, Fits, Refused}
-use Rattle.afr_entry_telling.specs.EntryTelling.{Goes, OnChange, WasGiven}
+use Rattle.afr_entry_telling.specs.EntryTelling.{Goes, OnChange}
 use Rattle.afr_rename.specs.Against.{half_reply, is_acknowledged, is_same}
 use Rattle.afr_rename.specs.Paths.{IsPaths, making_of, reads_old, removal_of}
 use Rattle.afr_rename.specs.Rename.{IsRemoving, removing_next}
@@ -56,10 +54,10 @@ use Rattle.afr_rename.specs.Under.{next_under}
 use Rattle.afr_rename.specs.declared.paths.Paths.{Paths}
 use Rattle.afr_second.proofs.Folds.{parts_are_whole}
 use Rattle.afr_rename_telling.specs.RenameTelling.{ByFault, ByNothing, ByOther, LedElsewhere, OldTells, Removes, old_dir, to_of}
-use Rattle.afr_rename_telling.proofs.EndsMaking.{ends_over, halves_else, locked_over, refusal_is}
-use Rattle.afr_rename_telling.proofs.MakingParts.{fault_in, fault_more, fault_own, has_append, has_front}
+use Rattle.afr_rename_telling.proofs.EndsMaking.{ends_over, locked_over, refusal_is}
+use Rattle.afr_rename_telling.proofs.MakingParts.{fault_in, fault_more, fault_own, has_front}
 use Rattle.afr_rename_telling.proofs.RemovingBegins.{prefix_unrefused, prefix_untouched}
-use Rattle.afr_rename_telling.proofs.RemovingTurn.{none_most, over_closing}
+use Rattle.afr_rename_telling.proofs.RemovingTurn.{over_closing}
 use Rattle.afr_rename_telling.proofs.RemovingWhole.{second_begins}
 
 -- ---- replies

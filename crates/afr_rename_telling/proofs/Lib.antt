@@ -1,4 +1,5 @@
 pub mod Cut
+pub mod Looks
 pub mod MakingParts
 pub mod MakingWalked
 pub mod MakingLegs
@@ -22,4 +23,3 @@ pub mod Begins
 pub mod EndsMaking
 pub mod EndsRemoving
 pub mod Ends
-pub mod Looks

@@ -1,10 +1,9 @@
 -- What was looked at before a part of a rename's work doesn't count in it.
-use Rattle.std.proofs.Common.{◌≡◌, ℕ, ◌+◌, ◌-◌, ◌<◌, ◌≤◌, ◌==◌, ◌||◌, ◌&&◌, nat_le, nat_lt, Bool, true, false, List, [], ◌∷◌, ◌++◌, length, refl, sym, ap, ◌∙◌, arith, subst, if◌then◌else◌}
-use Rattle.std.proofs.lemmas.Bool.{eqb-true}
+use Rattle.std.proofs.Common.{◌≡◌, ℕ, ◌+◌, ◌-◌, ◌<◌, ◌≤◌, ◌==◌, ◌||◌, nat_le, nat_lt, Bool, true, false, List, [], ◌∷◌, ◌++◌, length, refl, sym, ap, ◌∙◌, arith, subst, if◌then◌else◌}
 use Rattle.std.proofs.lemmas.Bool.Decides.{eqb_tells, nat_tests}
 use Rattle.std.proofs.Common.{inl, inr}
 use Rattle.std.proofs.lemmas.List.{append-nil}
-use Rattle.afr_base.specs.Bricks.{added, and_left, and_right, is_nothing, member, minus}
+use Rattle.afr_base.specs.Bricks.{added, and_right, member}
 use Rattle.afr_base.specs.Majority.{is_majority}
 use Rattle.afr_base.specs.SetLemmas.{majority_some, member_added}
 use Rattle.afr_base.specs.declared.ids.Gfid.{Gfid}
@@ -45,12 +44,12 @@ has_first test (x ∷ s) u none h = by (test x.0) (has_first test s u none) h
 -- what one test doesn't pass, a narrower one doesn't
 pub has_narrower : (test wider : Line → Bool) → ((line : Line) → test line ≡ true → wider line ≡ true) → (w : Work) → has wider w ≡ false → has test w ≡ false
 has_narrower test wider passes [] none = refl
-has_narrower test wider passes (x ∷ w) none = by (test x.0) refl (wider x.0) refl none
+has_narrower test wider passes (x ∷ w) none = by (test x.0) refl (wider x.0) refl (has_narrower test wider passes w) none
   where
-    by : (t : Bool) → test x.0 ≡ t → (v : Bool) → wider x.0 ≡ v → (v || has wider w) ≡ false → (t || has test w) ≡ false
-    by t e true f h = absurd (cc h)
-    by true e false f h = let passed = passes x.0 e in absurd (cc (passed, f))
-    by false e false f h = has_narrower test wider passes w h
+    by : (t : Bool) → test x.0 ≡ t → (v : Bool) → wider x.0 ≡ v → (has wider w ≡ false → has test w ≡ false) → (v || has wider w) ≡ false → (t || has test w) ≡ false
+    by t e true f rest h = absurd (cc h)
+    by true e false f rest h = let passed = passes x.0 e in absurd (cc (passed, f))
+    by false e false f rest h = rest h
 
 any_lock : (g : Gfid) (line : Line) → locks g line ≡ true → locks_any line ≡ true
 any_lock g (Ask a b (Lock WorkDomain area) told took) e = refl
@@ -76,6 +75,10 @@ upto_has test k (x ∷ w) none = by (nat_le k (names_asked w)) (test x.0) (upto_
     by true false rest h = rest h
     by false now rest h = none
 
+without : (y z : Bool) → (y || z) ≡ false → z ≡ false
+without true z h = absurd (cc h)
+without false z h = h
+
 -- and up to an earlier name, up to a later one
 pub upto_earlier : (test : Line → Bool) (k : ℕ) (w : Work) → has test (upto_names k w) ≡ false → has test (upto_names (k - 1) w) ≡ false
 upto_earlier test k [] none = refl
@@ -86,10 +89,6 @@ upto_earlier test k (x ∷ w) none = by (nat_le k (names_asked w)) refl (nat_le 
     by true e true f rest h = rest h
     by true e false f rest h = let passed : nat_le (k - 1) (names_asked w) ≡ true = grind (arith, nat_tests, e) in absurd (cc (passed, f))
     by false e true f rest h = upto_has test (k - 1) w (without (test x.0) (has test w) h)
-      where
-        without : (y z : Bool) → (y || z) ≡ false → z ≡ false
-        without true z h = absurd (cc h)
-        without false z h = h
     by false e false f rest h = h
 
 -- ---- older looks
@@ -97,22 +96,22 @@ upto_earlier test k (x ∷ w) none = by (nat_le k (names_asked w)) refl (nat_le 
 abbrev SameAt : ℕ → Looked → Looked → Type 0
 SameAt b x y = (member x.reached b ≡ member y.reached b) × (view_at b x ≡ view_at b y)
 
+rest_of : (x y : Bool) → x ≡ false → (x || y) ≡ true → y ≡ true
+rest_of true y e h = absurd (cc e)
+rest_of false y e h = h
+
 -- a brick that was looked at after both shows the same
 same_line : (n : ℕ) (g : Gfid) (line : Line) (x y : Looked) (asked : List ℕ) (b : ℕ) → reads n line ≡ true → b < 5 → length x.views ≡ 5 → length y.views ≡ 5
     → (member asked b ≡ true → SameAt b x y) → member (looking g line asked) b ≡ true → SameAt b (looked_after g line x) (looked_after g line y)
-same_line n g (Ask a c (Look h) told took) x y asked b free low fx fy before now = at (h.0 == g.0) now
+same_line n g (Ask a c (Look h) told took) x y asked b free low fx fy before now = go (h.0 == g.0) now
   where
     other : (c.0 == b) ≡ false → (member asked b ≡ true → SameAt b x y) → member (added c.0 asked) b ≡ true → SameAt b (noted_look c.0 told x) (noted_look c.0 told y)
     other e before m =
-        let apart : c.0 ≡ b → ⊥ = λ f. (let same : (c.0 == b) ≡ true = grind (arith, nat_tests, f) in absurd (cc (same, e))) in
+        let apart : c.0 ≡ b → ⊥ = λ f. (let same : (c.0 == b) ≡ true = grind (arith, nat_tests, f) in cc (same, e)) in
         let mine = same_there c.0 b told x apart in
         let theirs = same_there c.0 b told y apart in
-        let was = before (rest (c.0 == b) (member asked b) e (sym (member_added c.0 asked b) ∙ m)) in
+        let was = before (rest_of (c.0 == b) (member asked b) e (sym (member_added c.0 asked b) ∙ m)) in
         (mine.0 ∙ was.0 ∙ sym theirs.0, mine.1 ∙ was.1 ∙ sym theirs.1)
-      where
-        rest : (x y : Bool) → x ≡ false → (x || y) ≡ true → y ≡ true
-        rest true y e h = absurd (cc e)
-        rest false y e h = h
 
     noted : member (added c.0 asked) b ≡ true → SameAt b (noted_look c.0 told x) (noted_look c.0 told y)
     noted m = elim (eqb_tells c.0 b) [
@@ -120,9 +119,9 @@ same_line n g (Ask a c (Look h) told took) x y asked b free low fx fy before now
       | inr e ↦ other e.0 before m
     ]
 
-    at : (hit : Bool) → member (if hit then added c.0 asked else asked) b ≡ true → SameAt b (if hit then look_shows c.0 told x else x) (if hit then look_shows c.0 told y else y)
-    at true m = subst (λ (z : Looked). SameAt b z (look_shows c.0 told y)) (sym (look_shows_is c.0 told x)) (subst (λ (z : Looked). SameAt b (noted_look c.0 told x) z) (sym (look_shows_is c.0 told y)) (noted m))
-    at false m = before m
+    go : (hit : Bool) → member (if hit then added c.0 asked else asked) b ≡ true → SameAt b (if hit then look_shows c.0 told x else x) (if hit then look_shows c.0 told y else y)
+    go true m = subst (λ (z : Looked). SameAt b z (look_shows c.0 told y)) (sym (look_shows_is c.0 told x)) (subst (λ (z : Looked). SameAt b (noted_look c.0 told x) z) (sym (look_shows_is c.0 told y)) (noted m))
+    go false m = before m
 same_line n g (Ask a c (ReadName h name) told took) x y asked b free low fx fy before now = before now
 same_line n g (Ask a c (ReadBytes h at len) told took) x y asked b free low fx fy before now = before now
 same_line n g (Ask a c (ReadAttr h key) told took) x y asked b free low fx fy before now = before now
@@ -155,11 +154,11 @@ unlooked_line n g line looked free none = absurd (cc free)
 
 unlooked : (n : ℕ) (g : Gfid) (w : Work) → OnlyReads n w → has (looks_at g) w ≡ false → looked_by g w ≡ no_looks
 unlooked n g [] only none = refl
-unlooked n g (x ∷ w) only none = by (looks_at g x.0) refl none
+unlooked n g (x ∷ w) only none = by (looks_at g x.0) refl (unlooked n g w only.1) none
   where
-    by : (now : Bool) → looks_at g x.0 ≡ now → (now || has (looks_at g) w) ≡ false → looked_after g x.0 (looked_by g w) ≡ no_looks
-    by true e h = absurd (cc h)
-    by false e h = unlooked_line n g x.0 (looked_by g w) only.0 e ∙ unlooked n g w only.1 h
+    by : (now : Bool) → looks_at g x.0 ≡ now → (has (looks_at g) w ≡ false → looked_by g w ≡ no_looks) → (now || has (looks_at g) w) ≡ false → looked_after g x.0 (looked_by g w) ≡ no_looks
+    by true e rest h = absurd (cc h)
+    by false e rest h = unlooked_line n g x.0 (looked_by g w) only.0 e ∙ rest h
 
 -- where a majority answered, it was looked at
 answered_looks : (n : ℕ) (g : Gfid) (w : Work) → OnlyReads n w → is_majority n (looked_by g w).reached ≡ true → has (looks_at g) w ≡ true

@@ -1,5 +1,5 @@
 -- While the new name is locked, read and made: each line is about it.
-use Rattle.std.proofs.Common.{◌≡◌, ℕ, ◌==◌, nat_le, nat_lt, Bool, true, false, List, [], ◌∷◌, Option, Some, None, length, refl, sym, ap, ◌∙◌, subst, arith, if◌then◌else◌}
+use Rattle.std.proofs.Common.{◌≡◌, ℕ, ◌==◌, nat_le, nat_lt, Bool, true, false, List, Option, Some, None, length, refl, sym, ap, ◌∙◌, subst, arith, if◌then◌else◌}
 use Rattle.std.proofs.lemmas.Bool.Decides.{nat_tests}
 use Rattle.std.specs.Option.{option_map}
 use Rattle.afr_base.specs.declared.ids.ActorId.{ActorId}
@@ -27,7 +27,7 @@ use Rattle.afr_model.specs.Renamed.{IsOfPart, IsOfRename, KeepsToPart, KeepsToRe
 use Rattle.afr_model.specs.Showing.{begins_attempt, has}
 use Rattle.afr_transaction.specs.Progress.{Progress, gfid_at, is_beginning, is_over, next_at as next_change, numbered, request_at}
 use Rattle.afr_transaction.specs.declared.stage.Stage.{Stage}
-use Rattle.afr_transaction.specs.declared.stage.Stage.TheVariants.{Beginning, Closing}
+use Rattle.afr_transaction.specs.declared.stage.Stage.TheVariants.{Beginning}
 use Rattle.afr_transaction_tells.specs.About.{Led}
 use Rattle.afr_transaction_tells.specs.Laws.{IsNextLine}
 use Rattle.afr_transaction_tells.specs.Tells.{During}
@@ -35,13 +35,12 @@ use Rattle.afr_transaction_tells.proofs.GivenUpLemmas.{given_up_about}
 use Rattle.afr_entry.specs.Job.{change_of as change_for, reply_to}
 use Rattle.afr_entry.specs.declared.job.EntryJob.{EntryJob}
 use Rattle.afr_entry.specs.declared.job.EntryJob.TheVariants.{Create}
-use Rattle.afr_entry.specs.declared.refusal.Refusal.{Refusal}
 use Rattle.afr_entry.specs.declared.stage.Found.{Found}
 use Rattle.afr_entry.specs.declared.stage.Found.TheVariants.{Unread, Fits, Refused}
 use Rattle.afr_entry_telling.specs.EntryTelling.{Goes}
 use Rattle.afr_entry_telling.proofs.Changing.{each_line, keeps_request, led_fits, led_unread, line_about, name_line}
 use Rattle.afr_entry_telling.proofs.Words.{named_is}
-use Rattle.afr_rename.specs.Paths.{making_of, reads_new}
+use Rattle.afr_rename.specs.Paths.{reads_new}
 use Rattle.afr_rename.specs.Rename.{IsMaking}
 use Rattle.afr_rename.specs.Under.{next_under}
 use Rattle.afr_rename.specs.declared.paths.Paths.{Paths}
@@ -66,7 +65,7 @@ last_new : (x : Paths) → last_of (to_of x) ≡ Some x.new_name
 last_new x = named_alike (record { 0 = 0 }) (record { 0 = 2 }) x.new_name (last_of (to_of x)) (named_is (Create x.new_name) x.second.path (record { 0 = 0 }) 0)
 
 -- a file that has a number keeps it
-keeps_number : (at : ℕ) (g : Gfid) → (g.0 == 0) ≡ false → gfid_at at g ≡ g
+pub keeps_number : (at : ℕ) (g : Gfid) → (g.0 == 0) ≡ false → gfid_at at g ≡ g
 keeps_number at g e = rw e refl
 
 module _ (p : Plan) (x : Paths) (t : Progress) (found : Found) (lines : Work) (a : ActorId) (log : List Line) (k : Makes p x t found lines) (sound : IsMaking x t found) where

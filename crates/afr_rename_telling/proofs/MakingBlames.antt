@@ -1,26 +1,21 @@
 -- Who is accused while the new name is made: what its part says of a post-op, the whole work says.
-use Rattle.std.proofs.Common.{◌≡◌, ℕ, ◌||◌, ◌==◌, Bool, true, false, List, [], ◌∷◌, ◌++◌, Option, Some, None, length, refl, sym, ap, ◌∙◌, subst, if◌then◌else◌}
+use Rattle.std.proofs.Common.{◌≡◌, ℕ, ◌||◌, Bool, true, false, List, [], ◌∷◌, ◌++◌, Some, refl, sym, ap, ◌∙◌, subst, if◌then◌else◌}
+use Rattle.std.proofs.lemmas.List.{append-nil}
 use Rattle.afr_base.specs.Bricks.{below, is_nothing, member, minus}
 use Rattle.afr_base.specs.declared.ids.BrickId.{BrickId}
 use Rattle.afr_base.specs.declared.ids.Gfid.{Gfid}
 use Rattle.afr_base.specs.declared.ids.Kind.{Kind}
 use Rattle.afr_choice.specs.declared.looked.Looked.{Looked}
-use Rattle.afr_lines.specs.Areas.{object_of_area}
 use Rattle.afr_lines.specs.Work.{Work}
 use Rattle.afr_lines.specs.declared.line.Line.{Line}
-use Rattle.afr_lines.specs.declared.line.Line.TheVariants.{Ask, Begin}
-use Rattle.afr_lines.specs.declared.line.Next.{Next}
+use Rattle.afr_lines.specs.declared.line.Line.TheVariants.{Begin}
 use Rattle.afr_lines.specs.declared.line.Next.TheVariants as next
 use Rattle.afr_lines.specs.declared.request.Request.{Request}
-use Rattle.afr_lines.specs.declared.request.Request.TheVariants as request
-use Rattle.afr_range_locks.specs.declared.domain.Domain.TheVariants.{Work as WorkDomain}
 use Rattle.afr_object.specs.Tables.{object_of}
-use Rattle.afr_object.specs.declared.change.Change.{Change}
 use Rattle.afr_plan.specs.declared.plan.Plan.{Plan}
 use Rattle.afr_model.specs.Blamed.{IsBlaming, missing}
-use Rattle.afr_model.specs.Parts.{the_make, the_walk}
-use Rattle.afr_model.specs.Showing.{among, applied_at, begins_attempt, begun_after, begun_by, has, locks, looked_after, looked_by, posting}
-use Rattle.afr_model.specs.Standing.{change_by, locks_any, since, suffices}
+use Rattle.afr_model.specs.Showing.{among, applied_at, begins_attempt, begun_after, begun_by, has, locks, looked_by, posting}
+use Rattle.afr_model.specs.Standing.{locks_any, since, suffices}
 use Rattle.afr_transaction.specs.Outcome.{reply_of}
 use Rattle.afr_transaction.specs.Progress.{Progress, asks, is_beginning, is_over, next_at as next_change}
 use Rattle.afr_transaction.specs.Sound.{Sound}
@@ -33,8 +28,9 @@ use Rattle.afr_entry.specs.Job.{reply_to}
 use Rattle.afr_entry.specs.declared.stage.Found.{Found}
 use Rattle.afr_entry.specs.declared.stage.Found.TheVariants.{Unread, Fits, Refused}
 use Rattle.afr_inode_telling.specs.WalkLaws.{IsUntouched}
-use Rattle.afr_entry_telling.specs.EntryTelling.{Goes, OnChange}
+use Rattle.afr_entry_telling.specs.EntryTelling.{OnChange}
 use Rattle.afr_rename.specs.Under.{next_under}
+use Rattle.afr_second.proofs.Folds.{same_looks}
 use Rattle.afr_rename_telling.proofs.MakingParts.{among_front, changed_front, has_front}
 
 -- ---- lines before that have locked and begun nothing don't count
@@ -46,20 +42,8 @@ begun_front (x ∷ s) u n e = go x.0 (λ f. begun_front s u n f) e
     go (Begin a change) rest f = f
     go line rest f = rest f
 
-looked_anew : (g : Gfid) (line : Line) (v w : Looked) → locks g line ≡ true → looked_after g line v ≡ looked_after g line w
-looked_anew g (Ask a b (request.Lock WorkDomain area) told took) v w e = rw e refl
-looked_anew g line v w e = absurd (cc e)
-
-pub looked_front : (g : Gfid) (s u : Work) → has (locks g) s ≡ true → looked_by g (s ++ u) ≡ looked_by g s
-looked_front g [] u e = absurd (cc e)
-looked_front g (x ∷ s) u e = go (locks g x.0) refl e
-  where
-    rest : has (locks g) s ≡ true → looked_by g (s ++ u) ≡ looked_by g s
-    rest f = looked_front g s u f
-
-    go : (l : Bool) → locks g x.0 ≡ l → (l || has (locks g) s) ≡ true → looked_after g x.0 (looked_by g (s ++ u)) ≡ looked_after g x.0 (looked_by g s)
-    go true f h = looked_anew g x.0 (looked_by g (s ++ u)) (looked_by g s) f
-    go false f h = ap (looked_after g x.0) (rest h)
+looked_front : (g : Gfid) (s u : Work) → has (locks g) s ≡ true → looked_by g (s ++ u) ≡ looked_by g s
+looked_front g s u e = same_looks g s u [] e ∙ ap (looked_by g) (append-nil s)
 
 since_front : (s u : Work) → has locks_any u ≡ false → since locks_any (s ++ u) ≡ since locks_any s
 since_front [] u e = none u e

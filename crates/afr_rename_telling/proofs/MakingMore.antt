@@ -1,5 +1,5 @@
 -- While the new name is locked, read and made: what the lines show after one more.
-use Rattle.std.proofs.Common.{◌≡◌, ℕ, ◌||◌, Bool, true, false, List, [], ◌∷◌, Option, Some, None, length, refl, sym, ap, ◌∙◌, subst, if◌then◌else◌}
+use Rattle.std.proofs.Common.{◌≡◌, Bool, true, false, List, [], ◌∷◌, Option, Some, None, length, refl, sym, ap, ◌∙◌, subst, if◌then◌else◌}
 use Rattle.afr_base.specs.declared.ids.ActorId.{ActorId}
 use Rattle.afr_base.specs.declared.ids.BrickId.{BrickId}
 use Rattle.afr_base.specs.declared.ids.Gfid.{Gfid}
@@ -12,7 +12,7 @@ use Rattle.afr_lines.specs.declared.answer.Answer.TheVariants as answer
 use Rattle.afr_lines.specs.declared.answer.Told.{Told}
 use Rattle.afr_lines.specs.declared.answer.Told.TheVariants as told_of
 use Rattle.afr_lines.specs.declared.line.Line.{Line}
-use Rattle.afr_lines.specs.declared.line.Line.TheVariants.{Ask, Begin}
+use Rattle.afr_lines.specs.declared.line.Line.TheVariants.{Ask}
 use Rattle.afr_lines.specs.declared.line.Next.TheVariants as next
 use Rattle.afr_lines.specs.declared.request.Request.{Request}
 use Rattle.afr_object.specs.Tables.{object_of}
@@ -26,39 +26,36 @@ use Rattle.afr_model.specs.Parts.{first_part, is_again, the_make}
 use Rattle.afr_model.specs.Renamed.{AreLegs, LegEnds, since_name}
 use Rattle.afr_model.specs.Showing.{has, locks}
 use Rattle.afr_model.specs.Skipped.{IsLooked}
-use Rattle.afr_model.specs.Standing.{asks_name, locks_any}
+use Rattle.afr_model.specs.Standing.{asks_name}
 use Rattle.afr_transaction.specs.Progress.{Progress, is_beginning, next_at as next_change, request_at}
 use Rattle.afr_transaction.specs.declared.stage.Stage.{Stage}
 use Rattle.afr_transaction.specs.declared.stage.Stage.TheVariants.{Locking, Looking, Beginning, Preparing, Applying, Posting, Closing}
 use Rattle.afr_transaction_tells.specs.Tells.{During, Tells}
 use Rattle.afr_transaction_tells.proofs.Small.{object_named, self}
-use Rattle.afr_entry.specs.Entry.{fits_stage, found_by, name_noted, progress_begun, reads_name, settled}
+use Rattle.afr_entry.specs.Entry.{fits_stage}
 use Rattle.afr_entry.specs.Job.{change_of, ruled_out}
 use Rattle.afr_entry.specs.declared.job.EntryJob.{EntryJob}
 use Rattle.afr_entry.specs.declared.job.EntryJob.TheVariants.{Create}
 use Rattle.afr_entry.specs.declared.refusal.Refusal.{Refusal}
 use Rattle.afr_entry.specs.declared.stage.Found.{Found}
 use Rattle.afr_entry.specs.declared.stage.Found.TheVariants.{Unread, Fits, Refused}
-use Rattle.afr_inode_telling.proofs.ReadsMore.{asks_same}
 use Rattle.afr_write_telling.specs.WriteTelling.{CanTell}
 use Rattle.afr_write_telling.proofs.Goes.{asked_stage}
-use Rattle.afr_entry_telling.specs.EntryTelling.{CanHearUnder, CanName, Changes, Goes, NameTells, OnChange}
-use Rattle.afr_entry_telling.proofs.Changing.{IsLike, begins_at, name_goes, name_read}
-use Rattle.afr_entry_telling.proofs.Heard.{hears_name, hears_told}
-use Rattle.afr_entry_telling.proofs.Names.{Quiet, name_told, quiet}
+use Rattle.afr_entry_telling.specs.EntryTelling.{Changes, NameTells, OnChange}
+use Rattle.afr_entry_telling.proofs.Changing.{IsLike}
+use Rattle.afr_entry_telling.proofs.Names.{Quiet, quiet}
 use Rattle.afr_entry_telling.proofs.Under.{name_more, place_more}
 use Rattle.afr_entry_telling.proofs.Words.{suits_view}
 use Rattle.afr_rename.specs.Against.{against_new}
 use Rattle.afr_rename.specs.Paths.{making_of, reads_new}
 use Rattle.afr_rename.specs.Rename.{IsMaking}
-use Rattle.afr_rename.specs.Under.{IsUnder, found_after, next_under, progress_after}
+use Rattle.afr_rename.specs.Under.{found_after, progress_after}
 use Rattle.afr_rename.specs.declared.paths.Paths.{Paths}
 use Rattle.afr_second.specs.Held.{Holds}
-use Rattle.afr_second.proofs.HeldLemmas.{held_given_up, held_read}
-use Rattle.afr_rename_telling.specs.RenameTelling.{LocksLeg, Makes, OnFirst, to_of}
+use Rattle.afr_rename_telling.specs.RenameTelling.{LocksLeg, Makes, to_of}
 use Rattle.afr_rename_telling.proofs.Cut.{first_all}
 use Rattle.afr_rename_telling.proofs.MakingLegs.{leg_more}
-use Rattle.afr_rename_telling.proofs.MakingLocks.{asked_on, asks_own, begins_own, begun_held, begun_on, held_on, kept_locking, of_change, unnamed}
+use Rattle.afr_rename_telling.proofs.MakingLocks.{asked_on, held_on, kept_locking, of_change, unnamed}
 use Rattle.afr_rename_telling.proofs.MakingWalked.{all_first, first_more_on, grows, waits_kept, waits_unlocked}
 
 -- ---- the words
@@ -84,7 +81,7 @@ ruled_new x answer.NotConnected = refl
 ruled_new x answer.Failed = refl
 
 -- nothing is said against it by a brick that can't be reached
-given_new : (heard : Answer) → against_new heard ≡ None → told_by heard ≡ told_of.Given
+pub given_new : (heard : Answer) → against_new heard ≡ None → told_by heard ≡ told_of.Given
 given_new (answer.Entry None) e = refl
 given_new (answer.Entry (Some entry)) e = absurd (cc e)
 given_new heard e = absurd (cc e)
@@ -136,17 +133,17 @@ module _ (p : Plan) (x : Paths) (t : Progress) (found : Found) (lines : Work) (a
   stage_waits Closing b told took f = waits_unlocked p x lines k.on (Ask a b (request_at Closing t) told took) refl
 
   -- ---- a line that goes to the making
-  module _ (line : Line) (waits : is_again line lines ≡ false) (after : Progress) (then : Found) where
-    pub goes_to : AreLegs p.shape.n ((line, log) ∷ lines) → IsLooked p.shape.n (since_name ((line, log) ∷ lines)) → LocksLeg then dir.gfid ((line, log) ∷ make) ((line, log) ∷ lines) → Changes p c job dir after then ((line, log) ∷ make)
-        → Holds after ((line, log) ∷ make) → Makes p x after then ((line, log) ∷ lines)
+  module _ (line : Line) (waits : is_again line lines ≡ false) (after : Progress) (left : Found) where
+    pub goes_to : AreLegs p.shape.n ((line, log) ∷ lines) → IsLooked p.shape.n (since_name ((line, log) ∷ lines)) → LocksLeg left dir.gfid ((line, log) ∷ make) ((line, log) ∷ lines) → Changes p c job dir after left ((line, log) ∷ make)
+        → Holds after ((line, log) ∷ make) → Makes p x after left ((line, log) ∷ lines)
     goes_to legs last leg tells holds =
         let grown = sym (grows p x lines k.on line log waits) in
         let first = sym (all_first p x lines k.on line log waits) in
         record {
           on = first_more_on p x lines k.on line log waits legs;
           last_leg = subst (λ (w : Work). IsLooked p.shape.n (since_name w)) first last;
-          leg = subst (λ (w : Work). LocksLeg then dir.gfid w (first_part ((line, log) ∷ lines))) grown (subst (λ (w : Work). LocksLeg then dir.gfid ((line, log) ∷ make) w) first leg);
-          tells = subst (λ (w : Work). Changes p c job dir after then w) grown tells;
+          leg = subst (λ (w : Work). LocksLeg left dir.gfid w (first_part ((line, log) ∷ lines))) grown (subst (λ (w : Work). LocksLeg left dir.gfid ((line, log) ∷ make) w) first leg);
+          tells = subst (λ (w : Work). Changes p c job dir after left w) grown tells;
           holds = subst (λ (w : Work). Holds after w) grown holds;
         }
 
@@ -204,7 +201,7 @@ module _ (p : Plan) (x : Paths) (t : Progress) (found : Found) (lines : Work) (a
     leg_on Posting h m = h m
     leg_on Closing h m = h m
 
-    asks_leg : (then : Found) → ((copy : BrickId) → then ≡ Unread copy → has (locks dir.gfid) make ≡ true → has (locks dir.gfid) (since_name lines) ≡ true) → LocksLeg then dir.gfid ((asks, log) ∷ make) ((asks, log) ∷ lines)
+    asks_leg : (left : Found) → ((copy : BrickId) → left ≡ Unread copy → has (locks dir.gfid) make ≡ true → has (locks dir.gfid) (since_name lines) ≡ true) → LocksLeg left dir.gfid ((asks, log) ∷ make) ((asks, log) ∷ lines)
     asks_leg (Unread copy) was =
         subst (λ (y : Bool). has (locks dir.gfid) ((asks, log) ∷ make) ≡ true → has (locks dir.gfid) (if y then [] else (asks, log) ∷ since_name lines) ≡ true) (sym no_name)
         (by_stage (λ (r : Request). has (locks dir.gfid) ((Ask a b r told took, log) ∷ make) ≡ true → has (locks dir.gfid) ((Ask a b r told took, log) ∷ since_name lines) ≡ true) (leg_on t.stage (was copy refl)))

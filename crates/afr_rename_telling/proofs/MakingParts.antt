@@ -1,15 +1,13 @@
 -- The lines of a work by its parts: what each part shows of the whole, and the whole of each part.
-use Rattle.std.proofs.Common.{◌≡◌, ℕ, ◌+◌, ◌-◌, ◌||◌, ◌&&◌, ◌==◌, nat_le, nat_lt, Bool, true, false, List, [], ◌∷◌, ◌++◌, Option, Some, None, length, refl, sym, ap, ◌∙◌, subst, arith, if◌then◌else◌}
+use Rattle.std.proofs.Common.{◌≡◌, ℕ, ◌+◌, ◌-◌, ◌||◌, ◌&&◌, nat_le, Bool, true, false, List, [], ◌∷◌, ◌++◌, Option, Some, None, refl, sym, ap, ◌∙◌, arith, if◌then◌else◌}
 use Rattle.std.proofs.lemmas.Bool.Decides.{nat_tests}
-use Rattle.afr_base.specs.declared.ids.NameId.{NameId}
 use Rattle.afr_lines.specs.Log.{change_of}
 use Rattle.afr_lines.specs.Work.{Work}
 use Rattle.afr_lines.specs.declared.line.Line.{Line}
 use Rattle.afr_object.specs.declared.change.Change.{Change}
-use Rattle.afr_model.specs.Parts.{after_names, first_part, is_again, names_asked, second_part, the_make, the_walk, unlocks_any, upto_names}
+use Rattle.afr_model.specs.Parts.{is_again, names_asked, second_part, unlocks_any, upto_names}
 use Rattle.afr_model.specs.Showing.{among, begins_attempt, has, is_faulted, tells_fault}
 use Rattle.afr_model.specs.Standing.{asks_name, change_after, change_by, locks_any}
-use Rattle.afr_rename_telling.proofs.Cut.{asked_before, first_all, upto_all}
 
 -- ---- tests
 pub or_left : (x y : Bool) → x ≡ true → (x || y) ≡ true
@@ -40,9 +38,6 @@ has_front test s u e = has_append test s u ∙ ap (λ (y : Bool). has test s || 
     go true = refl
     go false = refl
 
-pub has_none_both : (test : Line → Bool) (s u : Work) → has test s ≡ false → has test u ≡ false → has test (s ++ u) ≡ false
-has_none_both test s u e f = has_front test s u f ∙ e
-
 -- ---- tails
 -- what goes over to a work without its last line goes over to what it was at an earlier name
 pub tail_upto : (P : Work → Type 0) → ((x : Line × List Line) (w : Work) → P (x ∷ w) → P w) → (j : ℕ) (w : Work) → P w → P (upto_names j w)
@@ -70,19 +65,6 @@ upto_twice j k (x ∷ w) e = go (upto_twice j k w e) (nat_le k (names_asked w)) 
 
 pub one_less : (k : ℕ) → nat_le (k - 1) k ≡ true
 one_less k = grind (arith, nat_tests)
-
--- the lines after a name and those up to it are all
-pub names_are_whole : (k : ℕ) (w : Work) → after_names k w ++ upto_names k w ≡ w
-names_are_whole k [] = refl
-names_are_whole k (x ∷ w) = go (names_are_whole k w) (nat_le k (names_asked w))
-  where
-    go : after_names k w ++ upto_names k w ≡ w → (t : Bool) → (if t then x ∷ after_names k w else []) ++ (if t then upto_names k w else x ∷ w) ≡ x ∷ w
-    go rest true = ap (λ (v : Work). x ∷ v) rest
-    go rest false = refl
-
--- without a second transaction the making and the walk are all
-pub make_and_walk : (from : List NameId) (w : Work) → second_part w ≡ [] → the_make from w ++ the_walk from w ≡ w
-make_and_walk from w e = ap (λ (v : Work). after_names (length from) v ++ the_walk from w) (first_all w e) ∙ names_are_whole (length from) w
 
 -- lines before those that have asked so many names don't count
 asked_behind : (k : ℕ) (s u : Work) → nat_le k (names_asked u) ≡ true → nat_le k (names_asked (s ++ u)) ≡ true

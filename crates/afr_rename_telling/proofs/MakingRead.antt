@@ -1,12 +1,11 @@
 -- The read of the new name and the Begin line of its making: what the lines show after them.
-use Rattle.std.proofs.Common.{◌≡◌, ℕ, ◌&&◌, Bool, true, false, List, [], ◌∷◌, Option, Some, None, length, refl, sym, ap, ◌∙◌, subst, if◌then◌else◌}
+use Rattle.std.proofs.Common.{◌≡◌, Bool, true, false, List, ◌∷◌, Option, Some, None, length, refl, ap, ◌∙◌, subst, if◌then◌else◌}
 use Rattle.afr_base.specs.declared.ids.ActorId.{ActorId}
 use Rattle.afr_base.specs.declared.ids.BrickId.{BrickId}
 use Rattle.afr_base.specs.declared.ids.NameId.{NameId}
 use Rattle.afr_lines.specs.Told.{told_by}
 use Rattle.afr_lines.specs.Work.{Work}
 use Rattle.afr_lines.specs.declared.answer.Answer.{Answer}
-use Rattle.afr_lines.specs.declared.answer.Told.{Told}
 use Rattle.afr_lines.specs.declared.line.Line.{Line}
 use Rattle.afr_lines.specs.declared.line.Line.TheVariants.{Ask, Begin}
 use Rattle.afr_lines.specs.declared.line.Next.TheVariants as next
@@ -17,22 +16,20 @@ use Rattle.afr_object.specs.declared.entry.Entry.{Entry}
 use Rattle.afr_plan.specs.declared.command.Command.{Command}
 use Rattle.afr_plan.specs.declared.command.Command.TheVariants as command
 use Rattle.afr_plan.specs.declared.plan.Plan.{Plan}
-use Rattle.afr_model.specs.Parts.{is_again, the_make}
+use Rattle.afr_model.specs.Parts.{the_make}
 use Rattle.afr_transaction.specs.Between.{noted_read}
-use Rattle.afr_transaction.specs.Progress.{Progress, fed, is_beginning, next_at as next_change}
-use Rattle.afr_transaction.specs.declared.stage.Stage.TheVariants.{Beginning}
-use Rattle.afr_entry.specs.Entry.{found_by, progress_begun, reads_name, settled}
-use Rattle.afr_entry.specs.Job.{name_of, ruled_out}
+use Rattle.afr_transaction.specs.Progress.{Progress, is_beginning, next_at as next_change}
+use Rattle.afr_entry.specs.Entry.{found_by, progress_begun, settled}
 use Rattle.afr_entry.specs.declared.job.EntryJob.{EntryJob}
 use Rattle.afr_entry.specs.declared.job.EntryJob.TheVariants.{Create}
 use Rattle.afr_entry.specs.declared.refusal.Refusal.{Refusal}
 use Rattle.afr_entry.specs.declared.stage.Found.{Found}
 use Rattle.afr_entry.specs.declared.stage.Found.TheVariants.{Unread, Fits, Refused}
 use Rattle.afr_inode_telling.proofs.ReadsMore.{asks_same}
-use Rattle.afr_entry_telling.specs.EntryTelling.{CanHearUnder, CanName, Changes, Goes}
+use Rattle.afr_entry_telling.specs.EntryTelling.{CanHearUnder, CanName, Changes}
 use Rattle.afr_entry_telling.proofs.Changing.{begins_at, name_goes, name_read}
-use Rattle.afr_entry_telling.proofs.Heard.{hears_name, hears_told}
-use Rattle.afr_entry_telling.proofs.Names.{Quiet, name_told, quiet}
+use Rattle.afr_entry_telling.proofs.Heard.{hears_name}
+use Rattle.afr_entry_telling.proofs.Names.{name_told, quiet}
 use Rattle.afr_entry_telling.proofs.Under.{name_more, place_more}
 use Rattle.afr_rename.specs.Against.{against_new}
 use Rattle.afr_rename.specs.Paths.{reads_new}
@@ -41,9 +38,8 @@ use Rattle.afr_rename.specs.Under.{found_after, next_under, progress_after}
 use Rattle.afr_rename.specs.declared.paths.Paths.{Paths}
 use Rattle.afr_second.specs.Held.{Holds}
 use Rattle.afr_second.proofs.HeldLemmas.{held_given_up, held_read}
-use Rattle.afr_write_telling.specs.WriteTelling.{CanTell}
 use Rattle.afr_rename_telling.specs.RenameTelling.{LocksLeg, Makes, to_of}
-use Rattle.afr_rename_telling.proofs.MakingLocks.{asks_own, begins_own, begun_held, begun_on}
+use Rattle.afr_rename_telling.proofs.MakingLocks.{asks_own, begins_own, begun_held, begun_on, hears_told}
 use Rattle.afr_rename_telling.proofs.MakingMore.{asked_makes, given_new, goes_to, last_now, legs_now, like, ruled_new}
 use Rattle.afr_rename_telling.proofs.MakingWalked.{waits_unlocked}
 
@@ -71,11 +67,11 @@ module _ (p : Plan) (x : Paths) (t : Progress) (lines : Work) (a : ActorId) (log
     abbrev noted : Progress
     noted = noted_read copy.0 (reads_new x) (told_by heard) (length log) t
 
-    abbrev Told : Option Refusal → Type 0
-    Told why = Changes p c job dir (settled why noted) (found_by why) ((reads, log) ∷ make)
+    abbrev Left : Option Refusal → Type 0
+    Left why = Changes p c job dir (settled why noted) (found_by why) ((reads, log) ∷ make)
 
-    told_name : CanName p dir copy.0 (reads_new x) log heard → Told (against_new heard)
-    told_name can = subst Told (ruled_new x heard)
+    told_name : CanName p dir copy.0 (reads_new x) log heard → Left (against_new heard)
+    told_name can = subst Left (ruled_new x heard)
         (name_read p job x.second make t k.tells.place k.tells.directory k.tells.unread a log copy sound.under.sound (like p x t (Unread copy) lines a log k sound) sound.under.reads k.tells.on.0 k.tells.name at_begin heard took
         (name_told p copy.0 dir.gfid x.new_name log heard can.answers))
 

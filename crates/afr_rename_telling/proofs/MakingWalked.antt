@@ -1,32 +1,26 @@
 -- What the walk of a rename leaves to the lines after it, and that it stays.
-use Rattle.std.proofs.Common.{◌≡◌, ℕ, ◌-◌, ◌&&◌, ◌||◌, nat_le, Bool, true, false, List, [], ◌∷◌, ◌++◌, Some, None, length, refl, sym, ap, ◌∙◌, subst, if◌then◌else◌}
-use Rattle.afr_base.specs.declared.ids.ActorId.{ActorId}
-use Rattle.afr_base.specs.declared.ids.BrickId.{BrickId}
+use Rattle.std.proofs.Common.{◌≡◌, ◌-◌, ◌&&◌, Bool, true, false, List, ◌∷◌, ◌++◌, length, refl, sym, ap, ◌∙◌, subst}
 use Rattle.afr_base.specs.declared.ids.NameId.{NameId}
 use Rattle.afr_base.specs.declared.ids.What.TheVariants.{File}
 use Rattle.afr_lines.specs.Work.{Work}
-use Rattle.afr_lines.specs.declared.answer.Told.{Told}
 use Rattle.afr_lines.specs.declared.line.Line.{Line}
-use Rattle.afr_lines.specs.declared.line.Line.TheVariants.{Ask}
-use Rattle.afr_lines.specs.declared.request.Request.{Request}
 use Rattle.afr_lines.specs.declared.request.Request.TheVariants.{Look, ReadName, ReadBytes, ReadAttr, List as ListNames}
-use Rattle.afr_object.specs.declared.entry.Entry.{Entry}
 use Rattle.afr_plan.specs.declared.command.Command.TheVariants as command
 use Rattle.afr_plan.specs.declared.plan.Plan.{Plan}
-use Rattle.afr_model.specs.Parts.{first_part, is_again, names_asked, second_part, the_make, the_walk, unlocks_any, upto_names}
+use Rattle.afr_model.specs.Parts.{first_part, is_again, the_make, the_walk, unlocks_any}
 use Rattle.afr_model.specs.Renamed.{AreLegs}
-use Rattle.afr_model.specs.Showing.{Path, At, among, begins_attempt, has, is_faulted, path_by, posted}
+use Rattle.afr_model.specs.Showing.{At, begins_attempt, has, path_by}
 use Rattle.afr_model.specs.Skipped.{SkipsNothing}
-use Rattle.afr_model.specs.Standing.{change_by, locks_any}
-use Rattle.afr_inode_telling.specs.Lines.{OnlyReads}
+use Rattle.afr_model.specs.Standing.{locks_any}
 use Rattle.afr_inode_telling.specs.WalkLaws.{IsUntouched}
 use Rattle.afr_inode_telling.specs.WalkTelling.{GoesOn}
 use Rattle.afr_inode_telling.proofs.Quiet.{IsQuiet, has_none}
 use Rattle.afr_inode_telling.proofs.Untouched.{touches_nothing}
 use Rattle.afr_rename.specs.declared.paths.Paths.{Paths}
 use Rattle.afr_rename_telling.specs.RenameTelling.{HasWalked, OnFirst, old_dir}
-use Rattle.afr_rename_telling.proofs.Cut.{asked_before, first_more, make_grows, make_stays, still_asked, still_first, upto_more, walk_stays}
-use Rattle.afr_rename_telling.proofs.MakingParts.{again_by, has_append, has_front, has_none_both, make_and_walk}
+use Rattle.afr_rename_telling.proofs.Cut.{asked_before, first_more, make_grows, still_asked, still_first, upto_more, walk_stays}
+use Rattle.afr_rename_telling.proofs.Looks.{make_and_walk}
+use Rattle.afr_rename_telling.proofs.MakingParts.{again_by, has_front}
 
 -- a look or a read is no unlock
 pub quiet_unlocks : IsQuiet unlocks_any

@@ -1,5 +1,5 @@
 -- While the old name is locked, read and removed: each line is about it.
-use Rattle.std.proofs.Common.{◌≡◌, ℕ, suc, ◌+◌, ◌-◌, ◌<◌, ◌==◌, Bool, true, false, List, [], ◌∷◌, ◌++◌, Option, Some, None, length, slice_get, take, refl, sym, ap, ◌∙◌, subst, arith, if◌then◌else◌}
+use Rattle.std.proofs.Common.{◌≡◌, ℕ, suc, ◌+◌, ◌-◌, ◌<◌, Bool, true, false, List, [], ◌∷◌, ◌++◌, Some, length, slice_get, refl, sym, ap, ◌∙◌, subst, arith, if◌then◌else◌}
 use Rattle.afr_base.specs.declared.ids.ActorId.{ActorId}
 use Rattle.afr_base.specs.declared.ids.BrickId.{BrickId}
 use Rattle.afr_base.specs.declared.ids.NameId.{NameId}
@@ -11,8 +11,6 @@ use Rattle.afr_lines.specs.declared.line.Line.{Line}
 use Rattle.afr_lines.specs.declared.line.Line.TheVariants.{Ask, Begin}
 use Rattle.afr_lines.specs.declared.line.Next.TheVariants as next
 use Rattle.afr_lines.specs.declared.request.Request.{Request}
-use Rattle.afr_object.specs.declared.change.Change.{Change}
-use Rattle.afr_object.specs.declared.entry.Entry.{Entry}
 use Rattle.afr_plan.specs.declared.command.Command.{Command}
 use Rattle.afr_plan.specs.declared.command.Command.TheVariants as command
 use Rattle.afr_plan.specs.declared.plan.Plan.{Plan}
@@ -40,7 +38,7 @@ use Rattle.afr_rename.specs.Paths.{IsPaths, front, reads_old, removal_of}
 use Rattle.afr_rename.specs.Rename.{IsMaking, IsRemoving, is_done, turned}
 use Rattle.afr_rename.specs.Under.{next_under}
 use Rattle.afr_rename.specs.declared.paths.Paths.{Paths}
-use Rattle.afr_rename_telling.specs.RenameTelling.{Drops, LedToFile, Makes, OldTells, Removes, old_dir, to_of}
+use Rattle.afr_rename_telling.specs.RenameTelling.{Drops, LedToFile, Makes, Removes, old_dir, to_of}
 use Rattle.afr_rename_telling.proofs.RemovingBegins.{is_second, own, prefix, prefix_untouched}
 use Rattle.afr_rename_telling.proofs.RemovingTurn.{made_done}
 
@@ -122,7 +120,7 @@ module _ (p : Plan) (x : Paths) (paths : IsPaths x) (t : Progress) (lines : Work
         each_line t a log (λ (y : Line). Keeps y → About p x (length log) lines y)
         (λ stage b told took now keeps. ask_about p x lines (length log) a b (request_at stage t) told took (k.again (Ask a b (request_at stage t) told took)) k.made keeps.0 keeps.1)
         (λ now keeps. subst (λ (part : Part). IsOfPart part p from (to_of x) (Begin a (numbered (length log) t.change)) lines × KeepsToPart part p from (to_of x) (Begin a (numbered (length log) t.change)) (length log) lines)
-            (sym (removes_part from (Begin a (numbered (length log) t.change)) lines (k.again (Begin a (numbered (length log) t.change))))) ((k.made, still now, keeps.0), keeps.1))
+        (sym (removes_part from (Begin a (numbered (length log) t.change)) lines (k.again (Begin a (numbered (length log) t.change))))) ((k.made, still now, keeps.0), keeps.1))
         told line is keeps
 
 -- ---- each line under the locks
@@ -133,8 +131,8 @@ removing_line p x paths t (Unread copy) lines a log told line k sound is = go (i
     read : (took : Bool) → is_beginning t.stage ≡ true → About p x (length log) lines (Ask a copy (reads_old x) told took)
     read took f =
         let l = keeps_so p x paths t lines a log (Ask a copy (reads_old x) told took)
-            (name_line p (Unlink x.old_name) (w p x paths t lines a log) (the_removal x.first.path lines) t (place p x paths t lines a log (Unread copy) k.tells) refl k.tells.unread a log copy sound.under.sound (like_same t.change (removal_of x) sound.under.of) sound.under.reads k.tells.on.0
-            (not_read p x paths t lines a log k.tells.name) f told took) in
+        (name_line p (Unlink x.old_name) (w p x paths t lines a log) (the_removal x.first.path lines) t (place p x paths t lines a log (Unread copy) k.tells) refl k.tells.unread a log copy sound.under.sound (like_same t.change (removal_of x) sound.under.of) sound.under.reads k.tells.on.0
+        (not_read p x paths t lines a log k.tells.name) f told took) in
         ask_about p x lines (length log) a copy (reads_old x) told took (k.again (Ask a copy (reads_old x) told took)) k.made l.0 l.1
 
     go : (y : Bool) → is_beginning t.stage ≡ y → IsNextLine a (if y then next.Ask copy (reads_old x) else next_change t.stage (length log) t) told line → About p x (length log) lines line
@@ -154,11 +152,12 @@ removing_line p x paths t (Refused why) lines a log told line k sound is = go (i
     go : (y : Bool) → IsNextLine a (if y then next.End (reply_to why) else next_change t.stage (length log) t) told line → About p x (length log) lines line
     go true is = absurd is
     go false is =
-        own_line p x paths t lines a log (Refused why) k sound told line (λ now. let f = k.tells.on.closing in absurd (cc (now, f))) is
-        (given_up_about p (command.Unlink x.first.path) (the_removal x.first.path lines) t a told line log k.tells.on is,
-        each_line t a log (λ (y : Line). KeepsTo p (command.Unlink x.first.path) y (length log) (the_removal x.first.path lines))
-        (λ stage b told took now. keeps_request p (command.Unlink x.first.path) (the_removal x.first.path lines) t a (length log) stage b told took)
-        (λ now. let f = k.tells.on.closing in absurd (cc (now, f))) told line is)
+        own_line p x paths t lines a log (Refused why) k sound told line (λ now. let f = k.tells.on.closing in absurd (cc (now, f))) is (
+          given_up_about p (command.Unlink x.first.path) (the_removal x.first.path lines) t a told line log k.tells.on is,
+          each_line t a log (λ (y : Line). KeepsTo p (command.Unlink x.first.path) y (length log) (the_removal x.first.path lines))
+              (λ stage b told took now. keeps_request p (command.Unlink x.first.path) (the_removal x.first.path lines) t a (length log) stage b told took)
+              (λ now. let f = k.tells.on.closing in absurd (cc (now, f))) told line is,
+        )
 
 -- ---- the first lock
 pub turn_line : (p : Plan) (x : Paths) (paths : IsPaths x) (t : Progress) (found : Found) (lines : Work) (a : ActorId) (log : List Line) (told : Told) (line : Line) → Makes p x t found lines → IsMaking x t found → is_done t ≡ true

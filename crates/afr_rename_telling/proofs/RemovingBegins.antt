@@ -1,13 +1,10 @@
 -- The first lock of the old name: with it the second transaction begins, on the walk to the directory.
-use Rattle.std.proofs.Common.{◌≡◌, ℕ, ◌-◌, ◌<◌, ◌&&◌, ◌||◌, nat_le, Bool, true, false, List, [], ◌∷◌, ◌++◌, Option, Some, None, length, refl, sym, ap, ◌∙◌, subst, inl, inr, if◌then◌else◌}
+use Rattle.std.proofs.Common.{◌≡◌, ◌-◌, Bool, true, false, List, ◌∷◌, ◌++◌, Some, None, length, refl, sym, ◌∙◌, subst, inr}
 use Rattle.afr_base.specs.Bricks.{lowest}
-use Rattle.afr_base.specs.Majority.{is_majority}
 use Rattle.afr_base.specs.declared.ids.ActorId.{ActorId}
 use Rattle.afr_base.specs.declared.ids.BrickId.{BrickId}
-use Rattle.afr_base.specs.declared.ids.Gfid.{Gfid}
 use Rattle.afr_base.specs.declared.ids.NameId.{NameId}
 use Rattle.afr_discipline.specs.Tests.{fits_view}
-use Rattle.afr_lines.specs.Areas.{area_for}
 use Rattle.afr_lines.specs.Work.{Work}
 use Rattle.afr_lines.specs.declared.answer.Told.{Told}
 use Rattle.afr_lines.specs.declared.line.Line.{Line}
@@ -17,14 +14,11 @@ use Rattle.afr_lines.specs.declared.request.Request.{Request}
 use Rattle.afr_object.specs.Tables.{object_of}
 use Rattle.afr_object.specs.declared.change.Change.{Change}
 use Rattle.afr_object.specs.declared.entry.View.{View}
-use Rattle.afr_plan.specs.declared.command.Command.TheVariants as command
 use Rattle.afr_plan.specs.declared.plan.Plan.{Plan}
-use Rattle.afr_model.specs.Parts.{first_part, is_again, second_part, the_make, the_removal, the_walk, unlocks_any, upto_names}
-use Rattle.afr_model.specs.Renamed.{AreLegs, since_name}
-use Rattle.afr_model.specs.Showing.{Path, At, NotAsked, among, begins_attempt, has, looking, looks_at, path_by, posted, reading_by, refuses_read}
-use Rattle.afr_model.specs.Refusals.{refusal}
-use Rattle.afr_model.specs.Skipped.{IsLooked, SkipsNothing}
-use Rattle.afr_model.specs.Standing.{change_by, locks_any, path_upto}
+use Rattle.afr_model.specs.Parts.{is_again, the_make, the_walk, upto_names}
+use Rattle.afr_model.specs.Renamed.{AreLegs}
+use Rattle.afr_model.specs.Showing.{NotAsked, has, reading_by, refuses_read}
+use Rattle.afr_model.specs.Standing.{locks_any}
 use Rattle.afr_transaction.specs.Progress.{Progress, fed, left, next_at as next_change, request_at, starting}
 use Rattle.afr_transaction.specs.Sound.{Sound, Suits}
 use Rattle.afr_transaction.specs.declared.stage.Stage.TheVariants.{Locking}
@@ -38,25 +32,24 @@ use Rattle.afr_again.proofs.AgainLemmas.{rests}
 use Rattle.afr_again.proofs.FollowsLemmas.{again_sound}
 use Rattle.afr_entry.specs.declared.job.EntryJob.TheVariants.{Unlink}
 use Rattle.afr_entry.specs.declared.stage.Found.{Found}
-use Rattle.afr_entry.specs.declared.stage.Found.TheVariants.{Unread}
 use Rattle.afr_inode_telling.specs.Lines.{OnlyReads}
 use Rattle.afr_inode_telling.specs.WalkLaws.{IsUntouched}
 use Rattle.afr_inode_telling.proofs.ReadsMore.{asks_same}
 use Rattle.afr_inode_telling.proofs.Untouched.{touches_nothing}
 use Rattle.afr_write_telling.specs.WriteTelling.{CanTell}
-use Rattle.afr_entry_telling.specs.EntryTelling.{Goes, HoldsName, OnChange}
+use Rattle.afr_entry_telling.specs.EntryTelling.{Goes, OnChange}
 use Rattle.afr_entry_telling.proofs.Held.{holds_first}
 use Rattle.afr_entry_telling.proofs.Names.{upto_stays}
 use Rattle.afr_entry_telling.proofs.Words.{suits_view}
-use Rattle.afr_rename.specs.Paths.{making_of, removal_of}
+use Rattle.afr_rename.specs.Paths.{removal_of}
 use Rattle.afr_rename.specs.Rename.{IsMaking, is_done, turned, unread}
 use Rattle.afr_rename.specs.declared.paths.Paths.{Paths}
 use Rattle.afr_rename.proofs.RenameLemmas.{done_is}
 use Rattle.afr_second.proofs.HeldLemmas.{acknowledged_unlocks}
-use Rattle.afr_rename_telling.specs.RenameTelling.{Drops, HasWalked, Makes, Removes, old_dir, to_of}
+use Rattle.afr_rename_telling.specs.RenameTelling.{Drops, HasWalked, Makes, Removes, old_dir}
 use Rattle.afr_rename_telling.proofs.Cut.{asked_before, first_all}
 use Rattle.afr_rename_telling.proofs.MakingLocks.{asked_on}
-use Rattle.afr_rename_telling.proofs.MakingParts.{again_by, again_stays, has_append, one_less, or_left, tail_upto, upto_twice}
+use Rattle.afr_rename_telling.proofs.MakingParts.{again_by, has_append, one_less, or_left, tail_upto, upto_twice}
 use Rattle.afr_rename_telling.proofs.MakingWalked.{unlocks_only, whole}
 use Rattle.afr_rename_telling.proofs.RemovingPrefix.{all_before, few_upto, legs_before, none_before, only_before, unread_before, upto_whole}
 use Rattle.afr_rename_telling.proofs.RemovingTurn.{HasMade, made_done, removes_more}

@@ -1,20 +1,16 @@
 -- While the old name is locked, read and removed: what the lines show after one more.
-use Rattle.std.proofs.Common.{◌≡◌, ℕ, ◌-◌, ◌<◌, ◌==◌, ◌&&◌, Bool, true, false, List, [], ◌∷◌, Option, Some, None, length, refl, sym, ap, ◌∙◌, subst, arith, if◌then◌else◌}
-use Rattle.std.proofs.lemmas.Bool.Decides.{eqb_tells}
-use Rattle.afr_base.specs.Bricks.{member}
+use Rattle.std.proofs.Common.{◌≡◌, ◌-◌, ◌<◌, ◌==◌, Bool, true, false, List, ◌∷◌, Option, Some, None, length, refl, sym, ap, ◌∙◌, subst, if◌then◌else◌}
 use Rattle.afr_base.specs.declared.ids.ActorId.{ActorId}
 use Rattle.afr_base.specs.declared.ids.BrickId.{BrickId}
 use Rattle.afr_base.specs.declared.ids.Gfid.{Gfid}
 use Rattle.afr_base.specs.declared.ids.Kind.TheVariants.{Names}
 use Rattle.afr_base.specs.declared.ids.What.{What}
 use Rattle.afr_base.specs.declared.ids.What.TheVariants.{File, Dir}
-use Rattle.afr_choice.specs.Verdict.{good_copies}
 use Rattle.afr_choice.specs.VerdictLemmas.{good_below}
 use Rattle.afr_discipline.specs.Tests.{fits_view}
 use Rattle.afr_lines.specs.Told.{told_by}
 use Rattle.afr_lines.specs.Work.{Work}
 use Rattle.afr_lines.specs.declared.answer.Answer.{Answer}
-use Rattle.afr_lines.specs.declared.answer.Answer.TheVariants as answer
 use Rattle.afr_lines.specs.declared.answer.Told.{Told}
 use Rattle.afr_lines.specs.declared.answer.Told.TheVariants as told_of
 use Rattle.afr_lines.specs.declared.line.Line.{Line}
@@ -30,11 +26,11 @@ use Rattle.afr_plan.specs.declared.command.Command.TheVariants as command
 use Rattle.afr_plan.specs.declared.plan.Plan.{Plan}
 use Rattle.afr_model.specs.Kept.{entry_after, entry_by}
 use Rattle.afr_model.specs.Parts.{the_removal}
-use Rattle.afr_model.specs.Showing.{Path, At, begins_attempt, has, path_by}
+use Rattle.afr_model.specs.Showing.{At, begins_attempt}
 use Rattle.afr_model.specs.Standing.{place_by}
 use Rattle.afr_model.specs.Tables.{entry_at, holds}
 use Rattle.afr_transaction.specs.Between.{noted_read}
-use Rattle.afr_transaction.specs.Progress.{Progress, fed, is_beginning, next_at as next_change, request_at}
+use Rattle.afr_transaction.specs.Progress.{Progress, is_beginning, next_at as next_change, request_at}
 use Rattle.afr_transaction.specs.Sound.{Sound}
 use Rattle.afr_transaction.specs.declared.stage.Stage.{Stage}
 use Rattle.afr_transaction.specs.declared.stage.Stage.TheVariants.{Locking, Looking, Beginning, Preparing, Applying, Posting, Closing}
@@ -49,19 +45,19 @@ use Rattle.afr_entry.specs.declared.stage.Found.TheVariants.{Unread, Fits, Refus
 use Rattle.afr_inode_telling.proofs.ReadsMore.{asks_same}
 use Rattle.afr_write_telling.specs.WriteTelling.{CanTell}
 use Rattle.afr_write_telling.proofs.Goes.{asked_stage}
-use Rattle.afr_entry_telling.specs.EntryTelling.{CanHearUnder, CanName, Goes, OnChange, WasGiven}
+use Rattle.afr_entry_telling.specs.EntryTelling.{CanHearUnder, CanName, Goes, WasGiven}
 use Rattle.afr_entry_telling.proofs.Changing.{begins_at}
-use Rattle.afr_entry_telling.proofs.Heard.{hears_name, hears_told}
+use Rattle.afr_entry_telling.proofs.Heard.{hears_name}
 use Rattle.afr_entry_telling.proofs.Names as name_told
 use Rattle.afr_entry_telling.proofs.Names.{NameTold, Quiet, quiet, upto_stays}
 use Rattle.afr_entry_telling.proofs.Words.{suits_view}
 use Rattle.afr_rename.specs.Against.{against_old, is_same}
-use Rattle.afr_rename.specs.Paths.{reads_old, removal_of}
+use Rattle.afr_rename.specs.Paths.{reads_old}
 use Rattle.afr_rename.specs.Rename.{IsRemoving}
 use Rattle.afr_rename.specs.Under.{found_after, next_under, progress_after}
 use Rattle.afr_rename.specs.declared.paths.Paths.{Paths}
-use Rattle.afr_rename_telling.specs.RenameTelling.{ByFault, ByNothing, ByOther, Drops, LastFits, LedElsewhere, OldTells, Removes, old_dir}
-use Rattle.afr_rename_telling.proofs.MakingLocks.{asked_on, asks_own, begins_own, begun_on, of_change, settled_on}
+use Rattle.afr_rename_telling.specs.RenameTelling.{ByFault, ByNothing, ByOther, Drops, LastFits, OldTells, Removes, old_dir}
+use Rattle.afr_rename_telling.proofs.MakingLocks.{asked_on, asks_own, begins_own, begun_on, hears_told, of_change, settled_on}
 use Rattle.afr_rename_telling.proofs.RemovingTurn.{has_made, removes_more}
 
 -- ---- what a line of the transaction leaves of the old name

@@ -1,9 +1,8 @@
 -- The turn from the making to the removal: what a making that is done shows, and the first lock of the old name after it.
-use Rattle.std.proofs.Common.{◌≡◌, ℕ, ◌-◌, ◌<◌, ◌&&◌, ◌||◌, Bool, true, false, List, [], ◌∷◌, ◌++◌, Option, Some, None, length, refl, sym, ap, ◌∙◌, subst, inl, inr, if◌then◌else◌}
+use Rattle.std.proofs.Common.{◌≡◌, ℕ, true, List, [], ◌∷◌, Some, None, refl, sym, ap, ◌∙◌, subst}
 use Rattle.afr_base.specs.Majority.{is_majority}
 use Rattle.afr_base.specs.SetLemmas.{majority_some}
 use Rattle.afr_base.specs.declared.ids.Gfid.{Gfid}
-use Rattle.afr_base.specs.declared.ids.NameId.{NameId}
 use Rattle.afr_base.specs.declared.ids.Shape.{Shape}
 use Rattle.afr_base.specs.declared.ids.What.TheVariants.{File}
 use Rattle.afr_lines.specs.Work.{Work}
@@ -14,14 +13,12 @@ use Rattle.afr_object.specs.declared.change.Change.TheVariants as change_named
 use Rattle.afr_plan.specs.declared.command.Command.TheVariants as command
 use Rattle.afr_plan.specs.declared.plan.Plan.{Plan}
 use Rattle.afr_model.specs.Parts.{first_part, is_again, the_make, the_removal}
-use Rattle.afr_model.specs.Refusals.{by_locks, refusal}
+use Rattle.afr_model.specs.Refusals.{refusal}
 use Rattle.afr_model.specs.Renamed.{AreLegs, since_name}
-use Rattle.afr_model.specs.Showing.{among, begins_attempt, has, locks, posted}
+use Rattle.afr_model.specs.Showing.{among, has, posted}
 use Rattle.afr_model.specs.Skipped.{IsLooked, SkipsNothing}
 use Rattle.afr_model.specs.Standing.{change_by, locks_any}
-use Rattle.afr_transaction.specs.Outcome.{outcome_of}
 use Rattle.afr_transaction.specs.Progress.{Progress, is_over, numbered}
-use Rattle.afr_transaction.specs.declared.reply.Outcome.TheVariants.{Acknowledged}
 use Rattle.afr_transaction.specs.declared.stage.Stage.{Stage}
 use Rattle.afr_transaction.specs.declared.stage.Stage.TheVariants.{Locking, Looking, Beginning, Preparing, Applying, Posting, Closing}
 use Rattle.afr_transaction.proofs.Acknowledged.{acknowledged_exactly}
@@ -100,8 +97,7 @@ module _ (p : Plan) (x : Paths) (t : Progress) (found : Found) (lines : Work) (k
       let some = under.attempt.began in
       absurd (cc (none, some))
   by_found Fits closing most on name =
-      let under = tried p t make (most_posted on.tells most) (subst (λ (stage : Stage). During stage p.shape t make) closing on.tells.during) in
-      (
+      let under = tried p t make (most_posted on.tells most) (subst (λ (stage : Stage). During stage p.shape t make) closing on.tells.during) in (
         record {
           made = most_posted on.tells most;
           change = makes_change under;
@@ -140,9 +136,9 @@ made_stays p x lines line log again k =
     }
 
 -- with it a line goes to the removal
-pub removes_more : (p : Plan) (x : Paths) (lines : Work) (line : Line) (log : List Line) (after : Progress) (then : Found) → is_again line lines ≡ true → HasMade p x lines → LastFits then p x ((line, log) ∷ lines)
-    → Drops p x after then ((line, log) ∷ the_removal x.first.path lines) → Removes p x after then ((line, log) ∷ lines)
-removes_more p x lines line log after then again k last tells =
+pub removes_more : (p : Plan) (x : Paths) (lines : Work) (line : Line) (log : List Line) (after : Progress) (left : Found) → is_again line lines ≡ true → HasMade p x lines → LastFits left p x ((line, log) ∷ lines)
+    → Drops p x after left ((line, log) ∷ the_removal x.first.path lines) → Removes p x after left ((line, log) ∷ lines)
+removes_more p x lines line log after left again k last tells =
     let m = made_stays p x lines line log again k in
     record {
       walked = m.walked;
@@ -154,7 +150,7 @@ removes_more p x lines line log after then again k last tells =
       passed = m.done.passed;
       whole = m.done.whole;
       last = last;
-      tells = subst (λ (w : Work). Drops p x after then w) (sym (removal_grows x.first.path (line, log) lines k.walked.all again)) tells;
+      tells = subst (λ (w : Work). Drops p x after left w) (sym (removal_grows x.first.path (line, log) lines k.walked.all again)) tells;
     }
 
 pub has_made : (p : Plan) (x : Paths) (t : Progress) (found : Found) (lines : Work) → Removes p x t found lines → HasMade p x lines

@@ -1,10 +1,9 @@
 -- What the lines of the second transaction say of the whole work of a rename.
 use Rattle.std.proofs.Common.{◌≡◌, ℕ, ◌-◌, ◌||◌, ◌==◌, nat_le, Bool, true, false, List, [], ◌∷◌, ◌++◌, Option, Some, None, length, refl, sym, ap, ◌∙◌, subst, if◌then◌else◌}
-use Rattle.afr_base.specs.Bricks.{added, added_if, is_nothing, member}
+use Rattle.afr_base.specs.Bricks.{added, is_nothing, member}
 use Rattle.afr_base.specs.Majority.{is_majority}
 use Rattle.afr_base.specs.SetLemmas.{member_added}
 use Rattle.afr_base.specs.declared.ids.ActorId.{ActorId}
-use Rattle.afr_base.specs.declared.ids.BrickId.{BrickId}
 use Rattle.afr_base.specs.declared.ids.Gfid.{Gfid}
 use Rattle.afr_base.specs.declared.ids.Kind.{Kind}
 use Rattle.afr_base.specs.declared.ids.NameId.{NameId}
@@ -18,14 +17,13 @@ use Rattle.afr_lines.specs.declared.line.Next.TheVariants as next
 use Rattle.afr_lines.specs.declared.request.Request.TheVariants as request
 use Rattle.afr_object.specs.Tables.{object_of}
 use Rattle.afr_object.specs.declared.change.Change.{Change}
-use Rattle.afr_object.specs.declared.change.Change.TheVariants.{Make, Remove}
-use Rattle.afr_object.specs.declared.entry.Entry.{Entry}
+use Rattle.afr_object.specs.declared.change.Change.TheVariants.{Make}
 use Rattle.afr_plan.specs.declared.plan.Plan.{Plan}
 use Rattle.afr_model.specs.Blamed.{IsBlaming}
-use Rattle.afr_model.specs.Kept.{IsKept, KeepsName, entry_by}
-use Rattle.afr_model.specs.Parts.{after_names, first_part, names_asked, second_part, the_make, the_removal, the_walk, upto_names}
+use Rattle.afr_model.specs.Kept.{IsKept, KeepsName}
+use Rattle.afr_model.specs.Parts.{first_part, names_asked, second_part, the_make, the_removal, the_walk, upto_names}
 use Rattle.afr_model.specs.Showing.{among, begins_attempt, has, locks, posted, posting}
-use Rattle.afr_model.specs.Standing.{change_after, change_by, locks_any}
+use Rattle.afr_model.specs.Standing.{change_after, change_by}
 use Rattle.afr_transaction.specs.Outcome.{reply_of}
 use Rattle.afr_transaction.specs.Progress.{Progress, asks, next_at as next_change, numbered}
 use Rattle.afr_transaction.specs.declared.stage.Stage.{Stage}
@@ -34,18 +32,19 @@ use Rattle.afr_transaction_tells.specs.About.{BlamesNext}
 use Rattle.afr_transaction_tells.specs.Tells.{AreIdle, During}
 use Rattle.afr_transaction_tells.proofs.Small.{self}
 use Rattle.afr_entry.specs.declared.stage.Found.{Found}
-use Rattle.afr_entry.specs.declared.stage.Found.TheVariants.{Unread, Fits, Refused}
+use Rattle.afr_entry.specs.declared.stage.Found.TheVariants.{Fits}
 use Rattle.afr_second.proofs.Folds.{blamed_whole, parts_are_whole}
 use Rattle.afr_write_telling.proofs.Goes.{begun_stage}
-use Rattle.afr_rename.specs.Paths.{making_of, reads_old, removal_of}
+use Rattle.afr_rename.specs.Paths.{making_of, reads_old}
 use Rattle.afr_rename.specs.Rename.{IsRemoving}
 use Rattle.afr_rename.specs.Under.{next_under}
 use Rattle.afr_rename.specs.declared.paths.Paths.{Paths}
 use Rattle.afr_rename_telling.specs.RenameTelling.{Removes}
 use Rattle.afr_rename_telling.proofs.Cut.{after_none}
+use Rattle.afr_rename_telling.proofs.Looks.{after_and_upto}
 use Rattle.afr_rename_telling.proofs.MakingBlames.{under_blames}
 use Rattle.afr_rename_telling.proofs.MakingLocks.{begins_own}
-use Rattle.afr_rename_telling.proofs.MakingParts.{among_front, changed_front, has_front, names_are_whole, or_left, or_none, upto_behind}
+use Rattle.afr_rename_telling.proofs.MakingParts.{among_front, changed_front, has_front, or_left, or_none, upto_behind}
 use Rattle.afr_rename_telling.proofs.MakingWalked.{walk_untouched}
 use Rattle.afr_rename_telling.proofs.RemovingBegins.{prefix_untouched}
 use Rattle.afr_rename_telling.proofs.RemovingTurn.{none_most}
@@ -120,7 +119,7 @@ module _ (p : Plan) (x : Paths) (t : Progress) (found : Found) (lines : Work) (k
   walk_first = sym (upto_behind (length from) second first asked_first) ∙ ap (upto_names (length from)) (parts_are_whole lines)
 
   make_first : the_make from lines ++ the_walk from lines ≡ first
-  make_first = ap (λ (w : Work). the_make from lines ++ w) (sym walk_first) ∙ names_are_whole (length from) first
+  make_first = ap (λ (w : Work). the_make from lines ++ w) (sym walk_first) ∙ after_and_upto (length from) first
 
   posted_first : among posted first ≡ among posted (the_make from lines)
   posted_first = ap (among posted) (sym make_first) ∙ among_front posted (the_make from lines) (the_walk from lines) (walk_untouched p x lines k.walked).none_posted
