@@ -1,5 +1,5 @@
 -- What a rename hears is an answer to what its next line has asked.
-use Rattle.std.proofs.Common.{◌≡◌, ◌⊎◌, ℕ, ◌<◌, ◌&&◌, not, Bool, true, false, List, [], Option, None, inl, inr, refl, ap, subst, sym, ◌∙◌, if◌then◌else◌}
+use Rattle.std.proofs.Common.{◌≡◌, ◌⊎◌, ℕ, ◌<◌, Bool, true, false, List, [], Option, None, inl, inr, refl, ap, subst, sym, ◌∙◌, if◌then◌else◌}
 use Rattle.afr_base.specs.Bricks.{is_nothing}
 use Rattle.afr_base.specs.declared.ids.BrickId.{BrickId}
 use Rattle.afr_base.specs.declared.ids.Kind.TheVariants.{Names}
@@ -17,7 +17,7 @@ use Rattle.afr_rule.specs.declared.candidate.Candidate.{Candidate}
 use Rattle.afr_walk.specs.Choosing.{RuleAnswers, reader_of}
 use Rattle.afr_walk.specs.Free.{is_ask}
 use Rattle.afr_walk.specs.Walk as walks
-use Rattle.afr_walk.specs.Walk.{walked}
+use Rattle.afr_walk.specs.Walk.{is_walking, walked}
 use Rattle.afr_walk.specs.declared.walk.Walk.{Walk}
 use Rattle.afr_walk.proofs.ChoosingLemmas.{answers_among}
 use Rattle.afr_transaction.specs.Between.{is_read, noted_read}
@@ -33,11 +33,11 @@ use Rattle.afr_entry.specs.declared.refusal.Refusal.{Refusal}
 use Rattle.afr_entry.specs.declared.stage.Found.{Found}
 use Rattle.afr_entry.specs.declared.stage.Found.TheVariants.{Unread, Fits, Refused}
 use Rattle.afr_rename.specs.Against.{against_new, against_old, half_reply}
-use Rattle.afr_rename.specs.Paths.{IsPaths, reads_new, reads_old}
-use Rattle.afr_rename.specs.Rename.{IsFed, IsRename, Renaming, choices_at, is_done, is_over, making_after, making_next, next_at, next_of, second_begun, stage_after, turned, turned_anew}
+use Rattle.afr_rename.specs.Paths.{IsPaths, found_in, reads_new, reads_old}
+use Rattle.afr_rename.specs.Rename.{IsFed, IsRename, Renaming, after_first, after_second, choices_at, is_done, is_over, making_after, making_next, next_at, next_of, paths_after, second_begun, stage_after, turned, turned_anew}
 use Rattle.afr_rename.specs.Under.{IsUnder, choices_under, found_after, next_under, progress_after}
 use Rattle.afr_rename.specs.declared.paths.Paths.{Paths}
-use Rattle.afr_rename.proofs.RenameLemmas.{kept_answer, over_not_done, second_paths}
+use Rattle.afr_rename.proofs.RenameLemmas.{first_paths, is_after_first, is_after_second, is_turned, kept_answer, over_not_done, second_paths}
 use Rattle.afr_rename.specs.declared.stage.RenameStage.{RenameStage}
 use Rattle.afr_rename.specs.declared.stage.RenameStage.TheVariants.{Finding, Walking, Making, Removing, Ending}
 
@@ -241,9 +241,9 @@ unheard calls choose m a at none more = go m.stage none more
           picked = None;
           answers = subst (λ (d : Bool). (if d then [] else choices_under found (told_by a) at t) ≡ []) (sym e) u.0;
           value =
-            subst (λ (d : Bool). at_stage m.paths (Making t found) ≡ at_stage m.paths (if d then second_begun (told_by a) at m.paths t else making_after (reader_of None) found a at m.paths t)) (sym e)
-            (ap (λ (x : Progress). at_stage m.paths (Making x found)) u.1
-            ∙ ap (λ (f : Found). at_stage m.paths (Making (progress_after found (against_new a) (reads_new m.paths) (told_by a) at t) f)) u.2);
+              subst (λ (d : Bool). at_stage m.paths (Making t found) ≡ at_stage m.paths (if d then second_begun (told_by a) at m.paths t else making_after (reader_of None) found a at m.paths t)) (sym e)
+              (ap (λ (x : Progress). at_stage m.paths (Making x found)) u.1
+              ∙ ap (λ (f : Found). at_stage m.paths (Making (progress_after found (against_new a) (reads_new m.paths) (told_by a) at t) f)) u.2);
         }
 
     go : (stage : RenameStage) → is_ask (next_at at stage m.paths) ≡ false → is_over stage ≡ false → IsFed calls choose (heard.Answer a at) (at_stage m.paths stage) (at_stage m.paths stage)
@@ -256,8 +256,8 @@ unheard calls choose m a at none more = go m.stage none more
           picked = None;
           answers = u.0;
           value =
-            ap (λ (x : Progress). at_stage m.paths (Removing x found)) u.1
-            ∙ ap (λ (f : Found). at_stage m.paths (Removing (progress_after found (against_old m.paths.first.object.gfid a) (reads_old m.paths) (told_by a) at t) f)) u.2;
+              ap (λ (x : Progress). at_stage m.paths (Removing x found)) u.1
+              ∙ ap (λ (f : Found). at_stage m.paths (Removing (progress_after found (against_old m.paths.first.object.gfid a) (reads_old m.paths) (told_by a) at t) f)) u.2;
         }
       where
         asked : (d : Bool) → d ≡ false → is_ask (if d then next.End (half_reply (outcome_of t.change t.register)) else next_under found at (reads_old m.paths) t) ≡ false → is_ask (next_under found at (reads_old m.paths) t) ≡ false
@@ -266,11 +266,24 @@ unheard calls choose m a at none more = go m.stage none more
     go (Ending said) none more = absurd (cc more)
 
 -- ---- what the code makes of an answer
+-- the first walk's
+pub first_kept : {F : Type 0} (calls : Calls F) (choose : F) (x : Paths) (picked : Option BrickId) (a : Answer) (at : ℕ) (w : Walk) → IsPaths x → is_walking x.first.step ≡ true → RuleAnswers calls choose (walks.choices_of a x.first) picked
+    → w ≡ walked (reader_of picked) a at x.first → IsPaths (record x { first = w; second = record x.second { register = w.register }; dir = x.first.object.gfid })
+first_kept calls choose x picked a at w k goes answers e =
+    subst (λ (y : Walk). IsPaths (record x { first = y; second = record x.second { register = y.register }; dir = x.first.object.gfid })) (sym e)
+    (first_paths (reader_of picked) a at x k goes (answers_among calls choose (walks.choices_of a x.first) picked answers))
+
+pub first_leaves : (x : Paths) (stage : RenameStage) → IsPaths x → stage ≡ after_first x → IsRename x stage
+first_leaves x stage k e = subst (λ (s : RenameStage). IsRename x s) (sym e) (record { paths = k; sound = is_after_first x k })
+
 -- the second walk's
 pub second_kept : {F : Type 0} (calls : Calls F) (choose : F) (x : Paths) (picked : Option BrickId) (a : Answer) (at : ℕ) (w : Walk) → IsRename x Walking → RuleAnswers calls choose (walks.choices_of a x.second) picked → w ≡ walked (reader_of picked) a at x.second
     → IsPaths (record x { second = w })
 second_kept calls choose x picked a at w k answers e =
     subst (λ (y : Walk). IsPaths (record x { second = y })) (sym e) (second_paths (reader_of picked) a at x k.paths k.sound.0 (answers_among calls choose (walks.choices_of a x.second) picked answers))
+
+pub second_leaves : (x : Paths) (stage : RenameStage) → IsPaths x → found_in x ≡ true → stage ≡ after_second x → IsRename x stage
+second_leaves x stage k found e = subst (λ (s : RenameStage). IsRename x s) (sym e) (record { paths = k; sound = is_after_second x k found })
 
 -- under the locks, by what the answer says
 told_same : (found : Found) (t p : Progress) (at : ℕ) (why w : Option Refusal) (asked q : Request) (told h : Told) → why ≡ w → asked ≡ q → told ≡ h → p ≡ progress_after found why asked told at t → p ≡ progress_after found w q h at t
@@ -304,12 +317,17 @@ making_kept calls choose x t p found f picked why asked told a at k more e ew eq
         go false e = refl
 
 -- once it is done
-pub done_heard : (chosen : BrickId) (x : Paths) (t : Progress) (found : Found) (a : Answer) (at : ℕ) → is_done t ≡ true → second_begun (told_by a) at x t ≡ stage_after chosen (Making t found) a at x
-done_heard chosen x t found a at e = go (is_done t) e
+pub turn_heard : (chosen : BrickId) (x : Paths) (t : Progress) (found : Found) (stage after : RenameStage) (told : Told) (a : Answer) (at : ℕ) → stage ≡ Making t found → is_done t ≡ true → told ≡ told_by a → after ≡ second_begun told at x t
+    → after ≡ stage_after chosen stage a at (paths_after chosen stage a at x)
+turn_heard chosen x t found stage after told a at is e eh ea =
+    subst (λ (s : RenameStage). after ≡ stage_after chosen s a at (paths_after chosen s a at x)) (sym is) (ea ∙ ap (λ (h : Told). second_begun h at x t) eh ∙ go (is_done t) e)
   where
     go : (d : Bool) → d ≡ true → second_begun (told_by a) at x t ≡ (if d then second_begun (told_by a) at x t else making_after chosen found a at x t)
     go true e = refl
     go false e = absurd (cc e)
+
+pub turn_kept : (x : Paths) (t : Progress) (found : Found) (stage : RenameStage) (told : Told) (at : ℕ) → IsRename x (Making t found) → is_done t ≡ true → stage ≡ second_begun told at x t → IsRename x stage
+turn_kept x t found stage told at k e is = subst (λ (s : RenameStage). IsRename x s) (sym is) (record { paths = k.paths; sound = is_turned told at x t found k.sound e })
 
 -- there it asks for what a transaction of a new work asks for
 pub turn_asks : (x : Paths) (t : Progress) (found : Found) (at : ℕ) → is_done t ≡ true → making_next found at x t ≡ progress.next_at Locking at (turned_anew x t)

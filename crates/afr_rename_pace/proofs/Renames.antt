@@ -1,5 +1,5 @@
 -- Each line of a rename that counts takes one from the lines that it has left.
-use Rattle.std.proofs.Common.{◌≡◌, ℕ, ◌+◌, ◌*◌, ◌-◌, ◌<◌, ◌≤◌, Bool, true, false, refl, sym, subst, ap, ◌∙◌, arith, length}
+use Rattle.std.proofs.Common.{◌≡◌, ℕ, ◌+◌, ◌*◌, ◌-◌, ◌<◌, ◌≤◌, Bool, true, false, refl, sym, subst, ap, arith, length}
 use Rattle.std.specs.Prelude.{if◌then◌else◌}
 use Rattle.std.proofs.lemmas.List.{length-take}
 use Rattle.std.proofs.lemmas.Nat.{mul-le}
@@ -33,7 +33,7 @@ use Rattle.afr_walk.specs.Choosing.{IsAmong}
 use Rattle.afr_walk.specs.Free.{IsFree}
 use Rattle.afr_walk.specs.Looks.{left_to_look}
 use Rattle.afr_walk.specs.Walk as walks
-use Rattle.afr_walk.specs.Walk.{IsStep, IsWalk, is_walking, walk_from, walked}
+use Rattle.afr_walk.specs.Walk.{IsStep, IsWalk, is_walking, walk_from}
 use Rattle.afr_walk.specs.declared.walk.Walk.{Walk}
 use Rattle.afr_walk.specs.declared.walk.WalkStep.TheVariants as walking
 use Rattle.afr_walk.specs.declared.walk.WalkStep.{WalkStep}
