@@ -296,6 +296,7 @@ asked_is p (command.Ls path) w = (λ h. tt, λ h. refl)
 asked_is p (command.Stat path) w = (λ h. tt, λ h. refl)
 asked_is p (command.SetAttr path key value) w = (λ h. tt, λ h. refl)
 asked_is p (command.GetAttr path key) w = (λ h. tt, λ h. refl)
+asked_is p (command.Rename from to) w = (λ h. tt, λ h. refl)
 
 pub may_begin_is : (p : Plan) (c : Command) (w : Work) → (may_begin p c w ≡ true) ↔ ((refusal p c w ≡ None) × IsAsked p c w)
 may_begin_is p c w = (

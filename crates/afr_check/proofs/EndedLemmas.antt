@@ -88,6 +88,7 @@ failed_is reply.NoQuorum = (λ h. absurd (cc h), λ h. absurd (cc h))
 failed_is reply.FewCopies = (λ h. absurd (cc h), λ h. absurd (cc h))
 failed_is (reply.SplitBrain views) = (λ h. absurd (cc h), λ h. absurd (cc h))
 failed_is reply.TooLarge = (λ h. absurd (cc h), λ h. absurd (cc h))
+failed_is reply.Half = (λ h. absurd (cc h), λ h. absurd (cc h))
 
 pub told_failed_is : (said : Reply) (w : Work) → (is_told_failed said w ≡ true) ↔ (said ≡ reply.Failed → ((has begins_attempt w ≡ true) × (is_faulted w ≡ true)) ⊎ (has refuses_read w ≡ true))
 told_failed_is said w = (λ h k. to (is_failed said) ((failed_is said).1 k) h, λ h. from (is_failed said) refl h)
@@ -127,6 +128,7 @@ done_is reply.NoQuorum = (λ h. absurd (cc h), λ h. absurd (cc h))
 done_is reply.FewCopies = (λ h. absurd (cc h), λ h. absurd (cc h))
 done_is (reply.SplitBrain views) = (λ h. absurd (cc h), λ h. absurd (cc h))
 done_is reply.TooLarge = (λ h. absurd (cc h), λ h. absurd (cc h))
+done_is reply.Half = (λ h. absurd (cc h), λ h. absurd (cc h))
 
 pub undisturbed_is : (said : Reply) (w : Work) → (is_undisturbed said w ≡ true) ↔ (has begins_attempt w ≡ true → is_faulted w ≡ false → said ≡ reply.Ok good.Done)
 undisturbed_is said w = (

@@ -1,5 +1,5 @@
 -- The third law in the words of the model.
-use Rattle.std.specs.Prelude.{◌≡◌, ℕ, ◌<◌, ◌≤◌, Bool, true, List, length, Some}
+use Rattle.std.specs.Prelude.{◌≡◌, ◌⊎◌, ℕ, ◌<◌, ◌≤◌, Bool, true, List, [], ◌∷◌, length, Some}
 use Rattle.afr_base.specs.Bricks.{member}
 use Rattle.afr_base.specs.Majority.{is_majority}
 use Rattle.afr_base.specs.declared.ids.Gfid.{Gfid}
@@ -53,17 +53,28 @@ abbrev pub ModelReadsAreFresh : Type 0
 ModelReadsAreFresh = (p : Plan) (log : List Line) → p.shape.n ≤ 5 → Honest p log → IsLawful p log → EachLine (IsFreshSince p) log
 
 -- ---- the last looks of a work
--- a majority answered the work's last looks at the object, and brick b is a good copy by them
+-- a majority answered the last looks at the object among these lines, and brick b is a good copy by them
 pub record IsLet (p : Plan) (b : ℕ) (g : Gfid) (kind : Kind) (w : Work) : Type 0 where
   pub answered : is_majority p.shape.n (looked_by g w).reached ≡ true
   pub good : member (good_copies p.shape (looked_by g w) kind) b ≡ true
 
--- the last looks of its work let a read line read what it names
+-- one of these lines
+abbrev pub IsIn : Line × List Line → Work → Type 0
+IsIn x [] = ⊥
+IsIn x (y ∷ w) = (x ≡ y) ⊎ IsIn x w
+
+-- the last looks among some lines of a work let brick b be read
+pub record IsLetBySome (p : Plan) (b : ℕ) (g : Gfid) (kind : Kind) (w : Work) : Type 0 where
+  pub some : Work
+  pub are : (x : Line × List Line) → IsIn x some → IsIn x w
+  pub lets : IsLet p b g kind some
+
+-- the last looks among some lines of its work, or of all of it, let a read line read what it names
 abbrev pub IsLetRead : Plan → Line → List Line → Type 0
-IsLetRead p (Ask a b (request.ReadBytes g at len) told took) older = IsLet p b.0 g Bytes (work a.0 older)
-IsLetRead p (Ask a b (request.ReadName g name) told took) older = IsLet p b.0 g Names (work a.0 older)
-IsLetRead p (Ask a b (request.List g) told took) older = IsLet p b.0 g Names (work a.0 older)
-IsLetRead p (Ask a b (request.ReadAttr g key) told took) older = IsLet p b.0 g Attrs (work a.0 older)
+IsLetRead p (Ask a b (request.ReadBytes g at len) told took) older = IsLetBySome p b.0 g Bytes (work a.0 older)
+IsLetRead p (Ask a b (request.ReadName g name) told took) older = IsLetBySome p b.0 g Names (work a.0 older)
+IsLetRead p (Ask a b (request.List g) told took) older = IsLetBySome p b.0 g Names (work a.0 older)
+IsLetRead p (Ask a b (request.ReadAttr g key) told took) older = IsLetBySome p b.0 g Attrs (work a.0 older)
 IsLetRead p line older = Unit {0}
 
 -- where the looks of its work let it, a read is fresh

@@ -79,7 +79,7 @@ asked_is_noted kept p log a b request r told took few five k may low = (let turn
 
 -- ---- a Begin
 -- what is made new is known
-new_known : (p : Plan) (log : List Line) (a : ActorId) (change : Change) → HasNewGfid (length log) change → BeginsKnown (start_of p (name_bound p)) (by_position log) (length log) (Some (Begin a change))
+pub new_known : (p : Plan) (log : List Line) (a : ActorId) (change : Change) → HasNewGfid (length log) change → BeginsKnown (start_of p (name_bound p)) (by_position log) (length log) (Some (Begin a change))
 new_known p log a (Write g at bytes) h = tt
 new_known p log a (Cut g len) h = tt
 new_known p log a (SetAttr g key value) h = tt
@@ -93,10 +93,10 @@ comes p log a line r lawful range known stand =
     record { next = next; lawful = λ before. (next, before); stand = stand }
 
 pub may_begin : EachLineIsKept → AllowedMayBegin
-may_begin kept p log a change r few five k may range new =
+may_begin kept p log a change r few five k may range known =
     let step = move.Begin (record { ref_ptr = (0, 0); now = change }) in
     let turn = kept p.shape a log r step NotConnected (Begin a change) few five k tt refl (may step refl) in
-    comes p log a (Begin a change) _ turn.lawful range (new_known p log a change new) (record { own = turn.own; others = turn.others })
+    comes p log a (Begin a change) _ turn.lawful range known (record { own = turn.own; others = turn.others })
 
 -- ---- an End
 self : (a : ℕ) → (a == a) ≡ true

@@ -18,7 +18,7 @@ use Rattle.afr_plan.specs.declared.version.Version.{Version}
 use Rattle.afr_plan.specs.Happening.{Who, OfClient, OfHealer, Happening, Stop, Start, Cut, Join, Kill}
 use Rattle.afr_plan.specs.Bytes.{key_byte}
 use Rattle.afr_plan.specs.Spelling.{IsKey}
-use Rattle.afr_plan.specs.Work.{Work, IsCommand, work_word, Write, Read, Create, Mkdir, Unlink, Rmdir, Ls, Stat, SetAttr, GetAttr}
+use Rattle.afr_plan.specs.Work.{Work, IsCommand, work_word, Write, Read, Create, Mkdir, Unlink, Rmdir, Ls, Stat, SetAttr, GetAttr, Rename}
 use Rattle.afr_plan.specs.Work as work
 use Rattle.afr_plan.specs.Said.{Said, IsSaid, Afr, Volume, Files, Turns, Client, Command, Healer, Round, Faulty, At, Go, End}
 use Rattle.afr_plan.specs.Rules.{word_of, is_one_of, is_client, is_healer, is_over, is_disordered, is_event_disordered, lacks_who, is_beyond, is_who_beyond, is_event_beyond, is_count_beyond}
@@ -321,6 +321,7 @@ work_ascii line path Ls h = (path_ascii h.0 path h.1, tt)
 work_ascii line path Stat h = (path_ascii h.0 path h.1, tt)
 work_ascii line path (SetAttr key value) h = (path_ascii h.1.0 path h.1.2, (word_ascii h.1.3.1.0 key h.1.3.1.2, word_ascii h.1.3.1.3.0 value h.1.3.1.3.1))
 work_ascii line path (GetAttr key) h = (path_ascii h.1.0 path h.1.2, word_ascii h.1.3.0 key h.1.3.1)
+work_ascii line path (Rename to) h = (named_path_ascii h.1.0 path h.1.2, named_path_ascii h.1.3.0 to h.1.3.1)
 
 said_ascii : (line : List ℕ) (s : Said) → IsSaid line s → IsSaidAscii s
 said_ascii line (Command path w) h = work_ascii line path w h

@@ -10,7 +10,7 @@ use Rattle.afr_plan.specs.Bytes.{plain}
 use Rattle.afr_plan.specs.Spelling.{WordThen, Both, IsKey, IsNumber, IsSmall, IsPath, IsNamedPath}
 use Rattle.afr_plan.specs.Data.{IsData}
 use Rattle.afr_plan.specs.Happening.{Who, IsWho, OfClient, OfHealer, Happening, IsHappening, Stop, Start, Cut, Join, Kill}
-use Rattle.afr_plan.specs.Work.{Work, IsCommand, work_word, Write, Read, Create, Mkdir, Unlink, Rmdir, Ls, Stat, SetAttr, GetAttr}
+use Rattle.afr_plan.specs.Work.{Work, IsCommand, work_word, Write, Read, Create, Mkdir, Unlink, Rmdir, Ls, Stat, SetAttr, GetAttr, Rename}
 use Rattle.afr_plan.specs.Work as work
 use Rattle.afr_plan.specs.Said.{five_replicas, Said, IsSaid, IsShape, IsFault, Afr, Volume, Files, Turns, Client, Command, Healer, Round, Faulty, At, Go, End}
 use Rattle.afr_plan.specs.Rules.{is_beyond, is_path_beyond, is_work_beyond, is_brick_beyond, is_who_beyond, is_event_beyond, is_count_beyond}
@@ -113,6 +113,14 @@ keys_after v key value h =
     let part = h.1 in
     then_is (codes " ") v h.0 _ h.2 (both_are h.0 part.0 part.1 _ _ part.4 part.2.0 (key_after part.1 value part.3))
 
+-- a rename: its word and its two paths
+renamed : (line : List ℕ) (path to : List (List ℕ)) → IsCommand line path (Rename to) → line ≡ codes "rename " ++ (path_text path ++ (codes " " ++ path_text to))
+renamed line path to h =
+    let part = h.1 in
+    then_is (codes "rename ") line h.0 _ h.2
+    (both_are h.0 part.0 part.1 _ _ part.4 (named_path_is part.0 path part.2)
+    (then_is (codes " ") part.1 part.3.0 _ part.3.2 (named_path_is part.3.0 to part.3.1)))
+
 -- ---- a line as it is printed
 pub record IsPrinted (line : List ℕ) (s : Said) : Type 0 where
   pub form : IsSaid (line_text s) s
@@ -190,6 +198,7 @@ command_printed line path Ls h p b = as_it_stands line _ h p (alone (codes "ls "
 command_printed line path Stat h p b = as_it_stands line _ h p (alone (codes "stat ") line path h)
 command_printed line path (SetAttr key value) h p b = as_it_stands line _ h p (on_path {A = List ℕ × List ℕ} (codes "setattr ") line path (key, value) (WordThen (codes " ") (Both IsKey (WordThen (codes " ") IsKey))) _ h (λ v t. keys_after v key value t))
 command_printed line path (GetAttr key) h p b = as_it_stands line _ h p (on_path (codes "getattr ") line path key (WordThen (codes " ") IsKey) _ h (λ v t. key_after v key t))
+command_printed line path (Rename to) h p b = as_it_stands line _ h p (renamed line path to h)
 
 fault_line_is : (line : List ℕ) (brick at : ℕ) (fault : Fault) → IsSaid line (Faulty brick at fault) → (is_brick_beyond brick || is_count_beyond at) ≡ false → line ≡ line_text (Faulty brick at fault)
 fault_line_is line brick at fault h b =

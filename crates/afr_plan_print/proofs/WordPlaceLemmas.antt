@@ -10,7 +10,7 @@ use Rattle.afr_plan.specs.declared.plan.Words.{Words}
 use Rattle.afr_plan.specs.Names.{with_name, with_names, number_of}
 use Rattle.afr_plan.specs.PlanOf.{path_of, command_of, words_with}
 use Rattle.afr_plan.specs.Said.{Command}
-use Rattle.afr_plan.specs.Work.{Work, Write, Read, Create, Mkdir, Unlink, Rmdir, Ls, Stat, SetAttr, GetAttr}
+use Rattle.afr_plan.specs.Work.{Work, Write, Read, Create, Mkdir, Unlink, Rmdir, Ls, Stat, SetAttr, GetAttr, Rename}
 use Rattle.afr_plan.specs.Work as work
 use Rattle.afr_plan_print.specs.PrintedPlan.{as_ascii, or_mark, word_at, names_of, said_command}
 use Rattle.afr_plan_print.proofs.PrintedPathLemmas.{ascii, AreAscii}
@@ -36,6 +36,9 @@ one_more ws w = step (list_any (bytes_eq w) ws)
 path_more : (path ws : List (List ℕ)) → Extends ws (with_names ws path)
 path_more [] ws = extends_self ws
 path_more (n ∷ path) ws = extends_on ws (with_name ws n) _ (one_more ws n) (path_more path (with_name ws n))
+
+both_more : (path to ws : List (List ℕ)) → Extends ws (with_names (with_names ws path) to)
+both_more path to ws = extends_on ws (with_names ws path) _ (path_more path ws) (path_more to (with_names ws path))
 
 -- ---- a word at its number
 at_number : (ws rest : List (List ℕ)) (w : List ℕ) → slice_get (with_name ws w ++ rest) (number_of ws w) ≡ Some w
@@ -80,12 +83,14 @@ within_on a b c h k = record { names = extends_on _ _ _ h.names k.names; keys = 
 pub within_command : (words new : Words) (path : List (List ℕ)) (w : Work) → Within (words_with words path w) new → Within words new
 within_command words new path (SetAttr key value) h = within_on words _ new (record { names = path_more path words.names; keys = one_more words.keys key; values = one_more words.values value }) h
 within_command words new path (GetAttr key) h = within_on words _ new (record { names = path_more path words.names; keys = one_more words.keys key; values = extends_self words.values }) h
+within_command words new path (Rename to) h = within_on words _ new (record { names = both_more path to words.names; keys = extends_self words.keys; values = extends_self words.values }) h
 within_command words new path w h = within_on words _ new (record { names = path_more path words.names; keys = extends_self words.keys; values = extends_self words.values }) h
 
--- the keys and values of a command are ASCII
+-- the keys and values of a command, and the names of its second path, are ASCII
 abbrev pub IsWorkAscii : Work → Type 0
 IsWorkAscii (SetAttr key value) = (list_all ascii key ≡ true) × (list_all ascii value ≡ true)
 IsWorkAscii (GetAttr key) = list_all ascii key ≡ true
+IsWorkAscii (Rename to) = AreAscii to
 IsWorkAscii w = Unit {0}
 
 with_path : (words new : Words) (path : List (List ℕ)) (w : Work) → AreAscii path → Extends (with_names words.names path) new.names → Command (names_of new (path_of words.names path)) w ≡ Command path w
@@ -107,3 +112,7 @@ command_found words new path (SetAttr key value) a k h =
     ∙ with_path words new path (SetAttr key value) a h.names
 command_found words new path (GetAttr key) a k h =
     ap (λ (t : List ℕ). Command (names_of new (path_of words.names path)) (GetAttr t)) (found words.keys new.keys key k h.keys) ∙ with_path words new path (GetAttr key) a h.names
+command_found words new path (Rename to) a k h =
+    let names : List (List ℕ) = with_names words.names path in
+    ap (λ (t : List (List ℕ)). Command (names_of new (path_of words.names path)) (Rename t)) (path_found to names new.names k h.names)
+    ∙ with_path words new path (Rename to) a (extends_on names _ new.names (path_more to names) h.names)

@@ -5,7 +5,7 @@ use Rattle.afr_plan.specs.Bytes.{plain}
 use Rattle.afr_plan.specs.Said.{Said, IsSaid, Afr, Volume, Files, Turns, Client, Command, Healer, Round, Faulty, At, Go, End}
 use Rattle.afr_plan.specs.SaidReading.{said}
 use Rattle.afr_plan.specs.Rules.{is_over, may_stand, is_versioned, words_after, word_of, is_one_of, is_beyond, is_disordered, passes_total}
-use Rattle.afr_plan.specs.Work.{Work, IsCommand, work_word, Write, Read, Create, Mkdir, Unlink, Rmdir, Ls, Stat, SetAttr, GetAttr}
+use Rattle.afr_plan.specs.Work.{Work, IsCommand, work_word, Write, Read, Create, Mkdir, Unlink, Rmdir, Ls, Stat, SetAttr, GetAttr, Rename}
 use Rattle.afr_plan.specs.Work as work
 use Rattle.afr_plan.specs.Judging.{begins_plan, may_begin, first_word, place_code, judged, formed, fitting}
 use Rattle.afr_plan.specs.Spells.{IsLine}
@@ -26,6 +26,7 @@ first_command line path Ls h = ap first_word h.2
 first_command line path Stat h = ap first_word h.2
 first_command line path (SetAttr key value) h = ap first_word h.2
 first_command line path (GetAttr key) h = ap first_word h.2
+first_command line path (Rename to) h = ap first_word h.2
 
 first_said : (line : List ℕ) (s : Said) → IsSaid line s → first_word line ≡ word_of s
 first_said line (Afr One) h = ap first_word h
@@ -55,6 +56,7 @@ begun_command line path Ls h = ap begins_plan h.2
 begun_command line path Stat h = ap begins_plan h.2
 begun_command line path (SetAttr key value) h = ap begins_plan h.2
 begun_command line path (GetAttr key) h = ap begins_plan h.2
+begun_command line path (Rename to) h = ap begins_plan h.2
 
 begun_said : (line : List ℕ) (s : Said) → IsSaid line s → begins_plan line ≡ may_stand [] s
 begun_said line (Afr One) h = ap begins_plan h

@@ -4,9 +4,9 @@ use Rattle.afr_plan.specs.Bytes.{digit, path_byte, key_byte, hex_digit}
 use Rattle.afr_plan.specs.Reading.{Reader, word, word_then, both, as_a, or_else, whole, path_at, number_at}
 use Rattle.afr_base.specs.declared.ids.Shape.{Shape}
 use Rattle.afr_plan.specs.Said.{Said, IsSaid, Afr, Volume, Files, Turns, Client, Command, Healer, Round, Faulty, At, Go, End}
-use Rattle.afr_plan.specs.SaidReading.{shape_one_at, shape_two_at, said, command_forms, line_forms, one_of, write_of, cut_of, read_of, set_of, get_of, on_path, fault_of, event_of, order_of, volume_one_at, volume_two_at, files_at, turns_at, client_at, write_at, cut_at, read_at, path_line, named_line, set_at, get_at, healer_at, round_at, fault_at, event_at, order_at}
+use Rattle.afr_plan.specs.SaidReading.{shape_one_at, shape_two_at, said, command_forms, line_forms, one_of, write_of, cut_of, read_of, set_of, get_of, rename_of, on_path, fault_of, event_of, order_of, volume_one_at, volume_two_at, files_at, turns_at, client_at, write_at, cut_at, read_at, path_line, named_line, set_at, get_at, rename_at, healer_at, round_at, fault_at, event_at, order_at}
 use Rattle.afr_plan.specs.Spelling.{IsNumber, IsPath, IsNamedPath, WordThen, Both}
-use Rattle.afr_plan.specs.Work.{Work, IsCommand, Write, Read, Create, Mkdir, Unlink, Rmdir, Ls, Stat, SetAttr, GetAttr}
+use Rattle.afr_plan.specs.Work.{Work, IsCommand, Write, Read, Create, Mkdir, Unlink, Rmdir, Ls, Stat, SetAttr, GetAttr, Rename}
 use Rattle.afr_plan.specs.Work as work
 use Rattle.afr_plan.specs.declared.version.Version.{Version}
 use Rattle.afr_plan.specs.declared.version.Version.TheVariants.{One, Two}
@@ -48,7 +48,7 @@ unfolding path_line
 path-said text w f = as-so (on_path w) _ _ _ (word_then-takes text _ _ path-takes) f
 
 commands-take : AllTake command_forms
-unfolding write_at cut_at read_at set_at get_at
+unfolding write_at cut_at read_at set_at get_at rename_at
 commands-take = (
   as-so write_of _ _ _ (path_and (codes "write ") _ _ (number_and _ _ data-takes)) (λ w x h. h),
   (
@@ -71,7 +71,10 @@ commands-take = (
                     as-so set_of _ _ _ (path_and (codes "setattr ") _ _ (both-takes _ _ _ _ key-takes (word_then-takes (codes " ") _ _ key-takes))) (λ w x h. h),
                     (
                       as-so get_of _ _ _ (path_and (codes "getattr ") _ _ key-takes) (λ w x h. h),
-                      tt,
+                      (
+                        as-so rename_of _ _ _ (word_then-takes (codes "rename ") _ _ (both-takes _ _ _ _ named_path-takes (word_then-takes (codes " ") _ _ named_path-takes))) (λ w x h. h),
+                        tt,
+                      ),
                     ),
                   ),
                 ),
@@ -164,7 +167,7 @@ unfolding path_line
 path_again text w line path h = whole_as (on_path w) _ _ (Stops path_byte) (word_then-again text _ _ (Stops path_byte) path-again) tt line path h
 
 command_again : (line : List ℕ) (path : List (List ℕ)) (w : Work) → IsCommand line path w → said line ≡ Some (Command path w)
-unfolding said write_at cut_at read_at set_at get_at named_line path_line
+unfolding said write_at cut_at read_at set_at get_at rename_at named_line path_line
 command_again line path (Write at bytes) h = ap said h.2 ∙ command_is write_at (drop 1 command_forms) line_forms (codes "write " ++ h.0) _
     (whole_as write_of _ _ (Stops hex_digit) (path_and_again (codes "write ") _ _ _ (number_and_again _ _ _ data-again)) tt _ (path, (at, bytes)) (h.0, h.1, refl))
 command_again line path (work.Cut len) h = ap said h.2 ∙ command_is cut_at (drop 2 command_forms) line_forms (codes "cut " ++ h.0) _
@@ -179,12 +182,14 @@ command_again line path Ls h = ap said h.2 ∙ command_is (path_line (codes "ls 
 command_again line path Stat h = ap said h.2 ∙ command_is (path_line (codes "stat ") Stat) (drop 9 command_forms) line_forms (codes "stat " ++ h.0) _ (path_again (codes "stat ") Stat _ path (h.0, h.1, refl))
 command_again line path (SetAttr key value) h = ap said h.2 ∙ command_is set_at (drop 10 command_forms) line_forms (codes "setattr " ++ h.0) _
     (whole_as set_of _ _ (Stops key_byte) (path_and_again (codes "setattr ") _ _ _ (both-again _ _ _ _ (Stops key_byte) (Stops key_byte) key-again (word_then-again (codes " ") _ _ _ key-again) (λ v y rest t. rw t.2 refl))) tt _ (path, (key, value)) (h.0, h.1, refl))
-command_again line path (GetAttr key) h = ap said h.2 ∙ command_is get_at [] line_forms (codes "getattr " ++ h.0) _
+command_again line path (GetAttr key) h = ap said h.2 ∙ command_is get_at (drop 11 command_forms) line_forms (codes "getattr " ++ h.0) _
     (whole_as get_of _ _ (Stops key_byte) (path_and_again (codes "getattr ") _ _ _ key-again) tt _ (path, key) (h.0, h.1, refl))
+command_again line path (Rename to) h = ap said h.2 ∙ command_is rename_at [] line_forms (codes "rename " ++ h.0) _
+    (whole_as rename_of _ _ (Stops path_byte) (word_then-again (codes "rename ") _ _ _ (both-again _ _ _ _ (Stops path_byte) (Stops path_byte) named_path-again (word_then-again (codes " ") _ _ _ named_path-again) (λ v y rest t. rw t.2 refl))) tt _ (path, to) (h.0, h.1, refl))
 
 -- a volume has one of five lines
 volume_again : (version : Version) (line : List ℕ) (shape : Shape) → IsSaid line (Volume version shape) → said line ≡ Some (Volume version shape)
-unfolding said shape_one_at shape_two_at volume_one_at volume_two_at files_at turns_at client_at healer_at round_at fault_at event_at order_at write_at cut_at read_at set_at get_at named_line path_line
+unfolding said shape_one_at shape_two_at volume_one_at volume_two_at files_at turns_at client_at healer_at round_at fault_at event_at order_at write_at cut_at read_at set_at get_at rename_at named_line path_line
 volume_again One line shape (w, inl h, e) = ap said (e ∙ ap (λ (t : List ℕ). codes "volume " ++ t) h.0) ∙ ap (λ (s : Shape). Some (Volume One s)) h.1
 volume_again One line shape (w, inr h, e) = ap said (e ∙ ap (λ (t : List ℕ). codes "volume " ++ t) h.0) ∙ ap (λ (s : Shape). Some (Volume One s)) h.1
 volume_again Two line shape (w, inl h, e) = ap said (e ∙ ap (λ (t : List ℕ). codes "volume " ++ t) h.0) ∙ ap (λ (s : Shape). Some (Volume Two s)) h.1
@@ -192,7 +197,7 @@ volume_again Two line shape (w, inr (inl h), e) = ap said (e ∙ ap (λ (t : Lis
 volume_again Two line shape (w, inr (inr h), e) = ap said (e ∙ ap (λ (t : List ℕ). codes "volume " ++ t) h.0) ∙ ap (λ (s : Shape). Some (Volume Two s)) h.1
 
 pub said-again : (line : List ℕ) (s : Said) → IsSaid line s → said line ≡ Some s
-unfolding said volume_one_at volume_two_at files_at turns_at client_at healer_at round_at fault_at event_at order_at write_at cut_at read_at set_at get_at named_line path_line
+unfolding said volume_one_at volume_two_at files_at turns_at client_at healer_at round_at fault_at event_at order_at write_at cut_at read_at set_at get_at rename_at named_line path_line
 said-again line (Afr One) h = rw h refl
 said-again line (Afr Two) h = rw h refl
 said-again line (Volume version shape) h = volume_again version line shape h

@@ -27,7 +27,7 @@ use Rattle.afr_plan.specs.Rules.{word_of, is_one_of, may_stand, is_over, is_beyo
 use Rattle.afr_plan.specs.Said.{Said, IsSaid, IsShape, Afr, Volume, Files, Turns, Client, Command, Healer, Round, At, Go, End}
 use Rattle.afr_plan.specs.Spelling.{IsNamedPath}
 use Rattle.afr_plan.specs.Spells.{IsLine, AreLines, Spells}
-use Rattle.afr_plan.specs.Work.{Work, IsCommand, Write, Create, Mkdir, Unlink, Rmdir, SetAttr, GetAttr}
+use Rattle.afr_plan.specs.Work.{Work, IsCommand, Write, Create, Mkdir, Unlink, Rmdir, SetAttr, GetAttr, Rename}
 use Rattle.afr_runnable.specs.Runnable.{AreRunnableRounds, IsAboutVolume, IsOneOf, IsRunnable, IsRunnableScript, IsRunnableShape, has_its_name, has_name}
 
 -- ---- lists whose last item grows
@@ -138,16 +138,17 @@ names_grow : (path names : List (List ℕ)) → length names ≤ length (with_na
 names_grow [] names = omega arith
 names_grow (name ∷ path) names = omega (arith, name_grows names name, names_grow path (with_name names name))
 
-words_names : (words : Words) (path : List (List ℕ)) (w : Work) → (words_with words path w).names ≡ with_names words.names path
-words_names words path (SetAttr key value) = refl
-words_names words path (GetAttr key) = refl
-words_names words path w = refl
+words_grow : (words : Words) (path : List (List ℕ)) (w : Work) → length words.names ≤ length (words_with words path w).names
+words_grow words path (SetAttr key value) = names_grow path words.names
+words_grow words path (GetAttr key) = names_grow path words.names
+words_grow words path (Rename to) = omega (arith, names_grow path words.names, names_grow to (with_names words.names path))
+words_grow words path w = names_grow path words.names
 
 names_next : (before : List Said) (s : Said) → (plan_of before).files ≤ length (plan_of before).words.names → (plan_of (s ∷ before)).files ≤ length (plan_of (s ∷ before)).words.names
 names_next before (Files k) h = omega (arith, length-file_names k)
 names_next before (Command path w) h =
     let p : Plan = plan_of before in
-    rw (words_names p.words path w) (omega (arith, h, names_grow path p.words.names))
+    omega (arith, h, words_grow p.words path w)
 names_next before s h = h
 
 -- nothing that names a brick stands before the head is whole
@@ -221,6 +222,11 @@ command_named line words path Create h = named_path h.0 path words.names h.1
 command_named line words path Mkdir h = named_path h.0 path words.names h.1
 command_named line words path Unlink h = named_path h.0 path words.names h.1
 command_named line words path Rmdir h = named_path h.0 path words.names h.1
+command_named line words path (Rename to) h =
+    let names : List (List ℕ) = with_names words.names path in
+    let first : has_name (path_of words.names path) ≡ true = named_path h.1.0 path words.names h.1.2 in
+    let second : has_name (path_of names to) ≡ true = named_path h.1.3.0 to names h.1.3.1 in
+    rw (first, second) refl
 command_named line words path w h = refl
 
 script_more : (n m : ℕ) (script : List PlanCommand) → n ≤ m → IsScript n script → IsScript m script

@@ -149,6 +149,7 @@ pub fn refusals(alloc: Global) -> Result<Vec<Line>, NoMemory> {
         end(Reply::SplitBrain(Views::new(alloc, &[None; 5])?)),
         end(Reply::Failed),
         end(Reply::TooLarge),
+        end(Reply::Half),
     ];
     Ok(Vec::from_array(alloc, lines)?)
 }

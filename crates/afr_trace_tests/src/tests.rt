@@ -101,6 +101,7 @@ const REFUSALS: &str = "\
 7 c1 end split-brain
 8 c1 end failed
 9 c1 end too-large
+10 c1 end half
 ";
 
 const HEALS: &str = "\

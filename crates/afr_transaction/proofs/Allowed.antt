@@ -1,5 +1,5 @@
 -- The next line of a transaction is one that the discipline allows.
-use Rattle.std.proofs.Common.{◌≡◌, ℕ, zero, suc, ◌+◌, ◌<◌, ◌≤◌, ◌&&◌, ◌||◌, not, ◌==◌, nat_le, nat_lt, Bool, true, false, List, [], ◌∷◌, refl, sym, ◌∙◌, ap, subst, arith, Option, None, Some, if◌then◌else◌}
+use Rattle.std.proofs.Common.{◌≡◌, ℕ, zero, suc, ◌<◌, ◌≤◌, ◌&&◌, ◌||◌, not, ◌==◌, nat_le, nat_lt, Bool, true, false, List, [], ◌∷◌, refl, sym, ◌∙◌, ap, subst, arith, Option, None, Some, if◌then◌else◌}
 use Rattle.std.proofs.lemmas.Bool.Decides.{nat_tests}
 use Rattle.afr_base.specs.Bricks.{below, lowest, member, minus, is_nothing}
 use Rattle.afr_base.specs.Majority.{is_most, is_majority}
@@ -35,7 +35,7 @@ use Rattle.afr_discipline.specs.Stands.{number_of, seen_as, step_of, views_of}
 use Rattle.afr_discipline.specs.Tests.{carried, fits_view, lies_in, last_posted, may_end, misses, once, one_of, plane_in, same_flag}
 use Rattle.afr_transaction.specs.declared.stage.Stage.{Stage}
 use Rattle.afr_transaction.specs.declared.stage.Stage.TheVariants.{Locking, Looking, Beginning, Preparing, Applying, Posting, Closing}
-use Rattle.afr_transaction.specs.Progress.{Progress, left, next_at, allowed, number_in, numbered, enough, may_start, asks}
+use Rattle.afr_transaction.specs.Progress.{Progress, left, next_at, allowed, gfid_at, number_in, numbered, enough, may_start, asks}
 use Rattle.afr_transaction.specs.Outcome.{reply_for, reply_of}
 use Rattle.afr_transaction.specs.declared.reply.Outcome.TheVariants.{Acknowledged, NoQuorum, FewCopies, SplitBrain, Failed}
 use Rattle.afr_discipline.specs.Inside.{may_move, may_move_inside}
@@ -170,7 +170,7 @@ numbered_may : (at : ℕ) (r : Register) (c : Change) → may_start r c ≡ true
 numbered_may at r (change.Write g start bytes) h = h
 numbered_may at r (change.Cut g len) h = h
 numbered_may at r (change.SetAttr g key value) h = h
-numbered_may at r (change.Make dir name g what) h = same_start dir name (record { 0 = at + 2 }) g what r h
+numbered_may at r (change.Make dir name g what) h = same_start dir name (gfid_at at g) g what r h
 numbered_may at r (change.Remove dir name what) h = h
 
 -- ---- each stage

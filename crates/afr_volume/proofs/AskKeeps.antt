@@ -23,9 +23,8 @@ use Rattle.afr_lines.specs.declared.line.Next.TheVariants as next
 use Rattle.afr_lines.specs.declared.request.Request.{Request}
 use Rattle.afr_lines.specs.declared.request.Request.TheVariants as request
 use Rattle.afr_model.specs.Actors.{script_of}
-use Rattle.afr_model.specs.Answered.{IsAbout}
-use Rattle.afr_model.specs.Following.{ToCommand}
-use Rattle.afr_model.specs.Keeping.{KeepsTo}
+use Rattle.afr_model.specs.Replied.{IsOf}
+use Rattle.afr_model.specs.Following.{KeepsToCommand, ToCommand}
 use Rattle.afr_model.specs.Honest.{IsHonest, Outcome, answer_by, copy_answer, over_session}
 use Rattle.afr_model.specs.Tables.{held_before, holds}
 use Rattle.afr_object.specs.Tables.{copy_at, view_of}
@@ -48,7 +47,7 @@ use Rattle.afr_walk.specs.Free.{is_free}
 use Rattle.afr_transaction_tells.specs.Laws.{IsNextLine}
 use Rattle.afr_works.specs.Work.{IsWork, choices_heard, heard_by, next_of, register_of}
 use Rattle.afr_works.specs.declared.work.Work.{Work}
-use Rattle.afr_works.specs.declared.work.Work.TheVariants.{Entry, Idle, Lookup, Write}
+use Rattle.afr_works.specs.declared.work.Work.TheVariants.{Entry, Idle, Lookup, Rename, Write}
 use Rattle.afr_works_tell.specs.WorkTelling.{WorkHears, WorkTells}
 use Rattle.afr_volume.specs.Acting.{HearsAny, IsAsked, ServesNext, picked_after, still_picked}
 use Rattle.afr_volume.specs.Keeping.{Carries, CarriesOut, IsActing, IsInSession, IsNoted, IsReading}
@@ -56,11 +55,11 @@ use Rattle.afr_volume.specs.declared.actor.Actor.{Actor}
 use Rattle.afr_volume.proofs.Before.{IsBefore, allows, brings, in_force, low, may, opened}
 use Rattle.afr_volume.proofs.Before as known
 use Rattle.afr_volume.specs.Laws.{Laws}
-use Rattle.afr_volume.proofs.LineKeeps.{Asks, LineKeeps, of_client, self, some_same}
+use Rattle.afr_volume.proofs.LineKeeps.{Asks, LineKeeps, asks_none, of_client, self, some_same}
 use Rattle.afr_volume.proofs.ReadingLemmas.{one_among, own_asked, picked_same}
 
 -- ---- a place within the work
-within_fresh : (p : Plan) (c : Command) (a : ActorId) (b : BrickId) (asked : Request) (told : Told) (took : Bool) (w : Lines) → IsAbout p c (Ask a b asked told took) w → next_place Fresh (Ask a b asked told took) ≡ Within
+within_fresh : (p : Plan) (c : Command) (a : ActorId) (b : BrickId) (asked : Request) (told : Told) (took : Bool) (w : Lines) → IsOf p c (Ask a b asked told took) w → next_place Fresh (Ask a b asked told took) ≡ Within
 within_fresh p c a b (request.Lock domain area) told took w k = refl
 within_fresh p c a b (request.Unlock domain area) told took w k = refl
 within_fresh p c a b (request.Look g) told took w k = refl
@@ -69,14 +68,14 @@ within_fresh p c a b (request.ReadName g name) told took w k = refl
 within_fresh p c a b (request.List g) told took w k = refl
 within_fresh p c a b (request.ReadAttr g key) told took w k = refl
 within_fresh p c a b (request.ReadAttrs g) told took w k = refl
-within_fresh p c a b request.Index told took w k = absurd k
+within_fresh p c a b request.Index told took w k = absurd (asks_none p c a b request.Index told took w (λ d v h. h) k)
 within_fresh p c a b (request.Pre g kind) told took w k = refl
 within_fresh p c a b (request.Apply attempt) told took w k = refl
 within_fresh p c a b (request.Post attempt g kind missed) told took w k = refl
 within_fresh p c a b (request.Mend repair) told took w k = refl
 within_fresh p c a b (request.Settle g kind less) told took w k = refl
 
-within : (met : Bool) (p : Plan) (c : Command) (a : ActorId) (b : BrickId) (asked : Request) (told : Told) (took : Bool) (log : List Line) (r : Register) → IsNoted met p.shape a.0 log r → IsAbout p c (Ask a b asked told took) (work a.0 log)
+within : (met : Bool) (p : Plan) (c : Command) (a : ActorId) (b : BrickId) (asked : Request) (told : Told) (took : Bool) (log : List Line) (r : Register) → IsNoted met p.shape a.0 log r → IsOf p c (Ask a b asked told took) (work a.0 log)
     → next_place (place_of a.0 log) (Ask a b asked told took) ≡ Within
 within true p c a b asked told took log r k about = rw k.0 refl
 within false p c a b asked told took log r k about = rw k.0 (within_fresh p c a b asked told took (work a.0 log) about)
@@ -155,8 +154,9 @@ module _ (laws : Laws) (p : Plan) (a : ActorId) (log : List Line) (servers : Lis
     hears : (w : Work) → IsWork w → WorkTells p c.command w (work a.0 log) → next_of (length log) w ≡ next.Ask b asked → WorkHears w p b.0 asked log s.given.answer
     hears Idle sound tells e = absurd tells
     hears (Lookup m) sound tells e = laws.telling.lookup_hears p m log a b asked s.given.answer s.given.took sound tells.1 e heard
-    hears (Write m) sound tells e = laws.telling.write_hears p c.command m log a b asked s.given.answer s.given.took sound tells e heard
+    hears (Write m) sound tells e = laws.telling.write_hears p c.command m log a b asked s.given.answer s.given.took sound tells.1 e heard
     hears (Entry m) sound tells e = laws.telling.entry_hears p c.command m log a b asked s.given.answer s.given.took sound tells e heard before.follows
+    hears (Rename m) sound tells e = laws.telling.rename_hears p c.command m log a b asked s.given.answer s.given.took sound tells e heard before.follows
 
     abbrev chosen : BrickId
     chosen = reader_of s.heard.picked
@@ -173,7 +173,7 @@ module _ (laws : Laws) (p : Plan) (a : ActorId) (log : List Line) (servers : Lis
     is_next : IsNextLine a (next_of (length log) x.work) told line
     is_next = subst (λ (n : Next). IsNextLine a n told line) (sym e) (s.given.took, refl)
 
-    about : IsAbout p c.command line (work a.0 log) × KeepsTo p c.command line (length log) (work a.0 log)
+    about : IsOf p c.command line (work a.0 log) × KeepsToCommand p c.command line (length log) (work a.0 log)
     about = laws.telling.about p c.command x.work (work a.0 log) a told line log c.sound c.tells is_next
 
     stand : AllStand p.shape a line log (noted_ask (register_of x.work) (length log) b.0 asked told)
@@ -221,6 +221,7 @@ module _ (laws : Laws) (p : Plan) (a : ActorId) (log : List Line) (servers : Lis
     as_carries (Lookup m) k = k
     as_carries (Write m) k = k
     as_carries (Entry m) k = k
+    as_carries (Rename m) k = k
 
     pub ask_keeps : IsActing p log a.0 servers x → LineKeeps p a log written y servers new
     ask_keeps acting = subst (λ (l : Line). LineKeeps p a log l y servers new) (sym s.is_line) (record {
@@ -230,6 +231,7 @@ module _ (laws : Laws) (p : Plan) (a : ActorId) (log : List Line) (servers : Lis
       keeps = ToCommand c.command c.present about.1;
       replied = of_client p a line log c.command before.client c.present about.0;
       blamed = laws.telling.blamed p c.command x.work a told line log c.sound c.tells is_next;
+      names = tt;
       wrote = Asks b asked told s.given.took;
       acting = subst (λ (z : Actor). IsActing p (line ∷ log) a.0 new z) (sym s.heard.becomes) (record {
         ended_is = acting.ended_is;

@@ -34,7 +34,7 @@ use Rattle.afr_transaction.specs.Turn.{InForce}
 use Rattle.afr_walk.specs.Free.{AllowsAsk}
 use Rattle.afr_works.specs.Work.{CarriesNext, next_of, register_of}
 use Rattle.afr_works.specs.declared.work.Work.{Work}
-use Rattle.afr_works.specs.declared.work.Work.TheVariants.{Entry, Idle, Lookup, Write}
+use Rattle.afr_works.specs.declared.work.Work.TheVariants.{Entry, Idle, Lookup, Rename, Write}
 use Rattle.afr_volume.specs.Acting.{CanAsk, has_live}
 use Rattle.afr_volume.specs.Keeping.{CanRun, CarriesOut, IsInSession, IsNoted}
 use Rattle.afr_volume.specs.declared.actor.Actor.{Actor}
@@ -87,8 +87,9 @@ module _ (laws : Laws) (p : Plan) (a : ActorId) (log : List Line) (servers : Lis
       → Brings asked carried log (held_before p log)
   brings Idle met epochs c b asked carried e k = absurd c.tells
   brings (Lookup m) met epochs c b asked carried e k = subst (λ (l : Load). Brings asked l log (held_before p log)) (sym k) (laws.telling.lookup_brings m log (held_before p log) b asked e)
-  brings (Write m) met epochs c b asked carried e k = laws.telling.write_brings p c.command m log a b asked carried c.sound c.tells e k
+  brings (Write m) met epochs c b asked carried e k = laws.telling.write_brings p c.command m log a b asked carried c.sound c.tells.1 e k
   brings (Entry m) met epochs c b asked carried e k = laws.telling.entry_brings p c.command m log a b asked carried c.sound c.tells e k
+  brings (Rename m) met epochs c b asked carried e k = laws.telling.rename_brings p c.command m log a b asked carried c.sound c.tells e k
 
   -- ---- a request
   module _ (w : Work) (met : Bool) (epochs : Epochs) (c : CarriesOut p a.0 log met epochs servers w) (b : BrickId) (asked : Request) (e : next_of (length log) w ≡ next.Ask b asked) (fits : RequestInRange asked) where

@@ -89,6 +89,7 @@ kept_event happened comes p log servers new actors after made event v fits due m
   lawful = (happened p log event fits).lawful v.lawful;
   replied = (tt, v.replied);
   blamed = (tt, v.blamed);
+  names = (tt, v.names);
   gives = (tt, v.gives);
 }
   where

@@ -4,48 +4,24 @@ use Rattle.std.proofs.lemmas.Bool.Decides.{nat_tests}
 use Rattle.std.specs.Prelude.{nat_le}
 use Rattle.afr_base.specs.declared.ids.ActorId.{ActorId}
 use Rattle.afr_base.specs.declared.ids.BrickId.{BrickId}
-use Rattle.afr_base.specs.declared.ids.Gfid.{Gfid}
-use Rattle.afr_base.specs.declared.ids.Kind.{Kind}
-use Rattle.afr_law.specs.ModelFresh.{IsFreshByLooks, IsLet, IsLetRead}
+use Rattle.afr_law.proofs.Model.Fresh.{let_of as let_by_command}
+use Rattle.afr_law.specs.ModelFresh.{IsFreshByLooks, IsLetRead}
 use Rattle.afr_lines.specs.Log.{EachLine}
-use Rattle.afr_lines.specs.Work.{Work as Lines, work}
 use Rattle.afr_lines.specs.declared.answer.Told.{Told}
 use Rattle.afr_lines.specs.declared.answer.Told.TheVariants.{Done, Failed, Given, Granted, Held, NoObject, NotConnected, Seen}
 use Rattle.afr_lines.specs.declared.line.Line.{Line}
 use Rattle.afr_lines.specs.declared.line.Line.TheVariants as line_of
 use Rattle.afr_lines.specs.declared.line.Line.TheVariants.{Ask}
 use Rattle.afr_lines.specs.declared.request.Request.{Request}
-use Rattle.afr_lines.specs.declared.request.Request.TheVariants as request
-use Rattle.afr_model.specs.Answered.{IsAbout, MayRead}
 use Rattle.afr_model.specs.Following.{Follows, IsFollowing, KeepsToTask, ToCommand, ToRound}
 use Rattle.afr_model.specs.Replied.{IsReplied, Replied}
 use Rattle.afr_model.specs.Safe.{AreFresh, IsFresh}
-use Rattle.afr_plan.specs.declared.command.Command.{Command}
 use Rattle.afr_plan.specs.declared.plan.Plan.{Plan}
-
-let_by : (p : Plan) (c : Command) (g : Gfid) (kind : Kind) (b : ℕ) (w : Lines) → MayRead p c g kind b w → IsLet p b g kind w
-let_by p c g kind b w k = record { answered = k.answered; good = k.good }
-
-let_read : (p : Plan) (c : Command) (a : ActorId) (b : BrickId) (asked : Request) (told : Told) (took : Bool) (older : List Line) → IsAbout p c (Ask a b asked told took) (work a.0 older) → IsLetRead p (Ask a b asked told took) older
-let_read p c a b (request.ReadBytes g at len) told took older k = let_by p c g _ b.0 (work a.0 older) k.0
-let_read p c a b (request.ReadName g name) told took older k = let_by p c g _ b.0 (work a.0 older) k
-let_read p c a b (request.List g) told took older k = let_by p c g _ b.0 (work a.0 older) k.0
-let_read p c a b (request.ReadAttr g key) told took older k = let_by p c g _ b.0 (work a.0 older) k.0
-let_read p c a b (request.Lock domain area) told took older k = tt
-let_read p c a b (request.Unlock domain area) told took older k = tt
-let_read p c a b (request.Look g) told took older k = tt
-let_read p c a b (request.ReadAttrs g) told took older k = tt
-let_read p c a b request.Index told took older k = tt
-let_read p c a b (request.Pre g kind) told took older k = tt
-let_read p c a b (request.Apply attempt) told took older k = tt
-let_read p c a b (request.Post attempt g kind missed) told took older k = tt
-let_read p c a b (request.Mend repair) told took older k = tt
-let_read p c a b (request.Settle g kind less) told took older k = tt
 
 -- a client's line is of its command
 let_of : (p : Plan) (a : ActorId) (b : BrickId) (asked : Request) (told : Told) (took : Bool) (older : List Line) → nat_le a.0 16 ≡ true → KeepsToTask p a.0 (Ask a b asked told took) older → IsReplied p (Ask a b asked told took) older
     → IsLetRead p (Ask a b asked told took) older
-let_of p a b asked told took older client (ToCommand c present keeps) k = let_read p c a b asked told took older (k.command c present)
+let_of p a b asked told took older client (ToCommand c present keeps) k = let_by_command p a b asked told took older c (k.command c present)
 let_of p a b asked told took older client (ToRound low brick present keeps) k = absurd (grind (arith, nat_tests, client, low))
 
 fresh_line : (p : Plan) (line : Line) (older : List Line) → IsFollowing p line older → IsReplied p line older → IsFreshByLooks p line older → IsFresh p line older

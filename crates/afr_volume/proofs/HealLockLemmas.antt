@@ -12,6 +12,7 @@ use Rattle.afr_healer.specs.Rounding as rounding
 use Rattle.afr_healer.specs.declared.stage.RoundStage.{RoundStage}
 use Rattle.afr_healer.specs.declared.stage.RoundStage.TheVariants.{Asking, Healing, Over}
 use Rattle.afr_lines.specs.Areas.{object_of_area}
+use Rattle.afr_lines.specs.Work.{work}
 use Rattle.afr_lines.specs.declared.answer.Told.{Told}
 use Rattle.afr_lines.specs.declared.line.Line.{Line}
 use Rattle.afr_lines.specs.declared.line.Line.TheVariants as line_of
@@ -33,7 +34,7 @@ use Rattle.afr_rounds.specs.declared.healer.Healer.{Healer}
 use Rattle.afr_discipline.specs.Stands.{seen_as}
 use Rattle.afr_self_heal.specs.Healing as heal
 use Rattle.afr_server.specs.Serving.{Serving}
-use Rattle.afr_volume.proofs.LineKeeps.{Asks, Begins, Ends as ByEnd, Heals, Parts, Wrote}
+use Rattle.afr_volume.proofs.LineKeeps.{Asks, Begins, Ends as ByEnd, Heals, Parts, Wrote, asks_none}
 
 -- where a request unlocks a Heal lock, its area is that lock's
 abbrev pub GivesIn : Request → Type 0
@@ -132,7 +133,7 @@ healer_gives Hears a at x y old new written log s = stepped_gives Hears a at x y
 
 -- ---- a client unlocks no Heal lock
 ask_gives : (p : Plan) (a : ActorId) (b : BrickId) (r : Request) (told : Told) (took : Bool) (log : List Line) → a.0 ≤ 16 → KeepsToTask p a.0 (line_of.Ask a b r told took) log → IsReplied p (line_of.Ask a b r told took) log → GivesHealLock (line_of.Ask a b r told took) log
-ask_gives p a b (request.Unlock Heal area) told took log small (ToCommand c is k) replied = absurd (replied.command c is)
+ask_gives p a b (request.Unlock Heal area) told took log small (ToCommand c is k) replied = absurd (asks_none p c a b (request.Unlock Heal area) told took (work a.0 log) (λ d v h. h) (replied.command c is))
 ask_gives p a b (request.Unlock Heal area) told took log small (ToRound low x is k) replied = absurd (omega (arith, small, low))
 ask_gives p a b other told took log small k replied = tt
 

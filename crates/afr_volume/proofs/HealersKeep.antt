@@ -12,6 +12,7 @@ use Rattle.afr_lines.specs.declared.line.Line.{Line}
 use Rattle.afr_lines.specs.declared.line.Line.TheVariants as line_of
 use Rattle.afr_model.specs.Actors.{IsActor, rounds_of}
 use Rattle.afr_model.specs.Following.{NoneDue}
+use Rattle.afr_model.specs.Kept.{IsKept}
 use Rattle.afr_moves.specs.Ranges.{InRange}
 use Rattle.afr_plan.specs.declared.plan.Plan.{Plan}
 use Rattle.afr_rounds.specs.Acting.{Stepped}
@@ -102,6 +103,13 @@ healers_happen laws events p event log old new healers after fits found killed k
         laws.others p (17 + i) (line_of.Event event) log old new was y (beside (17 + i)) (becomes ∙ ap (λ (dead : Bool). record was { killed = kills (17 + i) (line_of.Event event) || dead }) before.killed_is) before
 
 -- ---- a line of a healer
+-- it gives up no name
+names_no : (p : Plan) (a : ActorId) (line : Line) (log : List Line) → IsWritten a line → IsKept p line log
+names_no p a line log (rounds.Asks b asked told took) = tt
+names_no p a line log (rounds.Begins g kind) = tt
+names_no p a line log (rounds.Heals g kind said) = tt
+names_no p a line log (rounds.Ends said) = tt
+
 to_wrote : (a : ActorId) (line : Line) → IsWritten a line → Wrote a line
 to_wrote a line (rounds.Asks b asked told took) = Asks b asked told took
 to_wrote a line (rounds.Begins g kind) = Parts g kind
@@ -155,6 +163,7 @@ module _ (laws : RoundLaws) (p : Plan) (a : ActorId) (log : List Line) (servers 
     lawful = round_keeps.lawful;
     replied = (round_keeps.replied, w.kept.replied);
     blamed = (round_keeps.blamed, w.kept.blamed);
+    names = (names_no p a line log round_keeps.written, w.kept.names);
     gives = (healer_gives IsAnswered a (length log) x y servers new line log s, w.kept.gives);
   }
 

@@ -8,7 +8,7 @@ use Rattle.afr_base.specs.declared.ids.Kind.{Kind}
 use Rattle.afr_discipline.specs.declared.register.Register.{Register}
 use Rattle.afr_law.specs.Exactly.{IsLawfulExactly}
 use Rattle.afr_lines.specs.Places.{place_of}
-use Rattle.afr_lines.specs.Work.{ended, events_made, is_killed, is_of, work}
+use Rattle.afr_lines.specs.Work.{Work as Lines, ended, events_made, is_killed, is_of, work}
 use Rattle.afr_lines.specs.declared.answer.Told.{Told}
 use Rattle.afr_lines.specs.declared.line.Line.{Line}
 use Rattle.afr_lines.specs.declared.line.Line.TheVariants.{Ask, Begin, End, HealBegin, HealEnd}
@@ -18,11 +18,15 @@ use Rattle.afr_lines.specs.declared.request.Request.{Request}
 use Rattle.afr_model.specs.Actors.{script_of}
 use Rattle.afr_model.specs.Answered.{IsAbout}
 use Rattle.afr_model.specs.Blamed.{Blames}
-use Rattle.afr_model.specs.Following.{IsDue, IsTurnOf, KeepsToTask, NoneDue}
+use Rattle.afr_model.specs.Following.{IsDue, IsTurnOf, KeepsToCommand, KeepsToTask, NoneDue}
 use Rattle.afr_model.specs.Honest.{IsHonest}
-use Rattle.afr_model.specs.Replied.{IsOfTask, IsReplied}
+use Rattle.afr_model.specs.Kept.{IsKept}
+use Rattle.afr_model.specs.Parts.{Part, Walks, Makes, Removes, part_at, the_make, the_removal, the_walk}
+use Rattle.afr_model.specs.Renamed.{IsOfPart, KeepsToPart}
+use Rattle.afr_model.specs.Replied.{IsOf, IsOfTask, IsReplied}
 use Rattle.afr_object.specs.declared.change.Change.{Change}
 use Rattle.afr_plan.specs.declared.command.Command.{Command}
+use Rattle.afr_plan.specs.declared.command.Command.TheVariants as command
 use Rattle.afr_plan.specs.declared.plan.Plan.{Plan}
 use Rattle.afr_server.specs.Serving.{Serving}
 use Rattle.afr_servers.specs.Log.{AreFound, AreServed}
@@ -30,7 +34,7 @@ use Rattle.afr_servers.specs.declared.epochs.Epochs.{Epochs}
 use Rattle.afr_transaction.specs.Turn.{Stood}
 use Rattle.afr_works.specs.Work.{register_of}
 use Rattle.afr_works.specs.declared.work.Work.{Work}
-use Rattle.afr_works.specs.declared.work.Work.TheVariants.{Entry, Idle, Lookup, Write}
+use Rattle.afr_works.specs.declared.work.Work.TheVariants.{Entry, Idle, Lookup, Rename, Write}
 use Rattle.afr_works_tell.specs.WorkTelling.{WorkTells}
 use Rattle.afr_volume.specs.Keeping.{Carries, CarriesOut, IsActing, IsInSession, IsNoted}
 use Rattle.afr_volume.specs.declared.actor.Actor.{Actor}
@@ -133,6 +137,7 @@ module _ (p : Plan) (c : ℕ) (line : Line) (log : List Line) (old new : List Se
   stays met epochs (Lookup m) k = carries_on met epochs (Lookup m) k
   stays met epochs (Write m) k = carries_on met epochs (Write m) k
   stays met epochs (Entry m) k = carries_on met epochs (Entry m) k
+  stays met epochs (Rename m) k = carries_on met epochs (Rename m) k
 
 -- every other actor is as it was after a line
 pub others_stay : (p : Plan) (a : ActorId) (c : ℕ) (line : Line) (log : List Line) (old new : List Serving) (x : Actor) → Wrote a line → (a.0 == c) ≡ false
@@ -154,6 +159,7 @@ pub record LineKeeps (p : Plan) (a : ActorId) (log : List Line) (line : Line) (y
   pub keeps : KeepsToTask p a.0 line log
   pub replied : IsReplied p line log
   pub blamed : Blames p line log
+  pub names : IsKept p line log
   pub wrote : Wrote a line
   pub acting : IsActing p (line ∷ log) a.0 new y
   pub stands : (c : ℕ) (r : Register) → (a.0 ≡ c → ⊥) → Stood p.shape c log r → Stood p.shape c (line ∷ log) r
@@ -163,8 +169,47 @@ pub some_same : (c d : Command) → Some c ≡ Some d → c ≡ d
 some_same c d e = cc e
 
 -- a line of a client is about what its present command names; a client has no rounds
-pub of_client : (p : Plan) (a : ActorId) (line : Line) (log : List Line) (command : Command) → a.0 ≤ 16 → slice_get (script_of p a.0) (ended a.0 log) ≡ Some command → IsAbout p command line (work a.0 log) → IsOfTask p a line log
+pub of_client : (p : Plan) (a : ActorId) (line : Line) (log : List Line) (command : Command) → a.0 ≤ 16 → slice_get (script_of p a.0) (ended a.0 log) ≡ Some command → IsOf p command line (work a.0 log) → IsOfTask p a line log
 of_client p a line log command client present about = record {
-  command = λ c is. subst (λ (c : Command). IsAbout p c line (work a.0 log)) (some_same command c (sym present ∙ is)) about;
+  command = λ c is. subst (λ (c : Command). IsOf p c line (work a.0 log)) (some_same command c (sym present ∙ is)) about;
   round = λ healer b due. absurd (omega (arith, healer, client));
 }
+
+-- ---- what no command does, no part of a rename does
+pub asks_none : (p : Plan) (c : Command) (a : ActorId) (b : BrickId) (asked : Request) (told : Told) (took : Bool) (w : Lines) → ((d : Command) (v : Lines) → IsAbout p d (Ask a b asked told took) v → ⊥) → IsOf p c (Ask a b asked told took) w → ⊥
+asks_none p (command.Write path at bytes) a b asked told took w none k = none (command.Write path at bytes) w k
+asks_none p (command.Cut path len) a b asked told took w none k = none (command.Cut path len) w k
+asks_none p (command.Read path at len) a b asked told took w none k = none (command.Read path at len) w k
+asks_none p (command.Create path) a b asked told took w none k = none (command.Create path) w k
+asks_none p (command.Mkdir path) a b asked told took w none k = none (command.Mkdir path) w k
+asks_none p (command.Unlink path) a b asked told took w none k = none (command.Unlink path) w k
+asks_none p (command.Rmdir path) a b asked told took w none k = none (command.Rmdir path) w k
+asks_none p (command.Ls path) a b asked told took w none k = none (command.Ls path) w k
+asks_none p (command.Stat path) a b asked told took w none k = none (command.Stat path) w k
+asks_none p (command.SetAttr path key value) a b asked told took w none k = none (command.SetAttr path key value) w k
+asks_none p (command.GetAttr path key) a b asked told took w none k = none (command.GetAttr path key) w k
+asks_none p (command.Rename from to) a b asked told took w none k = by_part (part_at from (Ask a b asked told took) w) k
+  where
+    by_part : (part : Part) → IsOfPart part p from to (Ask a b asked told took) w → ⊥
+    by_part Walks k = none (command.Stat from) (the_walk from w) k
+    by_part Makes k = none (command.Create to) (the_make from w) k.1
+    by_part Removes k = none (command.Unlink from) (the_removal from w) k.2
+
+pub ends_none : (p : Plan) (c : Command) (a : ActorId) (g : Gfid) (kind : Kind) (said : HealReply) (at : ℕ) (w : Lines) → KeepsToCommand p c (HealEnd a g kind said) at w → ⊥
+ends_none p (command.Write path at bytes) a g kind said at w k = k
+ends_none p (command.Cut path len) a g kind said at w k = k
+ends_none p (command.Read path at len) a g kind said at w k = k
+ends_none p (command.Create path) a g kind said at w k = k
+ends_none p (command.Mkdir path) a g kind said at w k = k
+ends_none p (command.Unlink path) a g kind said at w k = k
+ends_none p (command.Rmdir path) a g kind said at w k = k
+ends_none p (command.Ls path) a g kind said at w k = k
+ends_none p (command.Stat path) a g kind said at w k = k
+ends_none p (command.SetAttr path key value) a g kind said at w k = k
+ends_none p (command.GetAttr path key) a g kind said at w k = k
+ends_none p (command.Rename from to) a g kind said at w k = by_part (part_at from (HealEnd a g kind said) w) k
+  where
+    by_part : (part : Part) → KeepsToPart part p from to (HealEnd a g kind said) at w → ⊥
+    by_part Walks k = k
+    by_part Makes k = k
+    by_part Removes k = k

@@ -41,6 +41,7 @@ fresh_volume laws p log servers actors run none opened idle = rw none (record {
   lawful = tt;
   replied = tt;
   blamed = tt;
+  names = tt;
   gives = tt;
 })
 

@@ -33,7 +33,7 @@ use Rattle.afr_work_order.specs.Logs.{IsNotedAt}
 use Rattle.afr_work_pace.specs.Left.{work_left}
 use Rattle.afr_works.specs.Work.{IsBusy, choices_of, heard_by, next_of, register_of}
 use Rattle.afr_works.specs.declared.work.Work.{Work}
-use Rattle.afr_works.specs.declared.work.Work.TheVariants.{Entry, Idle, Lookup, Write}
+use Rattle.afr_works.specs.declared.work.Work.TheVariants.{Entry, Idle, Lookup, Rename, Write}
 use Rattle.afr_volume.specs.Acting.{HearsAny, IsAsked, IsBegun, IsEnded, Stepped, SteppedBy}
 use Rattle.afr_volume.specs.Keeping.{CarriesOut, IsActing, IsNoted}
 use Rattle.afr_volume.specs.Laws.{PaceLaws}
@@ -56,6 +56,7 @@ still_busy chosen of Idle busy = busy
 still_busy chosen of (Lookup m) busy = busy
 still_busy chosen of (Write m) busy = busy
 still_busy chosen of (Entry m) busy = busy
+still_busy chosen of (Rename m) busy = busy
 
 -- the register of a work stands for its lines, or there are none yet
 noted_at : (met : Bool) (p : Plan) (a : ℕ) (log : List Line) (r : Register) → IsNoted met p.shape a log r → IsNotedAt p a log r
@@ -85,7 +86,7 @@ module _ (paces : PaceLaws) (p : Plan) (a : ActorId) (log : List Line) (servers 
     among = one_among (choices_of s.given.answer (length log) x.work) s.heard.picked s.heard.hears.among
 
     rises : (asked : Request) → next_of (length log) x.work ≡ next.Ask b asked → (told : Told) (took : Bool) → IsRisingLine p (Ask a b asked told took) log
-    rises (request.Lock WorkDomain area) e told took = paces.rises p log c.command x.work a b area (length log) of client c.sound c.tells (noted_at x.met p a.0 log (register_of x.work) c.noted) k.queued e told took
+    rises (request.Lock WorkDomain area) e told took = paces.rises p log c.command x.work a b area (length log) of client c.present c.sound c.tells (noted_at x.met p a.0 log (register_of x.work) c.noted) k.queued e told took
     rises (request.Lock Heal area) e told took = tt
     rises (request.Unlock domain area) e told took = tt
     rises (request.Look g) e told took = tt

@@ -7,9 +7,10 @@ use Rattle.afr_lines.specs.declared.line.Line.{Line}
 use Rattle.afr_lines.specs.declared.request.Request.{Request}
 use Rattle.afr_model.specs.Actors.{script_of}
 use Rattle.afr_plan.specs.declared.command.Command.{Command}
+use Rattle.afr_plan.specs.declared.command.Command.TheVariants as command
 use Rattle.afr_plan.specs.declared.plan.Plan.{Plan}
 use Rattle.afr_readings.specs.Laws.{IsOneOf, KeepsPicked, number_in, picked_then}
-use Rattle.afr_readings.specs.Readings.{asked_for, asked_in, asked_of, command_by, latest}
+use Rattle.afr_readings.specs.Readings.{asked_for_command, asked_in, asked_of, command_by, latest}
 use Rattle.afr_rule.specs.declared.candidate.Candidate.{Candidate}
 use Rattle.afr_walk.specs.Choosing.{IsAmong, reader_of}
 use Rattle.afr_works.specs.declared.work.Work.{Work}
@@ -53,8 +54,23 @@ own_latest a line log own = rw own refl
 pub own_asked : (p : Plan) (a : ℕ) (line : Line) (log : List Line) → is_of a line ≡ true → asked_of p a (line ∷ log) ≡ asked_in p (slice_get (script_of p a) (ended a log)) ((line, log) ∷ work a log)
 own_asked p a line log own = ap (λ (lines : Lines). asked_in p (command_by p a lines) lines) (own_latest a line log own)
 
-pub asked_is : (p : Plan) (a : ℕ) (line : Line) (log : List Line) (command : Command) → is_of a line ≡ true → slice_get (script_of p a) (ended a log) ≡ Some command → asked_of p a (line ∷ log) ≡ asked_for p command ((line, log) ∷ work a log)
+pub asked_is : (p : Plan) (a : ℕ) (line : Line) (log : List Line) (command : Command) → is_of a line ≡ true → slice_get (script_of p a) (ended a log) ≡ Some command → asked_of p a (line ∷ log) ≡ asked_for_command p command ((line, log) ∷ work a log)
 asked_is p a line log command own present = own_asked p a line log own ∙ ap (λ (c : Option Command). asked_in p c ((line, log) ∷ work a log)) present
+
+-- before its first line a work has asked for nothing
+pub asked_first : (p : Plan) (c : Command) → asked_for_command p c [] ≡ []
+asked_first p (command.Write path at bytes) = refl
+asked_first p (command.Cut path len) = refl
+asked_first p (command.Read path at len) = refl
+asked_first p (command.Create path) = refl
+asked_first p (command.Mkdir path) = refl
+asked_first p (command.Unlink path) = refl
+asked_first p (command.Rmdir path) = refl
+asked_first p (command.Ls path) = refl
+asked_first p (command.Stat path) = refl
+asked_first p (command.SetAttr path key value) = refl
+asked_first p (command.GetAttr path key) = refl
+asked_first p (command.Rename from to) = refl
 
 -- ---- a client whose line it isn't reads as it did
 pub reading_stays : (p : Plan) (c : ℕ) (line : Line) (log : List Line) (met : Bool) (picked : Option BrickId) (w : Work) → is_of c line ≡ false → work c (line ∷ log) ≡ work c log → ended c (line ∷ log) ≡ ended c log

@@ -17,7 +17,7 @@ use Rattle.afr_model.specs.Chosen.{Picks, ReadsPicked}
 use Rattle.afr_object.specs.declared.change.Change.{Change}
 use Rattle.afr_plan.specs.declared.plan.Plan.{Plan}
 use Rattle.afr_readings.specs.Laws.{number_in}
-use Rattle.afr_readings.specs.Readings.{Answers, asked_for, asked_of}
+use Rattle.afr_readings.specs.Readings.{Answers, asked_for_command, asked_of}
 use Rattle.afr_rule.specs.Choosing.{Calls}
 use Rattle.afr_server.specs.Serving.{Serving}
 use Rattle.afr_sources.specs.Sources.{picks_of}
@@ -34,7 +34,7 @@ use Rattle.afr_volume.proofs.Before.{IsBefore}
 use Rattle.afr_volume.proofs.LineKeeps.{self}
 use Rattle.afr_volume.proofs.LogLemmas.{reverse_push}
 use Rattle.afr_volume.proofs.PickedLemmas.{here_set, other_set, picked_at, readied_picked, set_picked}
-use Rattle.afr_volume.proofs.ReadingLemmas.{asked_is, other_asked, picked_same}
+use Rattle.afr_volume.proofs.ReadingLemmas.{asked_first, asked_is, other_asked, picked_same}
 use Rattle.afr_volume.proofs.TurnKeeps.{carried}
 
 -- ---- whatever the rule was, the line is one that a work may write
@@ -82,14 +82,14 @@ module _ {G : Type 0} (calls : Calls G) (choose : G) (rules : RuleLaws calls cho
   kept = number_in (still_picked x.met x.picked)
 
   -- before the line the rule has answered for the looks of the present work
-  answered : Answers (picks_of calls choose) (asked_for p c.command (work a.0 log)) kept
+  answered : Answers (picks_of calls choose) (asked_for_command p c.command (work a.0 log)) kept
   answered = by_met x.met refl
     where
-      by_met : (met : Bool) → x.met ≡ met → Answers (picks_of calls choose) (asked_for p c.command (work a.0 log)) (number_in (still_picked met x.picked))
+      by_met : (met : Bool) → x.met ≡ met → Answers (picks_of calls choose) (asked_for_command p c.command (work a.0 log)) (number_in (still_picked met x.picked))
       by_met true e = subst (λ (from : List (ℕ × ℕ)). Answers (picks_of calls choose) from (picked_by x)) (acting.reads.within e ∙ rw c.present refl) was
-      by_met false e = rw (acting.reads.fresh e) refl
+      by_met false e = rw (acting.reads.fresh e) (asked_first p c.command)
 
-  own_line : (line : Line) (y : Actor) (picked : Option BrickId) → is_of a.0 line ≡ true → y.picked ≡ picked → Answers (picks_of calls choose) (asked_for p c.command ((line, log) ∷ work a.0 log)) (number_in picked)
+  own_line : (line : Line) (y : Actor) (picked : Option BrickId) → is_of a.0 line ≡ true → y.picked ≡ picked → Answers (picks_of calls choose) (asked_for_command p c.command ((line, log) ∷ work a.0 log)) (number_in picked)
       → Answers (picks_of calls choose) (asked_of p a.0 (line ∷ log)) (picked_by y)
   own_line line y picked own is k = rw (asked_is p a.0 line log c.command own c.present, is) k
 
@@ -97,7 +97,7 @@ module _ {G : Type 0} (calls : Calls G) (choose : G) (rules : RuleLaws calls cho
   asks b asked e s = subst (λ (l : Line). ReadsOn (picks_of calls choose) p a.0 log l y) (sym s.is_line) (record {
     picked = rules.reads p c.command x.work a b asked (told_by s.given.answer) s.given.took log kept c.sound c.tells e (acting.reads.keeps c.command c.present) answered;
     answers = own_line (Ask a b asked (told_by s.given.answer) s.given.took) y (picked_after x.met asked s.heard.picked x.picked) (self a.0) (ap (λ (z : Actor). z.picked) s.heard.becomes)
-        (subst (Answers (picks_of calls choose) (asked_for p c.command ((Ask a b asked (told_by s.given.answer) s.given.took, log) ∷ work a.0 log)))
+        (subst (Answers (picks_of calls choose) (asked_for_command p c.command ((Ask a b asked (told_by s.given.answer) s.given.took, log) ∷ work a.0 log)))
         (picked_same x.met asked s.heard.picked x.picked (kept_picked laws p a log servers before x y new written c b asked e any acting.reads).none)
         (rules.asks p c.command x.work (work a.0 log) a b asked s.given.answer s.given.took log s.heard.picked kept c.sound c.tells e (hears_next laws p a log servers before x y new written c b asked e any) (acting.reads.keeps c.command c.present)
         s.heard.hears.answers answered));

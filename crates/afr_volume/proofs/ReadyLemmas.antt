@@ -8,7 +8,7 @@ use Rattle.afr_model.specs.Actors.{script_of}
 use Rattle.afr_works.specs.Begin.{has_machine, work_from}
 use Rattle.afr_works.specs.Work.{IsBusy, IsWork, is_idle}
 use Rattle.afr_works.specs.declared.work.Work.{Work}
-use Rattle.afr_works.specs.declared.work.Work.TheVariants.{Entry, Idle, Lookup, Write}
+use Rattle.afr_works.specs.declared.work.Work.TheVariants.{Entry, Idle, Lookup, Rename, Write}
 use Rattle.afr_volume.specs.Turning.{ReadiedAt}
 use Rattle.afr_volume.specs.declared.actor.Actor.{Actor}
 
@@ -18,12 +18,14 @@ busy_is Idle e = absurd (cc e)
 busy_is (Lookup m) e = tt
 busy_is (Write m) e = tt
 busy_is (Entry m) e = tt
+busy_is (Rename m) e = tt
 
 idle_is : (w : Work) → is_idle w ≡ true → w ≡ Idle
 idle_is Idle e = refl
 idle_is (Lookup m) e = absurd (cc e)
 idle_is (Write m) e = absurd (cc e)
 idle_is (Entry m) e = absurd (cc e)
+idle_is (Rename m) e = absurd (cc e)
 
 busy_from : (p : Plan) (c : Command) → has_machine c ≡ true → IsBusy (work_from p.shape c)
 busy_from p (command.Write path at bytes) e = tt
@@ -37,6 +39,7 @@ busy_from p (command.Ls path) e = tt
 busy_from p (command.Stat path) e = tt
 busy_from p (command.SetAttr path key value) e = tt
 busy_from p (command.GetAttr path key) e = tt
+busy_from p (command.Rename from to) e = tt
 
 -- ---- actors
 pub found_at : (l : List Actor) (i : ℕ) (x : Actor) → i < length l → x ≡ get_or l i x → slice_get l i ≡ Some x

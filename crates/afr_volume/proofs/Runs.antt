@@ -50,6 +50,7 @@ machine_for (command.Ls path) e = refl
 machine_for (command.Stat path) e = refl
 machine_for (command.SetAttr path key value) e = refl
 machine_for (command.GetAttr path key) e = refl
+machine_for (command.Rename from to) e = e
 
 -- each round of a healer is over a brick of the volume
 rounds_at : (p : Plan) (a i : ℕ) (b : BrickId) → All (AreRunnableRounds p.shape.n) p.healers → slice_get (rounds_of p a) i ≡ Some b → b.0 < p.shape.n

@@ -7,7 +7,7 @@ use Rattle.afr_base.specs.declared.ids.Kind.{Kind}
 use Rattle.afr_healer.specs.Rounding.{Rounding}
 use Rattle.afr_healer.specs.declared.stage.RoundStage.{RoundStage}
 use Rattle.afr_healer.specs.declared.stage.RoundStage.TheVariants.{Asking, Healing, Over}
-use Rattle.afr_lines.specs.Work.{is_of}
+use Rattle.afr_lines.specs.Work.{is_of, work}
 use Rattle.afr_lines.specs.declared.line.Event.{Event}
 use Rattle.afr_lines.specs.declared.line.Line.{Line}
 use Rattle.afr_lines.specs.declared.line.Line.TheVariants as line_of
@@ -30,6 +30,7 @@ use Rattle.afr_volume.specs.Turning.{AddsLine, Comes, KillsHealersIn, KillsIn, R
 use Rattle.afr_volume.specs.declared.actor.Actor.{Actor}
 use Rattle.afr_volume.specs.declared.turned.Turned.{Turned}
 use Rattle.afr_volume.specs.declared.turned.Turned.TheVariants.{Ended, Full, Moved, Waits}
+use Rattle.afr_volume.proofs.LineKeeps.{ends_none}
 use Rattle.afr_volume.proofs.LogLemmas.{reverse_push}
 use Rattle.afr_volume.proofs.PickedLemmas.{killed_picked, new_picked}
 
@@ -85,16 +86,16 @@ own_of a (line_of.End x r) own c = let same : x.0 ≡ a = grind (arith, nat_test
 own_of a (line_of.HealEnd x g kind r) own c = let same : x.0 ≡ a = grind (arith, nat_tests, own) in rw same refl
 own_of a (line_of.Event event) own c = absurd (cc own)
 
-ends_none : (p : Plan) (x : ActorId) (g : Gfid) (kind : Kind) (said : HealReply) (log : List Line) → x.0 ≤ 16 → KeepsToTask p x.0 (line_of.HealEnd x g kind said) log → ⊥
-ends_none p x g kind said log small (ToCommand c is k) = k
-ends_none p x g kind said log small (ToRound low b is k) = absurd (omega (arith, small, low))
+unended : (p : Plan) (x : ActorId) (g : Gfid) (kind : Kind) (said : HealReply) (log : List Line) → x.0 ≤ 16 → KeepsToTask p x.0 (line_of.HealEnd x g kind said) log → ⊥
+unended p x g kind said log small (ToCommand c is k) = ends_none p c x g kind said (length log) (work x.0 log) k
+unended p x g kind said log small (ToRound low b is k) = absurd (omega (arith, small, low))
 
 client_unended : (p : Plan) (a : ℕ) (line : Line) (log : List Line) → a ≤ 16 → is_of a line ≡ true → IsFollowing p line log → ends_heal line ≡ false
 client_unended p a (line_of.Ask x b r told took) log small own k = refl
 client_unended p a (line_of.Begin x change) log small own k = refl
 client_unended p a (line_of.HealBegin x g kind) log small own k = refl
 client_unended p a (line_of.End x r) log small own k = refl
-client_unended p a (line_of.HealEnd x g kind r) log small own k = let same : x.0 ≡ a = grind (arith, nat_tests, own) in absurd (ends_none p x g kind r log (omega (arith, same, small)) k.1.0.keeps)
+client_unended p a (line_of.HealEnd x g kind r) log small own k = let same : x.0 ≡ a = grind (arith, nat_tests, own) in absurd (unended p x g kind r log (omega (arith, same, small)) k.1.0.keeps)
 client_unended p a (line_of.Event event) log small own k = refl
 
 -- sources that are the same at each place

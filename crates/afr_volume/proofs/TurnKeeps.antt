@@ -17,7 +17,7 @@ use Rattle.afr_servers.specs.declared.epochs.Epochs.{Epochs}
 use Rattle.afr_works.specs.Begin.{has_machine, work_from}
 use Rattle.afr_works.specs.Work.{IsBusy, IsWork, next_of}
 use Rattle.afr_works.specs.declared.work.Work.{Work}
-use Rattle.afr_works.specs.declared.work.Work.TheVariants.{Entry, Idle, Lookup, Write}
+use Rattle.afr_works.specs.declared.work.Work.TheVariants.{Entry, Idle, Lookup, Rename, Write}
 use Rattle.afr_volume.specs.Acting.{CanStep, HearsAny, Stepped, SteppedBy, still_picked}
 use Rattle.afr_volume.specs.Keeping.{CanRun, Carries, CarriesOut, IsActing, IsBetween, IsVolume}
 use Rattle.afr_volume.specs.Turning.{ReadiedAt, Readies}
@@ -50,6 +50,7 @@ module _ (laws : Laws) (p : Plan) (a : ActorId) (log : List Line) (servers : Lis
   carried met epochs (Lookup m) busy k = k
   carried met epochs (Write m) busy k = k
   carried met epochs (Entry m) busy k = k
+  carried met epochs (Rename m) busy k = k
 
   -- what the bricks need for the actor's next line is there
   pub can_step : (x : Actor) → IsBusy x.work → IsActing p log a.0 servers x → CanStep a (length log) x servers
@@ -101,6 +102,7 @@ kept_turn laws p a log x y servers new actors made line v client actor is busy a
   lawful = keeps.lawful;
   replied = (keeps.replied, v.replied);
   blamed = (keeps.blamed, v.blamed);
+  names = (keeps.names, v.names);
   gives = (client_gives p a line log client keeps.wrote keeps.keeps keeps.replied, v.gives);
 }
   where
@@ -132,6 +134,7 @@ as_carries p a log met epochs servers Idle k = absurd k.tells
 as_carries p a log met epochs servers (Lookup m) k = k
 as_carries p a log met epochs servers (Write m) k = k
 as_carries p a log met epochs servers (Entry m) k = k
+as_carries p a log met epochs servers (Rename m) k = k
 
 -- an idle actor has written no line of its next work
 pub between : (p : Plan) (log : List Line) (a : ℕ) (servers : List Serving) (x : Actor) → IsActing p log a servers x → x.work ≡ Idle → IsBetween a log x.met
@@ -183,6 +186,7 @@ kept_ready laws p log servers actors new made a one some v r = record {
   lawful = v.lawful;
   replied = v.replied;
   blamed = v.blamed;
+  names = v.names;
   gives = v.gives;
 }
   where

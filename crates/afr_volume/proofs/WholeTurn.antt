@@ -14,7 +14,7 @@ use Rattle.afr_transaction.specs.Turn.{Stood}
 use Rattle.afr_servers.specs.declared.epochs.Epochs.{Epochs}
 use Rattle.afr_works.specs.Work.{IsBusy}
 use Rattle.afr_works.specs.declared.work.Work.{Work}
-use Rattle.afr_works.specs.declared.work.Work.TheVariants.{Entry, Idle, Lookup, Write}
+use Rattle.afr_works.specs.declared.work.Work.TheVariants.{Entry, Idle, Lookup, Rename, Write}
 use Rattle.afr_plan.specs.declared.command.Command.{Command}
 use Rattle.afr_plan.specs.declared.plan.Plan.{Plan}
 use Rattle.afr_model.specs.Actors.{IsActor, is_done, works_of, script_of}
@@ -213,6 +213,7 @@ with_command : (p : Plan) (a : ℕ) (log : List Line) (met : Bool) (epochs : Epo
 with_command p a log met epochs servers Idle few k = k.none
 with_command p a log met epochs servers (Write m) few k = absurd (omega (arith, few, slice_get_within (script_of p a) (ended a log) k.command k.present))
 with_command p a log met epochs servers (Entry m) few k = absurd (omega (arith, few, slice_get_within (script_of p a) (ended a log) k.command k.present))
+with_command p a log met epochs servers (Rename m) few k = absurd (omega (arith, few, slice_get_within (script_of p a) (ended a log) k.command k.present))
 with_command p a log met epochs servers (Lookup m) few k = absurd (omega (arith, few, slice_get_within (script_of p a) (ended a log) k.command k.present))
 
 some_actor : (actors : List Actor) (i : ℕ) → i < length actors → (x : Actor) × (slice_get actors i ≡ Some x)

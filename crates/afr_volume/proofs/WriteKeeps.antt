@@ -1,5 +1,5 @@
 -- A Begin or End line of an actor: it is lawful and the plan's, and the actor's work stands for it.
-use Rattle.std.proofs.Common.{◌≡◌, ◌∙◌, ℕ, ◌+◌, slice_get, ◌==◌, Bool, true, false, List, ◌∷◌, refl, sym, ap, arith, subst, length, None}
+use Rattle.std.proofs.Common.{◌≡◌, ◌∙◌, ℕ, ◌+◌, slice_get, ◌==◌, Bool, true, false, List, ◌∷◌, refl, sym, ap, arith, subst, length, None, Some}
 use Rattle.afr_base.specs.declared.ids.ActorId.{ActorId}
 use Rattle.afr_base.specs.declared.ids.BrickId.{BrickId}
 use Rattle.afr_discipline.specs.Notes.{noted_begin}
@@ -17,15 +17,19 @@ use Rattle.afr_lines.specs.declared.line.Next.{Next}
 use Rattle.afr_lines.specs.declared.line.Next.TheVariants as next
 use Rattle.afr_lines.specs.declared.reply.Reply.{Reply}
 use Rattle.afr_model.specs.Actors.{script_of}
-use Rattle.afr_model.specs.Answered.{IsAbout, IsAnswered}
-use Rattle.afr_model.specs.Following.{ToCommand}
-use Rattle.afr_model.specs.Keeping.{KeepsTo}
+use Rattle.afr_model.specs.Following.{KeepsToCommand, ToCommand}
+use Rattle.afr_model.specs.Replied.{IsOf}
+use Rattle.afr_moves.specs.Discipline.{BeginsKnown}
+use Rattle.afr_moves.specs.Positions.{by_position}
 use Rattle.afr_moves.specs.Ranges.{InRange}
 use Rattle.afr_object.specs.declared.change.Change.{Change}
 use Rattle.afr_object.specs.declared.change.Change.TheVariants as change_of
 use Rattle.afr_plan.specs.declared.command.Command.{Command}
 use Rattle.afr_plan.specs.declared.plan.Plan.{Plan}
 use Rattle.afr_hears.specs.Hears.{MakesNothing}
+use Rattle.afr_law.specs.Beginning.{start_of}
+use Rattle.afr_law.specs.Exactly.{name_bound}
+use Rattle.afr_next.proofs.Turns.{new_known}
 use Rattle.afr_next.specs.Begun.{HasNewGfid}
 use Rattle.afr_next.specs.Standing.{ComesNext}
 use Rattle.afr_server.specs.NextLine.{is_elsewhere}
@@ -40,7 +44,7 @@ use Rattle.afr_walk.specs.Choosing.{IsAmong, reader_of}
 use Rattle.afr_walk.specs.Free.{Allows}
 use Rattle.afr_works.specs.Work.{IsWork, choices_heard, heard_by, next_of, register_of}
 use Rattle.afr_works.specs.declared.work.Work.{Work}
-use Rattle.afr_works.specs.declared.work.Work.TheVariants.{Entry, Idle, Lookup, Write}
+use Rattle.afr_works.specs.declared.work.Work.TheVariants.{Entry, Idle, Lookup, Rename, Write}
 use Rattle.afr_works_tell.specs.WorkTelling.{WorkTells}
 use Rattle.afr_volume.specs.Acting.{IsBegun, IsEnded, MeetsNext, still_picked}
 use Rattle.afr_volume.specs.Keeping.{Carries, CarriesOut, IsActing, IsInSession, IsNoted, IsReading}
@@ -70,6 +74,7 @@ none_among Idle at b = λ l. absurd (omega (arith, l))
 none_among (Lookup m) at b = λ l. absurd (omega (arith, l))
 none_among (Write m) at b = λ l. absurd (omega (arith, l))
 none_among (Entry m) at b = λ l. absurd (omega (arith, l))
+none_among (Rename m) at b = λ l. absurd (omega (arith, l))
 
 -- a read begins no attempt
 no_begin : (m : LookupMachine) (change : Change) → reading.next_of m ≡ next.Begin change → ⊥
@@ -106,15 +111,16 @@ module _ (laws : Laws) (p : Plan) (a : ActorId) (log : List Line) (servers : Lis
     abbrev begin_line : Line
     begin_line = Begin a change
 
-    makes_new : (z : Work) → IsWork z → WorkTells p c.command z (work a.0 log) → next_of (length log) z ≡ next.Begin change → HasNewGfid (length log) change
-    makes_new Idle sound tells e = absurd tells
-    makes_new (Lookup m) sound tells e = absurd (no_begin m change e)
-    makes_new (Write m) sound tells e = new_gfid (length log) change (laws.telling.makes_nothing p c.command m (work a.0 log) (length log) change sound tells e)
-    makes_new (Entry m) sound tells e = laws.telling.makes_new m (length log) change sound e
+    made_known : (z : Work) → IsWork z → WorkTells p c.command z (work a.0 log) → next_of (length log) z ≡ next.Begin change → BeginsKnown (start_of p (name_bound p)) (by_position log) (length log) (Some begin_line)
+    made_known Idle sound tells e = absurd tells
+    made_known (Lookup m) sound tells e = absurd (no_begin m change e)
+    made_known (Write m) sound tells e = new_known p log a change (new_gfid (length log) change (laws.telling.makes_nothing p c.command m (work a.0 log) (length log) change sound tells.1 e))
+    made_known (Entry m) sound tells e = new_known p log a change (laws.telling.makes_new m (length log) change sound e)
+    made_known (Rename m) sound tells e = laws.telling.rename_known p c.command m log a change before.runnable.few (omega (arith, known.short laws p a log servers before)) before.honest before.lawful sound tells e
 
     comes : ComesNext p a begin_line log (noted_begin (register_of x.work) (length log))
     comes = laws.next.begins p log a change (register_of x.work) before.runnable.few c.five (in_force laws p a log servers before x.met (register_of x.work) begin_line c.noted) (allows (next.Begin change) e) (subst InRange s.is_line s.fits)
-        (makes_new x.work c.sound c.tells e)
+        (made_known x.work c.sound c.tells e)
 
     begin_goes : GoOn p log a begin_line s.epochs servers new
     begin_goes = goes_on begin_line s.epochs (λ b. refl) (λ z. refl) s.met
@@ -122,7 +128,7 @@ module _ (laws : Laws) (p : Plan) (a : ActorId) (log : List Line) (servers : Lis
     is_next : IsNextLine a (next_of (length log) x.work) told_of.Done begin_line
     is_next = subst (λ (n : Next). IsNextLine a n told_of.Done begin_line) (sym e) refl
 
-    about : IsAbout p c.command begin_line (work a.0 log) × KeepsTo p c.command begin_line (length log) (work a.0 log)
+    about : IsOf p c.command begin_line (work a.0 log) × KeepsToCommand p c.command begin_line (length log) (work a.0 log)
     about = laws.telling.about p c.command x.work (work a.0 log) a told_of.Done begin_line log c.sound c.tells is_next
 
     abbrev after : Work
@@ -160,6 +166,7 @@ module _ (laws : Laws) (p : Plan) (a : ActorId) (log : List Line) (servers : Lis
     as_carries (Lookup m) k = k
     as_carries (Write m) k = k
     as_carries (Entry m) k = k
+    as_carries (Rename m) k = k
 
     pub begin_keeps : IsActing p log a.0 servers x → LineKeeps p a log written y servers new
     begin_keeps acting = subst (λ (l : Line). LineKeeps p a log l y servers new) (sym s.is_line) (record {
@@ -169,6 +176,7 @@ module _ (laws : Laws) (p : Plan) (a : ActorId) (log : List Line) (servers : Lis
       keeps = ToCommand c.command c.present about.1;
       replied = of_client p a begin_line log c.command before.client c.present about.0;
       blamed = tt;
+      names = laws.telling.names p c.command x.work a change log c.sound c.tells e;
       wrote = Begins change;
       acting = subst (λ (z : Actor). IsActing p (begin_line ∷ log) a.0 new z) (sym s.becomes) (record { ended_is = acting.ended_is; killed_is = acting.killed_is; carries = as_carries after carries; unpicked = λ none. absurd (cc none); reads = reads_on acting.reads });
       stands = comes.stand.others;
@@ -186,17 +194,18 @@ module _ (laws : Laws) (p : Plan) (a : ActorId) (log : List Line) (servers : Lis
     end_goes : GoOn p log a end_line s.epochs servers new
     end_goes = goes_on end_line s.epochs (λ b. refl) (λ z. refl) s.met
 
-    answered : IsAnswered p c.command (work a.0 log) said × ((b : ActorId) → KeepsTo p c.command (End b said) (length log) (work a.0 log))
-    answered = laws.telling.ends p c.command x.work (work a.0 log) (length log) said c.sound c.tells e
+    answered : IsOf p c.command end_line (work a.0 log) × KeepsToCommand p c.command end_line (length log) (work a.0 log)
+    answered = laws.telling.ends p c.command x.work (work a.0 log) (length log) said c.sound c.tells e a
 
     pub end_keeps : IsActing p log a.0 servers x → LineKeeps p a log written y servers new
     end_keeps acting = subst (λ (l : Line). LineKeeps p a log l y servers new) (sym s.is_line) (record {
       honest = tt;
       lawful = ends.0.lawful before.lawful;
       served = end_goes.served;
-      keeps = ToCommand c.command c.present (answered.1 a);
+      keeps = ToCommand c.command c.present answered.1;
       replied = of_client p a end_line log c.command before.client c.present answered.0;
       blamed = tt;
+      names = tt;
       wrote = Ends said;
       acting = subst (λ (z : Actor). IsActing p (end_line ∷ log) a.0 new z) (sym s.becomes) (record {
         ended_is = rw (self a.0) (ap (λ (n : ℕ). n + 1) acting.ended_is);

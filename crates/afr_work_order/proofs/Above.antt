@@ -1,6 +1,7 @@
 -- A work asks for each lock above all that it holds.
 use Rattle.std.proofs.Common.{◌≡◌, ℕ, ◌<◌, Bool, true, false, inl, inr, refl, sym, ◌∙◌, subst, ap, arith, List, Some, true≢false}
 use Rattle.std.specs.Prelude.{if◌then◌else◌}
+use Rattle.afr_again.proofs.AgainLemmas.{rests}
 use Rattle.afr_base.specs.Bricks.{lowest, member}
 use Rattle.afr_base.specs.declared.ids.BrickId.{BrickId}
 use Rattle.afr_entry.specs.Entry as entry
@@ -24,6 +25,7 @@ use Rattle.afr_lines.specs.declared.line.Next.TheVariants as next
 use Rattle.afr_lines.specs.declared.line.Next.{Next}
 use Rattle.afr_lines.specs.declared.request.Area.{Area}
 use Rattle.afr_lines.specs.declared.request.Request.TheVariants.{Lock}
+use Rattle.afr_lines.specs.declared.request.Request.{Request}
 use Rattle.afr_moves.specs.Rules.{area_object}
 use Rattle.afr_object.specs.Tables.{object_of}
 use Rattle.afr_object.specs.declared.change.Change.{Change}
@@ -38,7 +40,16 @@ use Rattle.afr_removal.specs.declared.stage.RemovalStage.TheVariants as removes
 use Rattle.afr_removal.specs.declared.stage.RemovalStage.{RemovalStage}
 use Rattle.afr_removal_order.proofs.Asking.{asks_above as removal_above}
 use Rattle.afr_removal_order.specs.Queue as removal_queue
+use Rattle.afr_rename.proofs.RenameLemmas.{done_is}
+use Rattle.afr_rename.specs.Against.{half_reply}
+use Rattle.afr_rename.specs.Paths.{reads_new, reads_old}
+use Rattle.afr_rename.specs.Rename as rename
+use Rattle.afr_rename.specs.Rename.{Renaming, is_done, turned}
+use Rattle.afr_rename.specs.Under.{next_under}
+use Rattle.afr_rename.specs.declared.stage.RenameStage.TheVariants as renaming
+use Rattle.afr_rename.specs.declared.stage.RenameStage.{RenameStage}
 use Rattle.afr_transaction.proofs.Kept.{asked_of, same_asked}
+use Rattle.afr_transaction.specs.Outcome.{outcome_of}
 use Rattle.afr_transaction.specs.Progress as transaction
 use Rattle.afr_transaction.specs.Progress.{Progress, asks, is_beginning, left}
 use Rattle.afr_transaction.specs.Sound.{IsAsking, Sound}
@@ -49,9 +60,10 @@ use Rattle.afr_walk.specs.Walk as walks
 use Rattle.afr_walk.specs.declared.walk.Walk.{Walk}
 use Rattle.afr_walk.specs.declared.walk.WalkStep.TheVariants as walking
 use Rattle.afr_walk.specs.declared.walk.WalkStep.{WalkStep}
-use Rattle.afr_work_order.specs.Queue.{IsQueuedEntry, IsQueuedWrite}
+use Rattle.afr_work_order.specs.Queue.{IsQueuedEntry, IsQueuedRename, IsQueuedWrite}
 use Rattle.afr_work_order.specs.Rising.{First, LeadsDownAt, Locks, Second, WorkAsksAbove}
-use Rattle.afr_works.specs.declared.work.Work.TheVariants.{Entry, Idle, Lookup, Write}
+use Rattle.afr_works.proofs.WorkLemmas.{same_under}
+use Rattle.afr_works.specs.declared.work.Work.TheVariants.{Entry, Idle, Lookup, Rename, Write}
 
 -- ---- the next line is a Work lock
 module _ (b : BrickId) (area : Area) where
@@ -180,14 +192,14 @@ module _ (b : BrickId) (area : Area) where
     write_above m (writing.Ending said) k q e locks = absurd (cc e)
 
     -- under the name's lock it is the transaction that asks
-    under : (m : Entering) (found : Found) (t : Progress) → IsLock (entry.next_under found at m.job m.walk t) → IsLock (transaction.next_at t.stage at t)
-    under m (found_of.Unread x) t e = go (is_beginning t.stage) e
+    under : (read : Request) → ((x : BrickId) → IsLock (next.Ask x read) → ⊥) → (found : Found) (t : Progress) → IsLock (next_under found at read t) → IsLock (transaction.next_at t.stage at t)
+    under read no (found_of.Unread x) t e = go (is_beginning t.stage) e
       where
-        go : (first : Bool) → IsLock (if first then next.Ask x (entry.reads_name m.job m.walk) else transaction.next_at t.stage at t) → IsLock (transaction.next_at t.stage at t)
-        go true k = absurd (cc k)
+        go : (first : Bool) → IsLock (if first then next.Ask x read else transaction.next_at t.stage at t) → IsLock (transaction.next_at t.stage at t)
+        go true k = absurd (no x k)
         go false k = k
-    under m found_of.Fits t e = e
-    under m (found_of.Refused why) t e = go (transaction.is_over t.stage t) e
+    under read no found_of.Fits t e = e
+    under read no (found_of.Refused why) t e = go (transaction.is_over t.stage t) e
       where
         go : (over : Bool) → IsLock (if over then next.End (reply_to why) else transaction.next_at t.stage at t) → IsLock (transaction.next_at t.stage at t)
         go true k = absurd (cc k)
@@ -195,12 +207,33 @@ module _ (b : BrickId) (area : Area) where
 
     entry_above : (m : Entering) (stage : EntryStage) → entry.IsStage m.walk m.job stage → IsQueuedEntry stage → LeadsDownAt stage → IsLock (entry.next_at at stage m.job m.walk) → Locks (entry.register_at stage m.walk) c mine → IsUnder
     entry_above m entering.Walking k q down e locks = absurd (walk_asks m.walk.step m.walk e)
-    entry_above m (entering.Changing t found) k q down e locks = above t k.sound q.0 at (under m found t e) c mine locks
+    entry_above m (entering.Changing t found) k q down e locks = above t k.sound q.0 at (under (entry.reads_name m.job m.walk) (λ x f. cc f) found t (same_under found m.job m.walk t at ∙ e)) c mine locks
     entry_above m (entering.Removes y) k q down e locks = removal_is_above y k.sound q down e c mine locks
     entry_above m (entering.Ending said) k q down e locks = absurd (cc e)
+
+    -- at the turn to its second transaction a rename holds no lock
+    none_at_turn : (t : Progress) → Sound t → transaction.is_over t.stage t ≡ true → Locks t.register c mine → IsUnder
+    none_at_turn t s over (First is held) = absurd (true≢false (sym (subst (λ (z : List ℕ). member z c ≡ true) (rests t s over).held held)))
+    none_at_turn t s over (Second is held) = absurd (true≢false (sym (subst (λ (z : List ℕ). member z c ≡ true) (rests t s over).second_held held)))
+
+    rename_above : (m : Renaming) (stage : RenameStage) → rename.IsSound m.paths stage → IsQueuedRename stage → IsLock (rename.next_at at stage m.paths) → Locks (rename.register_at stage m.paths) c mine → IsUnder
+    rename_above m renaming.Finding k q e locks = absurd (walk_asks m.paths.first.step m.paths.first e)
+    rename_above m renaming.Walking k q e locks = absurd (walk_asks m.paths.second.step m.paths.second e)
+    rename_above m (renaming.Making t found) k q e locks = go (is_done t) refl e
+      where
+        go : (d : Bool) → is_done t ≡ d → IsLock (if d then transaction.next_at Locking at (turned m.paths t) else next_under found at (reads_new m.paths) t) → IsUnder
+        go true f h = none_at_turn t k.under.sound (done_is t k.under.sound f).0 locks
+        go false f h = above t k.under.sound q at (under (reads_new m.paths) (λ x g. cc g) found t h) c mine locks
+    rename_above m (renaming.Removing t found) k q e locks = go (transaction.is_over t.stage t) e
+      where
+        go : (over : Bool) → IsLock (if over then next.End (half_reply (outcome_of t.change t.register)) else next_under found at (reads_old m.paths) t) → IsUnder
+        go true h = absurd (cc h)
+        go false h = above t k.under.sound q at (under (reads_old m.paths) (λ x g. cc g) found t h) c mine locks
+    rename_above m (renaming.Ending said) k q e locks = absurd (cc e)
 
 pub work_above : WorkAsksAbove
 work_above Idle k q down at b area is c mine locks = absurd (cc is)
 work_above (Lookup m) k q down at b area is c mine locks = absurd (read_asks b area m.stage m.walk is)
 work_above (Write m) k q down at b area is c mine locks = write_above b area at c mine m m.stage k.ready q is locks
 work_above (Entry m) k q down at b area is c mine locks = entry_above b area at c mine m m.stage k.ready q down is locks
+work_above (Rename m) k q down at b area is c mine locks = rename_above b area at c mine m m.stage k.sound q is locks

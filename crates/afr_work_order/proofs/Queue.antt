@@ -1,6 +1,9 @@
 -- A work asks the bricks of each of its locks in rising order, whatever they answer.
 use Rattle.std.proofs.Common.{◌≡◌, ℕ, ◌&&◌, Bool, true, false, inl, inr, refl, sym, ◌∙◌, subst, ap, List, [], Option, Some, None, true≢false}
 use Rattle.std.specs.Prelude.{if◌then◌else◌}
+use Rattle.afr_again.proofs.AgainLemmas.{rests}
+use Rattle.afr_again.proofs.FollowsLemmas.{again_sound}
+use Rattle.afr_again.specs.Again.{opened}
 use Rattle.afr_base.specs.Bricks.{lowest}
 use Rattle.afr_base.specs.declared.ids.BrickId.{BrickId}
 use Rattle.afr_base.specs.declared.ids.Gfid.{Gfid}
@@ -28,6 +31,7 @@ use Rattle.afr_lines.specs.declared.answer.Answer.{Answer}
 use Rattle.afr_lines.specs.declared.answer.Told.{Told}
 use Rattle.afr_lines.specs.declared.reply.Good.TheVariants as good
 use Rattle.afr_lines.specs.declared.reply.Reply.TheVariants as reply
+use Rattle.afr_lines.specs.declared.request.Request.{Request}
 use Rattle.afr_object.specs.Tables.{is_dir}
 use Rattle.afr_pace.proofs.Order.{Rises, starts_queued, stays_queued}
 use Rattle.afr_pace.specs.Left.{IsQueued as Queued}
@@ -39,8 +43,18 @@ use Rattle.afr_removal.specs.Sound as removing
 use Rattle.afr_removal_order.proofs.Asking.{starts_queued as removal_starts, stays_queued as removal_stays}
 use Rattle.afr_removal_order.proofs.Rows.{keeps_row, none_rises}
 use Rattle.afr_removal_order.specs.Queue as removal_queue
-use Rattle.afr_transaction.proofs.Kept.{answers_line, asking_of}
+use Rattle.afr_rename.proofs.RenameLemmas.{done_is, over_not_done}
+use Rattle.afr_rename.specs.Against.{against_new, against_old}
+use Rattle.afr_rename.specs.Paths.{first_walked, front, last, making_of, reads_new, reads_old, removal_of, second_walked}
+use Rattle.afr_rename.specs.Rename as rename
+use Rattle.afr_rename.specs.Rename.{IsMaking, Renaming, is_done, turned}
+use Rattle.afr_rename.specs.Under.{progress_after}
+use Rattle.afr_rename.specs.declared.paths.Paths.{Paths}
+use Rattle.afr_rename.specs.declared.stage.RenameStage.TheVariants as renaming
+use Rattle.afr_rename.specs.declared.stage.RenameStage.{RenameStage}
+use Rattle.afr_transaction.proofs.Kept.{answers_line, asking_of, sound_first, stays_sound}
 use Rattle.afr_transaction.proofs.ReadLemmas.{kept_read}
+use Rattle.afr_transaction.specs.Between.{noted_read}
 use Rattle.afr_transaction.specs.Progress as transaction
 use Rattle.afr_transaction.specs.Progress.{Progress, answered, begun, fed, is_beginning, left, request_at, starting}
 use Rattle.afr_transaction.specs.Sound.{IsAsking, Sound}
@@ -53,10 +67,9 @@ use Rattle.afr_walk.specs.Walk.{walk_from, walked}
 use Rattle.afr_walk.specs.declared.walk.Walk.{Walk}
 use Rattle.afr_walk.specs.declared.walk.WalkStep.TheVariants as walking
 use Rattle.afr_walk.specs.declared.walk.WalkStep.{WalkStep}
-use Rattle.afr_work_order.specs.Queue.{IsQueuedEntry, IsQueuedWrite, WorkBeginsQueued, WorkBegunQueued, WorkStaysQueued}
+use Rattle.afr_work_order.specs.Queue.{IsQueuedEntry, IsQueuedRename, IsQueuedWrite, WorkBeginsQueued, WorkBegunQueued, WorkStaysQueued}
 use Rattle.afr_works.proofs.WorkLemmas.{asks_more}
-use Rattle.afr_works.specs.Begin.{front, last}
-use Rattle.afr_works.specs.declared.work.Work.TheVariants.{Entry, Idle, Lookup, Write}
+use Rattle.afr_works.specs.declared.work.Work.TheVariants.{Entry, Idle, Lookup, Rename, Write}
 
 -- ---- the path has led somewhere
 -- no lock is held on the way
@@ -94,6 +107,32 @@ entry_led job w row = go w.step
     go walking.Arrived = here (is_dir w.object.what)
     go (walking.Stopped why) = tt
 
+second_led : (x : Paths) → IsQueuedRename (rename.after_second x)
+second_led x = go x.second.step
+  where
+    here : (d : Bool) → IsQueuedRename (if d then renaming.Making (starting (making_of x x.second.object.gfid) x.second.register) rename.unread else renaming.Ending reply.NotDir)
+    here true = starts_queued (making_of x x.second.object.gfid) x.second.register
+    here false = tt
+
+    go : (step : WalkStep) → IsQueuedRename (rename.second_left step x)
+    go (walking.Looking s) = tt
+    go (walking.Naming b) = tt
+    go walking.Arrived = here (is_dir x.second.object.what)
+    go (walking.Stopped why) = tt
+
+first_led : (x : Paths) → IsQueuedRename (rename.after_first x)
+first_led x = go x.first.step
+  where
+    here : (d : Bool) → IsQueuedRename (if d then renaming.Ending reply.IsDir else rename.after_second x)
+    here true = tt
+    here false = second_led x
+
+    go : (step : WalkStep) → IsQueuedRename (rename.first_left step x)
+    go (walking.Looking s) = tt
+    go (walking.Naming b) = tt
+    go walking.Arrived = here (is_dir x.first.object.what)
+    go (walking.Stopped why) = tt
+
 -- ---- a work begins
 write_begins : (w : Walk) (job : WriteJob) → IsQueuedWrite (write.first_stage job w)
 write_begins w job = go (write_jobs.is_too_large job)
@@ -114,6 +153,7 @@ work_begins shape (command.Create path) = entry_led (name.Create (last path)) (w
 work_begins shape (command.Mkdir path) = entry_led (name.Mkdir (last path)) (walk_from shape (front path)) none_rises
 work_begins shape (command.Unlink path) = entry_led (name.Unlink (last path)) (walk_from shape (front path)) none_rises
 work_begins shape (command.Rmdir path) = entry_led (name.Rmdir (last path)) (walk_from shape (front path)) none_rises
+work_begins shape (command.Rename from to) = tt
 
 -- ---- a transaction
 abbrev IsNow : Progress → Type 0
@@ -236,15 +276,83 @@ entry_begun (entering.Removes y) q at = go (removal.is_beginning y.stage)
     go false = q
 entry_begun (entering.Ending said) q at = tt
 
+-- ---- a rename
+-- the second transaction begins as one of a new work
+turned_now : (x : Paths) (t : Progress) (found : Found) → IsMaking x t found → is_done t ≡ true → (told : Told) (at : ℕ) → IsNow (fed Locking told at (turned x t))
+turned_now x t found k e told at =
+    let d = done_is t k.under.sound e in
+    let first = starting (removal_of x) (opened t.register.shape) in
+    let f = again_sound rests stays_sound t (removal_of x) told at k.under.sound k.plain d.2 d.0 (record { valid = refl; kind = refl }) in
+    subst IsNow (sym f.alike)
+    (told_now first (sound_first (opened t.register.shape) (removal_of x) (inr refl) k.under.sound.base.few d.2 (record { valid = refl; kind = refl })) (starts_queued (removal_of x) (opened t.register.shape)) refl told at refl)
+
+-- one of its transactions, with the read of its name
+under_now : (found : Found) (why : Option Refusal) (asked : Request) (told : Told) (at : ℕ) (t : Progress) → Sound t → IsNow t → transaction.is_over t.stage t ≡ false → IsNow (progress_after found why asked told at t)
+under_now found why asked told at t s q more = go found
+  where
+    read : (b : BrickId) (why : Option Refusal) → is_beginning t.stage ≡ true → IsNow (entry.settled why (noted_read b.0 asked told at t))
+    read b None e = begins_now t.stage (noted_read b.0 asked told at t) e
+    read b (Some why) e = tt
+
+    unread : (b : BrickId) (e : Bool) → is_beginning t.stage ≡ e → IsNow (if e then entry.settled why (noted_read b.0 asked told at t) else fed t.stage told at t)
+    unread b true e = read b why e
+    unread b false e = told_now t s q more told at e
+
+    told_to : (e : Bool) → is_beginning t.stage ≡ e → IsNow (if e then t else fed t.stage told at t)
+    told_to true e = q
+    told_to false e = told_now t s q more told at e
+
+    go : (found : Found) → IsNow (progress_after found why asked told at t)
+    go (found_of.Unread b) = unread b (is_beginning t.stage) refl
+    go found_of.Fits = told_to (is_beginning t.stage) refl
+    go (found_of.Refused why) = told_to (is_beginning t.stage) refl
+
+rename_told : (m : Renaming) → rename.IsRename m.paths m.stage → IsQueuedRename m.stage → rename.is_over m.stage ≡ false → (chosen : BrickId) (a : Answer) (at : ℕ) → IsQueuedRename (rename.answered chosen a at m).stage
+rename_told m k q more chosen a at = go m.stage k.sound q more
+  where
+    making : (t : Progress) (found : Found) → IsMaking m.paths t found → IsNow t → rename.is_over (renaming.Making t found) ≡ false → (d : Bool) → is_done t ≡ d
+        → IsQueuedRename (if d then rename.second_begun (told_by a) at m.paths t else rename.making_after chosen found a at m.paths t)
+    making t found i q more true e = turned_now m.paths t found i e (told_by a) at
+    making t found i q more false e = under_now found (against_new a) (reads_new m.paths) (told_by a) at t i.under.sound q (over_not_done (transaction.is_over t.stage t) (is_done t) more e)
+
+    go : (stage : RenameStage) → rename.IsSound m.paths stage → IsQueuedRename stage → rename.is_over stage ≡ false → IsQueuedRename (rename.stage_after chosen stage a at (rename.paths_after chosen stage a at m.paths))
+    go renaming.Finding i q more = first_led (first_walked chosen a at m.paths)
+    go renaming.Walking i q more = second_led (second_walked chosen a at m.paths)
+    go (renaming.Making t found) i q more = making t found i q more (is_done t) refl
+    go (renaming.Removing t found) i q more = under_now found (against_old m.paths.first.object.gfid a) (reads_old m.paths) (told_by a) at t i.under.sound q more
+    go (renaming.Ending said) i q more = tt
+
+-- the attempt of one of its transactions
+under_begun : (found : Found) (t : Progress) → IsNow t → (at : ℕ) → IsNow (entry.progress_begun found at t)
+under_begun found t q at = by_name found
+  where
+    go : (e : Bool) → IsNow (if e then begun at t else t)
+    go true = tt
+    go false = q
+
+    by_name : (found : Found) → IsNow (entry.progress_begun found at t)
+    by_name (found_of.Unread b) = q
+    by_name found_of.Fits = go (is_beginning t.stage)
+    by_name (found_of.Refused why) = go (is_beginning t.stage)
+
+rename_begun : (stage : RenameStage) → IsQueuedRename stage → (at : ℕ) → IsQueuedRename (rename.stage_begun stage at)
+rename_begun renaming.Finding q at = tt
+rename_begun renaming.Walking q at = tt
+rename_begun (renaming.Making t found) q at = under_begun found t q at
+rename_begun (renaming.Removing t found) q at = under_begun found t q at
+rename_begun (renaming.Ending said) q at = tt
+
 -- ---- the laws
 pub work_stays : WorkStaysQueued
 work_stays Idle k q at b asked is chosen a among = tt
 work_stays (Lookup m) k q at b asked is chosen a among = tt
 work_stays (Write m) k q at b asked is chosen a among = write_told m k q (asks_more (Write m) at b asked is) chosen a at
 work_stays (Entry m) k q at b asked is chosen a among = entry_told m k q (asks_more (Entry m) at b asked is) chosen a at among
+work_stays (Rename m) k q at b asked is chosen a among = rename_told m k q (asks_more (Rename m) at b asked is) chosen a at
 
 pub work_begun : WorkBegunQueued
 work_begun Idle k q at change is chosen = tt
 work_begun (Lookup m) k q at change is chosen = tt
 work_begun (Write m) k q at change is chosen = write_begun m.stage q at
 work_begun (Entry m) k q at change is chosen = entry_begun m.stage q at
+work_begun (Rename m) k q at change is chosen = rename_begun m.stage q at

@@ -43,7 +43,7 @@ module _ (x : ActorId) (b : BrickId) (told : Told) (took : Bool) where
   abbrev counts : Request → ℕ
   counts asked = counted (Ask x b asked told took)
 
-  lock_counts : (area : Area) → counts (request.Lock Work area) ≤ step_of (is_held told)
+  pub lock_counts : (area : Area) → counts (request.Lock Work area) ≤ step_of (is_held told)
   lock_counts area = go told
     where
       go : (d : Told) → counted (Ask x b (request.Lock Work area) d took) ≤ step_of (is_held d)

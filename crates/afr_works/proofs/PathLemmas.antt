@@ -7,7 +7,7 @@ use Rattle.afr_base.specs.declared.ids.NameId.{NameId}
 use Rattle.afr_rename.specs.Paths.{front, last}
 use Rattle.afr_works.specs.Begin.{has_name}
 
-some_names : (n : ℕ) → nat_lt 0 n ≡ true → 0 < n
+pub some_names : (n : ℕ) → nat_lt 0 n ≡ true → 0 < n
 some_names n h = grind (arith, nat_tests, h)
 
 pub path_is : (path : List NameId) → has_name path ≡ true → front path ++ last path ∷ [] ≡ path

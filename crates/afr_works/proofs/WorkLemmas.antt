@@ -1,5 +1,5 @@
 -- A work has somebody left to ask, the discipline allows what it asks, and its register notes it.
-use Rattle.std.proofs.Common.{◌≡◌, ℕ, ◌<◌, ◌≤◌, ◌==◌, nat_lt, not, Bool, true, false, List, length, refl, ap, subst, arith, inl, inr, if◌then◌else◌}
+use Rattle.std.proofs.Common.{◌≡◌, ℕ, ◌<◌, ◌≤◌, ◌==◌, ◌&&◌, nat_lt, not, Bool, true, false, List, length, refl, sym, ap, subst, ◌∙◌, arith, inl, inr, if◌then◌else◌}
 use Rattle.std.proofs.lemmas.Bool.Decides.{nat_tests}
 use Rattle.std.specs.Borrow.{Bor}
 use Rattle.afr_base.specs.Bricks.{is_nothing}
@@ -31,18 +31,18 @@ use Rattle.afr_walk.specs.declared.walk.WalkStep.TheVariants as walking
 use Rattle.afr_walk.specs.Choosing.{reader_of}
 use Rattle.afr_walk.proofs.ChoosingLemmas.{answers_among}
 use Rattle.afr_walk.proofs.FreeLemmas.{allows_end, shape_is}
-use Rattle.afr_transaction.specs.Outcome.{reply_of}
+use Rattle.afr_transaction.specs.Outcome.{outcome_of, reply_of}
 use Rattle.afr_transaction.specs.Progress as progress
 use Rattle.afr_transaction.specs.Progress.{Progress, asks}
 use Rattle.afr_transaction.specs.declared.stage.Stage.{Stage}
-use Rattle.afr_transaction.specs.declared.stage.Stage.TheVariants.{Closing}
+use Rattle.afr_transaction.specs.declared.stage.Stage.TheVariants.{Closing, Locking}
 use Rattle.afr_transaction.proofs.Parts.{both}
 use Rattle.afr_removal.specs.Removal as removal
 use Rattle.afr_removal.specs.Removal.{Removing}
 use Rattle.afr_removal.specs.declared.stage.RemovalStage.{RemovalStage}
 use Rattle.afr_removal.specs.declared.stage.RemovalStage.TheVariants as removing
 use Rattle.afr_entry.specs.Entry as entry
-use Rattle.afr_entry.specs.Entry.{IsEntry, next_under, reads_name}
+use Rattle.afr_entry.specs.Entry.{IsEntry, reads_name}
 use Rattle.afr_entry.specs.Job.{reply_to}
 use Rattle.afr_entry.specs.declared.job.EntryJob.{EntryJob}
 use Rattle.afr_entry.specs.declared.job.EntryJob.TheVariants as name
@@ -65,9 +65,17 @@ use Rattle.afr_inode_write.specs.declared.stage.WriteStage.{WriteStage}
 use Rattle.afr_inode_write.specs.declared.stage.WriteStage.TheVariants as writing
 use Rattle.afr_inode_write.proofs.WriteLemmas as write_lemmas
 use Rattle.afr_works.specs.Laws.{AllowedNext, AsksLow, AsksMore, BeginsFresh, BeginsMore, FedIsAnswered, HasFew, NotesBegin, NotesEach, StaysOutside, StaysSound}
-use Rattle.afr_rename.specs.Paths.{front, last}
+use Rattle.afr_rename.specs.Against.{half_reply}
+use Rattle.afr_rename.specs.Paths.{front, last, reads_new, reads_old}
+use Rattle.afr_rename.specs.Rename as rename
+use Rattle.afr_rename.specs.Rename.{IsRename, is_done, turned}
+use Rattle.afr_rename.specs.Under.{next_under}
+use Rattle.afr_rename.specs.declared.paths.Paths.{Paths}
+use Rattle.afr_rename.specs.declared.stage.RenameStage.{RenameStage}
+use Rattle.afr_rename.specs.declared.stage.RenameStage.TheVariants as renaming
+use Rattle.afr_rename.proofs.RenameLemmas as rename_lemmas
 use Rattle.afr_works.specs.Work.{choices_heard, idle_register, register_of}
-use Rattle.afr_works.specs.declared.work.Work.TheVariants.{Idle, Lookup, Write, Entry}
+use Rattle.afr_works.specs.declared.work.Work.TheVariants.{Idle, Lookup, Write, Entry, Rename}
 
 -- ---- the first register
 after_first : (b : Bool) (j : WriteJob) (w : Walk) → register_at (after_step (if b then walking.Arrived else walking.Looking no_look) j (record w { object = root_entry })) w ≡ w.register
@@ -106,6 +114,7 @@ begins_fresh shape (command.Create path) h = entry_register shape (front path) (
 begins_fresh shape (command.Mkdir path) h = entry_register shape (front path) (name.Mkdir (last path))
 begins_fresh shape (command.Unlink path) h = entry_register shape (front path) (name.Unlink (last path))
 begins_fresh shape (command.Rmdir path) h = entry_register shape (front path) (name.Rmdir (last path))
+begins_fresh shape (command.Rename from to) h = refl
 
 -- ---- what is asked
 -- whatever the bricks have answered so far, the next line is allowed
@@ -114,6 +123,7 @@ allowed_next Idle k at = allows_end (record { n = 1; arbiter = false }) idle_reg
 allowed_next (Lookup m) k at = read.allowed_next m k
 allowed_next (Write m) k at = write_lemmas.allowed_next m k at
 allowed_next (Entry m) k at = entry_lemmas.allowed_next m k at
+allowed_next (Rename m) k at = rename_lemmas.allowed_next m k at
 
 -- what holds of one request holds of the same request
 pub ask_same : (P : BrickId → Request → Type 0) (b c : BrickId) (r q : Request) → next.Ask b r ≡ next.Ask c q → P b r → P c q
@@ -169,32 +179,32 @@ write_begins (writing.Walking j) w at change e = refl
 write_begins (writing.Changing t) w at change e = transaction_begins t.stage t at change e
 write_begins (writing.Ending said) w at change e = absurd (cc e)
 
--- a command on a name, whose transaction is to begin its attempt, has more left
+-- under the locks of a name, where a transaction is to begin its attempt, more is left
 beginning_more : (stage : Stage) (t : Progress) → progress.is_beginning stage ≡ true → progress.is_over stage t ≡ false
 beginning_more Closing t e = absurd (cc e)
 beginning_more stage t e = refl
 
-under_asks : (of : Found) (j : EntryJob) (w : Walk) (t : Progress) (at : ℕ) (b : BrickId) (request : Request) → next_under of at j w t ≡ next.Ask b request → progress.is_over t.stage t ≡ false
-under_asks (found.Unread c) j w t at b request e = go (progress.is_beginning t.stage) refl e
+under_asks : (of : Found) (asked : Request) (t : Progress) (at : ℕ) (b : BrickId) (request : Request) → next_under of at asked t ≡ next.Ask b request → progress.is_over t.stage t ≡ false
+under_asks (found.Unread c) asked t at b request e = go (progress.is_beginning t.stage) refl e
   where
-    go : (begins : Bool) → progress.is_beginning t.stage ≡ begins → (if begins then next.Ask c (reads_name j w) else progress.next_at t.stage at t) ≡ next.Ask b request → progress.is_over t.stage t ≡ false
+    go : (begins : Bool) → progress.is_beginning t.stage ≡ begins → (if begins then next.Ask c asked else progress.next_at t.stage at t) ≡ next.Ask b request → progress.is_over t.stage t ≡ false
     go true f e = beginning_more t.stage t f
     go false f e = transaction_asks t.stage t at b request e
-under_asks found.Fits j w t at b request e = transaction_asks t.stage t at b request e
-under_asks (found.Refused why) j w t at b request e = go (progress.is_over t.stage t) e
+under_asks found.Fits asked t at b request e = transaction_asks t.stage t at b request e
+under_asks (found.Refused why) asked t at b request e = go (progress.is_over t.stage t) e
   where
     go : (over : Bool) → (if over then next.End (reply_to why) else progress.next_at t.stage at t) ≡ next.Ask b request → over ≡ false
     go true e = absurd (cc e)
     go false e = refl
 
-under_begins : (of : Found) (j : EntryJob) (w : Walk) (t : Progress) (at : ℕ) (change : Change) → next_under of at j w t ≡ next.Begin change → progress.is_over t.stage t ≡ false
-under_begins (found.Unread c) j w t at change e = go (progress.is_beginning t.stage) e
+under_begins : (of : Found) (asked : Request) (t : Progress) (at : ℕ) (change : Change) → next_under of at asked t ≡ next.Begin change → progress.is_over t.stage t ≡ false
+under_begins (found.Unread c) asked t at change e = go (progress.is_beginning t.stage) e
   where
-    go : (begins : Bool) → (if begins then next.Ask c (reads_name j w) else progress.next_at t.stage at t) ≡ next.Begin change → progress.is_over t.stage t ≡ false
+    go : (begins : Bool) → (if begins then next.Ask c asked else progress.next_at t.stage at t) ≡ next.Begin change → progress.is_over t.stage t ≡ false
     go true e = absurd (cc e)
     go false e = transaction_begins t.stage t at change e
-under_begins found.Fits j w t at change e = transaction_begins t.stage t at change e
-under_begins (found.Refused why) j w t at change e = go (progress.is_over t.stage t) e
+under_begins found.Fits asked t at change e = transaction_begins t.stage t at change e
+under_begins (found.Refused why) asked t at change e = go (progress.is_over t.stage t) e
   where
     go : (over : Bool) → (if over then next.End (reply_to why) else progress.next_at t.stage at t) ≡ next.Begin change → over ≡ false
     go true e = absurd (cc e)
@@ -216,17 +226,59 @@ removal_begins (removing.Closing why) m change e = go (is_nothing (removal.left 
     go false e = refl
 removal_begins stage m change e = refl
 
+-- under the locks of its name a command asks as a rename does
+pub same_under : (of : Found) (j : EntryJob) (w : Walk) (t : Progress) (at : ℕ) → next_under of at (reads_name j w) t ≡ entry.next_under of at j w t
+same_under (found.Unread c) j w t at = refl
+same_under found.Fits j w t at = refl
+same_under (found.Refused why) j w t at = refl
+
 entry_asks : (stage : EntryStage) (j : EntryJob) (w : Walk) (at : ℕ) (b : BrickId) (request : Request) → entry.next_at at stage j w ≡ next.Ask b request → entry.is_over stage ≡ false
 entry_asks entering.Walking j w at b request e = refl
-entry_asks (entering.Changing t of) j w at b request e = under_asks of j w t at b request e
+entry_asks (entering.Changing t of) j w at b request e = under_asks of (reads_name j w) t at b request (same_under of j w t at ∙ e)
 entry_asks (entering.Removes m) j w at b request e = removal_asks m.stage m b request e
 entry_asks (entering.Ending said) j w at b request e = absurd (cc e)
 
 entry_begins : (stage : EntryStage) (j : EntryJob) (w : Walk) (at : ℕ) (change : Change) → entry.next_at at stage j w ≡ next.Begin change → entry.is_over stage ≡ false
 entry_begins entering.Walking j w at change e = refl
-entry_begins (entering.Changing t of) j w at change e = under_begins of j w t at change e
+entry_begins (entering.Changing t of) j w at change e = under_begins of (reads_name j w) t at change (same_under of j w t at ∙ e)
 entry_begins (entering.Removes m) j w at change e = removal_begins m.stage m change e
 entry_begins (entering.Ending said) j w at change e = absurd (cc e)
+
+-- the first transaction of a rename, once it is over, is followed by the second
+not_done : (over done : Bool) → (done ≡ false → over ≡ false) → (over && not done) ≡ false
+not_done true true h = refl
+not_done true false h = h refl
+not_done false done h = refl
+
+rename_asks : (stage : RenameStage) (x : Paths) (at : ℕ) (b : BrickId) (request : Request) → rename.next_at at stage x ≡ next.Ask b request → rename.is_over stage ≡ false
+rename_asks renaming.Finding x at b request e = refl
+rename_asks renaming.Walking x at b request e = refl
+rename_asks (renaming.Making t of) x at b request e = not_done (progress.is_over t.stage t) (is_done t) (go (is_done t) e)
+  where
+    go : (done : Bool) → (if done then progress.next_at Locking at (turned x t) else next_under of at (reads_new x) t) ≡ next.Ask b request → done ≡ false → progress.is_over t.stage t ≡ false
+    go true e f = absurd (cc f)
+    go false e f = under_asks of (reads_new x) t at b request e
+rename_asks (renaming.Removing t of) x at b request e = go (progress.is_over t.stage t) e
+  where
+    go : (over : Bool) → (if over then next.End (half_reply (outcome_of t.change t.register)) else next_under of at (reads_old x) t) ≡ next.Ask b request → over ≡ false
+    go true e = absurd (cc e)
+    go false e = refl
+rename_asks (renaming.Ending said) x at b request e = absurd (cc e)
+
+rename_begins : (stage : RenameStage) (x : Paths) (at : ℕ) (change : Change) → rename.next_at at stage x ≡ next.Begin change → rename.is_over stage ≡ false
+rename_begins renaming.Finding x at change e = absurd (cc e)
+rename_begins renaming.Walking x at change e = absurd (cc e)
+rename_begins (renaming.Making t of) x at change e = not_done (progress.is_over t.stage t) (is_done t) (go (is_done t) e)
+  where
+    go : (done : Bool) → (if done then progress.next_at Locking at (turned x t) else next_under of at (reads_new x) t) ≡ next.Begin change → done ≡ false → progress.is_over t.stage t ≡ false
+    go true e f = absurd (cc f)
+    go false e f = under_begins of (reads_new x) t at change e
+rename_begins (renaming.Removing t of) x at change e = go (progress.is_over t.stage t) e
+  where
+    go : (over : Bool) → (if over then next.End (half_reply (outcome_of t.change t.register)) else next_under of at (reads_old x) t) ≡ next.Begin change → over ≡ false
+    go true e = absurd (cc e)
+    go false e = refl
+rename_begins (renaming.Ending said) x at change e = absurd (cc e)
 
 -- where the next line is a request, more is left than the end
 pub asks_more : AsksMore
@@ -234,6 +286,7 @@ asks_more Idle at b request e = absurd (cc e)
 asks_more (Lookup m) at b request e = ap not (asking_at m.stage m.walk b request e).0
 asks_more (Write m) at b request e = write_asks m.stage m.walk at b request e
 asks_more (Entry m) at b request e = entry_asks m.stage m.job m.walk at b request e
+asks_more (Rename m) at b request e = rename_asks m.stage m.paths at b request e
 
 -- and where it is a Begin line
 pub begins_more : BeginsMore
@@ -241,6 +294,7 @@ begins_more Idle at change e = absurd (cc e)
 begins_more (Lookup m) at change e = absurd (never_begins m.stage m.walk change e)
 begins_more (Write m) at change e = write_begins m.stage m.walk at change e
 begins_more (Entry m) at change e = entry_begins m.stage m.job m.walk at change e
+begins_more (Rename m) at change e = rename_begins m.stage m.paths at change e
 
 -- ---- what is heard
 asking : (b : Bool) → not b ≡ false → b ≡ true
@@ -254,6 +308,7 @@ stays_sound (Lookup m) k more chosen (heard.Answer a at) among = read.stays_soun
 stays_sound (Lookup m) k more chosen (heard.Begun at) among = k
 stays_sound (Write m) k more chosen of among = write_lemmas.stays_sound m k more chosen of among
 stays_sound (Entry m) k more chosen of among = entry_lemmas.stays_sound m k more chosen of among
+stays_sound (Rename m) k more chosen of among = rename_lemmas.stays_sound m k more chosen of among
 
 -- what a work has heard by some rule, it has heard by any rule
 pub fed_is_answered : {F : Type 0} (calls : Calls F) (choose : F) → FedIsAnswered calls choose
@@ -273,6 +328,7 @@ notes_each Idle at b request e chosen a = absurd (cc e)
 notes_each (Lookup m) at b request e chosen a = read_notes m at b request e chosen a
 notes_each (Write m) at b request e chosen a = write_lemmas.notes_each m at b request e chosen a
 notes_each (Entry m) at b request e chosen a = entry_lemmas.notes_each m at b request e chosen a
+notes_each (Rename m) at b request e chosen a = rename_lemmas.notes_each m at b request e chosen a
 
 -- and the number of each attempt
 pub notes_begin : NotesBegin
@@ -280,6 +336,7 @@ notes_begin Idle at change e chosen = absurd (cc e)
 notes_begin (Lookup m) at change e chosen = absurd (never_begins m.stage m.walk change e)
 notes_begin (Write m) at change e chosen = write_lemmas.notes_begin m at change e chosen
 notes_begin (Entry m) at change e chosen = entry_lemmas.notes_begin m at change e chosen
+notes_begin (Rename m) at change e chosen = rename_lemmas.notes_begin m at change e chosen
 
 -- ---- few bricks, and no heal
 walk_few : (w : Walk) → IsWalk w → w.register.shape.n ≤ 5
@@ -296,12 +353,20 @@ entry_few (entering.Changing t of) j w k = k.ready.sound.base.few
 entry_few (entering.Removes m) j w k = k.ready.sound.base.few
 entry_few (entering.Ending said) j w k = walk_few w k.sound
 
+rename_few : (stage : RenameStage) (x : Paths) → IsRename x stage → (rename.register_at stage x).shape.n ≤ 5
+rename_few renaming.Finding x k = walk_few x.first k.paths.first
+rename_few renaming.Walking x k = walk_few x.second k.paths.second
+rename_few (renaming.Making t of) x k = k.sound.under.sound.base.few
+rename_few (renaming.Removing t of) x k = k.sound.under.sound.base.few
+rename_few (renaming.Ending said) x k = walk_few x.second k.paths.second
+
 -- the volume has five bricks at most
 pub has_few : HasFew
 has_few Idle k = omega arith
 has_few (Lookup m) k = walk_few m.walk k.sound
 has_few (Write m) k = write_few m.stage m.walk k
 has_few (Entry m) k = entry_few m.stage m.job m.walk k
+has_few (Rename m) k = rename_few m.stage m.paths k
 
 free_outside : (shape : Shape) (r : Register) → IsFree shape r → r.inside ≡ false
 free_outside shape r (inl e) = ap (λ (x : Register). x.inside) e
@@ -318,12 +383,20 @@ entry_outside (entering.Changing t of) j w k = k.ready.sound.base.outside
 entry_outside (entering.Removes m) j w k = k.ready.sound.base.outside
 entry_outside (entering.Ending said) j w k = free_outside w.shape w.register k.sound.free
 
+rename_outside : (stage : RenameStage) (x : Paths) → IsRename x stage → (rename.register_at stage x).inside ≡ false
+rename_outside renaming.Finding x k = free_outside x.first.shape x.first.register k.paths.first.free
+rename_outside renaming.Walking x k = free_outside x.second.shape x.second.register k.paths.second.free
+rename_outside (renaming.Making t of) x k = k.sound.under.sound.base.outside
+rename_outside (renaming.Removing t of) x k = k.sound.under.sound.base.outside
+rename_outside (renaming.Ending said) x k = free_outside x.second.shape x.second.register k.paths.second.free
+
 -- a client's work is no heal
 pub stays_outside : StaysOutside
 stays_outside Idle k = refl
 stays_outside (Lookup m) k = free_outside m.walk.shape m.walk.register k.sound.free
 stays_outside (Write m) k = write_outside m.stage m.walk k
 stays_outside (Entry m) k = entry_outside m.stage m.job m.walk k
+stays_outside (Rename m) k = rename_outside m.stage m.paths k
 
 -- ---- who is asked
 below_five : (b n : ℕ) → b < n → n ≤ 5 → b < 5

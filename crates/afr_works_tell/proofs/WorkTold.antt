@@ -1,30 +1,43 @@
 -- The lines of a client's present work, by the machine of its command.
-use Rattle.std.proofs.Common.{◌≡◌, ℕ, Bool, true, List, [], ◌∷◌, ◌++◌, length, refl, sym, ap, ◌∙◌, subst}
+use Rattle.std.proofs.Common.{◌≡◌, ℕ, Bool, true, false, List, [], ◌∷◌, ◌++◌, length, refl, sym, ap, ◌∙◌, subst}
 use Rattle.afr_base.specs.declared.ids.ActorId.{ActorId}
 use Rattle.afr_base.specs.declared.ids.BrickId.{BrickId}
 use Rattle.afr_base.specs.declared.ids.NameId.{NameId}
+use Rattle.afr_descent.specs.Descent.{has_one_path}
 use Rattle.afr_lines.specs.Work.{Work as Lines}
 use Rattle.afr_lines.specs.declared.answer.Answer.{Answer}
 use Rattle.afr_lines.specs.declared.answer.Told.{Told}
+use Rattle.afr_lines.specs.declared.answer.Told.TheVariants.{Done}
 use Rattle.afr_lines.specs.declared.line.Line.{Line}
-use Rattle.afr_lines.specs.declared.line.Line.TheVariants.{Ask}
+use Rattle.afr_lines.specs.declared.line.Line.TheVariants.{Ask, Begin, End}
 use Rattle.afr_lines.specs.declared.line.Next.{Next}
 use Rattle.afr_lines.specs.declared.line.Next.TheVariants as next
+use Rattle.afr_lines.specs.declared.reply.Reply.{Reply}
 use Rattle.afr_lines.specs.declared.request.Request.{Request}
 use Rattle.afr_lines.specs.declared.request.Request.TheVariants as request
 use Rattle.afr_lines.specs.Work as lines_of
+use Rattle.afr_object.specs.declared.change.Change.{Change}
+use Rattle.afr_object.specs.declared.change.Change.TheVariants.{Remove}
 use Rattle.afr_plan.specs.declared.command.Command.{Command}
 use Rattle.afr_plan.specs.declared.command.Command.TheVariants as command
 use Rattle.afr_plan.specs.declared.plan.Plan.{Plan}
 use Rattle.afr_model.specs.Answered.{IsAbout, IsAnswered}
 use Rattle.afr_model.specs.Blamed.{Blames}
+use Rattle.afr_model.specs.Following.{KeepsToCommand}
 use Rattle.afr_model.specs.Keeping.{KeepsTo}
+use Rattle.afr_model.specs.Kept.{IsKept}
+use Rattle.afr_model.specs.Parts.{Makes, Part, Removes, Walks, part_at}
+use Rattle.afr_model.specs.Renamed.{IsRenamed, KeepsToPart}
+use Rattle.afr_model.specs.Replied.{IsOf}
+use Rattle.afr_model.specs.Showing.{begins_attempt, has}
+use Rattle.afr_model.specs.Standing.{change_by}
 use Rattle.afr_walk.specs.Walk as walk
 use Rattle.afr_walk.specs.declared.walk.Walk.{Walk}
 use Rattle.afr_walk.specs.declared.walk.WalkStep.{WalkStep}
 use Rattle.afr_walk.specs.declared.walk.WalkStep.TheVariants as walking
 use Rattle.afr_inode_read.specs.Lookup.{Lookup as LookupValue, IsLookup, asked_at, next_at, next_of, walk_after}
 use Rattle.afr_inode_read.specs.declared.job.Content.TheVariants as content
+use Rattle.afr_inode_read.specs.declared.job.LookupJob.{LookupJob}
 use Rattle.afr_inode_read.specs.declared.job.LookupJob.TheVariants as read_job
 use Rattle.afr_inode_read.specs.declared.stage.LookupStage.{LookupStage}
 use Rattle.afr_inode_read.specs.declared.stage.LookupStage.TheVariants as reading
@@ -38,18 +51,23 @@ use Rattle.afr_inode_telling.proofs.ReadsTell.{begins as read_begins}
 use Rattle.afr_inode_telling.proofs.Walking.{path_kept}
 use Rattle.afr_transaction_tells.specs.About.{BlamesNext}
 use Rattle.afr_transaction_tells.specs.Laws.{IsNextLine}
+use Rattle.afr_transaction_tells.proofs.Small.{no_change}
 use Rattle.afr_write_telling.proofs.Begins.{begins as write_begins}
 use Rattle.afr_write_telling.proofs.Ends as write
+use Rattle.afr_entry_telling.specs.EntryTelling as entry_of
 use Rattle.afr_entry_telling.specs.EntryTelling.{EntryTells}
 use Rattle.afr_entry_telling.proofs.Begins.{begins as entry_begins}
 use Rattle.afr_entry_telling.proofs.Ends as entry
-use Rattle.afr_works.proofs.PathLemmas.{path_is}
+use Rattle.afr_works.proofs.PathLemmas.{path_is, some_names}
 use Rattle.afr_works.proofs.WorkLemmas.{never_begins}
 use Rattle.afr_rename.specs.Paths.{front, last}
+use Rattle.afr_rename_telling.specs.RenameTelling.{to_of}
+use Rattle.afr_rename_telling.specs.RenameLaws.{RenameAbout, RenameBegins, RenameBegun, RenameBlames, RenameEnds, RenameKeepsName, RenameTellsMore}
+use Rattle.afr_transaction.proofs.Parts.{both}
 use Rattle.afr_works.specs.Begin.{has_name}
 use Rattle.afr_works.specs.Work as work
-use Rattle.afr_works.specs.declared.work.Work.TheVariants.{Idle, Lookup, Write, Entry}
-use Rattle.afr_works_tell.specs.WorkLaws.{BlamedLines, WorkAbout, WorkBegins, WorkBegun, WorkBlames, WorkEnds, WorkTellsMore}
+use Rattle.afr_works.specs.declared.work.Work.TheVariants.{Idle, Lookup, Write, Entry, Rename}
+use Rattle.afr_works_tell.specs.WorkLaws.{BlamedLines, WorkAbout, WorkBegins, WorkBegun, WorkBlames, WorkEnds, WorkKeepsName, WorkTellsMore}
 
 -- ---- the first line
 -- a path is that of its last name, in the directory before it
@@ -57,18 +75,19 @@ by_name : (p : Plan) (path : List NameId) (of : List NameId → Command) (j : En
 by_name p path of j h tells = subst (λ (x : List NameId). EntryTells p (of x) (entry_from p.shape (front path) j) []) (path_is path h) tells
 
 -- no lines show a work that begins
-pub begins : WorkBegins
-begins p (command.Write path at bytes) few some h = write_begins p path (job.Write at bytes) few some
-begins p (command.Cut path len) few some h = write_begins p path (job.Cut len) few some
-begins p (command.SetAttr path key value) few some h = write_begins p path (job.SetAttr key value) few some
-begins p (command.Read path at len) few some h = (refl, read_begins p path (read_job.Read at len) few some)
-begins p (command.GetAttr path key) few some h = (refl, read_begins p path (read_job.GetAttr key) few some)
-begins p (command.Ls path) few some h = (refl, read_begins p path read_job.Ls few some)
-begins p (command.Stat path) few some h = (refl, read_begins p path read_job.Stat few some)
-begins p (command.Create path) few some h = by_name p path (λ x. command.Create x) (name.Create (last path)) h (entry_begins p (front path) (name.Create (last path)) few some)
-begins p (command.Mkdir path) few some h = by_name p path (λ x. command.Mkdir x) (name.Mkdir (last path)) h (entry_begins p (front path) (name.Mkdir (last path)) few some)
-begins p (command.Unlink path) few some h = by_name p path (λ x. command.Unlink x) (name.Unlink (last path)) h (entry_begins p (front path) (name.Unlink (last path)) few some)
-begins p (command.Rmdir path) few some h = by_name p path (λ x. command.Rmdir x) (name.Rmdir (last path)) h (entry_begins p (front path) (name.Rmdir (last path)) few some)
+pub begins : RenameBegins → WorkBegins
+begins rename p (command.Write path at bytes) few some h = (refl, write_begins p path (job.Write at bytes) few some)
+begins rename p (command.Cut path len) few some h = (refl, write_begins p path (job.Cut len) few some)
+begins rename p (command.SetAttr path key value) few some h = (refl, write_begins p path (job.SetAttr key value) few some)
+begins rename p (command.Read path at len) few some h = (refl, read_begins p path (read_job.Read at len) few some)
+begins rename p (command.GetAttr path key) few some h = (refl, read_begins p path (read_job.GetAttr key) few some)
+begins rename p (command.Ls path) few some h = (refl, read_begins p path read_job.Ls few some)
+begins rename p (command.Stat path) few some h = (refl, read_begins p path read_job.Stat few some)
+begins rename p (command.Create path) few some h = by_name p path (λ x. command.Create x) (name.Create (last path)) h (entry_begins p (front path) (name.Create (last path)) few some)
+begins rename p (command.Mkdir path) few some h = by_name p path (λ x. command.Mkdir x) (name.Mkdir (last path)) h (entry_begins p (front path) (name.Mkdir (last path)) few some)
+begins rename p (command.Unlink path) few some h = by_name p path (λ x. command.Unlink x) (name.Unlink (last path)) h (entry_begins p (front path) (name.Unlink (last path)) few some)
+begins rename p (command.Rmdir path) few some h = by_name p path (λ x. command.Rmdir x) (name.Rmdir (last path)) h (entry_begins p (front path) (name.Rmdir (last path)) few some)
+begins rename p (command.Rename from to) few some h = (let names = both (has_name from) (has_name to) h in rename p from to few some (some_names (length from) names.0) (some_names (length to) names.1))
 
 -- ---- after a line
 -- a read goes on along the same path
@@ -79,19 +98,21 @@ same_path chosen (reading.Reading b of) heard at w = refl
 same_path chosen (reading.Ending said) heard at w = refl
 
 -- whatever was told and whichever good copy is read then, the lines show where the work stands
-pub more : WorkTellsMore
-more p c Idle lines a b request chosen heard took log sound k e can among = absurd can
-more p c (Lookup m) lines a b request chosen heard took log sound k e can among =
+pub more : RenameTellsMore → WorkTellsMore
+more rename p c Idle lines a b request chosen heard took log sound k e can among = absurd can
+more rename p c (Lookup m) lines a b request chosen heard took log sound k e can among =
     (k.0 ∙ ap (λ (path : List NameId). command_of m.job path) (sym (same_path chosen m.stage heard (length log) m.walk)), read_more p m lines a b request chosen heard took log (length log) sound k.1 e can among)
-more p c (Write m) lines a b request chosen heard took log sound k e can among = write.more p c m lines a b request chosen heard took log sound k e can among
-more p c (Entry m) lines a b request chosen heard took log sound k e can among = entry.more p c m lines a b request chosen heard took log sound k e can among
+more rename p c (Write m) lines a b request chosen heard took log sound k e can among = (k.0, write.more p c m lines a b request chosen heard took log sound k.1 e can among)
+more rename p c (Entry m) lines a b request chosen heard took log sound k e can among = entry.more p c m lines a b request chosen heard took log sound k e can among
+more rename p c (Rename m) lines a b request chosen heard took log sound k e can among = rename p c m lines a b request chosen heard took log sound k e can among
 
 -- and after the Begin line, which no read has
-pub begun : WorkBegun
-begun p c Idle lines a change chosen log sound k e = absurd k
-begun p c (Lookup m) lines a change chosen log sound k e = absurd (never_begins m.stage m.walk change e)
-begun p c (Write m) lines a change chosen log sound k e = write.begun p c m lines a change chosen log sound k e
-begun p c (Entry m) lines a change chosen log sound k e = entry.begun p c m lines a change chosen log sound k e
+pub begun : RenameBegun → WorkBegun
+begun rename p c Idle lines a change chosen log sound k e = absurd k
+begun rename p c (Lookup m) lines a change chosen log sound k e = absurd (never_begins m.stage m.walk change e)
+begun rename p c (Write m) lines a change chosen log sound k e = (k.0, write.begun p c m lines a change chosen log sound k.1 e)
+begun rename p c (Entry m) lines a change chosen log sound k e = entry.begun p c m lines a change chosen log sound k e
+begun rename p c (Rename m) lines a change chosen log sound k e = rename p c m lines a change chosen log sound k e
 
 -- ---- each line
 -- a read's next line is a request
@@ -108,13 +129,41 @@ read_line p m lines a told line at sound k is =
     asks_line (λ (x : Line). IsAbout p (command_of m.job m.walk.path) x lines × KeepsTo p (command_of m.job m.walk.path) x at lines) m.stage m.walk a told line is
     (λ took e. (read_about p m lines a (asked_at m.stage m.walk).0 (asked_at m.stage m.walk).1 told took sound k e, read_follows p m lines a (asked_at m.stage m.walk).0 (asked_at m.stage m.walk).1 told took at sound k e))
 
+-- what a command along one path keeps to and is about
+abbrev Words : Plan → Command → Line → ℕ → Lines → Type 0
+Words p c line at lines = IsAbout p c line lines × KeepsTo p c line at lines
+
+-- that is all of its line
+of_one : (p : Plan) (c : Command) (line : Line) (at : ℕ) (lines : Lines) → has_one_path c ≡ true → Words p c line at lines → IsOf p c line lines × KeepsToCommand p c line at lines
+of_one p (command.Rename from to) line at lines one k = absurd (cc one)
+of_one p c line at lines one k = k
+
+read_one : (j : LookupJob) (path : List NameId) → has_one_path (command_of j path) ≡ true
+read_one (read_job.Read at len) path = refl
+read_one (read_job.GetAttr key) path = refl
+read_one read_job.Ls path = refl
+read_one read_job.Stat path = refl
+
+pub entry_one : (j : EntryJob) (path : List NameId) → has_one_path (entry_of.command_of j path) ≡ true
+entry_one (name.Create n) path = refl
+entry_one (name.Mkdir n) path = refl
+entry_one (name.Unlink n) path = refl
+entry_one (name.Rmdir n) path = refl
+
+-- so it is of the command that it is
+pub one_of : (c d : Command) → c ≡ d → has_one_path d ≡ true → has_one_path c ≡ true
+one_of c d e h = subst (λ (x : Command). has_one_path x ≡ true) (sym e) h
+
 -- the next line is about what the words of the command name, and keeps to them
-pub about : WorkAbout
-about p c Idle lines a told line log sound k is = absurd k
-about p c (Lookup m) lines a told line log sound k is =
-    subst (λ (x : Command). IsAbout p x line lines × KeepsTo p x line (length log) lines) (sym k.0) (read_line p m lines a told line (length log) sound k.1 is)
-about p c (Write m) lines a told line log sound k is = write.about p c m lines a told line log sound k is
-about p c (Entry m) lines a told line log sound k is = entry.about p c m lines a told line log sound k is
+pub about : RenameAbout → WorkAbout
+about rename p c Idle lines a told line log sound k is = absurd k
+about rename p c (Lookup m) lines a told line log sound k is =
+    of_one p c line (length log) lines (one_of c (command_of m.job m.walk.path) k.0 (read_one m.job m.walk.path))
+    (subst (λ (x : Command). Words p x line (length log) lines) (sym k.0) (read_line p m lines a told line (length log) sound k.1 is))
+about rename p c (Write m) lines a told line log sound k is = of_one p c line (length log) lines k.0 (write.about p c m lines a told line log sound k.1 is)
+about rename p c (Entry m) lines a told line log sound k is =
+    of_one p c line (length log) lines (one_of c (entry_of.command_of m.job m.walk.path) k.named (entry_one m.job m.walk.path)) (entry.about p c m lines a told line log sound k is)
+about rename p c (Rename m) lines a told line log sound k is = rename p c m lines a told line log sound k is
 
 -- ---- accusations
 walk_blames : (p : Plan) (lines : Lines) (step : WalkStep) (w : Walk) → walk.is_walking step ≡ true → BlamesNext p lines (next.Ask (walk.next_at step w).0 (walk.next_at step w).1)
@@ -132,11 +181,12 @@ read_blames p lines (reading.Reading b content.Names) w sound = tt
 read_blames p lines (reading.Ending said) w sound = tt
 
 -- each post-op accuses exactly those that missed the operation, with the cause
-pub blames : WorkBlames
-blames p c Idle lines at sound k = absurd k
-blames p c (Lookup m) lines at sound k = read_blames p lines m.stage m.walk sound
-blames p c (Write m) lines at sound k = write.blames p c m lines at sound k
-blames p c (Entry m) lines at sound k = entry.blames p c m lines at sound k
+pub blames : RenameBlames → WorkBlames
+blames rename p c Idle lines at sound k = absurd k
+blames rename p c (Lookup m) lines at sound k = read_blames p lines m.stage m.walk sound
+blames rename p c (Write m) lines at sound k = write.blames p c m lines at sound k.1
+blames rename p c (Entry m) lines at sound k = entry.blames p c m lines at sound k
+blames rename p c (Rename m) lines at sound k = rename p c m lines at sound k
 
 -- a line does what is said of the next one
 line_blames : (p : Plan) (a : ActorId) (told : Told) (line : Line) (log : List Line) (of : Next) → IsNextLine a of told line → BlamesNext p (lines_of.work a.0 log) of → Blames p line log
@@ -149,13 +199,48 @@ line_blames p a told line log (next.Begin change) is h = subst (λ (x : Line). B
 line_blames p a told line log of is h = absurd is
 
 -- so does the line itself, in the log
-pub blamed : BlamedLines
-blamed p c w a told line log sound k is = line_blames p a told line log (work.next_of (length log) w) is (blames p c w (lines_of.work a.0 log) (length log) sound k)
+pub blamed : RenameBlames → BlamedLines
+blamed rename p c w a told line log sound k is = line_blames p a told line log (work.next_of (length log) w) is (blames rename p c w (lines_of.work a.0 log) (length log) sound k)
 
 -- ---- the end
+-- an end keeps to its command
+keeps_end : (p : Plan) (from to : List NameId) (part : Part) (a : ActorId) (said : Reply) (at : ℕ) (lines : Lines) → KeepsToPart part p from to (End a said) at lines
+keeps_end p from to Walks a said at lines = tt
+keeps_end p from to Makes a said at lines = tt
+keeps_end p from to Removes a said at lines = tt
+
+rename_ends : (p : Plan) (c : Command) (from to : List NameId) (lines : Lines) (at : ℕ) (said : Reply) → c ≡ command.Rename from to → IsRenamed p from to lines said
+    → (a : ActorId) → IsOf p c (End a said) lines × KeepsToCommand p c (End a said) at lines
+rename_ends p c from to lines at said named k a =
+    subst (λ (x : Command). IsOf p x (End a said) lines × KeepsToCommand p x (End a said) at lines) (sym named) (k, keeps_end p from to (part_at from (End a said) lines) a said at lines)
+
 -- the reply has its cause
-pub ends : WorkEnds
-ends p c Idle lines at said sound k e = absurd k
-ends p c (Lookup m) lines at said sound k e = (subst (λ (x : Command). IsAnswered p x lines said) (sym k.0) (read_ends p m lines said k.1 e), λ a. tt)
-ends p c (Write m) lines at said sound k e = (write.ends p c m lines at said sound k e, λ a. tt)
-ends p c (Entry m) lines at said sound k e = (entry.ends p c m lines at said sound k e, λ a. tt)
+pub ends : RenameEnds → WorkEnds
+ends rename p c Idle lines at said sound k e a = absurd k
+ends rename p c (Lookup m) lines at said sound k e a =
+    of_one p c (End a said) at lines (one_of c (command_of m.job m.walk.path) k.0 (read_one m.job m.walk.path))
+    (subst (λ (x : Command). IsAnswered p x lines said) (sym k.0) (read_ends p m lines said k.1 e), tt)
+ends rename p c (Write m) lines at said sound k e a = of_one p c (End a said) at lines k.0 (write.ends p c m lines at said sound k.1 e, tt)
+ends rename p c (Entry m) lines at said sound k e a =
+    of_one p c (End a said) at lines (one_of c (entry_of.command_of m.job m.walk.path) k.named (entry_one m.job m.walk.path)) (entry.ends p c m lines at said sound k e, tt)
+ends rename p c (Rename m) lines at said sound k e a = rename_ends p c m.paths.first.path (to_of m.paths) lines at said k.named (rename p c m lines at said sound k e) a
+
+-- ---- the old name
+-- where nothing was begun before, no name is given up after a making
+unbegun_kept : (p : Plan) (a : ActorId) (change : Change) (log : List Line) → has begins_attempt (lines_of.work a.0 log) ≡ false → IsKept p (Begin a change) log
+unbegun_kept p a (Remove dir n what) log none = λ d m g made e. absurd (cc (no_change (lines_of.work a.0 log) none, e))
+unbegun_kept p a change log none = tt
+
+-- where the next line is a Begin line, that is the line
+begin_line : (a : ActorId) (of : Next) (change : Change) → of ≡ next.Begin change → IsNextLine a of Done (Begin a change)
+begin_line a of change e = subst (λ (x : Next). IsNextLine a x Done (Begin a change)) (sym e) refl
+
+-- a name is given up after a making only once the object that was made stands
+pub keeps_name : RenameKeepsName → WorkKeepsName
+keeps_name rename p c Idle a change log sound k e = absurd k
+keeps_name rename p c (Lookup m) a change log sound k e = absurd (never_begins m.stage m.walk change e)
+keeps_name rename p c (Write m) a change log sound k e =
+    unbegun_kept p a change log (write.about p c m (lines_of.work a.0 log) a Done (Begin a change) log sound k.1 (begin_line a (work.next_of (length log) (Write m)) change e)).1.0
+keeps_name rename p c (Entry m) a change log sound k e =
+    unbegun_kept p a change log (entry.about p c m (lines_of.work a.0 log) a Done (Begin a change) log sound k (begin_line a (work.next_of (length log) (Entry m)) change e)).1.0
+keeps_name rename p c (Rename m) a change log sound k e = rename p c m log a change sound k e

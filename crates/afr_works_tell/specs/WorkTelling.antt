@@ -1,5 +1,6 @@
 -- What the lines of a client's present work show of it, and what its bricks may tell.
-use Rattle.std.specs.Prelude.{◌≡◌, ℕ, List}
+use Rattle.std.specs.Prelude.{◌≡◌, ℕ, true, List}
+use Rattle.afr_descent.specs.Descent.{has_one_path}
 use Rattle.afr_lines.specs.Work.{Work as Lines}
 use Rattle.afr_lines.specs.declared.answer.Answer.{Answer}
 use Rattle.afr_lines.specs.declared.line.Line.{Line}
@@ -20,7 +21,7 @@ use Rattle.afr_works.specs.declared.work.Work.TheVariants.{Idle, Lookup, Write, 
 abbrev pub WorkTells : Plan → Command → Work → Lines → Type 0
 WorkTells p c Idle lines = ⊥
 WorkTells p c (Lookup m) lines = (c ≡ command_of m.job m.walk.path) × ReadTells p m lines
-WorkTells p c (Write m) lines = WriteTells p c m lines
+WorkTells p c (Write m) lines = (has_one_path c ≡ true) × WriteTells p c m lines
 WorkTells p c (Entry m) lines = EntryTells p c m lines
 WorkTells p c (Rename m) lines = RenameTells p c m lines
 

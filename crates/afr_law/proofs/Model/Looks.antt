@@ -13,6 +13,7 @@ use Rattle.afr_choice.specs.Verdict.{shown_missed}
 use Rattle.afr_choice.specs.declared.looked.Looked.{Looked}
 use Rattle.afr_object.specs.declared.entry.View.{View}
 use Rattle.afr_lines.specs.Areas.{object_of_area}
+use Rattle.afr_lines.specs.Log.{from_oldest}
 use Rattle.afr_lines.specs.Work.{Work, work, is_of, is_end}
 use Rattle.afr_lines.specs.declared.answer.Told.{Told}
 use Rattle.afr_lines.specs.declared.answer.Told.TheVariants.{Seen, NoObject}
@@ -25,7 +26,7 @@ use Rattle.afr_model.specs.Showing.{look_shows, looked_after, looked_by}
 use Rattle.afr_law.proofs.Model.Cells.{below_length}
 use Rattle.afr_law.specs.FreshReads.{ShowsNoMiss}
 use Rattle.afr_moves.specs.Lines.{ask_by}
-use Rattle.afr_law.specs.ModelFresh.{IsClearLook}
+use Rattle.afr_law.specs.ModelFresh.{IsClearLook, IsIn}
 use Rattle.afr_moves.proofs.ByPosition.{newest_at, older_at}
 use Rattle.std.proofs.lemmas.Bool.{eqb-true}
 
@@ -78,6 +79,28 @@ begun_within a (line ∷ log) = go (is_of a line) (is_end line) (work a log) (be
     go false last [] h = omega arith
     go false last (x ∷ w) h = omega (arith, h)
 
+-- a line of the actor that stands in the log, at this position or later
+record StandsAt (a : ℕ) (log : List Line) (since : ℕ) (y : Line × List Line) : Type 0 where
+  own : is_of a y.0 ≡ true
+  stands : from_oldest (length y.1) log ≡ Some y.0
+  after : since ≤ length y.1
+
+-- so does each line of the present work
+of_work : (a : ℕ) (log : List Line) (y : Line × List Line) → IsIn y (work a log) → StandsAt a log (length (log_before (work a log) log)) y
+of_work a [] y it = absurd it
+of_work a (line ∷ log) y it = go (is_of a line) refl (is_end line) (work a log) (begun_within a log) (of_work a log y) it
+  where
+    later : (since : ℕ) → StandsAt a log since y → StandsAt a (line ∷ log) since y
+    later since k = record { own = k.own; stands = older_at line log (length y.1) (below_length log (length y.1) y.0 k.stands) ∙ k.stands; after = k.after }
+
+    go : (own : Bool) → is_of a line ≡ own → (last : Bool) (w : Work) → length (log_before w log) ≤ length log → (IsIn y w → StandsAt a log (length (log_before w log)) y)
+        → IsIn y (if own then (if last then [] else (line, log) ∷ w) else w) → StandsAt a (line ∷ log) (length (log_before (if own then (if last then [] else (line, log) ∷ w) else w) (line ∷ log))) y
+    go true mine true w low before it = absurd it
+    go true mine false w low before (inl same) = subst (StandsAt a (line ∷ log) (length (log_before w log))) (sym same) (record { own = mine; stands = newest_at line log; after = low })
+    go true mine false w low before (inr it) = later (length (log_before w log)) (before it)
+    go false other last [] low before it = absurd it
+    go false other last (z ∷ w) low before it = later (length (log_before (z ∷ w) log)) (before it)
+
 module _ (a x : ℕ) (g : Gfid) (kind : Kind) (b : ℕ) (small : x < 5) where
   -- brick x answered its last look, and showed nothing that b missed
   record IsClearBy (looked : Looked) : Type 0 where
@@ -126,60 +149,41 @@ module _ (a x : ℕ) (g : Gfid) (kind : Kind) (b : ℕ) (small : x < 5) where
   by_answer c NoObject looked five false e w = inr (other_look c None looked e w)
   by_answer c told looked five here e w = inr (other_loss c looked w)
 
-  -- a look of the lines before
-  older_look : (line : Line) (older : List Line) (since : ℕ) → IsClearLook older a since x g kind b → IsClearLook (line ∷ older) a since x g kind b
-  older_look line older since w = record {
-    position = w.position;
-    told = w.told;
-    took = w.took;
-    line = older_at line older w.position (below_length older w.position (ask_by a x (request.Look g) w.told w.took) w.line) ∙ w.line;
-    after = w.after;
-    clear = w.clear;
-  }
-
-  -- one line more of the work
-  line_look : (line : Line) (older : List Line) (since : ℕ) (looked : Looked) → is_of a line ≡ true → length looked.views ≡ 5 → since ≤ length older
-      → (IsClearBy looked → IsClearLook older a since x g kind b) → IsClearBy (looked_after g line looked) → IsClearLook (line ∷ older) a since x g kind b
-  line_look (Ask y z (request.Look h) told took) older since looked mine five low before now = go (h.0 == g.0) refl now
+  -- a line that looks at the object from brick x, or the looks before it
+  line_look : (line : Line) (older log : List Line) (since : ℕ) (looked : Looked) → is_of a line ≡ true → from_oldest (length older) log ≡ Some line → length looked.views ≡ 5 → since ≤ length older
+      → (IsClearBy looked → IsClearLook log a since x g kind b) → IsClearBy (looked_after g line looked) → IsClearLook log a since x g kind b
+  line_look (Ask y z (request.Look h) told took) older log since looked mine stands five low before now = go (h.0 == g.0) refl now
     where
-      line : Line
-      line = Ask y z (request.Look h) told took
-
-      new : h.0 ≡ g.0 → (z.0 ≡ x) × ShowsNoMiss kind b told → IsClearLook (line ∷ older) a since x g kind b
+      new : h.0 ≡ g.0 → (z.0 ≡ x) × ShowsNoMiss kind b told → IsClearLook log a since x g kind b
       new object at = record {
         position = length older;
         told = told;
         took = took;
-        line = newest_at line older ∙ (λ i. Some (ask_by (eqb-true y.0 a mine i) (at.0 i) (request.Look (record { 0 = object i })) told took));
+        line = stands ∙ (λ i. Some (ask_by (eqb-true y.0 a mine i) (at.0 i) (request.Look (record { 0 = object i })) told took));
         after = low;
         clear = at.1;
       }
 
-      go : (hit : Bool) → (h.0 == g.0) ≡ hit → IsClearBy (if hit then look_shows z.0 told looked else looked) → IsClearLook (line ∷ older) a since x g kind b
+      go : (hit : Bool) → (h.0 == g.0) ≡ hit → IsClearBy (if hit then look_shows z.0 told looked else looked) → IsClearLook log a since x g kind b
       go true e w = elim (by_answer z.0 told looked five (z.0 == x) refl w) [
         | inl here ↦ new (eqb-true h.0 g.0 e) here
-        | inr was ↦ older_look line older since (before was)
+        | inr was ↦ before was
       ]
-      go false e w = older_look line older since (before w)
-  line_look (Ask y z (request.Lock WorkDomain area) told took) older since looked mine five low before now = go ((object_of_area area).0 == g.0) now
+      go false e w = before w
+  line_look (Ask y z (request.Lock WorkDomain area) told took) older log since looked mine stands five low before now = go ((object_of_area area).0 == g.0) now
     where
-      go : (hit : Bool) → IsClearBy (if hit then no_looks else looked) → IsClearLook (Ask y z (request.Lock WorkDomain area) told took ∷ older) a since x g kind b
+      go : (hit : Bool) → IsClearBy (if hit then no_looks else looked) → IsClearLook log a since x g kind b
       go true w = absurd (unlooked w)
-      go false w = older_look (Ask y z (request.Lock WorkDomain area) told took) older since (before w)
-  line_look line older since looked mine five low before now = older_look line older since (before now)
+      go false w = before w
+  line_look line older log since looked mine stands five low before now = before now
 
-  -- a brick that answered the last look of the work and showed nothing was looked at in the work
-  looked_at : (log : List Line) → IsClearBy (looked_by g (work a log)) → IsClearLook log a (length (log_before (work a log) log)) x g kind b
-  looked_at [] now = absurd (unlooked now)
-  looked_at (line ∷ log) now = go (is_of a line) refl (is_end line) (work a log) (begun_within a log) (λ w. looked_at log w) now
-    where
-      go : (own : Bool) → is_of a line ≡ own → (last : Bool) (w : Work) → length (log_before w log) ≤ length log → (IsClearBy (looked_by g w) → IsClearLook log a (length (log_before w log)) x g kind b)
-          → IsClearBy (looked_by g (if own then (if last then [] else (line, log) ∷ w) else w))
-          → IsClearLook (line ∷ log) a (length (log_before (if own then (if last then [] else (line, log) ∷ w) else w) (line ∷ log))) x g kind b
-      go true mine true w low before now = absurd (unlooked now)
-      go true mine false w low before now = line_look line log (length (log_before w log)) (looked_by g w) mine (five_views g w) low before now
-      go false other last [] low before now = absurd (unlooked now)
-      go false other last (y ∷ w) low before now = older_look line log (length (log_before (y ∷ w) log)) (before now)
+  -- a brick that answered the last look among some lines of the actor, and showed nothing, was looked at in one of them
+  looked_at : (log : List Line) (since : ℕ) (some : Work) → ((y : Line × List Line) → IsIn y some → StandsAt a log since y) → IsClearBy (looked_by g some) → IsClearLook log a since x g kind b
+  looked_at log since [] each now = absurd (unlooked now)
+  looked_at log since (y ∷ some) each now =
+      let here = each y (inl refl) in
+      line_look y.0 y.1 log since (looked_by g some) here.own here.stands (five_views g some) here.after (λ w. looked_at log since some (λ z it. each z (inr it)) w) now
 
-  pub looked_clear : (log : List Line) → member (looked_by g (work a log)).reached x ≡ true → shown_missed kind b (view_at x (looked_by g (work a log))) ≡ false → IsClearLook log a (length (log_before (work a log) log)) x g kind b
-  looked_clear log reached clear = looked_at log (record { reached = reached; clear = clear })
+  pub looked_clear : (log : List Line) (some : Work) → ((y : Line × List Line) → IsIn y some → IsIn y (work a log)) → member (looked_by g some).reached x ≡ true → shown_missed kind b (view_at x (looked_by g some)) ≡ false
+      → IsClearLook log a (length (log_before (work a log) log)) x g kind b
+  looked_clear log some are reached clear = looked_at log (length (log_before (work a log) log)) some (λ y it. of_work a log y (are y it)) (record { reached = reached; clear = clear })

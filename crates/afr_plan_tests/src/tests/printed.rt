@@ -45,7 +45,7 @@ const PLANS: [&str; 43] = [
     "afr 1\nvolume replica\nfiles 0\nturns 100000\nend\n",
     "afr 1\nvolume replica\nfiles 1\nturns 100000\nclient 1\nwrite /f1 0 \"hello\"\nhealer 1\nround 0\nfault 2 5 lost\ngo c1 22\nend\n",
     "afr 1\nvolume replica\nfiles 1\nturns 32\nclient 1\nwrite /f1 0 \"hello\"\nread /f1 0 5\nend\n",
-    "afr 1\nvolume arbiter\nfiles 2\nturns 4000000\nclient 1\nwrite / 0 \"\"\nwrite /f1 1048576 \"a b~\"\nwrite /d/x-1/y_2 7 hex:00ff\nwrite /f2 0 fill:65536:0a\ncut /f1 0\nread /d/x-1 9 65536\ncreate /d/f2\nmkdir /d\nunlink /x-1\nrmdir /y_2/d\nls /\nstat /d\nsetattr /d user.a b.1\nsetattr / b.1 user.a\ngetattr /f2 b.1\nclient 2\nhealer 1\nround 0\nround 2\nhealer 2\nfault 0 1 fail\nfault 2 4000000 lost\nat 0 stop 0\nat 0 start 0\nat 5 cut c2 1\nat 5 join h2 2\nat 4000000 kill c1\ngo c1 4000000\ngo h2 1\nend\n",
+    "afr 1\nvolume arbiter\nfiles 2\nturns 4000000\nclient 1\nwrite / 0 \"\"\nwrite /f1 1048576 \"a b~\"\nwrite /d/x-1/y_2 7 hex:00ff\nwrite /f2 0 fill:65536:0a\ncut /f1 0\nread /d/x-1 9 65536\ncreate /d/f2\nmkdir /d\nunlink /x-1\nrmdir /y_2/d\nls /\nstat /d\nsetattr /d user.a b.1\nsetattr / b.1 user.a\ngetattr /f2 b.1\nrename /d/f2 /e/x-1\nclient 2\nhealer 1\nround 0\nround 2\nhealer 2\nfault 0 1 fail\nfault 2 4000000 lost\nat 0 stop 0\nat 0 start 0\nat 5 cut c2 1\nat 5 join h2 2\nat 4000000 kill c1\ngo c1 4000000\ngo h2 1\nend\n",
     "afr 2\nvolume replica 5\nfiles 1\nturns 100000\nclient 1\nwrite /f1 0 \"hello\"\nread /f1 0 5\nend\n",
     "afr 2\nvolume replica 5\nfiles 1\nturns 100000\nclient 1\nwrite /f1 0 \"hello\"\nat 0 stop 3\nat 0 stop 4\nend\n",
     "afr 2\nvolume replica 5\nfiles 1\nturns 100000\nclient 1\nwrite /f1 0 \"hello\"\nat 0 stop 2\nat 0 stop 3\nat 0 stop 4\nend\n",

@@ -49,6 +49,9 @@ afr 1;end;||0||2 3
 ^client 1;write /x 0 fill:1:0;||0||6 5
 ^client 1;write /x 0 fill:01:00;||0||6 5
 ^client 1;ls /.. ;||0||6 5
+^client 1;rename / /a;||0||6 5
+^client 1;rename /a /;||0||6 5
+^client 1;rename /a;||0||6 5
 ^fault 0 2 fail;fault 1 1 lost;fault 0 2 lost;||0||7 7
 ^at 0 kill c17;||0||5 6
 ^at 0 kill h0;||0||5 7
@@ -101,6 +104,10 @@ afr 1;volume replica;files 0;||0|turns 4000001;|4 6
 ^client 1;||0|setattr / @a b;|6 6
 ^client 1;|setattr / b @;|1|end;|taken
 ^client 1;||0|setattr / b @a;|6 6
+^client 1;|rename /a /a/a/a/a/a/a/a/a/a/a/a/a/a/a/a/a;|1|end;|taken
+^client 1;||0|rename /a /a/a/a/a/a/a/a/a/a/a/a/a/a/a/a/a/a;|6 6
+^client 1;|rename /b /@;|1|end;|taken
+^client 1;||0|rename /b /@a;|6 6
 ^client 1;|write / 1048576 \"\";|1|end;|taken
 ^client 1;||0|write / 1048577 \"\";|6 6
 ^client 1;|write / 0 \"#\";|1|end;|taken

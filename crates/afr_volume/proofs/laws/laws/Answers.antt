@@ -30,6 +30,7 @@ returns-clause-turns c = record {
     about = c.a_work_tells_its_lines.ensures.about;
     blamed = c.a_work_tells_its_lines.ensures.blamed;
     ends = c.a_work_tells_its_lines.ensures.ends;
+    names = c.a_work_tells_its_lines.ensures.names;
     lookup_hears = c.a_client_hears_what_it_asked.ensures.lookup;
     write_hears = c.a_client_hears_what_it_asked.ensures.write;
     lookup_brings = c.a_client_hears_what_it_asked.ensures.reads;
@@ -38,6 +39,9 @@ returns-clause-turns c = record {
     entry_hears = c.a_client_hears_of_its_names.ensures.hears;
     entry_brings = c.a_client_hears_of_its_names.ensures.loads;
     makes_new = c.a_client_hears_of_its_names.ensures.begins;
+    rename_hears = c.a_client_hears_of_its_renames.ensures.hears;
+    rename_brings = c.a_client_hears_of_its_renames.ensures.loads;
+    rename_known = c.a_client_hears_of_its_renames.ensures.begins;
   };
   reading = record {
     line = c.a_work_reads_what_was_picked.ensures.line;

@@ -21,6 +21,7 @@ returns-clause-right c =
       lawful = kept.lawful;
       replied = kept.replied;
       blamed = kept.blamed;
+      names = kept.names;
       safe = c.lawful_is_safe.ensures.exact c.self.inside.plan (reverse c.self.inside.log.items) kept.runnable.few few kept.honest kept.lawful;
       fresh = all_fresh _ _ kept.follows kept.replied (c.reads_are_fresh.ensures.exact c.self.inside.plan (reverse c.self.inside.log.items) kept.runnable.few few kept.honest kept.lawful).1;
       causes = c.accusations_have_causes.ensures.exact c.self.inside.plan (reverse c.self.inside.log.items) kept.runnable.few few kept.honest kept.lawful;
