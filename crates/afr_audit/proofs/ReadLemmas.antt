@@ -9,26 +9,25 @@ use Rattle.afr_base.specs.declared.ids.What.{What}
 use Rattle.afr_lines.specs.Work.{ends_work}
 use Rattle.afr_lines.specs.declared.answer.Told.TheVariants.{Given}
 use Rattle.afr_lines.specs.declared.line.Line.{Line}
-use Rattle.afr_lines.specs.declared.line.Line.TheVariants.{Ask, End}
+use Rattle.afr_lines.specs.declared.line.Line.TheVariants.{Ask}
 use Rattle.afr_lines.specs.declared.request.Request.TheVariants.{ReadName}
 use Rattle.afr_model.specs.Cells.{IsEntry, Name, value_if, value_of}
 use Rattle.afr_object.specs.Tables.{copy_at}
 use Rattle.afr_object.specs.declared.object.Object.{Object}
 use Rattle.afr_plan.specs.declared.plan.Plan.{Plan}
 use Rattle.afr_model.specs.Tables.{entry_in, holds}
-use Rattle.afr_law.proofs.Safety.Agree.{value_same}
 use Rattle.afr_law.specs.Beginning.{start_of}
 use Rattle.afr_law.proofs.Model.SoundLog.{LawfulBelow}
-use Rattle.afr_law.proofs.Model.Tables.{all_same}
 use Rattle.afr_moves.specs.Cells.{Entry, entry_code}
 use Rattle.afr_tables.specs.Codes.{value_code}
-use Rattle.afr_moves.specs.Discipline.{EndsWork, HasRead}
+use Rattle.afr_moves.specs.Discipline.{EndsWork}
 use Rattle.afr_law.proofs.Discipline.Known.{entry_of}
 use Rattle.afr_moves.specs.Lines.{ask_by}
 use Rattle.afr_tables.proofs.Entries.{entry_some}
-use Rattle.afr_moves.specs.Past.{Beginning, value}
+use Rattle.afr_moves.specs.Past.{value}
 use Rattle.afr_moves.specs.Positions.{by_position}
-use Rattle.afr_moves.proofs.ByPosition.{newest_at, older_at, past_whole}
+use Rattle.afr_moves.proofs.ByPosition.{newest_at, older_at}
+use Rattle.afr_apart.proofs.ReadLemmas.{HasReadBy, ends_it, read_before, read_now, shown_code, value_before}
 use Rattle.afr_audit.specs.Judged.{Showed, WasGiven, read_by}
 use Rattle.afr_audit.specs.declared.reads.NameRead.{NameRead}
 use Rattle.std.proofs.lemmas.Bool.{cases_lt, eqb-true}
@@ -50,77 +49,24 @@ read_line a line read e = absurd (cc e)
 reads_itself : (a b dir name : ℕ) → read_by a (ask_by a b (ReadName (record { 0 = dir }) (record { 0 = name })) Given true) ≡ Some (record { brick = record { 0 = b }; dir = record { 0 = dir }; name = record { 0 = name } })
 reads_itself a b dir name = rw (same_self a) refl
 
-ends_it : (a : ℕ) (line : Line) → ends_work a line ≡ true → EndsWork a (Some line)
-ends_it a (End x reply) e = grind (arith, nat_tests)
-ends_it a line e = absurd (true≢false (sym e))
-
-none_ends : (a : ℕ) (line : Line) → ends_work a line ≡ false → EndsWork a (Some line) → ⊥
-none_ends a (End x reply) e k = absurd (grind (arith, nat_tests))
-none_ends a line e k = k
-
 -- ---- the entry that the read showed
 entry_here : (d m : ℕ) (o : Option Object) (g : Gfid) (what : What) → value_code (value_if (Name (record { 0 = d }) (record { 0 = m })) o) ≡ entry_code g.0 what → value_if (Name (record { 0 = d }) (record { 0 = m })) o ≡ IsEntry (Some (record { gfid = g; what = what }))
 entry_here d m None g what e = absurd (entry_some g.0 what (sym e))
 entry_here d m (Some o) g what e = ap IsEntry (entry_of (entry_in (record { 0 = m }) (Some o)) g what e)
 
 module _ (p : Plan) (n a : ℕ) (g : Gfid) (what : What) where
-  abbrev files : Beginning
-  files = start_of p n
-
-  abbrev HasReadBy : List Line → Type 0
-  HasReadBy log = HasRead files (by_position log) (length log) a g.0 what
-
-  shown_code : (older : List Line) → LawfulBelow p n older → (b d m : ℕ) → value files (by_position older) (length older) b (Entry d m) ≡ value_code (value_of p older b (Name (record { 0 = d }) (record { 0 = m })))
-  shown_code older lawful b d m = (all_same p n (by_position older) older (past_whole older) lawful).0.codes b (Entry d m) refl (λ k. absurd (cc k))
-
-  -- the values at a position are those before one more line
-  value_before : (line : Line) (older : List Line) (t : ℕ) → t ≤ length older → (b d m : ℕ) → value files (by_position (line ∷ older)) t b (Entry d m) ≡ value files (by_position older) t b (Entry d m)
-  value_before line older t low b d m = value_same (by_position (line ∷ older)) (by_position older) (length older) (older_at line older) files b (Entry d m) t low
-
-  -- ---- the newest line read it
-  read_now : (line : Line) (older : List Line) → LawfulBelow p n older → (read : NameRead) → read_by a line ≡ Some read → Showed p older g what (Some read) → HasReadBy (line ∷ older)
-  read_now line older lawful read is showed = record {
-    r = length older;
-    b = read.brick.0;
-    dir = read.dir.0;
-    name = read.name.0;
-    past = omega arith;
-    is = here;
-    same_work = λ u from low ends. subst (EndsWork a) (ap (by_position (line ∷ older)) (omega (arith, from, low)) ∙ here) ends;
-    gave = value_before line older (length older) (omega arith) read.brick.0 read.dir.0 read.name.0 ∙ shown_code older lawful read.brick.0 read.dir.0 read.name.0 ∙ ap value_code showed;
-  }
-    where
-      here : by_position (line ∷ older) (length older) ≡ Some (ask_by a read.brick.0 (ReadName read.dir read.name) Given true)
-      here = newest_at line older ∙ ap Some (read_line a line read is)
-
-  -- an older one did, and the work goes on
-  read_before : (line : Line) (older : List Line) → ends_work a line ≡ false → HasReadBy older → HasReadBy (line ∷ older)
-  read_before line older on w = record {
-    r = w.r;
-    b = w.b;
-    dir = w.dir;
-    name = w.name;
-    past = (let p = w.past in omega (arith, p));
-    is = older_at line older w.r w.past ∙ w.is;
-    same_work = λ u from low ends. elim (cases_lt u (length older)) [
-      | inl early ↦ w.same_work u from early (subst (EndsWork a) (older_at line older u early) ends)
-      | inr late ↦ none_ends a line on (subst (EndsWork a) (ap (by_position (line ∷ older)) (omega (arith, late, low)) ∙ newest_at line older) ends)
-    ];
-    gave = value_before line older w.r (let p = w.past in omega (arith, p)) w.b w.dir w.name ∙ w.gave;
-  }
-
-  given_next : (line : Line) (older : List Line) → LawfulBelow p n older → (WasGiven p a g what older → HasReadBy older) → (read : Option NameRead) → read_by a line ≡ read
-      → Showed p older g what read ⊎ ((ends_work a line ≡ false) × WasGiven p a g what older) → HasReadBy (line ∷ older)
+  given_next : (line : Line) (older : List Line) → LawfulBelow p n older → (WasGiven p a g what older → HasReadBy p n a g what older) → (read : Option NameRead) → read_by a line ≡ read
+      → Showed p older g what read ⊎ ((ends_work a line ≡ false) × WasGiven p a g what older) → HasReadBy p n a g what (line ∷ older)
   given_next line older lawful rest None is (inl k) = absurd k
-  given_next line older lawful rest (Some read) is (inl k) = read_now line older lawful read is k
-  given_next line older lawful rest read is (inr k) = read_before line older k.0 (rest k.1)
+  given_next line older lawful rest (Some read) is (inl k) = read_now p n a g what line older lawful read.brick.0 read.dir read.name (read_line a line read is) k
+  given_next line older lawful rest read is (inr k) = read_before p n a g what line older k.0 (rest k.1)
 
-  pub given_read : (log : List Line) → LawfulBelow p n log → WasGiven p a g what log → HasReadBy log
+  pub given_read : (log : List Line) → LawfulBelow p n log → WasGiven p a g what log → HasReadBy p n a g what log
   given_read [] lawful k = absurd k
   given_read (line ∷ older) lawful k = given_next line older lawful.1 (given_read older lawful.1) (read_by a line) refl k
 
   -- ---- the other way
-  older_read : (line : Line) (older : List Line) → (w : HasReadBy (line ∷ older)) → w.r < length older → HasReadBy older
+  older_read : (line : Line) (older : List Line) → (w : HasReadBy p n a g what (line ∷ older)) → w.r < length older → HasReadBy p n a g what older
   older_read line older w early = record {
     r = w.r;
     b = w.b;
@@ -129,29 +75,29 @@ module _ (p : Plan) (n a : ℕ) (g : Gfid) (what : What) where
     past = early;
     is = sym (older_at line older w.r early) ∙ w.is;
     same_work = λ u from low ends. w.same_work u from (omega (arith, low)) (subst (EndsWork a) (sym (older_at line older u low)) ends);
-    gave = sym (value_before line older w.r (omega (arith, early)) w.b w.dir w.name) ∙ w.gave;
+    gave = sym (value_before p n a g what line older w.r (omega (arith, early)) w.b w.dir w.name) ∙ w.gave;
   }
 
-  goes_on : (line : Line) (older : List Line) → (w : HasReadBy (line ∷ older)) → w.r < length older → ends_work a line ≡ false
+  goes_on : (line : Line) (older : List Line) → (w : HasReadBy p n a g what (line ∷ older)) → w.r < length older → ends_work a line ≡ false
   goes_on line older w early = go (ends_work a line) refl
     where
       go : (flag : Bool) → ends_work a line ≡ flag → flag ≡ false
       go false e = refl
       go true e = absurd (w.same_work (length older) (omega (arith, early)) (omega arith) (subst (EndsWork a) (sym (newest_at line older)) (ends_it a line e)))
 
-  newest_read : (line : Line) (older : List Line) → LawfulBelow p n older → (w : HasReadBy (line ∷ older)) → w.r ≡ length older → Showed p older g what (read_by a line)
+  newest_read : (line : Line) (older : List Line) → LawfulBelow p n older → (w : HasReadBy p n a g what (line ∷ older)) → w.r ≡ length older → Showed p older g what (read_by a line)
   newest_read line older lawful w here = subst (λ (l : Line). Showed p older g what (read_by a l)) (sym same) (subst (Showed p older g what) (sym (reads_itself a w.b w.dir w.name)) shown)
     where
       same : line ≡ ask_by a w.b (ReadName (record { 0 = w.dir }) (record { 0 = w.name })) Given true
       same = (let e = sym (newest_at line older) ∙ ap (by_position (line ∷ older)) (sym here) ∙ w.is in cc e)
 
       code : value_code (value_of p older w.b (Name (record { 0 = w.dir }) (record { 0 = w.name }))) ≡ entry_code g.0 what
-      code = sym (value_before line older (length older) (omega arith) w.b w.dir w.name ∙ shown_code older lawful w.b w.dir w.name) ∙ (λ i. value files (by_position (line ∷ older)) (sym here i) w.b (Entry w.dir w.name)) ∙ w.gave
+      code = sym (value_before p n a g what line older (length older) (omega arith) w.b w.dir w.name ∙ shown_code p n a g what older lawful w.b w.dir w.name) ∙ (λ i. value (start_of p n) (by_position (line ∷ older)) (sym here i) w.b (Entry w.dir w.name)) ∙ w.gave
 
       shown : value_of p older w.b (Name (record { 0 = w.dir }) (record { 0 = w.name })) ≡ IsEntry (Some (record { gfid = g; what = what }))
       shown = entry_here w.dir w.name (copy_at (record { 0 = w.dir }) (holds p older w.b)) g what code
 
-  pub read_given : (log : List Line) → LawfulBelow p n log → HasReadBy log → WasGiven p a g what log
+  pub read_given : (log : List Line) → LawfulBelow p n log → HasReadBy p n a g what log → WasGiven p a g what log
   read_given [] lawful w = (let p = w.past in absurd (omega (arith, p)))
   read_given (line ∷ older) lawful w = elim (cases_lt w.r (length older)) [
     | inl early ↦ inr (goes_on line older w early, read_given older lawful.1 (older_read line older w early))

@@ -206,6 +206,7 @@ borne_by p w fits u = record { change = u.change; begun = u.begun; bricks = u.br
 
 -- ---- the whole log
 end_available : (p : Plan) (line : Line) (older : List Line) → EachLine (λ line older. IsDoneOrFailed line) older → AnswersBorne p line older → IsAvailable p line older
+unfolding borne_by
 end_available p (End a said) older fits borne = λ client u. borne client (borne_by p (work a.0 older) (all_fit a.0 older fits) u)
 end_available p (Ask a b r told took) older fits borne = tt
 end_available p (Begin a change) older fits borne = tt

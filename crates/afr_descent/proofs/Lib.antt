@@ -1,4 +1,3 @@
-pub mod Opening
 pub mod Makes
 pub mod Paths
 pub mod Entries

@@ -1,5 +1,5 @@
--- What a command makes has the number of its own line.
-use Rattle.std.proofs.Common.{◌≡◌, ℕ, suc, ◌+◌, ◌<◌, ◌==◌, Bool, true, false, refl, sym, subst, ap, arith, List, [], ◌∷◌, length, Option, Some, None, ◌∙◌}
+-- A directory that is made has the number of its own line, since only a mkdir makes one.
+use Rattle.std.proofs.Common.{◌≡◌, ℕ, ◌+◌, ◌==◌, Bool, true, false, refl, sym, subst, ap, arith, List, [], ◌∷◌, length, Option, Some, None}
 use Rattle.std.specs.Prelude.{if◌then◌else◌}
 use Rattle.std.specs.Option.{option_map}
 use Rattle.std.proofs.lemmas.Bool.{eqb-true}
@@ -11,15 +11,14 @@ use Rattle.afr_descent.specs.Descent.{IsOfPlan}
 use Rattle.afr_lines.specs.Log.{from_oldest}
 use Rattle.afr_lines.specs.Work.{work}
 use Rattle.afr_lines.specs.declared.line.Line.{Line}
-use Rattle.afr_law.proofs.Safety.Objects.{entry_left}
 use Rattle.afr_model.specs.Commands.{change_named, is_on_name, last_of, steps_of}
-use Rattle.afr_model.specs.Following.{IsFollowing, KeepsToTask, ToCommand, ToRound}
+use Rattle.afr_model.specs.Following.{IsFollowing, KeepsToCommand, KeepsToTask, ToCommand, ToRound}
+use Rattle.afr_model.specs.Keeping.{KeepsTo}
+use Rattle.afr_model.specs.Parts.{Makes, Part, Removes, Walks, part_at}
+use Rattle.afr_model.specs.Renamed.{KeepsToPart}
 use Rattle.afr_model.specs.Showing.{At, path_by}
 use Rattle.afr_model.specs.Standing.{path_upto}
-use Rattle.afr_moves.proofs.Tests.{first_equal}
-use Rattle.afr_moves.specs.Cells.{Entry, entry_code, touches}
 use Rattle.afr_moves.specs.Lines.{begin_by, make_in}
-use Rattle.afr_moves.specs.Past.{changes, leaves_of}
 use Rattle.afr_object.specs.declared.change.Change.TheVariants.{Make, Remove}
 use Rattle.afr_object.specs.declared.change.Change.{Change}
 use Rattle.afr_object.specs.declared.entry.Entry.{Entry as NameEntry}
@@ -38,32 +37,24 @@ pub record Found (p : Plan) (line : Line) (q : ℕ) : Type 0 where
   pub plan : IsOfPlan p older
   pub follows : IsFollowing p line older
 
-pub found : (p : Plan) (log : List Line) → IsOfPlan p log → (q : ℕ) (line : Line) → from_oldest q log ≡ Some line → (q < length log) × Found p line q
+pub found : (p : Plan) (log : List Line) → IsOfPlan p log → (q : ℕ) (line : Line) → from_oldest q log ≡ Some line → Found p line q
 found p [] f q line e = absurd (cc e)
 found p (new ∷ older) f q line e = go (q == length older) refl e (λ k. found p older (plan_before p new older f) q line k)
   where
-    go : (here : Bool) → (q == length older) ≡ here → (if here then Some new else from_oldest q older) ≡ Some line → (from_oldest q older ≡ Some line → (q < length older) × Found p line q) → (q < suc (length older)) × Found p line q
+    go : (here : Bool) → (q == length older) ≡ here → (if here then Some new else from_oldest q older) ≡ Some line → (from_oldest q older ≡ Some line → Found p line q) → Found p line q
     go true h k rest = (
         let same : new ≡ line = cc k in
         let at : q ≡ length older = eqb-true q (length older) h in
-        (omega (arith, at), record { older = older; size = sym at; plan = plan_before p new older f; follows = subst (λ (l : Line). IsFollowing p l older) same f.follows.0 })
+        record { older = older; size = sym at; plan = plan_before p new older f; follows = subst (λ (l : Line). IsFollowing p l older) same f.follows.0 }
         )
-    go false h k rest = (let w = rest k in let l = w.0 in (omega (arith, l), w.1))
+    go false h k rest = rest k
 
 -- ---- what it makes
--- what changes an entry and leaves a name there is a Make
-pub made_by : (line : Option Line) (d m g : ℕ) (what : What) → changes line (Entry d m) ≡ true → leaves_of line (Entry d m) ≡ entry_code g what → (x : ℕ) × (name : ℕ) × (other : What) × (line ≡ Some (begin_by x (make_in d name g other)))
-unfolding touches
-made_by line d m g what hit e =
-    let w = entry_left line d m g what e in
-    let at : w.1 ≡ d = first_equal w.1 d (w.2 == m) (subst (λ (l : Option Line). changes l (Entry d m) ≡ true) w.5 hit) in
-    (w.0, w.2, w.4, w.5 ∙ (λ i. Some (begin_by w.0 (make_in (at i) w.2 (w.6 i) w.4))))
-
 -- the change that a command's words name
-pub record NamedMake (c : Command) (h : Gfid) (at d g : ℕ) : Type 0 where
-  pub on_name : is_on_name c ≡ true
-  pub number : g ≡ at + 2
-  pub directory : d ≡ h.0
+record NamedMake (c : Command) (h : Gfid) (at d g : ℕ) : Type 0 where
+  on_name : is_on_name c ≡ true
+  number : g ≡ at + 2
+  directory : d ≡ h.0
 
 -- the numbers of what a Make makes, and of its directory
 abbrev number_of : Option Change → ℕ
@@ -89,7 +80,12 @@ named_make (command.Unlink path) h at d m g what e = absurd (removed_named h Fil
 named_make (command.Rmdir path) h at d m g what e = absurd (removed_named h Dir (last_of path) d m g what e)
 named_make c h at d m g what e = absurd (cc e)
 
--- where a Make line stands: its object's number is its position's, and its directory is where the path of a work has led
+-- a rename gives a name to a file
+linked_file : (h file : Gfid) (o : Option NameId) (d m g : ℕ) → option_map (λ name. Make h name file File) o ≡ Some (make_in d m g Dir) → ⊥
+linked_file h file None d m g e = cc e
+linked_file h file (Some name) d m g e = cc e
+
+-- where a line stands that makes a directory: its number is its position's, and it is made in the one to which the path of a work has led
 pub record MakeLine (p : Plan) (older : List Line) (x d g : ℕ) : Type 0 where
   pub number : g ≡ length older + 2
   pub names : ℕ
@@ -97,29 +93,38 @@ pub record MakeLine (p : Plan) (older : List Line) (x d g : ℕ) : Type 0 where
   pub led : path_upto names p (work x older) ≡ At names object
   pub directory : d ≡ object.gfid.0
 
-pub make_line : (p : Plan) (older : List Line) (x d m g : ℕ) (what : What) → IsFollowing p (begin_by x (make_in d m g what)) older → MakeLine p older x d g
-make_line p older x d m g what f = go f.1.0.keeps
-  where
-    go : KeepsToTask p x (begin_by x (make_in d m g what)) older → MakeLine p older x d g
-    go (ToRound high b e k) = absurd k
-    go (ToCommand c e k) =
-        let w = named_make c k.1.object.gfid (length older) d m g what k.1.named in
-        record {
-          number = w.number;
-          names = steps_of c;
-          object = k.1.object;
-          led = placed (is_on_name c) w.on_name k.1.led;
-          directory = w.directory;
-        }
-      where
-        placed : (on : Bool) → on ≡ true → (if on then path_upto (steps_of c) p (work x older) else path_by p (work x older)) ≡ At (steps_of c) k.1.object → path_upto (steps_of c) p (work x older) ≡ At (steps_of c) k.1.object
-        placed true f h = h
-        placed false f h = absurd (cc f)
+module _ (p : Plan) (older : List Line) (x d m g : ℕ) where
+  abbrev line : Line
+  line = begin_by x (make_in d m g Dir)
 
--- the number of what is made, by the position alone
-pub make_number : (p : Plan) (log : List Line) → IsOfPlan p log → (q x d m g : ℕ) (what : What) → from_oldest q log ≡ Some (begin_by x (make_in d m g what)) → (q < length log) × (g ≡ q + 2)
-make_number p log f q x d m g what e =
-    let w = found p log f q (begin_by x (make_in d m g what)) e in
-    let n = (make_line p w.1.older x d m g what w.1.follows).number in
-    let s = w.1.size in
-    (w.0, omega (arith, n, s))
+  -- no line of a rename does
+  no_rename : (from to : List NameId) (part : Part) → KeepsToPart part p from to line (length older) (work x older) → ⊥
+  no_rename from to Walks k = cc k.1.named
+  no_rename from to Makes k = linked_file k.1.dir.gfid k.1.file (last_of to) d m g k.1.named
+  no_rename from to Removes k = removed_named k.1.object.gfid File (last_of from) d m g Dir k.1.named
+
+  by_path : (c : Command) → KeepsTo p c line (length older) (work x older) → MakeLine p older x d g
+  by_path c k =
+      let w = named_make c k.1.object.gfid (length older) d m g Dir k.1.named in
+      record {
+        number = w.number;
+        names = steps_of c;
+        object = k.1.object;
+        led = placed (is_on_name c) w.on_name k.1.led;
+        directory = w.directory;
+      }
+    where
+      placed : (on : Bool) → on ≡ true → (if on then path_upto (steps_of c) p (work x older) else path_by p (work x older)) ≡ At (steps_of c) k.1.object → path_upto (steps_of c) p (work x older) ≡ At (steps_of c) k.1.object
+      placed true f h = h
+      placed false f h = absurd (cc f)
+
+  by_command : (c : Command) → KeepsToCommand p c line (length older) (work x older) → MakeLine p older x d g
+  by_command (command.Rename from to) k = absurd (no_rename from to (part_at from line (work x older)) k)
+  by_command c k = by_path c k
+
+  pub make_line : IsFollowing p line older → MakeLine p older x d g
+  make_line f = go f.1.0.keeps
+    where
+      go : KeepsToTask p x line older → MakeLine p older x d g
+      go (ToRound high b e k) = absurd k
+      go (ToCommand c e k) = by_command c k

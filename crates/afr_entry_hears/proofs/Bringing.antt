@@ -1,8 +1,8 @@
 -- What goes with the requests of a command on a name, and what its Begin lines make.
 use Rattle.std.proofs.Common.{◌≡◌, ℕ, Bool, true, false, List, [], ◌∷◌, ◌++◌, Some, length, refl, sym, ap, ◌∙◌, subst, if◌then◌else◌}
-use Rattle.afr_base.specs.Bricks.{is_nothing}
 use Rattle.afr_base.specs.declared.ids.ActorId.{ActorId}
 use Rattle.afr_base.specs.declared.ids.BrickId.{BrickId}
+use Rattle.afr_base.specs.declared.ids.Gfid.{Gfid}
 use Rattle.afr_base.specs.declared.ids.NameId.{NameId}
 use Rattle.afr_lines.specs.Log.{change_at}
 use Rattle.afr_lines.specs.Work.{work}
@@ -12,7 +12,7 @@ use Rattle.afr_lines.specs.declared.line.Next.TheVariants as next
 use Rattle.afr_lines.specs.declared.request.Request.{Request}
 use Rattle.afr_lines.specs.declared.request.Request.TheVariants as request_of
 use Rattle.afr_object.specs.declared.change.Change.{Change}
-use Rattle.afr_object.specs.declared.change.Change.TheVariants.{Write, Cut, SetAttr, Make, Remove}
+use Rattle.afr_object.specs.declared.change.Change.TheVariants.{Remove}
 use Rattle.afr_object.specs.declared.change.Load.{Load}
 use Rattle.afr_object.specs.declared.change.Load.TheVariants as load
 use Rattle.afr_plan.specs.declared.command.Command.{Command}
@@ -21,11 +21,7 @@ use Rattle.afr_model.specs.Tables.{Past, held_before}
 use Rattle.afr_next.specs.Begun.{HasNewGfid}
 use Rattle.afr_server.specs.Carried.{Brings}
 use Rattle.afr_transaction.specs.Made.{attempted}
-use Rattle.afr_transaction.specs.Outcome.{reply_of}
-use Rattle.afr_transaction.specs.Progress as transaction
-use Rattle.afr_transaction.specs.Progress.{CarriesAt, Progress, asks, is_beginning, is_over, number_in, numbered, request_at}
-use Rattle.afr_transaction.specs.declared.stage.Stage.{Stage}
-use Rattle.afr_transaction.specs.declared.stage.Stage.TheVariants.{Locking, Looking, Beginning, Preparing, Applying, Posting, Closing}
+use Rattle.afr_transaction.specs.Progress.{CarriesAt, Progress, number_in, numbered}
 use Rattle.afr_walk.specs.Walk.{next_in}
 use Rattle.afr_walk.specs.declared.walk.Walk.{Walk}
 use Rattle.afr_removal_telling.specs.RemovalTelling.{During}
@@ -34,55 +30,28 @@ use Rattle.afr_removal.specs.Removal.{Removing}
 use Rattle.afr_removal.specs.Sound.{IsRemoval}
 use Rattle.afr_removal.specs.declared.stage.RemovalStage.{RemovalStage}
 use Rattle.afr_removal.specs.declared.stage.RemovalStage.TheVariants as removing
-use Rattle.afr_entry.specs.Entry.{CarriesNext, IsChanging, IsStage, fits_stage, next_at, next_under, reads_name}
-use Rattle.afr_entry.specs.Job.{reply_to}
+use Rattle.afr_entry.specs.Entry.{CarriesNext, IsChanging, IsStage, next_at, next_under, reads_name}
+use Rattle.afr_entry.specs.Job.{change_of, name_of, reply_to}
 use Rattle.afr_entry.specs.declared.job.EntryJob.{EntryJob}
-use Rattle.afr_entry.specs.declared.refusal.Refusal.{Refusal}
+use Rattle.afr_entry.specs.declared.job.EntryJob.TheVariants.{Create, Mkdir, Unlink, Rmdir}
 use Rattle.afr_entry.specs.declared.stage.EntryStage.{EntryStage}
 use Rattle.afr_entry.specs.declared.stage.EntryStage.TheVariants.{Walking, Changing, Removes, Ending}
 use Rattle.afr_entry.specs.declared.stage.Found.{Found}
 use Rattle.afr_entry.specs.declared.stage.Found.TheVariants.{Unread, Fits, Refused}
 use Rattle.afr_inode_telling.proofs.ReadsMore.{asks_same}
-use Rattle.afr_write_telling.proofs.Goes.{asked_stage}
 use Rattle.afr_entry_telling.specs.EntryTelling.{Changes, TellsIn}
-use Rattle.afr_hears.proofs.Bringing.{stage_brings, step_brings}
+use Rattle.afr_hears.proofs.Bringing.{step_brings}
+use Rattle.afr_hears.proofs.SomeLines.{work_in}
 use Rattle.afr_hears.proofs.Stood.{finds_attempt}
+use Rattle.afr_entry_hears.proofs.Under.{begun_in, fits_begins, goes_brings, refused_begins, refused_brings, unread_begins, unread_brings}
 use Rattle.afr_entry_hears.specs.EntryHears.{EntryBrings, EntryMakesNew}
 
 -- ---- loads
--- nothing has to go with a read of a name
-name_brings : (t : Progress) (past : Past) (log : List Line) (job : EntryJob) (w : Walk) (x : Load) → Brings (reads_name job w) x log past
-name_brings t past log job w x = tt
-
 module _ (p : Plan) (c : Command) (log : List Line) (a : ActorId) (b : BrickId) (request : Request) (past : Past) (job : EntryJob) (w : Walk) (t : Progress) (carried : Load) (brought : CarriesAt t.stage carried (attempted t)) where
-  -- what the transaction asks for
-  goes_brings : Changes p c job w.object t Fits (work a.0 log) → transaction.next_at t.stage (length log) t ≡ next.Ask b request → Brings request carried log past
-  goes_brings k e =
-      subst (λ (r : Request). Brings r carried log past) (asked_stage t.stage (length log) t b request e).1
-      (stage_brings p log a t past k.on.tells.sets t.stage k.on.tells.during carried brought)
-
-  unread_brings : (copy : BrickId) → Changes p c job w.object t (Unread copy) (work a.0 log) → transaction.next_at t.stage (length log) t ≡ next.Ask b request → Brings request carried log past
-  unread_brings copy k e =
-      subst (λ (r : Request). Brings r carried log past) (asked_stage t.stage (length log) t b request e).1
-      (stage_brings p log a t past k.on.0.tells.sets t.stage k.on.0.tells.during carried brought)
-
-  -- a change that was given up asks for unlocks alone
-  unlock_brings : (why : Refusal) (stage : Stage) → fits_stage (Refused why) stage ≡ true → Brings (request_at stage t) carried log past
-  unlock_brings why Closing h = tt
-  unlock_brings why stage h = absurd (cc h)
-
   under_brings : (found : Found) → IsChanging w job t found → Changes p c job w.object t found (work a.0 log) → next_under found (length log) job w t ≡ next.Ask b request → Brings request carried log past
-  under_brings (Unread copy) sound k e = go (is_beginning t.stage) e
-    where
-      go : (x : Bool) → (if x then next.Ask copy (reads_name job w) else transaction.next_at t.stage (length log) t) ≡ next.Ask b request → Brings request carried log past
-      go true e = asks_same (λ (x : BrickId) (r : Request). Brings r carried log past) copy b (reads_name job w) request e (name_brings t past log job w carried)
-      go false e = unread_brings copy k e
-  under_brings Fits sound k e = goes_brings k e
-  under_brings (Refused why) sound k e = go (is_over t.stage t) e
-    where
-      go : (x : Bool) → (if x then next.End (reply_to why) else transaction.next_at t.stage (length log) t) ≡ next.Ask b request → Brings request carried log past
-      go true e = absurd (cc e)
-      go false e = subst (λ (r : Request). Brings r carried log past) (asked_stage t.stage (length log) t b request e).1 (unlock_brings why t.stage sound.in_turn)
+  under_brings (Unread copy) sound k e = unread_brings p log (work a.0 log) (work_in a.0 log) b request past t carried brought k.on.0.tells copy w.object.gfid (name_of job) e
+  under_brings Fits sound k e = goes_brings p log (work a.0 log) (work_in a.0 log) b request past t carried brought k.on.tells e
+  under_brings (Refused why) sound k e = refused_brings p log (work a.0 log) (work_in a.0 log) b request past t carried brought why sound.in_turn (reply_to why) e
 
 -- ---- a removal
 module _ (p : Plan) (log : List Line) (a : ActorId) (b : BrickId) (request : Request) (past : Past) (path : List NameId) (m : Removing) (carried : Load) where
@@ -132,42 +101,17 @@ entry_brings p c m log a b request carried sound k e brought = go m.stage sound.
     go (Ending said) ready t e h = absurd (cc e)
 
 -- ---- the Begin line
-abbrev begun_in : Next → Change → Change
-begun_in (next.Begin change) other = change
-begun_in line other = other
+-- a new object has the number 0 until then
+numbered_new : (at : ℕ) (g : Gfid) (job : EntryJob) → HasNewGfid at (numbered at (change_of g job))
+numbered_new at g (Create name) = refl
+numbered_new at g (Mkdir name) = refl
+numbered_new at g (Unlink name) = tt
+numbered_new at g (Rmdir name) = tt
 
-numbered_new : (at : ℕ) (change : Change) → HasNewGfid at (numbered at change)
-numbered_new at (Make dir name g what) = refl
-numbered_new at (Write g start bytes) = tt
-numbered_new at (Cut g len) = tt
-numbered_new at (SetAttr g key value) = tt
-numbered_new at (Remove dir name what) = tt
-
-stage_new : (stage : Stage) (at : ℕ) (t : Progress) (change : Change) → transaction.next_at stage at t ≡ next.Begin change → HasNewGfid at change
-stage_new Locking at t change e = absurd (cc e)
-stage_new Looking at t change e = absurd (cc e)
-stage_new Beginning at t change e = subst (HasNewGfid at) (ap (λ (line : Next). begun_in line t.change) e) (numbered_new at t.change)
-stage_new Preparing at t change e = absurd (cc e)
-stage_new Applying at t change e = absurd (cc e)
-stage_new Posting at t change e = absurd (cc e)
-stage_new Closing at t change e = absurd (go (is_nothing t.register.held) e)
-  where
-    go : (x : Bool) → (if x then next.End (reply_of t.change t.register) else asks Closing t) ≡ next.Begin change → ⊥
-    go true e = cc e
-    go false e = cc e
-
-under_new : (found : Found) (at : ℕ) (job : EntryJob) (w : Walk) (t : Progress) (change : Change) → next_under found at job w t ≡ next.Begin change → HasNewGfid at change
-under_new (Unread copy) at job w t change e = go (is_beginning t.stage) e
-  where
-    go : (x : Bool) → (if x then next.Ask copy (reads_name job w) else transaction.next_at t.stage at t) ≡ next.Begin change → HasNewGfid at change
-    go true e = absurd (cc e)
-    go false e = stage_new t.stage at t change e
-under_new Fits at job w t change e = stage_new t.stage at t change e
-under_new (Refused why) at job w t change e = go (is_over t.stage t) e
-  where
-    go : (x : Bool) → (if x then next.End (reply_to why) else transaction.next_at t.stage at t) ≡ next.Begin change → HasNewGfid at change
-    go true e = absurd (cc e)
-    go false e = stage_new t.stage at t change e
+under_new : (found : Found) (at : ℕ) (job : EntryJob) (w : Walk) (t : Progress) (change : Change) → HasNewGfid at (numbered at t.change) → next_under found at job w t ≡ next.Begin change → HasNewGfid at change
+under_new (Unread copy) at job w t change new e = unread_begins (HasNewGfid at) at t change new copy (reads_name job w) e
+under_new Fits at job w t change new e = fits_begins (HasNewGfid at) at t change new e
+under_new (Refused why) at job w t change new e = refused_begins (HasNewGfid at) at t change new (reply_to why) e
 
 -- a removal makes nothing
 removed_new : (at : ℕ) (change : Change) → IsRemoval change → HasNewGfid at change
@@ -193,6 +137,6 @@ entry_makes_new m at change sound e = go m.stage sound.ready e
   where
     go : (stage : EntryStage) → IsStage m.walk m.job stage → next_at at stage m.job m.walk ≡ next.Begin change → HasNewGfid at change
     go Walking ready e = absurd (cc e)
-    go (Changing t found) ready e = under_new found at m.job m.walk t change e
+    go (Changing t found) ready e = under_new found at m.job m.walk t change (subst (λ (x : Change). HasNewGfid at (numbered at x)) (sym ready.of_job) (numbered_new at m.walk.object.gfid m.job)) e
     go (Removes r) ready e = removal_stage_new r.stage at r change ready.sound.removes e
     go (Ending said) ready e = absurd (cc e)

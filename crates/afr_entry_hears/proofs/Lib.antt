@@ -1,3 +1,4 @@
+pub mod Under
 pub mod Elsewhere
 pub mod Hearing
 pub mod Bringing

@@ -1,7 +1,6 @@
 -- What goes with the requests of a client, and what its Begin lines begin.
 use Rattle.std.proofs.Common.{◌≡◌, ℕ, Bool, true, false, List, Some, length, refl, sym, ap, ◌∙◌, subst, if◌then◌else◌}
 use Rattle.afr_base.specs.Bricks.{is_nothing}
-use Rattle.afr_base.specs.declared.ids.ActorId.{ActorId}
 use Rattle.afr_base.specs.declared.ids.BrickId.{BrickId}
 use Rattle.afr_base.specs.declared.ids.Gfid.{Gfid}
 use Rattle.afr_inode_read.specs.Job.{request_of}
@@ -16,7 +15,7 @@ use Rattle.afr_inode_write.specs.Write as writing
 use Rattle.afr_inode_write.specs.declared.stage.WriteStage.{WriteStage}
 use Rattle.afr_inode_write.specs.declared.stage.WriteStage.TheVariants as write_stage
 use Rattle.afr_lines.specs.Log.{change_at}
-use Rattle.afr_lines.specs.Work.{work}
+use Rattle.afr_lines.specs.Work.{Work, work}
 use Rattle.afr_lines.specs.declared.line.Line.{Line}
 use Rattle.afr_lines.specs.declared.line.Next.{Next}
 use Rattle.afr_lines.specs.declared.line.Next.TheVariants as next
@@ -46,7 +45,8 @@ use Rattle.afr_walk.specs.declared.walk.WalkStep.{WalkStep}
 use Rattle.afr_walk.specs.declared.walk.WalkStep.TheVariants as walking
 use Rattle.afr_write_telling.specs.WriteTelling as write_telling
 use Rattle.afr_hears.proofs.Hearing.{asked_stage}
-use Rattle.afr_hears.proofs.Stood.{finds_attempt}
+use Rattle.afr_hears.proofs.SomeLines.{AreIn, work_in}
+use Rattle.afr_hears.proofs.Stood.{change_in}
 use Rattle.afr_hears.specs.Hears.{LookupBrings, MakesNothing, WriteBrings, WriteMakesNothing}
 
 just : {A : Type 0} → (x y : A) → Some x ≡ Some y → x ≡ y
@@ -94,13 +94,13 @@ numbered_same at (change_of.Make dir name g what) k = absurd k
 numbered_same at (change_of.Remove dir name what) k = refl
 
 -- ---- what goes with a request of a change
-module _ (p : Plan) (log : List Line) (a : ActorId) (t : Progress) (past : Past) (sets : HasSets t (work a.0 log)) where
+module _ (p : Plan) (log : List Line) (w : Work) (t : Progress) (past : Past) (is : AreIn log w) (sets : HasSets t w) where
   -- with the operation goes the change of its attempt
-  pub stage_brings : (stage : Stage) → During stage p.shape t (work a.0 log) → (x : Load) → CarriesAt stage x (attempted t) → Brings (request_at stage t) x log past
+  pub stage_brings : (stage : Stage) → During stage p.shape t w → (x : Load) → CarriesAt stage x (attempted t) → Brings (request_at stage t) x log past
   stage_brings Applying d (load.Change change) k =
       let number_is : number_in t.register.begun ≡ d.0.attempt.attempt = ap number_in (sets.number ∙ d.0.attempt.number) in
       ap (λ (n : ℕ). change_at n log) number_is
-      ∙ finds_attempt a.0 log d.0.attempt.attempt d.0.attempt.number
+      ∙ change_in log w is d.0.attempt.attempt d.0.attempt.number
       ∙ d.0.attempt.is_change
       ∙ ap (λ (n : ℕ). Some (numbered n t.change)) (sym number_is)
       ∙ ap (λ (x : Change). Some x) (sym k)
@@ -122,7 +122,7 @@ write_brings p c m log a b request carried sound k e brought = go m.stage k.stag
         subst (λ (x : Load). Brings request x log past) (sym h) here
     go (write_stage.Changing t) k2 e h =
         subst (λ (r : Request). Brings r carried log past) (asked_stage t.stage (length log) t b request e)
-        (stage_brings p log a t past k2.tells.sets t.stage k2.tells.during carried h)
+        (stage_brings p log (work a.0 log) t past (work_in a.0 log) k2.tells.sets t.stage k2.tells.during carried h)
     go (write_stage.Ending said) t e h = absurd (cc e)
 
 -- ---- the Begin line

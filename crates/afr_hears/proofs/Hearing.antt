@@ -1,7 +1,6 @@
 -- A client hears what its machine asks of the bricks' answers, by where the machine stands.
 use Rattle.std.proofs.Common.{◌≡◌, ℕ, Bool, true, false, List, length, refl, ap, subst, if◌then◌else◌}
 use Rattle.afr_base.specs.Bricks.{is_nothing}
-use Rattle.afr_base.specs.declared.ids.ActorId.{ActorId}
 use Rattle.afr_base.specs.declared.ids.BrickId.{BrickId}
 use Rattle.afr_base.specs.declared.ids.Gfid.{Gfid}
 use Rattle.afr_base.specs.declared.ids.Kind.TheVariants.{Names}
@@ -17,7 +16,7 @@ use Rattle.afr_inode_telling.specs.WalkTelling.{TellsAt}
 use Rattle.afr_inode_write.specs.Write as writing
 use Rattle.afr_inode_write.specs.declared.stage.WriteStage.{WriteStage}
 use Rattle.afr_inode_write.specs.declared.stage.WriteStage.TheVariants as write_stage
-use Rattle.afr_lines.specs.Work.{work}
+use Rattle.afr_lines.specs.Work.{Work as Lines, work}
 use Rattle.afr_lines.specs.declared.line.Line.{Line}
 use Rattle.afr_lines.specs.declared.line.Next.{Next}
 use Rattle.afr_lines.specs.declared.line.Next.TheVariants as next
@@ -41,19 +40,20 @@ use Rattle.afr_walk.specs.declared.walk.WalkStep.{WalkStep}
 use Rattle.afr_walk.specs.declared.walk.WalkStep.TheVariants as walking
 use Rattle.afr_write_telling.specs.WriteTelling.{CanHear, CanTell}
 use Rattle.afr_write_telling.specs.WriteTelling as write_telling
-use Rattle.afr_hears.proofs.Seen.{finds_source}
+use Rattle.afr_hears.proofs.Seen.{finds_source, good_in}
+use Rattle.afr_hears.proofs.SomeLines.{AreIn, work_in}
 use Rattle.afr_hears.proofs.Stood.{finds_path}
 use Rattle.afr_hears.proofs.Told.{IsAtObject, IsThere, can_answer, can_tell}
 use Rattle.afr_hears.specs.Hears.{LookupHears, WriteHears}
 
 -- ---- while the path is walked
 -- what a walk asks is there
-step_there : (p : Plan) (c : Command) (log : List Line) (a : ActorId) (w : Walk) → Honest p log → (step : WalkStep) → is_walking step ≡ true → TellsAt p c step w.read w.object (work a.0 log)
+pub step_there : (p : Plan) (c : Command) (log : List Line) (lines : Lines) → AreIn log lines → (w : Walk) → Honest p log → (step : WalkStep) → is_walking step ≡ true → TellsAt p c step w.read w.object lines
     → IsThere p log (walk.next_at step w).0.0 (walk.next_at step w).1
-step_there p c log a w honest (walking.Looking s) going t = record { free = refl; has = tt }
-step_there p c log a w honest (walking.Naming b) going t = record { free = refl; has = finds_source p a.0 log w.object.gfid Names b.0 honest t.2 }
-step_there p c log a w honest walking.Arrived going t = absurd (cc going)
-step_there p c log a w honest (walking.Stopped why) going t = absurd (cc going)
+step_there p c log lines is w honest (walking.Looking s) going t = record { free = refl; has = tt }
+step_there p c log lines is w honest (walking.Naming b) going t = record { free = refl; has = good_in p log lines is w.object.gfid Names b.0 honest t.2.good }
+step_there p c log lines is w honest walking.Arrived going t = absurd (cc going)
+step_there p c log lines is w honest (walking.Stopped why) going t = absurd (cc going)
 
 -- ---- reads
 content_there : (p : Plan) (log : List Line) (g : Gfid) (b : ℕ) (of : Content) → has_object p log g b ≡ true → IsThere p log b (request_of g of)
@@ -69,7 +69,7 @@ lookup_hears p m log a b request heard took sound k e h = can_answer p log a b r
 
     go : (stage : LookupStage) → reading.IsStage w.shape.n w.step stage → read_telling.TellsIn p m.job stage w (work a.0 log) → reading.next_at stage w ≡ next.Ask b request → IsThere p log b.0 request
     go lookup_stage.Walking ready t e =
-        asks_same (λ (x : BrickId) (r : Request). IsThere p log x.0 r) (next_in w).0 b (next_in w).1 request e (step_there p (read_telling.command_of m.job w.path) log a w h.honest w.step ready t.step)
+        asks_same (λ (x : BrickId) (r : Request). IsThere p log x.0 r) (next_in w).0 b (next_in w).1 request e (step_there p (read_telling.command_of m.job w.path) log (work a.0 log) (work_in a.0 log) w h.honest w.step ready t.step)
     go (lookup_stage.Looking s) ready t e = asks_same (λ (x : BrickId) (r : Request). IsThere p log x.0 r) (reading.asked_at (lookup_stage.Looking s) w).0 b (request_of_kind.Look w.object.gfid) request e (record { free = refl; has = tt })
     go (lookup_stage.Reading c of) ready t e =
         asks_same (λ (x : BrickId) (r : Request). IsThere p log x.0 r) c b (request_of w.object.gfid of) request e
@@ -96,7 +96,7 @@ asked_stage Closing at t b request e = go (is_nothing t.register.held) e
     go false e = ap request_in e
 
 -- its looks are at the object of the change
-stage_object : (stage : Stage) (t : Progress) (object : Entry) → object_of t.change ≡ object.gfid → IsAtObject object (request_at stage t)
+pub stage_object : (stage : Stage) (t : Progress) (object : Entry) → object_of t.change ≡ object.gfid → IsAtObject object (request_at stage t)
 stage_object Locking t object e = tt
 stage_object Looking t object e = e
 stage_object Beginning t object e = e
@@ -114,7 +114,7 @@ write_hears p c m log a b request heard took sound k e h = go m.stage sound.read
     go : (stage : WriteStage) → writing.IsStage w stage → write_telling.TellsIn p c stage w (work a.0 log) → writing.next_at (length log) stage w ≡ next.Ask b request → CanHear stage p w.object b.0 request log heard
     go (write_stage.Walking job) ready t e =
         can_answer p log a b request heard took h
-        (asks_same (λ (x : BrickId) (r : Request). IsThere p log x.0 r) (next_in w).0 b (next_in w).1 request e (step_there p c log a w h.honest w.step ready.0 t.tells.step))
+        (asks_same (λ (x : BrickId) (r : Request). IsThere p log x.0 r) (next_in w).0 b (next_in w).1 request e (step_there p c log (work a.0 log) (work_in a.0 log) w h.honest w.step ready.0 t.tells.step))
     go (write_stage.Changing t) ready k2 e =
         can_tell p log a b heard took w.object (finds_path p a.0 log _ w.object k2.led.led) request h
         (subst (IsAtObject w.object) (asked_stage t.stage (length log) t b request e) (stage_object t.stage t w.object ready.1))

@@ -1,4 +1,5 @@
 pub mod Seen
+pub mod SomeLines
 pub mod Stood
 pub mod Told
 pub mod Hearing

@@ -1,16 +1,17 @@
 -- A brick that the last looks of a work show to have an object has it still.
-use Rattle.std.proofs.Common.{◌≡◌, ℕ, zero, suc, ◌==◌, ◌&&◌, not, Bool, true, false, List, [], ◌∷◌, Option, Some, None, is_some, refl, sym, ap, ◌∙◌, subst, if◌then◌else◌, ◌⊎◌, inl, inr}
+use Rattle.std.proofs.Common.{◌≡◌, ℕ, zero, suc, ◌==◌, Bool, true, false, List, [], ◌∷◌, Option, Some, None, is_some, refl, sym, ap, ◌∙◌, subst, if◌then◌else◌, ◌⊎◌, inl, inr}
 use Rattle.std.specs.Prelude.{slice_index_or, slice_set}
 use Rattle.std.proofs.lemmas.Bool.{eqb-true}
-use Rattle.afr_base.specs.Bricks.{and_left, and_right, member}
+use Rattle.afr_base.specs.Bricks.{and_right, member}
 use Rattle.afr_base.specs.declared.ids.Gfid.{Gfid}
+use Rattle.afr_base.specs.declared.ids.Kind.{Kind}
 use Rattle.afr_choice.specs.Looks.{no_looks, view_at}
-use Rattle.afr_choice.specs.Verdict.{is_accused, is_good, is_holder, keeps}
-use Rattle.afr_choice.specs.VerdictLemmas.{good_below, member_good}
+use Rattle.afr_choice.specs.Verdict.{good_copies, is_holder}
+use Rattle.afr_choice.specs.VerdictLemmas.{good_are_holders, good_below, member_holders}
 use Rattle.afr_choice.specs.declared.looked.Looked.{Looked}
 use Rattle.afr_law.proofs.Model.Dirty.{seen_copy}
 use Rattle.afr_lines.specs.Areas.{object_of_area}
-use Rattle.afr_lines.specs.Work.{is_end, is_of, work}
+use Rattle.afr_lines.specs.Work.{Work, work}
 use Rattle.afr_lines.specs.declared.answer.Told.{Told}
 use Rattle.afr_lines.specs.declared.answer.Told.TheVariants as told_of
 use Rattle.afr_lines.specs.declared.line.Line.{Line}
@@ -27,6 +28,7 @@ use Rattle.afr_plan.specs.declared.plan.Plan.{Plan}
 use Rattle.afr_range_locks.specs.declared.domain.Domain.TheVariants.{Work as WorkDomain}
 use Rattle.afr_tables.specs.CopyLaws.{gfid_is}
 use Rattle.afr_tables.specs.TableLaws.{copy_stays}
+use Rattle.afr_hears.proofs.SomeLines.{AreIn, IsBefore, copy_since, honest_before, work_in}
 use Rattle.afr_hears.specs.Finds.{FindsSeen, FindsSource}
 
 -- each brick that shows a view has the object
@@ -76,55 +78,48 @@ shown_have p log g c told looked own was b view e = go (shown_set looked.views c
     go (inl h) = absurd (cc (h.1))
     go (inr h) = was b view h
 
--- no line takes an object away
-still_have : (p : Plan) (line : Line) (older : List Line) (g : Gfid) (looked : Looked) → AllHave p older g looked → AllHave p (line ∷ older) g looked
-still_have p line older g looked k b view e = copy_stays p line older b g (k b view e)
-
--- after one line more of the work each does
-line_has : (p : Plan) (line : Line) (older : List Line) (g : Gfid) (looked : Looked) → IsHonest p line older → AllHave p older g looked → AllHave p (line ∷ older) g (looked_after g line looked)
-line_has p (Ask a b (Look h) told took) older g looked said k = go (h.0 == g.0) refl
+-- after one line more of the log each does
+line_has : (p : Plan) (log : List Line) (line : Line) (older : List Line) → IsBefore (line ∷ older) log → (g : Gfid) (looked : Looked) → IsHonest p line older → AllHave p log g looked → AllHave p log g (looked_after g line looked)
+line_has p log (Ask a b (Look h) told took) older before g looked said k = go (h.0 == g.0) refl
   where
-    own : h.0 ≡ g.0 → (view : View) → told ≡ told_of.Seen view → has_object p older g b.0 ≡ true
+    own : h.0 ≡ g.0 → (view : View) → told ≡ told_of.Seen view → has_object p log g b.0 ≡ true
     own same view e =
         let honest : IsHonest p (Ask a b (Look h) (told_of.Seen view) took) older = subst (λ (x : Told). IsHonest p (Ask a b (Look h) x took) older) e said in
         let there = seen_copy _ _ (copy_at h (holds p older b.0)) view took honest in
-        subst (λ (x : Gfid). has_object p older x b.0 ≡ true) (gfid_is h g same) (ap (λ (o : Option Object). is_some o) there.1)
+        let was_there : has_object p older g b.0 ≡ true = subst (λ (x : Gfid). has_object p older x b.0 ≡ true) (gfid_is h g same) (ap (λ (o : Option Object). is_some o) there.1) in
+        copy_since p g b.0 (Ask a b (Look h) told took ∷ older) log before (copy_stays p (Ask a b (Look h) told took) older b.0 g was_there)
 
-    go : (hit : Bool) → (h.0 == g.0) ≡ hit → AllHave p (Ask a b (Look h) told took ∷ older) g (if hit then look_shows b.0 told looked else looked)
-    go true e = still_have p (Ask a b (Look h) told took) older g (look_shows b.0 told looked) (shown_have p older g b.0 told looked (own (eqb-true h.0 g.0 e)) k)
-    go false e = still_have p (Ask a b (Look h) told took) older g looked k
-line_has p (Ask a b (Lock WorkDomain area) told took) older g looked said k = go ((object_of_area area).0 == g.0)
+    go : (hit : Bool) → (h.0 == g.0) ≡ hit → AllHave p log g (if hit then look_shows b.0 told looked else looked)
+    go true e = shown_have p log g b.0 told looked (own (eqb-true h.0 g.0 e)) k
+    go false e = k
+line_has p log (Ask a b (Lock WorkDomain area) told took) older before g looked said k = go ((object_of_area area).0 == g.0)
   where
-    go : (hit : Bool) → AllHave p (Ask a b (Lock WorkDomain area) told took ∷ older) g (if hit then no_looks else looked)
-    go true = none_have p (Ask a b (Lock WorkDomain area) told took ∷ older) g
-    go false = still_have p (Ask a b (Lock WorkDomain area) told took) older g looked k
-line_has p line older g looked said k = still_have p line older g looked k
+    go : (hit : Bool) → AllHave p log g (if hit then no_looks else looked)
+    go true = none_have p log g
+    go false = k
+line_has p log line older before g looked said k = k
 
--- each brick that the last looks of a work show has the object
-work_has : (p : Plan) (a : ℕ) (g : Gfid) (log : List Line) → Honest p log → AllHave p log g (looked_by g (work a log))
-work_has p a g [] honest = none_have p [] g
-work_has p a g (line ∷ older) honest = go (is_of a line) (is_end line) (work_has p a g older honest.1)
-  where
-    go : (own last : Bool) → AllHave p older g (looked_by g (work a older)) → AllHave p (line ∷ older) g (looked_by g (if own then (if last then [] else (line, older) ∷ work a older) else work a older))
-    go true true k = none_have p (line ∷ older) g
-    go true false k = line_has p line older g (looked_by g (work a older)) honest.0 k
-    go false last k = still_have p line older g (looked_by g (work a older)) k
+-- each brick that the last looks of some lines show has the object
+lines_have : (p : Plan) (g : Gfid) (log : List Line) → Honest p log → (w : Work) → AreIn log w → AllHave p log g (looked_by g w)
+lines_have p g log honest [] is = none_have p log g
+lines_have p g log honest (x ∷ w) is = line_has p log x.0 x.1 is.0 g (looked_by g w) (honest_before p (x.0 ∷ x.1) log is.0 honest).0 (lines_have p g log honest w is.1)
 
-pub finds_seen : FindsSeen
-finds_seen p a log g b view honest e = work_has p a g log honest b view e
-
-pub finds_source : FindsSource
-finds_source p a log g kind b honest k = go (view_at b looked) refl (and_right (member looked.reached b) (is_some (view_at b looked)) held)
+-- and so has one with a good copy by them
+pub good_in : (p : Plan) (log : List Line) (w : Work) → AreIn log w → (g : Gfid) (kind : Kind) (b : ℕ) → Honest p log → member (good_copies p.shape (looked_by g w) kind) b ≡ true → has_object p log g b ≡ true
+good_in p log w is g kind b honest k = go (view_at b looked) refl (and_right (member looked.reached b) (is_some (view_at b looked)) held)
   where
     looked : Looked
-    looked = looked_by g (work a log)
-
-    good : is_good p.shape looked kind b ≡ true
-    good = sym (member_good p.shape looked kind b (good_below p.shape looked kind b k.good)) ∙ k.good
+    looked = looked_by g w
 
     held : is_holder looked b ≡ true
-    held = and_left (is_holder looked b) (keeps p.shape kind b) (and_left (is_holder looked b && keeps p.shape kind b) (not (is_accused kind looked b)) good)
+    held = sym (member_holders looked b (good_below p.shape looked kind b k)) ∙ good_are_holders p.shape looked kind b k
 
     go : (v : Option View) → view_at b looked ≡ v → is_some v ≡ true → has_object p log g b ≡ true
     go None e h = absurd (cc h)
-    go (Some view) e h = finds_seen p a log g b view honest e
+    go (Some view) e h = lines_have p g log honest w is b view e
+
+pub finds_seen : FindsSeen
+finds_seen p a log g b view honest e = lines_have p g log honest (work a log) (work_in a log) b view e
+
+pub finds_source : FindsSource
+finds_source p a log g kind b honest k = good_in p log (work a log) (work_in a log) g kind b honest k.good

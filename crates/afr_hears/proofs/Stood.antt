@@ -1,12 +1,11 @@
 -- An entry that leads to the object of a work's path stood somewhere, and the log has the work's change by its attempt.
-use Rattle.std.proofs.Common.{◌≡◌, ℕ, ◌<◌, ◌==◌, Bool, true, false, List, [], ◌∷◌, Option, Some, None, length, refl, sym, ◌∙◌, subst, arith, if◌then◌else◌}
+use Rattle.std.proofs.Common.{◌≡◌, ℕ, ◌<◌, ◌==◌, true, false, List, [], ◌∷◌, Option, Some, None, length, refl, sym, ap, ◌∙◌, subst, arith, inl, inr}
 use Rattle.std.proofs.lemmas.Bool.Decides.{nat_tests}
 use Rattle.afr_base.specs.declared.ids.Gfid.{Gfid}
 use Rattle.afr_base.specs.declared.ids.NameId.{NameId}
-use Rattle.afr_base.specs.declared.ids.What.{What}
 use Rattle.afr_law.specs.ModelKinds.{Before, Named, Now, Says, Top, WasTable}
 use Rattle.afr_lines.specs.Log.{change_at}
-use Rattle.afr_lines.specs.Work.{Work, is_end, is_of, work}
+use Rattle.afr_lines.specs.Work.{Work, work}
 use Rattle.afr_lines.specs.declared.answer.Told.TheVariants as told_of
 use Rattle.afr_lines.specs.declared.line.Line.{Line}
 use Rattle.afr_lines.specs.declared.line.Line.TheVariants.{Ask, Begin}
@@ -17,6 +16,7 @@ use Rattle.afr_model.specs.Tables.{entry_at, held_before, holds}
 use Rattle.afr_object.specs.Tables.{Table}
 use Rattle.afr_object.specs.declared.entry.Entry.{Entry}
 use Rattle.afr_plan.specs.declared.plan.Plan.{Plan}
+use Rattle.afr_hears.proofs.SomeLines.{AreIn, IsBefore, work_in}
 use Rattle.afr_hears.specs.Finds.{FindsAttempt, FindsPath}
 
 self : (n : ℕ) → (n == n) ≡ true
@@ -35,46 +35,40 @@ was_more : (p : Plan) (line : Line) (older : List Line) (t : Table) → WasTable
 was_more p line older t (Now b e) = Before (length older) b (omega arith) (e ∙ sym (held_now p line older b))
 was_more p line older t (Before k b low e) = Before k b (omega (arith, low)) (e ∙ sym (held_then p line older k b low))
 
-says_more : (p : Plan) (line : Line) (older : List Line) (g : Gfid) (what : What) → Says p older g what → Says p (line ∷ older) g what
-says_more p line older g what (Named t dir name was entry) = Named t dir name (was_more p line older t was) entry
-says_more p line older g what (Top e f) = Top e f
+was_since : (p : Plan) (start log : List Line) → IsBefore start log → (t : Table) → WasTable p start t → WasTable p log t
+was_since p start [] is t was = subst (λ (x : List Line). WasTable p x t) is was
+was_since p start (line ∷ older) (inl is) t was = subst (λ (x : List Line). WasTable p x t) is was
+was_since p start (line ∷ older) (inr k) t was = was_more p line older t (was_since p start older k t was)
 
 -- the object that the path has led to stood somewhere
-abbrev pub IsLed : Plan → List Line → Path → Type 0
+abbrev IsLed : Plan → List Line → Path → Type 0
 IsLed p log (At read object) = Says p log object.gfid object.what
 IsLed p log other = Unit {0}
 
-pub led_still : (p : Plan) (line : Line) (older : List Line) (path : Path) → IsLed p older path → IsLed p (line ∷ older) path
-led_still p line older (At read object) k = says_more p line older object.gfid object.what k
-led_still p line older NoName k = tt
-led_still p line older Untold k = tt
-
 -- one name more leads to the entry that it has
-led_named : (p : Plan) (line : Line) (older : List Line) (g : Gfid) (name : NameId) (b : ℕ) (entry : Option Entry) → entry_at g name (holds p older b) ≡ entry → (path : Path) → IsLed p (line ∷ older) (one_name entry path)
-led_named p line older g name b (Some entry) e (At read object) = Named (holds p older b) g name (was_more p line older (holds p older b) (Now b refl)) e
-led_named p line older g name b (Some entry) e NoName = tt
-led_named p line older g name b (Some entry) e Untold = tt
-led_named p line older g name b None e (At read object) = tt
-led_named p line older g name b None e NoName = tt
-led_named p line older g name b None e Untold = tt
+led_named : (p : Plan) (log : List Line) (line : Line) (older : List Line) → IsBefore (line ∷ older) log → (g : Gfid) (name : NameId) (b : ℕ) (entry : Option Entry) → entry_at g name (holds p older b) ≡ entry → (path : Path) → IsLed p log (one_name entry path)
+led_named p log line older before g name b (Some entry) e (At read object) = Named (holds p older b) g name (was_since p (line ∷ older) log before (holds p older b) (was_more p line older (holds p older b) (Now b refl))) e
+led_named p log line older before g name b (Some entry) e NoName = tt
+led_named p log line older before g name b (Some entry) e Untold = tt
+led_named p log line older before g name b None e (At read object) = tt
+led_named p log line older before g name b None e NoName = tt
+led_named p log line older before g name b None e Untold = tt
 
 -- and so after any line
-pub led_after : (p : Plan) (line : Line) (older : List Line) (path : Path) → IsLed p older path → IsLed p (line ∷ older) (path_after p line older path)
-led_after p (Ask a b (ReadName g name) told_of.Given took) older path k = led_named p (Ask a b (ReadName g name) told_of.Given took) older g name b.0 (entry_at g name (holds p older b.0)) refl path
-led_after p (Ask a b (ReadName g name) told took) older path k = tt
-led_after p line older path k = led_still p line older path k
+led_after : (p : Plan) (log : List Line) (line : Line) (older : List Line) → IsBefore (line ∷ older) log → (path : Path) → IsLed p log path → IsLed p log (path_after p line older path)
+led_after p log (Ask a b (ReadName g name) told_of.Given took) older before path k = led_named p log (Ask a b (ReadName g name) told_of.Given took) older before g name b.0 (entry_at g name (holds p older b.0)) refl path
+led_after p log (Ask a b (ReadName g name) told took) older before path k = tt
+led_after p log line older before path k = k
 
-led_work : (p : Plan) (a : ℕ) (log : List Line) → IsLed p log (path_by p (work a log))
-led_work p a [] = Top refl refl
-led_work p a (line ∷ older) = go (is_of a line) (is_end line) (led_work p a older)
-  where
-    go : (own last : Bool) → IsLed p older (path_by p (work a older)) → IsLed p (line ∷ older) (path_by p (if own then (if last then [] else (line, older) ∷ work a older) else work a older))
-    go true true k = Top refl refl
-    go true false k = led_after p line older (path_by p (work a older)) k
-    go false last k = led_still p line older (path_by p (work a older)) k
+led_in : (p : Plan) (log : List Line) (w : Work) → AreIn log w → IsLed p log (path_by p w)
+led_in p log [] is = Top refl refl
+led_in p log (x ∷ w) is = led_after p log x.0 x.1 is.0 (path_by p w) (led_in p log w is.1)
+
+pub path_in : (p : Plan) (log : List Line) (w : Work) → AreIn log w → (read : ℕ) (object : Entry) → path_by p w ≡ At read object → Says p log object.gfid object.what
+path_in p log w is read object e = subst (IsLed p log) e (led_in p log w is)
 
 pub finds_path : FindsPath
-finds_path p a log read object e = subst (IsLed p log) e (led_work p a log)
+finds_path p a log read object e = path_in p log (work a log) (work_in a log) read object e
 
 -- ---- the attempt
 -- the attempt's number is of a line, which begins the work's change
@@ -85,24 +79,27 @@ IsAttempt log w = (q : ℕ) → begun_by w ≡ Some q → (q < length log) × (c
 still : (q : ℕ) (line : Line) (older : List Line) → q < length older → change_at q (line ∷ older) ≡ change_at q older
 still q line older low = (let e : (q == length older) ≡ false = grind (arith, nat_tests, low) in rw e refl)
 
-still_attempt : (line : Line) (older : List Line) (w : Work) → IsAttempt older w → IsAttempt (line ∷ older) w
-still_attempt line older w k q e = (omega (arith, (k q e).0), still q line older (k q e).0 ∙ (k q e).1)
+change_since : (start log : List Line) → IsBefore start log → (q : ℕ) → q < length start → (q < length log) × (change_at q log ≡ change_at q start)
+change_since start [] is q low = (subst (λ (x : List Line). q < length x) is low, ap (change_at q) (sym is))
+change_since start (line ∷ older) (inl is) q low = (subst (λ (x : List Line). q < length x) is low, ap (change_at q) (sym is))
+change_since start (line ∷ older) (inr k) q low = (let w = change_since start older k q low in let less = w.0 in (omega (arith, less), still q line older less ∙ w.1))
 
-line_attempt : (line : Line) (older : List Line) (w : Work) → IsAttempt older w → IsAttempt (line ∷ older) ((line, older) ∷ w)
-line_attempt (Begin a change) older w k q e = (omega (arith, same), subst (λ (n : ℕ). change_at n (Begin a change ∷ older) ≡ Some change) same (rw (self (length older)) refl))
+line_attempt : (log : List Line) (line : Line) (older : List Line) → IsBefore (line ∷ older) log → (w : Work) → IsAttempt log w → IsAttempt log ((line, older) ∷ w)
+line_attempt log (Begin a change) older before w k q e = (at.0, at.1 ∙ subst (λ (n : ℕ). change_at n (Begin a change ∷ older) ≡ Some change) same (rw (self (length older)) refl))
   where
     same : length older ≡ q
     same = cc e
-line_attempt line older w k q e = still_attempt line older w k q e
 
-attempt_work : (a : ℕ) (log : List Line) → IsAttempt log (work a log)
-attempt_work a [] = λ q e. absurd (cc e)
-attempt_work a (line ∷ older) = go (is_of a line) (is_end line) (attempt_work a older)
-  where
-    go : (own last : Bool) → IsAttempt older (work a older) → IsAttempt (line ∷ older) (if own then (if last then [] else (line, older) ∷ work a older) else work a older)
-    go true true k = λ q e. absurd (cc e)
-    go true false k = line_attempt line older (work a older) k
-    go false last k = still_attempt line older (work a older) k
+    at : (q < length log) × (change_at q log ≡ change_at q (Begin a change ∷ older))
+    at = change_since (Begin a change ∷ older) log before q (omega (arith, same))
+line_attempt log line older before w k q e = k q e
+
+attempt_in : (log : List Line) (w : Work) → AreIn log w → IsAttempt log w
+attempt_in log [] is = λ q e. absurd (cc e)
+attempt_in log (x ∷ w) is = line_attempt log x.0 x.1 is.0 w (attempt_in log w is.1)
+
+pub change_in : (log : List Line) (w : Work) → AreIn log w → (q : ℕ) → begun_by w ≡ Some q → change_at q log ≡ change_by w
+change_in log w is q e = (attempt_in log w is q e).1
 
 pub finds_attempt : FindsAttempt
-finds_attempt a log q e = (attempt_work a log q e).1
+finds_attempt a log q e = change_in log (work a log) (work_in a log) q e

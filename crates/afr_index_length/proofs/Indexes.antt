@@ -1,5 +1,6 @@
 -- The index of a brick lists at most as many objects as there can be.
-use Rattle.std.proofs.Common.{◌≡◌, ◌∙◌, ℕ, ◌+◌, ◌-◌, ◌≤◌, ◌==◌, Bool, true, false, refl, sym, ap, subst, arith, List, [], ◌∷◌, length, length-append}
+use Rattle.std.proofs.Common.{◌≡◌, ◌∙◌, ℕ, ◌+◌, ◌-◌, ◌<◌, ◌≤◌, ◌==◌, inl, inr, Bool, true, false, refl, sym, ap, subst, arith, suc, List, [], ◌∷◌, length, length-append, Option, Some}
+use Rattle.std.proofs.lemmas.Bool.{cases_lt, eqb-true}
 use Rattle.std.specs.Prelude.{if◌then◌else◌}
 use Rattle.afr_bound.specs.Cost.{objects_of}
 use Rattle.afr_descent.proofs.Makes.{plan_before}
@@ -16,6 +17,7 @@ use Rattle.afr_law.proofs.Safety.Objects.{kind_born}
 use Rattle.afr_law.specs.Beginning.{start_of}
 use Rattle.afr_law.specs.Exactly.{name_bound}
 use Rattle.afr_law.specs.ModelKinds.{Before, Now, WasTable}
+use Rattle.afr_lines.specs.Log.{from_oldest}
 use Rattle.afr_lines.specs.declared.answer.Answer.TheVariants as answer
 use Rattle.afr_lines.specs.declared.answer.Answer.{Answer}
 use Rattle.afr_lines.specs.declared.line.Line.TheVariants.{Ask, Begin, End, Event, HealBegin, HealEnd}
@@ -26,10 +28,11 @@ use Rattle.afr_model.specs.Tables.{held_before, holds}
 use Rattle.afr_moves.proofs.ByPosition.{past_whole}
 use Rattle.afr_moves.proofs.Tests.{what_some}
 use Rattle.afr_moves.specs.Cells.{what_code}
-use Rattle.afr_moves.specs.Honest.{Honest}
-use Rattle.afr_moves.specs.Past.{Log, kind_at}
+use Rattle.afr_moves.specs.Honest.{Honest, HonestLine, KnownMake}
+use Rattle.afr_moves.specs.Past.{Log, kind_at, made}
 use Rattle.afr_moves.specs.Positions.{by_position}
 use Rattle.afr_object.specs.Indexed.{index_of}
+use Rattle.afr_object.specs.declared.change.Change.TheVariants.{Make}
 use Rattle.afr_object.specs.Tables.{Table}
 use Rattle.afr_plan.specs.declared.plan.Plan.{Plan}
 use Rattle.afr_quiet_lists.proofs.Rises.{Rises, rising}
@@ -47,6 +50,16 @@ rose p (line ∷ older) k b = go (k == length older) (rose p older k b)
     go false h = h
 
 -- ---- and each is the root's, an opening file's, or one that a line gave
+-- the first line makes nothing below 2
+none_low : (p : Plan) (L : Log) (line : Option Line) (z k : ℕ) → HonestLine (start_of p (name_bound p)) (fault_in p.faults) L 0 line → made z line ≡ suc k → z < 2 → ⊥
+none_low p L (Some (Begin x (Make dir name h what))) z k told e low = go (h.0 == z) refl e told
+  where
+    go : (hit : Bool) → (h.0 == z) ≡ hit → (if hit then what_code what else 0) ≡ suc k → KnownMake (start_of p (name_bound p)) L 0 (Make dir name h what) → ⊥
+    go true f e (inl w) = (let same : h.0 ≡ z = eqb-true h.0 z f in let new = w.0 in absurd (omega (arith, same, new, low)))
+    go true f e (inr w) = (let past = w.past in absurd (omega (arith, past)))
+    go false f e known = absurd (omega (arith, e))
+none_low p L line z k told e low = absurd (omega (arith, e))
+
 module _ (p : Plan) (log : List Line) (f : IsOfPlan p log) where
   abbrev N : ℕ
   N = name_bound p
@@ -60,13 +73,21 @@ module _ (p : Plan) (log : List Line) (f : IsOfPlan p log) where
   honest : Honest (start_of p N) (fault_in p.faults) L
   honest = all_honest p N f.few log below f.honest (within_before p log (take_within p N f.few log below f.honest))
 
+  -- an object's number is that of its line
+  own : (z k : ℕ) → made z (from_oldest (z - 2) log) ≡ suc k → z ≡ (z - 2) + 2
+  own z k e =
+      elim (cases_lt z 2) [
+        | inl low ↦ absurd (none_low p L (from_oldest 0 log) z k (honest 0) (let first : z - 2 ≡ 0 = omega (arith, low) in subst (λ (q : ℕ). made z (from_oldest q log) ≡ suc k) first e) low)
+        | inr high ↦ omega (arith, high)
+      ]
+
   -- a copy that stood somewhere
   known : (k b : ℕ) (t : Table) → ((g : ℕ) → kind_at (start_of p N) L k b g ≡ kind_in t g) → (z : ℕ) → In z (numbers t) → In z (known_numbers p.files log)
   known k b t same z h =
       let w = copy_there t z h in
       let some = what_some w.0.what in
       let kind : kind_in t z ≡ what_code w.0.what = ap kind_code w.1 in
-      known_has p.files log (z - 2) z some.0 (kind_born (start_of p N) (fault_in p.faults) L honest k b z some.0 (same z ∙ kind ∙ some.1))
+      known_has p.files log (z - 2) z some.0 (own z some.0) (kind_born (start_of p N) (fault_in p.faults) L honest k b z some.0 (same z ∙ kind ∙ some.1))
 
   pub table_short : (t : Table) → WasTable p log t → length t ≤ objects_of p
   table_short t was = go was
@@ -75,7 +96,7 @@ module _ (p : Plan) (log : List Line) (f : IsOfPlan p log) where
       few =
           let size : length (known_numbers p.files log) ≡ length (opening_numbers p.files) + length (made_numbers log) = length-append (opening_numbers p.files) (made_numbers log) in
           let first = opening_count p.files in
-          let made = made_few p log f.follows in
+          let made = made_few p log f in
           omega (arith, size, first, made)
 
       at : (k b : ℕ) (u : Table) → Rises u → ((g : ℕ) → kind_at (start_of p N) L k b g ≡ kind_in u g) → length u ≤ objects_of p

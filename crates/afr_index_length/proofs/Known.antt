@@ -2,6 +2,7 @@
 use Rattle.std.proofs.Common.{◌≡◌, ◌∙◌, ℕ, zero, suc, ◌+◌, ◌==◌, ◌⊎◌, inl, inr, Bool, true, false, refl, sym, ap, arith, List, [], ◌∷◌, ◌++◌, length, Some, None}
 use Rattle.std.specs.Prelude.{if◌then◌else◌}
 use Rattle.std.proofs.lemmas.Bool.{eqb-true}
+use Rattle.std.proofs.lemmas.Bool.Decides.{nat_tests}
 use Rattle.afr_bound.proofs.Sums.{in_left, in_right}
 use Rattle.afr_brick.specs.TablesLemmas.{same_gfid}
 use Rattle.afr_lines.specs.Log.{from_oldest}
@@ -45,38 +46,43 @@ opening_has (suc i) g k e = go (kind_in (opening i) g) refl (kind_in (opening i)
     go zero was false false h e rest = absurd (omega (arith, e))
 
 -- ---- by lines
--- the number that a line gives to what it makes
-abbrev pub numbers_in : Line → List ℕ
-numbers_in (Begin x (Make dir name g what)) = g.0 ∷ []
-numbers_in line = []
+-- the number that a line at this position gives to what it makes: one that stands for an older object is none of its own
+abbrev pub numbers_in : ℕ → Line → List ℕ
+numbers_in at (Begin x (Make dir name g what)) = if g.0 == at + 2 then g.0 ∷ [] else []
+numbers_in at line = []
 
 abbrev pub made_numbers : List Line → List ℕ
 made_numbers [] = []
-made_numbers (line ∷ older) = numbers_in line ++ made_numbers older
+made_numbers (line ∷ older) = numbers_in (length older) line ++ made_numbers older
 
-in_line : (line : Line) (g k : ℕ) → made g (Some line) ≡ suc k → In g (numbers_in line)
-in_line (Begin x (Make dir name h what)) g k e = go (h.0 == g) refl e
+in_line : (line : Line) (at g k : ℕ) → g ≡ at + 2 → made g (Some line) ≡ suc k → In g (numbers_in at line)
+in_line (Begin x (Make dir name h what)) at g k own e = go (h.0 == g) refl e
   where
-    go : (hit : Bool) → (h.0 == g) ≡ hit → (if hit then what_code what else 0) ≡ suc k → (g ≡ h.0) ⊎ ⊥
-    go true f e = inl (sym (eqb-true h.0 g f))
+    go : (hit : Bool) → (h.0 == g) ≡ hit → (if hit then what_code what else 0) ≡ suc k → In g (if h.0 == at + 2 then h.0 ∷ [] else [])
+    go true f e =
+        let same : h.0 ≡ g = eqb-true h.0 g f in
+        let mine : (h.0 == at + 2) ≡ true = grind (arith, nat_tests, same, own) in
+        rw mine (inl (sym same))
     go false f e = absurd (omega (arith, e))
-in_line line g k e = absurd (omega (arith, e))
+in_line line at g k own e = absurd (omega (arith, e))
 
-in_log : (log : List Line) (q g k : ℕ) → made g (from_oldest q log) ≡ suc k → In g (made_numbers log)
-in_log [] q g k e = absurd (omega (arith, e))
-in_log (line ∷ older) q g k e = go (q == length older) e (λ h. in_log older q g k h)
+in_log : (log : List Line) (q g k : ℕ) → g ≡ q + 2 → made g (from_oldest q log) ≡ suc k → In g (made_numbers log)
+in_log [] q g k own e = absurd (omega (arith, e))
+in_log (line ∷ older) q g k own e = go (q == length older) refl e (λ h. in_log older q g k own h)
   where
-    go : (here : Bool) → made g (if here then Some line else from_oldest q older) ≡ suc k → (made g (from_oldest q older) ≡ suc k → In g (made_numbers older)) → In g (numbers_in line ++ made_numbers older)
-    go true e rest = in_left g (numbers_in line) (made_numbers older) (in_line line g k e)
-    go false e rest = in_right g (numbers_in line) (made_numbers older) (rest e)
+    go : (here : Bool) → (q == length older) ≡ here → made g (if here then Some line else from_oldest q older) ≡ suc k → (made g (from_oldest q older) ≡ suc k → In g (made_numbers older)) → In g (numbers_in (length older) line ++ made_numbers older)
+    go true f e rest =
+        let at : q ≡ length older = eqb-true q (length older) f in
+        in_left g (numbers_in (length older) line) (made_numbers older) (in_line line (length older) g k (omega (arith, at, own)) e)
+    go false f e rest = in_right g (numbers_in (length older) line) (made_numbers older) (rest e)
 
 -- ---- both
 abbrev pub known_numbers : ℕ → List Line → List ℕ
 known_numbers files log = opening_numbers files ++ made_numbers log
 
-pub known_has : (files : ℕ) (log : List Line) (q g k : ℕ) → keep (kind_in (opening files) g) (made g (from_oldest q log)) ≡ suc k → In g (known_numbers files log)
-known_has files log q g k e = go (kind_in (opening files) g) refl e
+pub known_has : (files : ℕ) (log : List Line) (q g k : ℕ) → (made g (from_oldest q log) ≡ suc k → g ≡ q + 2) → keep (kind_in (opening files) g) (made g (from_oldest q log)) ≡ suc k → In g (known_numbers files log)
+known_has files log q g k own e = go (kind_in (opening files) g) refl e
   where
     go : (was : ℕ) → kind_in (opening files) g ≡ was → keep was (made g (from_oldest q log)) ≡ suc k → In g (known_numbers files log)
-    go zero was e = in_right g (opening_numbers files) (made_numbers log) (in_log log q g k e)
+    go zero was e = in_right g (opening_numbers files) (made_numbers log) (in_log log q g k (own e) e)
     go (suc j) was e = in_left g (opening_numbers files) (made_numbers log) (opening_has files g j was)

@@ -5,8 +5,7 @@ use Rattle.afr_object.specs.declared.change.Repair.TheVariants.{CutTo}
 use Rattle.afr_lines.specs.declared.answer.Told.TheVariants as told
 use Rattle.afr_lines.specs.declared.reply.Reply.TheVariants as reply
 use Rattle.afr_lines.specs.declared.request.Request.TheVariants as request
-use Rattle.afr_model.specs.Answered.{IsAbout}
-use Rattle.afr_model.specs.Replied.{IsOfTask, Replied}
+use Rattle.afr_model.specs.Replied.{IsOf, IsOfTask, Replied}
 use Rattle.afr_model_tests.proofs.Answered.{no_quorum_that_asked_nobody}
 use Rattle.afr_model_tests.proofs.Means.{from_none, from_some}
 use Rattle.afr_model_tests.proofs.Words.{ask, client, ends, file, look_root, plan, work_of, writes}
@@ -14,7 +13,7 @@ use Rattle.afr_model_tests.proofs.Words.{ask, client, ends, file, look_root, pla
 -- a look at the root is of the client's command
 pub a_look_is_of_the_command : IsOfTask plan client (look_root 0) []
 a_look_is_of_the_command = record {
-  command = λ command same. from_some (λ it. IsAbout plan it (look_root 0) (work_of [])) writes command (record { unbegun = refl; unread = refl; object = refl; locked = λ area locks. from_none area locks }) same;
+  command = λ command same. from_some (λ it. IsOf plan it (look_root 0) (work_of [])) writes command (record { unbegun = refl; unread = refl; object = refl; locked = λ area locks. from_none area locks }) same;
   round = λ healer b same. absurd (omega (arith, healer));
 }
 

@@ -22,7 +22,7 @@ use Rattle.afr_model.specs.Complete.{IsFinished}
 use Rattle.afr_model.specs.Following.{Follows, IsTurnOf, KeepsToTask, NoneDue}
 use Rattle.afr_model.specs.Keeping.{KeepsTo}
 use Rattle.afr_model.specs.Honest.{Honest, Outcome}
-use Rattle.afr_model.specs.Replied.{IsOfTask, Replied}
+use Rattle.afr_model.specs.Replied.{IsOf, IsOfTask, Replied}
 use Rattle.afr_model.specs.ReportHealers.{report_of}
 use Rattle.afr_model.specs.Showing.{At, NotAsked, begins_attempt, has, path_by, reading_by, root_entry}
 use Rattle.afr_model.specs.Standing.{area_here, looks_here}
@@ -85,7 +85,7 @@ a_wrong_view_is_not_honest honest = told_apart (λ (outcome : Outcome). is_empty
 -- ---- the command
 -- a line of the client is of its only command
 task : {line : Line} {older : List Line} → slice_get (script_of listing 1) (ended 1 older) ≡ Some lists → IsAbout listing lists line (work 1 older) → IsOfTask listing client line older
-task {line = line} {older = older} first about = record { command = λ it same. from_some (λ c. IsAbout listing c line (work 1 older)) lists it about (sym first ∙ same); round = λ healer b same. absurd (omega (arith, healer)) }
+task {line = line} {older = older} first about = record { command = λ it same. from_some (λ c. IsOf listing c line (work 1 older)) lists it about (sym first ∙ same); round = λ healer b same. absurd (omega (arith, healer)) }
 
 -- a look at the root, where nothing is locked
 look : {b : ℕ} {w : Work} → has begins_attempt w ≡ false → reading_by listing w ≡ NotAsked → path_by listing w ≡ At 0 root_entry → LooksHere listing lists root b w

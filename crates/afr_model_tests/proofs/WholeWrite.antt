@@ -23,7 +23,7 @@ use Rattle.afr_model.specs.Blamed.{AreBlamed, IsBlaming}
 use Rattle.afr_model.specs.Following.{Follows, IsTurnOf, KeepsToTask, NoneDue}
 use Rattle.afr_model.specs.Keeping.{KeepsTo}
 use Rattle.afr_model.specs.Honest.{Honest}
-use Rattle.afr_model.specs.Replied.{IsOfTask, Replied}
+use Rattle.afr_model.specs.Replied.{IsOf, IsOfTask, Replied}
 use Rattle.afr_model.specs.ReportHealers.{report_of}
 use Rattle.afr_model.specs.Showing.{At, NotAsked, among, begins_attempt, has, path_by, reading_by, root_entry}
 use Rattle.afr_model.specs.Skipped.{IsCarried}
@@ -91,7 +91,7 @@ a_write_follows_its_plan = (
 -- ---- the command
 -- a line of the client is of its only command
 task : {line : Line} {older : List Line} → slice_get (script_of failing 1) (ended 1 older) ≡ Some writes → IsAbout failing writes line (work 1 older) → IsOfTask failing client line older
-task {line = line} {older = older} first about = record { command = λ it same. from_some (λ c. IsAbout failing c line (work 1 older)) writes it about (sym first ∙ same); round = λ healer b same. absurd (omega (arith, healer)) }
+task {line = line} {older = older} first about = record { command = λ it same. from_some (λ c. IsOf failing c line (work 1 older)) writes it about (sym first ∙ same); round = λ healer b same. absurd (omega (arith, healer)) }
 
 -- the attempt went through its phases where it could
 carried : IsCarried failing writes write_change (work_of released)

@@ -3,8 +3,10 @@ use Rattle.std.proofs.Common.{◌≡◌, ◌∙◌, ℕ, ◌<◌, ◌≤◌, ◌
 use Rattle.std.specs.Prelude.{is_some}
 use Rattle.afr_base.specs.Bricks.{added, is_nothing, lowest}
 use Rattle.afr_base.specs.declared.ids.ActorId.{ActorId}
+use Rattle.afr_base.specs.declared.ids.BrickId.{BrickId}
 use Rattle.afr_base.specs.declared.ids.Kind.{Kind}
 use Rattle.afr_base.specs.declared.ids.Kind.TheVariants.{Names}
+use Rattle.afr_base.specs.declared.ids.NameId.{NameId}
 use Rattle.afr_base.specs.declared.ids.Shape.{Shape}
 use Rattle.afr_choice.specs.Verdict.{verdict_of}
 use Rattle.afr_choice.specs.declared.looked.Looked.{Looked}
@@ -12,10 +14,12 @@ use Rattle.afr_choice.specs.declared.verdict.Verdict.{Verdict}
 use Rattle.afr_choice.specs.declared.verdict.Verdict.TheVariants.{Bare, Short, Sources, Split}
 use Rattle.afr_inode_telling.proofs.LookHeard.{LookTells, look_known, look_line}
 use Rattle.afr_inode_telling.proofs.Quiet.{locks_none}
+use Rattle.afr_inode_telling.specs.Lines.{is_look}
 use Rattle.afr_inode_telling.specs.WalkTelling.{TellsAt, WalkTells}
 use Rattle.afr_lines.specs.Told.{told_by}
 use Rattle.afr_lines.specs.Work.{Work}
 use Rattle.afr_lines.specs.declared.answer.Answer.{Answer}
+use Rattle.afr_lines.specs.declared.answer.Told.{Told}
 use Rattle.afr_lines.specs.declared.line.Line.{Line}
 use Rattle.afr_lines.specs.declared.line.Line.TheVariants.{Ask}
 use Rattle.afr_lines.specs.declared.reply.Reply.{Reply}
@@ -23,15 +27,17 @@ use Rattle.afr_lines.specs.declared.request.Request.{Request}
 use Rattle.afr_lines.specs.declared.request.Request.TheVariants as request
 use Rattle.afr_model.specs.Chosen as model
 use Rattle.afr_model.specs.Commands.{path_of, steps_of}
+use Rattle.afr_model.specs.Parts.{Makes, Part, Removes, Walks, part_at, the_make, the_removal, the_walk}
 use Rattle.afr_model.specs.Refusals.{by_looks, by_path, or_else, read_refused, refusal, too_large, without_source}
 use Rattle.afr_model.specs.Showing.{Path, At, among, has, looked_by, path_by, refuses_read}
 use Rattle.afr_model.specs.Standing.{place_by}
 use Rattle.afr_object.specs.Tables.{is_dir}
 use Rattle.afr_object.specs.declared.entry.Entry.{Entry}
 use Rattle.afr_plan.specs.declared.command.Command.{Command}
+use Rattle.afr_plan.specs.declared.command.Command.TheVariants as command
 use Rattle.afr_plan.specs.declared.plan.Plan.{Plan}
 use Rattle.afr_readings.proofs.Rule.{candidates_are, numbers_of}
-use Rattle.afr_readings.specs.Readings.{are_over, asked_at, kind_here, looked_here}
+use Rattle.afr_readings.specs.Readings.{are_over, asked_at, asked_by, asked_by_part, asked_for, asked_for_command, asked_for_rename, kind_here, looked_here, or_before}
 use Rattle.afr_rule.specs.declared.candidate.Candidate.{Candidate}
 use Rattle.afr_walk.specs.Choosing.{candidates_of, choices, choices_after, has_sources}
 use Rattle.afr_walk.specs.Looks.{IsLooks, heard_look, left_to_look}
@@ -45,6 +51,44 @@ use Rattle.afr_walk.specs.declared.walk.WalkStep.TheVariants.{Arrived, Looking, 
 abbrev pub AsksAs : Plan → Command → Request → Work → List Candidate → Type 0
 AsksAs p c (request.Look g) more from = asked_at p c g (kind_here c (path_by p more)) more ≡ map numbers_of from
 AsksAs p c asked more from = from ≡ []
+
+-- the same of the lines of any command's work; a rename's are in parts
+abbrev pub AsksOf : Plan → Command → Request → Work → List Candidate → Type 0
+AsksOf p c (request.Look g) more from = asked_for_command p c more ≡ map numbers_of from
+AsksOf p c asked more from = from ≡ []
+
+-- the command isn't a rename
+abbrev pub HasOnePath : Command → Type 0
+HasOnePath (command.Rename from to) = ⊥
+HasOnePath c = Unit {0}
+
+asked_one : (p : Plan) (c : Command) (w : Work) → HasOnePath c → asked_for_command p c w ≡ asked_for p c w
+asked_one p (command.Rename from to) w one = absurd one
+asked_one p c w one = refl
+
+pub asks_one : (p : Plan) (c : Command) (asked : Request) (a : ActorId) (b : BrickId) (told : Told) (took : Bool) (log : List Line) (lines : Work) (from : List Candidate) → HasOnePath c → AsksAs p c asked ((Ask a b asked told took, log) ∷ lines) from
+    → AsksOf p c asked ((Ask a b asked told took, log) ∷ lines) from
+asks_one p c (request.Look g) a b told took log lines from one k = asked_one p c ((Ask a b (request.Look g) told took, log) ∷ lines) one ∙ k
+asks_one p c asked a b told took log lines from one k = k
+
+-- a line looks
+abbrev pub is_look_line : Line → Bool
+is_look_line (Ask a b asked told took) = is_look asked
+is_look_line line = false
+
+-- a line that doesn't asks the rule for nothing new
+unasked : (p : Plan) (c : Command) (line : Line) (w : Work) → is_look_line line ≡ false → asked_by p c line w ≡ None
+unasked p c (Ask a b (request.Look g) told took) w e = absurd (cc e)
+unasked p c line w e = refl
+
+unasked_part : (part : Part) (p : Plan) (from to : List NameId) (line : Line) (w : Work) → is_look_line line ≡ false → asked_by_part part p from to line w ≡ None
+unasked_part Walks p from to line w e = unasked p (command.Stat from) line (the_walk from w) e
+unasked_part Makes p from to line w e = unasked p (command.Create to) line (the_make from w) e
+unasked_part Removes p from to line w e = unasked p (command.Unlink from) line (the_removal from w) e
+
+pub asked_before : (p : Plan) (c : Command) (line : Line) (log : List Line) (w : Work) → is_look_line line ≡ false → asked_for_command p c ((line, log) ∷ w) ≡ asked_for_command p c w
+asked_before p (command.Rename from to) line log w e = ap (λ (x : Option (List (ℕ × ℕ))). or_before x (asked_for_rename p from to w)) (unasked_part (part_at from line w) p from to line ((line, log) ∷ w) e)
+asked_before p c line log w e = ap (λ (x : Option (List (ℕ × ℕ))). or_before x (asked_for p c w)) (unasked p c line ((line, log) ∷ w) e)
 
 -- a verdict has sources where it refuses nothing
 sources_pass : (v : Verdict) (looked : Looked) → not (is_some (without_source v looked.views)) ≡ has_sources v

@@ -15,8 +15,10 @@ use Rattle.afr_entry.specs.declared.stage.EntryStage.{EntryStage}
 use Rattle.afr_entry.specs.declared.stage.EntryStage.TheVariants.{Changing, Ending, Removes, Walking}
 use Rattle.afr_entry.specs.declared.stage.Found.{Found}
 use Rattle.afr_entry.specs.declared.stage.Found.TheVariants.{Fits, Refused, Unread}
+use Rattle.afr_discipline.specs.Tests.{ends_low}
+use Rattle.afr_entry_telling.proofs.Changing.{IsLike, like_same}
 use Rattle.afr_entry_telling.proofs.Names.{upto_more}
-use Rattle.afr_entry_telling.proofs.Words.{longer, path_is, place_upto, small_is, steps_are}
+use Rattle.afr_entry_telling.proofs.Words.{longer, low_is, path_is, place_upto, small_is, steps_are}
 use Rattle.afr_entry_telling.specs.EntryTelling.{Changes, EntryTells, RemovesChild, TellsIn, command_of}
 use Rattle.afr_lines.specs.Told.{told_by}
 use Rattle.afr_lines.specs.Work.{Work}
@@ -34,6 +36,8 @@ use Rattle.afr_model.specs.Commands.{path_of}
 use Rattle.afr_model.specs.Refusals.{refusal}
 use Rattle.afr_model.specs.Showing.{path_by}
 use Rattle.afr_model.specs.Standing.{path_upto}
+use Rattle.afr_object.specs.declared.change.Change.{Change}
+use Rattle.afr_object.specs.declared.entry.Entry.{Entry}
 use Rattle.afr_plan.specs.declared.command.Command.{Command}
 use Rattle.afr_plan.specs.declared.command.Command.TheVariants as command
 use Rattle.afr_plan.specs.declared.plan.Plan.{Plan}
@@ -66,7 +70,7 @@ before_last job path read l =
     let e : length (path_of (command_of job path)) ≡ length path + 1 = ap (λ (names : List NameId). length names) (path_is job path) ∙ longer path (name_of job) in
     grind (arith, nat_tests, e, l)
 
-walks_front : (p : Plan) (job : EntryJob) (w : Walk) (lines : Work) → path_upto (length w.path) p lines ≡ path_by p lines → WalksFor p (command_of job w.path) w lines
+pub walks_front : (p : Plan) (job : EntryJob) (w : Walk) (lines : Work) → path_upto (length w.path) p lines ≡ path_by p lines → WalksFor p (command_of job w.path) w lines
 walks_front p job w lines upto = record {
   small = small_is job w.path;
   steps = λ l. let e = steps_are job w.path in grind (arith, nat_tests, e, l);
@@ -79,15 +83,15 @@ walks_front p job w lines upto = record {
     apart l = grind (arith, nat_tests, l)
 
 -- ---- under the lock of the name
-module _ (p : Plan) (job : EntryJob) (w : Walk) (t : Progress) (lines : Work) (a : ActorId) (b : BrickId) (asked : Request) (told : Told) (took : Bool) (log : List Line) (at : ℕ) where
+module _ (p : Plan) (job : EntryJob) (path : List NameId) (dir : Entry) (t : Progress) (lines : Work) (a : ActorId) (b : BrickId) (asked : Request) (told : Told) (took : Bool) (log : List Line) (at : ℕ) where
   abbrev c : Command
-  c = command_of job w.path
+  c = command_of job path
 
   abbrev As : List Candidate → BrickId → Request → Type 0
   As from y r = AsksAs p c r ((Ask a y r told took, log) ∷ lines) from
 
   -- once the name was read it looks at nothing
-  fits_asks : (stage : Stage) → fits_stage Fits stage ≡ true → transaction.next_at stage at t ≡ next.Ask b asked → As [] b asked
+  pub fits_asks : (stage : Stage) → fits_stage Fits stage ≡ true → transaction.next_at stage at t ≡ next.Ask b asked → As [] b asked
   fits_asks stages.Locking f e = absurd (cc f)
   fits_asks stages.Looking f e = absurd (cc f)
   fits_asks stages.Beginning f e = absurd (cc e)
@@ -100,7 +104,7 @@ module _ (p : Plan) (job : EntryJob) (w : Walk) (t : Progress) (lines : Work) (a
       unlocks true e = absurd (cc e)
       unlocks false e = ask_same (As []) _ b _ asked e refl
 
-  only_closing : (stage : Stage) (why : _) → fits_stage (Refused why) stage ≡ true → fits_stage Fits stage ≡ true
+  pub only_closing : (stage : Stage) (why : _) → fits_stage (Refused why) stage ≡ true → fits_stage Fits stage ≡ true
   only_closing stages.Closing why f = refl
   only_closing stages.Locking why f = absurd (cc f)
   only_closing stages.Looking why f = absurd (cc f)
@@ -110,9 +114,9 @@ module _ (p : Plan) (job : EntryJob) (w : Walk) (t : Progress) (lines : Work) (a
   only_closing stages.Posting why f = absurd (cc f)
 
   -- before that it is asked for at the end of the looks alone
-  module _ (copy chosen : BrickId) (of_job : t.change ≡ change_of w.object.gfid job) (sets : HasSets t lines) where
+  module _ (copy chosen : BrickId) (like : IsLike t.change (change_of dir.gfid job)) (low : ends_low t.change ≡ true) (sets : HasSets t lines) where
     abbrev There : Stage → BrickId → Request → Type 0
-    There stage y r = Changes p c job w.object (fed stage told at t) (Unread chosen) ((Ask a y r told took, log) ∷ lines)
+    There stage y r = Changes p c job dir (fed stage told at t) (Unread chosen) ((Ask a y r told took, log) ∷ lines)
 
     locks_ask : offered (fed stages.Locking told at t) ≡ []
     locks_ask = go (is_nothing (left stages.Locking x)) (is_majority x.register.shape.n x.asked.locked_on)
@@ -132,11 +136,11 @@ module _ (p : Plan) (job : EntryJob) (w : Walk) (t : Progress) (lines : Work) (a
         go true = refl
         go false = refl
 
-    stage_asks : (stage : Stage) → During stage p.shape t lines → fits_stage (Unread copy) stage ≡ true → is_beginning stage ≡ false → transaction.next_at stage at t ≡ next.Ask b asked → There stage b asked → Sound (fed stage told at t)
+    pub stage_asks : (stage : Stage) → During stage p.shape t lines → fits_stage (Unread copy) stage ≡ true → is_beginning stage ≡ false → transaction.next_at stage at t ≡ next.Ask b asked → There stage b asked → Sound (fed stage told at t)
         → As (offered (fed stage told at t)) b asked
     stage_asks stages.Locking d f e is tells sound = ask_same (As (offered (fed stages.Locking told at t))) _ b _ asked is locks_ask
     stage_asks stages.Looking d f e is tells sound =
-        ask_same (λ y r. There stages.Looking y r → As (offered (fed stages.Looking told at t)) y r) _ b _ asked is (λ tells. under_asks p job w.path w.object t chosen lines a told took log at of_job sets d tells sound) tells
+        ask_same (λ y r. There stages.Looking y r → As (offered (fed stages.Looking told at t)) y r) _ b _ asked is (λ tells. under_asks p job path dir t chosen lines a told took log at like low sets d tells sound) tells
     stage_asks stages.Beginning d f e is tells sound = absurd (cc e)
     stage_asks stages.Preparing d f e is tells sound = absurd (cc f)
     stage_asks stages.Applying d f e is tells sound = absurd (cc f)
@@ -170,12 +174,12 @@ module _ (picks : Picks) (p : Plan) (m : Entering) (lines : Work) (a : ActorId) 
 
   under : (t : Progress) (found : Found) → IsChanging m.walk m.job t found → Changes p of m.job m.walk.object t found lines → next_under found at m.job m.walk t ≡ next.Ask b asked → TellsIn p of m.job (now (Changing t found)) m.walk more
       → IsStage m.walk m.job (now (Changing t found)) → AsksAs p of asked more (choices_under found heard at t)
-  under t Fits sound k e tells after = fits_asks p m.job m.walk t lines a b asked (told_by heard) took log at t.stage sound.in_turn e
+  under t Fits sound k e tells after = fits_asks p m.job m.walk.path m.walk.object t lines a b asked (told_by heard) took log at t.stage sound.in_turn e
   under t (Refused why) sound k e tells after = go (is_over t.stage t) e
     where
       go : (over : Bool) → (if over then next.End (reply_to why) else transaction.next_at t.stage at t) ≡ next.Ask b asked → AsksAs p of asked more []
       go true e = absurd (cc e)
-      go false e = fits_asks p m.job m.walk t lines a b asked (told_by heard) took log at t.stage (only_closing p m.job m.walk t lines a b asked (told_by heard) took log at t.stage why sound.in_turn) e
+      go false e = fits_asks p m.job m.walk.path m.walk.object t lines a b asked (told_by heard) took log at t.stage (only_closing p m.job m.walk.path m.walk.object t lines a b asked (told_by heard) took log at t.stage why sound.in_turn) e
   under t (Unread copy) sound k e tells after = go (is_beginning t.stage) refl e tells after
     where
       go : (x : Bool) → is_beginning t.stage ≡ x → (if x then next.Ask copy (reads_name m.job m.walk) else transaction.next_at t.stage at t) ≡ next.Ask b asked
@@ -184,7 +188,7 @@ module _ (picks : Picks) (p : Plan) (m : Entering) (lines : Work) (a : ActorId) 
           → AsksAs p of asked more (if x then [] else offered (fed t.stage (told_by heard) at t))
       go true is e tells after = ask_same (λ y r. AsksAs p of r ((Ask a y r (told_by heard) took, log) ∷ lines) []) copy b (reads_name m.job m.walk) asked e refl
       go false is e tells after =
-          stage_asks p m.job m.walk t lines a b asked (told_by heard) took log at copy chosen sound.of_job k.on.0.tells.sets t.stage k.on.0.tells.during sound.in_turn is e tells after.sound
+          stage_asks p m.job m.walk.path m.walk.object t lines a b asked (told_by heard) took log at copy chosen (like_same t.change (change_of m.walk.object.gfid m.job) sound.of_job) (subst (λ (x : Change). ends_low x ≡ true) (sym sound.of_job) (low_is m.walk.object.gfid m.job)) k.on.0.tells.sets t.stage k.on.0.tells.during sound.in_turn is e tells after.sound
 
   removes : (r : Removing) → RemovesChild p m.job m.walk.path r lines → removal.next_at r.stage r ≡ next.Ask b asked → RemovesChild p m.job m.walk.path (removal_now r) more → IsStage m.walk m.job (now (Removes r)) → IsAboutNext (Removes r)
       → IsStage m.walk m.job (Removes r) → AsksAs p of asked more (if removal.is_beginning r.stage then [] else removal.choices_at r.stage heard at r)

@@ -15,7 +15,8 @@ use Rattle.afr_entry.specs.Entry.{offered}
 use Rattle.afr_entry.specs.Job.{change_of, name_of}
 use Rattle.afr_entry.specs.declared.job.EntryJob.{EntryJob}
 use Rattle.afr_entry.specs.declared.stage.Found.TheVariants.{Unread}
-use Rattle.afr_entry_telling.proofs.Words.{area_is, longer, low_is, path_is, refused_there, steps_are, unread_fits}
+use Rattle.afr_entry_telling.proofs.Changing.{IsLike}
+use Rattle.afr_entry_telling.proofs.Words.{area_is, longer, path_is, refused_there, steps_are, unread_fits}
 use Rattle.afr_entry_telling.specs.EntryTelling.{Changes, command_of}
 use Rattle.afr_inode_telling.proofs.Quiet.{looking_more}
 use Rattle.afr_lines.specs.Areas.{area_for, kind_for}
@@ -88,9 +89,9 @@ module _ (p : Plan) (job : EntryJob) (path : List NameId) (dir : Entry) (t : Pro
   abbrev now : Progress
   now = fed Looking told at t
 
-  module _ (of_job : t.change ≡ change_of dir.gfid job) (sets : HasSets t lines) (d : During Looking p.shape t lines) (tells : Changes p c job dir now (Unread chosen) more) (sound : Sound now) where
+  module _ (like : IsLike t.change (change_of dir.gfid job)) (low : ends_low t.change ≡ true) (sets : HasSets t lines) (d : During Looking p.shape t lines) (tells : Changes p c job dir now (Unread chosen) more) (sound : Sound now) where
     area_of : area_on dir.gfid c ≡ Some (area_for t.change)
-    area_of = area_is job path dir.gfid ∙ ap (λ (x : Change). Some (area_for x)) (sym of_job)
+    area_of = area_is job path dir.gfid ∙ ap (λ (x : Area). Some x) (sym like.area)
 
     locked_is : locked_here p c (path_by p more) more ≡ t.asked.locked_on
     locked_is =
@@ -111,7 +112,7 @@ module _ (p : Plan) (job : EntryJob) (path : List NameId) (dir : Entry) (t : Pro
         ∙ ap (λ (x : Bool). or_else (if x then Some reply.Failed else None) (or_else (by_locks p.shape (kind_for (change_of dir.gfid job)) (area_for (change_of dir.gfid job)) more) (by_name p c dir (path_by p more) more))) tells.name.unrefused
         ∙ ap (λ (x : Option Reply). or_else (by_locks p.shape (kind_for (change_of dir.gfid job)) (area_for (change_of dir.gfid job)) more) x) (ap (λ (x : Path). by_name p c dir x more) tells.name.path ∙ unread_fits p job path dir more)
         ∙ or_none (by_locks p.shape (kind_for (change_of dir.gfid job)) (area_for (change_of dir.gfid job)) more)
-        ∙ ap (λ (x : Change). by_locks p.shape (kind_for x) (area_for x) more) (sym of_job)
+        ∙ (λ i. by_locks p.shape (sym like.kind i) (sym like.area i) more)
 
     -- where the locks and looks allow the attempt
     allowed : now.stage ≡ Beginning → by_locks p.shape (kind_for t.change) (area_for t.change) more ≡ None
@@ -123,7 +124,7 @@ module _ (p : Plan) (job : EntryJob) (path : List NameId) (dir : Entry) (t : Pro
     -- and where not
     fitting : IsFitting p.shape.n now.change (looked_by (object_of now.change) more)
     fitting = record {
-      low = subst (λ (x : Change). ends_low x ≡ true) (sym of_job) (low_is dir.gfid job);
+      low = low;
       fits = tells.on.0.fitting d.locked.locked;
     }
 

@@ -1,5 +1,5 @@
 -- A command on a name reads it at a copy that the rule picked by the last looks under its locks.
-use Rattle.std.proofs.Common.{◌≡◌, ℕ, Bool, true, false, List, [], ◌∷◌, ◌++◌, Option, None, Some, refl, sym, subst, length, if◌then◌else◌}
+use Rattle.std.proofs.Common.{◌≡◌, ◌∙◌, ℕ, Bool, true, false, List, [], ◌∷◌, ◌++◌, Option, None, Some, refl, sym, ap, subst, length, if◌then◌else◌}
 use Rattle.afr_base.specs.declared.ids.ActorId.{ActorId}
 use Rattle.afr_base.specs.declared.ids.BrickId.{BrickId}
 use Rattle.afr_base.specs.declared.ids.Gfid.{Gfid}
@@ -8,7 +8,7 @@ use Rattle.afr_base.specs.declared.ids.NameId.{NameId}
 use Rattle.afr_base.specs.declared.ids.Shape.{Shape}
 use Rattle.afr_choice.specs.Verdict.{good_copies}
 use Rattle.afr_choice.specs.declared.looked.Looked.{Looked}
-use Rattle.afr_entry.specs.Entry.{Entering, IsChanging, IsEntry, IsStage, after_step, after_walk, answered, at_directory, choices_at, choices_under, entry_from, found_by, next_at, next_of, name_noted, next_under, offered, or_removes, progress_begun, reads_name, settled, stage_after, stage_begun, walk_after}
+use Rattle.afr_entry.specs.Entry.{Entering, HasReader, IsEntry, IsStage, after_step, after_walk, answered, at_directory, choices_at, choices_under, entry_from, found_by, next_at, next_of, name_noted, next_under, offered, or_removes, progress_begun, reads_name, settled, stage_after, stage_begun, walk_after}
 use Rattle.afr_entry.specs.Job.{change_of, child_by, reply_to, ruled_out}
 use Rattle.afr_entry.specs.declared.job.EntryJob.{EntryJob}
 use Rattle.afr_entry.specs.declared.refusal.Refusal.{Refusal}
@@ -65,17 +65,17 @@ looks_of_lines p w t tells e = begins (subst (λ (s : Stage). During s p.shape t
 module _ (picks : Picks) (p : Plan) where
   -- ---- under the lock of the name
   -- the looks are over: the copy that is asked for it was picked by them
-  under : (job : EntryJob) (w : Walk) (t : Progress) (picked : Option BrickId) (lines : Work) → Tells p lines t → IsChanging w job t (Unread (reader_of picked)) → Picked picks (offered t) picked
-      → PickedUnder picks p w.object.gfid t (Unread (reader_of picked)) lines
-  under job w t picked lines tells sound k e =
+  pub under_picked : (g : Gfid) (t : Progress) (picked : Option BrickId) (lines : Work) → Tells p lines t → object_of t.change ≡ g → HasReader t (Unread (reader_of picked)) → Picked picks (offered t) picked
+      → PickedUnder picks p g t (Unread (reader_of picked)) lines
+  under_picked g t picked lines tells object reads k e =
       let k2 : Picked picks (candidates_of t.register.shape t.register.looked Names) picked =
       subst (λ (x : Bool). Picked picks (if x then candidates_of t.register.shape t.register.looked Names else []) picked) e k
       in
-      let some = some_member (good_copies t.register.shape t.register.looked Names) (reader_of picked).0 (sound.reads e) in
+      let some = some_member (good_copies t.register.shape t.register.looked Names) (reader_of picked).0 (reads e) in
       let b : picks (model.candidates_of t.register.shape Names t.register.looked) (reader_of picked).0 = one_picked picks t.register.shape t.register.looked Names picked some k2 in
       let c : picks (model.candidates_of p.shape Names t.register.looked) (reader_of picked).0 = subst (λ (s : Shape). picks (model.candidates_of s Names t.register.looked) (reader_of picked).0) tells.shape_is b in
       let d : PicksOf picks p (object_of t.change) Names lines (reader_of picked).0 = subst (λ (l : Looked). picks (model.candidates_of p.shape Names l) (reader_of picked).0) (looks_of_lines p lines t tells e) c in
-      subst (λ (g : Gfid). PicksOf picks p g Names lines (reader_of picked).0) (object_is w.object.gfid job) (subst (λ (x : Change). PicksOf picks p (object_of x) Names lines (reader_of picked).0) sound.of_job d)
+      subst (λ (g : Gfid). PicksOf picks p g Names lines (reader_of picked).0) object d
 
   -- the name was read
   name_found : (child : Option Gfid) (t : Progress) (why : Option Refusal) (w : Walk) (lines : Work) → PickedEntry picks p (or_removes child t (found_by why)) w lines
@@ -130,7 +130,7 @@ module _ (picks : Picks) (p : Plan) where
             → Picked picks (if e then [] else offered (fed t.stage (told_by heard) at t)) picked
             → PickedEntry picks p (or_removes (if e then child_by m.job heard else None) (if e then settled (ruled_out m.job heard) (name_noted copy m.job m.walk (told_by heard) at t) else fed t.stage (told_by heard) at t) (if e then found_by (ruled_out m.job heard) else Unread chosen)) m.walk more
         go true tells sound k = name_found (child_by m.job heard) (settled (ruled_out m.job heard) (name_noted copy m.job m.walk (told_by heard) at t)) (ruled_out m.job heard) m.walk more
-        go false tells sound k = under m.job m.walk (fed t.stage (told_by heard) at t) picked more tells.on.0.tells sound k
+        go false tells sound k = under_picked m.walk.object.gfid (fed t.stage (told_by heard) at t) picked more tells.on.0.tells (ap object_of sound.of_job ∙ object_is m.walk.object.gfid m.job) sound.reads k
 
     pub entry_picked : IsEntry m.walk m.job m.stage → EntryTells p c m lines → next_of at m ≡ next.Ask b request → EntryTells p c (answered chosen heard at m) more → IsEntry (answered chosen heard at m).walk m.job (answered chosen heard at m).stage
         → Picked picks (choices_at m.stage heard at m.walk) picked → PickedEntry picks p m.stage m.walk lines → PickedEntry picks p (answered chosen heard at m).stage (answered chosen heard at m).walk more
@@ -186,7 +186,7 @@ module _ (picks : Picks) (p : Plan) where
       by (Removes r) i e was = removal_reads picks p r a b request told took log e was
       by (Ending said) i e was = absurd (cc e)
 
-  refusal_ends : (why : Refusal) (lines : Work) → PickedEnd picks p (reply_to why) lines
+  pub refusal_ends : (why : Refusal) (lines : Work) → PickedEnd picks p (reply_to why) lines
   refusal_ends refusal_of.Failed lines = tt
   refusal_ends refusal_of.NoEntry lines = tt
   refusal_ends refusal_of.Exists lines = tt

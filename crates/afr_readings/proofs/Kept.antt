@@ -8,25 +8,27 @@ use Rattle.afr_lines.specs.declared.answer.Answer.{Answer}
 use Rattle.afr_lines.specs.declared.answer.Told.TheVariants.{Done}
 use Rattle.afr_lines.specs.declared.line.Heard.TheVariants as heard_of
 use Rattle.afr_lines.specs.declared.line.Line.{Line}
-use Rattle.afr_lines.specs.declared.line.Line.TheVariants.{Ask}
+use Rattle.afr_lines.specs.declared.line.Line.TheVariants.{Ask, Begin}
 use Rattle.afr_lines.specs.declared.line.Next.TheVariants as next
 use Rattle.afr_lines.specs.declared.request.Request.{Request}
 use Rattle.afr_lines.specs.declared.request.Request.TheVariants as request
 use Rattle.afr_model.specs.Chosen.{Picks}
 use Rattle.afr_plan.specs.declared.command.Command.{Command}
+use Rattle.afr_plan.specs.declared.command.Command.TheVariants as command
 use Rattle.afr_plan.specs.declared.plan.Plan.{Plan}
-use Rattle.afr_readings.proofs.Asked.{AsksAs}
+use Rattle.afr_readings.proofs.Asked.{AsksOf, asked_before}
 use Rattle.afr_readings.proofs.Rule.{Picked, numbers_of}
 use Rattle.afr_readings.proofs.Works.{also, forget, work_asks, work_begins, work_begun, work_ends, work_picked, work_reads}
 use Rattle.afr_readings.specs.Laws.{AnswersOneOf, BeginKeepsPicked, EndReadsPicked, IsOneOf, KeepsPicked, KeptOf, LineAsksRule, LineKeepsPicked, LineKept, LineReadsPicked, ReadingBegins, number_in, picked_then}
 use Rattle.afr_readings.specs.Picked.{PickedIn}
-use Rattle.afr_readings.specs.Readings.{Answers, asked_for}
+use Rattle.afr_readings.specs.Readings.{Answers, asked_for_command}
 use Rattle.afr_rule.specs.Choosing.{Calls}
 use Rattle.afr_rule.specs.declared.candidate.Candidate.{Candidate}
 use Rattle.afr_sources.specs.Sources.{picks_of}
 use Rattle.afr_walk.proofs.ChoosingLemmas.{answers_among, pick_offers}
 use Rattle.afr_walk.specs.Choosing.{IsAmong, RuleAnswers, reader_of}
 use Rattle.afr_transaction_tells.specs.Laws.{IsNextLine}
+use Rattle.afr_works.specs.Begin.{work_from}
 use Rattle.afr_works.specs.Laws.{AsksMore, StaysSound}
 use Rattle.afr_works.specs.Work.{IsWork, choices_heard, heard_by, next_of}
 use Rattle.afr_works.specs.declared.work.Work.{Work}
@@ -79,7 +81,7 @@ module _ (stays : StaysSound) (asks_more : AsksMore) (tells_more : WorkTellsMore
     tells_after : WorkTells p c (after chosen) (more asked)
     tells_after = tells_more p c old lines a b asked chosen heard took log sound tells is hears among
 
-    pub asks_as : (picks : Picks) → PickedIn picks p old lines → AsksAs p c asked (more asked) from
+    pub asks_as : (picks : Picks) → PickedIn picks p old lines → AsksOf p c asked (more asked) from
     asks_as picks was =
         work_asks picks p c lines a b asked chosen heard took log at (length (Ask a b asked (told_by heard) took ∷ log)) old sound tells is tells_after sound_after
         (λ y r e. (work_about p c (after chosen) (more asked) a Done (Ask a y r Done true) (Ask a b asked (told_by heard) took ∷ log) sound_after tells_after (next_line y r e)).0) was
@@ -110,33 +112,38 @@ module _ (stays : StaysSound) (asks_more : AsksMore) (tells_more : WorkTellsMore
 
   pub line_kept : (asked : Request) (now : Option BrickId) (kept : Option ℕ) → next_of at old ≡ next.Ask b asked → WorkHears old p b.0 asked log heard → IsOneOf from now → KeepsPicked p c old lines kept → LineKept p c (after (reader_of now)) (more asked) asked now kept
   line_kept (request.Look g) now kept is hears among was = record {
-    keeps = picked_as (request.Look g) (reader_of now) is hears (one_among from now among) picks now refl (kept_answers (number_in now) (asked_for p c (more (request.Look g))) now refl asks among) (forget (KeptOf kept (asked_for p c lines)) picks p lines b g old at sound is was);
+    keeps = picked_as (request.Look g) (reader_of now) is hears (one_among from now among) picks now refl (kept_answers (number_in now) (asked_for_command p c (more (request.Look g))) now refl asks among) (forget (KeptOf kept (asked_for_command p c lines)) picks p lines b g old at sound is was);
     none = λ e. absurd (cc e);
   }
     where
       picks : Picks
-      picks = KeptOf (number_in now) (asked_for p c (more (request.Look g)))
+      picks = KeptOf (number_in now) (asked_for_command p c (more (request.Look g)))
 
-      asks : asked_for p c (more (request.Look g)) ≡ map numbers_of from
-      asks = asks_as (request.Look g) (reader_of now) is hears (one_among from now among) (KeptOf kept (asked_for p c lines)) was
+      asks : asked_for_command p c (more (request.Look g)) ≡ map numbers_of from
+      asks = asks_as (request.Look g) (reader_of now) is hears (one_among from now among) (KeptOf kept (asked_for_command p c lines)) was
   line_kept asked now kept is hears among was = record {
-    keeps = picked_as asked (reader_of now) is hears (one_among from now among) (KeptOf kept (asked_for p c lines)) now refl (none_answers (KeptOf kept (asked_for p c lines)) now none among) was;
+    keeps = subst (λ (x : List (ℕ × ℕ)). PickedIn (KeptOf kept x) p (after (reader_of now)) (more asked)) (sym (asked_before p c (Ask a b asked (told_by heard) took) log lines refl))
+        (picked_as asked (reader_of now) is hears (one_among from now among) (KeptOf kept (asked_for_command p c lines)) now refl (none_answers (KeptOf kept (asked_for_command p c lines)) now none among) was);
     none = λ e. none_of from now none among;
   }
     where
       none : from ≡ []
-      none = asks_as asked (reader_of now) is hears (one_among from now among) (KeptOf kept (asked_for p c lines)) was
+      none = asks_as asked (reader_of now) is hears (one_among from now among) (KeptOf kept (asked_for_command p c lines)) was
 
   pub line_asks : {F : Type 0} (calls : Calls F) (choose : F) (asked : Request) (now : Option BrickId) (kept : Option ℕ) → next_of at old ≡ next.Ask b asked → WorkHears old p b.0 asked log heard → KeepsPicked p c old lines kept → RuleAnswers calls choose from now
-      → Answers (picks_of calls choose) (asked_for p c lines) kept → Answers (picks_of calls choose) (asked_for p c (more asked)) (picked_then asked now kept)
+      → Answers (picks_of calls choose) (asked_for_command p c lines) kept → Answers (picks_of calls choose) (asked_for_command p c (more asked)) (picked_then asked now kept)
   line_asks calls choose (request.Look g) now kept is hears was answers before =
-      subst (λ (x : List (ℕ × ℕ)). Answers (picks_of calls choose) x (number_in now)) (sym (asks_as (request.Look g) (reader_of now) is hears (answers_among calls choose from now answers) (KeptOf kept (asked_for p c lines)) was))
+      subst (λ (x : List (ℕ × ℕ)). Answers (picks_of calls choose) x (number_in now)) (sym (asks_as (request.Look g) (reader_of now) is hears (answers_among calls choose from now answers) (KeptOf kept (asked_for_command p c lines)) was))
       (rule_answers calls choose from now answers)
-  line_asks calls choose asked now kept is hears was answers before = before
+  line_asks calls choose asked now kept is hears was answers before = subst (λ (x : List (ℕ × ℕ)). Answers (picks_of calls choose) x kept) (sym (asked_before p c (Ask a b asked (told_by heard) took) log lines refl)) before
 
 -- ---- the laws
+none_asked : (p : Plan) (c : Command) → asked_for_command p c [] ≡ []
+none_asked p (command.Rename from to) = refl
+none_asked p c = refl
+
 pub reading_begins : ReadingBegins
-reading_begins p c picked = work_begins (KeptOf picked []) p c
+reading_begins p c picked = subst (λ (x : List (ℕ × ℕ)). PickedIn (KeptOf picked x) p (work_from p.shape c) []) (sym (none_asked p c)) (work_begins (KeptOf picked []) p c)
 
 pub line_keeps : StaysSound → AsksMore → WorkTellsMore → WorkAbout → LineKeepsPicked
 line_keeps stays asks_more tells_more work_about p c old new lines a b asked heard took log now kept sound tells is hears fed was =
@@ -144,7 +151,9 @@ line_keeps stays asks_more tells_more work_about p c old new lines a b asked hea
     (line_kept stays asks_more tells_more work_about p c old lines a b heard took log sound tells asked now kept is hears fed.among was)
 
 pub begin_keeps : BeginKeepsPicked
-begin_keeps p c old lines a change log chosen kept was = work_begun (KeptOf kept (asked_for p c lines)) p old lines a change log chosen (length log) was
+begin_keeps p c old lines a change log chosen kept was =
+    subst (λ (x : List (ℕ × ℕ)). PickedIn (KeptOf kept x) p (heard_by chosen (heard_of.Begun (length log)) old) ((Begin a change, log) ∷ lines)) (sym (asked_before p c (Begin a change) log lines refl))
+    (work_begun (KeptOf kept (asked_for_command p c lines)) p old lines a change log chosen (length log) was)
 
 -- what was picked of what was asked for is what a rule answered for it
 of_kept : (picks : Picks) (kept : Option ℕ) (asks : List (ℕ × ℕ)) → Answers picks asks kept → (from : List (ℕ × ℕ)) (b : ℕ) → KeptOf kept asks from b → picks from b
@@ -153,12 +162,12 @@ of_kept picks kept asks answers copies b k = subst (λ (x : List (ℕ × ℕ)). 
 pub line_reads : {F : Type 0} (calls : Calls F) (choose : F) → LineReadsPicked calls choose
 line_reads calls choose p c w a b asked told took log kept sound tells is was answers =
     work_reads (picks_of calls choose) p c w a b asked told took log (length log) sound tells is
-    (also (KeptOf kept (asked_for p c (work a.0 log))) (picks_of calls choose) p (work a.0 log) (of_kept (picks_of calls choose) kept (asked_for p c (work a.0 log)) answers) w was)
+    (also (KeptOf kept (asked_for_command p c (work a.0 log))) (picks_of calls choose) p (work a.0 log) (of_kept (picks_of calls choose) kept (asked_for_command p c (work a.0 log)) answers) w was)
 
 pub end_reads : {F : Type 0} (calls : Calls F) (choose : F) → EndReadsPicked calls choose
 end_reads calls choose p c w a said log kept sound tells is was answers =
     work_ends (picks_of calls choose) p c w a said log (length log) tells is
-    (also (KeptOf kept (asked_for p c (work a.0 log))) (picks_of calls choose) p (work a.0 log) (of_kept (picks_of calls choose) kept (asked_for p c (work a.0 log)) answers) w was)
+    (also (KeptOf kept (asked_for_command p c (work a.0 log))) (picks_of calls choose) p (work a.0 log) (of_kept (picks_of calls choose) kept (asked_for_command p c (work a.0 log)) answers) w was)
 
 pub line_rule : {F : Type 0} (calls : Calls F) (choose : F) → StaysSound → AsksMore → WorkTellsMore → WorkAbout → LineAsksRule calls choose
 line_rule calls choose stays asks_more tells_more work_about p c old lines a b asked heard took log now kept sound tells is hears was answers before =

@@ -2,12 +2,16 @@ pub mod Asked
 pub mod AskedEntry
 pub mod AskedFiles
 pub mod AskedRemoval
+pub mod AskedRename
 pub mod AskedUnder
 pub mod Asks
+pub mod BegunParts
 pub mod Entry
 pub mod Kept
 pub mod Read
 pub mod Removal
+pub mod Rename
+pub mod RenameReads
 pub mod Rule
 pub mod Walk
 pub mod Works

@@ -1,12 +1,9 @@
 -- What the machine of a rename hears, where answers are honest, moves are lawful, and the log is its plan's; and what it brings.
-use Rattle.std.specs.Prelude.{◌≡◌, ℕ, ◌==◌, ◌≤◌, Bool, false, List, Some, length}
+use Rattle.std.specs.Prelude.{◌≡◌, ◌≤◌, Bool, List, Some, length}
 use Rattle.afr_base.specs.declared.ids.ActorId.{ActorId}
 use Rattle.afr_base.specs.declared.ids.BrickId.{BrickId}
-use Rattle.afr_base.specs.declared.ids.Gfid.{Gfid}
-use Rattle.afr_base.specs.declared.ids.NameId.{NameId}
 use Rattle.afr_object.specs.declared.change.Change.{Change}
 use Rattle.afr_object.specs.declared.change.Load.{Load}
-use Rattle.afr_object.specs.declared.entry.Entry.{Entry}
 use Rattle.afr_lines.specs.Work.{work}
 use Rattle.afr_lines.specs.declared.answer.Answer.{Answer}
 use Rattle.afr_lines.specs.declared.line.Line.{Line}
@@ -17,7 +14,7 @@ use Rattle.afr_plan.specs.declared.command.Command.{Command}
 use Rattle.afr_plan.specs.declared.plan.Plan.{Plan}
 use Rattle.afr_model.specs.Following.{Follows}
 use Rattle.afr_model.specs.Honest.{Honest}
-use Rattle.afr_model.specs.Tables.{entry_at, held_before, holds}
+use Rattle.afr_model.specs.Tables.{held_before}
 use Rattle.afr_moves.specs.Discipline.{BeginsKnown}
 use Rattle.afr_moves.specs.Positions.{by_position}
 use Rattle.afr_law.specs.Beginning.{start_of}
@@ -26,12 +23,6 @@ use Rattle.afr_server.specs.Carried.{Brings}
 use Rattle.afr_rename.specs.Rename.{CarriesNext, IsRename, Renaming, next_of}
 use Rattle.afr_rename_telling.specs.RenameTelling.{CanHear, RenameTells}
 use Rattle.afr_hears.specs.Hears.{IsHeard}
-
--- no entry leads to the number 0
-abbrev pub EntriesAreNumbered : Type 0
-EntriesAreNumbered =
-    (p : Plan) (log : List Line) (b : ℕ) (dir : Gfid) (name : NameId) (e : Entry) → p.shape.n ≤ 5 → length log ≤ 4000000 → Honest p log → IsLawfulExactly p log
-    → entry_at dir name (holds p log b) ≡ Some e → (e.gfid.0 == 0) ≡ false
 
 -- it hears what a brick may answer it at its stage
 abbrev pub RenameHears : Type 0

@@ -17,7 +17,7 @@ use Rattle.afr_model.specs.Skipped.{IsLooked, SkipsNothing}
 use Rattle.afr_model.specs.Standing.{locks_any}
 use Rattle.afr_walk.specs.Looks.{no_look}
 use Rattle.afr_walk.specs.Stops.{reply_of}
-use Rattle.afr_walk.specs.Walk.{root_entry, walked}
+use Rattle.afr_walk.specs.Walk.{root_entry}
 use Rattle.afr_walk.specs.declared.stop.Stop.{Stop}
 use Rattle.afr_walk.specs.declared.stop.Stop.TheVariants as stop
 use Rattle.afr_walk.specs.declared.walk.Walk.{Walk}

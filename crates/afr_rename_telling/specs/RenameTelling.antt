@@ -1,11 +1,10 @@
 -- What the lines of a rename show, part by part, and what its bricks may tell.
-use Rattle.std.specs.Prelude.{◌≡◌, ℕ, ◌-◌, ◌==◌, nat_le, Bool, true, false, List, [], ◌∷◌, ◌++◌, Option, Some, None, length}
+use Rattle.std.specs.Prelude.{◌≡◌, ℕ, ◌-◌, ◌==◌, nat_le, Bool, true, false, List, [], ◌∷◌, ◌++◌, Some, None, length}
 use Rattle.afr_base.specs.Bricks.{member}
 use Rattle.afr_base.specs.declared.ids.Gfid.{Gfid}
 use Rattle.afr_base.specs.declared.ids.NameId.{NameId}
 use Rattle.afr_base.specs.declared.ids.Shape.{Shape}
 use Rattle.afr_base.specs.declared.ids.What.TheVariants.{Dir, File}
-use Rattle.afr_object.specs.Tables.{is_dir}
 use Rattle.afr_object.specs.declared.entry.Entry.{Entry}
 use Rattle.afr_discipline.specs.declared.register.Register.{Register}
 use Rattle.afr_lines.specs.Told.{told_by}
@@ -31,7 +30,6 @@ use Rattle.afr_walk.specs.declared.walk.WalkStep.{WalkStep}
 use Rattle.afr_walk.specs.declared.walk.WalkStep.TheVariants as walking
 use Rattle.afr_transaction.specs.Progress.{Progress}
 use Rattle.afr_transaction.specs.declared.stage.Stage.{Stage}
-use Rattle.afr_transaction.specs.declared.stage.Stage.TheVariants.{Beginning}
 use Rattle.afr_entry.specs.declared.job.EntryJob.TheVariants.{Create}
 use Rattle.afr_entry.specs.declared.stage.Found.{Found}
 use Rattle.afr_entry.specs.declared.stage.Found.TheVariants.{Unread, Fits, Refused}

@@ -1,22 +1,23 @@
 -- In a log each client asks for its Work locks in rising order.
-use Rattle.std.proofs.Common.{◌≡◌, ℕ, suc, ◌+◌, ◌-◌, ◌<◌, ◌≤◌, ◌==◌, ◌++◌, Bool, true, false, inl, inr, refl, sym, ◌∙◌, subst, ap, arith, List, [], ◌∷◌, length, length-append}
-use Rattle.std.specs.Prelude.{if◌then◌else◌}
+use Rattle.std.proofs.Common.{◌≡◌, ℕ, suc, ◌+◌, ◌-◌, ◌<◌, ◌≤◌, ◌==◌, ◌++◌, Bool, true, false, inl, inr, refl, sym, ◌∙◌, subst, ap, arith, List, [], ◌∷◌, Some, length, length-append}
+use Rattle.std.specs.Prelude.{if◌then◌else◌, slice_get}
 use Rattle.std.proofs.lemmas.Bool.{eqb-true}
 use Rattle.afr_base.specs.declared.ids.Gfid.{Gfid}
 use Rattle.afr_base.specs.declared.ids.NameId.{NameId}
 use Rattle.afr_descent.proofs.Paths.{After, Nothing, Reads, Silence, Stays, after_is, after_off}
-use Rattle.afr_descent.specs.Descent.{IsOfPlan, PathsLeadDown}
+use Rattle.afr_descent.specs.Descent.{IsOfPlan, PathsLeadDown, has_one_path}
 use Rattle.afr_discipline.specs.Stands.{Stands}
 use Rattle.afr_discipline.specs.declared.register.Register.{Register}
 use Rattle.afr_entry.specs.declared.stage.EntryStage.TheVariants as entering
 use Rattle.afr_entry.specs.declared.stage.EntryStage.{EntryStage}
-use Rattle.afr_entry_telling.specs.EntryTelling.{TellsIn}
+use Rattle.afr_entry_telling.specs.EntryTelling.{TellsIn, command_of}
 use Rattle.afr_lines.specs.Places.{Place, opens, place_of}
-use Rattle.afr_lines.specs.Work.{Work as Lines, work}
+use Rattle.afr_lines.specs.Work.{Work as Lines, ended, work}
 use Rattle.afr_lines.specs.declared.line.Line.TheVariants.{Ask}
 use Rattle.afr_lines.specs.declared.line.Line.{Line}
 use Rattle.afr_lines.specs.declared.request.Area.{Area}
 use Rattle.afr_lines.specs.declared.request.Request.TheVariants.{Lock}
+use Rattle.afr_model.specs.Actors.{script_of}
 use Rattle.afr_model.specs.Showing.{At, NoName, Path, Untold, path_after, path_by}
 use Rattle.afr_model.specs.Standing.{kept_at, path_upto}
 use Rattle.afr_moves.specs.Discipline.{in_force}
@@ -24,6 +25,7 @@ use Rattle.afr_moves.specs.Followed.{register_by}
 use Rattle.afr_moves.specs.Register.{Exact, untouched}
 use Rattle.afr_object.specs.Tables.{object_of}
 use Rattle.afr_object.specs.declared.entry.Entry.{Entry}
+use Rattle.afr_plan.specs.declared.command.Command.{Command}
 use Rattle.afr_plan.specs.declared.plan.Plan.{Plan}
 use Rattle.afr_range_locks.specs.declared.domain.Domain.TheVariants.{Work as WorkDomain}
 use Rattle.afr_removal.specs.Removal.{Removing}
@@ -37,6 +39,7 @@ use Rattle.afr_work_order.proofs.Above.{work_above}
 use Rattle.afr_work_order.specs.Logs.{ClientRises, IsNotedAt, TellsLeadDown}
 use Rattle.afr_work_order.specs.Rising.{First, LeadsDownAt, Locks, Second}
 use Rattle.afr_works.specs.Work.{register_of}
+use Rattle.afr_works_tell.proofs.WorkTold.{entry_one, one_of}
 use Rattle.afr_works.specs.declared.work.Work.TheVariants.{Entry as EntryWork, Idle, Lookup, Rename, Write}
 
 -- ---- a removal's two locks
@@ -83,26 +86,27 @@ led_of p path m w removes.Posting d = d.0.led
 led_of p path m w (removes.Closing why) d = d.led
 
 -- the directory that is removed has the greater number
-removal_down : PathsLeadDown → (p : Plan) (log : List Line) (a : ℕ) → IsOfPlan p log → a ≤ 16 → (path : List NameId) (dir child : Gfid) → 0 < length path → HasLed p path dir child (work a log) → dir.0 < child.0
-removal_down paths p log a f client path dir child some led =
+removal_down : PathsLeadDown → (p : Plan) (log : List Line) (a : ℕ) (c : Command) → IsOfPlan p log → a ≤ 16 → slice_get (script_of p a) (ended a log) ≡ Some c → has_one_path c ≡ true
+    → (path : List NameId) (dir child : Gfid) → 0 < length path → HasLed p path dir child (work a log) → dir.0 < child.0
+removal_down paths p log a c f client present one path dir child some led =
     let whole : suc (length path - 1) ≡ length path = omega (arith, some) in
     let here : path_by p (work a log) ≡ At (suc (length path - 1)) (dir_at child) = led.leads ∙ sym (ap (λ (k : ℕ). At k (dir_at child)) whole) in
     let last = upto_whole p (suc (length path - 1)) (work a log) (suc (length path - 1)) (dir_at child) here (omega arith) in
-    paths p log f a (length path - 1) (dir_at dir) (dir_at child) client led.place last
+    paths p log f a (length path - 1) c (dir_at dir) (dir_at child) client present one led.place last refl
 
 pub tells_down : PathsLeadDown → TellsLeadDown
-tells_down paths p log command Idle a f client tells = tt
-tells_down paths p log command (Lookup m) a f client tells = tt
-tells_down paths p log command (Write m) a f client tells = tt
-tells_down paths p log command (Rename m) a f client tells = tt
-tells_down paths p log command (EntryWork m) a f client tells = go m.stage tells.stage
+tells_down paths p log command Idle a f client present tells = tt
+tells_down paths p log command (Lookup m) a f client present tells = tt
+tells_down paths p log command (Write m) a f client present tells = tt
+tells_down paths p log command (Rename m) a f client present tells = tt
+tells_down paths p log command (EntryWork m) a f client present tells = go m.stage tells.stage
   where
     go : (stage : EntryStage) → TellsIn p command m.job stage m.walk (work a log) → LeadsDownAt stage
     go entering.Walking k = tt
     go (entering.Changing t found) k = tt
     go (entering.Removes y) k = (
         let some : 0 < length (m.walk.path ++ k.name ∷ []) = rw (length-append m.walk.path (k.name ∷ [])) (omega arith) in
-        removal_down paths p log a f client (m.walk.path ++ k.name ∷ []) (object_of y.change) y.child.gfid some (led_of p (m.walk.path ++ k.name ∷ []) y (work a log) y.stage k.tells)
+        removal_down paths p log a command f client present (one_of command (command_of m.job m.walk.path) tells.named (entry_one m.job m.walk.path)) (m.walk.path ++ k.name ∷ []) (object_of y.change) y.child.gfid some (led_of p (m.walk.path ++ k.name ∷ []) y (work a log) y.stage k.tells)
         )
     go (entering.Ending said) k = tt
 
@@ -118,9 +122,9 @@ by_register r x s c mine (waiting.First is held) = First (sym s.area ∙ is) (ap
 by_register r x s c mine (waiting.Second is held) = Second (sym s.second ∙ is) (ap (λ (f : ℕ → Bool). f c) (sym s.second_held) ∙ held)
 
 pub client_rises : PathsLeadDown → ClientRises
-client_rises paths p log command w a b area at f client k tells noted q is told took = go noted
+client_rises paths p log command w a b area at f client present k tells noted q is told took = go noted
   where
     go : IsNotedAt p a.0 log (register_of w) → RisesTo p.shape.n (in_force (opens (place_of a.0 log) (Ask a b (Lock WorkDomain area) told took)) (register_by p.shape.n (kept_by p) a.0 log)).law b.0 area
     go (inl h) = subst (λ (place : Place). RisesTo p.shape.n (in_force (opens place (Ask a b (Lock WorkDomain area) told took)) (register_by p.shape.n (kept_by p) a.0 log)).law b.0 area) (sym h.0)
-        (λ c mine low held. work_above w k q (tells_down paths p log command w a.0 f client tells) at b area is c mine (by_register (register_of w) (register_by p.shape.n (kept_by p) a.0 log) h.1.stands c mine held))
+        (λ c mine low held. work_above w k q (tells_down paths p log command w a.0 f client present tells) at b area is c mine (by_register (register_of w) (register_by p.shape.n (kept_by p) a.0 log) h.1.stands c mine held))
     go (inr h) = subst (λ (place : Place). RisesTo p.shape.n (in_force (opens place (Ask a b (Lock WorkDomain area) told took)) (register_by p.shape.n (kept_by p) a.0 log)).law b.0 area) (sym h.0) (none_held p.shape.n b.0 area)

@@ -1,18 +1,19 @@
 -- In a log of a plan each client asks for its Work locks in rising order.
-use Rattle.std.specs.Prelude.{◌≡◌, ℕ, ◌≤◌, Bool, ◌⊎◌, List}
+use Rattle.std.specs.Prelude.{◌≡◌, ℕ, ◌≤◌, Bool, ◌⊎◌, List, Some, slice_get}
 use Rattle.afr_base.specs.declared.ids.ActorId.{ActorId}
 use Rattle.afr_base.specs.declared.ids.BrickId.{BrickId}
 use Rattle.afr_descent.specs.Descent.{IsOfPlan}
 use Rattle.afr_discipline.specs.Stands.{no_lines}
 use Rattle.afr_discipline.specs.declared.register.Register.{Register}
 use Rattle.afr_lines.specs.Places.{Fresh, Within, place_of}
-use Rattle.afr_lines.specs.Work.{work}
+use Rattle.afr_lines.specs.Work.{ended, work}
 use Rattle.afr_lines.specs.declared.answer.Told.{Told}
 use Rattle.afr_lines.specs.declared.line.Line.TheVariants.{Ask}
 use Rattle.afr_lines.specs.declared.line.Line.{Line}
 use Rattle.afr_lines.specs.declared.line.Next.TheVariants as next
 use Rattle.afr_lines.specs.declared.request.Area.{Area}
 use Rattle.afr_lines.specs.declared.request.Request.TheVariants.{Lock}
+use Rattle.afr_model.specs.Actors.{script_of}
 use Rattle.afr_plan.specs.declared.command.Command.{Command}
 use Rattle.afr_plan.specs.declared.plan.Plan.{Plan}
 use Rattle.afr_range_locks.specs.declared.domain.Domain.TheVariants.{Work as WorkDomain}
@@ -25,9 +26,9 @@ use Rattle.afr_works.specs.Work.{IsWork, next_of, register_of}
 use Rattle.afr_works.specs.declared.work.Work.{Work}
 use Rattle.afr_works_tell.specs.WorkTelling.{WorkTells}
 
--- in a work that the log shows, the directory of a removed name has a lesser number than the one that is removed with it
+-- in a work of the present command that the log shows, the directory of a removed name has a lesser number than the one that is removed with it
 abbrev pub TellsLeadDown : Type 0
-TellsLeadDown = (p : Plan) (log : List Line) (command : Command) (w : Work) (a : ℕ) → IsOfPlan p log → a ≤ 16 → WorkTells p command w (work a log) → LeadsDown w
+TellsLeadDown = (p : Plan) (log : List Line) (command : Command) (w : Work) (a : ℕ) → IsOfPlan p log → a ≤ 16 → slice_get (script_of p a) (ended a log) ≡ Some command → WorkTells p command w (work a log) → LeadsDown w
 
 -- a register stands for the lines of its actor's present work, or is that of no lines before the first of them
 abbrev pub IsNotedAt : Plan → ℕ → List Line → Register → Type 0
@@ -36,5 +37,5 @@ IsNotedAt p a log r = ((place_of a log ≡ Within) × Stood p.shape a log r) ⊎
 -- whatever is told of it, a client's next Work lock is above each that it holds by its lines
 abbrev pub ClientRises : Type 0
 ClientRises =
-    (p : Plan) (log : List Line) (command : Command) (w : Work) (a : ActorId) (b : BrickId) (area : Area) (at : ℕ) → IsOfPlan p log → a.0 ≤ 16 → IsWork w → WorkTells p command w (work a.0 log) → IsNotedAt p a.0 log (register_of w) → IsQueued w
+    (p : Plan) (log : List Line) (command : Command) (w : Work) (a : ActorId) (b : BrickId) (area : Area) (at : ℕ) → IsOfPlan p log → a.0 ≤ 16 → slice_get (script_of p a.0) (ended a.0 log) ≡ Some command → IsWork w → WorkTells p command w (work a.0 log) → IsNotedAt p a.0 log (register_of w) → IsQueued w
     → next_of at w ≡ next.Ask b (Lock WorkDomain area) → (told : Told) (took : Bool) → RisesTo p.shape.n (locks_at p a.0 (Ask a b (Lock WorkDomain area) told took) log) b.0 area

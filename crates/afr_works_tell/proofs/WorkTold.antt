@@ -3,6 +3,7 @@ use Rattle.std.proofs.Common.{◌≡◌, ℕ, Bool, true, false, List, [], ◌�
 use Rattle.afr_base.specs.declared.ids.ActorId.{ActorId}
 use Rattle.afr_base.specs.declared.ids.BrickId.{BrickId}
 use Rattle.afr_base.specs.declared.ids.NameId.{NameId}
+use Rattle.afr_descent.specs.Descent.{has_one_path}
 use Rattle.afr_lines.specs.Work.{Work as Lines}
 use Rattle.afr_lines.specs.declared.answer.Answer.{Answer}
 use Rattle.afr_lines.specs.declared.answer.Told.{Told}
@@ -67,7 +68,6 @@ use Rattle.afr_works.specs.Begin.{has_name}
 use Rattle.afr_works.specs.Work as work
 use Rattle.afr_works.specs.declared.work.Work.TheVariants.{Idle, Lookup, Write, Entry, Rename}
 use Rattle.afr_works_tell.specs.WorkLaws.{BlamedLines, WorkAbout, WorkBegins, WorkBegun, WorkBlames, WorkEnds, WorkKeepsName, WorkTellsMore}
-use Rattle.afr_works_tell.specs.WorkTelling.{has_one_path}
 
 -- ---- the first line
 -- a path is that of its last name, in the directory before it
@@ -144,14 +144,14 @@ read_one (read_job.GetAttr key) path = refl
 read_one read_job.Ls path = refl
 read_one read_job.Stat path = refl
 
-entry_one : (j : EntryJob) (path : List NameId) → has_one_path (entry_of.command_of j path) ≡ true
+pub entry_one : (j : EntryJob) (path : List NameId) → has_one_path (entry_of.command_of j path) ≡ true
 entry_one (name.Create n) path = refl
 entry_one (name.Mkdir n) path = refl
 entry_one (name.Unlink n) path = refl
 entry_one (name.Rmdir n) path = refl
 
 -- so it is of the command that it is
-one_of : (c d : Command) → c ≡ d → has_one_path d ≡ true → has_one_path c ≡ true
+pub one_of : (c d : Command) → c ≡ d → has_one_path d ≡ true → has_one_path c ≡ true
 one_of c d e h = subst (λ (x : Command). has_one_path x ≡ true) (sym e) h
 
 -- the next line is about what the words of the command name, and keeps to them

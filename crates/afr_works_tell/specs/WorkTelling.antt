@@ -1,11 +1,11 @@
 -- What the lines of a client's present work show of it, and what its bricks may tell.
-use Rattle.std.specs.Prelude.{◌≡◌, ℕ, Bool, true, false, List}
+use Rattle.std.specs.Prelude.{◌≡◌, ℕ, true, List}
+use Rattle.afr_descent.specs.Descent.{has_one_path}
 use Rattle.afr_lines.specs.Work.{Work as Lines}
 use Rattle.afr_lines.specs.declared.answer.Answer.{Answer}
 use Rattle.afr_lines.specs.declared.line.Line.{Line}
 use Rattle.afr_lines.specs.declared.request.Request.{Request}
 use Rattle.afr_plan.specs.declared.command.Command.{Command}
-use Rattle.afr_plan.specs.declared.command.Command.TheVariants as command
 use Rattle.afr_plan.specs.declared.plan.Plan.{Plan}
 use Rattle.afr_inode_telling.specs.Lines.{CanAnswer}
 use Rattle.afr_inode_telling.specs.ReadTelling.{ReadTells, command_of}
@@ -16,11 +16,6 @@ use Rattle.afr_rename_telling.specs.RenameTelling as rename
 use Rattle.afr_rename_telling.specs.RenameTelling.{RenameTells}
 use Rattle.afr_works.specs.declared.work.Work.{Work}
 use Rattle.afr_works.specs.declared.work.Work.TheVariants.{Idle, Lookup, Write, Entry, Rename}
-
--- a command along one path
-abbrev pub has_one_path : Command → Bool
-has_one_path (command.Rename from to) = false
-has_one_path c = true
 
 -- the lines of a work show where the machine of its command stands; a client that has no work has no command
 abbrev pub WorkTells : Plan → Command → Work → Lines → Type 0

@@ -4,6 +4,6 @@ use Rattle.afr_descent.proofs.entries_lead_down.Goals as goal
 
 pub returns : goal.returns
 returns c = record {
-  tables = λ p log f t was dir name e is. leads_down p log f t was dir name e is;
-  paths = λ p log f a k d o client is same. paths_down p log f a k d o client is same;
+  tables = λ p log f t was dir name e is directory. leads_down p log f t was dir name e is directory;
+  paths = λ p log f a k c d o client present one is same directory. paths_down p log f a k c d o client present one is same directory;
 }
