@@ -63,7 +63,7 @@ changed_behind (x ∷ s) u e =
 
 -- nobody was asked for a post-op
 added_some : (b : ℕ) (s : List ℕ) → added b s ≡ [] → ⊥
-added_some b s e = let m = member_added b s b in let none = ap (λ (l : List ℕ). member l b) e in let some = same b in cc (m, none, some)
+added_some b s e = let m = member_added b s b in let some = same b in cc (m, some)
   where
     same : (n : ℕ) → (n == n || member s n) ≡ true
     same n = or_left (n == n) (member s n) (self n)
