@@ -1,2 +1,25 @@
-mod Cut
+pub mod Cut
 pub mod Looks
+pub mod MakingParts
+pub mod MakingWalked
+pub mod MakingLegs
+pub mod MakingLocks
+pub mod MakingMore
+pub mod MakingRead
+pub mod MakingAbout
+pub mod MakingBlames
+pub mod RemovingPrefix
+pub mod RemovingTurn
+pub mod RemovingBegins
+pub mod RemovingMore
+pub mod RemovingAbout
+pub mod RemovingWhole
+pub mod Walks
+pub mod WalkEnds
+pub mod WalksMore
+pub mod WalksLeave
+pub mod WalksGo
+pub mod Begins
+pub mod EndsMaking
+pub mod EndsRemoving
+pub mod Ends

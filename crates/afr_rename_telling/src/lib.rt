@@ -4,8 +4,6 @@
 
 ghost use Rattle.afr_rename_telling.specs.RenameLaws.{RenameAbout, RenameBegins, RenameBegun, RenameBlames, RenameEnds, RenameKeepsName, RenameTellsMore};
 
-use afr_second::{a_part_is_blamed_as_the_whole, a_second_transaction_tells};
-
 /// The lines of a rename show where it stands, from its first look to its last unlock, whatever was told: each part as the
 /// lines of a command with one path do.
 pub fn a_rename_tells_its_lines()
@@ -16,7 +14,4 @@ pub fn a_rename_tells_its_lines()
     ensures blamed { RenameBlames }
     ensures ends { RenameEnds }
     ensures names { RenameKeepsName }
-{
-    a_second_transaction_tells();
-    a_part_is_blamed_as_the_whole();
-}
+{}

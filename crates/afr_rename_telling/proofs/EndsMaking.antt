@@ -1,0 +1,298 @@
+-- A rename that ends before its second transaction: its making is refused, or too few have done it.
+use Rattle.std.proofs.Common.{◌≡◌, ℕ, ◌<◌, ◌&&◌, not, Bool, true, false, List, Option, Some, None, length, refl, sym, ap, ◌∙◌, subst, if◌then◌else◌, inl, inr}
+use Rattle.afr_base.specs.Bricks.{is_nothing, member}
+use Rattle.afr_base.specs.Majority.{is_majority}
+use Rattle.afr_base.specs.declared.ids.Kind.{Kind}
+use Rattle.afr_base.specs.declared.ids.NameId.{NameId}
+use Rattle.afr_base.specs.declared.ids.Shape.{Shape}
+use Rattle.afr_discipline.specs.Tests.{ends_low}
+use Rattle.afr_lines.specs.Areas.{area_for, kind_for}
+use Rattle.afr_lines.specs.Work.{Work}
+use Rattle.afr_lines.specs.declared.line.Next.TheVariants as next
+use Rattle.afr_lines.specs.declared.reply.Reply.{Reply}
+use Rattle.afr_lines.specs.declared.reply.Reply.TheVariants as reply
+use Rattle.afr_lines.specs.declared.request.Area.{Area}
+use Rattle.afr_object.specs.Tables.{object_of}
+use Rattle.afr_object.specs.declared.change.Change.{Change}
+use Rattle.afr_object.specs.declared.entry.Entry.{Entry}
+use Rattle.afr_plan.specs.declared.command.Command.{Command}
+use Rattle.afr_plan.specs.declared.command.Command.TheVariants as command
+use Rattle.afr_plan.specs.declared.plan.Plan.{Plan}
+use Rattle.afr_model.specs.Answered.{by_posts, is_by_views}
+use Rattle.afr_model.specs.Parts.{first_part, the_make, the_walk}
+use Rattle.afr_model.specs.Refusals.{by_locks, by_name, or_else, read_refused, refusal}
+use Rattle.afr_model.specs.Renamed.{AsksAllOf, IsRenamed, asked_lines, asks_at, by_halves, or_halves, refusal_at, rename_refusal, rename_reply}
+use Rattle.afr_model.specs.Showing.{Path, among, begins_attempt, has, is_faulted, locks, looked_by, path_by, posted, refuses_read}
+use Rattle.afr_model.specs.Skipped.{AsksAll}
+use Rattle.afr_model.specs.Standing.{asking, looks_here, place_by}
+use Rattle.afr_transaction.specs.Outcome.{outcome_of, reply_for, reply_of}
+use Rattle.afr_transaction.specs.Progress.{Progress, asks, is_beginning, is_over, next_at as next_change}
+use Rattle.afr_transaction.specs.declared.reply.Outcome.{Outcome}
+use Rattle.afr_transaction.specs.declared.reply.Outcome.TheVariants as outcome
+use Rattle.afr_transaction.specs.declared.stage.Stage.{Stage}
+use Rattle.afr_transaction.specs.declared.stage.Stage.TheVariants.{Locking, Looking, Beginning, Preparing, Applying, Posting, Closing}
+use Rattle.afr_transaction.proofs.Acknowledged.{acknowledged_exactly}
+use Rattle.afr_transaction_tells.specs.About.{IsFitting}
+use Rattle.afr_transaction_tells.specs.GivenUp.{GaveUp}
+use Rattle.afr_transaction_tells.specs.Tells.{During, OnUnlocks, Tells, TooFew, Tried, Unfit}
+use Rattle.afr_transaction_tells.proofs.GivenUpLemmas.{given_up_ends}
+use Rattle.afr_transaction_tells.proofs.Over.{asks_all_for_locks, failed_by_brick, replies_exactly, skips_none, undisturbed_is_done}
+use Rattle.afr_transaction_tells.proofs.Small.{self}
+use Rattle.afr_entry.specs.Job.{change_of, reply_to}
+use Rattle.afr_entry.specs.declared.job.EntryJob.{EntryJob}
+use Rattle.afr_entry.specs.declared.job.EntryJob.TheVariants.{Create}
+use Rattle.afr_entry.specs.declared.refusal.Refusal.{Refusal}
+use Rattle.afr_entry.specs.declared.refusal.Refusal.TheVariants as refusal_of
+use Rattle.afr_entry.specs.declared.stage.Found.{Found}
+use Rattle.afr_entry.specs.declared.stage.Found.TheVariants.{Unread, Fits, Refused}
+use Rattle.afr_write_telling.proofs.Goes.{ended_stage}
+use Rattle.afr_entry_telling.specs.EntryTelling.{ByFault, ByName, Goes, RulesOut}
+use Rattle.afr_entry_telling.proofs.Changing.{passed_like, unrefused_fits, unrefused_unread}
+use Rattle.afr_entry_telling.proofs.Under.{area_there, refused_by_locks}
+use Rattle.afr_entry_telling.proofs.Words.{given_refuses, refused_there}
+use Rattle.afr_rename.specs.Against.{is_acknowledged}
+use Rattle.afr_rename.specs.Paths.{reads_new}
+use Rattle.afr_rename.specs.Rename.{IsMaking, is_done}
+use Rattle.afr_rename.specs.Under.{next_under}
+use Rattle.afr_rename.specs.declared.paths.Paths.{Paths}
+use Rattle.afr_rename_telling.specs.RenameTelling.{HasWalked, Makes, to_of}
+use Rattle.afr_rename_telling.proofs.Cut.{first_all}
+use Rattle.afr_rename_telling.proofs.MakingMore.{making_like}
+use Rattle.afr_rename_telling.proofs.MakingParts.{fault_more, has_append, or_left}
+use Rattle.afr_rename_telling.proofs.MakingWalked.{begun_only, whole}
+use Rattle.afr_rename_telling.proofs.RemovingTurn.{none_most}
+
+-- ---- replies
+-- a transaction's own reply is never that a rename stays half
+not_half : (o : Outcome) → reply_for o ≡ reply.Half → ⊥
+not_half outcome.Acknowledged e = cc e
+not_half outcome.NoQuorum e = cc e
+not_half outcome.FewCopies e = cc e
+not_half (outcome.SplitBrain views) e = cc e
+not_half outcome.Failed e = cc e
+
+-- nor is that of a refusal, which is no reply by views either
+refusal_whole : (why : Refusal) → reply_to why ≡ reply.Half → ⊥
+refusal_whole refusal_of.Failed e = cc e
+refusal_whole refusal_of.NoEntry e = cc e
+refusal_whole refusal_of.Exists e = cc e
+refusal_whole refusal_of.IsDir e = cc e
+refusal_whole refusal_of.NotDir e = cc e
+
+refusal_alone : (why : Refusal) → is_by_views (reply_to why) ≡ false
+refusal_alone refusal_of.Failed = refl
+refusal_alone refusal_of.NoEntry = refl
+refusal_alone refusal_of.Exists = refl
+refusal_alone refusal_of.IsDir = refl
+refusal_alone refusal_of.NotDir = refl
+
+-- ---- the end of a transaction
+pub ends_over : (stage : Stage) (at : ℕ) (t : Progress) (said : Reply) → next_change stage at t ≡ next.End said → is_over stage t ≡ true
+ends_over Locking at t said e = absurd (cc e)
+ends_over Looking at t said e = absurd (cc e)
+ends_over Beginning at t said e = absurd (cc e)
+ends_over Preparing at t said e = absurd (cc e)
+ends_over Applying at t said e = absurd (cc e)
+ends_over Posting at t said e = absurd (cc e)
+ends_over Closing at t said e = go (is_nothing t.register.held) e
+  where
+    go : (b : Bool) → (if b then next.End (reply_of t.change t.register) else asks Closing t) ≡ next.End said → b ≡ true
+    go true e = refl
+    go false e = absurd (cc e)
+
+-- its object was locked
+pub locked_over : (p : Plan) (t : Progress) (w : Work) → OnUnlocks p.shape t.change t.register.looked t.asked.looked_at w → has (locks (object_of t.change)) w ≡ true
+locked_over p t w (TooFew idle locked looks few none) = locked.locked
+locked_over p t w (Unfit idle locked looks most all unfit) = locked.locked
+locked_over p t w (Tried under all) = under.allows.locked.locked
+
+-- ---- what refuses a rename whose first path has led to a file
+pub refusal_is : (p : Plan) (x : Paths) (lines : Work) → HasWalked p x lines → rename_refusal p x.first.path (to_of x) lines ≡ refusal p (command.Create (to_of x)) (the_make x.first.path lines)
+refusal_is p x lines k =
+    ap (λ (q : Path). refusal_at q p x.first.path (to_of x) lines) k.found
+    ∙ ap (λ (b : Bool). if b then refusal p (command.Create (to_of x)) (the_make x.first.path lines) else refusal p (command.Stat x.first.path) (the_walk x.first.path lines)) (self (length x.first.path))
+
+-- whom it asks there
+asks_there : (p : Plan) (x : Paths) (lines : Work) → HasWalked p x lines → AsksAllOf p (command.Create (to_of x)) (the_make x.first.path lines)
+    → AsksAllOf p (asks_at (path_by p (the_walk x.first.path lines)) x.first.path (to_of x)) (asked_lines (path_by p (the_walk x.first.path lines)) x.first.path lines)
+asks_there p x lines k all =
+    subst (λ (q : Path). AsksAllOf p (asks_at q x.first.path (to_of x)) (asked_lines q x.first.path lines)) (sym k.found)
+    (subst (λ (b : Bool). AsksAllOf p (if b then command.Create (to_of x) else command.Stat x.first.path) (if b then the_make x.first.path lines else the_walk x.first.path lines)) (sym (self (length x.first.path))) all)
+
+pub halves_else : (a b : Option Reply) → or_halves a b ≡ or_else a b
+halves_else None b = refl
+halves_else (Some said) b = refl
+
+-- without a majority of post-ops the halves answer what the making does
+halves_failed : (p : Plan) (from : List NameId) (lines : Work) → is_majority p.shape.n (among posted (the_make from lines)) ≡ false → by_halves p from lines ≡ by_posts p.shape (the_make from lines)
+halves_failed p from lines none = rw none (go (has begins_attempt (the_make from lines)))
+  where
+    go : (b : Bool) → (if not b then None else Some reply.Failed) ≡ (if b then Some reply.Failed else None)
+    go true = refl
+    go false = refl
+
+module _ (p : Plan) (x : Paths) (t : Progress) (found : Found) (lines : Work) (k : Makes p x t found lines) (sound : IsMaking x t found) where
+  abbrev from : List NameId
+  from = x.first.path
+
+  abbrev make : Work
+  make = the_make from lines
+
+  abbrev c : Command
+  c = command.Create (to_of x)
+
+  abbrev job : EntryJob
+  job = Create x.new_name
+
+  abbrev dir : Entry
+  dir = x.second.object
+
+  abbrev change : Change
+  change = change_of dir.gfid job
+
+  -- ---- why it ends
+  reply_is : (said : Reply) → or_else (refusal p c make) (by_posts p.shape make) ≡ Some said → is_majority p.shape.n (among posted make) ≡ false → rename_reply p from (to_of x) lines ≡ Some said
+  reply_is said e none =
+      halves_else (rename_refusal p from (to_of x) lines) (by_halves p from lines)
+      ∙ ap (λ (o : Option Reply). or_else o (by_halves p from lines)) (refusal_is p x lines k.on.walked)
+      ∙ ap (λ (o : Option Reply). or_else (refusal p c make) o) (halves_failed p from lines none)
+      ∙ e
+
+  -- a reply that views make asked every brick for the lock
+  asks_all : Tells p make t → t.stage ≡ Closing → AsksAllOf p c make
+  asks_all tells closing =
+      subst (λ (o : Option Area). AsksAll p.shape.n (looks_here c (place_by p c make)) o make) (sym (area_there p job x.second.path dir make k.tells.place k.tells.directory))
+      (subst (λ (area : Area). (b : ℕ) → b < p.shape.n → member (among (asking area) make) b ≡ true) (making_like x t.change sound.under.of).area (asks_all_for_locks p make t tells closing))
+
+  -- a fault of the making is one of the work
+  calm_make : is_faulted lines ≡ false → is_faulted make ≡ false
+  calm_make calm = go (is_faulted make) refl
+    where
+      go : (b : Bool) → is_faulted make ≡ b → b ≡ false
+      go true e = let f = subst (λ (w : Work). is_faulted w ≡ true) (whole p x lines k.on) (fault_more make (the_walk from lines) e) in absurd (cc (f, calm))
+      go false e = refl
+
+  -- ---- its transaction has gone as far as it could
+  module _ (goes : Goes p t make) (closing : t.stage ≡ Closing) (refuses : refusal p c make ≡ by_locks p.shape (kind_for change) (area_for change) make) (unmade : is_acknowledged (outcome_of t.change t.register) ≡ false) where
+    fitting : IsFitting p.shape.n t.change (looked_by (object_of t.change) make)
+    fitting = record {
+      low = subst (λ (y : Change). ends_low y ≡ true) (sym sound.under.of) refl;
+      fits = goes.fitting (locked_over p t make (subst (λ (stage : Stage). During stage p.shape t make) closing goes.tells.during));
+    }
+
+    locks_like : by_locks p.shape (kind_for change) (area_for change) make ≡ by_locks p.shape (kind_for t.change) (area_for t.change) make
+    locks_like = let like = making_like x t.change sound.under.of in
+        ap (λ (y : Kind). by_locks p.shape y (area_for change) make) (sym like.kind) ∙ ap (λ (y : Area). by_locks p.shape (kind_for t.change) y make) (sym like.area)
+
+    not_posted : is_majority p.shape.n (among posted make) ≡ false
+    not_posted = go (is_majority p.shape.n (among posted make)) refl
+      where
+        go : (b : Bool) → is_majority p.shape.n (among posted make) ≡ b → b ≡ false
+        go true e =
+            let most : is_majority t.register.shape.n t.register.post ≡ true = subst (λ (y : Shape). is_majority y.n t.register.post ≡ true) (sym goes.tells.shape_is) (subst (λ (s : List ℕ). is_majority p.shape.n s ≡ true) (sym goes.tells.sets.posted) e) in
+            let done = ap is_acknowledged ((acknowledged_exactly t sound.under.sound).0 most) in
+            absurd (cc (done, unmade))
+        go false e = refl
+
+    tried_end : IsRenamed p from (to_of x) lines (reply_of t.change t.register)
+    tried_end = record {
+      caused = reply_is (reply_of t.change t.register) (ap (λ (o : Option Reply). or_else o (by_posts p.shape make)) (refuses ∙ locks_like) ∙ replies_exactly p make t sound.under.sound goes.tells closing fitting) not_posted;
+      asked = λ refused e views. asks_there p x lines k.on.walked (asks_all goes.tells closing);
+      failed = λ f. inl (failed_by_brick p make t sound.under.sound goes.tells closing fitting goes.calm f);
+      halved = λ h. absurd (not_half (outcome_of t.change t.register) h);
+      undisturbed = λ begun calm. inl (undisturbed_is_done p make t sound.under.sound goes.tells closing goes.calm (sym (begun_only p x lines k.on) ∙ begun) (calm_make calm));
+      legs = k.on.walked.legs;
+      last_leg = k.last_leg;
+      walked = k.on.walked.walked;
+      made = skips_none p c make t goes.tells closing refl;
+      looked_for = λ made. absurd (cc (made, not_posted));
+    }
+
+  -- ---- its name is there already, or couldn't be read
+  module _ (why : Refusal) (rules : RulesOut p c job dir why make) (gave : GaveUp p make t) where
+    refused : refusal p c make ≡ Some (reply_to why)
+    refused =
+        refused_there p job x.second.path dir make k.tells.place k.tells.directory
+        ∙ ap (λ (o : Option Reply). or_else (read_refused make) (or_else o (by_name p c dir (path_by p make) make))) (passed_like p t.change change make (making_like x t.change sound.under.of) (given_up_ends p make t gave).passes)
+        ∙ go rules
+      where
+        go : RulesOut p c job dir why make → or_else (read_refused make) (by_name p c dir (path_by p make) make) ≡ Some (reply_to why)
+        go (ByFault e f lost) = by_fault ∙ ap (λ (y : Refusal). Some (reply_to y)) (sym e)
+          where
+            by_fault : or_else (read_refused make) (by_name p c dir (path_by p make) make) ≡ Some reply.Failed
+            by_fault = rw f refl
+        go (ByName entry e g) = free ∙ subst (λ (q : Path). by_name p c dir q make ≡ Some (reply_to why)) (sym g.path) (given_refuses p job x.second.path dir make entry why e)
+          where
+            free : or_else (read_refused make) (by_name p c dir (path_by p make) make) ≡ by_name p c dir (path_by p make) make
+            free = let none = g.unrefused in rw none refl
+
+    by_read : reply_to why ≡ reply.Failed → has refuses_read (first_part lines) ≡ true
+    by_read same = subst (λ (w : Work). has refuses_read w ≡ true) (whole p x lines k.on ∙ sym (first_all lines k.on.first))
+        (has_append refuses_read make (the_walk from lines) ∙ or_left (has refuses_read make) (has refuses_read (the_walk from lines)) (go rules))
+      where
+        exists : refusal_of.Exists ≡ why → ⊥
+        exists e = let f : reply.Exists ≡ reply_to why = ap reply_to e in let g : reply.Exists ≡ reply.Failed = f ∙ same in cc g
+
+        go : RulesOut p c job dir why make → has refuses_read make ≡ true
+        go (ByFault e f lost) = f
+        go (ByName None e g) = absurd (cc e)
+        go (ByName (Some entry) e g) = absurd (exists (cc e))
+
+    not_closed : is_majority p.shape.n (among posted make) ≡ true → ⊥
+    not_closed e = none_most p.shape.n (subst (λ (s : List ℕ). is_majority p.shape.n s ≡ true) gave.before.during.idle.no_post_did e)
+
+    none_closed : is_majority p.shape.n (among posted make) ≡ false
+    none_closed = go (is_majority p.shape.n (among posted make)) refl
+      where
+        go : (b : Bool) → is_majority p.shape.n (among posted make) ≡ b → b ≡ false
+        go true e = absurd (not_closed e)
+        go false e = refl
+
+    refused_end : IsRenamed p from (to_of x) lines (reply_to why)
+    refused_end = record {
+      caused = reply_is (reply_to why) (ap (λ (o : Option Reply). or_else o (by_posts p.shape make)) refused) none_closed;
+      asked = λ said e views. let same : reply_to why ≡ said = cc (sym refused ∙ sym (refusal_is p x lines k.on.walked) ∙ e) in let alone = refusal_alone why in let none = sym (ap is_by_views same) ∙ alone in absurd (cc (none, views));
+      failed = λ f. inr (by_read f);
+      halved = λ h. absurd (refusal_whole why h);
+      undisturbed = λ begun calm. let none = begun_only p x lines k.on ∙ (given_up_ends p make t gave).unbegun in absurd (cc (none, begun));
+      legs = k.on.walked.legs;
+      last_leg = k.last_leg;
+      walked = k.on.walked.walked;
+      made = (given_up_ends p make t gave).skips c refl;
+      looked_for = λ made. absurd (not_closed made);
+    }
+
+-- ---- the end
+not_both : (o a : Bool) → o ≡ true → (o && a) ≡ false → a ≡ false
+not_both true a e f = f
+not_both false a e f = absurd (cc e)
+
+own_end : (p : Plan) (x : Paths) (t : Progress) (found : Found) (lines : Work) (at : ℕ) (said : Reply) → (k : Makes p x t found lines) → IsMaking x t found → is_done t ≡ false → Goes p t (the_make x.first.path lines)
+    → refusal p (command.Create (to_of x)) (the_make x.first.path lines) ≡ by_locks p.shape (kind_for (change_of x.second.object.gfid (Create x.new_name))) (area_for (change_of x.second.object.gfid (Create x.new_name))) (the_make x.first.path lines)
+    → next_change t.stage at t ≡ next.End said → IsRenamed p x.first.path (to_of x) lines said
+own_end p x t found lines at said k sound undone goes refuses e =
+    let over = ended_stage t.stage at t said e in
+    subst (λ (y : Reply). IsRenamed p x.first.path (to_of x) lines y) over.1
+    (tried_end p x t found lines k sound goes over.0 refuses (not_both (is_over t.stage t) (is_acknowledged (outcome_of t.change t.register)) (ends_over t.stage at t said e) undone))
+
+pub making_ends : (p : Plan) (x : Paths) (t : Progress) (found : Found) (lines : Work) (at : ℕ) (said : Reply) → Makes p x t found lines → IsMaking x t found → is_done t ≡ false → next_under found at (reads_new x) t ≡ next.End said → IsRenamed p x.first.path (to_of x) lines said
+making_ends p x t (Unread copy) lines at said k sound undone e = go (is_beginning t.stage) e
+  where
+    free : refusal p (command.Create (to_of x)) (the_make x.first.path lines) ≡ by_locks p.shape (kind_for (change_of x.second.object.gfid (Create x.new_name))) (area_for (change_of x.second.object.gfid (Create x.new_name))) (the_make x.first.path lines)
+    free = let f = unrefused_unread p (Create x.new_name) x.second (the_make x.first.path lines) t k.tells.name in refused_by_locks p (Create x.new_name) x.second.path x.second.object (the_make x.first.path lines) k.tells.place k.tells.directory f.1 f.0
+
+    go : (b : Bool) → (if b then next.Ask copy (reads_new x) else next_change t.stage at t) ≡ next.End said → IsRenamed p x.first.path (to_of x) lines said
+    go true e = absurd (cc e)
+    go false e = own_end p x t (Unread copy) lines at said k sound undone k.tells.on.0 free e
+making_ends p x t Fits lines at said k sound undone e =
+    let f = unrefused_fits p (Create x.new_name) x.second (the_make x.first.path lines) t refl k.tells.name in
+    own_end p x t Fits lines at said k sound undone k.tells.on (refused_by_locks p (Create x.new_name) x.second.path x.second.object (the_make x.first.path lines) k.tells.place k.tells.directory f.1 f.0) e
+making_ends p x t (Refused why) lines at said k sound undone e = go t.stage k.tells.on.closing e
+  where
+    by_held : (b : Bool) → (if b then next.End (reply_to why) else (if b then next.End (reply_of t.change t.register) else asks Closing t)) ≡ next.End said → IsRenamed p x.first.path (to_of x) lines said
+    by_held true f = let same : reply_to why ≡ said = cc f in subst (λ (y : Reply). IsRenamed p x.first.path (to_of x) lines y) same (refused_end p x t (Refused why) lines k sound why k.tells.name k.tells.on)
+    by_held false f = absurd (cc f)
+
+    go : (stage : Stage) → stage ≡ Closing → (if is_over stage t then next.End (reply_to why) else next_change stage at t) ≡ next.End said → IsRenamed p x.first.path (to_of x) lines said
+    go Closing h f = by_held (is_nothing t.register.held) f
+    go stage h f = absurd (cc h)
