@@ -1,5 +1,5 @@
 -- What a rename hears is an answer to what its next line has asked.
-use Rattle.std.proofs.Common.{◌≡◌, ◌⊎◌, ℕ, ◌<◌, ◌&&◌, not, Bool, true, false, [], Option, None, inl, inr, refl, ap, subst, sym, ◌∙◌, if◌then◌else◌}
+use Rattle.std.proofs.Common.{◌≡◌, ◌⊎◌, ℕ, ◌<◌, Bool, true, false, List, [], Option, None, inl, inr, refl, ap, subst, sym, ◌∙◌, if◌then◌else◌}
 use Rattle.afr_base.specs.Bricks.{is_nothing}
 use Rattle.afr_base.specs.declared.ids.BrickId.{BrickId}
 use Rattle.afr_base.specs.declared.ids.Kind.TheVariants.{Names}
@@ -13,8 +13,13 @@ use Rattle.afr_lines.specs.declared.line.Heard.TheVariants as heard
 use Rattle.afr_lines.specs.declared.line.Next.TheVariants as next
 use Rattle.afr_lines.specs.declared.request.Request.{Request}
 use Rattle.afr_rule.specs.Choosing.{Calls}
-use Rattle.afr_walk.specs.Choosing.{reader_of}
+use Rattle.afr_rule.specs.declared.candidate.Candidate.{Candidate}
+use Rattle.afr_walk.specs.Choosing.{RuleAnswers, reader_of}
 use Rattle.afr_walk.specs.Free.{is_ask}
+use Rattle.afr_walk.specs.Walk as walks
+use Rattle.afr_walk.specs.Walk.{is_walking, walked}
+use Rattle.afr_walk.specs.declared.walk.Walk.{Walk}
+use Rattle.afr_walk.proofs.ChoosingLemmas.{answers_among}
 use Rattle.afr_transaction.specs.Between.{is_read, noted_read}
 use Rattle.afr_transaction.specs.Outcome.{outcome_of, reply_of}
 use Rattle.afr_transaction.specs.Progress as progress
@@ -22,17 +27,17 @@ use Rattle.afr_transaction.specs.Progress.{Progress, answered, asks, fed, is_beg
 use Rattle.afr_transaction.specs.declared.stage.Stage.{Stage}
 use Rattle.afr_transaction.specs.declared.stage.Stage.TheVariants.{Locking, Looking, Beginning, Preparing, Applying, Posting, Closing}
 use Rattle.afr_transaction.proofs.NoteLemmas.{fed_change}
-use Rattle.afr_entry.specs.Entry.{fits_stage, found_by, offered, settled, told_to}
+use Rattle.afr_entry.specs.Entry.{found_by, offered, settled, told_to}
 use Rattle.afr_entry.specs.Job.{reply_to}
 use Rattle.afr_entry.specs.declared.refusal.Refusal.{Refusal}
 use Rattle.afr_entry.specs.declared.stage.Found.{Found}
 use Rattle.afr_entry.specs.declared.stage.Found.TheVariants.{Unread, Fits, Refused}
 use Rattle.afr_rename.specs.Against.{against_new, against_old, half_reply}
-use Rattle.afr_rename.specs.Paths.{reads_new, reads_old}
-use Rattle.afr_rename.specs.Rename.{IsFed, IsMaking, Renaming, choices_at, is_done, is_over, making_after, making_next, next_at, next_of, removing_next, second_begun, stage_after, turned}
+use Rattle.afr_rename.specs.Paths.{IsPaths, found_in, reads_new, reads_old}
+use Rattle.afr_rename.specs.Rename.{IsFed, IsRename, Renaming, after_first, after_second, choices_at, is_done, is_over, making_after, making_next, next_at, next_of, paths_after, second_begun, stage_after, turned, turned_anew}
 use Rattle.afr_rename.specs.Under.{IsUnder, choices_under, found_after, next_under, progress_after}
 use Rattle.afr_rename.specs.declared.paths.Paths.{Paths}
-use Rattle.afr_rename.proofs.RenameLemmas.{done_is, over_not_done}
+use Rattle.afr_rename.proofs.RenameLemmas.{first_paths, is_after_first, is_after_second, is_turned, kept_answer, over_not_done, second_paths}
 use Rattle.afr_rename.specs.declared.stage.RenameStage.{RenameStage}
 use Rattle.afr_rename.specs.declared.stage.RenameStage.TheVariants.{Finding, Walking, Making, Removing, Ending}
 
@@ -218,13 +223,17 @@ unheard_under why asked chosen (Refused r) told at t none more = (refl, untold t
     go true f none = absurd (cc f)
     go false f none = beginning_where t.stage t at none more
 
+-- a rename at this stage
+abbrev at_stage : Paths → RenameStage → Renaming
+at_stage x stage = record { paths = x; stage = stage }
+
 -- the same of a whole rename
 pub unheard : {F : Type 0} (calls : Calls F) (choose : F) (m : Renaming) (a : Answer) (at : ℕ) → is_ask (next_of at m) ≡ false → is_over m.stage ≡ false → IsFed calls choose (heard.Answer a at) m m
 unheard calls choose m a at none more = go m.stage none more
   where
     making : (t : Progress) (found : Found) → (d : Bool) → is_done t ≡ d → is_over (Making t found) ≡ false
         → is_ask (if d then progress.next_at Locking at (turned m.paths t) else next_under found at (reads_new m.paths) t) ≡ false
-        → IsFed calls choose (heard.Answer a at) (record { paths = m.paths; stage = Making t found }) (record { paths = m.paths; stage = Making t found })
+        → IsFed calls choose (heard.Answer a at) (at_stage m.paths (Making t found)) (at_stage m.paths (Making t found))
     making t found true e more none = absurd (cc none)
     making t found false e more none =
         let u = unheard_under (against_new a) (reads_new m.paths) (reader_of None) found (told_by a) at t none (over_not_done (progress.is_over t.stage t) (is_done t) more e) in
@@ -232,12 +241,12 @@ unheard calls choose m a at none more = go m.stage none more
           picked = None;
           answers = subst (λ (d : Bool). (if d then [] else choices_under found (told_by a) at t) ≡ []) (sym e) u.0;
           value =
-            subst (λ (d : Bool). record { paths = m.paths; stage = Making t found } ≡ record { paths = m.paths; stage = if d then second_begun (told_by a) at m.paths t else making_after (reader_of None) found a at m.paths t }) (sym e)
-            (ap (λ (x : Progress). record { paths = m.paths; stage = Making x found }) u.1
-            ∙ ap (λ (f : Found). record { paths = m.paths; stage = Making (progress_after found (against_new a) (reads_new m.paths) (told_by a) at t) f }) u.2);
+              subst (λ (d : Bool). at_stage m.paths (Making t found) ≡ at_stage m.paths (if d then second_begun (told_by a) at m.paths t else making_after (reader_of None) found a at m.paths t)) (sym e)
+              (ap (λ (x : Progress). at_stage m.paths (Making x found)) u.1
+              ∙ ap (λ (f : Found). at_stage m.paths (Making (progress_after found (against_new a) (reads_new m.paths) (told_by a) at t) f)) u.2);
         }
 
-    go : (stage : RenameStage) → is_ask (next_at at stage m.paths) ≡ false → is_over stage ≡ false → IsFed calls choose (heard.Answer a at) (record { paths = m.paths; stage = stage }) (record { paths = m.paths; stage = stage })
+    go : (stage : RenameStage) → is_ask (next_at at stage m.paths) ≡ false → is_over stage ≡ false → IsFed calls choose (heard.Answer a at) (at_stage m.paths stage) (at_stage m.paths stage)
     go Finding none more = absurd (cc none)
     go Walking none more = absurd (cc none)
     go (Making t found) none more = making t found (is_done t) refl more none
@@ -247,8 +256,8 @@ unheard calls choose m a at none more = go m.stage none more
           picked = None;
           answers = u.0;
           value =
-            ap (λ (x : Progress). record { paths = m.paths; stage = Removing x found }) u.1
-            ∙ ap (λ (f : Found). record { paths = m.paths; stage = Removing (progress_after found (against_old m.paths.first.object.gfid a) (reads_old m.paths) (told_by a) at t) f }) u.2;
+              ap (λ (x : Progress). at_stage m.paths (Removing x found)) u.1
+              ∙ ap (λ (f : Found). at_stage m.paths (Removing (progress_after found (against_old m.paths.first.object.gfid a) (reads_old m.paths) (told_by a) at t) f)) u.2;
         }
       where
         asked : (d : Bool) → d ≡ false → is_ask (if d then next.End (half_reply (outcome_of t.change t.register)) else next_under found at (reads_old m.paths) t) ≡ false → is_ask (next_under found at (reads_old m.paths) t) ≡ false
@@ -256,75 +265,88 @@ unheard calls choose m a at none more = go m.stage none more
         asked false e none = none
     go (Ending said) none more = absurd (cc more)
 
--- ---- what the code makes of an answer under the locks
--- by what the answer says
-pub told_same : (found : Found) (t p : Progress) (at : ℕ) (why w : Option Refusal) (asked q : Request) (told h : Told) → why ≡ w → asked ≡ q → told ≡ h → p ≡ progress_after found why asked told at t → p ≡ progress_after found w q h at t
+-- ---- what the code makes of an answer
+-- the first walk's
+pub first_kept : {F : Type 0} (calls : Calls F) (choose : F) (x : Paths) (picked : Option BrickId) (a : Answer) (at : ℕ) (w : Walk) → IsPaths x → is_walking x.first.step ≡ true → RuleAnswers calls choose (walks.choices_of a x.first) picked
+    → w ≡ walked (reader_of picked) a at x.first → IsPaths (record x { first = w; second = record x.second { register = w.register }; dir = x.first.object.gfid })
+first_kept calls choose x picked a at w k goes answers e =
+    subst (λ (y : Walk). IsPaths (record x { first = y; second = record x.second { register = y.register }; dir = x.first.object.gfid })) (sym e)
+    (first_paths (reader_of picked) a at x k goes (answers_among calls choose (walks.choices_of a x.first) picked answers))
+
+pub first_leaves : (x : Paths) (stage : RenameStage) → IsPaths x → stage ≡ after_first x → IsRename x stage
+first_leaves x stage k e = subst (λ (s : RenameStage). IsRename x s) (sym e) (record { paths = k; sound = is_after_first x k })
+
+-- the second walk's
+pub second_kept : {F : Type 0} (calls : Calls F) (choose : F) (x : Paths) (picked : Option BrickId) (a : Answer) (at : ℕ) (w : Walk) → IsRename x Walking → RuleAnswers calls choose (walks.choices_of a x.second) picked → w ≡ walked (reader_of picked) a at x.second
+    → IsPaths (record x { second = w })
+second_kept calls choose x picked a at w k answers e =
+    subst (λ (y : Walk). IsPaths (record x { second = y })) (sym e) (second_paths (reader_of picked) a at x k.paths k.sound.0 (answers_among calls choose (walks.choices_of a x.second) picked answers))
+
+pub second_leaves : (x : Paths) (stage : RenameStage) → IsPaths x → found_in x ≡ true → stage ≡ after_second x → IsRename x stage
+second_leaves x stage k found e = subst (λ (s : RenameStage). IsRename x s) (sym e) (record { paths = k; sound = is_after_second x k found })
+
+-- under the locks, by what the answer says
+told_same : (found : Found) (t p : Progress) (at : ℕ) (why w : Option Refusal) (asked q : Request) (told h : Told) → why ≡ w → asked ≡ q → told ≡ h → p ≡ progress_after found why asked told at t → p ≡ progress_after found w q h at t
 told_same found t p at why w asked q told h ew eq eh e =
     e ∙ ap (λ (y : Option Refusal). progress_after found y asked told at t) ew ∙ ap (λ (y : Request). progress_after found w y told at t) eq ∙ ap (λ (y : Told). progress_after found w q y at t) eh
 
--- it is a transaction of its own change
-pub own_change : (c : Change) (t : Progress) (found : Found) → IsUnder c t found → IsUnder t.change t found
-own_change c t found k = record { sound = k.sound; of = refl; in_turn = k.in_turn; reads = k.reads }
-
--- ---- the first transaction, as long as it isn't done
-pub making_line : (x : Paths) (t : Progress) (found : Found) (at : ℕ) (b : BrickId) (q : Request) → is_done t ≡ false → making_next found at x t ≡ next.Ask b q → next_under found at (reads_new x) t ≡ next.Ask b q
-making_line x t found at b q e line = go (is_done t) e line
+-- the first transaction's, as long as it isn't done
+pub making_kept : {F : Type 0} (calls : Calls F) (choose : F) (x : Paths) (t p : Progress) (found f : Found) (picked : Option BrickId) (why : Option Refusal) (asked : Request) (told : Told) (a : Answer) (at : ℕ) → IsRename x (Making t found)
+    → is_over (Making t found) ≡ false → is_done t ≡ false → why ≡ against_new a → asked ≡ reads_new x → told ≡ told_by a → p ≡ progress_after found why asked told at t → f ≡ found_after (reader_of picked) found why t.stage
+    → RuleAnswers calls choose (choices_under found told at t) picked → IsRename x (Making p f)
+making_kept calls choose x t p found f picked why asked told a at k more e ew eq eh ep ef answers =
+    subst (λ (stage : RenameStage). IsRename x stage) (sym same)
+    (kept_answer (reader_of picked) (Making t found) a at x k more (answers_among calls choose (choices_at (Making t found) a at x) picked (subst (λ (cs : List Candidate). RuleAnswers calls choose cs picked) chooses answers)))
   where
-    go : (d : Bool) → d ≡ false → (if d then progress.next_at Locking at (turned x t) else next_under found at (reads_new x) t) ≡ next.Ask b q → next_under found at (reads_new x) t ≡ next.Ask b q
-    go true e line = absurd (cc e)
-    go false e line = line
+    ends : (d : Bool) → d ≡ false → Making p f ≡ Making (progress_after found (against_new a) (reads_new x) (told_by a) at t) (found_after (reader_of picked) found (against_new a) t.stage)
+        → Making p f ≡ (if d then second_begun (told_by a) at x t else making_after (reader_of picked) found a at x t)
+    ends true e h = absurd (cc e)
+    ends false e h = h
 
-pub making_heard : (chosen : BrickId) (x : Paths) (t p : Progress) (found f : Found) (a : Answer) (at : ℕ) → is_done t ≡ false → p ≡ progress_after found (against_new a) (reads_new x) (told_by a) at t → f ≡ found_after chosen found (against_new a) t.stage
-    → Making p f ≡ stage_after chosen (Making t found) a at x
-making_heard chosen x t p found f a at e ep ef = go (is_done t) e
-  where
-    go : (d : Bool) → d ≡ false → Making p f ≡ (if d then second_begun (told_by a) at x t else making_after chosen found a at x t)
-    go true e = absurd (cc e)
-    go false e = ap (λ (q : Progress). Making q f) ep ∙ ap (λ (g : Found). Making (progress_after found (against_new a) (reads_new x) (told_by a) at t) g) ef
+    same : Making p f ≡ stage_after (reader_of picked) (Making t found) a at x
+    same =
+        ends (is_done t) e
+        (ap (λ (q : Progress). Making q f) (told_same found t p at why (against_new a) asked (reads_new x) told (told_by a) ew eq eh ep)
+        ∙ ap (λ (g : Found). Making (progress_after found (against_new a) (reads_new x) (told_by a) at t) g) (ef ∙ ap (λ (y : Option Refusal). found_after (reader_of picked) found y t.stage) ew))
 
-pub making_chooses : (x : Paths) (t : Progress) (found : Found) (a : Answer) (at : ℕ) → is_done t ≡ false → choices_under found (told_by a) at t ≡ choices_at (Making t found) a at x
-making_chooses x t found a at e = go (is_done t) e
-  where
-    go : (d : Bool) → d ≡ false → choices_under found (told_by a) at t ≡ (if d then [] else choices_under found (told_by a) at t)
-    go true e = absurd (cc e)
-    go false e = refl
+    chooses : choices_under found told at t ≡ choices_at (Making t found) a at x
+    chooses = ap (λ (h : Told). choices_under found h at t) eh ∙ go (is_done t) e
+      where
+        go : (d : Bool) → d ≡ false → choices_under found (told_by a) at t ≡ (if d then [] else choices_under found (told_by a) at t)
+        go true e = absurd (cc e)
+        go false e = refl
 
--- ---- once it is done
-pub done_heard : (chosen : BrickId) (x : Paths) (t : Progress) (found : Found) (a : Answer) (at : ℕ) → is_done t ≡ true → second_begun (told_by a) at x t ≡ stage_after chosen (Making t found) a at x
-done_heard chosen x t found a at e = go (is_done t) e
+-- once it is done
+pub turn_heard : (chosen : BrickId) (x : Paths) (t : Progress) (found : Found) (stage after : RenameStage) (told : Told) (a : Answer) (at : ℕ) → stage ≡ Making t found → is_done t ≡ true → told ≡ told_by a → after ≡ second_begun told at x t
+    → after ≡ stage_after chosen stage a at (paths_after chosen stage a at x)
+turn_heard chosen x t found stage after told a at is e eh ea =
+    subst (λ (s : RenameStage). after ≡ stage_after chosen s a at (paths_after chosen s a at x)) (sym is) (ea ∙ ap (λ (h : Told). second_begun h at x t) eh ∙ go (is_done t) e)
   where
     go : (d : Bool) → d ≡ true → second_begun (told_by a) at x t ≡ (if d then second_begun (told_by a) at x t else making_after chosen found a at x t)
     go true e = refl
     go false e = absurd (cc e)
 
-pub done_chooses : (x : Paths) (t : Progress) (found : Found) (a : Answer) (at : ℕ) → is_done t ≡ true → [] ≡ choices_at (Making t found) a at x
-done_chooses x t found a at e = go (is_done t) e
+pub turn_kept : (x : Paths) (t : Progress) (found : Found) (stage : RenameStage) (told : Told) (at : ℕ) → IsRename x (Making t found) → is_done t ≡ true → stage ≡ second_begun told at x t → IsRename x stage
+turn_kept x t found stage told at k e is = subst (λ (s : RenameStage). IsRename x s) (sym is) (record { paths = k.paths; sound = is_turned told at x t found k.sound e })
+
+-- there it asks for what a transaction of a new work asks for
+pub turn_asks : (x : Paths) (t : Progress) (found : Found) (at : ℕ) → is_done t ≡ true → making_next found at x t ≡ progress.next_at Locking at (turned_anew x t)
+turn_asks x t found at e = go (is_done t) e
   where
-    go : (d : Bool) → d ≡ true → [] ≡ (if d then [] else choices_under found (told_by a) at t)
+    go : (d : Bool) → d ≡ true → (if d then progress.next_at Locking at (turned x t) else next_under found at (reads_new x) t) ≡ progress.next_at Locking at (turned_anew x t)
     go true e = refl
     go false e = absurd (cc e)
 
--- what the new name was found to be plays no part there
-pub closes_alike : (x : Paths) (t : Progress) (found : Found) → IsMaking x t found → is_done t ≡ true → IsMaking x t Fits
-closes_alike x t found k e = record {
-  found_file = k.found_file;
-  under = record { sound = k.under.sound; of = k.under.of; in_turn = closed t.stage (done_is t k.under.sound e).0; reads = tt };
-  plain = k.plain;
-}
+-- the second transaction's
+pub removing_kept : {F : Type 0} (calls : Calls F) (choose : F) (x : Paths) (t p : Progress) (found f : Found) (picked : Option BrickId) (why : Option Refusal) (asked : Request) (told : Told) (a : Answer) (at : ℕ) → IsRename x (Removing t found)
+    → is_over (Removing t found) ≡ false → why ≡ against_old x.first.object.gfid a → asked ≡ reads_old x → told ≡ told_by a → p ≡ progress_after found why asked told at t → f ≡ found_after (reader_of picked) found why t.stage
+    → RuleAnswers calls choose (choices_under found told at t) picked → IsRename x (Removing p f)
+removing_kept calls choose x t p found f picked why asked told a at k more ew eq eh ep ef answers =
+    subst (λ (stage : RenameStage). IsRename x stage) (sym same)
+    (kept_answer (reader_of picked) (Removing t found) a at x k more
+    (answers_among calls choose (choices_under found (told_by a) at t) picked (subst (λ (h : Told). RuleAnswers calls choose (choices_under found h at t) picked) eh answers)))
   where
-    closed : (stage : Stage) → progress.is_over stage t ≡ true → fits_stage Fits stage ≡ true
-    closed Closing h = refl
-    closed stage h = absurd (cc h)
-
--- ---- the second transaction, as long as it isn't over
-pub removing_line : (x : Paths) (t : Progress) (found : Found) (at : ℕ) (b : BrickId) (q : Request) → progress.is_over t.stage t ≡ false → removing_next found at x t ≡ next.Ask b q → next_under found at (reads_old x) t ≡ next.Ask b q
-removing_line x t found at b q e line = go (progress.is_over t.stage t) e line
-  where
-    go : (d : Bool) → d ≡ false → (if d then next.End (half_reply (outcome_of t.change t.register)) else next_under found at (reads_old x) t) ≡ next.Ask b q → next_under found at (reads_old x) t ≡ next.Ask b q
-    go true e line = absurd (cc e)
-    go false e line = line
-
-pub removing_heard : (chosen : BrickId) (x : Paths) (t p : Progress) (found f : Found) (a : Answer) (at : ℕ) → p ≡ progress_after found (against_old x.first.object.gfid a) (reads_old x) (told_by a) at t → f ≡ found_after chosen found (against_old x.first.object.gfid a) t.stage
-    → Removing p f ≡ stage_after chosen (Removing t found) a at x
-removing_heard chosen x t p found f a at ep ef =
-    ap (λ (q : Progress). Removing q f) ep ∙ ap (λ (g : Found). Removing (progress_after found (against_old x.first.object.gfid a) (reads_old x) (told_by a) at t) g) ef
+    same : Removing p f ≡ stage_after (reader_of picked) (Removing t found) a at x
+    same =
+        ap (λ (q : Progress). Removing q f) (told_same found t p at why (against_old x.first.object.gfid a) asked (reads_old x) told (told_by a) ew eq eh ep)
+        ∙ ap (λ (g : Found). Removing (progress_after found (against_old x.first.object.gfid a) (reads_old x) (told_by a) at t) g) (ef ∙ ap (λ (y : Option Refusal). found_after (reader_of picked) found y t.stage) ew)

@@ -28,7 +28,7 @@ use Rattle.afr_rule.specs.Choosing.{Calls}
 use Rattle.afr_walk.specs.Choosing.{IsAmong, reader_of}
 use Rattle.afr_walk.specs.Free.{Allows, IsFree}
 use Rattle.afr_walk.specs.Walk as walks
-use Rattle.afr_walk.specs.Walk.{IsWalk, is_walking, named, next_in, noted, walked, walked_at}
+use Rattle.afr_walk.specs.Walk.{is_walking, next_in, noted, walked, walked_at}
 use Rattle.afr_walk.specs.declared.walk.Walk.{Walk}
 use Rattle.afr_walk.specs.declared.walk.WalkStep.{WalkStep}
 use Rattle.afr_walk.specs.declared.walk.WalkStep.TheVariants as walking
@@ -48,7 +48,7 @@ use Rattle.afr_transaction.proofs.Acknowledged.{acknowledged_exactly}
 use Rattle.afr_transaction.proofs.Allowed.{allowed_moves, moves_of}
 use Rattle.afr_transaction.proofs.Kept.{sound_first, stays_sound as transaction_stays}
 use Rattle.afr_transaction.proofs.NoteLemmas.{fed_change, fed_notes, noted_as}
-use Rattle.afr_again.specs.Again.{IsPlain, opened}
+use Rattle.afr_again.specs.Again.{IsPlain}
 use Rattle.afr_again.proofs.AgainLemmas.{plain_first, rests}
 use Rattle.afr_again.proofs.FollowsLemmas.{again_allowed, again_sound}
 use Rattle.afr_again.proofs.PlainLemmas.{plain_begun, plain_kept, plain_read}
@@ -58,7 +58,7 @@ use Rattle.afr_entry.proofs.EntryLemmas.{fed_fits}
 use Rattle.afr_rename.specs.Against.{against_new, against_old, half_reply, is_acknowledged}
 use Rattle.afr_rename.specs.Laws.{AllowedNext, FedIsAnswered, NotesBegin, NotesEach, StaysSound}
 use Rattle.afr_rename.specs.Paths.{IsPaths, first_walked, found_in, has_arrived, making_of, reads_new, reads_old, removal_of, second_walked}
-use Rattle.afr_rename.specs.Rename.{IsMaking, IsRemoving, IsRename, IsSound, after_first, after_second, at_directory, choices_at, choices_heard, first_left, is_done, is_over, making_after, next_at, paths_after, register_at, second_begun, second_left, stage_after, stage_begun, turned, unread}
+use Rattle.afr_rename.specs.Rename.{IsMaking, IsRename, IsSound, after_first, after_second, at_directory, choices_at, choices_heard, first_left, is_done, is_over, making_after, next_at, paths_after, register_at, second_begun, second_left, stage_after, stage_begun, turned, unread}
 use Rattle.afr_rename.specs.Under.{choices_under, next_under}
 use Rattle.afr_rename.specs.declared.paths.Paths.{Paths}
 use Rattle.afr_rename.specs.declared.stage.RenameStage.{RenameStage}

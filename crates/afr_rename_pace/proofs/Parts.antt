@@ -1,5 +1,5 @@
 -- Each line of one of a rename's transactions that counts takes one from the lines that it has left.
-use Rattle.std.proofs.Common.{◌≡◌, ℕ, ◌+◌, ◌*◌, ◌≤◌, Bool, true, false, refl, sym, subst, ap, ◌∙◌, arith, inl, Option, Some, None}
+use Rattle.std.proofs.Common.{◌≡◌, ℕ, ◌+◌, ◌*◌, ◌≤◌, true, refl, sym, subst, ap, ◌∙◌, arith, inl, Option, Some, None}
 use Rattle.std.specs.Prelude.{if◌then◌else◌}
 use Rattle.afr_base.specs.Bricks.{lowest}
 use Rattle.afr_base.specs.declared.ids.BrickId.{BrickId}

@@ -1,10 +1,9 @@
 -- Each line of a rename that counts takes one from the lines that it has left.
-use Rattle.std.proofs.Common.{◌≡◌, ℕ, ◌+◌, ◌*◌, ◌-◌, ◌<◌, ◌≤◌, Bool, true, false, refl, sym, subst, ap, ◌∙◌, arith, List, length, take}
+use Rattle.std.proofs.Common.{◌≡◌, ℕ, ◌+◌, ◌*◌, ◌-◌, ◌<◌, ◌≤◌, Bool, true, false, refl, sym, subst, ap, arith, length}
 use Rattle.std.specs.Prelude.{if◌then◌else◌}
 use Rattle.std.proofs.lemmas.List.{length-take}
 use Rattle.std.proofs.lemmas.Nat.{mul-le}
 use Rattle.afr_base.specs.declared.ids.BrickId.{BrickId}
-use Rattle.afr_base.specs.declared.ids.NameId.{NameId}
 use Rattle.afr_base.specs.declared.ids.Shape.{Shape}
 use Rattle.afr_discipline.specs.Laws.{ShapesKept}
 use Rattle.afr_entry.specs.declared.stage.Found.{Found}
@@ -17,7 +16,7 @@ use Rattle.afr_pace.proofs.Walks.{shape_kept, walk_nearer, walk_starts}
 use Rattle.afr_pace.specs.Left as pace
 use Rattle.afr_pace.specs.Left.{asks_again, count, lines_left}
 use Rattle.afr_pace.specs.Walks.{for_others, walk_left, walk_left_at}
-use Rattle.afr_rename.proofs.RenameLemmas.{first_paths, over_not_done, second_paths}
+use Rattle.afr_rename.proofs.RenameLemmas.{first_paths, second_paths}
 use Rattle.afr_rename.specs.Against.{against_new, against_old}
 use Rattle.afr_rename.specs.Paths.{IsPaths, first_walked, front, making_of, reads_new, reads_old, second_walked}
 use Rattle.afr_rename.specs.Rename.{IsMaking, IsSound, after_first, after_second, answered, at_directory, choices_at, first_left, is_done, making_after, second_begun, second_left, stage_begun, unread}
@@ -34,7 +33,7 @@ use Rattle.afr_walk.specs.Choosing.{IsAmong}
 use Rattle.afr_walk.specs.Free.{IsFree}
 use Rattle.afr_walk.specs.Looks.{left_to_look}
 use Rattle.afr_walk.specs.Walk as walks
-use Rattle.afr_walk.specs.Walk.{IsStep, IsWalk, is_walking, walk_from, walked}
+use Rattle.afr_walk.specs.Walk.{IsStep, IsWalk, is_walking, walk_from}
 use Rattle.afr_walk.specs.declared.walk.Walk.{Walk}
 use Rattle.afr_walk.specs.declared.walk.WalkStep.TheVariants as walking
 use Rattle.afr_walk.specs.declared.walk.WalkStep.{WalkStep}
