@@ -1,5 +1,5 @@
 -- Under the lock of a name that is read before it is changed: what is heard, what goes with a request, and what is begun.
-use Rattle.std.proofs.Common.{◌≡◌, ℕ, arith, Bool, true, false, List, Some, length, refl, sym, ap, ◌∙◌, subst, if◌then◌else◌}
+use Rattle.std.proofs.Common.{◌≡◌, ℕ, arith, Bool, true, false, List, Some, length, refl, ap, ◌∙◌, subst, if◌then◌else◌}
 use Rattle.afr_base.specs.Bricks.{is_nothing, member}
 use Rattle.afr_base.specs.declared.ids.ActorId.{ActorId}
 use Rattle.afr_base.specs.declared.ids.BrickId.{BrickId}

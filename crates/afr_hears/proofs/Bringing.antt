@@ -1,7 +1,6 @@
 -- What goes with the requests of a client, and what its Begin lines begin.
 use Rattle.std.proofs.Common.{◌≡◌, ℕ, Bool, true, false, List, Some, length, refl, sym, ap, ◌∙◌, subst, if◌then◌else◌}
 use Rattle.afr_base.specs.Bricks.{is_nothing}
-use Rattle.afr_base.specs.declared.ids.ActorId.{ActorId}
 use Rattle.afr_base.specs.declared.ids.BrickId.{BrickId}
 use Rattle.afr_base.specs.declared.ids.Gfid.{Gfid}
 use Rattle.afr_inode_read.specs.Job.{request_of}

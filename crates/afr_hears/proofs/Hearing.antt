@@ -1,7 +1,6 @@
 -- A client hears what its machine asks of the bricks' answers, by where the machine stands.
 use Rattle.std.proofs.Common.{◌≡◌, ℕ, Bool, true, false, List, length, refl, ap, subst, if◌then◌else◌}
 use Rattle.afr_base.specs.Bricks.{is_nothing}
-use Rattle.afr_base.specs.declared.ids.ActorId.{ActorId}
 use Rattle.afr_base.specs.declared.ids.BrickId.{BrickId}
 use Rattle.afr_base.specs.declared.ids.Gfid.{Gfid}
 use Rattle.afr_base.specs.declared.ids.Kind.TheVariants.{Names}

@@ -3,7 +3,6 @@ use Rattle.std.proofs.Common.{◌≡◌, ℕ, ◌<◌, ◌==◌, true, false, Li
 use Rattle.std.proofs.lemmas.Bool.Decides.{nat_tests}
 use Rattle.afr_base.specs.declared.ids.Gfid.{Gfid}
 use Rattle.afr_base.specs.declared.ids.NameId.{NameId}
-use Rattle.afr_base.specs.declared.ids.What.{What}
 use Rattle.afr_law.specs.ModelKinds.{Before, Named, Now, Says, Top, WasTable}
 use Rattle.afr_lines.specs.Log.{change_at}
 use Rattle.afr_lines.specs.Work.{Work, work}
