@@ -1,5 +1,5 @@
 -- In the tables of any log each name leads to an object that is there.
-use Rattle.std.proofs.Common.{◌≡◌, ℕ, zero, suc, ◌<◌, Bool, true, false, cond, ◌&&◌, refl, sym, ◌∙◌, subst, ap, List, [], ◌∷◌, Option, None, Some, ◌==◌, if◌then◌else◌, take}
+use Rattle.std.proofs.Common.{◌≡◌, ℕ, zero, suc, Bool, true, false, cond, ◌&&◌, refl, ◌∙◌, subst, ap, List, [], ◌∷◌, Option, None, Some, ◌==◌, if◌then◌else◌, take}
 use Rattle.std.specs.Prelude.{is_some}
 use Rattle.std.specs.BTreeMap.{is_at, insert_entry}
 use Rattle.std.specs.Map.{lookup, remove_entry}
@@ -27,7 +27,7 @@ use Rattle.afr_lines.specs.declared.request.Request.TheVariants.{Pre, Apply, Pos
 use Rattle.afr_plan.specs.declared.plan.Plan.{Plan}
 use Rattle.afr_brick.specs.TablesLemmas.{copy_at-made, same_gfid}
 use Rattle.afr_model.specs.Sums.{has_object}
-use Rattle.afr_model.specs.Tables.{Past, asked, carried, effect, entry_at, entry_in, held_before, holds, keeps_bytes, step}
+use Rattle.afr_model.specs.Tables.{Past, asked, carried, effect, entry_in, held_before, holds, keeps_bytes, step}
 use Rattle.afr_moves.proofs.Tests.{same_self}
 use Rattle.afr_tables.proofs.Merged.{NameTable}
 use Rattle.afr_tables.proofs.Names.{by_order}

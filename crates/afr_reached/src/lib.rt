@@ -8,7 +8,7 @@ use afr_converged::quiet_rounds_converge;
 use afr_law::a_gfid_is_of_one_kind;
 use afr_named_copies::entries_have_copies;
 
-/// A pass are undisturbed rounds at all bricks, one right after the other. After one pass the root has converged, and what it
+/// A pass of rounds is undisturbed rounds at all bricks, one right after the other. After one pass the root has converged, and what it
 /// names is on every brick; after one more, so have the objects that it names; and so on. So after as many passes as the tree
 /// is deep, and one more, all that can be reached through directories that aren't in split-brain is on all bricks, clear and
 /// alike, or in split-brain and as it was.
