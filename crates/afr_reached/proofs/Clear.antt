@@ -1,5 +1,5 @@
 -- An undisturbed round leaves an object and kind unchanged where all their numbers are 0: no heal of them goes on.
-use Rattle.std.proofs.Common.{Bool, ap, arith, inl, inr, refl, subst, sym, true, true≢false, ℕ, suc, false, ◌<◌, ◌∙◌, ◌≡◌, ◌≤◌, ◌∷◌, length}
+use Rattle.std.proofs.Common.{Bool, ap, arith, inl, inr, refl, subst, sym, true, true≢false, ℕ, suc, false, ◌<◌, ◌∙◌, ◌≡◌, ◌≤◌, [], ◌∷◌, length}
 use Rattle.std.specs.Prelude.{List as Seq, None, Option, Some, slice_get}
 use Rattle.std.proofs.lemmas.Bool.{eqb-true}
 use Rattle.afr_base.specs.Bricks.{and_left, and_right}

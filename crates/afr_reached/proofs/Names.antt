@@ -10,6 +10,8 @@ use Rattle.afr_base.specs.declared.ids.Kind.TheVariants.{Names}
 use Rattle.afr_base.specs.declared.ids.NameId.{NameId}
 use Rattle.afr_base.specs.declared.ids.What.{What}
 use Rattle.afr_base.specs.declared.ids.What.TheVariants.{Dir, File}
+use Rattle.afr_object.specs.Repairs.{Contents}
+use Rattle.afr_object.specs.Repairs as contents
 use Rattle.afr_object.specs.Tables.{copy_at, is_dir, name_cmp, opening, opening_gfid, root}
 use Rattle.afr_object.specs.declared.change.Change.TheVariants.{Make}
 use Rattle.afr_object.specs.declared.entry.Entry.{Entry}
@@ -95,6 +97,9 @@ named_alike p log dir clear b c low near name g (what, is) = (what, entry ∙ is
     entry : entry_at dir name (holds p log c) ≡ entry_at dir name (holds p log b)
     entry = cc same
 
+names_same : (w v : What) (s t : List (NameId × Entry)) → ◌≡◌ {A = What × Contents} (w, contents.Names s) (v, contents.Names t) → s ≡ t
+names_same w v s t e = (let same : contents.Names s ≡ contents.Names t = ap (λ (x : What × Contents). x.1) e in cc same)
+
 -- where they are unchanged, a brick had what it has
 pub named_was : (p : Plan) (start log : List Line) (dir : Gfid) → IsEverywhere p start dir → IsUnchanged p start log dir Names → (b : ℕ) → b < p.shape.n → (name : NameId) (g : Gfid) → IsNamed p log b dir name g → IsNamed p start b dir name g
 named_was p start log dir every u b low name g (what, is) = (what, entry ∙ is)
@@ -106,7 +111,7 @@ named_was p start log dir every u b low name g (what, is) = (what, entry ∙ is)
     now = u.parts b low (was.0.what, part_of Names was.0) (was.0, was.1, refl)
 
     names : was.0.names ≡ now.0.names
-    names = (let e = now.2 in cc e)
+    names = sym (names_same now.0.what was.0.what now.0.names was.0.names now.2)
 
     entry : entry_at dir name (holds p start b) ≡ entry_at dir name (holds p log b)
     entry = ap (entry_in name) was.1 ∙ ap (λ (t : List (NameId × Entry)). lookup (is_at (name_cmp name)) t) names ∙ sym (ap (entry_in name) now.1)
