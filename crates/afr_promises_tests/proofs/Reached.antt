@@ -66,9 +66,11 @@ module _ (q : Plan) where
   all_three (suc (suc (suc b))) low = absurd (omega (arith, low))
 
   first_pass : IsPass (twice q) [] (all_rounds [])
+  unfolding ends
   first_pass = record { bricks = all_bricks; rounds = (ends 2 (round 1 (round 0 [])) refl refl refl, (ends 1 (round 0 []) refl refl refl, (ends 0 [] refl refl refl, refl))); all = all_three }
 
   pub second_pass : IsPass (twice q) (all_rounds []) two_passes
+  unfolding ends
   second_pass = record {
     bricks = all_bricks;
     rounds = (ends 2 (round 1 (round 0 (all_rounds []))) refl refl refl, (ends 1 (round 0 (all_rounds [])) refl refl refl, (ends 0 (all_rounds []) refl refl refl, refl)));

@@ -1,5 +1,5 @@
 -- An undisturbed round leaves an object and kind unchanged where all their numbers are 0: no heal of them goes on.
-use Rattle.std.proofs.Common.{Bool, ap, arith, inl, inr, refl, subst, sym, true, true≢false, ℕ, suc, false, ◌<◌, ◌∙◌, ◌≡◌, ◌≤◌, [], ◌∷◌, length}
+use Rattle.std.proofs.Common.{Bool, ap, arith, inl, inr, refl, subst, sym, true, true≢false, ℕ, suc, false, ◌∙◌, ◌≡◌, ◌≤◌, [], ◌∷◌, length}
 use Rattle.std.specs.Prelude.{List as Seq, None, Option, Some, slice_get}
 use Rattle.std.proofs.lemmas.Bool.{eqb-true}
 use Rattle.afr_base.specs.Bricks.{and_left, and_right}
@@ -152,9 +152,9 @@ module _ (p : Plan) (log : Seq Line) (premises : Premises p log) (a : ℕ) (quie
 
   own : (line : Line) (older : Seq Line) → Premises p (line ∷ older) → IsPast L (line ∷ older) → Calm a line → State older (now older) → MayExactly p.shape.n (kept_by p) (λ x. now older) (Some line) → State (line ∷ older) (note p.shape.n (kept_by p) (now older) (length older) (Some line))
   own line older q past calm w may = (
-      after_own p L (moves p log premises) a g kind Any (λ line older q s k. tt) (λ older k c e. no_command (ended a older) c e) older line q past calm w.0 may,
-      unchanged_on p start older (line ∷ older) g kind w.1 (spared p g kind line older (own_spares p.shape.n (kept_by p) (now older) g kind w.0.idle w.0.early line may)),
-      )
+    after_own p L (moves p log premises) a g kind Any (λ line older q s k. tt) (λ older k c e. no_command (ended a older) c e) older line q past calm w.0 may,
+    unchanged_on p start older (line ∷ older) g kind w.1 (spared p g kind line older (own_spares p.shape.n (kept_by p) (now older) g kind w.0.idle w.0.early line may)),
+  )
 
   rests : State log (now log)
   rests = walk p.shape.n (kept_by p) L (moves p log premises) a lo (Premises p) (shorter p) State (λ older r none w. (after_fresh p g kind Any older w.0.clear w.0.kept, w.1)) own

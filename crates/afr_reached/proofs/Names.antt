@@ -1,9 +1,9 @@
 -- Directories that every brick has: of what sort they are, and what their names lead to.
-use Rattle.std.proofs.Common.{Bool, ap, arith, false, inl, inr, not, refl, subst, sym, true, true≢false, ℕ, zero, suc, ◌&&◌, ◌<◌, ◌∙◌, ◌≡◌, ◌≤◌, ◌==◌, List, [], ◌∷◌, None, Option, Some}
+use Rattle.std.proofs.Common.{Bool, ap, false, not, refl, subst, sym, true, ℕ, zero, suc, ◌&&◌, ◌<◌, ◌∙◌, ◌≡◌, ◌==◌, List, [], ◌∷◌, None, Option, Some}
 use Rattle.std.specs.Prelude.{is_some}
 use Rattle.std.specs.BTreeMap.{is_at}
 use Rattle.std.specs.Map.{lookup}
-use Rattle.afr_base.specs.Keeping.{is_bytes, keeps}
+use Rattle.afr_base.specs.Keeping.{keeps}
 use Rattle.afr_base.specs.declared.ids.BrickId.{BrickId}
 use Rattle.afr_base.specs.declared.ids.Gfid.{Gfid}
 use Rattle.afr_base.specs.declared.ids.Kind.TheVariants.{Names}
@@ -18,7 +18,7 @@ use Rattle.afr_object.specs.declared.entry.Entry.{Entry}
 use Rattle.afr_object.specs.declared.object.Object.{Object}
 use Rattle.afr_lines.specs.declared.line.Line.{Line}
 use Rattle.afr_plan.specs.declared.plan.Plan.{Plan}
-use Rattle.afr_model.specs.Cells.{IsEntry, Name, value_if, value_of}
+use Rattle.afr_model.specs.Cells.{IsEntry, Name, value_if}
 use Rattle.afr_model.specs.Sums.{has_object}
 use Rattle.afr_model.specs.Tables.{entry_at, entry_in, holds}
 use Rattle.afr_tables.specs.TableLaws.{copy_stays, stays_applied}

@@ -1,6 +1,5 @@
 -- What is known before and after undisturbed rounds, one right after the other.
-use Rattle.std.proofs.Common.{arith, inl, inr, refl, subst, sym, ℕ, suc, true, ◌<◌, ◌∙◌, ◌≡◌, ◌≤◌, ◌==◌, false, List, [], ◌∷◌, length}
-use Rattle.std.proofs.lemmas.Bool.Decides.{nat_tests}
+use Rattle.std.proofs.Common.{arith, inl, inr, refl, subst, sym, ℕ, ◌∙◌, List, [], ◌∷◌, length}
 use Rattle.afr_base.specs.Bricks.{below}
 use Rattle.afr_base.specs.declared.ids.BrickId.{BrickId}
 use Rattle.afr_base.specs.declared.ids.Gfid.{Gfid}
@@ -13,7 +12,7 @@ use Rattle.afr_lines.specs.declared.line.Line.TheVariants.{End}
 use Rattle.afr_plan.specs.declared.plan.Plan.{Plan}
 use Rattle.afr_model.specs.Safe.{log_before}
 use Rattle.afr_model.specs.Splits.{IsSplit}
-use Rattle.afr_model.specs.Tables.{held_before, holds}
+use Rattle.afr_model.specs.Tables.{holds}
 use Rattle.afr_moves.proofs.Tests.{same_no, same_self}
 use Rattle.afr_tables.specs.Clear.{IsClear}
 use Rattle.afr_tables.specs.TableLaws.{copy_stays}

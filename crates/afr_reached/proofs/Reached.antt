@@ -1,5 +1,5 @@
 -- Pass after pass, one name further down.
-use Rattle.std.proofs.Common.{ap, arith, inl, inr, refl, subst, sym, true, ℕ, zero, suc, ◌<◌, ◌∙◌, ◌≡◌, ◌≤◌, List, [], ◌∷◌, length}
+use Rattle.std.proofs.Common.{arith, inl, inr, refl, subst, sym, true, ℕ, zero, suc, ◌<◌, ◌≡◌, ◌≤◌, List, [], ◌∷◌, length}
 use Rattle.afr_base.specs.Bricks.{below}
 use Rattle.afr_base.specs.declared.ids.Gfid.{Gfid}
 use Rattle.afr_base.specs.declared.ids.Kind.TheVariants.{Names}
@@ -112,8 +112,7 @@ module _ (p : Plan) (only : OnlyDirectoriesHaveNames) (named : EntriesHaveCopies
       let some : 0 < p.shape.n = omega (arith, low) in
       let known : Known p log = knows some in
       let before : Step k start = steps k start (known_start start log known pass) ends in
-      let sort = sort_of p log (one log known) some g (holds_next k start log known pass before b low path g leads few) in
-      (
+      let sort = sort_of p log (one log known) some g (holds_next k start log known pass before b low path g leads few) in (
         sort.0,
         sort.1,
         λ less kind of. now_of (HasConverged p) log known.converged start pass.bricks pass.rounds pass.all g sort.0 kind (as_then p start pass.bricks log pass.rounds (one log known) g sort.0 (had k start log known pass before b low path g leads less) sort.1) of,

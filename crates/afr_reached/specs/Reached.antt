@@ -44,7 +44,7 @@ Leads p log b [] g = g ≡ root
 Leads p log b (name ∷ path) g = (dir : Gfid) × Leads p log b path dir × (IsSplit p log (below p.shape.n) dir Names → ⊥) × IsNamed p log b dir name g
 
 -- ---- what is left
--- where the log ends with one pass more than k, what that many names lead to is on every brick, as a file or as a directory; and what at most k names lead to has converged over the last pass
+-- where the log ends with one pass more than k, what at most so many names lead to on a brick is on every brick, as a file or as a directory; and what at most k names lead to has converged over the last pass
 abbrev pub HasReached : Plan → List Line → Type 0
 HasReached p log =
     (k : ℕ) (start : List Line) → IsPass p start log → ArePasses p k start
