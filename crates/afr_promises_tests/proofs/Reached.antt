@@ -1,5 +1,5 @@
 -- A file that is on every brick after passes of rounds, and one beneath a split-brain that isn't.
-use Rattle.std.proofs.Common.{◌≡◌, ℕ, zero, suc, ◌+◌, ◌<◌, ◌^◌, Bool, false, true, inl, inr, refl, sym, ◌∙◌, ap, subst, arith, List, [], ◌∷◌, length, Some}
+use Rattle.std.proofs.Common.{◌≡◌, ℕ, zero, suc, ◌+◌, ◌<◌, false, inl, refl, sym, ◌∙◌, ap, subst, arith, List, [], ◌∷◌, length, Some}
 use Rattle.std.specs.Prelude.{slice_get}
 use Rattle.afr_base.specs.Bricks.{below}
 use Rattle.afr_base.specs.declared.ids.Gfid.{Gfid}
@@ -23,7 +23,7 @@ use Rattle.afr_model.specs.Showing.{has}
 use Rattle.afr_model.specs.Splits.{IsSplit}
 use Rattle.afr_model.specs.Sums.{has_object}
 use Rattle.afr_model.specs.Tables.{holds}
-use Rattle.afr_converged.specs.Converged.{EndsRound, IsClearAlike, IsConverged, IsEverywhereAs}
+use Rattle.afr_converged.specs.Converged.{EndsRound, IsConverged, IsEverywhereAs}
 use Rattle.afr_reached.specs.Reached.{ArePasses, IsNamed, IsPass, Leads}
 use Rattle.afr_promises_tests.proofs.Converged.{all_bricks, all_rounds, brick, healing, index, round}
 use Rattle.afr_promises_tests.proofs.Words.{done, ok, says, told_apart}
