@@ -9,6 +9,7 @@ use Rattle.afr_lines.specs.declared.line.Line.TheVariants.{Ask, Begin, End, Even
 use Rattle.afr_lines.specs.declared.line.Line.{Line}
 use Rattle.afr_model.specs.Actors.{is_done, rounds_of, script_of, works_of}
 use Rattle.afr_plan.specs.declared.command.Command.{Command}
+use Rattle.afr_plan.specs.declared.command.Command.TheVariants as command
 use Rattle.afr_plan.specs.declared.plan.Plan.{Plan}
 use Rattle.afr_base.specs.declared.ids.BrickId.{BrickId}
 use Rattle.afr_law.proofs.Model.Tasks.{other_ends}
@@ -44,12 +45,17 @@ drop_get [] k c e = absurd (cc e)
 drop_get (x ∷ xs) zero c e = (let same : x ≡ c = cc e in ap (λ y. y + total itself xs) same)
 drop_get (x ∷ xs) (suc k) c e = (let h = drop_get xs k c e in let s : suc k + 1 ≡ suc (k + 1) = omega arith in rw s h)
 
+-- no command costs nothing
+command_costs : (n : ℕ) (c : Command) → 1 ≤ cost_of n c
+command_costs n (command.Rename old new) = omega arith
+command_costs n c = omega arith
+
 pub some_cost : (p : Plan) (a k : ℕ) → k < works_of p a → (c : ℕ) × (slice_get (costs_of p a) k ≡ Some c) × (1 ≤ c)
 some_cost p a k low = go (nat_lt 16 a) refl
   where
     command_cost : (xs : List Command) (k : ℕ) → k < length xs → (c : ℕ) × (slice_get (map (cost_of p.shape.n) xs) k ≡ Some c) × (1 ≤ c)
     command_cost [] k l = absurd (omega (arith, l))
-    command_cost (x ∷ xs) zero l = (cost_of p.shape.n x, refl, omega arith)
+    command_cost (x ∷ xs) zero l = (cost_of p.shape.n x, refl, command_costs p.shape.n x)
     command_cost (x ∷ xs) (suc k) l = command_cost xs k (omega (arith, l))
 
     brick_cost : (xs : List BrickId) (k : ℕ) → k < length xs → (c : ℕ) × (slice_get (map (λ b. round_cost p) xs) k ≡ Some c) × (1 ≤ c)

@@ -1,5 +1,5 @@
 -- What the rule is asked for by a rename is what its lines say, those of the part to which the look belongs.
-use Rattle.std.proofs.Common.{◌≡◌, ◌∙◌, ℕ, nat_le, Bool, true, false, List, [], ◌∷◌, ◌++◌, Option, refl, sym, ap, subst, length, map, if◌then◌else◌}
+use Rattle.std.proofs.Common.{◌≡◌, ◌∙◌, ℕ, nat_le, Bool, true, false, List, [], ◌∷◌, ◌++◌, Option, refl, sym, ap, subst, length, if◌then◌else◌}
 use Rattle.afr_base.specs.declared.ids.ActorId.{ActorId}
 use Rattle.afr_base.specs.declared.ids.BrickId.{BrickId}
 use Rattle.afr_base.specs.declared.ids.Gfid.{Gfid}
@@ -40,7 +40,7 @@ use Rattle.afr_readings.proofs.Asks.{ask_same}
 use Rattle.afr_readings.specs.Picked.{PickedRename}
 use Rattle.afr_readings.specs.Readings.{asked_at, asked_by_part, asked_for_rename, kind_here, or_before}
 use Rattle.afr_rename.specs.Against.{against_new, against_old, half_reply}
-use Rattle.afr_rename.specs.Paths.{front, making_of, reads_new, reads_old, removal_of}
+use Rattle.afr_rename.specs.Paths.{front, reads_new, reads_old}
 use Rattle.afr_rename.specs.Rename.{IsMaking, IsRemoving, IsRename, IsSound, Renaming, answered, choices_at, is_done, making_after, next_at, next_of, paths_after, second_begun, stage_after, turned}
 use Rattle.afr_rename.specs.Under.{choices_under, found_after, next_under, progress_after}
 use Rattle.afr_rename.specs.declared.paths.Paths.{Paths}
@@ -49,10 +49,8 @@ use Rattle.afr_rename.specs.declared.stage.RenameStage.TheVariants.{Ending, Find
 use Rattle.afr_rename_telling.proofs.Cut.{line_makes, line_removes, line_walks, make_grows, not_again, removal_grows, walk_grows}
 use Rattle.afr_rename_telling.proofs.RemovingAbout.{ends_in}
 use Rattle.afr_rename_telling.proofs.Walks.{finds_again, finds_walk, not_all_asked, walks_again}
-use Rattle.afr_rename_telling.specs.RenameTelling as telling
 use Rattle.afr_rename_telling.specs.RenameTelling.{Drops, Makes as MakesName, Removes as RemovesName, RenameTells, TellsIn, old_dir, to_of}
 use Rattle.afr_rule.specs.declared.candidate.Candidate.{Candidate}
-use Rattle.afr_readings.proofs.Rule.{numbers_of}
 use Rattle.afr_transaction.specs.Between.{noted_read}
 use Rattle.afr_transaction.specs.Outcome.{outcome_of}
 use Rattle.afr_transaction.specs.Progress as transaction

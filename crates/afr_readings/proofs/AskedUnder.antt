@@ -35,7 +35,6 @@ use Rattle.afr_model.specs.Refusals.{by_locks, by_name, or_else, refusal}
 use Rattle.afr_model.specs.Showing.{Path, At, among, looked_by, looking, path_by}
 use Rattle.afr_discipline.specs.Tests.{ends_low}
 use Rattle.afr_object.specs.Tables.{object_of}
-use Rattle.afr_object.specs.declared.change.Change.{Change}
 use Rattle.afr_object.specs.declared.entry.Entry.{Entry}
 use Rattle.afr_plan.specs.declared.command.Command.{Command}
 use Rattle.afr_plan.specs.declared.plan.Plan.{Plan}

@@ -139,7 +139,7 @@ module _ (stays : StaysSound) (asks_more : AsksMore) (tells_more : WorkTellsMore
 
 -- ---- the laws
 none_asked : (p : Plan) (c : Command) → asked_for_command p c [] ≡ []
-none_asked p (command.Rename from to) = refl
+none_asked p (command.Rename old new) = refl
 none_asked p c = refl
 
 pub reading_begins : ReadingBegins

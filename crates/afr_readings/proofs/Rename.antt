@@ -1,5 +1,5 @@
 -- A rename reads each name at a copy that the rule picked by the last looks of the part to which the line belongs.
-use Rattle.std.proofs.Common.{◌≡◌, ◌∙◌, ℕ, ◌-◌, ◌≤◌, nat_le, Bool, true, false, List, [], ◌∷◌, ◌++◌, Option, None, Some, refl, sym, ap, subst, length, if◌then◌else◌}
+use Rattle.std.proofs.Common.{◌≡◌, ℕ, Bool, true, false, List, [], ◌∷◌, Option, None, Some, refl, sym, ap, subst, length, if◌then◌else◌}
 use Rattle.afr_base.specs.Bricks.{is_nothing, lowest}
 use Rattle.afr_base.specs.Majority.{is_majority}
 use Rattle.afr_base.specs.declared.ids.ActorId.{ActorId}
@@ -7,63 +7,53 @@ use Rattle.afr_base.specs.declared.ids.BrickId.{BrickId}
 use Rattle.afr_base.specs.declared.ids.Gfid.{Gfid}
 use Rattle.afr_base.specs.declared.ids.Kind.TheVariants.{Names}
 use Rattle.afr_base.specs.declared.ids.NameId.{NameId}
-use Rattle.afr_base.specs.declared.ids.Shape.{Shape}
 use Rattle.afr_choice.specs.declared.looked.Looked.{Looked}
 use Rattle.afr_entry.specs.Entry.{found_by, offered, progress_begun, settled}
-use Rattle.afr_entry.specs.Job.{reply_to}
 use Rattle.afr_entry.specs.declared.refusal.Refusal.{Refusal}
 use Rattle.afr_entry.specs.declared.stage.Found.{Found}
 use Rattle.afr_entry.specs.declared.stage.Found.TheVariants.{Fits, Refused, Unread}
 use Rattle.afr_entry_telling.proofs.Changing.{begins_at}
 use Rattle.afr_entry_telling.specs.EntryTelling.{OnChange}
 use Rattle.afr_inode_telling.proofs.Walking.{path_kept}
-use Rattle.afr_inode_telling.specs.WalkTelling.{TellsAt}
 use Rattle.afr_lines.specs.Told.{told_by}
-use Rattle.afr_lines.specs.Work.{Work, work}
+use Rattle.afr_lines.specs.Work.{Work}
 use Rattle.afr_lines.specs.declared.answer.Answer.{Answer}
 use Rattle.afr_lines.specs.declared.answer.Told.{Told}
 use Rattle.afr_lines.specs.declared.line.Line.{Line}
 use Rattle.afr_lines.specs.declared.line.Line.TheVariants.{Ask, Begin}
 use Rattle.afr_lines.specs.declared.line.Next.TheVariants as next
-use Rattle.afr_lines.specs.declared.reply.Good.TheVariants as good
-use Rattle.afr_lines.specs.declared.reply.Reply.{Reply}
 use Rattle.afr_lines.specs.declared.reply.Reply.TheVariants as reply
 use Rattle.afr_lines.specs.declared.request.Request.{Request}
-use Rattle.afr_lines.specs.declared.request.Request.TheVariants.{ReadName}
 use Rattle.afr_model.specs.Chosen as model
 use Rattle.afr_model.specs.Chosen.{Picks, ReadsPicked}
-use Rattle.afr_model.specs.Parts.{first_part, is_again, names_asked, second_part, the_make, the_removal, the_walk, upto_names}
+use Rattle.afr_model.specs.Parts.{the_make, the_removal}
 use Rattle.afr_model.specs.Showing.{has, locks, looked_by}
 use Rattle.afr_object.specs.Tables.{is_dir, object_of}
 use Rattle.afr_object.specs.declared.change.Change.{Change}
 use Rattle.afr_plan.specs.declared.command.Command.{Command}
 use Rattle.afr_plan.specs.declared.command.Command.TheVariants as command
 use Rattle.afr_plan.specs.declared.plan.Plan.{Plan}
-use Rattle.afr_readings.proofs.Asks.{ask_same, end_same}
+use Rattle.afr_readings.proofs.Asks.{ask_same}
 use Rattle.afr_readings.proofs.BegunParts.{make_begun, removal_looked}
-use Rattle.afr_readings.proofs.Entry.{refusal_ends, under_picked}
+use Rattle.afr_readings.proofs.Entry.{under_picked}
 use Rattle.afr_readings.proofs.Read.{end_begun, stop_ends}
 use Rattle.afr_readings.proofs.Rule.{Picked}
-use Rattle.afr_readings.proofs.Walk.{walk_begins, walk_begun, walk_picked, walk_reads}
-use Rattle.afr_readings.proofs.Write.{change_ends, change_reads}
-use Rattle.afr_readings.specs.Picked.{PickedEnd, PickedRename, PickedStep, PickedUnder, PickedWalk, PicksOf}
-use Rattle.afr_rename.specs.Against.{against_new, against_old, half_reply, is_acknowledged}
-use Rattle.afr_rename.specs.Paths.{first_walked, making_of, reads_new, reads_old, removal_of}
-use Rattle.afr_rename.specs.Rename.{IsMaking, IsRename, IsSound, Renaming, after_first, after_second, answered, choices_at, first_left, is_done, making_after, next_at, next_of, paths_after, rename_from, second_begun, second_left, stage_after, stage_begun, turned, unread}
-use Rattle.afr_rename.specs.Under.{IsUnder, choices_under, found_after, next_under, progress_after}
+use Rattle.afr_readings.proofs.Walk.{walk_begins, walk_begun, walk_picked}
+use Rattle.afr_readings.specs.Picked.{PickedRename, PickedStep, PickedUnder, PickedWalk, PicksOf}
+use Rattle.afr_rename.specs.Against.{against_new, against_old}
+use Rattle.afr_rename.specs.Paths.{making_of, reads_new, reads_old, removal_of}
+use Rattle.afr_rename.specs.Rename.{IsRename, IsSound, Renaming, after_first, after_second, answered, choices_at, first_left, is_done, making_after, next_at, next_of, paths_after, rename_from, second_begun, second_left, stage_after, stage_begun, turned, unread}
+use Rattle.afr_rename.specs.Under.{IsUnder, choices_under, found_after, progress_after}
 use Rattle.afr_rename.specs.declared.paths.Paths.{Paths}
 use Rattle.afr_rename.specs.declared.stage.RenameStage.{RenameStage}
 use Rattle.afr_rename.specs.declared.stage.RenameStage.TheVariants.{Ending, Finding, Making, Removing, Walking}
 use Rattle.afr_rename_telling.proofs.Cut.{make_grows, make_waits}
-use Rattle.afr_rename_telling.proofs.Looks.{make_looks, removal_looks, walk_looks}
 use Rattle.afr_rename_telling.proofs.Walks.{finds_again, not_all_asked, walks_again}
-use Rattle.afr_rename_telling.specs.RenameTelling.{Makes, Removes, RenameTells, TellsIn, WalksOn, waiting}
-use Rattle.afr_transaction.specs.Outcome.{outcome_of}
-use Rattle.afr_transaction.specs.Progress as transaction
+use Rattle.afr_rename_telling.specs.RenameTelling.{RenameTells, TellsIn}
 use Rattle.afr_transaction.specs.Between.{noted_read}
-use Rattle.afr_transaction.specs.Progress.{Progress, answered_by, fed, is_beginning, is_over, left, starting}
+use Rattle.afr_transaction.specs.Progress.{Progress, answered_by, fed, is_beginning, left, starting}
 use Rattle.afr_transaction.specs.declared.stage.Stage.{Stage}
-use Rattle.afr_transaction.specs.declared.stage.Stage.TheVariants.{Beginning, Closing, Locking, Looking as LookingAt}
+use Rattle.afr_transaction.specs.declared.stage.Stage.TheVariants.{Closing, Locking, Looking as LookingAt}
 use Rattle.afr_transaction_tells.specs.Tells.{During, OnBegin, Tells}
 use Rattle.afr_walk.specs.Choosing.{reader_of}
 use Rattle.afr_walk.specs.Walk.{is_walking, next_in, walk_from, walked}

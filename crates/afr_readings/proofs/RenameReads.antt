@@ -1,9 +1,7 @@
 -- Whom a rename asks for its names is a copy that the rule picked by the last looks of the whole work; and no reply of its is a stat's.
-use Rattle.std.proofs.Common.{◌≡◌, ◌∙◌, ℕ, ◌≤◌, Bool, true, false, List, [], ◌∷◌, refl, sym, ap, subst, length, if◌then◌else◌}
+use Rattle.std.proofs.Common.{◌≡◌, ℕ, ◌≤◌, Bool, true, false, List, refl, sym, subst, if◌then◌else◌}
 use Rattle.afr_base.specs.declared.ids.ActorId.{ActorId}
 use Rattle.afr_base.specs.declared.ids.BrickId.{BrickId}
-use Rattle.afr_base.specs.declared.ids.Gfid.{Gfid}
-use Rattle.afr_base.specs.declared.ids.Kind.TheVariants.{Names}
 use Rattle.afr_base.specs.declared.ids.NameId.{NameId}
 use Rattle.afr_base.specs.declared.ids.Shape.{Shape}
 use Rattle.afr_entry.specs.Job.{reply_to}
@@ -20,9 +18,8 @@ use Rattle.afr_lines.specs.declared.reply.Good.TheVariants as good
 use Rattle.afr_lines.specs.declared.reply.Reply.{Reply}
 use Rattle.afr_lines.specs.declared.reply.Reply.TheVariants as reply
 use Rattle.afr_lines.specs.declared.request.Request.{Request}
-use Rattle.afr_lines.specs.declared.request.Request.TheVariants.{ReadName}
 use Rattle.afr_model.specs.Chosen.{Picks, ReadsPicked}
-use Rattle.afr_model.specs.Parts.{the_make, the_removal, the_walk}
+use Rattle.afr_model.specs.Parts.{the_make, the_removal}
 use Rattle.afr_model.specs.Showing.{has, locks, looked_by}
 use Rattle.afr_object.specs.Tables.{object_of}
 use Rattle.afr_object.specs.declared.change.Change.{Change}
@@ -34,7 +31,7 @@ use Rattle.afr_readings.proofs.Entry.{refusal_ends}
 use Rattle.afr_readings.proofs.Rename.{locked_there, looks_same}
 use Rattle.afr_readings.proofs.Walk.{walk_reads}
 use Rattle.afr_readings.proofs.Write.{change_ends, change_reads}
-use Rattle.afr_readings.specs.Picked.{PickedEnd, PickedRename, PickedStep, PickedUnder, PicksOf}
+use Rattle.afr_readings.specs.Picked.{PickedEnd, PickedRename, PickedStep, PickedUnder}
 use Rattle.afr_rename.specs.Against.{half_reply, is_acknowledged}
 use Rattle.afr_rename.specs.Paths.{reads_new, reads_old}
 use Rattle.afr_rename.specs.Rename.{IsRename, Renaming, is_done, next_at, next_of, turned}
@@ -42,7 +39,7 @@ use Rattle.afr_rename.specs.Under.{next_under}
 use Rattle.afr_rename.specs.declared.stage.RenameStage.{RenameStage}
 use Rattle.afr_rename.specs.declared.stage.RenameStage.TheVariants.{Ending, Finding, Making, Removing, Walking}
 use Rattle.afr_rename_telling.proofs.Looks.{make_looks, removal_looks, walk_looks}
-use Rattle.afr_rename_telling.specs.RenameTelling.{Makes, Removes, RenameTells, TellsIn, WalksOn}
+use Rattle.afr_rename_telling.specs.RenameTelling.{RenameTells, TellsIn}
 use Rattle.afr_transaction.specs.Outcome.{outcome_of}
 use Rattle.afr_transaction.specs.Progress as transaction
 use Rattle.afr_transaction.specs.Progress.{Progress, is_beginning, is_over}
@@ -66,7 +63,7 @@ module _ (picks : Picks) (p : Plan) (m : Renaming) (a : ActorId) (log : List Lin
 
     -- the second walk
     second_reads : (few : p.shape.n ≤ 5) → TellsIn p Walking m.paths lines → is_walking m.paths.second.step ≡ true → PickedRename picks p Walking m.paths lines → Reads (next_in m.paths.second).0 (next_in m.paths.second).1
-    second_reads few k walks was = by m.paths.second.step walks k.tells.tells.step was
+    second_reads few k moving was = by m.paths.second.step moving k.tells.tells.step was
       where
         by : (step : WalkStep) → is_walking step ≡ true → TellsAt p (command.Ls m.paths.second.path) step m.paths.second.read m.paths.second.object (the_make own lines) → PickedStep picks p step m.paths.second.object.gfid (the_make own lines)
             → Reads (walks.next_at step m.paths.second).0 (walks.next_at step m.paths.second).1

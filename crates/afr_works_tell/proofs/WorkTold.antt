@@ -30,7 +30,6 @@ use Rattle.afr_model.specs.Parts.{Makes, Part, Removes, Walks, part_at}
 use Rattle.afr_model.specs.Renamed.{IsRenamed, KeepsToPart}
 use Rattle.afr_model.specs.Replied.{IsOf}
 use Rattle.afr_model.specs.Showing.{begins_attempt, has}
-use Rattle.afr_model.specs.Standing.{change_by}
 use Rattle.afr_walk.specs.Walk as walk
 use Rattle.afr_walk.specs.declared.walk.Walk.{Walk}
 use Rattle.afr_walk.specs.declared.walk.WalkStep.{WalkStep}
