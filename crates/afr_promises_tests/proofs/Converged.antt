@@ -17,26 +17,26 @@ use Rattle.afr_converged.specs.Converged.{AreAll, AreRounds, EndsRound, IsConver
 use Rattle.afr_converged.proofs.Spared.{spared, unchanged_on}
 use Rattle.afr_promises_tests.proofs.Words.{first, ok, split, three, told_apart}
 
-abbrev brick : ℕ → BrickId
+abbrev pub brick : ℕ → BrickId
 brick b = record { 0 = b }
 
 -- the healer has a round over each of the three bricks, and no client is left
-abbrev healing : Plan → Plan
+abbrev pub healing : Plan → Plan
 healing q = record (three q) { clients = []; healers = (brick 0 ∷ brick 1 ∷ brick 2 ∷ []) ∷ [] }
 
 -- the healer asks a brick for its index
-abbrev index : ℕ → Line
+abbrev pub index : ℕ → Line
 index b = Ask (record { 0 = 17 }) (record { 0 = b }) Index Given true
 
 -- a round at a brick that heals nothing
-abbrev round : ℕ → List Line → List Line
+abbrev pub round : ℕ → List Line → List Line
 round b older = End (record { 0 = 17 }) ok ∷ index b ∷ older
 
 -- rounds at all bricks
-abbrev all_rounds : List Line → List Line
+abbrev pub all_rounds : List Line → List Line
 all_rounds start = round 2 (round 1 (round 0 start))
 
-abbrev all_bricks : List BrickId
+abbrev pub all_bricks : List BrickId
 all_bricks = brick 2 ∷ brick 1 ∷ brick 0 ∷ []
 
 module _ (q : Plan) where

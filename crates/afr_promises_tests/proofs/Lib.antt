@@ -4,3 +4,4 @@ pub mod Missed
 pub mod Available
 pub mod WholeCopy
 pub mod Converged
+pub mod Reached

@@ -1,5 +1,5 @@
 -- What goes with the requests of a rename, and what its Begin lines give a name.
-use Rattle.std.proofs.Common.{◌≡◌, ◌==◌, ℕ, Bool, true, false, List, Some, length, sym, subst, if◌then◌else◌}
+use Rattle.std.proofs.Common.{◌≡◌, ◌==◌, ℕ, Bool, true, false, List, Some, length, refl, sym, subst, if◌then◌else◌}
 use Rattle.afr_base.specs.declared.ids.ActorId.{ActorId}
 use Rattle.afr_base.specs.declared.ids.BrickId.{BrickId}
 use Rattle.afr_base.specs.declared.ids.Gfid.{Gfid}
@@ -38,7 +38,7 @@ use Rattle.afr_write_telling.proofs.Goes.{asked_stage}
 use Rattle.afr_entry_telling.specs.EntryTelling.{OnChange}
 use Rattle.afr_rename.specs.Against.{half_reply}
 use Rattle.afr_rename.specs.Paths.{making_of, reads_new, reads_old, removal_of}
-use Rattle.afr_rename.specs.Rename.{CarriesNext, IsMaking, IsRemoving, IsSound, is_done, next_at, turned}
+use Rattle.afr_rename.specs.Rename.{CarriesNext, IsSound, is_done, next_at, turned}
 use Rattle.afr_rename.specs.Under.{IsUnder, next_under}
 use Rattle.afr_rename.specs.declared.paths.Paths.{Paths}
 use Rattle.afr_rename.specs.declared.stage.RenameStage.{RenameStage}

@@ -10,7 +10,7 @@ use Rattle.afr_lines.specs.declared.answer.Answer.TheVariants as answer
 use Rattle.afr_lines.specs.declared.line.Line.{Line}
 use Rattle.afr_lines.specs.declared.line.Next.TheVariants as next
 use Rattle.afr_lines.specs.declared.request.Request.{Request}
-use Rattle.afr_lines.specs.declared.request.Request.TheVariants.{Look, ReadName}
+use Rattle.afr_lines.specs.declared.request.Request.TheVariants.{ReadName}
 use Rattle.afr_object.specs.Tables.{copy_at, object_of, view_of}
 use Rattle.afr_object.specs.declared.change.Change.{Change}
 use Rattle.afr_object.specs.declared.entry.Entry.{Entry}
@@ -52,7 +52,7 @@ use Rattle.afr_rename.specs.Under.{IsUnder, next_under}
 use Rattle.afr_rename.specs.declared.paths.Paths.{Paths}
 use Rattle.afr_rename.specs.declared.stage.RenameStage.{RenameStage}
 use Rattle.afr_rename.specs.declared.stage.RenameStage.TheVariants.{Finding, Walking, Making, Removing, Ending}
-use Rattle.afr_rename_telling.specs.RenameTelling.{CanFind, CanHear, Makes, OldTells, Removes, TellsIn, old_dir, to_of}
+use Rattle.afr_rename_telling.specs.RenameTelling.{CanFind, CanHear, CanHearMaking, Makes, OldTells, Removes, TellsIn, old_dir, to_of}
 use Rattle.afr_hears.specs.Hears.{IsHeard}
 use Rattle.afr_hears.proofs.Hearing.{step_there}
 use Rattle.afr_hears.proofs.SomeLines.{AreIn, work_in}
@@ -121,7 +121,7 @@ module _ (p : Plan) (log : List Line) (a : ActorId) (b : BrickId) (request : Req
   making follows x t found sound k e = go (is_done t) e
     where
       go : (done : Bool) → (if done then next_change Locking (length log) (turned x t) else next_under found (length log) (reads_new x) t) ≡ next.Ask b request
-          → (if done then CanTell (old_dir x) request (told_by heard) else CanHearUnder found t.stage p x.second.object b.0 request log heard)
+          → CanHearMaking done found t.stage p x b.0 request log heard
       go true e = can_turn x t e
       go false e =
           under follows (the_make x.first.path (work a.0 log)) (make_in log x.first.path (work a.0 log) (work_in a.0 log)) x.second.object x.new_name (making_of x x.second.object.gfid) refl t found sound.under k.tells.on

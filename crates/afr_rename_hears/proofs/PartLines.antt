@@ -1,5 +1,5 @@
 -- The lines of each part of a rename's work stand in the log.
-use Rattle.std.proofs.Common.{ℕ, ◌+◌, ◌-◌, nat_le, Bool, true, false, List, [], ◌∷◌, ◌++◌, length, if◌then◌else◌}
+use Rattle.std.proofs.Common.{ℕ, ◌-◌, nat_le, Bool, true, false, List, [], ◌∷◌, length, if◌then◌else◌}
 use Rattle.afr_base.specs.declared.ids.NameId.{NameId}
 use Rattle.afr_lines.specs.Work.{Work}
 use Rattle.afr_lines.specs.declared.line.Line.{Line}

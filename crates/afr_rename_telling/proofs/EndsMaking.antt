@@ -5,6 +5,7 @@ use Rattle.afr_base.specs.Majority.{is_majority}
 use Rattle.afr_base.specs.declared.ids.Kind.{Kind}
 use Rattle.afr_base.specs.declared.ids.NameId.{NameId}
 use Rattle.afr_base.specs.declared.ids.Shape.{Shape}
+use Rattle.afr_base.specs.declared.ids.What.TheVariants.{File}
 use Rattle.afr_discipline.specs.Tests.{ends_low}
 use Rattle.afr_lines.specs.Areas.{area_for, kind_for}
 use Rattle.afr_lines.specs.Work.{Work}
@@ -22,7 +23,7 @@ use Rattle.afr_model.specs.Answered.{by_posts, is_by_views}
 use Rattle.afr_model.specs.Parts.{first_part, the_make, the_walk}
 use Rattle.afr_model.specs.Refusals.{by_locks, by_name, or_else, read_refused, refusal}
 use Rattle.afr_model.specs.Renamed.{AsksAllOf, IsRenamed, asked_lines, asks_at, by_halves, or_halves, refusal_at, rename_refusal, rename_reply}
-use Rattle.afr_model.specs.Showing.{Path, among, begins_attempt, has, is_faulted, locks, looked_by, path_by, posted, refuses_read}
+use Rattle.afr_model.specs.Showing.{Path, At, among, begins_attempt, has, is_faulted, locks, looked_by, path_by, posted, refuses_read}
 use Rattle.afr_model.specs.Skipped.{AsksAll}
 use Rattle.afr_model.specs.Standing.{asking, looks_here, place_by}
 use Rattle.afr_transaction.specs.Outcome.{outcome_of, reply_for, reply_of}
@@ -37,7 +38,6 @@ use Rattle.afr_transaction_tells.specs.GivenUp.{GaveUp}
 use Rattle.afr_transaction_tells.specs.Tells.{During, OnUnlocks, Tells, TooFew, Tried, Unfit}
 use Rattle.afr_transaction_tells.proofs.GivenUpLemmas.{given_up_ends}
 use Rattle.afr_transaction_tells.proofs.Over.{asks_all_for_locks, failed_by_brick, replies_exactly, skips_none, undisturbed_is_done}
-use Rattle.afr_transaction_tells.proofs.Small.{self}
 use Rattle.afr_entry.specs.Job.{change_of, reply_to}
 use Rattle.afr_entry.specs.declared.job.EntryJob.{EntryJob}
 use Rattle.afr_entry.specs.declared.job.EntryJob.TheVariants.{Create}
@@ -60,7 +60,7 @@ use Rattle.afr_rename_telling.proofs.Cut.{first_all}
 use Rattle.afr_rename_telling.proofs.MakingMore.{making_like}
 use Rattle.afr_rename_telling.proofs.MakingParts.{fault_more, has_append, or_left}
 use Rattle.afr_rename_telling.proofs.MakingWalked.{begun_only, whole}
-use Rattle.afr_rename_telling.proofs.RemovingTurn.{none_most}
+use Rattle.afr_rename_telling.proofs.WalkEnds.{file_asks, file_lines, file_refusal, no_majority}
 
 -- ---- replies
 -- a transaction's own reply is never that a rename stays half
@@ -109,17 +109,18 @@ locked_over p t w (Tried under all) = under.allows.locked.locked
 -- ---- what refuses a rename whose first path has led to a file
 pub refusal_is : (p : Plan) (x : Paths) (lines : Work) → HasWalked p x lines → rename_refusal p x.first.path (to_of x) lines ≡ refusal p (command.Create (to_of x)) (the_make x.first.path lines)
 refusal_is p x lines k =
-    ap (λ (q : Path). refusal_at q p x.first.path (to_of x) lines) k.found
-    ∙ ap (λ (b : Bool). if b then refusal p (command.Create (to_of x)) (the_make x.first.path lines) else refusal p (command.Stat x.first.path) (the_walk x.first.path lines)) (self (length x.first.path))
+    ap (λ (q : Path). refusal_at q p x.first.path (to_of x) lines) k.found ∙ file_refusal p x.first.path (to_of x) lines (record { gfid = x.first.object.gfid; what = File }) refl
 
 -- whom it asks there
 asks_there : (p : Plan) (x : Paths) (lines : Work) → HasWalked p x lines → AsksAllOf p (command.Create (to_of x)) (the_make x.first.path lines)
     → AsksAllOf p (asks_at (path_by p (the_walk x.first.path lines)) x.first.path (to_of x)) (asked_lines (path_by p (the_walk x.first.path lines)) x.first.path lines)
 asks_there p x lines k all =
+    let file : Entry = record { gfid = x.first.object.gfid; what = File } in
     subst (λ (q : Path). AsksAllOf p (asks_at q x.first.path (to_of x)) (asked_lines q x.first.path lines)) (sym k.found)
-    (subst (λ (b : Bool). AsksAllOf p (if b then command.Create (to_of x) else command.Stat x.first.path) (if b then the_make x.first.path lines else the_walk x.first.path lines)) (sym (self (length x.first.path))) all)
+    (subst (λ (c : Command). AsksAllOf p c (asked_lines (At (length x.first.path) file) x.first.path lines)) (sym (file_asks p x.first.path (to_of x) lines file))
+    (subst (λ (w : Work). AsksAllOf p (command.Create (to_of x)) w) (sym (file_lines p x.first.path (to_of x) lines file)) all))
 
-pub halves_else : (a b : Option Reply) → or_halves a b ≡ or_else a b
+halves_else : (a b : Option Reply) → or_halves a b ≡ or_else a b
 halves_else None b = refl
 halves_else (Some said) b = refl
 
@@ -239,7 +240,7 @@ module _ (p : Plan) (x : Paths) (t : Progress) (found : Found) (lines : Work) (k
         go (ByName (Some entry) e g) = absurd (exists (cc e))
 
     not_closed : is_majority p.shape.n (among posted make) ≡ true → ⊥
-    not_closed e = none_most p.shape.n (subst (λ (s : List ℕ). is_majority p.shape.n s ≡ true) gave.before.during.idle.no_post_did e)
+    not_closed e = no_majority p.shape.n (subst (λ (s : List ℕ). is_majority p.shape.n s ≡ true) gave.before.during.idle.no_post_did e)
 
     none_closed : is_majority p.shape.n (among posted make) ≡ false
     none_closed = go (is_majority p.shape.n (among posted make)) refl

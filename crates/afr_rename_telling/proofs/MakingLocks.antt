@@ -57,7 +57,7 @@ unnamed Closing t a b told took = refl
 pub kept_locking : (found : Found) (p : Plan) (t : Progress) (w : Work) → fits_stage found t.stage ≡ true → OnChange found p t w → t.stage ≡ Locking → has unlocks_any w ≡ false
 kept_locking (Unread copy) p t w turn k e = (subst (λ (stage : Stage). HoldsAt stage t.change t.register w) e k.1).kept
 kept_locking Fits p t w turn k e = absurd (cc (subst (λ (stage : Stage). fits_stage Fits stage ≡ true) e turn))
-kept_locking (Refused why) p t w turn k e = absurd (cc (subst (λ (stage : Stage). fits_stage (Refused why) stage ≡ true) e turn))
+kept_locking (Refused why) p t w turn k e = let closing = k.closing in absurd (cc (closing, e))
 
 -- where the name isn't asked yet, a brick may tell what fits the directory
 pub hears_told : (copy : BrickId) (stage : Stage) (p : Plan) (dir : Entry) (b : ℕ) (request : Request) (log : List Line) (heard : Answer) → is_beginning stage ≡ false → CanHearUnder (Unread copy) stage p dir b request log heard → CanTell dir request (told_by heard)

@@ -181,7 +181,7 @@ module _ (p : Plan) (x : Paths) (t : Progress) (found : Found) (lines : Work) (a
         go (Unread copy) turn on leg =
             subst (λ (g : Gfid). has (locks g) (since_name lines) ≡ true) (sym object_is) (leg (subst (λ (g : Gfid). has (locks g) make ≡ true) object_is (looks on.0.tells)))
         go Fits turn on leg = absurd (cc (subst (λ (stage : Stage). fits_stage Fits stage ≡ true) f turn))
-        go (Refused why) turn on leg = absurd (cc (subst (λ (stage : Stage). fits_stage (Refused why) stage ≡ true) f turn))
+        go (Refused why) turn on leg = let closing = on.closing in absurd (cc (closing, f))
 
     asks_last : IsLooked p.shape.n (since_name ((asks, log) ∷ lines))
     asks_last = subst (λ (y : Bool). IsLooked p.shape.n (if y then [] else (asks, log) ∷ since_name lines)) (sym no_name)

@@ -1,7 +1,6 @@
 -- The turn from the making to the removal: what a making that is done shows, and the first lock of the old name after it.
-use Rattle.std.proofs.Common.{◌≡◌, ℕ, true, List, [], ◌∷◌, Some, None, refl, sym, ap, ◌∙◌, subst}
+use Rattle.std.proofs.Common.{◌≡◌, ℕ, true, List, ◌∷◌, Some, None, refl, sym, ap, ◌∙◌, subst}
 use Rattle.afr_base.specs.Majority.{is_majority}
-use Rattle.afr_base.specs.SetLemmas.{majority_some}
 use Rattle.afr_base.specs.declared.ids.Gfid.{Gfid}
 use Rattle.afr_base.specs.declared.ids.Shape.{Shape}
 use Rattle.afr_base.specs.declared.ids.What.TheVariants.{File}
@@ -42,9 +41,7 @@ use Rattle.afr_rename_telling.proofs.MakingMore.{making_like}
 use Rattle.afr_rename_telling.proofs.MakingAbout.{keeps_number}
 use Rattle.afr_rename_telling.proofs.MakingParts.{again_stays}
 use Rattle.afr_rename_telling.proofs.MakingWalked.{walked_more}
-
-pub none_most : (n : ℕ) → is_majority n [] ≡ true → ⊥
-none_most n e = let h = majority_some n [] e in cc h
+use Rattle.afr_rename_telling.proofs.WalkEnds.{no_majority}
 
 pub over_closing : (stage : Stage) (t : Progress) → is_over stage t ≡ true → stage ≡ Closing
 over_closing Closing t e = refl
@@ -57,8 +54,8 @@ over_closing Posting t e = absurd (cc e)
 
 -- an attempt that was closed at a majority went through its phases
 pub tried : (p : Plan) (t : Progress) (w : Work) → is_majority p.shape.n (among posted w) ≡ true → OnUnlocks p.shape t.change t.register.looked t.asked.looked_at w → IsUnder p.shape t.change t.register.looked t.asked.looked_at w
-tried p t w most (TooFew idle locked looks few none) = absurd (none_most p.shape.n (subst (λ (s : List ℕ). is_majority p.shape.n s ≡ true) idle.no_post_did most))
-tried p t w most (Unfit idle locked looks some all unfit) = absurd (none_most p.shape.n (subst (λ (s : List ℕ). is_majority p.shape.n s ≡ true) idle.no_post_did most))
+tried p t w most (TooFew idle locked looks few none) = absurd (no_majority p.shape.n (subst (λ (s : List ℕ). is_majority p.shape.n s ≡ true) idle.no_post_did most))
+tried p t w most (Unfit idle locked looks some all unfit) = absurd (no_majority p.shape.n (subst (λ (s : List ℕ). is_majority p.shape.n s ≡ true) idle.no_post_did most))
 tried p t w most (Tried under whole) = under
 
 -- ---- a making that is done
@@ -109,7 +106,7 @@ module _ (p : Plan) (x : Paths) (t : Progress) (found : Found) (lines : Work) (k
   by_found (Refused why) closing most on name =
       let idle = on.before.during.idle in
       let post = on.before.sets.posted ∙ idle.no_post_did in
-      absurd (none_most t.register.shape.n (subst (λ (s : List ℕ). is_majority t.register.shape.n s ≡ true) post most))
+      absurd (no_majority t.register.shape.n (subst (λ (s : List ℕ). is_majority t.register.shape.n s ≡ true) post most))
 
   pub made_done : is_done t ≡ true → IsDone p x make × (has locks_any make ≡ true)
   made_done e =

@@ -47,7 +47,7 @@ use Rattle.afr_rename_telling.proofs.MakingLocks.{begins_own}
 use Rattle.afr_rename_telling.proofs.MakingParts.{among_front, changed_front, has_front, or_left, or_none, upto_behind}
 use Rattle.afr_rename_telling.proofs.MakingWalked.{walk_untouched}
 use Rattle.afr_rename_telling.proofs.RemovingBegins.{prefix_untouched}
-use Rattle.afr_rename_telling.proofs.RemovingTurn.{none_most}
+use Rattle.afr_rename_telling.proofs.WalkEnds.{no_majority}
 
 -- ---- before its attempt a part leaves the attempt before it
 -- no Begin line gives no change
@@ -63,7 +63,7 @@ changed_behind (x ∷ s) u e =
 
 -- nobody was asked for a post-op
 added_some : (b : ℕ) (s : List ℕ) → added b s ≡ [] → ⊥
-added_some b s e = let m = member_added b s b in let none = ap (λ (l : List ℕ). member l b) e in let some = same b in cc (m, none, some)
+added_some b s e = let m = member_added b s b in let some = same b in cc (m, some)
   where
     same : (n : ℕ) → (n == n || member s n) ≡ true
     same n = or_left (n == n) (member s n) (self n)
@@ -113,7 +113,7 @@ module _ (p : Plan) (x : Paths) (t : Progress) (found : Found) (lines : Work) (k
     where
       go : (b : Bool) → nat_le (length from) (names_asked first) ≡ b → b ≡ true
       go true e = refl
-      go false e = absurd (none_most p.shape.n (subst (λ (w : Work). is_majority p.shape.n (among posted w) ≡ true) (after_none (length from) first e) k.made))
+      go false e = absurd (no_majority p.shape.n (subst (λ (w : Work). is_majority p.shape.n (among posted w) ≡ true) (after_none (length from) first e) k.made))
 
   walk_first : upto_names (length from) first ≡ the_walk from lines
   walk_first = sym (upto_behind (length from) second first asked_first) ∙ ap (upto_names (length from)) (parts_are_whole lines)

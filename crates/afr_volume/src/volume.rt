@@ -40,6 +40,7 @@ use afr_object::List;
 use afr_plan::{Plan, Words};
 use afr_quiet_rounds::quiet_rounds_are_whole;
 use afr_ranges::fits_its_types;
+use afr_reached::quiet_passes_reach;
 use afr_rounds::Healer;
 use afr_rule::{Candidate, ReadRule, Rules, SourceRule};
 use afr_server::Server;
@@ -382,6 +383,7 @@ impl Volume {
         lawful_lines_fit();
         quiet_rounds_are_whole();
         quiet_rounds_converge();
+        quiet_passes_reach();
         acknowledged_is_durable();
         split_copies_missed();
         a_copy_is_whole();

@@ -9,7 +9,7 @@ use Rattle.afr_base.specs.declared.ids.BrickId.{BrickId}
 use Rattle.afr_base.specs.declared.ids.NameId.{NameId}
 use Rattle.afr_bound.specs.Cost.{counted}
 use Rattle.afr_entry.specs.Entry as entry
-use Rattle.afr_entry.specs.Entry.{Entering, IsChanging, IsRemoving}
+use Rattle.afr_entry.specs.Entry.{Entering}
 use Rattle.afr_entry.specs.Job.{reply_to}
 use Rattle.afr_entry.specs.declared.refusal.Refusal.{Refusal}
 use Rattle.afr_entry.specs.declared.job.EntryJob.TheVariants as name

@@ -1,5 +1,6 @@
 -- The lines of a client's present work, by the machine of its command.
 use Rattle.std.proofs.Common.{◌≡◌, ℕ, Bool, true, false, List, [], ◌∷◌, ◌++◌, length, refl, sym, ap, ◌∙◌, subst}
+use Rattle.afr_base.specs.Bricks.{and_left, and_right}
 use Rattle.afr_base.specs.declared.ids.ActorId.{ActorId}
 use Rattle.afr_base.specs.declared.ids.BrickId.{BrickId}
 use Rattle.afr_base.specs.declared.ids.NameId.{NameId}
@@ -30,7 +31,6 @@ use Rattle.afr_model.specs.Parts.{Makes, Part, Removes, Walks, part_at}
 use Rattle.afr_model.specs.Renamed.{IsRenamed, KeepsToPart}
 use Rattle.afr_model.specs.Replied.{IsOf}
 use Rattle.afr_model.specs.Showing.{begins_attempt, has}
-use Rattle.afr_model.specs.Standing.{change_by}
 use Rattle.afr_walk.specs.Walk as walk
 use Rattle.afr_walk.specs.declared.walk.Walk.{Walk}
 use Rattle.afr_walk.specs.declared.walk.WalkStep.{WalkStep}
@@ -63,7 +63,6 @@ use Rattle.afr_works.proofs.WorkLemmas.{never_begins}
 use Rattle.afr_rename.specs.Paths.{front, last}
 use Rattle.afr_rename_telling.specs.RenameTelling.{to_of}
 use Rattle.afr_rename_telling.specs.RenameLaws.{RenameAbout, RenameBegins, RenameBegun, RenameBlames, RenameEnds, RenameKeepsName, RenameTellsMore}
-use Rattle.afr_transaction.proofs.Parts.{both}
 use Rattle.afr_works.specs.Begin.{has_name}
 use Rattle.afr_works.specs.Work as work
 use Rattle.afr_works.specs.declared.work.Work.TheVariants.{Idle, Lookup, Write, Entry, Rename}
@@ -87,7 +86,7 @@ begins rename p (command.Create path) few some h = by_name p path (λ x. command
 begins rename p (command.Mkdir path) few some h = by_name p path (λ x. command.Mkdir x) (name.Mkdir (last path)) h (entry_begins p (front path) (name.Mkdir (last path)) few some)
 begins rename p (command.Unlink path) few some h = by_name p path (λ x. command.Unlink x) (name.Unlink (last path)) h (entry_begins p (front path) (name.Unlink (last path)) few some)
 begins rename p (command.Rmdir path) few some h = by_name p path (λ x. command.Rmdir x) (name.Rmdir (last path)) h (entry_begins p (front path) (name.Rmdir (last path)) few some)
-begins rename p (command.Rename from to) few some h = (let names = both (has_name from) (has_name to) h in rename p from to few some (some_names (length from) names.0) (some_names (length to) names.1))
+begins rename p (command.Rename from to) few some h = rename p from to few some (some_names (length from) (and_left (has_name from) (has_name to) h)) (some_names (length to) (and_right (has_name from) (has_name to) h))
 
 -- ---- after a line
 -- a read goes on along the same path

@@ -29,6 +29,7 @@ returns-clause-right c =
       quiet = c.quiet_rounds_are_whole.ensures.whole c.self.inside.plan (reverse c.self.inside.log.items) kept.runnable.few kept.runnable.clients few kept.follows kept.honest kept.lawful kept.replied kept.gives kept.runnable.rounds;
       left = c.quiet_rounds_converge.ensures.leave c.self.inside.plan (reverse c.self.inside.log.items) kept.runnable.few kept.runnable.clients few kept.follows kept.honest kept.lawful kept.replied kept.gives kept.runnable.rounds;
       converged = c.quiet_rounds_converge.ensures.converge c.self.inside.plan (reverse c.self.inside.log.items) kept.runnable.few kept.runnable.clients few kept.follows kept.honest kept.lawful kept.replied kept.gives kept.runnable.rounds;
+      reached = c.quiet_passes_reach.ensures.reach c.self.inside.plan (reverse c.self.inside.log.items) kept.runnable.few kept.runnable.clients few kept.follows kept.honest kept.lawful kept.replied kept.gives kept.runnable.rounds;
       durable = c.acknowledged_is_durable.ensures.exact c.self.inside.plan (reverse c.self.inside.log.items) kept.runnable.few few kept.honest kept.lawful;
       since = (c.split_copies_missed.ensures.exact c.self.inside.plan (reverse c.self.inside.log.items) kept.runnable.few few kept.honest kept.lawful).0;
       missed = (c.split_copies_missed.ensures.exact c.self.inside.plan (reverse c.self.inside.log.items) kept.runnable.few few kept.honest kept.lawful).1;

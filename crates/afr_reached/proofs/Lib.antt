@@ -1,0 +1,5 @@
+mod Clear
+mod Splits
+mod Passes
+mod Names
+mod Reached
