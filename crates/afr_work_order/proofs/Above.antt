@@ -193,13 +193,13 @@ module _ (b : BrickId) (area : Area) where
 
     -- under the name's lock it is the transaction that asks
     under : (read : Request) → ((x : BrickId) → IsLock (next.Ask x read) → ⊥) → (found : Found) (t : Progress) → IsLock (next_under found at read t) → IsLock (transaction.next_at t.stage at t)
-    under read no (found_of.Unread x) t e = go (is_beginning t.stage) e
+    under read never (found_of.Unread x) t e = go (is_beginning t.stage) e
       where
         go : (first : Bool) → IsLock (if first then next.Ask x read else transaction.next_at t.stage at t) → IsLock (transaction.next_at t.stage at t)
-        go true k = absurd (no x k)
+        go true k = absurd (never x k)
         go false k = k
-    under read no found_of.Fits t e = e
-    under read no (found_of.Refused why) t e = go (transaction.is_over t.stage t) e
+    under read never found_of.Fits t e = e
+    under read never (found_of.Refused why) t e = go (transaction.is_over t.stage t) e
       where
         go : (over : Bool) → IsLock (if over then next.End (reply_to why) else transaction.next_at t.stage at t) → IsLock (transaction.next_at t.stage at t)
         go true k = absurd (cc k)
