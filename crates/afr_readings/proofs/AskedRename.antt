@@ -1,5 +1,8 @@
 -- What the rule is asked for by a rename is what its lines say, those of the part to which the look belongs.
-use Rattle.std.proofs.Common.{◌≡◌, ◌∙◌, ℕ, nat_le, Bool, true, false, List, [], ◌∷◌, ◌++◌, Option, refl, sym, ap, subst, length, if◌then◌else◌}
+use Rattle.std.proofs.Common.{◌≡◌, ◌∙◌, ℕ, ◌-◌, ◌<◌, nat_le, nat_lt, Bool, true, false, List, [], ◌∷◌, ◌++◌, Some, arith, Option, refl, sym, ap, subst, length, if◌then◌else◌}
+use Rattle.std.specs.Prelude.{slice_get}
+use Rattle.std.proofs.lemmas.Bool.Decides.{nat_tests}
+use Rattle.std.proofs.lemmas.Option.{slice_get-get_or, slice_get_within}
 use Rattle.afr_base.specs.declared.ids.ActorId.{ActorId}
 use Rattle.afr_base.specs.declared.ids.BrickId.{BrickId}
 use Rattle.afr_base.specs.declared.ids.Gfid.{Gfid}
@@ -40,14 +43,13 @@ use Rattle.afr_readings.proofs.Asks.{ask_same}
 use Rattle.afr_readings.specs.Picked.{PickedRename}
 use Rattle.afr_readings.specs.Readings.{asked_at, asked_by_part, asked_for_rename, kind_here, or_before}
 use Rattle.afr_rename.specs.Against.{against_new, against_old, half_reply}
-use Rattle.afr_rename.specs.Paths.{front, reads_new, reads_old}
+use Rattle.afr_rename.specs.Paths.{front, last, reads_new, reads_old}
 use Rattle.afr_rename.specs.Rename.{IsMaking, IsRemoving, IsRename, IsSound, Renaming, answered, choices_at, is_done, making_after, next_at, next_of, paths_after, second_begun, stage_after, turned}
 use Rattle.afr_rename.specs.Under.{choices_under, found_after, next_under, progress_after}
 use Rattle.afr_rename.specs.declared.paths.Paths.{Paths}
 use Rattle.afr_rename.specs.declared.stage.RenameStage.{RenameStage}
 use Rattle.afr_rename.specs.declared.stage.RenameStage.TheVariants.{Ending, Finding, Making, Removing, Walking}
 use Rattle.afr_rename_telling.proofs.Cut.{line_makes, line_removes, line_walks, make_grows, not_again, removal_grows, walk_grows}
-use Rattle.afr_rename_telling.proofs.RemovingAbout.{ends_in}
 use Rattle.afr_rename_telling.proofs.Walks.{finds_again, finds_walk, not_all_asked, walks_again}
 use Rattle.afr_rename_telling.specs.RenameTelling.{Drops, Makes as MakesName, Removes as RemovesName, RenameTells, TellsIn, old_dir, to_of}
 use Rattle.afr_rule.specs.declared.candidate.Candidate.{Candidate}
@@ -58,6 +60,7 @@ use Rattle.afr_transaction.specs.Progress.{Progress, fed, is_beginning, is_over}
 use Rattle.afr_transaction.specs.Sound.{Sound}
 use Rattle.afr_transaction.specs.declared.stage.Stage.TheVariants.{Locking}
 use Rattle.afr_walk.specs.Walk.{choices_of, next_in}
+use Rattle.afr_works.proofs.PathLemmas.{path_is}
 
 -- ---- by the part of a line
 module _ (p : Plan) (from to : List NameId) (lines : Work) (a : ActorId) (b : BrickId) (told : Told) (took : Bool) (log : List Line) (copies : List Candidate) (v : Work) where
@@ -114,6 +117,19 @@ module _ (p : Plan) (job : EntryJob) (path : List NameId) (dir : Entry) (g : Gfi
             → T (if x then settled why (noted_read copy.0 (request.ReadName g name) told at t) else fed t.stage told at t) (if x then found_by why else Unread chosen) → AsksAs p c asked put (if x then [] else offered (fed t.stage told at t))
         go true is e tells = ask_same (λ y r. AsksAs p c r ((Ask a y r told took, log) ∷ w) []) copy b (request.ReadName g name) asked e refl
         go false is e tells = (let k = shows (fed t.stage told at t) tells in stage_asks p job path dir t w a b asked told took log at copy chosen like low on.0.tells.sets t.stage on.0.tells.during fits is e k.0 k.1)
+
+-- the first path is the names before the old one, and that
+ends_in : (path : List NameId) (name : NameId) → slice_get path (length path - 1) ≡ Some name → front path ++ name ∷ [] ≡ path
+ends_in path name e = ap (λ (n : NameId). front path ++ n ∷ []) (sym same) ∙ path_is path (some (length path) low)
+  where
+    low : length path - 1 < length path
+    low = slice_get_within path (length path - 1) name e
+
+    some : (n : ℕ) → n - 1 < n → nat_lt 0 n ≡ true
+    some n h = grind (arith, nat_tests, h)
+
+    same : last path ≡ name
+    same = let here = slice_get-get_or path (length path - 1) (record { 0 = 0 }) low in cc (here, e)
 
 -- ---- a line of a rename
 module _ (picks : Picks) (p : Plan) (m : Renaming) (lines : Work) (a : ActorId) (b : BrickId) (asked : Request) (chosen : BrickId) (heard : Answer) (took : Bool) (log : List Line) (at : ℕ) where
