@@ -5,7 +5,7 @@ ghost use Rattle.afr_works.specs.Work.{is_over, next_of};
 
 use afr_base::{AllMarks, BrickId, Gfid, KeyId, NameId, Shape, ValueId, What};
 use afr_lines::{Answer, Good, Next, Reply, Request};
-use afr_object::{Change, List, Load, View};
+use afr_object::{Change, Entry, List, Load, View};
 use afr_plan::Command;
 use afr_rule::shipped::first;
 use afr_rule::{Candidate, ReadRule};
@@ -13,6 +13,8 @@ use afr_works::{Work, has_machine, work_for};
 use std::alloc::Global;
 
 const ROOT: Gfid = Gfid(1);
+
+const FILE: Gfid = Gfid(40);
 
 fn seen() -> Answer {
     Answer::Seen(View {
@@ -252,6 +254,78 @@ fn a_directory_is_made_at_every_brick(rt: HostRuntime) {
         matches!(
             made(rt.alloc()),
             Some((true, Next::End(Reply::Ok(Good::Done))))
+        )
+    );
+}
+
+fn the_file() -> Answer {
+    Answer::Entry(Some(Entry {
+        gfid: FILE,
+        what: What::File,
+    }))
+}
+
+/// A file of the root, on its way to another name there.
+fn rename_in_the_root(alloc: Global) -> Option<Work> {
+    let mut from = List::new(alloc);
+    from.push(NameId(7)).ok()?;
+    let mut to = List::new(alloc);
+    to.push(NameId(8)).ok()?;
+    on_three(alloc, &Command::Rename { from, to })
+}
+
+/// A name is locked, read and attempted, and pre-op is done.
+fn attempted(work: &mut Work, told: Answer) {
+    all_granted(work);
+    all_seen(work);
+    hears_one(work, told);
+    begins(work);
+    all_done(work);
+}
+
+fn makes_the_new_name(work: &Work) -> bool {
+    matches!(
+        work.load(),
+        Load::Change(Change::Make {
+            dir: ROOT,
+            name: NameId(8),
+            gfid: FILE,
+            what: What::File,
+        })
+    )
+}
+
+fn removes_the_old_name(work: &Work) -> bool {
+    matches!(
+        work.load(),
+        Load::Change(Change::Remove {
+            dir: ROOT,
+            name: NameId(7),
+            ..
+        })
+    )
+}
+
+/// Whether its first operation made the new name, whether its second one removed the old one, and what it answers.
+fn renamed(alloc: Global) -> Option<(bool, bool, Next)> {
+    let mut work = rename_in_the_root(alloc)?;
+    all_seen(&mut work);
+    hears_one(&mut work, the_file());
+    attempted(&mut work, Answer::Entry(None));
+    let made = makes_the_new_name(&work);
+    finished(&mut work)?;
+    attempted(&mut work, the_file());
+    let removed = removes_the_old_name(&work);
+    let next = finished(&mut work)?;
+    Some((made, removed, next))
+}
+
+#[test]
+fn a_file_gets_another_name(rt: HostRuntime) {
+    assert!(rt;
+        matches!(
+            renamed(rt.alloc()),
+            Some((true, true, Next::End(Reply::Ok(Good::Done))))
         )
     );
 }
