@@ -195,21 +195,21 @@ asks_none p (command.Rename from to) a b asked told took w none k = by_part (par
     by_part Makes k = none (command.Create to) (the_make from w) k.1
     by_part Removes k = none (command.Unlink from) (the_removal from w) k.2
 
-pub ends_none : (p : Plan) (c : Command) (a : ActorId) (g : Gfid) (kind : Kind) (said : HealReply) (at : ℕ) (w : Lines) → KeepsToCommand p c (HealEnd a g kind said) at w → ⊥
-ends_none p (command.Write path at bytes) a g kind said at w k = k
-ends_none p (command.Cut path len) a g kind said at w k = k
-ends_none p (command.Read path at len) a g kind said at w k = k
-ends_none p (command.Create path) a g kind said at w k = k
-ends_none p (command.Mkdir path) a g kind said at w k = k
-ends_none p (command.Unlink path) a g kind said at w k = k
-ends_none p (command.Rmdir path) a g kind said at w k = k
-ends_none p (command.Ls path) a g kind said at w k = k
-ends_none p (command.Stat path) a g kind said at w k = k
-ends_none p (command.SetAttr path key value) a g kind said at w k = k
-ends_none p (command.GetAttr path key) a g kind said at w k = k
-ends_none p (command.Rename from to) a g kind said at w k = by_part (part_at from (HealEnd a g kind said) w) k
+pub ends_none : (p : Plan) (c : Command) (a : ActorId) (g : Gfid) (kind : Kind) (said : HealReply) (position : ℕ) (w : Lines) → KeepsToCommand p c (HealEnd a g kind said) position w → ⊥
+ends_none p (command.Write path at bytes) a g kind said position w k = k
+ends_none p (command.Cut path len) a g kind said position w k = k
+ends_none p (command.Read path at len) a g kind said position w k = k
+ends_none p (command.Create path) a g kind said position w k = k
+ends_none p (command.Mkdir path) a g kind said position w k = k
+ends_none p (command.Unlink path) a g kind said position w k = k
+ends_none p (command.Rmdir path) a g kind said position w k = k
+ends_none p (command.Ls path) a g kind said position w k = k
+ends_none p (command.Stat path) a g kind said position w k = k
+ends_none p (command.SetAttr path key value) a g kind said position w k = k
+ends_none p (command.GetAttr path key) a g kind said position w k = k
+ends_none p (command.Rename from to) a g kind said position w k = by_part (part_at from (HealEnd a g kind said) w) k
   where
-    by_part : (part : Part) → KeepsToPart part p from to (HealEnd a g kind said) at w → ⊥
+    by_part : (part : Part) → KeepsToPart part p from to (HealEnd a g kind said) position w → ⊥
     by_part Walks k = k
     by_part Makes k = k
     by_part Removes k = k

@@ -16,6 +16,7 @@ use Rattle.afr_lines.specs.declared.request.Request.{Request}
 use Rattle.afr_model.specs.Chosen.{Picks, ReadsPicked}
 use Rattle.afr_object.specs.declared.change.Change.{Change}
 use Rattle.afr_plan.specs.declared.plan.Plan.{Plan}
+use Rattle.afr_readings.proofs.Asked.{asked_before, is_look_line}
 use Rattle.afr_readings.specs.Laws.{number_in}
 use Rattle.afr_readings.specs.Readings.{Answers, asked_for_command, asked_of}
 use Rattle.afr_rule.specs.Choosing.{Calls}
@@ -89,6 +90,10 @@ module _ {G : Type 0} (calls : Calls G) (choose : G) (rules : RuleLaws calls cho
       by_met true e = subst (λ (from : List (ℕ × ℕ)). Answers (picks_of calls choose) from (picked_by x)) (acting.reads.within e ∙ rw c.present refl) was
       by_met false e = rw (acting.reads.fresh e) (asked_first p c.command)
 
+  -- a line that doesn't look asks it for nothing new
+  still_answered : (line : Line) → is_look_line line ≡ false → Answers (picks_of calls choose) (asked_for_command p c.command ((line, log) ∷ work a.0 log)) kept
+  still_answered line e = subst (λ (from : List (ℕ × ℕ)). Answers (picks_of calls choose) from kept) (sym (asked_before p c.command line log (work a.0 log) e)) answered
+
   own_line : (line : Line) (y : Actor) (picked : Option BrickId) → is_of a.0 line ≡ true → y.picked ≡ picked → Answers (picks_of calls choose) (asked_for_command p c.command ((line, log) ∷ work a.0 log)) (number_in picked)
       → Answers (picks_of calls choose) (asked_of p a.0 (line ∷ log)) (picked_by y)
   own_line line y picked own is k = rw (asked_is p a.0 line log c.command own c.present, is) k
@@ -109,13 +114,13 @@ module _ {G : Type 0} (calls : Calls G) (choose : G) (rules : RuleLaws calls cho
   begins : (change : Change) → IsBegun a (length log) change x y servers new written → ReadsOn (picks_of calls choose) p a.0 log written y
   begins change s = subst (λ (l : Line). ReadsOn (picks_of calls choose) p a.0 log l y) (sym s.is_line) (record {
     picked = tt;
-    answers = own_line (Begin a change) y (still_picked x.met x.picked) (self a.0) (ap (λ (z : Actor). z.picked) s.becomes) answered;
+    answers = own_line (Begin a change) y (still_picked x.met x.picked) (self a.0) (ap (λ (z : Actor). z.picked) s.becomes) (still_answered (Begin a change) refl);
   })
 
   ends : (said : Reply) → next_of (length log) x.work ≡ next.End said → IsEnded a said x y servers new written → ReadsOn (picks_of calls choose) p a.0 log written y
   ends said e s = subst (λ (l : Line). ReadsOn (picks_of calls choose) p a.0 log l y) (sym s.is_line) (record {
     picked = rules.ends p c.command x.work a said log kept c.sound c.tells e (acting.reads.keeps c.command c.present) answered;
-    answers = own_line (End a said) y (still_picked x.met x.picked) (self a.0) (ap (λ (z : Actor). z.picked) s.becomes) answered;
+    answers = own_line (End a said) y (still_picked x.met x.picked) (self a.0) (ap (λ (z : Actor). z.picked) s.becomes) (still_answered (End a said) refl);
   })
 
   pub line_reads : Stepped (HearsBy calls choose) a (length log) x y servers new written → ReadsOn (picks_of calls choose) p a.0 log written y

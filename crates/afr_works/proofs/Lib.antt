@@ -1,3 +1,4 @@
 pub mod FiveLemmas
 pub mod PathLemmas
 pub mod WorkLemmas
+pub mod NeverHeals
