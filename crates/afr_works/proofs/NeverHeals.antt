@@ -45,7 +45,7 @@ use Rattle.afr_works.specs.declared.work.Work.{Work}
 use Rattle.afr_works.specs.declared.work.Work.TheVariants.{Idle, Lookup, Write, Entry, Rename}
 
 -- whether a line is of a heal
-heals : Next → Bool
+abbrev heals : Next → Bool
 heals (next.HealBegin g kind) = true
 heals (next.HealEnd g kind said) = true
 heals other = false
