@@ -34,7 +34,7 @@ use Rattle.afr_inode_write.specs.declared.stage.WriteStage.TheVariants as writin
 use Rattle.afr_rename.specs.Against.{half_reply}
 use Rattle.afr_rename.specs.Paths.{reads_new, reads_old}
 use Rattle.afr_rename.specs.Rename as rename
-use Rattle.afr_rename.specs.Rename.{Renaming, is_done, turned}
+use Rattle.afr_rename.specs.Rename.{is_done, turned}
 use Rattle.afr_rename.specs.Under.{next_under}
 use Rattle.afr_rename.specs.declared.paths.Paths.{Paths}
 use Rattle.afr_rename.specs.declared.stage.RenameStage.{RenameStage}
