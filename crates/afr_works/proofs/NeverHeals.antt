@@ -7,7 +7,6 @@ use Rattle.afr_lines.specs.declared.reply.Reply.{Reply}
 use Rattle.afr_lines.specs.declared.request.Request.{Request}
 use Rattle.afr_object.specs.declared.change.Change.{Change}
 use Rattle.afr_walk.specs.Free.{is_ask}
-use Rattle.afr_transaction.specs.Outcome.{outcome_of, reply_of}
 use Rattle.afr_transaction.specs.Progress as progress
 use Rattle.afr_transaction.specs.Progress.{Progress, asks}
 use Rattle.afr_transaction.specs.declared.stage.Stage.{Stage}
@@ -18,7 +17,6 @@ use Rattle.afr_removal.specs.declared.stage.RemovalStage.{RemovalStage}
 use Rattle.afr_removal.specs.declared.stage.RemovalStage.TheVariants as removing
 use Rattle.afr_entry.specs.Entry as entry
 use Rattle.afr_entry.specs.Entry.{Entering, reads_name}
-use Rattle.afr_entry.specs.Job.{reply_to}
 use Rattle.afr_entry.specs.declared.stage.EntryStage.{EntryStage}
 use Rattle.afr_entry.specs.declared.stage.EntryStage.TheVariants as entering
 use Rattle.afr_entry.specs.declared.stage.Found.{Found}
@@ -31,7 +29,6 @@ use Rattle.afr_inode_write.specs.Write as write
 use Rattle.afr_inode_write.specs.Write.{Write as WriteValue}
 use Rattle.afr_inode_write.specs.declared.stage.WriteStage.{WriteStage}
 use Rattle.afr_inode_write.specs.declared.stage.WriteStage.TheVariants as writing
-use Rattle.afr_rename.specs.Against.{half_reply}
 use Rattle.afr_rename.specs.Paths.{reads_new, reads_old}
 use Rattle.afr_rename.specs.Rename as rename
 use Rattle.afr_rename.specs.Rename.{is_done, turned}
