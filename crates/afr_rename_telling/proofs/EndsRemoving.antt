@@ -52,7 +52,7 @@ use Rattle.afr_rename.specs.Paths.{IsPaths, making_of, reads_old, removal_of}
 use Rattle.afr_rename.specs.Rename.{IsRemoving, removing_next}
 use Rattle.afr_rename.specs.Under.{next_under}
 use Rattle.afr_rename.specs.declared.paths.Paths.{Paths}
-use Rattle.afr_second.proofs.Folds.{parts_are_whole}
+use Rattle.afr_cut.proofs.Cut.{parts_whole}
 use Rattle.afr_rename_telling.specs.RenameTelling.{ByFault, ByNothing, ByOther, LedElsewhere, OldTells, Removes, old_dir, to_of}
 use Rattle.afr_rename_telling.proofs.EndsMaking.{ends_over, locked_over, refusal_is}
 use Rattle.afr_rename_telling.proofs.MakingParts.{fault_in, fault_more, fault_own, has_front}
@@ -252,7 +252,7 @@ module _ (p : Plan) (x : Paths) (paths : IsPaths x) (t : Progress) (found : Foun
       go : (b : Bool) → is_faulted removal ≡ b → b ≡ false
       go true e =
           let free = prefix_untouched p x lines k.walked in
-          let f = subst (λ (w : Work). is_faulted w ≡ true) (parts_are_whole lines) (fault_more second (first_part lines) (fault_own second before free.unbegun free.unfaulted e)) in
+          let f = subst (λ (w : Work). is_faulted w ≡ true) (parts_whole lines) (fault_more second (first_part lines) (fault_own second before free.unbegun free.unfaulted e)) in
           absurd (cc (f, calm))
       go false e = refl
 

@@ -24,7 +24,8 @@ use Rattle.afr_inode_telling.specs.Lines.{LookedAll, OnlyReads, reads}
 use Rattle.afr_inode_telling.proofs.LooksMore.{look_shows_is, same_here, same_there}
 use Rattle.afr_inode_telling.proofs.LooksSame.{looked_same}
 use Rattle.afr_inode_telling.proofs.Quiet.{plain_by}
-use Rattle.afr_second.proofs.Folds.{parts_are_whole, same_looks}
+use Rattle.afr_cut.proofs.Anew.{same_looks}
+use Rattle.afr_cut.proofs.Cut.{parts_whole}
 use Rattle.afr_rename_telling.proofs.Cut.{first_all}
 
 -- ---- lines one after the other
@@ -194,5 +195,5 @@ make_looks from lines g none locked = ap (looked_by g) (sym (make_and_walk from 
 pub removal_looks : (from : List NameId) (lines : Work) (g : Gfid) → has locks_any (the_walk from lines) ≡ false → has (locks g) (the_removal from lines) ≡ true → looked_by g lines ≡ looked_by g (the_removal from lines)
 removal_looks from lines g none locked =
     let unlocked : has (locks g) (upto_names (length from - 1) lines) ≡ false = has_narrower (locks g) locks_any (any_lock g) (upto_names (length from - 1) lines) (upto_earlier locks_any (length from) lines none) in
-    ap (looked_by g) (sym (parts_are_whole lines))
+    ap (looked_by g) (sym (parts_whole lines))
     ∙ same_looks g (second_part lines) (first_part lines) (upto_names (length from - 1) lines) (has_first (locks g) (second_part lines) (upto_names (length from - 1) lines) unlocked locked)
