@@ -31,6 +31,7 @@ use Rattle.afr_model.specs.Chosen.{Picks}
 use Rattle.afr_model.specs.Parts.{Makes, Part, Removes, Walks, is_again, names_asked, part_at, second_part, the_make, the_removal, the_walk}
 use Rattle.afr_model.specs.Showing.{path_by}
 use Rattle.afr_model.specs.Standing.{locks_any}
+use Rattle.afr_cut.proofs.Cut.{make_grows, removal_grows, walk_grows}
 use Rattle.afr_object.specs.declared.change.Change.{Change}
 use Rattle.afr_object.specs.declared.entry.Entry.{Entry}
 use Rattle.afr_plan.specs.declared.command.Command.{Command}
@@ -49,7 +50,7 @@ use Rattle.afr_rename.specs.Under.{choices_under, found_after, next_under, progr
 use Rattle.afr_rename.specs.declared.paths.Paths.{Paths}
 use Rattle.afr_rename.specs.declared.stage.RenameStage.{RenameStage}
 use Rattle.afr_rename.specs.declared.stage.RenameStage.TheVariants.{Ending, Finding, Making, Removing, Walking}
-use Rattle.afr_rename_telling.proofs.Cut.{line_makes, line_removes, line_walks, make_grows, not_again, removal_grows, walk_grows}
+use Rattle.afr_rename_telling.proofs.Cut.{line_makes, line_removes, line_walks, not_again}
 use Rattle.afr_rename_telling.proofs.Walks.{finds_again, finds_walk, not_all_asked, walks_again}
 use Rattle.afr_rename_telling.specs.RenameTelling.{Drops, Makes as MakesName, Removes as RemovesName, RenameTells, TellsIn, old_dir, to_of}
 use Rattle.afr_rule.specs.declared.candidate.Candidate.{Candidate}

@@ -26,6 +26,7 @@ use Rattle.afr_model.specs.Renamed.{AsksAllOf, IsRenamed, asked_lines, asks_at, 
 use Rattle.afr_model.specs.Showing.{Path, At, among, begins_attempt, has, is_faulted, locks, looked_by, path_by, posted, refuses_read}
 use Rattle.afr_model.specs.Skipped.{AsksAll}
 use Rattle.afr_model.specs.Standing.{asking, looks_here, place_by}
+use Rattle.afr_cut.proofs.Cut.{first_all}
 use Rattle.afr_transaction.specs.Outcome.{outcome_of, reply_for, reply_of}
 use Rattle.afr_transaction.specs.Progress.{Progress, asks, is_beginning, is_over, next_at as next_change}
 use Rattle.afr_transaction.specs.declared.reply.Outcome.{Outcome}
@@ -56,7 +57,6 @@ use Rattle.afr_rename.specs.Rename.{IsMaking, is_done}
 use Rattle.afr_rename.specs.Under.{next_under}
 use Rattle.afr_rename.specs.declared.paths.Paths.{Paths}
 use Rattle.afr_rename_telling.specs.RenameTelling.{HasWalked, Makes, to_of}
-use Rattle.afr_rename_telling.proofs.Cut.{first_all}
 use Rattle.afr_rename_telling.proofs.MakingMore.{making_like}
 use Rattle.afr_rename_telling.proofs.MakingParts.{fault_more, has_append, or_left}
 use Rattle.afr_rename_telling.proofs.MakingWalked.{begun_only, whole}

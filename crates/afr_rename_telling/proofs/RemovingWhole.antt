@@ -33,7 +33,7 @@ use Rattle.afr_transaction_tells.specs.Tells.{AreIdle, During}
 use Rattle.afr_transaction_tells.proofs.Small.{self}
 use Rattle.afr_entry.specs.declared.stage.Found.{Found}
 use Rattle.afr_entry.specs.declared.stage.Found.TheVariants.{Fits}
-use Rattle.afr_cut.proofs.Cut.{parts_whole}
+use Rattle.afr_cut.proofs.Cut.{after_none, names_whole, parts_whole}
 use Rattle.afr_second.proofs.Folds.{blamed_whole}
 use Rattle.afr_write_telling.proofs.Goes.{begun_stage}
 use Rattle.afr_rename.specs.Paths.{making_of, reads_old}
@@ -41,8 +41,6 @@ use Rattle.afr_rename.specs.Rename.{IsRemoving}
 use Rattle.afr_rename.specs.Under.{next_under}
 use Rattle.afr_rename.specs.declared.paths.Paths.{Paths}
 use Rattle.afr_rename_telling.specs.RenameTelling.{Removes}
-use Rattle.afr_rename_telling.proofs.Cut.{after_none}
-use Rattle.afr_rename_telling.proofs.Looks.{after_and_upto}
 use Rattle.afr_rename_telling.proofs.MakingBlames.{under_blames}
 use Rattle.afr_rename_telling.proofs.MakingLocks.{begins_own}
 use Rattle.afr_rename_telling.proofs.MakingParts.{among_front, changed_front, has_front, or_left, or_none, upto_behind}
@@ -120,7 +118,7 @@ module _ (p : Plan) (x : Paths) (t : Progress) (found : Found) (lines : Work) (k
   walk_first = sym (upto_behind (length from) second first asked_first) ∙ ap (upto_names (length from)) (parts_whole lines)
 
   make_first : the_make from lines ++ the_walk from lines ≡ first
-  make_first = ap (λ (w : Work). the_make from lines ++ w) (sym walk_first) ∙ after_and_upto (length from) first
+  make_first = ap (λ (w : Work). the_make from lines ++ w) (sym walk_first) ∙ names_whole (length from) first
 
   posted_first : among posted first ≡ among posted (the_make from lines)
   posted_first = ap (among posted) (sym make_first) ∙ among_front posted (the_make from lines) (the_walk from lines) (walk_untouched p x lines k.walked).none_posted

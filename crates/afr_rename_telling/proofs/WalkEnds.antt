@@ -19,6 +19,7 @@ use Rattle.afr_model.specs.Refusals.{refusal}
 use Rattle.afr_model.specs.Renamed.{AreLegs, AsksAllOf, IsRenamed, asked_lines, asks_at, by_halves, or_halves, refusal_at, rename_refusal, since_name}
 use Rattle.afr_model.specs.Showing.{Path, At, NoName, Untold, among, begins_attempt, has, is_faulted, path_by, posted, refuses_read}
 use Rattle.afr_model.specs.Skipped.{IsLooked, SkipsNothing}
+use Rattle.afr_cut.proofs.Cut.{first_all}
 use Rattle.afr_inode_telling.specs.Lines.{LookedAll, OnlyReads}
 use Rattle.afr_inode_telling.specs.WalkTelling.{Stops}
 use Rattle.afr_inode_telling.proofs.Ended.{refusal_here}
@@ -27,7 +28,7 @@ use Rattle.afr_inode_telling.proofs.Untouched.{touches_nothing}
 use Rattle.afr_entry_telling.proofs.Begins.{IsOnWay}
 use Rattle.afr_rename.specs.declared.paths.Paths.{Paths}
 use Rattle.afr_rename_telling.specs.RenameTelling.{OnFirst, to_of}
-use Rattle.afr_rename_telling.proofs.Cut.{first_all, has_after, none_again}
+use Rattle.afr_rename_telling.proofs.Cut.{has_after, none_again}
 use Rattle.afr_rename_telling.proofs.Walks.{is_looked}
 
 just : {A : Type 0} → (x y : A) → Some x ≡ Some y → x ≡ y

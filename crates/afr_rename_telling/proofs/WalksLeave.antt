@@ -15,6 +15,7 @@ use Rattle.afr_model.specs.Renamed.{AreLegs, since_name}
 use Rattle.afr_model.specs.Showing.{At, has}
 use Rattle.afr_model.specs.Skipped.{IsLooked, SkipsNothing}
 use Rattle.afr_model.specs.Standing.{locks_any}
+use Rattle.afr_cut.proofs.Cut.{first_all}
 use Rattle.afr_walk.specs.Looks.{no_look}
 use Rattle.afr_walk.specs.Stops.{reply_of}
 use Rattle.afr_walk.specs.Walk.{root_entry}
@@ -43,7 +44,7 @@ use Rattle.afr_rename.specs.Rename.{after_first, after_second, first_left, secon
 use Rattle.afr_rename.specs.declared.paths.Paths.{Paths}
 use Rattle.afr_rename.specs.declared.stage.RenameStage.TheVariants.{Making, Ending}
 use Rattle.afr_rename_telling.specs.RenameTelling.{HasWalked, IsLeg, LegGoes, OnFirst, TellsIn, to_of, waiting}
-use Rattle.afr_rename_telling.proofs.Cut.{first_all, none_again}
+use Rattle.afr_rename_telling.proofs.Cut.{none_again}
 use Rattle.afr_rename_telling.proofs.WalkEnds.{first_directory, first_stopped, reads_skip_nothing, second_ended}
 use Rattle.afr_rename_telling.proofs.Walks.{is_looked, leg_begins}
 use Rattle.afr_rename_telling.proofs.WalksMore.{HasLed, Stands, is_stopped}
