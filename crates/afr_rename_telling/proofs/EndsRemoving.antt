@@ -47,6 +47,7 @@ use Rattle.afr_entry.specs.Job.{reply_to}
 use Rattle.afr_entry.specs.declared.stage.Found.{Found}
 use Rattle.afr_entry.specs.declared.stage.Found.TheVariants.{Unread, Fits, Refused}
 use Rattle.afr_entry_telling.specs.EntryTelling.{Goes, OnChange}
+use Rattle.afr_entry_telling.proofs.Ended.{was_locked}
 use Rattle.afr_rename.specs.Against.{half_reply, is_acknowledged, is_same}
 use Rattle.afr_rename.specs.Paths.{IsPaths, making_of, reads_old, removal_of}
 use Rattle.afr_rename.specs.Rename.{IsRemoving, removing_next}
@@ -55,7 +56,7 @@ use Rattle.afr_rename.specs.declared.paths.Paths.{Paths}
 use Rattle.afr_rename.proofs.RenameLemmas.{acknowledged_is}
 use Rattle.afr_cut.proofs.Cut.{parts_whole}
 use Rattle.afr_rename_telling.specs.RenameTelling.{ByFault, ByNothing, ByOther, LedElsewhere, OldTells, Removes, old_dir, to_of}
-use Rattle.afr_rename_telling.proofs.EndsMaking.{ends_over, locked_over, refusal_is}
+use Rattle.afr_rename_telling.proofs.EndsMaking.{ends_over, refusal_is}
 use Rattle.afr_rename_telling.proofs.MakingParts.{fault_in, fault_more, fault_own, has_front}
 use Rattle.afr_rename_telling.proofs.RemovingBegins.{prefix_unrefused, prefix_untouched}
 use Rattle.afr_rename_telling.proofs.RemovingTurn.{over_closing}
@@ -201,7 +202,7 @@ module _ (p : Plan) (x : Paths) (paths : IsPaths x) (t : Progress) (found : Foun
       fitting : IsFitting p.shape.n t.change (looked_by (object_of t.change) removal)
       fitting = record {
         low = subst (λ (c : Change). ends_low c ≡ true) (sym sound.under.of) refl;
-        fits = goes.fitting (locked_over p t removal (subst (λ (stage : Stage). During stage p.shape t removal) closing goes.tells.during));
+        fits = goes.fitting (was_locked p t removal (subst (λ (stage : Stage). During stage p.shape t removal) closing goes.tells.during));
       }
 
       by_brick : reply_of t.change t.register ≡ reply.Failed → IsHalved p from lines

@@ -1,6 +1,7 @@
 -- What a rename has ended with whose walks have stopped, or led to what can't be renamed.
 use Rattle.std.proofs.Common.{◌≡◌, ◌⊎◌, ℕ, ◌<◌, ◌==◌, nat_le, Bool, true, false, List, [], ◌∷◌, Option, Some, length, refl, sym, ap, ◌∙◌, subst, arith, if◌then◌else◌, inl, inr}
 use Rattle.std.proofs.lemmas.Bool.Decides.{nat_tests}
+use Rattle.std.proofs.lemmas.Option.{same_Some}
 use Rattle.afr_base.specs.Majority.{is_majority}
 use Rattle.afr_base.specs.SetLemmas.{majority_some}
 use Rattle.afr_base.specs.declared.ids.NameId.{NameId}
@@ -30,9 +31,6 @@ use Rattle.afr_rename.specs.declared.paths.Paths.{Paths}
 use Rattle.afr_rename_telling.specs.RenameTelling.{OnFirst, to_of}
 use Rattle.afr_rename_telling.proofs.Cut.{has_after, none_again}
 use Rattle.afr_rename_telling.proofs.Walks.{is_looked}
-
-just : {A : Type 0} → (x y : A) → Some x ≡ Some y → x ≡ y
-just x y e = cc e
 
 self : (n : ℕ) → (n == n) ≡ true
 self n = grind (arith, nat_tests)
@@ -115,7 +113,7 @@ module _ (p : Plan) (from to : List NameId) (w : Work) (only : OnlyReads p.shape
       → among posted (the_make from w) ≡ [] → IsRenamed p from to w said
   refused said e asked failed other walked made unposted = record {
     caused = ap (λ (x : Option Reply). or_halves x (by_halves p from w)) e;
-    asked = λ refusing f views. asked (subst (λ (x : Reply). is_by_views x ≡ true) (sym (just said refusing (sym e ∙ f))) views);
+    asked = λ refusing f views. asked (subst (λ (x : Reply). is_by_views x ≡ true) (sym (same_Some said refusing (sym e ∙ f))) views);
     failed = λ h. inr (subst (λ (x : Work). has refuses_read x ≡ true) (sym first_is) (failed h));
     halved = λ h. absurd (other h);
     undisturbed = λ h calm. absurd (cc (h, begins_none p.shape.n w only));
