@@ -23,8 +23,8 @@ use Rattle.afr_model.specs.Skipped.{IsLooked, SkipsNothing}
 use Rattle.afr_cut.proofs.Cut.{first_all}
 use Rattle.afr_inode_telling.specs.Lines.{LookedAll, OnlyReads}
 use Rattle.afr_inode_telling.specs.WalkTelling.{Stops}
-use Rattle.afr_inode_telling.proofs.Ended.{refusal_here}
-use Rattle.afr_inode_telling.proofs.Quiet.{area_none, begins_none, change_none}
+use Rattle.afr_inode_telling.proofs.Ended.{refusal_here, skips_nothing}
+use Rattle.afr_inode_telling.proofs.Quiet.{begins_none}
 use Rattle.afr_inode_telling.proofs.Untouched.{touches_nothing}
 use Rattle.afr_entry_telling.proofs.Begins.{IsOnWay}
 use Rattle.afr_rename.specs.declared.paths.Paths.{Paths}
@@ -43,16 +43,7 @@ pub no_majority : (n : ℕ) → is_majority n [] ≡ true → ⊥
 no_majority n h = let e = majority_some n [] h in cc e
 
 -- ---- nothing was skipped
--- by a walk that has looked everywhere
-pub reads_skip_nothing : (p : Plan) (path : List NameId) (w : Work) → OnlyReads p.shape.n w → LookedAll p.shape.n w → SkipsNothing p (command.Stat path) w
-reads_skip_nothing p path w only all = record {
-  looked = is_looked p.shape.n w all;
-  locked = λ area part m. absurd (cc (m, area_none p.shape.n area w only));
-  child = λ h read dir child name place path is_dir area. absurd (cc h);
-  carried = λ change e. absurd (cc (e, change_none p.shape.n w only));
-}
-
--- nor where nothing was asked
+-- where nothing was asked
 pub nothing_skipped : (p : Plan) (path : List NameId) → SkipsNothing p (command.Create path) []
 nothing_skipped p path = record {
   looked = λ g m unlocked b l. absurd (cc m);
@@ -130,7 +121,7 @@ module _ (p : Plan) (from to : List NameId) (w : Work) (legs : AreLegs p.shape.n
   made = subst (λ (x : Work). SkipsNothing p (command.Create to) x) (sym alone) (nothing_skipped p to)
 
   walked : OnlyReads p.shape.n w → LookedAll p.shape.n w → SkipsNothing p (command.Stat from) (the_walk from w)
-  walked only all = subst (λ (x : Work). SkipsNothing p (command.Stat from) x) (sym whole) (reads_skip_nothing p from w only all)
+  walked only all = subst (λ (x : Work). SkipsNothing p (command.Stat from) x) (sym whole) (skips_nothing p (command.Stat from) w only all refl)
 
   -- it has stopped
   pub first_stopped : (said : Reply) → IsOnWay (length from) (path_by p w) → (said ≡ reply.Half → ⊥) → Stops p (command.Stat from) w said → IsRenamed p from to w said
