@@ -44,7 +44,7 @@ use Rattle.afr_entry_telling.proofs.Under.{area_there, refused_by_locks}
 use Rattle.afr_entry_telling.proofs.Words.{answer_is, given_refuses, given_told, low_is, refused_there}
 
 -- what rules a job out is no reply by views
-no_views : (why : Refusal) → is_by_views (reply_to why) ≡ false
+pub no_views : (why : Refusal) → is_by_views (reply_to why) ≡ false
 no_views refusal_of.Failed = refl
 no_views refusal_of.NoEntry = refl
 no_views refusal_of.Exists = refl
@@ -64,7 +64,13 @@ abbrev object_in : Path → Entry
 object_in (At read object) = object
 object_in other = root_entry
 
-module _ (p : Plan) (job : EntryJob) (w : Walk) (lines : Work) (t : Progress) (sound : Sound t) (of : t.change ≡ change_of w.object.gfid job) (place : place_by p (command_of job w.path) lines ≡ At (steps_of (command_of job w.path)) w.object) (directory : is_dir w.object.what ≡ true) where
+-- the object of a transaction that has gone as far as it could was locked
+pub was_locked : (p : Plan) (t : Progress) (lines : Work) → OnUnlocks p.shape t.change t.register.looked t.asked.looked_at lines → has (locks (object_of t.change)) lines ≡ true
+was_locked p t lines (TooFew idle locked looks few none) = locked.locked
+was_locked p t lines (Unfit idle locked looks most all unfit) = locked.locked
+was_locked p t lines (Tried under whole) = under.allows.locked.locked
+
+module _ (p : Plan) (job : EntryJob) (w : Walk) (lines : Work) (place : place_by p (command_of job w.path) lines ≡ At (steps_of (command_of job w.path)) w.object) (directory : is_dir w.object.what ≡ true) where
   abbrev c : Command
   c = command_of job w.path
 
@@ -73,26 +79,6 @@ module _ (p : Plan) (job : EntryJob) (w : Walk) (lines : Work) (t : Progress) (s
 
   abbrev change : Change
   change = change_of dir.gfid job
-
-  -- ---- its transaction has gone as far as it could
-  was_locked : OnUnlocks p.shape t.change t.register.looked t.asked.looked_at lines → has (locks (object_of t.change)) lines ≡ true
-  was_locked (TooFew idle locked looks few none) = locked.locked
-  was_locked (Unfit idle locked looks most all unfit) = locked.locked
-  was_locked (Tried under whole) = under.allows.locked.locked
-
-  pub change_end : is_rmdir c ≡ false → Goes p t lines → has refuses_read lines ≡ false → by_name p c dir (path_by p lines) lines ≡ None → (at : ℕ) (said : Reply) → next_change t.stage at t ≡ next.End said → IsAnswered p c lines said
-  change_end plain k unrefused free at said e =
-      let over = ended_stage t.stage at t said e in
-      let locked = was_locked (subst (λ (x : Stage). During x p.shape t lines) over.0 k.tells.during) in
-      subst (λ (x : Reply). IsAnswered p c lines x) over.1
-      (ends_answered p c lines t sound k.tells over.0 (record { low = subst (λ (x : Change). ends_low x ≡ true) (sym of) (low_is dir.gfid job); fits = k.fitting locked }) k.calm (record {
-        object = dir;
-        led = place;
-        area = area_there p job w.path dir lines place directory ∙ ap (λ (x : Change). Some (area_for x)) (sym of);
-        refuses = refused_by_locks p job w.path dir lines place directory unrefused free ∙ ap (λ (x : Change). by_locks p.shape (kind_for x) (area_for x) lines) (sym of);
-        answers = answer_is p job w.path lines;
-        plain = plain;
-      }))
 
   -- ---- no attempt was begun, and its name has led to no directory that it removes
   skips_before : (q : Command) → SkipsNothing p q lines → has begins_attempt lines ≡ false → (is_rmdir c ≡ true → (child : Entry) → path_by p lines ≡ At (length (path_of c)) child → is_dir child.what ≡ true → ⊥) → SkipsNothing p c lines
@@ -105,34 +91,6 @@ module _ (p : Plan) (job : EntryJob) (w : Walk) (lines : Work) (t : Progress) (s
 
   no_further : (child : Entry) → At (steps_of c) dir ≡ At (length (path_of c)) child → ⊥
   no_further child e = ended p job w.path (steps_of c) (omega arith) dir child e
-
-  -- its locks or looks have failed
-  pub unread_end : Goes p t lines → IsUnread p c dir lines → by_name p c dir (path_by p lines) lines ≡ None → (at : ℕ) (said : Reply) → next_change t.stage at t ≡ next.End said → IsAnswered p c lines said
-  unread_end k n free at said e =
-      let over = ended_stage t.stage at t said e in
-      let locked = was_locked (subst (λ (x : Stage). During x p.shape t lines) over.0 k.tells.during) in
-      let fitting : IsFitting p.shape.n t.change (looked_by (object_of t.change) lines) = record { low = subst (λ (x : Change). ends_low x ≡ true) (sym of) (low_is dir.gfid job); fits = k.fitting locked } in
-      subst (λ (x : Reply). IsAnswered p c lines x) over.1 (record {
-        caused = Refuses (by_locks_alone over.0 fitting);
-        asked = λ views. subst (λ (x : Option Area). AsksAll p.shape.n (looks_here c (place_by p c lines)) x lines) (sym (area_there p job w.path dir lines place directory ∙ ap (λ (x : Change). Some (area_for x)) (sym of))) (asks_all_for_locks p lines t k.tells over.0);
-        failed = λ f. inl (failed_by_brick p lines t sound k.tells over.0 fitting k.calm f);
-        undisturbed = λ begun calm. let no = n.unbegun in absurd (cc (begun, no));
-        whole = skips_before (command.Ls []) (skips_none p (command.Ls []) lines t k.tells over.0 refl) n.unbegun (λ is child leads found. no_further child (sym n.path ∙ leads));
-      })
-    where
-      none_posted : by_posts p.shape lines ≡ None
-      none_posted = let no = n.unbegun in rw no refl
-
-      or_none : (x : Option Reply) → or_else x None ≡ x
-      or_none None = refl
-      or_none (Some y) = refl
-
-      by_locks_alone : t.stage ≡ Closing → IsFitting p.shape.n t.change (looked_by (object_of t.change) lines) → refusal p c lines ≡ Some (reply_of t.change t.register)
-      by_locks_alone closed fitting =
-          refused_by_locks p job w.path dir lines place directory n.unrefused free
-          ∙ ap (λ (x : Change). by_locks p.shape (kind_for x) (area_for x) lines) (sym of)
-          ∙ sym (ap (λ (x : Option Reply). or_else (by_locks p.shape (kind_for t.change) (area_for t.change) lines) x) none_posted ∙ or_none (by_locks p.shape (kind_for t.change) (area_for t.change) lines))
-          ∙ replies_exactly p lines t sound k.tells closed fitting
 
   -- ---- its name has ruled it out
   -- what it leads to is no directory that is removed
@@ -153,7 +111,7 @@ module _ (p : Plan) (job : EntryJob) (w : Walk) (lines : Work) (t : Progress) (s
           go true d e = cc e
           go false d e = cc d
 
-  refused : (why : Refusal) → RulesOut p c job dir why lines → by_locks p.shape (kind_for change) (area_for change) lines ≡ None → refusal p c lines ≡ Some (reply_to why)
+  pub refused : (why : Refusal) → RulesOut p c job dir why lines → by_locks p.shape (kind_for change) (area_for change) lines ≡ None → refusal p c lines ≡ Some (reply_to why)
   refused why k passed = refused_there p job w.path dir lines place directory ∙ locks_pass ∙ go k
     where
       locks_pass : or_else (read_refused lines) (or_else (by_locks p.shape (kind_for change) (area_for change) lines) (by_name p c dir (path_by p lines) lines)) ≡ or_else (read_refused lines) (by_name p c dir (path_by p lines) lines)
@@ -169,30 +127,74 @@ module _ (p : Plan) (job : EntryJob) (w : Walk) (lines : Work) (t : Progress) (s
           free : or_else (read_refused lines) (by_name p c dir (path_by p lines) lines) ≡ by_name p c dir (path_by p lines) lines
           free = let none = g.unrefused in rw none refl
 
-  by_read : (why : Refusal) → RulesOut p c job dir why lines → reply_to why ≡ reply.Failed → has refuses_read lines ≡ true
+  pub by_read : (why : Refusal) → RulesOut p c job dir why lines → reply_to why ≡ reply.Failed → has refuses_read lines ≡ true
   by_read why (ByFault e f lost) same = f
   by_read why (ByName entry e g) same = absurd (given_told job entry (e ∙ ap (λ (x : Refusal). Some x) (is_failed why same)))
 
-  ruled_out : (why : Refusal) → RulesOut p c job dir why lines → HasGivenUp p lines t → IsAnswered p c lines (reply_to why)
-  ruled_out why k g = record {
-    caused = Refuses (refused why k (subst (λ (x : Change). by_locks p.shape (kind_for x) (area_for x) lines ≡ None) of g.passes));
-    asked = λ h. let no = no_views why in absurd (cc (h, no));
-    failed = λ h. inr (by_read why k h);
-    undisturbed = λ h calm. let no = g.unbegun in absurd (cc (h, no));
-    whole = skips_before (command.Ls []) (g.skips (command.Ls []) refl) g.unbegun (no_child why k);
-  }
+  -- ---- its transaction has gone as far as it could
+  module _ (t : Progress) (sound : Sound t) (of : t.change ≡ change) where
+    pub change_end : is_rmdir c ≡ false → Goes p t lines → has refuses_read lines ≡ false → by_name p c dir (path_by p lines) lines ≡ None → (at : ℕ) (said : Reply) → next_change t.stage at t ≡ next.End said → IsAnswered p c lines said
+    change_end plain k unrefused free at said e =
+        let over = ended_stage t.stage at t said e in
+        let locked = was_locked p t lines (subst (λ (x : Stage). During x p.shape t lines) over.0 k.tells.during) in
+        subst (λ (x : Reply). IsAnswered p c lines x) over.1
+        (ends_answered p c lines t sound k.tells over.0 (record { low = subst (λ (x : Change). ends_low x ≡ true) (sym of) (low_is dir.gfid job); fits = k.fitting locked }) k.calm (record {
+          object = dir;
+          led = place;
+          area = area_there p job w.path dir lines place directory ∙ ap (λ (x : Change). Some (area_for x)) (sym of);
+          refuses = refused_by_locks p job w.path dir lines place directory unrefused free ∙ ap (λ (x : Change). by_locks p.shape (kind_for x) (area_for x) lines) (sym of);
+          answers = answer_is p job w.path lines;
+          plain = plain;
+        }))
 
-  -- the reply is said once no lock is left
-  pub refused_end : (why : Refusal) → RulesOut p c job dir why lines → GaveUp p lines t → (at : ℕ) (said : Reply) → (if is_over t.stage t then next.End (reply_to why) else next_change t.stage at t) ≡ next.End said → IsAnswered p c lines said
-  refused_end why k g at said e = go t.stage g.closing e
-    where
-      answered : IsAnswered p c lines (reply_to why)
-      answered = ruled_out why k (given_up_ends p lines t g)
+    -- its locks or looks have failed
+    pub unread_end : Goes p t lines → IsUnread p c dir lines → by_name p c dir (path_by p lines) lines ≡ None → (at : ℕ) (said : Reply) → next_change t.stage at t ≡ next.End said → IsAnswered p c lines said
+    unread_end k n free at said e =
+        let over = ended_stage t.stage at t said e in
+        let locked = was_locked p t lines (subst (λ (x : Stage). During x p.shape t lines) over.0 k.tells.during) in
+        let fitting : IsFitting p.shape.n t.change (looked_by (object_of t.change) lines) = record { low = subst (λ (x : Change). ends_low x ≡ true) (sym of) (low_is dir.gfid job); fits = k.fitting locked } in
+        subst (λ (x : Reply). IsAnswered p c lines x) over.1 (record {
+          caused = Refuses (by_locks_alone over.0 fitting);
+          asked = λ views. subst (λ (x : Option Area). AsksAll p.shape.n (looks_here c (place_by p c lines)) x lines) (sym (area_there p job w.path dir lines place directory ∙ ap (λ (x : Change). Some (area_for x)) (sym of))) (asks_all_for_locks p lines t k.tells over.0);
+          failed = λ f. inl (failed_by_brick p lines t sound k.tells over.0 fitting k.calm f);
+          undisturbed = λ begun calm. let no = n.unbegun in absurd (cc (begun, no));
+          whole = skips_before (command.Ls []) (skips_none p (command.Ls []) lines t k.tells over.0 refl) n.unbegun (λ is child leads found. no_further child (sym n.path ∙ leads));
+        })
+      where
+        none_posted : by_posts p.shape lines ≡ None
+        none_posted = let no = n.unbegun in rw no refl
 
-      by_held : (x : Bool) → (if x then next.End (reply_to why) else (if x then next.End (reply_of t.change t.register) else asks Closing t)) ≡ next.End said → IsAnswered p c lines said
-      by_held true f = let same : reply_to why ≡ said = cc f in subst (λ (y : Reply). IsAnswered p c lines y) same answered
-      by_held false f = absurd (cc f)
+        or_none : (x : Option Reply) → or_else x None ≡ x
+        or_none None = refl
+        or_none (Some y) = refl
 
-      go : (stage : Stage) → stage ≡ Closing → (if is_over stage t then next.End (reply_to why) else next_change stage at t) ≡ next.End said → IsAnswered p c lines said
-      go Closing h f = by_held (is_nothing t.register.held) f
-      go stage h f = absurd (cc h)
+        by_locks_alone : t.stage ≡ Closing → IsFitting p.shape.n t.change (looked_by (object_of t.change) lines) → refusal p c lines ≡ Some (reply_of t.change t.register)
+        by_locks_alone closed fitting =
+            refused_by_locks p job w.path dir lines place directory n.unrefused free
+            ∙ ap (λ (x : Change). by_locks p.shape (kind_for x) (area_for x) lines) (sym of)
+            ∙ sym (ap (λ (x : Option Reply). or_else (by_locks p.shape (kind_for t.change) (area_for t.change) lines) x) none_posted ∙ or_none (by_locks p.shape (kind_for t.change) (area_for t.change) lines))
+            ∙ replies_exactly p lines t sound k.tells closed fitting
+
+    ruled_out : (why : Refusal) → RulesOut p c job dir why lines → HasGivenUp p lines t → IsAnswered p c lines (reply_to why)
+    ruled_out why k g = record {
+      caused = Refuses (refused why k (subst (λ (x : Change). by_locks p.shape (kind_for x) (area_for x) lines ≡ None) of g.passes));
+      asked = λ h. let no = no_views why in absurd (cc (h, no));
+      failed = λ h. inr (by_read why k h);
+      undisturbed = λ h calm. let no = g.unbegun in absurd (cc (h, no));
+      whole = skips_before (command.Ls []) (g.skips (command.Ls []) refl) g.unbegun (no_child why k);
+    }
+
+    -- the reply is said once no lock is left
+    pub refused_end : (why : Refusal) → RulesOut p c job dir why lines → GaveUp p lines t → (at : ℕ) (said : Reply) → (if is_over t.stage t then next.End (reply_to why) else next_change t.stage at t) ≡ next.End said → IsAnswered p c lines said
+    refused_end why k g at said e = go t.stage g.closing e
+      where
+        answered : IsAnswered p c lines (reply_to why)
+        answered = ruled_out why k (given_up_ends p lines t g)
+
+        by_held : (x : Bool) → (if x then next.End (reply_to why) else (if x then next.End (reply_of t.change t.register) else asks Closing t)) ≡ next.End said → IsAnswered p c lines said
+        by_held true f = let same : reply_to why ≡ said = cc f in subst (λ (y : Reply). IsAnswered p c lines y) same answered
+        by_held false f = absurd (cc f)
+
+        go : (stage : Stage) → stage ≡ Closing → (if is_over stage t then next.End (reply_to why) else next_change stage at t) ≡ next.End said → IsAnswered p c lines said
+        go Closing h f = by_held (is_nothing t.register.held) f
+        go stage h f = absurd (cc h)

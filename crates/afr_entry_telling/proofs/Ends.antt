@@ -156,12 +156,12 @@ module _ (p : Plan) (job : EntryJob) (w : Walk) (lines : Work) (t : Progress) wh
     where
       go : (x : Bool) → (if x then next.Ask copy (reads_name job w) else next_change t.stage at t) ≡ next.End said → IsAnswered p c lines said
       go true e = absurd (cc e)
-      go false e = unread_end p job w lines t sound.sound sound.of_job k.place k.directory k.on.0 k.name (unrefused_unread p job w lines t k.name).0 at said e
+      go false e = unread_end p job w lines k.place k.directory t sound.sound sound.of_job k.on.0 k.name (unrefused_unread p job w lines t k.name).0 at said e
   under_ends Fits at said sound k e =
       let plain = goes_plain job w.path sound.fits in
       let free = unrefused_fits p job w lines t plain k.name in
-      change_end p job w lines t sound.sound sound.of_job k.place k.directory plain k.on free.1 free.0 at said e
-  under_ends (Refused why) at said sound k e = refused_end p job w lines t sound.sound sound.of_job k.place k.directory why k.name k.on at said e
+      change_end p job w lines k.place k.directory t sound.sound sound.of_job plain k.on free.1 free.0 at said e
+  under_ends (Refused why) at said sound k e = refused_end p job w lines k.place k.directory t sound.sound sound.of_job why k.name k.on at said e
 
 -- ---- a removal
 after_answer : (r : Removing) (chosen : BrickId) (heard : Answer) (at : ℕ) → removal.is_beginning r.stage ≡ false → removal_after chosen heard at r ≡ removal.answered chosen r.stage heard at r

@@ -54,7 +54,7 @@ hears_name copy Applying p dir b request log heard e can = absurd (cc e)
 hears_name copy Posting p dir b request log heard e can = absurd (cc e)
 hears_name copy Closing p dir b request log heard e can = absurd (cc e)
 
-hears_told : (copy : BrickId) (stage : Stage) (p : Plan) (dir : Entry) (b : ℕ) (request : Request) (log : List Line) (heard : Answer) → is_beginning stage ≡ false → CanHearUnder (Unread copy) stage p dir b request log heard → CanTell dir request (told_by heard)
+pub hears_told : (copy : BrickId) (stage : Stage) (p : Plan) (dir : Entry) (b : ℕ) (request : Request) (log : List Line) (heard : Answer) → is_beginning stage ≡ false → CanHearUnder (Unread copy) stage p dir b request log heard → CanTell dir request (told_by heard)
 hears_told copy Beginning p dir b request log heard e can = absurd (cc e)
 hears_told copy Locking p dir b request log heard e can = can
 hears_told copy Looking p dir b request log heard e can = can

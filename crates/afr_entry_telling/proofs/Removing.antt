@@ -1,5 +1,6 @@
 -- The name was found to lead to a directory: its removal begins.
 use Rattle.std.proofs.Common.{◌≡◌, ℕ, ◌==◌, Bool, true, false, List, [], ◌∷◌, ◌++◌, Some, None, length, refl, sym, ap, ◌∙◌, subst, arith, if◌then◌else◌}
+use Rattle.std.proofs.lemmas.Option.{same_Some}
 use Rattle.afr_base.specs.Bricks.{member}
 use Rattle.afr_base.specs.declared.ids.ActorId.{ActorId}
 use Rattle.afr_base.specs.declared.ids.BrickId.{BrickId}
@@ -43,9 +44,6 @@ use Rattle.afr_entry_telling.proofs.Names as name_told
 use Rattle.afr_entry_telling.proofs.Names.{NameTold}
 use Rattle.afr_entry_telling.proofs.Under.{place_more}
 use Rattle.afr_entry_telling.proofs.Words.{again, area_is, dir_is, longer, named_is}
-
-just : {A : Type 0} → (x y : A) → Some x ≡ Some y → x ≡ y
-just x y e = cc e
 
 -- an entry that leads to a directory
 entry_is : (entry : Entry) (g : Gfid) → is_dir entry.what ≡ true → entry.gfid ≡ g → entry ≡ dir_at g
@@ -140,7 +138,7 @@ read_removes p (Rmdir name) w lines t place directory unread a log b sound k n a
       name = name;
       is_job = refl;
       tells = subst (λ (g : Gfid). RemovalTells p (w.path ++ name ∷ []) (removing t.change (name_noted b (Rmdir name) w told_of.Given (length log) t).register g) ((Ask a b (reads_name (Rmdir name) w) told_of.Given took, log) ∷ lines))
-          (just entry.gfid child e) (tells_removal p name w lines t place directory unread a log b sound k n at_begin held took entry f shows (can.elsewhere entry refl));
+          (same_Some entry.gfid child e) (tells_removal p name w lines t place directory unread a log b sound k n at_begin held took entry f shows (can.elsewhere entry refl));
     }
     go false f e = absurd (cc e)
 read_removes p (Rmdir name) w lines t place directory unread a log b sound k n at_begin held heard took child some can = absurd (cc some)

@@ -45,7 +45,7 @@ use Rattle.afr_entry_telling.proofs.Names.{Quiet, upto_stays}
 use Rattle.afr_entry_telling.proofs.Words.{area_is, place_upto, refused_there}
 
 -- ---- what a line of the transaction leaves of the path
-given_more : (p : Plan) (c : Command) (dir : Entry) (entry : Option Entry) (line : Line) (log : List Line) (w : Work) → Quiet p line log w → WasGiven p c dir entry w → WasGiven p c dir entry ((line, log) ∷ w)
+pub given_more : (p : Plan) (c : Command) (dir : Entry) (entry : Option Entry) (line : Line) (log : List Line) (w : Work) → Quiet p line log w → WasGiven p c dir entry w → WasGiven p c dir entry ((line, log) ∷ w)
 given_more p c dir entry line log w q k = record { path = q.path ∙ k.path; unrefused = q.refused ∙ k.unrefused }
 
 pub name_more : (found : Found) (p : Plan) (c : Command) (job : EntryJob) (dir : Entry) (line : Line) (log : List Line) (w : Work) → Quiet p line log w → ((copy : BrickId) → found ≡ Unread copy → begins_attempt line ≡ false) → NameTells found p c job dir w → NameTells found p c job dir ((line, log) ∷ w)

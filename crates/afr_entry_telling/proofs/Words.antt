@@ -3,7 +3,7 @@ use Rattle.std.proofs.Common.{◌≡◌, ℕ, ◌+◌, ◌-◌, nat_lt, Bool, tr
 use Rattle.std.proofs.Math.Seq.{get_or-append_seam}
 use Rattle.std.proofs.lemmas.Bool.Decides.{nat_tests}
 use Rattle.std.proofs.lemmas.List.{length-append}
-use Rattle.std.proofs.lemmas.Option.{slice_get-get_or}
+use Rattle.std.proofs.lemmas.Option.{same_Some, slice_get-get_or}
 use Rattle.afr_base.specs.declared.ids.Gfid.{Gfid}
 use Rattle.afr_base.specs.declared.ids.Kind.TheVariants.{Names}
 use Rattle.afr_base.specs.declared.ids.NameId.{NameId}
@@ -32,9 +32,6 @@ use Rattle.afr_entry.specs.declared.job.EntryJob.TheVariants.{Create, Mkdir, Unl
 use Rattle.afr_entry.specs.declared.refusal.Refusal.{Refusal}
 use Rattle.afr_entry.specs.declared.refusal.Refusal.TheVariants as refusal_of
 use Rattle.afr_entry_telling.specs.EntryTelling.{command_of}
-
-just : {A : Type 0} → (x y : A) → Some x ≡ Some y → x ≡ y
-just x y e = cc e
 
 -- ---- the path with the last name
 pub longer : (path : List NameId) (name : NameId) → length (path ++ name ∷ []) ≡ length path + 1
@@ -194,20 +191,20 @@ given_fits p (Rmdir name) path dir w entry plain e = absurd (cc plain)
 pub given_refuses : (p : Plan) (job : EntryJob) (path : List NameId) (dir : Entry) (w : Work) (entry : Option Entry) (why : Refusal) → ruled_by job entry ≡ Some why
     → by_name p (command_of job path) dir (one_name entry (At (steps_of (command_of job path)) dir)) w ≡ Some (reply_to why)
 given_refuses p (Create name) path dir w None why e = absurd (cc e)
-given_refuses p (Create name) path dir w (Some entry) why e = rw (not_past path name) (ap (λ (x : Refusal). Some (reply_to x)) (just refusal_of.Exists why e))
+given_refuses p (Create name) path dir w (Some entry) why e = rw (not_past path name) (ap (λ (x : Refusal). Some (reply_to x)) (same_Some refusal_of.Exists why e))
 given_refuses p (Mkdir name) path dir w None why e = absurd (cc e)
-given_refuses p (Mkdir name) path dir w (Some entry) why e = rw (not_past path name) (ap (λ (x : Refusal). Some (reply_to x)) (just refusal_of.Exists why e))
-given_refuses p (Unlink name) path dir w None why e = ap (λ (x : Refusal). Some (reply_to x)) (just refusal_of.NoEntry why e)
+given_refuses p (Mkdir name) path dir w (Some entry) why e = rw (not_past path name) (ap (λ (x : Refusal). Some (reply_to x)) (same_Some refusal_of.Exists why e))
+given_refuses p (Unlink name) path dir w None why e = ap (λ (x : Refusal). Some (reply_to x)) (same_Some refusal_of.NoEntry why e)
 given_refuses p (Unlink name) path dir w (Some entry) why e = rw (not_past path name) (go (is_dir entry.what) e)
   where
     go : (d : Bool) → (if d then Some refusal_of.IsDir else None) ≡ Some why → (if d then Some reply.IsDir else None) ≡ Some (reply_to why)
-    go true e = ap (λ (x : Refusal). Some (reply_to x)) (just refusal_of.IsDir why e)
+    go true e = ap (λ (x : Refusal). Some (reply_to x)) (same_Some refusal_of.IsDir why e)
     go false e = absurd (cc e)
-given_refuses p (Rmdir name) path dir w None why e = ap (λ (x : Refusal). Some (reply_to x)) (just refusal_of.NoEntry why e)
+given_refuses p (Rmdir name) path dir w None why e = ap (λ (x : Refusal). Some (reply_to x)) (same_Some refusal_of.NoEntry why e)
 given_refuses p (Rmdir name) path dir w (Some entry) why e = rw (not_past path name) (go entry.what e)
   where
     go : (what : What) → (if is_dir what then None else Some refusal_of.NotDir) ≡ Some why → (if is_file what then Some reply.NotDir else by_child p (command.Rmdir (path ++ name ∷ [])) dir entry w) ≡ Some (reply_to why)
-    go File e = ap (λ (x : Refusal). Some (reply_to x)) (just refusal_of.NotDir why e)
+    go File e = ap (λ (x : Refusal). Some (reply_to x)) (same_Some refusal_of.NotDir why e)
     go Dir e = absurd (cc e)
 
 -- that a read has failed is none of the rules

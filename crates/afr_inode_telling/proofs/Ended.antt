@@ -19,7 +19,7 @@ use Rattle.afr_inode_telling.proofs.Quiet.{area_none, begins_none, change_none}
 use Rattle.afr_inode_telling.proofs.Walking.{place_whole, rmdir_none, steps_whole}
 
 -- ---- nothing was skipped
-skips_nothing : (p : Plan) (c : Command) (w : Work) → OnlyReads p.shape.n w → LookedAll p.shape.n w → is_on_name c ≡ false → SkipsNothing p c w
+pub skips_nothing : (p : Plan) (c : Command) (w : Work) → OnlyReads p.shape.n w → LookedAll p.shape.n w → is_on_name c ≡ false → SkipsNothing p c w
 skips_nothing p c w only all whole = record {
   looked = λ g m unlocked b l. all g m b l;
   locked = λ area part m. absurd (cc (m, area_none p.shape.n area w only));

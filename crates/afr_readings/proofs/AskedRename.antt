@@ -1,7 +1,6 @@
 -- What the rule is asked for by a rename is what its lines say, those of the part to which the look belongs.
-use Rattle.std.proofs.Common.{◌≡◌, ◌∙◌, ℕ, ◌-◌, ◌<◌, nat_le, nat_lt, Bool, true, false, List, [], ◌∷◌, ◌++◌, Some, arith, Option, refl, sym, ap, subst, length, if◌then◌else◌}
+use Rattle.std.proofs.Common.{◌≡◌, ◌∙◌, ℕ, ◌-◌, ◌<◌, nat_le, Bool, true, false, List, [], ◌∷◌, ◌++◌, Some, arith, Option, refl, sym, ap, subst, length, if◌then◌else◌}
 use Rattle.std.specs.Prelude.{slice_get}
-use Rattle.std.proofs.lemmas.Bool.Decides.{nat_tests}
 use Rattle.std.proofs.lemmas.Option.{slice_get-get_or, slice_get_within}
 use Rattle.afr_base.specs.declared.ids.ActorId.{ActorId}
 use Rattle.afr_base.specs.declared.ids.BrickId.{BrickId}
@@ -31,6 +30,7 @@ use Rattle.afr_model.specs.Chosen.{Picks}
 use Rattle.afr_model.specs.Parts.{Makes, Part, Removes, Walks, is_again, names_asked, part_at, second_part, the_make, the_removal, the_walk}
 use Rattle.afr_model.specs.Showing.{path_by}
 use Rattle.afr_model.specs.Standing.{locks_any}
+use Rattle.afr_cut.proofs.Cut.{make_grows, removal_grows, walk_grows}
 use Rattle.afr_object.specs.declared.change.Change.{Change}
 use Rattle.afr_object.specs.declared.entry.Entry.{Entry}
 use Rattle.afr_plan.specs.declared.command.Command.{Command}
@@ -49,7 +49,8 @@ use Rattle.afr_rename.specs.Under.{choices_under, found_after, next_under, progr
 use Rattle.afr_rename.specs.declared.paths.Paths.{Paths}
 use Rattle.afr_rename.specs.declared.stage.RenameStage.{RenameStage}
 use Rattle.afr_rename.specs.declared.stage.RenameStage.TheVariants.{Ending, Finding, Making, Removing, Walking}
-use Rattle.afr_rename_telling.proofs.Cut.{line_makes, line_removes, line_walks, make_grows, not_again, removal_grows, walk_grows}
+use Rattle.afr_rename.proofs.PathLemmas.{front_last}
+use Rattle.afr_rename_telling.proofs.Cut.{line_makes, line_removes, line_walks, not_again}
 use Rattle.afr_rename_telling.proofs.Walks.{finds_again, finds_walk, not_all_asked, walks_again}
 use Rattle.afr_rename_telling.specs.RenameTelling.{Drops, Makes as MakesName, Removes as RemovesName, RenameTells, TellsIn, old_dir, to_of}
 use Rattle.afr_rule.specs.declared.candidate.Candidate.{Candidate}
@@ -60,7 +61,6 @@ use Rattle.afr_transaction.specs.Progress.{Progress, fed, is_beginning, is_over}
 use Rattle.afr_transaction.specs.Sound.{Sound}
 use Rattle.afr_transaction.specs.declared.stage.Stage.TheVariants.{Locking}
 use Rattle.afr_walk.specs.Walk.{choices_of, next_in}
-use Rattle.afr_works.proofs.PathLemmas.{path_is}
 
 -- ---- by the part of a line
 module _ (p : Plan) (from to : List NameId) (lines : Work) (a : ActorId) (b : BrickId) (told : Told) (took : Bool) (log : List Line) (copies : List Candidate) (v : Work) where
@@ -120,13 +120,10 @@ module _ (p : Plan) (job : EntryJob) (path : List NameId) (dir : Entry) (g : Gfi
 
 -- the first path is the names before the old one, and that
 ends_in : (path : List NameId) (name : NameId) → slice_get path (length path - 1) ≡ Some name → front path ++ name ∷ [] ≡ path
-ends_in path name e = ap (λ (n : NameId). front path ++ n ∷ []) (sym same) ∙ path_is path (some (length path) low)
+ends_in path name e = ap (λ (n : NameId). front path ++ n ∷ []) (sym same) ∙ front_last path (omega (arith, low))
   where
     low : length path - 1 < length path
     low = slice_get_within path (length path - 1) name e
-
-    some : (n : ℕ) → n - 1 < n → nat_lt 0 n ≡ true
-    some n h = grind (arith, nat_tests, h)
 
     same : last path ≡ name
     same = let here = slice_get-get_or path (length path - 1) (record { 0 = 0 }) low in cc (here, e)

@@ -28,6 +28,7 @@ use Rattle.afr_model.specs.Chosen as model
 use Rattle.afr_model.specs.Chosen.{Picks, ReadsPicked}
 use Rattle.afr_model.specs.Parts.{the_make, the_removal}
 use Rattle.afr_model.specs.Showing.{has, locks, looked_by}
+use Rattle.afr_cut.proofs.Cut.{make_grows, make_waits}
 use Rattle.afr_object.specs.Tables.{is_dir, object_of}
 use Rattle.afr_object.specs.declared.change.Change.{Change}
 use Rattle.afr_plan.specs.declared.command.Command.{Command}
@@ -47,7 +48,6 @@ use Rattle.afr_rename.specs.Under.{IsUnder, choices_under, found_after, progress
 use Rattle.afr_rename.specs.declared.paths.Paths.{Paths}
 use Rattle.afr_rename.specs.declared.stage.RenameStage.{RenameStage}
 use Rattle.afr_rename.specs.declared.stage.RenameStage.TheVariants.{Ending, Finding, Making, Removing, Walking}
-use Rattle.afr_rename_telling.proofs.Cut.{make_grows, make_waits}
 use Rattle.afr_rename_telling.proofs.Walks.{finds_again, not_all_asked, walks_again}
 use Rattle.afr_rename_telling.specs.RenameTelling.{RenameTells, TellsIn}
 use Rattle.afr_transaction.specs.Between.{noted_read}

@@ -51,16 +51,6 @@ fed_is Applying t at b q told e = refl
 fed_is Posting t at b q told e = refl
 fed_is Closing t at b q told e = refl
 
--- and it isn't at its Begin line
-pub asks_on : (stage : Stage) (t : Progress) (at : ℕ) (b : BrickId) (q : Request) → progress.next_at stage at t ≡ next.Ask b q → is_beginning stage ≡ false
-asks_on Beginning t at b q e = absurd (cc e)
-asks_on Locking t at b q e = refl
-asks_on Looking t at b q e = refl
-asks_on Preparing t at b q e = refl
-asks_on Applying t at b q e = refl
-asks_on Posting t at b q e = refl
-asks_on Closing t at b q e = refl
-
 -- whether the name is still to be read
 abbrev pub is_unread : Found → Bool
 is_unread (Unread reader) = true

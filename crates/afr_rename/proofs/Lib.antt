@@ -1,3 +1,4 @@
 pub mod UnderLemmas
 pub mod RenameLemmas
 mod HeardLemmas
+pub mod PathLemmas

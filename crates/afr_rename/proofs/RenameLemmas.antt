@@ -184,7 +184,7 @@ over_not_done true true e f = absurd (cc f)
 over_not_done true false e f = absurd (cc e)
 over_not_done false d e f = refl
 
-acknowledged_is : (o : Outcome) → is_acknowledged o ≡ true → o ≡ outcome.Acknowledged
+pub acknowledged_is : (o : Outcome) → is_acknowledged o ≡ true → o ≡ outcome.Acknowledged
 acknowledged_is outcome.Acknowledged e = refl
 acknowledged_is outcome.NoQuorum e = absurd (cc e)
 acknowledged_is outcome.FewCopies e = absurd (cc e)

@@ -1,7 +1,5 @@
 -- A rename that begins; and of one whose walks go on, or that is at its end, what each law says.
-use Rattle.std.proofs.Common.{◌≡◌, ℕ, ◌-◌, ◌<◌, ◌==◌, Bool, true, false, List, [], ◌∷◌, ◌++◌, length, take, refl, sym, ap, ◌∙◌, subst, arith, if◌then◌else◌}
-use Rattle.std.proofs.Math.Seq.{take-length}
-use Rattle.std.proofs.lemmas.List.{take_more}
+use Rattle.std.proofs.Common.{◌≡◌, ℕ, ◌==◌, Bool, true, false, List, [], ◌∷◌, length, refl, sym, ap, subst, if◌then◌else◌}
 use Rattle.afr_base.specs.declared.ids.ActorId.{ActorId}
 use Rattle.afr_base.specs.declared.ids.BrickId.{BrickId}
 use Rattle.afr_base.specs.declared.ids.NameId.{NameId}
@@ -27,21 +25,17 @@ use Rattle.afr_walk.specs.declared.walk.WalkStep.TheVariants as walking
 use Rattle.afr_inode_telling.proofs.Walking.{walk_tells_first}
 use Rattle.afr_transaction_tells.specs.About.{BlamesNext}
 use Rattle.afr_transaction_tells.specs.Laws.{IsNextLine}
-use Rattle.afr_rename.specs.Paths.{front, last}
 use Rattle.afr_rename.specs.Rename.{IsRename, answered, choices_at, next_at}
 use Rattle.afr_rename.specs.declared.paths.Paths.{Paths}
 use Rattle.afr_rename.specs.declared.stage.RenameStage.{RenameStage}
 use Rattle.afr_rename.specs.declared.stage.RenameStage.TheVariants.{Finding, Walking, Ending}
+use Rattle.afr_rename.proofs.PathLemmas.{front_last}
 use Rattle.afr_rename_telling.specs.RenameLaws.{RenameBegins}
 use Rattle.afr_rename_telling.specs.RenameTelling.{CanHear, IsLeg, RenameTells, TellsIn, command_of, to_of}
 use Rattle.afr_rename_telling.proofs.Walks.{finding_about, leg_begins, walk_blames, walking_about}
 use Rattle.afr_rename_telling.proofs.WalksGo.{finding_more, walking_more}
 
 -- ---- it begins
--- a path with a name is the names before its last one, and that one
-front_last : (path : List NameId) → 0 < length path → front path ++ last path ∷ [] ≡ path
-front_last path some = sym (take_more path (length path - 1) (record { 0 = 0 }) (omega (arith, some))) ∙ ap (λ (n : ℕ). take n path) (omega (arith, some)) ∙ take-length path
-
 pub begins : RenameBegins
 begins p from to few some old new = record {
   shape = refl;

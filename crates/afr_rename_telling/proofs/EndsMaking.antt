@@ -21,11 +21,12 @@ use Rattle.afr_plan.specs.declared.command.Command.TheVariants as command
 use Rattle.afr_plan.specs.declared.plan.Plan.{Plan}
 use Rattle.afr_model.specs.Answered.{by_posts, is_by_views}
 use Rattle.afr_model.specs.Parts.{first_part, the_make, the_walk}
-use Rattle.afr_model.specs.Refusals.{by_locks, by_name, or_else, read_refused, refusal}
+use Rattle.afr_model.specs.Refusals.{by_locks, or_else, refusal}
 use Rattle.afr_model.specs.Renamed.{AsksAllOf, IsRenamed, asked_lines, asks_at, by_halves, or_halves, refusal_at, rename_refusal, rename_reply}
-use Rattle.afr_model.specs.Showing.{Path, At, among, begins_attempt, has, is_faulted, locks, looked_by, path_by, posted, refuses_read}
+use Rattle.afr_model.specs.Showing.{Path, At, among, begins_attempt, has, is_faulted, looked_by, path_by, posted, refuses_read}
 use Rattle.afr_model.specs.Skipped.{AsksAll}
 use Rattle.afr_model.specs.Standing.{asking, looks_here, place_by}
+use Rattle.afr_cut.proofs.Cut.{first_all}
 use Rattle.afr_transaction.specs.Outcome.{outcome_of, reply_for, reply_of}
 use Rattle.afr_transaction.specs.Progress.{Progress, asks, is_beginning, is_over, next_at as next_change}
 use Rattle.afr_transaction.specs.declared.reply.Outcome.{Outcome}
@@ -35,7 +36,7 @@ use Rattle.afr_transaction.specs.declared.stage.Stage.TheVariants.{Locking, Look
 use Rattle.afr_transaction.proofs.Acknowledged.{acknowledged_exactly}
 use Rattle.afr_transaction_tells.specs.About.{IsFitting}
 use Rattle.afr_transaction_tells.specs.GivenUp.{GaveUp}
-use Rattle.afr_transaction_tells.specs.Tells.{During, OnUnlocks, Tells, TooFew, Tried, Unfit}
+use Rattle.afr_transaction_tells.specs.Tells.{During, Tells}
 use Rattle.afr_transaction_tells.proofs.GivenUpLemmas.{given_up_ends}
 use Rattle.afr_transaction_tells.proofs.Over.{asks_all_for_locks, failed_by_brick, replies_exactly, skips_none, undisturbed_is_done}
 use Rattle.afr_entry.specs.Job.{change_of, reply_to}
@@ -46,17 +47,16 @@ use Rattle.afr_entry.specs.declared.refusal.Refusal.TheVariants as refusal_of
 use Rattle.afr_entry.specs.declared.stage.Found.{Found}
 use Rattle.afr_entry.specs.declared.stage.Found.TheVariants.{Unread, Fits, Refused}
 use Rattle.afr_write_telling.proofs.Goes.{ended_stage}
-use Rattle.afr_entry_telling.specs.EntryTelling.{ByFault, ByName, Goes, RulesOut}
+use Rattle.afr_entry_telling.specs.EntryTelling.{Goes, RulesOut}
 use Rattle.afr_entry_telling.proofs.Changing.{passed_like, unrefused_fits, unrefused_unread}
+use Rattle.afr_entry_telling.proofs.Ended.{by_read, no_views, refused, was_locked}
 use Rattle.afr_entry_telling.proofs.Under.{area_there, refused_by_locks}
-use Rattle.afr_entry_telling.proofs.Words.{given_refuses, refused_there}
 use Rattle.afr_rename.specs.Against.{is_acknowledged}
 use Rattle.afr_rename.specs.Paths.{reads_new}
 use Rattle.afr_rename.specs.Rename.{IsMaking, is_done}
 use Rattle.afr_rename.specs.Under.{next_under}
 use Rattle.afr_rename.specs.declared.paths.Paths.{Paths}
 use Rattle.afr_rename_telling.specs.RenameTelling.{HasWalked, Makes, to_of}
-use Rattle.afr_rename_telling.proofs.Cut.{first_all}
 use Rattle.afr_rename_telling.proofs.MakingMore.{making_like}
 use Rattle.afr_rename_telling.proofs.MakingParts.{fault_more, has_append, or_left}
 use Rattle.afr_rename_telling.proofs.MakingWalked.{begun_only, whole}
@@ -79,13 +79,6 @@ refusal_whole refusal_of.Exists e = cc e
 refusal_whole refusal_of.IsDir e = cc e
 refusal_whole refusal_of.NotDir e = cc e
 
-refusal_alone : (why : Refusal) → is_by_views (reply_to why) ≡ false
-refusal_alone refusal_of.Failed = refl
-refusal_alone refusal_of.NoEntry = refl
-refusal_alone refusal_of.Exists = refl
-refusal_alone refusal_of.IsDir = refl
-refusal_alone refusal_of.NotDir = refl
-
 -- ---- the end of a transaction
 pub ends_over : (stage : Stage) (at : ℕ) (t : Progress) (said : Reply) → next_change stage at t ≡ next.End said → is_over stage t ≡ true
 ends_over Locking at t said e = absurd (cc e)
@@ -99,12 +92,6 @@ ends_over Closing at t said e = go (is_nothing t.register.held) e
     go : (b : Bool) → (if b then next.End (reply_of t.change t.register) else asks Closing t) ≡ next.End said → b ≡ true
     go true e = refl
     go false e = absurd (cc e)
-
--- its object was locked
-pub locked_over : (p : Plan) (t : Progress) (w : Work) → OnUnlocks p.shape t.change t.register.looked t.asked.looked_at w → has (locks (object_of t.change)) w ≡ true
-locked_over p t w (TooFew idle locked looks few none) = locked.locked
-locked_over p t w (Unfit idle locked looks most all unfit) = locked.locked
-locked_over p t w (Tried under all) = under.allows.locked.locked
 
 -- ---- what refuses a rename whose first path has led to a file
 pub refusal_is : (p : Plan) (x : Paths) (lines : Work) → HasWalked p x lines → rename_refusal p x.first.path (to_of x) lines ≡ refusal p (command.Create (to_of x)) (the_make x.first.path lines)
@@ -178,7 +165,7 @@ module _ (p : Plan) (x : Paths) (t : Progress) (found : Found) (lines : Work) (k
     fitting : IsFitting p.shape.n t.change (looked_by (object_of t.change) make)
     fitting = record {
       low = subst (λ (y : Change). ends_low y ≡ true) (sym sound.under.of) refl;
-      fits = goes.fitting (locked_over p t make (subst (λ (stage : Stage). During stage p.shape t make) closing goes.tells.during));
+      fits = goes.fitting (was_locked p t make (subst (λ (stage : Stage). During stage p.shape t make) closing goes.tells.during));
     }
 
     locks_like : by_locks p.shape (kind_for change) (area_for change) make ≡ by_locks p.shape (kind_for t.change) (area_for t.change) make
@@ -198,7 +185,7 @@ module _ (p : Plan) (x : Paths) (t : Progress) (found : Found) (lines : Work) (k
     tried_end : IsRenamed p from (to_of x) lines (reply_of t.change t.register)
     tried_end = record {
       caused = reply_is (reply_of t.change t.register) (ap (λ (o : Option Reply). or_else o (by_posts p.shape make)) (refuses ∙ locks_like) ∙ replies_exactly p make t sound.under.sound goes.tells closing fitting) not_posted;
-      asked = λ refused e views. asks_there p x lines k.on.walked (asks_all goes.tells closing);
+      asked = λ said e views. asks_there p x lines k.on.walked (asks_all goes.tells closing);
       failed = λ f. inl (failed_by_brick p make t sound.under.sound goes.tells closing fitting goes.calm f);
       halved = λ h. absurd (not_half (outcome_of t.change t.register) h);
       undisturbed = λ begun calm. inl (undisturbed_is_done p make t sound.under.sound goes.tells closing goes.calm (sym (begun_only p x lines k.on) ∙ begun) (calm_make calm));
@@ -211,33 +198,12 @@ module _ (p : Plan) (x : Paths) (t : Progress) (found : Found) (lines : Work) (k
 
   -- ---- its name is there already, or couldn't be read
   module _ (why : Refusal) (rules : RulesOut p c job dir why make) (gave : GaveUp p make t) where
-    refused : refusal p c make ≡ Some (reply_to why)
-    refused =
-        refused_there p job x.second.path dir make k.tells.place k.tells.directory
-        ∙ ap (λ (o : Option Reply). or_else (read_refused make) (or_else o (by_name p c dir (path_by p make) make))) (passed_like p t.change change make (making_like x t.change sound.under.of) (given_up_ends p make t gave).passes)
-        ∙ go rules
-      where
-        go : RulesOut p c job dir why make → or_else (read_refused make) (by_name p c dir (path_by p make) make) ≡ Some (reply_to why)
-        go (ByFault e f lost) = by_fault ∙ ap (λ (y : Refusal). Some (reply_to y)) (sym e)
-          where
-            by_fault : or_else (read_refused make) (by_name p c dir (path_by p make) make) ≡ Some reply.Failed
-            by_fault = rw f refl
-        go (ByName entry e g) = free ∙ subst (λ (q : Path). by_name p c dir q make ≡ Some (reply_to why)) (sym g.path) (given_refuses p job x.second.path dir make entry why e)
-          where
-            free : or_else (read_refused make) (by_name p c dir (path_by p make) make) ≡ by_name p c dir (path_by p make) make
-            free = let none = g.unrefused in rw none refl
+    no_reply : refusal p c make ≡ Some (reply_to why)
+    no_reply = refused p job x.second make k.tells.place k.tells.directory why rules (passed_like p t.change change make (making_like x t.change sound.under.of) (given_up_ends p make t gave).passes)
 
-    by_read : reply_to why ≡ reply.Failed → has refuses_read (first_part lines) ≡ true
-    by_read same = subst (λ (w : Work). has refuses_read w ≡ true) (whole p x lines k.on ∙ sym (first_all lines k.on.first))
-        (has_append refuses_read make (the_walk from lines) ∙ or_left (has refuses_read make) (has refuses_read (the_walk from lines)) (go rules))
-      where
-        exists : refusal_of.Exists ≡ why → ⊥
-        exists e = let f : reply.Exists ≡ reply_to why = ap reply_to e in let g : reply.Exists ≡ reply.Failed = f ∙ same in cc g
-
-        go : RulesOut p c job dir why make → has refuses_read make ≡ true
-        go (ByFault e f lost) = f
-        go (ByName None e g) = absurd (cc e)
-        go (ByName (Some entry) e g) = absurd (exists (cc e))
+    read_failed : reply_to why ≡ reply.Failed → has refuses_read (first_part lines) ≡ true
+    read_failed same = subst (λ (w : Work). has refuses_read w ≡ true) (whole p x lines k.on ∙ sym (first_all lines k.on.first))
+        (has_append refuses_read make (the_walk from lines) ∙ or_left (has refuses_read make) (has refuses_read (the_walk from lines)) (by_read p job x.second make k.tells.place k.tells.directory why rules same))
 
     not_closed : is_majority p.shape.n (among posted make) ≡ true → ⊥
     not_closed e = no_majority p.shape.n (subst (λ (s : List ℕ). is_majority p.shape.n s ≡ true) gave.before.during.idle.no_post_did e)
@@ -251,9 +217,9 @@ module _ (p : Plan) (x : Paths) (t : Progress) (found : Found) (lines : Work) (k
 
     refused_end : IsRenamed p from (to_of x) lines (reply_to why)
     refused_end = record {
-      caused = reply_is (reply_to why) (ap (λ (o : Option Reply). or_else o (by_posts p.shape make)) refused) none_closed;
-      asked = λ said e views. let same : reply_to why ≡ said = cc (sym refused ∙ sym (refusal_is p x lines k.on.walked) ∙ e) in let alone = refusal_alone why in let none = sym (ap is_by_views same) ∙ alone in absurd (cc (none, views));
-      failed = λ f. inr (by_read f);
+      caused = reply_is (reply_to why) (ap (λ (o : Option Reply). or_else o (by_posts p.shape make)) no_reply) none_closed;
+      asked = λ said e views. let same : reply_to why ≡ said = cc (sym no_reply ∙ sym (refusal_is p x lines k.on.walked) ∙ e) in let alone = no_views why in let none = sym (ap is_by_views same) ∙ alone in absurd (cc (none, views));
+      failed = λ f. inr (read_failed f);
       halved = λ h. absurd (refusal_whole why h);
       undisturbed = λ begun calm. let none = begun_only p x lines k.on ∙ (given_up_ends p make t gave).unbegun in absurd (cc (none, begun));
       legs = k.on.walked.legs;

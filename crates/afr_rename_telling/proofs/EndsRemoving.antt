@@ -47,14 +47,16 @@ use Rattle.afr_entry.specs.Job.{reply_to}
 use Rattle.afr_entry.specs.declared.stage.Found.{Found}
 use Rattle.afr_entry.specs.declared.stage.Found.TheVariants.{Unread, Fits, Refused}
 use Rattle.afr_entry_telling.specs.EntryTelling.{Goes, OnChange}
+use Rattle.afr_entry_telling.proofs.Ended.{was_locked}
 use Rattle.afr_rename.specs.Against.{half_reply, is_acknowledged, is_same}
 use Rattle.afr_rename.specs.Paths.{IsPaths, making_of, reads_old, removal_of}
 use Rattle.afr_rename.specs.Rename.{IsRemoving, removing_next}
 use Rattle.afr_rename.specs.Under.{next_under}
 use Rattle.afr_rename.specs.declared.paths.Paths.{Paths}
-use Rattle.afr_second.proofs.Folds.{parts_are_whole}
+use Rattle.afr_rename.proofs.RenameLemmas.{acknowledged_is}
+use Rattle.afr_cut.proofs.Cut.{parts_whole}
 use Rattle.afr_rename_telling.specs.RenameTelling.{ByFault, ByNothing, ByOther, LedElsewhere, OldTells, Removes, old_dir, to_of}
-use Rattle.afr_rename_telling.proofs.EndsMaking.{ends_over, locked_over, refusal_is}
+use Rattle.afr_rename_telling.proofs.EndsMaking.{ends_over, refusal_is}
 use Rattle.afr_rename_telling.proofs.MakingParts.{fault_in, fault_more, fault_own, has_front}
 use Rattle.afr_rename_telling.proofs.RemovingBegins.{prefix_unrefused, prefix_untouched}
 use Rattle.afr_rename_telling.proofs.RemovingTurn.{over_closing}
@@ -81,13 +83,6 @@ done_acknowledged outcome.NoQuorum e = absurd (cc e)
 done_acknowledged outcome.FewCopies e = absurd (cc e)
 done_acknowledged (outcome.SplitBrain views) e = absurd (cc e)
 done_acknowledged outcome.Failed e = absurd (cc e)
-
-is_outcome : (o : Outcome) → is_acknowledged o ≡ true → o ≡ outcome.Acknowledged
-is_outcome outcome.Acknowledged e = refl
-is_outcome outcome.NoQuorum e = absurd (cc e)
-is_outcome outcome.FewCopies e = absurd (cc e)
-is_outcome (outcome.SplitBrain views) e = absurd (cc e)
-is_outcome outcome.Failed e = absurd (cc e)
 
 -- a refused read was told a fault
 read_fault : (line : Line) → refuses_read line ≡ true → tells_fault line ≡ true
@@ -152,20 +147,20 @@ module _ (p : Plan) (x : Paths) (paths : IsPaths x) (t : Progress) (found : Foun
   most_is = let s = sets found k.tells.on in ap (λ (y : Shape). is_majority y.n t.register.post) s.0 ∙ ap (λ (y : List ℕ). is_majority p.shape.n y) s.1
 
   -- it is acknowledged where a majority has done post-op
-  acknowledged_is : is_acknowledged ended ≡ is_majority p.shape.n (among posted removal)
-  acknowledged_is = go (is_acknowledged ended) (is_majority p.shape.n (among posted removal)) refl refl
+  acknowledged_most : is_acknowledged ended ≡ is_majority p.shape.n (among posted removal)
+  acknowledged_most = go (is_acknowledged ended) (is_majority p.shape.n (among posted removal)) refl refl
     where
       go : (a m : Bool) → is_acknowledged ended ≡ a → is_majority p.shape.n (among posted removal) ≡ m → a ≡ m
       go true true e f = refl
       go false false e f = refl
-      go true false e f = let most = (acknowledged_exactly t sound.under.sound).1 (is_outcome ended e) in let same = most_is in absurd (cc (most, same, f))
+      go true false e f = let most = (acknowledged_exactly t sound.under.sound).1 (acknowledged_is ended e) in let same = most_is in absurd (cc (most, same, f))
       go false true e f = let same = most_is in let most : is_majority t.register.shape.n t.register.post ≡ true = same ∙ f in let done = ap is_acknowledged ((acknowledged_exactly t sound.under.sound).0 most) in absurd (cc (done, e))
 
   caused : rename_reply p from (to_of x) lines ≡ Some (half_reply ended)
   caused =
       ap (λ (o : Option Reply). or_halves o (by_halves p from lines)) (refusal_is p x lines k.walked ∙ k.passed)
       ∙ halves
-      ∙ ap (λ (b : Bool). Some (if b then reply.Ok good.Done else reply.Half)) (sym acknowledged_is)
+      ∙ ap (λ (b : Bool). Some (if b then reply.Ok good.Done else reply.Half)) (sym acknowledged_most)
     where
       some_if : (b : Bool) → (if b then Some (reply.Ok good.Done) else Some reply.Half) ≡ Some (if b then reply.Ok good.Done else reply.Half)
       some_if true = refl
@@ -207,7 +202,7 @@ module _ (p : Plan) (x : Paths) (paths : IsPaths x) (t : Progress) (found : Foun
       fitting : IsFitting p.shape.n t.change (looked_by (object_of t.change) removal)
       fitting = record {
         low = subst (λ (c : Change). ends_low c ≡ true) (sym sound.under.of) refl;
-        fits = goes.fitting (locked_over p t removal (subst (λ (stage : Stage). During stage p.shape t removal) closing goes.tells.during));
+        fits = goes.fitting (was_locked p t removal (subst (λ (stage : Stage). During stage p.shape t removal) closing goes.tells.during));
       }
 
       by_brick : reply_of t.change t.register ≡ reply.Failed → IsHalved p from lines
@@ -252,7 +247,7 @@ module _ (p : Plan) (x : Paths) (paths : IsPaths x) (t : Progress) (found : Foun
       go : (b : Bool) → is_faulted removal ≡ b → b ≡ false
       go true e =
           let free = prefix_untouched p x lines k.walked in
-          let f = subst (λ (w : Work). is_faulted w ≡ true) (parts_are_whole lines) (fault_more second (first_part lines) (fault_own second before free.unbegun free.unfaulted e)) in
+          let f = subst (λ (w : Work). is_faulted w ≡ true) (parts_whole lines) (fault_more second (first_part lines) (fault_own second before free.unbegun free.unfaulted e)) in
           absurd (cc (f, calm))
       go false e = refl
 

@@ -1,5 +1,5 @@
 -- What was looked at before a part of a rename's work doesn't count in it.
-use Rattle.std.proofs.Common.{◌≡◌, ℕ, ◌-◌, ◌<◌, ◌≤◌, ◌==◌, ◌||◌, nat_le, nat_lt, Bool, true, false, List, [], ◌∷◌, ◌++◌, length, refl, sym, ap, ◌∙◌, arith, subst, if◌then◌else◌}
+use Rattle.std.proofs.Common.{◌≡◌, ℕ, ◌-◌, ◌<◌, ◌≤◌, ◌==◌, ◌||◌, nat_lt, Bool, true, false, List, [], ◌∷◌, ◌++◌, length, refl, sym, ap, ◌∙◌, arith, subst, if◌then◌else◌}
 use Rattle.std.proofs.lemmas.Bool.Decides.{eqb_tells, nat_tests}
 use Rattle.std.proofs.Common.{inl, inr}
 use Rattle.std.proofs.lemmas.List.{append-nil}
@@ -17,29 +17,20 @@ use Rattle.afr_lines.specs.declared.request.Request.TheVariants.{Look, Lock, Rea
 use Rattle.afr_range_locks.specs.declared.domain.Domain.TheVariants.{Work as WorkDomain}
 use Rattle.afr_walk.specs.Free.{is_free}
 use Rattle.afr_walk.specs.Looks.{noted_look}
-use Rattle.afr_model.specs.Parts.{after_names, first_part, names_asked, second_part, the_make, the_removal, the_walk, upto_names}
+use Rattle.afr_model.specs.Parts.{after_names, first_part, second_part, the_make, the_removal, the_walk, upto_names}
 use Rattle.afr_model.specs.Showing.{among, has, look_shows, locks, looked_after, looked_by, looking, looks_at}
 use Rattle.afr_model.specs.Standing.{locks_any}
 use Rattle.afr_inode_telling.specs.Lines.{LookedAll, OnlyReads, reads}
 use Rattle.afr_inode_telling.proofs.LooksMore.{look_shows_is, same_here, same_there}
 use Rattle.afr_inode_telling.proofs.LooksSame.{looked_same}
 use Rattle.afr_inode_telling.proofs.Quiet.{plain_by}
-use Rattle.afr_second.proofs.Folds.{parts_are_whole, same_looks}
-use Rattle.afr_rename_telling.proofs.Cut.{first_all}
+use Rattle.afr_cut.proofs.Anew.{has_first, same_looks}
+use Rattle.afr_cut.proofs.Cut.{earlier_none, first_all, names_whole, parts_whole}
 
 -- ---- lines one after the other
 pub only_both : (n : ℕ) (s u : Work) → OnlyReads n s → OnlyReads n u → OnlyReads n (s ++ u)
 only_both n [] u f g = g
 only_both n (x ∷ s) u f g = (f.0, only_both n s u f.1 g)
-
--- a line passes in the first part where none does in the second
-pub has_first : (test : Line → Bool) (s u : Work) → has test u ≡ false → has test (s ++ u) ≡ true → has test s ≡ true
-has_first test [] u none h = absurd (cc (none, h))
-has_first test (x ∷ s) u none h = by (test x.0) (has_first test s u none) h
-  where
-    by : (now : Bool) → (has test (s ++ u) ≡ true → has test s ≡ true) → (now || has test (s ++ u)) ≡ true → (now || has test s) ≡ true
-    by true rest h = refl
-    by false rest h = rest h
 
 -- what one test doesn't pass, a narrower one doesn't
 pub has_narrower : (test wider : Line → Bool) → ((line : Line) → test line ≡ true → wider line ≡ true) → (w : Work) → has wider w ≡ false → has test w ≡ false
@@ -54,42 +45,6 @@ has_narrower test wider passes (x ∷ w) none = by (test x.0) refl (wider x.0) r
 any_lock : (g : Gfid) (line : Line) → locks g line ≡ true → locks_any line ≡ true
 any_lock g (Ask a b (Lock WorkDomain area) told took) e = refl
 any_lock g line e = absurd (cc e)
-
--- ---- the cut
--- the lines after the k-th name and those up to it are all
-pub after_and_upto : (k : ℕ) (w : Work) → after_names k w ++ upto_names k w ≡ w
-after_and_upto k [] = refl
-after_and_upto k (x ∷ w) = by (nat_le k (names_asked w)) (after_and_upto k w)
-  where
-    by : (later : Bool) → after_names k w ++ upto_names k w ≡ w → (if later then x ∷ after_names k w else []) ++ (if later then upto_names k w else x ∷ w) ≡ x ∷ w
-    by true e = ap (λ (v : Work). x ∷ v) e
-    by false e = refl
-
--- what passes up to a name passes among all lines
-pub upto_has : (test : Line → Bool) (k : ℕ) (w : Work) → has test w ≡ false → has test (upto_names k w) ≡ false
-upto_has test k [] none = refl
-upto_has test k (x ∷ w) none = by (nat_le k (names_asked w)) (test x.0) (upto_has test k w) none
-  where
-    by : (later now : Bool) → (has test w ≡ false → has test (upto_names k w) ≡ false) → (now || has test w) ≡ false → has test (if later then upto_names k w else x ∷ w) ≡ false
-    by true true rest h = absurd (cc h)
-    by true false rest h = rest h
-    by false now rest h = none
-
-without : (y z : Bool) → (y || z) ≡ false → z ≡ false
-without true z h = absurd (cc h)
-without false z h = h
-
--- and up to an earlier name, up to a later one
-pub upto_earlier : (test : Line → Bool) (k : ℕ) (w : Work) → has test (upto_names k w) ≡ false → has test (upto_names (k - 1) w) ≡ false
-upto_earlier test k [] none = refl
-upto_earlier test k (x ∷ w) none = by (nat_le k (names_asked w)) refl (nat_le (k - 1) (names_asked w)) refl (upto_earlier test k w) none
-  where
-    by : (later : Bool) → nat_le k (names_asked w) ≡ later → (after : Bool) → nat_le (k - 1) (names_asked w) ≡ after → (has test (upto_names k w) ≡ false → has test (upto_names (k - 1) w) ≡ false)
-        → has test (if later then upto_names k w else x ∷ w) ≡ false → has test (if after then upto_names (k - 1) w else x ∷ w) ≡ false
-    by true e true f rest h = rest h
-    by true e false f rest h = let passed : nat_le (k - 1) (names_asked w) ≡ true = grind (arith, nat_tests, e) in absurd (cc (passed, f))
-    by false e true f rest h = upto_has test (k - 1) w (without (test x.0) (has test w) h)
-    by false e false f rest h = h
 
 -- ---- older looks
 -- brick b shows the same in both
@@ -173,7 +128,7 @@ answered_looks n g w only most = by (has (looks_at g) w) refl
 -- ---- of a rename
 -- before the second transaction the making's lines and the walk's are all
 pub make_and_walk : (from : List NameId) (lines : Work) → second_part lines ≡ [] → the_make from lines ++ the_walk from lines ≡ lines
-make_and_walk from lines none = ap (λ (w : Work). after_names (length from) w ++ upto_names (length from) lines) (first_all lines none) ∙ after_and_upto (length from) lines
+make_and_walk from lines none = ap (λ (w : Work). after_names (length from) w ++ upto_names (length from) lines) (first_all lines none) ∙ names_whole (length from) lines
 
 -- while the second path is walked, its looks are those of the work
 pub walk_looks : (n : ℕ) (from : List NameId) (lines : Work) (g : Gfid) → n ≤ 5 → second_part lines ≡ [] → OnlyReads n (the_walk from lines) → OnlyReads n (the_make from lines) → LookedAll n (the_make from lines)
@@ -183,7 +138,7 @@ walk_looks n from lines g few none walked only all most =
     ∙ older_looks_dont_count n g (the_make from lines) (the_walk from lines) few only walked (all g (answered_looks n g (the_make from lines) only most))
 
 -- a lock on the object makes the looks before it void
-locked_alone : (g : Gfid) (s u : Work) → has (locks g) s ≡ true → looked_by g (s ++ u) ≡ looked_by g s
+pub locked_alone : (g : Gfid) (s u : Work) → has (locks g) s ≡ true → looked_by g (s ++ u) ≡ looked_by g s
 locked_alone g s u locked = same_looks g s u [] locked ∙ ap (looked_by g) (append-nil s)
 
 -- so it is under the locks of the new name
@@ -193,6 +148,6 @@ make_looks from lines g none locked = ap (looked_by g) (sym (make_and_walk from 
 -- and under those of the old one
 pub removal_looks : (from : List NameId) (lines : Work) (g : Gfid) → has locks_any (the_walk from lines) ≡ false → has (locks g) (the_removal from lines) ≡ true → looked_by g lines ≡ looked_by g (the_removal from lines)
 removal_looks from lines g none locked =
-    let unlocked : has (locks g) (upto_names (length from - 1) lines) ≡ false = has_narrower (locks g) locks_any (any_lock g) (upto_names (length from - 1) lines) (upto_earlier locks_any (length from) lines none) in
-    ap (looked_by g) (sym (parts_are_whole lines))
+    let unlocked : has (locks g) (upto_names (length from - 1) lines) ≡ false = has_narrower (locks g) locks_any (any_lock g) (upto_names (length from - 1) lines) (earlier_none locks_any (length from - 1) (length from) lines (omega arith) none) in
+    ap (looked_by g) (sym (parts_whole lines))
     ∙ same_looks g (second_part lines) (first_part lines) (upto_names (length from - 1) lines) (has_first (locks g) (second_part lines) (upto_names (length from - 1) lines) unlocked locked)

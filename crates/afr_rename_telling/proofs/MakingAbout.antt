@@ -1,6 +1,5 @@
 -- While the new name is locked, read and made: each line is about it.
-use Rattle.std.proofs.Common.{◌≡◌, ℕ, ◌==◌, nat_le, nat_lt, Bool, true, false, List, Option, Some, None, length, refl, sym, ap, ◌∙◌, subst, arith, if◌then◌else◌}
-use Rattle.std.proofs.lemmas.Bool.Decides.{nat_tests}
+use Rattle.std.proofs.Common.{◌≡◌, ℕ, ◌==◌, Bool, true, false, List, Option, Some, None, length, refl, sym, ap, ◌∙◌, subst, if◌then◌else◌}
 use Rattle.std.specs.Option.{option_map}
 use Rattle.afr_base.specs.declared.ids.ActorId.{ActorId}
 use Rattle.afr_base.specs.declared.ids.BrickId.{BrickId}
@@ -22,7 +21,7 @@ use Rattle.afr_plan.specs.declared.plan.Plan.{Plan}
 use Rattle.afr_model.specs.Answered.{IsAbout}
 use Rattle.afr_model.specs.Commands.{last_of}
 use Rattle.afr_model.specs.Keeping.{KeepsTo}
-use Rattle.afr_model.specs.Parts.{Part, Makes as MakesPart, is_again, names_asked, part_at, the_make}
+use Rattle.afr_model.specs.Parts.{Part, is_again, the_make}
 use Rattle.afr_model.specs.Renamed.{IsOfPart, IsOfRename, KeepsToPart, KeepsToRename, MakesLink}
 use Rattle.afr_model.specs.Showing.{begins_attempt, has}
 use Rattle.afr_transaction.specs.Progress.{Progress, gfid_at, is_beginning, is_over, next_at as next_change, numbered, request_at}
@@ -44,16 +43,10 @@ use Rattle.afr_rename.specs.Paths.{reads_new}
 use Rattle.afr_rename.specs.Rename.{IsMaking}
 use Rattle.afr_rename.specs.Under.{next_under}
 use Rattle.afr_rename.specs.declared.paths.Paths.{Paths}
-use Rattle.afr_rename_telling.specs.RenameTelling.{Makes, OnFirst, to_of}
+use Rattle.afr_rename_telling.specs.RenameTelling.{Makes, to_of}
+use Rattle.afr_rename_telling.proofs.Cut.{line_makes}
 use Rattle.afr_rename_telling.proofs.MakingMore.{like, stage_waits}
 use Rattle.afr_rename_telling.proofs.MakingWalked.{waits_unlocked}
-
--- ---- where a line belongs
-not_before : (k n : ℕ) → nat_le k n ≡ true → nat_lt n k ≡ false
-not_before k n e = grind (arith, nat_tests, e)
-
-pub makes_part : (p : Plan) (x : Paths) (lines : Work) → OnFirst p x lines → (line : Line) → is_again line lines ≡ false → part_at x.first.path line lines ≡ MakesPart
-makes_part p x lines k line waits = let walked = not_before (length x.first.path) (names_asked lines) k.walked.all in rw (waits, walked) refl
 
 -- ---- the change of the Begin line
 -- the last name of the second path is the new one
@@ -91,7 +84,7 @@ module _ (p : Plan) (x : Paths) (t : Progress) (found : Found) (lines : Work) (a
   ask_about : (b : BrickId) (request : Request) (told : Told) (took : Bool) → is_again (Ask a b request told took) lines ≡ false → IsAbout p c (Ask a b request told took) make → KeepsTo p c (Ask a b request told took) (length log) make
       → About (Ask a b request told took)
   ask_about b request told took waits about keeps =
-      subst (λ (part : Part). IsOfPart part p from (to_of x) (Ask a b request told took) lines × KeepsToPart part p from (to_of x) (Ask a b request told took) (length log) lines) (sym (makes_part p x lines k.on (Ask a b request told took) waits))
+      subst (λ (part : Part). IsOfPart part p from (to_of x) (Ask a b request told took) lines × KeepsToPart part p from (to_of x) (Ask a b request told took) (length log) lines) (sym (line_makes from (Ask a b request told took) lines waits k.on.walked.all))
       (((x.first.object.gfid, k.on.walked.found), about), keeps)
 
   -- the attempt gives the new name to the file
@@ -108,7 +101,7 @@ module _ (p : Plan) (x : Paths) (t : Progress) (found : Found) (lines : Work) (a
   begin_about : IsAbout p c (Begin a (numbered (length log) t.change)) make → has begins_attempt make ≡ false → About (Begin a (numbered (length log) t.change))
   begin_about about unbegun =
       subst (λ (part : Part). IsOfPart part p from (to_of x) (Begin a (numbered (length log) t.change)) lines × KeepsToPart part p from (to_of x) (Begin a (numbered (length log) t.change)) (length log) lines)
-      (sym (makes_part p x lines k.on (Begin a (numbered (length log) t.change)) (waits_unlocked p x lines k.on (Begin a (numbered (length log) t.change)) refl)))
+      (sym (line_makes from (Begin a (numbered (length log) t.change)) lines (waits_unlocked p x lines k.on (Begin a (numbered (length log) t.change)) refl) k.on.walked.all))
       (((x.first.object.gfid, k.on.walked.found), about), (unbegun, links))
 
   -- ---- a line of the transaction

@@ -1,6 +1,5 @@
 -- Who is accused while the new name is made: what its part says of a post-op, the whole work says.
-use Rattle.std.proofs.Common.{◌≡◌, ℕ, ◌||◌, Bool, true, false, List, [], ◌∷◌, ◌++◌, Some, refl, sym, ap, ◌∙◌, subst, if◌then◌else◌}
-use Rattle.std.proofs.lemmas.List.{append-nil}
+use Rattle.std.proofs.Common.{◌≡◌, ℕ, Bool, true, false, List, [], ◌∷◌, ◌++◌, Some, sym, ap, ◌∙◌, subst, if◌then◌else◌}
 use Rattle.afr_base.specs.Bricks.{below, is_nothing, member, minus}
 use Rattle.afr_base.specs.declared.ids.BrickId.{BrickId}
 use Rattle.afr_base.specs.declared.ids.Gfid.{Gfid}
@@ -30,7 +29,8 @@ use Rattle.afr_entry.specs.declared.stage.Found.TheVariants.{Unread, Fits, Refus
 use Rattle.afr_inode_telling.specs.WalkLaws.{IsUntouched}
 use Rattle.afr_entry_telling.specs.EntryTelling.{OnChange}
 use Rattle.afr_rename.specs.Under.{next_under}
-use Rattle.afr_second.proofs.Folds.{same_looks}
+use Rattle.afr_second.proofs.Folds.{none_since}
+use Rattle.afr_rename_telling.proofs.Looks.{locked_alone}
 use Rattle.afr_rename_telling.proofs.MakingParts.{among_front, changed_front, has_front}
 
 -- ---- lines before that have locked and begun nothing don't count
@@ -42,20 +42,8 @@ begun_front (x ∷ s) u n e = go x.0 (λ f. begun_front s u n f) e
     go (Begin a change) rest f = f
     go line rest f = rest f
 
-looked_front : (g : Gfid) (s u : Work) → has (locks g) s ≡ true → looked_by g (s ++ u) ≡ looked_by g s
-looked_front g s u e = same_looks g s u [] e ∙ ap (looked_by g) (append-nil s)
-
 since_front : (s u : Work) → has locks_any u ≡ false → since locks_any (s ++ u) ≡ since locks_any s
-since_front [] u e = none u e
-  where
-    none : (u : Work) → has locks_any u ≡ false → since locks_any u ≡ []
-    none [] e = refl
-    none (x ∷ u) e = go (locks_any x.0) (has locks_any u) refl e
-      where
-        go : (now before : Bool) → has locks_any u ≡ before → (now || before) ≡ false → (if before then x ∷ since locks_any u else (if now then x ∷ [] else [])) ≡ []
-        go true before f h = absurd (cc h)
-        go false true f h = absurd (cc h)
-        go false false f h = refl
+since_front [] u e = none_since u e
 since_front (x ∷ s) u e =
     ap (λ (y : Bool). if y then x ∷ since locks_any (s ++ u) else (if locks_any x.0 then x ∷ [] else [])) (has_front locks_any s u e)
     ∙ ap (λ (w : Work). if has locks_any s then x ∷ w else (if locks_any x.0 then x ∷ [] else [])) (since_front s u e)
@@ -72,7 +60,7 @@ blamed_front p attempt g kind missed b s u free locked k =
       counted = k.counted;
       once = subst (λ (y : List ℕ). member y b ≡ false) (sym (among_front posting s u free.none_posting)) k.once;
       did = subst (λ (y : List ℕ). member y b ≡ true) (sym did) k.did;
-      enough = subst (λ (y : Looked). suffices p.shape kind y (among applied_at (s ++ u)) ≡ true) (sym (looked_front g s u locked)) (subst (λ (y : List ℕ). suffices p.shape kind (looked_by g s) y ≡ true) (sym did) k.enough);
+      enough = subst (λ (y : Looked). suffices p.shape kind y (among applied_at (s ++ u)) ≡ true) (sym (locked_alone g s u locked)) (subst (λ (y : List ℕ). suffices p.shape kind (looked_by g s) y ≡ true) (sym did) k.enough);
       others = subst (λ (y : List ℕ). missed ≡ minus (below p.shape.n) y) (sym did) k.others;
       why = λ c m. subst (λ (w : Work). member (among missing w) c ≡ true) (sym (since_front s u free.none_locked)) (k.why c m);
     }

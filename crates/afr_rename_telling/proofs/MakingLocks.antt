@@ -4,8 +4,6 @@ use Rattle.afr_base.specs.declared.ids.ActorId.{ActorId}
 use Rattle.afr_base.specs.declared.ids.BrickId.{BrickId}
 use Rattle.afr_discipline.specs.Tests.{fits_view}
 use Rattle.afr_lines.specs.Work.{Work}
-use Rattle.afr_lines.specs.Told.{told_by}
-use Rattle.afr_lines.specs.declared.answer.Answer.{Answer}
 use Rattle.afr_lines.specs.declared.answer.Told.{Told}
 use Rattle.afr_lines.specs.declared.answer.Told.TheVariants as told_of
 use Rattle.afr_lines.specs.declared.line.Line.{Line}
@@ -36,7 +34,7 @@ use Rattle.afr_transaction_tells.specs.Laws.{IsNextLine}
 use Rattle.afr_transaction_tells.proofs.GivenUpLemmas.{given_up_kept, gives_up}
 use Rattle.afr_write_telling.specs.WriteTelling.{CanTell}
 use Rattle.afr_write_telling.proofs.Goes.{asked_stage, begun_fed, begun_stage, of_stage}
-use Rattle.afr_entry_telling.specs.EntryTelling.{CanHearUnder, Goes, HoldsAt, OnChange}
+use Rattle.afr_entry_telling.specs.EntryTelling.{Goes, HoldsAt, OnChange}
 use Rattle.afr_entry_telling.proofs.Held.{holds_more}
 use Rattle.afr_entry_telling.proofs.Under.{asked_more, begun_more}
 use Rattle.afr_rename.specs.Under.{found_after, next_under, progress_after}
@@ -58,16 +56,6 @@ pub kept_locking : (found : Found) (p : Plan) (t : Progress) (w : Work) → fits
 kept_locking (Unread copy) p t w turn k e = (subst (λ (stage : Stage). HoldsAt stage t.change t.register w) e k.1).kept
 kept_locking Fits p t w turn k e = absurd (cc (subst (λ (stage : Stage). fits_stage Fits stage ≡ true) e turn))
 kept_locking (Refused why) p t w turn k e = let closing = k.closing in absurd (cc (closing, e))
-
--- where the name isn't asked yet, a brick may tell what fits the directory
-pub hears_told : (copy : BrickId) (stage : Stage) (p : Plan) (dir : Entry) (b : ℕ) (request : Request) (log : List Line) (heard : Answer) → is_beginning stage ≡ false → CanHearUnder (Unread copy) stage p dir b request log heard → CanTell dir request (told_by heard)
-hears_told copy Beginning p dir b request log heard e can = absurd (cc e)
-hears_told copy Locking p dir b request log heard e can = can
-hears_told copy Looking p dir b request log heard e can = can
-hears_told copy Preparing p dir b request log heard e can = can
-hears_told copy Applying p dir b request log heard e can = can
-hears_told copy Posting p dir b request log heard e can = can
-hears_told copy Closing p dir b request log heard e can = can
 
 -- ---- whom it asks
 -- the line is the transaction's own, where the name isn't asked

@@ -27,6 +27,7 @@ use Rattle.afr_model.specs.Renamed.{AreLegs, LegEnds, since_name}
 use Rattle.afr_model.specs.Showing.{has, locks}
 use Rattle.afr_model.specs.Skipped.{IsLooked}
 use Rattle.afr_model.specs.Standing.{asks_name}
+use Rattle.afr_cut.proofs.Cut.{first_all}
 use Rattle.afr_transaction.specs.Progress.{Progress, is_beginning, next_at as next_change, request_at}
 use Rattle.afr_transaction.specs.declared.stage.Stage.{Stage}
 use Rattle.afr_transaction.specs.declared.stage.Stage.TheVariants.{Locking, Looking, Beginning, Preparing, Applying, Posting, Closing}
@@ -53,7 +54,6 @@ use Rattle.afr_rename.specs.Under.{found_after, progress_after}
 use Rattle.afr_rename.specs.declared.paths.Paths.{Paths}
 use Rattle.afr_second.specs.Held.{Holds}
 use Rattle.afr_rename_telling.specs.RenameTelling.{LocksLeg, Makes, to_of}
-use Rattle.afr_rename_telling.proofs.Cut.{first_all}
 use Rattle.afr_rename_telling.proofs.MakingLegs.{leg_more}
 use Rattle.afr_rename_telling.proofs.MakingLocks.{asked_on, held_on, kept_locking, of_change, unnamed}
 use Rattle.afr_rename_telling.proofs.MakingWalked.{all_first, first_more_on, grows, waits_kept, waits_unlocked}

@@ -31,6 +31,7 @@ use Rattle.afr_entry_telling.proofs.Changing.{begins_at, name_goes, name_read}
 use Rattle.afr_entry_telling.proofs.Heard.{hears_name}
 use Rattle.afr_entry_telling.proofs.Names.{name_told, quiet}
 use Rattle.afr_entry_telling.proofs.Under.{name_more, place_more}
+use Rattle.afr_entry_telling.proofs.Heard.{hears_told}
 use Rattle.afr_rename.specs.Against.{against_new}
 use Rattle.afr_rename.specs.Paths.{reads_new}
 use Rattle.afr_rename.specs.Rename.{IsMaking}
@@ -39,7 +40,7 @@ use Rattle.afr_rename.specs.declared.paths.Paths.{Paths}
 use Rattle.afr_second.specs.Held.{Holds}
 use Rattle.afr_second.proofs.HeldLemmas.{held_given_up, held_read}
 use Rattle.afr_rename_telling.specs.RenameTelling.{LocksLeg, Makes, to_of}
-use Rattle.afr_rename_telling.proofs.MakingLocks.{asks_own, begins_own, begun_held, begun_on, hears_told}
+use Rattle.afr_rename_telling.proofs.MakingLocks.{asks_own, begins_own, begun_held, begun_on}
 use Rattle.afr_rename_telling.proofs.MakingMore.{asked_makes, given_new, goes_to, last_now, legs_now, like, ruled_new}
 use Rattle.afr_rename_telling.proofs.MakingWalked.{waits_unlocked}
 

@@ -12,13 +12,13 @@ use Rattle.afr_model.specs.Renamed.{AreLegs}
 use Rattle.afr_model.specs.Showing.{At, begins_attempt, has, path_by}
 use Rattle.afr_model.specs.Skipped.{SkipsNothing}
 use Rattle.afr_model.specs.Standing.{locks_any}
+use Rattle.afr_cut.proofs.Cut.{asked_before, first_more, make_grows, still_asked, still_first, upto_more, walk_stays}
 use Rattle.afr_inode_telling.specs.WalkLaws.{IsUntouched}
 use Rattle.afr_inode_telling.specs.WalkTelling.{GoesOn}
 use Rattle.afr_inode_telling.proofs.Quiet.{IsQuiet, has_none}
 use Rattle.afr_inode_telling.proofs.Untouched.{touches_nothing}
 use Rattle.afr_rename.specs.declared.paths.Paths.{Paths}
 use Rattle.afr_rename_telling.specs.RenameTelling.{HasWalked, OnFirst, old_dir}
-use Rattle.afr_rename_telling.proofs.Cut.{asked_before, first_more, make_grows, still_asked, still_first, upto_more, walk_stays}
 use Rattle.afr_rename_telling.proofs.Looks.{make_and_walk}
 use Rattle.afr_rename_telling.proofs.MakingParts.{again_by, has_front}
 

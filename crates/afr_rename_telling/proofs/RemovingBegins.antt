@@ -19,6 +19,7 @@ use Rattle.afr_model.specs.Parts.{is_again, the_make, the_walk, upto_names}
 use Rattle.afr_model.specs.Renamed.{AreLegs}
 use Rattle.afr_model.specs.Showing.{NotAsked, has, reading_by, refuses_read}
 use Rattle.afr_model.specs.Standing.{locks_any}
+use Rattle.afr_cut.proofs.Cut.{asked_before, first_all}
 use Rattle.afr_transaction.specs.Progress.{Progress, fed, left, next_at as next_change, request_at, starting}
 use Rattle.afr_transaction.specs.Sound.{Sound, Suits}
 use Rattle.afr_transaction.specs.declared.stage.Stage.TheVariants.{Locking}
@@ -47,7 +48,6 @@ use Rattle.afr_rename.specs.declared.paths.Paths.{Paths}
 use Rattle.afr_rename.proofs.RenameLemmas.{done_is}
 use Rattle.afr_second.proofs.HeldLemmas.{acknowledged_unlocks}
 use Rattle.afr_rename_telling.specs.RenameTelling.{Drops, HasWalked, Makes, Removes, old_dir}
-use Rattle.afr_rename_telling.proofs.Cut.{asked_before, first_all}
 use Rattle.afr_rename_telling.proofs.MakingLocks.{asked_on}
 use Rattle.afr_rename_telling.proofs.MakingParts.{again_by, has_append, one_less, or_left, tail_upto, upto_twice}
 use Rattle.afr_rename_telling.proofs.MakingWalked.{unlocks_only, whole}

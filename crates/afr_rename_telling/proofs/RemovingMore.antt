@@ -51,25 +51,24 @@ use Rattle.afr_entry_telling.proofs.Heard.{hears_name}
 use Rattle.afr_entry_telling.proofs.Names as name_told
 use Rattle.afr_entry_telling.proofs.Names.{NameTold, Quiet, quiet, upto_stays}
 use Rattle.afr_entry_telling.proofs.Words.{suits_view}
+use Rattle.afr_entry_telling.proofs.Heard.{hears_told}
+use Rattle.afr_entry_telling.proofs.Under.{given_more}
 use Rattle.afr_rename.specs.Against.{against_old, is_same}
 use Rattle.afr_rename.specs.Paths.{reads_old}
 use Rattle.afr_rename.specs.Rename.{IsRemoving}
 use Rattle.afr_rename.specs.Under.{found_after, next_under, progress_after}
 use Rattle.afr_rename.specs.declared.paths.Paths.{Paths}
 use Rattle.afr_rename_telling.specs.RenameTelling.{ByFault, ByNothing, ByOther, Drops, LastFits, OldTells, Removes, old_dir}
-use Rattle.afr_rename_telling.proofs.MakingLocks.{asked_on, asks_own, begins_own, begun_on, hears_told, of_change, settled_on}
+use Rattle.afr_rename_telling.proofs.MakingLocks.{asked_on, asks_own, begins_own, begun_on, of_change, settled_on}
 use Rattle.afr_rename_telling.proofs.RemovingTurn.{has_made, removes_more}
 
 -- ---- what a line of the transaction leaves of the old name
-given_stays : (p : Plan) (c : Command) (dir : Entry) (entry : Option Entry) (line : Line) (log : List Line) (w : Work) → Quiet p line log w → WasGiven p c dir entry w → WasGiven p c dir entry ((line, log) ∷ w)
-given_stays p c dir entry line log w q k = record { path = q.path ∙ k.path; unrefused = q.refused ∙ k.unrefused }
-
 old_more : (found : Found) (p : Plan) (x : Paths) (line : Line) (log : List Line) (w : Work) → Quiet p line log w → ((copy : BrickId) → found ≡ Unread copy → begins_attempt line ≡ false) → OldTells found p x w → OldTells found p x ((line, log) ∷ w)
 old_more (Unread copy) p x line log w q calm k = record { path = q.path ∙ k.path; unrefused = q.refused ∙ k.unrefused; unbegun = rw (calm copy refl, k.unbegun) refl }
-old_more Fits p x line log w q calm k = given_stays p (command.Unlink x.first.path) (old_dir x) (Some (record { gfid = x.first.object.gfid; what = File })) line log w q k
+old_more Fits p x line log w q calm k = given_more p (command.Unlink x.first.path) (old_dir x) (Some (record { gfid = x.first.object.gfid; what = File })) line log w q k
 old_more (Refused why) p x line log w q calm (ByFault f lost) = ByFault (q.refused ∙ f) (q.path ∙ lost)
-old_more (Refused why) p x line log w q calm (ByNothing k) = ByNothing (given_stays p (command.Unlink x.first.path) (old_dir x) None line log w q k)
-old_more (Refused why) p x line log w q calm (ByOther entry e k) = ByOther entry e (given_stays p (command.Unlink x.first.path) (old_dir x) (Some entry) line log w q k)
+old_more (Refused why) p x line log w q calm (ByNothing k) = ByNothing (given_more p (command.Unlink x.first.path) (old_dir x) None line log w q k)
+old_more (Refused why) p x line log w q calm (ByOther entry e k) = ByOther entry e (given_more p (command.Unlink x.first.path) (old_dir x) (Some entry) line log w q k)
 
 -- the entry that was read last stays it
 last_request : (p : Plan) (stage : Stage) (t : Progress) (a : ActorId) (b : BrickId) (told : Told) (took : Bool) (log : List Line) (was : Option Entry) → entry_after p (Ask a b (request_at stage t) told took) log was ≡ was

@@ -17,6 +17,7 @@ use Rattle.afr_model.specs.Renamed.{AreLegs, since_name}
 use Rattle.afr_model.specs.Showing.{among, has, posted}
 use Rattle.afr_model.specs.Skipped.{IsLooked, SkipsNothing}
 use Rattle.afr_model.specs.Standing.{change_by, locks_any}
+use Rattle.afr_cut.proofs.Cut.{first_stays, make_stays, removal_grows}
 use Rattle.afr_transaction.specs.Progress.{Progress, is_over, numbered}
 use Rattle.afr_transaction.specs.declared.stage.Stage.{Stage}
 use Rattle.afr_transaction.specs.declared.stage.Stage.TheVariants.{Locking, Looking, Beginning, Preparing, Applying, Posting, Closing}
@@ -36,7 +37,6 @@ use Rattle.afr_rename.specs.Rename.{IsMaking, is_done}
 use Rattle.afr_rename.specs.declared.paths.Paths.{Paths}
 use Rattle.afr_rename.proofs.RenameLemmas.{done_is}
 use Rattle.afr_rename_telling.specs.RenameTelling.{Drops, HasWalked, LastFits, Makes, Removes, to_of}
-use Rattle.afr_rename_telling.proofs.Cut.{first_stays, make_stays, removal_grows}
 use Rattle.afr_rename_telling.proofs.MakingMore.{making_like}
 use Rattle.afr_rename_telling.proofs.MakingAbout.{keeps_number}
 use Rattle.afr_rename_telling.proofs.MakingParts.{again_stays}

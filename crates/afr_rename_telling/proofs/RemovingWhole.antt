@@ -33,15 +33,14 @@ use Rattle.afr_transaction_tells.specs.Tells.{AreIdle, During}
 use Rattle.afr_transaction_tells.proofs.Small.{self}
 use Rattle.afr_entry.specs.declared.stage.Found.{Found}
 use Rattle.afr_entry.specs.declared.stage.Found.TheVariants.{Fits}
-use Rattle.afr_second.proofs.Folds.{blamed_whole, parts_are_whole}
+use Rattle.afr_cut.proofs.Cut.{after_none, names_whole, parts_whole}
+use Rattle.afr_second.proofs.Folds.{blamed_whole}
 use Rattle.afr_write_telling.proofs.Goes.{begun_stage}
 use Rattle.afr_rename.specs.Paths.{making_of, reads_old}
 use Rattle.afr_rename.specs.Rename.{IsRemoving}
 use Rattle.afr_rename.specs.Under.{next_under}
 use Rattle.afr_rename.specs.declared.paths.Paths.{Paths}
 use Rattle.afr_rename_telling.specs.RenameTelling.{Removes}
-use Rattle.afr_rename_telling.proofs.Cut.{after_none}
-use Rattle.afr_rename_telling.proofs.Looks.{after_and_upto}
 use Rattle.afr_rename_telling.proofs.MakingBlames.{under_blames}
 use Rattle.afr_rename_telling.proofs.MakingLocks.{begins_own}
 use Rattle.afr_rename_telling.proofs.MakingParts.{among_front, changed_front, has_front, or_left, or_none, upto_behind}
@@ -100,7 +99,7 @@ module _ (p : Plan) (x : Paths) (t : Progress) (found : Found) (lines : Work) (k
   over : (attempt : ℕ) (kind : Kind) (missed : List ℕ) (b : ℕ) → has begins_attempt removal ≡ true → has (locks (object_of t.change)) removal ≡ true → IsBlaming p attempt (object_of t.change) kind missed b removal → IsBlaming p attempt (object_of t.change) kind missed b lines
   over attempt kind missed b begins locked blamed =
       let free = prefix_untouched p x lines k.walked in
-      subst (λ (w : Work). IsBlaming p attempt (object_of t.change) kind missed b w) (parts_are_whole lines)
+      subst (λ (w : Work). IsBlaming p attempt (object_of t.change) kind missed b w) (parts_whole lines)
       (blamed_whole p attempt (object_of t.change) kind missed b second (upto_names (length from - 1) lines) first (sym second_begins ∙ begins)
       (sym (has_front (locks (object_of t.change)) second (upto_names (length from - 1) lines) (free.object_unlocked (object_of t.change))) ∙ locked) free.none_locked k.locked blamed)
 
@@ -116,10 +115,10 @@ module _ (p : Plan) (x : Paths) (t : Progress) (found : Found) (lines : Work) (k
       go false e = absurd (no_majority p.shape.n (subst (λ (w : Work). is_majority p.shape.n (among posted w) ≡ true) (after_none (length from) first e) k.made))
 
   walk_first : upto_names (length from) first ≡ the_walk from lines
-  walk_first = sym (upto_behind (length from) second first asked_first) ∙ ap (upto_names (length from)) (parts_are_whole lines)
+  walk_first = sym (upto_behind (length from) second first asked_first) ∙ ap (upto_names (length from)) (parts_whole lines)
 
   make_first : the_make from lines ++ the_walk from lines ≡ first
-  make_first = ap (λ (w : Work). the_make from lines ++ w) (sym walk_first) ∙ after_and_upto (length from) first
+  make_first = ap (λ (w : Work). the_make from lines ++ w) (sym walk_first) ∙ names_whole (length from) first
 
   posted_first : among posted first ≡ among posted (the_make from lines)
   posted_first = ap (among posted) (sym make_first) ∙ among_front posted (the_make from lines) (the_walk from lines) (walk_untouched p x lines k.walked).none_posted
@@ -130,12 +129,12 @@ module _ (p : Plan) (x : Paths) (t : Progress) (found : Found) (lines : Work) (k
   -- before its own attempt the second transaction leaves that of the first
   pub posted_all : AreIdle removal → among posted lines ≡ among posted (the_make from lines)
   posted_all idle =
-      ap (among posted) (sym (parts_are_whole lines))
+      ap (among posted) (sym (parts_whole lines))
       ∙ posted_behind second (upto_names (length from - 1) lines) first (sym second_begins ∙ idle.unbegun) idle.no_post
       ∙ posted_first
 
   pub changed_all : AreIdle removal → change_by lines ≡ Some (making_of x x.second.object.gfid)
-  changed_all idle = ap change_by (sym (parts_are_whole lines)) ∙ changed_behind second first (sym second_begins ∙ idle.unbegun) ∙ changed_first
+  changed_all idle = ap change_by (sym (parts_whole lines)) ∙ changed_behind second first (sym second_begins ∙ idle.unbegun) ∙ changed_first
 
 -- ---- the old name is given up once the new one stands
 -- the change of a Begin line

@@ -1,6 +1,7 @@
 -- What a rename has ended with whose walks have stopped, or led to what can't be renamed.
 use Rattle.std.proofs.Common.{◌≡◌, ◌⊎◌, ℕ, ◌<◌, ◌==◌, nat_le, Bool, true, false, List, [], ◌∷◌, Option, Some, length, refl, sym, ap, ◌∙◌, subst, arith, if◌then◌else◌, inl, inr}
 use Rattle.std.proofs.lemmas.Bool.Decides.{nat_tests}
+use Rattle.std.proofs.lemmas.Option.{same_Some}
 use Rattle.afr_base.specs.Majority.{is_majority}
 use Rattle.afr_base.specs.SetLemmas.{majority_some}
 use Rattle.afr_base.specs.declared.ids.NameId.{NameId}
@@ -19,19 +20,17 @@ use Rattle.afr_model.specs.Refusals.{refusal}
 use Rattle.afr_model.specs.Renamed.{AreLegs, AsksAllOf, IsRenamed, asked_lines, asks_at, by_halves, or_halves, refusal_at, rename_refusal, since_name}
 use Rattle.afr_model.specs.Showing.{Path, At, NoName, Untold, among, begins_attempt, has, is_faulted, path_by, posted, refuses_read}
 use Rattle.afr_model.specs.Skipped.{IsLooked, SkipsNothing}
+use Rattle.afr_cut.proofs.Cut.{first_all}
 use Rattle.afr_inode_telling.specs.Lines.{LookedAll, OnlyReads}
 use Rattle.afr_inode_telling.specs.WalkTelling.{Stops}
-use Rattle.afr_inode_telling.proofs.Ended.{refusal_here}
-use Rattle.afr_inode_telling.proofs.Quiet.{area_none, begins_none, change_none}
+use Rattle.afr_inode_telling.proofs.Ended.{refusal_here, skips_nothing}
+use Rattle.afr_inode_telling.proofs.Quiet.{begins_none}
 use Rattle.afr_inode_telling.proofs.Untouched.{touches_nothing}
 use Rattle.afr_entry_telling.proofs.Begins.{IsOnWay}
 use Rattle.afr_rename.specs.declared.paths.Paths.{Paths}
 use Rattle.afr_rename_telling.specs.RenameTelling.{OnFirst, to_of}
-use Rattle.afr_rename_telling.proofs.Cut.{first_all, has_after, none_again}
+use Rattle.afr_rename_telling.proofs.Cut.{has_after, none_again}
 use Rattle.afr_rename_telling.proofs.Walks.{is_looked}
-
-just : {A : Type 0} → (x y : A) → Some x ≡ Some y → x ≡ y
-just x y e = cc e
 
 self : (n : ℕ) → (n == n) ≡ true
 self n = grind (arith, nat_tests)
@@ -44,16 +43,7 @@ pub no_majority : (n : ℕ) → is_majority n [] ≡ true → ⊥
 no_majority n h = let e = majority_some n [] h in cc e
 
 -- ---- nothing was skipped
--- by a walk that has looked everywhere
-pub reads_skip_nothing : (p : Plan) (path : List NameId) (w : Work) → OnlyReads p.shape.n w → LookedAll p.shape.n w → SkipsNothing p (command.Stat path) w
-reads_skip_nothing p path w only all = record {
-  looked = is_looked p.shape.n w all;
-  locked = λ area part m. absurd (cc (m, area_none p.shape.n area w only));
-  child = λ h read dir child name place path is_dir area. absurd (cc h);
-  carried = λ change e. absurd (cc (e, change_none p.shape.n w only));
-}
-
--- nor where nothing was asked
+-- where nothing was asked
 pub nothing_skipped : (p : Plan) (path : List NameId) → SkipsNothing p (command.Create path) []
 nothing_skipped p path = record {
   looked = λ g m unlocked b l. absurd (cc m);
@@ -114,7 +104,7 @@ module _ (p : Plan) (from to : List NameId) (w : Work) (only : OnlyReads p.shape
       → among posted (the_make from w) ≡ [] → IsRenamed p from to w said
   refused said e asked failed other walked made unposted = record {
     caused = ap (λ (x : Option Reply). or_halves x (by_halves p from w)) e;
-    asked = λ refusing f views. asked (subst (λ (x : Reply). is_by_views x ≡ true) (sym (just said refusing (sym e ∙ f))) views);
+    asked = λ refusing f views. asked (subst (λ (x : Reply). is_by_views x ≡ true) (sym (same_Some said refusing (sym e ∙ f))) views);
     failed = λ h. inr (subst (λ (x : Work). has refuses_read x ≡ true) (sym first_is) (failed h));
     halved = λ h. absurd (other h);
     undisturbed = λ h calm. absurd (cc (h, begins_none p.shape.n w only));
@@ -131,7 +121,7 @@ module _ (p : Plan) (from to : List NameId) (w : Work) (legs : AreLegs p.shape.n
   made = subst (λ (x : Work). SkipsNothing p (command.Create to) x) (sym alone) (nothing_skipped p to)
 
   walked : OnlyReads p.shape.n w → LookedAll p.shape.n w → SkipsNothing p (command.Stat from) (the_walk from w)
-  walked only all = subst (λ (x : Work). SkipsNothing p (command.Stat from) x) (sym whole) (reads_skip_nothing p from w only all)
+  walked only all = subst (λ (x : Work). SkipsNothing p (command.Stat from) x) (sym whole) (skips_nothing p (command.Stat from) w only all refl)
 
   -- it has stopped
   pub first_stopped : (said : Reply) → IsOnWay (length from) (path_by p w) → (said ≡ reply.Half → ⊥) → Stops p (command.Stat from) w said → IsRenamed p from to w said

@@ -34,6 +34,7 @@ use Rattle.afr_model.specs.Replied.{IsOf}
 use Rattle.afr_model.specs.Showing.{among, looking}
 use Rattle.afr_model.specs.Skipped.{IsLooked}
 use Rattle.afr_model.specs.Standing.{locks_any}
+use Rattle.afr_cut.proofs.Cut.{upto_all}
 use Rattle.afr_walk.specs.Looks.{heard_look, left_to_look, no_look}
 use Rattle.afr_walk.specs.Walk.{IsStep, IsWalk, after_looks, is_walking, named, next_at, next_in, noted, verdict_step, walked, walked_at}
 use Rattle.afr_walk.specs.declared.looks.Looks.{Looks}
@@ -51,7 +52,7 @@ use Rattle.afr_transaction_tells.specs.About.{BlamesNext}
 use Rattle.afr_entry_telling.proofs.Begins.{about_walk}
 use Rattle.afr_rename.specs.declared.paths.Paths.{Paths}
 use Rattle.afr_rename_telling.specs.RenameTelling.{Finds, IsLeg, LegGoes, WalksOn, command_of, to_of}
-use Rattle.afr_rename_telling.proofs.Cut.{line_makes, line_walks, none_again, not_again, upto_all}
+use Rattle.afr_rename_telling.proofs.Cut.{line_makes, line_walks, none_again, not_again}
 
 -- ---- what a step of a walk leaves
 -- a walk's lines only look and read

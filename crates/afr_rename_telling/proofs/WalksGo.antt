@@ -15,6 +15,7 @@ use Rattle.afr_plan.specs.declared.command.Command.TheVariants as command
 use Rattle.afr_plan.specs.declared.plan.Plan.{Plan}
 use Rattle.afr_model.specs.Parts.{the_make}
 use Rattle.afr_model.specs.Renamed.{AreLegs}
+use Rattle.afr_cut.proofs.Cut.{first_all, make_grows, make_waits, walk_grows}
 use Rattle.afr_walk.specs.Choosing.{IsAmong}
 use Rattle.afr_walk.specs.Walk.{choices_of, is_walking, next_in, walked}
 use Rattle.afr_walk.specs.declared.walk.Walk.{Walk}
@@ -31,7 +32,6 @@ use Rattle.afr_rename.specs.Rename.{after_first, after_second}
 use Rattle.afr_rename.specs.declared.paths.Paths.{Paths}
 use Rattle.afr_rename.proofs.RenameLemmas.{first_paths}
 use Rattle.afr_rename_telling.specs.RenameTelling.{CanFind, Finds, IsLeg, OnFirst, RenameTells, WalksOn, command_of, to_of}
-use Rattle.afr_rename_telling.proofs.Cut.{first_all, make_grows, make_waits, walk_grows}
 use Rattle.afr_rename_telling.proofs.MakingWalked.{first_more_on}
 use Rattle.afr_rename_telling.proofs.Walks.{finds_again, finds_walk, legs_more, not_all_asked, only_of, walks_again}
 use Rattle.afr_rename_telling.proofs.WalksLeave.{AsCreate, first_moved, second_moved}

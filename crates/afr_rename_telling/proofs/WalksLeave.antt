@@ -15,6 +15,7 @@ use Rattle.afr_model.specs.Renamed.{AreLegs, since_name}
 use Rattle.afr_model.specs.Showing.{At, has}
 use Rattle.afr_model.specs.Skipped.{IsLooked, SkipsNothing}
 use Rattle.afr_model.specs.Standing.{locks_any}
+use Rattle.afr_cut.proofs.Cut.{first_all}
 use Rattle.afr_walk.specs.Looks.{no_look}
 use Rattle.afr_walk.specs.Stops.{reply_of}
 use Rattle.afr_walk.specs.Walk.{root_entry}
@@ -35,6 +36,7 @@ use Rattle.afr_inode_telling.specs.WalkTelling.{GoesOn, TellsAt}
 use Rattle.afr_inode_telling.proofs.Untouched.{touches_nothing}
 use Rattle.afr_inode_telling.proofs.Walking.{walk_tells_first}
 use Rattle.afr_inode_telling.proofs.WalksEnd.{arrives}
+use Rattle.afr_inode_telling.proofs.Ended.{skips_nothing}
 use Rattle.afr_entry_telling.specs.EntryTelling as entry
 use Rattle.afr_entry_telling.specs.EntryTelling.{Goes, HoldsName}
 use Rattle.afr_entry_telling.proofs.Begins.{moved}
@@ -43,8 +45,8 @@ use Rattle.afr_rename.specs.Rename.{after_first, after_second, first_left, secon
 use Rattle.afr_rename.specs.declared.paths.Paths.{Paths}
 use Rattle.afr_rename.specs.declared.stage.RenameStage.TheVariants.{Making, Ending}
 use Rattle.afr_rename_telling.specs.RenameTelling.{HasWalked, IsLeg, LegGoes, OnFirst, TellsIn, to_of, waiting}
-use Rattle.afr_rename_telling.proofs.Cut.{first_all, none_again}
-use Rattle.afr_rename_telling.proofs.WalkEnds.{first_directory, first_stopped, reads_skip_nothing, second_ended}
+use Rattle.afr_rename_telling.proofs.Cut.{none_again}
+use Rattle.afr_rename_telling.proofs.WalkEnds.{first_directory, first_stopped, second_ended}
 use Rattle.afr_rename_telling.proofs.Walks.{is_looked, leg_begins}
 use Rattle.afr_rename_telling.proofs.WalksMore.{HasLed, Stands, is_stopped}
 
@@ -155,7 +157,7 @@ module _ (p : Plan) (x : Paths) (lines : Work) (paths : IsPaths x) (waits : x.se
       in_dir = led.in_dir;
       numbered = led.numbered;
       unlocked = subst (λ (w : Work). has locks_any w ≡ false) (sym k.whole) arrived.untouched.none_locked;
-      walked = subst (λ (w : Work). SkipsNothing p (command.Stat x.first.path) w) (sym k.whole) (reads_skip_nothing p x.first.path lines arrived.goes.only arrived.all);
+      walked = subst (λ (w : Work). SkipsNothing p (command.Stat x.first.path) w) (sym k.whole) (skips_nothing p (command.Stat x.first.path) lines arrived.goes.only arrived.all refl);
       legs = subst (λ (w : Work). AreLegs p.shape.n w) (sym (first_all lines (none_again lines arrived.untouched.none_locked))) k.legs;
     }
 

@@ -28,6 +28,7 @@ use Rattle.afr_model.specs.Parts.{names_asked, the_make, the_walk, upto_names}
 use Rattle.afr_model.specs.Renamed.{AreLegs, since_name}
 use Rattle.afr_model.specs.Showing.{Path, At, NoName, Untold, path_by}
 use Rattle.afr_model.specs.Tables.{entry_at, holds}
+use Rattle.afr_cut.proofs.Cut.{upto_more}
 use Rattle.afr_walk.specs.Looks.{heard_look, left_to_look, no_look}
 use Rattle.afr_walk.specs.Walk.{IsStep, is_walking, name_in, named, next_at, next_in, noted, step_at, verdict_step, walked_at}
 use Rattle.afr_walk.specs.declared.looks.Looks.{Looks}
@@ -42,7 +43,7 @@ use Rattle.afr_entry_telling.proofs.Begins.{IsOnWay, read_in}
 use Rattle.afr_entry_telling.proofs.Names.{Found, Fails, Lost, NameTold, name_told}
 use Rattle.afr_entry_telling.proofs.Words.{dir_is}
 use Rattle.afr_rename_telling.specs.RenameTelling.{IsLeg}
-use Rattle.afr_rename_telling.proofs.Cut.{path_upto_last, upto_more}
+use Rattle.afr_rename_telling.proofs.Cut.{path_upto_last}
 
 -- ---- where a path stands
 at_most : (k t : ℕ) (object : Entry) → t < k → (path : Path) → path ≡ At t object → IsOnWay k path
