@@ -66,7 +66,7 @@ module _ (p : Plan) (lines : Work) (a : ActorId) (log : List Line) (t : Progress
       → Goes p (fed t.stage told (length log) t) ((line, log) ∷ lines)
   after_line told line is fits phase fitting = record {
     tells = tells_kept p lines t a told line log sound k.tells is;
-    excused = excused_kept p lines t a told line log sound k.tells is fits k.excused;
+    excused = excused_kept p lines t a told line log sound k.tells is fits phase k.excused;
     calm = calm_kept p lines t a told line log sound k.tells is phase k.calm;
     fitting = subst (λ (x : Change). AreFitting p.shape.n x ((line, log) ∷ lines)) (sym (fed_same t.stage told (length log) t)) fitting;
   }

@@ -108,18 +108,18 @@ module _ (p : Plan) (path : List NameId) (m : Removing) (w : Work) (s : Sound m)
 
   -- ---- who is accused
   module _ (t : Tries p m.change m.child w) (d : OnPost p m.change m.child.takers (asked_at m.register step.Posts) w) where
-    by_pre : (c : ℕ) → member (among applied_at w) c ≡ false → member (among preparing w) c ≡ true → (f : Bool) → member (among prepared w) c ≡ f → member (missed_by w) c ≡ true
-    by_pre c none asked false e = k.excused.pre c asked e
-    by_pre c none asked true e = k.excused.apply c (d.apply_all c e) none
+    by_pre : (c : ℕ) → member (among applied_at w) c ≡ false → member (among preparing w) c ≡ true → (f : Bool) → member (among prepared w) c ≡ f → member (missed_by (object_of m.change) w) c ≡ true
+    by_pre c none asked false e = k.excused.pre (object_of m.change) c asked e
+    by_pre c none asked true e = k.excused.apply (object_of m.change) c (d.apply_all c e) none
 
-    by_taker : (c : ℕ) → c < p.shape.n → member (among applied_at w) c ≡ false → (f : Bool) → member m.child.takers c ≡ f → member (missed_by w) c ≡ true
+    by_taker : (c : ℕ) → c < p.shape.n → member (among applied_at w) c ≡ false → (f : Bool) → member m.child.takers c ≡ f → member (missed_by (object_of m.change) w) c ≡ true
     by_taker c small none false e = t.judged.others c small e
     by_taker c small none true e = by_pre c none (d.pre_all c e) (member (among prepared w) c) refl
 
-    why : (c : ℕ) → member (minus (below p.shape.n) (among applied_at w)) c ≡ true → member (missed_by w) c ≡ true
+    why : (c : ℕ) → member (minus (below p.shape.n) (among applied_at w)) c ≡ true → member (missed_by (object_of m.change) w) c ≡ true
     why c is = apart (member (among applied_at w) c) refl (member (below p.shape.n) c) refl (sym (member_minus (below p.shape.n) (among applied_at w) c) ∙ is)
       where
-        apart : (did : Bool) → member (among applied_at w) c ≡ did → (within : Bool) → member (below p.shape.n) c ≡ within → (not did && within) ≡ true → member (missed_by w) c ≡ true
+        apart : (did : Bool) → member (among applied_at w) c ≡ did → (within : Bool) → member (below p.shape.n) c ≡ within → (not did && within) ≡ true → member (missed_by (object_of m.change) w) c ≡ true
         apart true e within f h = absurd (cc h)
         apart false e false f h = absurd (cc h)
         apart false e true f h = by_taker c (within_below p.shape.n c f) e (member m.child.takers c) refl

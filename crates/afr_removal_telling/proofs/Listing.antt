@@ -20,7 +20,7 @@ use Rattle.afr_lines.specs.declared.reply.Reply.{Reply}
 use Rattle.afr_lines.specs.declared.reply.Reply.TheVariants as reply
 use Rattle.afr_lines.specs.declared.request.Request.{Request}
 use Rattle.afr_lines.specs.declared.request.Request.TheVariants as request
-use Rattle.afr_object.specs.Tables.{copy_at}
+use Rattle.afr_object.specs.Tables.{copy_at, object_of}
 use Rattle.afr_object.specs.declared.change.Change.{Change}
 use Rattle.afr_object.specs.declared.object.Object.{Object}
 use Rattle.afr_plan.specs.declared.plan.Plan.{Plan}
@@ -59,7 +59,7 @@ module _ (p : Plan) (change : Change) (c : Child) (w : Work) (j : IsJudged p cha
     enough = j.enough;
     shows = j.shows;
     passes = j.passes;
-    others = λ x l out. missed_grows (Ask a b (request.List h) told took) older w x (j.others x l out);
+    others = λ x l out. missed_grows (object_of change) (Ask a b (request.List h) told took) older w x (j.others x l out);
   }
   judged_ask a b told took (request.Pre h kind) is = record {
     child = record { all = j.child.all; looked = j.child.looked };
@@ -69,7 +69,7 @@ module _ (p : Plan) (change : Change) (c : Child) (w : Work) (j : IsJudged p cha
     enough = j.enough;
     shows = j.shows;
     passes = j.passes;
-    others = λ x l out. missed_grows (Ask a b (request.Pre h kind) told took) older w x (j.others x l out);
+    others = λ x l out. missed_grows (object_of change) (Ask a b (request.Pre h kind) told took) older w x (j.others x l out);
   }
   judged_ask a b told took (request.Apply attempt) is = record {
     child = record { all = j.child.all; looked = j.child.looked };
@@ -79,7 +79,7 @@ module _ (p : Plan) (change : Change) (c : Child) (w : Work) (j : IsJudged p cha
     enough = j.enough;
     shows = j.shows;
     passes = j.passes;
-    others = λ x l out. missed_grows (Ask a b (request.Apply attempt) told took) older w x (j.others x l out);
+    others = λ x l out. missed_grows (object_of change) (Ask a b (request.Apply attempt) told took) older w x (j.others x l out);
   }
   judged_ask a b told took (request.Post attempt h kind missed) is = record {
     child = record { all = j.child.all; looked = j.child.looked };
@@ -89,7 +89,7 @@ module _ (p : Plan) (change : Change) (c : Child) (w : Work) (j : IsJudged p cha
     enough = j.enough;
     shows = j.shows;
     passes = j.passes;
-    others = λ x l out. missed_grows (Ask a b (request.Post attempt h kind missed) told took) older w x (j.others x l out);
+    others = λ x l out. missed_grows (object_of change) (Ask a b (request.Post attempt h kind missed) told took) older w x (j.others x l out);
   }
   judged_ask a b told took asked is = absurd is
 
@@ -102,7 +102,7 @@ module _ (p : Plan) (change : Change) (c : Child) (w : Work) (j : IsJudged p cha
     enough = j.enough;
     shows = j.shows;
     passes = j.passes;
-    others = λ x l out. missed_grows (Begin a begun) older w x (j.others x l out);
+    others = λ x l out. missed_grows (object_of change) (Begin a begun) older w x (j.others x l out);
   }
 
 -- ---- what a list is told
@@ -189,7 +189,7 @@ module _ (p : Plan) (path : List NameId) (m : Removing) (w : Work) (a : ActorId)
   goes_on told =
       goes_plain p path m.change m.register (q told) g a b told took log w k m.register.begun m.register.pre m.register.done m.register.post (left told) (request.List g) tt
       (record { prepared = (left told).pre_is ∙ k.sets.prepared; applied = (left told).done_is ∙ k.sets.applied; posted = (left told).post_is ∙ k.sets.posted; number = (left told).begun_is ∙ k.sets.number })
-      (ask_excused a b (request.List g) told took log w tt tt (omega (arith, small, s.base.few)) k.excused)
+      (ask_excused a b (request.List g) told took log w tt tt tt (omega (arith, small, s.base.few)) k.excused)
       (calm_ask a b (request.List g) told took log w tt tt k.calm)
 
   judged_now : (told : Told) → IsJudged p m.change m.child (more told)

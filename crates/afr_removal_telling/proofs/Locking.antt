@@ -183,7 +183,7 @@ module _ (p : Plan) (path : List NameId) (m : Removing) (w : Work) (a : ActorId)
   goes_on : Goes p path m.change q m.child.gfid more
   goes_on =
       goes_lock p path m.change r q m.child.gfid a b told took log w k s.removes (lock_leaves r b also told)
-      (ask_excused a b (request.Lock WorkDomain also) told took log w can.fits tt (omega (arith, small, s.base.few)) k.excused)
+      (ask_excused a b (request.Lock WorkDomain also) told took log w can.fits can.phase tt (omega (arith, small, s.base.few)) k.excused)
       (calm_ask a b (request.Lock WorkDomain also) told took log w tt tt k.calm)
 
   asked_now : among (asking also) more ≡ marked (not (is_held told)) b.0 (among (asking also) w)

@@ -112,33 +112,33 @@ module _ (p : Plan) (path : List NameId) (x : Removing) (w : Work) (removes : Is
   child_locked e = record { all = d.all; looked = λ enough b one two. all_looked e b one two }
 
   -- ---- who doesn't take part missed something
-  by_name : (b : ℕ) → b < p.shape.n → (y : Bool) → member (among (getting area) w) b ≡ y → (y ≡ true → member (missed_by w) b ≡ true) → member (missed_by w) b ≡ true
-  by_name b small false e granted = k.excused.locked area b (k.locked.locked.all b small) e
+  by_name : (b : ℕ) → b < p.shape.n → (y : Bool) → member (among (getting area) w) b ≡ y → (y ≡ true → member (missed_by g w) b ≡ true) → member (missed_by g w) b ≡ true
+  by_name b small false e granted = k.excused.locked g area b (k.locked.locked.all b small) e
   by_name b small true e granted = granted refl
 
-  no_holder : (b : ℕ) → b < p.shape.n → member (holders_of r.looked) b ≡ false → member (missed_by w) b ≡ true
+  no_holder : (b : ℕ) → b < p.shape.n → member (holders_of r.looked) b ≡ false → member (missed_by g w) b ≡ true
   no_holder b small out = by_name b small (member (among (getting area) w) b) refl (λ e. e2 e)
     where
       blank : is_holder (looked_by g w) b ≡ false
       blank = sym (member_holders (looked_by g w) b (omega (arith, few, small))) ∙ subst (λ (v : Looked). member (holders_of v) b ≡ false) k.looks out
 
-      e2 : member (among (getting area) w) b ≡ true → member (missed_by w) b ≡ true
+      e2 : member (among (getting area) w) b ≡ true → member (missed_by g w) b ≡ true
       e2 e = k.excused.looked g k.locked.locked.locked b (k.locked.looked_all b e) blank
 
-  no_name : (b : ℕ) → b < p.shape.n → member r.held b ≡ false → member (missed_by w) b ≡ true
-  no_name b small out = by_name b small (member (among (getting area) w) b) refl (λ e. lost_missed area b w d.holds.kept e (sym (d.holds.of_name b) ∙ out))
+  no_name : (b : ℕ) → b < p.shape.n → member r.held b ≡ false → member (missed_by g w) b ≡ true
+  no_name b small out = by_name b small (member (among (getting area) w) b) refl (λ e. lost_missed g area b w d.holds.kept e (sym (d.holds.of_name b) ∙ out))
 
-  no_child : (b : ℕ) → member r.held b ≡ true → member r.second_held b ≡ false → member (missed_by w) b ≡ true
+  no_child : (b : ℕ) → member r.held b ≡ true → member r.second_held b ≡ false → member (missed_by g w) b ≡ true
   no_child b held out = asked (member (among (asking also) w) b) refl (d.all b (d.fewer b (sym (d.holds.of_name b) ∙ held)))
     where
-      granted : member (among (asking also) w) b ≡ true → (y : Bool) → member (among (getting also) w) b ≡ y → member (missed_by w) b ≡ true
-      granted i false e = k.excused.locked also b i e
-      granted i true e = lost_missed also b w d.holds.kept e (sym (d.holds.of_child b) ∙ out)
+      granted : member (among (asking also) w) b ≡ true → (y : Bool) → member (among (getting also) w) b ≡ y → member (missed_by g w) b ≡ true
+      granted i false e = k.excused.locked g also b i e
+      granted i true e = lost_missed g also b w d.holds.kept e (sym (d.holds.of_child b) ∙ out)
 
-      asked : (y : Bool) → member (among (asking also) w) b ≡ y → y ≡ true → member (missed_by w) b ≡ true
+      asked : (y : Bool) → member (among (asking also) w) b ≡ y → y ≡ true → member (missed_by g w) b ≡ true
       asked y e i = granted (e ∙ i) (member (among (getting also) w) b) refl
 
-  others : (b : ℕ) → b < p.shape.n → member x.child.takers b ≡ false → member (missed_by w) b ≡ true
+  others : (b : ℕ) → b < p.shape.n → member x.child.takers b ≡ false → member (missed_by g w) b ≡ true
   others b small out = go (member (holders_of r.looked) b) refl (member r.held b) refl (member r.second_held b) refl
     where
       none : ((member r.second_held b && member r.held b) && member (holders_of r.looked) b) ≡ false
@@ -146,7 +146,7 @@ module _ (p : Plan) (path : List NameId) (x : Removing) (w : Work) (removes : Is
           sym (in_common (holders_of r.looked) (both_held r) b ∙ ap (λ (y : Bool). y && member (holders_of r.looked) b) (in_common r.held r.second_held b))
           ∙ subst (λ (s : List ℕ). member s b ≡ false) takers_are out
 
-      go : (h : Bool) → member (holders_of r.looked) b ≡ h → (n : Bool) → member r.held b ≡ n → (c : Bool) → member r.second_held b ≡ c → member (missed_by w) b ≡ true
+      go : (h : Bool) → member (holders_of r.looked) b ≡ h → (n : Bool) → member r.held b ≡ n → (c : Bool) → member r.second_held b ≡ c → member (missed_by g w) b ≡ true
       go false e n f c i = no_holder b small e
       go true e false f c i = no_name b small f
       go true e true f false i = no_child b f i
@@ -235,7 +235,7 @@ module _ (p : Plan) (path : List NameId) (m : Removing) (w : Work) (a : ActorId)
   goes_on =
       goes_look p path m.change m.register q m.child.gfid a b told took log w k
       (look_leaves m.register b m.child.gfid told (counts_not m.register b m.change m.child.gfid s.areas.named k.words.apart)) d.locked
-      (ask_excused a b (request.Look m.child.gfid) told took log w can.fits tt (omega (arith, small, s.base.few)) k.excused)
+      (ask_excused a b (request.Look m.child.gfid) told took log w can.fits can.phase tt (omega (arith, small, s.base.few)) k.excused)
       (calm_ask a b (request.Look m.child.gfid) told took log w tt tt k.calm)
 
   looked_now : among (looking m.child.gfid) more ≡ added b.0 (among (looking m.child.gfid) w)

@@ -5,6 +5,7 @@ use Rattle.afr_base.specs.Bricks.{added, member, removed, IsIn}
 use Rattle.afr_base.specs.SetLemmas.{member_added, member_removed}
 use Rattle.afr_base.specs.declared.ids.ActorId.{ActorId}
 use Rattle.afr_base.specs.declared.ids.BrickId.{BrickId}
+use Rattle.afr_base.specs.declared.ids.Gfid.{Gfid}
 use Rattle.afr_lines.specs.Overlap.{same_area}
 use Rattle.afr_lines.specs.Work.{Work}
 use Rattle.afr_lines.specs.declared.answer.Told.{Told}
@@ -20,7 +21,7 @@ use Rattle.afr_model.specs.Standing.{getting, holding}
 use Rattle.afr_transaction.proofs.Parts.{no_or}
 use Rattle.afr_transaction_tells.specs.Fits.{missed_by}
 use Rattle.afr_removal_telling.specs.RemovalTelling.{releases}
-use Rattle.afr_transaction_tells.proofs.Excused.{missed_grows, missed_now}
+use Rattle.afr_transaction_tells.proofs.Excused.{fault_misses, missed_grows, missed_now}
 use Rattle.afr_removal_telling.proofs.Small.{any_granted, no_and}
 
 -- one line more: the sets before it, and what it made of them
@@ -44,50 +45,50 @@ module _ (b : ℕ) (got held : List ℕ) (missed : Bool) where
       go (inl same) n = new same.1 m
       go (inr other) n = k m (rw other.0 at n)
 
-module _ (area : Area) (b : ℕ) (older : List Line) (w : Work) (before : member (among (getting area) w) b ≡ true → member (among (holding area) w) b ≡ false → member (missed_by w) b ≡ true) where
+module _ (g : Gfid) (area : Area) (b : ℕ) (older : List Line) (w : Work) (before : member (among (getting area) w) b ≡ true → member (among (holding area) w) b ≡ false → member (missed_by g w) b ≡ true) where
   abbrev got : List ℕ
   got = among (getting area) w
 
   abbrev held : List ℕ
   held = among (holding area) w
 
-  grown : (line : Line) → Lost b got held (member (missed_by ((line, older) ∷ w)) b) got held
-  grown line m n = missed_grows line older w b (before m n)
+  grown : (line : Line) → Lost b got held (member (missed_by g ((line, older) ∷ w)) b) got held
+  grown line m n = missed_grows g line older w b (before m n)
 
-  misses : (a : ActorId) (c : BrickId) (r : Request) (took : Bool) → c.0 ≡ b → member got b ≡ true → member (missed_by ((Ask a c r told_of.NotConnected took, older) ∷ w)) b ≡ true
+  misses : (a : ActorId) (c : BrickId) (r : Request) (took : Bool) → c.0 ≡ b → member got b ≡ true → member (missed_by g ((Ask a c r told_of.NotConnected took, older) ∷ w)) b ≡ true
   misses a c r took e m =
-      subst (λ (x : ℕ). member (missed_by ((Ask a c r told_of.NotConnected took, older) ∷ w)) x ≡ true) e
-      (missed_now a c r told_of.NotConnected took older w (λ none. let some = any_granted area w b m in absurd (cc (some, none))) refl)
+      subst (λ (x : ℕ). member (missed_by g ((Ask a c r told_of.NotConnected took, older) ∷ w)) x ≡ true) e
+      (missed_now g a c r told_of.NotConnected took older w (λ none. let some = any_granted area w b m in absurd (cc (some, none))) (fault_misses g r told_of.NotConnected refl))
 
   by_lock : (a : ActorId) (c : BrickId) (other : Area) (took : Bool) (told : Told)
-      → Lost b got held (member (missed_by ((Ask a c (request.Lock WorkDomain other) told took, older) ∷ w)) b) (getting area (Ask a c (request.Lock WorkDomain other) told took) got) (holding area (Ask a c (request.Lock WorkDomain other) told took) held)
+      → Lost b got held (member (missed_by g ((Ask a c (request.Lock WorkDomain other) told took, older) ∷ w)) b) (getting area (Ask a c (request.Lock WorkDomain other) told took) got) (holding area (Ask a c (request.Lock WorkDomain other) told took) held)
   by_lock a c other took told_of.Granted = go (same_area area other)
     where
       line : Line
       line = Ask a c (request.Lock WorkDomain other) told_of.Granted took
 
-      go : (x : Bool) → Lost b got held (member (missed_by ((line, older) ∷ w)) b) (if x && true then added c.0 got else got) (if x then added c.0 held else held)
-      go true = joins b got held (member (missed_by ((line, older) ∷ w)) b) c.0 (grown line)
+      go : (x : Bool) → Lost b got held (member (missed_by g ((line, older) ∷ w)) b) (if x && true then added c.0 got else got) (if x then added c.0 held else held)
+      go true = joins b got held (member (missed_by g ((line, older) ∷ w)) b) c.0 (grown line)
       go false = grown line
-  by_lock a c other took told_of.NotConnected = subst (λ (x : Bool). Lost b got held (member (missed_by ((line, older) ∷ w)) b) (if x then added c.0 got else got) (removed c.0 held)) (sym (no_and (same_area area other)))
-      (leaves b got held (member (missed_by ((line, older) ∷ w)) b) c.0 (misses a c (request.Lock WorkDomain other) took) (grown line))
+  by_lock a c other took told_of.NotConnected = subst (λ (x : Bool). Lost b got held (member (missed_by g ((line, older) ∷ w)) b) (if x then added c.0 got else got) (removed c.0 held)) (sym (no_and (same_area area other)))
+      (leaves b got held (member (missed_by g ((line, older) ∷ w)) b) c.0 (misses a c (request.Lock WorkDomain other) took) (grown line))
     where
       line : Line
       line = Ask a c (request.Lock WorkDomain other) told_of.NotConnected took
-  by_lock a c other took told = subst (λ (x : Bool). Lost b got held (member (missed_by ((Ask a c (request.Lock WorkDomain other) told took, older) ∷ w)) b) (if x then added c.0 got else got) held) (sym (no_and (same_area area other)))
+  by_lock a c other took told = subst (λ (x : Bool). Lost b got held (member (missed_by g ((Ask a c (request.Lock WorkDomain other) told took, older) ∷ w)) b) (if x then added c.0 got else got) held) (sym (no_and (same_area area other)))
       (grown (Ask a c (request.Lock WorkDomain other) told took))
 
-  by_line : (line : Line) → releases line ≡ false → Lost b got held (member (missed_by ((line, older) ∷ w)) b) (getting area line got) (holding area line held)
+  by_line : (line : Line) → releases line ≡ false → Lost b got held (member (missed_by g ((line, older) ∷ w)) b) (getting area line got) (holding area line held)
   by_line (Ask a c (request.Lock WorkDomain other) told took) free = by_lock a c other took told
   by_line (Ask a c (request.Unlock WorkDomain other) told took) free = absurd (cc free)
-  by_line (Ask a c r told_of.NotConnected took) free = leaves b got held (member (missed_by ((Ask a c r told_of.NotConnected took, older) ∷ w)) b) c.0 (misses a c r took) (grown (Ask a c r told_of.NotConnected took))
+  by_line (Ask a c r told_of.NotConnected took) free = leaves b got held (member (missed_by g ((Ask a c r told_of.NotConnected took, older) ∷ w)) b) c.0 (misses a c r took) (grown (Ask a c r told_of.NotConnected took))
   by_line line free = grown line
 
-pub lost_missed : (area : Area) (b : ℕ) (w : Work) → has releases w ≡ false → member (among (getting area) w) b ≡ true → member (among (holding area) w) b ≡ false → member (missed_by w) b ≡ true
-lost_missed area b [] free m n = absurd (cc m)
-lost_missed area b (x ∷ w) free m n =
+pub lost_missed : (g : Gfid) (area : Area) (b : ℕ) (w : Work) → has releases w ≡ false → member (among (getting area) w) b ≡ true → member (among (holding area) w) b ≡ false → member (missed_by g w) b ≡ true
+lost_missed g area b [] free m n = absurd (cc m)
+lost_missed g area b (x ∷ w) free m n =
     let parts = no_or (releases x.0) (has releases w) free in
-    by_line area b x.1 w (lost_missed area b w parts.1) x.0 parts.0 m n
+    by_line g area b x.1 w (lost_missed g area b w parts.1) x.0 parts.0 m n
 
 -- who holds a lock was granted it
 module _ (got held : List ℕ) (k : IsIn held got) where

@@ -154,7 +154,7 @@ module _ (p : Plan) (path : List NameId) (m : Removing) (w : Work) (a : ActorId)
       goes_on =
           goes_plain p path m.change r q m.child.gfid a b told took log w k r.begun (added_if (note.is_done told) b.0 r.pre) r.done r.post left_by (request.Pre g Names) tt
           (record { prepared = left_by.pre_is ∙ rw (done_told told, k.sets.prepared) refl; applied = left_by.done_is ∙ k.sets.applied; posted = left_by.post_is ∙ k.sets.posted; number = left_by.begun_is ∙ k.sets.number })
-          (ask_excused a b (request.Pre g Names) told took log w can.fits locked (omega (arith, small, s.base.few)) k.excused)
+          (ask_excused a b (request.Pre g Names) told took log w can.fits can.phase locked (omega (arith, small, s.base.few)) k.excused)
           (calm_ask a b (request.Pre g Names) told took log w t.begun.began can.phase k.calm)
 
       tries : Tries p m.change m.child more
@@ -198,7 +198,7 @@ module _ (p : Plan) (path : List NameId) (m : Removing) (w : Work) (a : ActorId)
       goes_on =
           goes_plain p path m.change r q m.child.gfid a b told took log w k r.begun r.pre (added_if (note.is_done told) b.0 r.done) r.post left_by (request.Apply n) tt
           (record { prepared = left_by.pre_is ∙ k.sets.prepared; applied = left_by.done_is ∙ rw (done_told told, k.sets.applied) refl; posted = left_by.post_is ∙ k.sets.posted; number = left_by.begun_is ∙ k.sets.number })
-          (ask_excused a b (request.Apply n) told took log w can.fits locked (omega (arith, small, s.base.few)) k.excused)
+          (ask_excused a b (request.Apply n) told took log w can.fits can.phase locked (omega (arith, small, s.base.few)) k.excused)
           (calm_ask a b (request.Apply n) told took log w t.begun.began can.phase k.calm)
 
       tries : Tries p m.change m.child more
@@ -244,7 +244,7 @@ module _ (p : Plan) (path : List NameId) (m : Removing) (w : Work) (a : ActorId)
       goes_on =
           goes_plain p path m.change r q m.child.gfid a b told took log w k r.begun r.pre r.done (added_if (note.is_done told) b.0 r.post) left_by (request.Post n g Names missed) tt
           (record { prepared = left_by.pre_is ∙ k.sets.prepared; applied = left_by.done_is ∙ k.sets.applied; posted = left_by.post_is ∙ rw (done_told told, k.sets.posted) refl; number = left_by.begun_is ∙ k.sets.number })
-          (ask_excused a b (request.Post n g Names missed) told took log w can.fits tt (omega (arith, small, s.base.few)) k.excused)
+          (ask_excused a b (request.Post n g Names missed) told took log w can.fits can.phase tt (omega (arith, small, s.base.few)) k.excused)
           (calm_ask a b (request.Post n g Names missed) told took log w t.begun.began can.phase k.calm)
 
       tries : Tries p m.change m.child more

@@ -135,7 +135,7 @@ pub record IsJudged (p : Plan) (change : Change) (c : Child) (w : Work) : Type 0
   pub enough : suffices p.shape Names (looked_by (object_of change) w) (takers_by change c.gfid w) ≡ true
   pub shows : c.looked ≡ looked_by c.gfid w
   pub passes : by_views p.shape Names (looked_by c.gfid w) ≡ None
-  pub others : (b : ℕ) → b < p.shape.n → member c.takers b ≡ false → member (missed_by w) b ≡ true
+  pub others : (b : ℕ) → b < p.shape.n → member c.takers b ≡ false → member (missed_by (object_of change) w) b ≡ true
 
 -- the child was listed, and has no names
 pub record IsEmpty (p : Plan) (w : Work) : Type 0 where

@@ -62,7 +62,7 @@ blamed_front p attempt g kind missed b s u free locked k =
       did = subst (λ (y : List ℕ). member y b ≡ true) (sym did) k.did;
       enough = subst (λ (y : Looked). suffices p.shape kind y (among applied_at (s ++ u)) ≡ true) (sym (locked_alone g s u locked)) (subst (λ (y : List ℕ). suffices p.shape kind (looked_by g s) y ≡ true) (sym did) k.enough);
       others = subst (λ (y : List ℕ). missed ≡ minus (below p.shape.n) y) (sym did) k.others;
-      why = λ c m. subst (λ (w : Work). member (among missing w) c ≡ true) (sym (since_front s u free.none_locked)) (k.why c m);
+      why = λ c m. subst (λ (w : Work). member (among (missing g) w) c ≡ true) (sym (since_front s u free.none_locked)) (k.why c m);
     }
 
 -- ---- the next line of a transaction

@@ -32,7 +32,7 @@ use Rattle.afr_model.specs.Refusals.{by_locks}
 use Rattle.afr_model.specs.Showing.{among, looked_by, looking, preparing, prepared, applied_at, begun_by}
 use Rattle.afr_model.specs.Standing.{getting}
 use Rattle.afr_transaction_tells.specs.About.{BlamesNext, Led, NextLocked}
-use Rattle.afr_transaction_tells.specs.Fits.{AreExcused, missed_by, LineFits}
+use Rattle.afr_transaction_tells.specs.Fits.{AreExcused, missed_by, LineFits, LineFitsPhase}
 use Rattle.afr_transaction_tells.specs.Laws.{AboutNext, BlamesKept, ExcusedKept, IsNextLine}
 use Rattle.afr_transaction_tells.specs.Tells.{AreAllowed, AreBegun, During, Tells}
 use Rattle.afr_transaction_tells.proofs.Excused.{any_lock, ask_excused, begin_excused}
@@ -83,22 +83,22 @@ module _ (p : Plan) (w : Work) (m : Progress) (s : Sound m) (t : Tells p w m) wh
     abbrev g : Gfid
     g = object_of m.change
 
-    by_pre : (c : ℕ) → member (among applied_at w) c ≡ false → member (among preparing w) c ≡ true → (f : Bool) → member (among prepared w) c ≡ f → member (missed_by w) c ≡ true
-    by_pre c none asked false e = k.pre c asked e
-    by_pre c none asked true e = k.apply c (d.1.apply_all c e) none
+    by_pre : (c : ℕ) → member (among applied_at w) c ≡ false → member (among preparing w) c ≡ true → (f : Bool) → member (among prepared w) c ≡ f → member (missed_by g w) c ≡ true
+    by_pre c none asked false e = k.pre g c asked e
+    by_pre c none asked true e = k.apply g c (d.1.apply_all c e) none
 
-    by_look : (c : ℕ) → member (among applied_at w) c ≡ false → c < p.shape.n → member (among (looking g) w) c ≡ true → (f : Bool) → is_holder (looked_by g w) c ≡ f → member (missed_by w) c ≡ true
+    by_look : (c : ℕ) → member (among applied_at w) c ≡ false → c < p.shape.n → member (among (looking g) w) c ≡ true → (f : Bool) → is_holder (looked_by g w) c ≡ f → member (missed_by g w) c ≡ true
     by_look c none small asked false e = k.looked g d.0.allows.locked.locked c asked e
     by_look c none small asked true e = by_pre c none (d.1.pre_all c (member_holders (looked_by g w) c (omega (arith, few, small)) ∙ e)) (member (among prepared w) c) refl
 
-    by_lock : (c : ℕ) → member (among applied_at w) c ≡ false → c < p.shape.n → (f : Bool) → member (among (getting (area_for m.change)) w) c ≡ f → member (missed_by w) c ≡ true
-    by_lock c none small false e = k.locked (area_for m.change) c (d.0.allows.locked.all c small) e
+    by_lock : (c : ℕ) → member (among applied_at w) c ≡ false → c < p.shape.n → (f : Bool) → member (among (getting (area_for m.change)) w) c ≡ f → member (missed_by g w) c ≡ true
+    by_lock c none small false e = k.locked g (area_for m.change) c (d.0.allows.locked.all c small) e
     by_lock c none small true e = by_look c none small (d.0.allows.looked_all c e) (is_holder (looked_by g w) c) refl
 
-    why : (c : ℕ) → member (minus (below p.shape.n) (among applied_at w)) c ≡ true → member (missed_by w) c ≡ true
+    why : (c : ℕ) → member (minus (below p.shape.n) (among applied_at w)) c ≡ true → member (missed_by g w) c ≡ true
     why c is = apart (member (among applied_at w) c) refl (member (below p.shape.n) c) refl (sym (member_minus (below p.shape.n) (among applied_at w) c) ∙ is)
       where
-        apart : (did : Bool) → member (among applied_at w) c ≡ did → (within : Bool) → member (below p.shape.n) c ≡ within → (not did && within) ≡ true → member (missed_by w) c ≡ true
+        apart : (did : Bool) → member (among applied_at w) c ≡ did → (within : Bool) → member (below p.shape.n) c ≡ within → (not did && within) ≡ true → member (missed_by g w) c ≡ true
         apart true e within f h = absurd (cc h)
         apart false e false f h = absurd (cc h)
         apart false e true f h = by_lock c e (within_below p.shape.n c f) (member (among (getting (area_for m.change)) w) c) refl
@@ -150,16 +150,16 @@ module _ (p : Plan) (w : Work) (m : Progress) (s : Sound m) (t : Tells p w m) wh
   comes_locked Posting at d = tt
   comes_locked Closing at d = locked_end (is_nothing m.register.held)
 
-  pub excused_next : (a : ActorId) (told : Told) (line : Line) (older : List Line) (said : Next) → allowed m.register said ≡ true → NextLocked w said → IsNextLine a said told line → LineFits line → AreExcused w
+  pub excused_next : (a : ActorId) (told : Told) (line : Line) (older : List Line) (said : Next) → allowed m.register said ≡ true → NextLocked w said → IsNextLine a said told line → LineFits line → LineFitsPhase line → AreExcused w
       → AreExcused ((line, older) ∷ w)
-  excused_next a told line older (next.Ask b asked) ok locked is fits k =
+  excused_next a told line older (next.Ask b asked) ok locked is fits phase k =
       subst (λ (line : Line). AreExcused ((line, older) ∷ w)) (sym is.1)
-      (ask_excused a b asked told is.0 older w (subst LineFits is.1 fits) locked (omega (arith, small, s.base.few)) k)
+      (ask_excused a b asked told is.0 older w (subst LineFits is.1 fits) (subst LineFitsPhase is.1 phase) locked (omega (arith, small, s.base.few)) k)
     where
       small : b.0 < m.register.shape.n
       small = let h = (both (nat_lt b.0 m.register.shape.n) _ ok).0 in grind (arith, nat_tests, h)
-  excused_next a told line older (next.Begin change) ok locked is fits k = subst (λ (line : Line). AreExcused ((line, older) ∷ w)) (sym is) (begin_excused a change older w k)
-  excused_next a told line older other ok locked is fits k = absurd is
+  excused_next a told line older (next.Begin change) ok locked is fits phase k = subst (λ (line : Line). AreExcused ((line, older) ∷ w)) (sym is) (begin_excused a change older w k)
+  excused_next a told line older other ok locked is fits phase k = absurd is
 
 pub about_next : AboutNext
 about_next p c w m a told line older s t led is = about p w m s t c a told older m.stage line t.during s.ready led is
@@ -168,5 +168,5 @@ pub blames_kept : BlamesKept
 blames_kept p w m at s t k = blames p w m s t m.stage at t.during s.ready k
 
 pub excused_kept : ExcusedKept
-excused_kept p w m a told line older s t is fits k =
-    excused_next p w m s t a told line older (next_at m.stage (length older) m) (allowed_next m s (length older)) (comes_locked p w m s t m.stage (length older) t.during) is fits k
+excused_kept p w m a told line older s t is fits phase k =
+    excused_next p w m s t a told line older (next_at m.stage (length older) m) (allowed_next m s (length older)) (comes_locked p w m s t m.stage (length older) t.during) is fits phase k

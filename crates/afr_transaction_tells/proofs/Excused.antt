@@ -22,10 +22,10 @@ use Rattle.afr_lines.specs.declared.request.Area.{Area}
 use Rattle.afr_lines.specs.declared.request.Request.{Request}
 use Rattle.afr_lines.specs.declared.request.Request.TheVariants as request
 use Rattle.afr_range_locks.specs.declared.domain.Domain.TheVariants.{Work as WorkDomain}
-use Rattle.afr_model.specs.Blamed.{is_miss, missing}
-use Rattle.afr_model.specs.Showing.{among, has, is_done, is_granted, is_held, locks, look_shows, looked_after, looked_by, looking, preparing, prepared, applying, applied_at}
+use Rattle.afr_model.specs.Blamed.{misses, missing}
+use Rattle.afr_model.specs.Showing.{among, has, is_done, is_fault, is_granted, is_held, locks, look_shows, looked_after, looked_by, looking, preparing, prepared, applying, applied_at}
 use Rattle.afr_model.specs.Standing.{since, locks_any, asking, getting, marked}
-use Rattle.afr_transaction_tells.specs.Fits.{AreExcused, ComesLocked, Excuses, Fits, is_seen, missed_by}
+use Rattle.afr_transaction_tells.specs.Fits.{AreExcused, ComesLocked, Excuses, Fits, FitsPhase, is_miss, is_seen, missed_by}
 use Rattle.afr_transaction_tells.specs.Laws.{ExcusedFirst}
 use Rattle.afr_transaction_tells.proofs.First.{none_asked}
 use Rattle.afr_transaction_tells.proofs.Small.{self}
@@ -42,38 +42,46 @@ since_none test (x ∷ w) none = go (test x.0) refl (has test w) refl none
     go false e false f none = rw (e, f) refl
 
 -- each line joins those that missed something, or leaves them
-missing_grows : (line : Line) (s : List ℕ) (c : ℕ) → member s c ≡ true → member (missing line s) c ≡ true
-missing_grows (Ask a b r told took) s c m = member_added_if (is_miss told) b.0 s c ∙ rw m (either (is_miss told && (b.0 == c)))
+missing_grows : (g : Gfid) (line : Line) (s : List ℕ) (c : ℕ) → member s c ≡ true → member (missing g line s) c ≡ true
+missing_grows g (Ask a b r told took) s c m = member_added_if (misses g r told) b.0 s c ∙ rw m (either (misses g r told && (b.0 == c)))
   where
     either : (f : Bool) → (f || true) ≡ true
     either true = refl
     either false = refl
-missing_grows line s c m = m
+missing_grows g line s c m = m
 
--- the lines with one more
-module _ (line : Line) (older : List Line) (lines : Work) where
-  -- the lines since the first lock, with one more
-  abbrev since_next : Bool → Work
-  since_next before = if before then (line, older) ∷ since locks_any lines else (if locks_any line then (line, older) ∷ [] else [])
+-- a fault is missed whatever it was asked for, and that the object isn't there where it was looked at
+pub fault_misses : (g : Gfid) (r : Request) (told : Told) → is_fault told ≡ true → misses g r told ≡ true
+fault_misses g (request.Look h) told_of.NoObject e = absurd (cc e)
+fault_misses g (request.Look h) told e = e
+fault_misses g r told e = e
 
-  -- whoever missed something before has missed it now
-  pub missed_grows : (c : ℕ) → member (missed_by lines) c ≡ true → member (missed_by ((line, older) ∷ lines)) c ≡ true
-  missed_grows c m = go (has locks_any lines) refl
-    where
-      go : (before : Bool) → has locks_any lines ≡ before → member (among missing (since_next before)) c ≡ true
-      go true e = missing_grows line (missed_by lines) c m
-      go false e = absurd (cc (subst (λ (w : Work). member (among missing w) c ≡ true) (since_none locks_any lines e) m))
+look_misses : (g h : Gfid) (told : Told) → (h.0 == g.0) ≡ true → is_miss told ≡ true → misses g (request.Look h) told ≡ true
+look_misses g h told_of.NoObject same e = same
+look_misses g h told same e = e
+
+-- the lines since the first lock, with one more
+abbrev since_next : Line → List Line → Work → Bool → Work
+since_next line older lines before = if before then (line, older) ∷ since locks_any lines else (if locks_any line then (line, older) ∷ [] else [])
+
+-- whoever missed something before has missed it now
+pub missed_grows : (g : Gfid) (line : Line) (older : List Line) (lines : Work) (c : ℕ) → member (missed_by g lines) c ≡ true → member (missed_by g ((line, older) ∷ lines)) c ≡ true
+missed_grows g line older lines c m = go (has locks_any lines) refl
+  where
+    go : (before : Bool) → has locks_any lines ≡ before → member (among (missing g) (since_next line older lines before)) c ≡ true
+    go true e = missing_grows g line (missed_by g lines) c m
+    go false e = absurd (cc (subst (λ (w : Work). member (among (missing g) w) c ≡ true) (since_none locks_any lines e) m))
 
 -- a brick that misses what it is asked from the first lock on has missed something
-pub missed_now : (a : ActorId) (b : BrickId) (r : Request) (told : Told) (took : Bool) (older : List Line) (lines : Work) → (has locks_any lines ≡ false → locks_any (Ask a b r told took) ≡ true) → is_miss told ≡ true
-    → member (missed_by ((Ask a b r told took, older) ∷ lines)) b.0 ≡ true
-missed_now a b r told took older lines locked miss = go (has locks_any lines) refl
+pub missed_now : (g : Gfid) (a : ActorId) (b : BrickId) (r : Request) (told : Told) (took : Bool) (older : List Line) (lines : Work) → (has locks_any lines ≡ false → locks_any (Ask a b r told took) ≡ true) → misses g r told ≡ true
+    → member (missed_by g ((Ask a b r told took, older) ∷ lines)) b.0 ≡ true
+missed_now g a b r told took older lines locked miss = go (has locks_any lines) refl
   where
-    joins : (s : List ℕ) → member (missing (Ask a b r told took) s) b.0 ≡ true
-    joins s = member_added_if (is_miss told) b.0 s b.0 ∙ rw (miss, self b.0) refl
+    joins : (s : List ℕ) → member (missing g (Ask a b r told took) s) b.0 ≡ true
+    joins s = member_added_if (misses g r told) b.0 s b.0 ∙ rw (miss, self b.0) refl
 
-    go : (before : Bool) → has locks_any lines ≡ before → member (among missing (since_next (Ask a b r told took) older lines before)) b.0 ≡ true
-    go true e = joins (missed_by lines)
+    go : (before : Bool) → has locks_any lines ≡ before → member (among (missing g) (since_next (Ask a b r told took) older lines before)) b.0 ≡ true
+    go true e = joins (missed_by g lines)
     go false e = rw (locked e) (joins [])
 
 -- a lock on an object is one
@@ -102,7 +110,7 @@ one_excused b asked did was now ok grows new k c m n = go ok refl (eqb_tells b c
 
 -- those that were asked for a lock of an area
 lock_excused : (area : Area) (a : ActorId) (b : BrickId) (r : Request) (told : Told) (took : Bool) (asked got was now : List ℕ) → Fits r told → Grows was now
-    → (locks_any (Ask a b r told took) ≡ true → is_miss told ≡ true → member now b.0 ≡ true) → Excuses was asked got
+    → (locks_any (Ask a b r told took) ≡ true → is_fault told ≡ true → member now b.0 ≡ true) → Excuses was asked got
     → Excuses now (asking area (Ask a b r told took) asked) (getting area (Ask a b r told took) got)
 lock_excused area a b (request.Lock WorkDomain other) told took asked got was now fits grows new k = go (same_area area other) (is_held told) refl (is_granted told) refl
   where
@@ -167,18 +175,18 @@ Shows missed asked looked = (b : ℕ) → member asked b ≡ true → is_holder 
 
 -- those that were looked at
 look_excused : (g : Gfid) (a : ActorId) (b : BrickId) (r : Request) (told : Told) (took : Bool) (asked : List ℕ) (looked : Looked) (was now : List ℕ) (locked : Bool) → Fits r told → Grows was now
-    → b.0 < length looked.views → (locked ≡ true → is_miss told ≡ true → member now b.0 ≡ true) → (locked ≡ true → Shows was asked looked) → (locks g (Ask a b r told took) || locked) ≡ true
+    → b.0 < length looked.views → (locked ≡ true → misses g r told ≡ true → member now b.0 ≡ true) → (locked ≡ true → Shows was asked looked) → (locks g (Ask a b r told took) || locked) ≡ true
     → Shows now (looking g (Ask a b r told took) asked) (looked_after g (Ask a b r told took) looked)
-look_excused g a b (request.Look h) told took asked looked was now locked fits grows small new k is = go (h.0 == g.0)
+look_excused g a b (request.Look h) told took asked looked was now locked fits grows small new k is = go (h.0 == g.0) refl
   where
-    go : (same : Bool) → Shows now (if same then added_if true b.0 asked else asked) (if same then look_shows b.0 told looked else looked)
-    go false = λ c m n. grows c (k is c m n)
-    go true = λ c m n. by c (eqb_tells b.0 c) (sym (member_added b.0 asked c) ∙ m) n
+    go : (same : Bool) → (h.0 == g.0) ≡ same → Shows now (if same then added_if true b.0 asked else asked) (if same then look_shows b.0 told looked else looked)
+    go false it = λ c m n. grows c (k is c m n)
+    go true it = λ c m n. by c (eqb_tells b.0 c) (sym (member_added b.0 asked c) ∙ m) n
       where
         by : (c : ℕ) → ((b.0 == c) ≡ true) × (b.0 ≡ c) ⊎ ((b.0 == c) ≡ false) × (b.0 ≢ c) → ((b.0 == c) || member asked c) ≡ true → is_holder (look_shows b.0 told looked) c ≡ false → member now c ≡ true
         by c (inl same) m n =
             subst (λ (x : ℕ). member now x ≡ true) same.1
-            (new is (fits (sym (look_shows_it b.0 told looked small) ∙ subst (λ (x : ℕ). is_holder (look_shows b.0 told looked) x ≡ false) (sym same.1) n)))
+            (new is (look_misses g h told it (fits (sym (look_shows_it b.0 told looked small) ∙ subst (λ (x : ℕ). is_holder (look_shows b.0 told looked) x ≡ false) (sym same.1) n))))
         by c (inr other) m n = let apart = other.1 in grows c (k is c (rw other.0 at m) (sym (look_shows_others b.0 c told looked (λ e. apart (sym e))) ∙ n))
 look_excused g a b (request.Lock WorkDomain area) told took asked looked was now locked fits grows small new k is = go ((object_of_area area).0 == g.0) is
   where
@@ -187,54 +195,57 @@ look_excused g a b (request.Lock WorkDomain area) told took asked looked was now
     go false is = λ c m n. grows c (k is c m n)
 look_excused g a b r told took asked looked was now locked fits grows small new k is = λ c m n. grows c (k is c m n)
 
-pre_excused : (a : ActorId) (b : BrickId) (r : Request) (told : Told) (took : Bool) (asked did was now : List ℕ) (lines : Work) → Fits r told → Grows was now → ComesLocked r lines
-    → (has locks_any lines ≡ true → is_miss told ≡ true → member now b.0 ≡ true) → Excuses was asked did → Excuses now (preparing (Ask a b r told took) asked) (prepared (Ask a b r told took) did)
+pre_excused : (a : ActorId) (b : BrickId) (r : Request) (told : Told) (took : Bool) (asked did was now : List ℕ) (lines : Work) → FitsPhase r told → Grows was now → ComesLocked r lines
+    → (has locks_any lines ≡ true → is_fault told ≡ true → member now b.0 ≡ true) → Excuses was asked did → Excuses now (preparing (Ask a b r told took) asked) (prepared (Ask a b r told took) did)
 pre_excused a b (request.Pre g kind) told took asked did was now lines fits grows locked new k = one_excused b.0 asked did was now (is_done told) grows (λ no. new locked (fits no)) k
 pre_excused a b r told took asked did was now lines fits grows locked new k = λ c m n. grows c (k c m n)
 
 -- those that were asked for the operation
-apply_excused : (a : ActorId) (b : BrickId) (r : Request) (told : Told) (took : Bool) (asked did was now : List ℕ) (lines : Work) → Fits r told → Grows was now → ComesLocked r lines
-    → (has locks_any lines ≡ true → is_miss told ≡ true → member now b.0 ≡ true) → Excuses was asked did → Excuses now (applying (Ask a b r told took) asked) (applied_at (Ask a b r told took) did)
+apply_excused : (a : ActorId) (b : BrickId) (r : Request) (told : Told) (took : Bool) (asked did was now : List ℕ) (lines : Work) → FitsPhase r told → Grows was now → ComesLocked r lines
+    → (has locks_any lines ≡ true → is_fault told ≡ true → member now b.0 ≡ true) → Excuses was asked did → Excuses now (applying (Ask a b r told took) asked) (applied_at (Ask a b r told took) did)
 apply_excused a b (request.Apply attempt) told took asked did was now lines fits grows locked new k = one_excused b.0 asked did was now (is_done told) grows (λ no. new locked (fits no)) k
 apply_excused a b r told took asked did was now lines fits grows locked new k = λ c m n. grows c (k c m n)
 
 -- a request and its answer
-pub ask_excused : (a : ActorId) (b : BrickId) (r : Request) (told : Told) (took : Bool) (older : List Line) (lines : Work) → Fits r told → ComesLocked r lines → b.0 < 5 → AreExcused lines
+pub ask_excused : (a : ActorId) (b : BrickId) (r : Request) (told : Told) (took : Bool) (older : List Line) (lines : Work) → Fits r told → FitsPhase r told → ComesLocked r lines → b.0 < 5 → AreExcused lines
     → AreExcused ((Ask a b r told took, older) ∷ lines)
-ask_excused a b r told took older lines fits locked small k = record {
-  locked = λ area. lock_excused area a b r told took (among (asking area) lines) (among (getting area) lines) (missed_by lines) now fits grows
-      (λ locks. missed_now a b r told took older lines (λ none. locks)) (k.locked area);
-  looked = λ g. look_excused g a b r told took (among (looking g) lines) (looked_by g lines) (missed_by lines) now (has (locks g) lines) fits grows
-      (omega (arith, small, five_views g lines)) (λ is. after (any_lock g lines is)) (k.looked g);
-  pre = pre_excused a b r told took (among preparing lines) (among prepared lines) (missed_by lines) now lines fits grows locked after k.pre;
-  apply = apply_excused a b r told took (among applying lines) (among applied_at lines) (missed_by lines) now lines fits grows locked after k.apply;
+ask_excused a b r told took older lines fits phase locked small k = record {
+  locked = λ g area. lock_excused area a b r told took (among (asking area) lines) (among (getting area) lines) (missed_by g lines) (now g) fits (grows g)
+      (λ locks fault. missed_now g a b r told took older lines (λ none. locks) (fault_misses g r told fault)) (k.locked g area);
+  looked = λ g. look_excused g a b r told took (among (looking g) lines) (looked_by g lines) (missed_by g lines) (now g) (has (locks g) lines) fits (grows g)
+      (omega (arith, small, five_views g lines)) (λ is. after g (any_lock g lines is)) (k.looked g);
+  pre = λ g. pre_excused a b r told took (among preparing lines) (among prepared lines) (missed_by g lines) (now g) lines phase (grows g) locked (fails g) (k.pre g);
+  apply = λ g. apply_excused a b r told took (among applying lines) (among applied_at lines) (missed_by g lines) (now g) lines phase (grows g) locked (fails g) (k.apply g);
 }
   where
-    now : List ℕ
-    now = missed_by ((Ask a b r told took, older) ∷ lines)
+    now : Gfid → List ℕ
+    now g = missed_by g ((Ask a b r told took, older) ∷ lines)
 
-    grows : Grows (missed_by lines) now
-    grows c m = missed_grows (Ask a b r told took) older lines c m
+    grows : (g : Gfid) → Grows (missed_by g lines) (now g)
+    grows g c m = missed_grows g (Ask a b r told took) older lines c m
 
-    after : has locks_any lines ≡ true → is_miss told ≡ true → member now b.0 ≡ true
-    after is = missed_now a b r told took older lines (λ none. absurd (cc (is, none)))
+    after : (g : Gfid) → has locks_any lines ≡ true → misses g r told ≡ true → member (now g) b.0 ≡ true
+    after g is = missed_now g a b r told took older lines (λ none. absurd (cc (is, none)))
+
+    fails : (g : Gfid) → has locks_any lines ≡ true → is_fault told ≡ true → member (now g) b.0 ≡ true
+    fails g is fault = after g is (fault_misses g r told fault)
 
 -- a Begin line
 pub begin_excused : (a : ActorId) (c : Change) (older : List Line) (lines : Work) → AreExcused lines → AreExcused ((Begin a c, older) ∷ lines)
 begin_excused a c older lines k = record {
-  locked = λ area b m n. missed_grows (Begin a c) older lines b (k.locked area b m n);
-  looked = λ g is b m n. missed_grows (Begin a c) older lines b (k.looked g is b m n);
-  pre = λ b m n. absurd (cc m);
-  apply = λ b m n. absurd (cc m);
+  locked = λ g area b m n. missed_grows g (Begin a c) older lines b (k.locked g area b m n);
+  looked = λ g is b m n. missed_grows g (Begin a c) older lines b (k.looked g is b m n);
+  pre = λ g b m n. absurd (cc m);
+  apply = λ g b m n. absurd (cc m);
 }
 
 -- before the first lock nobody was asked for anything
 pub excused_first : ExcusedFirst
 excused_first w none idle = record {
-  locked = λ area b m n. nobody b (among (asking area) w) (none_asked area w none) m;
+  locked = λ g area b m n. nobody b (among (asking area) w) (none_asked area w none) m;
   looked = λ g is. let any = any_lock g w is in absurd (cc (any, none));
-  pre = λ b m n. nobody b (among preparing w) idle.no_pre m;
-  apply = λ b m n. nobody b (among applying w) idle.no_apply m;
+  pre = λ g b m n. nobody b (among preparing w) idle.no_pre m;
+  apply = λ g b m n. nobody b (among applying w) idle.no_apply m;
 }
   where
     nobody : {A : Type 0} → (b : ℕ) (s : List ℕ) → s ≡ [] → member s b ≡ true → A

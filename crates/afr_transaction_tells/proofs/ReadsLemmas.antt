@@ -166,7 +166,7 @@ module _ (p : Plan) (w : Work) (m : Progress) (a : ActorId) (b : BrickId) (told 
       record {
         sound = sound_at asked k;
         tells = tells_at asked is k;
-        excused = ask_excused a b asked told took older w f.fits f.locked small;
+        excused = ask_excused a b asked told took older w f.fits f.phase f.locked small;
         calm = calm_ask a b asked told took older w f.begun f.phase;
       }
 

@@ -11,7 +11,7 @@ use Rattle.afr_lines.specs.declared.line.Line.TheVariants.{Ask}
 use Rattle.afr_lines.specs.declared.request.Area.{Area}
 use Rattle.afr_lines.specs.declared.request.Request.{Request}
 use Rattle.afr_lines.specs.declared.request.Request.TheVariants as request
-use Rattle.afr_model.specs.Blamed.{is_miss, missing}
+use Rattle.afr_model.specs.Blamed.{missing}
 use Rattle.afr_model.specs.Showing.{is_done, is_fault, is_faulted, is_granted, is_held, among, has, locks, looking, looked_by, preparing, prepared, applying, applied_at, posting, posted}
 use Rattle.afr_model.specs.Standing.{since, locks_any, asking, getting}
 
@@ -21,9 +21,14 @@ abbrev pub is_seen : Told → Bool
 is_seen (told_of.Seen view) = true
 is_seen told = false
 
--- a brick did what it was asked, or missed it; of a lock it may also say who is in the way
+-- the brick refused, couldn't be reached, or lacks the object
+abbrev pub is_miss : Told → Bool
+is_miss told_of.NoObject = true
+is_miss told = is_fault told
+
+-- a brick did what it was asked, or missed it; a lock needs no object, and of it the brick may also say who is in the way
 abbrev pub Fits : Request → Told → Type 0
-Fits (request.Lock domain area) told = is_granted told ≡ false → is_held told ≡ false → is_miss told ≡ true
+Fits (request.Lock domain area) told = is_granted told ≡ false → is_held told ≡ false → is_fault told ≡ true
 Fits (request.Look g) told = is_seen told ≡ false → is_miss told ≡ true
 Fits (request.Pre g kind) told = is_done told ≡ false → is_miss told ≡ true
 Fits (request.Apply attempt) told = is_done told ≡ false → is_miss told ≡ true
@@ -47,20 +52,21 @@ LineFitsPhase (Ask a b request told took) = FitsPhase request told
 LineFitsPhase line = Unit {0}
 
 -- ---- those that missed something
--- the bricks that missed something since the work's first lock
-abbrev pub missed_by : Work → List ℕ
-missed_by w = among missing (since locks_any w)
+-- the bricks that missed something that an operation on the object needs, since the work's first lock
+abbrev pub missed_by : Gfid → Work → List ℕ
+missed_by g w = among (missing g) (since locks_any w)
 
 -- each brick that was asked and didn't do it missed something
 abbrev pub Excuses : List ℕ → List ℕ → List ℕ → Type 0
 Excuses missed asked did = (b : ℕ) → member asked b ≡ true → member did b ≡ false → member missed b ≡ true
 
--- who was asked for a lock, for the pre-op or for the operation and didn't give it, or was looked at since a lock and showed nothing, missed something
+-- who was asked for a lock, for the pre-op or for the operation and didn't give it, or was looked at since a lock and showed nothing, missed something,
+-- whichever object it is asked of; but that it lacks an object counts for that object alone
 pub record AreExcused (w : Work) : Type 0 where
-  pub locked : (area : Area) → Excuses (missed_by w) (among (asking area) w) (among (getting area) w)
-  pub looked : (g : Gfid) → has (locks g) w ≡ true → (b : ℕ) → member (among (looking g) w) b ≡ true → is_holder (looked_by g w) b ≡ false → member (missed_by w) b ≡ true
-  pub pre : Excuses (missed_by w) (among preparing w) (among prepared w)
-  pub apply : Excuses (missed_by w) (among applying w) (among applied_at w)
+  pub locked : (g : Gfid) (area : Area) → Excuses (missed_by g w) (among (asking area) w) (among (getting area) w)
+  pub looked : (g : Gfid) → has (locks g) w ≡ true → (b : ℕ) → member (among (looking g) w) b ≡ true → is_holder (looked_by g w) b ≡ false → member (missed_by g w) b ≡ true
+  pub pre : (g : Gfid) → Excuses (missed_by g w) (among preparing w) (among prepared w)
+  pub apply : (g : Gfid) → Excuses (missed_by g w) (among applying w) (among applied_at w)
 
 -- a phase comes after the locks
 abbrev pub ComesLocked : Request → Work → Type 0

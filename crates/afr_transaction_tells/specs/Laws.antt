@@ -78,7 +78,7 @@ BlamesKept = (p : Plan) (w : Work) (m : Progress) (at : ℕ) → Sound m → Tel
 abbrev pub ExcusedKept : Type 0
 ExcusedKept =
     (p : Plan) (w : Work) (m : Progress) (a : ActorId) (told : Told) (line : Line) (older : List Line) → Sound m → Tells p w m → IsNextLine a (next_at m.stage (length older) m) told line
-    → LineFits line → AreExcused w → AreExcused ((line, older) ∷ w)
+    → LineFits line → LineFitsPhase line → AreExcused w → AreExcused ((line, older) ∷ w)
 
 -- so it is of the lines before the first lock
 abbrev pub ExcusedFirst : Type 0

@@ -228,7 +228,7 @@ module _ (p : Plan) (c : Command) (object : Entry) (lines : Work) (a : ActorId) 
     led = (keeps_path p c object line log lines of k.led).0;
     unread = (keeps_path p c object line log lines of k.led).1 ∙ k.unread;
     tells = tells_kept p lines t a told line log sound k.tells is;
-    excused = excused_kept p lines t a told line log sound k.tells is fits k.excused;
+    excused = excused_kept p lines t a told line log sound k.tells is fits phase k.excused;
     calm = calm_kept p lines t a told line log sound k.tells is phase k.calm;
     fitting = subst (λ (x : Change). AreFitting p.shape.n x ((line, log) ∷ lines)) (sym (fed_same t.stage told (length log) t)) fitting;
   }

@@ -1,0 +1,4 @@
+mod Epoch
+mod Idle
+mod Named
+mod Rolled
