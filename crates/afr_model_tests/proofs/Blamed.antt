@@ -4,13 +4,14 @@ use Rattle.std.specs.List.{list_all}
 use Rattle.std.proofs.Common.{sym}
 use Rattle.afr_base.specs.Bricks.{and_left, and_right, below, is_nothing}
 use Rattle.afr_base.specs.declared.ids.Kind.TheVariants.{Bytes}
+use Rattle.afr_object.specs.Tables.{root}
 use Rattle.afr_lines.specs.declared.line.Line.{Line}
 use Rattle.afr_lines.specs.declared.line.Line.TheVariants.{Ask}
 use Rattle.afr_lines.specs.declared.request.Request.TheVariants as request
 use Rattle.afr_plan.specs.declared.plan.Plan.{Plan}
 use Rattle.afr_model.specs.Blamed.{AreBlamed, Blames, IsBlaming}
 use Rattle.afr_model_tests.proofs.Means.{fails, passes, told_apart}
-use Rattle.afr_model_tests.proofs.Words.{apply, at_each, at_two, begin, file, half_done, half_written, plan, post, pre, ready, work_of, write_change}
+use Rattle.afr_model_tests.proofs.Words.{apply, at_each, at_two, begin, file, half_done, half_written, led_to_file, lock, look_file, look_lacking, plan, post, pre, ready, work_of, write_area, write_change}
 
 -- a line is a post-op
 abbrev pub posts : Line → Bool
@@ -44,6 +45,14 @@ the_one_that_missed_is_accused = record { change = write_change; begun = refl; i
 pub a_log_whose_accusations_have_causes : AreBlamed plan (post 10 file Bytes (2 ∷ []) 0 ∷ half_done)
 a_log_whose_accusations_have_causes = (the_one_that_missed_is_accused, none_blamed plan half_done refl)
 
+-- a brick that lacks the file, and the other two did it
+abbrev lacking : List Line
+lacking = at_two (apply 10) (at_two (pre file Bytes) (begin write_change ∷ look_lacking file 2 ∷ at_two look_file (at_each (lock write_area) led_to_file)))
+
+pub one_that_lacks_it_is_accused : IsBlaming plan 10 file Bytes (2 ∷ []) 0 (work_of lacking)
+unfolding below
+one_that_lacks_it_is_accused = record { change = write_change; begun = refl; is_change = refl; object = refl; counted = refl; once = refl; did = refl; enough = refl; others = refl; why = λ c among. among }
+
 -- where all did it nobody is accused
 pub where_all_did_nobody_is : IsBlaming plan 10 file Bytes [] 0 (work_of (at_each (apply 10) (at_each (pre file Bytes) (begin write_change ∷ ready))))
 unfolding below
@@ -62,6 +71,13 @@ one_that_missed_is_not_spared blaming = told_apart is_nothing _ _ refl refl blam
 -- brick 2 wasn't asked, and so nothing failed there
 pub one_that_was_not_asked_is_not_accused : IsBlaming plan 10 file Bytes (2 ∷ []) 0 (work_of (at_two (apply 10) (at_two (pre file Bytes) (begin write_change ∷ ready)))) → ⊥
 one_that_was_not_asked_is_not_accused blaming = fails (blaming.why 2 refl)
+
+-- brick 2 was looked at for the root alone, which it lacks
+abbrev lacking_another : List Line
+lacking_another = at_two (apply 10) (at_two (pre file Bytes) (begin write_change ∷ look_lacking root 2 ∷ at_two look_file (at_each (lock write_area) led_to_file)))
+
+pub one_that_lacks_another_object_is_not_accused : IsBlaming plan 10 file Bytes (2 ∷ []) 0 (work_of lacking_another) → ⊥
+one_that_lacks_another_object_is_not_accused blaming = fails (blaming.why 2 refl)
 
 -- a second post-op at brick 0
 pub no_second_post : IsBlaming plan 10 file Bytes (2 ∷ []) 0 (work_of half_written) → ⊥

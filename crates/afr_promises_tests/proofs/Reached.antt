@@ -35,7 +35,7 @@ twice q = record (healing q) { files = 1; healers = (brick 0 ∷ brick 1 ∷ bri
 abbrev two_passes : List Line
 two_passes = all_rounds (all_rounds [])
 
-abbrev name : ℕ → NameId
+abbrev pub name : ℕ → NameId
 name i = record { 0 = i }
 
 module _ (q : Plan) where
@@ -43,7 +43,7 @@ module _ (q : Plan) where
   p = twice q
 
   -- a round ends such a log
-  ends : (b : ℕ) (older : List Line) → slice_get (rounds_of (twice q) 17) (ended 17 (index b ∷ older)) ≡ Some (brick b) → length (log_before (work 17 (index b ∷ older)) (index b ∷ older)) + length (work 17 (index b ∷ older)) ≡ length (index b ∷ older)
+  unfoldable pub ends : (b : ℕ) (older : List Line) → slice_get (rounds_of (twice q) 17) (ended 17 (index b ∷ older)) ≡ Some (brick b) → length (log_before (work 17 (index b ∷ older)) (index b ∷ older)) + length (work 17 (index b ∷ older)) ≡ length (index b ∷ older)
       → has tells_any_fault (work 17 (index b ∷ older)) ≡ false → EndsRound (twice q) (brick b) (round b older)
   ends b older over together unfailed = record {
     healer = record { 0 = 17 };
@@ -59,7 +59,7 @@ module _ (q : Plan) where
       alone x (IsActor.Client least most) = absurd (omega (arith, least, most))
       alone x (IsActor.Healer least most) = omega (arith, least, most)
 
-  all_three : (b : ℕ) → b < 3 → (i : ℕ) × (slice_get all_bricks i ≡ Some (brick b))
+  pub all_three : (b : ℕ) → b < 3 → (i : ℕ) × (slice_get all_bricks i ≡ Some (brick b))
   all_three zero low = (2, refl)
   all_three (suc zero) low = (1, refl)
   all_three (suc (suc zero)) low = (0, refl)

@@ -19,6 +19,7 @@ use Rattle.afr_model.specs.Safe.{AreFresh, IsAlwaysSafe}
 use Rattle.afr_plan.specs.declared.plan.Plan.{Plan}
 use Rattle.afr_quiet.specs.Undisturbed.{AreQuietWhole}
 use Rattle.afr_reached.specs.Reached.{HasReached}
+use Rattle.afr_rolling.specs.Rolling.{NeverSplits}
 use Rattle.afr_rule.specs.Choosing.{Calls}
 use Rattle.afr_rule.specs.declared.rules.Rules.{Rules}
 use Rattle.afr_sources.specs.Sources.{picks_of}
@@ -29,11 +30,12 @@ use Rattle.afr_volume.specs.State.{IsChosen, State}
 -- the log is the plan's, its bricks answered by the rules, and its actors kept the discipline; so each reply and each
 -- accusation has its cause, every good copy of every majority is current at every prefix, reads answer current values, and
 -- quiet rounds did all that they say, left what was clear clear and a split-brain as it was, and at all bricks converged;
--- pass after pass they brought what names lead to to every brick. Where a change was acknowledged, a majority has what it or
--- a later one left, in a split-brain too; a split-brain needs that each of its copies missed something, and where attempts
--- come one at a time a whole copy is left in it; a change that enough bricks didn't fail is acknowledged. Each work took no
--- more lines than it costs, and each Work lock was asked above all those that its actor held; and a file's old name was
--- never given up before its new one was stored at a majority
+-- pass after pass they brought what names lead to to every brick; and where some brick was always spared, with such a pass
+-- before another one was, nothing that all bricks had and that was clear is in split-brain. Where a change was acknowledged,
+-- a majority has what it or a later one left, in a split-brain too; a split-brain needs that each of its copies missed
+-- something, and where attempts come one at a time a whole copy is left in it; a change that enough bricks didn't fail is
+-- acknowledged. Each work took no more lines than it costs, and each Work lock was asked above all those that its actor
+-- held; and a file's old name was never given up before its new one was stored at a majority
 pub record IsRight (p : Plan) (log : List Line) : Type 0 where
   pub follows : Follows p log
   pub honest : Honest p log
@@ -49,6 +51,7 @@ pub record IsRight (p : Plan) (log : List Line) : Type 0 where
   pub left : EachLine (IsQuietLeft p) log
   pub converged : EveryPrefix (HasConverged p) log
   pub reached : EveryPrefix (HasReached p) log
+  pub rolling : EveryPrefix (NeverSplits p) log
   pub durable : EveryPrefix (IsDurable p) log
   pub since : EveryPrefix (HaveCausesSince p) log
   pub missed : EveryPrefix (AreAllMissed p) log

@@ -41,6 +41,7 @@ use afr_plan::{Plan, Words};
 use afr_quiet_rounds::quiet_rounds_are_whole;
 use afr_ranges::fits_its_types;
 use afr_reached::quiet_passes_reach;
+use afr_rolling::what_all_have_never_splits;
 use afr_rounds::Healer;
 use afr_rule::{Candidate, ReadRule, Rules, SourceRule};
 use afr_server::Server;
@@ -384,6 +385,7 @@ impl Volume {
         quiet_rounds_are_whole();
         quiet_rounds_converge();
         quiet_passes_reach();
+        what_all_have_never_splits();
         acknowledged_is_durable();
         split_copies_missed();
         a_copy_is_whole();

@@ -30,6 +30,7 @@ returns-clause-right c =
       left = c.quiet_rounds_converge.ensures.leave c.self.inside.plan (reverse c.self.inside.log.items) kept.runnable.few kept.runnable.clients few kept.follows kept.honest kept.lawful kept.replied kept.gives kept.runnable.rounds;
       converged = c.quiet_rounds_converge.ensures.converge c.self.inside.plan (reverse c.self.inside.log.items) kept.runnable.few kept.runnable.clients few kept.follows kept.honest kept.lawful kept.replied kept.gives kept.runnable.rounds;
       reached = c.quiet_passes_reach.ensures.reach c.self.inside.plan (reverse c.self.inside.log.items) kept.runnable.few kept.runnable.clients few kept.follows kept.honest kept.lawful kept.replied kept.gives kept.runnable.rounds;
+      rolling = c.what_all_have_never_splits.ensures.rolling c.self.inside.plan (reverse c.self.inside.log.items) kept.runnable.few kept.runnable.clients few kept.follows kept.honest kept.lawful kept.replied kept.blamed kept.gives kept.runnable.rounds;
       durable = c.acknowledged_is_durable.ensures.exact c.self.inside.plan (reverse c.self.inside.log.items) kept.runnable.few few kept.honest kept.lawful;
       since = (c.split_copies_missed.ensures.exact c.self.inside.plan (reverse c.self.inside.log.items) kept.runnable.few few kept.honest kept.lawful).0;
       missed = (c.split_copies_missed.ensures.exact c.self.inside.plan (reverse c.self.inside.log.items) kept.runnable.few few kept.honest kept.lawful).1;
