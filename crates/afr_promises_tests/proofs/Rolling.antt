@@ -1,5 +1,5 @@
 -- Epochs that each spare a brick: with a pass between two of them the root isn't split, and without one it is; and a file that is split while it is made.
-use Rattle.std.proofs.Common.{◌≡◌, ◌≢◌, ◌⊎◌, ◌×◌, ℕ, zero, suc, ◌<◌, ◌==◌, ◌&&◌, ◌++◌, not, Bool, true, false, inl, inr, refl, sym, ap, ◌∙◌, subst, arith, List, [], ◌∷◌, true≢false}
+use Rattle.std.proofs.Common.{◌≡◌, ◌≢◌, ◌⊎◌, ℕ, zero, suc, ◌<◌, ◌==◌, ◌&&◌, ◌++◌, not, Bool, true, false, inl, inr, refl, sym, ap, ◌∙◌, subst, arith, List, [], ◌∷◌, true≢false}
 use Rattle.std.specs.List.{list_all}
 use Rattle.std.proofs.lemmas.Bool.Decides.{eqb_tells}
 use Rattle.afr_base.specs.Bricks.{and_left, and_right, below}
@@ -8,9 +8,10 @@ use Rattle.afr_base.specs.declared.ids.Gfid.{Gfid}
 use Rattle.afr_base.specs.declared.ids.Kind.{Kind}
 use Rattle.afr_base.specs.declared.ids.Kind.TheVariants.{Attrs, Bytes, Names}
 use Rattle.afr_base.specs.declared.ids.What.TheVariants.{Dir, File}
-use Rattle.afr_object.specs.Tables.{new_object, root}
+use Rattle.afr_object.specs.Tables.{new_object, opening_gfid, root}
 use Rattle.afr_object.specs.declared.change.Change.{Change}
 use Rattle.afr_object.specs.declared.change.Change.TheVariants.{Make, Write}
+use Rattle.afr_object.specs.declared.object.Object.{Object}
 use Rattle.afr_lines.specs.declared.answer.Told.{Told}
 use Rattle.afr_lines.specs.declared.answer.Told.TheVariants.{Done, Failed, NoObject}
 use Rattle.afr_lines.specs.declared.line.Line.{Line}
@@ -88,9 +89,6 @@ abbrev pub later_turn : List Line
 later_turn = turn 13 2 1 2 0 rested
 
 module _ (q : Plan) where
-  abbrev p : Plan
-  p = twice q
-
   every_kind : (kind : Kind) → keeps (twice q).shape kind 0 ≡ true
   every_kind Bytes = refl
   every_kind Attrs = refl
@@ -101,11 +99,15 @@ module _ (q : Plan) where
   every_kind_too Attrs = refl
   every_kind_too Names = refl
 
+  -- the root with the opening file
+  abbrev rooted : Object
+  rooted = record (new_object Dir) { names = (name 0, record { gfid = opening_gfid 1; what = File }) ∷ [] }
+
   -- the root was on every brick, and clear, and nobody was at work
   pub the_root_was_everywhere : IsEverywhereAs (twice q) [] root Dir
-  the_root_was_everywhere zero low = (_, refl, refl)
-  the_root_was_everywhere (suc zero) low = (_, refl, refl)
-  the_root_was_everywhere (suc (suc zero)) low = (_, refl, refl)
+  the_root_was_everywhere zero low = (rooted, refl, refl)
+  the_root_was_everywhere (suc zero) low = (rooted, refl, refl)
+  the_root_was_everywhere (suc (suc zero)) low = (rooted, refl, refl)
   the_root_was_everywhere (suc (suc (suc b))) low = absurd (omega (arith, low))
 
   pub the_root_was_clear : IsClear (twice q) [] root Attrs
