@@ -29,7 +29,7 @@ use Rattle.afr_promises_tests.proofs.Converged.{all_bricks, all_rounds, brick, h
 use Rattle.afr_promises_tests.proofs.Words.{done, ok, says, told_apart}
 
 -- ---- two passes over three bricks, and a file that is there from the opening
-abbrev twice : Plan → Plan
+abbrev pub twice : Plan → Plan
 twice q = record (healing q) { files = 1; healers = (brick 0 ∷ brick 1 ∷ brick 2 ∷ brick 0 ∷ brick 1 ∷ brick 2 ∷ []) ∷ [] }
 
 abbrev two_passes : List Line
