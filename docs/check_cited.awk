@@ -66,7 +66,7 @@ function wrong(what) {
 function read_line(    i, row) {
     count_cut = split($0, cut, "`")
     row = /^\|/ ? row_crate() : ""
-    subject = ""
+    subject = holder = ""
     for (i = 2; i <= count_cut; i += 2) {
         cited(cut[i], row)
         if (i > 2 && subject != "" && cut[i - 1] ~ /^(: |, )$/) {
@@ -75,6 +75,9 @@ function read_line(    i, row) {
             subject = ""
         }
         if (cut[i + 1] == ": ") subject = cut[i]
+        if (i > 2 && holder != "" && cut[i - 1] ~ /^( \(|, )$/) holds(holder, cut[i])
+        else holder = ""
+        if (cut[i] ~ /\.(rt|antt)$/ && cut[i + 1] == " (") holder = cut[i]
         if (i > 2 && cut[i - 1] ~ /^ (of|in) $|^ \($/) belongs(cut[i - 2], cut[i], cut[i - 1])
     }
     links()
@@ -158,6 +161,11 @@ function belongs(text, where, between) {
     }
 }
 
+# `FILE` (`NAME`).
+function holds(file, text) {
+    if (text ~ /^[A-Za-z_][A-Za-z_0-9-]*$/ && text in at && !index(at[text] " ", "/" file " ")) wrong("'" text "' isn't in '" file "'")
+}
+
 # `SUBJECT`: `NAME`, where the subject is a function, a type, a clause or a file. A type after it is what the clause says of.
 function pair(subject, text,    word, count) {
     if (text !~ /^[A-Za-z_][A-Za-z_0-9-]*$/ || subject ~ /\.[a-z]+$/ || has(subject, text)) return
@@ -168,7 +176,7 @@ function pair(subject, text,    word, count) {
 
 function has(subject, text,    word, i, count) {
     if ((subject, text) in member) return 1
-    if (subject in there && index(at[text] " ", "/" subject ".")) return 1
+    if (subject in there && (index(at[text] " ", "/" subject ".") || (subject "/" text) in there)) return 1
     count = split(says[subject], word, " ")
     for (i = 1; i <= count; i++) if ((word[i], text) in member) return 1
     count = split(subject, word, "::")

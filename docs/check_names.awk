@@ -1,4 +1,4 @@
-# For docs/check: what is defined where. Reads sources, definitions and lemmas, and prints a line for each name: KIND, NAME,
+# For docs/check: what is defined where. Reads sources, definitions, lemmas and scripts, and prints a line for each name: KIND, NAME,
 # OWNER and FILE, with tabs between them. An owner is the type of a field or a method, the function of a clause, or the clause or
 # field whose text says a definition.
 
@@ -17,6 +17,13 @@ function say_all(text, name) {
 FNR == 1 {
     owner = type = fn = ""
     is_source = FILENAME ~ /\.rt$/
+    is_script = FILENAME !~ /\.(rt|antt)$/
+}
+
+is_script {
+    if (match($0, /^[a-z_]+\(\) [{(]/)) say("def", substr($0, 1, index($0, "(") - 1), "")
+    else if (match($0, /^(def|function) [a-z_]+/)) say("def", substr($0, index($0, " ") + 1, RLENGTH - index($0, " ")), "")
+    next
 }
 
 # Definitions and lemmas: a name before a colon; one step in stand fields and cases too.
