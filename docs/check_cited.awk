@@ -66,8 +66,9 @@ function wrong(what) {
 function read_line(    i, row) {
     count_cut = split($0, cut, "`")
     row = /^\|/ ? row_crate() : ""
-    subject = holder = ""
+    subject = holder = folder = ""
     for (i = 2; i <= count_cut; i += 2) {
+        if (cut[i - 1] ~ /[|]/) folder = ""
         cited(cut[i], row)
         if (i > 2 && subject != "" && cut[i - 1] ~ /^(: |, )$/) {
             if (page !~ /^(PLANS|OPERATORS)/) pair(subject, cut[i])
@@ -137,12 +138,18 @@ function is_blank(text) {
     return text ~ /NAME|^[a-z][A-Z]$/ || ("/" text "/") ~ /[^A-Za-z][A-Z]+[^A-Za-z]/
 }
 
+# A file without a folder stands in the one named before it.
 function path_cited(text, row) {
     sub(/^(\.\.?\/)+/, "", text)
     sub(/\/$/, "", text)
     if (text ~ /^f[0-9]|^g[0-9]|\/out\//) return
     if (row != "" && text ~ /^(src|specs|proofs|must-fail)\// && !(("crates/" row "/" text) in there)) wrong("'" row "' has no file '" text "'")
     else if (!(text in there)) wrong("no file '" text "'")
+    else if (text !~ /\// && folder != "" && text ~ /\.(rt|antt)$/ && !((folder text) in there)) wrong("no file '" text "' in '" folder "'")
+    if (text ~ /\/.*\.(rt|antt)$/) {
+        folder = text
+        sub(/[^\/]*$/, "", folder)
+    }
 }
 
 function name_cited(text) {
