@@ -37,6 +37,7 @@ returns-clause-right c =
       available = c.changes_are_available.ensures.exact c.self.inside.plan (reverse c.self.inside.log.items) kept.runnable.few few kept.follows kept.honest kept.lawful kept.replied;
       rising = c.self.invariant.pacing.rising;
       within = c.self.invariant.pacing.within;
+      unlocked = c.works_leave_no_lock.ensures.exact c.self.inside.plan (reverse c.self.inside.log.items) kept.runnable.few few kept.honest kept.lawful;
     })
 
 pub returns-clause-sums : goal.returns-clause-sums
