@@ -5,3 +5,4 @@ pub mod Available
 pub mod WholeCopy
 pub mod Converged
 pub mod Reached
+pub mod Unlocked
