@@ -14,7 +14,7 @@ use Rattle.afr_model.specs.Locks.{locks_held}
 abbrev pub HoldsNone : List Line → ℕ → Type 0
 HoldsNone log a = (b : ℕ) (lock : HeldLock Area) → Contains (locks_held b log) lock → lock.owner.0 ≡ a → ⊥
 
--- who stands between two works, or in a round between two heals, holds no lock
+-- who stands between two works, or in a round right after its index or after a heal, holds no lock
 abbrev pub AreUnlocked : List Line → Type 0
 AreUnlocked log = (a : ℕ) → (place_of a log ≡ Within → ⊥) → HoldsNone log a
 
