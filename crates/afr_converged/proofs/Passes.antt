@@ -255,7 +255,7 @@ start_tail p start (b ∷ done) log (r, before) = subst (IsTail start) (sym r.la
 now : QuietRoundsAreWhole → (p : Plan) (log : Seq Line) → Sound p log → RoundsAreLow p → HasConverged p log
 now whole p log s low start bricks rounds all g what kind held of =
     let at_start = sound_then p start log (start_tail p start bricks log rounds) s in
-    converges p start g what kind at_start held of bricks log s all (passes p start g what kind at_start held of low bricks log s (whole p log s.small s.clients s.short s.follows s.honest s.lawful s.replied s.gives low) rounds).0
+    converges p start g what kind at_start held of bricks log s all (passes p start g what kind at_start held of low bricks log s (whole p log s.small s.clients s.short s.follows s.honest s.lawful s.replied low) rounds).0
 
 moments : QuietRoundsAreWhole → (p : Plan) (log : Seq Line) → Sound p log → RoundsAreLow p → EveryPrefix (HasConverged p) log
 moments whole p [] s low = now whole p [] s low
@@ -270,8 +270,8 @@ no_moment p [] none = no_brick p [] none
 no_moment p (line ∷ older) none = (no_brick p (line ∷ older) none, no_moment p older none)
 
 pub quiet_converge : QuietRoundsAreWhole → QuietRoundsConverge
-quiet_converge whole p log five clients short follows honest lawful replies gives low = by p.shape.n refl
+quiet_converge whole p log five clients short follows honest lawful replies low = by p.shape.n refl
   where
     by : (n : ℕ) → p.shape.n ≡ n → EveryPrefix (HasConverged p) log
-    by (suc n) many = moments whole p log (record { small = five; some = omega (arith, many); clients = clients; short = short; follows = follows; honest = honest; lawful = lawful; replied = replies; gives = gives }) low
+    by (suc n) many = moments whole p log (record { small = five; some = omega (arith, many); clients = clients; short = short; follows = follows; honest = honest; lawful = lawful; replied = replies }) low
     by zero none = no_moment p log none

@@ -193,5 +193,5 @@ lines_left p clients low (line ∷ older) q w = (go line q w.0, lines_left p cli
     go (Event event) q w = tt
 
 pub quiet_leave : QuietRoundsAreWhole → QuietRoundsLeave
-quiet_leave whole p log five clients short follows honest lawful replied gives low =
-    lines_left p clients low log (λ some. record { five = five; some = some; short = short; follows = follows; honest = honest; lawful = lawful; replied = replied }) (whole p log five clients short follows honest lawful replied gives low)
+quiet_leave whole p log five clients short follows honest lawful replied low =
+    lines_left p clients low log (λ some. record { five = five; some = some; short = short; follows = follows; honest = honest; lawful = lawful; replied = replied }) (whole p log five clients short follows honest lawful replied low)

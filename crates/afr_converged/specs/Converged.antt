@@ -31,7 +31,6 @@ use Rattle.afr_model.specs.Sums.{dirty_of, pending_of}
 use Rattle.afr_model.specs.Tables.{holds}
 use Rattle.afr_tables.specs.Clear.{IsClear}
 use Rattle.afr_quiet.specs.Undisturbed.{IsEverywhere}
-use Rattle.afr_quiet_lists.specs.Listed.{GivesHealLock}
 use Rattle.afr_quiet_rounds.specs.Whole.{RoundsAreLow}
 use Rattle.afr_law.specs.Exactly.{IsLawfulExactly}
 
@@ -69,7 +68,7 @@ IsQuietLeft p line older = Unit {0}
 abbrev pub QuietRoundsLeave : Type 0
 QuietRoundsLeave =
     (p : Plan) (log : List Line) → p.shape.n ≤ 5 → length p.clients ≤ 16 → length log ≤ 4000000
-    → Follows p log → Honest p log → IsLawfulExactly p log → Replied p log → EachLine GivesHealLock log → RoundsAreLow p → EachLine (IsQuietLeft p) log
+    → Follows p log → Honest p log → IsLawfulExactly p log → Replied p log → RoundsAreLow p → EachLine (IsQuietLeft p) log
 
 -- ---- round after round
 -- the log ends with an undisturbed round over brick b
@@ -118,4 +117,4 @@ HasConverged p log =
 abbrev pub QuietRoundsConverge : Type 0
 QuietRoundsConverge =
     (p : Plan) (log : List Line) → p.shape.n ≤ 5 → length p.clients ≤ 16 → length log ≤ 4000000
-    → Follows p log → Honest p log → IsLawfulExactly p log → Replied p log → EachLine GivesHealLock log → RoundsAreLow p → EveryPrefix (HasConverged p) log
+    → Follows p log → Honest p log → IsLawfulExactly p log → Replied p log → RoundsAreLow p → EveryPrefix (HasConverged p) log

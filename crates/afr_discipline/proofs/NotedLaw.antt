@@ -16,11 +16,12 @@ use Rattle.afr_lines.specs.declared.request.Request.TheVariants.{Lock, Unlock, L
 use Rattle.afr_moves.specs.Sets.{with, without}
 use Rattle.afr_moves.specs.Past.{is_gone}
 use Rattle.afr_moves.specs.Rules as weak
-use Rattle.afr_moves.specs.Rules.{area_object, is_area}
+use Rattle.afr_lines.specs.Overlap.{same_area}
+use Rattle.afr_moves.specs.Rules.{area_object, heal_area, is_area}
 use Rattle.afr_moves.specs.Note.{is_done}
 use Rattle.afr_discipline.specs.declared.register.Register.{Register}
 use Rattle.afr_discipline.specs.declared.register.Step.TheVariants.{Open, Looks}
-use Rattle.afr_discipline.specs.Notes.{anew, dropped, heal_locked, is_working, joined, locked, named, noted_law, published, released, second_in, second_left, stopped, taken, with_held}
+use Rattle.afr_discipline.specs.Notes.{anew, dropped, heal_left, heal_locked, is_working, joined, locked, named, noted_law, published, released, second_in, second_left, stopped, taken, with_held}
 use Rattle.afr_discipline.specs.Stands.{number_of, seen_as}
 use Rattle.afr_discipline.proofs.SetsOfFive.{with_added, without_removed}
 
@@ -143,10 +144,10 @@ heal_lock_law p l b area Granted =
 heal_lock_law p l b area _ = law_itself (record p { inside = true; object = record { 0 = area_object area } }) l
 
 -- ---- an area is given back
--- where the second area is still held
-second_left_is : (own : Bool) (b : ℕ) (s : List ℕ) → (if own then without (member s) b else member s) ≡ member (if own then removed b s else s)
-second_left_is true b s = without_removed b s
-second_left_is false b s = refl
+-- where an area is still held
+left_is : (own : Bool) (b : ℕ) (s : List ℕ) → (if own then without (member s) b else member s) ≡ member (if own then removed b s else s)
+left_is true b s = without_removed b s
+left_is false b s = refl
 
 -- the area that was given back is the first or the second
 released_by : (own : Bool) (p : Register) (l : weak.Register) (area : Area) (b : ℕ)
@@ -156,7 +157,7 @@ released_by true p l area b =
     let x : weak.Register = record l { closed = with l.closed b } in
     held_is p (law_of p x) (removed b p.held) (without (member p.held) b) (without_removed b p.held) (law_itself p x)
 released_by false p l area b =
-    second_held_is p (law_of p l) (second_left p area b) (weak.second_freed (law_of p l) area b) (second_left_is (is_area p.second area) b p.second_held) (law_itself p l)
+    second_held_is p (law_of p l) (second_left p area b) (weak.second_freed (law_of p l) area b) (left_is (is_area p.second area) b p.second_held) (law_itself p l)
 
 -- an unlock that was not carried out is the proof's own
 unlocked_by : (own : Bool) (p : Register) (l : weak.Register) (b : ℕ) → LawStands p (if own then record (law_of p l) { closed = with l.closed b } else law_of p l)
@@ -171,8 +172,8 @@ unlock_law p l b area _ = unlocked_by (is_area p.area area) p l b
 
 -- an unlock of a Heal lock and its answer
 heal_unlock_law : (p : Register) (l : weak.Register) (b : ℕ) (area : Area) (told : Told)
-    → LawStands (if is_done told then record p { healing = removed b p.healing } else p) (weak.note_ask p.shape.n (law_of p l) b (Unlock Heal area) told)
-heal_unlock_law p l b area Done = healing_is p (law_of p l) (removed b p.healing) (without (member p.healing) b) (without_removed b p.healing) (law_itself p l)
+    → LawStands (if is_done told then record p { healing = heal_left p area b } else p) (weak.note_ask p.shape.n (law_of p l) b (Unlock Heal area) told)
+heal_unlock_law p l b area Done = healing_is p (law_of p l) (heal_left p area b) (weak.heal_freed (law_of p l) area b) (left_is (same_area (heal_area p.object.0) area) b p.healing) (law_itself p l)
 heal_unlock_law p l b area _ = law_itself p l
 
 -- ---- a look

@@ -12,7 +12,7 @@ use Rattle.afr_lines.specs.declared.request.Request.{Request}
 use Rattle.afr_lines.specs.declared.request.Request.TheVariants.{Lock, Unlock, Look, ReadBytes, List as ListNames, ReadAttrs, Pre, Apply, Post, Mend, Settle}
 use Rattle.afr_lines.specs.Overlap.{same_area}
 use Rattle.afr_moves.specs.Past.{is_gone}
-use Rattle.afr_moves.specs.Rules.{area_object, busy, is_area}
+use Rattle.afr_moves.specs.Rules.{area_object, busy, heal_area, is_area}
 use Rattle.afr_moves.specs.Note.{answers, fails, given, is_done, is_failed, is_given, is_granted, is_held, stops_at, view_of}
 use Rattle.afr_moves.specs.Register as exact
 use Rattle.afr_moves.specs.Register.{is_on, is_opening, is_piece, rank, same_step, span, whole_area}
@@ -72,12 +72,16 @@ second_left p area b = if is_area p.second area then removed b p.second_held els
 abbrev pub released : Register → Area → ℕ → Register
 released p area b = if is_area p.area area then record p { held = removed b p.held } else record p { second_held = second_left p area b }
 
+-- where the Heal lock is still held once an area of its domain was given back at brick b
+abbrev pub heal_left : Register → Area → ℕ → List ℕ
+heal_left p area b = if same_area (heal_area p.object.0) area then removed b p.healing else p.healing
+
 -- what the law's register keeps of a request and its answer
 abbrev pub noted_law : Register → ℕ → Request → Told → Register
 noted_law p b (Lock Work area) told = locked p area b told
 noted_law p b (Lock Heal area) told = heal_locked p area b told
 noted_law p b (Unlock Work area) told = if is_done told then released p area b else p
-noted_law p b (Unlock Heal area) told = if is_done told then record p { healing = removed b p.healing } else p
+noted_law p b (Unlock Heal area) told = if is_done told then record p { healing = heal_left p area b } else p
 noted_law p b (Pre g kind) told = record p { pre = added_if (is_done told) b p.pre }
 noted_law p b (Apply q) told = record p { done = added_if (is_done told) b p.done }
 noted_law p b (Post q g kind missed) told = record p { post = added_if (is_done told) b p.post }

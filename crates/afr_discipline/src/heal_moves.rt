@@ -52,7 +52,7 @@ fn piece(g: Gfid, at: u32) -> Area
     }
 }
 
-fn heal_range(g: Gfid) -> Area
+pub(crate) fn heal_range(g: Gfid) -> Area
     ensures { result ≡ heal_area g.0 }
 {
     Area::Range {

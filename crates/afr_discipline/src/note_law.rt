@@ -1,9 +1,10 @@
 //! The locks, the numbers' requests and the area that a request and its answer leave in a register.
 ghost use Rattle.std.specs.Prelude.{◌≡◌, ◌<◌, ◌≤◌};
-ghost use Rattle.afr_discipline.specs.Notes.{anew, dropped, heal_locked, locked, named, noted_law, released, second_in, second_left, taken, with_held};
+ghost use Rattle.afr_discipline.specs.Notes.{anew, dropped, heal_left, heal_locked, locked, named, noted_law, released, second_in, second_left, taken, with_held};
 
 use crate::answers::{is_done, is_granted};
-use crate::areas::{is_the_area, object_of};
+use crate::areas::{is_same_area, is_the_area, object_of};
+use crate::heal_moves::heal_range;
 use crate::outside::is_busy;
 use crate::register::Register;
 use afr_base::{BrickId, BrickSet};
@@ -115,6 +116,18 @@ fn released(register: &mut Register, area: Area, b: BrickId)
     }
 }
 
+/// Only an unlock of its own area gives the Heal lock back.
+fn heal_left(register: &Register, area: Area, b: BrickId) -> BrickSet
+    requires { b.0 < 5 }
+    ensures { result ≡ heal_left register.now area b.0 }
+{
+    if is_same_area(heal_range(register.object), area) {
+        register.healing.without(b)
+    } else {
+        register.healing
+    }
+}
+
 fn noted_lock(register: &mut Register, b: BrickId, domain: Domain, area: Area, told: &Told)
     requires few { register.old.shape.n ≤ 5 }
     requires small { b.0 < 5 }
@@ -136,7 +149,7 @@ fn noted_unlock(register: &mut Register, b: BrickId, domain: Domain, area: Area,
     }
     match domain {
         Domain::Work => released(register, area, b),
-        Domain::Heal => register.healing = register.healing.without(b),
+        Domain::Heal => register.healing = heal_left(register, area, b),
     }
 }
 

@@ -16,6 +16,7 @@ use Rattle.afr_heal.specs.Requests.{request_in}
 use Rattle.afr_heal.specs.Standing.{AfterLooks, Ending, Going, Standing}
 use Rattle.afr_lines.specs.declared.request.Area.{Area}
 use Rattle.afr_lines.specs.declared.request.Request.TheVariants.{Unlock}
+use Rattle.afr_moves.proofs.AreaLemmas.{heal_freed_own}
 use Rattle.afr_moves.specs.Register.{Exact, HealUnlocks, Mends, Settles, Unlocks, asked_in, is_piece, rank, span}
 use Rattle.afr_moves.specs.Rules.{Register, heal_area, is_area}
 use Rattle.afr_moves.specs.Sets.{with, without}
@@ -127,8 +128,9 @@ module _ (n : ℕ) (keeps : ℕ → Kind → Bool) (few : n ≤ 5) (q : Exact) (
     -- the Heal locks are given back
     pub heals_kept : settles_over n keeps r s ≡ true → passed n keeps r s Unlocks ≡ true → has_part kind q.phase ≡ false → (b : ℕ) → b < n → turn n keeps r s HealUnlocks b ≡ true → Keeps n keeps pick r s g kind (Ask b (request_in n keeps r s g kind HealUnlocks b))
     heals_kept o u last b l t at told_of.Done f =
-        Going (given_after (with (asked_in r HealUnlocks) b) (λ x. r.possible x && may_heal n keeps r x b (Unlock Heal (heal_area g.0))) (without r.law.healing b) o u last
-        (may_still n keeps few q s g kind area k b (Unlock Heal (heal_area g.0)) (may_heals n keeps r s g kind few k o u last b l t)) (λ x h. off (r.possible x) _ h) lost_now)
+        subst (λ (healing : ℕ → Bool). Standing n keeps (record r { step = HealUnlocks; asked = with (asked_in r HealUnlocks) b; possible = λ x. r.possible x && may_heal n keeps r x b (Unlock Heal (heal_area g.0)); broken = false; law = record r.law { healing = healing } }) s g kind) (sym (heal_freed_own r.law b))
+        (Going (given_after (with (asked_in r HealUnlocks) b) (λ x. r.possible x && may_heal n keeps r x b (Unlock Heal (heal_area g.0))) (without r.law.healing b) o u last
+        (may_still n keeps few q s g kind area k b (Unlock Heal (heal_area g.0)) (may_heals n keeps r s g kind few k o u last b l t)) (λ x h. off (r.possible x) _ h) lost_now))
       where
         lost_now : (x : ℕ) → x < n → with (asked_in r HealUnlocks) b x ≡ true → without r.law.healing b x ≡ false
         lost_now x lx = here (x == b)

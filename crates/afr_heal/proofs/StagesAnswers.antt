@@ -186,7 +186,7 @@ module _ (n : ℕ) (keeps : ℕ → Kind → Bool) (q : Exact) (g : Gfid) (kind 
   pub unlock_failed : asked_for n keeps going t b (Unlock Work area) told_of.Failed ≡ record (stepped going Unlocks (asked_in going Unlocks) (still n keeps going b (Unlock Work area)) (record going.law { closed = with q.law.closed b })) { upto = upto_then }
   unlock_failed = ap (λ (law : Register). record (stepped going Unlocks (asked_in going Unlocks) (still n keeps going b (Unlock Work area)) law) { upto = upto_then }) (unlocked_own n going.law area b refl)
 
-  pub given_done : (of : Area) → asked_for n keeps going t b (Unlock Heal of) told_of.Done ≡ stepped going HealUnlocks (with (asked_in going HealUnlocks) b) (still n keeps going b (Unlock Heal of)) (record going.law { healing = without q.law.healing b })
+  pub given_done : (of : Area) → asked_for n keeps going t b (Unlock Heal of) told_of.Done ≡ stepped going HealUnlocks (with (asked_in going HealUnlocks) b) (still n keeps going b (Unlock Heal of)) (record going.law { healing = weak.heal_freed going.law of b })
   given_done of = refl
 
   pub given_failed : (of : Area) → asked_for n keeps going t b (Unlock Heal of) told_of.Failed ≡ stepped going HealUnlocks (asked_in going HealUnlocks) (still n keeps going b (Unlock Heal of)) going.law

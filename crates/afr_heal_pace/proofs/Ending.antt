@@ -11,6 +11,7 @@ use Rattle.afr_heal.specs.Requests.{area_now, area_or}
 use Rattle.afr_lines.specs.declared.answer.Told.TheVariants as told_of
 use Rattle.afr_lines.specs.declared.request.Area.{Area}
 use Rattle.afr_lines.specs.declared.request.Request.TheVariants.{Unlock}
+use Rattle.afr_moves.proofs.AreaLemmas.{heal_freed_own}
 use Rattle.afr_moves.specs.Register.{Exact, whole_area}
 use Rattle.afr_moves.specs.Rules as weak
 use Rattle.afr_moves.specs.Rules.{Register, heal_area, is_area}
@@ -91,7 +92,10 @@ module _ (n : ℕ) where
     works_near b l h st at _ f = absurd (cc f)
 
     heals_near : (b : ℕ) → b < n → q.law.healing b ≡ true → Nears n keeps pick some r s g kind (Ask b (Unlock Heal (heal_area g.0)))
-    heals_near b l h st at told_of.Done f = (let d = falls q.law.healing b l h in omega (arith, d))
+    heals_near b l h st at told_of.Done f =
+        let c = same (weak.heal_freed r.law (heal_area g.0) b) (without q.law.healing b) (heal_freed_own r.law b) in
+        let d = falls q.law.healing b l h in
+        omega (arith, c, d)
     heals_near b l h st at told_of.Failed f = omega arith
     heals_near b l h st at told_of.NotConnected f = (let d = falls q.law.healing b l h in let e = less q.law.held b in omega (arith, d, e))
     heals_near b l h st at _ f = absurd (cc f)

@@ -18,6 +18,7 @@ use Rattle.afr_lines.specs.declared.answer.Told.TheVariants as told_of
 use Rattle.afr_lines.specs.declared.request.Area.{Area}
 use Rattle.afr_lines.specs.declared.request.Request.{Request}
 use Rattle.afr_lines.specs.declared.request.Request.TheVariants.{Lock, Unlock}
+use Rattle.afr_moves.proofs.AreaLemmas.{heal_freed_own}
 use Rattle.afr_moves.specs.Note.{next_phase}
 use Rattle.afr_moves.specs.Register.{Exact, Finish, HealPres, HealUnlocks, Mends, Phase, Piece, Reads, Settles, Unlocks, WorkLocks, asked_in, is_opening, is_piece, len_of, piece_area, rank, same_step, span, whole_area}
 use Rattle.afr_moves.specs.Rules as weak
@@ -131,10 +132,11 @@ module _ (n : ℕ) (keeps : ℕ → Kind → Bool) (pick : (ℕ → Bool) → �
 
   pub near_heals : has_part kind q.phase ≡ false → turn n keeps r s HealUnlocks b ≡ true → (told : Told) → fits (Unlock Heal (heal_area g.0)) told ≡ true → NearsHere (Unlock Heal (heal_area g.0)) told
   near_heals last t told_of.Done f =
-      let h = given_most last (with (asked_in r HealUnlocks) b) (λ x. r.possible x && may_heal n keeps r x b (Unlock Heal (heal_area g.0))) (without r.law.healing b) in
+      subst (λ (healing : ℕ → Bool). lines_left n keeps (given_at (with (asked_in r HealUnlocks) b) (λ x. r.possible x && may_heal n keeps r x b (Unlock Heal (heal_area g.0))) healing) s kind + 1 ≤ lines_left n keeps r s kind) (sym (heal_freed_own r.law b))
+      (let h = given_most last (with (asked_in r HealUnlocks) b) (λ x. r.possible x && may_heal n keeps r x b (Unlock Heal (heal_area g.0))) (without r.law.healing b) in
       let j = held_falls n q.law.healing b l (turn_set n keeps r s HealUnlocks b t) in
       let e = all_left in
-      omega (arith, h, j, e)
+      omega (arith, h, j, e))
   near_heals last t told_of.Failed f =
       let h = given_most last (asked_in r HealUnlocks) (λ x. r.possible x && may_heal n keeps r x b (Unlock Heal (heal_area g.0))) r.law.healing in
       let e = all_left in

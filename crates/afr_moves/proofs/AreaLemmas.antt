@@ -1,13 +1,14 @@
--- Areas that a test calls the same are the same.
+-- Areas that a test calls the same are the same, and what an unlock of the Heal domain frees.
 use Rattle.afr_moves.specs.Lines.{range_of, name_of}
 use Rattle.afr_lines.specs.Overlap.{same_area}
-use Rattle.std.proofs.Common.{◌≡◌, ℕ, Bool, true, false, ◌&&◌, ap, arith}
+use Rattle.std.proofs.Common.{◌≡◌, ℕ, Bool, true, false, ◌&&◌, if◌then◌else◌, refl, ap, arith}
 use Rattle.std.specs.Prelude.{Option, None, Some, ◌==◌}
 use Rattle.afr_lines.specs.declared.request.Area.{Area}
 use Rattle.afr_lines.specs.declared.request.Area.TheVariants.{Range, Name}
-use Rattle.afr_moves.specs.Rules.{is_area}
+use Rattle.afr_moves.specs.Rules.{Register, heal_area, heal_freed, is_area}
+use Rattle.afr_moves.specs.Sets.{without}
 use Rattle.std.proofs.lemmas.Bool.{eqb-true, and_parts}
-use Rattle.afr_moves.proofs.Tests.{three_parts}
+use Rattle.afr_moves.proofs.Tests.{same_self, three_parts, without_in}
 
 pub same_area_is : (a b : Area) → same_area a b ≡ true → a ≡ b
 same_area_is (Range g from to) (Range h start stop) e = three g.0 h.0 from start to stop (three_parts (g.0 == h.0) (from == start) (to == stop) e)
@@ -38,3 +39,24 @@ same_area_is (Name g (Some n)) (Name h None) e = absurd (no_and (g.0 == h.0) e)
 pub is_area_is : (of : Option Area) (area : Area) → is_area of area ≡ true → of ≡ Some area
 is_area_is None area e = absurd (cc e)
 is_area_is (Some mine) area e = ap (λ (o : Area). Some o) (same_area_is mine area e)
+
+pub same_area_self : (area : Area) → same_area area area ≡ true
+same_area_self (Range g from to) = rw (same_self g.0, same_self from, same_self to) refl
+same_area_self (Name g None) = rw (same_self g.0) refl
+same_area_self (Name g (Some name)) = rw (same_self g.0, same_self name.0) refl
+
+-- an unlock of the Heal lock's own area frees it
+pub heal_freed_own : (r : Register) (b : ℕ) → heal_freed r (heal_area r.object) b ≡ without r.healing b
+heal_freed_own r b = go (same_area (heal_area r.object) (heal_area r.object)) (same_area_self (heal_area r.object))
+  where
+    go : (own : Bool) → own ≡ true → (if own then without r.healing b else r.healing) ≡ without r.healing b
+    go true e = refl
+    go false e = absurd (cc e)
+
+-- no unlock gets one
+pub heal_freed_in : (r : Register) (area : Area) (b x : ℕ) → heal_freed r area b x ≡ true → r.healing x ≡ true
+heal_freed_in r area b x = go (same_area (heal_area r.object) area)
+  where
+    go : (own : Bool) → (if own then without r.healing b else r.healing) x ≡ true → r.healing x ≡ true
+    go true h = without_in r.healing b x h
+    go false h = h

@@ -157,6 +157,14 @@ healing_on r area = record r { heal = true; object = area_object area }
 abbrev pub mend_cells : (ℕ → Cell → ℕ) → ℕ → ℕ → Repair → ℕ → Cell → ℕ
 mend_cells cells number b repair c cell = if (c == b) && mends repair cell then number else cells c cell
 
+-- the Heal lock is always the same range of the object
+abbrev pub heal_area : ℕ → Area
+heal_area g = range_of g 0 (2 ^ 63)
+
+-- where the Heal lock is still held once this area of its domain was given back at b
+abbrev pub heal_freed : Register → Area → ℕ → ℕ → Bool
+heal_freed r area b = if same_area (heal_area r.object) area then without r.healing b else r.healing
+
 -- what a request and its answer leave in the register
 abbrev pub note_ask : ℕ → Register → ℕ → Request → Told → Register
 note_ask n r b (Lock Work area) Granted = granting n r area b
@@ -165,7 +173,7 @@ note_ask n r b (Lock Heal area) Granted = record r { heal = true; object = area_
 note_ask n r b (Lock Heal area) told = record r { heal = true; object = area_object area }
 note_ask n r b (Unlock Work area) Done = released r area b
 note_ask n r b (Unlock Work area) told = unlocked r area b
-note_ask n r b (Unlock Heal area) Done = record r { healing = without r.healing b }
+note_ask n r b (Unlock Heal area) Done = record r { healing = heal_freed r area b }
 note_ask n r b (Look g) (Seen view) = looking r b g.0 view
 note_ask n r b (Pre g kind) Done = record r { pre = with r.pre b; raised = with r.raised b }
 note_ask n r b (Apply q) Done = record r { done = with r.done b }
@@ -296,10 +304,6 @@ pub record MayPre (log : Log) (t a : ℕ) (r : Register) (b g : ℕ) (kind : Kin
   pub plane : (q : ℕ) → r.heal ≡ false → r.number ≡ suc q → PlaneIs (log q) g kind
   pub within : r.heal ≡ true → MayRaise log t a r b g kind
   pub fit : (q : ℕ) → r.heal ≡ false → r.number ≡ suc q → FitAt log q a b
-
--- the Heal lock is always the same range of the object
-abbrev pub heal_area : ℕ → Area
-heal_area g = range_of g 0 (2 ^ 63)
 
 -- a Heal lock of an object comes before the heal's first HealBegin, first or after others of this heal
 pub record MayHealLock (first : Bool) (r : Register) (area : Area) : Type 0 where

@@ -6,3 +6,4 @@ pub mod WholeCopy
 pub mod Converged
 pub mod Reached
 pub mod Rolling
+pub mod Unlocked

@@ -1,2 +1,2 @@
-//! Samples of logs that keep the laws of durability, misses and availability, and of logs that come near.
+//! Samples of logs that keep the laws of durability, misses, availability and locks, and of logs that come near.
 #![tactic(auto)]

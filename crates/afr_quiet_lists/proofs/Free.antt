@@ -35,7 +35,7 @@ use Rattle.afr_law.specs.Beginning.{start_of}
 use Rattle.afr_law.specs.Exactly.{name_bound}
 use Rattle.afr_law.proofs.Model.Alive.{killed_apart}
 use Rattle.afr_law.proofs.Model.Tasks.{turn_of}
-use Rattle.afr_quiet_lists.proofs.Cuts.{cut_of, fair}
+use Rattle.afr_quiet_lists.proofs.Cuts.{cut_of}
 use Rattle.afr_quiet_lists.proofs.Lone.{lone}
 use Rattle.afr_quiet_lists.proofs.Premises.{Sound, sound_before, sound_exactly, sound_honest}
 use Rattle.afr_quiet_lists.proofs.Runs.{AreMine, work_more}
@@ -118,7 +118,7 @@ module _ (p : Plan) (a : ℕ) (ls base : List Line) (mine : AreMine a ls) (alone
       let live : joined L (length (ls ++ base)) x b ≡ true = held_joined (start_of p (name_bound p)) (fault_in p.faults) L honest (length (ls ++ base)) x b q Heal area grant k in
       elim (alone x actor apart) [
         | inl dead ↦ true≢false (sym (sym (joined_is L p x b (below_all p.shape.n b s.small low) (ls ++ base) whole.1) ∙ live) ∙ killed_apart p x b (ls ++ base) before.follows (still_killed x ls base dead))
-        | inr rests ↦ (let l = lone p.shape.n (start_of p (name_bound p)) (fault_in p.faults) L honest (sound_exactly p (line ∷ (ls ++ base)) s).moves (fair p (line ∷ (ls ++ base)) s) (length (ls ++ base)) x in
+        | inr rests ↦ (let l = lone p.shape.n (start_of p (name_bound p)) (fault_in p.faults) L honest (sound_exactly p (line ∷ (ls ++ base)) s).moves (length (ls ++ base)) x in
             let at : place L (length (ls ++ base)) x ≡ Fresh = place_is L x (ls ++ base) whole.1 ∙ place_kept a x ls base mine apart ∙ rests_fresh x base rests in
             let w = l.locks b q area grant k in
             true≢false (sym w.healing ∙ l.rest (λ e. cc (at, e)) b w.below))

@@ -181,5 +181,5 @@ each_round p (line ∷ older) s = (of_line line s, each_round p older (sound_bef
 
 -- the law
 pub quiet_listed : QuietRoundsAreListed
-quiet_listed p log small some clients short follows honest lawful replied gives =
-    each_round p log (record { small = small; some = some; clients = clients; short = short; follows = follows; honest = honest; lawful = lawful; replied = replied; gives = gives })
+quiet_listed p log small some clients short follows honest lawful replied =
+    each_round p log (record { small = small; some = some; clients = clients; short = short; follows = follows; honest = honest; lawful = lawful; replied = replied })

@@ -14,7 +14,6 @@ pub mod Spread
 pub mod Held
 pub mod Aside
 pub mod Tasks
-pub mod Owns
 pub mod Lone
 pub mod Cuts
 pub mod Free

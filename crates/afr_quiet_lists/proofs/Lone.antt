@@ -24,7 +24,7 @@ use Rattle.afr_moves.specs.Past.{Beginning, Log, ends, held, is_gone, is_of, joi
 use Rattle.afr_moves.specs.Register.{Exact}
 use Rattle.afr_moves.specs.Rules as weak
 use Rattle.afr_moves.specs.Rules.{Register, area_object, heal_area}
-use Rattle.afr_moves.specs.Sets.{any}
+use Rattle.afr_moves.specs.Sets.{any, without}
 use Rattle.afr_law.proofs.Discipline.Asks.{IsHealLock}
 use Rattle.afr_law.proofs.Discipline.Projection.{same_actor}
 use Rattle.afr_law.proofs.Heals.Conditions.{heal_lock_area}
@@ -40,9 +40,6 @@ none_at n set none b low = go (set b) refl
     go : (x : Bool) → set b ≡ x → set b ≡ false
     go true e = absurd (true≢false (sym (some_no n set b low e) ∙ none))
     go false e = e
-
-same_heal_area : (g : ℕ) → same_area (heal_area g) (heal_area g) ≡ true
-same_heal_area g = rw (same_self g) refl
 
 -- ---- the register has each Heal lock that is held
 pub record Has (n : ℕ) (w : Register) (b : ℕ) (area : Area) : Type 0 where
@@ -71,15 +68,20 @@ module _ (n : ℕ) (keeps : ℕ → Kind → Bool) (r : Exact) (a b : ℕ) (area
   locks y e Granted is = record { below = h.below; healing = with_more r.law.healing y b h.healing; object = h.object ∙ ap heal_area (sym (ap area_object is)); inside = refl }
   locks y e told is = record { below = h.below; healing = h.healing; object = h.object ∙ ap heal_area (sym (ap area_object is)); inside = refl }
 
-  frees_it : (y : ℕ) (e : Area) (took : Bool) → e ≡ heal_area r.law.object → took ≡ true → unlocks a b Heal area (Some (ask_by a y (Unlock Heal e) Done took)) ≡ false → b ≡ y → ⊥
-  frees_it y e took is done still same = true≢false (sym whole ∙ still)
+  -- an unlock of its area takes it from the brick too
+  frees_it : (y : ℕ) (e : Area) (took : Bool) → same_area (heal_area r.law.object) e ≡ true → took ≡ true → unlocks a b Heal area (Some (ask_by a y (Unlock Heal e) Done took)) ≡ false → b ≡ y → ⊥
+  frees_it y e took own done still same = true≢false (sym whole ∙ still)
     where
       whole : (same_area area e && (a == a) && (y == b) && took) ≡ true
-      whole = all_four (same_area area e) (a == a) (y == b) took ((λ i. same_area (h.object i) (is i)) ∙ same_heal_area r.law.object) (same_self a) (subst (λ (x : ℕ). (x == b) ≡ true) same (same_self b)) done
+      whole = all_four (same_area area e) (a == a) (y == b) took (ap (λ (of : Area). same_area of e) h.object ∙ own) (same_self a) (subst (λ (x : ℕ). (x == b) ≡ true) same (same_self b)) done
 
-  gives : (y : ℕ) (e : Area) (told : Told) (took : Bool) → e ≡ heal_area r.law.object → (told ≡ Done → took ≡ true) → unlocks a b Heal area (Some (ask_by a y (Unlock Heal e) told took)) ≡ false → Has n (weak.note_ask n r.law y (Unlock Heal e) told) b area
-  gives y e Done took is done still = record { below = h.below; healing = without_other r.law.healing y b (frees_it y e took is (done refl) still) h.healing; object = h.object; inside = h.inside }
-  gives y e told took is done still = h
+  gives : (y : ℕ) (e : Area) (told : Told) (took : Bool) → (told ≡ Done → took ≡ true) → unlocks a b Heal area (Some (ask_by a y (Unlock Heal e) told took)) ≡ false → Has n (weak.note_ask n r.law y (Unlock Heal e) told) b area
+  gives y e Done took done still = record { below = h.below; healing = freed (same_area (heal_area r.law.object) e) refl; object = h.object; inside = h.inside }
+    where
+      freed : (own : Bool) → same_area (heal_area r.law.object) e ≡ own → (if own then without r.law.healing y else r.law.healing) b ≡ true
+      freed true f = without_other r.law.healing y b (frees_it y e took f (done refl) still) h.healing
+      freed false f = h.healing
+  gives y e told took done still = h
 
   others : (y : ℕ) (request : Request) (told : Told) → (IsHealLock request → ⊥) → (IsHealUnlock request → ⊥) → Has n (weak.note_ask n r.law y request told) b area
   others y request told free kept =
@@ -87,24 +89,20 @@ module _ (n : ℕ) (keeps : ℕ → Kind → Bool) (r : Exact) (a b : ℕ) (area
       has_same n r.law (weak.note_ask n r.law y request told) b area k.heal k.object (ap (λ (set : ℕ → Bool). set b) (k.healing kept) ∙ h.healing) h
 
   -- a request of the actor leaves what is held
-  asks : (y : ℕ) (request : Request) (told : Told) (took : Bool) → MayAskExactly n keeps r y request → ((e : Area) → request ≡ Unlock Heal e → e ≡ heal_area r.law.object) → (told ≡ Done → took ≡ true) → unlocks a b Heal area (Some (ask_by a y request told took)) ≡ false
+  asks : (y : ℕ) (request : Request) (told : Told) (took : Bool) → MayAskExactly n keeps r y request → (told ≡ Done → took ≡ true) → unlocks a b Heal area (Some (ask_by a y request told took)) ≡ false
       → Has n (weak.note_ask n r.law y request told) b area
-  asks y (Lock Heal e) told took may fair done still = locks y e told (lock_area y e (in_heal y (Lock Heal e) may))
-  asks y (Unlock Heal e) told took may fair done still = gives y e told took (fair e refl) done still
-  asks y (Lock Work e) told took may fair done still = others y (Lock Work e) told (λ k. k) (λ k. k)
-  asks y (Unlock Work e) told took may fair done still = others y (Unlock Work e) told (λ k. k) (λ k. k)
-  asks y request told took may fair done still = others y request told (λ k. k) (λ k. k)
+  asks y (Lock Heal e) told took may done still = locks y e told (lock_area y e (in_heal y (Lock Heal e) may))
+  asks y (Unlock Heal e) told took may done still = gives y e told took done still
+  asks y (Lock Work e) told took may done still = others y (Lock Work e) told (λ k. k) (λ k. k)
+  asks y (Unlock Work e) told took may done still = others y (Unlock Work e) told (λ k. k) (λ k. k)
+  asks y request told took may done still = others y request told (λ k. k) (λ k. k)
 
 -- ---- along the lines
 pub record Lone (n : ℕ) (log : Log) (t a : ℕ) (r : Exact) (at : Place) : Type 0 where
   pub locks : (b q : ℕ) (area : Area) → Grant log q a b Heal area → held log t b q ≡ true → Has n r.law b area
   pub rest : (at ≡ Within → ⊥) → (b : ℕ) → b < n → r.law.healing b ≡ false
 
--- an unlock of a broken heal is of its object
-abbrev pub FairLog : ℕ → (ℕ → Kind → Bool) → Log → Type 0
-FairLog n keeps log = (t a b : ℕ) (e : Area) (told : Told) (took : Bool) → log t ≡ Some (ask_by a b (Unlock Heal e) told took) → (present n keeps log t a).law.heal ≡ true → e ≡ heal_area (present n keeps log t a).law.object
-
-module _ (n : ℕ) (files : Beginning) (faults : ℕ → ℕ → Option Fault) (log : Log) (honest : Honest files faults log) (moves : MovesExactly n files.keeps log) (fair : FairLog n files.keeps log) where
+module _ (n : ℕ) (files : Beginning) (faults : ℕ → ℕ → Option Fault) (log : Log) (honest : Honest files faults log) (moves : MovesExactly n files.keeps log) where
   -- the lock that a line gets
   new_lock : (t a b : ℕ) (area : Area) (r : Exact) → Grant log t a b Heal area → MayExactly n files.keeps (λ x. r) (log t) → Has n (note n files.keeps r t (log t)).law b area
   new_lock t a b area r grant may = subst (λ (l : Option Line). Has n (note n files.keeps r t l).law b area) (sym grant.is) (record { below = here.0; healing = with_self r.law.healing b; object = of_object here.1; inside = refl })
@@ -147,28 +145,25 @@ module _ (n : ℕ) (files : Beginning) (faults : ℕ → ℕ → Option Fault) (
       go true e = (let w = h.locks b q area grant k in absurd (true≢false (sym w.healing ∙ h.rest (opens_out at (log t) e) b w.below)))
 
   -- a line of the actor
-  own : (t a : ℕ) (r : Exact) (line : Option Line) → log t ≡ line → is_of a line ≡ true → r ≡ present n files.keeps log t a → MayExactly n files.keeps (λ x. r) line
+  own : (t a : ℕ) (r : Exact) (line : Option Line) → log t ≡ line → is_of a line ≡ true → MayExactly n files.keeps (λ x. r) line
       → (b q : ℕ) (area : Area) → Grant log q a b Heal area → q < t → held log t b q ≡ true → ends a b (log t) ≡ false → unlocks a b Heal area (log t) ≡ false → Has n r.law b area → Has n (note n files.keeps r t line).law b area
-  own t a r None is mine force may b q area grant past k lasts still h = absurd (true≢false (sym mine))
-  own t a r (Some (Ask x y request told took)) is mine force may b q area grant past k lasts still h =
+  own t a r None is mine may b q area grant past k lasts still h = absurd (true≢false (sym mine))
+  own t a r (Some (Ask x y request told took)) is mine may b q area grant past k lasts still h =
       let here : log t ≡ Some (ask_by a y.0 request told took) = is ∙ ap (λ (z : ℕ). Some (ask_by z y.0 request told took)) (eqb-true x.0 a mine) in
       has_dropped n (weak.note_ask n r.law y.0 request told) b y.0 (is_gone told) area
       (gone_apart files faults log honest t a b y.0 request told took here (held_joined files faults log honest t a b q Heal area grant k) lasts)
-      (asks n files.keeps r a b area h y.0 request told took may.1
-      (λ e what. (let at : log t ≡ Some (ask_by a y.0 (Unlock Heal e) told took) = here ∙ ap (λ (z : Request). Some (ask_by a y.0 z told took)) what in
-      fair t a y.0 e told took at (ap (λ (z : Exact). z.law.heal) (sym force) ∙ h.inside) ∙ ap (λ (z : Exact). heal_area z.law.object) (sym force)))
-      (λ e. done t a y.0 request told took here e) (subst (λ (l : Option Line). unlocks a b Heal area l ≡ false) here still))
+      (asks n files.keeps r a b area h y.0 request told took may.1 (λ e. done t a y.0 request told took here e) (subst (λ (l : Option Line). unlocks a b Heal area l ≡ false) here still))
     where
       done : (t a y : ℕ) (request : Request) (told : Told) (took : Bool) → log t ≡ Some (ask_by a y request told took) → told ≡ Done → took ≡ true
       done t a y request told took at e = (
           let done_line : log t ≡ Some (ask_by a y request Done took) = at ∙ ap (λ (d : Told). Some (ask_by a y request d took)) e in
           done_took files log t a y request took (joined log t a y || opening log t a y) (faults y (suc (asked log t y))) (honest_at files faults log honest t a y request Done took done_line)
           )
-  own t a r (Some (Begin x change)) is mine force may b q area grant past k lasts still h = has_same n r.law (note n files.keeps r t (Some (Begin x change))).law b area refl refl h.healing h
-  own t a r (Some (HealBegin x g kind)) is mine force may b q area grant past k lasts still h = has_same n r.law (note n files.keeps r t (Some (HealBegin x g kind))).law b area refl refl h.healing h
-  own t a r (Some (HealEnd x g kind said)) is mine force may b q area grant past k lasts still h = absurd (true≢false (sym h.healing ∙ none_at n r.law.healing may.healed b h.below))
-  own t a r (Some (End x said)) is mine force may b q area grant past k lasts still h = h
-  own t a r (Some (Event e)) is mine force may b q area grant past k lasts still h = absurd (true≢false (sym mine))
+  own t a r (Some (Begin x change)) is mine may b q area grant past k lasts still h = has_same n r.law (note n files.keeps r t (Some (Begin x change))).law b area refl refl h.healing h
+  own t a r (Some (HealBegin x g kind)) is mine may b q area grant past k lasts still h = has_same n r.law (note n files.keeps r t (Some (HealBegin x g kind))).law b area refl refl h.healing h
+  own t a r (Some (HealEnd x g kind said)) is mine may b q area grant past k lasts still h = absurd (true≢false (sym h.healing ∙ none_at n r.law.healing may.healed b h.below))
+  own t a r (Some (End x said)) is mine may b q area grant past k lasts still h = h
+  own t a r (Some (Event e)) is mine may b q area grant past k lasts still h = absurd (true≢false (sym mine))
 
   own_rest : (t a : ℕ) (e : Exact) (at : Place) (line : Option Line) → is_of a line ≡ true → MayExactly n files.keeps (λ x. in_force (opens at line) e) line → (place_after true at line ≡ Within → ⊥) → (b : ℕ) → b < n → (note n files.keeps (in_force (opens at line) e) t line).law.healing b ≡ false
   own_rest t a e at None mine may out b low = absurd (true≢false (sym mine))
@@ -197,7 +192,7 @@ module _ (n : ℕ) (files : Beginning) (faults : ℕ → ℕ → Option Fault) (
         locks = λ b q area grant h. elim (step_of log t b q h) [
           | inl same ↦ new_lock t a b area (present n files.keeps log t a) (record { took = grant.took; is = ap log (sym same) ∙ grant.is }) may
           | inr w ↦ (let f = kept_freed files faults log honest t a b q Heal area grant (held_past log t b q w.0) w.1 in
-              own t a (present n files.keeps log t a) (log t) refl e refl may b q area grant (held_past log t b q w.0) w.0 f.0 f.1 (force_locks t a (exact n files.keeps log t a) (place log t a) ih b q area grant w.0))
+              own t a (present n files.keeps log t a) (log t) refl e may b q area grant (held_past log t b q w.0) w.0 f.0 f.1 (force_locks t a (exact n files.keeps log t a) (place log t a) ih b q area grant w.0))
         ];
         rest = own_rest t a (exact n files.keeps log t a) (place log t a) (log t) e may;
       }

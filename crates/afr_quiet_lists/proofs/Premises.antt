@@ -17,7 +17,6 @@ use Rattle.afr_law.proofs.Model.Discipline.{exactly_below}
 use Rattle.afr_law.proofs.Model.Fits.{fits_sums}
 use Rattle.afr_law.proofs.Model.Settles.{all_honest, take_within, within_before}
 use Rattle.afr_law.proofs.Model.SoundLog.{LawfulBelow}
-use Rattle.afr_quiet_lists.specs.Listed.{GivesHealLock}
 
 -- the premises of the law
 pub record Sound (p : Plan) (log : List Line) : Type 0 where
@@ -29,7 +28,6 @@ pub record Sound (p : Plan) (log : List Line) : Type 0 where
   pub honest : IsHonestLog p log
   pub lawful : IsLawfulExactly p log
   pub replied : Replied p log
-  pub gives : EachLine GivesHealLock log
 
 pub sound_before : (p : Plan) (line : Line) (older : List Line) → Sound p (line ∷ older) → Sound p older
 sound_before p line older s = record {
@@ -41,7 +39,6 @@ sound_before p line older s = record {
   honest = s.honest.1;
   lawful = s.lawful.1;
   replied = s.replied.1;
-  gives = s.gives.1;
 }
 
 module _ (p : Plan) (log : List Line) (s : Sound p log) where

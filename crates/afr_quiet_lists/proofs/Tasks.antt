@@ -1,22 +1,17 @@
--- What a line has to do with its actor's task: a healer keeps to its round, and a client asks for no Heal lock.
-use Rattle.std.proofs.Common.{◌≡◌, ℕ, ◌≤◌, Bool, true, sym, subst, List, ◌∷◌, Some, true≢false}
+-- What a line has to do with its actor's task: a healer keeps to its round.
+use Rattle.std.proofs.Common.{◌≡◌, ℕ, ◌≤◌, true, sym, subst, List, ◌∷◌, Some, true≢false}
 use Rattle.std.specs.Prelude.{slice_get}
 use Rattle.std.proofs.lemmas.Bool.{eqb-true}
-use Rattle.afr_base.specs.declared.ids.ActorId.{ActorId}
 use Rattle.afr_base.specs.declared.ids.BrickId.{BrickId}
 use Rattle.afr_lines.specs.Work.{ended, is_of, work}
-use Rattle.afr_lines.specs.declared.answer.Told.{Told}
 use Rattle.afr_lines.specs.declared.line.Line.{Line}
 use Rattle.afr_lines.specs.declared.line.Line.TheVariants.{Ask, Begin, End, Event, HealBegin, HealEnd}
-use Rattle.afr_lines.specs.declared.request.Area.{Area}
-use Rattle.afr_lines.specs.declared.request.Request.TheVariants.{Lock, Unlock}
-use Rattle.afr_range_locks.specs.declared.domain.Domain.TheVariants.{Heal}
 use Rattle.afr_plan.specs.declared.plan.Plan.{Plan}
-use Rattle.afr_model.specs.Actors.{rounds_of, script_of}
+use Rattle.afr_model.specs.Actors.{rounds_of}
 use Rattle.afr_model.specs.Following.{KeepsToTask, ToCommand, ToRound}
 use Rattle.afr_model.specs.HealReplies.{IsHealing}
 use Rattle.afr_model.specs.Rounds.{KeepsToRound}
-use Rattle.afr_law.proofs.Model.Tasks.{heal_locks_no_command, heal_unlocks_no_command, no_script, turn_of}
+use Rattle.afr_law.proofs.Model.Tasks.{no_script, turn_of}
 use Rattle.afr_quiet_lists.proofs.Premises.{Sound}
 
 module _ (p : Plan) (a : ℕ) (older : List Line) where
@@ -34,28 +29,6 @@ module _ (p : Plan) (a : ℕ) (older : List Line) where
       go : KeepsToTask p a line older → Round line
       go (ToCommand c e k) = absurd (no_script p a (ended a older) c s.clients high e)
       go (ToRound h b e k) = record { healer = h; brick = b; is = e; keeps = k }
-
-  -- who asks for a Heal lock is a healer
-  pub lock_round : (x : ActorId) (b : BrickId) (area : Area) (told : Told) (took : Bool) → is_of a (Ask x b (Lock Heal area) told took) ≡ true → Sound p (Ask x b (Lock Heal area) told took ∷ older) → Round (Ask x b (Lock Heal area) told took)
-  lock_round x b area told took mine s = go (turn_of p a (Ask x b (Lock Heal area) told took) older mine s.follows).keeps
-    where
-      same : a ≡ x.0
-      same = sym (eqb-true x.0 a mine)
-
-      go : KeepsToTask p a (Ask x b (Lock Heal area) told took) older → Round (Ask x b (Lock Heal area) told took)
-      go (ToCommand c e k) = absurd (heal_locks_no_command p c x b area told took (work x.0 older) (s.replied.0.command c (subst (λ (y : ℕ). slice_get (script_of p y) (ended y older) ≡ Some c) same e)))
-      go (ToRound h y e k) = record { healer = h; brick = y; is = e; keeps = k }
-
-  -- and who gives one back
-  pub unlock_round : (x : ActorId) (b : BrickId) (area : Area) (told : Told) (took : Bool) → is_of a (Ask x b (Unlock Heal area) told took) ≡ true → Sound p (Ask x b (Unlock Heal area) told took ∷ older) → Round (Ask x b (Unlock Heal area) told took)
-  unlock_round x b area told took mine s = go (turn_of p a (Ask x b (Unlock Heal area) told took) older mine s.follows).keeps
-    where
-      same : a ≡ x.0
-      same = sym (eqb-true x.0 a mine)
-
-      go : KeepsToTask p a (Ask x b (Unlock Heal area) told took) older → Round (Ask x b (Unlock Heal area) told took)
-      go (ToCommand c e k) = absurd (heal_unlocks_no_command p c x b area told took (work x.0 older) (s.replied.0.command c (subst (λ (y : ℕ). slice_get (script_of p y) (ended y older) ≡ Some c) same e)))
-      go (ToRound h y e k) = record { healer = h; brick = y; is = e; keeps = k }
 
   -- what a healer's line answers
   pub healing_of : (line : Line) (b : BrickId) → is_of a line ≡ true → Sound p (line ∷ older) → 17 ≤ a → slice_get (rounds_of p a) (ended a older) ≡ Some b → IsHealing p.shape line (work a older)

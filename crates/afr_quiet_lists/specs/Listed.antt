@@ -4,17 +4,13 @@ use Rattle.afr_base.specs.Bricks.{below}
 use Rattle.afr_base.specs.declared.ids.BrickId.{BrickId}
 use Rattle.afr_base.specs.declared.ids.Gfid.{Gfid}
 use Rattle.afr_base.specs.declared.ids.Kind.{Kind}
-use Rattle.afr_lines.specs.Areas.{object_of_area}
 use Rattle.afr_lines.specs.Log.{EachLine}
 use Rattle.afr_lines.specs.Work.{Work, ended, work}
 use Rattle.afr_lines.specs.declared.line.Line.{Line}
-use Rattle.afr_lines.specs.declared.line.Line.TheVariants.{Ask, End}
+use Rattle.afr_lines.specs.declared.line.Line.TheVariants.{End}
 use Rattle.afr_lines.specs.declared.reply.HealReply.{HealReply}
 use Rattle.afr_lines.specs.declared.reply.HealReply.TheVariants as healed
-use Rattle.afr_lines.specs.declared.request.Request.TheVariants.{Unlock}
-use Rattle.afr_range_locks.specs.declared.domain.Domain.TheVariants.{Heal}
 use Rattle.afr_plan.specs.declared.plan.Plan.{Plan}
-use Rattle.afr_moves.specs.Rules.{heal_area}
 use Rattle.afr_law.specs.Exactly.{IsLawfulExactly}
 use Rattle.afr_model.specs.Actors.{rounds_of}
 use Rattle.afr_model.specs.Following.{Follows}
@@ -27,11 +23,6 @@ use Rattle.afr_model.specs.Safe.{log_before}
 use Rattle.afr_model.specs.Splits.{IsSplit}
 use Rattle.afr_tables.specs.Clear.{IsClear}
 use Rattle.afr_quiet.specs.Undisturbed.{EachHeal, IsListed, IsOpenAt, IsSplitReply, begun_after, ended_heals}
-
--- an unlock of a Heal lock names the area that the Heal lock of its object has
-abbrev pub GivesHealLock : Line → List Line → Type 0
-GivesHealLock (Ask a b (Unlock Heal area) told took) older = area ≡ heal_area (object_of_area area).0
-GivesHealLock line older = Unit {0}
 
 -- the reply names a brick by which the source moved
 abbrev pub IsMovedReply : HealReply → Type 0
@@ -60,8 +51,8 @@ abbrev pub IsQuietListed : Plan → Line → List Line → Type 0
 IsQuietListed p (End a said) older = 17 ≤ a.0 → (b : BrickId) → slice_get (rounds_of p a.0) (ended a.0 older) ≡ Some b → IsQuiet p a.0 older → IsListedRound p a.0 b older
 IsQuietListed p line older = Unit {0}
 
--- so is each quiet round of a log that is the plan's, honest, lawful and replied, and whose unlocks of Heal locks name their areas; the plan has at most 16 clients, so that nobody is both client and healer
+-- so is each quiet round of a log that is the plan's, honest, lawful and replied; the plan has at most 16 clients, so that nobody is both client and healer
 abbrev pub QuietRoundsAreListed : Type 0
 QuietRoundsAreListed =
     (p : Plan) (log : List Line) → p.shape.n ≤ 5 → 0 < p.shape.n → length p.clients ≤ 16 → length log ≤ 4000000
-    → Follows p log → Honest p log → IsLawfulExactly p log → Replied p log → EachLine GivesHealLock log → EachLine (IsQuietListed p) log
+    → Follows p log → Honest p log → IsLawfulExactly p log → Replied p log → EachLine (IsQuietListed p) log

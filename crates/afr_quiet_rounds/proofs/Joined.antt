@@ -65,10 +65,10 @@ none_whole p [] low none = tt
 none_whole p (line ∷ older) low none = (none_ends p line older low none, none_whole p older low none)
 
 pub rounds_whole : QuietRoundsAreListed → QuietRoundsAreUnmoved → QuietRoundsAreRepaired → QuietRoundsAreWhole
-rounds_whole listed unmoved repaired p log small clients short follows honest lawful replied gives low = by p.shape.n refl
+rounds_whole listed unmoved repaired p log small clients short follows honest lawful replied low = by p.shape.n refl
   where
     by : (n : ℕ) → p.shape.n ≡ n → AreQuietWhole p log
     by zero none = none_whole p log low none
     by (suc n) many =
         let some : 0 < p.shape.n = omega (arith, many) in
-        all_whole p log (listed p log small some clients short follows honest lawful replied gives) (unmoved p log small some short follows honest lawful replied) (repaired p log small some short follows honest lawful replied)
+        all_whole p log (listed p log small some clients short follows honest lawful replied) (unmoved p log small some short follows honest lawful replied) (repaired p log small some short follows honest lawful replied)

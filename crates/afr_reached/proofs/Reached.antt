@@ -124,9 +124,9 @@ module _ (p : Plan) (only : OnlyDirectoriesHaveNames) (named : EntriesHaveCopies
   moments (line ∷ older) knows = (reached (line ∷ older) knows, moments older (λ some. known_before p line older (knows some)))
 
 pub passes_reach : OnlyDirectoriesHaveNames → EntriesHaveCopies → ModelOneKind → QuietRoundsLeave → QuietRoundsConverge → QuietPassesReach
-passes_reach only named kinds leave converge p log five clients short follows honest lawful replied gives low =
+passes_reach only named kinds leave converge p log five clients short follows honest lawful replied low =
     moments p only named kinds log (λ some. record {
-      sound = record { small = five; some = some; clients = clients; short = short; follows = follows; honest = honest; lawful = lawful; replied = replied; gives = gives };
-      left = leave p log five clients short follows honest lawful replied gives low;
-      converged = converge p log five clients short follows honest lawful replied gives low;
+      sound = record { small = five; some = some; clients = clients; short = short; follows = follows; honest = honest; lawful = lawful; replied = replied };
+      left = leave p log five clients short follows honest lawful replied low;
+      converged = converge p log five clients short follows honest lawful replied low;
     })

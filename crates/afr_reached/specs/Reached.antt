@@ -8,7 +8,7 @@ use Rattle.afr_base.specs.declared.ids.Kind.TheVariants.{Names}
 use Rattle.afr_base.specs.declared.ids.NameId.{NameId}
 use Rattle.afr_base.specs.declared.ids.What.{What}
 use Rattle.afr_object.specs.Tables.{root}
-use Rattle.afr_lines.specs.Log.{EachLine, EveryPrefix}
+use Rattle.afr_lines.specs.Log.{EveryPrefix}
 use Rattle.afr_lines.specs.declared.line.Line.{Line}
 use Rattle.afr_plan.specs.declared.plan.Plan.{Plan}
 use Rattle.afr_model.specs.Following.{Follows}
@@ -16,7 +16,6 @@ use Rattle.afr_model.specs.Honest.{Honest}
 use Rattle.afr_model.specs.Replied.{Replied}
 use Rattle.afr_model.specs.Splits.{IsSplit}
 use Rattle.afr_model.specs.Tables.{entry_at, holds}
-use Rattle.afr_quiet_lists.specs.Listed.{GivesHealLock}
 use Rattle.afr_quiet_rounds.specs.Whole.{RoundsAreLow}
 use Rattle.afr_converged.specs.Converged.{AreAll, AreRounds, IsConverged, IsEverywhereAs, IsKindOf}
 use Rattle.afr_law.specs.Exactly.{IsLawfulExactly}
@@ -51,8 +50,8 @@ HasReached p log =
     → (b : ℕ) → b < p.shape.n → (path : List NameId) (g : Gfid) → Leads p log b path g → length path ≤ suc k
     → (what : What) × IsEverywhereAs p log g what × (length path ≤ k → (kind : Kind) → IsKindOf what kind → IsConverged p start log g kind)
 
--- so it is at every moment of a log that is the plan's, honest, lawful and replied, and whose unlocks of Heal locks name their areas
+-- so it is at every moment of a log that is the plan's, honest, lawful and replied
 abbrev pub QuietPassesReach : Type 0
 QuietPassesReach =
     (p : Plan) (log : List Line) → p.shape.n ≤ 5 → length p.clients ≤ 16 → length log ≤ 4000000
-    → Follows p log → Honest p log → IsLawfulExactly p log → Replied p log → EachLine GivesHealLock log → RoundsAreLow p → EveryPrefix (HasReached p) log
+    → Follows p log → Honest p log → IsLawfulExactly p log → Replied p log → RoundsAreLow p → EveryPrefix (HasReached p) log

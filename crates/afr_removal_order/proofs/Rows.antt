@@ -5,7 +5,7 @@ use Rattle.std.proofs.lemmas.Bool.{eqb-true, or_cases}
 use Rattle.std.proofs.lemmas.Bool.Decides.{nat_tests}
 use Rattle.afr_base.specs.Bricks.{added, and_right, member, removed}
 use Rattle.afr_base.specs.SetLemmas.{member_added, member_removed}
-use Rattle.afr_discipline.specs.Notes.{anew, dropped, is_working, named, noted_law, second_in, second_left, taken, with_held}
+use Rattle.afr_discipline.specs.Notes.{anew, dropped, heal_left, is_working, named, noted_law, second_in, second_left, taken, with_held}
 use Rattle.afr_discipline.specs.declared.register.Register.{Register}
 use Rattle.afr_lines.specs.declared.answer.Told.{Told}
 use Rattle.afr_lines.specs.declared.request.Area.{Area}
@@ -77,7 +77,7 @@ module _ (r : Register) (b : ℕ) (told : Told) (row : Rises r.held) where
       go false own = row
   law_row (Unlock Heal area) = go (is_done told)
     where
-      go : (done : Bool) → Rises (if done then record r { healing = removed b r.healing } else r).held
+      go : (done : Bool) → Rises (if done then record r { healing = heal_left r area b } else r).held
       go true = row
       go false = row
   law_row (Pre g kind) = row

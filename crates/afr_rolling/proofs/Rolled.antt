@@ -144,12 +144,12 @@ each_never p kinds (line ∷ older) given = (never_now p kinds (line ∷ older) 
 
 -- the law
 pub rolling_never_splits : ModelExactMissed → QuietRoundsConverge → ModelOneKind → RollingNeverSplits
-rolling_never_splits missed converge kinds p log five clients short follows honest lawful replied blamed gives low = each_never p kinds log (record {
+rolling_never_splits missed converge kinds p log five clients short follows honest lawful replied blamed low = each_never p kinds log (record {
   small = five;
   short = short;
   honest = honest;
   lawful = lawful;
   facts = both_facts p log follows (names_missers p log honest blamed);
   missed = (missed p log five short honest lawful).1;
-  converged = converge p log five clients short follows honest lawful replied gives low;
+  converged = converge p log five clients short follows honest lawful replied low;
 })

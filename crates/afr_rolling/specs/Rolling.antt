@@ -21,7 +21,6 @@ use Rattle.afr_model.specs.Showing.{is_fault}
 use Rattle.afr_model.specs.Splits.{IsSplit}
 use Rattle.afr_model.specs.Sums.{has_object}
 use Rattle.afr_tables.specs.Clear.{IsClear}
-use Rattle.afr_quiet_lists.specs.Listed.{GivesHealLock}
 use Rattle.afr_quiet_rounds.specs.Whole.{RoundsAreLow}
 use Rattle.afr_converged.specs.Converged.{IsEverywhereAs, IsKindOf}
 use Rattle.afr_reached.specs.Reached.{IsPass}
@@ -78,8 +77,8 @@ NeverSplits p log =
     (start was : List Line) → AreIdle p start → HasRolled p start was → IsEpoch p was log
     → (g : Gfid) (what : What) (kind : Kind) → IsEverywhereAs p start g what → IsKindOf what kind → IsClear p start g kind → IsSplit p log (below p.shape.n) g kind → ⊥
 
--- so it is at every moment of a log that is the plan's, honest, lawful and replied, whose accusations have their causes, and whose unlocks of Heal locks name their areas
+-- so it is at every moment of a log that is the plan's, honest, lawful and replied, and whose accusations have their causes
 abbrev pub RollingNeverSplits : Type 0
 RollingNeverSplits =
     (p : Plan) (log : List Line) → p.shape.n ≤ 5 → length p.clients ≤ 16 → length log ≤ 4000000
-    → Follows p log → Honest p log → IsLawfulExactly p log → Replied p log → AreBlamed p log → EachLine GivesHealLock log → RoundsAreLow p → EveryPrefix (NeverSplits p) log
+    → Follows p log → Honest p log → IsLawfulExactly p log → Replied p log → AreBlamed p log → RoundsAreLow p → EveryPrefix (NeverSplits p) log

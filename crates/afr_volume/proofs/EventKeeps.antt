@@ -90,7 +90,6 @@ kept_event happened comes p log servers new actors after made event v fits due m
   replied = (tt, v.replied);
   blamed = (tt, v.blamed);
   names = (tt, v.names);
-  gives = (tt, v.gives);
 }
   where
     served : AreServed p (line_of.Event event ∷ log) new × ((c : ℕ) (its : Epochs) → AreFound c its servers → AreFound c its new)

@@ -29,7 +29,6 @@ use Rattle.afr_volume.specs.Laws.{EventLaws, RoundLaws}
 use Rattle.afr_volume.specs.Pacing.{ArePaced}
 use Rattle.afr_volume.specs.Turning.{KillsHealersIn, ReadiedHealerAt}
 use Rattle.afr_volume.specs.declared.actor.Actor.{Actor}
-use Rattle.afr_volume.proofs.HealLockLemmas.{healer_gives}
 use Rattle.afr_volume.proofs.LineKeeps.{Asks, Ends, Heals, Parts, Wrote, other_ended, other_place, other_work, others_stay, wrote_due, wrote_killed, wrote_made, wrote_other}
 
 -- ---- one healer among all
@@ -164,7 +163,6 @@ module _ (laws : RoundLaws) (p : Plan) (a : ActorId) (log : List Line) (servers 
     replied = (round_keeps.replied, w.kept.replied);
     blamed = (round_keeps.blamed, w.kept.blamed);
     names = (names_no p a line log round_keeps.written, w.kept.names);
-    gives = (healer_gives IsAnswered a (length log) x y servers new line log s, w.kept.gives);
   }
 
   pub kept_round : IsActor p a.0 → is_killed a.0 log ≡ false → NoneDue p log → ArePaced p (line ∷ log) actors (set healers (a.0 - 17) y) → IsWhole p (line ∷ log) new actors (set healers (a.0 - 17) y) made

@@ -19,7 +19,6 @@ mod ReadingLemmas
 mod ReadsKeep
 pub mod ChosenLemmas
 mod SourceLemmas
-mod HealLockLemmas
 mod PaceAll
 mod PaceLines
 mod PaceWorks

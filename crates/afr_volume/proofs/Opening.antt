@@ -42,7 +42,6 @@ fresh_volume laws p log servers actors run none opened idle = rw none (record {
   replied = tt;
   blamed = tt;
   names = tt;
-  gives = tt;
 })
 
 -- a healer that has begun nothing stands for no line

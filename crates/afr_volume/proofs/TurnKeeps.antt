@@ -26,7 +26,6 @@ use Rattle.afr_volume.proofs.AskKeeps.{ask_keeps}
 use Rattle.afr_volume.proofs.Before.{IsBefore, can_ask, client_is}
 use Rattle.afr_volume.proofs.Before as known
 use Rattle.afr_volume.specs.Laws.{BeginLaws, Laws}
-use Rattle.afr_volume.proofs.HealLockLemmas.{client_gives}
 use Rattle.afr_volume.proofs.LineKeeps.{LineKeeps, others_stay, some_same, wrote_due, wrote_made}
 use Rattle.afr_volume.proofs.WriteKeeps.{begin_keeps, end_keeps}
 
@@ -103,7 +102,6 @@ kept_turn laws p a log x y servers new actors made line v client actor is busy a
   replied = (keeps.replied, v.replied);
   blamed = (keeps.blamed, v.blamed);
   names = (keeps.names, v.names);
-  gives = (client_gives p a line log client keeps.wrote keeps.keeps keeps.replied, v.gives);
 }
   where
     before : IsBefore p a log servers
@@ -187,7 +185,6 @@ kept_ready laws p log servers actors new made a one some v r = record {
   replied = v.replied;
   blamed = v.blamed;
   names = v.names;
-  gives = v.gives;
 }
   where
     again : (a - 1) + 1 ≡ a

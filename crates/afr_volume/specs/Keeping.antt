@@ -5,7 +5,6 @@ use Rattle.afr_base.specs.declared.ids.Shape.{Shape}
 use Rattle.afr_discipline.specs.Stands.{HasFive, no_lines}
 use Rattle.afr_discipline.specs.declared.register.Register.{Register}
 use Rattle.afr_law.specs.Exactly.{IsLawfulExactly}
-use Rattle.afr_lines.specs.Log.{EachLine}
 use Rattle.afr_lines.specs.Places.{Fresh, Within, place_of}
 use Rattle.afr_lines.specs.Work.{ended, events_made, is_killed, work}
 use Rattle.afr_lines.specs.declared.line.Event.{Event}
@@ -21,7 +20,6 @@ use Rattle.afr_model.specs.Kept.{AreKept}
 use Rattle.afr_model.specs.Following.{Follows}
 use Rattle.afr_model.specs.Honest.{Honest}
 use Rattle.afr_model.specs.Replied.{Replied}
-use Rattle.afr_quiet_lists.specs.Listed.{GivesHealLock}
 use Rattle.afr_readings.specs.Laws.{KeepsPicked, number_in}
 use Rattle.afr_readings.specs.Readings.{asked_in, asked_of}
 use Rattle.afr_rounds.specs.Keeping.{IsHealer}
@@ -119,7 +117,6 @@ pub record IsVolume (p : Plan) (log : List Line) (servers : List Serving) (actor
   pub replied : Replied p log
   pub blamed : AreBlamed p log
   pub names : AreKept p log
-  pub gives : EachLine GivesHealLock log
 
 -- healers are what their lines say
 pub record AreHealers (p : Plan) (log : List Line) (servers : List Serving) (healers : List Healer) : Type 0 where

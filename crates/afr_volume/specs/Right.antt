@@ -24,6 +24,7 @@ use Rattle.afr_rule.specs.Choosing.{Calls}
 use Rattle.afr_rule.specs.declared.rules.Rules.{Rules}
 use Rattle.afr_sources.specs.Sources.{picks_of}
 use Rattle.afr_standstill.specs.Order.{AreRising}
+use Rattle.afr_unlocked.specs.Unlocked.{AreUnlocked}
 use Rattle.afr_whole_copy.specs.Whole.{AreWhole}
 use Rattle.afr_volume.specs.State.{IsChosen, State}
 
@@ -34,8 +35,9 @@ use Rattle.afr_volume.specs.State.{IsChosen, State}
 -- before another one was, nothing that all bricks had and that was clear is in split-brain. Where a change was acknowledged,
 -- a majority has what it or a later one left, in a split-brain too; a split-brain needs that each of its copies missed
 -- something, and where attempts come one at a time a whole copy is left in it; a change that enough bricks didn't fail is
--- acknowledged. Each work took no more lines than it costs, and each Work lock was asked above all those that its actor
--- held; and a file's old name was never given up before its new one was stored at a majority
+-- acknowledged. Each work took no more lines than it costs, each Work lock was asked above all those that its actor held,
+-- and no lock outlived its work or its heal; and a file's old name was never given up before its new one was stored at a
+-- majority
 pub record IsRight (p : Plan) (log : List Line) : Type 0 where
   pub follows : Follows p log
   pub honest : Honest p log
@@ -59,6 +61,7 @@ pub record IsRight (p : Plan) (log : List Line) : Type 0 where
   pub available : EachLine (IsAvailable p) log
   pub rising : AreRising p log
   pub within : AreWithinCost p log
+  pub unlocked : EveryPrefix AreUnlocked log
 
 -- every read went to a copy that the one rule picked, and every heal has a source that the other picked
 abbrev pub IsChosenBy : {F G : Type 0} → Calls F → Calls G → Rules F G → State → Type 0

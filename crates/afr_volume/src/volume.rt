@@ -47,6 +47,7 @@ use afr_rule::{Candidate, ReadRule, Rules, SourceRule};
 use afr_server::Server;
 use afr_servers::Servers;
 use afr_sources::{a_line_keeps_its_source, chosen_source};
+use afr_unlocked::works_leave_no_lock;
 use afr_whole_copy::a_copy_is_whole;
 use std::alloc::Global;
 use std::marker::Model;
@@ -390,6 +391,7 @@ impl Volume {
         split_copies_missed();
         a_copy_is_whole();
         changes_are_available();
+        works_leave_no_lock();
     }
 }
 

@@ -4,6 +4,6 @@ use Rattle.afr_converged.proofs.quiet_rounds_converge.Goals as goal
 
 pub returns : goal.returns
 returns c = record {
-  leave = λ p log five clients short follows honest lawful replied gives low. quiet_leave c.quiet_rounds_are_whole.ensures.whole p log five clients short follows honest lawful replied gives low;
-  converge = λ p log five clients short follows honest lawful replied gives low. quiet_converge c.quiet_rounds_are_whole.ensures.whole p log five clients short follows honest lawful replied gives low;
+  leave = λ p log five clients short follows honest lawful replied low. quiet_leave c.quiet_rounds_are_whole.ensures.whole p log five clients short follows honest lawful replied low;
+  converge = λ p log five clients short follows honest lawful replied low. quiet_converge c.quiet_rounds_are_whole.ensures.whole p log five clients short follows honest lawful replied low;
 }

@@ -14,7 +14,7 @@ use Rattle.afr_lines.specs.declared.request.Request.{Request}
 use Rattle.afr_lines.specs.declared.request.Request.TheVariants.{Apply}
 use Rattle.afr_law.proofs.Safety.Acts.{may_ask, working}
 use Rattle.afr_moves.specs.Honest.{Honest}
-use Rattle.afr_moves.specs.Rules.{Lawful, May, MayApply, MayPost, Register, area_object, begun, dropping, fresh, in_force, is_area, is_none, locking, looked, mend_cells, note, note_ask, opened, present, put_view, register, second_freed, second_of, viewed, busy}
+use Rattle.afr_moves.specs.Rules.{Lawful, May, MayApply, MayPost, Register, area_object, begun, dropping, fresh, heal_freed, in_force, is_area, is_none, locking, looked, mend_cells, note, note_ask, opened, present, put_view, register, second_freed, second_of, viewed, busy}
 use Rattle.afr_moves.specs.Lines.{ask_by, post_on}
 use Rattle.afr_moves.specs.Past.{Beginning, Log, is_gone, is_of}
 use Rattle.afr_law.proofs.Safety.Registers.{Asks, Begins, Ends, HealBegins, HealEnds, Own, registers}
@@ -81,7 +81,7 @@ grows_asked n r b request told = go (note_ask n r b request told) (noted n r b r
     go s (Tries area what other e) = put s _ e (tried (is_area r.area area))
     go s (HealGrants area what said e) = put s _ e (grows_to r (record r { heal = true; object = area_object area; healing = with r.healing b }) refl refl)
     go s (HealWaits area what e) = put s _ e (grows_to r (record r { heal = true; object = area_object area }) refl refl)
-    go s (HealFrees area what said e) = put s _ e (grows_to r (record r { healing = without r.healing b }) refl refl)
+    go s (HealFrees area what said e) = put s _ e (grows_to r (record r { healing = heal_freed r area b }) refl refl)
     go s (HealTries area what other e) = put s _ e (grows_to r r refl refl)
     go s (Looks g view what said e) = put s _ e (sees g view r.heal)
     go s (Pres g kind what said e) = put s _ e (grows_to r (record r { pre = with r.pre b; raised = with r.raised b }) refl refl)

@@ -19,9 +19,10 @@ use Rattle.afr_moves.specs.Sets.{with, without, empty}
 use Rattle.afr_moves.specs.Cells.{Cell}
 use Rattle.afr_moves.specs.Past.{Beginning, Log, born, held, holds, touch, over, stamp, settled, mends, joined, opening, is_gone}
 use Rattle.afr_moves.specs.Honest.{HonestAsk, HonestLine, Honest, finds, asked}
-use Rattle.afr_moves.specs.Rules.{MayPre, Register, fresh, CoversAll, MayBegin, MayMend, begun, is_area, looked, viewed, looking, put_view, is_none, locking, area_object, piece, note_ask, dropping, note, register, MayAsk, MayHealLock, MayHealBegin, Lawful, opened, present, busy, second_of, second_freed}
+use Rattle.afr_moves.specs.Rules.{MayPre, Register, fresh, CoversAll, MayBegin, MayMend, begun, is_area, looked, viewed, looking, put_view, is_none, locking, area_object, piece, note_ask, dropping, note, register, MayAsk, MayHealLock, MayHealBegin, Lawful, opened, present, busy, second_of, second_freed, heal_freed}
+use Rattle.afr_moves.proofs.AreaLemmas.{heal_freed_in}
 use Rattle.afr_moves.specs.Cells.{fits, object_of}
-use Rattle.afr_law.proofs.Safety.Standing.{SeenAt, without_true, Plain, Noted, noted, Grants, Waits, Frees, Tries, HealGrants, HealWaits, HealFrees, HealTries, Looks, Pres, Applies, Posts, Mends, Settles, Same}
+use Rattle.afr_law.proofs.Safety.Standing.{SeenAt, Plain, Noted, noted, Grants, Waits, Frees, Tries, HealGrants, HealWaits, HealFrees, HealTries, Looks, Pres, Applies, Posts, Mends, Settles, Same}
 use Rattle.afr_law.proofs.Safety.Registers.{Own, Asks, Begins, HealBegins, Ends, HealEnds, standing, registers_at, MayOf}
 use Rattle.afr_law.proofs.Safety.Numbers.{carried_out, force_fresh}
 use Rattle.afr_law.proofs.Safety.Acts.{Working, working, all_covers}
@@ -326,7 +327,7 @@ module _ (n : ℕ) (keeps : ℕ → Kind → Bool) (files : Beginning) (faults :
           pick false = v
       go l (HealGrants area what said e) = put l _ e (viewing_healing (suc t) a (opened log t a) area (with r.healing b) r new (m (Lock Heal area) what) (same (λ x g kind less s d. cc (sym what ∙ s))))
       go l (HealWaits area what e) = put l _ e (viewing_healing (suc t) a (opened log t a) area r.healing r new (m (Lock Heal area) what) (same (λ x g kind less s d. cc (sym what ∙ s))))
-      go l (HealFrees area what said e) = put l _ e (next (without r.healing b) (λ x g kind less s d. cc (sym what ∙ s)) (λ x some heal. (without_true r.healing b x heal).1))
+      go l (HealFrees area what said e) = put l _ e (next (heal_freed r area b) (λ x g kind less s d. cc (sym what ∙ s)) (λ x some heal. heal_freed_in r area b x heal))
       go l (HealTries area what other e) = put l _ e (same (λ x g kind less s d. cc (sym what ∙ s)))
       go l (Looks g view what said e) = put l _ e (viewing_looking t a b g view took r (is ∙ (λ i. Some (ask_by a b (what i) (said i) took))) force w (same (λ x g kind less s d. cc (sym said ∙ d))))
       go l (Pres g kind what said e) = put l _ e (

@@ -6,18 +6,13 @@ use Rattle.std.proofs.lemmas.Bool.Decides.{nat_tests}
 use Rattle.std.proofs.lemmas.Option.{slice_get_within}
 use Rattle.afr_lines.specs.Places.{Within, next_place, place_of}
 use Rattle.afr_base.specs.declared.ids.ActorId.{ActorId}
-use Rattle.afr_base.specs.declared.ids.BrickId.{BrickId}
 use Rattle.afr_base.specs.declared.ids.Gfid.{Gfid}
 use Rattle.afr_base.specs.declared.ids.Kind.{Kind}
 use Rattle.afr_base.specs.declared.ids.NameId.{NameId}
 use Rattle.afr_lines.specs.Work.{Work, ended, ends_work, is_end, is_of}
-use Rattle.afr_lines.specs.declared.answer.Told.{Told}
 use Rattle.afr_lines.specs.declared.line.Line.TheVariants.{Ask, Begin, End, Event, HealBegin, HealEnd}
 use Rattle.afr_lines.specs.declared.line.Line.{Line}
 use Rattle.afr_lines.specs.declared.reply.HealReply.{HealReply}
-use Rattle.afr_lines.specs.declared.request.Area.{Area}
-use Rattle.afr_lines.specs.declared.request.Request.TheVariants.{Lock, Unlock}
-use Rattle.afr_range_locks.specs.declared.domain.Domain.TheVariants.{Heal}
 use Rattle.afr_law.proofs.Heals.Opening.{ended as after_end}
 use Rattle.afr_model.specs.Actors.{IsActor, rounds_of, script_of, works_of}
 use Rattle.afr_model.specs.Answered.{IsAbout}
@@ -125,10 +120,3 @@ heal_ends_no_command p c x g kind said at w k = (keeps_path p c (HealEnd x g kin
 
 pub heal_is_no_command : (p : Plan) (c : Command) (x : ActorId) (g : Gfid) (kind : Kind) (said : HealReply) (w : Work) → IsOf p c (HealEnd x g kind said) w → ⊥
 heal_is_no_command p c x g kind said w k = (about_path p c (HealEnd x g kind said) w refl k).2
-
--- and none asks for a Heal lock, or gives one back
-pub heal_locks_no_command : (p : Plan) (c : Command) (x : ActorId) (b : BrickId) (area : Area) (told : Told) (took : Bool) (w : Work) → IsOf p c (Ask x b (Lock Heal area) told took) w → ⊥
-heal_locks_no_command p c x b area told took w k = (about_path p c (Ask x b (Lock Heal area) told took) w refl k).2
-
-pub heal_unlocks_no_command : (p : Plan) (c : Command) (x : ActorId) (b : BrickId) (area : Area) (told : Told) (took : Bool) (w : Work) → IsOf p c (Ask x b (Unlock Heal area) told took) w → ⊥
-heal_unlocks_no_command p c x b area told took w k = (about_path p c (Ask x b (Unlock Heal area) told took) w refl k).2

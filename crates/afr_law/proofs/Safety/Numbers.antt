@@ -23,7 +23,7 @@ use Rattle.afr_moves.specs.Sets.{with, without}
 use Rattle.afr_moves.specs.Cells.{Cell}
 use Rattle.afr_moves.specs.Past.{Beginning, Log, held, last, last_after, joined, opening, is_of, is_gone}
 use Rattle.afr_moves.specs.Honest.{HonestAsk, HonestLine, Honest, asked}
-use Rattle.afr_moves.specs.Rules.{Register, fresh, CoveredBy, SomeCell, PlaneIs, SeenFit, MayApply, MayPost, MayPre, MayBegin, begun, is_area, looked, viewed, looking, put_view, is_none, unlocked, released, locking, area_object, mend_cells, piece, note_ask, dropping, note, in_force, register, MayAsk, MayHealLock, MayHealBegin, Lawful, busy, second_of, second_freed}
+use Rattle.afr_moves.specs.Rules.{Register, fresh, CoveredBy, SomeCell, PlaneIs, SeenFit, MayApply, MayPost, MayPre, MayBegin, begun, is_area, looked, viewed, looking, put_view, is_none, unlocked, released, locking, area_object, mend_cells, piece, note_ask, dropping, note, in_force, register, MayAsk, MayHealLock, MayHealBegin, Lawful, busy, second_of, second_freed, heal_freed}
 use Rattle.afr_law.proofs.Safety.Standing.{Noted, noted, Grants, Waits, Frees, Tries, HealGrants, HealWaits, HealFrees, HealTries, Looks, Pres, Applies, Posts, Mends, Settles, Same}
 use Rattle.afr_law.proofs.Safety.Registers.{Own, Asks, Begins, HealBegins, Ends, HealEnds, registers, MayOf}
 use Rattle.afr_moves.specs.Lines.{ask_by, begin_by, heal_begin_by, end_by, heal_end_by, pre_on, post_on}
@@ -278,7 +278,7 @@ numbered_asked n keeps log t a b request told took first r is same new was may c
     go l (Tries area what other e) = put l _ e (numbered_unlocked log (suc t) a b area r s)
     go l (HealGrants area what said e) = put l _ e (numbered_healing log (suc t) a first area (with r.healing b) r new (m (Lock Heal area) what) s)
     go l (HealWaits area what e) = put l _ e (numbered_healing log (suc t) a first area r.healing r new (m (Lock Heal area) what) s)
-    go l (HealFrees area what said e) = put l _ e (numbered_held log (suc t) a r r.held r.closed (without r.healing b) r.view r.first r.mended r.settled s)
+    go l (HealFrees area what said e) = put l _ e (numbered_held log (suc t) a r r.held r.closed (heal_freed r area b) r.view r.first r.mended r.settled s)
     go l (HealTries area what other e) = put l _ e s
     go l (Looks g view what said e) = put l _ e (numbered_looking log (suc t) a b g view r s)
     go l (Pres g kind what said e) = put l _ e (

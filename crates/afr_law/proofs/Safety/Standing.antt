@@ -19,7 +19,7 @@ use Rattle.afr_lines.specs.declared.answer.Told.{Told}
 use Rattle.afr_lines.specs.declared.answer.Told.TheVariants.{Granted, Seen, Done}
 use Rattle.afr_moves.specs.Sets.{with, without, empty}
 use Rattle.afr_moves.specs.Past.{Log, held, unlocks, joined, is_gone}
-use Rattle.afr_moves.specs.Rules.{Register, fresh, begun, is_area, looked, viewed, looking, put_view, is_none, unlocked, released, locking, granting, heal_area, area_object, mend_cells, note_ask, dropping, MayHealLock, busy, second_of, second_freed}
+use Rattle.afr_moves.specs.Rules.{Register, fresh, begun, is_area, looked, viewed, looking, put_view, is_none, unlocked, released, locking, granting, heal_area, heal_freed, area_object, mend_cells, note_ask, dropping, MayHealLock, busy, second_of, second_freed}
 use Rattle.afr_law.proofs.Safety.Locks.{Grant, held_on}
 use Rattle.afr_moves.specs.Lines.{ask_by, look_at, pre_on, post_on, settle_on}
 use Rattle.std.proofs.lemmas.Bool.{ne_eqb}
@@ -46,7 +46,7 @@ pub data Noted (n : ℕ) (r : Register) (b : ℕ) (request : Request) (told : To
   Tries : (area : Area) → request ≡ Unlock Work area → (told ≡ Done → ⊥) → s ≡ unlocked r area b → Noted n r b request told s
   HealGrants : (area : Area) → request ≡ Lock Heal area → told ≡ Granted → s ≡ record r { heal = true; object = area_object area; healing = with r.healing b } → Noted n r b request told s
   HealWaits : (area : Area) → request ≡ Lock Heal area → s ≡ record r { heal = true; object = area_object area } → Noted n r b request told s
-  HealFrees : (area : Area) → request ≡ Unlock Heal area → told ≡ Done → s ≡ record r { healing = without r.healing b } → Noted n r b request told s
+  HealFrees : (area : Area) → request ≡ Unlock Heal area → told ≡ Done → s ≡ record r { healing = heal_freed r area b } → Noted n r b request told s
   HealTries : (area : Area) → request ≡ Unlock Heal area → (told ≡ Done → ⊥) → s ≡ r → Noted n r b request told s
   Looks : (g : ℕ) (view : View) → request ≡ look_at g → told ≡ Seen view → s ≡ looking r b g view → Noted n r b request told s
   Pres : (g : ℕ) (kind : Kind) → request ≡ pre_on g kind → told ≡ Done → s ≡ record r { pre = with r.pre b; raised = with r.raised b } → Noted n r b request told s
@@ -291,18 +291,38 @@ module _ (log : Log) (t a b : ℕ) (area : Area) (told : Told) (took first : Boo
       go true e false (inl wrong) = absurd (cc wrong)
       go true e false (inr refused) = unlock_refused s back refused
 
--- an Unlock line of the Heal lock
-pub standing_heal_freed : (log : Log) (t a b : ℕ) (area : Area) (told : Told) (took first : Bool) (r : Register) → log t ≡ Some (ask_by a b (Unlock Heal area) told took) → Onward log t a first r → Standing log (suc t) a (record r { healing = without r.healing b })
-standing_heal_freed log t a b area told took first r is (New e) = subst (λ q. Standing log (suc t) a (record q { healing = without q.healing b })) (sym e) (record { here = λ x h. cc; under = λ x h. cc; healing = λ x h. absurd (true≢false (sym (without_true empty b x h).1)) })
-standing_heal_freed log t a b area told took first r is (Goes s back old) = record {
+-- an Unlock line of the Heal domain leaves the locks at the other bricks
+heal_elsewhere : (log : Log) (t a b : ℕ) (area : Area) (told : Told) (took first : Bool) (r : Register) → log t ≡ Some (ask_by a b (Unlock Heal area) told took) → Onward log t a first r → Standing log (suc t) a (record r { healing = without r.healing b })
+heal_elsewhere log t a b area told took first r is (New e) = subst (λ q. Standing log (suc t) a (record q { healing = without q.healing b })) (sym e) (record { here = λ x h. cc; under = λ x h. cc; healing = λ x h. absurd (true≢false (sym (without_true empty b x h).1)) })
+heal_elsewhere log t a b area told took first r is (Goes s back old) = record {
   here = λ x h. held_next log t a x Work 0 r.area (s.here x h) (record { back = back x; still = λ mine f. rw is refl });
   under = λ x h. seen_next log t a x r.area r.number (r.closed x) (s.under x h) (record { back = back x; still = λ mine f. rw is refl });
   healing = λ x h. held_next log t a x Heal r.start (Some (heal_area r.object)) (s.healing x (without_true r.healing b x h).1) (record { back = back x; still = λ mine f. unlocks_at log t a b x Heal Heal area mine told took is (inr (inl (without_true r.healing b x h).0)) });
 }
 
+-- and one of another area all of them
+heal_other : (log : Log) (t a b : ℕ) (area : Area) (told : Told) (took first : Bool) (r : Register) → log t ≡ Some (ask_by a b (Unlock Heal area) told took) → Onward log t a first r → same_area (heal_area r.object) area ≡ false → Standing log (suc t) a r
+heal_other log t a b area told took first r is (New e) apart = subst (Standing log (suc t) a) (sym e) (standing_fresh log (suc t) a)
+heal_other log t a b area told took first r is (Goes s back old) apart = record {
+  here = λ x h. held_next log t a x Work 0 r.area (s.here x h) (record { back = back x; still = λ mine f. rw is refl });
+  under = λ x h. seen_next log t a x r.area r.number (r.closed x) (s.under x h) (record { back = back x; still = λ mine f. rw is refl });
+  healing = λ x h. held_next log t a x Heal r.start (Some (heal_area r.object)) (s.healing x h) (record { back = back x; still = λ mine f. unlocks_at log t a b x Heal Heal area mine told took is (inl (other mine f)) });
+}
+  where
+    other : (mine : Area) → Some (heal_area r.object) ≡ Some mine → same_area mine area ≡ false
+    other mine f = subst (λ (o : Option Area). is_area o area ≡ false) f apart
+
+-- an Unlock line of the Heal domain that is told Done
+pub standing_heal_freed : (log : Log) (t a b : ℕ) (area : Area) (told : Told) (took first : Bool) (r : Register) → log t ≡ Some (ask_by a b (Unlock Heal area) told took) → Onward log t a first r → Standing log (suc t) a (record r { healing = heal_freed r area b })
+standing_heal_freed log t a b area told took first r is on = go (same_area (heal_area r.object) area) refl
+  where
+    go : (own : Bool) → same_area (heal_area r.object) area ≡ own → Standing log (suc t) a (record r { healing = if own then without r.healing b else r.healing })
+    go true e = heal_elsewhere log t a b area told took first r is on
+    go false e = (let o = heal_other log t a b area told took first r is on e in record { here = o.here; under = o.under; healing = o.healing })
+
 pub standing_heal_tried : (log : Log) (t a b : ℕ) (area : Area) (told : Told) (took first : Bool) (r : Register) → log t ≡ Some (ask_by a b (Unlock Heal area) told took) → Onward log t a first r → (drop : Bool) → (drop ≡ true) ⊎ (took ≡ false) → Standing log (suc t) a (dropping drop b r)
 standing_heal_tried log t a b area told took first r is on true why = (
-    let o = standing_heal_freed log t a b area told took first r is on in
+    let o = heal_elsewhere log t a b area told took first r is on in
     record { here = λ x h. o.here x (without_true r.held b x h).1; under = o.under; healing = o.healing }
     )
 standing_heal_tried log t a b area told took first r is on false (inl wrong) = absurd (cc wrong)

@@ -26,11 +26,11 @@ returns-clause-right c =
       fresh = all_fresh _ _ kept.follows kept.replied (c.reads_are_fresh.ensures.exact c.self.inside.plan (reverse c.self.inside.log.items) kept.runnable.few few kept.honest kept.lawful).1;
       causes = c.accusations_have_causes.ensures.exact c.self.inside.plan (reverse c.self.inside.log.items) kept.runnable.few few kept.honest kept.lawful;
       alike = c.nothing_diverges_unrecorded.ensures.exact c.self.inside.plan (reverse c.self.inside.log.items) kept.runnable.few few kept.honest kept.lawful;
-      quiet = c.quiet_rounds_are_whole.ensures.whole c.self.inside.plan (reverse c.self.inside.log.items) kept.runnable.few kept.runnable.clients few kept.follows kept.honest kept.lawful kept.replied kept.gives kept.runnable.rounds;
-      left = c.quiet_rounds_converge.ensures.leave c.self.inside.plan (reverse c.self.inside.log.items) kept.runnable.few kept.runnable.clients few kept.follows kept.honest kept.lawful kept.replied kept.gives kept.runnable.rounds;
-      converged = c.quiet_rounds_converge.ensures.converge c.self.inside.plan (reverse c.self.inside.log.items) kept.runnable.few kept.runnable.clients few kept.follows kept.honest kept.lawful kept.replied kept.gives kept.runnable.rounds;
-      reached = c.quiet_passes_reach.ensures.reach c.self.inside.plan (reverse c.self.inside.log.items) kept.runnable.few kept.runnable.clients few kept.follows kept.honest kept.lawful kept.replied kept.gives kept.runnable.rounds;
-      rolling = c.what_all_have_never_splits.ensures.rolling c.self.inside.plan (reverse c.self.inside.log.items) kept.runnable.few kept.runnable.clients few kept.follows kept.honest kept.lawful kept.replied kept.blamed kept.gives kept.runnable.rounds;
+      quiet = c.quiet_rounds_are_whole.ensures.whole c.self.inside.plan (reverse c.self.inside.log.items) kept.runnable.few kept.runnable.clients few kept.follows kept.honest kept.lawful kept.replied kept.runnable.rounds;
+      left = c.quiet_rounds_converge.ensures.leave c.self.inside.plan (reverse c.self.inside.log.items) kept.runnable.few kept.runnable.clients few kept.follows kept.honest kept.lawful kept.replied kept.runnable.rounds;
+      converged = c.quiet_rounds_converge.ensures.converge c.self.inside.plan (reverse c.self.inside.log.items) kept.runnable.few kept.runnable.clients few kept.follows kept.honest kept.lawful kept.replied kept.runnable.rounds;
+      reached = c.quiet_passes_reach.ensures.reach c.self.inside.plan (reverse c.self.inside.log.items) kept.runnable.few kept.runnable.clients few kept.follows kept.honest kept.lawful kept.replied kept.runnable.rounds;
+      rolling = c.what_all_have_never_splits.ensures.rolling c.self.inside.plan (reverse c.self.inside.log.items) kept.runnable.few kept.runnable.clients few kept.follows kept.honest kept.lawful kept.replied kept.blamed kept.runnable.rounds;
       durable = c.acknowledged_is_durable.ensures.exact c.self.inside.plan (reverse c.self.inside.log.items) kept.runnable.few few kept.honest kept.lawful;
       since = (c.split_copies_missed.ensures.exact c.self.inside.plan (reverse c.self.inside.log.items) kept.runnable.few few kept.honest kept.lawful).0;
       missed = (c.split_copies_missed.ensures.exact c.self.inside.plan (reverse c.self.inside.log.items) kept.runnable.few few kept.honest kept.lawful).1;
@@ -38,6 +38,7 @@ returns-clause-right c =
       available = c.changes_are_available.ensures.exact c.self.inside.plan (reverse c.self.inside.log.items) kept.runnable.few few kept.follows kept.honest kept.lawful kept.replied;
       rising = c.self.invariant.pacing.rising;
       within = c.self.invariant.pacing.within;
+      unlocked = c.works_leave_no_lock.ensures.exact c.self.inside.plan (reverse c.self.inside.log.items) kept.runnable.few few kept.honest kept.lawful;
     })
 
 pub returns-clause-sums : goal.returns-clause-sums
