@@ -50,7 +50,10 @@ class Browser {
       for (const domain of ["Page", "Runtime", "Network", "Log"]) await this.ask(domain + ".enable");
     }
     await this.ask("Emulation.setDeviceMetricsOverride", { width, height, deviceScaleFactor: 1, mobile: false });
-    await this.ask("Page.navigate", { url: "about:blank" });
+    await this.go("about:blank");
+    await this.go(url);
+  }
+  async go(url) {
     this.heard.length = 0;
     await this.ask("Page.navigate", { url });
     while (!this.heard.some((it) => it.method === "Page.loadEventFired")) await new Promise((done) => setTimeout(done, 20));

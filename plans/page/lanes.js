@@ -87,8 +87,14 @@ class RowList {
     }
     return Math.max(0, low);
   }
+  // The row of a work's head.
+  headOf(work) {
+    let at = this.rowOf(work.first);
+    while (at > 0 && this.rows.items[at] !== -1 - work.id && this.firstOf(at - 1) === work.first) at--;
+    return at;
+  }
   foldAll(isFolded) {
-    this.folded = new Set(isFolded ? this.run.works.list.filter((it) => !it.isHeal()).map((it) => it.id) : []);
+    this.folded = new Set(isFolded ? this.run.works.list.map((it) => it.id) : []);
     this.build();
   }
   fold(work, isFolded) {
@@ -105,12 +111,13 @@ class Places {
     const digits = Math.max(3, String(run.length).length);
     this.left = 8 * digits + 16;
     const brickWidth = mode === "requests" ? 104 : 74;
-    const least = mode === "requests" ? 88 : 60;
+    const least = mode === "requests" ? 92 : 66;
     const fits = (actor, text, brick) => this.left + actors * actor + text + bricks * brick <= width;
     let actor = 58, text = 250, brick = brickWidth;
     while (!fits(actor, text, brick) && actor > 12) actor--;
     while (!fits(actor, text, brick) && brick > least) brick--;
-    while (!fits(actor, text, brick) && text > 130) text--;
+    while (!fits(actor, text, brick) && text > 112) text--;
+    while (!fits(actor, text, brick) && actor > 8) actor--;
     this.actorWidth = actor;
     this.brickWidth = brick;
     this.text = this.left + actors * actor;
@@ -229,7 +236,7 @@ class Painter {
     for (const [brick, answer, numbers] of told) {
       const isBad = /^(gone|lost|failed|absent)$/.test(answer), at = places.brick(brick);
       this.add(row, "tip", at, answer === "gone" || answer === "failed" ? "\u00d7" : answer === "lost" ? "\u25b7" : "\u25b6");
-      this.add(row, isBad ? "told bad" : "told", at + 2, answer + numbers, places.brickWidth - 12).title = answer + numbers;
+      this.add(row, isBad ? "told bad" : "told", at + 2, answer + numbers, places.brickWidth - 6).title = answer + numbers;
     }
   }
 }

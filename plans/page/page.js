@@ -61,7 +61,6 @@ class Page {
     this.on("fold", "click", () => this.foldAll(true));
     this.on("unfold", "click", () => this.foldAll(false));
     this.on("earlier", "click", () => this.match(-1));
-    this.on("later", "click", () => this.match(1));
     this.on("only", "change", () => this.showMatches());
     this.on("search", "submit", (event) => {
       event.preventDefault();
@@ -95,9 +94,10 @@ class Page {
     this.row = row;
     this.parts.slider.value = this.parts.number.value = String(line);
     this.parts.link.href = "#line=" + line + (this.list.mode === "requests" ? "&rows=requests" : "");
-    history.replaceState(null, "", this.parts.link.href);
+    clearTimeout(this.linking);
+    this.linking = setTimeout(() => history.replaceState(null, "", this.parts.link.href), 150);
     this.lanes.choose(row);
-    this.side.show(line, this.list.length > 0 ? this.list.row(row).work : null);
+    this.side.show(line, this.list.row(row));
   }
   // Builds the rows anew after a change, and stays at the line.
   anew(change) {
@@ -108,8 +108,7 @@ class Page {
   }
   fold(work, isFolded) {
     this.anew(() => this.list.fold(work, isFolded));
-    for (let row = 0; row < this.list.length; row++) if (this.list.row(row).work === work) return this.goRow(row);
-    return undefined;
+    this.goRow(this.list.headOf(work));
   }
   foldAll(isFolded) {
     this.anew(() => this.list.foldAll(isFolded));
@@ -169,8 +168,17 @@ function textOf(id) {
   const it = document.getElementById(id);
   return it === null ? null : it.textContent;
 }
+// What makes a plan another run's: a client or healer that it hasn't got, or more commands than it has.
+function strangeTo(run, plan) {
+  if (plan === null) return "";
+  for (const who of run.names) {
+    const said = plan.said.get(who), works = run.works.ofActor.get(who) || [];
+    if (said === undefined || works.length > said.length) return `The plan isn't that of this trace: it has no ${said === undefined ? who : `command ${works.length} of ${who}`}.`;
+  }
+  return "";
+}
 // Says what kind of a run it is, and what is wrong with it, if anything is.
-function introduce(run, plan, fault) {
+function introduce(run, plan) {
   document.getElementById("title").textContent = document.title;
   const kind = plan === null ? `${run.count} bricks (without its plan: taken to have no arbiter)` : `${plan.isArbiter ? "arbiter" : "replica"} ${run.count}`;
   document.getElementById("about").textContent = `${kind}, ${run.length} lines`;
@@ -178,7 +186,9 @@ function introduce(run, plan, fault) {
     document.getElementById("planned").hidden = false;
     document.getElementById("plantext").textContent = plan.text;
   }
-  if (fault !== null) say(fault + (run.length > 0 ? `. Shown are the ${run.length} lines before it.` : "."));
+  const fault = textOf("fault"), shown = run.length > 0 ? ` Shown are the ${run.length} lines before it.` : "";
+  const faults = [textOf("noplan"), fault === null ? "" : fault + "." + shown, strangeTo(run, plan)].filter((it) => it);
+  if (faults.length > 0) say(faults.join(" "));
 }
 function say(text) {
   const sentence = document.getElementById("sentence");
@@ -188,7 +198,7 @@ function say(text) {
 function start() {
   const given = textOf("plan"), plan = given === null ? null : readPlan(given);
   const run = new Run(textOf("trace").replace(/^\n/, ""), plan);
-  introduce(run, plan, textOf("fault"));
+  introduce(run, plan);
   if (run.length === 0) document.querySelector("main").hidden = true;
   else window.afrPage = new Page(run);
 }

@@ -91,6 +91,11 @@ class Objects {
     if (held.length > 0) return held[held.length - 1].path;
     return (begun.length > 0 ? begun[begun.length - 1] : object.paths[0]).path;
   }
+  // All names that it has after a line, or the last one, which is gone.
+  names(object, line) {
+    const held = object.paths.filter((it) => it.from <= line && line < it.to).map((it) => it.path);
+    return held.length > 0 ? held.join(", ") : `${this.path(object, line)} (removed)`;
+  }
   child(directory, name, line) {
     const path = this.path(directory, line);
     return (path === "/" ? "" : path) + "/" + name;

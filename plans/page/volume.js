@@ -43,26 +43,30 @@ class Side {
     it.dataset.line = String(line);
     return it;
   }
-  show(line, work) {
+  show(line, row) {
     this.line = line;
-    this.showWords(line, work);
+    this.showWords(line, row);
     this.showVolume(line);
   }
-  showWords(line, chosen) {
+  // The words for a row, and for the command, heal and round that it is of.
+  showWords(line, { work, first, last, isFolded }) {
     const box = document.getElementById("words"), run = this.run;
-    box.replaceChildren(element("h2", "", chosen === null ? `Line ${line}` : `Lines ${chosen.first} to ${chosen.last}`));
-    let work = chosen;
+    const title = work !== null ? `Lines ${first} to ${last}${isFolded ? ", folded" : ""}` : first === last ? `Line ${line}` : `Line ${line}, of a request in lines ${first} to ${last}`;
+    box.replaceChildren(element("h2", "", title));
+    let of = work;
     if (work === null) {
-      box.append(element("p", "raw", run.line(line)));
-      for (const text of this.words.line(line)) box.append(this.linked("p", "", text));
+      const lines = first === last ? [line] : run.requests.lines(first), most = 10;
+      const text = lines.slice(0, most).map((it) => run.line(it)).join("\n") + (lines.length > most ? `\nand ${lines.length - most} more` : "");
+      box.append(element("p", "raw", text));
+      for (const it of first === last ? this.words.line(line) : this.words.request(lines)) box.append(this.linked("p", "", it));
       const id = run.works.of.items[line];
-      work = id < 0 ? null : run.works.list[id];
+      of = id < 0 ? null : run.works.list[id];
     }
-    for (; work !== null; work = work.inside) box.append(this.work(work, work === chosen));
+    for (; of !== null; of = of.inside) box.append(this.work(of, of === work));
   }
   // Which command, heal or round a line is of, with its reply and its requests to each brick.
   work(work, isChosen) {
-    const what = work.isHeal() ? work.what : `${work.who[0] === "c" ? "command" : "round"} ${work.number} of ${this.words.actor(work.who)}, ${work.what}`;
+    const what = work.isHeal() ? work.what : `${work.who[0] === "c" ? "command" : "round"} ${work.number} of ${this.words.actor(work.who)} (${work.what})`;
     const end = work.isEnded() ? `its reply ${work.reply}` : work.killed >= 0 ? `not ended: killed in line ${work.killed}` : "not ended";
     const it = element("p", "", isChosen ? "" : "Of: ");
     it.append(`${what}: lines `, this.link(work.first, String(work.first)), " to ", this.link(work.last, String(work.last)), `, ${end}. `);
@@ -86,7 +90,7 @@ class Side {
     if (volume.plain.length > 0) box.append(this.others(volume.plain, line));
   }
   title(object) {
-    const it = element("h3", "", this.run.objects.path(object, this.line) + " ");
+    const it = element("h3", "", this.run.objects.names(object, this.line) + " ");
     it.append(element("small", "", `${object.name} \u00b7 `), element("small", "gfid", this.run.objects.gfid(object)));
     return it;
   }
@@ -171,7 +175,7 @@ class Side {
     for (const text of ["path", "name", ...this.run.allBricks.map((brick) => "b" + brick)]) head.append(element("th", "", text));
     cells.append(head);
     for (const object of plain.slice(0, LISTED)) {
-      const row = element("tr"), name = element("th", "", this.run.objects.path(object, line)), short = element("td", "copy", object.name);
+      const row = element("tr"), name = element("th", "", this.run.objects.names(object, line)), short = element("td", "copy", object.name);
       name.scope = "row";
       short.title = this.run.objects.gfid(object);
       row.append(name, short);

@@ -79,7 +79,7 @@ class Words {
     return `attempt ${number}` + (change === undefined ? "" : ` (${change.words.slice(3).join(" ")})`);
   }
   // What a request asks for.
-  request(words, line) {
+  asked(words, line) {
     const [verb, about, one] = words;
     const isHeal = about === "heal";
     switch (verb) {
@@ -133,10 +133,27 @@ class Words {
     if (words[2] === "begin" && words[3] === "heal") return [`${Who} heals ${this.object(words[5], line)}, ${words[4]}: from here on what it looks at counts.`];
     if (words[2] === "begin") return [`${Who} begins attempt ${line}: to ${this.change(words.slice(3), line)}.`];
     if (words[2] === "end") return [this.end(Who, words, line)];
-    const answer = answerOf(words), request = words.slice(3, answer.startsWith("held") ? -2 : -1);
-    const numbers = run.numbers(line).trim();
-    const out = [`${Who} asks brick ${words[2][1]} ${this.request(request, line)}.`, `Brick ${words[2][1]} answers ${this.answer(line, words, answer)}.`];
-    if (numbers !== "") out.push("Its numbers now: " + numbers.split(" ").map((it) => (it[0] === "d" ? `dirty ${it.slice(1)}` : `${it.split(":")[1]} against brick ${it.split(":")[0]}`)).join(", ") + ".");
+    return [`${Who} asks brick ${words[2][1]} ${this.asked(this.requestOf(words), line)}.`, this.told(line, words)];
+  }
+  requestOf(words) {
+    return words.slice(3, answerOf(words).startsWith("held") ? -2 : -1);
+  }
+  // What a brick answers, and which of its numbers have changed.
+  told(line, words) {
+    const numbers = this.run.numbers(line).trim(), brick = words[2][1];
+    const each = (it) => (it[0] === "d" ? `dirty ${it.slice(1)}` : `${it.split(":")[1]} against brick ${it.split(":")[0]}`);
+    const now = numbers === "" ? "" : ` Its numbers now: ${numbers.split(" ").map(each).join(", ")}.`;
+    return `Brick ${brick} answers ${this.answer(line, words, answerOf(words))}.${now}`;
+  }
+  // The sentences for a request and the answers of all bricks, of each the last.
+  request(lines) {
+    const first = this.run.words(lines[0]), last = new Map(), who = this.actor(first[1]);
+    for (const line of lines) last.set(Number(this.run.words(line)[2][1]), line);
+    const bricks = [...last.keys()].sort();
+    const out = [`${who[0].toUpperCase()}${who.slice(1)} asks brick${bricks.length > 1 ? "s" : ""} ${bricks.join(", ")} ${this.asked(this.requestOf(first), lines[0])}.`];
+    const again = this.run.requests.again.get(lines[0]);
+    if (again > 1) out.push(`It asks ${again} times until it is granted.`);
+    for (const brick of bricks) out.push(`Line ${last.get(brick)}: ${this.told(last.get(brick), this.run.words(last.get(brick)))}`);
     return out;
   }
   event(words) {
