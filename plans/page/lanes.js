@@ -196,7 +196,8 @@ class Painter {
     }
   }
   line(row, { first, last }) {
-    const words = this.run.words(first);
+    const words = this.run.words(first), work = this.list.workOf(first);
+    row.setAttribute("aria-level", String(work === null ? 1 : work.isHeal() ? 3 : 2));
     if (words[1] === "event") this.event(row, words);
     else if (words[2] === "begin" || words[2] === "end") this.border(row, words);
     else if (this.list.mode === "requests") this.requests(row, first, words);

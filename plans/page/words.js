@@ -112,7 +112,7 @@ class Words {
       case "put-names": return `to take the names of ${object()} that were read in lines ${two.replaceAll(",", ", ")}, merged`;
       case "settle": {
         const against = words.slice(4).map((it, brick) => (it === "0" ? "" : `, ${it} against brick ${brick}`)).join("");
-        return `to take numbers back after the heal of ${object()}, ${one}: ${two} of dirty${against}`;
+        return `to take numbers back after the heal of ${object()}, ${one}` + (two === undefined ? "" : `: ${two} of dirty${against}`);
       }
       default: return verb;
     }
@@ -150,10 +150,10 @@ class Words {
     const first = this.run.words(lines[0]), last = new Map(), who = this.actor(first[1]);
     for (const line of lines) last.set(Number(this.run.words(line)[2][1]), line);
     const bricks = [...last.keys()].sort();
-    const out = [`${who[0].toUpperCase()}${who.slice(1)} asks brick${bricks.length > 1 ? "s" : ""} ${bricks.join(", ")} ${this.asked(this.requestOf(first), lines[0])}.`];
+    const out = [`${who[0].toUpperCase()}${who.slice(1)} asks brick${bricks.length > 1 ? "s" : ""} ${bricks.join(", ")} ${this.asked(first[3] === "settle" ? first.slice(3, 6) : this.requestOf(first), lines[0])}.`];
     const again = this.run.requests.again.get(lines[0]);
     if (again > 1) out.push(`It asks ${again} times until it is granted.`);
-    for (const brick of bricks) out.push(`Line ${last.get(brick)}: ${this.told(last.get(brick), this.run.words(last.get(brick)))}`);
+    for (const brick of bricks) out.push(`Line ${last.get(brick)}: b${this.told(last.get(brick), this.run.words(last.get(brick))).slice(1)}`);
     return out;
   }
   event(words) {
