@@ -173,14 +173,16 @@ function strangeTo(run, plan) {
   if (plan === null) return "";
   for (const who of run.names) {
     const said = plan.said.get(who), works = run.works.ofActor.get(who) || [];
-    if (said === undefined || works.length > said.length) return `The plan isn't that of this trace: it has no ${said === undefined ? who : `command ${works.length} of ${who}`}.`;
+    const lacks = said === undefined ? who : works.length > said.length ? `command ${works.length} of ${who}` : "";
+    if (lacks !== "") return `The plan isn't that of this trace: it has no ${lacks}.`;
   }
   return "";
 }
 // Says what kind of a run it is, and what is wrong with it, if anything is.
 function introduce(run, plan) {
   document.getElementById("title").textContent = document.title;
-  const kind = plan === null ? `${run.count} bricks (without its plan: taken to have no arbiter)` : `${plan.isArbiter ? "arbiter" : "replica"} ${run.count}`;
+  const bare = `${run.count} bricks (without its plan: taken to have no arbiter)`;
+  const kind = plan === null ? bare : `${plan.isArbiter ? "arbiter" : "replica"} ${run.count}`;
   document.getElementById("about").textContent = `${kind}, ${run.length} lines`;
   if (plan !== null) {
     document.getElementById("planned").hidden = false;

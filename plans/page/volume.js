@@ -51,7 +51,8 @@ class Side {
   // The words for a row, and for the command, heal and round that it is of.
   showWords(line, { work, first, last, isFolded }) {
     const box = document.getElementById("words"), run = this.run;
-    const title = work !== null ? `Lines ${first} to ${last}${isFolded ? ", folded" : ""}` : first === last ? `Line ${line}` : `Line ${line}, of a request in lines ${first} to ${last}`;
+    const ofRequest = first === last ? "" : `, of a request in lines ${first} to ${last}`;
+    const title = work !== null ? `Lines ${first} to ${last}${isFolded ? ", folded" : ""}` : `Line ${line}${ofRequest}`;
     box.replaceChildren(element("h2", "", title));
     let of = work;
     if (work === null) {
@@ -66,7 +67,8 @@ class Side {
   }
   // Which command, heal or round a line is of, with its reply and its requests to each brick.
   work(work, isChosen) {
-    const what = work.isHeal() ? work.what : `${work.who[0] === "c" ? "command" : "round"} ${work.number} of ${this.words.actor(work.who)} (${work.what})`;
+    const kind = work.who[0] === "c" ? "command" : "round";
+    const what = work.isHeal() ? work.what : `${kind} ${work.number} of ${this.words.actor(work.who)} (${work.what})`;
     const end = work.isEnded() ? `its reply ${work.reply}` : work.killed >= 0 ? `not ended: killed in line ${work.killed}` : "not ended";
     const it = element("p", "", isChosen ? "" : "Of: ");
     it.append(`${what}: lines `, this.link(work.first, String(work.first)), " to ", this.link(work.last, String(work.last)), `, ${end}. `);
@@ -83,7 +85,11 @@ class Side {
     sums.append(element("span", "objects", `objects ${volume.marked.length}`));
     sums.append(element("span", volume.split > 0 ? "split-brain bad" : "split-brain", `split-brain ${volume.split}`));
     box.append(sums);
-    const away = [...[...status.stopped].sort().map((it) => `b${it} stopped`), ...[...status.cut].map((it) => `${it.replace(" ", "\u2013b")} cut`), ...[...status.killed].map((it) => `${it} killed`)];
+    const away = [
+      ...[...status.stopped].sort().map((it) => `b${it} stopped`),
+      ...[...status.cut].map((it) => `${it.replace(" ", "\u2013b")} cut`),
+      ...[...status.killed].map((it) => `${it} killed`),
+    ];
     if (away.length > 0) box.append(element("p", "", away.join(", ")));
     for (const it of volume.numbered) box.append(this.object(it, status));
     if (volume.numbered.length === 0) box.append(element("p", "faint", "No number is above 0."));
@@ -127,7 +133,8 @@ class Side {
     return box;
   }
   copy(copy, brick) {
-    return element("td", "copy", copy.what === FILE ? (this.run.bricks.keepsBytes(brick) ? `file ${copy.length}` : "file, no bytes") : WHAT[copy.what]);
+    if (copy.what !== FILE) return element("td", "copy", WHAT[copy.what]);
+    return element("td", "copy", this.run.bricks.keepsBytes(brick) ? `file ${copy.length}` : "file, no bytes");
   }
   standing(it, kind, brick, verdict, isStopped) {
     const copy = it.copies[brick];
@@ -158,7 +165,8 @@ class Side {
     button.setAttribute("aria-expanded", "true");
     if (this.why === undefined || this.why.line !== this.line) this.why = new Why(this.run, this.line);
     const thing = this.why.thing(object.name, KINDS[kind]), what = `${object.name} ${KINDS[kind]}: brick ${brick} `;
-    const lines = i === 0 ? [what + "is dirty", ...this.why.dirt(thing, brick)] : [what + `accuses brick ${i - 1}`, ...this.why.accusations(thing, i - 1, [brick])];
+    const dirt = () => [what + "is dirty", ...this.why.dirt(thing, brick)];
+    const lines = i === 0 ? dirt() : [what + `accuses brick ${i - 1}`, ...this.why.accusations(thing, i - 1, [brick])];
     const few = i === 0 ? "" : (this.why.accused(thing, i - 1)[0] || "").split(": ")[1] || "";
     cause.replaceChildren();
     for (const text of lines) cause.append(this.linked("div", "", text.replace(/^ {4}/, "  ")));

@@ -2,6 +2,8 @@
 // missed it. The words are those of `why`.
 "use strict";
 
+const UNSETTLED = "not every brick was reached, or the heal did not come so far";
+
 class Why {
   // Reads the lines up to the given one.
   constructor(run, line) {
@@ -151,7 +153,7 @@ class Why {
   dirt(thing, brick) {
     return thing.raised[brick].map(({ line, who, attempt }) => {
       if (attempt === null)
-        return `    raised in line ${line} by a heal of ${who}, which did not settle it: not every brick was reached, or the heal did not come so far`;
+        return `    raised in line ${line} by a heal of ${who}, which did not settle it: ${UNSETTLED}`;
       const word = this.told.get(attempt + " " + brick);
       const end = word === undefined ? "no post-op was asked there" : `its post-op there was not carried out (${word})`;
       return `    raised in line ${line} by ${this.attemptText(attempt)}: ${end}`;

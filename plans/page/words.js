@@ -70,8 +70,8 @@ class Words {
     if (verb === "cut") return `cut ${this.object(about, line)} to ${one} bytes`;
     if (verb === "setattr") return `set the attribute ${one} of ${this.object(about, line)} to ${two}`;
     const where = `the name ${name} in ${this.object(directory, line)}`;
-    if (verb === "create" || verb === "mkdir")
-      return one === "g" + (line + 2) ? `make ${where}, for a new ${verb === "create" ? "file" : "directory"}, ${one}` : `make ${where}, for the file ${this.object(one, line)}`;
+    const what = one === "g" + (line + 2) ? `a new ${verb === "create" ? "file" : "directory"}, ${one}` : `the file ${this.object(one, line)}`;
+    if (verb === "create" || verb === "mkdir") return `make ${where}, for ${what}`;
     return `remove ${where}`;
   }
   attempt(number) {
@@ -81,7 +81,7 @@ class Words {
   // What a request asks for.
   asked(words, line) {
     const [verb, about, one] = words;
-    const isHeal = about === "heal";
+    const lock = about === "heal" ? `the Heal lock of ${this.object(one.split("[")[0], line)}` : "";
     switch (verb) {
       case "look": return `what copy it has of ${this.object(about, line)}: its kind, its length and its changelog attributes`;
       case "name": return `what ${this.area(about, line)} leads to`;
@@ -90,8 +90,8 @@ class Words {
       case "attr": return `for the attribute ${one} of ${this.object(about, line)}`;
       case "attrs": return `for all attributes of ${this.object(about, line)}`;
       case "index": return "for what its index lists: the objects with a number above 0";
-      case "lock": return isHeal ? `for the Heal lock of ${this.object(one.split("[")[0], line)}, which keeps other healers away` : `for the lock on ${this.area(about, line)}`;
-      case "unlock": return isHeal ? `to let the Heal lock of ${this.object(one.split("[")[0], line)} go` : `to let the lock on ${this.area(about, line)} go`;
+      case "lock": return lock !== "" ? `for ${lock}, which keeps other healers away` : `for the lock on ${this.area(about, line)}`;
+      case "unlock": return `to let ${lock !== "" ? lock : `the lock on ${this.area(about, line)}`} go`;
       default: return this.step(words, line);
     }
   }
@@ -122,7 +122,8 @@ class Words {
     if (answer.startsWith("held")) return `${answer}: ${this.actor(answer.slice(5))} has a lock in the way`;
     if (answer !== "gone") return `${answer}: ${ANSWERS[answer]}`;
     const status = this.run.status(line);
-    const reason = status.stopped.has(brick) ? "it is stopped" : status.cut.has(`${words[1]} ${brick}`) ? "the link is cut" : "the session has ended since, and this work opens no second one";
+    const isCut = status.cut.has(`${words[1]} ${brick}`), ended = "it has ended, and this work opens no second one";
+    const reason = status.stopped.has(brick) ? "it is stopped" : isCut ? "the link is cut" : ended;
     return `gone: ${ANSWERS.gone}; ${who} has no session with it: ${reason}`;
   }
   // The sentences for a line.
@@ -130,7 +131,8 @@ class Words {
     const run = this.run, words = run.words(line);
     if (words[1] === "event") return [this.event(words)];
     const who = this.actor(words[1]), Who = who[0].toUpperCase() + who.slice(1);
-    if (words[2] === "begin" && words[3] === "heal") return [`${Who} heals ${this.object(words[5], line)}, ${words[4]}: from here on what it looks at counts.`];
+    if (words[2] === "begin" && words[3] === "heal")
+      return [`${Who} heals ${this.object(words[5], line)}, ${words[4]}: from here on what it looks at counts.`];
     if (words[2] === "begin") return [`${Who} begins attempt ${line}: to ${this.change(words.slice(3), line)}.`];
     if (words[2] === "end") return [this.end(Who, words, line)];
     return [`${Who} asks brick ${words[2][1]} ${this.asked(this.requestOf(words), line)}.`, this.told(line, words)];
@@ -150,7 +152,8 @@ class Words {
     const first = this.run.words(lines[0]), last = new Map(), who = this.actor(first[1]);
     for (const line of lines) last.set(Number(this.run.words(line)[2][1]), line);
     const bricks = [...last.keys()].sort();
-    const out = [`${who[0].toUpperCase()}${who.slice(1)} asks brick${bricks.length > 1 ? "s" : ""} ${bricks.join(", ")} ${this.asked(first[3] === "settle" ? first.slice(3, 6) : this.requestOf(first), lines[0])}.`];
+    const asked = this.asked(first[3] === "settle" ? first.slice(3, 6) : this.requestOf(first), lines[0]);
+    const out = [`${who[0].toUpperCase()}${who.slice(1)} asks brick${bricks.length > 1 ? "s" : ""} ${bricks.join(", ")} ${asked}.`];
     const again = this.run.requests.again.get(lines[0]);
     if (again > 1) out.push(`It asks ${again} times until it is granted.`);
     for (const brick of bricks) out.push(`Line ${last.get(brick)}: b${this.told(last.get(brick), this.run.words(last.get(brick))).slice(1)}`);
