@@ -3,6 +3,8 @@
 "use strict";
 
 const ROW = 20;
+// About the width of a letter in a row.
+const LETTER = 7.3;
 // Above this height browsers lose count, so a longer list scrolls by a scale.
 const TALLEST = 8000000;
 
@@ -11,6 +13,11 @@ function element(kind, className, text) {
   if (className) it.className = className;
   if (text !== undefined) it.textContent = text;
   return it;
+}
+
+// Words of at most so many letters.
+function shorten(text, most) {
+  return text.length > most ? text.slice(0, most - 2) + ".." : text;
 }
 
 // Which rows there are: lines and requests by their first line, works by -1 and below.
@@ -172,7 +179,7 @@ class Painter {
     row.setAttribute("role", "treeitem");
     row.id = "row" + at;
     row.style.width = this.places.width + "px";
-    this.lanes(row, it.work !== null && !it.isFolded ? it.first : it.last);
+    this.lanes(row, it.first);
     const position = this.add(row, "at", 0, String(it.first));
     position.style.width = this.places.left - 4 + "px";
     if (it.work !== null) this.work(row, it);
@@ -185,11 +192,12 @@ class Painter {
     row.setAttribute("aria-level", work.isHeal() ? "2" : "1");
     const places = this.places, room = (isFolded ? places.brick(0) - 6 : places.end) - places.text;
     const say = this.add(row, "say", places.text, "", room);
-    const name = work.isHeal() ? work.who : `${work.who} ${work.number}`;
-    say.append(element("span", "fold", isFolded ? "\u25b8 " : "\u25be "), `${work.isHeal() ? "  " : ""}${name} ${work.what} `);
-    const reply = work.isEnded() ? work.reply : work.killed >= 0 ? "(killed)" : "(not ended)";
+    const name = work.isHeal() ? "  " + work.who : `${work.who} ${work.number}`;
+    const end = work.isEnded() ? work.reply : work.killed >= 0 ? "(killed)" : "(not ended)", reply = shorten(end, isFolded ? 16 : 80);
+    const left = Math.floor((room - 8) / LETTER) - name.length - reply.length - 6;
+    say.append(element("span", "fold", isFolded ? "\u25b8 " : "\u25be "), `${name} ${shorten(work.what, Math.max(6, left))} `);
     say.append(element("span", /^(ok|nothing|settled)/.test(reply) ? "reply" : "reply bad", "\u2192 " + reply));
-    say.title = say.textContent;
+    say.title = `${name} ${work.what} \u2192 ${end}`;
     if (isFolded) for (const brick of this.run.allBricks) {
       const asked = askedOf(this.run, work, brick);
       if (asked !== "") this.add(row, "told", places.brick(brick) + 6, asked, places.brickWidth - 8).title = `requests ${asked} to brick ${brick}`;

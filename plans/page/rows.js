@@ -83,7 +83,7 @@ class Works {
   }
   add(line, words) {
     if (words[1] === "event") {
-      if (words[2] === "kill" && this.open.has(words[3])) this.open.get(words[3]).killed = line;
+      if (words[2] === "kill") this.kill(line, words[3]);
       this.of.push(-1);
       return;
     }
@@ -100,11 +100,15 @@ class Works {
     if (words[2] === "begin") this.begin(at, line, words);
     else this.ask(at, inner, words);
   }
+  kill(line, who) {
+    const at = this.open.get(who);
+    for (const work of at === undefined ? [] : [at.work, at.heal]) if (work !== null) work.killed = line;
+  }
   // What an actor is at: a new work, where its last has ended.
   at(who, line) {
     let at = this.open.get(who);
     if (at === undefined) {
-      at = { who, work: null, heal: null, ended: 0, shown: "", isChange: false, renamed: "", killed: -1 };
+      at = { who, work: null, heal: null, ended: 0, shown: "", isChange: false, renamed: "" };
       this.open.set(who, at);
     }
     if (at.work === null) {
