@@ -15,7 +15,8 @@ use Rattle.afr_object.specs.declared.entry.View.{View}
 use Rattle.afr_readings.specs.Readings.{Answers}
 use Rattle.afr_rule.specs.declared.candidate.Candidate.{Candidate}
 use Rattle.afr_walk.proofs.ChoosingLemmas.{some_listed, sources_some}
-use Rattle.afr_walk.specs.Choosing.{candidates_of, choices, copy_in, has_sources, len_in, reader_of}
+use Rattle.afr_walk.specs.Choosing.{candidates_of, choices, has_sources, reader_of}
+use Rattle.afr_rule.specs.Copies.{copy_in, len_in}
 
 -- a candidate by its numbers
 abbrev pub numbers_of : Candidate → ℕ × ℕ
