@@ -22,14 +22,13 @@ use Rattle.afr_lines.specs.declared.line.Line.TheVariants.{Ask}
 use Rattle.afr_lines.specs.declared.reply.Good.TheVariants as good
 use Rattle.afr_lines.specs.declared.reply.Reply.{Reply}
 use Rattle.afr_lines.specs.declared.request.Area.{Area}
-use Rattle.afr_lines.specs.declared.request.Area.TheVariants.{Range, Name}
 use Rattle.afr_lines.specs.declared.request.Request.{Request}
 use Rattle.afr_lines.specs.declared.request.Request.TheVariants as request
 use Rattle.afr_range_locks.specs.declared.domain.Domain.TheVariants.{Work as WorkDomain, Heal as HealDomain}
 use Rattle.afr_plan.specs.declared.command.Command.{Command}
 use Rattle.afr_plan.specs.declared.command.Command.TheVariants as command
 use Rattle.afr_plan.specs.declared.plan.Plan.{Plan}
-use Rattle.afr_moves.proofs.AreaLemmas.{same_area_is}
+use Rattle.afr_moves.proofs.AreaLemmas.{same_area_is, same_area_self}
 use Rattle.afr_model.specs.Answered.{Counts, IsAbout, IsAsked, LooksHere, MayRead, ReadsNamed}
 use Rattle.afr_model.specs.Commands.{path_of, request_on}
 use Rattle.afr_model.specs.Refusals.{refusal}
@@ -177,11 +176,6 @@ may_look_is p c g b w = (
 
     got : Bool
     got = is_got b (area_here c (path_by p w)) w
-
-same_area_self : (area : Area) → same_area area area ≡ true
-same_area_self (Range g from to) = both _ _ (both _ _ (same_number g.0) (same_number from)) (same_number to)
-same_area_self (Name g None) = both _ _ (same_number g.0) refl
-same_area_self (Name g (Some name)) = both _ _ (same_number g.0) (same_number name.0)
 
 area_is : (area : Area) (o : Option Area) → (is_area area o ≡ true) ↔ (o ≡ Some area)
 area_is area None = (λ h. absurd (cc h), λ h. absurd (cc h))

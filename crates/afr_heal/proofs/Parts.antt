@@ -1,14 +1,10 @@
 -- Small facts of tests and sets.
-use Rattle.std.proofs.Common.{◌≡◌, ℕ, zero, suc, ◌*◌, ◌<◌, ◌&&◌, ◌||◌, not, ◌==◌, nat_lt, Bool, true, false, refl, sym, subst, arith, Option, None, Some, if◌then◌else◌}
+use Rattle.std.proofs.Common.{◌≡◌, ℕ, zero, suc, ◌*◌, ◌<◌, ◌&&◌, ◌||◌, not, ◌==◌, nat_lt, Bool, true, false, refl, sym, subst, arith, if◌then◌else◌}
 use Rattle.std.proofs.lemmas.Bool.{eqb-true}
 use Rattle.std.proofs.lemmas.Bool.Decides.{nat_tests}
 use Rattle.afr_base.specs.Majority.{is_most, count_below}
-use Rattle.afr_lines.specs.declared.request.Area.{Area}
-use Rattle.afr_lines.specs.declared.request.Area.TheVariants.{Range, Name}
-use Rattle.afr_lines.specs.Overlap.{same_area}
-use Rattle.afr_moves.specs.Rules.{is_area}
 use Rattle.afr_moves.specs.Sets.{any, with, without}
-use Rattle.afr_moves.proofs.Tests.{same_self, some_no, some_yes}
+use Rattle.afr_moves.proofs.Tests.{some_no, some_yes}
 
 -- ---- tests
 pub pair : (a b : Bool) → a ≡ true → b ≡ true → (a && b) ≡ true
@@ -57,14 +53,6 @@ pub lt_test : (a b : ℕ) → a < b → nat_lt a b ≡ true
 lt_test a b h = grind (arith, nat_tests, h)
 
 -- ---- what is the same as itself
-pub same_areas : (area : Area) → same_area area area ≡ true
-same_areas (Range g from to) = rw (same_self g.0, same_self from, same_self to) refl
-same_areas (Name g None) = rw (same_self g.0) refl
-same_areas (Name g (Some n)) = rw (same_self g.0, same_self n.0) refl
-
-pub own_area : (of : Option Area) (area : Area) → of ≡ Some area → is_area of area ≡ true
-own_area of area e = subst (λ (o : Option Area). is_area o area ≡ true) (sym e) (same_areas area)
-
 -- ---- one brick of a set
 -- a majority has a brick
 pub some_of_most : (n : ℕ) (p : ℕ → Bool) → is_most n p ≡ true → (s : ℕ) × (s < n) × (p s ≡ true)

@@ -1,13 +1,13 @@
 -- Areas that a test calls the same are the same.
 use Rattle.afr_moves.specs.Lines.{range_of, name_of}
 use Rattle.afr_lines.specs.Overlap.{same_area}
-use Rattle.std.proofs.Common.{◌≡◌, ℕ, Bool, true, false, ◌&&◌, ap, arith}
+use Rattle.std.proofs.Common.{◌≡◌, ℕ, Bool, true, false, ◌&&◌, ap, arith, refl, subst, sym}
 use Rattle.std.specs.Prelude.{Option, None, Some, ◌==◌}
 use Rattle.afr_lines.specs.declared.request.Area.{Area}
 use Rattle.afr_lines.specs.declared.request.Area.TheVariants.{Range, Name}
 use Rattle.afr_moves.specs.Rules.{is_area}
 use Rattle.std.proofs.lemmas.Bool.{eqb-true, and_parts}
-use Rattle.afr_moves.proofs.Tests.{three_parts}
+use Rattle.afr_moves.proofs.Tests.{same_self, three_parts}
 
 pub same_area_is : (a b : Area) → same_area a b ≡ true → a ≡ b
 same_area_is (Range g from to) (Range h start stop) e = three g.0 h.0 from start to stop (three_parts (g.0 == h.0) (from == start) (to == stop) e)
@@ -38,3 +38,12 @@ same_area_is (Name g (Some n)) (Name h None) e = absurd (no_and (g.0 == h.0) e)
 pub is_area_is : (of : Option Area) (area : Area) → is_area of area ≡ true → of ≡ Some area
 is_area_is None area e = absurd (cc e)
 is_area_is (Some mine) area e = ap (λ (o : Area). Some o) (same_area_is mine area e)
+
+-- an area is the same as itself
+pub same_area_self : (area : Area) → same_area area area ≡ true
+same_area_self (Range g from to) = rw (same_self g.0, same_self from, same_self to) refl
+same_area_self (Name g None) = rw (same_self g.0) refl
+same_area_self (Name g (Some name)) = rw (same_self g.0, same_self name.0) refl
+
+pub own_area : (of : Option Area) (area : Area) → of ≡ Some area → is_area of area ≡ true
+own_area of area e = subst (λ (o : Option Area). is_area o area ≡ true) (sym e) (same_area_self area)

@@ -8,9 +8,9 @@ ghost use Rattle.afr_moves.specs.Keeps.{keeps_in};
 ghost use Rattle.afr_moves.specs.Register.{accuses, good, holder, unaccused};
 ghost use Rattle.afr_self_heal.specs.Outcome.{is_marked};
 
-use crate::of_five::all_of;
 use afr_base::{BrickId, Kind, Shape};
 use afr_choice::Looked;
+use afr_discipline::all_of;
 use afr_object::View;
 
 fn has_view(looked: &Looked, x: BrickId) -> bool

@@ -9,11 +9,10 @@ ghost use Rattle.afr_model.specs.Moved.{accuser, len_in, or_brick, unlike};
 ghost use Rattle.afr_self_heal.specs.Outcome.{by_mover, mover, unlike_in};
 
 use crate::copies::has_copy;
-use crate::of_five::lowest_of;
 use crate::outcome::Outcome;
 use afr_base::{BrickId, Kind};
 use afr_choice::Looked;
-use afr_discipline::{Phase, Register, present_part};
+use afr_discipline::{Phase, Register, lowest_of, present_part};
 use afr_object::View;
 
 fn shows_missed(view: &Option<View>, kind: Kind, c: BrickId) -> bool

@@ -46,10 +46,6 @@ pub nonempty_before : (b : ℕ) (s : List ℕ) → is_nothing (removed b s) ≡ 
 nonempty_before b [] h = absurd (cc h)
 nonempty_before b (x ∷ xs) h = refl
 
-pub nonempty : (s : List ℕ) (b : ℕ) → member s b ≡ true → is_nothing s ≡ false
-nonempty [] b h = absurd (cc h)
-nonempty (x ∷ xs) b h = refl
-
 -- no brick below n is in the set, so none at all
 pub none_at : (n : ℕ) (s : List ℕ) → any n (member s) ≡ false → IsWithin n s → (c : ℕ) → member s c ≡ false
 none_at n s h within c = go (member s c) refl

@@ -13,13 +13,12 @@ use Rattle.afr_lines.specs.declared.line.Line.{Line}
 use Rattle.afr_lines.specs.declared.request.Area.{Area}
 use Rattle.afr_lines.specs.declared.request.Request.TheVariants.{Index, Lock, Unlock}
 use Rattle.afr_lines.specs.declared.request.Request.{Request}
-use Rattle.afr_moves.proofs.AreaLemmas.{is_area_is}
+use Rattle.afr_moves.proofs.AreaLemmas.{is_area_is, same_area_self}
 use Rattle.afr_moves.proofs.Tests.{same_self, some_no, with_more, with_self}
 use Rattle.afr_moves.specs.Discipline.{MayAskExactly, MayExactly, MovesExactly, exact, exact_after, in_force, note, present}
 use Rattle.afr_moves.specs.Heal.{Gives, Goes}
 use Rattle.afr_moves.specs.Honest.{Honest, asked}
 use Rattle.afr_moves.specs.Lines.{ask_by}
-use Rattle.afr_lines.specs.declared.request.Area.TheVariants.{Name, Range}
 use Rattle.afr_moves.specs.Past.{Beginning, Log, ends, held, is_gone, is_of, joined, opening, opens, place, place_after, unlocks}
 use Rattle.afr_moves.specs.Register.{Exact}
 use Rattle.afr_moves.specs.Rules as weak
@@ -167,11 +166,6 @@ asks n keeps r begun a b area h y (Unlock Work e) told took may done kept = give
   where
     whole : told ≡ Done → b ≡ y → area ≡ e → (same_area area e && (a == a) && (y == b) && took) ≡ true
     whole said same is = all_four (same_area area e) (a == a) (y == b) took (rw is (same_area_self e)) (same_self a) (subst (λ (x : ℕ). (x == b) ≡ true) same (same_self b)) (done said)
-      where
-        same_area_self : (e : Area) → same_area e e ≡ true
-        same_area_self (Range g from to) = rw (same_self g.0, same_self from, same_self to) refl
-        same_area_self (Name g None) = rw (same_self g.0) refl
-        same_area_self (Name g (Some name)) = rw (same_self g.0, same_self name.0) refl
 asks n keeps r begun a b area h y (Lock Heal e) told took may done kept = has_still n r.law (weak.note_ask n r.law y (Lock Heal e) told) b area (still n r.law y (Lock Heal e) told tt) h
 asks n keeps r begun a b area h y (Unlock Heal e) told took may done kept = has_still n r.law (weak.note_ask n r.law y (Unlock Heal e) told) b area (still n r.law y (Unlock Heal e) told tt) h
 asks n keeps r begun a b area h y request told took may done kept = has_still n r.law (weak.note_ask n r.law y request told) b area (still n r.law y request told tt) h
