@@ -193,7 +193,7 @@ removing_told chosen m a at f = go (removal.is_beginning m.stage) f
 
 -- ---- where nobody is asked
 -- a transaction that isn't over and asks nobody is at its Begin line
-beginning_where : (stage : Stage) (t : Progress) (at : ℕ) → is_ask (progress.next_at stage at t) ≡ false → progress.is_over stage t ≡ false → is_beginning stage ≡ true
+pub beginning_where : (stage : Stage) (t : Progress) (at : ℕ) → is_ask (progress.next_at stage at t) ≡ false → progress.is_over stage t ≡ false → is_beginning stage ≡ true
 beginning_where Locking t at none more = absurd (cc none)
 beginning_where Looking t at none more = absurd (cc none)
 beginning_where Beginning t at none more = refl

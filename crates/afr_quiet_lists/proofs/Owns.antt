@@ -32,9 +32,9 @@ use Rattle.afr_moves.specs.Lines.{is_ok}
 use Rattle.afr_moves.proofs.Followed.{force_is}
 use Rattle.afr_tables.specs.Codes.{kept_by}
 use Rattle.afr_law.proofs.Discipline.Asks.{IsHealLock, heal_dropped}
+use Rattle.afr_law.proofs.Model.Works.{work_more, work_other}
 use Rattle.afr_quiet_lists.proofs.Aside.{aside}
 use Rattle.afr_quiet_lists.proofs.Premises.{Sound, sound_before}
-use Rattle.afr_quiet_lists.proofs.Runs.{work_more, work_other}
 use Rattle.afr_quiet_lists.proofs.Tasks.{lock_round, round_of}
 use Rattle.afr_moves.specs.Heal.{MayHealBegin, MayHealEnd}
 
