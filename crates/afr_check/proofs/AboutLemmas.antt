@@ -34,7 +34,8 @@ use Rattle.afr_model.specs.Commands.{path_of, request_on}
 use Rattle.afr_model.specs.Refusals.{refusal}
 use Rattle.afr_model.specs.Showing.{Path, At, NoName, Untold, path_by, looked_by, among, has, begins_attempt, begun_by, Reading, NotAsked, Refused, Gave, reading_by}
 use Rattle.afr_model.specs.Standing.{area_here, change_by, getting, looks_here}
-use Rattle.afr_check.specs.About.{may_read, reads_same, is_request, named_at, reads_named, is_unread, is_object, is_got, may_look, is_area, may_lock, same_kind, counts_change, is_attempt, asks_about, is_no_name, is_empty_list, is_asked, may_begin}
+use Rattle.afr_check.specs.About.{may_read, reads_same, is_request, named_at, reads_named, is_unread, is_object, is_got, may_look, is_area, may_lock, counts_change, is_attempt, asks_about, is_no_name, is_empty_list, is_asked, may_begin}
+use Rattle.afr_base.specs.Kinds.{same_kind}
 use Rattle.afr_check.specs.Answers.{is_at}
 
 -- ---- small tests

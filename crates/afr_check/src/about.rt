@@ -5,7 +5,8 @@ ghost use Rattle.afr_lines.specs.Work.{is_end, work};
 ghost use Rattle.afr_model.specs.Answered.{IsAbout, IsAsked};
 ghost use Rattle.afr_model.specs.Refusals.{refusal};
 ghost use Rattle.afr_model.specs.Showing.{Gave as SpecGave};
-ghost use Rattle.afr_check.specs.About.{asks_about, counts_change, is_area, is_asked, is_attempt, is_empty_list, is_got, is_no_name, is_object, is_request, is_unread, may_begin, may_lock, may_look, may_read, named_at, reads_named, reads_same, same_kind};
+ghost use Rattle.afr_check.specs.About.{asks_about, counts_change, is_area, is_asked, is_attempt, is_empty_list, is_got, is_no_name, is_object, is_request, is_unread, may_begin, may_lock, may_look, may_read, named_at, reads_named, reads_same};
+ghost use Rattle.afr_base.specs.Kinds.{same_kind};
 ghost use Rattle.afr_check.specs.Readings.{path_seen, reading_seen};
 
 use crate::answered::is_at;

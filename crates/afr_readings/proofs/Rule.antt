@@ -4,7 +4,7 @@ use Rattle.afr_base.specs.Bricks.{is_nothing}
 use Rattle.afr_base.specs.declared.ids.BrickId.{BrickId}
 use Rattle.afr_base.specs.declared.ids.Kind.{Kind}
 use Rattle.afr_base.specs.declared.ids.Shape.{Shape}
-use Rattle.afr_choice.specs.Looks.{view_at}
+use Rattle.afr_choice.specs.Looks.{view_at, len_in}
 use Rattle.afr_choice.specs.Verdict.{good_copies, verdict_of}
 use Rattle.afr_choice.specs.declared.looked.Looked.{Looked}
 use Rattle.afr_choice.specs.declared.verdict.Verdict.TheVariants.{Sources}
@@ -16,7 +16,7 @@ use Rattle.afr_readings.specs.Readings.{Answers}
 use Rattle.afr_rule.specs.declared.candidate.Candidate.{Candidate}
 use Rattle.afr_walk.proofs.ChoosingLemmas.{some_listed, sources_some}
 use Rattle.afr_walk.specs.Choosing.{candidates_of, choices, has_sources, reader_of}
-use Rattle.afr_rule.specs.Copies.{copy_in, len_in}
+use Rattle.afr_rule.specs.Copies.{copy_in}
 
 -- a candidate by its numbers
 abbrev pub numbers_of : Candidate → ℕ × ℕ

@@ -22,11 +22,11 @@ use Rattle.afr_walk.proofs.ChoosingLemmas.{answers_among}
 use Rattle.afr_transaction.specs.Between.{is_read, noted_read}
 use Rattle.afr_transaction.specs.Outcome.{outcome_of}
 use Rattle.afr_transaction.specs.Progress as progress
-use Rattle.afr_transaction.specs.Progress.{Progress, fed, is_beginning}
+use Rattle.afr_transaction.specs.Progress.{Progress, fed, is_beginning, told_to}
 use Rattle.afr_transaction.specs.declared.stage.Stage.{Stage}
 use Rattle.afr_transaction.specs.declared.stage.Stage.TheVariants.{Locking}
 use Rattle.afr_transaction.proofs.NoteLemmas.{fed_change}
-use Rattle.afr_entry.specs.Entry.{found_by, offered, settled, told_to}
+use Rattle.afr_entry.specs.Entry.{found_by, offered, settled}
 use Rattle.afr_entry.specs.Job.{reply_to}
 use Rattle.afr_entry.specs.declared.refusal.Refusal.{Refusal}
 use Rattle.afr_entry.specs.declared.stage.Found.{Found}

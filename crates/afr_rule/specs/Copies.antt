@@ -1,14 +1,8 @@
 -- A copy as a rule sees it.
-use Rattle.std.specs.Prelude.{ℕ, Option, None, Some}
-use Rattle.afr_object.specs.declared.entry.View.{View}
-use Rattle.afr_choice.specs.Looks.{view_at}
+use Rattle.std.specs.Prelude.{ℕ}
+use Rattle.afr_choice.specs.Looks.{len_in, view_at}
 use Rattle.afr_choice.specs.declared.looked.Looked.{Looked}
 use Rattle.afr_rule.specs.declared.candidate.Candidate.{Candidate}
-
--- the length in a view
-abbrev pub len_in : Option View → ℕ
-len_in None = 0
-len_in (Some view) = view.len
 
 -- the length that a brick showed
 abbrev pub len_at : ℕ → Looked → ℕ
