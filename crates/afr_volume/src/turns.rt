@@ -12,7 +12,7 @@ ghost use Rattle.afr_works.specs.Work.{IsBusy, IsWork};
 
 use crate::actor::{Actor, step};
 use crate::turned::Turned;
-use afr_base::{ActorId, NoMemory, Shape};
+use afr_base::{ActorId, MOST_CLIENTS, NoMemory, Shape};
 use afr_lines::Event;
 use afr_log::Log;
 use afr_plan::{Command, Plan};
@@ -103,7 +103,7 @@ pub(crate) fn kill(actors: &mut Vec<Actor>, event: Event)
     ensures { KillsIn event actors.old.items actors.new.items }
 {
     if let Event::Kill(a) = event {
-        if a.0 <= 16 {
+        if a.0 <= MOST_CLIENTS {
             actors[a.0 as usize - 1].killed = true;
         }
     }
