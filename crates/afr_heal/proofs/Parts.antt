@@ -5,28 +5,9 @@ use Rattle.std.proofs.lemmas.Bool.Decides.{nat_tests}
 use Rattle.afr_base.specs.Majority.{is_most, count_below}
 use Rattle.afr_moves.specs.Sets.{any, with, without}
 use Rattle.afr_moves.proofs.Tests.{some_no, some_yes}
+pub use Rattle.afr_moves.proofs.Tests.{both, denied, deny, lt_test, no_or, pair}
 
 -- ---- tests
-pub pair : (a b : Bool) → a ≡ true → b ≡ true → (a && b) ≡ true
-pair true b ha hb = hb
-pair false b ha hb = absurd (cc ha)
-
-pub both : (a b : Bool) → (a && b) ≡ true → (a ≡ true) × (b ≡ true)
-both true b h = (refl, h)
-both false b h = absurd (cc h)
-
-pub deny : (a : Bool) → a ≡ false → not a ≡ true
-deny true h = absurd (cc h)
-deny false h = refl
-
-pub denied : (a : Bool) → not a ≡ true → a ≡ false
-denied true h = absurd (cc h)
-denied false h = refl
-
-pub no_or : (a b : Bool) → (a || b) ≡ false → (a ≡ false) × (b ≡ false)
-no_or true b h = absurd (cc h)
-no_or false b h = (refl, h)
-
 pub or_true : (x : Bool) → (x || true) ≡ true
 or_true true = refl
 or_true false = refl
@@ -49,10 +30,6 @@ over_then true true e h = refl
 over_then true false e h = absurd (cc h)
 over_then false a e h = absurd (cc e)
 
-pub lt_test : (a b : ℕ) → a < b → nat_lt a b ≡ true
-lt_test a b h = grind (arith, nat_tests, h)
-
--- ---- what is the same as itself
 -- ---- one brick of a set
 -- a majority has a brick
 pub some_of_most : (n : ℕ) (p : ℕ → Bool) → is_most n p ≡ true → (s : ℕ) × (s < n) × (p s ≡ true)
