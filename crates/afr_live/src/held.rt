@@ -2,8 +2,10 @@
 ghost use Rattle.std.specs.Prelude.{◌≡◌, ◌<◌, ◌≤◌, replicate};
 ghost use Rattle.afr_live.specs.Noted.{is_noted, noted_after};
 
-use afr_base::{ACTORS, ActorId};
+use afr_base::ActorId;
 use afr_volume::Turned;
+
+const ACTORS: usize = afr_base::ACTORS;
 
 /// What is noted of the lines that told an actor Held on a transaction's lock.
 #[derive(Drop)]

@@ -1,10 +1,12 @@
 //! The limits of a plan: the greatest value that each number, length or total may have.
 
-pub use afr_base::MOST_BRICKS;
 use afr_base::{LONGEST_FILE, LONGEST_WRITE, MOST_CLIENTS, MOST_HEALERS};
 
 /// The bricks of a volume that says no number.
 pub const FEWEST_BRICKS: u8 = 3;
+
+/// No volume of any shape has a brick from this number on.
+pub const MOST_BRICKS: u8 = afr_base::MOST_BRICKS;
 
 /// Opening files.
 pub const FILES: u32 = 1000;
