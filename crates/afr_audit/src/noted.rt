@@ -8,7 +8,7 @@ ghost use Rattle.afr_audit.specs.Followed.{AsksOneOfFive};
 ghost use Rattle.afr_moves.specs.Keeps.{keeps_in};
 
 use crate::unjudged::Unjudged;
-use afr_base::{BrickId, Gfid, HEAL_BLOCK, Kind};
+use afr_base::{BrickId, Gfid, HEAL_BLOCK, Kind, MOST_BRICKS};
 use afr_discipline::{Move, Register, fresh, note};
 use afr_lines::{Line, Request, Told};
 use afr_object::Change;
@@ -75,7 +75,7 @@ fn asks_one_of_five(line: &Line) -> bool
     ensures { (result ≡ true) ↔ AsksOneOfFive line.now }
 {
     match line {
-        Line::Ask { brick, .. } => brick.0 < 5,
+        Line::Ask { brick, .. } => brick.0 < MOST_BRICKS,
         _ => true,
     }
 }

@@ -22,20 +22,20 @@ use Rattle.afr_lines.specs.declared.line.Line.TheVariants.{Ask}
 use Rattle.afr_lines.specs.declared.reply.Good.TheVariants as good
 use Rattle.afr_lines.specs.declared.reply.Reply.{Reply}
 use Rattle.afr_lines.specs.declared.request.Area.{Area}
-use Rattle.afr_lines.specs.declared.request.Area.TheVariants.{Range, Name}
 use Rattle.afr_lines.specs.declared.request.Request.{Request}
 use Rattle.afr_lines.specs.declared.request.Request.TheVariants as request
 use Rattle.afr_range_locks.specs.declared.domain.Domain.TheVariants.{Work as WorkDomain, Heal as HealDomain}
 use Rattle.afr_plan.specs.declared.command.Command.{Command}
 use Rattle.afr_plan.specs.declared.command.Command.TheVariants as command
 use Rattle.afr_plan.specs.declared.plan.Plan.{Plan}
-use Rattle.afr_moves.proofs.AreaLemmas.{same_area_is}
+use Rattle.afr_moves.proofs.AreaLemmas.{same_area_is, same_area_self}
 use Rattle.afr_model.specs.Answered.{Counts, IsAbout, IsAsked, LooksHere, MayRead, ReadsNamed}
 use Rattle.afr_model.specs.Commands.{path_of, request_on}
 use Rattle.afr_model.specs.Refusals.{refusal}
 use Rattle.afr_model.specs.Showing.{Path, At, NoName, Untold, path_by, looked_by, among, has, begins_attempt, begun_by, Reading, NotAsked, Refused, Gave, reading_by}
 use Rattle.afr_model.specs.Standing.{area_here, change_by, getting, looks_here}
-use Rattle.afr_check.specs.About.{may_read, reads_same, is_request, named_at, reads_named, is_unread, is_object, is_got, may_look, is_area, may_lock, same_kind, counts_change, is_attempt, asks_about, is_no_name, is_empty_list, is_asked, may_begin}
+use Rattle.afr_check.specs.About.{may_read, reads_same, is_request, named_at, reads_named, is_unread, is_object, is_got, may_look, is_area, may_lock, counts_change, is_attempt, asks_about, is_no_name, is_empty_list, is_asked, may_begin}
+use Rattle.afr_base.specs.Kinds.{same_kind}
 use Rattle.afr_check.specs.Answers.{is_at}
 
 -- ---- small tests
@@ -177,11 +177,6 @@ may_look_is p c g b w = (
 
     got : Bool
     got = is_got b (area_here c (path_by p w)) w
-
-same_area_self : (area : Area) → same_area area area ≡ true
-same_area_self (Range g from to) = both _ _ (both _ _ (same_number g.0) (same_number from)) (same_number to)
-same_area_self (Name g None) = both _ _ (same_number g.0) refl
-same_area_self (Name g (Some name)) = both _ _ (same_number g.0) (same_number name.0)
 
 area_is : (area : Area) (o : Option Area) → (is_area area o ≡ true) ↔ (o ≡ Some area)
 area_is area None = (λ h. absurd (cc h), λ h. absurd (cc h))

@@ -5,6 +5,7 @@ use Rattle.afr_base.specs.Majority.{is_majority}
 use Rattle.afr_base.specs.declared.ids.Gfid.{Gfid}
 use Rattle.afr_base.specs.declared.ids.Kind.{Kind}
 use Rattle.afr_base.specs.declared.ids.Kind.TheVariants.{Bytes, Attrs, Names}
+use Rattle.afr_base.specs.Kinds.{same_kind}
 use Rattle.afr_choice.specs.Verdict.{good_copies}
 use Rattle.afr_object.specs.Tables.{object_of}
 use Rattle.afr_object.specs.declared.change.Change.{Change}
@@ -73,12 +74,6 @@ is_area area (Some other) = same_area area other
 
 abbrev pub may_lock : Plan → Command → Area → Work → Bool
 may_lock p c area w = not (has begins_attempt w) && is_area area (area_here c (path_by p w))
-
-abbrev pub same_kind : Kind → Kind → Bool
-same_kind Bytes Bytes = true
-same_kind Attrs Attrs = true
-same_kind Names Names = true
-same_kind one other = false
 
 -- a pre-op is of the object and kind of a change
 abbrev pub counts_change : Gfid → Kind → Option Change → Bool

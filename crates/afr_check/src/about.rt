@@ -5,7 +5,8 @@ ghost use Rattle.afr_lines.specs.Work.{is_end, work};
 ghost use Rattle.afr_model.specs.Answered.{IsAbout, IsAsked};
 ghost use Rattle.afr_model.specs.Refusals.{refusal};
 ghost use Rattle.afr_model.specs.Showing.{Gave as SpecGave};
-ghost use Rattle.afr_check.specs.About.{asks_about, counts_change, is_area, is_asked, is_attempt, is_empty_list, is_got, is_no_name, is_object, is_request, is_unread, may_begin, may_lock, may_look, may_read, named_at, reads_named, reads_same, same_kind};
+ghost use Rattle.afr_check.specs.About.{asks_about, counts_change, is_area, is_asked, is_attempt, is_empty_list, is_got, is_no_name, is_object, is_request, is_unread, may_begin, may_lock, may_look, may_read, named_at, reads_named, reads_same};
+ghost use Rattle.afr_base.specs.Kinds.{same_kind};
 ghost use Rattle.afr_check.specs.Readings.{path_seen, reading_seen};
 
 use crate::answered::is_at;
@@ -18,7 +19,7 @@ use crate::refusals::refusal;
 use crate::showing::looked_by;
 use crate::standing::{area_here, looks_here};
 use crate::told::object_of;
-use afr_base::{ActorId, BrickId, Gfid, Kind};
+use afr_base::{ActorId, BrickId, Gfid, Kind, MOST_BRICKS};
 use afr_choice::good;
 use afr_lines::{Area, Good, Line, Request};
 use afr_object::{Change, NameList};
@@ -153,7 +154,7 @@ fn is_got(b: BrickId, area: Option<Area>, log: &[Line], a: ActorId) -> Result<bo
 fn granted_at(b: BrickId, area: Area, log: &[Line], a: ActorId) -> Result<bool, Unfit>
     ensures ok { IfOk result (λ flag. flag ≡ is_got b.0 (Some area) (work a.0 (reverse log.now))) }
 {
-    if b.0 >= 5 {
+    if b.0 >= MOST_BRICKS {
         return Err(Unfit::TooMuch);
     }
     let granted = among(log, a, Phase::Getting(area))?;
@@ -200,7 +201,7 @@ fn may_read(
     requires few { plan.now.shape.n ≤ 5 }
     ensures ok { IfOk result (λ flag. flag ≡ may_read plan.now command.now g kind b.0 (work a.0 (reverse log.now))) }
 {
-    if b.0 >= 5 {
+    if b.0 >= MOST_BRICKS {
         return Err(Unfit::TooMuch);
     }
     let begun = has_line(log, a, LineTest::BeginsAttempt);

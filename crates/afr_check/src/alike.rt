@@ -4,7 +4,8 @@ ghost use Rattle.afr_base.specs.Keeping.{keeps};
 ghost use Rattle.afr_model.specs.Cells.{kind_of_cell};
 ghost use Rattle.afr_replay.specs.Room.{Fits};
 ghost use Rattle.afr_replay.specs.Seen.{cell_of};
-ghost use Rattle.afr_check.specs.Alike.{AreAlikeIn, AreAlikeInBytes, BlamesNone, IsClear, IsClearOn, IsLike, IsLikeAll};
+ghost use Rattle.afr_check.specs.Alike.{AreAlikeIn, AreAlikeInBytes, IsLike, IsLikeAll};
+ghost use Rattle.afr_tables.specs.Clear.{BlamesNone, IsClear, IsClearOn};
 
 use crate::current::same_value;
 use afr_base::{BrickId, Gfid, Kind, Shape};

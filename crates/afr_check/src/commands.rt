@@ -5,13 +5,10 @@ ghost use Rattle.afr_model.specs.Commands.{area_on, is_on_name, is_rmdir, kind_l
 ghost use Rattle.afr_lines.specs.Areas.{area_for, end_of};
 ghost use Rattle.afr_object.specs.declared.change.Change.{Change};
 
-use afr_base::{Gfid, Kind, NameId, What};
+use afr_base::{FIRST_ATTRIBUTE, Gfid, Kind, NameId, What};
 use afr_lines::{Area, Request};
 use afr_object::Chunk;
 use afr_plan::{Command, NamePath};
-
-/// The number that stands for the first attribute in a range, just past the bytes of a file.
-const FIRST_ATTRIBUTE: u64 = 9_223_372_036_854_775_808;
 
 pub(crate) fn path_of(command: &Command) -> &NamePath
     ensures { result.now ≡ path_of command.now }

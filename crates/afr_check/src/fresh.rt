@@ -9,14 +9,11 @@ ghost use Rattle.afr_replay.specs.Room.{Fits};
 ghost use Rattle.afr_replay.specs.Seen.{cell_of};
 
 use crate::current::is_no_older;
-use afr_base::{ActorId, BrickId, Gfid, KeyId, NameId};
+use afr_base::{ActorId, BrickId, Gfid, KeyId, MOST_CLIENTS, NameId};
 use afr_lines::{Line, Request, Told};
 use afr_plan::Plan;
 use afr_replay::{Cell, Unfit, is_end, is_of, is_within};
 use std::alloc::Global;
-
-/// Clients are numbered up to here.
-const LAST_CLIENT: u16 = 16;
 
 /// Whether the line after these older ones is fresh in one cell. Each line but a client's read that
 /// was given something, and names the cell, is.
@@ -79,7 +76,7 @@ fn shows_no_older(
     ensures ok { IfOk result (λ flag. (flag ≡ true) ↔ ShowsNoOlder plan.now a b.0 request.now (reverse older.now) (cell_of cell)) }
     ensures too_much { result ≡ Err Unfit.TooMuch → Fits plan.now (reverse older.now) b.0 → ⊥ }
 {
-    if a.0 > LAST_CLIENT || !names_cell(request, cell) {
+    if a.0 > MOST_CLIENTS || !names_cell(request, cell) {
         return Ok(true);
     }
     let start = work_start(older, a);

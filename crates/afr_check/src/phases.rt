@@ -7,7 +7,7 @@ ghost use Rattle.afr_model.specs.Standing.{asking, getting, holding, marked};
 ghost use Rattle.afr_check.specs.Phases.{counted};
 
 use crate::areas::object_of_area;
-use afr_base::{ActorId, BrickId, BrickSet, Gfid};
+use afr_base::{ActorId, BrickId, BrickSet, Gfid, MOST_BRICKS};
 use afr_lines::{Area, Line, Request, Told};
 use afr_range_locks::Domain;
 use afr_replay::{Unfit, is_end, is_of, same_area};
@@ -253,7 +253,7 @@ fn posted(bricks: BrickSet, line: &Line) -> Result<BrickSet, Unfit>
 fn with_if(bricks: BrickSet, flag: bool, b: BrickId) -> Result<BrickSet, Unfit>
     ensures ok { IfOk result (λ after. after ≡ added_if flag b.0 bricks) }
 {
-    if b.0 >= 5 {
+    if b.0 >= MOST_BRICKS {
         return Err(Unfit::TooMuch);
     }
     Ok(bricks.with_if(flag, b))
@@ -262,7 +262,7 @@ fn with_if(bricks: BrickSet, flag: bool, b: BrickId) -> Result<BrickSet, Unfit>
 fn without_if(bricks: BrickSet, flag: bool, b: BrickId) -> Result<BrickSet, Unfit>
     ensures ok { IfOk result (λ after. after ≡ if flag then removed b.0 bricks else bricks) }
 {
-    if b.0 >= 5 {
+    if b.0 >= MOST_BRICKS {
         return Err(Unfit::TooMuch);
     }
     if flag {
@@ -276,7 +276,7 @@ fn without_if(bricks: BrickSet, flag: bool, b: BrickId) -> Result<BrickSet, Unfi
 fn marked_if(bricks: BrickSet, flag: bool, with: bool, b: BrickId) -> Result<BrickSet, Unfit>
     ensures ok { IfOk result (λ after. after ≡ if flag then marked with b.0 bricks else bricks) }
 {
-    if b.0 >= 5 {
+    if b.0 >= MOST_BRICKS {
         return Err(Unfit::TooMuch);
     }
     if !flag {

@@ -12,14 +12,14 @@ use crate::passing::{LineTest, has_line};
 use crate::reading::Path;
 use crate::standing::place_by;
 use crate::views::{by_area, by_last_looks};
-use afr_base::{ActorId, Kind, What};
+use afr_base::{ActorId, Kind, LONGEST_FILE, What};
 use afr_lines::{Area, Line, Reply};
 use afr_object::Entry;
 use afr_plan::{Command, Plan};
 use afr_replay::Unfit;
 use std::alloc::Global;
 
-const FILE_LIMIT: u128 = 1_048_576;
+const FILE_LIMIT: u128 = LONGEST_FILE as u128;
 
 /// Why the command whose work the actor's last lines are can't go on, in as many steps as the square
 /// of the log's length; none where it can.

@@ -4,7 +4,7 @@ ghost use Rattle.afr_lines.specs.Work.{work};
 ghost use Rattle.afr_model.specs.Showing.{look_shows, looked_after, looked_by};
 
 use crate::areas::object_of_area;
-use afr_base::{ActorId, BrickId, Gfid};
+use afr_base::{ActorId, BrickId, Gfid, MOST_BRICKS};
 use afr_choice::Looked;
 use afr_lines::{Line, Request, Told};
 use afr_range_locks::Domain;
@@ -74,7 +74,7 @@ fn looked_asked(
 fn look_shows(b: BrickId, told: Told, looked: Looked) -> Result<Looked, Unfit>
     ensures ok { IfOk result (λ after. after ≡ look_shows b.0 told looked) }
 {
-    if b.0 >= 5 {
+    if b.0 >= MOST_BRICKS {
         return Err(Unfit::TooMuch);
     }
     let mut looked = looked;

@@ -1,5 +1,5 @@
 -- What the bricks showed of one object, look by look.
-use Rattle.std.specs.Prelude.{ℕ, [], ◌∷◌, Option, None, slice_set, slice_index_or}
+use Rattle.std.specs.Prelude.{ℕ, [], ◌∷◌, Option, None, Some, slice_set, slice_index_or}
 use Rattle.afr_base.specs.Bricks.{added, removed}
 use Rattle.afr_object.specs.declared.entry.View.{View}
 use Rattle.afr_choice.specs.declared.looked.Looked.{Looked}
@@ -19,3 +19,8 @@ without_look b looked = record { reached = removed b looked.reached; views = sli
 -- what brick b showed
 abbrev pub view_at : ℕ → Looked → Option View
 view_at b looked = slice_index_or looked.views b None
+
+-- the length in a view
+abbrev pub len_in : Option View → ℕ
+len_in None = 0
+len_in (Some view) = view.len

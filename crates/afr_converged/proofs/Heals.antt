@@ -11,27 +11,23 @@ use Rattle.afr_object.specs.Indexed.{index_of}
 use Rattle.afr_object.specs.Tables.{Table, copy_at}
 use Rattle.afr_object.specs.declared.object.Object.{Object}
 use Rattle.afr_lines.specs.Work.{Work, ended, work}
-use Rattle.afr_lines.specs.declared.answer.Told.{Told}
-use Rattle.afr_lines.specs.declared.answer.Told.TheVariants.{Given}
 use Rattle.afr_lines.specs.declared.line.Line.{Line}
 use Rattle.afr_lines.specs.declared.line.Line.TheVariants.{Ask, Begin, End, Event, HealBegin, HealEnd}
 use Rattle.afr_lines.specs.declared.reply.HealReply.{HealReply}
-use Rattle.afr_lines.specs.declared.request.Request.TheVariants.{Index}
 use Rattle.afr_plan.specs.declared.plan.Plan.{Plan}
 use Rattle.afr_brick.specs.TablesLemmas.{same_gfid}
 use Rattle.afr_model.specs.Actors.{rounds_of}
-use Rattle.afr_model.specs.Honest.{IsHonest}
 use Rattle.afr_model.specs.Quiet.{IsQuiet, tells_any_fault}
-use Rattle.afr_model.specs.Rounds.{IsHealed, IsOfHeal, KeepsToRound, heal_due, heals_of, kind_within, listed_after, listed_by}
+use Rattle.afr_model.specs.Rounds.{KeepsToRound, heals_of, kind_within, listed_by}
 use Rattle.afr_model.specs.Safe.{log_before}
 use Rattle.afr_model.specs.Showing.{has}
 use Rattle.afr_model.specs.Sums.{AreSums, dirty_of, pending_of}
 use Rattle.afr_model.specs.Tables.{holds}
 use Rattle.afr_quiet.specs.Undisturbed.{EachHeal, ended_heals, ends_one}
+use Rattle.afr_quiet_lists.proofs.Steps.{first_listed, later_listed}
 use Rattle.afr_quiet_lists.proofs.Index.{IsOpen, kind_open, open_not_zero}
 use Rattle.afr_quiet_lists.proofs.Premises.{Sound, sound_before}
 use Rattle.afr_quiet_lists.proofs.Runs.{AreMine, Run, before_works, ended_same, run, works, works_are}
-use Rattle.afr_quiet_lists.proofs.Steps.{answered}
 use Rattle.afr_quiet_lists.proofs.Tasks.{Round, round_of}
 use Rattle.afr_converged.specs.Converged.{IsKindOf}
 
@@ -106,24 +102,6 @@ healed P g kind (x ∷ w) each there = elim (in_parts (g, kind) (ended_heals w) 
 
 -- ---- the list of a round
 module _ (p : Plan) (b : BrickId) where
-  -- the first line of a round asks for the index
-  first_listed : (line : Line) (base : List Line) → KeepsToRound p b line [] → IsHonest p line base → tells_any_fault line ≡ false → listed_after p line base [] ≡ index_of (holds p base b.0)
-  first_listed (Ask a y Index told took) base k honest fine = (
-      let e : told ≡ Given = (answered p a y Index told took base honest fine).0 in
-      subst (λ (t : Told). listed_after p (Ask a y Index t took) base [] ≡ index_of (holds p base b.0)) (sym e) (ap (λ (c : BrickId). index_of (holds p base c.0)) k.1)
-      )
-  first_listed (Ask a y r told took) base k honest fine = absurd (let i : IsOfHeal p r [] = k in let e = i.due in cc)
-  first_listed (HealBegin a g kind) base k honest fine = absurd (let e : heal_due p [] ≡ Some (g, kind) = k in cc)
-  first_listed (HealEnd a g kind said) base k honest fine = absurd (let e : heal_due p [] ≡ Some (g, kind) = k in cc)
-  first_listed (End a said) base k honest fine = absurd (let i : IsHealed p [] = k in let e = i.begun in cc)
-  first_listed (Begin a change) base k honest fine = absurd k
-  first_listed (Event event) base k honest fine = absurd k
-
-  later_listed : (line : Line) (older : List Line) (x : Line × List Line) (w : Work) (was : List (Gfid × What)) → KeepsToRound p b line (x ∷ w) → listed_after p line older was ≡ was
-  later_listed (Ask a y Index told took) older x w was k = absurd (let e = k.0 in cc)
-  later_listed (Ask a y r told took) older x w was k = refl
-  later_listed line older x w was k = refl
-
   module _ (a : ℕ) (high : 17 ≤ a) (base : List Line) (is : slice_get (rounds_of p a) (ended a base) ≡ Some b) where
     keeps_at : (line : Line) (ls : List Line) → AreMine a ls → Round p a (ls ++ base) line → work a base ≡ [] → KeepsToRound p b line (works ls base)
     keeps_at line ls mine r rests = (
@@ -132,9 +110,9 @@ module _ (p : Plan) (b : BrickId) where
         )
 
     list_is : (line : Line) (ls : List Line) → AreMine a (line ∷ ls) → work a base ≡ [] → Sound p (line ∷ (ls ++ base)) → has tells_any_fault (works (line ∷ ls) base) ≡ false → listed_by p (works (line ∷ ls) base) ≡ index_of (holds p base b.0)
-    list_is line [] mine rests s fine = first_listed line base (keeps_at line [] tt (round_of p a base line mine.0.0 s high) rests) s.honest.0 (or_parts _ _ fine).0
+    list_is line [] mine rests s fine = first_listed p b line base (keeps_at line [] tt (round_of p a base line mine.0.0 s high) rests) s.honest.0 (or_parts _ _ fine).0
     list_is line (next ∷ ls) mine rests s fine =
-        later_listed line (next ∷ (ls ++ base)) (next, ls ++ base) (works ls base) (listed_by p (works (next ∷ ls) base)) (keeps_at line (next ∷ ls) mine.1 (round_of p a (next ∷ (ls ++ base)) line mine.0.0 s high) rests)
+        later_listed p b line (next ∷ (ls ++ base)) (next, ls ++ base) (works ls base) (listed_by p (works (next ∷ ls) base)) (keeps_at line (next ∷ ls) mine.1 (round_of p a (next ∷ (ls ++ base)) line mine.0.0 s high) rests)
         ∙ list_is next ls mine.1 rests (sound_before p line (next ∷ (ls ++ base)) s) (or_parts _ _ fine).1
 
 -- the list of an undisturbed round that the next line ends is the index of its brick before it

@@ -2,7 +2,6 @@
 use Rattle.std.proofs.Common.{Bool, ap, arith, inl, inr, refl, subst, sym, true, true≢false, ℕ, ◌<◌, ◌∙◌, ◌≡◌, ◌≤◌}
 use Rattle.std.specs.Prelude.{List as Seq, None, Option, Some, if◌then◌else◌, slice_index}
 use Rattle.std.proofs.lemmas.Bool.{eqb-true}
-use Rattle.afr_base.specs.Bricks.{and_left}
 use Rattle.afr_base.specs.declared.ids.ActorId.{ActorId}
 use Rattle.afr_base.specs.declared.ids.BrickId.{BrickId}
 use Rattle.afr_base.specs.declared.ids.Gfid.{Gfid}
@@ -10,7 +9,6 @@ use Rattle.afr_base.specs.declared.ids.Kind.{Kind}
 use Rattle.afr_base.specs.declared.ids.Kind.TheVariants.{Attrs, Bytes, Names}
 use Rattle.afr_object.specs.Tables.{copy_at, view_of}
 use Rattle.afr_object.specs.declared.change.Repair.{Repair}
-use Rattle.afr_object.specs.declared.change.Repair.TheVariants.{Copy, CutTo, PutAttrs, PutNames}
 use Rattle.afr_object.specs.declared.entry.View.{View}
 use Rattle.afr_object.specs.declared.object.Object.{Object}
 use Rattle.afr_lines.specs.declared.answer.Told.{Told}
@@ -32,13 +30,14 @@ use Rattle.afr_moves.specs.Past as position
 use Rattle.afr_moves.specs.Register.{Exact, Looks, Opening, Phase, Step, WorkLocks, holder, is_opening, rank}
 use Rattle.afr_moves.specs.Rules as weak
 use Rattle.afr_moves.specs.Rules.{Register, repair_kind}
-use Rattle.afr_moves.specs.Steps.{goes_on, looks_over, may_heal, may_mend, onward, settles_over}
+use Rattle.afr_moves.specs.Steps.{goes_on, looks_over, may_heal, onward, settles_over}
 use Rattle.afr_moves.proofs.Tests.{same_kind_yes}
 use Rattle.afr_law.proofs.Discipline.AskFields.{WorkLocked, frees_heal, frees_work, sees, work_locked}
 use Rattle.afr_law.proofs.Discipline.Firsts.{FirstsOf}
 use Rattle.afr_law.proofs.Discipline.StagesAlong.{StageOf}
 use Rattle.afr_law.proofs.Heals.Conditions.{Resumes, Starts, Waits, WorkPlace, attrs_onward, bytes_onward, heal_lock_step, heal_unlock_goes, heal_unlock_over, list_onward, look_object, mend_test, mends_pres, onward_goes, onward_kind, onward_looks, onward_object, pre_onward, pres_looks, settle_onward, settles_mends, unlock_goes, unlock_over, work_place}
 use Rattle.afr_law.proofs.Heals.Views.{here_or, put_other, put_same}
+use Rattle.afr_quiet_copies.proofs.After.{mend_onward}
 use Rattle.afr_quiet_copies.proofs.Premises.{Premises, sums}
 use Rattle.afr_quiet_copies.proofs.Told.{Hears}
 use Rattle.afr_converged.specs.Converged.{IsUnchanged}
@@ -58,12 +57,6 @@ pub record Looking (p : Plan) (was : Seq Line) (g : Gfid) (kind : Kind) (step : 
 -- a copy shows what was there
 shows_was : (p : Plan) (was older : Seq Line) → Premises p older → (g : Gfid) (kind : Kind) → IsUnchanged p was older g kind → (b : ℕ) → b < p.shape.n → (o : Object) → copy_at g (holds p older b) ≡ Some o → ShowsWas p was g kind b (view_of o)
 shows_was p was older q g kind same b low o there = (let w = sums p older q b g kind o there in (w.0 ∙ same.dirty b low, λ c near. w.1 c near ∙ same.pending b c low))
-
-mend_onward : (n : ℕ) (keeps : ℕ → Kind → Bool) (r : Exact) (s : ℕ) (repair : Repair) → may_mend n keeps r s repair ≡ true → onward n keeps r s (position.repaired repair) (repair_kind repair) ≡ true
-mend_onward n keeps r s (CutTo g len) e = and_left _ _ (and_left _ _ e)
-mend_onward n keeps r s (Copy g at some read) e = and_left _ _ (and_left _ _ (and_left _ _ (and_left _ _ e)))
-mend_onward n keeps r s (PutAttrs g read) e = and_left _ _ e
-mend_onward n keeps r s (PutNames g reads) e = and_left _ _ (and_left _ _ e)
 
 module _ (p : Plan) (keeps : ℕ → Kind → Bool) (was : Seq Line) (g : Gfid) (kind : Kind) (older : Seq Line) (q : Premises p older) (r : Exact) (t s : ℕ) (inside : r.law.heal ≡ true) (stage : StageOf r) (firsts : FirstsOf r)
     (same : IsUnchanged p was older g kind) (early : r.law.object ≡ g.0 → r.law.kind ≡ kind → Looking p was g kind r.step r.phase r.first_views)

@@ -1,6 +1,6 @@
 pub mod Parts
 pub mod Spared
-mod Splits
+pub mod Splits
 mod Leaving
 mod Standing
 mod Lines

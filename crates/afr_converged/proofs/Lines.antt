@@ -35,8 +35,6 @@ use Rattle.afr_base.specs.Majority.{is_most}
 use Rattle.afr_base.specs.Kinds.{same_kind}
 use Rattle.afr_base.specs.declared.marks.Marks.{Marks}
 use Rattle.afr_lines.specs.Work.{ended, work}
-use Rattle.afr_object.specs.declared.change.Change.{Change}
-use Rattle.afr_model.specs.Following.{IsDue, KeepsToTask, ToCommand, ToRound}
 use Rattle.afr_model.specs.Healing.{heal_by}
 use Rattle.afr_model.specs.Splits.{IsSplit}
 use Rattle.afr_model.specs.Sums.{AreSums, pending_of}
@@ -48,12 +46,14 @@ use Rattle.afr_moves.specs.Sets.{any}
 use Rattle.afr_moves.specs.Steps.{goes_on, goes_on_at, looks_over}
 use Rattle.afr_moves.proofs.Tests.{all_yes, same_kind_self, same_kind_yes, same_self, some_yes}
 use Rattle.afr_law.proofs.Heals.Conditions.{looks_far}
+use Rattle.afr_law.proofs.Heals.Along.{healed_is}
 use Rattle.afr_quiet.specs.Undisturbed.{IsEverywhere, IsKept, IsTold, OfHeal, begun_after}
+use Rattle.afr_quiet_copies.proofs.AfterLines.{no_begin}
 use Rattle.afr_quiet_copies.proofs.After.{none_beyond}
 use Rattle.afr_quiet_copies.proofs.Counted.{view_here}
 use Rattle.afr_quiet_copies.proofs.Looked.{gfid, looked_all}
 use Rattle.afr_quiet_copies.proofs.Premises.{Premises, shorter, sums}
-use Rattle.afr_quiet_copies.proofs.Round.{Round, Whole, healed_is}
+use Rattle.afr_quiet_copies.proofs.Round.{Round, Whole}
 use Rattle.afr_quiet_copies.proofs.Stretch.{Calm}
 use Rattle.afr_quiet_copies.proofs.Told.{Hears, hears}
 use Rattle.afr_converged.specs.Converged.{IsUnchanged}
@@ -150,9 +150,10 @@ module _ (p : Plan) (L : Log) (moves : MovesExactly p.shape.n (kept_by p) L) (a 
     is = first.1;
     due = whole.due (λ f six. omega (arith, far, six)) ∙ (λ i. Some (gfid_is (gfid r.law.object) g object i, kin i));
     every = held;
-    unclear = λ clear. not_clear p was before g kind every r.first_views look.seen some.0 (subst (λ k. shows_number k (r.first_views some.0) ≡ true) kin some.2) (clear_was p was first.0 g kind begun.same clear);
+    unclear = λ clear. never_clear (clear_was p was first.0 g kind begun.same clear);
     unsplit = not_split p was before g kind every r.first_views look.seen s low kept shown free first.0 (sums p first.0 begun.premises) begun.same;
     none_was = not_split p was before g kind every r.first_views look.seen s low kept shown free was (sums p was before) (unchanged_self p was g kind);
+    unclear_was = never_clear;
   }
     where
       whole : Whole p a older r
@@ -189,6 +190,9 @@ module _ (p : Plan) (L : Log) (moves : MovesExactly p.shape.n (kept_by p) L) (a 
       some = some_yes n (λ x. shows_number r.law.kind (r.first_views x)) (and_right (is_most n r.first_reached && is_most n (holder r.first_views)) (any n (λ x. shows_number r.law.kind (r.first_views x)))
           (subst (λ z. goes_on_at n keeps r s z ≡ true) look.first (and_right (good n keeps r.law.kind r.first_views s) (goes_on_at n keeps r s r.phase) on)))
 
+      never_clear : IsClear p was g kind → ⊥
+      never_clear clear = not_clear p was before g kind every r.first_views look.seen some.0 (subst (λ k. shows_number k (r.first_views some.0) ≡ true) kin some.2) clear
+
   -- ---- a request
   module _ (x : ActorId) (y : BrickId) (request : Request) (told : Told) (took : Bool) (q : Premises p (Ask x y request told took ∷ older)) (calm : Calm a (Ask x y request told took)) (round : Round p a older r) (h : Still p a was g kind older r) where
     abbrev line : Line
@@ -211,7 +215,7 @@ module _ (p : Plan) (L : Log) (moves : MovesExactly p.shape.n (kept_by p) L) (a 
         record {
           same = same_on p a was g kind line older q calm w.spared h.same;
           idle = λ out. absurd (on_heals m.inside out);
-          looking = λ in_heal whole o k. subst (λ (z : Exact). Looking p was g kind z.step z.phase z.first_views) (healed_is n keeps r t x y request told took m.inside) (w.unseen o k);
+          looking = λ in_heal whole o k. subst (λ (z : Exact). Looking p was g kind z.step z.phase z.first_views) (healed_is n keeps r t x.0 y.0 request told took m.inside) (w.unseen o k);
         }
         )
 
@@ -231,7 +235,7 @@ module _ (p : Plan) (L : Log) (moves : MovesExactly p.shape.n (kept_by p) L) (a 
     gives inside broken spares = inl (record {
       same = same_on p a was g kind line older q calm spares h.same;
       idle = λ out. absurd (on_heals inside out);
-      looking = λ in_heal whole. absurd (true≢false (sym broken ∙ (or_parts _ _ (or_parts (r.broken || breaks r request told) _ (ap (λ (z : Exact). z.broken) (healed_is n keeps r t x y request told took inside) ∙ whole)).0).0));
+      looking = λ in_heal whole. absurd (true≢false (sym broken ∙ (or_parts _ _ (or_parts (r.broken || breaks r request told) _ (ap (λ (z : Exact). z.broken) (healed_is n keeps r t x.0 y.0 request told took inside) ∙ whole)).0).0));
     })
 
     -- outside heals nothing is begun
@@ -295,17 +299,9 @@ module _ (p : Plan) (L : Log) (moves : MovesExactly p.shape.n (kept_by p) L) (a 
           true≢false (sym (f.reached z there) ∙ f.early may.inside (omega (arith, six)) first z)
           )
 
-  -- a healer begins no attempt
-  no_begin : (x : ActorId) (change : Change) → x.0 ≡ a → IsDue p (Begin x change) older → ⊥
-  no_begin x change mine d = go d.0.keeps
-    where
-      go : KeepsToTask p x.0 (Begin x change) older → ⊥
-      go (ToCommand c e f) = no_command (ended x.0 older) c (subst (λ o. slice_get (script_of p o) (ended x.0 older) ≡ Some c) mine e)
-      go (ToRound i b e k) = k
-
   still_own : (line : Line) → Premises p (line ∷ older) → IsPast L (line ∷ older) → Calm a line → Round p a older r → Still p a was g kind older r → MayExactly n keeps (λ x. r) (Some line) → State (line ∷ older) (note n keeps r t (Some line))
   still_own (Ask x y request told took) q past calm round h may = asked x y request told took q calm round h may.0 may.1
-  still_own (Begin x change) q past calm round h may = absurd (no_begin x change (eqb-true x.0 a calm.mine) (q.follows.0).1)
+  still_own (Begin x change) q past calm round h may = absurd (no_begin p a older (no_command (ended a older)) x change (eqb-true x.0 a calm.mine) (q.follows.0).1)
   still_own (HealBegin x i k) q past calm round h may = begins x i k q calm h may
   still_own (End x reply) q past calm round h may = absurd (true≢false calm.within)
   still_own (HealEnd x i k reply) q past calm round h may = inl (still_fresh p a was g kind (HealEnd x i k reply ∷ older) (same_on p a was g kind (HealEnd x i k reply) older q calm tt h.same))

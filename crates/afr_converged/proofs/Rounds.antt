@@ -1,12 +1,11 @@
 -- What an undisturbed round leaves: what was clear, and each object that every brick has.
 use Rattle.std.proofs.Common.{ap, arith, inl, inr, refl, subst, sym, ℕ, ◌<◌, ◌∙◌, ◌≡◌, ◌≤◌, ◌⊎◌, [], ◌∷◌, length}
-use Rattle.std.specs.Prelude.{Bool, List as Seq, Some, slice_get}
+use Rattle.std.specs.Prelude.{List as Seq, Some, slice_get}
 use Rattle.afr_base.specs.declared.ids.ActorId.{ActorId}
 use Rattle.afr_base.specs.declared.ids.BrickId.{BrickId}
 use Rattle.afr_base.specs.declared.ids.Gfid.{Gfid}
 use Rattle.afr_base.specs.declared.ids.Kind.{Kind}
 use Rattle.afr_lines.specs.Log.{EachLine}
-use Rattle.afr_lines.specs.Places.{Fresh, Place}
 use Rattle.afr_lines.specs.Work.{Work as Lines, ended, work}
 use Rattle.afr_lines.specs.declared.line.Line.{Line}
 use Rattle.afr_lines.specs.declared.line.Line.TheVariants.{Ask, Begin, End, Event, HealBegin, HealEnd}
@@ -22,8 +21,8 @@ use Rattle.afr_model.specs.Splits.{IsSplit}
 use Rattle.afr_tables.specs.Clear.{IsClear}
 use Rattle.afr_base.specs.Bricks.{below}
 use Rattle.afr_tables.specs.Codes.{kept_by}
-use Rattle.afr_moves.specs.Discipline.{MayExactly, in_force, exact, note, present}
-use Rattle.afr_moves.specs.Past.{Log, opens, place}
+use Rattle.afr_moves.specs.Discipline.{MayExactly, note, present}
+use Rattle.afr_moves.specs.Past.{Log}
 use Rattle.afr_moves.specs.Positions.{by_position}
 use Rattle.afr_moves.specs.Register.{Exact, untouched}
 use Rattle.afr_moves.proofs.ByPosition.{IsPast, past_whole}
@@ -31,6 +30,7 @@ use Rattle.afr_moves.proofs.Places.{place_is}
 use Rattle.afr_quiet.specs.Undisturbed.{AreQuietWhole, EachHeal, IsEverywhere, IsKept, IsQuietWhole, IsTold, IsWholeRound, begun_after}
 use Rattle.afr_quiet_copies.proofs.After.{After, after_fresh}
 use Rattle.afr_quiet_copies.proofs.AfterLines.{after_own}
+use Rattle.afr_quiet_copies.proofs.Kept.{fresh_now}
 use Rattle.afr_quiet_copies.proofs.Premises.{Premises, honest_lines, moves, shorter}
 use Rattle.afr_quiet_copies.proofs.Round.{Round, round_fresh, round_own, work_own}
 use Rattle.afr_quiet_copies.proofs.Stretch.{Calm, IsTail, Stretch, at_tail, before_tail, count, fresh_before, fresh_work, stretch}
@@ -52,10 +52,6 @@ past_then : (L : Log) (cur log : Seq Line) → IsTail cur log → IsPast L log �
 past_then L cur [] e q = subst (IsPast L) (sym e) q
 past_then L cur (line ∷ older) (inl e) q = subst (IsPast L) (sym e) q
 past_then L cur (line ∷ older) (inr t) q = past_then L cur older t q.1
-
-fresh_then : (n : ℕ) (keeps : ℕ → Kind → Bool) (L : Log) (t a : ℕ) → place L t a ≡ Fresh → present n keeps L t a ≡ untouched
-unfolding opens
-fresh_then n keeps L t a e = ap (λ (k : Place). in_force (opens k (L t)) (exact n keeps L t a)) e
 
 module _ (p : Plan) (log : Seq Line) (premises : Premises p log) (a : ℕ) (quiet : IsQuiet p a log) (no_command : (k : ℕ) (c : Command) → slice_get (script_of p a) k ≡ Some c → ⊥) where
   abbrev n : ℕ
@@ -80,7 +76,7 @@ module _ (p : Plan) (log : Seq Line) (premises : Premises p log) (a : ℕ) (quie
   Keeps h k said before = IsKept p log h k said (heal_by (work a before))
 
   at_start : now start ≡ untouched
-  at_start = fresh_then n (kept_by p) L lo a (place_is L a start (past_then L start log (before_tail a log) (past_whole log)) ∙ fresh_before a log)
+  at_start = fresh_now n (kept_by p) L lo a (place_is L a start (past_then L start log (before_tail a log) (past_whole log)) ∙ fresh_before a log)
 
   -- what is clear stays clear, whoever has the object
   module _ (g : Gfid) (kind : Kind) (clear : IsClear p (log_before (work a log) log) g kind) where
@@ -169,6 +165,10 @@ round_leaves p x said older q clients high quiet b whole g kind every = go (at_e
 pub round_clears : (p : Plan) (x : ActorId) (older : Seq Line) → Premises p older → length p.clients ≤ 16 → 17 ≤ x.0 → IsQuiet p x.0 older → (g : Gfid) (kind : Kind) → IsClear p (log_before (work x.0 older) older) g kind → IsClear p older g kind
 round_clears p x older q clients high quiet g kind clear = (clear_rests p older q x.0 quiet (λ k c e. no_script p x.0 k c clients high e) g kind clear).clear
 
+clear_left : (p : Plan) (a : ℕ) (was log : Seq Line) (g : Gfid) (kind : Kind) → Same p a was g kind log ⊎ Gone p a was g kind log → IsClear p was g kind → IsUnchanged p was log g kind
+clear_left p a was log g kind (inl s) clear = s.same
+clear_left p a was log g kind (inr gone) clear = absurd (gone.2 clear)
+
 split_left : (p : Plan) (a : ℕ) (was log : Seq Line) (g : Gfid) (kind : Kind) → Same p a was g kind log ⊎ Gone p a was g kind log → IsSplit p was (below p.shape.n) g kind → IsUnchanged p was log g kind
 split_left p a was log g kind (inl s) split = s.same
 split_left p a was log g kind (inr gone) split = absurd (gone.1 split)
@@ -181,9 +181,11 @@ lines_left p clients low (line ∷ older) q w = (go line q w.0, lines_left p cli
     go (End x said) q w = λ high b is quiet g kind. (
         let small = low x.0 (ended x.0 older) b is in
         let sound : Premises p (End x said ∷ older) = q (omega (arith, small)) in
+        let left = round_leaves p x said older sound clients high quiet b (w high b is quiet) g kind in
         record {
           clear = round_clears p x older (shorter p (End x said) older sound) clients high quiet g kind;
-          split = λ every split. split_left p x.0 (log_before (work x.0 older) older) older g kind (round_leaves p x said older sound clients high quiet b (w high b is quiet) g kind every) split;
+          still = λ every clear. clear_left p x.0 (log_before (work x.0 older) older) older g kind (left every) clear;
+          split = λ every split. split_left p x.0 (log_before (work x.0 older) older) older g kind (left every) split;
         }
         )
     go (Ask x y request told took) q w = tt

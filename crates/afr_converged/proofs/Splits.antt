@@ -1,10 +1,9 @@
 -- Where every brick has the object, a split-brain is that each copy is accused by some brick.
-use Rattle.std.proofs.Common.{Bool, ap, arith, false, not, refl, sym, true, true≢false, ℕ, ◌&&◌, ◌<◌, ◌∙◌, ◌≡◌, ◌≤◌, List, [], ◌∷◌, Some, ◌==◌}
+use Rattle.std.proofs.Common.{Bool, ap, arith, false, not, refl, sym, true, true≢false, ℕ, ◌&&◌, ◌<◌, ◌∙◌, ◌≡◌, ◌≤◌, List, Some}
 use Rattle.std.specs.Prelude.{is_some, nat_lt}
-use Rattle.std.proofs.lemmas.Bool.Decides.{nat_tests}
 use Rattle.afr_base.specs.Bricks.{and_left, and_right, below, is_nothing, member}
 use Rattle.afr_base.specs.Keeping.{is_bytes, keeps}
-use Rattle.afr_base.specs.SetLemmas.{below_all, within_below}
+use Rattle.afr_base.specs.SetLemmas.{below_all, no_member, some_member, within_below}
 use Rattle.afr_base.specs.declared.ids.Gfid.{Gfid}
 use Rattle.afr_base.specs.declared.ids.Kind.{Kind}
 use Rattle.afr_choice.specs.Looks.{view_at}
@@ -24,19 +23,11 @@ use Rattle.afr_missed.proofs.Views.{split_accused}
 use Rattle.afr_quiet.specs.Undisturbed.{IsEverywhere}
 use Rattle.afr_quiet_lists.proofs.Judged.{below_most}
 use Rattle.afr_converged.specs.Converged.{IsUnchanged}
-use Rattle.afr_converged.proofs.Spared.{has_some}
+use Rattle.afr_converged.proofs.Spared.{everywhere_still, has_some}
 
 -- each copy is accused by some brick
 abbrev pub AllAccused : Plan → List Line → Gfid → Kind → Type 0
 AllAccused p log g kind = (c : ℕ) → c < p.shape.n → keeps p.shape kind c ≡ true → (x : ℕ) × (x < p.shape.n) × (accuses p log g kind x c ≡ true)
-
-some_in : (xs : List ℕ) (b : ℕ) → member xs b ≡ true → is_nothing xs ≡ false
-some_in [] b m = absurd (true≢false (sym m))
-some_in (x ∷ xs) b m = refl
-
-none_in : (xs : List ℕ) → ((b : ℕ) → member xs b ≡ true → ⊥) → is_nothing xs ≡ true
-none_in [] h = refl
-none_in (x ∷ xs) h = absurd (h x (let same : (x == x) ≡ true = grind (arith, nat_tests) in rw same refl))
 
 -- brick 0 keeps every kind
 first_keeps : (p : Plan) (kind : Kind) → keeps p.shape kind 0 ≡ true
@@ -76,11 +67,11 @@ module _ (p : Plan) (log : List Line) (sums : AreSums p log) (five : p.shape.n �
       copies : is_nothing (copies_of p.shape here kind) ≡ false
       copies = (
           let w = has_some p log 0 g (every 0 some) in
-          some_in (copies_of p.shape here kind) 0 (member_copies p.shape here kind 0 (omega arith) ∙ rw (below_all n 0 five some, w.1, first_keeps p kind) refl)
+          some_member (copies_of p.shape here kind) 0 (member_copies p.shape here kind 0 (omega arith) ∙ rw (below_all n 0 five some, w.1, first_keeps p kind) refl)
           )
 
       none_good : is_nothing (good_copies p.shape here kind) ≡ true
-      none_good = none_in (good_copies p.shape here kind) accused
+      none_good = no_member (good_copies p.shape here kind) accused
         where
           accused : (b : ℕ) → member (good_copies p.shape here kind) b ≡ true → ⊥
           accused b m = (
@@ -91,9 +82,16 @@ module _ (p : Plan) (log : List Line) (sums : AreSums p log) (five : p.shape.n �
               true≢false (sym (accuses_here w.0 b w.1 low w.2) ∙ nobody_accuses p.shape here kind b w.0 m (let near = w.1 in omega (arith, near, five)))
               )
 
--- so a split-brain is one where nothing has changed
+-- so a split-brain was one where nothing has changed since
 pub split_was : (p : Plan) (was log : List Line) → AreSums p was → AreSums p log → 0 < p.shape.n → p.shape.n ≤ 5 → (g : Gfid) (kind : Kind) → IsEverywhere p was g → IsEverywhere p log g → IsUnchanged p was log g kind → IsSplit p log (below p.shape.n) g kind → IsSplit p was (below p.shape.n) g kind
 split_was p was log sums_was sums_log some five g kind every_was every_log u split = split_if p was sums_was five g kind every_was some (λ c low kept. accused c (all_accused p log sums_log five g kind every_log split c low kept))
   where
     accused : (c : ℕ) → (x : ℕ) × (x < p.shape.n) × (accuses p log g kind x c ≡ true) → (x : ℕ) × (x < p.shape.n) × (accuses p was g kind x c ≡ true)
     accused c w = (w.0, w.1, ap (nat_lt 0) (sym (u.pending w.0 c w.1)) ∙ w.2)
+
+-- and stays one as long as nothing changes
+pub split_stays : (p : Plan) (was log : List Line) → AreSums p was → AreSums p log → 0 < p.shape.n → p.shape.n ≤ 5 → (g : Gfid) (kind : Kind) → IsEverywhere p was g → IsUnchanged p was log g kind → IsSplit p was (below p.shape.n) g kind → IsSplit p log (below p.shape.n) g kind
+split_stays p was log sums_was sums_log some five g kind every u split = split_if p log sums_log five g kind (everywhere_still p was log g kind u every) some (λ c low kept. accused c (all_accused p was sums_was five g kind every split c low kept))
+  where
+    accused : (c : ℕ) → (x : ℕ) × (x < p.shape.n) × (accuses p was g kind x c ≡ true) → (x : ℕ) × (x < p.shape.n) × (accuses p log g kind x c ≡ true)
+    accused c w = (w.0, w.1, ap (nat_lt 0) (u.pending w.0 c w.1) ∙ w.2)

@@ -105,10 +105,11 @@ module _ (p : Plan) (a : ℕ) (was : Seq Line) (g : Gfid) (kind : Kind) where
     pub unclear : IsClear p first g kind → ⊥
     pub unsplit : IsSplit p first (below p.shape.n) g kind → ⊥
     pub none_was : IsSplit p was (below p.shape.n) g kind → ⊥
+    pub unclear_was : IsClear p was g kind → ⊥
 
-  -- at the end of these lines the object is repaired, and it wasn't in split-brain
+  -- at the end of these lines the object is repaired, and it was neither in split-brain nor clear
   abbrev pub Gone : Seq Line → Type 0
-  Gone log = IsRepaired p log g kind × (IsSplit p was (below p.shape.n) g kind → ⊥)
+  Gone log = IsRepaired p log g kind × (IsSplit p was (below p.shape.n) g kind → ⊥) × (IsClear p was g kind → ⊥)
 
   ask_stays : (x : ActorId) (y : BrickId) (request : Request) (told : Told) (took : Bool) (older : Seq Line) (w : Lines) → (request ≡ Index → ⊥) → (is_border (Ask x y request told took) ≡ false) × (heal_due p ((Ask x y request told took, older) ∷ w) ≡ heal_due p w)
   ask_stays x y Index told took older w other = absurd (other refl)
@@ -139,11 +140,12 @@ module _ (p : Plan) (a : ℕ) (was : Seq Line) (g : Gfid) (kind : Kind) where
       unclear = w.unclear;
       unsplit = w.unsplit;
       none_was = w.none_was;
+      unclear_was = w.unclear_was;
     }
 
   -- its end tells that it settled
   pub went_ends : (log : Seq Line) (h : Gfid) (k : Kind) (said : HealReply) (older : Seq Line) → Went older → heal_due p (work a older) ≡ Some (h, k) → IsTold p h k said (heal_by (work a older)) → IsKept p log h k said (heal_by (work a older)) → Gone log
-  went_ends log h k said older w due told kept = (go told.few, w.none_was)
+  went_ends log h k said older w due told kept = (go told.few, w.none_was, w.unclear_was)
     where
       same : Path (Gfid × Kind) (h, k) (g, kind)
       same = cc (sym due ∙ w.due)

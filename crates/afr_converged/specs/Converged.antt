@@ -52,9 +52,10 @@ pub record IsUnchanged (p : Plan) (was log : List Line) (g : Gfid) (kind : Kind)
   pub parts : (x : ℕ) → x < p.shape.n → (part : What × Contents) → HasPart p was x g kind part → HasPart p log x g kind part
 
 -- ---- one round
--- what was clear is clear, and a split-brain of an object that every brick had is as it was
+-- what was clear is clear; and where every brick had the object, what was clear or in split-brain is as it was
 pub record IsLeft (p : Plan) (was log : List Line) (g : Gfid) (kind : Kind) : Type 0 where
   pub clear : IsClear p was g kind → IsClear p log g kind
+  pub still : IsEverywhere p was g → IsClear p was g kind → IsUnchanged p was log g kind
   pub split : IsEverywhere p was g → IsSplit p was (below p.shape.n) g kind → IsUnchanged p was log g kind
 
 -- so the undisturbed round that a line ends leaves each object and kind

@@ -34,6 +34,7 @@ pub use laws::{each_move_is_decided, each_note_stands, has_five};
 pub use moves::may;
 pub use note_steps::asked_at;
 pub use notes::note;
+pub use of_five::{all_of, lowest_of};
 pub use of_heals::{begun, healed, is_heal, present_part, present_step};
 pub use register::{Move, Phase, Register, Step, fresh};
 pub use views::is_carried;

@@ -1,11 +1,13 @@
 //! A condition on the bricks below `n`, told for each of five: whether some meet it, all, most, and which alone does; and which of the five do.
-ghost use Rattle.std.specs.Prelude.{◌≡◌, ℕ, Bool, ◌≤◌, ◌==◌, if◌then◌else◌};
+ghost use Rattle.std.specs.Prelude.{◌≡◌, ℕ, Bool, ◌≤◌, ◌==◌, filter, if◌then◌else◌, slice_get};
+ghost use Rattle.afr_base.specs.Bricks.{all_five};
 ghost use Rattle.afr_base.specs.Majority.{count_below, is_most};
 ghost use Rattle.afr_moves.specs.Sets.{any};
 ghost use Rattle.afr_moves.specs.Register.{all};
 ghost use Rattle.afr_discipline.specs.Five.{Gives};
 ghost use Rattle.afr_discipline.specs.Notes.{picked};
 ghost use Rattle.afr_discipline.specs.Stands.{least, sole};
+ghost use Rattle.afr_discipline.specs.Turns.{brick_of};
 
 use afr_base::{BrickId, BrickSet};
 
@@ -16,7 +18,7 @@ pub(crate) fn any_of(n: u8, a: bool, b: bool, c: bool, d: bool, e: bool) -> bool
     (4 < n && e) || (3 < n && d) || (2 < n && c) || (1 < n && b) || (0 < n && a)
 }
 
-pub(crate) fn all_of(n: u8, a: bool, b: bool, c: bool, d: bool, e: bool) -> bool
+pub fn all_of(n: u8, a: bool, b: bool, c: bool, d: bool, e: bool) -> bool
     requires { n ≤ 5 }
     ensures { (test : ℕ → Bool) → Gives test a b c d e → result ≡ all n test }
 {
@@ -106,4 +108,23 @@ pub(crate) fn picked(first: bool, second: bool, third: bool, fourth: bool, fifth
         .with_if(third, BrickId(2))
         .with_if(fourth, BrickId(3))
         .with_if(fifth, BrickId(4))
+}
+
+/// The lowest brick that passes.
+pub fn lowest_of(a: bool, b: bool, c: bool, d: bool, e: bool) -> Option<BrickId>
+    ensures { (test : ℕ → Bool) → Gives test a b c d e → result ≡ brick_of (slice_get (filter test all_five) 0) }
+{
+    if a {
+        Some(BrickId(0))
+    } else if b {
+        Some(BrickId(1))
+    } else if c {
+        Some(BrickId(2))
+    } else if d {
+        Some(BrickId(3))
+    } else if e {
+        Some(BrickId(4))
+    } else {
+        None
+    }
 }

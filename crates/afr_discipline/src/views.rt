@@ -13,7 +13,7 @@ ghost use Rattle.afr_discipline.specs.Stands.{views_of};
 ghost use Rattle.afr_discipline.specs.Tests.{carried, fits_view};
 
 use crate::of_five::{all_of, any_of, most_of};
-use afr_base::{BrickId, BrickSet, Kind, Marks, Shape, What};
+use afr_base::{BrickId, BrickSet, Kind, MOST_BRICKS, Marks, Shape, What};
 use afr_choice::Looked;
 use afr_object::{Change, View};
 
@@ -37,7 +37,7 @@ fn is_data(kind: Kind) -> bool
 pub(crate) fn keeps(shape: Shape, b: BrickId, kind: Kind) -> bool
     ensures { result ≡ keeps_in shape b.0 kind }
 {
-    b.0 < 5 && !(shape.arbiter && is_data(kind) && b.0 == 2)
+    b.0 < MOST_BRICKS && !(shape.arbiter && is_data(kind) && b.0 == 2)
 }
 
 /// The numbers of one kind that a view shows, where they lie.

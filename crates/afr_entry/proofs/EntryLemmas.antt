@@ -30,7 +30,7 @@ use Rattle.afr_walk.specs.declared.walk.WalkStep.TheVariants as walking
 use Rattle.afr_walk.proofs.ChoosingLemmas.{among_good, answers_among}
 use Rattle.afr_walk.proofs.WalkLemmas.{is_walked, walked_notes}
 use Rattle.afr_transaction.specs.Progress as progress
-use Rattle.afr_transaction.specs.Progress.{Progress, after, answered_by, begun, enough, fed, is_beginning, left, may_start, starting}
+use Rattle.afr_transaction.specs.Progress.{Progress, after, answered_by, begun, enough, fed, is_beginning, left, may_start, starting, told_to}
 use Rattle.afr_transaction.specs.Sound as progress_sound
 use Rattle.afr_transaction.specs.declared.stage.Stage.{Stage}
 use Rattle.afr_transaction.specs.declared.stage.Stage.TheVariants.{Locking, Looking, Beginning, Preparing, Applying, Posting, Closing}
@@ -43,7 +43,7 @@ use Rattle.afr_removal.specs.Sound as removal_sound
 use Rattle.afr_removal.proofs.FirstLemmas.{base_of, named_of, unbegun_of}
 use Rattle.afr_removal.proofs.KeptLemmas.{begins_sound, sound_first as removal_first, stays_sound as removal_stays}
 use Rattle.afr_removal.proofs.NoteLemmas.{answered_notes, asks_elsewhere as removal_asks, begins_there as removal_begins}
-use Rattle.afr_entry.specs.Entry.{HasReader, IsChanging, IsEntry, IsRemoving, IsStage, IsToRemove, after_step, child_after, choices_at, choices_heard, choices_removing, choices_under, fits_job, fits_stage, found_after, found_by, is_over, name_noted, next_at, next_under, offered, or_removes, progress_after, progress_begun, reads_name, register_at, removal_after, removal_begun, settled, stage_after, stage_begun, told_to, walk_after}
+use Rattle.afr_entry.specs.Entry.{HasReader, IsChanging, IsEntry, IsRemoving, IsStage, IsToRemove, after_step, child_after, choices_at, choices_heard, choices_removing, choices_under, fits_job, fits_stage, found_after, found_by, is_over, name_noted, next_at, next_under, offered, or_removes, progress_after, progress_begun, reads_name, register_at, removal_after, removal_begun, settled, stage_after, stage_begun, walk_after}
 use Rattle.afr_entry.specs.Job.{change_of, child_by, reply_to, ruled_out}
 use Rattle.afr_entry.specs.Laws.{FedIsAnswered, NotesBegin, NotesEach, StaysSound}
 use Rattle.afr_entry.specs.declared.job.EntryJob.{EntryJob}

@@ -17,7 +17,7 @@ use Rattle.afr_walk.specs.Choosing.{reader_of}
 use Rattle.afr_transaction.specs.Between.{is_read, noted_read}
 use Rattle.afr_transaction.specs.Outcome.{reply_of}
 use Rattle.afr_transaction.specs.Progress as progress
-use Rattle.afr_transaction.specs.Progress.{Progress, answered, asks, fed, is_beginning}
+use Rattle.afr_transaction.specs.Progress.{Progress, answered, asks, fed, is_beginning, told_to}
 use Rattle.afr_transaction.specs.declared.stage.Stage.{Stage}
 use Rattle.afr_transaction.specs.declared.stage.Stage.TheVariants.{Locking, Looking, Beginning, Preparing, Applying, Posting, Closing}
 use Rattle.afr_transaction.proofs.NoteLemmas.{fed_change}
@@ -27,7 +27,7 @@ use Rattle.afr_removal.specs.declared.stage.RemovalStage.{RemovalStage}
 use Rattle.afr_removal.specs.declared.stage.RemovalStage.TheVariants as removing
 use Rattle.afr_entry.specs.declared.stage.EntryStage.{EntryStage}
 use Rattle.afr_entry.specs.declared.stage.EntryStage.TheVariants.{Walking, Changing, Removes, Ending}
-use Rattle.afr_entry.specs.Entry.{Entering, IsChanging, IsFed, choices_removing, choices_under, found_after, found_by, is_over, name_noted, next_at, next_of, next_under, offered, progress_after, reads_name, removal_after, settled, told_to}
+use Rattle.afr_entry.specs.Entry.{Entering, IsChanging, IsFed, choices_removing, choices_under, found_after, found_by, is_over, name_noted, next_at, next_of, next_under, offered, progress_after, reads_name, removal_after, settled}
 use Rattle.afr_entry.specs.Job.{reply_to, ruled_out}
 use Rattle.afr_entry.specs.declared.job.EntryJob.{EntryJob}
 use Rattle.afr_entry.specs.declared.refusal.Refusal.{Refusal}
@@ -193,7 +193,7 @@ removing_told chosen m a at f = go (removal.is_beginning m.stage) f
 
 -- ---- where nobody is asked
 -- a transaction that isn't over and asks nobody is at its Begin line
-beginning_where : (stage : Stage) (t : Progress) (at : ℕ) → is_ask (progress.next_at stage at t) ≡ false → progress.is_over stage t ≡ false → is_beginning stage ≡ true
+pub beginning_where : (stage : Stage) (t : Progress) (at : ℕ) → is_ask (progress.next_at stage at t) ≡ false → progress.is_over stage t ≡ false → is_beginning stage ≡ true
 beginning_where Locking t at none more = absurd (cc none)
 beginning_where Looking t at none more = absurd (cc none)
 beginning_where Beginning t at none more = refl

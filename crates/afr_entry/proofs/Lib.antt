@@ -1,3 +1,3 @@
 pub mod AskedLemmas
 pub mod EntryLemmas
-mod HeardLemmas
+pub mod HeardLemmas

@@ -34,7 +34,7 @@ use Rattle.afr_walk.specs.declared.walk.WalkStep.TheVariants as walking
 use Rattle.afr_transaction.specs.Between.{given_up, noted_read}
 use Rattle.afr_transaction.specs.Made.{attempted}
 use Rattle.afr_transaction.specs.Progress as transaction
-use Rattle.afr_transaction.specs.Progress.{Progress, CarriesAt, begun, fed, is_beginning, starting}
+use Rattle.afr_transaction.specs.Progress.{Progress, CarriesAt, begun, fed, is_beginning, starting, told_to}
 use Rattle.afr_transaction.specs.Sound.{Sound}
 use Rattle.afr_transaction.specs.declared.stage.Stage.{Stage}
 use Rattle.afr_transaction.specs.declared.stage.Stage.TheVariants.{Locking, Looking, Preparing, Applying, Posting, Closing}
@@ -135,10 +135,6 @@ settled (Some why) t = given_up t
 -- the register notes the read of the name
 abbrev pub name_noted : BrickId → EntryJob → Walk → Told → ℕ → Progress → Progress
 name_noted b job w told at t = noted_read b.0 (reads_name job w) told at t
-
--- the transaction has its answer, where it has asked
-abbrev pub told_to : Told → ℕ → Progress → Progress
-told_to told at t = if is_beginning t.stage then t else fed t.stage told at t
 
 -- the transaction after an answer
 abbrev pub progress_after : Found → Answer → ℕ → EntryJob → Walk → Progress → Progress

@@ -22,6 +22,7 @@ use Rattle.afr_lines.specs.declared.request.Request.TheVariants as request
 use Rattle.afr_moves.specs.Note.{is_failed, is_held}
 use Rattle.afr_moves.specs.Past.{is_gone}
 use Rattle.afr_moves.specs.Rules.{is_area}
+use Rattle.afr_moves.proofs.AreaLemmas.{own_area}
 use Rattle.afr_pace.proofs.Counting.{asked_falls, removed_falls}
 use Rattle.afr_pace.proofs.Nearer.{done_kept, most, pre_kept, step_of}
 use Rattle.afr_pace.specs.Left.{count}
@@ -34,7 +35,6 @@ use Rattle.afr_removal.specs.declared.child.Child.{Child}
 use Rattle.afr_removal.specs.declared.stage.Ending.{Ending}
 use Rattle.afr_removal.specs.declared.stage.RemovalStage.TheVariants.{Applying, Beginning, Closing, Listing, Locking, Looking, Posting, Preparing}
 use Rattle.afr_removal.specs.declared.stage.RemovalStage.{RemovalStage}
-use Rattle.afr_transaction.proofs.Allowed.{own_area}
 use Rattle.afr_transaction.proofs.Parts.{holder_shows}
 use Rattle.afr_transaction.proofs.Requests.{after_outside, locked_w, noted_is}
 

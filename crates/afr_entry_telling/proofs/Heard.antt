@@ -19,11 +19,11 @@ use Rattle.afr_object.specs.declared.entry.Entry.{Entry}
 use Rattle.afr_object.specs.declared.entry.View.{View}
 use Rattle.afr_plan.specs.declared.command.Command.{Command}
 use Rattle.afr_plan.specs.declared.plan.Plan.{Plan}
-use Rattle.afr_transaction.specs.Progress.{Progress, fed, is_beginning, is_over, next_at as next_change}
+use Rattle.afr_transaction.specs.Progress.{Progress, fed, is_beginning, is_over, next_at as next_change, told_to}
 use Rattle.afr_transaction.specs.declared.stage.Stage.{Stage}
 use Rattle.afr_transaction.specs.declared.stage.Stage.TheVariants.{Locking, Looking, Beginning, Preparing, Applying, Posting, Closing}
 use Rattle.afr_walk.specs.declared.walk.Walk.{Walk}
-use Rattle.afr_entry.specs.Entry.{IsChanging, child_after, found_after, found_by, name_noted, next_under, or_removes, progress_after, reads_name, settled, told_to}
+use Rattle.afr_entry.specs.Entry.{IsChanging, child_after, found_after, found_by, name_noted, next_under, or_removes, progress_after, reads_name, settled}
 use Rattle.afr_entry.specs.Job.{change_of, child_by, name_of, reply_to, ruled_out}
 use Rattle.afr_entry.specs.declared.job.EntryJob.{EntryJob}
 use Rattle.afr_entry.specs.declared.refusal.Refusal.{Refusal}

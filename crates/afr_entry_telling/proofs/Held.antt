@@ -19,6 +19,7 @@ use Rattle.afr_lines.specs.declared.request.Request.TheVariants as request_of
 use Rattle.afr_lines.specs.declared.request.Request.TheVariants.{Look, ReadName, ReadBytes, ReadAttr, List as ListNames}
 use Rattle.afr_moves.specs.Rules.{busy, is_area}
 use Rattle.afr_moves.specs.Sets.{any}
+use Rattle.afr_moves.proofs.AreaLemmas.{own_area}
 use Rattle.afr_object.specs.Tables.{object_of}
 use Rattle.afr_object.specs.declared.change.Change.{Change}
 use Rattle.afr_range_locks.specs.declared.domain.Domain.TheVariants.{Work as WorkDomain}
@@ -32,7 +33,6 @@ use Rattle.afr_transaction.specs.Progress.{Progress, after, answered_by, fed, le
 use Rattle.afr_transaction.specs.Sound.{IsBase, Sound}
 use Rattle.afr_transaction.specs.declared.stage.Stage.{Stage}
 use Rattle.afr_transaction.specs.declared.stage.Stage.TheVariants.{Locking, Looking, Beginning, Preparing, Applying, Posting, Closing}
-use Rattle.afr_transaction.proofs.Allowed.{own_area}
 use Rattle.afr_transaction.proofs.Parts.{any_member, any_nothing, no_or, none_at}
 use Rattle.afr_transaction.proofs.Requests.{after_outside, locked_w, noted_is}
 use Rattle.afr_transaction_tells.proofs.Small.{area_self}

@@ -3,7 +3,7 @@ use Rattle.std.proofs.Common.{ℕ, ◌≡◌, ◌<◌, ◌≤◌, ◌&&◌, Bool
 use Rattle.afr_base.specs.declared.ids.Gfid.{Gfid}
 use Rattle.afr_base.specs.declared.ids.Kind.{Kind}
 use Rattle.afr_discipline.specs.Inside.{allows, begins_part, may_heal_begin}
-use Rattle.afr_heal.proofs.Parts.{any_no, deny, lt_test, own_area, pair}
+use Rattle.afr_heal.proofs.Parts.{any_no, deny, lt_test, pair}
 use Rattle.afr_heal.proofs.StagesAllowed.{enough_work, first_lock_ok, heal_lock_ok, lock_ok, look_ok, may_end, may_heals, may_mends, may_part, may_pre, may_read, may_settles, may_unlocks}
 use Rattle.afr_heal.proofs.StagesWalk.{after_elim, broken_elim, first_elim, heal_elim, lock_elim, look_elim, looks_later}
 use Rattle.afr_heal.specs.Engine.{Next, lock_next, next_of}
@@ -14,6 +14,7 @@ use Rattle.afr_lines.specs.declared.request.Request.{Request}
 use Rattle.afr_moves.specs.Register.{Exact, Finish, HealLocks, HealPres, HealUnlocks, Looks, Mends, Opening, Phase, Piece, Reads, Settles, Unlocks, Untouched, WorkLocks, is_opening, over, same_step, whole_area}
 use Rattle.afr_moves.specs.Steps.{locks_at, may_heal}
 use Rattle.afr_moves.proofs.Tests.{same_kind_self, same_self, some_no}
+use Rattle.afr_moves.proofs.AreaLemmas.{own_area}
 
 module _ (n : ℕ) (keeps : ℕ → Kind → Bool) (r : Exact) (s : ℕ) (g : Gfid) (kind : Kind) where
   -- a request that some source allows

@@ -4,7 +4,7 @@ use Rattle.afr_base.specs.declared.ids.Gfid.{Gfid}
 use Rattle.afr_base.specs.declared.ids.Kind.{Kind}
 use Rattle.afr_heal.proofs.Finding.{over_asked}
 use Rattle.afr_heal.proofs.KeptBroken.{KeepsAt, dropped_base}
-use Rattle.afr_heal.proofs.Parts.{any_none, no_or, not_both, off, pair, same_areas, some_of_most, with_with}
+use Rattle.afr_heal.proofs.Parts.{any_none, no_or, not_both, off, pair, some_of_most, with_with}
 use Rattle.afr_heal.proofs.StagesAllowed.{lock_ok}
 use Rattle.afr_heal.proofs.StagesForms.{granting_by, locking_by, part_at, shape}
 use Rattle.afr_heal.proofs.StagesWalk.{lock_elim}
@@ -22,6 +22,7 @@ use Rattle.afr_moves.specs.Steps.{locks_at, may_heal, turn}
 use Rattle.afr_range_locks.specs.declared.domain.Domain.TheVariants.{Work}
 use Rattle.afr_lines.specs.declared.answer.Told.TheVariants as told_of
 use Rattle.afr_moves.specs.Rules as weak
+use Rattle.afr_moves.proofs.AreaLemmas.{same_area_self}
 
 module _ (n : ℕ) (keeps : ℕ → Kind → Bool) (pick : (ℕ → Bool) → ℕ) (q : Exact) (part : Phase) (later : is_opening part ≡ false) (s : ℕ) (g : Gfid) (kind : Kind) (area : Area) (k : AtPart n keeps (shape q WorkLocks part g kind (Some area)) s g kind) where
   abbrev r : Exact
@@ -67,8 +68,8 @@ module _ (n : ℕ) (keeps : ℕ → Kind → Bool) (pick : (ℕ → Bool) → �
     part_lost gone false own = Ending (record { base = dropped_base g (locking_by false own r.law area) gone b (lock_base false own); broken = rw later refl })
 
     part_lock_told : (told : Told) → fits (Lock Work area) told ≡ true → Standing n keeps (asked_for n keeps r at b (Lock Work area) told) (source_after n keeps pick (asked_for n keeps r at b (Lock Work area) told) s) g kind
-    part_lock_told told_of.Granted f = part_granted (busy n r.law) (is_area (Some area) area) (same_areas area) refl
-    part_lock_told (told_of.Held owner) f = part_held (busy n r.law) (is_area (Some area) area) (same_areas area) refl
+    part_lock_told told_of.Granted f = part_granted (busy n r.law) (is_area (Some area) area) (same_area_self area) refl
+    part_lock_told (told_of.Held owner) f = part_held (busy n r.law) (is_area (Some area) area) (same_area_self area) refl
     part_lock_told told_of.Failed f = part_lost false (busy n r.law) (is_area (Some area) area)
     part_lock_told told_of.NotConnected f = part_lost true (busy n r.law) (is_area (Some area) area)
     part_lock_told _ f = absurd (cc f)

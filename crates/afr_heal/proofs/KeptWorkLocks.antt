@@ -5,7 +5,7 @@ use Rattle.afr_base.specs.declared.ids.Kind.{Kind}
 use Rattle.afr_heal.proofs.Finding.{over_asked, turn_set}
 use Rattle.afr_heal.proofs.KeptBroken.{KeepsAt}
 use Rattle.afr_heal.proofs.KeptHealLocks.{worked}
-use Rattle.afr_heal.proofs.Parts.{not_both, pair, same_areas, some_of_most, with_sub, without_both, without_no}
+use Rattle.afr_heal.proofs.Parts.{not_both, pair, some_of_most, with_sub, without_both, without_no}
 use Rattle.afr_heal.proofs.StagesAllowed.{enough_work, lock_ok}
 use Rattle.afr_heal.proofs.StagesForms.{granting_by, locking_by, shape, work_at}
 use Rattle.afr_heal.proofs.StagesWalk.{lock_elim}
@@ -23,6 +23,7 @@ use Rattle.afr_moves.specs.Steps.{locks_at, may_heal, turn}
 use Rattle.afr_range_locks.specs.declared.domain.Domain.TheVariants.{Work}
 use Rattle.afr_lines.specs.declared.answer.Told.TheVariants as told_of
 use Rattle.afr_moves.specs.Rules as weak
+use Rattle.afr_moves.proofs.AreaLemmas.{same_area_self}
 
 module _ (n : ℕ) (keeps : ℕ → Kind → Bool) (pick : (ℕ → Bool) → ℕ) (q : Exact) (s : ℕ) (g : Gfid) (kind : Kind) (k : AtWork n keeps (shape q WorkLocks Opening g q.law.kind (Some (whole_area g.0 kind))) g kind) where
   abbrev r : Exact
@@ -57,10 +58,10 @@ module _ (n : ℕ) (keeps : ℕ → Kind → Bool) (pick : (ℕ → Bool) → �
     work_gone w false e = absurd (cc e)
 
     work_told : (told : Told) → fits (Lock Work here) told ≡ true → Standing n keeps (asked_for n keeps r at b (Lock Work here) told) (source_after n keeps pick (asked_for n keeps r at b (Lock Work here) told) s) g kind
-    work_told told_of.Granted f = work_granted (busy n r.law) (is_area (Some here) here) (same_areas here)
-    work_told (told_of.Held owner) f = work_refused (busy n r.law) (is_area (Some here) here) q.asked (same_areas here)
-    work_told told_of.Failed f = work_refused (busy n r.law) (is_area (Some here) here) (with q.asked b) (same_areas here)
-    work_told told_of.NotConnected f = work_gone (busy n r.law) (is_area (Some here) here) (same_areas here)
+    work_told told_of.Granted f = work_granted (busy n r.law) (is_area (Some here) here) (same_area_self here)
+    work_told (told_of.Held owner) f = work_refused (busy n r.law) (is_area (Some here) here) q.asked (same_area_self here)
+    work_told told_of.Failed f = work_refused (busy n r.law) (is_area (Some here) here) (with q.asked b) (same_area_self here)
+    work_told told_of.NotConnected f = work_gone (busy n r.law) (is_area (Some here) here) (same_area_self here)
     work_told _ f = absurd (cc f)
 
   work_begins : over n (locks_at r Opening) r.asked ≡ true → Keeps n keeps pick r s g kind Begins

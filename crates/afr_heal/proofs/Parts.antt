@@ -1,36 +1,13 @@
 -- Small facts of tests and sets.
-use Rattle.std.proofs.Common.{◌≡◌, ℕ, zero, suc, ◌*◌, ◌<◌, ◌&&◌, ◌||◌, not, ◌==◌, nat_lt, Bool, true, false, refl, sym, subst, arith, Option, None, Some, if◌then◌else◌}
+use Rattle.std.proofs.Common.{◌≡◌, ℕ, zero, suc, ◌*◌, ◌<◌, ◌&&◌, ◌||◌, not, ◌==◌, nat_lt, Bool, true, false, refl, sym, subst, arith, if◌then◌else◌}
 use Rattle.std.proofs.lemmas.Bool.{eqb-true}
 use Rattle.std.proofs.lemmas.Bool.Decides.{nat_tests}
 use Rattle.afr_base.specs.Majority.{is_most, count_below}
-use Rattle.afr_lines.specs.declared.request.Area.{Area}
-use Rattle.afr_lines.specs.declared.request.Area.TheVariants.{Range, Name}
-use Rattle.afr_lines.specs.Overlap.{same_area}
-use Rattle.afr_moves.specs.Rules.{is_area}
 use Rattle.afr_moves.specs.Sets.{any, with, without}
-use Rattle.afr_moves.proofs.Tests.{same_self, some_no, some_yes}
+use Rattle.afr_moves.proofs.Tests.{some_no, some_yes}
+pub use Rattle.afr_moves.proofs.Tests.{both, denied, deny, lt_test, no_or, pair}
 
 -- ---- tests
-pub pair : (a b : Bool) → a ≡ true → b ≡ true → (a && b) ≡ true
-pair true b ha hb = hb
-pair false b ha hb = absurd (cc ha)
-
-pub both : (a b : Bool) → (a && b) ≡ true → (a ≡ true) × (b ≡ true)
-both true b h = (refl, h)
-both false b h = absurd (cc h)
-
-pub deny : (a : Bool) → a ≡ false → not a ≡ true
-deny true h = absurd (cc h)
-deny false h = refl
-
-pub denied : (a : Bool) → not a ≡ true → a ≡ false
-denied true h = absurd (cc h)
-denied false h = refl
-
-pub no_or : (a b : Bool) → (a || b) ≡ false → (a ≡ false) × (b ≡ false)
-no_or true b h = absurd (cc h)
-no_or false b h = (refl, h)
-
 pub or_true : (x : Bool) → (x || true) ≡ true
 or_true true = refl
 or_true false = refl
@@ -52,18 +29,6 @@ pub over_then : (o a : Bool) → o ≡ true → (o && not a) ≡ false → a ≡
 over_then true true e h = refl
 over_then true false e h = absurd (cc h)
 over_then false a e h = absurd (cc e)
-
-pub lt_test : (a b : ℕ) → a < b → nat_lt a b ≡ true
-lt_test a b h = grind (arith, nat_tests, h)
-
--- ---- what is the same as itself
-pub same_areas : (area : Area) → same_area area area ≡ true
-same_areas (Range g from to) = rw (same_self g.0, same_self from, same_self to) refl
-same_areas (Name g None) = rw (same_self g.0) refl
-same_areas (Name g (Some n)) = rw (same_self g.0, same_self n.0) refl
-
-pub own_area : (of : Option Area) (area : Area) → of ≡ Some area → is_area of area ≡ true
-own_area of area e = subst (λ (o : Option Area). is_area o area ≡ true) (sym e) (same_areas area)
 
 -- ---- one brick of a set
 -- a majority has a brick

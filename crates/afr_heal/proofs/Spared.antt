@@ -6,7 +6,7 @@ use Rattle.afr_base.specs.declared.ids.Kind.{Kind}
 use Rattle.afr_base.specs.declared.ids.Kind.TheVariants.{Attrs, Bytes, Names}
 use Rattle.afr_discipline.specs.Turns.{less_in}
 use Rattle.afr_heal.proofs.Finding.{turn_low}
-use Rattle.afr_heal.proofs.Parts.{both, pair, same_areas}
+use Rattle.afr_heal.proofs.Parts.{both, pair}
 use Rattle.afr_heal.proofs.StagesWalk.{after_elim, at_unlocks, broken_elim, first_elim, heal_elim, lock_elim, look_elim, looks_later}
 use Rattle.afr_heal.specs.Answers.{asked_for, source_after}
 use Rattle.afr_heal.specs.Carried.{IsNamed}
@@ -22,6 +22,7 @@ use Rattle.afr_lines.specs.declared.request.Request.TheVariants.{List, Lock, Loo
 use Rattle.afr_moves.specs.Register.{Exact, Finish, HealLocks, HealPres, HealUnlocks, Looks, Mends, Opening, Phase, Piece, Reads, Settles, Step, Unlocks, WorkLocks, is_opening, is_piece, len_of, piece_area, rank, same_step, span, whole_area}
 use Rattle.afr_moves.specs.Rules.{heal_area}
 use Rattle.afr_moves.specs.Steps.{turn}
+use Rattle.afr_moves.proofs.AreaLemmas.{same_area_self}
 use Rattle.afr_range_locks.specs.declared.domain.Domain.TheVariants.{Heal, Work}
 
 -- a request that leaves the part, its bytes and the first views
@@ -128,7 +129,7 @@ module _ (n : ℕ) (keeps : ℕ → Kind → Bool) (pick : (ℕ → Bool) → �
             each true = record { zero_first = λ h. absurd (cc h); low = k.low; piece = λ h. absurd (cc h) }
             each false = record { zero_first = λ h. absurd (cc h); low = k.low; piece = λ h. e }
         by false e =
-            let same : same_area (whole_area q.law.object Bytes) (if nat_lt q.upto (len_of (q.first_views s)) then piece_area g.0 q.upto else whole_area g.0 Bytes) ≡ true = rw (e, object) (same_areas (whole_area g.0 Bytes)) in
+            let same : same_area (whole_area q.law.object Bytes) (if nat_lt q.upto (len_of (q.first_views s)) then piece_area g.0 q.upto else whole_area g.0 Bytes) ≡ true = rw (e, object) (same_area_self (whole_area g.0 Bytes)) in
             rw (at, same) (record { zero_first = λ h. absurd (cc h); low = k.low; piece = λ h. absurd (cc h) })
 
   -- ---- by the stage

@@ -9,7 +9,7 @@ use Rattle.afr_discipline.specs.Five.{has_read}
 use Rattle.afr_discipline.specs.Inside.{may_end_heal}
 use Rattle.afr_discipline.specs.Turns.{less_by, marks_in, pending_less}
 use Rattle.afr_heal.proofs.Finding.{passed_behind, turn_set}
-use Rattle.afr_heal.proofs.Parts.{any_no, both, deny, or_true, pair, same_areas}
+use Rattle.afr_heal.proofs.Parts.{any_no, both, deny, or_true, pair}
 use Rattle.afr_heal.proofs.StagesWalk.{at_unlocks, enough_heal, is_free, not_healing, past_heal}
 use Rattle.afr_heal.specs.Engine.{has_part, lock_next}
 use Rattle.afr_heal.specs.Requests.{area_or, next_area, position, read_in, repair_in, request_in}
@@ -24,10 +24,11 @@ use Rattle.afr_moves.specs.Sets.{empty}
 use Rattle.afr_moves.specs.Steps.{after_unlocks, is_lowest, is_whole, locks_at, looks_over, may_heal, mends_at, mends_over, onward, passed, pres_over, reads_at, reads_over, same_read, same_reads, set_of, settles_at, settles_over, takes, turn}
 use Rattle.afr_object.specs.declared.entry.View.{View}
 use Rattle.afr_moves.proofs.Tests.{same_kind_self, same_self}
+use Rattle.afr_moves.proofs.AreaLemmas.{same_area_self}
 
 -- the area of this part is the register's own
 pub own_now : (o : Option Area) (whole area : Area) → o ≡ Some area → is_area o (area_or o whole) ≡ true
-own_now o whole area e = subst (λ (o : Option Area). is_area o (area_or o whole) ≡ true) (sym e) (same_areas area)
+own_now o whole area e = subst (λ (o : Option Area). is_area o (area_or o whole) ≡ true) (sym e) (same_area_self area)
 
 -- ---- what each request needs
 module _ (n : ℕ) (keeps : ℕ → Kind → Bool) (r : Exact) (s : ℕ) (g : Gfid) where
@@ -95,23 +96,23 @@ module _ (n : ℕ) (keeps : ℕ → Kind → Bool) (r : Exact) (s : ℕ) (g : Gf
   settles_hold Names part b h = h
 
   whole_ok : (kind : Kind) → is_whole (whole_area g.0 kind) g.0 ≡ true
-  whole_ok Bytes = rw (same_areas (whole_area g.0 Bytes)) refl
-  whole_ok Attrs = rw (same_areas (whole_area g.0 Attrs)) (or_true' (same_area (whole_area g.0 Bytes) (whole_area g.0 Attrs)))
+  whole_ok Bytes = rw (same_area_self (whole_area g.0 Bytes)) refl
+  whole_ok Attrs = rw (same_area_self (whole_area g.0 Attrs)) (or_true' (same_area (whole_area g.0 Bytes) (whole_area g.0 Attrs)))
     where
       or_true' : (x : Bool) → (x || true || same_area (whole_area g.0 Names) (whole_area g.0 Attrs)) ≡ true
       or_true' true = refl
       or_true' false = refl
-  whole_ok Names = rw (same_areas (whole_area g.0 Names)) (or_true (same_area (whole_area g.0 Bytes) (whole_area g.0 Names) || same_area (whole_area g.0 Attrs) (whole_area g.0 Names)))
+  whole_ok Names = rw (same_area_self (whole_area g.0 Names)) (or_true (same_area (whole_area g.0 Bytes) (whole_area g.0 Names) || same_area (whole_area g.0 Attrs) (whole_area g.0 Names)))
 
   next_ok : (object : ℕ) → object ≡ g.0 → (f : Bool) (upto : ℕ) → (if f then same_area (piece_area object upto) (if f then piece_area g.0 upto else whole_area g.0 Bytes) else same_area (whole_area object Bytes) (if f then piece_area g.0 upto else whole_area g.0 Bytes)) ≡ true
-  next_ok object e true upto = rw e (same_areas (piece_area g.0 upto))
-  next_ok object e false upto = rw e (same_areas (whole_area g.0 Bytes))
+  next_ok object e true upto = rw e (same_area_self (piece_area g.0 upto))
+  next_ok object e false upto = rw e (same_area_self (whole_area g.0 Bytes))
 
 -- ---- the stages up to the looks of a part: x is any copy that may be the source
 module _ (n : ℕ) (keeps : ℕ → Kind → Bool) (r : Exact) (s : ℕ) (g : Gfid) (kind : Kind) where
   -- the Heal lock is of the heal's object
   pub heal_area_ok : IsBase g r → same_area (heal_area r.law.object) (heal_area g.0) ≡ true
-  heal_area_ok k = rw k.is_object (same_areas (heal_area g.0))
+  heal_area_ok k = rw k.is_object (same_area_self (heal_area g.0))
 
   -- a Heal lock
   pub heal_lock_ok : AtHeal n keeps r g → (x b : ℕ) → turn n keeps r s HealLocks b ≡ true → may_heal n keeps r x b (request_in n keeps r s g kind HealLocks b) ≡ true

@@ -2,7 +2,6 @@
 use Rattle.std.proofs.Common.{ℕ, ◌≡◌, ◌&&◌, ◌==◌, if◌then◌else◌, Bool, None, Option, Some, false, not, refl, true}
 use Rattle.afr_base.specs.declared.ids.Gfid.{Gfid}
 use Rattle.afr_base.specs.declared.ids.Kind.{Kind}
-use Rattle.afr_heal.proofs.Parts.{own_area}
 use Rattle.afr_heal.specs.Standing.{AfterLooks, AtFirst, AtHeal, AtLooks, AtPart, AtViews, AtWork, Broken}
 use Rattle.afr_lines.specs.declared.request.Area.{Area}
 use Rattle.afr_moves.specs.Register.{Exact, HealLocks, Looks, Opening, Phase, Step, Untouched, WorkLocks, is_opening, whole_area}
@@ -12,6 +11,7 @@ use Rattle.afr_lines.specs.declared.request.Request.{Request}
 use Rattle.afr_moves.specs.Rules as weak
 use Rattle.afr_moves.specs.Rules.{Register, begun, busy, is_area}
 use Rattle.afr_moves.specs.Sets.{empty, with, without}
+use Rattle.afr_moves.proofs.AreaLemmas.{own_area}
 use Rattle.afr_object.specs.declared.entry.View.{View}
 
 -- ---- the register of each stage

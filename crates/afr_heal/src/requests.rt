@@ -7,14 +7,11 @@ ghost use Rattle.afr_moves.specs.Keeps.{keeps_in};
 ghost use Rattle.afr_moves.specs.Register.{piece_area, whole_area};
 ghost use Rattle.afr_moves.specs.Rules.{heal_area};
 
-use afr_base::{BrickId, Gfid, Kind};
+use afr_base::{BrickId, FIRST_ATTRIBUTE, Gfid, HEAL_BLOCK, Kind};
 use afr_discipline::{Phase, Register, Step, len_at, owed_at, present_part};
 use afr_lines::{Area, Request};
 use afr_object::Repair;
 use afr_range_locks::Domain;
-
-/// Attributes are locked by this one number of a range; bytes lie below it.
-const ATTRS: u64 = 0x8000_0000_0000_0000;
 
 /// All of one kind of the object.
 fn whole_of(gfid: Gfid, kind: Kind) -> Area
@@ -24,12 +21,12 @@ fn whole_of(gfid: Gfid, kind: Kind) -> Area
         Kind::Bytes => Area::Range {
             gfid,
             from: 0,
-            to: ATTRS,
+            to: FIRST_ATTRIBUTE,
         },
         Kind::Attrs => Area::Range {
             gfid,
-            from: ATTRS,
-            to: ATTRS + 1,
+            from: FIRST_ATTRIBUTE,
+            to: FIRST_ATTRIBUTE + 1,
         },
         Kind::Names => Area::Name { gfid, name: None },
     }
@@ -42,7 +39,7 @@ pub(crate) fn heal_range(gfid: Gfid) -> Area
     Area::Range {
         gfid,
         from: 0,
-        to: ATTRS,
+        to: FIRST_ATTRIBUTE,
     }
 }
 
@@ -52,7 +49,7 @@ fn piece_of(gfid: Gfid, at: u32) -> Area
     Area::Range {
         gfid,
         from: u64::from(at),
-        to: u64::from(at) + 131_072,
+        to: u64::from(at) + u64::from(HEAL_BLOCK),
     }
 }
 
@@ -94,7 +91,7 @@ fn read_of(register: &Register, gfid: Gfid, kind: Kind) -> Request
         Kind::Bytes => Request::ReadBytes {
             gfid,
             at: register.upto,
-            len: 131_072,
+            len: HEAL_BLOCK,
         },
         Kind::Attrs => Request::ReadAttrs { gfid },
         Kind::Names => Request::List { gfid },
@@ -113,7 +110,7 @@ fn repair_of(register: &Register, source: BrickId, gfid: Gfid, kind: Kind) -> Re
         (Kind::Bytes, _) => Repair::Copy {
             gfid,
             at: register.upto,
-            span: 131_072,
+            span: HEAL_BLOCK,
             read: place_of(register.reads[source.0 as usize]),
         },
         (Kind::Attrs, _) => Repair::PutAttrs {

@@ -1,6 +1,5 @@
 -- What an honest brick tells a heal fits what was asked, and an index is what the log has.
-use Rattle.std.proofs.Common.{◌≡◌, ℕ, suc, ◌<◌, ◌≤◌, ◌^◌, ◌⊎◌, arith, nat_le, Bool, true, false, List, [], ◌∷◌, Option, None, Some, is_some, length, refl, sym, ap, ◌∙◌, subst, inl, inr, take, drop}
-use Rattle.std.specs.Prelude.{slice_index}
+use Rattle.std.proofs.Common.{◌≡◌, ℕ, suc, ◌<◌, ◌≤◌, ◌⊎◌, arith, nat_le, Bool, true, false, List, [], Option, None, Some, is_some, length, refl, sym, ap, ◌∙◌, subst, inl, inr, take, drop}
 use Rattle.afr_base.specs.Bricks.{member}
 use Rattle.afr_base.specs.Marks.{marks_of}
 use Rattle.afr_base.specs.declared.ids.ActorId.{ActorId}
@@ -31,6 +30,7 @@ use Rattle.afr_law.proofs.Model.Short.{all_short}
 use Rattle.afr_law.specs.Exactly.{IsLawfulExactly}
 use Rattle.afr_law.specs.ModelFits.{HasCopy}
 use Rattle.afr_law.specs.ModelNext.{MayAskNext}
+use Rattle.afr_law.proofs.Model.Answered.{marks_range}
 use Rattle.afr_lines.specs.Told.{told_by}
 use Rattle.afr_lines.specs.Work.{Work, work}
 use Rattle.afr_lines.specs.declared.answer.Answer.{Answer}
@@ -48,7 +48,6 @@ use Rattle.afr_model.specs.Showing.{among, is_fault}
 use Rattle.afr_model.specs.Sums.{has_object}
 use Rattle.afr_model.specs.Tables.{holds}
 use Rattle.afr_moves.specs.Keeps.{keeps_in}
-use Rattle.afr_moves.specs.Ranges.{Each, IsWord, MarksInRange}
 use Rattle.afr_moves.specs.Register.{Exact, Finish, HealLocks, HealPres, HealUnlocks, Looks, Mends, Opening, Phase, Piece, Reads, Settles, Step, Unlocks, Untouched, WorkLocks, Open, Pres, Applies, Posts, rank}
 use Rattle.afr_object.specs.Indexed.{index_of}
 use Rattle.afr_object.specs.Repairs.{repaired}
@@ -59,7 +58,7 @@ use Rattle.afr_plan.specs.declared.plan.Plan.{Plan}
 use Rattle.afr_self_heal.specs.Healing.{CanHear, IsShowable, IsTellable}
 use Rattle.afr_self_heal.specs.declared.outcome.Outcome.{Outcome as HealOutcome}
 use Rattle.afr_tables.specs.Codes.{kept_by}
-use Rattle.afr_tables.specs.TableLaws.{five_pending, numbers_below}
+use Rattle.afr_tables.specs.TableLaws.{numbers_below}
 
 -- ---- what fits a request
 -- a request of a heal, at a brick that has what it is about; a look may ask for it
@@ -131,17 +130,7 @@ look_is (request_of.Lock domain area) view h = absurd (cc h)
 look_is (request_of.Unlock domain area) view h = absurd (cc h)
 look_is request view h = absurd (cc h)
 
-each_word : (numbers : List ℕ) (most : ℕ) → most < 2 ^ 32 → ((c : ℕ) → slice_index numbers c ≤ most) → Each IsWord numbers
-each_word [] most low h = tt
-each_word (x ∷ numbers) most low h = ((let first = h 0 in omega (arith, first, low)), each_word numbers most low (λ c. h (suc c)))
-
 module _ (p : Plan) (log : List Line) (few : p.shape.n ≤ 5) (short : length log < 4000000) (honest : Honest p log) (lawful : IsLawfulExactly p log) where
-  marks_range : (b : ℕ) (g : Gfid) (o : Object) → copy_at g (holds p log b) ≡ Some o → (kind : Kind) → MarksInRange (marks_of kind o.marks)
-  marks_range b g o e kind =
-      let low = numbers_below p log b g kind o e in
-      let dirty = low.0 in
-      (omega (arith, dirty, short), five_pending p log b g kind o e, each_word (marks_of kind o.marks).pending (length log) (omega (arith, short)) low.1)
-
   copy_short : (b : ℕ) (g : Gfid) (o : Object) → copy_at g (holds p log b) ≡ Some o → length o.content ≤ 1048576
   copy_short b g o e = ((all_short p log (ends_each p.shape.n p log lawful) (weakly_lawful p log few (omega (arith, short)) honest lawful)).0 b g o e).0
 
@@ -152,7 +141,7 @@ module _ (p : Plan) (log : List Line) (few : p.shape.n ≤ 5) (short : length lo
   view_told : (b : ℕ) (g : Gfid) (o : Object) → copy_at g (holds p log b) ≡ Some o → IsShowable (view_of o) × IsWholeTold (told_of.Seen (view_of o))
   view_told b g o e = (
     record { len = copy_short b g o e; bytes = dirty_low b g o e kind_of.Bytes; attrs = dirty_low b g o e kind_of.Attrs; names = dirty_low b g o e kind_of.Names },
-    (marks_range b g o e kind_of.Bytes, marks_range b g o e kind_of.Attrs, marks_range b g o e kind_of.Names),
+    (marks_range p log short b g o e kind_of.Bytes, marks_range p log short b g o e kind_of.Attrs, marks_range p log short b g o e kind_of.Names),
   )
 
   told_shown : (a : ActorId) (b : ℕ) (request : Request) (told : Told) (took : Bool) → IsHonest p (Ask a (record { 0 = b }) request told took) log → fits request told ≡ true → IsTellable told × IsWholeTold told

@@ -3,7 +3,7 @@ use Rattle.std.proofs.Common.{◌≡◌, ℕ, ◌+◌, ◌<◌, ◌≤◌, Bool,
 use Rattle.afr_base.specs.Majority.{count_below}
 use Rattle.afr_base.specs.declared.ids.Gfid.{Gfid}
 use Rattle.afr_base.specs.declared.ids.Kind.{Kind}
-use Rattle.afr_heal.proofs.Parts.{not_both, same_areas}
+use Rattle.afr_heal.proofs.Parts.{not_both}
 use Rattle.afr_heal.proofs.StagesForms.{lost}
 use Rattle.afr_heal.proofs.StagesWalk.{broken_elim}
 use Rattle.afr_heal.specs.Engine.{Ask, next_of}
@@ -21,12 +21,13 @@ use Rattle.afr_heal_pace.specs.Left.{Rooted}
 use Rattle.afr_heal_pace.proofs.Counting.{without_here}
 use Rattle.afr_counting.proofs.Counts.{count_falls, count_less}
 use Rattle.afr_moves.proofs.Tests.{without_in}
+use Rattle.afr_moves.proofs.AreaLemmas.{same_area_self}
 use Rattle.afr_heal_pace.proofs.Early.{Nears}
 
 -- the area that is unlocked is that of the register, where there is one
 own : (of : Option Area) (all : Area) → (of ≡ None → ⊥) → is_area of (area_or of all) ≡ true
 own None all some = absurd (some refl)
-own (Some area) all some = same_areas area
+own (Some area) all some = same_area_self area
 
 held_released : (law : Register) (area : Area) (b : ℕ) → is_area law.area area ≡ true → (weak.released law area b).held ≡ without law.held b
 held_released law area b e = go (is_area law.area area) e

@@ -6,7 +6,7 @@ use Rattle.afr_base.specs.declared.ids.Gfid.{Gfid}
 use Rattle.afr_base.specs.declared.ids.Kind.{Kind}
 use Rattle.afr_base.specs.declared.ids.Kind.TheVariants.{Attrs, Bytes, Names}
 use Rattle.afr_heal.proofs.Finding.{turn_set}
-use Rattle.afr_heal.proofs.Parts.{not_both, same_areas}
+use Rattle.afr_heal.proofs.Parts.{not_both}
 use Rattle.afr_heal.proofs.StagesForms.{going_at, released_own, unlocked_own}
 use Rattle.afr_heal.specs.Answers.{asked_for, fits, source_after}
 use Rattle.afr_heal.specs.Engine.{has_part}
@@ -31,6 +31,7 @@ use Rattle.afr_heal_pace.proofs.Bounds.{bound_part}
 use Rattle.afr_heal_pace.proofs.Counting.{count_none, left_most, left_one, pieces_fall, times_less, without_here}
 use Rattle.afr_counting.proofs.Counts.{count_falls, count_less}
 use Rattle.afr_moves.proofs.Tests.{with_self, without_in}
+use Rattle.afr_moves.proofs.AreaLemmas.{same_area_self}
 use Rattle.afr_heal_pace.proofs.Early.{as_was, granted_healing, locked_healing}
 use Rattle.afr_heal_pace.proofs.Middle.{sets, whole}
 
@@ -198,7 +199,7 @@ module _ (n : ℕ) (keeps : ℕ → Kind → Bool) (pick : (ℕ → Bool) → �
             let h = times_less (suc (pieces len (q.upto + span))) (pieces len q.upto) (4 * n + 1) (omega (arith, fall)) in
             let j = most_parts n (pieces len (q.upto + span)) (has_part kind Piece) in
             omega (arith, h, j)
-        go false a false c = absurd (not_both (same_area (whole_area g.0 Bytes) (whole_area g.0 Bytes)) (same_areas (whole_area g.0 Bytes)) c)
+        go false a false c = absurd (not_both (same_area (whole_area g.0 Bytes) (whole_area g.0 Bytes)) (same_area_self (whole_area g.0 Bytes)) c)
 
     abbrev next : Told → Exact
     next told = asked_for n keeps r at b (Lock Work there) told

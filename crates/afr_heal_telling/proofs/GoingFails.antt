@@ -7,13 +7,14 @@ use Rattle.afr_base.specs.declared.ids.Gfid.{Gfid}
 use Rattle.afr_base.specs.declared.ids.Kind.{Kind}
 use Rattle.afr_base.specs.declared.ids.Kind.TheVariants.{Attrs, Bytes, Names}
 use Rattle.afr_base.specs.declared.ids.Shape.{Shape}
+use Rattle.afr_base.specs.SetLemmas.{no_member, some_member}
 use Rattle.afr_choice.specs.Looks.{view_at}
 use Rattle.afr_choice.specs.Verdict.{accuses_at, copies_of, holders_of}
 use Rattle.afr_choice.specs.declared.looked.Looked.{Looked}
 use Rattle.afr_heal.specs.Standing.{AfterLooks, OfKind}
 use Rattle.afr_heal_telling.proofs.GoingAfter.{copy_is, holder_is, past_locks, source_is}
 use Rattle.afr_heal_telling.proofs.GoingLines.{SameFolds}
-use Rattle.afr_heal_telling.proofs.GoingLooks.{all_at, copy_low, get_none, holder_low, in_left, left_in, none_accuses, none_in, some_in}
+use Rattle.afr_heal_telling.proofs.GoingLooks.{all_at, copy_low, get_none, holder_low, in_left, left_in, none_accuses}
 use Rattle.afr_heal.proofs.Parts.{both, not_both, pair}
 use Rattle.afr_heal.proofs.StagesForms.{going_at}
 use Rattle.afr_heal_telling.specs.Stages.{IsShown, TellsAfter, raises}
@@ -173,12 +174,12 @@ module _ (shape : Shape) (few : shape.n ≤ 5) (p : Exact) (seen looked : Looked
     }
       where
         unsettled : is_settled v ≡ false
-        unsettled = rw m.first (some_in (minus (holders_in w) (among settled_at v)) x (in_left (holders_in w) (among settled_at v) x (holder_is shape few p seen looked s g kind area k w shown ta x l ∙ h) out))
+        unsettled = rw m.first (some_member (minus (holders_in w) (among settled_at v)) x (in_left (holders_in w) (among settled_at v) x (holder_is shape few p seen looked s g kind area k w shown ta x l ∙ h) out))
 
     -- ---- the heal is settled
     -- every holder has settled
     pub settled_now : ((x : ℕ) → x < n → holder r.first_views x ≡ true → member (among settled_at w) x ≡ true) → is_settled w ≡ true
-    settled_now all = none_in (minus (holders_in w) (among settled_at w)) (λ x m.
+    settled_now all = no_member (minus (holders_in w) (among settled_at w)) (λ x m.
         let two = left_in (holders_in w) (among settled_at w) x m in
         let l = holder_low shape seen few ta.low ta.shown x (subst (λ (f : _). member (holders_of f) x ≡ true) ta.first two.0) in
         not_both (member (among settled_at w) x) (all x l (sym (holder_is shape few p seen looked s g kind area k w shown ta x l) ∙ two.0)) two.1)

@@ -6,7 +6,7 @@ use Rattle.std.specs.Prelude.{slice_get}
 use Rattle.afr_base.specs.Bricks.{all_five, below, is_nothing, lowest, member, minus}
 use Rattle.afr_base.specs.Majority.{is_majority, is_most}
 use Rattle.afr_base.specs.Marks.{is_zero_marks, marks_of}
-use Rattle.afr_base.specs.SetLemmas.{below_all, lowest_in, member_minus, most_same}
+use Rattle.afr_base.specs.SetLemmas.{below_all, lowest_in, member_minus, most_same, some_member}
 use Rattle.afr_base.specs.declared.ids.Kind.{Kind}
 use Rattle.afr_base.specs.declared.ids.Kind.TheVariants.{Attrs, Bytes, Names}
 use Rattle.afr_base.specs.declared.ids.Shape.{Shape}
@@ -44,16 +44,6 @@ pub no_way : (x : Bool) → (x ≡ true → ⊥) → x ≡ false
 no_way true f = absurd (f refl)
 no_way false f = refl
 
--- a list with a member
-pub some_in : (l : List ℕ) (x : ℕ) → member l x ≡ true → is_nothing l ≡ false
-some_in [] x h = absurd (cc h)
-some_in (y ∷ ys) x h = refl
-
--- a list without one
-pub none_in : (l : List ℕ) → ((x : ℕ) → member l x ≡ true → ⊥) → is_nothing l ≡ true
-none_in [] f = refl
-none_in (y ∷ ys) f = absurd (f y (grind (arith, nat_tests)))
-
 -- what a list that is left shows
 pub left_in : (s t : List ℕ) (x : ℕ) → member (minus s t) x ≡ true → (member s x ≡ true) × (member t x ≡ false)
 left_in s t x h = let two = both (not (member t x)) (member s x) (sym (member_minus s t x) ∙ h) in (two.1, denied (member t x) two.0)
@@ -64,7 +54,7 @@ in_left s t x h k = member_minus s t x ∙ rw (h, k) refl
 -- where only one brick is left, it is the lowest
 pub only_left : (s t : List ℕ) (b : ℕ) → member s b ≡ true → member t b ≡ false → ((x : ℕ) → member s x ≡ true → member t x ≡ false → x ≡ b) → lowest (minus s t) ≡ b
 only_left s t b h k only =
-    let some = some_in (minus s t) b (in_left s t b h k) in
+    let some = some_member (minus s t) b (in_left s t b h k) in
     let two = left_in s t (lowest (minus s t)) (lowest_in (minus s t) some) in
     only (lowest (minus s t)) two.0 two.1
 
@@ -224,4 +214,4 @@ module _ (shape : Shape) (seen : Looked) (few : shape.n ≤ 5) (low : (x : ℕ) 
       (enough first.missing missing ∙ reached)
       (subst (λ (k : Looked). is_majority shape.n (holders_of k) ≡ true) (sym is) (most_same shape.n (member (holders_of seen)) (holder (λ x. view_at x seen)) same_holder ∙ holders))
       (subst (λ (k : Looked). is_clean kind k ≡ false) (sym is) (not_clean kind numbers))
-      (subst (λ (k : Looked). is_nothing (good_copies shape k kind) ≡ false) (sym is) (some_in (good_copies shape seen kind) s (good_there kind s l copy)))
+      (subst (λ (k : Looked). is_nothing (good_copies shape k kind) ≡ false) (sym is) (some_member (good_copies shape seen kind) s (good_there kind s l copy)))

@@ -3,7 +3,7 @@ use Rattle.std.proofs.Common.{◌≡◌, ℕ, ◌<◌, ◌≤◌, ◌&&◌, ◌|
 use Rattle.std.proofs.lemmas.Bool.Decides.{nat_tests}
 use Rattle.afr_base.specs.Bricks.{added, is_nothing, member, minus, removed}
 use Rattle.afr_base.specs.Kinds.{same_kind}
-use Rattle.afr_base.specs.SetLemmas.{member_added, member_removed}
+use Rattle.afr_base.specs.SetLemmas.{member_added, member_removed, some_member}
 use Rattle.afr_base.specs.declared.ids.ActorId.{ActorId}
 use Rattle.afr_base.specs.declared.ids.Gfid.{Gfid}
 use Rattle.afr_base.specs.declared.ids.Kind.{Kind}
@@ -20,7 +20,7 @@ use Rattle.afr_heal.specs.Requests.{next_area}
 use Rattle.afr_heal.specs.Standing.{AfterLooks}
 use Rattle.afr_heal_telling.proofs.GoingAfter.{holder_is, raised_all, source_copy}
 use Rattle.afr_heal_telling.proofs.GoingFails.{asked_before, failed_by}
-use Rattle.afr_heal_telling.proofs.GoingLooks.{and_false, in_left, some_in}
+use Rattle.afr_heal_telling.proofs.GoingLooks.{and_false, in_left}
 use Rattle.afr_heal_telling.proofs.StageLaws.{TellsNext, outcome_next}
 use Rattle.afr_heal_telling.specs.HealTelling.{Tells}
 use Rattle.afr_heal_telling.specs.Stages.{IsShown, TellsAfter, raises}
@@ -189,14 +189,14 @@ module _ (shape : Shape) (few : shape.n ≤ 5) (p : Exact) (seen looked : Looked
       }
         where
           unsettled : is_settled (lines told) ≡ false
-          unsettled = rw (first_now told) (some_in (minus (holders_in w) (among settled_at w)) s (in_left (holders_in w) (among settled_at w) s
+          unsettled = rw (first_now told) (some_member (minus (holders_in w) (among settled_at w)) s (in_left (holders_in w) (among settled_at w) s
               (holder_is shape few p seen looked s g kind area k w shown ta s k.below ∙ (source_copy shape few p seen looked s g kind area k).0) (ta.closed s k.below ∙ no_settle s k.below)))
 
           unmoved : moved_by shape g kind (lines told) ≡ None
           unmoved = lacking (not (nat_lt 1 (pieces w))) _ _ (left (first_by (lines told)).looked (looked_by g (lines told)) (rw (first_now told) ta.first) (void_now told))
             where
               left : (x y : Looked) → x ≡ seen → y ≡ no_looks → not (is_nothing (minus x.reached y.reached)) ≡ true
-              left x y ex ey = let some = some_in (minus seen.reached []) b (in_left seen.reached [] b reached_there refl) in rw (ex, ey, some) refl
+              left x y ex ey = let some = some_member (minus seen.reached []) b (in_left seen.reached [] b reached_there refl) in rw (ex, ey, some) refl
 
           failing : (f : First) (x : Bool) → f ≡ record (first_by w) { still = false } → x ≡ true → ((f.begun && not f.still && x) || is_failed w) ≡ true
           failing f x e ex = rw (e, ex, ta.begun) refl

@@ -3,7 +3,7 @@ use Rattle.std.proofs.Common.{◌≡◌, ℕ, ◌+◌, ◌<◌, ◌≤◌, ◌&&
 use Rattle.std.proofs.lemmas.Bool.Decides.{nat_tests}
 use Rattle.afr_base.specs.Bricks.{below, is_nothing, member, minus}
 use Rattle.afr_base.specs.Marks.{marks_of}
-use Rattle.afr_base.specs.SetLemmas.{below_all, member_minus, none_left, within_below}
+use Rattle.afr_base.specs.SetLemmas.{below_all, member_minus, no_member, none_left, within_below}
 use Rattle.afr_base.specs.declared.ids.Gfid.{Gfid}
 use Rattle.afr_base.specs.declared.ids.Kind.{Kind}
 use Rattle.afr_base.specs.declared.ids.Kind.TheVariants.{Attrs, Bytes, Names}
@@ -20,12 +20,12 @@ use Rattle.afr_heal.proofs.StagesForms.{going_at}
 use Rattle.afr_heal.specs.Engine.{has_part}
 use Rattle.afr_heal.specs.Standing.{AfterLooks}
 use Rattle.afr_heal_telling.proofs.GoingAfter.{behind_here, holder_is, raised_all, settle_set, source_is}
-use Rattle.afr_heal_telling.proofs.GoingLooks.{and_false, all_at, all_of, holder_low, iff, left_in, no_way, none_in}
+use Rattle.afr_heal_telling.proofs.GoingLooks.{and_false, all_at, all_of, holder_low, iff, left_in, no_way}
 use Rattle.afr_heal_telling.specs.Stages.{IsShown, TellsAfter, raises}
 use Rattle.afr_lines.specs.Work.{Work}
 use Rattle.afr_lines.specs.declared.request.Area.{Area}
 use Rattle.afr_model.specs.Healing as healing
-use Rattle.afr_model.specs.Healing.{changed_by, first_by, holders_in, kept_of, less_at, settling, source_of}
+use Rattle.afr_model.specs.Healing.{changed_by, first_by, holders_in, kept_of, less_at, source_of}
 use Rattle.afr_model.specs.HealReplies.{IsSettling}
 use Rattle.afr_model.specs.Showing.{among, prepared}
 use Rattle.afr_moves.specs.Keeps.{keeps_in}
@@ -67,7 +67,7 @@ module _ (shape : Shape) (few : shape.n ≤ 5) (p : Exact) (seen looked : Looked
     all_hold = iff _ _ there back
       where
         there : all n (holder r.first_views) ≡ true → is_nothing (minus (below n) (holders_in w)) ≡ true
-        there h = none_in (minus (below n) (holders_in w)) (λ x m.
+        there h = no_member (minus (below n) (holders_in w)) (λ x m.
             let two = left_in (below n) (holders_in w) x m in
             let l = within_below n x two.0 in
             not_both (member (holders_in w) x) (holder_there x l ∙ all_at n (holder r.first_views) h x l) two.1)

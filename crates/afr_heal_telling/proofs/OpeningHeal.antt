@@ -7,7 +7,7 @@ use Rattle.afr_base.specs.declared.ids.Kind.TheVariants.{Attrs, Bytes, Names}
 use Rattle.afr_base.specs.declared.ids.Shape.{Shape}
 use Rattle.afr_choice.specs.declared.looked.Looked.{Looked}
 use Rattle.afr_heal.proofs.Finding.{over_asked, turn_new, turn_set}
-use Rattle.afr_heal.proofs.Parts.{any_no, same_areas}
+use Rattle.afr_heal.proofs.Parts.{any_no}
 use Rattle.afr_heal.proofs.StagesForms as form
 use Rattle.afr_heal.proofs.StagesForms.{first_form, granting_first, heal_form, locking_first, new_at}
 use Rattle.afr_heal.proofs.StagesWalk.{enough_heal, first_elim, heal_elim}
@@ -36,15 +36,16 @@ use Rattle.afr_moves.specs.Rules as weak
 use Rattle.afr_moves.specs.Rules.{Register, begun, busy, heal_area}
 use Rattle.afr_moves.specs.Sets.{empty, with, without}
 use Rattle.afr_moves.specs.Steps.{passed, turn}
+use Rattle.afr_moves.proofs.AreaLemmas.{same_area_self}
 use Rattle.afr_range_locks.specs.declared.domain.Domain.TheVariants.{Heal, Work}
 use Rattle.afr_self_heal.specs.declared.outcome.Outcome.{Outcome}
 use Rattle.afr_self_heal.specs.declared.outcome.Outcome.TheVariants.{Settled}
 
 -- all of a kind is the same area by the lines and by the register
 pub whole_same : (g : Gfid) (kind : Kind) → same_area (whole_of g kind) (whole_area g.0 kind) ≡ true
-whole_same g Bytes = same_areas (whole_of g Bytes)
-whole_same g Attrs = same_areas (whole_of g Attrs)
-whole_same g Names = same_areas (whole_of g Names)
+whole_same g Bytes = same_area_self (whole_of g Bytes)
+whole_same g Attrs = same_area_self (whole_of g Attrs)
+whole_same g Names = same_area_self (whole_of g Names)
 
 module _ (pick : (ℕ → Bool) → ℕ) (shape : Shape) (seen looked : Looked) (s : ℕ) (g : Gfid) (kind : Kind) (o : Outcome) (w : lines.Work) (some : 0 < shape.n) (few : shape.n ≤ 5) where
   abbrev heal_told : Exact → ℕ → Type 0

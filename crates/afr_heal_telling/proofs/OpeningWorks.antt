@@ -7,7 +7,7 @@ use Rattle.afr_base.specs.declared.ids.Shape.{Shape}
 use Rattle.afr_choice.specs.Looks.{no_looks}
 use Rattle.afr_choice.specs.declared.looked.Looked.{Looked}
 use Rattle.afr_heal.proofs.Finding.{turn_new, turn_set}
-use Rattle.afr_heal.proofs.Parts.{any_none, no_or, not_both, same_areas}
+use Rattle.afr_heal.proofs.Parts.{any_none, no_or, not_both}
 use Rattle.afr_heal.proofs.StagesForms as form
 use Rattle.afr_heal.proofs.StagesForms.{granting_by, locking_by, work_form}
 use Rattle.afr_heal.proofs.StagesWalk.{lock_elim}
@@ -34,6 +34,7 @@ use Rattle.afr_moves.specs.Register.{Exact, Opening, WorkLocks, over, whole_area
 use Rattle.afr_moves.specs.Rules.{Register, busy, is_area}
 use Rattle.afr_moves.specs.Sets.{any, without}
 use Rattle.afr_moves.specs.Steps.{turn}
+use Rattle.afr_moves.proofs.AreaLemmas.{same_area_self}
 use Rattle.afr_object.specs.declared.entry.View.{View}
 use Rattle.afr_range_locks.specs.declared.domain.Domain.TheVariants.{Work}
 use Rattle.afr_self_heal.specs.declared.outcome.Outcome.{Outcome}
@@ -102,19 +103,19 @@ module _ (pick : (ℕ → Bool) → ℕ) (shape : Shape) (seen looked : Looked) 
         → TellsAsked pick shape r seen looked s g kind o w b (Lock Work here) (asked_for shape.n (keeps_in shape) r t b (Lock Work here) told) told (line.Ask a (record { 0 = b }) (Lock Work here) told took) log
     work_told at told_of.Granted a took log f shown =
         work_tells shape g kind r _ seen looked s o w a b here told_of.Granted took log few l will refl (λ x. refl) (whole_same g kind) new granted_here refl (λ x. refl)
-        (λ x. granted_held r.law here b x (busy shape.n r.law) (is_area (Some here) here) (same_areas here) (idle x))
-        (λ x. granted_healing r.law here b x (busy shape.n r.law) (is_area (Some here) here) (same_areas here) ∙ put_old q.law.healing b true x granted_here) refl refl t
+        (λ x. granted_held r.law here b x (busy shape.n r.law) (is_area (Some here) here) (same_area_self here) (idle x))
+        (λ x. granted_healing r.law here b x (busy shape.n r.law) (is_area (Some here) here) (same_area_self here) ∙ put_old q.law.healing b true x granted_here) refl refl t
     work_told at (told_of.Held owner) a took log f shown =
         work_tells shape g kind r _ seen looked s o w a b here (told_of.Held owner) took log few l will refl (λ x. refl) (whole_same g kind) new granted_here refl (λ x. put_old q.asked b false x new)
-        (λ x. refused_held r.law here b x (busy shape.n r.law) (is_area (Some here) here) (same_areas here) (idle x) ∙ put_old q.law.held b false x unheld)
+        (λ x. refused_held r.law here b x (busy shape.n r.law) (is_area (Some here) here) (same_area_self here) (idle x) ∙ put_old q.law.held b false x unheld)
         (λ x. refused_healing r.law here b x (busy shape.n r.law) (is_area (Some here) here) ∙ put_old q.law.healing b true x granted_here) refl refl t
     work_told at told_of.Failed a took log f shown =
         work_tells shape g kind r _ seen looked s o w a b here told_of.Failed took log few l will refl (λ x. refl) (whole_same g kind) new granted_here refl (λ x. refl)
-        (λ x. refused_held r.law here b x (busy shape.n r.law) (is_area (Some here) here) (same_areas here) (idle x) ∙ put_old q.law.held b false x unheld)
+        (λ x. refused_held r.law here b x (busy shape.n r.law) (is_area (Some here) here) (same_area_self here) (idle x) ∙ put_old q.law.held b false x unheld)
         (λ x. refused_healing r.law here b x (busy shape.n r.law) (is_area (Some here) here) ∙ put_old q.law.healing b true x granted_here) refl refl t
     work_told at told_of.NotConnected a took log f shown =
         work_tells shape g kind r _ seen looked s o w a b here told_of.NotConnected took log few l will refl (λ x. refl) (whole_same g kind) new granted_here refl (λ x. refl)
-        (λ x. gone_held r.law here b x (busy shape.n r.law) (is_area (Some here) here) (same_areas here) (idle x)) (λ x. gone_healing r.law here b x (busy shape.n r.law) (is_area (Some here) here)) refl refl t
+        (λ x. gone_held r.law here b x (busy shape.n r.law) (is_area (Some here) here) (same_area_self here) (idle x)) (λ x. gone_healing r.law here b x (busy shape.n r.law) (is_area (Some here) here)) refl refl t
     work_told at _ a took log f shown = absurd (cc f)
 
   -- the first HealBegin

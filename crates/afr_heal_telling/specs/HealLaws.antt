@@ -21,8 +21,7 @@ use Rattle.afr_lines.specs.declared.request.Request.TheVariants.{Settle}
 use Rattle.afr_model.specs.HealReplies.{IsHealAnswered, IsSettling}
 use Rattle.afr_moves.specs.Keeps.{keeps_in}
 use Rattle.afr_moves.specs.Ranges.{MarksInRange}
-use Rattle.afr_discipline.specs.Stands.{phase_of}
-use Rattle.afr_self_heal.specs.Outcome.{cause, outcome_after, reply_of}
+use Rattle.afr_self_heal.specs.Outcome.{outcome_by, reply_of}
 use Rattle.afr_self_heal.specs.declared.outcome.Outcome.{Outcome}
 use Rattle.afr_self_heal.specs.declared.outcome.Outcome.TheVariants.{Settled}
 
@@ -30,10 +29,6 @@ use Rattle.afr_self_heal.specs.declared.outcome.Outcome.TheVariants.{Settled}
 abbrev pub IsWholeTold : Told → Type 0
 IsWholeTold (Seen view) = MarksInRange view.marks.bytes × MarksInRange view.marks.attrs × MarksInRange view.marks.names
 IsWholeTold told = Unit {0}
-
--- the outcome after a request was answered: `p` is the register before, `q` after
-abbrev pub outcome_by : Register → Register → ℕ → Kind → Request → Told → Outcome → Outcome
-outcome_by p q s kind request told o = outcome_after p.broken q.broken o (cause p.shape kind (phase_of p.phase) (phase_of q.phase) s q.seen q.looked request told)
 
 -- the source after it, by the rule
 abbrev pub source_next : ((ℕ → Bool) → ℕ) → Register → ℕ → ℕ → Request → Told → ℕ → ℕ

@@ -1,6 +1,4 @@
 mod EachLemmas
-mod FiveLemmas
-pub mod RisingLemmas
 mod ShownLemmas
 mod VerdictLemmas
 pub mod VolumeLemmas

@@ -17,7 +17,7 @@ use Rattle.afr_model.specs.ReportHealers.{info_of}
 use Rattle.afr_model.specs.ReportObjects.{marked_on, object_lines, objects_of, splits_in, splits_of}
 use Rattle.afr_model.specs.Splits.{looked_at, view_among}
 use Rattle.afr_model.specs.Tables.{holds}
-use Rattle.afr_info.proofs.FiveLemmas.{itself, later}
+use Rattle.afr_base.proofs.FiveLemmas.{itself, later}
 use Rattle.afr_info.specs.Shown.{HoldTables, counted_shown, index_in, info_shown, lines_shown, marked_in, object_text, objects_shown, shown, splits_shown, table_of, view_in, view_shown}
 
 view_of_table : (g : Gfid) (server : Option Serving) (t : Table) → option_map table_of server ≡ Some t → view_in g server ≡ option_map view_of (copy_at g t)

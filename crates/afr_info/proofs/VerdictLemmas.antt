@@ -7,8 +7,8 @@ use Rattle.afr_base.specs.declared.ids.Shape.{Shape}
 use Rattle.afr_choice.specs.declared.looked.Looked.{Looked}
 use Rattle.afr_choice.specs.declared.verdict.Verdict.TheVariants.{Short, Bare, Split, Sources}
 use Rattle.afr_choice.specs.Verdict.{copies_of, good_copies, is_good, verdict_of}
-use Rattle.afr_info.proofs.RisingLemmas.{rising_five}
-use Rattle.afr_info.specs.Rising.{IsRising}
+use Rattle.afr_base.proofs.RisingLemmas.{rising_five}
+use Rattle.afr_base.specs.Rising.{IsRising}
 use Rattle.afr_info.specs.Shown.{HasRising}
 
 by_tests : (most none split : Bool) (sources : List ℕ) → IsRising 0 sources → HasRising (if not most then Short else (if none then Bare else (if split then Split else Sources sources)))

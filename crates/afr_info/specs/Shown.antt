@@ -24,7 +24,7 @@ use Rattle.afr_model.specs.Healing.{marks_in}
 use Rattle.afr_model.specs.Report.{reach_text}
 use Rattle.afr_model.specs.ReportObjects.{joined_into, mark_line, marks_lines, splits_of, verdict_line}
 use Rattle.afr_model.specs.Tables.{holds}
-use Rattle.afr_info.specs.Rising.{IsRising}
+use Rattle.afr_base.specs.Rising.{IsRising}
 
 -- the tables of a brick that is there
 abbrev pub table_of : Serving → Table

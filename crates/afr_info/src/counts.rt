@@ -2,7 +2,7 @@
 ghost use Rattle.std.specs.Prelude.{◌≡◌, ◌≤◌, IfOk, List, length};
 ghost use Rattle.afr_lines.specs.declared.line.Line.{Line};
 ghost use Rattle.afr_model.specs.ReportObjects.{marked_on, splits_in, splits_of};
-ghost use Rattle.afr_info.specs.Rising.{IsRising};
+ghost use Rattle.afr_base.specs.Rising.{IsRising};
 ghost use Rattle.afr_info.specs.Shown.{HoldTables, marked_in, shown, splits_shown};
 
 use crate::looking::look;

@@ -3,7 +3,7 @@ ghost use Rattle.std.specs.Prelude.{◌≡◌, ◌++◌, ◌≤◌, List, OnOk, 
 ghost use Rattle.afr_lines.specs.declared.line.Line.{Line};
 ghost use Rattle.afr_model.specs.ReportHealers.{info_of};
 ghost use Rattle.afr_model.specs.Report.{started_bricks};
-ghost use Rattle.afr_info.specs.Rising.{IsRising};
+ghost use Rattle.afr_base.specs.Rising.{IsRising};
 ghost use Rattle.afr_info.specs.Shown.{HoldTables, info_shown};
 
 use crate::objects::push_objects;

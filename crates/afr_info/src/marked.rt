@@ -1,7 +1,7 @@
 //! The objects with a number above 0 on some of the bricks.
 ghost use Rattle.std.specs.Prelude.{◌≡◌, IfOk, OnOk, slice_get};
 ghost use Rattle.afr_model.specs.ReportObjects.{joined_into};
-ghost use Rattle.afr_info.specs.Rising.{IsRising};
+ghost use Rattle.afr_base.specs.Rising.{IsRising};
 ghost use Rattle.afr_info.specs.Shown.{index_in, marked_in};
 
 use afr_base::{BrickId, BrickSet, Gfid, NoMemory, What};

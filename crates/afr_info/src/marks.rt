@@ -3,7 +3,7 @@ ghost use Rattle.std.specs.Prelude.{◌≡◌, ◌++◌, ◌≤◌, ◌<◌, ◌
 ghost use Rattle.std.specs.List.{list_all};
 ghost use Rattle.afr_marks.specs.Values.{name_of, numbers, text_of, value};
 ghost use Rattle.afr_model.specs.ReportObjects.{mark_line, marks_lines};
-ghost use Rattle.afr_info.specs.Rising.{IsRising};
+ghost use Rattle.afr_base.specs.Rising.{IsRising};
 ghost use Rattle.afr_info.specs.Shown.{missed_lines, value_line};
 
 use afr_base::{AllMarks, BrickId, BrickSet, NoMemory};

@@ -1,7 +1,7 @@
 //! The objects that may need heal, and how many kinds of them are split.
 ghost use Rattle.std.specs.Prelude.{◌≡◌, ◌++◌, ◌≤◌, IfOk, OnOk, string_bytes};
 ghost use Rattle.afr_model.specs.ReportObjects.{splits_of};
-ghost use Rattle.afr_info.specs.Rising.{IsRising};
+ghost use Rattle.afr_base.specs.Rising.{IsRising};
 ghost use Rattle.afr_info.specs.Shown.{counted_shown, lines_shown, object_text, objects_shown, shown, splits_shown};
 
 use crate::looking::look;

@@ -1,7 +1,7 @@
 //! The line of the started bricks.
 ghost use Rattle.std.specs.Prelude.{◌≡◌, ◌++◌, ◌≤◌, OnOk, codes, decimal, flat_map, string_bytes};
 ghost use Rattle.afr_model.specs.Report.{reach_text};
-ghost use Rattle.afr_info.specs.Rising.{IsRising};
+ghost use Rattle.afr_base.specs.Rising.{IsRising};
 
 use afr_base::{BrickSet, NoMemory};
 

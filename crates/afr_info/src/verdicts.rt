@@ -1,7 +1,7 @@
 //! The verdict over each kind of an object that has a number above 0.
 ghost use Rattle.std.specs.Prelude.{◌≡◌, ◌++◌, ◌≤◌, IfOk, OnOk, codes, decimal, flat_map, if◌then◌else◌, string_bytes};
 ghost use Rattle.afr_model.specs.ReportObjects.{is_split_verdict, one_if_split, verdict_line, verdict_text};
-ghost use Rattle.afr_info.specs.Rising.{IsRising};
+ghost use Rattle.afr_base.specs.Rising.{IsRising};
 ghost use Rattle.afr_info.specs.Shown.{HasRising};
 
 use crate::looking::is_clean;

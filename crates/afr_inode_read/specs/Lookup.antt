@@ -23,7 +23,8 @@ use Rattle.afr_lines.specs.declared.request.Request.{Request}
 use Rattle.afr_lines.specs.declared.request.Request.TheVariants as request
 use Rattle.afr_rule.specs.Choosing.{Calls}
 use Rattle.afr_rule.specs.declared.candidate.Candidate.{Candidate}
-pub use Rattle.afr_walk.specs.Choosing.{len_at, len_in}
+pub use Rattle.afr_choice.specs.Looks.{len_in}
+pub use Rattle.afr_rule.specs.Copies.{len_at}
 use Rattle.afr_walk.specs.Choosing.{IsAmong, RuleAnswers, choices_after, reader_of}
 use Rattle.afr_walk.specs.Looks.{no_look, left_to_look, heard_look, IsLooks}
 use Rattle.afr_walk.specs.Stops.{reply_of}

@@ -17,8 +17,8 @@ use afr_base::{BrickId, Shape, What};
 use afr_choice::{Looked, Verdict, judge};
 use afr_lines::{Answer, Good, KeptReply, Reply, Request, told_of};
 use afr_object::{Chunk, Entry};
-use afr_rule::{Candidate, ReadRule};
-use afr_walk::{Looks, Walk, WalkStep, len_at, pick_if, reader_of, stop_reply};
+use afr_rule::{Candidate, ReadRule, len_at};
+use afr_walk::{Looks, Walk, WalkStep, pick_if, reader_of, stop_reply};
 use std::alloc::Global;
 use std::mem;
 

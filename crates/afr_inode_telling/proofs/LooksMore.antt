@@ -13,8 +13,10 @@ use Rattle.afr_lines.specs.declared.answer.Told.TheVariants as told_of
 use Rattle.afr_model.specs.Showing.{look_shows}
 use Rattle.afr_walk.specs.Looks.{no_look, left_to_look, heard_look, noted_look}
 use Rattle.afr_walk.specs.declared.looks.Looks.{Looks}
-use Rattle.afr_inode_telling.specs.Looks.{IsRising, IsPlain, Agree}
-use Rattle.afr_inode_telling.proofs.LooksSame.{looked_same, rising_added, rising_removed}
+use Rattle.afr_inode_telling.specs.Looks.{IsPlain, Agree}
+use Rattle.afr_base.specs.Rising.{IsRising}
+use Rattle.afr_inode_telling.proofs.LooksSame.{looked_same}
+use Rattle.afr_base.proofs.RisingLemmas.{rising_added, rising_removed}
 
 -- a look shows what its answer does
 pub look_shows_is : (b : ℕ) (told : Told) (looked : Looked) → look_shows b told looked ≡ noted_look b told looked
@@ -95,9 +97,9 @@ plain_noted n b told x l k = record {
     zero_low = omega arith
 
     rising : (told : Told) → IsRising 0 (noted_look b told x).reached
-    rising (told_of.Seen view) = rising_added 0 b x.reached zero_low k.rising
-    rising told_of.NoObject = rising_added 0 b x.reached zero_low k.rising
-    rising told = rising_removed 0 b x.reached k.rising
+    rising (told_of.Seen view) = rising_added b 0 x.reached zero_low k.rising
+    rising told_of.NoObject = rising_added b 0 x.reached zero_low k.rising
+    rising told = rising_removed b 0 x.reached k.rising
 
     five : (told : Told) → length (noted_look b told x).views ≡ 5
     five (told_of.Seen view) = length_after_look b (Some view) x ∙ k.five

@@ -11,7 +11,7 @@ use Rattle.afr_base.specs.declared.ids.Kind.{Kind}
 use Rattle.afr_base.specs.declared.ids.Kind.TheVariants.{Names}
 use Rattle.afr_base.specs.declared.ids.NameId.{NameId}
 use Rattle.afr_base.specs.declared.ids.Shape.{Shape}
-use Rattle.afr_object.specs.Tables.{is_dir, copy_at, name_cmp}
+use Rattle.afr_object.specs.Tables.{is_dir, copy_at, name_cmp, root_entry}
 use Rattle.afr_object.specs.declared.entry.Entry.{Entry}
 use Rattle.afr_object.specs.declared.object.Object.{Object}
 use Rattle.afr_choice.specs.Verdict.{verdict_of}
@@ -44,7 +44,7 @@ use Rattle.afr_model.specs.Standing.{area_here, looks_here, place_by}
 use Rattle.afr_model.specs.Tables.{entry_at, entry_in, holds}
 use Rattle.afr_walk.specs.Choosing.{IsAmong, choices, choices_after}
 use Rattle.afr_walk.specs.Looks.{no_look, left_to_look, heard_look, IsLooks}
-use Rattle.afr_walk.specs.Walk.{root_entry, step_at, walk_from, is_walking, name_in, next_at, next_in, choices_at, choices_of, verdict_step, after_looks, named, noted, walked, walked_at, IsStep, IsWalk}
+use Rattle.afr_walk.specs.Walk.{step_at, walk_from, is_walking, name_in, next_at, next_in, choices_at, choices_of, verdict_step, after_looks, named, noted, walked, walked_at, IsStep, IsWalk}
 use Rattle.afr_walk.specs.declared.looks.Looks.{Looks}
 use Rattle.afr_walk.specs.declared.stop.Stop.TheVariants as stop
 use Rattle.afr_walk.specs.declared.walk.Walk.{Walk}

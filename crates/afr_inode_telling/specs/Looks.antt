@@ -1,7 +1,8 @@
 -- The looks of a machine are the last looks of its lines.
-use Rattle.std.specs.Prelude.{◌≡◌, ℕ, suc, ◌≤◌, true, false, List, [], ◌∷◌, None, length}
+use Rattle.std.specs.Prelude.{◌≡◌, ℕ, ◌≤◌, true, false, List, None, length}
 use Rattle.afr_base.specs.Bricks.{member}
 use Rattle.afr_base.specs.Majority.{is_majority}
+use Rattle.afr_base.specs.Rising.{IsRising}
 use Rattle.afr_base.specs.declared.ids.Gfid.{Gfid}
 use Rattle.afr_base.specs.declared.ids.Kind.{Kind}
 use Rattle.afr_choice.specs.Looks.{view_at}
@@ -12,11 +13,6 @@ use Rattle.afr_plan.specs.declared.plan.Plan.{Plan}
 use Rattle.afr_model.specs.Refusals.{by_looks}
 use Rattle.afr_model.specs.Showing.{among, looked_by, looking}
 use Rattle.afr_walk.specs.declared.looks.Looks.{Looks}
-
--- the numbers rise, from k on
-abbrev pub IsRising : ℕ → List ℕ → Type 0
-IsRising k [] = Unit {0}
-IsRising k (x ∷ xs) = (k ≤ x) × IsRising (suc x) xs
 
 -- five places, and only bricks below n were reached
 pub record IsPlain (n : ℕ) (looked : Looked) : Type 0 where

@@ -35,7 +35,7 @@ use Rattle.afr_walk.proofs.WalkLemmas.{asks_allowed, is_walked, walked_notes}
 use Rattle.afr_transaction.specs.Laws as transaction
 use Rattle.afr_transaction.specs.Outcome.{reply_of}
 use Rattle.afr_transaction.specs.Progress as progress
-use Rattle.afr_transaction.specs.Progress.{Progress, asks, begun, fed, is_beginning, left, request_at, starting}
+use Rattle.afr_transaction.specs.Progress.{Progress, asks, begun, fed, is_beginning, left, request_at, starting, told_to}
 use Rattle.afr_transaction.specs.Sound.{IsUnused, Suits}
 use Rattle.afr_transaction.specs.declared.stage.Stage.{Stage}
 use Rattle.afr_transaction.specs.declared.stage.Stage.TheVariants.{Locking, Looking, Beginning, Preparing, Applying, Posting, Closing}
@@ -43,7 +43,7 @@ use Rattle.afr_transaction.proofs.Allowed.{allowed_moves}
 use Rattle.afr_transaction.proofs.Kept.{kept_begin, sound_first, stays_sound as transaction_stays}
 use Rattle.afr_inode_write.specs.Job.{IsJob, change_of, is_empty, is_of_bytes}
 use Rattle.afr_inode_write.specs.Laws.{AllowedNext, FedIsAnswered, NotesBegin, NotesEach, StaysSound}
-use Rattle.afr_inode_write.specs.Write.{IsFed, IsStage, IsWrite, Write, after_step, after_walk, at_object, begun_in, choices_at, choices_heard, is_over, next_at, next_of, register_at, stage_after, stage_begun, told_to, walk_after}
+use Rattle.afr_inode_write.specs.Write.{IsFed, IsStage, IsWrite, Write, after_step, after_walk, at_object, begun_in, choices_at, choices_heard, is_over, next_at, next_of, register_at, stage_after, stage_begun, walk_after}
 use Rattle.afr_inode_write.specs.declared.job.WriteJob.{WriteJob}
 use Rattle.afr_inode_write.specs.declared.job.WriteJob.TheVariants as job
 use Rattle.afr_inode_write.specs.declared.stage.WriteStage.{WriteStage}

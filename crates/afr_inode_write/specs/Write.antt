@@ -9,7 +9,6 @@ use Rattle.afr_object.specs.declared.change.Load.TheVariants as load
 use Rattle.afr_object.specs.declared.entry.Entry.{Entry}
 use Rattle.afr_lines.specs.Told.{told_by}
 use Rattle.afr_lines.specs.declared.answer.Answer.{Answer}
-use Rattle.afr_lines.specs.declared.answer.Told.{Told}
 use Rattle.afr_lines.specs.declared.line.Heard.{Heard}
 use Rattle.afr_lines.specs.declared.line.Heard.TheVariants as heard
 use Rattle.afr_lines.specs.declared.line.Next.{Next}
@@ -28,7 +27,7 @@ use Rattle.afr_walk.specs.declared.walk.WalkStep.{WalkStep}
 use Rattle.afr_walk.specs.declared.walk.WalkStep.TheVariants as walking
 use Rattle.afr_transaction.specs.Made.{attempted}
 use Rattle.afr_transaction.specs.Progress as transaction
-use Rattle.afr_transaction.specs.Progress.{Progress, CarriesAt, fed, is_beginning, starting}
+use Rattle.afr_transaction.specs.Progress.{Progress, CarriesAt, is_beginning, starting, told_to}
 use Rattle.afr_transaction.specs.Sound.{Sound}
 use Rattle.afr_inode_write.specs.Job.{IsJob, change_of, is_empty, is_of_bytes, is_too_large}
 use Rattle.afr_inode_write.specs.declared.job.WriteJob.{WriteJob}
@@ -94,10 +93,6 @@ register_of m = register_at m.stage m.walk
 abbrev pub CarriesNext : WriteStage → Load → Type 0
 CarriesNext (Changing t) carried = CarriesAt t.stage carried (attempted t)
 CarriesNext stage carried = carried ≡ load.Nothing
-
--- the transaction has its answer, where it has asked
-abbrev pub told_to : Told → ℕ → Progress → Progress
-told_to told at t = if is_beginning t.stage then t else fed t.stage told at t
 
 -- the transaction's attempt has its number, where it begins
 abbrev pub begun_in : ℕ → Progress → Progress

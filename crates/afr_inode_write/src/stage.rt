@@ -1,7 +1,8 @@
 //! The stages of a write, and what an answer makes of each.
 ghost use Rattle.std.specs.Prelude.{◌≡◌, ◌<◌, ◌≤◌, false, not};
 ghost use Rattle.afr_inode_write.specs.Job.{IsJob};
-ghost use Rattle.afr_inode_write.specs.Write.{IsWrite, after_walk, at_object, begun_in, choices_at, first_stage, is_over, next_at, stage_after, stage_begun, told_to, walk_after};
+ghost use Rattle.afr_inode_write.specs.Write.{IsWrite, after_walk, at_object, begun_in, choices_at, first_stage, is_over, next_at, stage_after, stage_begun, walk_after};
+ghost use Rattle.afr_transaction.specs.Progress.{told_to};
 ghost use Rattle.afr_lines.specs.declared.line.Next.{Next};
 ghost use Rattle.afr_object.specs.Tables.{is_dir};
 ghost use Rattle.afr_transaction.specs.Progress as progress;

@@ -28,3 +28,4 @@ pub mod Covered
 pub mod Answered
 pub mod Tasks
 pub mod Alive
+pub mod Works

@@ -14,14 +14,11 @@ use Rattle.afr_moves.specs.ByList.{IsExactLine, MayExactlyNext}
 use Rattle.afr_moves.specs.Ranges.{InRange}
 use Rattle.afr_law.specs.Exactly.{IsLawfulExactly, name_bound}
 use Rattle.afr_moves.specs.Positions.{by_position}
+pub use Rattle.afr_model.specs.Honest.{asking}
 
 -- the line keeps the discipline in full after these
 abbrev pub IsNext : Plan → Line → List Line → Type 0
 IsNext p line log = IsExactLine p.shape.n (start_of p (name_bound p)) line log
-
--- a request that is not told yet
-abbrev pub asking : ActorId → BrickId → Request → Line
-asking a b request = Ask a b request NotConnected false
 
 -- the numbers of the request lie in range, and the discipline allows it next
 abbrev pub MayAskNext : Plan → ActorId → BrickId → Request → List Line → Type 0

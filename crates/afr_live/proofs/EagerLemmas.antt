@@ -5,7 +5,7 @@ use Rattle.afr_bound.specs.Law.{AreEager, EagerEndsWithin}
 use Rattle.afr_bound.specs.Left.{bound_of}
 use Rattle.afr_lines.specs.declared.line.Line.{Line}
 use Rattle.afr_live.specs.Ending.{EndsInAnyOrder}
-use Rattle.afr_model.specs.Actors.{IsActor, is_done}
+use Rattle.afr_model.specs.Actors.{is_done}
 use Rattle.afr_model.specs.Complete.{IsComplete, IsFinished}
 use Rattle.afr_model.specs.Ordered.{actors_of}
 use Rattle.afr_plan.specs.declared.plan.Plan.{Plan}

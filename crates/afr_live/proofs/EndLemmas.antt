@@ -1,5 +1,5 @@
 -- What a turn and an event add to the works that have ended.
-use Rattle.std.proofs.Common.{◌≡◌, ◌≤◌, ◌<◌, ◌+◌, ◌^◌, ℕ, Bool, true, false, None, Some, List, [], ◌∷◌, length, refl, sym, ap, arith, ◌∙◌}
+use Rattle.std.proofs.Common.{◌≡◌, ◌≤◌, ◌<◌, ◌+◌, ◌^◌, Bool, true, false, None, Some, List, [], ◌∷◌, length, refl, sym, ap, arith, ◌∙◌}
 use Rattle.afr_base.specs.declared.ids.ActorId.{ActorId}
 use Rattle.afr_lines.specs.Work.{is_end}
 use Rattle.afr_lines.specs.declared.line.Line.TheVariants.{End}

@@ -1,17 +1,17 @@
 -- What is noted of those who were told that another holds their lock follows the log.
-use Rattle.std.proofs.Common.{◌≡◌, ◌⊎◌, ◌||◌, ◌≤◌, ◌<◌, ◌+◌, ℕ, zero, suc, Bool, true, false, None, Some, List, [], ◌∷◌, length, get_or, set, get_or-set_same, get_or-set_other, length-set, replicate, inl, inr, refl, sym, subst, ap, arith, ◌∙◌, true≢false}
+use Rattle.std.proofs.Common.{◌≡◌, ◌≤◌, ◌<◌, ℕ, zero, suc, Bool, true, false, None, Some, List, [], ◌∷◌, length, get_or, set, get_or-set_same, get_or-set_other, length-set, replicate, inl, inr, refl, sym, subst, ap, arith, ◌∙◌, true≢false}
 use Rattle.std.specs.Prelude.{is_some, nat_lt}
 use Rattle.std.proofs.lemmas.Bool.{cases_eq, cases_lt, eqb-true}
 use Rattle.std.proofs.lemmas.Bool.Decides.{nat_tests}
 use Rattle.afr_base.specs.declared.ids.ActorId.{ActorId}
 use Rattle.afr_bound.specs.Cost.{is_held_back}
-use Rattle.afr_bound.specs.Law.{AreEager, IsEagerLine, is_back}
+use Rattle.afr_bound.specs.Law.{AreEager, is_back}
 use Rattle.afr_lines.specs.Work.{is_of}
 use Rattle.afr_lines.specs.declared.answer.Told.TheVariants.{Held as HeldBy}
 use Rattle.afr_lines.specs.declared.line.Line.TheVariants.{Ask, Begin, End, Event, HealBegin, HealEnd}
 use Rattle.afr_lines.specs.declared.line.Line.{Line}
 use Rattle.afr_lines.specs.declared.request.Request.TheVariants.{Lock}
-use Rattle.afr_live.specs.Noted.{AreNoted, MayAsk, is_noted, noted_after, told_at}
+use Rattle.afr_live.specs.Noted.{AreNoted, MayAsk, noted_after, told_at}
 use Rattle.afr_live.specs.declared.held.Held.{Held}
 use Rattle.afr_log.specs.Log.{waits_for}
 use Rattle.afr_model.specs.Actors.{IsActor}
@@ -20,7 +20,7 @@ use Rattle.afr_order.specs.Going.{Goes, IsHappening, Later, Still}
 use Rattle.afr_plan.specs.declared.plan.Plan.{Plan}
 use Rattle.afr_range_locks.specs.declared.domain.Domain.TheVariants.{Work}
 use Rattle.afr_volume.specs.State.{State}
-use Rattle.afr_volume.specs.Turning.{AddsLine, Comes, Turns}
+use Rattle.afr_volume.specs.Turning.{AddsLine, Turns}
 use Rattle.afr_volume.specs.declared.turned.Turned.{Turned}
 use Rattle.afr_volume.specs.declared.turned.Turned.TheVariants.{Moved, Waits, Ended, Full}
 

@@ -5,8 +5,7 @@ ghost use Rattle.afr_live.specs.Noted.{is_noted, noted_after};
 use afr_base::ActorId;
 use afr_volume::Turned;
 
-/// One more than the highest number of an actor.
-const ACTORS: usize = 20;
+const ACTORS: usize = afr_base::ACTORS;
 
 /// What is noted of the lines that told an actor Held on a transaction's lock.
 #[derive(Drop)]

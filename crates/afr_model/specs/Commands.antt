@@ -16,6 +16,7 @@ use Rattle.afr_lines.specs.declared.request.Request.{Request}
 use Rattle.afr_lines.specs.declared.request.Request.TheVariants as request
 use Rattle.afr_plan.specs.declared.command.Command.{Command}
 use Rattle.afr_plan.specs.declared.command.Command.TheVariants as command
+pub use Rattle.afr_plan.specs.OnNames.{is_on_name}
 
 -- the path of a command, the first one of a rename
 abbrev pub path_of : Command → List NameId
@@ -31,14 +32,6 @@ path_of (command.Stat path) = path
 path_of (command.SetAttr path key value) = path
 path_of (command.GetAttr path key) = path
 path_of (command.Rename from to) = from
-
--- a command on the last name of its path, in the directory before it
-abbrev pub is_on_name : Command → Bool
-is_on_name (command.Create path) = true
-is_on_name (command.Mkdir path) = true
-is_on_name (command.Unlink path) = true
-is_on_name (command.Rmdir path) = true
-is_on_name other = false
 
 -- the command removes a directory
 abbrev pub is_rmdir : Command → Bool

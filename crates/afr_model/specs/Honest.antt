@@ -3,6 +3,7 @@ use Rattle.std.specs.Prelude.{◌≡◌, ℕ, suc, ◌+◌, ◌==◌, ◌&&◌, 
 use Rattle.std.specs.BTreeMap.{is_at}
 use Rattle.std.specs.Map.{lookup}
 use Rattle.afr_base.specs.declared.ids.ActorId.{ActorId}
+use Rattle.afr_base.specs.declared.ids.BrickId.{BrickId}
 use Rattle.afr_faults.specs.declared.fault.Fault.{Fault}
 use Rattle.afr_faults.specs.declared.fault.Fault.TheVariants.{Fail, Lost}
 use Rattle.afr_object.specs.Indexed.{index_of}
@@ -115,3 +116,7 @@ IsHonest p line older = Unit {0}
 -- each line of the log was told what its brick then gave
 abbrev pub Honest : Plan → List Line → Type 0
 Honest p log = EachLine (IsHonest p) log
+
+-- a request that is not told yet
+abbrev pub asking : ActorId → BrickId → Request → Line
+asking a b request = Ask a b request told.NotConnected false

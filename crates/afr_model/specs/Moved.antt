@@ -17,6 +17,7 @@ use Rattle.afr_range_locks.specs.declared.domain.Domain.TheVariants as domain
 use Rattle.afr_model.specs.Healing.{first_by, source_of, whole_of}
 use Rattle.afr_lines.specs.Overlap.{same_area}
 use Rattle.afr_model.specs.Showing.{looked_by}
+pub use Rattle.afr_choice.specs.Looks.{len_in}
 
 -- how often the heal has begun a piece
 abbrev pub plus_piece : Line → ℕ → ℕ
@@ -37,11 +38,6 @@ whole_after area line was = was
 abbrev pub is_whole_by : Area → Work → Bool
 is_whole_by area [] = false
 is_whole_by area (x ∷ w) = whole_after area x.0 (is_whole_by area w)
-
--- the length that a view shows
-abbrev pub len_in : Option View → ℕ
-len_in None = 0
-len_in (Some view) = view.len
 
 -- the lowest brick that accuses the source by later looks that all bricks of the first ones answered; or else, at the finish, the lowest sink of another length
 abbrev pub accuser : Kind → ℕ → Looked → Option ℕ

@@ -23,6 +23,7 @@ use Rattle.afr_lines.specs.declared.request.Request.TheVariants as request
 use Rattle.afr_range_locks.specs.declared.domain.Domain.TheVariants.{Work as WorkDomain}
 use Rattle.afr_plan.specs.declared.plan.Plan.{Plan}
 use Rattle.afr_model.specs.Tables.{holds, entry_at}
+pub use Rattle.afr_object.specs.Tables.{root_entry}
 
 -- ---- answers
 -- the brick refused, or couldn't be reached
@@ -52,10 +53,6 @@ pub data Path : Type 0 where
   At : ℕ → Entry → Path
   NoName : Path
   Untold : Path
-
--- the root directory, as a name would give it
-abbrev pub root_entry : Entry
-root_entry = record { gfid = root; what = Dir }
 
 -- one more name was read
 abbrev pub one_name : Option Entry → Path → Path

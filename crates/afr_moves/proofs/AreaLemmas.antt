@@ -1,7 +1,7 @@
 -- Areas that a test calls the same are the same, and what an unlock of the Heal domain frees.
 use Rattle.afr_moves.specs.Lines.{range_of, name_of}
 use Rattle.afr_lines.specs.Overlap.{same_area}
-use Rattle.std.proofs.Common.{◌≡◌, ℕ, Bool, true, false, ◌&&◌, if◌then◌else◌, refl, ap, arith}
+use Rattle.std.proofs.Common.{◌≡◌, ℕ, Bool, true, false, ◌&&◌, if◌then◌else◌, refl, subst, sym, ap, arith}
 use Rattle.std.specs.Prelude.{Option, None, Some, ◌==◌}
 use Rattle.afr_lines.specs.declared.request.Area.{Area}
 use Rattle.afr_lines.specs.declared.request.Area.TheVariants.{Range, Name}
@@ -40,10 +40,14 @@ pub is_area_is : (of : Option Area) (area : Area) → is_area of area ≡ true �
 is_area_is None area e = absurd (cc e)
 is_area_is (Some mine) area e = ap (λ (o : Area). Some o) (same_area_is mine area e)
 
+-- an area is the same as itself
 pub same_area_self : (area : Area) → same_area area area ≡ true
 same_area_self (Range g from to) = rw (same_self g.0, same_self from, same_self to) refl
 same_area_self (Name g None) = rw (same_self g.0) refl
 same_area_self (Name g (Some name)) = rw (same_self g.0, same_self name.0) refl
+
+pub own_area : (of : Option Area) (area : Area) → of ≡ Some area → is_area of area ≡ true
+own_area of area e = subst (λ (o : Option Area). is_area o area ≡ true) (sym e) (same_area_self area)
 
 -- an unlock of the Heal lock's own area frees it
 pub heal_freed_own : (r : Register) (b : ℕ) → heal_freed r (heal_area r.object) b ≡ without r.healing b

@@ -1,5 +1,5 @@
 -- What tests of numbers, kinds and sets of bricks decide.
-use Rattle.std.proofs.Common.{◌≡◌, ℕ, zero, suc, ◌<◌, ◌&&◌, ◌||◌, not, ◌==◌, if◌then◌else◌, Bool, true, false, refl, sym, subst, arith, max, ◌⊎◌, inl, inr}
+use Rattle.std.proofs.Common.{◌≡◌, ℕ, zero, suc, ◌<◌, ◌&&◌, ◌||◌, not, ◌==◌, nat_lt, if◌then◌else◌, Bool, true, false, refl, sym, subst, arith, max, ◌⊎◌, inl, inr}
 use Rattle.std.proofs.lemmas.Bool.{eqb-true, or_cases, or_left, or_right, and_from}
 use Rattle.std.proofs.lemmas.Bool.Decides.{nat_tests}
 use Rattle.afr_base.specs.Bricks.{and_left, and_right}
@@ -46,6 +46,29 @@ pub no_number : (m q : ℕ) → (m == 0) ≡ true → m ≡ suc q → ⊥
 no_number m q e f = grind (arith, nat_tests)
 
 -- ---- tests of tests
+pub pair : (a b : Bool) → a ≡ true → b ≡ true → (a && b) ≡ true
+pair true b ha hb = hb
+pair false b ha hb = absurd (cc ha)
+
+pub both : (a b : Bool) → (a && b) ≡ true → (a ≡ true) × (b ≡ true)
+both true b h = (refl, h)
+both false b h = absurd (cc h)
+
+pub deny : (a : Bool) → a ≡ false → not a ≡ true
+deny true h = absurd (cc h)
+deny false h = refl
+
+pub denied : (a : Bool) → not a ≡ true → a ≡ false
+denied true h = absurd (cc h)
+denied false h = refl
+
+pub no_or : (a b : Bool) → (a || b) ≡ false → (a ≡ false) × (b ≡ false)
+no_or true b h = absurd (cc h)
+no_or false b h = (refl, h)
+
+pub lt_test : (a b : ℕ) → a < b → nat_lt a b ≡ true
+lt_test a b h = grind (arith, nat_tests, h)
+
 pub four_parts : (x y z w : Bool) → (x && y && z && w) ≡ true → (x ≡ true) × (y ≡ true) × (z ≡ true) × (w ≡ true)
 four_parts x y z w e = grind arith
 

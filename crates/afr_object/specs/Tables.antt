@@ -112,6 +112,10 @@ object_of (Remove dir name what) = dir
 abbrev pub root : Gfid
 root = record { 0 = 1 }
 
+-- the root directory, as a name would give it
+abbrev pub root_entry : Entry
+root_entry = record { gfid = root; what = Dir }
+
 -- the gfid of the i-th opening file, counted from 1
 abbrev pub opening_gfid : ℕ → Gfid
 opening_gfid i = record { 0 = 2 ^ 64 + i }

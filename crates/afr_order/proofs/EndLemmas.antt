@@ -1,5 +1,5 @@
 -- A run in the stated order that has as many turns as its bound has done all.
-use Rattle.std.proofs.Common.{◌≡◌, ℕ, ◌≤◌, Ok, Err, Result, List, length, arith}
+use Rattle.std.proofs.Common.{◌≤◌, Ok, Err, Result, List, length, arith}
 use Rattle.std.specs.Prelude.{OnOk}
 use Rattle.afr_bound.specs.Law.{EndsDone}
 use Rattle.afr_lines.specs.declared.line.Line.{Line}

@@ -1,4 +1,3 @@
-pub mod StayLemmas
 pub mod GoingLemmas
 pub mod OrderLemmas
 pub mod DoneLemmas

@@ -3,7 +3,7 @@ use Rattle.std.proofs.Common.{◌≡◌, ℕ, ◌+◌, ◌*◌, ◌<◌, ◌≤�
 use Rattle.std.specs.Prelude.{if◌then◌else◌}
 use Rattle.afr_base.specs.Bricks.{added, added_if, below, is_nothing, lowest, member, minus, removed}
 use Rattle.afr_base.specs.Majority.{is_majority}
-use Rattle.afr_base.specs.SetLemmas.{lowest_in, lowest_left, within_below}
+use Rattle.afr_base.specs.SetLemmas.{lowest_in, lowest_left, some_member, within_below}
 use Rattle.afr_choice.specs.Verdict.{holders_of}
 use Rattle.afr_choice.specs.VerdictLemmas.{holders_below}
 use Rattle.afr_choice.specs.Looks.{no_looks}
@@ -17,13 +17,13 @@ use Rattle.afr_lines.specs.declared.request.Request.TheVariants as request
 use Rattle.afr_moves.specs.Note.{is_failed, is_held}
 use Rattle.afr_moves.specs.Past.{is_gone}
 use Rattle.afr_moves.specs.Rules.{is_area}
+use Rattle.afr_moves.proofs.AreaLemmas.{own_area}
 use Rattle.afr_range_locks.specs.declared.domain.Domain.TheVariants.{Work}
 use Rattle.afr_counting.proofs.Counts.{count_most}
 use Rattle.afr_pace.proofs.Counting.{asked_falls, removed_falls}
 use Rattle.afr_pace.specs.Laws.{BeginsNearer, ComesNearer, KeepsEnd, StartsWithin}
 use Rattle.afr_pace.specs.Left.{Fits, asks_again, count, left_at, lines_left}
-use Rattle.afr_transaction.proofs.Allowed.{own_area}
-use Rattle.afr_transaction.proofs.Parts.{holder_shows, nonempty}
+use Rattle.afr_transaction.proofs.Parts.{holder_shows}
 use Rattle.afr_transaction.proofs.Requests.{after_outside, noted_is}
 use Rattle.afr_transaction.specs.Progress.{Progress, after, begun, enough, gone_on, left, may_start, request_at, sets_after, starting}
 use Rattle.afr_transaction.specs.Sound.{During, IsAsking, Sound}
@@ -205,7 +205,7 @@ module _ (m : Progress) (s : Sound m) (told : Told) (at : ℕ) where
       low = s.base.held_within b here
 
       own : is_area r.area (area_for m.change) ≡ true
-      own = own_area r.area (area_for m.change) (s.base.of_held (nonempty r.held b here))
+      own = own_area r.area (area_for m.change) (s.base.of_held (some_member r.held b here))
 
       removed_one : count r.shape.n (removed b r.held) + 1 ≤ count r.shape.n r.held
       removed_one = removed_falls r.shape.n b r.held low here

@@ -5,12 +5,11 @@ use Rattle.std.proofs.lemmas.Bool.{eqb-true, or_cases, or_left, or_right}
 use Rattle.afr_moves.proofs.Tests.{three_cases}
 use Rattle.std.proofs.lemmas.Bool.Decides.{nat_tests}
 use Rattle.afr_base.specs.Bricks.{added, added_if, all_five, below, is_nothing, lowest, member, minus}
-use Rattle.afr_base.specs.SetLemmas.{below_all, lowest_left, member_added, member_minus, within_below}
+use Rattle.afr_base.specs.SetLemmas.{below_all, lowest_left, member_added, member_minus, some_member, within_below}
 use Rattle.afr_lines.specs.Areas.{area_for}
 use Rattle.afr_moves.specs.Note.{is_held}
 use Rattle.afr_pace.specs.Laws.{AsksAbove, StartsQueued, StaysQueued}
 use Rattle.afr_pace.specs.Left.{InOrder, IsQueued}
-use Rattle.afr_transaction.proofs.Parts.{nonempty}
 use Rattle.afr_transaction.specs.Progress.{Progress, after, answered, answered_by, enough, left, may_start, on_stage}
 use Rattle.afr_transaction.specs.Sound.{During, IsAsking}
 use Rattle.afr_transaction.specs.declared.stage.Stage.TheVariants.{Applying, Beginning, Closing, Locking, Looking, Posting, Preparing}
@@ -165,7 +164,7 @@ asks_above m s e q is c held = go m.stage is s.during e q
     go Locking f d e q = (
         let was : member m.asked.lock_asked c ≡ true = d.0.among c (sym (d.0.same c) ∙ held) in
         let new = (lowest_left (below m.register.shape.n) m.asked.lock_asked e).0 in (
-          s.base.of_held (nonempty m.register.held c held),
+          s.base.of_held (some_member m.register.held c held),
           s.base.none_second,
           elim (three_cases c (lowest (left Locking m))) [
             | inl less ↦ less

@@ -9,7 +9,7 @@ use Rattle.afr_base.specs.declared.ids.BrickId.{BrickId}
 use Rattle.afr_base.specs.declared.ids.Kind.TheVariants.{Names}
 use Rattle.afr_base.specs.declared.ids.NameId.{NameId}
 use Rattle.afr_base.specs.declared.ids.Shape.{Shape}
-use Rattle.afr_object.specs.Tables.{is_dir}
+use Rattle.afr_object.specs.Tables.{is_dir, root_entry}
 use Rattle.afr_object.specs.declared.entry.Entry.{Entry}
 use Rattle.afr_choice.specs.Verdict.{verdict_of}
 use Rattle.afr_choice.specs.declared.verdict.Verdict.{Verdict}
@@ -22,7 +22,7 @@ use Rattle.afr_pace.proofs.Counting.{asked_falls}
 use Rattle.afr_pace.specs.Left.{count}
 use Rattle.afr_pace.specs.Walks.{WalkComesNearer, WalkStartsWithin, for_others, walk_left, walk_left_at}
 use Rattle.afr_walk.specs.Looks.{IsLooks, heard_look, left_to_look, no_look}
-use Rattle.afr_walk.specs.Walk.{IsStep, IsWalk, is_walking, named, next_in, noted, root_entry, step_at, verdict_step, walk_from, walked_at}
+use Rattle.afr_walk.specs.Walk.{IsStep, IsWalk, is_walking, named, next_in, noted, step_at, verdict_step, walk_from, walked_at}
 use Rattle.afr_walk.specs.declared.looks.Looks.{Looks}
 use Rattle.afr_walk.specs.declared.stop.Stop.TheVariants as stop
 use Rattle.afr_walk.specs.declared.walk.Walk.{Walk}

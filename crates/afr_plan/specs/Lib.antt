@@ -13,3 +13,4 @@ pub mod Judging
 pub mod Names
 pub mod PlanOf
 pub mod Spells
+pub mod OnNames

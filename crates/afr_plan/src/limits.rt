@@ -6,7 +6,7 @@ use afr_base::{LONGEST_FILE, LONGEST_WRITE, MOST_CLIENTS, MOST_HEALERS};
 pub const FEWEST_BRICKS: u8 = 3;
 
 /// No volume of any shape has a brick from this number on.
-pub const MOST_BRICKS: u8 = 5;
+pub const MOST_BRICKS: u8 = afr_base::MOST_BRICKS;
 
 /// Opening files.
 pub const FILES: u32 = 1000;

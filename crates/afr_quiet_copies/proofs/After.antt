@@ -34,12 +34,12 @@ use Rattle.afr_moves.specs.Discipline.{MayAskExactly, MayExactly, present}
 use Rattle.afr_moves.specs.Heal.{Gives, Goes}
 use Rattle.afr_moves.specs.Honest.{view_marks}
 use Rattle.afr_moves.specs.Note.{left_in_heal, next_phase, put}
-use Rattle.afr_moves.specs.Past.{Log, is_gone}
+use Rattle.afr_moves.specs.Past.{is_gone}
 use Rattle.afr_moves.specs.Past as position
 use Rattle.afr_moves.specs.Positions.{by_position}
 use Rattle.afr_moves.specs.Register.{Exact, Looks, Opening, Phase, Step, WorkLocks, has_number, holder, is_opening, rank, shows_number, untouched}
 use Rattle.afr_moves.specs.Rules as weak
-use Rattle.afr_moves.specs.Rules.{Register, is_none, repair_kind}
+use Rattle.afr_moves.specs.Rules.{Register, repair_kind}
 use Rattle.afr_moves.specs.Sets.{any}
 use Rattle.afr_moves.specs.Steps.{goes_on, goes_on_at, may_heal, may_mend, onward}
 use Rattle.afr_moves.proofs.Tests.{same_kind_yes, some_yes}
@@ -111,7 +111,8 @@ no_goes n keeps r s first none e = (
     go x None k m = true≢false (sym m)
     go x (Some v) k m = true≢false (sym m ∙ none x v k)
 
-mend_onward : (n : ℕ) (keeps : ℕ → Kind → Bool) (r : Exact) (s : ℕ) (repair : Repair) → may_mend n keeps r s repair ≡ true → onward n keeps r s (position.repaired repair) (repair_kind repair) ≡ true
+-- a repair goes on in a heal of its object and kind
+pub mend_onward : (n : ℕ) (keeps : ℕ → Kind → Bool) (r : Exact) (s : ℕ) (repair : Repair) → may_mend n keeps r s repair ≡ true → onward n keeps r s (position.repaired repair) (repair_kind repair) ≡ true
 mend_onward n keeps r s (CutTo g len) e = and_left _ _ (and_left _ _ e)
 mend_onward n keeps r s (Copy g at some read) e = and_left _ _ (and_left _ _ (and_left _ _ (and_left _ _ e)))
 mend_onward n keeps r s (PutAttrs g read) e = and_left _ _ e

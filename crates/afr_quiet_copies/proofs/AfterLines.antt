@@ -28,18 +28,25 @@ use Rattle.afr_moves.specs.Note.{breaks}
 use Rattle.afr_moves.specs.Past.{Log, is_gone}
 use Rattle.afr_moves.specs.Register.{Exact, Opening, holder, rank, untouched}
 use Rattle.afr_moves.specs.Rules as weak
-use Rattle.afr_moves.specs.Rules.{Register, is_none, repair_kind}
 use Rattle.afr_moves.proofs.ByPosition.{IsPast}
 use Rattle.afr_law.proofs.Discipline.Asks.{IsHealLock, Kept, heal_asked, heal_dropped, kept, kept_dropped}
 use Rattle.afr_law.proofs.Discipline.Firsts.{firsts_now}
 use Rattle.afr_law.proofs.Discipline.StagesAlong.{stage_now}
 use Rattle.afr_law.proofs.Heals.Areas.{opening_or}
 use Rattle.afr_quiet_copies.proofs.After.{After, Early, Leaves, Spares, after_fresh, clear_by, leaves}
-use Rattle.afr_quiet_copies.proofs.Round.{healed_is}
 use Rattle.afr_law.proofs.Discipline.Untouched.{still_now}
+use Rattle.afr_law.proofs.Heals.Along.{healed_is}
 use Rattle.afr_quiet_copies.proofs.Premises.{Premises, shorter}
 use Rattle.afr_quiet_copies.proofs.Stretch.{Calm}
 use Rattle.afr_quiet_copies.proofs.Told.{Hears, hears}
+
+-- an actor whose present work is no command begins no attempt
+pub no_begin : (p : Plan) (a : ℕ) (older : Seq Line) → ((c : Command) → slice_get (script_of p a) (ended a older) ≡ Some c → ⊥) → (x : ActorId) (change : Change) → x.0 ≡ a → IsDue p (Begin x change) older → ⊥
+no_begin p a older none x change mine d = go d.0.keeps
+  where
+    go : KeepsToTask p x.0 (Begin x change) older → ⊥
+    go (ToCommand c e f) = none c (subst (λ o. slice_get (script_of p o) (ended o older) ≡ Some c) mine e)
+    go (ToRound i b e k) = k
 
 module _ (p : Plan) (L : Log) (moves : MovesExactly p.shape.n (kept_by p) L) (a : ℕ) (g : Gfid) (kind : Kind) (K : Seq Line → Type 0) (on : (line : Line) (older : Seq Line) → Premises p (line ∷ older) → Spares kind g line → K older → K (line ∷ older)) (task : (older : Seq Line) → K older → (c : Command) → slice_get (script_of p a) (ended a older) ≡ Some c → ⊥) (older : Seq Line) where
   abbrev n : ℕ
@@ -76,7 +83,7 @@ module _ (p : Plan) (L : Log) (moves : MovesExactly p.shape.n (kept_by p) L) (a 
           clear = w.cleared;
           kept = on line older q w.spared h.kept;
           idle = λ out. absurd (on_heals m.inside out);
-          early = λ in_heal whole o k. subst (λ (z : Exact). Early kind z.step z.phase z.first_views) (healed_is n keeps r t x y request told took m.inside) (w.unseen o k);
+          early = λ in_heal whole o k. subst (λ (z : Exact). Early kind z.step z.phase z.first_views) (healed_is n keeps r t x.0 y.0 request told took m.inside) (w.unseen o k);
         }
         )
 
@@ -86,7 +93,7 @@ module _ (p : Plan) (L : Log) (moves : MovesExactly p.shape.n (kept_by p) L) (a 
       clear = clear_by p g kind older line opens blame h.clear;
       kept = on line older q spares h.kept;
       idle = λ out. absurd (on_heals inside out);
-      early = λ in_heal whole. absurd (true≢false (sym broken ∙ (or_parts _ _ (or_parts (r.broken || breaks r request told) _ (ap (λ (z : Exact). z.broken) (healed_is n keeps r t x y request told took inside) ∙ whole)).0).0));
+      early = λ in_heal whole. absurd (true≢false (sym broken ∙ (or_parts _ _ (or_parts (r.broken || breaks r request told) _ (ap (λ (z : Exact). z.broken) (healed_is n keeps r t x.0 y.0 request told took inside) ∙ whole)).0).0));
     }
 
     -- outside heals nothing is begun
@@ -153,17 +160,9 @@ module _ (p : Plan) (L : Log) (moves : MovesExactly p.shape.n (kept_by p) L) (a 
           true≢false (sym (f.reached z there) ∙ f.early may.inside (omega (arith, six)) first z)
           )
 
-  -- a healer begins no attempt
-  no_begin : (x : ActorId) (change : Change) → x.0 ≡ a → K older → IsDue p (Begin x change) older → ⊥
-  no_begin x change mine k d = go d.0.keeps
-    where
-      go : KeepsToTask p x.0 (Begin x change) older → ⊥
-      go (ToCommand c e f) = task older k c (subst (λ o. slice_get (script_of p o) (ended o older) ≡ Some c) mine e)
-      go (ToRound i b e k) = k
-
   pub after_own : (line : Line) → Premises p (line ∷ older) → IsPast L (line ∷ older) → Calm a line → After p g kind K older r → MayExactly n keeps (λ x. r) (Some line) → After p g kind K (line ∷ older) (note n keeps r t (Some line))
   after_own (Ask x y request told took) q past calm h may = after_asked x y request told took q calm h may.0 may.1
-  after_own (Begin x change) q past calm h may = absurd (no_begin x change (eqb-true x.0 a calm.mine) h.kept (q.follows.0).1)
+  after_own (Begin x change) q past calm h may = absurd (no_begin p a older (task older h.kept) x change (eqb-true x.0 a calm.mine) (q.follows.0).1)
   after_own (HealBegin x i k) q past calm h may = begins x i k q h may
   after_own (End x reply) q past calm h may = absurd (true≢false calm.within)
   after_own (HealEnd x i k reply) q past calm h may = after_fresh p g kind K (HealEnd x i k reply ∷ older) (clear_by p g kind older (HealEnd x i k reply) (λ z. refl) (λ z c. refl) h.clear) (on (HealEnd x i k reply) older q tt h.kept)

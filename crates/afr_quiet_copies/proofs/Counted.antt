@@ -19,7 +19,6 @@ use Rattle.afr_moves.specs.Sets.{with}
 use Rattle.afr_moves.specs.Steps.{changed, raised, settles_at}
 use Rattle.afr_law.proofs.Discipline.AskFields.{Rest}
 use Rattle.afr_law.proofs.Heals.Holds.{is_last}
-use Rattle.afr_law.proofs.Heals.Raises.{raise_set}
 use Rattle.afr_quiet_copies.proofs.Looked.{gfid}
 use Rattle.afr_quiet_copies.proofs.Sums.{dirty_same, pending_same}
 
@@ -81,11 +80,6 @@ last_set r Bytes Opening x e h = absurd (true≢false (sym e))
 last_set r Bytes Piece x e h = absurd (true≢false (sym e))
 last_set r Attrs phase x e h = h
 last_set r Names phase x e h = h
-
-pub set_raised : (keeps : ℕ → Kind → Bool) (r : Exact) (s : ℕ) (kind : Kind) (b : ℕ) → raise_set keeps r.first_views s kind b ≡ true → raised keeps r s kind b ≡ true
-set_raised keeps r s Bytes b e = e
-set_raised keeps r s Attrs b e = e
-set_raised keeps r s Names b e = refl
 
 -- a holder that isn't changed is the source
 pub unchanged : (r : Exact) (s : ℕ) (kind : Kind) (c : ℕ) → holder r.first_views c ≡ true → changed r s kind c ≡ false → c ≡ s

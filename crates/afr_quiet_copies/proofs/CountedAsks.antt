@@ -30,7 +30,7 @@ use Rattle.afr_moves.specs.Note.{breaks, left_in_heal}
 use Rattle.afr_moves.specs.Past.{Log, is_gone}
 use Rattle.afr_moves.specs.Register.{Exact, HealPres, HealUnlocks, Mends, Opening, Phase, Reads, Settles, Step, Unlocks, WorkLocks, accuses, all, asked_in, good, holder, rank}
 use Rattle.afr_moves.specs.Rules as weak
-use Rattle.afr_moves.specs.Rules.{Register, is_none, one_if}
+use Rattle.afr_moves.specs.Rules.{Register, one_if}
 use Rattle.afr_moves.specs.Sets.{with}
 use Rattle.afr_moves.specs.Steps.{changed, may_heal, raised, onward, settles_at, settles_over, takes, turn}
 use Rattle.afr_moves.specs.Tally.{Tally}
@@ -43,7 +43,8 @@ use Rattle.afr_law.proofs.Heals.Conditions.{asked_is, asked_now, goes_good, heal
 use Rattle.afr_law.proofs.Heals.Holds.{HoldsIn, is_last}
 use Rattle.afr_law.proofs.Heals.Raises.{RaisesIn, pres_opening}
 use Rattle.afr_law.proofs.Heals.Views.{SightsIn, here_or}
-use Rattle.afr_quiet_copies.proofs.Counted.{Counted, CountedIn, Few, clear_on, few_on, first_cases, last_set, law_on, plain_on, set_raised, unchanged, view_here}
+use Rattle.afr_law.proofs.Heals.Settles.{set_raised}
+use Rattle.afr_quiet_copies.proofs.Counted.{Counted, CountedIn, Few, clear_on, few_on, first_cases, last_set, law_on, plain_on, unchanged, view_here}
 use Rattle.afr_quiet_copies.proofs.Looked.{gfid}
 use Rattle.afr_quiet_copies.proofs.Sums.{counted_absent, counted_all, counted_most, counted_other, dirty_less, dirty_more, dirty_same, pending_less, pending_same}
 use Rattle.afr_quiet_copies.proofs.Told.{Hears}

@@ -124,7 +124,8 @@ no_command_on p a g kind (HealEnd x i k said) older s h = h
 no_command_on p a g kind (End x said) older s h = absurd s
 no_command_on p a g kind (Event e) older s h = h
 
-fresh_now : (n : ℕ) (keeps : ℕ → Kind → Bool) (L : Log) (t a : ℕ) → place L t a ≡ Fresh → present n keeps L t a ≡ untouched
+-- where no line of a work or heal is, the register is untouched
+pub fresh_now : (n : ℕ) (keeps : ℕ → Kind → Bool) (L : Log) (t a : ℕ) → place L t a ≡ Fresh → present n keeps L t a ≡ untouched
 unfolding opens
 fresh_now n keeps L t a e = ap (λ (k : Place). in_force (opens k (L t)) (exact n keeps L t a)) e
 

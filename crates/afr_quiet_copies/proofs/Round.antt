@@ -1,6 +1,6 @@
 -- What the register of a healer says along an undisturbed round.
 use Rattle.std.proofs.Common.{Bool, ap, arith, false, inl, inr, refl, subst, sym, true, true≢false, ℕ, suc, zero, ◌&&◌, ◌||◌, ◌<◌, ◌∙◌, ◌≡◌, ◌≤◌, ◌⊎◌, [], ◌∷◌, length}
-use Rattle.std.specs.Prelude.{List as Seq, None, Option, Some, if◌then◌else◌}
+use Rattle.std.specs.Prelude.{List as Seq, None, Option, Some}
 use Rattle.std.proofs.lemmas.Bool.{eqb-true, or_parts}
 use Rattle.afr_base.specs.Bricks.{member}
 use Rattle.afr_base.specs.declared.ids.ActorId.{ActorId}
@@ -27,11 +27,10 @@ use Rattle.afr_tables.specs.CopyLaws.{gfid_is}
 use Rattle.afr_moves.specs.Discipline.{MayAskExactly, MayExactly, MovesExactly, note, present}
 use Rattle.afr_moves.specs.Heal.{Gives, Goes, IsUnlock, MayHeal, MayHealBegin}
 use Rattle.afr_range_locks.specs.declared.domain.Domain.{Domain}
-use Rattle.afr_moves.specs.Note.{breaks, left_in_heal, left_outside, stopping}
+use Rattle.afr_moves.specs.Note.{breaks, left_in_heal, stopping}
 use Rattle.afr_moves.specs.Past.{Log, is_gone}
 use Rattle.afr_moves.specs.Register.{Exact, Looks, Untouched, rank, untouched}
 use Rattle.afr_moves.specs.Rules as weak
-use Rattle.afr_moves.specs.Rules.{Register, busy}
 use Rattle.afr_moves.specs.Sets.{any, empty, with}
 use Rattle.afr_moves.specs.Steps.{may_heal}
 use Rattle.afr_moves.specs.Transaction.{MayOpen, Outside}
@@ -52,6 +51,7 @@ use Rattle.afr_quiet_copies.proofs.Ended.{HasEnded, IsDueFor, due_asked, ended_a
 use Rattle.afr_quiet_copies.proofs.Level.{LevelIn, level_asked}
 use Rattle.afr_law.proofs.Discipline.Firsts.{firsts_now}
 use Rattle.afr_law.proofs.Model.Tasks.{heal_begins_no_command}
+use Rattle.afr_law.proofs.Heals.Along.{healed_is}
 use Rattle.afr_quiet_copies.proofs.Locked.{LockedIn, locked_asked, locked_begun}
 use Rattle.afr_quiet_copies.proofs.Looked.{Looked, LookedIn, gfid, looked_asked, looked_begun}
 use Rattle.afr_quiet_copies.proofs.Premises.{Premises, shorter, sums}
@@ -86,13 +86,6 @@ work_own a line older c = rw (c.mine, c.within) refl
 -- a request that no border of heals is
 heal_own : (line : Line) (older : Seq Line) (w : Lines) → is_border line ≡ false → heal_by ((line, older) ∷ w) ≡ (line, older) ∷ heal_by w
 heal_own line older w e = rw e refl
-
-pub healed_is : (n : ℕ) (keeps : ℕ → Kind → Bool) (r : Exact) (t : ℕ) (x : ActorId) (y : BrickId) (request : Request) (told : Told) (took : Bool) → r.law.heal ≡ true
-    → stopping n keeps (record (left_in_heal n r t y.0 request told) { possible = λ s. r.possible s && may_heal n keeps r s y.0 request; broken = r.broken || breaks r request told; law = weak.note n r.law t (Some (Ask x y request told took)) })
-    ≡ note n keeps r t (Some (Ask x y request told took))
-healed_is n keeps r t x y request told took e = sym (ap (λ (heal : Bool). stopping n keeps (record (if heal
-    then record (left_in_heal n r t y.0 request told) { possible = λ s. r.possible s && may_heal n keeps r s y.0 request; broken = r.broken || breaks r request told }
-    else left_outside n r y.0 request told) { law = weak.note n r.law t (Some (Ask x y request told took)) })) e)
 
 -- what a heal may ask is no border
 no_border : (n : ℕ) (keeps : ℕ → Kind → Bool) (r : Exact) (s b : ℕ) (x : ActorId) (y : BrickId) (request : Request) (told : Told) (took : Bool) → may_heal n keeps r s b request ≡ true → is_border (Ask x y request told took) ≡ false
@@ -141,7 +134,7 @@ module _ (p : Plan) (L : Log) (moves : MovesExactly p.shape.n (kept_by p) L) (ho
     goes below m = record { still = λ e. absurd (moved n keeps r t y.0 request told (inr (Goes m)) (ap (λ (z : Exact). z.step) (healed) ∙ e)); ended = λ on. ends; whole = λ on w. wholly (or_parts _ _ (or_parts _ _ w).0).1 }
       where
         healed : note n keeps r t (Some line) ≡ after
-        healed = sym (healed_is n keeps r t x y request told took m.inside)
+        healed = sym (healed_is n keeps r t x.0 y.0 request told took m.inside)
 
         own : work a (line ∷ older) ≡ (line, older) ∷ work a older
         own = work_own a line older calm
@@ -246,12 +239,12 @@ module _ (p : Plan) (L : Log) (moves : MovesExactly p.shape.n (kept_by p) L) (ho
     lock_or _ = inr (λ k. k)
 
     pub round_asked : (below : y.0 < n) → MayAskExactly n keeps r y.0 request → Round p a (line ∷ older) (note n keeps r t (Some line))
-    round_asked below (inr (Goes m)) = subst (Round p a (line ∷ older)) (healed_is n keeps r t x y request told took m.inside) (goes below m)
+    round_asked below (inr (Goes m)) = subst (Round p a (line ∷ older)) (healed_is n keeps r t x.0 y.0 request told took m.inside) (goes below m)
     round_asked below (inr (Gives inside broken unlock)) = (
         let u = unlock_at request unlock in
-        subst (Round p a (line ∷ older)) (healed_is n keeps r t x y request told took inside)
+        subst (Round p a (line ∷ older)) (healed_is n keeps r t x.0 y.0 request told took inside)
         (unlocks inside broken (subst (λ q. is_border (Ask x y q told took) ≡ false) (sym u.2) refl) (λ w. subst (λ q. among settled_at ((Ask x y q told took, older) ∷ w) ≡ among settled_at w) (sym u.2) refl)
-        (λ e. never (inr (Gives inside broken unlock)) (ap (λ (z : Exact). z.step) (sym (healed_is n keeps r t x y request told took inside)) ∙ e)))
+        (λ e. never (inr (Gives inside broken unlock)) (ap (λ (z : Exact). z.step) (sym (healed_is n keeps r t x.0 y.0 request told took inside)) ∙ e)))
         )
     round_asked below (inl may) = elim (lock_or request) [
       | inl lock ↦ (

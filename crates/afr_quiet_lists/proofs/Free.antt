@@ -35,10 +35,11 @@ use Rattle.afr_law.specs.Beginning.{start_of}
 use Rattle.afr_law.specs.Exactly.{name_bound}
 use Rattle.afr_law.proofs.Model.Alive.{killed_apart}
 use Rattle.afr_law.proofs.Model.Tasks.{turn_of}
+use Rattle.afr_law.proofs.Model.Works.{work_more}
 use Rattle.afr_quiet_lists.proofs.Cuts.{cut_of}
 use Rattle.afr_quiet_lists.proofs.Lone.{lone}
 use Rattle.afr_quiet_lists.proofs.Premises.{Sound, sound_before, sound_exactly, sound_honest}
-use Rattle.afr_quiet_lists.proofs.Runs.{AreMine, work_more}
+use Rattle.afr_quiet_lists.proofs.Runs.{AreMine}
 
 -- ---- actors that are dead, or between works
 still_killed : (x : ℕ) (ls base : List Line) → is_killed x base ≡ true → is_killed x (ls ++ base) ≡ true

@@ -9,7 +9,7 @@ use Rattle.afr_base.specs.Bricks.{all_five, below, is_nothing, member}
 use Rattle.afr_base.specs.Keeping.{is_bytes, keeps}
 use Rattle.afr_base.specs.Majority.{IsMajority, is_majority, majorities_share}
 use Rattle.afr_base.specs.Marks.{is_zero_marks, marks_of}
-use Rattle.afr_base.specs.SetLemmas.{below_all, most_same, within_below}
+use Rattle.afr_base.specs.SetLemmas.{below_all, most_same, some_member, within_below}
 use Rattle.afr_base.specs.declared.ids.Gfid.{Gfid}
 use Rattle.afr_base.specs.declared.ids.Kind.{Kind}
 use Rattle.afr_choice.specs.Looks.{view_at}
@@ -57,10 +57,6 @@ all_if test (x ∷ xs) h = rw (h x (let same : (x == x) ≡ true = grind (arith,
 none_any : (test : ℕ → Bool) (xs : List ℕ) → ((b : ℕ) → test b ≡ false) → list_any test xs ≡ false
 none_any test [] h = refl
 none_any test (x ∷ xs) h = rw (h x) (none_any test xs h)
-
-some_member : (xs : List ℕ) (b : ℕ) → member xs b ≡ true → is_nothing xs ≡ false
-some_member [] b m = absurd (cc m)
-some_member (x ∷ xs) b m = refl
 
 -- all bricks are a majority
 pub below_most : (n : ℕ) → 0 < n → n ≤ 5 → is_majority n (below n) ≡ true

@@ -1,6 +1,7 @@
 -- The lines of a quiet round stand together: the log is what was there before, and they alone.
 use Rattle.std.proofs.Common.{◌≡◌, ℕ, suc, ◌+◌, ◌≤◌, Bool, true, false, refl, ◌∙◌, ap, arith, List, [], ◌∷◌, ◌++◌, length, true≢false}
 use Rattle.std.specs.Prelude.{if◌then◌else◌}
+use Rattle.afr_law.proofs.Model.Works.{work_ended, work_more, work_other}
 use Rattle.afr_lines.specs.Work.{Work, ended, ends_work, is_end, is_of, work}
 use Rattle.afr_lines.specs.declared.line.Line.{Line}
 use Rattle.afr_lines.specs.declared.line.Line.TheVariants.{Ask, Begin, End, Event, HealBegin, HealEnd}
@@ -15,15 +16,6 @@ AreMine a (line ∷ ls) = ((is_of a line ≡ true) × (is_end line ≡ false)) �
 abbrev pub works : List Line → List Line → Work
 works [] base = []
 works (line ∷ ls) base = (line, ls ++ base) ∷ works ls base
-
-pub work_more : (a : ℕ) (line : Line) (older : List Line) → is_of a line ≡ true → is_end line ≡ false → work a (line ∷ older) ≡ (line, older) ∷ work a older
-work_more a line older mine going = rw (mine, going) refl
-
-pub work_other : (a : ℕ) (line : Line) (older : List Line) → is_of a line ≡ false → work a (line ∷ older) ≡ work a older
-work_other a line older other = rw other refl
-
-pub work_ended : (a : ℕ) (line : Line) (older : List Line) → is_of a line ≡ true → is_end line ≡ true → work a (line ∷ older) ≡ []
-work_ended a line older mine over = rw (mine, over) refl
 
 -- the work of lines of one actor is these lines, after the end of its last work
 pub works_are : (a : ℕ) (ls base : List Line) → AreMine a ls → work a base ≡ [] → work a (ls ++ base) ≡ works ls base

@@ -64,26 +64,28 @@ answered p a y r told took older h ok =
 
 -- ---- the list
 module _ (p : Plan) (b : BrickId) where
-  first_listed : (line : Line) (base : List Line) → Step p b line [] base → listed_after p line base [] ≡ index_of (holds p base b.0)
-  first_listed (Ask a y Index told took) base s = (
-      let e : told ≡ Given = (answered p a y Index told took base s.honest s.unfailed).0 in
-      subst (λ (t : Told). listed_after p (Ask a y Index t took) base [] ≡ index_of (holds p base b.0)) (sym e) (ap (λ (c : BrickId). index_of (holds p base c.0)) s.keeps.1)
+  -- the first line of a round asks for the index
+  pub first_listed : (line : Line) (base : List Line) → KeepsToRound p b line [] → IsHonest p line base → tells_any_fault line ≡ false → listed_after p line base [] ≡ index_of (holds p base b.0)
+  first_listed (Ask a y Index told took) base k honest fine = (
+      let e : told ≡ Given = (answered p a y Index told took base honest fine).0 in
+      subst (λ (t : Told). listed_after p (Ask a y Index t took) base [] ≡ index_of (holds p base b.0)) (sym e) (ap (λ (c : BrickId). index_of (holds p base c.0)) k.1)
       )
-  first_listed (Ask a y r told took) base s = absurd (let k : IsOfHeal p r [] = s.keeps in let e = k.due in cc)
-  first_listed (HealBegin a g kind) base s = absurd (let e : heal_due p [] ≡ Some (g, kind) = s.keeps in cc)
-  first_listed (HealEnd a g kind said) base s = absurd (let e : heal_due p [] ≡ Some (g, kind) = s.keeps in cc)
-  first_listed (End a said) base s = absurd (let k : IsHealed p [] = s.keeps in let e = k.begun in cc)
-  first_listed (Begin a change) base s = absurd s.keeps
-  first_listed (Event event) base s = absurd s.keeps
+  first_listed (Ask a y r told took) base k honest fine = absurd (let i : IsOfHeal p r [] = k in let e = i.due in cc)
+  first_listed (HealBegin a g kind) base k honest fine = absurd (let e : heal_due p [] ≡ Some (g, kind) = k in cc)
+  first_listed (HealEnd a g kind said) base k honest fine = absurd (let e : heal_due p [] ≡ Some (g, kind) = k in cc)
+  first_listed (End a said) base k honest fine = absurd (let i : IsHealed p [] = k in let e = i.begun in cc)
+  first_listed (Begin a change) base k honest fine = absurd k
+  first_listed (Event event) base k honest fine = absurd k
 
-  later_listed : (line : Line) (older : List Line) (x : Line × List Line) (w : Work) (was : List (Gfid × What)) → KeepsToRound p b line (x ∷ w) → listed_after p line older was ≡ was
+  -- and the later ones leave the list
+  pub later_listed : (line : Line) (older : List Line) (x : Line × List Line) (w : Work) (was : List (Gfid × What)) → KeepsToRound p b line (x ∷ w) → listed_after p line older was ≡ was
   later_listed (Ask a y Index told took) older x w was k = absurd (let e = k.0 in cc)
   later_listed (Ask a y r told took) older x w was k = refl
   later_listed line older x w was k = refl
 
   -- once a line was, the list is the index of the brick before the round
   pub listed_is : (line : Line) (ls base : List Line) → Goes p b (line ∷ ls) base → listed_by p (works (line ∷ ls) base) ≡ index_of (holds p base b.0)
-  listed_is line [] base g = first_listed line base g.0
+  listed_is line [] base g = first_listed line base g.0.keeps g.0.honest g.0.unfailed
   listed_is line (next ∷ ls) base g = later_listed line (next ∷ ls ++ base) (next, ls ++ base) (works ls base) (listed_by p (works (next ∷ ls) base)) g.0.keeps ∙ listed_is next ls base g.1
 
 -- ---- the heals

@@ -1,5 +1,5 @@
 -- What holds of a heal from its first lock on, and goes on along its lines, holds after each of them.
-use Rattle.std.proofs.Common.{◌≡◌, ℕ, ◌<◌, ◌≤◌, Bool, true, false, ◌&&◌, ◌||◌, inl, inr, refl, sym, ap, ◌∙◌, subst, arith, true≢false, List, [], ◌∷◌, length}
+use Rattle.std.proofs.Common.{◌≡◌, ℕ, ◌<◌, ◌≤◌, Bool, true, false, inl, inr, refl, sym, ap, ◌∙◌, subst, arith, true≢false, List, [], ◌∷◌, length}
 use Rattle.std.specs.Prelude.{Option, Some, if◌then◌else◌}
 use Rattle.std.proofs.lemmas.Bool.{eqb-true}
 use Rattle.afr_base.specs.declared.ids.Kind.{Kind}
@@ -22,14 +22,12 @@ use Rattle.afr_moves.specs.Discipline.{MayAskExactly, MayExactly, MovesExactly, 
 use Rattle.afr_moves.specs.Followed.{register_by}
 use Rattle.afr_moves.specs.Heal.{Gives, Goes, InHeal, IsUnlock, MayHeal, MayHealBegin}
 use Rattle.afr_moves.specs.Lines.{ask_by, heal_begin_by}
-use Rattle.afr_moves.specs.Note.{breaks, left_in_heal, left_outside, stopping}
 use Rattle.afr_moves.specs.Past as past
 use Rattle.afr_moves.specs.Past.{Log, is_gone}
 use Rattle.afr_moves.specs.Positions.{by_position}
 use Rattle.afr_moves.specs.Register.{Exact, Untouched, untouched}
 use Rattle.afr_moves.specs.Rules as weak
-use Rattle.afr_moves.specs.Rules.{Register, heal_area}
-use Rattle.afr_moves.specs.Steps.{may_heal}
+use Rattle.afr_moves.specs.Rules.{heal_area}
 use Rattle.afr_moves.specs.Transaction.{MayOpen, Outside}
 use Rattle.afr_plan.specs.declared.plan.Plan.{Plan}
 use Rattle.afr_tables.specs.Codes.{kept_by}
@@ -37,7 +35,7 @@ use Rattle.afr_law.proofs.Discipline.Asks.{IsHealLock, kept, kept_dropped}
 use Rattle.afr_law.proofs.Discipline.ByList.{exactly_lawful}
 use Rattle.afr_law.proofs.Discipline.Projection.{same_actor}
 use Rattle.afr_law.proofs.Discipline.Untouched.{still_now}
-use Rattle.afr_law.proofs.Heals.Along.{healed_by, opened_by}
+use Rattle.afr_law.proofs.Heals.Along.{healed_by, healed_is, opened_by}
 use Rattle.afr_law.proofs.Heals.Opening.{opens_here}
 use Rattle.afr_law.specs.Beginning.{start_of}
 use Rattle.afr_law.specs.Exactly.{IsLawfulExactly, name_bound}
@@ -57,12 +55,6 @@ earlier p line older k = record { five = k.five; short = (let s = k.short in ome
 abbrev pub Joined : ℕ → List Line → Type 0
 Joined a [] = Unit {0}
 Joined a (line ∷ older) = (is_of a line ≡ true → is_end line ≡ false → Joined a older) × (is_of a line ≡ false → work a older ≡ [])
-
-healed_is : (n : ℕ) (keeps : ℕ → Kind → Bool) (r : Exact) (t a b : ℕ) (request : Request) (told : Told) (took : Bool) → r.law.heal ≡ true
-    → healed_by n keeps r t a b request told took ≡ note n keeps r t (Some (ask_by a b request told took))
-healed_is n keeps r t a b request told took e = sym (ap (λ (heal : Bool). stopping n keeps (record (if heal
-    then record (left_in_heal n r t b request told) { possible = λ s. r.possible s && may_heal n keeps r s b request; broken = r.broken || breaks r request told }
-    else left_outside n r b request told) { law = weak.note n r.law t (Some (ask_by a b request told took)) })) e)
 
 module _ (p : Plan) (a : ℕ) where
   -- the register of the actor after these lines

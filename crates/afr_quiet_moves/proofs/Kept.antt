@@ -15,13 +15,14 @@ use Rattle.afr_lines.specs.declared.request.Request.TheVariants.{ReadBytes}
 use Rattle.afr_model.specs.Tables.{Past, bytes_shown, content_in, held_before}
 use Rattle.afr_moves.proofs.ByPosition.{older_at}
 use Rattle.afr_moves.proofs.Tests.{same_no}
-use Rattle.afr_moves.specs.Register.{Applies, Exact, Finish, HealLocks, HealPres, HealUnlocks, Looks, Mends, Open, Opening, Phase, Piece, Posts, Pres, Reads, Settles, Step, Unlocks, Untouched, WorkLocks, asked_in, good, holder, len_of, rank}
+use Rattle.afr_moves.specs.Register.{Exact, Finish, Mends, Opening, Phase, Piece, Step, asked_in, good, holder, len_of, rank}
 use Rattle.afr_moves.specs.Rules.{is_none}
 use Rattle.afr_moves.specs.Steps.{mends_over, mends_at}
 use Rattle.afr_plan.specs.declared.plan.Plan.{Plan}
 use Rattle.afr_tables.specs.Codes.{kept_by}
 use Rattle.afr_law.proofs.Heals.Conditions.{asked_is, mends_passed, over_at, passed_over}
 use Rattle.afr_law.proofs.Heals.Raises.{raise_set}
+use Rattle.afr_law.proofs.Heals.Mends.{mends_is}
 use Rattle.afr_quiet_moves.proofs.Copies.{copy_of, len_at}
 
 -- a copy that a heal from s changes
@@ -76,21 +77,6 @@ read_later p line older q upto len k = (
 )
 
 -- ---- the steps by their places
-pub mends_is : (step : Step) → rank step ≡ 10 → step ≡ Mends
-mends_is Mends k = refl
-mends_is Untouched k = absurd (omega (arith, k))
-mends_is Open k = absurd (omega (arith, k))
-mends_is Pres k = absurd (omega (arith, k))
-mends_is Applies k = absurd (omega (arith, k))
-mends_is Posts k = absurd (omega (arith, k))
-mends_is HealLocks k = absurd (omega (arith, k))
-mends_is WorkLocks k = absurd (omega (arith, k))
-mends_is Looks k = absurd (omega (arith, k))
-mends_is Reads k = absurd (omega (arith, k))
-mends_is HealPres k = absurd (omega (arith, k))
-mends_is Settles k = absurd (omega (arith, k))
-mends_is Unlocks k = absurd (omega (arith, k))
-mends_is HealUnlocks k = absurd (omega (arith, k))
 
 -- before the Mends of the opening nothing is cut
 pub early_cut : (step next : Step) (phase : Phase) (asked asks : ℕ → Bool) (x : ℕ) → rank next ≤ 10 → (next ≡ Mends → ⊥) → IsCut next phase asks x → IsCut step phase asked x

@@ -38,9 +38,10 @@ use Rattle.afr_tables.specs.Codes.{kept_by}
 use Rattle.afr_law.proofs.Discipline.Inner.{turn_in, turn_low}
 use Rattle.afr_law.proofs.Discipline.Transactions.{held_view}
 use Rattle.afr_law.proofs.Heals.Conditions.{asked_is, looks_far, mend_pres, mend_test, mend_turn, onward_goes, onward_object, pres_looks, turn_fresh}
+use Rattle.afr_law.proofs.Heals.Mends.{mends_is}
 use Rattle.afr_quiet_moves.proofs.Bare.{all_bare}
 use Rattle.afr_quiet_moves.proofs.Copies.{altered, altered_here, copy_of, cut_length, len_at, written_length}
-use Rattle.afr_quiet_moves.proofs.Kept.{IsCut, Kept, KeptIn, Sink, mends_is, read_later, sink_apart}
+use Rattle.afr_quiet_moves.proofs.Kept.{IsCut, Kept, KeptIn, Sink, read_later, sink_apart}
 use Rattle.afr_quiet_moves.proofs.KeptLines.{less, may_of, source_view, still}
 
 -- what was told Done was carried out

@@ -14,7 +14,6 @@ use Rattle.afr_moves.specs.Heal.{MayHeal}
 use Rattle.afr_moves.specs.Note.{next_phase}
 use Rattle.afr_moves.specs.Register.{Exact, Finish, Opening, Phase, Piece, len_of, piece_area, rank, whole_area}
 use Rattle.afr_moves.specs.Rules as weak
-use Rattle.afr_moves.specs.Rules.{Register, fresh, heal_area, is_none}
 use Rattle.afr_plan.specs.declared.plan.Plan.{Plan}
 use Rattle.afr_tables.specs.Codes.{kept_by}
 use Rattle.afr_law.proofs.Discipline.StagesAlong.{StageOf}

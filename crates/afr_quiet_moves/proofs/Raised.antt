@@ -14,7 +14,7 @@ use Rattle.afr_model.specs.Showing.{is_done as done_by}
 use Rattle.afr_moves.proofs.Tests.{turned}
 use Rattle.afr_moves.specs.Past.{is_gone}
 use Rattle.afr_moves.specs.Rules as weak
-use Rattle.afr_moves.specs.Rules.{Register, fresh, heal_area, is_none}
+use Rattle.afr_moves.specs.Rules.{Register}
 use Rattle.afr_law.proofs.Discipline.AskFields.{frees_heal, frees_work, heal_locked, sees, work_locked}
 
 -- ---- what a request leaves of the bricks that were raised

@@ -77,9 +77,6 @@ ShowsIn n w object step phase views raised =
     Shows n step phase views raised (first_by (heal_by w)) (pieces (heal_by w)) (among prepared (heal_by w)) (looked_by (record { 0 = object }) (heal_by w)) (is_whole_by (whole_of (record { 0 = object }) Bytes) (heal_by w))
 
 -- ---- the lines of a work
-pub work_next : (a : ℕ) (line : Line) (older : List Line) → is_of a line ≡ true → is_end line ≡ false → work a (line ∷ older) ≡ (line, older) ∷ work a older
-work_next a line older mine goes = rw (mine, goes) refl
-
 -- each line but an Index and the end of a heal leads within
 leads_within : (place : Place) (line : Line) → is_end line ≡ false → is_event line ≡ false → (is_border line ≡ true) ⊎ (next_place place line ≡ Within)
 leads_within place (Ask x b request told took) e f = by request

@@ -35,7 +35,7 @@ use Rattle.afr_moves.specs.Note.{left_in_heal, next_phase, view_of}
 use Rattle.afr_moves.specs.Past.{is_gone}
 use Rattle.afr_moves.specs.Register.{Exact, Finish, HealLocks, HealPres, HealUnlocks, Looks, Mends, Opening, Phase, Piece, Reads, Settles, Step, Unlocks, WorkLocks, is_opening, rank, whole_area}
 use Rattle.afr_moves.specs.Rules as weak
-use Rattle.afr_moves.specs.Rules.{Register, fresh, heal_area, is_none}
+use Rattle.afr_moves.specs.Rules.{fresh, heal_area, is_none}
 use Rattle.afr_moves.specs.Steps.{looks_at}
 use Rattle.afr_moves.specs.Tally.{Tally}
 use Rattle.afr_plan.specs.declared.plan.Plan.{Plan}
@@ -49,12 +49,13 @@ use Rattle.afr_law.proofs.Heals.Raises.{RaisesIn, pres_opening}
 use Rattle.afr_law.proofs.Heals.Conditions.{Resumes, Starts, Waits, WorkPlace, attrs_onward, bytes_onward, heal_lock_step, heal_unlock_over, list_onward, look_object, look_step, look_turn, looks_far, looks_is, mend_pres, mends_pres, onward_looks, pre_onward, pre_turn, pres_looks, settle_mends, settles_mends, unlock_over, work_place}
 use Rattle.afr_law.proofs.Heals.Sights.{not_opening}
 use Rattle.afr_law.proofs.Model.Tasks.{heal_begins_no_command}
+use Rattle.afr_law.proofs.Model.Works.{work_more}
 use Rattle.afr_quiet_moves.proofs.Absent.{IsAbsent, absent_now}
 use Rattle.afr_quiet_moves.proofs.Along.{Joined, Premises, along, earlier, force, reg}
 use Rattle.afr_quiet_moves.proofs.Kept.{KeptIn}
 use Rattle.afr_quiet_moves.proofs.KeptAlong.{Same, after_same, broken_stays, heal_same, kept_now}
 use Rattle.afr_quiet_moves.proofs.Seen.{row_here}
-use Rattle.afr_quiet_moves.proofs.Shows.{Row, Shows, ShowsIn, UnmovedIn, locked_first, none_outside, opens_outside, shows_locked, shows_on, shown_five, shown_reached, shown_seen, shown_view, work_next}
+use Rattle.afr_quiet_moves.proofs.Shows.{Row, Shows, ShowsIn, UnmovedIn, locked_first, none_outside, opens_outside, shows_locked, shows_on, shown_five, shown_reached, shown_seen, shown_view}
 use Rattle.afr_quiet_moves.proofs.InForce.{areas_of, raises_of, stage_of}
 use Rattle.afr_quiet_moves.proofs.PartLocks.{part_locked}
 use Rattle.afr_quiet_moves.proofs.Raised.{IsNoPre, pre_raises, raised_after}
@@ -336,7 +337,7 @@ module _ (p : Plan) (a : ℕ) where
 
   -- ---- each line
   own_work : (older : List Line) (b : ℕ) (request : Request) (told : Told) (took : Bool) → work a (ask_by a b request told took ∷ older) ≡ (ask_by a b request told took, older) ∷ work a older
-  own_work older b request told took = work_next a (ask_by a b request told took) older (same_self a) refl
+  own_work older b request told took = work_more a (ask_by a b request told took) older (same_self a) refl
 
   -- a line stands after the lines of its work
   abbrev pub Known : List Line → Exact → Type 0
@@ -431,7 +432,7 @@ module _ (p : Plan) (a : ℕ) where
       r = reg p a older
 
       own : work a (heal_begin_by a g kind ∷ older) ≡ (heal_begin_by a g kind, older) ∷ work a older
-      own = work_next a (heal_begin_by a g kind) older (same_self a) refl
+      own = work_more a (heal_begin_by a g kind) older (same_self a) refl
 
       old : UnmovedIn p (work a older) r.law.object r.law.kind × (r.broken ≡ false → ShowsIn p.shape.n (work a older) r.law.object r.step r.phase r.first_views r.law.raised)
       old = was (joined.0 (same_self a) refl) follows.1

@@ -33,12 +33,13 @@ use Rattle.afr_model.specs.Rounds.{heal_due}
 use Rattle.afr_model.specs.Safe.{log_before}
 use Rattle.afr_model.specs.Showing.{among, looked_by, prepared}
 use Rattle.afr_law.proofs.Model.Tasks.{heal_ends_no_command}
+use Rattle.afr_law.proofs.Model.Works.{work_more}
 use Rattle.afr_moves.proofs.Tests.{same_self}
 use Rattle.afr_moves.specs.Register.{Exact}
 use Rattle.afr_plan.specs.declared.plan.Plan.{Plan}
 use Rattle.afr_quiet.specs.Undisturbed.{EachHeal, OfHeal}
 use Rattle.afr_quiet_moves.proofs.Along.{Joined, Premises, earlier, force, in_heal_is, may_own, reg}
-use Rattle.afr_quiet_moves.proofs.Shows.{Unmoved, UnmovedIn, source_in, work_next}
+use Rattle.afr_quiet_moves.proofs.Shows.{Unmoved, UnmovedIn, source_in}
 use Rattle.afr_quiet_moves.proofs.Told.{told_now}
 use Rattle.afr_quiet_moves.specs.Moves.{IsUnmoved}
 
@@ -164,7 +165,7 @@ counted a (line ∷ older) = go (is_of a line) (is_end line) (counted a older)
 pub joined_of : (a : ℕ) (log : List Line) → length (log_before (work a log) log) + length (work a log) ≡ length log → Joined a log
 joined_of a [] e = tt
 joined_of a (line ∷ older) e = (
-  λ mine goes. joined_of a older (let f : length (log_before ((line, older) ∷ work a older) (line ∷ older)) + length ((line, older) ∷ work a older) ≡ suc (length older) = subst (λ (w : Work). length (log_before w (line ∷ older)) + length w ≡ suc (length older)) (work_next a line older mine goes) e in omega (arith, f)),
+  λ mine goes. joined_of a older (let f : length (log_before ((line, older) ∷ work a older) (line ∷ older)) + length ((line, older) ∷ work a older) ≡ suc (length older) = subst (λ (w : Work). length (log_before w (line ∷ older)) + length w ≡ suc (length older)) (work_more a line older mine goes) e in omega (arith, f)),
   λ other. none (work a older) (counted a older) (subst (λ (w : Work). length (log_before w (line ∷ older)) + length w ≡ suc (length older)) (skips other) e),
 )
   where

@@ -1,5 +1,3 @@
-mod Clear
-mod Splits
 mod Passes
 mod Names
 mod Reached

@@ -23,8 +23,7 @@ use Rattle.afr_quiet_copies.proofs.Stretch.{IsTail, before_tail}
 use Rattle.afr_quiet_lists.proofs.Premises.{Sound, sound_before}
 use Rattle.afr_converged.specs.Converged.{AreRounds, HasConverged, IsQuietLeft, IsUnchanged}
 use Rattle.afr_converged.proofs.Spared.{clear_still, spared, unchanged_on, unchanged_self}
-use Rattle.afr_reached.proofs.Clear.{clear_rests}
-use Rattle.afr_reached.proofs.Splits.{split_stays}
+use Rattle.afr_converged.proofs.Splits.{split_stays}
 
 -- ---- what is known of a log
 -- the premises of the law, and what rounds left at each moment
@@ -70,15 +69,16 @@ module _ (p : Plan) (start : List Line) (bricks : List BrickId) (log : List Line
 
 -- ---- what rounds leave
 module _ (p : Plan) (g : Gfid) (kind : Kind) (start : List Line) where
-  -- what was clear is unchanged
-  pub clear_over : (bricks : List BrickId) (log : List Line) → Known p log → AreRounds p start bricks log → IsClear p start g kind → IsUnchanged p start log g kind
-  clear_over [] log known is clear = subst (λ l. IsUnchanged p start l g kind) (sym is) (unchanged_self p start g kind)
-  clear_over (b ∷ before) log known (r, more) clear = subst (λ l. IsUnchanged p start l g kind) (sym r.last) (
+  -- what was clear and on every brick is unchanged
+  pub clear_over : (bricks : List BrickId) (log : List Line) → Known p log → AreRounds p start bricks log → IsEverywhere p start g → IsClear p start g kind → IsUnchanged p start log g kind
+  clear_over [] log known is every clear = subst (λ l. IsUnchanged p start l g kind) (sym is) (unchanged_self p start g kind)
+  clear_over (b ∷ before) log known (r, more) every clear = subst (λ l. IsUnchanged p start l g kind) (sym r.last) (
       let then_ : List Line = log_before (work r.healer.0 r.older) r.older in
       let ended : Known p (End r.healer r.said ∷ r.older) = subst (Known p) r.last known in
       let last : Known p r.older = known_before p (End r.healer r.said) r.older ended in
-      let first : IsUnchanged p start then_ g kind = clear_over before then_ (at_tail (Known p) (known_before p) then_ r.older (before_tail r.healer.0 r.older) last) more clear in
-      let inner : IsUnchanged p then_ r.older g kind = clear_rests p r.healer r.older (premises_of p r.older last.sound) last.sound.clients r.high r.quiet g kind (clear_still p start then_ g kind first clear) in
+      let first : IsUnchanged p start then_ g kind = clear_over before then_ (at_tail (Known p) (known_before p) then_ r.older (before_tail r.healer.0 r.older) last) more every clear in
+      let had : IsEverywhere p then_ g = everywhere_later p start before then_ more g every in
+      let inner : IsUnchanged p then_ r.older g kind = (ended.left.0 r.high b r.over r.quiet g kind).still had (clear_still p start then_ g kind first clear) in
       unchanged_on p start r.older (End r.healer r.said ∷ r.older) g kind (unchanged_on p start then_ r.older g kind first inner) (spared p g kind (End r.healer r.said) r.older tt)
       )
 

@@ -88,7 +88,7 @@ module _ (p : Plan) (only : OnlyDirectoriesHaveNames) (named : EntriesHaveCopies
         let dirs_then : IsEverywhereAs p log dir Dir = as_then p log next.bricks last next.rounds (one last knows) dir Dir every dirs in
         let whole_then : UnSplit log dir = λ split. whole (split_over p dir Names log next.bricks last knows next.rounds every split) in
         let clear : IsClearAlike p log dir Names = clear_names start log known pass dir (as_then p start pass.bricks log pass.rounds (one log known) dir Dir first dirs_then) whole_then in
-        (dir, there, whole_then, named_was p log last dir every (clear_over p dir Names log next.bricks last knows next.rounds clear.clear) b low name g is)
+        (dir, there, whole_then, named_was p log last dir every (clear_over p dir Names log next.bricks last knows next.rounds every clear.clear) b low name g is)
         )
 
   steps : (k : ℕ) (log : List Line) → Known p log → ArePasses p k log → Step k log

@@ -6,6 +6,7 @@ use Rattle.afr_base.specs.declared.ids.Gfid.{Gfid}
 use Rattle.afr_base.specs.declared.ids.Kind.TheVariants.{Names}
 use Rattle.afr_base.specs.declared.ids.NameId.{NameId}
 use Rattle.afr_base.specs.declared.ids.Shape.{Shape}
+use Rattle.afr_base.specs.SetLemmas.{some_member}
 use Rattle.afr_choice.specs.Verdict.{good_copies}
 use Rattle.afr_choice.specs.declared.looked.Looked.{Looked}
 use Rattle.afr_entry.specs.Entry.{Entering, HasReader, IsEntry, IsStage, after_step, after_walk, answered, at_directory, choices_at, choices_under, entry_from, found_by, next_at, next_of, name_noted, next_under, offered, or_removes, progress_begun, reads_name, settled, stage_after, stage_begun, walk_after}
@@ -40,7 +41,7 @@ use Rattle.afr_plan.specs.declared.command.Command.TheVariants as command
 use Rattle.afr_plan.specs.declared.plan.Plan.{Plan}
 use Rattle.afr_readings.proofs.Asks.{ask_same, end_same}
 use Rattle.afr_readings.proofs.Read.{end_begun, stop_ends}
-use Rattle.afr_readings.proofs.Removal.{removal_begins, removal_begun, removal_ends, removal_picked, removal_reads, some_member}
+use Rattle.afr_readings.proofs.Removal.{removal_begins, removal_begun, removal_ends, removal_picked, removal_reads}
 use Rattle.afr_readings.proofs.Rule.{Picked, one_picked}
 use Rattle.afr_readings.proofs.Walk.{walk_begins, walk_begun, walk_picked, walk_reads}
 use Rattle.afr_readings.proofs.Write.{change_ends, change_reads}

@@ -8,7 +8,6 @@ use Rattle.afr_base.specs.declared.ids.NameId.{NameId}
 use Rattle.afr_base.specs.declared.ids.Shape.{Shape}
 use Rattle.afr_base.specs.declared.ids.What.{What}
 use Rattle.afr_base.specs.declared.ids.What.TheVariants.{Dir, File}
-use Rattle.afr_choice.specs.Looks.{view_at}
 use Rattle.afr_choice.specs.Verdict.{verdict_of}
 use Rattle.afr_choice.specs.declared.looked.Looked.{Looked}
 use Rattle.afr_choice.specs.declared.verdict.Verdict.{Verdict}
@@ -42,7 +41,7 @@ use Rattle.afr_object.specs.declared.change.Change.{Change}
 use Rattle.afr_object.specs.declared.entry.Entry.{Entry}
 use Rattle.afr_plan.specs.declared.command.Command.TheVariants as command
 use Rattle.afr_plan.specs.declared.plan.Plan.{Plan}
-use Rattle.afr_readings.proofs.Rule.{Picked, len_is, source_picked}
+use Rattle.afr_readings.proofs.Rule.{Picked, source_picked}
 use Rattle.afr_readings.proofs.Walk.{picked_by_lines, walk_begins, walk_begun, walk_picked, walk_reads}
 use Rattle.afr_readings.specs.Picked.{PickedEnd, PickedRead, PickedStep, PickedWalk, PicksOf}
 use Rattle.afr_readings.specs.Readings.{looked_here}
@@ -113,7 +112,7 @@ module _ (picks : Picks) (p : Plan) where
     copy_picked Stat k = (
       (reader_of picked).0,
       subst (λ (kind : Kind). PicksOf picks p w.object.gfid kind lines (reader_of picked).0) (sym (kind_shown [] w.object.what)) k,
-      len_is (view_at (reader_of picked).0 (looked_by w.object.gfid lines)),
+      refl,
     )
 
     judged : (job : LookupJob) → Picked picks (choices p.shape (looked_by w.object.gfid lines) (kind_of job w.object.what)) picked → (v : Verdict) → verdict_of p.shape (looked_by w.object.gfid lines) (kind_of job w.object.what) ≡ v

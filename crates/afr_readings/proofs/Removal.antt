@@ -1,6 +1,6 @@
 -- A removal lists its directory at a copy that the rule picked by the last looks at it.
 use Rattle.std.proofs.Common.{◌≡◌, ℕ, Bool, true, false, List, [], ◌∷◌, Option, refl, subst, if◌then◌else◌}
-use Rattle.afr_base.specs.Bricks.{is_nothing, member}
+use Rattle.afr_base.specs.Bricks.{is_nothing}
 use Rattle.afr_base.specs.Majority.{is_majority}
 use Rattle.afr_base.specs.declared.ids.ActorId.{ActorId}
 use Rattle.afr_base.specs.declared.ids.BrickId.{BrickId}
@@ -8,6 +8,7 @@ use Rattle.afr_base.specs.declared.ids.Gfid.{Gfid}
 use Rattle.afr_base.specs.declared.ids.Kind.TheVariants.{Names}
 use Rattle.afr_base.specs.declared.ids.NameId.{NameId}
 use Rattle.afr_base.specs.declared.ids.Shape.{Shape}
+use Rattle.afr_base.specs.SetLemmas.{some_member}
 use Rattle.afr_choice.specs.Verdict.{good_copies}
 use Rattle.afr_choice.specs.declared.looked.Looked.{Looked}
 use Rattle.afr_discipline.specs.declared.register.Register.{Register}
@@ -40,11 +41,6 @@ use Rattle.afr_removal.specs.declared.stage.RemovalStage.TheVariants.{Applying, 
 use Rattle.afr_removal_telling.specs.RemovalTelling.{During, RemovalTells}
 use Rattle.afr_transaction.specs.Progress.{may_start}
 use Rattle.afr_walk.specs.Choosing.{reader_of}
-
--- what has a member isn't empty
-pub some_member : (s : List ℕ) (b : ℕ) → member s b ≡ true → is_nothing s ≡ false
-some_member [] b h = absurd (cc h)
-some_member (x ∷ xs) b h = refl
 
 module _ (picks : Picks) (p : Plan) where
   -- ---- where it comes to

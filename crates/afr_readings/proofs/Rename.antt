@@ -25,7 +25,7 @@ use Rattle.afr_lines.specs.declared.line.Next.TheVariants as next
 use Rattle.afr_lines.specs.declared.reply.Reply.TheVariants as reply
 use Rattle.afr_lines.specs.declared.request.Request.{Request}
 use Rattle.afr_model.specs.Chosen as model
-use Rattle.afr_model.specs.Chosen.{Picks, ReadsPicked}
+use Rattle.afr_model.specs.Chosen.{Picks}
 use Rattle.afr_model.specs.Parts.{the_make, the_removal}
 use Rattle.afr_model.specs.Showing.{has, locks, looked_by}
 use Rattle.afr_cut.proofs.Cut.{make_grows, make_waits}
@@ -56,7 +56,7 @@ use Rattle.afr_transaction.specs.declared.stage.Stage.{Stage}
 use Rattle.afr_transaction.specs.declared.stage.Stage.TheVariants.{Closing, Locking, Looking as LookingAt}
 use Rattle.afr_transaction_tells.specs.Tells.{During, OnBegin, Tells}
 use Rattle.afr_walk.specs.Choosing.{reader_of}
-use Rattle.afr_walk.specs.Walk.{is_walking, next_in, walk_from, walked}
+use Rattle.afr_walk.specs.Walk.{next_in, walk_from, walked}
 use Rattle.afr_walk.specs.Walk as walks
 use Rattle.afr_walk.specs.declared.walk.Walk.{Walk}
 use Rattle.afr_walk.specs.declared.walk.WalkStep.{WalkStep}

@@ -4,18 +4,17 @@ use Rattle.afr_base.specs.Bricks.{is_nothing}
 use Rattle.afr_base.specs.declared.ids.BrickId.{BrickId}
 use Rattle.afr_base.specs.declared.ids.Kind.{Kind}
 use Rattle.afr_base.specs.declared.ids.Shape.{Shape}
-use Rattle.afr_choice.specs.Looks.{view_at}
+use Rattle.afr_choice.specs.Looks.{view_at, len_in}
 use Rattle.afr_choice.specs.Verdict.{good_copies, verdict_of}
 use Rattle.afr_choice.specs.declared.looked.Looked.{Looked}
 use Rattle.afr_choice.specs.declared.verdict.Verdict.TheVariants.{Sources}
 use Rattle.afr_model.specs.Chosen as model
 use Rattle.afr_model.specs.Chosen.{Picks}
-use Rattle.afr_model.specs.Moved as moved
-use Rattle.afr_object.specs.declared.entry.View.{View}
 use Rattle.afr_readings.specs.Readings.{Answers}
 use Rattle.afr_rule.specs.declared.candidate.Candidate.{Candidate}
 use Rattle.afr_walk.proofs.ChoosingLemmas.{some_listed, sources_some}
-use Rattle.afr_walk.specs.Choosing.{candidates_of, choices, copy_in, has_sources, len_in, reader_of}
+use Rattle.afr_walk.specs.Choosing.{candidates_of, choices, has_sources, reader_of}
+use Rattle.afr_rule.specs.Copies.{copy_in}
 
 -- a candidate by its numbers
 abbrev pub numbers_of : Candidate → ℕ × ℕ
@@ -29,17 +28,11 @@ number_of b = b.0
 abbrev pub Picked : Picks → List Candidate → Option BrickId → Type 0
 Picked picks from picked = Answers picks (map numbers_of from) (option_map number_of picked)
 
--- one length in two spellings
-pub len_is : (view : Option View) → len_in view ≡ moved.len_in view
-len_is None = refl
-len_is (Some view) = refl
-
-numbers_in : (looked : Looked) (xs : List ℕ) → map numbers_of (map (copy_in looked) xs) ≡ map (λ b. (b, moved.len_in (view_at b looked))) xs
+numbers_in : (looked : Looked) (xs : List ℕ) → map numbers_of (map (copy_in looked) xs) ≡ map (λ b. (b, len_in (view_at b looked))) xs
 numbers_in looked [] = refl
 numbers_in looked (x ∷ xs) =
-    let here = len_is (view_at x looked) in
     let rest = numbers_in looked xs in
-    λ i. (x, here i) ∷ rest i
+    λ i. (x, len_in (view_at x looked)) ∷ rest i
 
 -- the copies that the rule chooses from are the model's candidates
 pub candidates_are : (shape : Shape) (looked : Looked) (kind : Kind) → map numbers_of (candidates_of shape looked kind) ≡ model.candidates_of shape kind looked

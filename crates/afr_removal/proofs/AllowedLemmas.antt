@@ -20,6 +20,7 @@ use Rattle.afr_moves.specs.Lines.{is_ok}
 use Rattle.afr_moves.specs.Register.{kind_in}
 use Rattle.afr_moves.specs.Rules.{busy, is_area}
 use Rattle.afr_moves.specs.Sets.{any}
+use Rattle.afr_moves.proofs.AreaLemmas.{same_area_self}
 use Rattle.afr_discipline.specs.Notes.{asked_at}
 use Rattle.afr_discipline.specs.Stands.{number_of, seen_as, views_of}
 use Rattle.afr_discipline.specs.Tests.{carried, is_open, last_posted, may_end, one_of, plane_in}
@@ -29,7 +30,7 @@ use Rattle.afr_discipline.specs.declared.register.Register.{Register}
 use Rattle.afr_discipline.specs.declared.register.Step.TheVariants as step
 use Rattle.afr_transaction.specs.Laws as laws
 use Rattle.afr_transaction.specs.Progress.{allowed, enough}
-use Rattle.afr_transaction.proofs.Allowed.{moves_of, on_plane, once_is, others_missed, same_area_self, some_number}
+use Rattle.afr_transaction.proofs.Allowed.{moves_of, on_plane, once_is, others_missed, some_number}
 use Rattle.afr_transaction.proofs.Parts.{any_nothing, both, deny, holder_shows, lt_test, pair}
 use Rattle.afr_walk.specs.Free as free
 use Rattle.afr_walk.specs.Free.{Allows}

@@ -2,7 +2,7 @@
 use Rattle.std.proofs.Common.{◌≡◌, ℕ, ◌<◌, ◌≤◌, not, Bool, true, false, List, [], ◌∷◌, refl, sym, subst, ap, ◌∙◌, arith, inl, Option, None, Some, if◌then◌else◌}
 use Rattle.afr_base.specs.Bricks.{below, lowest, member, minus, is_nothing}
 use Rattle.afr_base.specs.Majority.{is_majority}
-use Rattle.afr_base.specs.SetLemmas.{lowest_in, lowest_left, majority_some}
+use Rattle.afr_base.specs.SetLemmas.{lowest_in, lowest_left, majority_some, some_member}
 use Rattle.afr_base.specs.declared.ids.BrickId.{BrickId}
 use Rattle.afr_base.specs.declared.ids.Gfid.{Gfid}
 use Rattle.afr_base.specs.declared.ids.Kind.TheVariants.{Names}
@@ -30,7 +30,7 @@ use Rattle.afr_discipline.specs.declared.register.Step.TheVariants as step
 use Rattle.afr_transaction.specs.Progress.{enough, may_start, number_in}
 use Rattle.afr_transaction.specs.Sound.{Shown}
 use Rattle.afr_transaction.proofs.Kept.{later, minus_nil, most_of, none_asked}
-use Rattle.afr_transaction.proofs.Parts.{both, denied, holder_shows, nonempty, shown_none}
+use Rattle.afr_transaction.proofs.Parts.{both, denied, holder_shows, shown_none}
 use Rattle.afr_transaction.proofs.Requests.{after_outside, locked_w, noted_is}
 use Rattle.afr_rule.specs.Choosing.{Calls}
 use Rattle.afr_rule.specs.declared.candidate.Candidate.{Candidate}
@@ -93,7 +93,7 @@ module _ (x : Removing) (removes : IsRemoval x.change) (base : IsBase x.change x
       takes true f =
           let one = some_takers x.register f in
           let held : member (both_held x.register) one.0 ≡ true = common_right (holders_of x.register.looked) (both_held x.register) one.0 one.1 in
-          stands Looking d.0 (rw d.1 (minus_nil (both_held x.register) (nonempty (both_held x.register) one.0 held)))
+          stands Looking d.0 (rw d.1 (minus_nil (both_held x.register) (some_member (both_held x.register) one.0 held)))
       takes false f = stands (Closing NoQuorum) tt tt
 
       go : (e : Bool) → is_nothing (left Locking x) ≡ e → Sound (on_stage (if e then gone_on Locking x.register x.child else Locking) x)
@@ -108,7 +108,7 @@ module _ (x : Removing) (removes : IsRemoval x.change) (base : IsBase x.change x
           let one = some_takers x.register f in
           record {
             among = λ b m. common_left (holders_of x.register.looked) (both_held x.register) b (subst (λ (s : List ℕ). member s b ≡ true) t m);
-            some = rw t (nonempty (takers_of x.register) one.0 one.1);
+            some = rw t (some_member (takers_of x.register) one.0 one.1);
           }
 
       judged : (why : Option Ending) → against x.register.shape x.child.looked ≡ why → has_takers x.register ≡ true → IsAmong (offered (or_close why Listing) x.register.shape x.child.looked) x.child.reader → Sound (on_stage (or_close why Listing) x)

@@ -1,6 +1,5 @@
 -- What a rename hears is an answer to what its next line has asked.
-use Rattle.std.proofs.Common.{◌≡◌, ◌⊎◌, ℕ, ◌<◌, Bool, true, false, List, [], Option, None, inl, inr, refl, ap, subst, sym, ◌∙◌, if◌then◌else◌}
-use Rattle.afr_base.specs.Bricks.{is_nothing}
+use Rattle.std.proofs.Common.{◌≡◌, ℕ, ◌<◌, Bool, true, false, List, [], Option, None, refl, ap, subst, sym, ◌∙◌, if◌then◌else◌}
 use Rattle.afr_base.specs.declared.ids.BrickId.{BrickId}
 use Rattle.afr_base.specs.declared.ids.Kind.TheVariants.{Names}
 use Rattle.afr_object.specs.declared.change.Change.{Change}
@@ -21,17 +20,18 @@ use Rattle.afr_walk.specs.Walk.{is_walking, walked}
 use Rattle.afr_walk.specs.declared.walk.Walk.{Walk}
 use Rattle.afr_walk.proofs.ChoosingLemmas.{answers_among}
 use Rattle.afr_transaction.specs.Between.{is_read, noted_read}
-use Rattle.afr_transaction.specs.Outcome.{outcome_of, reply_of}
+use Rattle.afr_transaction.specs.Outcome.{outcome_of}
 use Rattle.afr_transaction.specs.Progress as progress
-use Rattle.afr_transaction.specs.Progress.{Progress, answered, asks, fed, is_beginning}
+use Rattle.afr_transaction.specs.Progress.{Progress, fed, is_beginning, told_to}
 use Rattle.afr_transaction.specs.declared.stage.Stage.{Stage}
-use Rattle.afr_transaction.specs.declared.stage.Stage.TheVariants.{Locking, Looking, Beginning, Preparing, Applying, Posting, Closing}
+use Rattle.afr_transaction.specs.declared.stage.Stage.TheVariants.{Locking}
 use Rattle.afr_transaction.proofs.NoteLemmas.{fed_change}
-use Rattle.afr_entry.specs.Entry.{found_by, offered, settled, told_to}
+use Rattle.afr_entry.specs.Entry.{found_by, offered, settled}
 use Rattle.afr_entry.specs.Job.{reply_to}
 use Rattle.afr_entry.specs.declared.refusal.Refusal.{Refusal}
 use Rattle.afr_entry.specs.declared.stage.Found.{Found}
 use Rattle.afr_entry.specs.declared.stage.Found.TheVariants.{Unread, Fits, Refused}
+use Rattle.afr_entry.proofs.HeardLemmas.{beginning_where, is_unread}
 use Rattle.afr_rename.specs.Against.{against_new, against_old, half_reply}
 use Rattle.afr_rename.specs.Paths.{IsPaths, found_in, reads_new, reads_old}
 use Rattle.afr_rename.specs.Rename.{IsFed, IsRename, Renaming, after_first, after_second, choices_at, is_done, is_over, making_after, making_next, next_at, next_of, paths_after, second_begun, stage_after, turned, turned_anew}
@@ -40,26 +40,6 @@ use Rattle.afr_rename.specs.declared.paths.Paths.{Paths}
 use Rattle.afr_rename.proofs.RenameLemmas.{first_paths, is_after_first, is_after_second, is_turned, kept_answer, over_not_done, second_paths}
 use Rattle.afr_rename.specs.declared.stage.RenameStage.{RenameStage}
 use Rattle.afr_rename.specs.declared.stage.RenameStage.TheVariants.{Finding, Walking, Making, Removing, Ending}
-
--- where a transaction asks, its answer is what it is fed
-pub fed_is : (stage : Stage) (t : Progress) (at : ℕ) (b : BrickId) (q : Request) (told : Told) → progress.next_at stage at t ≡ next.Ask b q → answered stage told at t ≡ fed stage told at t
-fed_is Beginning t at b q told e = absurd (cc e)
-fed_is Locking t at b q told e = refl
-fed_is Looking t at b q told e = refl
-fed_is Preparing t at b q told e = refl
-fed_is Applying t at b q told e = refl
-fed_is Posting t at b q told e = refl
-fed_is Closing t at b q told e = refl
-
--- whether the name is still to be read
-abbrev pub is_unread : Found → Bool
-is_unread (Unread reader) = true
-is_unread found = false
-
--- what was found, where the name was read
-pub name_read : (found : Found) → (found ≡ Fits) ⊎ ((why : Refusal) × (found ≡ Refused why)) → is_unread found ≡ false
-name_read found (inl e) = ap is_unread e
-name_read found (inr e) = ap is_unread e.1
 
 -- ---- while the name isn't asked for
 pub unread_asks : (asked : Request) (t : Progress) (reader b : BrickId) (q : Request) (at : ℕ) → is_beginning t.stage ≡ false → next_under (Unread reader) at asked t ≡ next.Ask b q → progress.next_at t.stage at t ≡ next.Ask b q
@@ -176,20 +156,6 @@ found_offers Fits t at told u = refl
 found_offers (Refused why) t at told u = refl
 
 -- ---- where nobody is asked
--- a transaction that isn't over and asks nobody is at its Begin line
-beginning_where : (stage : Stage) (t : Progress) (at : ℕ) → is_ask (progress.next_at stage at t) ≡ false → progress.is_over stage t ≡ false → is_beginning stage ≡ true
-beginning_where Locking t at none more = absurd (cc none)
-beginning_where Looking t at none more = absurd (cc none)
-beginning_where Beginning t at none more = refl
-beginning_where Preparing t at none more = absurd (cc none)
-beginning_where Applying t at none more = absurd (cc none)
-beginning_where Posting t at none more = absurd (cc none)
-beginning_where Closing t at none more = go (is_nothing t.register.held) none more
-  where
-    go : (over : Bool) → is_ask (if over then next.End (reply_of t.change t.register) else asks Closing t) ≡ false → over ≡ false → false ≡ true
-    go true none more = absurd (cc more)
-    go false none more = absurd (cc none)
-
 -- there an answer changes nothing
 untold : (told : Told) (at : ℕ) (t : Progress) → is_beginning t.stage ≡ true → t ≡ told_to told at t
 untold told at t f = go (is_beginning t.stage) f

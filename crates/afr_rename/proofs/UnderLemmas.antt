@@ -13,7 +13,7 @@ use Rattle.afr_walk.specs.Choosing.{IsAmong}
 use Rattle.afr_walk.specs.Free.{Allows}
 use Rattle.afr_transaction.specs.Between.{is_read, noted_read}
 use Rattle.afr_transaction.specs.Progress as progress
-use Rattle.afr_transaction.specs.Progress.{Progress, begun, fed, is_beginning}
+use Rattle.afr_transaction.specs.Progress.{Progress, begun, fed, is_beginning, told_to}
 use Rattle.afr_transaction.specs.declared.stage.Stage.{Stage}
 use Rattle.afr_transaction.specs.declared.stage.Stage.TheVariants.{Locking, Looking, Beginning, Preparing, Applying, Posting, Closing}
 use Rattle.afr_transaction.proofs.Allowed.{allowed_moves}
@@ -21,7 +21,7 @@ use Rattle.afr_transaction.proofs.Kept.{kept_begin, stays_sound as transaction_s
 use Rattle.afr_transaction.proofs.NoteLemmas.{begins_there, fed_change, fed_notes, noted_as}
 use Rattle.afr_transaction.proofs.ReadLemmas.{begins_at, kept_given_up, kept_read, read_allowed, refusal_moves}
 use Rattle.afr_again.specs.Again.{IsPlain, PlainBegun, PlainKept, PlainRead}
-use Rattle.afr_entry.specs.Entry.{HasReader, fits_stage, found_by, offered, progress_begun, settled, told_to}
+use Rattle.afr_entry.specs.Entry.{HasReader, fits_stage, found_by, offered, progress_begun, settled}
 use Rattle.afr_entry.specs.Job.{reply_to}
 use Rattle.afr_entry.specs.declared.refusal.Refusal.{Refusal}
 use Rattle.afr_entry.specs.declared.stage.Found.{Found}

@@ -9,10 +9,10 @@ use Rattle.afr_lines.specs.declared.request.Request.{Request}
 use Rattle.afr_rule.specs.declared.candidate.Candidate.{Candidate}
 use Rattle.afr_transaction.specs.Between.{noted_read}
 use Rattle.afr_transaction.specs.Progress as transaction
-use Rattle.afr_transaction.specs.Progress.{Progress, fed, is_beginning}
+use Rattle.afr_transaction.specs.Progress.{Progress, fed, is_beginning, told_to}
 use Rattle.afr_transaction.specs.Sound.{Sound}
 use Rattle.afr_transaction.specs.declared.stage.Stage.{Stage}
-use Rattle.afr_entry.specs.Entry.{HasReader, fits_stage, found_by, offered, settled, told_to}
+use Rattle.afr_entry.specs.Entry.{HasReader, fits_stage, found_by, offered, settled}
 use Rattle.afr_entry.specs.Job.{reply_to}
 use Rattle.afr_entry.specs.declared.refusal.Refusal.{Refusal}
 use Rattle.afr_entry.specs.declared.stage.Found.{Found}

@@ -25,7 +25,8 @@ use Rattle.afr_rename.specs.Paths.{removal_of}
 use Rattle.afr_rename.specs.Rename.{IsMaking, is_done, turned}
 use Rattle.afr_rename.specs.Under.{found_after, progress_after}
 use Rattle.afr_rename.specs.declared.paths.Paths.{Paths}
-use Rattle.afr_rename_pace.specs.Renames.{AsksUnder, BeginsUnder, for_read, whole_part}
+use Rattle.afr_rename_pace.specs.Renames.{for_read, whole_part}
+use Rattle.afr_entry_pace.specs.Entries.{AsksUnder, BeginsUnder}
 use Rattle.afr_transaction.proofs.Kept.{sound_first}
 use Rattle.afr_transaction.specs.Between.{noted_read}
 use Rattle.afr_transaction.specs.Progress as transaction

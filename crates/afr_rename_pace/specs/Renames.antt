@@ -1,5 +1,6 @@
 -- How many lines a rename has left at most: those of its walks and of its two transactions, each with the read of its name.
-use Rattle.std.specs.Prelude.{◌≡◌, ℕ, ◌+◌, ◌*◌, ◌≤◌, Bool, false, List, length, if◌then◌else◌}
+use Rattle.std.specs.Prelude.{ℕ, ◌+◌, ◌*◌, ◌≤◌, Bool, false, List, length, if◌then◌else◌}
+use Rattle.afr_entry_pace.specs.Entries.{AsksUnder, BeginsUnder}
 use Rattle.afr_base.specs.declared.ids.BrickId.{BrickId}
 use Rattle.afr_base.specs.declared.ids.NameId.{NameId}
 use Rattle.afr_base.specs.declared.ids.Shape.{Shape}
@@ -16,8 +17,7 @@ use Rattle.afr_entry.specs.declared.stage.Found.{Found}
 use Rattle.afr_rename.specs.declared.stage.RenameStage.TheVariants.{Ending, Finding, Making, Removing, Walking}
 use Rattle.afr_rename.specs.declared.stage.RenameStage.{RenameStage}
 use Rattle.afr_transaction.specs.Progress.{Progress}
-use Rattle.afr_transaction.specs.Sound.{IsAsking}
-use Rattle.afr_transaction.specs.declared.stage.Stage.TheVariants.{Beginning, Locking}
+use Rattle.afr_transaction.specs.declared.stage.Stage.TheVariants.{Locking}
 use Rattle.afr_transaction.specs.declared.stage.Stage.{Stage}
 use Rattle.afr_walk.specs.Choosing.{IsAmong}
 
@@ -41,11 +41,6 @@ rename_left_at (Ending said) x = 1
 -- the same of a whole rename
 abbrev pub rename_left : Renaming → ℕ
 rename_left m = rename_left_at m.stage m.paths
-
--- the next line is a request: a name is read before the attempt
-abbrev pub AsksUnder : Found → Stage → Progress → Type 0
-AsksUnder (Unread b) Beginning t = Unit {0}
-AsksUnder found stage t = IsAsking stage t
 
 -- where the first transaction is done, the second one's first lock
 abbrev pub AsksMaking : Bool → Found → Progress → Type 0
@@ -74,11 +69,6 @@ abbrev pub rename_again : RenameStage → Told → Bool
 rename_again (Making t found) told = asks_again (making_stage t) told
 rename_again (Removing t found) told = asks_again t.stage told
 rename_again stage told = false
-
--- the next line is a Begin line
-abbrev pub BeginsUnder : Found → Stage → Type 0
-BeginsUnder (Unread b) stage = ⊥
-BeginsUnder found stage = stage ≡ Beginning
 
 -- so it is at a stage
 abbrev pub BeginsRename : RenameStage → Type 0

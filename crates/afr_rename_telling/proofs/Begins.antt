@@ -20,7 +20,8 @@ use Rattle.afr_model.specs.Renamed.{IsRenamed}
 use Rattle.afr_model.specs.Replied.{IsOf}
 use Rattle.afr_walk.specs.Choosing.{IsAmong}
 use Rattle.afr_walk.specs.Looks.{no_look}
-use Rattle.afr_walk.specs.Walk.{next_in, root_entry}
+use Rattle.afr_walk.specs.Walk.{next_in}
+use Rattle.afr_object.specs.Tables.{root_entry}
 use Rattle.afr_walk.specs.declared.walk.WalkStep.TheVariants as walking
 use Rattle.afr_inode_telling.proofs.Walking.{walk_tells_first}
 use Rattle.afr_transaction_tells.specs.About.{BlamesNext}

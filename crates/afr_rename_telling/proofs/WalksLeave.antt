@@ -6,7 +6,7 @@ use Rattle.afr_base.specs.declared.ids.What.{What}
 use Rattle.afr_base.specs.declared.ids.What.TheVariants.{File, Dir}
 use Rattle.afr_lines.specs.Work.{Work}
 use Rattle.afr_lines.specs.declared.reply.Reply.TheVariants as reply
-use Rattle.afr_object.specs.Tables.{is_dir, object_of}
+use Rattle.afr_object.specs.Tables.{is_dir, object_of, root_entry}
 use Rattle.afr_object.specs.declared.change.Change.{Change}
 use Rattle.afr_plan.specs.declared.command.Command.TheVariants as command
 use Rattle.afr_plan.specs.declared.plan.Plan.{Plan}
@@ -18,7 +18,6 @@ use Rattle.afr_model.specs.Standing.{locks_any}
 use Rattle.afr_cut.proofs.Cut.{first_all}
 use Rattle.afr_walk.specs.Looks.{no_look}
 use Rattle.afr_walk.specs.Stops.{reply_of}
-use Rattle.afr_walk.specs.Walk.{root_entry}
 use Rattle.afr_walk.specs.declared.stop.Stop.{Stop}
 use Rattle.afr_walk.specs.declared.stop.Stop.TheVariants as stop
 use Rattle.afr_walk.specs.declared.walk.Walk.{Walk}

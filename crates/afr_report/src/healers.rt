@@ -7,7 +7,7 @@ ghost use Rattle.afr_report.specs.Own.{lines_at, places};
 use crate::heals::push_heal;
 use crate::own::{line_at, own_places};
 use crate::progress::{Progress, progress_of, reply_by, standing};
-use afr_base::{ActorId, NoMemory};
+use afr_base::{ActorId, FIRST_HEALER, MOST_CLIENTS, NoMemory};
 use afr_lines::Reply;
 use afr_log::Log;
 use afr_object::List;
@@ -26,7 +26,7 @@ pub fn push_healers(
     requires lists { lists.now ≡ places (reverse log.now.items) }
     ensures ok { OnOk result (string_bytes out.new ≡ string_bytes out.old ++ healers_text words.now 17 healers.now (reverse log.now.items)) }
 {
-    let mut healer = 17;
+    let mut healer = FIRST_HEALER;
     for rounds in healers {
         push_healer(out, words, ActorId(healer), rounds, lists, log)?;
         healer += 1;
@@ -77,7 +77,7 @@ fn push_healer_head(
     requires healer { 16 < healer.0 }
     ensures ok { OnOk result (string_bytes out.new ≡ string_bytes out.old ++ healer_head healer.0 progress.dead progress.done rounds) }
 {
-    let number = healer.0 - 16;
+    let number = healer.0 - MOST_CLIENTS;
     let Progress { done, dead } = progress;
     let standing = standing(dead, done, rounds);
     write!(out, "h{number} {done} of {rounds}{standing}\n")?;

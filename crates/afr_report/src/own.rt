@@ -4,14 +4,11 @@ ghost use Rattle.std.specs.Option.{option_and_then, option_copied, option_map};
 ghost use Rattle.afr_log.specs.Log.{unasked};
 ghost use Rattle.afr_report.specs.Own.{placed, places, told_of};
 
-use afr_base::{ActorId, NoMemory};
+use afr_base::{ACTORS, ActorId, NoMemory};
 use afr_lines::{Event, Line};
 use afr_log::Log;
 use afr_object::List;
 use std::alloc::Global;
-
-/// The actors of the largest plan are 1 to 19.
-const ACTORS: usize = 20;
 
 /// For each actor, by its number, the positions of the lines that tell of it, the oldest first: the
 /// ends of its works and heals, and that it was killed. One pass over the log.

@@ -25,7 +25,7 @@ use Rattle.afr_lines.specs.declared.request.Request.{Request}
 use Rattle.afr_moves.specs.Keeps.{keeps_in}
 use Rattle.afr_moves.specs.Register.{Exact, Looks, Opening, Phase, is_opening, over, same_step}
 use Rattle.afr_moves.specs.Steps.{goes_on, looks_at}
-use Rattle.afr_round_pace.proofs.Picking.{found_parts, looks_is, opening_is, pick_for, pick_is, picks_for}
+use Rattle.afr_self_heal.proofs.FoundLemmas.{found_parts, looks_is, opening_is, pick_for, pick_is, picks_for}
 use Rattle.afr_round_pace.specs.Laws.{HealAsksNearer, HealAsksRooted, HealBeginsNearer, HealCosts, HealEndLeft}
 use Rattle.afr_round_pace.specs.Left.{heal_left}
 use Rattle.afr_self_heal.specs.Laws.{HealAsksLow}

@@ -4,7 +4,7 @@ use Rattle.afr_heal.proofs.Parts.{not_both}
 use Rattle.afr_heal.specs.Engine.{Ask, Begins, Ends, Next}
 use Rattle.afr_heal_pace.specs.Left.{taken}
 use Rattle.afr_healer.specs.Rounding as round
-use Rattle.afr_healer.specs.Rounding.{IsRounding, IsStaged, Rounding, healed, indexed}
+use Rattle.afr_healer.specs.Rounding.{IsStaged, Rounding, healed}
 use Rattle.afr_healer.specs.declared.stage.RoundStage.{RoundStage}
 use Rattle.afr_healer.specs.declared.stage.RoundStage.TheVariants.{Asking, Healing as At, Over}
 use Rattle.afr_lines.specs.Told.{told_by}

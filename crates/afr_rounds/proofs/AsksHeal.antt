@@ -34,7 +34,7 @@ use Rattle.afr_rounds.specs.Acting.{IsAsked, met_after}
 use Rattle.afr_rounds.specs.Keeping.{CarriesIts, CarriesRound, IsBetweenHeals, IsHealer, IsNotedHeal, RunsHeal, StageStands}
 use Rattle.afr_rounds.specs.Laws.{Asks as AskLine, IsBeforeRound, RoundKeeps}
 use Rattle.afr_rounds.specs.declared.healer.Healer.{Healer}
-use Rattle.afr_self_heal.specs.Healing.{Healing as Heal, answered, coming, register_after}
+use Rattle.afr_self_heal.specs.Healing.{Healing as Heal, answered, coming}
 use Rattle.afr_self_heal.specs.Healing as heal
 use Rattle.afr_self_heal.specs.Source.{IsCandidate, is_found}
 use Rattle.afr_server.specs.NextLine.{told_line}

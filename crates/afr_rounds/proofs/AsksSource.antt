@@ -13,8 +13,8 @@ use Rattle.afr_discipline.specs.Turns.{candidate}
 use Rattle.afr_discipline.specs.declared.register.Move.TheVariants as move
 use Rattle.afr_discipline.specs.declared.register.Register.{Register}
 use Rattle.afr_heal.specs.Answers.{Picks, asked_for}
-use Rattle.afr_heal.specs.Carried.{IsPublished}
 use Rattle.afr_heal.specs.Engine.{Ask as Asks}
+use Rattle.afr_heal.proofs.Carried.{self_stands}
 use Rattle.afr_heal_telling.specs.HealLaws.{IsWholeTold, source_next}
 use Rattle.afr_heal_telling.specs.HealTelling.{HealTells, TellsAt}
 use Rattle.afr_lines.specs.Told.{told_by}
@@ -25,7 +25,7 @@ use Rattle.afr_lines.specs.declared.line.Line.{Line}
 use Rattle.afr_lines.specs.declared.line.Line.TheVariants.{Ask}
 use Rattle.afr_lines.specs.declared.request.Request.{Request}
 use Rattle.afr_moves.specs.Keeps.{keeps_in}
-use Rattle.afr_moves.specs.Register.{Exact, Looks, Phase, Step, is_opening, over, same_step}
+use Rattle.afr_moves.specs.Register.{Exact, Looks, Phase, Step, is_opening, same_step}
 use Rattle.afr_moves.specs.Register as exact
 use Rattle.afr_self_heal.specs.Healing.{Healing as Heal, IsHealing, answered, coming}
 use Rattle.afr_self_heal.specs.Healing as heal
@@ -88,40 +88,6 @@ none_found true true false all e = refl
 none_found true true true all e = absurd (cc e)
 
 -- ---- the program's register and the exact one are at the same step
-stands_itself : (q : Register) → IsPublished q → Stands q (seen_as q)
-stands_itself q k = record {
-  number = refl;
-  area = refl;
-  held = refl;
-  second = refl;
-  second_held = refl;
-  pre = refl;
-  done = refl;
-  post = refl;
-  inside = refl;
-  object = refl;
-  kind = refl;
-  healing = refl;
-  settled = refl;
-  step = refl;
-  asked = refl;
-  unlocked = refl;
-  reached = refl;
-  views = refl;
-  first_reached = refl;
-  first_views = refl;
-  phase = refl;
-  possible = λ s small. refl;
-  reads = refl;
-  upto = refl;
-  broken = refl;
-  attempt = k.attempt;
-  begun = k.begun;
-  heal = k.heal;
-  source = k.source;
-  mended = k.mended;
-}
-
 module _ (laws : RoundLaws) (h : Heal) (sound : IsHealing h) (b : ℕ) (asked : Request) (e : coming h ≡ Asks b asked) (answer : Answer) (t : ℕ) (chosen : BrickId) where
   abbrev told : Told
   told = told_by answer
@@ -138,7 +104,7 @@ module _ (laws : RoundLaws) (h : Heal) (sound : IsHealing h) (b : ℕ) (asked : 
   stands : Stands after exactly
   stands =
       laws.notes_stand h.register (seen_as h.register) (move.Ask (record { 0 = b }) (record { ref_ptr = (0, 0); now = asked })) told t (laws.heal.low h sound b asked e).1 sound.heals.five small
-      (stands_itself h.register sound.heals.published)
+      (self_stands h.register sound.heals.published)
 
   same_looking : is_looking exactly.step exactly.phase ≡ is_looking (seen_as after).step (seen_as after).phase
   same_looking = rw (stands.step, stands.phase) refl

@@ -1,8 +1,7 @@
 -- A HealBegin or HealEnd line of a healer: it is lawful and the plan's, and the healer's round stands for it.
-use Rattle.std.proofs.Common.{◌≡◌, ◌∙◌, ◌⊎◌, ℕ, zero, suc, ◌-◌, ◌<◌, ◌≤◌, ◌==◌, Bool, true, false, List, [], ◌∷◌, Option, None, Some, refl, sym, ap, arith, subst, length, slice_get, inl, inr}
-use Rattle.std.specs.Prelude.{slice_index_or}
+use Rattle.std.proofs.Common.{◌≡◌, ◌∙◌, ◌⊎◌, ℕ, ◌<◌, ◌≤◌, ◌==◌, Bool, true, false, List, ◌∷◌, Option, None, Some, refl, sym, ap, arith, subst, length, inl, inr}
 use Rattle.std.proofs.lemmas.Bool.Decides.{nat_tests}
-use Rattle.std.proofs.lemmas.Option.{slice_get_within}
+use Rattle.afr_law.proofs.Model.Tasks.{no_script}
 use Rattle.afr_base.specs.declared.ids.ActorId.{ActorId}
 use Rattle.afr_base.specs.declared.ids.Gfid.{Gfid}
 use Rattle.afr_base.specs.declared.ids.Shape.{Shape}
@@ -21,7 +20,6 @@ use Rattle.afr_lines.specs.Places.{Between, Place, Within, opens, place_of}
 use Rattle.afr_lines.specs.Work.{Work, work}
 use Rattle.afr_lines.specs.declared.line.Line.{Line}
 use Rattle.afr_lines.specs.declared.line.Line.TheVariants.{HealBegin, HealEnd}
-use Rattle.afr_model.specs.Actors.{script_of}
 use Rattle.afr_model.specs.Following.{ToRound}
 use Rattle.afr_model.specs.HealReplies.{IsHealAnswered}
 use Rattle.afr_model.specs.HealReplies as model
@@ -31,7 +29,6 @@ use Rattle.afr_model.specs.Rounds.{listed_by}
 use Rattle.afr_moves.specs.Ranges.{InRange}
 use Rattle.afr_next.specs.Healed.{AllowsMove}
 use Rattle.afr_next.specs.Standing.{ComesNext}
-use Rattle.afr_plan.specs.declared.command.Command.{Command}
 use Rattle.afr_plan.specs.declared.plan.Plan.{Plan}
 use Rattle.afr_rounds.proofs.Gathered.{RoundLaws}
 use Rattle.afr_rounds.proofs.WritesOn.{IsAtBorder, goes_on}
@@ -54,19 +51,10 @@ or_right {A} {B} other (inl k) = absurd (other k)
 or_right {A} {B} other (inr k) = k
 
 -- ---- a plan has no commands for a healer
-none_beyond : (scripts : List (List Command)) (i : ℕ) → length scripts ≤ i → slice_index_or scripts i [] ≡ []
-none_beyond [] i e = refl
-none_beyond (x ∷ scripts) zero e = absurd (omega (arith, e))
-none_beyond (x ∷ scripts) (suc i) e = none_beyond scripts i (omega (arith, e))
-
-no_command : (p : Plan) (a : ActorId) (i : ℕ) (c : Command) → length p.clients ≤ 16 → 17 ≤ a.0 → slice_get (script_of p a.0) i ≡ Some c → ⊥
-no_command p a i c clients healer is =
-    omega (arith, slice_get_within [] i c (subst (λ (script : List Command). slice_get script i ≡ Some c) (none_beyond p.clients (a.0 - 1) (omega (arith, clients, healer))) is))
-
 -- a line of a healer is of its round
 pub of_healer : (p : Plan) (a : ActorId) (line : Line) (log : List Line) → length p.clients ≤ 16 → 17 ≤ a.0 → model.IsHealing p.shape line (work a.0 log) → IsOfTask p a line log
 of_healer p a line log clients healer healing = record {
-  command = λ c is. absurd (no_command p a _ c clients healer is);
+  command = λ c is. absurd (no_script p a.0 _ c clients healer is);
   round = λ is b due. healing;
 }
 

@@ -14,7 +14,6 @@ use Rattle.afr_lines.specs.declared.line.Line.TheVariants.{End}
 use Rattle.afr_lines.specs.declared.reply.Reply.{Reply}
 use Rattle.afr_model.specs.Following.{ToRound}
 use Rattle.afr_model.specs.HealReplies as model
-use Rattle.afr_model.specs.HealReplies.{refuses_index}
 use Rattle.afr_model.specs.Rounds.{IsHealed, heal_due}
 use Rattle.afr_moves.specs.Ranges.{InRange}
 use Rattle.afr_next.specs.Standing.{ComesNext}

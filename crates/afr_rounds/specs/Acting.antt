@@ -54,7 +54,7 @@ abbrev pub Readies : Shape → BrickId → Healer → Healer → Type 0
 Readies shape b x z = z ≡ record x { round = Some (made_ready (round_or shape b x.round)) }
 
 -- ---- what the bricks need
--- whether a request of the healer has a live session: one that its heal's first line met, or one that this line meets
+-- whether a request of the actor has a live session: one that its heal's or work's first line met, or one that this line meets
 abbrev pub has_live : Bool → ActorId → Epochs → ℕ → Serving → Bool
 has_live true a epochs b s = has_session (epoch_at b epochs) a s
 has_live false a epochs b s = is_met a s
@@ -67,7 +67,7 @@ pub record CanAsk (a : ActorId) (x : Healer) (m : Rounding) (b : BrickId) (reque
   pub can : (load : Load) → CarriesNext m load → At b.0 servers (λ s. is_carried (has_live x.met a x.epochs b.0 s) (next_fault s.faults) ≡ true → CanCarryOut request load s.copies.objects)
   pub covered : (load : Load) → CarriesNext m load → At b.0 servers (λ s. is_carried (has_live x.met a x.epochs b.0 s) (next_fault s.faults) ≡ true → IsUnderLocks a request load s)
 
--- the brick served the request over a session that the heal has met, or its first line met all bricks
+-- the brick served the request over a session that the heal or work has met, or its first line met all bricks
 abbrev pub ServesNext : Bool → ActorId → BrickId → Request → Load → Epochs → List Serving → List Serving → Epochs → Asked → Type 0
 ServesNext true a b request load old bricks after new given = (new ≡ old) × AsksOne a old b.0 request load bricks after given
 ServesNext false a b request load old bricks after new given = AsksFirst a b.0 request load bricks after new given

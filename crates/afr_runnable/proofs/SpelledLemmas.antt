@@ -28,7 +28,8 @@ use Rattle.afr_plan.specs.Said.{Said, IsSaid, IsShape, Afr, Volume, Files, Turns
 use Rattle.afr_plan.specs.Spelling.{IsNamedPath}
 use Rattle.afr_plan.specs.Spells.{IsLine, AreLines, Spells}
 use Rattle.afr_plan.specs.Work.{Work, IsCommand, Write, Create, Mkdir, Unlink, Rmdir, SetAttr, GetAttr, Rename}
-use Rattle.afr_runnable.specs.Runnable.{AreRunnableRounds, IsAboutVolume, IsOneOf, IsRunnable, IsRunnableScript, IsRunnableShape, has_its_name, has_name}
+use Rattle.afr_runnable.specs.Runnable.{AreRunnableRounds, IsAboutVolume, IsOneOf, IsRunnable, IsRunnableScript, IsRunnableShape, has_its_name}
+use Rattle.afr_plan.specs.OnNames.{has_name}
 
 -- ---- lists whose last item grows
 onto_last-All : {A : Type 0} (P Q : List A → Type 0) (c : A) (gs : List (List A)) → All P gs → ((g : List A) → P g → Q g) → ((g : List A) → P g → Q (g ++ c ∷ [])) → All Q (onto_last c gs)

@@ -1,22 +1,18 @@
 -- The plans that the volume can run: three or five bricks, at most 16 clients and 3 healers, faults, events and orders.
-use Rattle.std.specs.Prelude.{◌≡◌, ◌⊎◌, ℕ, ◌+◌, ◌&&◌, ◌≤◌, ◌<◌, ◌^◌, List, length, nat_lt, Bool, true, false}
+use Rattle.std.specs.Prelude.{◌≡◌, ◌⊎◌, ℕ, ◌+◌, ◌&&◌, ◌≤◌, ◌<◌, ◌^◌, List, length, Bool, true, false}
 use Rattle.std.specs.List.{All}
 use Rattle.afr_base.specs.declared.ids.BrickId.{BrickId}
-use Rattle.afr_base.specs.declared.ids.NameId.{NameId}
 use Rattle.afr_base.specs.declared.ids.Shape.{Shape}
 use Rattle.afr_lines.specs.declared.line.Event.{Event}
 use Rattle.afr_lines.specs.declared.line.Event.TheVariants as event
 use Rattle.afr_plan.specs.declared.command.Command.{Command}
 use Rattle.afr_plan.specs.declared.command.Command.TheVariants.{Create, Mkdir, Unlink, Rmdir, Rename}
 use Rattle.afr_plan.specs.declared.plan.Plan.{Plan}
+use Rattle.afr_plan.specs.OnNames.{has_name}
 
 -- three bricks, of which the last may be an arbiter, or five that all keep bytes
 abbrev pub IsRunnableShape : Shape → Type 0
 IsRunnableShape shape = (shape.n ≡ 3) ⊎ ((shape.n ≡ 5) × (shape.arbiter ≡ false))
-
--- a path has a name
-abbrev pub has_name : List NameId → Bool
-has_name path = nat_lt 0 (length path)
 
 -- a command that makes a name or removes one says which; a rename says both
 abbrev pub has_its_name : Command → Bool

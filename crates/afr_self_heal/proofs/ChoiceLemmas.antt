@@ -1,14 +1,15 @@
 -- The copies that a rule chooses from, and the bricks that show that a source moved.
-use Rattle.std.proofs.Common.{zero, suc, slice_get, ◌||◌, ◌≡◌, ℕ, ◌+◌, ◌<◌, ◌≤◌, ◌==◌, ◌&&◌, ◌∙◌, not, nat_lt, Bool, true, false, List, [], ◌∷◌, ◌++◌, refl, sym, ap, arith, filter, map, take, length, length-append, subst, if◌then◌else◌, Option, None, Some}
+use Rattle.std.proofs.Common.{zero, suc, slice_get, ◌||◌, ◌≡◌, ℕ, ◌<◌, ◌≤◌, ◌==◌, ◌&&◌, ◌∙◌, not, nat_lt, Bool, true, false, List, [], ◌∷◌, refl, sym, ap, arith, filter, map, length, subst, Option, None, Some}
 use Rattle.std.proofs.lemmas.Bool.Decides.{nat_tests}
 use Rattle.std.proofs.lemmas.Bool.{eqb-true}
-use Rattle.afr_base.specs.Bricks.{all_five, below, from_table, member, minus, same, same_is}
+use Rattle.afr_base.specs.Bricks.{all_five, below, from_table, member, minus, same}
 use Rattle.afr_base.specs.declared.ids.BrickId.{BrickId}
 use Rattle.afr_base.specs.declared.ids.Kind.{Kind}
 use Rattle.afr_base.specs.declared.ids.Kind.TheVariants as kind_of
 use Rattle.afr_heal.proofs.Finding.{find_some}
 use Rattle.afr_heal.proofs.Parts.{not_both}
 use Rattle.afr_rule.specs.Choosing.{Calls, IsPick}
+use Rattle.afr_rule.specs.Copies.{copy_in}
 use Rattle.afr_self_heal.specs.Healing.{IsChosen}
 use Rattle.afr_discipline.specs.Stands.{seen_as, views_of}
 use Rattle.afr_discipline.specs.declared.register.Register.{Register}
@@ -17,7 +18,7 @@ use Rattle.afr_moves.specs.Register.{good}
 use Rattle.afr_discipline.specs.Turns.{brick_of, candidate}
 use Rattle.afr_moves.proofs.Tests.{turned}
 use Rattle.afr_rule.specs.declared.candidate.Candidate.{Candidate}
-use Rattle.afr_self_heal.specs.Source.{HasSource, IsCandidate, candidates_of, copy_in}
+use Rattle.afr_self_heal.specs.Source.{HasSource, IsCandidate, candidates_of}
 
 -- those of a list that pass one test, without one number, and pass another
 pub filter_minus : (p q : ℕ → Bool) (s : ℕ) (xs : List ℕ) → filter p (minus (filter q xs) (s ∷ [])) ≡ filter (λ x. q x && not (x == s) && p x) xs
@@ -30,35 +31,6 @@ filter_minus p q s (x ∷ xs) = go (q x) refl (s == x) refl (p x) refl (filter_m
     go true e true f c h ih = let g : (x == s) ≡ true = turned x s ∙ f in rw (e, f, g) ih
     go true e false f true h ih = let g : (x == s) ≡ false = turned x s ∙ f in rw (e, f, g, h) (ap (λ (ys : List ℕ). x ∷ ys) ih)
     go true e false f false h ih = let g : (x == s) ≡ false = turned x s ∙ f in rw (e, f, g, h) ih
-
-module _ (copy : ℕ → Candidate) (p : ℕ → Bool) where
-  at_end : (b : ℕ) (xs : List ℕ) → map copy (filter p (xs ++ b ∷ [])) ≡ (if p b then map copy (filter p xs) ++ copy b ∷ [] else map copy (filter p xs))
-  at_end b [] = go (p b) refl
-    where
-      go : (a : Bool) → p b ≡ a → map copy (filter p (b ∷ [])) ≡ (if p b then map copy (filter p []) ++ copy b ∷ [] else map copy (filter p []))
-      go true e = rw e refl
-      go false e = rw e refl
-  at_end b (x ∷ xs) = go (p x) refl (p b) refl (at_end b xs)
-    where
-      go : (a : Bool) → p x ≡ a → (d : Bool) → p b ≡ d → map copy (filter p (xs ++ b ∷ [])) ≡ (if p b then map copy (filter p xs) ++ copy b ∷ [] else map copy (filter p xs))
-          → map copy (filter p (x ∷ xs ++ b ∷ [])) ≡ (if p b then map copy (filter p (x ∷ xs)) ++ copy b ∷ [] else map copy (filter p (x ∷ xs)))
-      go true e true f ih = let k = rw f at ih in rw (e, f) (ap (λ (ys : List Candidate). copy x ∷ ys) k)
-      go true e false f ih = let k = rw f at ih in rw (e, f) (ap (λ (ys : List Candidate). copy x ∷ ys) k)
-      go false e true f ih = let k = rw f at ih in rw (e, f) k
-      go false e false f ih = let k = rw f at ih in rw (e, f) k
-
-  -- one round of the loop that gathers the copies
-  pub gathered : (b : ℕ) (flag : Bool) (copies after : List Candidate) (added : Candidate) → b < 5 → copies ≡ map copy (filter p (take b all_five)) → flag ≡ p b → added ≡ copy b
-      → after ≡ (if flag then copies ++ added ∷ [] else copies) → after ≡ map copy (filter p (take (b + 1) all_five))
-  gathered b flag copies after added l so_far test is grows =
-      let more : take (b + 1) all_five ≡ take b all_five ++ b ∷ [] = same_is (take (b + 1) all_five) (take b all_five ++ b ∷ []) (from_table 5 (λ k. same (take (k + 1) all_five) (take k all_five ++ k ∷ [])) refl b l) in
-      let once : after ≡ (if p b then map copy (filter p (take b all_five)) ++ copy b ∷ [] else map copy (filter p (take b all_five))) = grows ∙ (λ i. if test i then so_far i ++ is i ∷ [] else so_far i) in
-      once ∙ sym (at_end b (take b all_five)) ∙ ap (λ (xs : List ℕ). map copy (filter p xs)) (sym more)
-
--- at most one more each round
-pub longer : (flag : Bool) (copies after : List Candidate) (added : Candidate) (b : ℕ) → length copies ≤ b → after ≡ (if flag then copies ++ added ∷ [] else copies) → length after ≤ b + 1
-longer true copies after added b l e = rw e (grind (arith, length-append copies (added ∷ []), l))
-longer false copies after added b l e = rw e (omega (arith, l))
 
 -- those below n that pass are those below n that pass another test, where both agree there
 pub choose_same : (n : ℕ) (p q : ℕ → Bool) → ((x : ℕ) → x < n → q x ≡ p x) → (xs : List ℕ) → filter (λ x. nat_lt x n && p x) xs ≡ filter q (filter (λ b. nat_lt b n) xs)
@@ -80,13 +52,11 @@ below_is n = refl
 pub choices_are : (copy : ℕ → Candidate) (n : ℕ) (p q : ℕ → Bool) → ((x : ℕ) → x < n → q x ≡ p x) → map copy (filter (λ x. nat_lt x n && p x) all_five) ≡ map copy (filter q (below n))
 choices_are copy n p q h = ap (map copy) (choose_same n p q h all_five ∙ ap (filter q) (below_is n))
 
--- after the fifth round
-pub all_gathered : (p : Register) (kind : Kind) (copies : List Candidate) (x : ℕ) → x ≡ 5
-    → copies ≡ map (copy_in p) (filter (λ x. nat_lt x p.shape.n && good p.shape.n (keeps_in p.shape) kind (views_of p.seen) x) (take x all_five)) → HasSource kind p → copies ≡ candidates_of p
-all_gathered p kind copies x end k has =
-    let five : copies ≡ map (copy_in p) (filter (λ x. nat_lt x p.shape.n && good p.shape.n (keeps_in p.shape) kind (views_of p.seen) x) all_five) =
-    subst (λ (x : ℕ). copies ≡ map (copy_in p) (filter (λ x. nat_lt x p.shape.n && good p.shape.n (keeps_in p.shape) kind (views_of p.seen) x) (take x all_five))) end k in
-    five ∙ choices_are (copy_in p) p.shape.n (good p.shape.n (keeps_in p.shape) kind (views_of p.seen)) (candidate p.shape.n (keeps_in p.shape) (seen_as p)) has.copies
+-- where the copies that may be the source are the good ones, they are the candidates
+pub candidates_are : (p : Register) (kind : Kind) (copies : List Candidate) → HasSource kind p
+    → copies ≡ map (copy_in p.seen) (filter (λ x. nat_lt x p.shape.n && good p.shape.n (keeps_in p.shape) kind (views_of p.seen) x) all_five) → copies ≡ candidates_of p
+candidates_are p kind copies has k =
+    k ∙ choices_are (copy_in p.seen) p.shape.n (good p.shape.n (keeps_in p.shape) kind (views_of p.seen)) (candidate p.shape.n (keeps_in p.shape) (seen_as p)) has.copies
 
 -- one that passes both tests is among those of a list that do
 some_left : (copy : ℕ → Candidate) (p q : ℕ → Bool) (x : ℕ) → p x ≡ true → q x ≡ true → (xs : List ℕ) → member xs x ≡ true → 0 < length (map copy (filter q (filter p xs)))
@@ -108,8 +78,8 @@ pub some_listed : (p : Register) (kind : Kind) → p.shape.n ≤ 5 → HasSource
 some_listed p kind few has =
     let x = has.some.0 in
     let low = has.some.1.below in
-    subst (λ (xs : List ℕ). 0 < length (map (copy_in p) (filter (candidate p.shape.n (keeps_in p.shape) (seen_as p)) xs))) (below_is p.shape.n)
-    (some_left (copy_in p) (λ b. nat_lt b p.shape.n) (candidate p.shape.n (keeps_in p.shape) (seen_as p)) x (low_test x p.shape.n low) has.some.1.passes all_five (from_table 5 (member all_five) refl x (omega (arith, low, few))))
+    subst (λ (xs : List ℕ). 0 < length (map (copy_in p.seen) (filter (candidate p.shape.n (keeps_in p.shape) (seen_as p)) xs))) (below_is p.shape.n)
+    (some_left (copy_in p.seen) (λ b. nat_lt b p.shape.n) (candidate p.shape.n (keeps_in p.shape) (seen_as p)) x (low_test x p.shape.n low) has.some.1.passes all_five (from_table 5 (member all_five) refl x (omega (arith, low, few))))
   where
     low_test : (x n : ℕ) → x < n → nat_lt x n ≡ true
     low_test x n l = grind (arith, nat_tests, l)
@@ -138,8 +108,8 @@ chosen_is_candidate calls choose kind p chosen h = by kind h
     of_pick : IsPick calls choose (candidates_of p) chosen → IsCandidate p chosen.0
     of_pick w =
         let found = w.3 in
-        let listed = subst (λ (xs : List ℕ). slice_get (map (copy_in p) (filter (candidate p.shape.n (keeps_in p.shape) (seen_as p)) xs)) w.0 ≡ Some w.1) (sym (below_is p.shape.n)) found in
-        let passes = picked_passes (copy_in p) (λ x. refl) (λ b. nat_lt b p.shape.n) (candidate p.shape.n (keeps_in p.shape) (seen_as p)) all_five w.0 w.1 listed in
+        let listed = subst (λ (xs : List ℕ). slice_get (map (copy_in p.seen) (filter (candidate p.shape.n (keeps_in p.shape) (seen_as p)) xs)) w.0 ≡ Some w.1) (sym (below_is p.shape.n)) found in
+        let passes = picked_passes (copy_in p.seen) (λ x. refl) (λ b. nat_lt b p.shape.n) (candidate p.shape.n (keeps_in p.shape) (seen_as p)) all_five w.0 w.1 listed in
         let is : w.1.brick.0 ≡ chosen.0 = ap (λ (b : BrickId). b.0) (sym w.4) in
         record {
           below = low chosen.0 p.shape.n (subst (λ (y : ℕ). nat_lt y p.shape.n ≡ true) is passes.0);

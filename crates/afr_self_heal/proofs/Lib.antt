@@ -1,7 +1,6 @@
 mod ChoiceLemmas
 mod ComingLemmas
-mod FiveLemmas
-mod FoundLemmas
+pub mod FoundLemmas
 mod HearLemmas
 mod NotedLemmas
 mod Sound

@@ -14,10 +14,6 @@ use Rattle.afr_rule.specs.declared.candidate.Candidate.{Candidate}
 abbrev pub is_found : ℕ → Exact → Bool
 is_found n r = not r.broken && same_step r.step Looks && is_opening r.phase && over n r.law.held r.asked
 
--- a copy: its brick, and the length that its first view showed
-abbrev pub copy_in : Register → ℕ → Candidate
-copy_in p x = record { brick = record { 0 = x }; len = len_of (views_of p.seen x) }
-
 -- the copies that may be the source, in rising order, each with the length that its view showed
 abbrev pub candidates : ℕ → (ℕ → Kind → Bool) → Exact → List Candidate
 candidates n keeps r = map (λ x. record { brick = record { 0 = x }; len = len_of (r.first_views x) }) (filter (candidate n keeps r) (below n))

@@ -3,11 +3,9 @@ ghost use Rattle.std.specs.Prelude.{◌≡◌, true};
 ghost use Rattle.afr_heal.specs.Answers.{fits};
 ghost use Rattle.afr_self_heal.specs.Healing.{IsShowable, IsTellable};
 
+use afr_base::LONGEST_FILE;
 use afr_lines::{Request, Told};
 use afr_object::View;
-
-/// No file has more bytes.
-const LONGEST: u32 = 1_048_576;
 
 /// Whether bricks give this answer to this request of a heal.
 pub(crate) fn fits(request: &Request, told: &Told) -> bool
@@ -34,7 +32,7 @@ pub(crate) fn fits(request: &Request, told: &Told) -> bool
 fn is_showable(view: &View) -> bool
     ensures { result ≡ true → IsShowable view.now }
 {
-    view.len <= LONGEST
+    view.len <= LONGEST_FILE
         && view.marks.bytes.dirty < u32::MAX
         && view.marks.attrs.dirty < u32::MAX
         && view.marks.names.dirty < u32::MAX

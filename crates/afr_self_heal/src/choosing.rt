@@ -1,66 +1,16 @@
 //! The source of a heal: what the rule picks from the good copies once the first looks are over.
-ghost use Rattle.std.specs.Prelude.{◌≡◌, ℕ, ◌<◌, ◌≤◌, ◌&&◌, ◌++◌, ◌∷◌, [], if◌then◌else◌, length, nat_lt};
+ghost use Rattle.std.specs.Prelude.{◌≡◌, ◌<◌, ◌≤◌, ◌&&◌, nat_lt};
 ghost use Rattle.afr_discipline.specs.Stands.{views_of};
 ghost use Rattle.afr_moves.specs.Keeps.{keeps_in};
 ghost use Rattle.afr_moves.specs.Register.{good};
 ghost use Rattle.afr_rule.specs.Choosing.{IsPick, IsRule};
 ghost use Rattle.afr_self_heal.specs.Healing.{IsChosen};
-ghost use Rattle.afr_self_heal.specs.Source.{HasSource, IsLowest, candidates_of, copy_in};
+ghost use Rattle.afr_self_heal.specs.Source.{HasSource, IsLowest, candidates_of};
 
 use crate::copies::is_good;
 use afr_base::{BrickId, Kind};
-use afr_discipline::{Register, first_candidate, len_at};
-use afr_rule::{Candidate, SourceRule};
-use std::marker::Model;
-
-/// Up to five candidates, without memory of their own.
-#[derive(Drop)]
-struct GoodCopies {
-    found: [Candidate; 5],
-    count: usize,
-}
-
-impl Model for GoodCopies {
-    ghost use Rattle.std.specs.Prelude.{List, ◌≤◌, take};
-    ghost use Rattle.afr_rule.specs.declared.candidate.Candidate.{Candidate};
-
-    ghost Value = { List Candidate };
-
-    ghost view = { λ c. take c.count c.found };
-
-    ghost invariant = { λ c. c.count ≤ 5 };
-}
-
-impl GoodCopies {
-    fn none() -> GoodCopies
-        ensures { result ≡ [] }
-    {
-        GoodCopies {
-            found: [Candidate {
-                brick: BrickId(0),
-                len: 0,
-            }; 5],
-            count: 0,
-        }
-    }
-
-    /// One more, if the flag is set.
-    fn push_if(&mut self, flag: bool, candidate: Candidate)
-        requires { length self.old < 5 }
-        ensures { self.new ≡ (if flag then self.old ++ candidate ∷ [] else self.old) }
-    {
-        if flag {
-            self.found[self.count] = candidate;
-            self.count += 1;
-        }
-    }
-
-    fn as_slice(&self) -> &[Candidate]
-        ensures { result.now ≡ self.now }
-    {
-        &self.found[..self.count]
-    }
-}
+use afr_discipline::{Register, first_candidate};
+use afr_rule::{Candidate, Candidates, SourceRule};
 
 /// Whether the brick is one of the volume, and its copy good by the first looks.
 fn is_good_at(register: &Register, kind: Kind, x: BrickId) -> bool
@@ -71,30 +21,20 @@ fn is_good_at(register: &Register, kind: Kind, x: BrickId) -> bool
     x.0 < register.shape.n && is_good(register.shape, &register.seen, kind, x)
 }
 
-fn candidate_at(register: &Register, x: BrickId) -> Candidate
-    requires { x.0 < 5 }
-    ensures { result ≡ copy_in register.now x.0 }
-{
-    Candidate {
-        brick: x,
-        len: len_at(&register.seen, x),
-    }
-}
-
 /// The copies that the rule chooses from, the lowest first.
-fn choices(register: &Register, kind: Kind) -> GoodCopies
+fn choices(register: &Register, kind: Kind) -> Candidates
     requires few { register.now.shape.n ≤ 5 }
     requires source { HasSource kind register.now }
     ensures { result ≡ candidates_of register.now }
 {
-    let mut copies = GoodCopies::none();
-    for x in 0..5u8 {
-        copies.push_if(
-            is_good_at(register, kind, BrickId(x)),
-            candidate_at(register, BrickId(x)),
-        );
-    }
-    copies
+    let flags = [
+        is_good_at(register, kind, BrickId(0)),
+        is_good_at(register, kind, BrickId(1)),
+        is_good_at(register, kind, BrickId(2)),
+        is_good_at(register, kind, BrickId(3)),
+        is_good_at(register, kind, BrickId(4)),
+    ];
+    Candidates::of(flags, &register.seen)
 }
 
 fn picked<F: Fn(&[Candidate]) -> usize>(

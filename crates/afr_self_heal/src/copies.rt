@@ -8,9 +8,9 @@ ghost use Rattle.afr_moves.specs.Keeps.{keeps_in};
 ghost use Rattle.afr_moves.specs.Register.{accuses, good, holder, unaccused};
 ghost use Rattle.afr_self_heal.specs.Outcome.{is_marked};
 
-use crate::of_five::all_of;
-use afr_base::{BrickId, Kind, Shape};
+use afr_base::{BrickId, Kind, MOST_BRICKS, Shape};
 use afr_choice::Looked;
+use afr_discipline::all_of;
 use afr_object::View;
 
 fn has_view(looked: &Looked, x: BrickId) -> bool
@@ -64,7 +64,7 @@ fn holds(looked: &Looked, x: BrickId) -> bool
 fn keeps(shape: Shape, x: BrickId, kind: Kind) -> bool
     ensures { result ≡ keeps_in shape x.0 kind }
 {
-    x.0 < 5 && shape.keeps(kind, x)
+    x.0 < MOST_BRICKS && shape.keeps(kind, x)
 }
 
 fn shows_missed(view: &Option<View>, kind: Kind, s: BrickId) -> bool

@@ -11,9 +11,10 @@ ghost use Rattle.afr_self_heal.specs.Healing.{IsChosen};
 ghost use Rattle.afr_self_heal.specs.Source.{HasSource, is_found};
 
 use crate::choosing::source_found;
-use crate::of_five::all_of;
 use afr_base::{BrickId, BrickSet, Kind};
-use afr_discipline::{Move, Phase, Register, Step, asked_at, note, present_part, present_step};
+use afr_discipline::{
+    Move, Phase, Register, Step, all_of, asked_at, note, present_part, present_step,
+};
 use afr_lines::{Request, Told};
 use afr_rule::{Candidate, SourceRule};
 

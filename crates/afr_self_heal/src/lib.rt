@@ -11,7 +11,6 @@ mod hearing;
 mod laws;
 mod machine;
 mod moving;
-mod of_five;
 mod outcome;
 
 pub use contents::{Contents, NamesRead};

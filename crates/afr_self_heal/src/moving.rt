@@ -9,12 +9,12 @@ ghost use Rattle.afr_model.specs.Moved.{accuser, len_in, or_brick, unlike};
 ghost use Rattle.afr_self_heal.specs.Outcome.{by_mover, mover, unlike_in};
 
 use crate::copies::has_copy;
-use crate::of_five::lowest_of;
 use crate::outcome::Outcome;
 use afr_base::{BrickId, Kind};
 use afr_choice::Looked;
-use afr_discipline::{Phase, Register, present_part};
+use afr_discipline::{Phase, Register, lowest_of, present_part};
 use afr_object::View;
+use afr_rule::len_at;
 
 fn shows_missed(view: &Option<View>, kind: Kind, c: BrickId) -> bool
     requires { c.0 < 5 }
@@ -46,22 +46,6 @@ fn lowest_accuser(kind: Kind, source: BrickId, looked: &Looked) -> Option<BrickI
         blames(looked, kind, BrickId(3), source),
         blames(looked, kind, BrickId(4), source),
     )
-}
-
-fn len_shown(view: &Option<View>) -> u32
-    ensures { result ≡ len_in view.now }
-{
-    match view {
-        Some(view) => view.len,
-        None => 0,
-    }
-}
-
-fn len_at(looked: &Looked, x: BrickId) -> u32
-    requires { x.0 < 5 }
-    ensures { result ≡ len_in (view_at x.0 looked.now) }
-{
-    len_shown(&looked.views[x.0 as usize])
 }
 
 /// Whether the brick is a sink by the first looks, and the later ones show another length than at the source.

@@ -8,7 +8,7 @@ use Rattle.std.specs.Map.{lookup}
 use Rattle.std.proofs.lemmas.List.{append-nil}
 use Rattle.std.proofs.lemmas.List.Elements.{filter-append}
 use Rattle.afr_object.specs.Repairs.{repaired}
-use Rattle.afr_object.specs.Tables.{copy_at, key_cmp, name_cmp, view_of}
+use Rattle.afr_object.specs.Tables.{copy_at, key_cmp, name_cmp, view_of, Table}
 use Rattle.afr_object.specs.declared.object.Object.{Object}
 use Rattle.afr_lines.specs.Log.{change_at}
 use Rattle.afr_lines.specs.declared.answer.Answer.{Answer}
@@ -35,7 +35,6 @@ use Rattle.afr_model.specs.Locks.{outlives, granted_by_line, releases}
 use Rattle.afr_model.specs.Sessions.{ends_session}
 use Rattle.afr_name_locks.specs.Names.{name_lock, overlap_dir_name, same_dir_name}
 use Rattle.afr_name_locks.specs.declared.names.DirName.{DirName}
-use Rattle.afr_object.specs.Tables.{Table}
 use Rattle.afr_range_locks.specs.Locks.{conflicts, first_conflict, is_lock, overlap_range, range_lock, same_domain, same_range, without_owner}
 use Rattle.afr_range_locks.specs.declared.domain.Domain.{Domain}
 use Rattle.afr_range_locks.specs.declared.held.HeldLock.{HeldLock}

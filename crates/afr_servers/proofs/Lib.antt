@@ -5,5 +5,5 @@ pub mod EventLemmas
 pub mod StartedLemmas
 pub mod FoundLemmas
 pub mod NextLemmas
-pub mod RisingLemmas
+pub mod AllStarted
 pub mod NeedsLemmas

@@ -17,7 +17,7 @@ use Rattle.afr_lines.specs.declared.request.Area.TheVariants.{Range, Name}
 use Rattle.afr_lines.specs.declared.request.Request.{Request}
 use Rattle.afr_lines.specs.declared.request.Request.TheVariants.{Lock, Unlock, Look, ReadBytes, ReadName, ReadAttr, ReadAttrs, Index, Pre, Apply, Post, Mend, Settle}
 use Rattle.afr_lines.specs.declared.request.Request.TheVariants as request
-use Rattle.afr_model.specs.Honest.{Outcome, is_live, one_more, over_session, requests_to}
+use Rattle.afr_model.specs.Honest.{Outcome, is_live, one_more, over_session, requests_to, asking}
 use Rattle.afr_model.specs.Report.{started_bricks}
 use Rattle.afr_model.specs.Sessions.{is_joined, is_linked}
 use Rattle.afr_model.specs.Tables.{Past, held_before}
@@ -37,7 +37,7 @@ use Rattle.afr_server.specs.Serving.{HasEpoch, Serving, has_session, in_way, is_
 use Rattle.afr_session.specs.Links.{is_reached, link_of}
 use Rattle.afr_servers.proofs.PlaceLemmas.{stands}
 use Rattle.afr_servers.specs.Found.{epoch_at}
-use Rattle.afr_servers.specs.Needs.{CanCount, CanServe, CarriesByTheLog, CarriesFirstByTheLog, HasRoom, IsCoveredThere, IsRead, NeedsAreMet, RangesCanBeLocked, AnswersAreRead, asking, change_for, is_read, would_carry}
+use Rattle.afr_servers.specs.Needs.{CanCount, CanServe, CarriesByTheLog, CarriesFirstByTheLog, HasRoom, IsCoveredThere, IsRead, NeedsAreMet, RangesCanBeLocked, AnswersAreRead, change_for, is_read, would_carry}
 
 -- ---- whether a request is carried out
 carried_by : (p : Plan) (log : List Line) (a : ActorId) (b : BrickId) (r : Request) (live : Bool) (s : Serving) → IsServed p log b.0 s → is_live p a b.0 (asking a b r) log ≡ live → is_carried live (next_fault s.faults) ≡ would_carry p a b r log

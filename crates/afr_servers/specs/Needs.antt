@@ -7,13 +7,12 @@ use Rattle.afr_faults.specs.Planned.{next_fault}
 use Rattle.afr_lines.specs.Log.{change_at}
 use Rattle.afr_lines.specs.Places.{opens, place_of}
 use Rattle.afr_lines.specs.Told.{told_by}
-use Rattle.afr_lines.specs.declared.answer.Told.TheVariants.{Given, NotConnected}
+use Rattle.afr_lines.specs.declared.answer.Told.TheVariants.{Given}
 use Rattle.afr_lines.specs.declared.line.Line.{Line}
-use Rattle.afr_lines.specs.declared.line.Line.TheVariants.{Ask}
 use Rattle.afr_lines.specs.declared.request.Area.{Area}
 use Rattle.afr_lines.specs.declared.request.Request.{Request}
 use Rattle.afr_lines.specs.declared.request.Request.TheVariants as request
-use Rattle.afr_model.specs.Honest.{answer_by, outcome_of}
+use Rattle.afr_model.specs.Honest.{answer_by, asking, outcome_of}
 use Rattle.afr_model.specs.Locks.{locks_held}
 use Rattle.afr_model.specs.Report.{started_bricks}
 use Rattle.afr_model.specs.Tables.{held_before, holds}
@@ -33,10 +32,6 @@ use Rattle.afr_servers.specs.Found.{epoch_at}
 use Rattle.afr_servers.specs.Log.{AreFound, AreServed}
 use Rattle.afr_servers.specs.Started.{started_in}
 use Rattle.afr_servers.specs.declared.epochs.Epochs.{Epochs}
-
--- a request that is not told yet
-abbrev pub asking : ActorId → BrickId → Request → Line
-asking a b request = Ask a b request NotConnected false
 
 -- whether the brick would carry the request out next, by the log
 abbrev pub would_carry : Plan → ActorId → BrickId → Request → List Line → Bool

@@ -16,8 +16,9 @@ use Rattle.afr_lines.specs.declared.request.Request.TheVariants as request
 use Rattle.afr_model.specs.Chosen.{KeepsSource, goes_on}
 use Rattle.afr_model.specs.Healing.{First, first_after}
 use Rattle.afr_moves.specs.Register as exact
-use Rattle.afr_moves.specs.Register.{Exact, Opening, Phase, is_opening, over, same_step}
+use Rattle.afr_moves.specs.Register.{Exact, Phase, is_opening, over, same_step}
 use Rattle.afr_range_locks.specs.declared.domain.Domain.TheVariants as domain
+use Rattle.afr_self_heal.proofs.FoundLemmas.{opening_is}
 use Rattle.afr_self_heal.specs.Outcome.{cause}
 use Rattle.afr_self_heal.specs.Source.{is_found}
 use Rattle.afr_sources.proofs.Coming.{LocksNext, LooksNext, UnlocksNext}
@@ -74,10 +75,6 @@ module _ (a : ActorId) (b : ℕ) (told : Told) (took : Bool) where
   quiet_by_unlock asked k = absurd k
 
 -- ---- the end of the first looks
-opening_is : (part : Phase) → is_opening part ≡ true → part ≡ Opening
-opening_is Opening h = refl
-opening_is _ h = absurd (cc h)
-
 module _ (n : ℕ) (r : Exact) where
   pub past_over : (keeps : ℕ → Kind → Bool) → r.step ≡ exact.Looks → is_opening r.phase ≡ true → is_past n keeps r ≡ true → over n r.law.held r.asked ≡ true
   past_over keeps at opening h = (let part = opening_is r.phase opening in rw (at, part) at h)

@@ -27,7 +27,7 @@ use Rattle.afr_model.specs.Healing.{First, busy_after, busy_by, first_by}
 use Rattle.afr_model.specs.Moved.{moved_by}
 use Rattle.afr_moves.specs.Keeps.{keeps_in}
 use Rattle.afr_moves.specs.Register as exact
-use Rattle.afr_moves.specs.Register.{is_opening, over, same_step}
+use Rattle.afr_moves.specs.Register.{is_opening, over}
 use Rattle.afr_self_heal.specs.Healing.{Healing as Heal, IsHealing, answered, begun, coming}
 use Rattle.afr_self_heal.specs.Outcome.{cause, outcome_after, reply_of}
 use Rattle.afr_self_heal.specs.Source.{is_found}

@@ -26,7 +26,7 @@ use Rattle.afr_lines.specs.declared.reply.HealReply.{HealReply}
 use Rattle.afr_lines.specs.declared.reply.Reply.{Reply}
 use Rattle.afr_lines.specs.declared.request.Request.{Request}
 use Rattle.afr_lines.specs.declared.request.Request.TheVariants.{Index}
-use Rattle.afr_model.specs.Chosen.{HasSource, Picks, SourcePicked}
+use Rattle.afr_model.specs.Chosen.{Picks, SourcePicked}
 use Rattle.afr_model.specs.Chosen as model
 use Rattle.afr_model.specs.Healing.{heal_by}
 use Rattle.afr_model.specs.Rounds.{heal_due}

@@ -4,7 +4,7 @@ ghost use Rattle.afr_model.specs.ReportReplies.{actor_text};
 ghost use Rattle.afr_trace.specs.Heads.{head_at, head_text};
 
 use crate::askers::{push_asker, push_brick};
-use afr_base::{ActorId, BrickId, NoMemory};
+use afr_base::{ActorId, BrickId, MOST_BRICKS, NoMemory};
 use afr_replies::push_number;
 use std::alloc::Global;
 use std::marker::Model;
@@ -44,7 +44,7 @@ impl Heads {
         requires { digit < 10 }
         ensures { IfSome result (λ head. head.now ≡ head_text digit actor brick.0) }
     {
-        if actor.0 >= 20 || brick.0 >= 5 {
+        if actor.0 >= 20 || brick.0 >= MOST_BRICKS {
             return None;
         }
         let place = digit * 100 + usize::from(actor.0) * 5 + usize::from(brick.0);

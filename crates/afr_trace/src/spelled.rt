@@ -6,13 +6,10 @@ ghost use Rattle.afr_trace.specs.Requests.{request_text};
 use crate::endings::{Ending, push_ending};
 use crate::repeats::{is_asked_of_all, is_repeated};
 use crate::requests::push_request;
-use afr_base::{ActorId, NoMemory};
+use afr_base::{ACTORS, ActorId, NoMemory};
 use afr_lines::Request;
 use afr_plan::Plan;
 use std::alloc::Global;
-
-/// Actors of a volume have numbers below this.
-const ACTORS: usize = 20;
 
 /// A request that was spelled, with its answer and the text of both.
 #[derive(Drop)]

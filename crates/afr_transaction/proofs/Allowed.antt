@@ -5,7 +5,6 @@ use Rattle.afr_base.specs.Bricks.{below, lowest, member, minus, is_nothing}
 use Rattle.afr_base.specs.Majority.{is_most, is_majority}
 use Rattle.afr_base.specs.SetLemmas.{lowest_in, lowest_left, within_below, member_minus, below_all}
 use Rattle.afr_base.specs.declared.ids.Kind.{Kind}
-use Rattle.afr_base.specs.declared.ids.Kind.TheVariants.{Bytes, Attrs, Names}
 use Rattle.afr_object.specs.Tables.{object_of}
 use Rattle.afr_object.specs.declared.change.Change.{Change}
 use Rattle.afr_object.specs.declared.change.Change.TheVariants as change
@@ -19,10 +18,9 @@ use Rattle.afr_choice.specs.VerdictLemmas.{holders_below}
 use Rattle.afr_lines.specs.Areas.{area_for, kind_for}
 use Rattle.afr_lines.specs.declared.request.Area.{Area}
 use Rattle.afr_lines.specs.declared.request.Area.TheVariants.{Range, Name}
-use Rattle.afr_lines.specs.Overlap.{same_area}
 use Rattle.afr_base.specs.Kinds.{same_kind}
 use Rattle.afr_moves.specs.Sets.{any}
-use Rattle.afr_moves.specs.Rules.{area_object, busy, is_area}
+use Rattle.afr_moves.specs.Rules.{area_object, busy}
 use Rattle.afr_lines.specs.declared.line.Next.TheVariants as next
 use Rattle.afr_moves.specs.Lines.{is_ok}
 use Rattle.afr_moves.specs.Register.{all, area_kind, asked_in, holder, kind_in, rank, same_step}
@@ -31,6 +29,8 @@ use Rattle.afr_discipline.specs.declared.register.Step.{Step}
 use Rattle.afr_discipline.specs.declared.register.Step.TheVariants as step
 use Rattle.afr_discipline.specs.Notes.{asked_at}
 use Rattle.afr_moves.specs.Keeps.{keeps_in}
+use Rattle.afr_moves.proofs.AreaLemmas.{own_area}
+use Rattle.afr_moves.proofs.Tests.{same_self, same_kind_self}
 use Rattle.afr_discipline.specs.Stands.{number_of, seen_as, step_of, views_of}
 use Rattle.afr_discipline.specs.Tests.{carried, fits_view, lies_in, last_posted, may_end, misses, once, one_of, plane_in, same_flag}
 use Rattle.afr_transaction.specs.declared.stage.Stage.{Stage}
@@ -47,28 +47,12 @@ use Rattle.afr_transaction.specs.Laws.{AllowedMoves, AllowedNext, IsMoveOf}
 use Rattle.afr_transaction.specs.Sound.{IsBase, Suits, HasBegun, During, Ready}
 use Rattle.afr_transaction.proofs.Parts.{pair, deny, lt_test, any_nothing, holder_shows, any_member}
 
-same_self : (g : ℕ) → (g == g) ≡ true
-same_self g = grind (arith, nat_tests)
-
-pub same_area_self : (area : Area) → same_area area area ≡ true
-same_area_self (Range g from to) = rw (same_self g.0, same_self from, same_self to) refl
-same_area_self (Name g None) = rw (same_self g.0) refl
-same_area_self (Name g (Some n)) = rw (same_self g.0, same_self n.0) refl
-
-pub own_area : (of : Option Area) (area : Area) → of ≡ Some area → is_area of area ≡ true
-own_area of area e = subst (λ (o : Option Area). is_area o area ≡ true) (sym e) (same_area_self area)
-
 object_named : (c : Change) → area_object (area_for c) ≡ (object_of c).0
 object_named (change.Write g at bytes) = refl
 object_named (change.Cut g len) = refl
 object_named (change.SetAttr g key value) = refl
 object_named (change.Make dir name g what) = refl
 object_named (change.Remove dir name what) = refl
-
-pub same_kind_self : (kind : Kind) → same_kind kind kind ≡ true
-same_kind_self Bytes = refl
-same_kind_self Attrs = refl
-same_kind_self Names = refl
 
 -- the object and kind of a change are those of its area
 pub on_plane : (c : Change) (of : Option Area) → Suits c → of ≡ Some (area_for c) → plane_in of (object_of c).0 (kind_for c) ≡ true

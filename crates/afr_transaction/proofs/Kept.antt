@@ -3,7 +3,7 @@ use Rattle.std.proofs.Common.{inl, inr, ◌≡◌, ℕ, ◌<◌, ◌≤◌, ◌|
 use Rattle.std.proofs.lemmas.Bool.Decides.{nat_tests}
 use Rattle.afr_base.specs.Bricks.{below, lowest, member, minus, is_nothing}
 use Rattle.afr_base.specs.Majority.{is_majority, is_most}
-use Rattle.afr_base.specs.SetLemmas.{lowest_left, lowest_in, majority_some, within_below, below_all}
+use Rattle.afr_base.specs.SetLemmas.{lowest_left, lowest_in, majority_some, within_below, below_all, some_member}
 use Rattle.afr_object.specs.Tables.{object_of}
 use Rattle.afr_object.specs.declared.change.Change.{Change}
 use Rattle.afr_choice.specs.Verdict.{holders_of}
@@ -33,7 +33,7 @@ use Rattle.afr_transaction.specs.Progress.{Progress, left, request_at, gone_on, 
 use Rattle.afr_transaction.specs.Laws.{StaysSound}
 use Rattle.afr_transaction.specs.declared.stage.Asked.{Asked}
 use Rattle.afr_transaction.specs.Sound.{Posted, IsBase, IsUnused, Suits, HasBegun, During, IsAsking, Ready, Sound}
-use Rattle.afr_transaction.proofs.Parts.{both, denied, holder_is, holder_shows, nonempty, shown_none, some_of_most}
+use Rattle.afr_transaction.proofs.Parts.{both, denied, holder_is, holder_shows, shown_none, some_of_most}
 use Rattle.afr_transaction.proofs.Quorum.{quorum_there}
 use Rattle.afr_transaction.proofs.Requests.{posts_lock, posts_look, quorum_pre, quorum_apply, quorum_post, posted_unlock, after_outside, noted_is, lock_kept, look_base, look_area, pre_base, pre_begun, apply_base, apply_begun, apply_enough, post_base, post_begun, post_enough, unlock_base}
 
@@ -74,8 +74,8 @@ module _ (x : Progress) (suits : Suits x.change) (base : IsBase x.change x.regis
       majority : (f : Bool) → is_majority x.register.shape.n x.asked.locked_on ≡ f → Sound (on_stage (if f then Looking else Closing) x)
       majority true f =
           let one = some_of_most x.register.shape.n (member x.asked.locked_on) f in
-          let held : is_nothing x.register.held ≡ false = nonempty x.register.held one.0 (d.0.same one.0 ∙ one.2) in
-          stands Looking (record { named = base.of_held held; within = d.0.within }) p (rw d.1 (minus_nil x.asked.locked_on (nonempty x.asked.locked_on one.0 one.2)))
+          let held : is_nothing x.register.held ≡ false = some_member x.register.held one.0 (d.0.same one.0 ∙ one.2) in
+          stands Looking (record { named = base.of_held held; within = d.0.within }) p (rw d.1 (minus_nil x.asked.locked_on (some_member x.asked.locked_on one.0 one.2)))
       majority false f = stands Closing tt (inl p) tt
 
       go : (e : Bool) → is_nothing (left Locking x) ≡ e → Sound (on_stage (if e then gone_on Locking x.change x.register x.asked else Locking) x)
@@ -203,7 +203,7 @@ kept_begin m s is at = go m.stage is s.during
           base = s.base;
           during = record { number = at; is_begun = refl; open_still = denied r.unlocked first.1; named = d.0; order = low };
           posted = quorum_there m.change r.shape r.looked s.base.few s.base.shown (both _ (is_majority r.shape.n r.looked.reached) split.0).1 split.1;
-          ready = minus_nil (holders_of r.looked) (nonempty (holders_of r.looked) one.0 (holder_is r.shape.n one.0 r.looked s.base.few one.1 s.base.shown one.2));
+          ready = minus_nil (holders_of r.looked) (some_member (holders_of r.looked) one.0 (holder_is r.shape.n one.0 r.looked s.base.few one.1 s.base.shown one.2));
         }
     go Locking e d = absurd (cc e)
     go Looking e d = absurd (cc e)
@@ -234,7 +234,7 @@ sound_first r change unused few some suits = by unused
       };
       during = (record { first = refl; open_still = refl; same = λ b. refl; among = λ b m. absurd (cc m); within = λ b m. absurd (cc m) }, refl);
       posted = refl;
-      ready = minus_nil (below shape.n) (nonempty (below shape.n) 0 (below_all shape.n 0 few some));
+      ready = minus_nil (below shape.n) (some_member (below shape.n) 0 (below_all shape.n 0 few some));
     }
 
     by : IsUnused r → Sound (starting change r)

@@ -1,5 +1,5 @@
 -- Small facts of tests, sets and looks.
-use Rattle.std.proofs.Common.{◌≡◌, ℕ, zero, suc, ◌*◌, ◌<◌, ◌≤◌, ◌&&◌, ◌||◌, not, nat_lt, Bool, true, false, List, [], ◌∷◌, refl, sym, ◌∙◌, ap, subst, arith, Option, None, Some, is_some}
+use Rattle.std.proofs.Common.{◌≡◌, ℕ, zero, suc, ◌*◌, ◌<◌, ◌≤◌, ◌||◌, nat_lt, Bool, true, false, List, [], ◌∷◌, refl, sym, ◌∙◌, ap, subst, arith, Option, None, Some, is_some}
 use Rattle.std.proofs.lemmas.Bool.Decides.{nat_tests, eqb_tells}
 use Rattle.std.proofs.Common.{inl, inr}
 use Rattle.afr_base.specs.Bricks.{added_if, member, removed, is_nothing, IsWithin}
@@ -17,38 +17,12 @@ use Rattle.afr_moves.specs.Sets.{any}
 use Rattle.afr_moves.specs.Register.{holder}
 use Rattle.afr_discipline.specs.Stands.{views_of}
 use Rattle.afr_transaction.specs.Sound.{Base, Shown}
-
-pub pair : (a b : Bool) → a ≡ true → b ≡ true → (a && b) ≡ true
-pair true b ha hb = hb
-pair false b ha hb = absurd (cc ha)
-
-pub both : (a b : Bool) → (a && b) ≡ true → (a ≡ true) × (b ≡ true)
-both true b h = (refl, h)
-both false b h = absurd (cc h)
-
-pub deny : (a : Bool) → a ≡ false → not a ≡ true
-deny true h = absurd (cc h)
-deny false h = refl
-
-pub denied : (a : Bool) → not a ≡ true → a ≡ false
-denied true h = absurd (cc h)
-denied false h = refl
-
-pub no_or : (a b : Bool) → (a || b) ≡ false → (a ≡ false) × (b ≡ false)
-no_or true b h = absurd (cc h)
-no_or false b h = (refl, h)
-
-pub lt_test : (a b : ℕ) → a < b → nat_lt a b ≡ true
-lt_test a b h = grind (arith, nat_tests, h)
+pub use Rattle.afr_moves.proofs.Tests.{both, denied, deny, lt_test, no_or, pair}
 
 -- ---- sets
 pub nonempty_before : (b : ℕ) (s : List ℕ) → is_nothing (removed b s) ≡ false → is_nothing s ≡ false
 nonempty_before b [] h = absurd (cc h)
 nonempty_before b (x ∷ xs) h = refl
-
-pub nonempty : (s : List ℕ) (b : ℕ) → member s b ≡ true → is_nothing s ≡ false
-nonempty [] b h = absurd (cc h)
-nonempty (x ∷ xs) b h = refl
 
 -- no brick below n is in the set, so none at all
 pub none_at : (n : ℕ) (s : List ℕ) → any n (member s) ≡ false → IsWithin n s → (c : ℕ) → member s c ≡ false

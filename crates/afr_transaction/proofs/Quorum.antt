@@ -5,7 +5,7 @@ use Rattle.std.proofs.lemmas.Bool.Decides.{nat_tests, eqb_tells}
 use Rattle.afr_base.specs.Bricks.{all_five, member, is_nothing}
 use Rattle.afr_base.specs.Keeping.{keeps}
 use Rattle.afr_base.specs.Majority.{is_majority, is_most}
-use Rattle.afr_base.specs.SetLemmas.{most_same}
+use Rattle.afr_base.specs.SetLemmas.{most_same, some_member}
 use Rattle.afr_base.specs.declared.ids.Kind.{Kind}
 use Rattle.afr_base.specs.declared.ids.Kind.TheVariants.{Attrs, Bytes, Names}
 use Rattle.afr_base.specs.declared.ids.Shape.{Shape}
@@ -24,7 +24,7 @@ use Rattle.afr_moves.specs.Sets.{any}
 use Rattle.afr_discipline.specs.Stands.{views_of}
 use Rattle.afr_discipline.specs.Tests.{carried}
 use Rattle.afr_transaction.specs.Sound.{HasQuorum, Shown}
-use Rattle.afr_transaction.proofs.Parts.{both, deny, holder_is, holder_shows, nonempty, pair, some_of}
+use Rattle.afr_transaction.proofs.Parts.{both, deny, holder_is, holder_shows, pair, some_of}
 
 counted_as : (c : Change) → plane_kind c ≡ kind_for c
 counted_as (change.Write g at bytes) = refl
@@ -78,7 +78,7 @@ module _ (shape : Shape) (looked : Looked) (kind : Kind) (few : shape.n ≤ 5) (
       let copy = both (holder (views_of looked) s) (keeps_in shape s kind) two.0 in
       let held : is_holder looked s ≡ true = sym (member_holders looked s small) ∙ holder_is shape.n s looked few l shown copy.0 in
       let kept : keeps shape kind s ≡ true = (both (nat_lt s 5) (keeps shape kind s) copy.1).1 in
-      nonempty (good_copies shape looked kind) s (member_good shape looked kind s small ∙ pair (is_copy shape looked kind s) (not (is_accused kind looked s)) (pair (is_holder looked s) (keeps shape kind s) held kept) (deny (is_accused kind looked s) (unblamed s two.1)))
+      some_member (good_copies shape looked kind) s (member_good shape looked kind s small ∙ pair (is_copy shape looked kind s) (not (is_accused kind looked s)) (pair (is_holder looked s) (keeps shape kind s) held kept) (deny (is_accused kind looked s) (unblamed s two.1)))
 
   pub copies_there : is_most shape.n (holder (views_of looked)) ≡ true → is_majority shape.n (holders_of looked) ≡ true
   copies_there h = sym (most_same shape.n (holder (views_of looked)) (member (holders_of looked)) same_holder) ∙ h

@@ -19,6 +19,7 @@ use Rattle.afr_moves.specs.Past.{is_gone}
 use Rattle.afr_moves.specs.Sets.{any}
 use Rattle.afr_moves.specs.Rules.{busy, is_area}
 use Rattle.afr_moves.specs.Note.{is_granted, is_held, is_done}
+use Rattle.afr_moves.proofs.AreaLemmas.{own_area}
 use Rattle.afr_discipline.specs.declared.register.Register.{Register}
 use Rattle.afr_discipline.specs.declared.register.Step.TheVariants as step
 use Rattle.afr_discipline.specs.Notes.{anew, counts, dropped, joined, noted_ask, noted_law, noted_inside, noted_outside, still_possible, broken_by, published, second_left, shown_if, stayed, stopped, with_held}
@@ -26,7 +27,6 @@ use Rattle.afr_discipline.specs.Stands.{seen_as}
 use Rattle.afr_transaction.specs.Progress.{enough}
 use Rattle.afr_transaction.specs.Sound.{HasQuorum, IsBase, Shown, OnLocks, HasBegun}
 use Rattle.afr_transaction.proofs.Parts.{any_member, any_nothing, base_done, base_gone, base_left, base_pre, base_shown, no_or, none_at, shown_look, shown_loss, shown_none}
-use Rattle.afr_transaction.proofs.Allowed.{own_area}
 
 -- what a request and its answer leave outside a heal
 abbrev pub after_by : Register → Register → ℕ → Told → Register

@@ -171,6 +171,10 @@ abbrev pub fed : Stage → Told → ℕ → Progress → Progress
 fed Beginning told at m = begun at m
 fed stage told at m = answered stage told at m
 
+-- the transaction has its answer, where it has asked
+abbrev pub told_to : Told → ℕ → Progress → Progress
+told_to told at t = if is_beginning t.stage then t else fed t.stage told at t
+
 -- the discipline allows the line, outside a heal
 abbrev pub allowed : Register → Next → Bool
 allowed r (next.Ask b request) = nat_lt b.0 r.shape.n && may_ask_outside r.shape.n (keeps_in r.shape) (seen_as r) b.0 request

@@ -5,7 +5,7 @@ use Rattle.std.specs.List.{list_any}
 use Rattle.afr_base.specs.Bricks.{all_five, lowest, member, minus, is_nothing, IsIn}
 use Rattle.afr_base.specs.Keeping.{keeps}
 use Rattle.afr_base.specs.Majority.{is_majority}
-use Rattle.afr_base.specs.SetLemmas.{lowest_in, lowest_left, majority_grows, member_minus, most_same}
+use Rattle.afr_base.specs.SetLemmas.{lowest_in, lowest_left, majority_grows, member_minus, most_same, some_member}
 use Rattle.afr_base.specs.declared.ids.Kind.{Kind}
 use Rattle.afr_base.specs.declared.ids.Kind.TheVariants.{Attrs, Bytes, Names}
 use Rattle.afr_base.specs.declared.ids.Shape.{Shape}
@@ -20,7 +20,7 @@ use Rattle.afr_moves.specs.Sets.{any}
 use Rattle.afr_discipline.specs.Stands.{views_of}
 use Rattle.afr_discipline.specs.Tests.{carried}
 use Rattle.afr_transaction.specs.Sound.{Shown}
-use Rattle.afr_transaction.proofs.Parts.{both, deny, holder_is, holder_shows, nonempty, pair, some_of}
+use Rattle.afr_transaction.proofs.Parts.{both, deny, holder_is, holder_shows, pair, some_of}
 use Rattle.afr_model.specs.Standing.{suffices}
 
 -- a test that all bricks below n pass
@@ -138,7 +138,7 @@ module _ (shape : Shape) (looked : Looked) (kind : Kind) (few : shape.n ≤ 5) (
           let two = both (member s one.0) _ one.2 in
           let copy = good_is one.0 one.1 two.1 in
           let out : member (minus copies s) one.0 ≡ false = member_minus copies s one.0 ∙ rw two.0 refl in
-          deny _ (nonempty (minus copies (minus copies s)) one.0 (member_minus copies (minus copies s) one.0 ∙ rw (out, copy) refl))
+          deny _ (some_member (minus copies (minus copies s)) one.0 (member_minus copies (minus copies s) one.0 ∙ rw (out, copy) refl))
 
       back : not (is_nothing (minus copies (minus copies s))) ≡ true → any shape.n (λ x. member s x && good shape.n (keeps_in shape) kind (views_of looked) x) ≡ true
       back h =
@@ -182,7 +182,7 @@ suffices_grows shape kind looked s t k h = let parts = both (is_majority shape.n
         let one = lowest_left copies (minus copies s) (undeny _ h) in
         let inside : member t (lowest (minus copies (minus copies s))) ≡ true = k _ (in_set _ one.0 one.1) in
         let out : member (minus copies t) (lowest (minus copies (minus copies s))) ≡ false = member_minus copies t _ ∙ rw inside refl in
-        deny _ (nonempty (minus copies (minus copies t)) (lowest (minus copies (minus copies s))) (member_minus copies (minus copies t) _ ∙ pair _ _ (deny _ out) one.1))
+        deny _ (some_member (minus copies (minus copies t)) (lowest (minus copies (minus copies s))) (member_minus copies (minus copies t) _ ∙ pair _ _ (deny _ out) one.1))
       where
         in_set : (x : ℕ) → member (minus copies s) x ≡ false → member copies x ≡ true → member s x ≡ true
         in_set x out copy = pick (member s x) (sym (member_minus copies s x ∙ rw copy refl) ∙ out)
@@ -197,7 +197,7 @@ holders_suffice shape kind looked most clean =
     let s = lowest_in copies clean in
     let held = good_are_holders shape looked kind _ s in
     let out : member (minus copies (holders_of looked)) (lowest copies) ≡ false = member_minus copies (holders_of looked) _ ∙ rw held refl in
-    pair _ _ most (deny _ (nonempty (minus copies (minus copies (holders_of looked))) (lowest copies) (member_minus copies (minus copies (holders_of looked)) _ ∙ pair _ _ (deny _ out) s)))
+    pair _ _ most (deny _ (some_member (minus copies (minus copies (holders_of looked))) (lowest copies) (member_minus copies (minus copies (holders_of looked)) _ ∙ pair _ _ (deny _ out) s)))
   where
     copies : List ℕ
     copies = good_copies shape looked kind

@@ -49,7 +49,8 @@ use Rattle.afr_works.specs.Work.{IsWork, choices_heard, heard_by, next_of, regis
 use Rattle.afr_works.specs.declared.work.Work.{Work}
 use Rattle.afr_works.specs.declared.work.Work.TheVariants.{Entry, Idle, Lookup, Rename, Write}
 use Rattle.afr_works_tell.specs.WorkTelling.{WorkHears, WorkTells}
-use Rattle.afr_volume.specs.Acting.{HearsAny, IsAsked, ServesNext, picked_after, still_picked}
+use Rattle.afr_volume.specs.Acting.{HearsAny, IsAsked, picked_after, still_picked}
+use Rattle.afr_rounds.specs.Acting.{ServesNext}
 use Rattle.afr_volume.specs.Keeping.{Carries, CarriesOut, IsActing, IsInSession, IsNoted, IsReading}
 use Rattle.afr_volume.specs.declared.actor.Actor.{Actor}
 use Rattle.afr_volume.proofs.Before.{IsBefore, allows, brings, in_force, low, may, opened}

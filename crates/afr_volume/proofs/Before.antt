@@ -35,7 +35,8 @@ use Rattle.afr_walk.specs.Free.{AllowsAsk}
 use Rattle.afr_works.specs.Work.{CarriesNext, next_of, register_of}
 use Rattle.afr_works.specs.declared.work.Work.{Work}
 use Rattle.afr_works.specs.declared.work.Work.TheVariants.{Entry, Idle, Lookup, Rename, Write}
-use Rattle.afr_volume.specs.Acting.{CanAsk, has_live}
+use Rattle.afr_volume.specs.Acting.{CanAsk}
+use Rattle.afr_rounds.specs.Acting.{has_live}
 use Rattle.afr_volume.specs.Keeping.{CanRun, CarriesOut, IsInSession, IsNoted}
 use Rattle.afr_volume.specs.declared.actor.Actor.{Actor}
 use Rattle.afr_volume.specs.Laws.{Laws}

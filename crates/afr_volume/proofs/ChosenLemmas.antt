@@ -1,6 +1,7 @@
 -- Reads and heals keep to the rules: before the first line, by each turn, and over each event.
-use Rattle.std.proofs.Common.{◌≡◌, ◌∙◌, ℕ, zero, suc, ◌+◌, ◌-◌, ◌<◌, ◌≤◌, ◌==◌, Bool, true, false, List, [], ◌∷◌, Option, Some, None, Result, Ok, Err, IfOk, OnErr, nat_le, nat_lt, refl, sym, arith, subst, slice_get, replicate, length, get_or, if◌then◌else◌}
+use Rattle.std.proofs.Common.{◌≡◌, ◌∙◌, ℕ, zero, suc, ◌+◌, ◌<◌, ◌≤◌, ◌==◌, Bool, true, false, List, [], ◌∷◌, Option, Some, None, Result, Ok, Err, IfOk, OnErr, nat_le, nat_lt, refl, sym, arith, subst, slice_get, replicate, length, if◌then◌else◌}
 use Rattle.std.proofs.lemmas.Bool.Decides.{nat_tests}
+use Rattle.afr_law.proofs.Model.Tasks.{no_script}
 use Rattle.afr_base.specs.declared.ids.ActorId.{ActorId}
 use Rattle.afr_base.specs.declared.ids.BrickId.{BrickId}
 use Rattle.afr_lines.specs.Work.{ended, is_of, work}
@@ -13,13 +14,11 @@ use Rattle.afr_lines.specs.declared.reply.Reply.{Reply}
 use Rattle.afr_lines.specs.declared.reply.Reply.TheVariants as reply
 use Rattle.afr_lines.specs.declared.request.Request.{Request}
 use Rattle.afr_lines.specs.declared.request.Request.TheVariants as request
-use Rattle.afr_model.specs.Actors.{script_of}
 use Rattle.afr_model.specs.Chosen.{Picks, ReadsPicked}
 use Rattle.afr_model.specs.Following.{Follows, IsFollowing, KeepsToTask, ToCommand, ToRound}
 use Rattle.afr_model.specs.HealReplies.{refuses_index}
 use Rattle.afr_model.specs.Replied.{IsReplied, Replied}
 use Rattle.afr_model.specs.Showing.{has}
-use Rattle.afr_plan.specs.declared.command.Command.{Command}
 use Rattle.afr_plan.specs.declared.plan.Plan.{Plan}
 use Rattle.afr_readings.specs.Readings.{Answers}
 use Rattle.afr_sources.proofs.Turns.{event_keeps}
@@ -52,19 +51,8 @@ ends_so reads p x (reply.Ok of) log true e = absurd (cc e)
 ends_so reads p x (reply.Ok of) log false e = ends_good reads p x of log e
 ends_so reads p x said log refused e = tt
 
-script_past : (p : Plan) (a : ℕ) → length p.clients ≤ 16 → 17 ≤ a → script_of p a ≡ []
-script_past p a few low = past p.clients (a - 1) (omega (arith, few, low))
-  where
-    past : (scripts : List (List Command)) (i : ℕ) → length scripts ≤ i → get_or scripts i [] ≡ []
-    past [] i l = refl
-    past (x ∷ scripts) zero l = absurd (omega (arith, l))
-    past (x ∷ scripts) (suc i) l = past scripts i (omega (arith, l))
-
-no_command : (i : ℕ) (c : Command) → slice_get [] i ≡ Some c → ⊥
-no_command i c e = cc e
-
 ends_no : (reads : Picks) (p : Plan) (x : ActorId) (said : Reply) (log : List Line) → length p.clients ≤ 16 → 17 ≤ x.0 → KeepsToTask p x.0 (line_of.End x said) log → IsReplied p (line_of.End x said) log → ReadsPicked reads p (line_of.End x said) log
-ends_no reads p x said log few low (ToCommand c is k) replied = absurd (no_command (ended x.0 log) c (rw (script_past p x.0 few low) at is))
+ends_no reads p x said log few low (ToCommand c is k) replied = absurd (no_script p x.0 (ended x.0 log) c few low is)
 ends_no reads p x said log few low (ToRound healer b is k) replied = ends_so reads p x said log (has refuses_index (work x.0 log)) (replied.round healer b is)
 
 healer_reads : (reads : Picks) (p : Plan) (a : ℕ) (line : Line) (log : List Line) → length p.clients ≤ 16 → 17 ≤ a → is_of a line ≡ true → IsFollowing p line log → IsReplied p line log → ReadsPicked reads p line log

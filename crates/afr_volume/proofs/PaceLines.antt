@@ -1,6 +1,7 @@
 -- A line within the cost of its actor's work, by what the work had left before it and has left after it.
 use Rattle.std.proofs.Common.{◌≡◌, ◌⊎◌, ℕ, ◌+◌, ◌≤◌, ◌==◌, Bool, true, false, List, ◌∷◌, refl, sym, ap, arith, subst, Option, Some, None, slice_get, inl, inr, if◌then◌else◌, ◌∙◌}
 use Rattle.std.proofs.lemmas.Bool.Decides.{nat_tests}
+use Rattle.afr_law.proofs.Model.Works.{work_more}
 use Rattle.afr_base.specs.declared.ids.ActorId.{ActorId}
 use Rattle.afr_base.specs.declared.ids.BrickId.{BrickId}
 use Rattle.afr_bound.specs.Cost.{IsWithinCost, costs_of, counted, spent}
@@ -16,7 +17,6 @@ use Rattle.afr_lines.specs.declared.request.Request.{Request}
 use Rattle.afr_lines.specs.declared.request.Request.TheVariants as request
 use Rattle.afr_model.specs.Honest.{IsHonest, Outcome, over_session}
 use Rattle.afr_plan.specs.declared.plan.Plan.{Plan}
-use Rattle.afr_quiet_lists.proofs.Runs.{work_more}
 use Rattle.afr_work_pace.specs.Left.{FitsUnlock}
 use Rattle.afr_volume.specs.Pacing.{HasLeft}
 use Rattle.afr_volume.proofs.SourceLemmas.{own_of}

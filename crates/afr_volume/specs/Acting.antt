@@ -1,5 +1,6 @@
 -- One line of an actor: what its work would write next, what the bricks make of it, and what it makes of the answer.
-use Rattle.std.specs.Prelude.{◌≡◌, ℕ, ◌+◌, ◌-◌, ◌<◌, ◌^◌, Bool, true, false, List, [], ◌∷◌, ◌++◌, Option, None, length, map, if◌then◌else◌}
+use Rattle.std.specs.Prelude.{◌≡◌, ℕ, ◌+◌, ◌-◌, ◌<◌, ◌^◌, Bool, true, false, List, Option, None, length, map, if◌then◌else◌}
+use Rattle.afr_rounds.specs.Acting.{ServesNext, has_live}
 use Rattle.afr_base.specs.declared.ids.ActorId.{ActorId}
 use Rattle.afr_base.specs.declared.ids.BrickId.{BrickId}
 use Rattle.afr_faults.specs.Planned.{next_fault}
@@ -19,10 +20,9 @@ use Rattle.afr_server.specs.Carried.{CanCarryOut, CanLock}
 use Rattle.afr_server.specs.Covered.{IsUnderLocks}
 use Rattle.afr_server.specs.NextLine.{told_line}
 use Rattle.afr_server.specs.Outcome.{is_carried}
-use Rattle.afr_server.specs.Serving.{HasEpoch, Serving, has_session, is_met}
+use Rattle.afr_server.specs.Serving.{HasEpoch, Serving}
 use Rattle.afr_server.specs.declared.server.Asked.{Asked}
-use Rattle.afr_servers.specs.Calls.{AsksFirst, AsksOne, At, MeetsAll}
-use Rattle.afr_servers.specs.Found.{epoch_at}
+use Rattle.afr_servers.specs.Calls.{At, MeetsAll}
 use Rattle.afr_servers.specs.declared.epochs.Epochs.{Epochs}
 use Rattle.afr_readings.specs.Laws.{HearsPick, number_in}
 use Rattle.afr_inode_telling.specs.Lines.{is_look}
@@ -31,17 +31,6 @@ use Rattle.afr_works.specs.Work.{CarriesNext, choices_of, heard_by, next_of}
 use Rattle.afr_works.specs.declared.work.Work.{Work}
 use Rattle.afr_works.specs.declared.work.Work.TheVariants.{Idle}
 use Rattle.afr_volume.specs.declared.actor.Actor.{Actor}
-
--- a log, its oldest line first, has one line more, of which a fact holds
-pub record Adds (IsSo : Line → Type 0) (old new : List Line) : Type 0 where
-  pub line : Line
-  pub added : new ≡ old ++ line ∷ []
-  pub is_so : IsSo line
-
--- whether a request of the actor has a live session: one that its work's first line met, or one that this line meets
-abbrev pub has_live : Bool → ActorId → Epochs → ℕ → Serving → Bool
-has_live true a epochs b s = has_session (epoch_at b epochs) a s
-has_live false a epochs b s = is_met a s
 
 -- what the bricks need for a request: the one that is asked is there, has counts left, can carry it out, and sees the actor's locks
 pub record CanAsk (a : ActorId) (x : Actor) (b : BrickId) (request : Request) (servers : List Serving) : Type 0 where
@@ -56,11 +45,6 @@ pub record CanStep (a : ActorId) (at : ℕ) (x : Actor) (servers : List Serving)
   pub known : a.0 < 20
   pub room : (b : ℕ) → At b servers (HasEpoch a)
   pub asks : (b : BrickId) (request : Request) → next_of at x.work ≡ next.Ask b request → RequestInRange request → CanAsk a x b request servers
-
--- the brick served the request over a session that the work has met, or the work's first line met all bricks
-abbrev pub ServesNext : Bool → ActorId → BrickId → Request → Load → Epochs → List Serving → List Serving → Epochs → Asked → Type 0
-ServesNext true a b request load old bricks after new given = (new ≡ old) × AsksOne a old b.0 request load bricks after given
-ServesNext false a b request load old bricks after new given = AsksFirst a b.0 request load bricks after new given
 
 -- so the request was served, with the contents that the work brings
 pub record IsServed (a : ActorId) (x : Actor) (b : BrickId) (request : Request) (old new : List Serving) (epochs : Epochs) (given : Asked) : Type 0 where

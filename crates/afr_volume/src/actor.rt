@@ -6,7 +6,8 @@ ghost use Rattle.afr_server.specs.Serving.{HasEpoch};
 ghost use Rattle.afr_servers.specs.Calls.{At};
 ghost use Rattle.afr_walk.specs.Free.{is_ask};
 ghost use Rattle.afr_works.specs.Work.{IsBusy, is_over, next_of};
-ghost use Rattle.afr_volume.specs.Acting.{Adds, CanAsk, CanStep, HasHeard, HearsBy, IsAsked, IsBegun, IsEnded, IsServed, MeetsNext, Stepped, Written, picked_after, still_picked};
+ghost use Rattle.afr_volume.specs.Acting.{CanAsk, CanStep, HasHeard, HearsBy, IsAsked, IsBegun, IsEnded, IsServed, MeetsNext, Stepped, Written, picked_after, still_picked};
+ghost use Rattle.afr_rounds.specs.Acting.{Adds};
 
 use afr_base::{ActorId, BrickId, NoMemory};
 use afr_lines::{Answer, Line, Next, Reply, Request};

@@ -9,7 +9,7 @@ ghost use Rattle.afr_rule.specs.Choosing.{IsRule};
 ghost use Rattle.afr_volume.specs.Starting.{AreNewHealers};
 ghost use Rattle.afr_volume.specs.Turning.{HasHealer, KillsHealersIn, ReadiedHealerAt, StepsHealerAt};
 
-use afr_base::{ActorId, NoMemory};
+use afr_base::{ActorId, FIRST_HEALER, NoMemory};
 use afr_lines::Event;
 use afr_log::Log;
 use afr_plan::Plan;
@@ -17,6 +17,9 @@ use afr_rounds::{Healer, ready_round, step_round};
 use afr_rule::{Candidate, SourceRule};
 use afr_servers::Servers;
 use std::alloc::Global;
+
+/// A healer is this many places further down among the healers than its number.
+pub(crate) const HEALERS_FROM: usize = FIRST_HEALER as usize;
 
 /// A healer for each that the plan has, none of which has begun.
 pub(crate) fn all_healers(alloc: Global, count: usize) -> Result<Vec<Healer>, NoMemory>
@@ -45,7 +48,7 @@ pub(crate) fn ready_healer(
     ensures ok { OnOk result (ReadiedHealerAt plan.now a.0 healers.old.items healers.new.items) }
     ensures err { OnErr result (healers.new.items ≡ healers.old.items) }
 {
-    let at = a.0 as usize - 17;
+    let at = a.0 as usize - HEALERS_FROM;
     let rounds = plan.healers.item(at);
     let brick = *rounds.item(healers[at].ended as usize);
     ready_round(alloc, plan.shape, brick, &mut healers[at])?;
@@ -71,7 +74,7 @@ pub(crate) fn step_healer<F: Fn(&[Candidate]) -> usize>(
     ensures ok { OnOk result (Adds (λ line. StepsHealerAt (IsFed F.Fn rule.now) a position healers.old.items healers.new.items servers.old servers.new line) log.old.items log.new.items) }
     ensures err { OnErr result ((healers.new.items ≡ healers.old.items) × (servers.new ≡ servers.old) × (log.new.items ≡ log.old.items)) }
 {
-    let healer = &mut healers[a.0 as usize - 17];
+    let healer = &mut healers[a.0 as usize - HEALERS_FROM];
     step_round(healer, a, servers, position, log, rule)?;
     Ok(())
 }
@@ -82,8 +85,8 @@ pub(crate) fn kill_healer(healers: &mut Vec<Healer>, event: Event)
     ensures { KillsHealersIn event healers.old.items healers.new.items }
 {
     if let Event::Kill(a) = event {
-        if a.0 >= 17 {
-            healers[a.0 as usize - 17].killed = true;
+        if a.0 >= FIRST_HEALER {
+            healers[a.0 as usize - HEALERS_FROM].killed = true;
         }
     }
 }

@@ -4,14 +4,15 @@ ghost use Rattle.afr_plan.specs.declared.command.Command.{Command};
 ghost use Rattle.afr_model.specs.Actors.{script_of};
 ghost use Rattle.afr_volume.specs.declared.actor.Actor.{Actor};
 ghost use Rattle.afr_rule.specs.Choosing.{IsRule};
-ghost use Rattle.afr_volume.specs.Acting.{Adds, CanStep, HearsBy};
+ghost use Rattle.afr_volume.specs.Acting.{CanStep, HearsBy};
+ghost use Rattle.afr_rounds.specs.Acting.{Adds};
 ghost use Rattle.afr_volume.specs.Turning.{HasVictim, KillsIn, ReadiedAt, StepsAt};
 ghost use Rattle.afr_works.specs.Begin.{has_machine, work_from};
 ghost use Rattle.afr_works.specs.Work.{IsBusy, IsWork};
 
 use crate::actor::{Actor, step};
 use crate::turned::Turned;
-use afr_base::{ActorId, NoMemory, Shape};
+use afr_base::{ActorId, MOST_CLIENTS, NoMemory, Shape};
 use afr_lines::Event;
 use afr_log::Log;
 use afr_plan::{Command, Plan};
@@ -102,7 +103,7 @@ pub(crate) fn kill(actors: &mut Vec<Actor>, event: Event)
     ensures { KillsIn event actors.old.items actors.new.items }
 {
     if let Event::Kill(a) = event {
-        if a.0 <= 16 {
+        if a.0 <= MOST_CLIENTS {
             actors[a.0 as usize - 1].killed = true;
         }
     }

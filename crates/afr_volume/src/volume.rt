@@ -20,13 +20,13 @@ ghost use Rattle.afr_volume.specs.State.{HealsChosen, ReadsChosen, no_volume, op
 ghost use Rattle.afr_volume.specs.Turning.{Comes, Turns, due_of, if_due};
 
 use crate::actor::Actor;
-use crate::healers::{all_healers, kill_healer, ready_healer, step_healer};
+use crate::healers::{HEALERS_FROM, all_healers, kill_healer, ready_healer, step_healer};
 use crate::laws::{laws, rule_laws};
 use crate::set_up::all_actors;
 use crate::turned::Turned;
 use crate::turns::{answer_of, kill, ready_actor, step_actor};
 use afr_available::changes_are_available;
-use afr_base::{ActorId, BrickId, BrickSet, NoMemory, Shape};
+use afr_base::{ActorId, BrickId, BrickSet, MOST_CLIENTS, NoMemory, Shape};
 use afr_converged::quiet_rounds_converge;
 use afr_durable::acknowledged_is_durable;
 use afr_law::{
@@ -162,7 +162,7 @@ impl Volume {
         if self.log.len() >= self.plan.turns as usize {
             return Ok(Turned::Full);
         }
-        if a.0 <= 16 {
+        if a.0 <= MOST_CLIENTS {
             self.client_turn(a, &rules.read)
         } else {
             self.healer_turn(a, &rules.heal)
@@ -262,8 +262,8 @@ impl Volume {
         requires actor { IsActor self.now.plan a.0 }
         ensures { result ≡ is_done self.now.plan a.0 self.now.log }
     {
-        if a.0 > 16 {
-            let at = a.0 as usize - 17;
+        if a.0 > MOST_CLIENTS {
+            let at = a.0 as usize - HEALERS_FROM;
             let healer = &self.healers[at];
             return healer.killed || healer.ended as usize >= self.plan.healers.item(at).len();
         }
@@ -280,8 +280,8 @@ impl Volume {
         ensures client { a.0 ≤ 16 → slice_get self.now.picked (a.0 - 1) ≡ Some (option_map (λ b. b.0) result) }
         ensures healer { 17 ≤ a.0 → slice_get self.now.sources (a.0 - 17) ≡ Some (option_map (λ b. b.0) result) }
     {
-        if a.0 > 16 {
-            let healer = &self.healers[a.0 as usize - 17];
+        if a.0 > MOST_CLIENTS {
+            let healer = &self.healers[a.0 as usize - HEALERS_FROM];
             return chosen_source(healer);
         }
         let actor = &self.actors[a.0 as usize - 1];

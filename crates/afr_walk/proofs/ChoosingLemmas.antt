@@ -1,7 +1,7 @@
 -- The copies that the read rule chooses from, and the one that it picks.
-use Rattle.std.proofs.Common.{zero, suc, slice_get, ◌≡◌, ℕ, ◌+◌, ◌<◌, ◌≤◌, ◌==◌, ◌||◌, Bool, true, false, List, [], ◌∷◌, ◌++◌, refl, sym, ap, ◌∙◌, arith, filter, map, take, length, length-append, subst, if◌then◌else◌, Option, None, Some}
+use Rattle.std.proofs.Common.{zero, suc, slice_get, ◌≡◌, ℕ, ◌<◌, ◌==◌, ◌||◌, Bool, true, false, List, [], ◌∷◌, refl, sym, ap, ◌∙◌, arith, map, length, subst, if◌then◌else◌, Option, None, Some}
 use Rattle.std.proofs.lemmas.Bool.Decides.{nat_tests}
-use Rattle.afr_base.specs.Bricks.{all_five, from_table, is_nothing, member, same, same_is}
+use Rattle.afr_base.specs.Bricks.{all_five, is_nothing, member}
 use Rattle.afr_base.specs.declared.ids.BrickId.{BrickId}
 use Rattle.afr_base.specs.declared.ids.Kind.{Kind}
 use Rattle.afr_base.specs.declared.ids.Shape.{Shape}
@@ -11,73 +11,21 @@ use Rattle.afr_choice.specs.declared.looked.Looked.{Looked}
 use Rattle.afr_choice.specs.declared.verdict.Verdict.{Verdict}
 use Rattle.afr_choice.specs.declared.verdict.Verdict.TheVariants.{Sources}
 use Rattle.afr_rule.specs.Choosing.{Calls, IsPick}
+use Rattle.afr_rule.specs.Copies.{copy_in}
 use Rattle.afr_rule.specs.declared.candidate.Candidate.{Candidate}
-use Rattle.afr_walk.specs.Choosing.{IsAmong, RuleAnswers, candidates_of, choices, copy_in, has_sources, offers, reader_of}
+use Rattle.afr_walk.specs.Choosing.{IsAmong, RuleAnswers, candidates_of, choices, has_sources, offers, reader_of}
 
 -- ---- gathering them
-module _ (copy : ℕ → Candidate) (p : ℕ → Bool) where
-  at_end : (b : ℕ) (xs : List ℕ) → map copy (filter p (xs ++ b ∷ [])) ≡ (if p b then map copy (filter p xs) ++ copy b ∷ [] else map copy (filter p xs))
-  at_end b [] = go (p b) refl
-    where
-      go : (a : Bool) → p b ≡ a → map copy (filter p (b ∷ [])) ≡ (if p b then map copy (filter p []) ++ copy b ∷ [] else map copy (filter p []))
-      go true e = rw e refl
-      go false e = rw e refl
-  at_end b (x ∷ xs) = go (p x) refl (p b) refl (at_end b xs)
-    where
-      go : (a : Bool) → p x ≡ a → (d : Bool) → p b ≡ d → map copy (filter p (xs ++ b ∷ [])) ≡ (if p b then map copy (filter p xs) ++ copy b ∷ [] else map copy (filter p xs))
-          → map copy (filter p (x ∷ xs ++ b ∷ [])) ≡ (if p b then map copy (filter p (x ∷ xs)) ++ copy b ∷ [] else map copy (filter p (x ∷ xs)))
-      go true e true f ih = let k = rw f at ih in rw (e, f) (ap (λ (ys : List Candidate). copy x ∷ ys) k)
-      go true e false f ih = let k = rw f at ih in rw (e, f) (ap (λ (ys : List Candidate). copy x ∷ ys) k)
-      go false e true f ih = let k = rw f at ih in rw (e, f) k
-      go false e false f ih = let k = rw f at ih in rw (e, f) k
-
-  -- one round of the loop that gathers them
-  pub gathered : (b : ℕ) (flag : Bool) (copies after : List Candidate) (added : Candidate) → b < 5 → copies ≡ map copy (filter p (take b all_five)) → flag ≡ p b → added ≡ copy b
-      → after ≡ (if flag then copies ++ added ∷ [] else copies) → after ≡ map copy (filter p (take (b + 1) all_five))
-  gathered b flag copies after added l so_far test is grows =
-      let more : take (b + 1) all_five ≡ take b all_five ++ b ∷ [] = same_is (take (b + 1) all_five) (take b all_five ++ b ∷ []) (from_table 5 (λ k. same (take (k + 1) all_five) (take k all_five ++ k ∷ [])) refl b l) in
-      let once : after ≡ (if p b then map copy (filter p (take b all_five)) ++ copy b ∷ [] else map copy (filter p (take b all_five))) = grows ∙ (λ i. if test i then so_far i ++ is i ∷ [] else so_far i) in
-      once ∙ sym (at_end b (take b all_five)) ∙ ap (λ (xs : List ℕ). map copy (filter p xs)) (sym more)
-
--- at most one more each round
-pub longer : (flag : Bool) (copies after : List Candidate) (added : Candidate) (b : ℕ) → length copies ≤ b → after ≡ (if flag then copies ++ added ∷ [] else copies) → length after ≤ b + 1
-longer true copies after added b l e = rw e (grind (arith, length-append copies (added ∷ []), l))
-longer false copies after added b l e = rw e (omega (arith, l))
-
--- two tests that agree on a list choose the same of it
-same_choice : (p q : ℕ → Bool) (xs : List ℕ) → ((x : ℕ) → member xs x ≡ true → p x ≡ q x) → filter p xs ≡ filter q xs
-same_choice p q [] h = refl
-same_choice p q (x ∷ xs) h = go (p x) refl (q x) (sym here) (same_choice p q xs rest)
+-- the flags of the good copies are their test
+pub flags_of : (shape : Shape) (looked : Looked) (kind : Kind) (sources : List ℕ) (a b c d e : Bool) → sources ≡ good_copies shape looked kind
+    → a ≡ member sources 0 → b ≡ member sources 1 → c ≡ member sources 2 → d ≡ member sources 3 → e ≡ member sources 4
+    → a ∷ b ∷ c ∷ d ∷ e ∷ [] ≡ map (is_good shape looked kind) all_five
+flags_of shape looked kind sources a b c d e is fa fb fc fd fe =
+    let g0 = at 0 (omega arith) fa in let g1 = at 1 (omega arith) fb in let g2 = at 2 (omega arith) fc in let g3 = at 3 (omega arith) fd in let g4 = at 4 (omega arith) fe in
+    λ i. g0 i ∷ g1 i ∷ g2 i ∷ g3 i ∷ g4 i ∷ []
   where
-    itself : (x == x) ≡ true
-    itself = grind (arith, nat_tests)
-
-    here : p x ≡ q x
-    here = h x (rw itself refl)
-
-    either : (a b : Bool) → b ≡ true → (a || b) ≡ true
-    either true b e = refl
-    either false b e = e
-
-    rest : (y : ℕ) → member xs y ≡ true → p y ≡ q y
-    rest y m = h y (either (x == y) (member xs y) m)
-
-    go : (a : Bool) → p x ≡ a → (b : Bool) → b ≡ p x → filter p xs ≡ filter q xs → filter p (x ∷ xs) ≡ filter q (x ∷ xs)
-    go true e b f ih = let g : q x ≡ true = sym here ∙ e in rw (e, g) (ap (λ (ys : List ℕ). x ∷ ys) ih)
-    go false e b f ih = let g : q x ≡ false = sym here ∙ e in rw (e, g) ih
-
--- those of the five that are good are the good ones
-good_again : (shape : Shape) (looked : Looked) (kind : Kind) → filter (member (good_copies shape looked kind)) all_five ≡ good_copies shape looked kind
-good_again shape looked kind = same_choice (member (good_copies shape looked kind)) (is_good shape looked kind) all_five (λ x m. member_good shape looked kind x (five x m))
-  where
-    five : (x : ℕ) → member all_five x ≡ true → x < 5
-    five x m = grind (arith, nat_tests, m)
-
--- after the fifth round
-pub all_gathered : (shape : Shape) (looked : Looked) (kind : Kind) (sources : List ℕ) (copies : List Candidate) (x : ℕ) → x ≡ 5 → sources ≡ good_copies shape looked kind
-    → copies ≡ map (copy_in looked) (filter (member sources) (take x all_five)) → copies ≡ candidates_of shape looked kind
-all_gathered shape looked kind sources copies x end is k =
-    k ∙ (λ i. map (copy_in looked) (filter (member (is i)) (take (end i) all_five))) ∙ ap (map (copy_in looked)) (good_again shape looked kind)
+    at : (x : ℕ) → x < 5 → {f : Bool} → f ≡ member sources x → f ≡ is_good shape looked kind x
+    at x low e = e ∙ ap (λ (s : List ℕ). member s x) is ∙ member_good shape looked kind x low
 
 -- ---- what is picked
 pub offers_map : (looked : Looked) (s : List ℕ) (b : ℕ) → offers (map (copy_in looked) s) b ≡ member s b

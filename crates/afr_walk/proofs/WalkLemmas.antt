@@ -8,7 +8,7 @@ use Rattle.afr_base.specs.declared.ids.Kind.{Kind}
 use Rattle.afr_base.specs.declared.ids.Kind.TheVariants.{Names}
 use Rattle.afr_base.specs.declared.ids.NameId.{NameId}
 use Rattle.afr_base.specs.declared.ids.Shape.{Shape}
-use Rattle.afr_object.specs.Tables.{is_dir}
+use Rattle.afr_object.specs.Tables.{is_dir, root_entry}
 use Rattle.afr_object.specs.declared.entry.Entry.{Entry}
 use Rattle.afr_object.specs.declared.entry.View.{View}
 use Rattle.afr_choice.specs.Verdict.{verdict_of, good_copies, copies_of}
@@ -24,11 +24,12 @@ use Rattle.afr_lines.specs.declared.answer.Told.TheVariants as told_of
 use Rattle.afr_lines.specs.declared.request.Request.{Request}
 use Rattle.afr_base.specs.declared.ids.BrickId.{BrickId}
 use Rattle.afr_rule.specs.Choosing.{Calls}
+use Rattle.afr_rule.specs.Copies.{copy_in}
 use Rattle.afr_rule.specs.declared.candidate.Candidate.{Candidate}
-use Rattle.afr_walk.specs.Choosing.{IsAmong, RuleAnswers, choices, choices_after, copy_in, has_sources}
+use Rattle.afr_walk.specs.Choosing.{IsAmong, RuleAnswers, choices, choices_after, has_sources}
 use Rattle.afr_walk.specs.Free.{AllowsAsk, is_free}
 use Rattle.afr_walk.specs.Looks.{no_look, left_to_look, noted_look, heard_look, IsLooks}
-use Rattle.afr_walk.specs.Walk.{root_entry, step_at, walk_from, is_walking, next_in, next_at, verdict_step, after_looks, choices_at, choices_of, named, noted, walked, walked_at, IsStep, IsWalk}
+use Rattle.afr_walk.specs.Walk.{step_at, walk_from, is_walking, next_in, next_at, verdict_step, after_looks, choices_at, choices_of, named, noted, walked, walked_at, IsStep, IsWalk}
 use Rattle.afr_walk.specs.declared.looks.Looks.{Looks}
 use Rattle.afr_walk.specs.declared.stop.Stop.TheVariants.{NotDir}
 use Rattle.afr_walk.specs.declared.walk.Walk.{Walk}

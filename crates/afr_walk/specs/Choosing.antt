@@ -5,31 +5,17 @@ use Rattle.afr_base.specs.Bricks.{is_nothing}
 use Rattle.afr_base.specs.declared.ids.BrickId.{BrickId}
 use Rattle.afr_base.specs.declared.ids.Kind.{Kind}
 use Rattle.afr_base.specs.declared.ids.Shape.{Shape}
-use Rattle.afr_object.specs.declared.entry.View.{View}
-use Rattle.afr_choice.specs.Looks.{view_at}
 use Rattle.afr_choice.specs.Verdict.{good_copies, verdict_of}
 use Rattle.afr_choice.specs.declared.looked.Looked.{Looked}
 use Rattle.afr_choice.specs.declared.verdict.Verdict.{Verdict}
 use Rattle.afr_choice.specs.declared.verdict.Verdict.TheVariants.{Sources}
 use Rattle.afr_rule.specs.Choosing.{Calls, IsPick}
+use Rattle.afr_rule.specs.Copies.{copy_in}
 use Rattle.afr_rule.specs.declared.candidate.Candidate.{Candidate}
 use Rattle.afr_walk.specs.Looks.{left_to_look}
 use Rattle.afr_walk.specs.declared.looks.Looks.{Looks}
 
 -- ---- what it is asked for
--- the length in a view
-abbrev pub len_in : Option View → ℕ
-len_in None = 0
-len_in (Some view) = view.len
-
--- the length that a brick showed
-abbrev pub len_at : ℕ → Looked → ℕ
-len_at b looked = len_in (view_at b looked)
-
--- a copy as the rule sees it: its brick, with the length that this showed
-abbrev pub copy_in : Looked → ℕ → Candidate
-copy_in looked b = record { brick = record { 0 = b }; len = len_at b looked }
-
 -- the good copies, the lowest first
 abbrev pub candidates_of : Shape → Looked → Kind → List Candidate
 candidates_of shape looked kind = map (copy_in looked) (good_copies shape looked kind)

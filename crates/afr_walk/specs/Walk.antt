@@ -5,8 +5,7 @@ use Rattle.afr_base.specs.declared.ids.BrickId.{BrickId}
 use Rattle.afr_base.specs.declared.ids.Kind.TheVariants.{Names}
 use Rattle.afr_base.specs.declared.ids.NameId.{NameId}
 use Rattle.afr_base.specs.declared.ids.Shape.{Shape}
-use Rattle.afr_base.specs.declared.ids.What.TheVariants.{Dir}
-use Rattle.afr_object.specs.Tables.{is_dir, root}
+use Rattle.afr_object.specs.Tables.{is_dir, root_entry}
 use Rattle.afr_object.specs.declared.entry.Entry.{Entry}
 use Rattle.afr_object.specs.declared.entry.View.{View}
 use Rattle.afr_choice.specs.Verdict.{verdict_of}
@@ -29,10 +28,6 @@ use Rattle.afr_walk.specs.declared.stop.Stop.TheVariants as stop
 use Rattle.afr_walk.specs.declared.walk.Walk.{Walk}
 use Rattle.afr_walk.specs.declared.walk.WalkStep.{WalkStep}
 use Rattle.afr_walk.specs.declared.walk.WalkStep.TheVariants.{Looking, Naming, Arrived, Stopped}
-
--- the root directory, as a name would give it
-abbrev pub root_entry : Entry
-root_entry = record { gfid = root; what = Dir }
 
 -- the step after so many of the names were read: a file has no names
 abbrev pub step_at : ℕ → ℕ → Entry → WalkStep

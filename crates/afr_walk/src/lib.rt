@@ -7,7 +7,7 @@ mod looks;
 mod stop;
 mod walk;
 
-pub use choosing::{len_at, pick, pick_if, reader_of};
+pub use choosing::{pick, pick_if, reader_of};
 pub use looks::Looks;
 pub use stop::{Stop, stop_reply};
 pub use walk::{Walk, WalkStep, names_of};

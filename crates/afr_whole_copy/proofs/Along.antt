@@ -25,6 +25,7 @@ use Rattle.afr_moves.proofs.Tests.{same_self}
 use Rattle.afr_law.proofs.Discipline.Asks.{IsHealLock, heal_asked, heal_dropped}
 use Rattle.afr_law.proofs.Discipline.Cleans.{Shown}
 use Rattle.afr_law.proofs.Discipline.Projection.{along_now}
+use Rattle.afr_law.proofs.Safety.Acks.{place_foreign}
 use Rattle.afr_whole_copy.proofs.Looks.{Stands, StandsOf, stands_asked, stands_new, stands_next}
 
 -- ---- works
@@ -40,11 +41,6 @@ foreign_open a (Some (Begin x change)) other ends = ends
 foreign_open a (Some (HealBegin x g kind)) other ends = ends
 foreign_open a (Some (HealEnd x g kind reply)) other ends = ends
 foreign_open a (Some (Event e)) other ends = ends
-
--- another's line leaves an actor where it was
-foreign_place : (log : Log) (t a : ℕ) → is_of a (log t) ≡ false → place log (suc t) a ≡ place log t a
-unfolding place
-foreign_place log t a other = rw other refl
 
 -- after its End line it is between two works
 end_place : (log : Log) (t a : ℕ) (x : ℕ) (reply : Reply) → log t ≡ Some (End (record { 0 = x }) reply) → (x == a) ≡ true → place log (suc t) a ≡ Fresh
@@ -113,7 +109,7 @@ module _ (n : ℕ) (keeps : ℕ → Kind → Bool) (log : Log) (shown : Shown lo
   own_stands t a r (Some (Event e)) is mine was may = absurd (true≢false (sym mine))
 
   foreign_stands : (t a : ℕ) (r : Exact) → is_of a (log t) ≡ false → StandsIn log t a r → StandsIn log (suc t) a r
-  foreign_stands t a r other (inl e) = inl (foreign_place log t a other ∙ e)
+  foreign_stands t a r other (inl e) = inl (place_foreign log t a other ∙ e)
   foreign_stands t a r other (inr s) = inr (λ out. stands_next log t a r.law.area r.views r.law.pre r.law.number (foreign_open a (log t) other) (s out))
 
   -- a work's first line finds nothing noted

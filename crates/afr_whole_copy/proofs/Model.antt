@@ -3,6 +3,7 @@ use Rattle.std.proofs.Common.{◌≡◌, ℕ, ◌≤◌, ◌&&◌, ◌⊎◌, Bo
 use Rattle.std.specs.Prelude.{Option, nat_lt}
 use Rattle.std.specs.List.{list_any}
 use Rattle.std.proofs.lemmas.Bool.Decides.{nat_tests}
+use Rattle.afr_missed.proofs.Model.{zero_no}
 use Rattle.afr_base.specs.Bricks.{member}
 use Rattle.afr_base.specs.Keeping.{keeps}
 use Rattle.afr_base.specs.declared.ids.Gfid.{Gfid}
@@ -29,9 +30,6 @@ use Rattle.afr_law.proofs.Model.Sums.{holds_is, pending_is}
 use Rattle.afr_durable.proofs.Sets.{in_listed, listed, listed_most, listed_parts, listed_within}
 use Rattle.afr_whole_copy.specs.Whole.{AreOverlapping, AreUnaccused, AreWhole, HasWholeCopy, ModelExactWhole}
 use Rattle.afr_whole_copy.proofs.Chosen.{OverlapAt, WholeAt, whole_at}
-
-zero_no : (m : ℕ) → m ≡ 0 → nat_lt 0 m ≡ false
-zero_no m e = grind (arith, nat_tests)
 
 -- nobody of these passes
 none_of : (test : ℕ → Bool) (xs : List ℕ) → ((x : ℕ) → member xs x ≡ true → test x ≡ false) → list_any test xs ≡ false

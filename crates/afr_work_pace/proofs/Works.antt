@@ -66,7 +66,6 @@ use Rattle.afr_rename.specs.Under.{next_under}
 use Rattle.afr_rename.specs.declared.paths.Paths.{Paths}
 use Rattle.afr_rename.specs.declared.stage.RenameStage.TheVariants as renaming
 use Rattle.afr_rename.specs.declared.stage.RenameStage.{RenameStage}
-use Rattle.afr_rename_pace.specs.Renames as renames
 use Rattle.afr_rename_pace.specs.Renames.{AsksMaking, AsksRename, BeginsRename, FitsRename, RenameBeginsNearer, RenameComesNearer, RenameKeepsEnd, RenameStartsWithin, rename_again, rename_left}
 use Rattle.afr_works.proofs.WorkLemmas.{same_under}
 use Rattle.afr_works.specs.Begin.{work_from}
@@ -163,18 +162,13 @@ module _ (b : BrickId) (asked : Request) (chosen : BrickId) (a : Answer) (at : �
     pub fitting : Fits (if done then Locking else t.stage) (told_by a)
     pub counts : count_of ≤ step_of (asks_again (if done then Locking else t.stage) (told_by a))
 
-  also_under : (found : Found) (stage : Stage) (t : Progress) → AsksUnder found stage t → renames.AsksUnder found stage t
-  also_under (found_of.Unread c) Beginning t k = tt
-  also_under (found_of.Unread c) stage t k = k
-  also_under found stage t k = k
-
   making : (y : Paths) (done : Bool) (found : Found) (t : Progress) → Sound t → (if done then transaction.next_at Locking at (turned y t) else next_under found at (reads_new y) t) ≡ next.Ask b asked → MakingAsked done found t
   making y true found t sound e = (let k : request.Lock Work (area_for (removal_of y)) ≡ asked = cc e in record {
     asks = tt;
     fitting = tt;
     counts = subst (λ (q : Request). counted (Ask x b q (told_by a) took) ≤ step_of (is_held (told_by a))) k (lock_counts x b (told_by a) took (area_for (removal_of y)));
   })
-  making y false found t sound e = (let w = under (reads_new y) found t sound e in record { asks = also_under found t.stage t w.asks; fitting = w.fitting; counts = w.counts })
+  making y false found t sound e = (let w = under (reads_new y) found t sound e in record { asks = w.asks; fitting = w.fitting; counts = w.counts })
 
   removing : (y : Paths) (over : Bool) (found : Found) (t : Progress) → Sound t → (if over then next.End (half_reply (outcome_of t.change t.register)) else next_under found at (reads_old y) t) ≡ next.Ask b asked → UnderAsked found t.stage t
   removing y true found t sound e = absurd (cc e)
@@ -189,7 +183,7 @@ module _ (b : BrickId) (asked : Request) (chosen : BrickId) (a : Answer) (at : �
       go renaming.Finding i e = record { asks = tt; fitting = tt; counts = counts_one (Ask x b asked (told_by a) took) }
       go renaming.Walking i e = record { asks = tt; fitting = tt; counts = counts_one (Ask x b asked (told_by a) took) }
       go (renaming.Making t found) i e = (let w = making m.paths (rename.is_done t) found t i.under.sound e in record { asks = w.asks; fitting = w.fitting; counts = w.counts })
-      go (renaming.Removing t found) i e = (let w = removing m.paths (transaction.is_over t.stage t) found t i.under.sound e in record { asks = also_under found t.stage t w.asks; fitting = w.fitting; counts = w.counts })
+      go (renaming.Removing t found) i e = (let w = removing m.paths (transaction.is_over t.stage t) found t i.under.sound e in record { asks = w.asks; fitting = w.fitting; counts = w.counts })
       go (renaming.Ending said) i e = absurd (cc e)
 
 pub work_nearer : EntryComesNearer → RenameComesNearer → WorkComesNearer
@@ -272,10 +266,6 @@ module _ (at : ℕ) (change : Change) (chosen : BrickId) where
       go (entering.Removes y) e = removal_begins_at y.stage y change e
       go (entering.Ending said) e = cc e
 
-  also_begin : (found : Found) (stage : Stage) → BeginsUnder found stage → renames.BeginsUnder found stage
-  also_begin (found_of.Unread c) stage k = k
-  also_begin found stage k = k
-
   making_begin : (y : Paths) (done : Bool) (found : Found) (t : Progress) → (if done then transaction.next_at Locking at (turned y t) else next_under found at (reads_new y) t) ≡ next.Begin change → BeginsUnder found t.stage
   making_begin y true found t e = absurd (cc e)
   making_begin y false found t e = under_begin (reads_new y) found t e
@@ -290,8 +280,8 @@ module _ (at : ℕ) (change : Change) (chosen : BrickId) where
       go : (stage : RenameStage) → rename.next_at at stage m.paths ≡ next.Begin change → BeginsRename stage
       go renaming.Finding e = cc e
       go renaming.Walking e = cc e
-      go (renaming.Making t found) e = also_begin found t.stage (making_begin m.paths (rename.is_done t) found t e)
-      go (renaming.Removing t found) e = also_begin found t.stage (removing_begin m.paths (transaction.is_over t.stage t) found t e)
+      go (renaming.Making t found) e = making_begin m.paths (rename.is_done t) found t e
+      go (renaming.Removing t found) e = removing_begin m.paths (transaction.is_over t.stage t) found t e
       go (renaming.Ending said) e = cc e
 
 pub work_begins : RenameBeginsNearer → WorkBeginsNearer

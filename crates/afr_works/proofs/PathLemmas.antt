@@ -4,7 +4,7 @@ use Rattle.std.proofs.lemmas.Bool.Decides.{nat_tests}
 use Rattle.afr_base.specs.declared.ids.NameId.{NameId}
 use Rattle.afr_rename.specs.Paths.{front, last}
 use Rattle.afr_rename.proofs.PathLemmas.{front_last}
-use Rattle.afr_works.specs.Begin.{has_name}
+use Rattle.afr_plan.specs.OnNames.{has_name}
 
 pub some_names : (n : ℕ) → nat_lt 0 n ≡ true → 0 < n
 some_names n h = grind (arith, nat_tests, h)

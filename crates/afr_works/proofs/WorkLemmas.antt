@@ -25,7 +25,8 @@ use Rattle.afr_discipline.specs.declared.register.Register.{Register}
 use Rattle.afr_rule.specs.Choosing.{Calls}
 use Rattle.afr_walk.specs.Free.{Allows, IsFree}
 use Rattle.afr_walk.specs.Looks.{no_look}
-use Rattle.afr_walk.specs.Walk.{IsWalk, root_entry, walk_from}
+use Rattle.afr_walk.specs.Walk.{IsWalk, walk_from}
+use Rattle.afr_object.specs.Tables.{root_entry}
 use Rattle.afr_walk.specs.declared.walk.Walk.{Walk}
 use Rattle.afr_walk.specs.declared.walk.WalkStep.TheVariants as walking
 use Rattle.afr_walk.specs.Choosing.{reader_of}

@@ -1,9 +1,9 @@
 -- The work that a command begins.
-use Rattle.std.specs.Prelude.{◌&&◌, nat_lt, Bool, true, false, List, length}
-use Rattle.afr_base.specs.declared.ids.NameId.{NameId}
+use Rattle.std.specs.Prelude.{◌&&◌, Bool, true}
 use Rattle.afr_base.specs.declared.ids.Shape.{Shape}
 use Rattle.afr_plan.specs.declared.command.Command.{Command}
 use Rattle.afr_plan.specs.declared.command.Command.TheVariants as command
+use Rattle.afr_plan.specs.OnNames.{has_name}
 use Rattle.afr_entry.specs.Entry.{entry_from}
 use Rattle.afr_entry.specs.declared.job.EntryJob.TheVariants as name
 use Rattle.afr_inode_read.specs.Lookup.{lookup_from}
@@ -14,18 +14,6 @@ use Rattle.afr_rename.specs.Paths.{front, last}
 use Rattle.afr_rename.specs.Rename.{rename_from}
 use Rattle.afr_works.specs.declared.work.Work.{Work}
 use Rattle.afr_works.specs.declared.work.Work.TheVariants.{Lookup, Write, Entry, Rename}
-
--- a path has a name
-abbrev pub has_name : List NameId → Bool
-has_name path = nat_lt 0 (length path)
-
--- a command on the last name of its path
-abbrev pub is_on_name : Command → Bool
-is_on_name (command.Create path) = true
-is_on_name (command.Mkdir path) = true
-is_on_name (command.Unlink path) = true
-is_on_name (command.Rmdir path) = true
-is_on_name other = false
 
 -- a machine carries out each command; one on the last name of a path needs that name, and a rename both of its last names
 abbrev pub has_machine : Command → Bool

@@ -5,7 +5,8 @@ ghost use Rattle.afr_inode_read.specs.Lookup.{lookup_from};
 ghost use Rattle.afr_inode_write.specs.Write.{write_from};
 ghost use Rattle.afr_rename.specs.Rename.{rename_from};
 ghost use Rattle.afr_rename.specs.Paths.{front, last};
-ghost use Rattle.afr_works.specs.Begin.{has_machine, has_name, is_on_name, work_from};
+ghost use Rattle.afr_works.specs.Begin.{has_machine, work_from};
+ghost use Rattle.afr_plan.specs.OnNames.{has_name, is_on_name};
 ghost use Rattle.afr_works.specs.Work.{IsWork};
 
 use crate::on_heap::OnHeap;

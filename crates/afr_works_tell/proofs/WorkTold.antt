@@ -63,7 +63,7 @@ use Rattle.afr_works.proofs.WorkLemmas.{never_begins}
 use Rattle.afr_rename.specs.Paths.{front, last}
 use Rattle.afr_rename_telling.specs.RenameTelling.{to_of}
 use Rattle.afr_rename_telling.specs.RenameLaws.{RenameAbout, RenameBegins, RenameBegun, RenameBlames, RenameEnds, RenameKeepsName, RenameTellsMore}
-use Rattle.afr_works.specs.Begin.{has_name}
+use Rattle.afr_plan.specs.OnNames.{has_name}
 use Rattle.afr_works.specs.Work as work
 use Rattle.afr_works.specs.declared.work.Work.TheVariants.{Idle, Lookup, Write, Entry, Rename}
 use Rattle.afr_works_tell.specs.WorkLaws.{BlamedLines, WorkAbout, WorkBegins, WorkBegun, WorkBlames, WorkEnds, WorkKeepsName, WorkTellsMore}

@@ -36,11 +36,11 @@ use Rattle.afr_model.specs.Keeping.{KeepsTo, Names}
 use Rattle.afr_model.specs.Showing.{Path, has, locks, look_shows, looked_by}
 use Rattle.afr_model.specs.Standing.{area_here}
 use Rattle.afr_transaction.specs.Outcome.{reply_of}
-use Rattle.afr_transaction.specs.Progress.{Progress, asks, begun, fed, is_beginning, next_at as next_change, numbered, request_at}
+use Rattle.afr_transaction.specs.Progress.{Progress, asks, begun, fed, is_beginning, next_at as next_change, numbered, request_at, told_to}
 use Rattle.afr_transaction.specs.Sound.{Sound}
 use Rattle.afr_transaction.specs.declared.stage.Stage.{Stage}
 use Rattle.afr_transaction.specs.declared.stage.Stage.TheVariants.{Locking, Looking, Beginning, Preparing, Applying, Posting, Closing}
-use Rattle.afr_inode_write.specs.Write.{begun_in, told_to}
+use Rattle.afr_inode_write.specs.Write.{begun_in}
 use Rattle.afr_inode_telling.specs.ChangeLaws.{ChangeStands, IsChangeOf, is_of_change}
 use Rattle.afr_inode_telling.specs.Lines.{is_look}
 use Rattle.afr_inode_telling.proofs.ChangeWords.{keeps_path, stands}

@@ -40,7 +40,7 @@ healed_by n keeps r t a b request told took =
 abbrev pub opened_by : ℕ → (ℕ → Kind → Bool) → ℕ → ℕ → ℕ → Area → Told → Bool → Exact
 opened_by n keeps t a b area told took = note n keeps untouched t (Some (ask_by a b (Lock Heal area) told took))
 
-healed_is : (n : ℕ) (keeps : ℕ → Kind → Bool) (r : Exact) (t a b : ℕ) (request : Request) (told : Told) (took : Bool) → r.law.heal ≡ true
+pub healed_is : (n : ℕ) (keeps : ℕ → Kind → Bool) (r : Exact) (t a b : ℕ) (request : Request) (told : Told) (took : Bool) → r.law.heal ≡ true
     → healed_by n keeps r t a b request told took ≡ note n keeps r t (Some (ask_by a b request told took))
 healed_is n keeps r t a b request told took e = sym (ap (λ (heal : Bool). stopping n keeps (record (if heal
     then record (left_in_heal n r t b request told) { possible = λ s. r.possible s && may_heal n keeps r s b request; broken = r.broken || breaks r request told }

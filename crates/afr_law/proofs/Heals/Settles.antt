@@ -51,7 +51,7 @@ raised_set keeps r s Bytes b e h = e
 raised_set keeps r s Attrs b e h = e
 raised_set keeps r s Names b e h = h
 
-set_raised : (keeps : ℕ → Kind → Bool) (r : Exact) (s : ℕ) (kind : Kind) (b : ℕ) → raise_set keeps r.first_views s kind b ≡ true → raised keeps r s kind b ≡ true
+pub set_raised : (keeps : ℕ → Kind → Bool) (r : Exact) (s : ℕ) (kind : Kind) (b : ℕ) → raise_set keeps r.first_views s kind b ≡ true → raised keeps r s kind b ≡ true
 set_raised keeps r s Bytes b e = e
 set_raised keeps r s Attrs b e = e
 set_raised keeps r s Names b e = refl

@@ -83,7 +83,7 @@ each_word [] most low h = tt
 each_word (x ∷ numbers) most low h = ((let first = h 0 in omega (arith, first, low)), each_word numbers most low (λ c. h (suc c)))
 
 module _ (p : Plan) (log : List Line) (short : length log < 4000000) where
-  marks_range : (b : ℕ) (g : Gfid) (o : Object) → copy_at g (holds p log b) ≡ Some o → (kind : Kind) → MarksInRange (marks_of kind o.marks)
+  pub marks_range : (b : ℕ) (g : Gfid) (o : Object) → copy_at g (holds p log b) ≡ Some o → (kind : Kind) → MarksInRange (marks_of kind o.marks)
   marks_range b g o e kind =
       let low = numbers_below p log b g kind o e in
       let dirty = low.0 in

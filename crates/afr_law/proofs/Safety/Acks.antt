@@ -73,7 +73,7 @@ end_foreign : (a : ℕ) (line : Option Line) → is_of a line ≡ false → end_
 end_foreign a (Some (End x reply)) h = rw h refl
 end_foreign a _ h = refl
 
-place_foreign : (log : Log) (t a : ℕ) → is_of a (log t) ≡ false → place log (suc t) a ≡ place log t a
+pub place_foreign : (log : Log) (t a : ℕ) → is_of a (log t) ≡ false → place log (suc t) a ≡ place log t a
 unfolding place
 place_foreign log t a h = rw h refl
 

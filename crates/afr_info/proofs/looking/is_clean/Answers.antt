@@ -3,7 +3,7 @@ use Rattle.afr_base.specs.Marks.{is_zero_marks}
 use Rattle.afr_choice.specs.Looks.{view_at}
 use Rattle.afr_choice.specs.Verdict.{is_holder}
 use Rattle.afr_model.specs.Healing.{marks_in}
-use Rattle.afr_info.proofs.FiveLemmas.{five_pass, one_of_five_fails}
+use Rattle.afr_base.proofs.FiveLemmas.{five_pass, one_of_five_fails}
 use Rattle.afr_info.proofs.looking.is_clean.Goals as goal
 
 pub returns-then-is_marked : goal.returns-then-is_marked

@@ -1,5 +1,5 @@
 use Rattle.std.proofs.Common.{◌∙◌, sym, ap, arith, length, refl}
-use Rattle.afr_info.proofs.RisingLemmas.{lowest_first}
+use Rattle.afr_base.proofs.RisingLemmas.{lowest_first}
 use Rattle.afr_info.proofs.marked.+marked.Goals as goal
 
 pub marked-requires : goal.marked-requires

@@ -1,5 +1,5 @@
 use Rattle.std.proofs.Common.{◌∙◌, sym, ap, arith, length, append_assoc}
-use Rattle.afr_info.proofs.RisingLemmas.{lowest_first}
+use Rattle.afr_base.proofs.RisingLemmas.{lowest_first}
 use Rattle.afr_info.proofs.marks.push_all_marks.Goals as goal
 
 pub loop-left-smaller : goal.loop-left-smaller

@@ -1,7 +1,7 @@
 use Rattle.std.proofs.Common.{◌≡◌, ◌++◌, length}
 use Rattle.std.specs.Prelude.{string_bytes, flat_map}
 use Rattle.afr_model.specs.ReportObjects.{marks_lines}
-use Rattle.afr_info.specs.Rising.{IsRising}
+use Rattle.afr_base.specs.Rising.{IsRising}
 use Rattle.afr_info.proofs.marks.push_all_marks.Given as goal
 
 abbrev pub invariant-loop-left : goal.invariant-loop-left

@@ -1,4 +1,4 @@
-use Rattle.afr_info.proofs.RisingLemmas.{rising_below}
+use Rattle.afr_base.proofs.RisingLemmas.{rising_below}
 use Rattle.afr_info.proofs.marks.push_marks.Goals as goal
 
 pub push_missed-requires : goal.push_missed-requires

@@ -1,6 +1,6 @@
 use Rattle.std.proofs.Common.{◌≡◌, ◌++◌, length}
 use Rattle.std.specs.Prelude.{string_bytes}
-use Rattle.afr_info.specs.Rising.{IsRising}
+use Rattle.afr_base.specs.Rising.{IsRising}
 use Rattle.afr_info.specs.Shown.{missed_lines}
 use Rattle.afr_info.proofs.marks.push_missed.Given as goal
 

@@ -1,6 +1,6 @@
 use Rattle.std.proofs.Common.{◌≡◌, ◌++◌, length}
 use Rattle.std.specs.Prelude.{string_bytes, codes, decimal, flat_map}
-use Rattle.afr_info.specs.Rising.{IsRising}
+use Rattle.afr_base.specs.Rising.{IsRising}
 use Rattle.afr_info.proofs.reach.push_bricks.Given as goal
 
 abbrev pub invariant-loop-left : goal.invariant-loop-left

@@ -1,5 +1,5 @@
 -- The actors of a row are those of the run; each is settled after its turn, and stays so where no line is added.
-use Rattle.std.proofs.Common.{◌≡◌, ◌∙◌, ◌<◌, true, Ok, ap, arith}
+use Rattle.std.proofs.Common.{◌≡◌, ◌∙◌, true, Ok, ap, arith}
 use Rattle.std.proofs.lemmas.Grind.{common_steps}
 use Rattle.afr_live.specs.Noted.{IsSettled}
 use Rattle.afr_order.proofs.DoneLemmas.{row_each}

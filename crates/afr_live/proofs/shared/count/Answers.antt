@@ -1,6 +1,6 @@
 -- The book has counted each End line.
-use Rattle.std.proofs.Common.{◌≡◌, ◌∙◌, ◌<◌, ◌+◌, ◌^◌, sym, ap, arith, length}
-use Rattle.afr_live.proofs.EndLemmas.{moved_ends, moved_few, still_ends, unmoved_ends}
+use Rattle.std.proofs.Common.{◌<◌, ◌^◌, arith, length}
+use Rattle.afr_live.proofs.EndLemmas.{moved_few}
 use Rattle.afr_live.specs.Ends.{works_ended}
 use Rattle.afr_live.proofs.shared.count.Goals as goal
 

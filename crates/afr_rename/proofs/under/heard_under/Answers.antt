@@ -3,7 +3,8 @@ use Rattle.afr_rule.specs.declared.candidate.Candidate.{Candidate}
 use Rattle.afr_walk.specs.Choosing.{RuleAnswers}
 use Rattle.afr_entry.specs.declared.stage.Found.{Found}
 use Rattle.afr_rename.specs.Under.{choices_under}
-use Rattle.afr_rename.proofs.HeardLemmas.{found_asks, found_offers, found_same, found_told, name_read}
+use Rattle.afr_rename.proofs.HeardLemmas.{found_asks, found_offers, found_same, found_told}
+use Rattle.afr_entry.proofs.HeardLemmas.{name_read}
 use Rattle.afr_rename.proofs.under.heard_under.Goals as goal
 
 pub returns-in-Unread-clause-picked : goal.returns-in-Unread-clause-picked

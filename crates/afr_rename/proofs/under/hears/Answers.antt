@@ -1,5 +1,5 @@
 use Rattle.std.proofs.Common.{◌∙◌}
-use Rattle.afr_rename.proofs.HeardLemmas.{fed_is}
+use Rattle.afr_entry.proofs.HeardLemmas.{fed_is}
 use Rattle.afr_rename.proofs.under.hears.Goals as goal
 
 pub returns-clause-value : goal.returns-clause-value

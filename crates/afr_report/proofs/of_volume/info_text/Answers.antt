@@ -2,8 +2,8 @@ use Rattle.std.proofs.Common.{◌++◌, ◌∙◌, ℕ, List, ap, refl, subst, s
 use Rattle.afr_plan.specs.declared.plan.Plan.{Plan}
 use Rattle.afr_model.specs.Report.{started_bricks}
 use Rattle.afr_model.specs.ReportHealers.{info_of}
-use Rattle.afr_info.specs.Rising.{IsRising}
-use Rattle.afr_info.proofs.RisingLemmas.{rising_started}
+use Rattle.afr_base.specs.Rising.{IsRising}
+use Rattle.afr_model.proofs.StartedLemmas.{rising_started}
 use Rattle.afr_info.proofs.VolumeLemmas.{handed_out}
 use Rattle.afr_report.proofs.of_volume.info_text.Goals as goal
 

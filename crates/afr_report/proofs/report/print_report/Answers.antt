@@ -1,5 +1,5 @@
 use Rattle.std.proofs.Common.{reverse}
-use Rattle.afr_info.proofs.RisingLemmas.{rising_started}
+use Rattle.afr_model.proofs.StartedLemmas.{rising_started}
 use Rattle.afr_report.proofs.report.print_report.Goals as goal
 
 pub print_info-requires-clause-rising : goal.print_info-requires-clause-rising

@@ -1,7 +1,7 @@
 -- Each clause is a lemma.
 use Rattle.afr_servers.proofs.NeedsLemmas.{answers_read, needs_met}
 use Rattle.afr_servers.proofs.NextLemmas.{asked_served, event_served, first_served, met_served, new_served, written_served}
-use Rattle.afr_servers.proofs.RisingLemmas.{started_known}
+use Rattle.afr_servers.proofs.AllStarted.{started_known}
 use Rattle.afr_servers.proofs.laws.servers_follow_their_log.Goals as goal
 
 pub returns-clause-new : goal.returns-clause-new

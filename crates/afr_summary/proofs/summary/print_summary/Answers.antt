@@ -1,7 +1,7 @@
 use Rattle.std.proofs.Common.{List, [], ℕ, reverse, subst, sym, ap, ◌∙◌, ◌++◌}
 use Rattle.std.specs.Prelude.{codes}
-use Rattle.afr_info.specs.Rising.{IsRising}
-use Rattle.afr_info.proofs.RisingLemmas.{rising_started}
+use Rattle.afr_base.specs.Rising.{IsRising}
+use Rattle.afr_model.proofs.StartedLemmas.{rising_started}
 use Rattle.afr_summary.specs.Summary.{count_line}
 use Rattle.afr_summary.proofs.SummaryLemmas.{parts}
 use Rattle.afr_summary.proofs.summary.print_summary.Goals as goal

@@ -1,14 +1,8 @@
-use Rattle.std.proofs.Common.{arith}
-use Rattle.afr_base.specs.Bricks.{member}
-use Rattle.afr_walk.specs.Choosing.{copy_in}
-use Rattle.afr_walk.proofs.ChoosingLemmas.{all_gathered, gathered, longer}
+use Rattle.afr_choice.specs.Verdict.{is_good}
+use Rattle.afr_walk.proofs.ChoosingLemmas.{flags_of}
 use Rattle.afr_walk.proofs.choosing.candidates.Goals as goal
 
-pub loop-x-preserved : goal.loop-x-preserved
-loop-x-preserved c = (
-  gathered (copy_in c.args.looked.now) (member c.good-sources.result) c.loop-x.x c.has.result c.loop-x.copies _ c.copy_in.result (omega arith) c.loop-x.invariant.0 c.has.ensures c.copy_in.ensures c.push_if.ensures,
-  longer c.has.result c.loop-x.copies _ c.copy_in.result c.loop-x.x c.loop-x.invariant.1 c.push_if.ensures,
-)
-
 pub returns : goal.returns
-returns c = all_gathered c.args.shape.now c.args.looked.now c.args.kind c.good-sources.result c.loop-x.copies c.loop-x.x (omega arith) c.good-sources.ensures c.loop-x.invariant.0
+returns c =
+    c.of.ensures (is_good c.args.shape.now c.args.looked.now c.args.kind)
+    (flags_of c.args.shape.now c.args.looked.now c.args.kind c.good-sources.result _ _ _ _ _ c.good-sources.ensures c.has.ensures c.has-2.ensures c.has-3.ensures c.has-4.ensures c.has-5.ensures)

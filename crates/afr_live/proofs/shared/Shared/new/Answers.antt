@@ -1,5 +1,4 @@
 -- Before the first line nobody was told anything.
-use Rattle.std.proofs.Common.{sym, ◌∙◌}
 use Rattle.afr_live.proofs.NotedLemmas.{none_eager, none_noted}
 use Rattle.afr_live.proofs.shared.Shared.new.Goals as goal
 

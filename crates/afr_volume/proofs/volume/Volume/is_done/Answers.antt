@@ -6,14 +6,14 @@ use Rattle.afr_volume.proofs.volume.Volume.is_done.Goals as goal
 
 pub returns-then-actor : goal.returns-then-actor
 returns-then-actor c =
-    let client : c.args.a.0 ≤ 16 = grind (arith, nat_tests, c.if-a-gt16.false) in
+    let client : c.args.a.0 ≤ 16 = grind (arith, nat_tests, c.if-a-gt-MOST_CLIENTS.false) in
     rw (← c.self.view_is)
     (done_if_killed c.self.inside.plan c.args.a.0 (reverse c.self.inside.log.items) c.self.inside.servers c.self.inside.actors.items c.self.inside.made c.self.invariant.kept client (rw (← c.self.view_is) at c.requires.actor) c.index-actor.result.now
     (found_at _ _ _ (client_there c.self.inside.plan c.args.a.0 c.self.inside.actors.items c.self.invariant.kept.runnable c.self.invariant.kept.same client (rw (← c.self.view_is) at c.requires.actor)) c.index-actor.ensures) c.if-actor.true)
 
 pub returns-else-actor : goal.returns-else-actor
 returns-else-actor c =
-    let client : c.args.a.0 ≤ 16 = grind (arith, nat_tests, c.if-a-gt16.false) in
+    let client : c.args.a.0 ≤ 16 = grind (arith, nat_tests, c.if-a-gt-MOST_CLIENTS.false) in
     rw (← c.self.view_is)
     (done_by_count c.self.inside.plan c.args.a.0 (reverse c.self.inside.log.items) c.self.inside.servers c.self.inside.actors.items c.self.inside.made c.self.invariant.kept client (rw (← c.self.view_is) at c.requires.actor) c.index-actor.result.now
     (found_at _ _ _ (client_there c.self.inside.plan c.args.a.0 c.self.inside.actors.items c.self.invariant.kept.runnable c.self.invariant.kept.same client (rw (← c.self.view_is) at c.requires.actor)) c.index-actor.ensures) c.if-actor.false

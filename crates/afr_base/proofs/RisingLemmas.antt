@@ -1,32 +1,16 @@
--- Sets of bricks are in rising order, so two with the same bricks are one: the started servers are the started bricks of the log.
-use Rattle.std.proofs.Common.{◌≡◌, ℕ, suc, ◌≤◌, ◌<◌, ◌==◌, ◌||◌, ◌&&◌, nat_lt, Bool, true, false, List, [], ◌∷◌, filter, length, refl, sym, ◌∙◌, arith, ap, if◌then◌else◌, ◌⊎◌, inl, inr, subst}
+-- Sets of bricks are in rising order, so two with the same bricks are one.
+use Rattle.std.proofs.Common.{◌≡◌, ℕ, suc, ◌≤◌, ◌<◌, ◌==◌, ◌||◌, ◌&&◌, nat_lt, Bool, true, false, List, [], ◌∷◌, filter, refl, sym, ◌∙◌, arith, ap, if◌then◌else◌, ◌⊎◌, inl, inr, subst}
 use Rattle.std.proofs.lemmas.Bool.{eqb-true}
 use Rattle.std.proofs.lemmas.Bool.Decides.{nat_tests}
-use Rattle.std.proofs.lemmas.Option.{slice_get_past}
-use Rattle.afr_base.specs.Bricks.{IsWithin, added, all_five, below, from_table, member, removed}
-use Rattle.afr_lines.specs.declared.line.Event.{Event}
-use Rattle.afr_lines.specs.declared.line.Event.TheVariants as event
-use Rattle.afr_lines.specs.declared.line.Line.{Line}
-use Rattle.afr_lines.specs.declared.line.Line.TheVariants as line_of
-use Rattle.afr_model.specs.Report.{started_after, started_by, started_bricks}
-use Rattle.afr_plan.specs.declared.plan.Plan.{Plan}
-use Rattle.afr_server.specs.Serving.{Serving}
-use Rattle.afr_servers.proofs.PlaceLemmas.{stands}
-use Rattle.afr_servers.specs.Log.{AreServed}
-use Rattle.afr_servers.specs.Needs.{StartedAreKnown}
-use Rattle.afr_servers.specs.Started.{is_started, is_up, started_in}
+use Rattle.afr_base.specs.Bricks.{added, all_five, below, from_table, is_nothing, lowest, member, removed}
+use Rattle.afr_base.specs.Rising.{IsRising}
 
--- the numbers rise, and none is below k
-abbrev IsRising : ℕ → List ℕ → Type 0
-IsRising k [] = Unit {0}
-IsRising k (x ∷ xs) = (k ≤ x) × IsRising (suc x) xs
-
-rising_from_lower : (j k : ℕ) (s : List ℕ) → k ≤ j → IsRising j s → IsRising k s
+pub rising_from_lower : (j k : ℕ) (s : List ℕ) → k ≤ j → IsRising j s → IsRising k s
 rising_from_lower j k [] l h = tt
 rising_from_lower j k (x ∷ xs) l h = (omega (arith, h.0), h.1)
 
 -- what passes of a rising list rises
-rising_filter : (p : ℕ → Bool) (k : ℕ) (s : List ℕ) → IsRising k s → IsRising k (filter p s)
+pub rising_filter : (p : ℕ → Bool) (k : ℕ) (s : List ℕ) → IsRising k s → IsRising k (filter p s)
 rising_filter p k [] h = tt
 rising_filter p k (x ∷ xs) h = pick (p x) (rising_filter p (suc x) xs h.1)
   where
@@ -34,14 +18,16 @@ rising_filter p k (x ∷ xs) h = pick (p x) (rising_filter p (suc x) xs h.1)
     pick true ih = (h.0, ih)
     pick false ih = rising_from_lower (suc x) k (filter p xs) (omega (arith, h.0)) ih
 
-rising_five : (p : ℕ → Bool) → IsRising 0 (filter p all_five)
+-- so do the bricks of the five that pass
+pub rising_five : (p : ℕ → Bool) → IsRising 0 (filter p all_five)
 rising_five p = rising_filter p 0 all_five (omega arith, (omega arith, (omega arith, (omega arith, (omega arith, tt)))))
 
-rising_below : (n : ℕ) → IsRising 0 (below n)
+-- and all bricks below a number
+pub rising_below : (n : ℕ) → IsRising 0 (below n)
 unfolding below
 rising_below n = rising_five (λ b. nat_lt b n)
 
-rising_added : (b k : ℕ) (s : List ℕ) → k ≤ b → IsRising k s → IsRising k (added b s)
+pub rising_added : (b k : ℕ) (s : List ℕ) → k ≤ b → IsRising k s → IsRising k (added b s)
 rising_added b k [] l h = (l, tt)
 rising_added b k (x ∷ xs) l h = lower (nat_lt b x) refl (λ m. rising_added b (suc x) xs m h.1)
   where
@@ -54,7 +40,7 @@ rising_added b k (x ∷ xs) l h = lower (nat_lt b x) refl (λ m. rising_added b 
     lower true e ih = (l, (grind (arith, nat_tests, e), h.1))
     lower false e ih = same (b == x) refl e ih
 
-rising_removed : (b k : ℕ) (s : List ℕ) → IsRising k s → IsRising k (removed b s)
+pub rising_removed : (b k : ℕ) (s : List ℕ) → IsRising k s → IsRising k (removed b s)
 rising_removed b k [] h = tt
 rising_removed b k (x ∷ xs) h = pick (b == x) (rising_removed b (suc x) xs h.1)
   where
@@ -62,22 +48,29 @@ rising_removed b k (x ∷ xs) h = pick (b == x) (rising_removed b (suc x) xs h.1
     pick true ih = rising_from_lower (suc x) k (removed b xs) (omega (arith, h.0)) ih
     pick false ih = (h.0, ih)
 
-rising_after : (e : Event) (s : List ℕ) → IsRising 0 s → IsRising 0 (started_after e s)
-rising_after (event.Stop b) s h = rising_removed b.0 0 s h
-rising_after (event.Start b) s h = rising_added b.0 0 s (omega arith) h
-rising_after other s h = h
+-- ---- the lowest brick, and the rest
+-- what is below every brick of a set isn't in it
+removed_lower : (b j : ℕ) (s : List ℕ) → b < j → IsRising j s → removed b s ≡ s
+removed_lower b j [] l h = refl
+removed_lower b j (x ∷ xs) l h = pick (b == x) refl (removed_lower b (suc x) xs (omega (arith, h.0)) h.1)
+  where
+    pick : (e : Bool) → (b == x) ≡ e → removed b xs ≡ xs → (if e then removed b xs else x ∷ removed b xs) ≡ x ∷ xs
+    pick true e ih = absurd (omega (arith, eqb-true b x e, h.0))
+    pick false e ih = ap (λ (t : List ℕ). x ∷ t) ih
 
-rising_by : (line : Line) (s : List ℕ) → IsRising 0 s → IsRising 0 (started_by line s)
-rising_by (line_of.Event e) s h = rising_after e s h
-rising_by other s h = h
+-- without its lowest brick, a set is what stands behind it
+removed_lowest : (k x : ℕ) (xs : List ℕ) → IsRising k (x ∷ xs) → removed x (x ∷ xs) ≡ xs
+removed_lowest k x xs h = grind (arith, nat_tests, removed_lower x (suc x) xs (omega arith) h.1)
 
--- the started bricks rise
-rising_started : (n : ℕ) (log : List Line) → IsRising 0 (started_bricks n log)
-rising_started n [] = rising_below n
-rising_started n (line ∷ older) = rising_by line (started_bricks n older) (rising_started n older)
+-- a set is its lowest brick, and then what is left without it
+pub lowest_first : (s left : List ℕ) (b : ℕ) → is_nothing s ≡ false → IsRising 0 s → b ≡ lowest s → left ≡ removed b s → (s ≡ b ∷ left) × IsRising 0 left
+lowest_first [] left b h r e m = absurd (cc h)
+lowest_first (x ∷ xs) left b h r e m =
+    let rest : left ≡ xs = m ∙ ap (λ (y : ℕ). removed y (x ∷ xs)) e ∙ removed_lowest 0 x xs r in
+    (rw (e, rest) refl, rw rest (rising_from_lower (suc x) 0 xs (omega arith) r.1))
 
 -- ---- two rising lists with the same numbers are the same
-not_lower : (k : ℕ) (s : List ℕ) (b : ℕ) → IsRising k s → b < k → member s b ≡ false
+pub not_lower : (k : ℕ) (s : List ℕ) (b : ℕ) → IsRising k s → b < k → member s b ≡ false
 not_lower k [] b h l = refl
 not_lower k (x ∷ xs) b h l = rest (x == b) refl (not_lower (suc x) xs b h.1 (omega (arith, h.0, l)))
   where
@@ -94,7 +87,7 @@ has_first x xs = rw (yes x) refl
 sides : (x y : ℕ) → (x < y) ⊎ ((y < x) ⊎ (x ≡ y))
 sides x y = grind arith
 
-rising_same : (k : ℕ) (s t : List ℕ) → IsRising k s → IsRising k t → ((b : ℕ) → member s b ≡ member t b) → s ≡ t
+pub rising_same : (k : ℕ) (s t : List ℕ) → IsRising k s → IsRising k t → ((b : ℕ) → member s b ≡ member t b) → s ≡ t
 rising_same k [] [] hs ht e = refl
 rising_same k [] (y ∷ ys) hs ht e = let h = e y in let f = has_first y ys in absurd (cc)
 rising_same k (x ∷ xs) [] hs ht e = let h = e x in let f = has_first x xs in absurd (cc)
@@ -144,7 +137,7 @@ has_passing p (x ∷ xs) b = go (p x) refl (x == b) refl (has_passing p xs b)
     go false e false f ih = ih
 
 -- a set that has just the bricks that pass, all below five
-five_is : (p : ℕ → Bool) (s : List ℕ) → IsRising 0 s → ((b : ℕ) → member s b ≡ p b) → ((b : ℕ) → p b ≡ true → b < 5) → filter p all_five ≡ s
+pub five_is : (p : ℕ → Bool) (s : List ℕ) → IsRising 0 s → ((b : ℕ) → member s b ≡ p b) → ((b : ℕ) → p b ≡ true → b < 5) → filter p all_five ≡ s
 five_is p s rising has small = rising_same 0 (filter p all_five) s (rising_five p) rising each
   where
     each : (b : ℕ) → member (filter p all_five) b ≡ member s b
@@ -153,28 +146,3 @@ five_is p s rising has small = rising_same 0 (filter p all_five) s (rising_five 
         by : (u : Bool) → p b ≡ u → (u && member all_five b) ≡ u
         by true e = from_table 5 (λ x. member all_five x) refl b (small b e)
         by false e = refl
-
--- ---- the started servers
-started_there : (p : Plan) (log : List Line) (servers : List Serving) → AreServed p log servers → IsWithin p.shape.n (started_bricks p.shape.n log) → (b : ℕ) → member (started_bricks p.shape.n log) b ≡ is_started b servers
-started_there p log servers v within b = elim (around b (length servers)) [ inl less ↦ inside less | inr more ↦ outside more ]
-  where
-    around : (x y : ℕ) → (x < y) ⊎ (y ≤ x)
-    around x y = grind arith
-
-    inside : b < length servers → member (started_bricks p.shape.n log) b ≡ is_started b servers
-    inside less = let s = stands servers b less in sym (v.each b s.0 s.1).started ∙ ap is_up (sym s.1)
-
-    outside : length servers ≤ b → member (started_bricks p.shape.n log) b ≡ is_started b servers
-    outside more = by (member (started_bricks p.shape.n log) b) refl ∙ ap is_up (sym (slice_get_past servers b more))
-      where
-        by : (u : Bool) → member (started_bricks p.shape.n log) b ≡ u → u ≡ false
-        by true e = absurd (omega (arith, within b e, more, v.few))
-        by false e = refl
-
-all_started : (p : Plan) (log : List Line) (servers : List Serving) → p.shape.n ≤ 5 → AreServed p log servers → IsWithin p.shape.n (started_bricks p.shape.n log) → started_in servers ≡ started_bricks p.shape.n log
-unfolding started_in
-all_started p log servers few v within =
-    five_is (λ b. is_started b servers) (started_bricks p.shape.n log) (rising_started p.shape.n log) (started_there p log servers v within) (λ b up. omega (arith, few, within b (started_there p log servers v within b ∙ up)))
-
-pub started_known : StartedAreKnown
-started_known = record { each = λ p log b servers v s h. (v.each b s h).started; all = all_started }

@@ -1,7 +1,0 @@
-use Rattle.std.proofs.Common.{◌≡◌, ◌≤◌, filter, length, map, take}
-use Rattle.afr_base.specs.Bricks.{all_five, member}
-use Rattle.afr_walk.specs.Choosing.{copy_in}
-use Rattle.afr_walk.proofs.choosing.candidates.Given as goal
-
-abbrev pub invariant-loop-x : goal.invariant-loop-x
-invariant-loop-x l = (l.copies ≡ map (copy_in l.looked) (filter (member l.sources) (take l.x all_five))) × (length l.copies ≤ l.x)
