@@ -1,5 +1,5 @@
 -- The log as contracts see it, and what is asked of its lines.
-use Rattle.std.specs.Prelude.{◌≡◌, Bool, List, [], ◌∷◌, ◌++◌, Option, Some, None}
+use Rattle.std.specs.Prelude.{Bool, List, Option, Some, None}
 use Rattle.afr_base.specs.declared.ids.ActorId.{ActorId}
 use Rattle.afr_lines.specs.declared.answer.Told.{Told}
 use Rattle.afr_lines.specs.declared.answer.Told.TheVariants.{Held}
@@ -19,12 +19,6 @@ use Rattle.afr_log.specs.declared.shown.Shown.TheVariants.{Made, Kept}
 pub record Logged : Type 0 where
   pub items : List Line
   pub room : Bool
-
--- the lines, the oldest first, are one more, of which a fact holds
-pub record Adds (IsSo : Line → Type 0) (old new : List Line) : Type 0 where
-  pub line : Line
-  pub added : new ≡ old ++ line ∷ []
-  pub is_so : IsSo line
 
 -- the line that is shown
 abbrev pub shown_line : Shown → Line

@@ -8,9 +8,8 @@ use Rattle.afr_healer.specs.declared.stage.RoundStage.TheVariants.{Asking, Heali
 use Rattle.afr_lines.specs.declared.line.Line.{Line}
 use Rattle.afr_lines.specs.declared.line.Next.{Next}
 use Rattle.afr_lines.specs.declared.line.Next.TheVariants as next
-use Rattle.afr_log.specs.Log.{Adds}
 use Rattle.afr_object.specs.declared.change.Change.{Change}
-use Rattle.afr_rounds.specs.Acting.{Hearing, Stepped, SteppedBy, WrittenBy}
+use Rattle.afr_rounds.specs.Acting.{Adds, Hearing, Stepped, SteppedBy, WrittenBy}
 use Rattle.afr_rounds.specs.declared.healer.Healer.{Healer}
 use Rattle.afr_self_heal.specs.Healing.{Healing as Heal, coming, line_of}
 use Rattle.afr_server.specs.Serving.{Serving}

@@ -1,5 +1,5 @@
 -- One line of a healer: what its round would write next, what the bricks make of it, and what it makes of the answer.
-use Rattle.std.specs.Prelude.{◌≡◌, ℕ, ◌+◌, ◌<◌, Bool, true, false, List, Option, None, Some}
+use Rattle.std.specs.Prelude.{◌≡◌, ℕ, ◌+◌, ◌<◌, Bool, true, false, List, [], ◌∷◌, ◌++◌, Option, None, Some}
 use Rattle.afr_base.specs.declared.ids.ActorId.{ActorId}
 use Rattle.afr_base.specs.declared.ids.BrickId.{BrickId}
 use Rattle.afr_base.specs.declared.ids.Gfid.{Gfid}
@@ -33,6 +33,12 @@ pub record IsNewHealer (x : Healer) : Type 0 where
   pub killed : x.killed ≡ false
   pub met : x.visit.met ≡ false
   pub idle : x.round ≡ None
+
+-- a log, its oldest line first, has one line more, of which a fact holds
+pub record Adds (IsSo : Line → Type 0) (old new : List Line) : Type 0 where
+  pub line : Line
+  pub added : new ≡ old ++ line ∷ []
+  pub is_so : IsSo line
 
 -- ---- a round begins
 -- the present round, or one that begins

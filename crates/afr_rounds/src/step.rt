@@ -1,8 +1,7 @@
 //! One line of a healer.
 ghost use Rattle.std.specs.Prelude.{◌≡◌, ◌<◌, ◌≤◌, ◌^◌, ◌+◌, ◌-◌, ◌++◌, ◌∷◌, [], List, IfOk, None, OnOk, OnErr, Some, is_some, true};
 ghost use Rattle.afr_healer.specs.Rounding.{CanHear, IsFed, next_of};
-ghost use Rattle.afr_log.specs.Log.{Adds};
-ghost use Rattle.afr_rounds.specs.Acting.{CanStep, CanStepWith, IsAsked, IsBegun, IsEnded, IsHealed, Readies, Stepped, WrittenBy, met_after, written_on};
+ghost use Rattle.afr_rounds.specs.Acting.{Adds, CanStep, CanStepWith, IsAsked, IsBegun, IsEnded, IsHealed, Readies, Stepped, WrittenBy, met_after, written_on};
 ghost use Rattle.afr_rounds.specs.declared.healer.Healer.{Healer};
 ghost use Rattle.afr_rule.specs.Choosing.{IsRule};
 ghost use Rattle.afr_server.specs.NextLine.{told_line};

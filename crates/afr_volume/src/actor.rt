@@ -1,6 +1,6 @@
 //! An actor: the machine of its present command, the sessions that it works over, and how many commands it has ended.
 ghost use Rattle.std.specs.Prelude.{true, false, ◌≡◌, ◌<◌, ◌-◌, ◌^◌, ◌++◌, ◌∷◌, [], ℕ, OnOk, OnErr};
-ghost use Rattle.afr_log.specs.Log.{Adds};
+ghost use Rattle.afr_rounds.specs.Acting.{Adds};
 ghost use Rattle.afr_rule.specs.Choosing.{IsRule};
 ghost use Rattle.afr_server.specs.NextLine.{told_line};
 ghost use Rattle.afr_server.specs.Serving.{HasEpoch};

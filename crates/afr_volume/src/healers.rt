@@ -2,9 +2,8 @@
 ghost use Rattle.std.specs.Prelude.{◌≡◌, ◌-◌, ◌<◌, ◌≤◌, ◌^◌, ℕ, OnOk, OnErr, IfOk, Some, true, is_some, length, slice_get};
 ghost use Rattle.afr_base.specs.declared.ids.BrickId.{BrickId};
 ghost use Rattle.afr_healer.specs.Rounding.{IsFed};
-ghost use Rattle.afr_log.specs.Log.{Adds};
 ghost use Rattle.afr_model.specs.Actors.{rounds_of};
-ghost use Rattle.afr_rounds.specs.Acting.{CanStep};
+ghost use Rattle.afr_rounds.specs.Acting.{Adds, CanStep};
 ghost use Rattle.afr_rounds.specs.declared.healer.Healer.{Healer};
 ghost use Rattle.afr_rule.specs.Choosing.{IsRule};
 ghost use Rattle.afr_volume.specs.Starting.{AreNewHealers};

@@ -1,9 +1,9 @@
 //! One actor among all takes a turn.
 ghost use Rattle.std.specs.Prelude.{◌≡◌, ◌-◌, ◌<◌, ◌≤◌, ◌+◌, ◌^◌, ℕ, true, false, IfOk, OnOk, OnErr, Option, Some, None, slice_get, length};
-ghost use Rattle.afr_log.specs.Log.{Adds};
 ghost use Rattle.afr_plan.specs.declared.command.Command.{Command};
 ghost use Rattle.afr_model.specs.Actors.{script_of};
 ghost use Rattle.afr_volume.specs.declared.actor.Actor.{Actor};
+ghost use Rattle.afr_rounds.specs.Acting.{Adds};
 ghost use Rattle.afr_rule.specs.Choosing.{IsRule};
 ghost use Rattle.afr_volume.specs.Acting.{CanStep, HearsBy};
 ghost use Rattle.afr_volume.specs.Turning.{HasVictim, KillsIn, ReadiedAt, StepsAt};
