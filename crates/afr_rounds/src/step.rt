@@ -62,7 +62,9 @@ pub fn step_round<F: Fn(&[Candidate]) -> usize>(
         Some(round) => match round.asks(&mut request) {
             Some(brick) => {
                 let visit = &mut healer.visit;
-                asks(round, visit, a, brick, &request, servers, position, log, rule)
+                asks(
+                    round, visit, a, brick, &request, servers, position, log, rule,
+                )
             }
             None => {
                 if writes(round, &mut healer.visit, a, position, log)? {

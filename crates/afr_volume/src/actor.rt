@@ -139,7 +139,15 @@ fn tells<G: Fn(&[Candidate]) -> usize>(
     ensures heard { HasHeard (HearsBy G.Fn rule.now) given.old.answer position met request.now actor.old actor.new }
 {
     log.add_ask(a, brick, request, &given.answer, given.took);
-    hear(actor, met, brick, request, &mut given.answer, position, rule);
+    hear(
+        actor,
+        met,
+        brick,
+        request,
+        &mut given.answer,
+        position,
+        rule,
+    );
 }
 
 /// The request of a line, and what the work makes of the answer. The first line of a work meets every brick.

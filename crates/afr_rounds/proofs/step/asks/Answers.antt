@@ -1,5 +1,4 @@
 use Rattle.std.proofs.Common.{Bool, Some, refl, ap}
-use Rattle.afr_rounds.specs.declared.healer.Healer.{Healer}
 use Rattle.afr_servers.specs.Visiting.{IsServed}
 use Rattle.afr_rounds.proofs.step.asks.Goals as goal
 
