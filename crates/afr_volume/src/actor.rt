@@ -171,9 +171,10 @@ fn asks<G: Fn(&[Candidate]) -> usize>(
     request_fits_its_types(request);
     a_work_stays_sound();
     let met = actor.visit.met;
-    let load = actor.work.load();
+    let visit = &mut actor.visit;
+    let work = &actor.work;
     // The answer is told and heard where it lies: it is large, and neither `?` nor a branch is to move it.
-    let mut asked = actor.visit.ask(a, brick, request, load, servers);
+    let mut asked = visit.ask(a, brick, request, work.load(), servers);
     match &mut asked {
         Ok(given) => {
             tells(actor, met, a, brick, request, given, position, log, rule);
