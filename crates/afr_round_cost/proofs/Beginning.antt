@@ -33,7 +33,7 @@ ready_rooted (Over refused) k = tt
 pub paced_ready : RoundCosts → RoundPacedReady
 paced_ready costs p a log servers b x z healer acting is k = subst (IsPacedRound p a log) (sym (ap (λ (z : Healer). z.round) is)) (by x.round acting.carries k)
   where
-    by : (round : Option Rounding) → CarriesIts p a log x.met x.epochs servers round → IsPacedRound p a log round → IsPacedRound p a log (Some (made_ready (round_or p.shape b round)))
+    by : (round : Option Rounding) → CarriesIts p a log x.visit.met x.visit.epochs servers round → IsPacedRound p a log round → IsPacedRound p a log (Some (made_ready (round_or p.shape b round)))
     by None between k = record {
       within = λ cost e. (
           let most = costs (objects_of p) p.shape b in

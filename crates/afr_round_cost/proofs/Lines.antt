@@ -82,7 +82,7 @@ module _ (nearer : RoundAsksNearer) (objects : ℕ) (m after : Rounding) (answer
       by (Over refused) is e fed_at = absurd (cc e)
 
 -- ---- the lines
-module _ (laws : LineLaws) (p : Plan) (a : ActorId) (log : List Line) (servers new : List Serving) (x y : Healer) (line : Line) (m : Rounding) (can : CanStepWith a x m servers) (present : x.round ≡ Some m) (sound : IsRounding m)
+module _ (laws : LineLaws) (p : Plan) (a : ActorId) (log : List Line) (servers new : List Serving) (x y : Healer) (line : Line) (m : Rounding) (can : CanStepWith a x.visit m servers) (present : x.round ≡ Some m) (sound : IsRounding m)
     (lists : ListsAtMost (objects_of p) a (length log) x y servers new line) (k : IsPacedRound p a.0 log (Some m)) where
   to_line : (written : Line) (round : Option Rounding) → line ≡ written → y.round ≡ round → IsKept p a log round written → IsKept p a log y.round line
   to_line written round e f kept = rw (e, f) kept
@@ -98,7 +98,7 @@ module _ (laws : LineLaws) (p : Plan) (a : ActorId) (log : List Line) (servers n
 
       near : (round_left (objects_of p) q.after + taken_by (next_of m) q.given.answer ≤ round_left (objects_of p) m) × AreRooted q.after.stage
       near =
-          heard laws.asked (objects_of p) m q.after q.given.answer (length log) sound k.rooted (can.hears b request new q.epochs q.given e q.fits q.served) q.fed b request e
+          heard laws.asked (objects_of p) m q.after q.given.answer (length log) sound k.rooted (can.hears b request q.load new q.epochs q.given e q.fits q.carries q.served) q.fed b request e
           (λ is. lists_index b request is q)
 
       spends : round_left (objects_of p) q.after + counted (told_line a b request q.given) ≤ round_left (objects_of p) m
@@ -131,5 +131,5 @@ pub paced_line : LineLaws → RoundPacedLine
 paced_line laws p a log servers new x y line before acting ready s lists k =
     steps laws p a log servers new x y line s.round (laws.can p a log servers x before acting ready s.round s.present) s.present carries.sound lists (subst (IsPacedRound p a.0 log) s.present k) (next_of s.round) refl s.steps
   where
-    carries : CarriesRound p a.0 log x.met x.epochs servers s.round
-    carries = subst (CarriesIts p a.0 log x.met x.epochs servers) s.present acting.carries
+    carries : CarriesRound p a.0 log x.visit.met x.visit.epochs servers s.round
+    carries = subst (CarriesIts p a.0 log x.visit.met x.visit.epochs servers) s.present acting.carries

@@ -3,7 +3,6 @@ use Rattle.std.proofs.Common.{◌≡◌, ◌∙◌, Bool, true, false, List, ◌
 use Rattle.afr_base.specs.declared.ids.ActorId.{ActorId}
 use Rattle.afr_base.specs.declared.ids.BrickId.{BrickId}
 use Rattle.afr_base.specs.declared.ids.Shape.{Shape}
-use Rattle.afr_discipline.specs.Notes.{noted_ask}
 use Rattle.afr_discipline.specs.Stands.{seen_as}
 use Rattle.afr_discipline.specs.declared.register.Register.{Register}
 use Rattle.afr_heal.specs.Engine.{Ask as Asks, Next as HealNext}
@@ -12,7 +11,6 @@ use Rattle.afr_heal_telling.specs.HealLaws.{IsWholeTold, SettlesSeen}
 use Rattle.afr_healer.specs.Rounding.{CarriesAt, IsAnswered, IsAnsweredAt, Rounding, made_ready, next_at, next_of}
 use Rattle.afr_healer.specs.declared.stage.RoundStage.{RoundStage}
 use Rattle.afr_healer.specs.declared.stage.RoundStage.TheVariants.{Healing}
-use Rattle.afr_law.specs.Exactly.{IsLawfulExactly}
 use Rattle.afr_lines.specs.Places.{Fresh, Place, Within, next_place, place_of}
 use Rattle.afr_lines.specs.Places as places
 use Rattle.afr_lines.specs.Told.{told_by}
@@ -29,7 +27,6 @@ use Rattle.afr_model.specs.Rounds.{IsOfHeal, heal_due, healed, listed_by}
 use Rattle.afr_model.specs.Showing.{has}
 use Rattle.afr_plan.specs.declared.plan.Plan.{Plan}
 use Rattle.afr_moves.specs.Keeps.{keeps_in}
-use Rattle.afr_next.specs.Standing.{AllStand}
 use Rattle.afr_rounds.specs.Acting.{IsAsked, met_after}
 use Rattle.afr_rounds.specs.Keeping.{CarriesIts, CarriesRound, IsBetweenHeals, IsHealer, IsNotedHeal, RunsHeal, StageStands}
 use Rattle.afr_rounds.specs.Laws.{Asks as AskLine, IsBeforeRound, RoundKeeps}
@@ -39,14 +36,12 @@ use Rattle.afr_self_heal.specs.Healing as heal
 use Rattle.afr_self_heal.specs.Source.{IsCandidate, is_found}
 use Rattle.afr_server.specs.NextLine.{told_line}
 use Rattle.afr_server.specs.Serving.{Serving}
-use Rattle.afr_servers.specs.NextLine.{GoOnHonestly}
 use Rattle.afr_transaction.specs.Turn.{Stood}
 use Rattle.afr_rounds.proofs.AsksAbout.{AsksAbout, IsPlain, next_about, noted_on, plain}
 use Rattle.afr_rounds.proofs.AsksLine.{listed_on, of_healer, self}
 use Rattle.afr_rounds.proofs.AsksSource.{tells_more}
-use Rattle.afr_rounds.proofs.BeforeAsks.{AsksNext}
-use Rattle.afr_rounds.proofs.BeforeAsks as known
-use Rattle.afr_rounds.proofs.BeforeNext.{asks_of, heal_next, ready_contents}
+use Rattle.afr_rounds.proofs.BeforeAsks.{AsksNext, IsAskedSo, asked_so}
+use Rattle.afr_rounds.proofs.BeforeNext.{ask_laws, asks_of, before_ask, heal_next, is_told, ready_contents}
 use Rattle.afr_rounds.proofs.Gathered.{RoundLaws}
 
 -- ---- a place within the heal
@@ -60,7 +55,7 @@ within : (met : Bool) (p : Plan) (a : ActorId) (b : BrickId) (asked : Request) (
 within true p a b asked told took log r k = rw k.0 refl
 within false p a b asked told took log r k = within_heals (place_of a.0 log) a b asked told took k.0
 
-module _ (laws : RoundLaws) (p : Plan) (a : ActorId) (log : List Line) (servers : List Serving) (before : IsBeforeRound p a log servers) (x y : Healer) (new : List Serving) (written : Line) (m : Rounding) (c : CarriesRound p a.0 log x.met x.epochs servers m)
+module _ (laws : RoundLaws) (p : Plan) (a : ActorId) (log : List Line) (servers : List Serving) (before : IsBeforeRound p a log servers) (x y : Healer) (new : List Serving) (written : Line) (m : Rounding) (c : CarriesRound p a.0 log x.visit.met x.visit.epochs servers m)
     (ready : m ≡ made_ready m) where
   module _ (h : Heal) (stage_is : m.stage ≡ Healing h) (b : BrickId) (asked : Request) (e : next_of m ≡ next.Ask b asked) (s : IsAsked IsAnswered a (length log) b asked x y m servers new written) where
     abbrev line : Line
@@ -70,32 +65,26 @@ module _ (laws : RoundLaws) (p : Plan) (a : ActorId) (log : List Line) (servers 
     told = told_by s.given.answer
 
     -- ---- the heal before the line
-    stands : StageStands p a.0 log x.met x.epochs servers m.round (Healing h)
-    stands = subst (StageStands p a.0 log x.met x.epochs servers m.round) stage_is c.stage
+    stands : StageStands p a.0 log x.visit.met x.visit.epochs servers m.round (Healing h)
+    stands = subst (StageStands p a.0 log x.visit.met x.visit.epochs servers m.round) stage_is c.stage
 
-    k : RunsHeal p a.0 log x.met x.epochs servers h
+    k : RunsHeal p a.0 log x.visit.met x.visit.epochs servers h
     k = stands.0
 
     asks : coming h ≡ Asks b.0 asked
     asks = asks_of h (coming h) b asked (subst (λ (stage : RoundStage). next_at m.round.brick stage ≡ next.Ask b asked) stage_is e)
 
-    carries : CarriesAt (Healing h) s.served.load
-    carries = subst (λ (stage : RoundStage). CarriesAt stage s.served.load) stage_is s.served.carries
+    carries : CarriesAt (Healing h) s.load
+    carries = subst (λ (stage : RoundStage). CarriesAt stage s.load) stage_is s.carries
 
-    n : AsksNext p a log x.met x.epochs servers (Healing h) b asked h.register
-    n = heal_next laws p a log servers before x.epochs h b asked asks x.met k (ready_contents h (rw (stage_is) at (ap (λ (m : Rounding). m.stage) ready)))
+    n : AsksNext p a log x.visit.met x.visit.epochs servers (CarriesAt (Healing h)) b asked h.register
+    n = heal_next laws p a log servers before x.visit.epochs h b asked asks x.visit.met k (ready_contents h (rw (stage_is) at (ap (λ (m : Rounding). m.stage) ready)))
 
-    go_on : GoOnHonestly p log a line s.epochs servers new
-    go_on = known.go_on laws p a log servers before x.met x.epochs (Healing h) b asked h.register n s.fits s.served.load new s.epochs s.given carries s.served.served
+    so : IsAskedSo p a log servers new s.epochs b asked h.register s.given
+    so = asked_so (ask_laws laws) p a log servers (before_ask laws p a log servers before) x.visit.met x.visit.epochs (CarriesAt (Healing h)) b asked h.register n s.fits s.load new s.epochs s.given carries s.served
 
-    lawful : IsLawfulExactly p (line ∷ log)
-    lawful = known.lawful laws p a log servers before x.met x.epochs (Healing h) b asked h.register n s.fits s.served.load new s.epochs s.given carries s.served.served
-
-    is_told : IsTold p log a b asked s.given.answer s.given.took
-    is_told = known.is_told laws p a log servers before x.met x.epochs (Healing h) b asked h.register n s.fits s.served.load new s.epochs s.given carries s.served.served
-
-    stand : AllStand p.shape a line log (noted_ask h.register (length log) b.0 asked told)
-    stand = known.stand laws p a log servers before x.met x.epochs (Healing h) b asked h.register n s.fits s.served.load new s.epochs s.given carries s.served.served
+    told_so : IsTold p log a b asked s.given.answer s.given.took
+    told_so = is_told laws p a log servers before new s.epochs b asked h.register s.given so
 
     about : AsksAbout h.gfid h.kind asked
     about = (next_about h.register.shape.n (keeps_in h.register.shape) (seen_as h.register) h.source.0 h.gfid h.kind k.on).asks b.0 asked asks
@@ -104,7 +93,7 @@ module _ (laws : RoundLaws) (p : Plan) (a : ActorId) (log : List Line) (servers 
     line_is = plain p a b asked told s.given.took log h.gfid h.kind about
 
     hears : heal.CanHear (coming h) s.given.answer × IsWholeTold told
-    hears = laws.hearing.hears p h log a b.0 asked s.given.answer s.given.took k.sound k.shape k.tells asks is_told
+    hears = laws.hearing.hears p h log a b.0 asked s.given.answer s.given.took k.sound k.shape k.tells asks told_so
 
     can_hear : heal.CanHear (Asks b.0 asked) s.given.answer
     can_hear = subst (λ (line : HealNext). heal.CanHear line s.given.answer) asks hears.0
@@ -149,18 +138,18 @@ module _ (laws : RoundLaws) (p : Plan) (a : ActorId) (log : List Line) (servers 
     unrefused = rw (self a.0, line_is.admits) k.unrefused
 
     own : Stood p.shape a.0 (line ∷ log) next_heal.register
-    own = stand.own
+    own = so.stand.own
 
     runs : RunsHeal p a.0 (line ∷ log) true s.epochs new next_heal
     runs = record {
       sound = sound;
       shape = own.shape_is;
-      noted = (rw (self a.0) (within x.met p a b asked told s.given.took log h.register k.noted), own);
-      sessions = go_on.1.found;
+      noted = (rw (self a.0) (within x.visit.met p a b asked told s.given.took log h.register k.noted), own);
+      sessions = so.go_on.1.found;
       due = due;
       on = noted_on h.gfid h.kind h.register (length log) b.0 asked told k.on about;
       tells = rw border (tells_more laws h k.sound b.0 asked asks s.given.answer (length log) fed.1.chosen a s.given.took log (heal_by (work a.0 log)) sound can_hear hears.1 k.tells);
-      holds = laws.hearing.more p h log a b.0 asked s.given.answer s.given.took fed.1.chosen k.sound asks is_told k.holds;
+      holds = laws.hearing.more p h log a b.0 asked s.given.answer s.given.took fed.1.chosen k.sound asks told_so k.holds;
       unrefused = unrefused;
     }
 
@@ -189,14 +178,14 @@ module _ (laws : RoundLaws) (p : Plan) (a : ActorId) (log : List Line) (servers 
     -- what a heal's request keeps
     pub ask_keeps : IsHealer p log a.0 servers x → RoundKeeps p a log written y servers new
     ask_keeps acting = subst (λ (l : Line). RoundKeeps p a log l y servers new) (sym s.is_line) (record {
-      honest = go_on.0;
-      lawful = lawful;
-      served = go_on.1.served;
+      honest = so.go_on.0;
+      lawful = so.lawful;
+      served = so.go_on.1.served;
       keeps = ToRound before.healer m.round.brick c.present (line_is.keeps m.round.brick (work a.0 log) of_heal);
       replied = of_healer p a line log before.clients before.healer (line_is.settles p.shape (work a.0 log) settles);
       blamed = line_is.blames;
       written = AskLine b asked told s.given.took;
       acting = subst (λ (z : Healer). IsHealer p (line ∷ log) a.0 new z) (sym s.becomes) (record { ended_is = acting.ended_is; killed_is = acting.killed_is; carries = carries_on });
-      stands = stand.others;
-      found = go_on.1.others;
+      stands = so.stand.others;
+      found = so.go_on.1.others;
     })

@@ -10,11 +10,10 @@ use Rattle.afr_daemon.specs.Round.{next_due, with_list}
 use Rattle.afr_discipline.specs.Notes.{noted_ask}
 use Rattle.afr_discipline.specs.Stands.{no_lines}
 use Rattle.afr_discipline.specs.declared.register.Step.TheVariants as step
-use Rattle.afr_heal_hears.specs.Hears.{IsIndexed, IsTold, Listed, Refused}
+use Rattle.afr_heal_hears.specs.Hears.{IsIndexed, Listed, Refused}
 use Rattle.afr_healer.specs.Rounding.{CarriesAt, IsAnswered, IsAnsweredAt, Rounding, indexed, stage_due}
 use Rattle.afr_healer.specs.declared.stage.RoundStage.{RoundStage}
 use Rattle.afr_healer.specs.declared.stage.RoundStage.TheVariants.{Asking, Over}
-use Rattle.afr_law.specs.Exactly.{IsLawfulExactly}
 use Rattle.afr_lines.specs.Places.{Indexed, place_of}
 use Rattle.afr_lines.specs.Told.{told_by}
 use Rattle.afr_lines.specs.Work.{work}
@@ -30,7 +29,6 @@ use Rattle.afr_model.specs.HealReplies.{refuses_index}
 use Rattle.afr_model.specs.Healing.{heal_by}
 use Rattle.afr_model.specs.Rounds.{heal_due, healed, listed_after, listed_by}
 use Rattle.afr_model.specs.Showing.{has, is_fault}
-use Rattle.afr_next.specs.Standing.{AllStand}
 use Rattle.afr_plan.specs.declared.plan.Plan.{Plan}
 use Rattle.afr_rounds.specs.Acting.{IsAsked}
 use Rattle.afr_rounds.specs.Keeping.{CarriesRound, IsBetweenHeals, IsBetweenRounds, IsHealer, IsRoundOver, RunsHeal, StageStands}
@@ -39,11 +37,9 @@ use Rattle.afr_rounds.specs.declared.healer.Healer.{Healer}
 use Rattle.afr_self_heal.specs.Healing.{heal_from}
 use Rattle.afr_server.specs.NextLine.{told_line}
 use Rattle.afr_server.specs.Serving.{Serving}
-use Rattle.afr_servers.specs.NextLine.{GoOnHonestly}
 use Rattle.afr_rounds.proofs.AsksLine.{of_healer, self}
-use Rattle.afr_rounds.proofs.BeforeAsks.{AsksNext}
-use Rattle.afr_rounds.proofs.BeforeAsks as known
-use Rattle.afr_rounds.proofs.BeforeNext.{index_next}
+use Rattle.afr_rounds.proofs.BeforeAsks.{AsksNext, IsAskedSo, asked_so}
+use Rattle.afr_rounds.proofs.BeforeNext.{ask_laws, before_ask, index_next, is_told}
 use Rattle.afr_rounds.proofs.Gathered.{RoundLaws}
 
 -- ---- what the answer leaves of the register and of the list
@@ -76,7 +72,7 @@ over_refused (answer_of.Attrs attrs) m e = absurd (cc e)
 over_refused (answer_of.Index list) m e = absurd (cc e)
 over_refused answer_of.NoObject m e = absurd (cc e)
 
-module _ (laws : RoundLaws) (p : Plan) (a : ActorId) (log : List Line) (servers : List Serving) (before : IsBeforeRound p a log servers) (x y : Healer) (new : List Serving) (written : Line) (m : Rounding) (c : CarriesRound p a.0 log x.met x.epochs servers m) where
+module _ (laws : RoundLaws) (p : Plan) (a : ActorId) (log : List Line) (servers : List Serving) (before : IsBeforeRound p a log servers) (x y : Healer) (new : List Serving) (written : Line) (m : Rounding) (c : CarriesRound p a.0 log x.visit.met x.visit.epochs servers m) where
   module _ (stage_is : m.stage ≡ Asking) (s : IsAsked IsAnswered a (length log) m.round.brick Index x y m servers new written) where
     abbrev line : Line
     line = told_line a m.round.brick Index s.given
@@ -84,26 +80,17 @@ module _ (laws : RoundLaws) (p : Plan) (a : ActorId) (log : List Line) (servers 
     abbrev told : Told
     told = told_by s.given.answer
 
-    k : IsBetweenRounds a.0 log x.met × (m.round.list ≡ None)
-    k = subst (StageStands p a.0 log x.met x.epochs servers m.round) stage_is c.stage
+    k : IsBetweenRounds a.0 log x.visit.met × (m.round.list ≡ None)
+    k = subst (StageStands p a.0 log x.visit.met x.visit.epochs servers m.round) stage_is c.stage
 
-    carries : CarriesAt Asking s.served.load
-    carries = subst (λ (stage : RoundStage). CarriesAt stage s.served.load) stage_is s.served.carries
+    carries : CarriesAt Asking s.load
+    carries = subst (λ (stage : RoundStage). CarriesAt stage s.load) stage_is s.carries
 
-    n : AsksNext p a log x.met x.epochs servers Asking m.round.brick Index (no_lines p.shape)
-    n = index_next laws p a log servers before x.met x.epochs m.shape m.round.brick c.shape c.sound.within k.0
+    n : AsksNext p a log x.visit.met x.visit.epochs servers (CarriesAt Asking) m.round.brick Index (no_lines p.shape)
+    n = index_next laws p a log servers before x.visit.met x.visit.epochs m.shape m.round.brick c.shape c.sound.within k.0
 
-    go_on : GoOnHonestly p log a line s.epochs servers new
-    go_on = known.go_on laws p a log servers before x.met x.epochs Asking m.round.brick Index (no_lines p.shape) n s.fits s.served.load new s.epochs s.given carries s.served.served
-
-    lawful : IsLawfulExactly p (line ∷ log)
-    lawful = known.lawful laws p a log servers before x.met x.epochs Asking m.round.brick Index (no_lines p.shape) n s.fits s.served.load new s.epochs s.given carries s.served.served
-
-    is_told : IsTold p log a m.round.brick Index s.given.answer s.given.took
-    is_told = known.is_told laws p a log servers before x.met x.epochs Asking m.round.brick Index (no_lines p.shape) n s.fits s.served.load new s.epochs s.given carries s.served.served
-
-    stand : AllStand p.shape a line log (noted_ask (no_lines p.shape) (length log) m.round.brick.0 Index told)
-    stand = known.stand laws p a log servers before x.met x.epochs Asking m.round.brick Index (no_lines p.shape) n s.fits s.served.load new s.epochs s.given carries s.served.served
+    so : IsAskedSo p a log servers new s.epochs m.round.brick Index (no_lines p.shape) s.given
+    so = asked_so (ask_laws laws) p a log servers (before_ask laws p a log servers before) x.visit.met x.visit.epochs (CarriesAt Asking) m.round.brick Index (no_lines p.shape) n s.fits s.load new s.epochs s.given carries s.served
 
     -- ---- the lines after it
     abbrev now : List Line
@@ -139,7 +126,7 @@ module _ (laws : RoundLaws) (p : Plan) (a : ActorId) (log : List Line) (servers 
       place = between;
       register = noted_ask (no_lines p.shape) (length log) m.round.brick.0 Index told;
       free = inr (noted_index p.shape (length log) m.round.brick.0 told);
-      stood = stand.own;
+      stood = so.stand.own;
       none_left = left;
       said = said;
     }
@@ -206,19 +193,19 @@ module _ (laws : RoundLaws) (p : Plan) (a : ActorId) (log : List Line) (servers 
     by_answer (Refused fault) = subst (CarriesRound p a.0 now false s.epochs new) (sym (over_refused s.given.answer m fault)) (refused_carries fault)
 
     carries_on : CarriesRound p a.0 now false s.epochs new s.after
-    carries_on = subst (CarriesRound p a.0 now false s.epochs new) (sym fed) (by_answer (laws.hearing.listed p log a m.round.brick s.given.answer s.given.took is_told))
+    carries_on = subst (CarriesRound p a.0 now false s.epochs new) (sym fed) (by_answer (laws.hearing.listed p log a m.round.brick s.given.answer s.given.took (is_told laws p a log servers before new s.epochs m.round.brick Index (no_lines p.shape) s.given so)))
 
     -- what the request for an index keeps
     pub index_keeps : IsHealer p log a.0 servers x → RoundKeeps p a log written y servers new
     index_keeps acting = subst (λ (l : Line). RoundKeeps p a log l y servers new) (sym s.is_line) (record {
-      honest = go_on.0;
-      lawful = lawful;
-      served = go_on.1.served;
+      honest = so.go_on.0;
+      lawful = so.lawful;
+      served = so.go_on.1.served;
       keeps = ToRound before.healer m.round.brick c.present (k.0.none, refl);
       replied = of_healer p a line log before.clients before.healer tt;
       blamed = tt;
       written = AskLine m.round.brick Index told s.given.took;
       acting = subst (λ (z : Healer). IsHealer p now a.0 new z) (sym s.becomes) (record { ended_is = acting.ended_is; killed_is = acting.killed_is; carries = carries_on });
-      stands = stand.others;
-      found = go_on.1.others;
+      stands = so.stand.others;
+      found = so.go_on.1.others;
     })

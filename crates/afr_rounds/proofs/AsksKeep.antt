@@ -20,8 +20,8 @@ use Rattle.afr_rounds.proofs.AsksIndex.{index_keeps}
 use Rattle.afr_rounds.proofs.Gathered.{RoundLaws}
 
 module _ (laws : RoundLaws) (p : Plan) (a : ActorId) (log : List Line) (servers new : List Serving) (x y : Healer) (line : Line) (before : IsBeforeRound p a log servers) (acting : IsHealer p log a.0 servers x) (ready : IsMadeReady x) (m : Rounding) (present : x.round ≡ Some m) where
-  c : CarriesRound p a.0 log x.met x.epochs servers m
-  c = subst (CarriesIts p a.0 log x.met x.epochs servers) present acting.carries
+  c : CarriesRound p a.0 log x.visit.met x.visit.epochs servers m
+  c = subst (CarriesIts p a.0 log x.visit.met x.visit.epochs servers) present acting.carries
 
   abbrev AskedAt : Next → Type 0
   AskedAt (next.Ask b asked) = IsAsked IsAnswered a (length log) b asked x y m servers new line

@@ -12,7 +12,7 @@ use Rattle.afr_discipline.specs.declared.register.Register.{Register}
 use Rattle.afr_heal.specs.Carried.{MovesOf}
 use Rattle.afr_heal.specs.Engine.{Ask as Asks, Begins, Ends, Next as HealNext}
 use Rattle.afr_heal_hears.specs.Hears.{IsTold}
-use Rattle.afr_healer.specs.Rounding.{CanHear, CanHearAt, Rounding, made_ready, next_at, next_of, ready_at}
+use Rattle.afr_healer.specs.Rounding.{CanHear, CanHearAt, CarriesAt, Rounding, made_ready, next_at, next_of, ready_at}
 use Rattle.afr_healer.specs.declared.stage.RoundStage.{RoundStage}
 use Rattle.afr_healer.specs.declared.stage.RoundStage.TheVariants.{Asking, Healing, Over}
 use Rattle.afr_law.specs.ModelNext.{asking}
@@ -39,8 +39,7 @@ use Rattle.afr_server.specs.declared.server.Asked.{Asked}
 use Rattle.afr_servers.specs.declared.epochs.Epochs.{Epochs}
 use Rattle.afr_transaction.specs.Turn.{InForce}
 use Rattle.afr_walk.specs.Free.{AllowsAsk}
-use Rattle.afr_rounds.proofs.BeforeAsks.{AsksNext}
-use Rattle.afr_rounds.proofs.BeforeAsks as known
+use Rattle.afr_rounds.proofs.BeforeAsks.{AskLaws, AsksNext, IsAskedSo, IsBeforeAsk, asked_so, can_ask}
 use Rattle.afr_rounds.proofs.Gathered.{RoundLaws}
 
 -- ---- a heal's line as a request
@@ -90,16 +89,35 @@ ready_contents h e = ap contents_at e
     contents_at (Healing h) = h.contents
     contents_at other = h.contents
 
+-- ---- what a request of any actor rests on
+pub ask_laws : RoundLaws → AskLaws
+ask_laws laws = record {
+  asks = laws.next.asks;
+  noted = laws.next.noted;
+  lawful = laws.next.lawful;
+  ready = laws.next.ready;
+  needs = laws.servers.needs;
+  asked = laws.servers.asked;
+  answers = laws.servers.answers;
+}
+
 module _ (laws : RoundLaws) (p : Plan) (a : ActorId) (log : List Line) (servers : List Serving) (before : IsBeforeRound p a log servers) where
+  pub before_ask : IsBeforeAsk p a log servers
+  before_ask = record { few = before.few; known = before.known; short = before.short; served = before.served; honest = before.honest; lawful = before.lawful }
+
+  -- the answer of a request that was asked so is an honest one
+  pub is_told : (new : List Serving) (after : Epochs) (b : BrickId) (asked : Request) (register : Register) (given : Asked) → IsAskedSo p a log servers new after b asked register given → IsTold p log a b asked given.answer given.took
+  is_told new after b asked register given so = record { honest = before.honest; lawful = before.lawful; short = before.short; few = before.few; may = so.may; said = so.go_on.0; full = so.full }
+
   -- ---- the index
-  pub index_next : (met : Bool) (epochs : Epochs) (shape : Shape) (b : BrickId) → shape ≡ p.shape → b.0 < shape.n → IsBetweenRounds a.0 log met → AsksNext p a log met epochs servers Asking b Index (no_lines p.shape)
+  pub index_next : (met : Bool) (epochs : Epochs) (shape : Shape) (b : BrickId) → shape ≡ p.shape → b.0 < shape.n → IsBetweenRounds a.0 log met → AsksNext p a log met epochs servers (CarriesAt Asking) b Index (no_lines p.shape)
   index_next true epochs shape b same low k = absurd (cc k.unmet)
   index_next false epochs shape b same low k = record {
     five = record { looked = refl; seen = refl; reads = refl };
     opened = λ told took. first told took;
     in_force = laws.next.anew p.shape a.0 log (asking a b Index) before.few (first _ _);
     allows = index_allowed p.shape b here;
-    low = here;
+    low = omega (arith, here, before.few);
     sessions = tt;
     brings = λ load none. tt;
   }
@@ -112,13 +130,13 @@ module _ (laws : RoundLaws) (p : Plan) (a : ActorId) (log : List Line) (servers 
 
   -- ---- a heal
   module _ (epochs : Epochs) (h : Heal) (b : BrickId) (asked : Request) (e : coming h ≡ Asks b.0 asked) where
-    pub heal_next : (met : Bool) → RunsHeal p a.0 log met epochs servers h → h.contents ≡ readied h.contents → AsksNext p a log met epochs servers (Healing h) b asked h.register
+    pub heal_next : (met : Bool) → RunsHeal p a.0 log met epochs servers h → h.contents ≡ readied h.contents → AsksNext p a log met epochs servers (CarriesAt (Healing h)) b asked h.register
     heal_next met k merged = record {
       five = laws.heal.five h k.sound;
       opened = λ told took. opened met told took k.noted;
       in_force = in_force met k.noted;
       allows = heal_allowed h.register h b asked (λ step of. laws.heal.allowed h k.sound step (subst (λ (n : HealNext). MovesOf h.gfid h.kind n step) (sym e) of));
-      low = subst (λ (shape : Shape). b.0 < shape.n) k.shape (laws.heal.low h k.sound b.0 asked e).0;
+      low = omega (arith, before.few, subst (λ (shape : Shape). b.0 < shape.n) k.shape (laws.heal.low h k.sound b.0 asked e).0);
       sessions = k.sessions;
       brings = λ load carries. laws.hearing.brings p h log b.0 asked load k.sound k.holds e (subst (λ (of : Contents). load_in of load) merged carries);
     }
@@ -138,14 +156,14 @@ module _ (laws : RoundLaws) (p : Plan) (a : ActorId) (log : List Line) (servers 
 
   -- ---- a round
   abbrev AsksAt : Bool → Epochs → RoundStage → Next → Type 0
-  AsksAt met epochs stage (next.Ask b asked) = (r : Register) × AsksNext p a log met epochs servers stage b asked r
+  AsksAt met epochs stage (next.Ask b asked) = (r : Register) × AsksNext p a log met epochs servers (CarriesAt stage) b asked r
   AsksAt met epochs stage other = Unit {0}
 
   pub asks_next : (met : Bool) (epochs : Epochs) (m : Rounding) (c : CarriesRound p a.0 log met epochs servers m) → m ≡ made_ready m → (b : BrickId) (asked : Request) → next_of m ≡ next.Ask b asked
-      → (r : Register) × AsksNext p a log met epochs servers m.stage b asked r
+      → (r : Register) × AsksNext p a log met epochs servers (CarriesAt m.stage) b asked r
   asks_next met epochs m c ready b asked e = by m.stage c.stage (ap (λ (m : Rounding). m.stage) ready) e
     where
-      by : (stage : RoundStage) → StageStands p a.0 log met epochs servers m.round stage → stage ≡ ready_at stage → next_at m.round.brick stage ≡ next.Ask b asked → (r : Register) × AsksNext p a log met epochs servers stage b asked r
+      by : (stage : RoundStage) → StageStands p a.0 log met epochs servers m.round stage → stage ≡ ready_at stage → next_at m.round.brick stage ≡ next.Ask b asked → (r : Register) × AsksNext p a log met epochs servers (CarriesAt stage) b asked r
       by Asking k ready e = subst (AsksAt met epochs Asking) e (no_lines p.shape, index_next met epochs m.shape m.round.brick c.shape c.sound.within k.0)
       by (Healing h) k ready e = (h.register, heal_next epochs h b asked (asks_of h (coming h) b asked e) met k.0 (ready_contents h ready))
       by (Over refused) k ready e = absurd (cc e)
@@ -165,14 +183,14 @@ pub can_step_next : RoundLaws → CanStepNext
 can_step_next laws p a log servers x before acting ready m is = record {
   known = before.known;
   room = λ b s at. (laws.servers.needs.room p log b servers before.served before.short s at).1 a before.known;
-  asks = λ b asked e fits. known.can_ask laws p a log servers before x.met x.epochs m.stage b asked (asks b asked e).0 (asks b asked e).1 fits x m refl refl refl;
-  hears = λ b asked new epochs given e fits s.
-      hears laws p a log servers before x.met x.epochs m c b asked e given
-      (known.is_told laws p a log servers before x.met x.epochs m.stage b asked (asks b asked e).0 (asks b asked e).1 fits s.load new epochs given s.carries s.served);
+  asks = λ b asked load e fits carries. can_ask (ask_laws laws) p a log servers (before_ask laws p a log servers before) x.visit.met x.visit.epochs (CarriesAt m.stage) b asked (asks b asked e).0 (asks b asked e).1 fits load carries;
+  hears = λ b asked load new epochs given e fits carries served.
+      let so = asked_so (ask_laws laws) p a log servers (before_ask laws p a log servers before) x.visit.met x.visit.epochs (CarriesAt m.stage) b asked (asks b asked e).0 (asks b asked e).1 fits load new epochs given carries served in
+      hears laws p a log servers before x.visit.met x.visit.epochs m c b asked e given (is_told laws p a log servers before new epochs b asked (asks b asked e).0 given so);
 }
   where
-    c : CarriesRound p a.0 log x.met x.epochs servers m
-    c = subst (CarriesIts p a.0 log x.met x.epochs servers) is acting.carries
+    c : CarriesRound p a.0 log x.visit.met x.visit.epochs servers m
+    c = subst (CarriesIts p a.0 log x.visit.met x.visit.epochs servers) is acting.carries
 
-    asks : (b : BrickId) (asked : Request) → next_of m ≡ next.Ask b asked → (r : Register) × AsksNext p a log x.met x.epochs servers m.stage b asked r
-    asks b asked e = asks_next laws p a log servers before x.met x.epochs m c (ready m is) b asked e
+    asks : (b : BrickId) (asked : Request) → next_of m ≡ next.Ask b asked → (r : Register) × AsksNext p a log x.visit.met x.visit.epochs servers (CarriesAt m.stage) b asked r
+    asks b asked e = asks_next laws p a log servers before x.visit.met x.visit.epochs m c (ready m is) b asked e

@@ -114,12 +114,12 @@ pub rounds_begin : HoldsReady → RoundsBegin
 rounds_begin ready p a log servers b x z few some within present k is = (subst (λ (z : Healer). IsHealer p log a servers z) (sym is) begins, subst IsMadeReady (sym is) (once (round_or p.shape b x.round)))
   where
     begins : IsHealer p log a servers (record x { round = Some (made_ready (round_or p.shape b x.round)) })
-    begins = record { ended_is = k.ended_is; killed_is = k.killed_is; carries = carries_ready ready p a log servers few b within present x.met x.epochs x.round k.carries }
+    begins = record { ended_is = k.ended_is; killed_is = k.killed_is; carries = carries_ready ready p a log servers few b within present x.visit.met x.visit.epochs x.round k.carries }
 
 -- ---- no round is left
 pub rounds_end : RoundsEnd
 rounds_end p a log servers x none k = by_round x.round k.carries
   where
-    by_round : (round : Option Rounding) → CarriesIts p a log x.met x.epochs servers round → work a log ≡ []
+    by_round : (round : Option Rounding) → CarriesIts p a log x.visit.met x.visit.epochs servers round → work a log ≡ []
     by_round None k = k.none
     by_round (Some m) k = absurd (omega (arith, none, slice_get_within (rounds_of p a) (ended a log) m.round.brick k.present))

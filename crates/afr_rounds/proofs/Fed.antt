@@ -17,6 +17,8 @@ module _ {F : Type 0} (calls : Calls F) (choose : F) (a : ActorId) (at : ℕ) (x
     given = k.given;
     epochs = k.epochs;
     after = k.after;
+    load = k.load;
+    carries = k.carries;
     fits = k.fits;
     served = k.served;
     is_line = k.is_line;

@@ -9,7 +9,7 @@ use Rattle.afr_next.specs.Healed.{AllowedMayHealBegin, AllowedMayHealEnd}
 use Rattle.afr_next.specs.Ready.{NextIsReady}
 use Rattle.afr_self_heal.specs.Laws.{HealAllowed, HealAsksLow, HealBegins, HealBeginsFresh, HealBegunStays, HealEndNamed, HealIsInside, HealKeepsFive, HealStays}
 use Rattle.afr_servers.specs.Needs.{AnswersAreRead, NeedsAreMet}
-use Rattle.afr_servers.specs.NextLine.{AskedAreServed, FirstAreServed, WrittenAreServed}
+use Rattle.afr_servers.specs.NextLine.{AskedAreServed, WrittenAreServed}
 use Rattle.afr_transaction.specs.Turn.{BeginsAnew, GoesOn}
 
 -- the register in force at a line, and what it allows
@@ -27,7 +27,6 @@ pub record NextLaws : Type 0 where
 -- what the servers need and make of it
 pub record ServerLaws : Type 0 where
   pub asked : AskedAreServed
-  pub first : FirstAreServed
   pub written : WrittenAreServed
   pub needs : NeedsAreMet
   pub answers : AnswersAreRead

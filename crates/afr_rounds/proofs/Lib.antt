@@ -1,7 +1,7 @@
 mod Gathered
 mod AsksAbout
 mod AsksGiven
-mod BeforeAsks
+pub mod BeforeAsks
 mod BeforeNext
 mod AsksSource
 mod AsksLine

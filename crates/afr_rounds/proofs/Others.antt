@@ -14,11 +14,12 @@ use Rattle.afr_model.specs.Healing.{heal_by}
 use Rattle.afr_model.specs.Rounds.{heal_due, healed}
 use Rattle.afr_model.specs.Showing.{has}
 use Rattle.afr_plan.specs.declared.plan.Plan.{Plan}
-use Rattle.afr_rounds.specs.Keeping.{AreInSession, CarriesIts, CarriesRound, HasBegun, IsBetweenHeals, IsBetweenRounds, IsHealer, IsListed, IsNotedHeal, IsRoundOver, RunsHeal, StageStands}
+use Rattle.afr_rounds.specs.Keeping.{CarriesIts, CarriesRound, HasBegun, IsBetweenHeals, IsBetweenRounds, IsHealer, IsListed, IsNotedHeal, IsRoundOver, RunsHeal, StageStands}
 use Rattle.afr_rounds.specs.Laws.{IsBeside, OthersStay}
 use Rattle.afr_rounds.specs.declared.healer.Healer.{Healer}
 use Rattle.afr_self_heal.specs.Healing.{Healing as Heal}
 use Rattle.afr_server.specs.Serving.{Serving}
+use Rattle.afr_servers.proofs.VisitLemmas.{session_on}
 use Rattle.afr_servers.specs.declared.epochs.Epochs.{Epochs}
 
 module _ (other : HoldsOther) (p : Plan) (c : ℕ) (line : Line) (log : List Line) (old new : List Serving) (beside : IsBeside p c line log old new) where
@@ -26,16 +27,12 @@ module _ (other : HoldsOther) (p : Plan) (c : ℕ) (line : Line) (log : List Lin
   noted_on true r k = (beside.same_place ∙ k.0, beside.stands r k.1)
   noted_on false r k = (subst IsBetweenHeals (sym beside.same_place) k.0, k.1, ap heal_by beside.same_work ∙ k.2)
 
-  session_on : (met : Bool) (epochs : Epochs) → AreInSession met c epochs old → AreInSession met c epochs new
-  session_on true epochs k = beside.found epochs k
-  session_on false epochs k = tt
-
   heal_on : (met : Bool) (epochs : Epochs) (h : Heal) → RunsHeal p c log met epochs old h → RunsHeal p c (line ∷ log) met epochs new h
   heal_on met epochs h k = record {
     sound = k.sound;
     shape = k.shape;
     noted = noted_on met h.register k.noted;
-    sessions = session_on met epochs k.sessions;
+    sessions = session_on met c epochs old new (beside.found epochs) k.sessions;
     due = ap (heal_due p) beside.same_work ∙ k.due;
     on = k.on;
     tells = subst (λ (w : Work). HealTells h.register h.source.0 h.gfid h.kind h.outcome (heal_by w)) (sym beside.same_work) k.tells;
@@ -81,5 +78,5 @@ pub others_stay : HoldsOther → OthersStay
 others_stay other p c line log old new x y beside is k = subst (λ (y : Healer). IsHealer p (line ∷ log) c new y) (sym is) (record {
   ended_is = k.ended_is ∙ sym beside.same_ended;
   killed_is = refl;
-  carries = carries_on other p c line log old new beside x.met x.epochs x.round k.carries;
+  carries = carries_on other p c line log old new beside x.visit.met x.visit.epochs x.round k.carries;
 })

@@ -68,11 +68,11 @@ module _ (laws : RoundLaws) (p : Plan) (a : ActorId) (log : List Line) (servers 
   pub kept_served : (line : Line) (new : List Serving) → AreServed p (line ∷ log) servers → new ≡ servers → AreServed p (line ∷ log) new
   kept_served line new k same = subst (AreServed p (line ∷ log)) (sym same) k
 
-  module _ (x y : Healer) (new : List Serving) (written : Line) (m : Rounding) (acting : IsHealer p log a.0 servers x) (carries : CarriesRound p a.0 log x.met x.epochs servers m) (h : Heal) (at_heal : m.stage ≡ Healing h) where
-    stands : StageStands p a.0 log x.met x.epochs servers m.round (Healing h)
-    stands = subst (λ (stage : RoundStage). StageStands p a.0 log x.met x.epochs servers m.round stage) at_heal carries.stage
+  module _ (x y : Healer) (new : List Serving) (written : Line) (m : Rounding) (acting : IsHealer p log a.0 servers x) (carries : CarriesRound p a.0 log x.visit.met x.visit.epochs servers m) (h : Heal) (at_heal : m.stage ≡ Healing h) where
+    stands : StageStands p a.0 log x.visit.met x.visit.epochs servers m.round (Healing h)
+    stands = subst (λ (stage : RoundStage). StageStands p a.0 log x.visit.met x.visit.epochs servers m.round stage) at_heal carries.stage
 
-    runs : RunsHeal p a.0 log x.met x.epochs servers h
+    runs : RunsHeal p a.0 log x.visit.met x.visit.epochs servers h
     runs = stands.0
 
     -- ---- the register within the heal
@@ -85,8 +85,8 @@ module _ (laws : RoundLaws) (p : Plan) (a : ActorId) (log : List Line) (servers 
     noted_more false line r is place stood = absurd (cc is)
 
     module _ (inside : h.register.inside ≡ true) where
-      is_noted : (x.met ≡ true) × (place_of a.0 log ≡ Within) × Stood p.shape a.0 log h.register
-      is_noted = noted_inside x.met runs.noted inside
+      is_noted : (x.visit.met ≡ true) × (place_of a.0 log ≡ Within) × Stood p.shape a.0 log h.register
+      is_noted = noted_inside x.visit.met runs.noted inside
 
       no_opening : (line : Line) → opens (place_of a.0 log) line ≡ false
       no_opening line = ap (λ (place : Place). opens place line) is_noted.1
@@ -108,11 +108,11 @@ module _ (laws : RoundLaws) (p : Plan) (a : ActorId) (log : List Line) (servers 
       comes : ComesNext p a begin_line log (noted_part h.register (length log) h.kind)
       comes = laws.next.heal_begins p log a h.gfid h.kind h.register before.few (laws.heal.five h runs.sound) (in_force begin_inside begin_line) begin_allowed (subst InRange s.is_line s.fits)
 
-      begin_runs : RunsHeal p a.0 (begin_line ∷ log) x.met x.epochs new (heal.begun (length log) h)
+      begin_runs : RunsHeal p a.0 (begin_line ∷ log) x.visit.met x.visit.epochs new (heal.begun (length log) h)
       begin_runs = record {
         sound = laws.heal.begun_stays h (length log) runs.sound e;
         shape = comes.stand.own.shape_is;
-        noted = noted_more x.met begin_line (noted_part h.register (length log) h.kind) (is_noted begin_inside).0 (rw (self a.0, (is_noted begin_inside).1) refl) comes.stand.own;
+        noted = noted_more x.visit.met begin_line (noted_part h.register (length log) h.kind) (is_noted begin_inside).0 (rw (self a.0, (is_noted begin_inside).1) refl) comes.stand.own;
         sessions = rw s.servers runs.sessions;
         due = rw (self a.0) runs.due;
         on = runs.on;
@@ -121,7 +121,7 @@ module _ (laws : RoundLaws) (p : Plan) (a : ActorId) (log : List Line) (servers 
         unrefused = rw (self a.0) runs.unrefused;
       }
 
-      begin_carries : CarriesRound p a.0 (begin_line ∷ log) x.met x.epochs new (rounding.begun (length log) m)
+      begin_carries : CarriesRound p a.0 (begin_line ∷ log) x.visit.met x.visit.epochs new (rounding.begun (length log) m)
       begin_carries = record {
         present = carries.present;
         shape = carries.shape;
@@ -178,9 +178,9 @@ module _ (laws : RoundLaws) (p : Plan) (a : ActorId) (log : List Line) (servers 
         unrefused = rw (self a.0) runs.unrefused;
       }
 
-      end_carries : CarriesRound p a.0 (end_line ∷ log) false x.epochs new (rounding.healed m)
-      end_carries = subst (λ (shape : Shape). CarriesRound p a.0 (end_line ∷ log) false x.epochs new (going_on shape m.round)) (sym carries.shape)
-          (goes_on laws p a.0 (end_line ∷ log) x.epochs new before.few before.some m.round.brick m.round border)
+      end_carries : CarriesRound p a.0 (end_line ∷ log) false x.visit.epochs new (rounding.healed m)
+      end_carries = subst (λ (shape : Shape). CarriesRound p a.0 (end_line ∷ log) false x.visit.epochs new (going_on shape m.round)) (sym carries.shape)
+          (goes_on laws p a.0 (end_line ∷ log) x.visit.epochs new before.few before.some m.round.brick m.round border)
 
       pub heal_end_keeps : RoundKeeps p a log written y servers new
       heal_end_keeps = subst (λ (l : Line). RoundKeeps p a log l y servers new) (sym s.is_line) (record {

@@ -51,9 +51,9 @@ healed_of p refused [] begun done = absurd begun
 healed_of p refused (first ∷ older) begun done = record { first = first; older = older; begun = refl; done = done }
 
 module _ (laws : RoundLaws) (p : Plan) (a : ActorId) (log : List Line) (servers : List Serving) (before : IsBeforeRound p a log servers) (x y : Healer) (new : List Serving) (written : Line) (m : Rounding) (acting : IsHealer p log a.0 servers x)
-    (carries : CarriesRound p a.0 log x.met x.epochs servers m) (refused : Bool) (at_end : m.stage ≡ Over refused) (s : IsEnded a (reply_of refused) x y servers new written) where
-  over : IsRoundOver p a.0 log x.met refused
-  over = subst (λ (stage : RoundStage). StageStands p a.0 log x.met x.epochs servers m.round stage) at_end carries.stage
+    (carries : CarriesRound p a.0 log x.visit.met x.visit.epochs servers m) (refused : Bool) (at_end : m.stage ≡ Over refused) (s : IsEnded a (reply_of refused) x y servers new written) where
+  over : IsRoundOver p a.0 log x.visit.met refused
+  over = subst (λ (stage : RoundStage). StageStands p a.0 log x.visit.met x.visit.epochs servers m.round stage) at_end carries.stage
 
   abbrev end_line : Line
   end_line = End a (reply_of refused)

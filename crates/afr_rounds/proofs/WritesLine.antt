@@ -26,7 +26,7 @@ module _ (laws : RoundLaws) (p : Plan) (a : ActorId) (log : List Line) (servers 
   abbrev pub AskKeeps : Rounding → Type 0
   AskKeeps m = (b : BrickId) (request : Request) → next_of m ≡ next.Ask b request → IsAsked IsAnswered a (length log) b request x y m servers new line → RoundKeeps p a log line y servers new
 
-  module _ (m : Rounding) (carries : CarriesRound p a.0 log x.met x.epochs servers m) (asks : AskKeeps m) where
+  module _ (m : Rounding) (carries : CarriesRound p a.0 log x.visit.met x.visit.epochs servers m) (asks : AskKeeps m) where
     by_coming : (h : Heal) (n : Coming) → m.stage ≡ Healing h → coming h ≡ n → SteppedBy IsAnswered a (length log) x y m servers new line (line_of h n) → RoundKeeps p a log line y servers new
     by_coming h (Ask b request) at e s = asks (record { 0 = b }) request (ap (next_at m.round.brick) at ∙ ap (line_of h) e) s
     by_coming h Begins at e s = heal_begin_keeps laws p a log servers before x y new line m acting carries h at e s
@@ -41,8 +41,8 @@ module _ (laws : RoundLaws) (p : Plan) (a : ActorId) (log : List Line) (servers 
     round_keeps s = by_stage m.stage refl s
 
   -- the line, if a request keeps what it has to
-  pub line_keeps : (s : Stepped IsAnswered a (length log) x y servers new line) → ((carries : CarriesRound p a.0 log x.met x.epochs servers s.round) → AskKeeps s.round) → RoundKeeps p a log line y servers new
-  line_keeps s asks = by (subst (CarriesIts p a.0 log x.met x.epochs servers) s.present acting.carries)
+  pub line_keeps : (s : Stepped IsAnswered a (length log) x y servers new line) → ((carries : CarriesRound p a.0 log x.visit.met x.visit.epochs servers s.round) → AskKeeps s.round) → RoundKeeps p a log line y servers new
+  line_keeps s asks = by (subst (CarriesIts p a.0 log x.visit.met x.visit.epochs servers) s.present acting.carries)
     where
-      by : CarriesRound p a.0 log x.met x.epochs servers s.round → RoundKeeps p a log line y servers new
+      by : CarriesRound p a.0 log x.visit.met x.visit.epochs servers s.round → RoundKeeps p a log line y servers new
       by carries = round_keeps s.round carries (asks carries) s.steps

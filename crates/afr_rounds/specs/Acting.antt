@@ -1,11 +1,10 @@
 -- One line of a healer: what its round would write next, what the bricks make of it, and what it makes of the answer.
-use Rattle.std.specs.Prelude.{◌≡◌, ℕ, ◌+◌, ◌-◌, ◌<◌, ◌^◌, Bool, true, false, List, [], ◌∷◌, ◌++◌, Option, None, Some, length}
+use Rattle.std.specs.Prelude.{◌≡◌, ℕ, ◌+◌, ◌<◌, Bool, true, false, List, [], ◌∷◌, ◌++◌, Option, None, Some}
 use Rattle.afr_base.specs.declared.ids.ActorId.{ActorId}
 use Rattle.afr_base.specs.declared.ids.BrickId.{BrickId}
 use Rattle.afr_base.specs.declared.ids.Gfid.{Gfid}
 use Rattle.afr_base.specs.declared.ids.Kind.{Kind}
 use Rattle.afr_base.specs.declared.ids.Shape.{Shape}
-use Rattle.afr_faults.specs.Planned.{next_fault}
 use Rattle.afr_healer.specs.Rounding as rounding
 use Rattle.afr_healer.specs.Rounding.{CanHear, CarriesNext, Rounding, made_ready, next_of, round_from}
 use Rattle.afr_lines.specs.declared.answer.Answer.{Answer}
@@ -20,21 +19,19 @@ use Rattle.afr_lines.specs.declared.request.Request.TheVariants.{Index}
 use Rattle.afr_moves.specs.Ranges.{InRange, RequestInRange}
 use Rattle.afr_object.specs.declared.change.Load.{Load}
 use Rattle.afr_rounds.specs.declared.healer.Healer.{Healer}
-use Rattle.afr_server.specs.Carried.{CanCarryOut, CanLock}
-use Rattle.afr_server.specs.Covered.{IsUnderLocks}
 use Rattle.afr_server.specs.NextLine.{told_line}
-use Rattle.afr_server.specs.Outcome.{is_carried}
-use Rattle.afr_server.specs.Serving.{HasEpoch, Serving, has_session, is_met}
+use Rattle.afr_server.specs.Serving.{HasEpoch, Serving}
 use Rattle.afr_server.specs.declared.server.Asked.{Asked}
-use Rattle.afr_servers.specs.Calls.{AsksFirst, AsksOne, At}
-use Rattle.afr_servers.specs.Found.{epoch_at}
+use Rattle.afr_servers.specs.Calls.{At}
+use Rattle.afr_servers.specs.Visiting.{CanAsk, ServesNext}
 use Rattle.afr_servers.specs.declared.epochs.Epochs.{Epochs}
+use Rattle.afr_servers.specs.declared.visit.Visit.{Visit}
 
 -- a healer that has begun nothing
 pub record IsNewHealer (x : Healer) : Type 0 where
   pub ended : x.ended ≡ 0
   pub killed : x.killed ≡ false
-  pub met : x.met ≡ false
+  pub met : x.visit.met ≡ false
   pub idle : x.round ≡ None
 
 -- a log, its oldest line first, has one line more, of which a fact holds
@@ -54,39 +51,17 @@ abbrev pub Readies : Shape → BrickId → Healer → Healer → Type 0
 Readies shape b x z = z ≡ record x { round = Some (made_ready (round_or shape b x.round)) }
 
 -- ---- what the bricks need
--- whether a request of the actor has a live session: one that its heal's or work's first line met, or one that this line meets
-abbrev pub has_live : Bool → ActorId → Epochs → ℕ → Serving → Bool
-has_live true a epochs b s = has_session (epoch_at b epochs) a s
-has_live false a epochs b s = is_met a s
-
--- the brick that is asked is there, has counts left, can carry the request out, and sees the healer's locks
-pub record CanAsk (a : ActorId) (x : Healer) (m : Rounding) (b : BrickId) (request : Request) (servers : List Serving) : Type 0 where
-  pub there : b.0 < length servers
-  pub count : At b.0 servers (λ s. s.faults.requests < 2 ^ 32 - 1)
-  pub lock : CanLock request
-  pub can : (load : Load) → CarriesNext m load → At b.0 servers (λ s. is_carried (has_live x.met a x.epochs b.0 s) (next_fault s.faults) ≡ true → CanCarryOut request load s.copies.objects)
-  pub covered : (load : Load) → CarriesNext m load → At b.0 servers (λ s. is_carried (has_live x.met a x.epochs b.0 s) (next_fault s.faults) ≡ true → IsUnderLocks a request load s)
-
--- the brick served the request over a session that the heal or work has met, or its first line met all bricks
-abbrev pub ServesNext : Bool → ActorId → BrickId → Request → Load → Epochs → List Serving → List Serving → Epochs → Asked → Type 0
-ServesNext true a b request load old bricks after new given = (new ≡ old) × AsksOne a old b.0 request load bricks after given
-ServesNext false a b request load old bricks after new given = AsksFirst a b.0 request load bricks after new given
-
--- so the request was served, with the contents that the round brings
-pub record IsServed (a : ActorId) (x : Healer) (m : Rounding) (b : BrickId) (request : Request) (old new : List Serving) (epochs : Epochs) (given : Asked) : Type 0 where
-  pub load : Load
-  pub carries : CarriesNext m load
-  pub served : ServesNext x.met a b request load x.epochs old new epochs given
-
 -- what a healer's next line needs: of the bricks, and of what they may answer
-pub record CanStepWith (a : ActorId) (x : Healer) (m : Rounding) (servers : List Serving) : Type 0 where
+pub record CanStepWith (a : ActorId) (v : Visit) (m : Rounding) (servers : List Serving) : Type 0 where
   pub known : a.0 < 20
   pub room : (b : ℕ) → At b servers (HasEpoch a)
-  pub asks : (b : BrickId) (request : Request) → next_of m ≡ next.Ask b request → RequestInRange request → CanAsk a x m b request servers
-  pub hears : (b : BrickId) (request : Request) (new : List Serving) (epochs : Epochs) (given : Asked) → next_of m ≡ next.Ask b request → RequestInRange request → IsServed a x m b request servers new epochs given → CanHear m given.answer
+  pub asks : (b : BrickId) (request : Request) (load : Load) → next_of m ≡ next.Ask b request → RequestInRange request → CarriesNext m load → CanAsk a v b request load servers
+  pub hears :
+      (b : BrickId) (request : Request) (load : Load) (new : List Serving) (epochs : Epochs) (given : Asked) → next_of m ≡ next.Ask b request → RequestInRange request → CarriesNext m load
+      → ServesNext v.met a b request load v.epochs servers new epochs given → CanHear m given.answer
 
 abbrev pub CanStep : ActorId → ℕ → Healer → List Serving → Type 0
-CanStep a at x servers = (m : Rounding) → x.round ≡ Some m → CanStepWith a x m servers
+CanStep a at x servers = (m : Rounding) → x.round ≡ Some m → CanStepWith a x.visit m servers
 
 -- ---- one line
 -- whether it asks for an index: the round's first heal opens sessions anew
@@ -102,16 +77,18 @@ met_after other = true
 abbrev pub Hearing : Type 1
 Hearing = Answer → ℕ → Rounding → Rounding → Type 0
 
--- a request was asked, and its answer heard
+-- a request was asked, with the contents that the round brings, and its answer heard
 pub record IsAsked (Hears : Hearing) (a : ActorId) (at : ℕ) (b : BrickId) (request : Request) (x y : Healer) (m : Rounding) (old new : List Serving) (written : Line) : Type 0 where
   pub given : Asked
   pub epochs : Epochs
   pub after : Rounding
+  pub load : Load
+  pub carries : CarriesNext m load
   pub fits : RequestInRange request
-  pub served : IsServed a x m b request old new epochs given
+  pub served : ServesNext x.visit.met a b request load x.visit.epochs old new epochs given
   pub is_line : written ≡ told_line a b request given
   pub fed : Hears given.answer at m after
-  pub becomes : y ≡ record { ended = x.ended; killed = x.killed; met = met_after request; epochs = epochs; round = Some after }
+  pub becomes : y ≡ record { ended = x.ended; killed = x.killed; visit = record { met = met_after request; epochs = epochs }; round = Some after }
 
 -- a part of a heal was begun
 pub record IsBegun (a : ActorId) (at : ℕ) (g : Gfid) (kind : Kind) (x y : Healer) (m : Rounding) (old new : List Serving) (written : Line) : Type 0 where
@@ -125,14 +102,14 @@ pub record IsHealed (a : ActorId) (g : Gfid) (kind : Kind) (said : HealReply) (x
   pub is_line : written ≡ line.HealEnd a g kind said
   pub fits : InRange written
   pub servers : new ≡ old
-  pub becomes : y ≡ record { ended = x.ended; killed = x.killed; met = false; epochs = x.epochs; round = Some (rounding.healed m) }
+  pub becomes : y ≡ record { ended = x.ended; killed = x.killed; visit = record x.visit { met = false }; round = Some (rounding.healed m) }
 
 -- a round has ended
 pub record IsEnded (a : ActorId) (said : Reply) (x y : Healer) (old new : List Serving) (written : Line) : Type 0 where
   pub is_line : written ≡ line.End a said
   pub fits : InRange written
   pub servers : new ≡ old
-  pub becomes : y ≡ record { ended = x.ended + 1; killed = x.killed; met = false; epochs = x.epochs; round = None }
+  pub becomes : y ≡ record { ended = x.ended + 1; killed = x.killed; visit = record x.visit { met = false }; round = None }
 
 -- one line of a healer, by what its round would write next
 abbrev pub SteppedBy : Hearing → ActorId → ℕ → Healer → Healer → Rounding → List Serving → List Serving → Line → Next → Type 0
@@ -141,6 +118,18 @@ SteppedBy Hears a at x y m old new written (next.HealBegin g kind) = IsBegun a a
 SteppedBy Hears a at x y m old new written (next.HealEnd g kind said) = IsHealed a g kind said x y m old new written
 SteppedBy Hears a at x y m old new written (next.End said) = IsEnded a said x y old new written
 SteppedBy Hears a at x y m old new written (next.Begin change) = ⊥
+
+-- the same of a line that is no request, which asks no rule and leaves the bricks as they are
+abbrev pub WrittenBy : ActorId → ℕ → Healer → Healer → Rounding → List Serving → Line → Next → Type 0
+WrittenBy a at x y m bricks written (next.HealBegin g kind) = IsBegun a at g kind x y m bricks bricks written
+WrittenBy a at x y m bricks written (next.HealEnd g kind said) = IsHealed a g kind said x y m bricks bricks written
+WrittenBy a at x y m bricks written (next.End said) = IsEnded a said x y bricks bricks written
+WrittenBy a at x y m bricks written other = ⊥
+
+-- a healer after a line that is no request: its round is over, or goes on
+abbrev pub written_on : Bool → Healer → Visit → Rounding → Healer
+written_on true x v m = record { ended = x.ended + 1; killed = x.killed; visit = v; round = None }
+written_on false x v m = record x { visit = v; round = Some m }
 
 -- one line of a healer whose round has begun
 pub record Stepped (Hears : Hearing) (a : ActorId) (at : ℕ) (x y : Healer) (old new : List Serving) (written : Line) : Type 0 where

@@ -25,7 +25,7 @@ use Rattle.afr_plan.specs.declared.plan.Plan.{Plan}
 use Rattle.afr_rounds.specs.declared.healer.Healer.{Healer}
 use Rattle.afr_self_heal.specs.Healing.{Healing as Heal, IsHealing}
 use Rattle.afr_server.specs.Serving.{Serving}
-use Rattle.afr_servers.specs.Log.{AreFound}
+use Rattle.afr_servers.specs.Visiting.{AreInSession}
 use Rattle.afr_servers.specs.declared.epochs.Epochs.{Epochs}
 use Rattle.afr_transaction.specs.Turn.{Stood}
 use Rattle.afr_walk.specs.Free.{IsFree}
@@ -46,11 +46,6 @@ IsBetweenHeals place = ⊥
 abbrev pub IsNotedHeal : Bool → Shape → ℕ → List Line → Register → Type 0
 IsNotedHeal true shape a log r = (place_of a log ≡ Within) × Stood shape a log r
 IsNotedHeal false shape a log r = IsBetweenHeals (place_of a log) × (r ≡ no_lines shape) × (heal_by (work a log) ≡ [])
-
--- the epochs of a heal that has met the bricks are those of its live sessions
-abbrev pub AreInSession : Bool → ℕ → Epochs → List Serving → Type 0
-AreInSession true a epochs servers = AreFound a epochs servers
-AreInSession false a epochs servers = Unit {0}
 
 -- the area that a heal locks is on its object
 abbrev pub IsOnObject : Gfid → Register → Type 0
@@ -112,4 +107,4 @@ CarriesIts p a log met epochs servers (Some m) = CarriesRound p a log met epochs
 pub record IsHealer (p : Plan) (log : List Line) (a : ℕ) (servers : List Serving) (x : Healer) : Type 0 where
   pub ended_is : x.ended ≡ ended a log
   pub killed_is : x.killed ≡ is_killed a log
-  pub carries : CarriesIts p a log x.met x.epochs servers x.round
+  pub carries : CarriesIts p a log x.visit.met x.visit.epochs servers x.round

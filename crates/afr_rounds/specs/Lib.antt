@@ -1,4 +1,3 @@
 pub mod Acting
 pub mod Keeping
 pub mod Laws
-pub mod Stepping

@@ -2,7 +2,7 @@
 ghost use Rattle.afr_rounds.specs.Acting.{IsNewHealer};
 
 use afr_healer::RoundMachine;
-use afr_servers::Epochs;
+use afr_servers::Visit;
 
 /// A healer of a volume.
 #[derive(Drop)]
@@ -10,10 +10,8 @@ pub struct Healer {
     /// How many rounds have ended.
     pub ended: u32,
     pub killed: bool,
-    /// Whether the present heal has written a line.
-    pub met: bool,
-    /// The sessions that its first line found or opened.
-    pub epochs: Epochs,
+    /// The sessions of the present heal.
+    pub visit: Visit,
     pub round: Option<RoundMachine>,
 }
 
@@ -25,8 +23,7 @@ impl Healer {
         Healer {
             ended: 0,
             killed: false,
-            met: false,
-            epochs: Epochs::none(),
+            visit: Visit::new(),
             round: None,
         }
     }

@@ -7,3 +7,4 @@ pub mod FoundLemmas
 pub mod NextLemmas
 pub mod AllStarted
 pub mod NeedsLemmas
+pub mod VisitLemmas

@@ -37,7 +37,7 @@ use Rattle.afr_server.specs.Serving.{HasEpoch, Serving, has_session, in_way, is_
 use Rattle.afr_session.specs.Links.{is_reached, link_of}
 use Rattle.afr_servers.proofs.PlaceLemmas.{stands}
 use Rattle.afr_servers.specs.Found.{epoch_at}
-use Rattle.afr_servers.specs.Needs.{CanCount, CanServe, CarriesByTheLog, CarriesFirstByTheLog, HasRoom, IsCoveredThere, IsRead, NeedsAreMet, RangesCanBeLocked, AnswersAreRead, change_for, is_read, would_carry}
+use Rattle.afr_servers.specs.Needs.{CanCount, CanServe, CarriesByTheLog, HasRoom, IsCoveredThere, IsRead, NeedsAreMet, RangesCanBeLocked, AnswersAreRead, asking, change_for, is_read, would_carry}
 
 -- ---- whether a request is carried out
 carried_by : (p : Plan) (log : List Line) (a : ActorId) (b : BrickId) (r : Request) (live : Bool) (s : Serving) → IsServed p log b.0 s → is_live p a b.0 (asking a b r) log ≡ live → is_carried live (next_fault s.faults) ≡ would_carry p a b r log
@@ -59,7 +59,7 @@ opens_now true m l h = sym (h refl)
 opens_now false m l h = refl
 
 carries : CarriesByTheLog
-carries p log a epochs b r servers small v found opened s h = carried_by p log a b r (has_session (epoch_at b.0 epochs) a s) s one live
+carries p log a true epochs b r servers small v found opened s h = carried_by p log a b r (has_session (epoch_at b.0 epochs) a s) s one live
   where
     one : IsServed p log b.0 s
     one = v.each b.0 s h
@@ -67,9 +67,7 @@ carries p log a epochs b r servers small v found opened s h = carried_by p log a
     live : is_live p a b.0 (asking a b r) log ≡ is_epoch (epoch_at b.0 epochs) (link_of a.0 s.links)
     live = rw opened (opens_none (is_joined p a.0 b.0 log) (member (started_bricks p.shape.n log) b.0) (is_linked a.0 b.0 log) (a.0 == a.0))
         ∙ sym (epoch_live (epoch_at b.0 epochs) (link_of a.0 s.links).up (link_of a.0 s.links).live (link_of a.0 s.links).opened (found b.0 s h) ∙ (one.links a.0 small).live)
-
-carries_first : CarriesFirstByTheLog
-carries_first p log a b r servers small v opened s h = carried_by p log a b r (is_met a s) s one live
+carries p log a false epochs b r servers small v found opened s h = carried_by p log a b r (is_met a s) s one live
   where
     one : IsServed p log b.0 s
     one = v.each b.0 s h
@@ -134,7 +132,7 @@ lock d (Range g from to) h = h
 lock d (Name g name) h = tt
 
 pub needs_met : NeedsAreMet
-needs_met = record { carries = carries; carries_first = carries_first; can = can; covered = covered; room = room; lock = lock }
+needs_met = record { carries = carries; can = can; covered = covered; room = room; lock = lock }
 
 -- ---- what a read is given
 given_live : (live : Bool) (fault : Option Fault) (said told : Told) (took : Bool) → (record { told = told; took = took }) ≡ over_session live fault said → told ≡ Given → (live ≡ true) × (fault ≡ None)
@@ -175,10 +173,8 @@ read_by p log a b r load first live s s' given v c reads told = c.full log (held
     fine = given_live live (next_fault s.faults) _ (told_by given.answer) given.took (c.outcome log (held_before p log) (λ _. one.brings load log (held_before p log))) told
 
 pub answers_read : AnswersAreRead
-answers_read = record {
-  within = λ p log a epochs b r load old new given v c. read_by p log a b r load false _ c.was c.now given (v.each b.0 c.was c.there) c.serves;
-  first = λ p log a epochs b r load old new given v c.
-      let s = stands old b.0 c.there in
-      let s' = stands new b.0 (omega (arith, c.there, c.count)) in
-      read_by p log a b r load true _ s.0 s'.0 given (v.each b.0 s.0 s.1) (c.serves s.0 s'.0 s.1 s'.1);
-}
+answers_read p log a true epochs after b r load old new given v c = read_by p log a b r load false _ c.1.was c.1.now given (v.each b.0 c.1.was c.1.there) c.1.serves
+answers_read p log a false epochs after b r load old new given v c =
+    let s = stands old b.0 c.there in
+    let s' = stands new b.0 (omega (arith, c.there, c.count)) in
+    read_by p log a b r load true _ s.0 s'.0 given (v.each b.0 s.0 s.1) (c.serves s.0 s'.0 s.1 s'.1)

@@ -1,8 +1,19 @@
 -- Servers of a log are, after one more line, the servers of the log with that line.
-use Rattle.std.proofs.Common.{◌≡◌, ◌≢◌, ℕ, ◌<◌, true, false, ◌∷◌, length, refl, sym, ◌∙◌, arith, Some, slice_get, inl, inr, length-set, subst}
+use Rattle.std.proofs.Common.{◌≡◌, ◌≢◌, ℕ, ◌<◌, ◌≤◌, true, false, List, ◌∷◌, length, refl, sym, ◌∙◌, arith, Some, slice_get, inl, inr, length-set, subst}
 use Rattle.std.proofs.lemmas.Bool.Decides.{eqb_tells}
 use Rattle.std.proofs.lemmas.Option.{slice_get_within}
+use Rattle.afr_base.specs.declared.ids.ActorId.{ActorId}
+use Rattle.afr_base.specs.declared.ids.BrickId.{BrickId}
+use Rattle.afr_faults.specs.Planned.{next_fault}
+use Rattle.afr_lines.specs.Places.{opens, place_of}
+use Rattle.afr_lines.specs.declared.line.Line.{Line}
 use Rattle.afr_lines.specs.declared.line.Line.TheVariants as line_of
+use Rattle.afr_lines.specs.declared.request.Request.{Request}
+use Rattle.afr_model.specs.Tables.{held_before}
+use Rattle.afr_object.specs.declared.change.Load.{Load}
+use Rattle.afr_plan.specs.declared.plan.Plan.{Plan}
+use Rattle.afr_server.specs.declared.server.Asked.{Asked}
+use Rattle.afr_server.specs.Carried.{Brings}
 use Rattle.afr_server.proofs.ElsewhereLemmas.{served_elsewhere, served_met}
 use Rattle.afr_server.proofs.EventLemmas.{served_event}
 use Rattle.afr_server.proofs.FindsLemmas.{kept_event}
@@ -10,22 +21,32 @@ use Rattle.afr_server.proofs.OpeningLemmas.{served_new}
 use Rattle.afr_server.proofs.ServedLemmas.{served_first, served_within}
 use Rattle.afr_server.specs.Log.{Finds, IsServed}
 use Rattle.afr_server.specs.NextLine.{IsServedLine, told_line}
-use Rattle.afr_server.specs.Serving.{Serving}
+use Rattle.afr_server.specs.Outcome.{is_carried}
+use Rattle.afr_server.specs.Serving.{Serving, has_session, is_met}
 use Rattle.afr_session.specs.Links.{link_of}
 use Rattle.afr_servers.proofs.FoundLemmas.{finds_first, finds_met, finds_other, finds_within}
 use Rattle.afr_servers.proofs.PlaceLemmas.{apart_not, each_set, stands, stood}
-use Rattle.afr_servers.specs.Calls.{IsMet}
+use Rattle.afr_servers.specs.Calls.{AsksFirst, AsksOne, At, IsMet}
 use Rattle.afr_servers.specs.Found.{epoch_at}
 use Rattle.afr_servers.specs.Log.{AreFound, AreServed}
-use Rattle.afr_servers.specs.NextLine.{AskedAreServed, EventAreServed, FirstAreServed, MetAreServed, NewAreServed, WrittenAreServed}
+use Rattle.afr_servers.specs.NextLine.{AskedAreServed, EventAreServed, GoOnHonestly, MetAreServed, NewAreServed, WrittenAreServed}
 use Rattle.afr_servers.specs.declared.epochs.Epochs.{Epochs}
 
 pub new_served : NewAreServed
 new_served p servers few n = record { few = n.few; each = λ b s h. let one = n.each b s h in served_new p b s few (omega (arith, n.few, slice_get_within servers b s h)) one.keeps one.objects one.ranges one.names one.started one.links one.requests one.planned }
 
--- a request within a work
-pub asked_served : AskedAreServed
-asked_served p log a epochs b r load old new given few small v found opened brings c = (line.0, record { served = served; found = finds; others = others })
+-- ---- a request within a work
+abbrev AskedWithin : Type 0
+AskedWithin =
+    (p : Plan) (log : List Line) (a : ActorId) (epochs : Epochs) (b : BrickId) (request : Request) (load : Load) (old new : List Serving) (given : Asked)
+    → p.shape.n ≤ 5 → a.0 < 20 → AreServed p log old → AreFound a.0 epochs old
+    → opens (place_of a.0 log) (told_line a b request given) ≡ false
+    → At b.0 old (λ s. is_carried (has_session (epoch_at b.0 epochs) a s) (next_fault s.faults) ≡ true → Brings request load log (held_before p log))
+    → AsksOne a epochs b.0 request load old new given
+    → GoOnHonestly p log a (told_line a b request given) epochs old new
+
+served_again : AskedWithin
+served_again p log a epochs b r load old new given few small v found opened brings c = (line.0, record { served = served; found = finds; others = others })
   where
     there : b.0 < length old
     there = slice_get_within old b.0 c.was c.there
@@ -48,9 +69,18 @@ asked_served p log a epochs b r load old new given few small v found opened brin
     others x its other found = each_set (λ (y : ℕ) (s : Serving). Finds (epoch_at y its) (link_of x s.links)) old new b.0 c.now there c.servers
         (finds_other a x (epoch_at b.0 its) false _ c.was c.now other c.serves.links (found b.0 c.was c.there)) (λ y s apart h. found y s h)
 
--- a request that is the first line of a work or of a heal: one brick serves it, the others are met
-pub first_served : FirstAreServed
-first_served p log a epochs b r load old new given few small v opened brings c = ((line was.0 now.0 was.1 now.1).0, record { served = served; found = finds; others = others })
+-- ---- one that is the first line of a work or of a heal: one brick serves it, the others are met
+abbrev AskedFirst : Type 0
+AskedFirst =
+    (p : Plan) (log : List Line) (a : ActorId) (epochs : Epochs) (b : BrickId) (request : Request) (load : Load) (old new : List Serving) (given : Asked)
+    → p.shape.n ≤ 5 → a.0 < 20 → AreServed p log old
+    → opens (place_of a.0 log) (told_line a b request given) ≡ true
+    → At b.0 old (λ s. is_carried (is_met a s) (next_fault s.faults) ≡ true → Brings request load log (held_before p log))
+    → AsksFirst a b.0 request load old new epochs given
+    → GoOnHonestly p log a (told_line a b request given) epochs old new
+
+served_at_first : AskedFirst
+served_at_first p log a epochs b r load old new given few small v opened brings c = ((line was.0 now.0 was.1 now.1).0, record { served = served; found = finds; others = others })
   where
     was : (s : Serving) × (slice_get old b.0 ≡ Some s)
     was = stands old b.0 c.there
@@ -95,7 +125,13 @@ first_served p log a epochs b r load old new given few small v opened brings c =
         (λ y s s' apart h m. finds_other a x (epoch_at y its) true false s s' other m.does.links (found y s h))
         y s.0 s' s.1 h'
 
--- a line that is no request and opens no session
+-- ---- a request of a visit is one of the two
+pub asked_served : AskedAreServed
+asked_served p log a true epochs after b r load old new given few small v found opened brings k =
+    subst (λ (epochs : Epochs). GoOnHonestly p log a (told_line a b r given) epochs old new) (sym k.0) (served_again p log a epochs b r load old new given few small v found opened brings k.1)
+asked_served p log a false epochs after b r load old new given few small v found opened brings k = served_at_first p log a after b r load old new given few small v opened brings k
+
+-- ---- a line that is no request and opens no session
 pub written_served : WrittenAreServed
 written_served p log line a servers few v there by opened = record { few = v.few; each = λ b s h. served_elsewhere p log line b a s (v.each b s h) (there b) by opened }
 

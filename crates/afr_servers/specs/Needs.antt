@@ -1,5 +1,5 @@
 -- What a request needs of its server follows from what the log says of it, and what a read is given is what the log has.
-use Rattle.std.specs.Prelude.{◌≡◌, ℕ, ◌<◌, ◌≤◌, ◌-◌, ◌^◌, Bool, true, false, List, Option, None, length}
+use Rattle.std.specs.Prelude.{◌≡◌, ℕ, ◌<◌, ◌≤◌, ◌-◌, ◌^◌, Bool, true, false, not, List, Option, None, length}
 use Rattle.afr_base.specs.Bricks.{IsWithin, member}
 use Rattle.afr_base.specs.declared.ids.ActorId.{ActorId}
 use Rattle.afr_base.specs.declared.ids.BrickId.{BrickId}
@@ -25,12 +25,12 @@ use Rattle.afr_server.specs.declared.server.Asked.{Asked}
 use Rattle.afr_server.specs.Carried.{Brings, CanCarryOut, CanLock}
 use Rattle.afr_server.specs.Covered.{IsUnderLocks}
 use Rattle.afr_server.specs.Outcome.{is_carried}
-use Rattle.afr_server.specs.Serving.{HasEpoch, Serving, has_session, is_met}
+use Rattle.afr_server.specs.Serving.{HasEpoch, Serving}
 use Rattle.afr_tables.specs.Carrying.{CanCarry}
-use Rattle.afr_servers.specs.Calls.{AsksFirst, AsksOne, At}
-use Rattle.afr_servers.specs.Found.{epoch_at}
-use Rattle.afr_servers.specs.Log.{AreFound, AreServed}
+use Rattle.afr_servers.specs.Calls.{At}
+use Rattle.afr_servers.specs.Log.{AreServed}
 use Rattle.afr_servers.specs.Started.{started_in}
+use Rattle.afr_servers.specs.Visiting.{AreInSession, ServesNext, has_live}
 use Rattle.afr_servers.specs.declared.epochs.Epochs.{Epochs}
 
 -- whether the brick would carry the request out next, by the log
@@ -42,19 +42,12 @@ abbrev pub change_for : Request → List Line → Option Change
 change_for (request.Apply attempt) log = change_at attempt log
 change_for other log = None
 
--- a server carries the request out exactly where the log says so: within a work, over the epoch that its actor found
+-- a server carries the request of a visit out exactly where the log says so
 abbrev pub CarriesByTheLog : Type 0
 CarriesByTheLog =
-    (p : Plan) (log : List Line) (a : ActorId) (epochs : Epochs) (b : BrickId) (request : Request) (servers : List Serving)
-    → a.0 < 20 → AreServed p log servers → AreFound a.0 epochs servers → opens (place_of a.0 log) (asking a b request) ≡ false
-    → At b.0 servers (λ s. is_carried (has_session (epoch_at b.0 epochs) a s) (next_fault s.faults) ≡ would_carry p a b request log)
-
--- and at the first line of a work or of a heal
-abbrev pub CarriesFirstByTheLog : Type 0
-CarriesFirstByTheLog =
-    (p : Plan) (log : List Line) (a : ActorId) (b : BrickId) (request : Request) (servers : List Serving)
-    → a.0 < 20 → AreServed p log servers → opens (place_of a.0 log) (asking a b request) ≡ true
-    → At b.0 servers (λ s. is_carried (is_met a s) (next_fault s.faults) ≡ would_carry p a b request log)
+    (p : Plan) (log : List Line) (a : ActorId) (met : Bool) (epochs : Epochs) (b : BrickId) (request : Request) (servers : List Serving)
+    → a.0 < 20 → AreServed p log servers → AreInSession met a.0 epochs servers → opens (place_of a.0 log) (asking a b request) ≡ not met
+    → At b.0 servers (λ s. is_carried (has_live met a epochs b.0 s) (next_fault s.faults) ≡ would_carry p a b request log)
 
 -- what the log's tables can carry out with what the load brings, the server's can
 abbrev pub CanServe : Type 0
@@ -87,7 +80,6 @@ RangesCanBeLocked = (domain : Domain) (area : Area) → HasNumber area → CanLo
 -- what a request needs of its server, in the log's words
 pub record NeedsAreMet : Type 0 where
   pub carries : CarriesByTheLog
-  pub carries_first : CarriesFirstByTheLog
   pub can : CanServe
   pub covered : IsCoveredThere
   pub room : HasRoom
@@ -107,14 +99,11 @@ is_read other = false
 abbrev pub IsRead : Plan → List Line → BrickId → Request → Asked → Type 0
 IsRead p log b request given = is_read request ≡ true → told_by given.answer ≡ Given → given.answer ≡ answer_by None request (holds p log b.0) log
 
--- what a read is given is what its brick's tables have after the log, within a work and at its first line
-pub record AnswersAreRead : Type 0 where
-  pub within :
-      (p : Plan) (log : List Line) (a : ActorId) (epochs : Epochs) (b : BrickId) (request : Request) (load : Load) (old new : List Serving) (given : Asked)
-      → AreServed p log old → AsksOne a epochs b.0 request load old new given → IsRead p log b request given
-  pub first :
-      (p : Plan) (log : List Line) (a : ActorId) (epochs : Epochs) (b : BrickId) (request : Request) (load : Load) (old new : List Serving) (given : Asked)
-      → AreServed p log old → AsksFirst a b.0 request load old new epochs given → IsRead p log b request given
+-- what a read of a visit is given is what its brick's tables have after the log
+abbrev pub AnswersAreRead : Type 0
+AnswersAreRead =
+    (p : Plan) (log : List Line) (a : ActorId) (met : Bool) (epochs after : Epochs) (b : BrickId) (request : Request) (load : Load) (old new : List Serving) (given : Asked)
+    → AreServed p log old → ServesNext met a b request load epochs old new after given → IsRead p log b request given
 
 -- a server is started where the log says so; where events name bricks of the volume alone, the started servers are the started bricks
 pub record StartedAreKnown : Type 0 where

@@ -1,5 +1,5 @@
 -- Servers of a log are, after one more line, the servers of the log with that line.
-use Rattle.std.specs.Prelude.{◌≡◌, ◌≢◌, ℕ, ◌<◌, ◌≤◌, ◌==◌, true, false, List, [], ◌∷◌}
+use Rattle.std.specs.Prelude.{◌≡◌, ◌≢◌, ℕ, ◌<◌, ◌≤◌, ◌==◌, Bool, true, false, not, List, [], ◌∷◌}
 use Rattle.afr_base.specs.declared.ids.ActorId.{ActorId}
 use Rattle.afr_base.specs.declared.ids.BrickId.{BrickId}
 use Rattle.afr_faults.specs.Planned.{next_fault}
@@ -17,11 +17,11 @@ use Rattle.afr_server.specs.declared.server.Asked.{Asked}
 use Rattle.afr_server.specs.Carried.{Brings}
 use Rattle.afr_server.specs.NextLine.{is_elsewhere, told_line}
 use Rattle.afr_server.specs.Outcome.{is_carried}
-use Rattle.afr_server.specs.Serving.{Serving, has_session, is_met}
-use Rattle.afr_servers.specs.Calls.{AsksFirst, AsksOne, At, MeetsAll, MeetsEach}
-use Rattle.afr_servers.specs.Found.{epoch_at}
+use Rattle.afr_server.specs.Serving.{Serving}
+use Rattle.afr_servers.specs.Calls.{At, MeetsAll, MeetsEach}
 use Rattle.afr_servers.specs.Log.{AreFound, AreServed}
 use Rattle.afr_servers.specs.Opening.{AreNew}
+use Rattle.afr_servers.specs.Visiting.{AreInSession, ServesNext, has_live}
 use Rattle.afr_servers.specs.declared.epochs.Epochs.{Epochs}
 
 -- new servers are those of the empty log
@@ -38,25 +38,15 @@ pub record GoOn (p : Plan) (log : List Line) (a : ActorId) (line : Line) (epochs
 abbrev pub GoOnHonestly : Plan → List Line → ActorId → Line → Epochs → List Serving → List Serving → Type 0
 GoOnHonestly p log a line epochs old new = IsHonest p line log × GoOn p log a line epochs old new
 
--- a request within a work
+-- a request of a visit: within a work, or as the first line of a work or of a heal
 abbrev pub AskedAreServed : Type 0
 AskedAreServed =
-    (p : Plan) (log : List Line) (a : ActorId) (epochs : Epochs) (b : BrickId) (request : Request) (load : Load) (old new : List Serving) (given : Asked)
-    → p.shape.n ≤ 5 → a.0 < 20 → AreServed p log old → AreFound a.0 epochs old
-    → opens (place_of a.0 log) (told_line a b request given) ≡ false
-    → At b.0 old (λ s. is_carried (has_session (epoch_at b.0 epochs) a s) (next_fault s.faults) ≡ true → Brings request load log (held_before p log))
-    → AsksOne a epochs b.0 request load old new given
-    → GoOnHonestly p log a (told_line a b request given) epochs old new
-
--- a request that is the first line of a work or of a heal
-abbrev pub FirstAreServed : Type 0
-FirstAreServed =
-    (p : Plan) (log : List Line) (a : ActorId) (epochs : Epochs) (b : BrickId) (request : Request) (load : Load) (old new : List Serving) (given : Asked)
-    → p.shape.n ≤ 5 → a.0 < 20 → AreServed p log old
-    → opens (place_of a.0 log) (told_line a b request given) ≡ true
-    → At b.0 old (λ s. is_carried (is_met a s) (next_fault s.faults) ≡ true → Brings request load log (held_before p log))
-    → AsksFirst a b.0 request load old new epochs given
-    → GoOnHonestly p log a (told_line a b request given) epochs old new
+    (p : Plan) (log : List Line) (a : ActorId) (met : Bool) (epochs after : Epochs) (b : BrickId) (request : Request) (load : Load) (old new : List Serving) (given : Asked)
+    → p.shape.n ≤ 5 → a.0 < 20 → AreServed p log old → AreInSession met a.0 epochs old
+    → opens (place_of a.0 log) (told_line a b request given) ≡ not met
+    → At b.0 old (λ s. is_carried (has_live met a epochs b.0 s) (next_fault s.faults) ≡ true → Brings request load log (held_before p log))
+    → ServesNext met a b request load epochs old new after given
+    → GoOnHonestly p log a (told_line a b request given) after old new
 
 -- a line of an actor that is no request, and that opens no session, leaves the servers as they are
 abbrev pub WrittenAreServed : Type 0

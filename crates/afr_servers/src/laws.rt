@@ -1,6 +1,6 @@
 //! What the servers are of a log, and that they stay so.
 ghost use Rattle.afr_servers.specs.Needs.{AnswersAreRead, NeedsAreMet, StartedAreKnown};
-ghost use Rattle.afr_servers.specs.NextLine.{AskedAreServed, EventAreServed, FirstAreServed, MetAreServed, NewAreServed, WrittenAreServed};
+ghost use Rattle.afr_servers.specs.NextLine.{AskedAreServed, EventAreServed, MetAreServed, NewAreServed, WrittenAreServed};
 
 /// New servers are those of the empty log. Servers of a log are, after a request, a line that is
 /// none, or an event, the servers of the log with that line; what an actor found stays the epochs
@@ -10,7 +10,6 @@ ghost use Rattle.afr_servers.specs.NextLine.{AskedAreServed, EventAreServed, Fir
 pub fn servers_follow_their_log()
     ensures new { NewAreServed }
     ensures asked { AskedAreServed }
-    ensures asked_first { FirstAreServed }
     ensures written { WrittenAreServed }
     ensures met { MetAreServed }
     ensures event { EventAreServed }

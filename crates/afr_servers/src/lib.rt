@@ -9,7 +9,9 @@ mod meeting;
 mod opening;
 mod servers;
 mod started;
+mod visit;
 
 pub use epochs::Epochs;
 pub use laws::servers_follow_their_log;
 pub use servers::Servers;
+pub use visit::Visit;

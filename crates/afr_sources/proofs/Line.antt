@@ -107,11 +107,11 @@ module _ {F : Type 0} (calls : Calls F) (choose : F) (can : CanStepNext) (rounds
 
   -- the round stands at this heal
   module _ (m : Rounding) (present : x.round ≡ Some m) (h : Heal) (stage_is : m.stage ≡ Healing h) where
-    carries : CarriesRound p a.0 log x.met x.epochs servers m
-    carries = subst (CarriesIts p a.0 log x.met x.epochs servers) present acting.carries
+    carries : CarriesRound p a.0 log x.visit.met x.visit.epochs servers m
+    carries = subst (CarriesIts p a.0 log x.visit.met x.visit.epochs servers) present acting.carries
 
-    here : RunsHeal p a.0 log x.met x.epochs servers h
-    here = (subst (StageStands p a.0 log x.met x.epochs servers m.round) stage_is carries.stage).0
+    here : RunsHeal p a.0 log x.visit.met x.visit.epochs servers h
+    here = (subst (StageStands p a.0 log x.visit.met x.visit.epochs servers m.round) stage_is carries.stage).0
 
     abbrev w : Work
     w = heal_by (work a.0 log)
@@ -127,10 +127,10 @@ module _ {F : Type 0} (calls : Calls F) (choose : F) (can : CanStepNext) (rounds
 
     -- ---- the heal goes on
     module _ (z : Heal) (kind_is : z.kind ≡ h.kind) (now : Rounding) (now_is : y.round ≡ Some now) (now_at : now.stage ≡ Healing z) (border : heal_by (work a.0 (line ∷ log)) ≡ (line, log) ∷ w) where
-      there : RunsHeal p a.0 (line ∷ log) y.met y.epochs new z
+      there : RunsHeal p a.0 (line ∷ log) y.visit.met y.visit.epochs new z
       there =
-          let round : CarriesRound p a.0 (line ∷ log) y.met y.epochs new now = subst (CarriesIts p a.0 (line ∷ log) y.met y.epochs new) now_is after.carries in
-          (subst (StageStands p a.0 (line ∷ log) y.met y.epochs new now.round) now_at round.stage).0
+          let round : CarriesRound p a.0 (line ∷ log) y.visit.met y.visit.epochs new now = subst (CarriesIts p a.0 (line ∷ log) y.visit.met y.visit.epochs new) now_is after.carries in
+          (subst (StageStands p a.0 (line ∷ log) y.visit.met y.visit.epochs new now.round) now_at round.stage).0
 
       stage_after : StageOf z ((line, log) ∷ w)
       stage_after = subst (StageOf z) border (stage_heal z (heal_by (work a.0 (line ∷ log))) there.sound there.tells)
@@ -163,7 +163,7 @@ module _ {F : Type 0} (calls : Calls F) (choose : F) (can : CanStepNext) (rounds
 
       can_hear : heal.CanHear (Asks b.0 asked) s.given.answer
       can_hear =
-          let heard : rounding.CanHear m s.given.answer = (can p a log servers x before acting ready m present).hears b asked new s.epochs s.given next_is s.fits s.served in
+          let heard : rounding.CanHear m s.given.answer = (can p a log servers x before acting ready m present).hears b asked s.load new s.epochs s.given next_is s.fits s.carries s.served in
           subst (λ (line : HealNext). heal.CanHear line s.given.answer) e (subst (λ (stage : RoundStage). CanHearAt stage s.given.answer) stage_is heard)
 
       border : heal_by (work a.0 (line ∷ log)) ≡ (line, log) ∷ w

@@ -69,9 +69,9 @@ module _ (p : Plan) (c : ℕ) (event : Event) (log : List Line) (old new : List 
   still_acting x y e k = subst (λ (z : Actor). IsActing p (line_of.Event event ∷ log) c new z) (sym e) (record {
     ended_is = k.ended_is;
     killed_is = ap (λ (dead : Bool). kills c (line_of.Event event) || dead) k.killed_is;
-    carries = stays p c (line_of.Event event) log old new refl refl refl ((laws p log event fits).stand c) found x.met x.epochs x.work k.carries;
+    carries = stays p c (line_of.Event event) log old new refl refl refl ((laws p log event fits).stand c) found x.visit.met x.visit.epochs x.work k.carries;
     unpicked = λ none. absurd (cc none);
-    reads = reading_stays p c (line_of.Event event) log x.met x.picked x.work refl refl refl k.reads;
+    reads = reading_stays p c (line_of.Event event) log x.visit.met x.picked x.work refl refl refl k.reads;
   })
 
 -- ---- the whole volume

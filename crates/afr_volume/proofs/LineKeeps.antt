@@ -29,6 +29,7 @@ use Rattle.afr_plan.specs.declared.command.Command.{Command}
 use Rattle.afr_plan.specs.declared.command.Command.TheVariants as command
 use Rattle.afr_plan.specs.declared.plan.Plan.{Plan}
 use Rattle.afr_server.specs.Serving.{Serving}
+use Rattle.afr_servers.proofs.VisitLemmas.{session_on}
 use Rattle.afr_servers.specs.Log.{AreFound, AreServed}
 use Rattle.afr_servers.specs.declared.epochs.Epochs.{Epochs}
 use Rattle.afr_transaction.specs.Turn.{Stood}
@@ -36,7 +37,7 @@ use Rattle.afr_works.specs.Work.{register_of}
 use Rattle.afr_works.specs.declared.work.Work.{Work}
 use Rattle.afr_works.specs.declared.work.Work.TheVariants.{Entry, Idle, Lookup, Rename, Write}
 use Rattle.afr_works_tell.specs.WorkTelling.{WorkTells}
-use Rattle.afr_volume.specs.Keeping.{Carries, CarriesOut, IsActing, IsInSession, IsNoted}
+use Rattle.afr_volume.specs.Keeping.{Carries, CarriesOut, IsActing, IsNoted}
 use Rattle.afr_volume.specs.declared.actor.Actor.{Actor}
 use Rattle.afr_volume.proofs.ReadingLemmas.{reading_stays}
 
@@ -116,10 +117,6 @@ module _ (p : Plan) (c : ℕ) (line : Line) (log : List Line) (old new : List Se
   noted_on true r k = (same_place ∙ k.0, stands r k.1)
   noted_on false r k = (same_place ∙ k.0, k.1)
 
-  session_on : (met : Bool) (epochs : Epochs) → IsInSession met c epochs old → IsInSession met c epochs new
-  session_on true epochs k = found epochs k
-  session_on false epochs k = tt
-
   carries_on : (met : Bool) (epochs : Epochs) (w : Work) → CarriesOut p c log met epochs old w → CarriesOut p c (line ∷ log) met epochs new w
   carries_on met epochs w k = record {
     command = k.command;
@@ -128,7 +125,7 @@ module _ (p : Plan) (c : ℕ) (line : Line) (log : List Line) (old new : List Se
     five = k.five;
     shape = k.shape;
     noted = noted_on met (register_of w) k.noted;
-    sessions = session_on met epochs k.sessions;
+    sessions = session_on met c epochs old new (found epochs) k.sessions;
     tells = subst (WorkTells p k.command w) (sym same_work) k.tells;
   }
 
@@ -145,9 +142,9 @@ pub others_stay : (p : Plan) (a : ActorId) (c : ℕ) (line : Line) (log : List L
 others_stay p a c line log old new x w e stands found k = record {
   ended_is = k.ended_is ∙ sym (other_ended a c line log w e);
   killed_is = k.killed_is ∙ sym (wrote_killed a c line log w);
-  carries = stays p c line log old new (other_work a c line log w e) (other_place a c line log w e) (other_ended a c line log w e) stands found x.met x.epochs x.work k.carries;
+  carries = stays p c line log old new (other_work a c line log w e) (other_place a c line log w e) (other_ended a c line log w e) stands found x.visit.met x.visit.epochs x.work k.carries;
   unpicked = λ none. absurd (cc none);
-  reads = reading_stays p c line log x.met x.picked x.work (wrote_other a c line w e) (other_work a c line log w e) (other_ended a c line log w e) k.reads;
+  reads = reading_stays p c line log x.visit.met x.picked x.work (wrote_other a c line w e) (other_work a c line log w e) (other_ended a c line log w e) k.reads;
 }
 
 -- ---- one line

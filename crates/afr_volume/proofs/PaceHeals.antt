@@ -50,12 +50,12 @@ module _ (paces : PaceLaws) where
     shows_heal false r k i line = let none : false ≡ true = sym (ap (λ (r : Register). r.inside) k.1) ∙ i in absurd (cc none)
 
     module _ (servers new : List Serving) (x y : Healer) (line : Line) (k : IsHealer p log a.0 servers x) (s : Stepped IsAnswered a (length log) x y servers new line) (of : IsOfPlan p (line ∷ log)) where
-      carries : CarriesRound p a.0 log x.met x.epochs servers s.round
-      carries = subst (CarriesIts p a.0 log x.met x.epochs servers) s.present k.carries
+      carries : CarriesRound p a.0 log x.visit.met x.visit.epochs servers s.round
+      carries = subst (CarriesIts p a.0 log x.visit.met x.visit.epochs servers) s.present k.carries
 
-      in_heal : (b : BrickId) (area : Area) (stage : RoundStage) → StageStands p a.0 log x.met x.epochs servers s.round.round stage → next_at s.round.round.brick stage ≡ next.Ask b (request.Lock WorkDomain area) → (l : Line) → (locks_at p a.0 l log).heal ≡ true
+      in_heal : (b : BrickId) (area : Area) (stage : RoundStage) → StageStands p a.0 log x.visit.met x.visit.epochs servers s.round.round stage → next_at s.round.round.brick stage ≡ next.Ask b (request.Lock WorkDomain area) → (l : Line) → (locks_at p a.0 l log).heal ≡ true
       in_heal b area Asking c e l = absurd (cc e)
-      in_heal b area (At h) c e l = shows_heal x.met h.register c.0.noted (inside h b area c.0.sound e) l
+      in_heal b area (At h) c e l = shows_heal x.visit.met h.register c.0.noted (inside h b area c.0.sound e) l
       in_heal b area (Over refused) c e l = absurd (cc e)
 
       rises : (b : BrickId) (asked : Request) → next_of s.round ≡ next.Ask b asked → (told : Told) (took : Bool) → RisesInHeal p (Ask a b asked told took) log → IsRisingLine p (Ask a b asked told took) log

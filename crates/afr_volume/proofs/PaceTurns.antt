@@ -72,8 +72,8 @@ module _ (paces : PaceLaws) (laws : Laws) (starts : BeginLaws) (p : Plan) (a : A
     keeps : LineKeeps p a (reverse items) line s.after servers new_servers
     keeps = line_keeps laws p a (reverse items) servers (before laws starts p a items actors readied servers made v client actor room r) s.before s.after new_servers line (busy laws starts p a items actors readied servers made v client actor room r s.before s.was).0 acting stepped
 
-    carries : CarriesOut p a.0 (reverse items) s.before.met s.before.epochs servers s.before.work
-    carries = carried laws p a (reverse items) servers (before laws starts p a items actors readied servers made v client actor room r) s.before.met s.before.epochs s.before.work (busy laws starts p a items actors readied servers made v client actor room r s.before s.was).0 acting.carries
+    carries : CarriesOut p a.0 (reverse items) s.before.visit.met s.before.visit.epochs servers s.before.work
+    carries = carried laws p a (reverse items) servers (before laws starts p a items actors readied servers made v client actor room r) s.before.visit.met s.before.visit.epochs s.before.work (busy laws starts p a items actors readied servers made v client actor room r s.before s.was).0 acting.carries
 
     own : LinePaced p a.0 (reverse items) line s.after.work
     own = line_paced paces p a (reverse items) servers new_servers s.before s.after line (is_of_plan p (reverse items) servers actors made v) client carries (busy laws starts p a items actors readied servers made v client actor room r s.before s.was).0

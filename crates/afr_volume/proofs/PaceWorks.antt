@@ -63,7 +63,7 @@ noted_at : (met : Bool) (p : Plan) (a : ℕ) (log : List Line) (r : Register) �
 noted_at true p a log r k = inl k
 noted_at false p a log r k = inr k
 
-module _ (paces : PaceLaws) (p : Plan) (a : ActorId) (log : List Line) (servers new : List Serving) (x y : Actor) (written : Line) (of : IsOfPlan p log) (client : a.0 ≤ 16) (c : CarriesOut p a.0 log x.met x.epochs servers x.work) (busy : IsBusy x.work) (k : IsPaced p a.0 log x.work) where
+module _ (paces : PaceLaws) (p : Plan) (a : ActorId) (log : List Line) (servers new : List Serving) (x y : Actor) (written : Line) (of : IsOfPlan p log) (client : a.0 ≤ 16) (c : CarriesOut p a.0 log x.visit.met x.visit.epochs servers x.work) (busy : IsBusy x.work) (k : IsPaced p a.0 log x.work) where
   -- a line that isn't the last leaves so many lines less
   goes_on : (line : Line) (after : Work) → is_of a.0 line ≡ true → is_end line ≡ false → IsBusy after → work_left after + counted line ≤ work_left x.work → IsWithinCost p line log × HasLeft p a.0 (line ∷ log) (work_left after)
   goes_on line after own more still nearer = (
@@ -86,7 +86,7 @@ module _ (paces : PaceLaws) (p : Plan) (a : ActorId) (log : List Line) (servers 
     among = one_among (choices_of s.given.answer (length log) x.work) s.heard.picked s.heard.hears.among
 
     rises : (asked : Request) → next_of (length log) x.work ≡ next.Ask b asked → (told : Told) (took : Bool) → IsRisingLine p (Ask a b asked told took) log
-    rises (request.Lock WorkDomain area) e told took = paces.rises p log c.command x.work a b area (length log) of client c.present c.sound c.tells (noted_at x.met p a.0 log (register_of x.work) c.noted) k.queued e told took
+    rises (request.Lock WorkDomain area) e told took = paces.rises p log c.command x.work a b area (length log) of client c.present c.sound c.tells (noted_at x.visit.met p a.0 log (register_of x.work) c.noted) k.queued e told took
     rises (request.Lock Heal area) e told took = tt
     rises (request.Unlock domain area) e told took = tt
     rises (request.Look g) e told took = tt

@@ -1,5 +1,5 @@
 -- The copies that were picked for the clients' reads: what each turn leaves of them.
-use Rattle.std.proofs.Common.{◌≡◌, ◌∙◌, ℕ, zero, suc, ◌+◌, ◌-◌, ◌≤◌, true, List, [], ◌∷◌, Option, Some, None, refl, sym, ap, arith, length, slice_get, slice_set, replicate, reverse, inl, inr}
+use Rattle.std.proofs.Common.{◌≡◌, ◌∙◌, ℕ, Bool, zero, suc, ◌+◌, ◌-◌, ◌≤◌, List, [], ◌∷◌, Option, Some, None, refl, sym, ap, arith, length, slice_get, slice_set, replicate, reverse, inl, inr}
 use Rattle.afr_base.specs.declared.ids.ActorId.{ActorId}
 use Rattle.afr_base.specs.declared.ids.BrickId.{BrickId}
 use Rattle.afr_lines.specs.declared.answer.Answer.{Answer}
@@ -21,13 +21,13 @@ use Rattle.afr_volume.specs.Turning.{KillsIn, ReadiedAt, Readies, StepsAt}
 use Rattle.afr_volume.specs.declared.actor.Actor.{Actor}
 
 -- ---- what was picked is kept beside the work that has heard it
-pub heard_so : {F : Type 0} (calls : Calls F) (choose : F) (answer : Answer) (at : ℕ) (request : Request) (x : Actor) (after : Work) (now kept : Option BrickId) → RuleAnswers calls choose (choices_of answer at x.work) now → after ≡ heard_by (reader_of now) (heard.Answer answer at) x.work
-    → kept ≡ picked_after x.met request now x.picked → HasHeard (HearsBy calls choose) answer at request x (record { ended = x.ended; killed = x.killed; met = true; epochs = x.epochs; picked = kept; work = after })
-heard_so calls choose answer at request x after now kept answers value keeps = record {
+pub heard_so : {F : Type 0} (calls : Calls F) (choose : F) (answer : Answer) (at : ℕ) (met : Bool) (request : Request) (x : Actor) (after : Work) (now kept : Option BrickId) → RuleAnswers calls choose (choices_of answer at x.work) now → after ≡ heard_by (reader_of now) (heard.Answer answer at) x.work
+    → kept ≡ picked_after met request now x.picked → HasHeard (HearsBy calls choose) answer at met request x (record { ended = x.ended; killed = x.killed; visit = x.visit; picked = kept; work = after })
+heard_so calls choose answer at met request x after now kept answers value keeps = record {
   after = after;
   picked = now;
   hears = record { answers = answers; value = value };
-  becomes = ap (λ (picked : Option BrickId). record { ended = x.ended; killed = x.killed; met = true; epochs = x.epochs; picked = picked; work = after }) keeps;
+  becomes = ap (λ (picked : Option BrickId). record { ended = x.ended; killed = x.killed; visit = x.visit; picked = picked; work = after }) keeps;
 }
 
 -- ---- lists

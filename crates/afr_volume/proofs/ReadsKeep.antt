@@ -44,6 +44,8 @@ module _ {G : Type 0} (calls : Calls G) (choose : G) (rules : RuleLaws calls cho
   any_asked b request x y old new written k = record {
     given = k.given;
     epochs = k.epochs;
+    load = k.load;
+    carries = k.carries;
     fits = k.fits;
     served = k.served;
     is_line = k.is_line;
@@ -78,15 +80,15 @@ pub record ReadsOn (picks : Picks) (p : Plan) (a : ℕ) (log : List Line) (line 
   pub answers : Answers picks (asked_of p a (line ∷ log)) (picked_by y)
 
 module _ {G : Type 0} (calls : Calls G) (choose : G) (rules : RuleLaws calls choose) (laws : Laws) (p : Plan) (a : ActorId) (log : List Line) (servers : List Serving) (before : IsBefore p a log servers) (x y : Actor) (new : List Serving) (written : Line)
-    (acting : IsActing p log a.0 servers x) (c : CarriesOut p a.0 log x.met x.epochs servers x.work) (was : Answers (picks_of calls choose) (asked_of p a.0 log) (picked_by x)) where
+    (acting : IsActing p log a.0 servers x) (c : CarriesOut p a.0 log x.visit.met x.visit.epochs servers x.work) (was : Answers (picks_of calls choose) (asked_of p a.0 log) (picked_by x)) where
   abbrev kept : Option ℕ
-  kept = number_in (still_picked x.met x.picked)
+  kept = number_in (still_picked x.visit.met x.picked)
 
   -- before the line the rule has answered for the looks of the present work
   answered : Answers (picks_of calls choose) (asked_for_command p c.command (work a.0 log)) kept
-  answered = by_met x.met refl
+  answered = by_met x.visit.met refl
     where
-      by_met : (met : Bool) → x.met ≡ met → Answers (picks_of calls choose) (asked_for_command p c.command (work a.0 log)) (number_in (still_picked met x.picked))
+      by_met : (met : Bool) → x.visit.met ≡ met → Answers (picks_of calls choose) (asked_for_command p c.command (work a.0 log)) (number_in (still_picked met x.picked))
       by_met true e = subst (λ (from : List (ℕ × ℕ)). Answers (picks_of calls choose) from (picked_by x)) (acting.reads.within e ∙ rw c.present refl) was
       by_met false e = rw (acting.reads.fresh e) (asked_first p c.command)
 
@@ -101,9 +103,9 @@ module _ {G : Type 0} (calls : Calls G) (choose : G) (rules : RuleLaws calls cho
   asks : (b : BrickId) (asked : Request) → next_of (length log) x.work ≡ next.Ask b asked → IsAsked (HearsBy calls choose) a (length log) b asked x y servers new written → ReadsOn (picks_of calls choose) p a.0 log written y
   asks b asked e s = subst (λ (l : Line). ReadsOn (picks_of calls choose) p a.0 log l y) (sym s.is_line) (record {
     picked = rules.reads p c.command x.work a b asked (told_by s.given.answer) s.given.took log kept c.sound c.tells e (acting.reads.keeps c.command c.present) answered;
-    answers = own_line (Ask a b asked (told_by s.given.answer) s.given.took) y (picked_after x.met asked s.heard.picked x.picked) (self a.0) (ap (λ (z : Actor). z.picked) s.heard.becomes)
+    answers = own_line (Ask a b asked (told_by s.given.answer) s.given.took) y (picked_after x.visit.met asked s.heard.picked x.picked) (self a.0) (ap (λ (z : Actor). z.picked) s.heard.becomes)
         (subst (Answers (picks_of calls choose) (asked_for_command p c.command ((Ask a b asked (told_by s.given.answer) s.given.took, log) ∷ work a.0 log)))
-        (picked_same x.met asked s.heard.picked x.picked (kept_picked laws p a log servers before x y new written c b asked e any acting.reads).none)
+        (picked_same x.visit.met asked s.heard.picked x.picked (kept_picked laws p a log servers before x y new written c b asked e any acting.reads).none)
         (rules.asks p c.command x.work (work a.0 log) a b asked s.given.answer s.given.took log s.heard.picked kept c.sound c.tells e (hears_next laws p a log servers before x y new written c b asked e any) (acting.reads.keeps c.command c.present)
         s.heard.hears.answers answered));
   })
@@ -114,13 +116,13 @@ module _ {G : Type 0} (calls : Calls G) (choose : G) (rules : RuleLaws calls cho
   begins : (change : Change) → IsBegun a (length log) change x y servers new written → ReadsOn (picks_of calls choose) p a.0 log written y
   begins change s = subst (λ (l : Line). ReadsOn (picks_of calls choose) p a.0 log l y) (sym s.is_line) (record {
     picked = tt;
-    answers = own_line (Begin a change) y (still_picked x.met x.picked) (self a.0) (ap (λ (z : Actor). z.picked) s.becomes) (still_answered (Begin a change) refl);
+    answers = own_line (Begin a change) y (still_picked x.visit.met x.picked) (self a.0) (ap (λ (z : Actor). z.picked) s.becomes) (still_answered (Begin a change) refl);
   })
 
   ends : (said : Reply) → next_of (length log) x.work ≡ next.End said → IsEnded a said x y servers new written → ReadsOn (picks_of calls choose) p a.0 log written y
   ends said e s = subst (λ (l : Line). ReadsOn (picks_of calls choose) p a.0 log l y) (sym s.is_line) (record {
     picked = rules.ends p c.command x.work a said log kept c.sound c.tells e (acting.reads.keeps c.command c.present) answered;
-    answers = own_line (End a said) y (still_picked x.met x.picked) (self a.0) (ap (λ (z : Actor). z.picked) s.becomes) (still_answered (End a said) refl);
+    answers = own_line (End a said) y (still_picked x.visit.met x.picked) (self a.0) (ap (λ (z : Actor). z.picked) s.becomes) (still_answered (End a said) refl);
   })
 
   pub line_reads : Stepped (HearsBy calls choose) a (length log) x y servers new written → ReadsOn (picks_of calls choose) p a.0 log written y
@@ -159,7 +161,7 @@ module _ {G : Type 0} (calls : Calls G) (choose : G) (rules : RuleLaws calls cho
       rw (grown, reverse_push items line)
       (subst (AreRead (picks_of calls choose) p (line ∷ reverse items)) (sym (ap picked_of s.set_is ∙ set_picked readied (a.0 - 1) s.after))
       (all_read (picks_of calls choose) p a.0 (reverse items) line s.after (picked_of readied) before.one own
-      (line_reads calls choose rules laws p a (reverse items) servers before s.before s.after new_servers line acting (carried laws p a (reverse items) servers before s.before.met s.before.epochs s.before.work (busy s.before s.was) acting.carries) was stepped) kept))
+      (line_reads calls choose rules laws p a (reverse items) servers before s.before s.after new_servers line acting (carried laws p a (reverse items) servers before s.before.visit.met s.before.visit.epochs s.before.work (busy s.before s.was) acting.carries) was stepped) kept))
     where
       acting : IsActing p (reverse items) a.0 servers s.before
       acting = mine s.before s.was

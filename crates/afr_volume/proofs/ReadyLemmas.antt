@@ -72,16 +72,16 @@ script_is p a script h = get_or_from_slice_get p.clients (a - 1) script [] h
 -- an idle actor has the work of its next command
 pub begins_next : (p : Plan) (a : ℕ) (l : List Actor) (seen counted x : Actor) (script : List Command) (c : Command) (w : Work) → a - 1 < length l → seen ≡ get_or l (a - 1) seen → counted ≡ get_or l (a - 1) counted → x ≡ get_or l (a - 1) x → is_idle seen.work ≡ true
     → slice_get p.clients (a - 1) ≡ Some script → slice_get script counted.ended ≡ Some c → has_machine c ≡ true → w ≡ work_from p.shape c → IsWork w
-    → ReadiedAt p a l (set l (a - 1) (record { ended = x.ended; killed = x.killed; met = x.met; epochs = x.epochs; picked = x.picked; work = w }))
+    → ReadiedAt p a l (set l (a - 1) (record { ended = x.ended; killed = x.killed; visit = x.visit; picked = x.picked; work = w }))
 begins_next p a l seen counted x script c w small e g f idle own present has is sound = record {
   before = x;
-  after = record { ended = x.ended; killed = x.killed; met = x.met; epochs = x.epochs; picked = x.picked; work = w };
+  after = record { ended = x.ended; killed = x.killed; visit = x.visit; picked = x.picked; work = w };
   was = found_at l (a - 1) x small f;
   readies = inr (
     subst (λ (y : Actor). y.work ≡ Idle) (same_at l (a - 1) seen x small e f) (idle_is seen.work idle),
     c,
     subst (λ (commands : List Command). slice_get commands x.ended ≡ Some c) (sym (script_is p a script own)) (subst (λ (y : Actor). slice_get script y.ended ≡ Some c) (same_at l (a - 1) counted x small g f) present),
-    ap (λ (w : Work). record { ended = x.ended; killed = x.killed; met = x.met; epochs = x.epochs; picked = x.picked; work = w }) is,
+    ap (λ (w : Work). record { ended = x.ended; killed = x.killed; visit = x.visit; picked = x.picked; work = w }) is,
   );
   busy = subst IsBusy (sym is) (busy_from p c has);
   sound = sound;

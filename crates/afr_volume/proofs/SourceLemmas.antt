@@ -63,7 +63,7 @@ all_none (x ∷ l) each = rw (each 0 x refl) (ap (λ (rest : List (Option ℕ)).
 
 pub all_rest_first : (p : Plan) (log : List Line) (servers : List Serving) (healers : List Healer) → length healers ≡ length p.healers → ((i : ℕ) (x : Healer) → slice_get healers i ≡ Some x → IsHealer p log (17 + i) servers x) → log ≡ []
     → sources_of healers ≡ replicate (length p.healers) None
-all_rest_first p log servers healers same each none = rw (← same) (all_none healers (λ i x h. let k : IsHealer p [] (17 + i) servers x = rw none at (each i x h) in rests p (17 + i) x.met x.epochs servers x.round k.carries))
+all_rest_first p log servers healers same each none = rw (← same) (all_none healers (λ i x h. let k : IsHealer p [] (17 + i) servers x = rw none at (each i x h) in rests p (17 + i) x.visit.met x.visit.epochs servers x.round k.carries))
 
 pub rested_state : (p : Plan) (log : List Line) (sources picked : List (Option ℕ)) → log ≡ [] → sources ≡ replicate (length p.healers) None → picked ≡ replicate (length p.clients) None
     → record { plan = p; log = log; sources = sources; picked = picked } ≡ opened p

@@ -12,10 +12,11 @@ use Rattle.afr_model.specs.Following.{NoneDue}
 use Rattle.afr_plan.specs.declared.command.Command.{Command}
 use Rattle.afr_plan.specs.declared.plan.Plan.{Plan}
 use Rattle.afr_readings.specs.Laws.{KeepsPicked, number_in}
+use Rattle.afr_rounds.proofs.BeforeAsks.{can_ask}
 use Rattle.afr_server.specs.Serving.{Serving}
 use Rattle.afr_servers.specs.declared.epochs.Epochs.{Epochs}
 use Rattle.afr_works.specs.Begin.{has_machine, work_from}
-use Rattle.afr_works.specs.Work.{IsBusy, IsWork, next_of}
+use Rattle.afr_works.specs.Work.{CarriesNext, IsBusy, IsWork, next_of, register_of}
 use Rattle.afr_works.specs.declared.work.Work.{Work}
 use Rattle.afr_works.specs.declared.work.Work.TheVariants.{Entry, Idle, Lookup, Rename, Write}
 use Rattle.afr_volume.specs.Acting.{CanStep, HearsAny, Stepped, SteppedBy, still_picked}
@@ -23,7 +24,7 @@ use Rattle.afr_volume.specs.Keeping.{CanRun, Carries, CarriesOut, IsActing, IsBe
 use Rattle.afr_volume.specs.Turning.{ReadiedAt, Readies}
 use Rattle.afr_volume.specs.declared.actor.Actor.{Actor}
 use Rattle.afr_volume.proofs.AskKeeps.{ask_keeps}
-use Rattle.afr_volume.proofs.Before.{IsBefore, can_ask, client_is}
+use Rattle.afr_volume.proofs.Before.{IsBefore, ask_laws, asks_next, before_ask, client_is}
 use Rattle.afr_volume.proofs.Before as known
 use Rattle.afr_volume.specs.Laws.{BeginLaws, Laws}
 use Rattle.afr_volume.proofs.LineKeeps.{LineKeeps, others_stay, some_same, wrote_due, wrote_made}
@@ -56,15 +57,17 @@ module _ (laws : Laws) (p : Plan) (a : ActorId) (log : List Line) (servers : Lis
   can_step x busy acting = record {
     known = known.known laws p a log servers before;
     room = λ b s is. (laws.servers.needs.room p log b servers before.served (known.short laws p a log servers before) s is).1 a (known.known laws p a log servers before);
-    asks = λ b asked e fits. can_ask laws p a log servers before x.work x.met x.epochs (carried x.met x.epochs x.work busy acting.carries) b asked e fits x refl refl refl;
+    asks = λ b asked load e fits carries.
+        can_ask (ask_laws laws) p a log servers (before_ask laws p a log servers before) x.visit.met x.visit.epochs (CarriesNext x.work) b asked (register_of x.work)
+        (asks_next laws p a log servers before x.work x.visit.met x.visit.epochs (carried x.visit.met x.visit.epochs x.work busy acting.carries) b asked e) fits load carries;
   }
 
   -- one line of an actor whose command has begun
   pub line_keeps : (x y : Actor) (new : List Serving) (line : Line) → IsBusy x.work → IsActing p log a.0 servers x → Stepped HearsAny a (length log) x y servers new line → LineKeeps p a log line y servers new
   line_keeps x y new line busy acting s = by_next (next_of (length log) x.work) refl s
     where
-      c : CarriesOut p a.0 log x.met x.epochs servers x.work
-      c = carried x.met x.epochs x.work busy acting.carries
+      c : CarriesOut p a.0 log x.visit.met x.visit.epochs servers x.work
+      c = carried x.visit.met x.visit.epochs x.work busy acting.carries
 
       by_next : (n : Next) → next_of (length log) x.work ≡ n → SteppedBy HearsAny a (length log) x y servers new line n → LineKeeps p a log line y servers new
       by_next (next.Ask b asked) e s = ask_keeps laws p a log servers before x y new line c b asked e s acting
@@ -135,8 +138,8 @@ as_carries p a log met epochs servers (Entry m) k = k
 as_carries p a log met epochs servers (Rename m) k = k
 
 -- an idle actor has written no line of its next work
-pub between : (p : Plan) (log : List Line) (a : ℕ) (servers : List Serving) (x : Actor) → IsActing p log a servers x → x.work ≡ Idle → IsBetween a log x.met
-between p log a servers x k idle = subst (λ (w : Work). Carries p a log x.met x.epochs servers w) idle k.carries
+pub between : (p : Plan) (log : List Line) (a : ℕ) (servers : List Serving) (x : Actor) → IsActing p log a servers x → x.work ≡ Idle → IsBetween a log x.visit.met
+between p log a servers x k idle = subst (λ (w : Work). Carries p a log x.visit.met x.visit.epochs servers w) idle k.carries
 
 starts : (laws : BeginLaws) (p : Plan) (log : List Line) (a : ℕ) (servers : List Serving) (met : Bool) (epochs : Epochs) (command : Command) → CanRun p → 0 < p.shape.n → IsBetween a log met → slice_get (script_of p a) (ended a log) ≡ Some command
     → IsWork (work_from p.shape command) → CarriesOut p a log met epochs servers (work_from p.shape command)
@@ -159,13 +162,13 @@ readied laws p log a servers x z run some k (inl same) sound = rw same k
 readied laws p log a servers x z run some k (inr r) sound = subst (λ (z : Actor). IsActing p log a servers z) (sym r.3) (record {
   ended_is = k.ended_is;
   killed_is = k.killed_is;
-  carries = as_carries p a log x.met x.epochs servers (work_from p.shape r.1)
-      (starts laws p log a servers x.met x.epochs r.1 run some (between p log a servers x k r.0) (rw k.ended_is at r.2) (subst (λ (z : Actor). IsWork z.work) r.3 sound));
+  carries = as_carries p a log x.visit.met x.visit.epochs servers (work_from p.shape r.1)
+      (starts laws p log a servers x.visit.met x.visit.epochs r.1 run some (between p log a servers x k r.0) (rw k.ended_is at r.2) (subst (λ (z : Actor). IsWork z.work) r.3 sound));
   unpicked = k.unpicked;
   reads = record {
     keeps = λ command is.
-        subst (λ (c : Command). KeepsPicked p c (work_from p.shape r.1) (work a log) (number_in (still_picked x.met x.picked))) (some_same r.1 command (sym (rw k.ended_is at r.2) ∙ is))
-        (rw (between p log a servers x k r.0).none (laws.reads p r.1 (number_in (still_picked x.met x.picked))));
+        subst (λ (c : Command). KeepsPicked p c (work_from p.shape r.1) (work a log) (number_in (still_picked x.visit.met x.picked))) (some_same r.1 command (sym (rw k.ended_is at r.2) ∙ is))
+        (rw (between p log a servers x k r.0).none (laws.reads p r.1 (number_in (still_picked x.visit.met x.picked))));
     fresh = k.reads.fresh;
     within = k.reads.within;
   };

@@ -222,7 +222,7 @@ some_actor (x ∷ actors) zero small = (x, refl)
 some_actor (x ∷ actors) (suc i) small = some_actor actors i (omega (arith, small))
 
 pub settled : (p : Plan) (log : List Line) (servers : List Serving) (actors : List Actor) (made : ℕ) → IsVolume p log servers actors made → (a : ℕ) → a ≤ 16 → IsActor p a → is_done p a log ≡ true → is_killed a log ≡ false → work a log ≡ []
-settled p log servers actors made v a client actor done alive = with_command p a log x.0.met x.0.epochs servers x.0.work few mine.carries
+settled p log servers actors made v a client actor done alive = with_command p a log x.0.visit.met x.0.visit.epochs servers x.0.work few mine.carries
   where
     bounds : (1 ≤ a) × (a ≤ length p.clients) × (a ≤ 16)
     bounds = client_is p a v.runnable client actor

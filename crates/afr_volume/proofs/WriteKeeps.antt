@@ -35,6 +35,7 @@ use Rattle.afr_next.specs.Standing.{ComesNext}
 use Rattle.afr_server.specs.NextLine.{is_elsewhere}
 use Rattle.afr_server.specs.Serving.{Serving}
 use Rattle.afr_servers.specs.NextLine.{GoOn}
+use Rattle.afr_servers.specs.Visiting.{AreInSession, MeetsNext}
 use Rattle.afr_servers.specs.declared.epochs.Epochs.{Epochs}
 use Rattle.afr_transaction.specs.Turn.{Stood}
 use Rattle.afr_transaction_tells.specs.Laws.{IsNextLine}
@@ -46,8 +47,8 @@ use Rattle.afr_works.specs.Work.{IsWork, choices_heard, heard_by, next_of, regis
 use Rattle.afr_works.specs.declared.work.Work.{Work}
 use Rattle.afr_works.specs.declared.work.Work.TheVariants.{Entry, Idle, Lookup, Rename, Write}
 use Rattle.afr_works_tell.specs.WorkTelling.{WorkTells}
-use Rattle.afr_volume.specs.Acting.{IsBegun, IsEnded, MeetsNext, still_picked}
-use Rattle.afr_volume.specs.Keeping.{Carries, CarriesOut, IsActing, IsInSession, IsNoted, IsReading}
+use Rattle.afr_volume.specs.Acting.{IsBegun, IsEnded, still_picked}
+use Rattle.afr_volume.specs.Keeping.{Carries, CarriesOut, IsActing, IsNoted, IsReading}
 use Rattle.afr_volume.specs.declared.actor.Actor.{Actor}
 use Rattle.afr_volume.proofs.Before.{IsBefore, in_force, opened}
 use Rattle.afr_volume.proofs.Before as known
@@ -86,17 +87,17 @@ no_begin m change e = by_stage m.stage e
     by_stage (Reading b of) e = absurd (cc e)
     by_stage (Ending said) e = absurd (cc e)
 
-module _ (laws : Laws) (p : Plan) (a : ActorId) (log : List Line) (servers : List Serving) (before : IsBefore p a log servers) (x y : Actor) (new : List Serving) (written : Line) (c : CarriesOut p a.0 log x.met x.epochs servers x.work) where
+module _ (laws : Laws) (p : Plan) (a : ActorId) (log : List Line) (servers : List Serving) (before : IsBefore p a log servers) (x y : Actor) (new : List Serving) (written : Line) (c : CarriesOut p a.0 log x.visit.met x.visit.epochs servers x.work) where
   -- the servers at a line that is no request
-  goes_on : (line : Line) (epochs : Epochs) → ((b : ℕ) → is_elsewhere b line ≡ true) → ((z : ℕ) → is_of z line ≡ (a.0 == z)) → MeetsNext x.met a x.epochs servers new epochs → GoOn p log a line epochs servers new
-  goes_on line epochs elsewhere own met = by_met x.met refl met
+  goes_on : (line : Line) (epochs : Epochs) → ((b : ℕ) → is_elsewhere b line ≡ true) → ((z : ℕ) → is_of z line ≡ (a.0 == z)) → MeetsNext x.visit.met a x.visit.epochs servers new epochs → GoOn p log a line epochs servers new
+  goes_on line epochs elsewhere own met = by_met x.visit.met refl met
     where
-      by_met : (flag : Bool) → x.met ≡ flag → MeetsNext flag a x.epochs servers new epochs → GoOn p log a line epochs servers new
+      by_met : (flag : Bool) → x.visit.met ≡ flag → MeetsNext flag a x.visit.epochs servers new epochs → GoOn p log a line epochs servers new
       by_met true f k =
           let noted = subst (λ (flag : Bool). IsNoted flag p.shape a.0 log (register_of x.work)) f c.noted in
           rw (k.0, k.1) (record {
             served = laws.servers.written p log line a.0 servers before.runnable.few before.served elsewhere own (opened true p a.0 log (register_of x.work) line noted);
-            found = subst (λ (flag : Bool). IsInSession flag a.0 x.epochs servers) f c.sessions;
+            found = subst (λ (flag : Bool). AreInSession flag a.0 x.visit.epochs servers) f c.sessions;
             others = λ z its other found. found;
           })
       by_met false f k =
@@ -119,7 +120,7 @@ module _ (laws : Laws) (p : Plan) (a : ActorId) (log : List Line) (servers : Lis
     made_known (Rename m) sound tells e = laws.telling.rename_known p c.command m log a change before.runnable.few (omega (arith, known.short laws p a log servers before)) before.honest before.lawful sound tells e
 
     comes : ComesNext p a begin_line log (noted_begin (register_of x.work) (length log))
-    comes = laws.next.begins p log a change (register_of x.work) before.runnable.few c.five (in_force laws p a log servers before x.met (register_of x.work) begin_line c.noted) (allows (next.Begin change) e) (subst InRange s.is_line s.fits)
+    comes = laws.next.begins p log a change (register_of x.work) before.runnable.few c.five (in_force laws p a log servers before x.visit.met (register_of x.work) begin_line c.noted) (allows (next.Begin change) e) (subst InRange s.is_line s.fits)
         (made_known x.work c.sound c.tells e)
 
     begin_goes : GoOn p log a begin_line s.epochs servers new
@@ -144,16 +145,16 @@ module _ (laws : Laws) (p : Plan) (a : ActorId) (log : List Line) (servers : Lis
       sound = laws.work.stays x.work c.sound (laws.work.begins_more x.work (length log) change e) (reader_of None) (heard_of.Begun (length log)) (none_among x.work (length log) (reader_of None));
       five = laws.work.five_begun x.work c.five (length log) change e (reader_of None);
       shape = own.shape_is;
-      noted = (rw (self a.0) (within x.met p a change log x.work c.noted), own);
+      noted = (rw (self a.0) (within x.visit.met p a change log x.work c.noted), own);
       sessions = begin_goes.found;
       tells = rw (self a.0) (laws.telling.begun p c.command x.work (work a.0 log) a change (reader_of None) log c.sound c.tells e);
     }
 
-    reads_on : IsReading p a.0 log x.met x.picked x.work → IsReading p a.0 (begin_line ∷ log) true (still_picked x.met x.picked) after
+    reads_on : IsReading p a.0 log x.visit.met x.picked x.work → IsReading p a.0 (begin_line ∷ log) true (still_picked x.visit.met x.picked) after
     reads_on k = record {
       keeps = λ command is.
-          subst (λ (d : Command). KeepsPicked p d after (work a.0 (begin_line ∷ log)) (number_in (still_picked x.met x.picked))) (some_same c.command command (sym c.present ∙ is))
-          (rw (self a.0) (laws.reading.begun p c.command x.work (work a.0 log) a change log (reader_of None) (number_in (still_picked x.met x.picked)) (k.keeps c.command c.present)));
+          subst (λ (d : Command). KeepsPicked p d after (work a.0 (begin_line ∷ log)) (number_in (still_picked x.visit.met x.picked))) (some_same c.command command (sym c.present ∙ is))
+          (rw (self a.0) (laws.reading.begun p c.command x.work (work a.0 log) a change log (reader_of None) (number_in (still_picked x.visit.met x.picked)) (k.keeps c.command c.present)));
       fresh = λ unmet. absurd (cc unmet);
       within = λ met. own_asked p a.0 begin_line log (self a.0) ∙ sym (ap (asked_in p (slice_get (script_of p a.0) (ended a.0 log))) added);
     }
@@ -189,7 +190,7 @@ module _ (laws : Laws) (p : Plan) (a : ActorId) (log : List Line) (servers : Lis
     end_line = End a said
 
     ends : ComesNext p a end_line log (register_of x.work) × (place_of a.0 (end_line ∷ log) ≡ Fresh)
-    ends = laws.next.ends p log a said (register_of x.work) before.runnable.few c.five (in_force laws p a log servers before x.met (register_of x.work) end_line c.noted) (laws.work.outside x.work c.sound) (allows (next.End said) e) (subst InRange s.is_line s.fits)
+    ends = laws.next.ends p log a said (register_of x.work) before.runnable.few c.five (in_force laws p a log servers before x.visit.met (register_of x.work) end_line c.noted) (laws.work.outside x.work c.sound) (allows (next.End said) e) (subst InRange s.is_line s.fits)
 
     end_goes : GoOn p log a end_line s.epochs servers new
     end_goes = goes_on end_line s.epochs (λ b. refl) (λ z. refl) s.met

@@ -4,10 +4,10 @@ use Rattle.afr_base.specs.declared.ids.ActorId.{ActorId}
 use Rattle.afr_lines.specs.declared.line.Line.{Line}
 use Rattle.afr_lines.specs.declared.line.Next.{Next}
 use Rattle.afr_lines.specs.declared.line.Next.TheVariants as next
+use Rattle.afr_rounds.specs.Acting.{Adds}
 use Rattle.afr_server.specs.Serving.{Serving}
 use Rattle.afr_works.specs.Work.{next_of}
 use Rattle.afr_volume.specs.Acting.{Hearing, Stepped, SteppedBy, Written, WrittenBy}
-use Rattle.afr_rounds.specs.Acting.{Adds}
 use Rattle.afr_volume.specs.declared.actor.Actor.{Actor}
 
 steps_by : (Hears : Hearing) (a : ActorId) (at : ℕ) (x y : Actor) (old new : List Serving) (line : Line) (n : Next) → WrittenBy a at x y old new line n → SteppedBy Hears a at x y old new line n

@@ -1,9 +1,7 @@
 -- One line of an actor: what its work would write next, what the bricks make of it, and what it makes of the answer.
-use Rattle.std.specs.Prelude.{◌≡◌, ℕ, ◌+◌, ◌-◌, ◌<◌, ◌^◌, Bool, true, false, List, Option, None, length, map, if◌then◌else◌}
-use Rattle.afr_rounds.specs.Acting.{ServesNext, has_live}
+use Rattle.std.specs.Prelude.{◌≡◌, ℕ, ◌+◌, ◌<◌, Bool, true, false, List, Option, None, map, if◌then◌else◌}
 use Rattle.afr_base.specs.declared.ids.ActorId.{ActorId}
 use Rattle.afr_base.specs.declared.ids.BrickId.{BrickId}
-use Rattle.afr_faults.specs.Planned.{next_fault}
 use Rattle.afr_lines.specs.declared.answer.Answer.{Answer}
 use Rattle.afr_lines.specs.declared.line.Heard.TheVariants as heard
 use Rattle.afr_lines.specs.declared.line.Line.{Line}
@@ -16,13 +14,11 @@ use Rattle.afr_object.specs.declared.change.Change.{Change}
 use Rattle.afr_object.specs.declared.change.Load.{Load}
 use Rattle.afr_lines.specs.declared.reply.Reply.{Reply}
 use Rattle.afr_rule.specs.Choosing.{Calls}
-use Rattle.afr_server.specs.Carried.{CanCarryOut, CanLock}
-use Rattle.afr_server.specs.Covered.{IsUnderLocks}
 use Rattle.afr_server.specs.NextLine.{told_line}
-use Rattle.afr_server.specs.Outcome.{is_carried}
 use Rattle.afr_server.specs.Serving.{HasEpoch, Serving}
 use Rattle.afr_server.specs.declared.server.Asked.{Asked}
-use Rattle.afr_servers.specs.Calls.{At, MeetsAll}
+use Rattle.afr_servers.specs.Calls.{At}
+use Rattle.afr_servers.specs.Visiting.{CanAsk, MeetsNext, ServesNext, visiting}
 use Rattle.afr_servers.specs.declared.epochs.Epochs.{Epochs}
 use Rattle.afr_readings.specs.Laws.{HearsPick, number_in}
 use Rattle.afr_inode_telling.specs.Lines.{is_look}
@@ -32,25 +28,11 @@ use Rattle.afr_works.specs.declared.work.Work.{Work}
 use Rattle.afr_works.specs.declared.work.Work.TheVariants.{Idle}
 use Rattle.afr_volume.specs.declared.actor.Actor.{Actor}
 
--- what the bricks need for a request: the one that is asked is there, has counts left, can carry it out, and sees the actor's locks
-pub record CanAsk (a : ActorId) (x : Actor) (b : BrickId) (request : Request) (servers : List Serving) : Type 0 where
-  pub there : b.0 < length servers
-  pub count : At b.0 servers (λ s. s.faults.requests < 2 ^ 32 - 1)
-  pub lock : CanLock request
-  pub can : (load : Load) → CarriesNext x.work load → At b.0 servers (λ s. is_carried (has_live x.met a x.epochs b.0 s) (next_fault s.faults) ≡ true → CanCarryOut request load s.copies.objects)
-  pub covered : (load : Load) → CarriesNext x.work load → At b.0 servers (λ s. is_carried (has_live x.met a x.epochs b.0 s) (next_fault s.faults) ≡ true → IsUnderLocks a request load s)
-
--- what they need for the actor's next line
+-- what the bricks need for the actor's next line
 pub record CanStep (a : ActorId) (at : ℕ) (x : Actor) (servers : List Serving) : Type 0 where
   pub known : a.0 < 20
   pub room : (b : ℕ) → At b servers (HasEpoch a)
-  pub asks : (b : BrickId) (request : Request) → next_of at x.work ≡ next.Ask b request → RequestInRange request → CanAsk a x b request servers
-
--- so the request was served, with the contents that the work brings
-pub record IsServed (a : ActorId) (x : Actor) (b : BrickId) (request : Request) (old new : List Serving) (epochs : Epochs) (given : Asked) : Type 0 where
-  pub load : Load
-  pub carries : CarriesNext x.work load
-  pub served : ServesNext x.met a b request load x.epochs old new epochs given
+  pub asks : (b : BrickId) (request : Request) (load : Load) → next_of at x.work ≡ next.Ask b request → RequestInRange request → CarriesNext x.work load → CanAsk a x.visit b request load servers
 
 -- ---- the copy that the read rule has picked
 -- a client has the brick that the rule answered at the last look of its latest work
@@ -86,42 +68,39 @@ pub record HearsBy {F : Type 0} (calls : Calls F) (choose : F) (answer : Answer)
 abbrev pub HearsAny : Answer → ℕ → Work → Work → Option BrickId → Type 0
 HearsAny answer at old new picked = HearsPick (heard.Answer answer at) old new picked
 
--- an actor has heard the answer to its request
-pub record HasHeard (Hears : Hearing) (answer : Answer) (at : ℕ) (request : Request) (x y : Actor) : Type 0 where
+-- an actor has heard the answer to its request, which was its work's first line or another
+pub record HasHeard (Hears : Hearing) (answer : Answer) (at : ℕ) (met : Bool) (request : Request) (x y : Actor) : Type 0 where
   pub after : Work
   pub picked : Option BrickId
   pub hears : Hears answer at x.work after picked
-  pub becomes : y ≡ record { ended = x.ended; killed = x.killed; met = true; epochs = x.epochs; picked = picked_after x.met request picked x.picked; work = after }
+  pub becomes : y ≡ record { ended = x.ended; killed = x.killed; visit = x.visit; picked = picked_after met request picked x.picked; work = after }
 
--- a request was asked, and its answer heard
+-- a request was asked, with the contents that the work brings, and its answer heard
 pub record IsAsked (Hears : Hearing) (a : ActorId) (at : ℕ) (b : BrickId) (request : Request) (x y : Actor) (old new : List Serving) (written : Line) : Type 0 where
   pub given : Asked
   pub epochs : Epochs
+  pub load : Load
+  pub carries : CarriesNext x.work load
   pub fits : RequestInRange request
-  pub served : IsServed a x b request old new epochs given
+  pub served : ServesNext x.visit.met a b request load x.visit.epochs old new epochs given
   pub is_line : written ≡ told_line a b request given
-  pub heard : HasHeard Hears given.answer at request (record x { epochs = epochs }) y
-
--- all bricks were met, where the line is the work's first
-abbrev pub MeetsNext : Bool → ActorId → Epochs → List Serving → List Serving → Epochs → Type 0
-MeetsNext true a old bricks after new = (new ≡ old) × (after ≡ bricks)
-MeetsNext false a old bricks after new = MeetsAll a bricks after new
+  pub heard : HasHeard Hears given.answer at x.visit.met request (record x { visit = visiting epochs }) y
 
 -- an attempt was begun
 pub record IsBegun (a : ActorId) (at : ℕ) (change : Change) (x y : Actor) (old new : List Serving) (written : Line) : Type 0 where
   pub epochs : Epochs
-  pub met : MeetsNext x.met a x.epochs old new epochs
+  pub met : MeetsNext x.visit.met a x.visit.epochs old new epochs
   pub is_line : written ≡ line.Begin a change
   pub fits : InRange written
-  pub becomes : y ≡ record { ended = x.ended; killed = x.killed; met = true; epochs = epochs; picked = still_picked x.met x.picked; work = heard_by (reader_of None) (heard.Begun at) x.work }
+  pub becomes : y ≡ record { ended = x.ended; killed = x.killed; visit = visiting epochs; picked = still_picked x.visit.met x.picked; work = heard_by (reader_of None) (heard.Begun at) x.work }
 
 -- a work was ended
 pub record IsEnded (a : ActorId) (said : Reply) (x y : Actor) (old new : List Serving) (written : Line) : Type 0 where
   pub epochs : Epochs
-  pub met : MeetsNext x.met a x.epochs old new epochs
+  pub met : MeetsNext x.visit.met a x.visit.epochs old new epochs
   pub is_line : written ≡ line.End a said
   pub fits : InRange written
-  pub becomes : y ≡ record { ended = x.ended + 1; killed = x.killed; met = false; epochs = epochs; picked = still_picked x.met x.picked; work = Idle }
+  pub becomes : y ≡ record { ended = x.ended + 1; killed = x.killed; visit = record { met = false; epochs = epochs }; picked = still_picked x.visit.met x.picked; work = Idle }
 
 -- one line of an actor, by what its work would write next
 abbrev pub SteppedBy : Hearing → ActorId → ℕ → Actor → Actor → List Serving → List Serving → Line → Next → Type 0

@@ -25,7 +25,8 @@ use Rattle.afr_readings.specs.Readings.{asked_in, asked_of}
 use Rattle.afr_rounds.specs.Keeping.{IsHealer}
 use Rattle.afr_rounds.specs.declared.healer.Healer.{Healer}
 use Rattle.afr_server.specs.Serving.{Serving}
-use Rattle.afr_servers.specs.Log.{AreFound, AreServed}
+use Rattle.afr_servers.specs.Log.{AreServed}
+use Rattle.afr_servers.specs.Visiting.{AreInSession}
 use Rattle.afr_servers.specs.declared.epochs.Epochs.{Epochs}
 use Rattle.afr_transaction.specs.Turn.{Stood}
 use Rattle.afr_works.specs.Begin.{has_machine}
@@ -62,11 +63,6 @@ abbrev pub IsNoted : Bool → Shape → ℕ → List Line → Register → Type 
 IsNoted true shape a log r = (place_of a log ≡ Within) × Stood shape a log r
 IsNoted false shape a log r = (place_of a log ≡ Fresh) × (r ≡ no_lines shape)
 
--- the epochs of a work that has met the bricks are those of its live sessions
-abbrev pub IsInSession : Bool → ℕ → Epochs → List Serving → Type 0
-IsInSession true a epochs servers = AreFound a epochs servers
-IsInSession false a epochs servers = Unit {0}
-
 -- a work carries out the actor's present command: it is sound, its register and its sessions stand for its lines, and they tell where it stands
 pub record CarriesOut (p : Plan) (a : ℕ) (log : List Line) (met : Bool) (epochs : Epochs) (servers : List Serving) (w : Work) : Type 0 where
   pub command : Command
@@ -75,7 +71,7 @@ pub record CarriesOut (p : Plan) (a : ℕ) (log : List Line) (met : Bool) (epoch
   pub five : HasFive (register_of w)
   pub shape : (register_of w).shape ≡ p.shape
   pub noted : IsNoted met p.shape a log (register_of w)
-  pub sessions : IsInSession met a epochs servers
+  pub sessions : AreInSession met a epochs servers
   pub tells : WorkTells p command w (work a log)
 
 -- an actor between two works has written no line of the next
@@ -99,9 +95,9 @@ pub record IsReading (p : Plan) (a : ℕ) (log : List Line) (met : Bool) (picked
 pub record IsActing (p : Plan) (log : List Line) (a : ℕ) (servers : List Serving) (x : Actor) : Type 0 where
   pub ended_is : x.ended ≡ ended a log
   pub killed_is : x.killed ≡ is_killed a log
-  pub carries : Carries p a log x.met x.epochs servers x.work
+  pub carries : Carries p a log x.visit.met x.visit.epochs servers x.work
   pub unpicked : log ≡ [] → x.picked ≡ None
-  pub reads : IsReading p a log x.met x.picked x.work
+  pub reads : IsReading p a log x.visit.met x.picked x.work
 
 -- what the log says of the servers, the clients and the counts that the volume keeps beside it
 pub record IsVolume (p : Plan) (log : List Line) (servers : List Serving) (actors : List Actor) (made : ℕ) : Type 0 where

@@ -16,7 +16,7 @@ use Rattle.afr_rounds.specs.Laws.{CanStepNext, LineKeepsRound, OthersStay, Round
 use Rattle.afr_rule.specs.Choosing.{Calls}
 use Rattle.afr_self_heal.specs.Laws.{HealIsInside}
 use Rattle.afr_servers.specs.Needs.{AnswersAreRead, NeedsAreMet}
-use Rattle.afr_servers.specs.NextLine.{AskedAreServed, EventAreServed, FirstAreServed, MetAreServed, WrittenAreServed}
+use Rattle.afr_servers.specs.NextLine.{AskedAreServed, EventAreServed, MetAreServed, WrittenAreServed}
 use Rattle.afr_work_order.specs.Logs.{ClientRises}
 use Rattle.afr_work_order.specs.Queue.{WorkBeginsQueued, WorkBegunQueued, WorkStaysQueued}
 use Rattle.afr_work_pace.specs.Left.{WorkBeginsNearer, WorkComesNearer, WorkKeepsEnd, WorkStartsWithin}
@@ -75,7 +75,6 @@ pub record ReadingLaws : Type 0 where
 -- what the servers need and make of it
 pub record ServerLaws : Type 0 where
   pub asked : AskedAreServed
-  pub first : FirstAreServed
   pub written : WrittenAreServed
   pub met : MetAreServed
   pub needs : NeedsAreMet

@@ -9,7 +9,7 @@ use Rattle.afr_works.specs.declared.work.Work.TheVariants.{Idle}
 pub record IsNewActor (x : Actor) : Type 0 where
   pub ended : x.ended ≡ 0
   pub killed : x.killed ≡ false
-  pub met : x.met ≡ false
+  pub met : x.visit.met ≡ false
   pub unpicked : x.picked ≡ None
   pub idle : x.work ≡ Idle
 

@@ -1,13 +1,14 @@
 //! An actor: the machine of its present command, the sessions that it works over, and how many commands it has ended.
-ghost use Rattle.std.specs.Prelude.{true, false, ◌≡◌, ◌<◌, ◌-◌, ◌^◌, ◌++◌, ◌∷◌, [], ℕ, IfOk, OnOk, OnErr};
+ghost use Rattle.std.specs.Prelude.{true, false, ◌≡◌, ◌<◌, ◌-◌, ◌^◌, ◌++◌, ◌∷◌, [], ℕ, OnOk, OnErr};
+ghost use Rattle.afr_rounds.specs.Acting.{Adds};
 ghost use Rattle.afr_rule.specs.Choosing.{IsRule};
 ghost use Rattle.afr_server.specs.NextLine.{told_line};
 ghost use Rattle.afr_server.specs.Serving.{HasEpoch};
 ghost use Rattle.afr_servers.specs.Calls.{At};
+ghost use Rattle.afr_servers.specs.Visiting.{MeetsNext, visiting};
 ghost use Rattle.afr_walk.specs.Free.{is_ask};
 ghost use Rattle.afr_works.specs.Work.{IsBusy, is_over, next_of};
-ghost use Rattle.afr_volume.specs.Acting.{CanAsk, CanStep, HasHeard, HearsBy, IsAsked, IsBegun, IsEnded, IsServed, MeetsNext, Stepped, Written, picked_after, still_picked};
-ghost use Rattle.afr_rounds.specs.Acting.{Adds};
+ghost use Rattle.afr_volume.specs.Acting.{CanStep, HasHeard, HearsBy, IsAsked, IsBegun, IsEnded, Stepped, Written, picked_after, still_picked};
 
 use afr_base::{ActorId, BrickId, NoMemory};
 use afr_lines::{Answer, Line, Next, Reply, Request};
@@ -16,7 +17,7 @@ use afr_object::Change;
 use afr_ranges::{fits_its_types, request_fits_its_types};
 use afr_rule::{Candidate, ReadRule};
 use afr_server::Asked;
-use afr_servers::{Epochs, Servers};
+use afr_servers::{Servers, Visit};
 use afr_works::{Work, a_work_stays_sound};
 
 #[derive(Drop)]
@@ -24,10 +25,8 @@ pub(crate) struct Actor {
     /// How many works have ended.
     pub ended: u32,
     pub killed: bool,
-    /// Whether the present work has written a line.
-    pub met: bool,
-    /// The sessions that its first line found or opened.
-    pub epochs: Epochs,
+    /// The sessions of the present work.
+    pub visit: Visit,
     /// What the read rule answered at the last look of the latest work.
     pub picked: Option<BrickId>,
     pub work: Work,
@@ -84,46 +83,6 @@ fn writes(
     }
 }
 
-/// A request within a work, over the sessions that the work has met.
-fn ask_again(
-    actor: &Actor,
-    a: ActorId,
-    brick: BrickId,
-    request: &Request,
-    servers: &mut Servers,
-) -> Result<Asked, NoMemory>
-    requires again { actor.now.met ≡ true }
-    requires known { a.0 < 20 }
-    requires can { CanAsk a actor.now brick request.now servers.old }
-    ensures ok { IfOk result (λ given. IsServed a actor.now brick request.now servers.old servers.new actor.now.epochs given) }
-    ensures err { OnErr result (servers.new ≡ servers.old) }
-{
-    let load = actor.work.load();
-    servers.ask(a, &actor.epochs, brick, request, load)
-}
-
-/// A request that meets every brick.
-fn ask_first(
-    actor: &mut Actor,
-    a: ActorId,
-    brick: BrickId,
-    request: &Request,
-    servers: &mut Servers,
-) -> Result<Asked, NoMemory>
-    requires first { actor.old.met ≡ false }
-    requires known { a.0 < 20 }
-    requires room { (b : ℕ) → At b servers.old (HasEpoch a) }
-    requires can { CanAsk a actor.old brick request.now servers.old }
-    ensures ok { IfOk result (λ given. IsServed a actor.old brick request.now servers.old servers.new actor.new.epochs given) }
-    ensures same { actor.new ≡ record actor.old { epochs = actor.new.epochs } }
-    ensures err { OnErr result ((actor.new ≡ actor.old) × (servers.new ≡ servers.old)) }
-{
-    let load = actor.work.load();
-    let (epochs, asked) = servers.ask_first(a, brick, request, load)?;
-    actor.epochs = epochs;
-    Ok(asked)
-}
-
 /// What is picked after a request: what the rule answers now, at a look and at a work's first line, and else what it had
 /// picked.
 fn pick_after(
@@ -141,9 +100,10 @@ fn pick_after(
     }
 }
 
-/// The work hears the answer to this request.
+/// The work hears the answer to this request, which is its first line or another.
 fn hear<G: Fn(&[Candidate]) -> usize>(
     actor: &mut Actor,
+    met: bool,
     brick: BrickId,
     request: &Request,
     answer: &mut Answer,
@@ -153,16 +113,16 @@ fn hear<G: Fn(&[Candidate]) -> usize>(
     requires rule { IsRule G.Fn rule.now }
     requires more { is_over actor.old.work ≡ false }
     requires asked { next_of position actor.old.work ≡ Next.Ask brick request.now }
-    ensures { HasHeard (HearsBy G.Fn rule.now) answer.old position request.now actor.old actor.new }
+    ensures { HasHeard (HearsBy G.Fn rule.now) answer.old position met request.now actor.old actor.new }
 {
     let now = actor.work.hear(brick, request, answer, position, rule);
-    actor.picked = pick_after(actor.met, request, now, actor.picked);
-    actor.met = true;
+    actor.picked = pick_after(met, request, now, actor.picked);
 }
 
 /// The line of a request that was served, and the work hears its answer.
 fn tells<G: Fn(&[Candidate]) -> usize>(
     actor: &mut Actor,
+    met: bool,
     a: ActorId,
     brick: BrickId,
     request: &Request,
@@ -176,10 +136,18 @@ fn tells<G: Fn(&[Candidate]) -> usize>(
     requires asked { next_of position actor.old.work ≡ Next.Ask brick request.now }
     requires space { log.old.room ≡ true }
     ensures added { log.new.items ≡ log.old.items ++ told_line a brick request.now given.old ∷ [] }
-    ensures heard { HasHeard (HearsBy G.Fn rule.now) given.old.answer position request.now actor.old actor.new }
+    ensures heard { HasHeard (HearsBy G.Fn rule.now) given.old.answer position met request.now actor.old actor.new }
 {
     log.add_ask(a, brick, request, &given.answer, given.took);
-    hear(actor, brick, request, &mut given.answer, position, rule);
+    hear(
+        actor,
+        met,
+        brick,
+        request,
+        &mut given.answer,
+        position,
+        rule,
+    );
 }
 
 /// The request of a line, and what the work makes of the answer. The first line of a work meets every brick.
@@ -200,50 +168,16 @@ fn asks<G: Fn(&[Candidate]) -> usize>(
     ensures ok { OnOk result (Adds (λ line. IsAsked (HearsBy G.Fn rule.now) a position brick request.now actor.old actor.new servers.old servers.new line) log.old.items log.new.items) }
     ensures err { OnErr result ((actor.new ≡ actor.old) × (servers.new ≡ servers.old) × (log.new.items ≡ log.old.items)) }
 {
-    let first = !actor.met;
-    if first {
-        return asks_first(actor, a, brick, request, servers, position, log, rule);
-    }
     request_fits_its_types(request);
     a_work_stays_sound();
+    let met = actor.visit.met;
+    let visit = &mut actor.visit;
+    let work = &actor.work;
     // The answer is told and heard where it lies: it is large, and neither `?` nor a branch is to move it.
-    let mut asked = ask_again(actor, a, brick, request, servers);
+    let mut asked = visit.ask(a, brick, request, work.load(), servers);
     match &mut asked {
         Ok(given) => {
-            tells(actor, a, brick, request, given, position, log, rule);
-            Ok(())
-        }
-        Err(_) => Err(NoMemory),
-    }
-}
-
-/// The request of a first line. It stands apart, so that only such lines pay for its frame, and no other moves its answer.
-#[inline(never)]
-fn asks_first<G: Fn(&[Candidate]) -> usize>(
-    actor: &mut Actor,
-    a: ActorId,
-    brick: BrickId,
-    request: &Request,
-    servers: &mut Servers,
-    position: u32,
-    log: &mut Log,
-    rule: &ReadRule<G>,
-) -> Result<(), NoMemory>
-    requires rule { IsRule G.Fn rule.now }
-    requires first { actor.old.met ≡ false }
-    requires next { next_of position actor.old.work ≡ Next.Ask brick request.now }
-    requires can { CanStep a position actor.old servers.old }
-    requires space { log.old.room ≡ true }
-    ensures ok { OnOk result (Adds (λ line. IsAsked (HearsBy G.Fn rule.now) a position brick request.now actor.old actor.new servers.old servers.new line) log.old.items log.new.items) }
-    ensures err { OnErr result ((actor.new ≡ actor.old) × (servers.new ≡ servers.old) × (log.new.items ≡ log.old.items)) }
-{
-    request_fits_its_types(request);
-    a_work_stays_sound();
-    // The answer is told and heard where it lies: it is large, and neither `?` nor a branch is to move it.
-    let mut asked = ask_first(actor, a, brick, request, servers);
-    match &mut asked {
-        Ok(given) => {
-            tells(actor, a, brick, request, given, position, log, rule);
+            tells(actor, met, a, brick, request, given, position, log, rule);
             Ok(())
         }
         Err(_) => Err(NoMemory),
@@ -254,14 +188,13 @@ fn asks_first<G: Fn(&[Candidate]) -> usize>(
 fn meets(actor: &mut Actor, a: ActorId, servers: &mut Servers)
     requires known { a.0 < 20 }
     requires room { (b : ℕ) → At b servers.old (HasEpoch a) }
-    ensures met { MeetsNext actor.old.met a actor.old.epochs servers.old servers.new actor.new.epochs }
-    ensures same { actor.new ≡ record actor.old { met = true; epochs = actor.new.epochs; picked = still_picked actor.old.met actor.old.picked } }
+    ensures met { MeetsNext actor.old.visit.met a actor.old.visit.epochs servers.old servers.new actor.new.visit.epochs }
+    ensures same { actor.new ≡ record actor.old { visit = visiting actor.new.visit.epochs; picked = still_picked actor.old.visit.met actor.old.picked } }
 {
-    if !actor.met {
-        actor.epochs = servers.meet_all(a);
+    if !actor.visit.met {
         actor.picked = None;
-        actor.met = true;
     }
+    actor.visit.meet(a, servers);
 }
 
 #[inline(never)]
@@ -296,7 +229,7 @@ fn ends(actor: &mut Actor, a: ActorId, reply: Reply, servers: &mut Servers, log:
 {
     meets(actor, a, servers);
     actor.ended += 1;
-    actor.met = false;
+    actor.visit.met = false;
     actor.work = Work::Idle;
     let line = Line::End { actor: a, reply };
     fits_its_types(&line);

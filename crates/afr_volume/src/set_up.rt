@@ -4,7 +4,7 @@ ghost use Rattle.afr_volume.specs.Starting.{AreNewActors};
 
 use crate::actor::Actor;
 use afr_base::NoMemory;
-use afr_servers::Epochs;
+use afr_servers::Visit;
 use afr_works::Work;
 use std::alloc::Global;
 
@@ -17,8 +17,7 @@ pub(crate) fn all_actors(alloc: Global, clients: usize) -> Result<Vec<Actor>, No
         actors.push(Actor {
             ended: 0,
             killed: false,
-            met: false,
-            epochs: Epochs::none(),
+            visit: Visit::new(),
             picked: None,
             work: Work::Idle,
         })?;

@@ -3,9 +3,9 @@ ghost use Rattle.std.specs.Prelude.{◌≡◌, ◌-◌, ◌<◌, ◌≤◌, ◌+
 ghost use Rattle.afr_plan.specs.declared.command.Command.{Command};
 ghost use Rattle.afr_model.specs.Actors.{script_of};
 ghost use Rattle.afr_volume.specs.declared.actor.Actor.{Actor};
+ghost use Rattle.afr_rounds.specs.Acting.{Adds};
 ghost use Rattle.afr_rule.specs.Choosing.{IsRule};
 ghost use Rattle.afr_volume.specs.Acting.{CanStep, HearsBy};
-ghost use Rattle.afr_rounds.specs.Acting.{Adds};
 ghost use Rattle.afr_volume.specs.Turning.{HasVictim, KillsIn, ReadiedAt, StepsAt};
 ghost use Rattle.afr_works.specs.Begin.{has_machine, work_from};
 ghost use Rattle.afr_works.specs.Work.{IsBusy, IsWork};

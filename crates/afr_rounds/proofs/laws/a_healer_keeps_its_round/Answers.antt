@@ -19,7 +19,6 @@ returns-clause-can c = can_step_next (record {
   };
   servers = record {
     asked = c.servers_follow_their_log.ensures.asked;
-    first = c.servers_follow_their_log.ensures.asked_first;
     written = c.servers_follow_their_log.ensures.written;
     needs = c.servers_follow_their_log.ensures.needs;
     answers = c.servers_follow_their_log.ensures.answers;
@@ -70,7 +69,6 @@ returns-clause-keeps c = every_line (record {
   };
   servers = record {
     asked = c.servers_follow_their_log.ensures.asked;
-    first = c.servers_follow_their_log.ensures.asked_first;
     written = c.servers_follow_their_log.ensures.written;
     needs = c.servers_follow_their_log.ensures.needs;
     answers = c.servers_follow_their_log.ensures.answers;

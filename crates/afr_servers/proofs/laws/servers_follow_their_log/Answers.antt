@@ -1,6 +1,6 @@
 -- Each clause is a lemma.
 use Rattle.afr_servers.proofs.NeedsLemmas.{answers_read, needs_met}
-use Rattle.afr_servers.proofs.NextLemmas.{asked_served, event_served, first_served, met_served, new_served, written_served}
+use Rattle.afr_servers.proofs.NextLemmas.{asked_served, event_served, met_served, new_served, written_served}
 use Rattle.afr_servers.proofs.AllStarted.{started_known}
 use Rattle.afr_servers.proofs.laws.servers_follow_their_log.Goals as goal
 
@@ -9,9 +9,6 @@ returns-clause-new c = new_served
 
 pub returns-clause-asked : goal.returns-clause-asked
 returns-clause-asked c = asked_served
-
-pub returns-clause-asked_first : goal.returns-clause-asked_first
-returns-clause-asked_first c = first_served
 
 pub returns-clause-written : goal.returns-clause-written
 returns-clause-written c = written_served

@@ -49,7 +49,6 @@ returns-clause-turns c = record {
   };
   servers = record {
     asked = c.servers_follow_their_log.ensures.asked;
-    first = c.servers_follow_their_log.ensures.asked_first;
     written = c.servers_follow_their_log.ensures.written;
     met = c.servers_follow_their_log.ensures.met;
     needs = c.servers_follow_their_log.ensures.needs;
