@@ -21,8 +21,8 @@ use Rattle.afr_object.specs.declared.change.Repair.TheVariants.{CutTo, Copy, Put
 use Rattle.afr_object.specs.declared.entry.Entry.{Entry}
 use Rattle.afr_object.specs.declared.object.Object.{Object}
 use Rattle.afr_brick.specs.Followed.{Follows, IsIndexOf, relisted}
-use Rattle.afr_brick.specs.State.{Copies}
-use Rattle.afr_brick.specs.TablesLemmas.{copy_at-changed}
+use Rattle.afr_object.specs.State.{Copies}
+use Rattle.afr_object.specs.TablesLemmas.{copy_at-changed}
 use Rattle.afr_brick.proofs.IndexLemmas.{index_of-changed, index_of-made, index_of-relisted, index_of-with_copy}
 
 -- A change of bytes or of names leaves the kind and the numbers.

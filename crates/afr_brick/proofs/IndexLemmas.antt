@@ -15,7 +15,7 @@ use Rattle.afr_object.specs.Indexed.{index_of}
 use Rattle.afr_object.specs.Tables.{Table, changed, copy_at, gfid_cmp, made, new_object, with_copy}
 use Rattle.afr_object.specs.declared.object.Object.{Object}
 use Rattle.afr_brick.specs.Followed.{relisted}
-use Rattle.afr_brick.specs.TablesLemmas.{same_gfid}
+use Rattle.afr_object.specs.TablesLemmas.{same_gfid}
 
 -- what a table's index has of an object
 abbrev listed_first : Gfid → Object → Listed → Listed

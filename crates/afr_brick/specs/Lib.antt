@@ -1,4 +1,2 @@
 pub mod Followed
-pub mod State
-pub mod TablesLemmas
 pub mod Undone

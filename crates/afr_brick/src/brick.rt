@@ -1,7 +1,7 @@
 //! A brick: its objects, and the index of those with a changelog number above zero.
 ghost use Rattle.std.specs.Prelude.{◌≡◌, ◌≢◌, ◌↔◌, None, true, not, IfOk, OnOk, OnErr, option_map};
 ghost use Rattle.afr_base.specs.Marks.{closed_op, dirtied, taken_back};
-ghost use Rattle.afr_brick.specs.State.{CanApply, CanPost, CanPre, CanRepair, CanSettle, Copies, IsInOrder, contents_of, repair_takes_memory, takes_memory};
+ghost use Rattle.afr_object.specs.State.{CanApply, CanPost, CanPre, CanRepair, CanSettle, Copies, IsInOrder, contents_of, repair_takes_memory, takes_memory};
 ghost use Rattle.afr_object.specs.Repairs.{mended, repaired};
 ghost use Rattle.afr_object.specs.Tables.{applied, changed, copy_at, object_of, opening, root, view_of, with_numbers};
 
@@ -26,7 +26,7 @@ pub struct Brick {
 
 impl Model for Brick {
     ghost use Rattle.afr_brick.specs.Followed.{IsIndexOf};
-    ghost use Rattle.afr_brick.specs.State.{Copies};
+    ghost use Rattle.afr_object.specs.State.{Copies};
 
     ghost Value = { Copies };
 

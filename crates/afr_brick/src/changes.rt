@@ -3,7 +3,7 @@ ghost use Rattle.std.specs.Prelude.{◌≡◌, ◌≢◌, ◌+◌, ◌≤◌, �
 ghost use Rattle.std.specs.BTreeMap.{insert_entry, is_at};
 ghost use Rattle.std.specs.Map.{remove_entry};
 ghost use Rattle.afr_content.specs.Bytes.{written};
-ghost use Rattle.afr_brick.specs.State.{CanApply, takes_memory};
+ghost use Rattle.afr_object.specs.State.{CanApply, takes_memory};
 ghost use Rattle.afr_object.specs.Tables.{applied, changed, copy_at, gfid_cmp, linked, name_cmp, new_object, object_of, with_attr, with_bytes, with_names};
 
 use crate::refused::Refused;

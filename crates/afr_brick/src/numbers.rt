@@ -3,7 +3,7 @@ ghost use Rattle.std.specs.Prelude.{◌≡◌, ◌≢◌, ◌↔◌, None, OnOk,
 ghost use Rattle.std.specs.List.Sorted.{IsStrictlySortedBy};
 ghost use Rattle.std.specs.Map.{keys_of};
 ghost use Rattle.afr_base.specs.Marks.{closed_op, dirtied, taken_back};
-ghost use Rattle.afr_brick.specs.State.{CanPre, CanPost, CanSettle};
+ghost use Rattle.afr_object.specs.State.{CanPre, CanPost, CanSettle};
 ghost use Rattle.afr_object.specs.Tables.{changed, copy_at, gfid_cmp, with_numbers};
 
 use crate::refused::Refused;

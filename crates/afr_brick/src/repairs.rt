@@ -3,7 +3,7 @@ ghost use Rattle.std.specs.Prelude.{◌≡◌, ◌≢◌, ◌+◌, ◌≤◌, �
 ghost use Rattle.std.specs.List.Sorted.{IsStrictlySortedBy};
 ghost use Rattle.std.specs.Map.{keys_of};
 ghost use Rattle.afr_content.specs.Bytes.{copied_in};
-ghost use Rattle.afr_brick.specs.State.{CanRepair, IsInOrder, contents_of, repair_takes_memory};
+ghost use Rattle.afr_object.specs.State.{CanRepair, IsInOrder, contents_of, repair_takes_memory};
 ghost use Rattle.afr_brick.specs.Undone.{without};
 ghost use Rattle.afr_object.specs.Repairs.{all_made, mended, renamed, repaired, with_attrs};
 ghost use Rattle.afr_object.specs.Tables.{changed, copy_at, key_cmp, made, name_cmp, with_bytes, with_names};

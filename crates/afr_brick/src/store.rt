@@ -1,6 +1,6 @@
 //! The objects of a brick, without its index, and looks at its copies.
 ghost use Rattle.std.specs.Prelude.{◌≡◌, not, IfOk, option_map};
-ghost use Rattle.afr_brick.specs.State.{Copies};
+ghost use Rattle.afr_object.specs.State.{Copies};
 ghost use Rattle.afr_object.specs.Indexed.{index_of};
 ghost use Rattle.afr_object.specs.Tables.{copy_at, opening, view_of};
 
@@ -21,7 +21,7 @@ pub struct Store {
 }
 
 impl Model for Store {
-    ghost use Rattle.afr_brick.specs.State.{Copies};
+    ghost use Rattle.afr_object.specs.State.{Copies};
 
     ghost Value = { Copies };
 

@@ -6,8 +6,7 @@ ghost use Rattle.afr_model.specs.Tables.{holds};
 
 use crate::told::{same_told, told};
 use afr_base::{ActorId, BrickId, NoMemory};
-use afr_faults::Fault;
-use afr_lines::{Line, Request, Told};
+use afr_lines::{Fault, Line, Request, Told};
 use afr_plan::{Plan, PlannedFault};
 use afr_replay::{Unfit, conflict, is_joined, opens_with, tables};
 use std::alloc::Global;

@@ -15,7 +15,7 @@ use Rattle.afr_lines.specs.declared.line.Line.{Line}
 use Rattle.afr_lines.specs.declared.line.Line.TheVariants.{Ask, Begin, End, Event, HealBegin, HealEnd}
 use Rattle.afr_lines.specs.declared.reply.HealReply.{HealReply}
 use Rattle.afr_plan.specs.declared.plan.Plan.{Plan}
-use Rattle.afr_brick.specs.TablesLemmas.{same_gfid}
+use Rattle.afr_object.specs.TablesLemmas.{same_gfid}
 use Rattle.afr_model.specs.Actors.{rounds_of}
 use Rattle.afr_model.specs.Quiet.{IsQuiet, tells_any_fault}
 use Rattle.afr_model.specs.Rounds.{KeepsToRound, heals_of, kind_within, listed_by}

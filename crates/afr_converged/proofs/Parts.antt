@@ -28,7 +28,7 @@ use Rattle.afr_object.specs.declared.change.Repair.TheVariants.{Copy, CutTo, Put
 use Rattle.afr_object.specs.declared.entry.Entry.{Entry}
 use Rattle.afr_object.specs.declared.object.Object.{Object}
 use Rattle.afr_plan.specs.declared.plan.Plan.{Plan}
-use Rattle.afr_brick.specs.TablesLemmas.{copy_at-changed, copy_at-made}
+use Rattle.afr_object.specs.TablesLemmas.{copy_at-changed, copy_at-made}
 use Rattle.afr_model.specs.Tables.{Past, asked, carried, holds, keeps_bytes, tables}
 use Rattle.afr_tables.specs.CopyLaws.{gfid_is}
 use Rattle.afr_moves.specs.Past as position

@@ -4,8 +4,8 @@ ghost use Rattle.std.specs.BTreeMap.{insert_entry};
 ghost use Rattle.std.specs.Ordering.{nat_cmp};
 ghost use Rattle.afr_faults.specs.Planned.{Plans, next_fault};
 
-use crate::fault::Fault;
 use afr_base::NoMemory;
+use afr_lines::Fault;
 use std::alloc::Global;
 use std::collections::BTreeMap;
 use std::marker::Model;

@@ -1,8 +1,6 @@
 //! Faults that a plan has for the requests to a brick.
 #![tactic(auto)]
 
-mod fault;
 mod fault_plan;
 
-pub use fault::Fault;
 pub use fault_plan::FaultPlan;

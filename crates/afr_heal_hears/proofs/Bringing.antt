@@ -4,7 +4,7 @@ use Rattle.afr_base.specs.declared.ids.Gfid.{Gfid}
 use Rattle.afr_base.specs.declared.ids.Kind.{Kind}
 use Rattle.afr_base.specs.declared.ids.Kind.TheVariants as kind_of
 use Rattle.afr_base.specs.declared.ids.NameId.{NameId}
-use Rattle.afr_brick.specs.State.{contents_of}
+use Rattle.afr_object.specs.State.{contents_of}
 use Rattle.afr_discipline.specs.Five.{has_read}
 use Rattle.afr_discipline.specs.Stands.{reads_of, seen_as}
 use Rattle.afr_heal.proofs.Finding.{passed_behind, turn_set}

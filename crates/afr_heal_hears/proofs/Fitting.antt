@@ -9,8 +9,8 @@ use Rattle.afr_base.specs.declared.ids.Kind.TheVariants as kind_of
 use Rattle.afr_base.specs.declared.ids.Shape.{Shape}
 use Rattle.afr_choice.specs.declared.looked.Looked.{Looked}
 use Rattle.afr_discipline.specs.Stands.{seen_as}
-use Rattle.afr_faults.specs.declared.fault.Fault.{Fault}
-use Rattle.afr_faults.specs.declared.fault.Fault.TheVariants.{Fail, Lost}
+use Rattle.afr_lines.specs.declared.fault.Fault.{Fault}
+use Rattle.afr_lines.specs.declared.fault.Fault.TheVariants.{Fail, Lost}
 use Rattle.afr_heal.proofs.Parts.{both}
 use Rattle.afr_heal.specs.Answers.{fits}
 use Rattle.afr_heal.specs.Engine.{Next}

@@ -6,8 +6,8 @@ use Rattle.std.specs.Map.{lookup}
 use Rattle.afr_base.specs.declared.ids.ActorId.{ActorId}
 use Rattle.afr_base.specs.declared.ids.BrickId.{BrickId}
 use Rattle.afr_base.specs.declared.ids.Gfid.{Gfid}
-use Rattle.afr_faults.specs.declared.fault.Fault.{Fault}
-use Rattle.afr_faults.specs.declared.fault.Fault.TheVariants.{Fail, Lost}
+use Rattle.afr_lines.specs.declared.fault.Fault.{Fault}
+use Rattle.afr_lines.specs.declared.fault.Fault.TheVariants.{Fail, Lost}
 use Rattle.afr_inode_telling.proofs.HonestReads.{honest_reads}
 use Rattle.afr_inode_telling.specs.Lines.{CanAnswer, is_look}
 use Rattle.afr_law.proofs.Model.Found.{next_found}

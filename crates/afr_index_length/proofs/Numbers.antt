@@ -4,7 +4,7 @@ use Rattle.std.specs.Prelude.{if◌then◌else◌}
 use Rattle.std.proofs.lemmas.Bool.Decides.{nat_tests}
 use Rattle.std.proofs.lemmas.Bool.{eqb-true}
 use Rattle.afr_base.specs.Marks.{is_no_marks}
-use Rattle.afr_brick.specs.TablesLemmas.{same_gfid}
+use Rattle.afr_object.specs.TablesLemmas.{same_gfid}
 use Rattle.afr_object.specs.Indexed.{index_of}
 use Rattle.afr_object.specs.Tables.{Table, copy_at}
 use Rattle.afr_object.specs.declared.object.Object.{Object}

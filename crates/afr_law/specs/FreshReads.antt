@@ -3,7 +3,7 @@ use Rattle.std.specs.Prelude.{◌≡◌, ℕ, ◌<◌, ◌≤◌, Bool, true, Li
 use Rattle.afr_base.specs.Majority.{IsMajority}
 use Rattle.afr_base.specs.Marks.{marks_of}
 use Rattle.afr_base.specs.declared.ids.Kind.{Kind}
-use Rattle.afr_faults.specs.declared.fault.Fault.{Fault}
+use Rattle.afr_lines.specs.declared.fault.Fault.{Fault}
 use Rattle.afr_lines.specs.declared.answer.Told.{Told}
 use Rattle.afr_lines.specs.declared.answer.Told.TheVariants.{Seen, NoObject}
 use Rattle.afr_lines.specs.declared.line.Line.{Line}

@@ -2,7 +2,7 @@
 use Rattle.std.specs.Prelude.{◌≡◌, ℕ, suc, ◌≤◌, Bool, ◌&&◌, ◌||◌, List, length, take, slice_get, Option, Some}
 use Rattle.afr_moves.specs.Past.{Beginning, Log, before, is_of, place, opens, started, linked, joined}
 use Rattle.afr_moves.specs.Honest.{HonestAsk, KnownMake, asked}
-use Rattle.afr_faults.specs.declared.fault.Fault.{Fault}
+use Rattle.afr_lines.specs.declared.fault.Fault.{Fault}
 use Rattle.afr_moves.specs.Rules.{in_force, register, May}
 use Rattle.afr_law.specs.Safe.{Safe}
 use Rattle.afr_law.specs.Dirty.{ShowsDirty}

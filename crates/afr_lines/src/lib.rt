@@ -2,12 +2,14 @@
 #![tactic(auto)]
 
 mod answer;
+mod fault;
 mod kept_reply;
 mod line;
 mod reply;
 mod request;
 
 pub use answer::{Answer, Told, told_of};
+pub use fault::Fault;
 pub use kept_reply::KeptReply;
 pub use line::{Event, Heard, Line, Next};
 pub use reply::{Good, HealReply, Reply};

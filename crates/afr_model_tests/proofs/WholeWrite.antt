@@ -9,7 +9,7 @@ use Rattle.afr_lines.specs.declared.request.Request.TheVariants as request
 use Rattle.afr_base.specs.Bricks.{below, member}
 use Rattle.afr_base.specs.Text.{gfid_spelling}
 use Rattle.afr_base.specs.declared.ids.Kind.TheVariants.{Bytes}
-use Rattle.afr_faults.specs.declared.fault.Fault.TheVariants.{Fail}
+use Rattle.afr_lines.specs.declared.fault.Fault.TheVariants.{Fail}
 use Rattle.afr_object.specs.Tables.{root}
 use Rattle.afr_lines.specs.Work.{Work, ended, is_killed, work}
 use Rattle.afr_lines.specs.declared.line.Line.{Line}

@@ -25,7 +25,7 @@ use Rattle.afr_lines.specs.declared.line.Line.TheVariants.{Ask}
 use Rattle.afr_lines.specs.declared.request.Request.{Request}
 use Rattle.afr_lines.specs.declared.request.Request.TheVariants.{Pre, Apply, Post, Mend, Settle}
 use Rattle.afr_plan.specs.declared.plan.Plan.{Plan}
-use Rattle.afr_brick.specs.TablesLemmas.{copy_at-made, same_gfid}
+use Rattle.afr_object.specs.TablesLemmas.{copy_at-made, same_gfid}
 use Rattle.afr_model.specs.Sums.{has_object}
 use Rattle.afr_model.specs.Tables.{Past, asked, carried, effect, entry_in, held_before, holds, keeps_bytes, step}
 use Rattle.afr_moves.proofs.Tests.{same_self}

@@ -1,8 +1,8 @@
 -- What a line of a plan says, and which bytes say it.
 use Rattle.std.specs.Prelude.{◌≡◌, ℕ, List, true, false, codes}
 use Rattle.afr_base.specs.declared.ids.Shape.{Shape}
-use Rattle.afr_faults.specs.declared.fault.Fault.{Fault}
-use Rattle.afr_faults.specs.declared.fault.Fault.TheVariants.{Fail, Lost}
+use Rattle.afr_lines.specs.declared.fault.Fault.{Fault}
+use Rattle.afr_lines.specs.declared.fault.Fault.TheVariants.{Fail, Lost}
 use Rattle.afr_plan.specs.Happening.{Who, IsWho, Happening, IsHappening}
 use Rattle.afr_plan.specs.Spelling.{IsNumber, IsSmall, WordThen, Word, Both, Either}
 use Rattle.afr_plan.specs.Work.{Work, IsCommand}

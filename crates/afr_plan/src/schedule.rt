@@ -2,8 +2,7 @@
 ghost use Rattle.std.specs.Prelude.{◌≡◌};
 
 use afr_base::{ActorId, BrickId, NoMemory};
-use afr_faults::Fault;
-use afr_lines::Event;
+use afr_lines::{Event, Fault};
 use afr_object::{List, TryCopy};
 
 /// The rounds of one healer: the brick whose index each reads.

@@ -12,7 +12,7 @@ use crate::parts::{data, event, who};
 use crate::path::{named_path, path};
 use crate::spoken::{Spoken, SpokenWork};
 use afr_base::Shape;
-use afr_faults::Fault;
+use afr_lines::Fault;
 use afr_plan::{Version, limits};
 
 /// What was read, if nothing follows it.

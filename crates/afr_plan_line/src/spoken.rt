@@ -1,6 +1,6 @@
 //! What one line of a plan says by itself, its words lying where the line does.
 use afr_base::Shape;
-use afr_faults::Fault;
+use afr_lines::Fault;
 use afr_plan::Version;
 
 /// A piece of data, by its form.

@@ -13,7 +13,7 @@ use Rattle.afr_plan.specs.declared.plan.Words.{Words}
 use Rattle.afr_plan.specs.declared.schedule.Go.{Go as Order}
 use Rattle.afr_plan.specs.declared.schedule.PlannedEvent.{PlannedEvent}
 use Rattle.afr_plan.specs.declared.schedule.PlannedFault.{PlannedFault}
-use Rattle.afr_faults.specs.declared.fault.Fault.{Fault}
+use Rattle.afr_lines.specs.declared.fault.Fault.{Fault}
 use Rattle.afr_plan.specs.declared.version.Version.{Version}
 use Rattle.afr_plan.specs.Happening.{Who, OfClient, OfHealer, Happening, Stop, Start, Cut, Join, Kill}
 use Rattle.afr_plan.specs.Bytes.{key_byte}

@@ -5,7 +5,7 @@ use Rattle.std.specs.List.{list_all}
 use Rattle.std.proofs.lemmas.Bool.Decides.{nat_tests}
 use Rattle.std.proofs.lemmas.List.{append-nil}
 use Rattle.afr_base.specs.declared.ids.Shape.{Shape}
-use Rattle.afr_faults.specs.declared.fault.Fault.{Fault}
+use Rattle.afr_lines.specs.declared.fault.Fault.{Fault}
 use Rattle.afr_plan.specs.Bytes.{plain}
 use Rattle.afr_plan.specs.Spelling.{WordThen, Both, IsKey, IsNumber, IsSmall, IsPath, IsNamedPath}
 use Rattle.afr_plan.specs.Data.{IsData}

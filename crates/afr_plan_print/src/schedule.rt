@@ -5,8 +5,7 @@ ghost use Rattle.afr_plan_print.specs.PrintedParts.{healer_text, healers_text};
 ghost use Rattle.afr_plan_print.specs.PrintedPlan.{happening_of, said_event, said_fault, said_order, said_round, said_who};
 
 use afr_base::{ActorId, BrickId, NoMemory};
-use afr_faults::Fault;
-use afr_lines::Event;
+use afr_lines::{Event, Fault};
 use afr_plan::{Go, PlannedEvent, PlannedFault, RoundList, limits};
 
 /// Adds the healers and their rounds. Healer 1 has the first list.

@@ -1,6 +1,6 @@
 -- Data, actors and events: what is read is spelled so, and what is spelled so is read.
 use Rattle.std.proofs.Common.{◌≡◌, ◌⊎◌, inl, inr, ℕ, List, ◌++◌, Some, None, refl, ap, ◌∙◌, codes}
-use Rattle.afr_faults.specs.declared.fault.Fault.TheVariants.{Fail, Lost}
+use Rattle.afr_lines.specs.declared.fault.Fault.TheVariants.{Fail, Lost}
 use Rattle.afr_plan.specs.Bytes.{digit, hex_digit, text_byte}
 use Rattle.afr_plan.specs.Data.{hex_bytes, is_paired, is_pair, quoted_of, filled_of, IsQuoted, IsHexed, IsFilled, IsData}
 use Rattle.afr_plan.specs.Happening.{Who, OfClient, OfHealer, IsWho, Happening, Stop, Start, Cut, Join, Kill, IsHappening}

@@ -24,7 +24,7 @@ use Rattle.afr_lines.specs.declared.line.Line.TheVariants.{Ask, Begin, End, Even
 use Rattle.afr_lines.specs.declared.request.Request.{Request}
 use Rattle.afr_lines.specs.declared.request.Request.TheVariants as request
 use Rattle.afr_plan.specs.declared.plan.Plan.{Plan}
-use Rattle.afr_brick.specs.TablesLemmas.{copy_at-changed, copy_at-made}
+use Rattle.afr_object.specs.TablesLemmas.{copy_at-changed, copy_at-made}
 use Rattle.afr_model.specs.Tables.{Past, asked, carried, holds, keeps_bytes, tables}
 use Rattle.afr_tables.specs.CopyLaws.{gfid_is}
 use Rattle.afr_moves.specs.Past as position

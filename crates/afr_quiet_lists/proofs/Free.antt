@@ -6,8 +6,8 @@ use Rattle.std.proofs.lemmas.Bool.Decides.{nat_tests}
 use Rattle.afr_base.specs.SetLemmas.{below_all}
 use Rattle.afr_base.specs.declared.ids.ActorId.{ActorId}
 use Rattle.afr_base.specs.declared.ids.BrickId.{BrickId}
-use Rattle.afr_faults.specs.declared.fault.Fault.{Fault}
-use Rattle.afr_faults.specs.declared.fault.Fault.TheVariants.{Fail, Lost}
+use Rattle.afr_lines.specs.declared.fault.Fault.{Fault}
+use Rattle.afr_lines.specs.declared.fault.Fault.TheVariants.{Fail, Lost}
 use Rattle.afr_lines.specs.Overlap.{overlap}
 use Rattle.afr_lines.specs.Places.{Fresh, Place, Within, next_place, place_of, Indexed, Between}
 use Rattle.afr_lines.specs.Work.{is_end, is_killed, is_of, kills, work}

@@ -14,7 +14,7 @@ use Rattle.afr_base.specs.declared.marks.AllMarks.{AllMarks}
 use Rattle.afr_object.specs.Indexed.{index_of}
 use Rattle.afr_object.specs.Tables.{Table, copy_at}
 use Rattle.afr_object.specs.declared.object.Object.{Object}
-use Rattle.afr_brick.specs.TablesLemmas.{same_gfid}
+use Rattle.afr_object.specs.TablesLemmas.{same_gfid}
 use Rattle.afr_moves.proofs.Tests.{three_parts}
 use Rattle.afr_quiet.specs.Undisturbed.{IsListed}
 use Rattle.afr_quiet_lists.proofs.Rises.{AreAbove, Rises, above_none}

@@ -7,7 +7,7 @@ use Rattle.std.proofs.lemmas.List.{length-take}
 use Rattle.afr_base.specs.declared.ids.Gfid.{Gfid}
 use Rattle.afr_base.specs.declared.ids.What.{What}
 use Rattle.afr_base.specs.declared.ids.What.TheVariants.{Dir, File}
-use Rattle.afr_brick.specs.TablesLemmas.{copy_at-changed}
+use Rattle.afr_object.specs.TablesLemmas.{copy_at-changed}
 use Rattle.afr_content.specs.Bytes.{written}
 use Rattle.afr_content.specs.BytesLemmas.{length-written}
 use Rattle.afr_object.specs.Tables.{Table, changed, copy_at, is_file, with_bytes}

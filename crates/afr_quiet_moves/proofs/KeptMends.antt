@@ -12,8 +12,8 @@ use Rattle.afr_base.specs.declared.ids.What.{What}
 use Rattle.afr_base.specs.declared.ids.What.TheVariants.{Dir, File}
 use Rattle.afr_content.specs.Bytes.{copied_in, written}
 use Rattle.afr_content.specs.BytesLemmas.{length-copied_in}
-use Rattle.afr_faults.specs.declared.fault.Fault.{Fault}
-use Rattle.afr_faults.specs.declared.fault.Fault.TheVariants.{Fail, Lost}
+use Rattle.afr_lines.specs.declared.fault.Fault.{Fault}
+use Rattle.afr_lines.specs.declared.fault.Fault.TheVariants.{Fail, Lost}
 use Rattle.afr_object.specs.Tables.{is_file, with_bytes}
 use Rattle.afr_object.specs.declared.change.Repair.{Repair}
 use Rattle.afr_object.specs.declared.change.Repair.TheVariants.{Copy, CutTo}

@@ -1,6 +1,6 @@
 -- What a copy and its numbers can take.
 use Rattle.std.specs.Prelude.{◌≡◌, ℕ, ◌-◌, ◌<◌, ◌≤◌, ◌^◌, ◌==◌, ◌&&◌, true, List, [], ◌∷◌, IfSome, slice_index}
-use Rattle.afr_brick.specs.State.{CanApply, CanPost, CanPre, CanRepair, CanSettle}
+use Rattle.afr_object.specs.State.{CanApply, CanPost, CanPre, CanRepair, CanSettle}
 use Rattle.afr_object.specs.Tables.{Table}
 use Rattle.afr_lines.specs.Log.{change_at}
 use Rattle.afr_lines.specs.declared.line.Line.{Line}

@@ -3,7 +3,7 @@ ghost use Rattle.std.specs.Prelude.{Err, ◌≡◌, ◌≢◌, None, Some, IfOk,
 ghost use Rattle.std.specs.List.Sorted.{IsStrictlySortedBy};
 ghost use Rattle.std.specs.Map.{keys_of};
 ghost use Rattle.afr_base.specs.declared.ids.BrickId.{BrickId};
-ghost use Rattle.afr_brick.specs.State.{CanRepair, IsInOrder, contents_of};
+ghost use Rattle.afr_object.specs.State.{CanRepair, IsInOrder, contents_of};
 ghost use Rattle.afr_lines.specs.declared.request.Request.{Request};
 ghost use Rattle.afr_object.specs.Repairs.{Attrs, Bytes, higher, mended, merged_into, outranks};
 ghost use Rattle.afr_object.specs.Tables.{name_cmp};

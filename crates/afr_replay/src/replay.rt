@@ -1,7 +1,7 @@
 //! The tables of a brick after a log: what it had at the start, and then the effect of each line.
 ghost use Rattle.std.specs.Prelude.{Err, IfSome, ◌≡◌, ◌&&◌, ◌==◌, not, true, false, reverse, IfOk, OnOk, ◌^◌, ◌-◌, ◌<◌, ◌≤◌, ℕ, slice_index, EachIndex};
 ghost use Rattle.afr_base.specs.Marks.{closed_op, dirtied, taken_back};
-ghost use Rattle.afr_brick.specs.State.{CanApply, CanPost, CanPre, CanSettle, IsInOrder};
+ghost use Rattle.afr_object.specs.State.{CanApply, CanPost, CanPre, CanSettle, IsInOrder};
 ghost use Rattle.afr_object.specs.Tables.{applied, changed, copy_at, opening, with_numbers};
 ghost use Rattle.afr_lines.specs.Log.{change_at, from_oldest};
 ghost use Rattle.afr_object.specs.Repairs.{Names, merged};

@@ -6,7 +6,7 @@ use Rattle.std.specs.List.{filter}
 use Rattle.afr_base.specs.Bricks.{member}
 use Rattle.afr_base.specs.SetLemmas.{member_added, member_removed}
 use Rattle.afr_base.specs.declared.ids.ActorId.{ActorId}
-use Rattle.afr_brick.specs.State.{Copies}
+use Rattle.afr_object.specs.State.{Copies}
 use Rattle.afr_faults.specs.Planned.{Planned, fault_at}
 use Rattle.afr_lines.specs.declared.line.Event.{Event}
 use Rattle.afr_lines.specs.declared.line.Event.TheVariants.{Stop, Start, Cut, Join, Kill}

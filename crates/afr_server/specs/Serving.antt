@@ -1,7 +1,7 @@
 -- A server as its callers see it, and what a request finds there.
 use Rattle.std.specs.Prelude.{ℕ, ◌-◌, ◌^◌, ◌<◌, ◌==◌, ◌&&◌, Bool, true, false, List, [], ◌∷◌, Option, Some, None, ◌≡◌}
 use Rattle.afr_base.specs.declared.ids.ActorId.{ActorId}
-use Rattle.afr_brick.specs.State.{Copies}
+use Rattle.afr_object.specs.State.{Copies}
 use Rattle.afr_faults.specs.Planned.{Planned}
 use Rattle.afr_lines.specs.declared.request.Area.TheVariants.{Range, Name}
 use Rattle.afr_lines.specs.declared.request.Request.{Request}

@@ -11,8 +11,8 @@ ghost use Rattle.afr_session.specs.Links.{link_of, opens};
 use crate::carry_out::carry_out;
 use crate::server::{Asked, Server};
 use afr_base::{ActorId, NoMemory};
-use afr_faults::{Fault, FaultPlan};
-use afr_lines::{Answer, Request};
+use afr_faults::FaultPlan;
+use afr_lines::{Answer, Fault, Request};
 use afr_object::Load;
 use afr_session::Sessions;
 

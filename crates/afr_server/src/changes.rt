@@ -1,6 +1,6 @@
 //! What a request that changes copies makes of a brick, and its answer.
 ghost use Rattle.std.specs.Prelude.{◌≡◌, IfOk, OnErr};
-ghost use Rattle.afr_brick.specs.State.{CanApply, CanPost, CanPre, CanRepair, CanSettle, IsInOrder, contents_of};
+ghost use Rattle.afr_object.specs.State.{CanApply, CanPost, CanPre, CanRepair, CanSettle, IsInOrder, contents_of};
 ghost use Rattle.afr_model.specs.Honest.{copy_answer};
 ghost use Rattle.afr_object.specs.Repairs.{mended, repaired};
 ghost use Rattle.afr_object.specs.Tables.{applied, copy_at, object_of};

@@ -4,8 +4,7 @@ ghost use Rattle.afr_server_tests.specs.Fresh.{IsFresh};
 
 use afr_base::{ActorId, BrickId, Gfid};
 use afr_brick::Brick;
-use afr_faults::Fault;
-use afr_lines::{Answer, Area, Event, Request};
+use afr_lines::{Answer, Area, Event, Fault, Request};
 use afr_object::Load;
 use afr_plan::PlannedFault;
 use afr_range_locks::Domain;

@@ -3,8 +3,7 @@ ghost use Rattle.std.specs.Prelude.{◌≡◌, ◌≤◌, IfSome, length};
 ghost use Rattle.afr_servers_tests.specs.Fresh.{AreFresh};
 
 use afr_base::{ActorId, BrickId, Gfid, Shape};
-use afr_faults::Fault;
-use afr_lines::{Answer, Event, Request};
+use afr_lines::{Answer, Event, Fault, Request};
 use afr_object::{List, Load};
 use afr_plan::{Plan, PlannedFault, Words};
 use afr_server::Asked;

@@ -15,7 +15,7 @@ use Rattle.afr_object.specs.declared.change.Change.{Change}
 use Rattle.afr_object.specs.declared.change.Change.TheVariants.{Write, Cut, SetAttr, Make, Remove}
 use Rattle.afr_object.specs.declared.entry.Entry.{Entry as NameEntry}
 use Rattle.afr_object.specs.declared.object.Object.{Object}
-use Rattle.afr_brick.specs.TablesLemmas.{copy_at-changed, copy_at-made}
+use Rattle.afr_object.specs.TablesLemmas.{copy_at-changed, copy_at-made}
 use Rattle.afr_moves.specs.Cells.{what_code}
 use Rattle.afr_tables.specs.Codes.{kind_code, kind_in}
 use Rattle.afr_moves.specs.Past.{keep, object}

@@ -6,7 +6,7 @@ use Rattle.afr_base.specs.declared.ids.What.TheVariants.{File, Dir}
 use Rattle.afr_object.specs.Tables.{new_object, opening, opening_gfid, root}
 use Rattle.afr_object.specs.declared.change.Change.{Change}
 use Rattle.afr_object.specs.declared.change.Change.TheVariants.{Make}
-use Rattle.afr_brick.specs.TablesLemmas.{same_gfid}
+use Rattle.afr_object.specs.TablesLemmas.{same_gfid}
 use Rattle.afr_moves.specs.Cells.{Entry, what_code, entry_code, fits, touches, leaves}
 use Rattle.afr_tables.specs.Codes.{kind_code, kind_in, code_in}
 use Rattle.afr_moves.specs.Past.{keep}

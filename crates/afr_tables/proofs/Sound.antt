@@ -17,7 +17,7 @@ use Rattle.afr_object.specs.declared.change.Change.TheVariants.{Write, Cut, SetA
 use Rattle.afr_object.specs.declared.change.Repair.{Repair}
 use Rattle.afr_object.specs.declared.change.Repair.TheVariants.{CutTo, Copy, PutAttrs, PutNames}
 use Rattle.afr_object.specs.declared.object.Object.{Object}
-use Rattle.afr_brick.specs.TablesLemmas.{same_gfid, copy_at-changed, copy_at-made}
+use Rattle.afr_object.specs.TablesLemmas.{same_gfid, copy_at-changed, copy_at-made}
 use Rattle.afr_tables.proofs.Names.{AreRising, rising_inserted, rising_removed}
 use Rattle.afr_tables.specs.Ends.{EndsInTime}
 use Rattle.afr_tables.proofs.Merged.{NameTable, AreBelow, below_inserted, below_removed}

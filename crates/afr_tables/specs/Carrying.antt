@@ -1,6 +1,6 @@
 -- What a brick can carry out after a log.
 use Rattle.std.specs.Prelude.{◌≡◌, ℕ, List, Some}
-use Rattle.afr_brick.specs.State.{CanApply, CanPost, CanPre, CanRepair, CanSettle, IsInOrder}
+use Rattle.afr_object.specs.State.{CanApply, CanPost, CanPre, CanRepair, CanSettle, IsInOrder}
 use Rattle.afr_lines.specs.Log.{change_at}
 use Rattle.afr_lines.specs.declared.line.Line.{Line}
 use Rattle.afr_lines.specs.declared.request.Request.{Request}

@@ -7,7 +7,7 @@ use Rattle.afr_base.specs.declared.ids.Gfid.{Gfid}
 use Rattle.afr_base.specs.declared.ids.What.{What}
 use Rattle.afr_object.specs.Tables.{Table, copy_at, changed, made, new_object}
 use Rattle.afr_object.specs.declared.object.Object.{Object}
-use Rattle.afr_brick.specs.TablesLemmas.{copy_at-changed, copy_at-made}
+use Rattle.afr_object.specs.TablesLemmas.{copy_at-changed, copy_at-made}
 
 -- ---- an object never goes
 abbrev pub HasAll : Table → Table → Type 0

@@ -1,6 +1,6 @@
 -- The register of an actor has each lock of its that a brick has, and between works it has none: so no brick has one.
 use Rattle.std.proofs.Common.{◌≡◌, ℕ, zero, suc, ◌≤◌, true, inl, inr, sym, ◌∙◌, subst, arith, Contains, List, [], ◌∷◌, length, true≢false}
-use Rattle.afr_faults.specs.declared.fault.Fault.{Fault}
+use Rattle.afr_lines.specs.declared.fault.Fault.{Fault}
 use Rattle.std.specs.Prelude.{Option}
 use Rattle.afr_lines.specs.Log.{EveryPrefix}
 use Rattle.afr_lines.specs.Places.{Within, place_of}

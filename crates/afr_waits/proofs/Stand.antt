@@ -5,8 +5,8 @@ use Rattle.std.proofs.lemmas.Bool.{eqb-true}
 use Rattle.std.proofs.lemmas.Bool.Decides.{nat_tests}
 use Rattle.afr_base.specs.Bricks.{and_right}
 use Rattle.afr_base.specs.declared.ids.ActorId.{ActorId}
-use Rattle.afr_faults.specs.declared.fault.Fault.TheVariants.{Fail, Lost}
-use Rattle.afr_faults.specs.declared.fault.Fault.{Fault}
+use Rattle.afr_lines.specs.declared.fault.Fault.TheVariants.{Fail, Lost}
+use Rattle.afr_lines.specs.declared.fault.Fault.{Fault}
 use Rattle.afr_lines.specs.Overlap.{overlap}
 use Rattle.afr_lines.specs.declared.answer.Told.TheVariants.{Granted, Held}
 use Rattle.afr_lines.specs.declared.answer.Told.{Told}

@@ -3,8 +3,7 @@ ghost use Rattle.std.specs.Prelude.{◌≡◌, IfOk};
 
 use crate::logs::Worked;
 use afr_base::{ActorId, BrickId, NameId, NoMemory, Shape};
-use afr_faults::Fault;
-use afr_lines::Event;
+use afr_lines::{Event, Fault};
 use afr_object::List;
 use afr_plan::{
     Command, Events, Faults, Go, NamePath, Orders, Plan, PlannedEvent, PlannedFault, Rounds,

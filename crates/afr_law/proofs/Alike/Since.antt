@@ -3,7 +3,7 @@ use Rattle.std.proofs.Common.{◌≡◌, ℕ, zero, suc, ◌<◌, ◌≤◌, Boo
 use Rattle.std.specs.Prelude.{Option, None, Some, ◌==◌, if◌then◌else◌}
 use Rattle.std.proofs.lemmas.Bool.Decides.{nat_tests}
 use Rattle.afr_base.specs.declared.ids.Kind.{Kind}
-use Rattle.afr_faults.specs.declared.fault.Fault.{Fault}
+use Rattle.afr_lines.specs.declared.fault.Fault.{Fault}
 use Rattle.afr_object.specs.declared.entry.View.{View}
 use Rattle.afr_lines.specs.declared.request.Area.{Area}
 use Rattle.afr_lines.specs.declared.request.Request.{Request}

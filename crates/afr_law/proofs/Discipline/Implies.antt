@@ -1,7 +1,7 @@
 -- The exact discipline implies the weak one.
 use Rattle.afr_base.specs.Bricks.{member}
 use Rattle.afr_base.specs.declared.ids.Kind.{Kind}
-use Rattle.afr_faults.specs.declared.fault.Fault.{Fault}
+use Rattle.afr_lines.specs.declared.fault.Fault.{Fault}
 use Rattle.afr_law.proofs.Discipline.Cleans.{clean_now}
 use Rattle.afr_moves.specs.Discipline.{LawfulExactly, MayAskExactly, MayExactly, MovesExactly, NumbersInRange, present}
 use Rattle.afr_moves.specs.Heal.{Gives, Goes, MayHealBegin}

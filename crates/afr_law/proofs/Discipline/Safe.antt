@@ -1,6 +1,6 @@
 -- The law of logs that keep the discipline in full.
 use Rattle.std.specs.Prelude.{ℕ, List, Option}
-use Rattle.afr_faults.specs.declared.fault.Fault.{Fault}
+use Rattle.afr_lines.specs.declared.fault.Fault.{Fault}
 use Rattle.afr_lines.specs.declared.line.Line.{Line}
 use Rattle.afr_moves.specs.Past.{Beginning, Log}
 use Rattle.afr_moves.specs.Honest.{Honest}

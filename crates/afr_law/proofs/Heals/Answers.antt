@@ -1,7 +1,7 @@
 -- What the bricks tell a heal: a brick that showed its copy has it still.
 use Rattle.afr_base.specs.declared.ids.Kind.{Kind}
-use Rattle.afr_faults.specs.declared.fault.Fault.{Fault}
-use Rattle.afr_faults.specs.declared.fault.Fault.TheVariants.{Fail, Lost}
+use Rattle.afr_lines.specs.declared.fault.Fault.{Fault}
+use Rattle.afr_lines.specs.declared.fault.Fault.TheVariants.{Fail, Lost}
 use Rattle.afr_moves.specs.Note.{fails}
 use Rattle.afr_moves.specs.Lines.{ask_by, look_at, pre_on}
 use Rattle.afr_moves.specs.Past.{Beginning, Log, holds, joined, keep, kind_at, opening}

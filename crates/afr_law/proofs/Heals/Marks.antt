@@ -1,5 +1,5 @@
 -- What the lines of a log leave of the marks that a heal saw, under its Heal lock.
-use Rattle.afr_faults.specs.declared.fault.Fault.{Fault}
+use Rattle.afr_lines.specs.declared.fault.Fault.{Fault}
 use Rattle.std.proofs.Common.{◌≡◌, ℕ, suc, Bool, true, false, ◌||◌, ◌⊎◌, inl, inr, refl, sym, ap, ◌∙◌, subst, true≢false}
 use Rattle.std.specs.Prelude.{Option, Some}
 use Rattle.afr_base.specs.declared.ids.Kind.{Kind}

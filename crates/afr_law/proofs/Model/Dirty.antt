@@ -4,8 +4,8 @@ use Rattle.afr_base.specs.Marks.{marks_of, dirtied, closed_op, taken_back}
 use Rattle.afr_base.specs.declared.ids.Gfid.{Gfid}
 use Rattle.afr_base.specs.declared.ids.Kind.{Kind}
 use Rattle.afr_base.specs.declared.marks.Marks.{Marks}
-use Rattle.afr_faults.specs.declared.fault.Fault.{Fault}
-use Rattle.afr_faults.specs.declared.fault.Fault.TheVariants.{Fail, Lost as LostAnswer}
+use Rattle.afr_lines.specs.declared.fault.Fault.{Fault}
+use Rattle.afr_lines.specs.declared.fault.Fault.TheVariants.{Fail, Lost as LostAnswer}
 use Rattle.afr_object.specs.Repairs.{mended}
 use Rattle.afr_object.specs.Tables.{copy_at, view_of}
 use Rattle.afr_object.specs.declared.entry.View.{View}

@@ -7,8 +7,8 @@ use Rattle.afr_base.specs.declared.ids.BrickId.{BrickId}
 use Rattle.afr_base.specs.declared.ids.Gfid.{Gfid}
 use Rattle.afr_base.specs.declared.ids.Kind.{Kind}
 use Rattle.afr_base.specs.declared.marks.Marks.{Marks}
-use Rattle.afr_brick.specs.State.{CanApply}
-use Rattle.afr_faults.specs.declared.fault.Fault.{Fault}
+use Rattle.afr_object.specs.State.{CanApply}
+use Rattle.afr_lines.specs.declared.fault.Fault.{Fault}
 use Rattle.afr_tables.specs.Fits.{FitsSums}
 use Rattle.afr_tables.specs.SumLaws.{adds_up, now_at, numbers_are_sums}
 use Rattle.afr_tables.specs.TableLaws.{numbers_below}

@@ -10,8 +10,8 @@ use Rattle.afr_base.specs.declared.ids.Gfid.{Gfid}
 use Rattle.afr_base.specs.declared.ids.Kind.{Kind}
 use Rattle.afr_base.specs.declared.ids.Kind.TheVariants.{Bytes}
 use Rattle.afr_content.specs.Bytes.{byte_at}
-use Rattle.afr_faults.specs.declared.fault.Fault.{Fault}
-use Rattle.afr_faults.specs.declared.fault.Fault.TheVariants.{Fail, Lost as LostAnswer}
+use Rattle.afr_lines.specs.declared.fault.Fault.{Fault}
+use Rattle.afr_lines.specs.declared.fault.Fault.TheVariants.{Fail, Lost as LostAnswer}
 use Rattle.afr_object.specs.Repairs as repairs
 use Rattle.afr_object.specs.Tables.{Table, copy_at, view_of, object_of, opening}
 use Rattle.afr_object.specs.declared.change.Change.{Change}

@@ -4,8 +4,8 @@ use Rattle.std.specs.Prelude.{suc}
 use Rattle.afr_base.specs.Bricks.{member}
 use Rattle.afr_base.specs.declared.ids.ActorId.{ActorId}
 use Rattle.afr_base.specs.declared.ids.BrickId.{BrickId}
-use Rattle.afr_faults.specs.declared.fault.Fault.{Fault}
-use Rattle.afr_faults.specs.declared.fault.Fault.TheVariants.{Fail, Lost}
+use Rattle.afr_lines.specs.declared.fault.Fault.{Fault}
+use Rattle.afr_lines.specs.declared.fault.Fault.TheVariants.{Fail, Lost}
 use Rattle.afr_lines.specs.Told.{told_by}
 use Rattle.afr_lines.specs.Work.{is_of}
 use Rattle.afr_lines.specs.declared.answer.Answer.TheVariants as answer

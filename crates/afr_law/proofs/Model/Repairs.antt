@@ -15,7 +15,7 @@ use Rattle.afr_base.specs.declared.ids.KeyId.{KeyId}
 use Rattle.afr_base.specs.declared.ids.Kind.{Kind}
 use Rattle.afr_base.specs.declared.ids.NameId.{NameId}
 use Rattle.afr_base.specs.declared.ids.ValueId.{ValueId}
-use Rattle.afr_brick.specs.State.{CanRepair, IsInOrder}
+use Rattle.afr_object.specs.State.{CanRepair, IsInOrder}
 use Rattle.afr_tables.specs.Fits.{FitsSums}
 use Rattle.afr_lines.specs.Log.{EachLine, from_oldest}
 use Rattle.afr_lines.specs.declared.answer.Told.{Told}

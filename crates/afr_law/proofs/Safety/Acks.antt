@@ -1,6 +1,6 @@
 -- An acknowledged attempt has Post lines told Done at a majority.
 use Rattle.afr_lines.specs.declared.reply.Reply.{Reply}
-use Rattle.afr_faults.specs.declared.fault.Fault.{Fault}
+use Rattle.afr_lines.specs.declared.fault.Fault.{Fault}
 use Rattle.afr_base.specs.Majority.{IsMajority}
 use Rattle.afr_lines.specs.Places.{Place, Fresh, Indexed, Between, Within, next_place}
 use Rattle.std.proofs.Common.{◌≡◌, ℕ, zero, suc, ◌<◌, ◌≤◌, Bool, true, false, ◌&&◌, not, ◌⊎◌, inl, inr, refl, sym, ap, ◌∙◌, subst, arith, true≢false}

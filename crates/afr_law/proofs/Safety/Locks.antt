@@ -1,6 +1,6 @@
 -- A lock that is held keeps others out, from its Lock line on.
-use Rattle.afr_faults.specs.declared.fault.Fault.TheVariants.{Fail, Lost}
-use Rattle.afr_faults.specs.declared.fault.Fault.{Fault}
+use Rattle.afr_lines.specs.declared.fault.Fault.TheVariants.{Fail, Lost}
+use Rattle.afr_lines.specs.declared.fault.Fault.{Fault}
 use Rattle.afr_range_locks.specs.Locks.{same_domain}
 use Rattle.afr_lines.specs.Overlap.{overlap}
 use Rattle.std.proofs.Common.{◌≡◌, ℕ, zero, suc, ◌<◌, ◌≤◌, Bool, true, false, ◌&&◌, ◌||◌, not, ◌⊎◌, inl, inr, refl, sym, ap, subst, arith, ◌∙◌}

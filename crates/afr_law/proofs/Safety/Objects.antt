@@ -1,7 +1,7 @@
 -- A gfid has one kind of object, on each brick and at each time.
 use Rattle.afr_tables.proofs.Entries.{entry_some, entry_same}
-use Rattle.afr_faults.specs.declared.fault.Fault.TheVariants.{Fail, Lost}
-use Rattle.afr_faults.specs.declared.fault.Fault.{Fault}
+use Rattle.afr_lines.specs.declared.fault.Fault.TheVariants.{Fail, Lost}
+use Rattle.afr_lines.specs.declared.fault.Fault.{Fault}
 use Rattle.std.proofs.Common.{◌≡◌, ℕ, zero, suc, ◌+◌, ◌<◌, Bool, true, false, ◌&&◌, ◌||◌, not, ◌⊎◌, inl, inr, refl, sym, ap, ◌∙◌, subst, arith, true≢false}
 use Rattle.std.specs.Prelude.{Option, None, Some, ◌==◌, if◌then◌else◌, []}
 use Rattle.afr_object.specs.declared.entry.View.{View}

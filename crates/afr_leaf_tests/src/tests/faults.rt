@@ -2,7 +2,8 @@
 ghost use Rattle.std.specs.Prelude.{◌≡◌};
 
 use afr_base::NoMemory;
-use afr_faults::{Fault, FaultPlan};
+use afr_faults::FaultPlan;
+use afr_lines::Fault;
 use std::test::Fail;
 
 /// Two faults are planned, one of them twice.

@@ -1,7 +1,7 @@
 use Rattle.std.proofs.Common.{◌≡◌, ◌+◌, ◌-◌, ◌∙◌, suc, length, Err, ap, sym, refl, reverse, arith}
 use Rattle.std.proofs.lemmas.Option.{slice_get-get_or, slice_get_past}
 use Rattle.afr_model.specs.Tables.{held_before}
-use Rattle.afr_brick.specs.State.{Copies}
+use Rattle.afr_object.specs.State.{Copies}
 use Rattle.afr_replay.specs.Mends.{shown_of}
 use Rattle.afr_replay.proofs.LogLemmas.{from_oldest_reverse}
 use Rattle.afr_replay.proofs.MendsLemmas.{merged_read, shown_asked, shown_unasked}

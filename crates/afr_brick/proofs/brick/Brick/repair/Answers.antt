@@ -1,4 +1,4 @@
-use Rattle.afr_brick.specs.State.{contents_of}
+use Rattle.afr_object.specs.State.{contents_of}
 use Rattle.afr_brick.proofs.IndexKept.{index_of-mended, index_stays}
 use Rattle.afr_brick.proofs.brick.Brick.repair.Goals as goal
 

@@ -1,7 +1,7 @@
 use Rattle.std.proofs.Common.{◌≡◌, ap, None}
 use Rattle.std.specs.BTreeMap.{insert_entry}
 use Rattle.afr_object.specs.Tables.{copy_at, gfid_cmp, new_object}
-use Rattle.afr_brick.specs.TablesLemmas.{remove_entry-insert_entry}
+use Rattle.afr_object.specs.TablesLemmas.{remove_entry-insert_entry}
 use Rattle.afr_brick.proofs.Made.{copies, not_both, some_of, none_of, name_after_object, still_there}
 use Rattle.afr_brick.proofs.store.Store.make_new.Goals as goal
 

@@ -2,7 +2,7 @@ use Rattle.std.proofs.Common.{◌≡◌, sym, ap, false, reverse}
 use Rattle.std.proofs.lemmas.List.{reverse-append}
 use Rattle.std.specs.Prelude.{is_some}
 use Rattle.afr_object.specs.Tables.{copy_at, new_object}
-use Rattle.afr_brick.specs.TablesLemmas.{remove_entry-insert_entry}
+use Rattle.afr_object.specs.TablesLemmas.{remove_entry-insert_entry}
 use Rattle.afr_brick.specs.Undone.{without}
 use Rattle.afr_brick.proofs.Made.{copies, none_of}
 use Rattle.afr_brick.proofs.store.Store.make_one.Goals as goal
