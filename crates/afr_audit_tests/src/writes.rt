@@ -3,10 +3,9 @@ ghost use Rattle.std.specs.Prelude.{◌≡◌};
 
 use afr_audit::{first_unlawful, is_lawful_line, makes_new_alone, register_of};
 use afr_base::{ActorId, AllMarks, BrickId, BrickSet, Gfid, Kind, NameId, Shape, What};
-use afr_lines::{Area, Good, Line, Reply, Request, Told};
+use afr_lines::{Area, Domain, Good, Line, Reply, Request, Told};
 use afr_object::{Change, List, View};
 use afr_plan::{Plan, Words};
-use afr_range_locks::Domain;
 use std::alloc::Global;
 use std::test::Fail;
 

@@ -27,7 +27,7 @@ use Rattle.afr_moves.specs.Discipline.{MayAskExactly, exact, in_force}
 use Rattle.afr_moves.specs.Past.{place}
 use Rattle.afr_moves.specs.Past as past
 use Rattle.afr_moves.specs.Positions.{by_position}
-use Rattle.afr_range_locks.specs.declared.domain.Domain.TheVariants.{Work as WorkDomain, Heal as HealDomain}
+use Rattle.afr_lines.specs.declared.lock.Domain.TheVariants.{Work as WorkDomain, Heal as HealDomain}
 use Rattle.afr_lines.specs.Places.{Place, Fresh, Indexed, Between, Within}
 use Rattle.afr_tables.specs.Codes.{kept_by}
 use Rattle.afr_law.specs.Exactly.{IsLawfulExactly}

@@ -29,7 +29,7 @@ use Rattle.afr_model.specs.Ordered.{actors_of, ordered_turns, passes}
 use Rattle.afr_moves.proofs.Tests.{same_self}
 use Rattle.afr_plan.specs.declared.plan.Plan.{Plan}
 use Rattle.afr_plan.specs.declared.schedule.Go.{Go}
-use Rattle.afr_range_locks.specs.declared.domain.Domain.TheVariants.{Work}
+use Rattle.afr_lines.specs.declared.lock.Domain.TheVariants.{Work}
 use Rattle.afr_standstill.proofs.Standing.{actor_yes, goes_on, held_waits, is_actor, not_all, yes_actor}
 use Rattle.std.proofs.lemmas.Nat.{mul-add-lt}
 use Rattle.std.proofs.Math.Nat.{suc-mul, zero-mul}

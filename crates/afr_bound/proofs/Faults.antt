@@ -18,7 +18,7 @@ use Rattle.afr_lines.specs.declared.request.Request.TheVariants.{Unlock}
 use Rattle.afr_model.specs.Honest.{IsHonest, Outcome, fault_in, is_live, one_more, over_session, requests_to}
 use Rattle.afr_plan.specs.declared.plan.Plan.{Plan}
 use Rattle.afr_plan.specs.declared.schedule.PlannedFault.{PlannedFault}
-use Rattle.afr_range_locks.specs.declared.domain.Domain.{Domain}
+use Rattle.afr_lines.specs.declared.lock.Domain.{Domain}
 use Rattle.afr_waits.proofs.Circle.{In}
 
 more_requests : (b : ℕ) (line : Line) (n : ℕ) → n ≤ one_more b line n

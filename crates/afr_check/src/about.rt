@@ -21,10 +21,9 @@ use crate::standing::{area_here, looks_here};
 use crate::told::object_of;
 use afr_base::{ActorId, BrickId, Gfid, Kind, MOST_BRICKS};
 use afr_choice::good;
-use afr_lines::{Area, Good, Line, Request};
+use afr_lines::{Area, Domain, Good, Line, Request};
 use afr_object::{Change, NameList};
 use afr_plan::{Command, Plan};
-use afr_range_locks::Domain;
 use afr_replay::{Unfit, same_area};
 use std::alloc::Global;
 

@@ -8,8 +8,7 @@ ghost use Rattle.afr_check.specs.Passing.{passed};
 
 use crate::areas::object_of_area;
 use afr_base::{ActorId, Gfid};
-use afr_lines::{Area, Line, Request, Told};
-use afr_range_locks::Domain;
+use afr_lines::{Area, Domain, Line, Request, Told};
 use afr_replay::{is_end, is_of, same_area};
 
 /// What is asked of a line.

@@ -6,8 +6,7 @@ ghost use Rattle.afr_model.specs.Showing.{look_shows, looked_after, looked_by};
 use crate::areas::object_of_area;
 use afr_base::{ActorId, BrickId, Gfid, MOST_BRICKS};
 use afr_choice::Looked;
-use afr_lines::{Line, Request, Told};
-use afr_range_locks::Domain;
+use afr_lines::{Domain, Line, Request, Told};
 use afr_replay::{Unfit, is_end, is_of};
 
 /// What the last looks at an object show.

@@ -26,10 +26,9 @@ use crate::standing::{both_locked, place_by, suffices};
 use crate::told::object_of;
 use afr_base::{ActorId, BrickSet, Gfid, Kind, What};
 use afr_choice::holders;
-use afr_lines::{Area, Line, Request};
+use afr_lines::{Area, Domain, Line, Request};
 use afr_object::{Change, Entry};
 use afr_plan::{Command, Plan};
-use afr_range_locks::Domain;
 use afr_replay::Unfit;
 use std::alloc::Global;
 

@@ -7,10 +7,9 @@ use afr_check::{
     accuses, an_end_is_caused_and_ends_well, answer, fresh_in_each_cell, is_current, is_fresh_at,
     is_good_copy, is_honest, refusal, reply_of,
 };
-use afr_lines::{Area, Event, Fault, Good, Line, Reply, Request, Told};
+use afr_lines::{Area, Domain, Event, Fault, Good, Line, Reply, Request, Told};
 use afr_object::{Change, List, Repair, View};
 use afr_plan::{Command, Plan, PlannedFault, Words};
-use afr_range_locks::Domain;
 use afr_replay::{
     Cell, Unfit, Value, change_at, conflict, dirty, ended, first_reply, is_acknowledged, is_joined,
     is_killed, is_linked, is_started, leaves, locks_held, pending, tables, touches, value,

@@ -8,7 +8,7 @@ use Rattle.afr_lines.specs.Work.{Work}
 use Rattle.afr_lines.specs.declared.line.Line.{Line}
 use Rattle.afr_lines.specs.declared.line.Line.TheVariants.{Ask, Begin}
 use Rattle.afr_lines.specs.declared.request.Request.TheVariants as request
-use Rattle.afr_range_locks.specs.declared.domain.Domain.TheVariants.{Work as WorkDomain}
+use Rattle.afr_lines.specs.declared.lock.Domain.TheVariants.{Work as WorkDomain}
 use Rattle.afr_model.specs.Showing.{among, applied_at, applying, begins_attempt, begun_after, begun_by, has, locks, looked_after, looked_by, posted, posting, prepared, preparing}
 use Rattle.afr_model.specs.Standing.{change_after, change_by}
 

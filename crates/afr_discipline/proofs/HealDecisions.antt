@@ -5,7 +5,7 @@ use Rattle.afr_base.specs.Majority.{IsMajority, is_most}
 use Rattle.afr_base.specs.declared.ids.Kind.{Kind}
 use Rattle.afr_base.specs.declared.ids.Kind.TheVariants.{Bytes, Attrs, Names}
 use Rattle.afr_object.specs.declared.change.Repair.TheVariants.{CutTo, Copy, PutAttrs, PutNames}
-use Rattle.afr_range_locks.specs.declared.domain.Domain.TheVariants.{Work, Heal}
+use Rattle.afr_lines.specs.declared.lock.Domain.TheVariants.{Work, Heal}
 use Rattle.afr_lines.specs.declared.request.Request.{Request}
 use Rattle.afr_lines.specs.declared.request.Request.TheVariants.{Lock, Unlock, Look, ReadBytes, List as ListNames, ReadAttrs, Pre, Mend, Settle}
 use Rattle.afr_moves.specs.Sets.{any}

@@ -7,7 +7,7 @@ use Rattle.afr_base.specs.declared.marks.Marks.{Marks}
 use Rattle.afr_object.specs.declared.change.Repair.{Repair}
 use Rattle.afr_choice.specs.Looks.{no_looks}
 use Rattle.afr_object.specs.declared.entry.View.{View}
-use Rattle.afr_range_locks.specs.declared.domain.Domain.TheVariants.{Work, Heal}
+use Rattle.afr_lines.specs.declared.lock.Domain.TheVariants.{Work, Heal}
 use Rattle.afr_lines.specs.declared.answer.Told.{Told}
 use Rattle.afr_lines.specs.declared.answer.Told.TheVariants.{Granted, Seen, Done}
 use Rattle.afr_lines.specs.declared.request.Area.{Area}

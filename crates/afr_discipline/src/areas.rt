@@ -5,7 +5,7 @@ ghost use Rattle.afr_moves.specs.Rules.{area_object, is_area};
 ghost use Rattle.afr_moves.specs.Register.{area_kind, is_on, kind_in};
 ghost use Rattle.afr_lines.specs.Overlap.{same_area};
 ghost use Rattle.afr_base.specs.Kinds.{same_kind};
-ghost use Rattle.afr_name_locks.specs.Names.{same_name};
+ghost use Rattle.afr_lines.specs.Locks.{same_name};
 ghost use Rattle.afr_discipline.specs.Tests.{ends_low, has_name, is_heal_area, is_valid, lies_at, lies_in, plane_in};
 
 use afr_base::{FIRST_ATTRIBUTE, Gfid, Kind, LONGEST_FILE, NameId};

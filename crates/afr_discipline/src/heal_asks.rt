@@ -15,8 +15,7 @@ use crate::heal_reads::may_repair;
 use crate::of_five::any_of;
 use crate::register::Register;
 use afr_base::BrickId;
-use afr_lines::{Area, Request};
-use afr_range_locks::Domain;
+use afr_lines::{Area, Domain, Request};
 
 fn may_lock(register: &Register, s: BrickId, b: BrickId, domain: Domain, area: Area) -> bool
     requires few { register.now.shape.n ≤ 5 }

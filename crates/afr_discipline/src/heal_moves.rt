@@ -18,8 +18,7 @@ use crate::outside::is_busy;
 use crate::register::{Phase, Register, Step};
 use crate::steps::{is_same_step, rank};
 use afr_base::{BrickId, BrickSet, FIRST_ATTRIBUTE, Gfid, HEAL_BLOCK, Kind};
-use afr_lines::{Area, Request};
-use afr_range_locks::Domain;
+use afr_lines::{Area, Domain, Request};
 
 pub(crate) fn whole(g: Gfid, kind: Kind) -> Area
     ensures { result ≡ whole_area g.0 kind }

@@ -10,8 +10,7 @@ use crate::heal_asks::{is_allowed_by, may_heal};
 use crate::of_five::picked;
 use crate::register::{Register, Step};
 use afr_base::{BrickId, BrickSet};
-use afr_lines::{Area, Request};
-use afr_range_locks::Domain;
+use afr_lines::{Area, Domain, Request};
 
 /// Whether a lock may be asked for alike: a Work lock till the first part's looks begin, and in the midst of a part's locks.
 fn is_alike_lock(register: &Register, domain: Domain, area: Area) -> bool

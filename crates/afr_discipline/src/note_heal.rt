@@ -15,8 +15,7 @@ use crate::note_steps::{entered, noted_outside, shown, shown_if};
 use crate::register::{Phase, Register, Step};
 use crate::steps::{is_same_step, rank};
 use afr_base::{BrickId, BrickSet, HEAL_BLOCK, Kind};
-use afr_lines::{Area, Request, Told};
-use afr_range_locks::Domain;
+use afr_lines::{Area, Domain, Request, Told};
 
 fn is_piece(phase: Phase) -> bool
     ensures { result ≡ is_piece (phase_of phase) }

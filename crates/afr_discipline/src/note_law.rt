@@ -8,8 +8,7 @@ use crate::heal_moves::heal_range;
 use crate::outside::is_busy;
 use crate::register::Register;
 use afr_base::{BrickId, BrickSet};
-use afr_lines::{Area, Request, Told};
-use afr_range_locks::Domain;
+use afr_lines::{Area, Domain, Request, Told};
 
 /// A new transaction, or a new part of a heal.
 fn anew(register: &mut Register, area: Area)

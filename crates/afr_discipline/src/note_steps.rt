@@ -9,8 +9,7 @@ use crate::register::{Register, Step};
 use crate::steps::is_same_step;
 use afr_base::{BrickId, BrickSet, Gfid};
 use afr_choice::Looked;
-use afr_lines::{Area, Request, Told};
-use afr_range_locks::Domain;
+use afr_lines::{Area, Domain, Request, Told};
 
 /// The bricks that were asked, if this is the present step.
 pub fn asked_at(register: &Register, step: Step) -> BrickSet

@@ -16,9 +16,8 @@ use crate::register::{Move, Register, Step};
 use crate::steps::{is_once, is_same_step};
 use crate::views::{fits_all, has_some, holds, is_carried, is_carried_by_holders};
 use afr_base::{BrickId, BrickSet, Gfid, Kind};
-use afr_lines::{Area, Request};
+use afr_lines::{Area, Domain, Request};
 use afr_object::Change;
-use afr_range_locks::Domain;
 
 /// Whether the actor holds a Work lock.
 pub(crate) fn is_busy(register: &Register) -> bool

@@ -7,8 +7,7 @@ use crate::lines::{
 };
 use afr_base::Kind;
 use afr_discipline::{Move, Register, may};
-use afr_lines::{Request, Told};
-use afr_range_locks::Domain;
+use afr_lines::{Domain, Request, Told};
 
 fn may_begin(register: &Register, kind: Kind) -> bool
     requires { register.now.shape.n ≤ 5 }

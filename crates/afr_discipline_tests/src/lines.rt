@@ -4,9 +4,8 @@ ghost use Rattle.afr_discipline.specs.Notes.{AsksBelow};
 
 use afr_base::{AllMarks, BrickId, BrickSet, Gfid, Kind, Marks, Shape, What};
 use afr_discipline::{Move, Register, fresh, may, note};
-use afr_lines::{Area, Request, Told};
+use afr_lines::{Area, Domain, Request, Told};
 use afr_object::{Repair, View};
-use afr_range_locks::Domain;
 
 pub(crate) const ATTRS: u64 = 1 << 63;
 

@@ -7,9 +7,8 @@ use crate::lines::{
 };
 use afr_base::{BrickId, BrickSet, Kind};
 use afr_discipline::{Move, Register};
-use afr_lines::{Request, Told};
+use afr_lines::{Domain, Request, Told};
 use afr_object::Change;
-use afr_range_locks::Domain;
 
 #[test]
 fn a_write_notes_its_lines(rt: HostRuntime) {

@@ -4,9 +4,8 @@ use crate::lines::{
 };
 use afr_base::Kind;
 use afr_discipline::{Move, may};
-use afr_lines::{Request, Told};
+use afr_lines::{Domain, Request, Told};
 use afr_object::Change;
-use afr_range_locks::Domain;
 
 #[test]
 fn moves_of_a_transaction_come_in_their_order(rt: HostRuntime) {

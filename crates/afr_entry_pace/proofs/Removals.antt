@@ -26,7 +26,7 @@ use Rattle.afr_moves.proofs.AreaLemmas.{own_area}
 use Rattle.afr_pace.proofs.Counting.{asked_falls, removed_falls}
 use Rattle.afr_pace.proofs.Nearer.{done_kept, most, pre_kept, step_of}
 use Rattle.afr_pace.specs.Left.{count}
-use Rattle.afr_range_locks.specs.declared.domain.Domain.TheVariants.{Work}
+use Rattle.afr_lines.specs.declared.lock.Domain.TheVariants.{Work}
 use Rattle.afr_removal.proofs.AfterLemmas.{locked_is}
 use Rattle.afr_removal.proofs.Facts.{apart, common_left, is_busy}
 use Rattle.afr_removal.specs.Removal.{Removing, answered, begun, both_held, brick_at, left_in, moved, request_at, unlocks, untouched, whole}

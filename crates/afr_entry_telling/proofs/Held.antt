@@ -22,7 +22,7 @@ use Rattle.afr_moves.specs.Sets.{any}
 use Rattle.afr_moves.proofs.AreaLemmas.{own_area}
 use Rattle.afr_object.specs.Tables.{object_of}
 use Rattle.afr_object.specs.declared.change.Change.{Change}
-use Rattle.afr_range_locks.specs.declared.domain.Domain.TheVariants.{Work as WorkDomain}
+use Rattle.afr_lines.specs.declared.lock.Domain.TheVariants.{Work as WorkDomain}
 use Rattle.afr_model.specs.Showing.{among, has}
 use Rattle.afr_model.specs.Standing.{holding, locks_any}
 use Rattle.afr_walk.specs.Free.{IsFree}

@@ -17,7 +17,7 @@ use Rattle.afr_object.specs.Tables.{copy_at, name_cmp}
 use Rattle.afr_object.specs.declared.entry.Entry.{Entry}
 use Rattle.afr_object.specs.declared.object.Object.{Object}
 use Rattle.afr_plan.specs.declared.plan.Plan.{Plan}
-use Rattle.afr_range_locks.specs.declared.domain.Domain.TheVariants.{Work as WorkDomain}
+use Rattle.afr_lines.specs.declared.lock.Domain.TheVariants.{Work as WorkDomain}
 use Rattle.afr_model.specs.Honest.{copy_answer}
 use Rattle.afr_model.specs.Showing.{Path, At, has, path_after, path_by, reading_by, refuses_read}
 use Rattle.afr_model.specs.Standing.{kept_at, path_upto}

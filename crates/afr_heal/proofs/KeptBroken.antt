@@ -17,7 +17,7 @@ use Rattle.afr_moves.specs.Past.{is_gone}
 use Rattle.afr_moves.specs.Register.{Exact}
 use Rattle.afr_moves.specs.Rules.{Register, heal_area, is_area}
 use Rattle.afr_moves.specs.Sets.{with, without}
-use Rattle.afr_range_locks.specs.declared.domain.Domain.TheVariants.{Heal, Work}
+use Rattle.afr_lines.specs.declared.lock.Domain.TheVariants.{Heal, Work}
 use Rattle.afr_lines.specs.declared.answer.Told.TheVariants as told_of
 use Rattle.afr_moves.specs.Rules as weak
 

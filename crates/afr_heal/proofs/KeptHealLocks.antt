@@ -21,7 +21,7 @@ use Rattle.afr_moves.specs.Register.{Exact, HealLocks, Opening, WorkLocks, whole
 use Rattle.afr_moves.specs.Rules.{Register, begun, busy, heal_area}
 use Rattle.afr_moves.specs.Sets.{empty, with}
 use Rattle.afr_moves.specs.Steps.{may_heal, passed, turn}
-use Rattle.afr_range_locks.specs.declared.domain.Domain.TheVariants.{Heal, Work}
+use Rattle.afr_lines.specs.declared.lock.Domain.TheVariants.{Heal, Work}
 use Rattle.afr_lines.specs.declared.answer.Told.TheVariants as told_of
 use Rattle.afr_moves.specs.Rules as weak
 

@@ -24,7 +24,7 @@ use Rattle.afr_moves.specs.Register.{Exact, Finish, Mends, Phase, Piece, Settles
 use Rattle.afr_moves.specs.Rules.{Register, begun, busy}
 use Rattle.afr_moves.specs.Sets.{empty, with}
 use Rattle.afr_moves.specs.Steps.{is_lowest, may_heal, mends_over, passed, pres_over, settles_over}
-use Rattle.afr_range_locks.specs.declared.domain.Domain.TheVariants.{Work}
+use Rattle.afr_lines.specs.declared.lock.Domain.TheVariants.{Work}
 use Rattle.afr_lines.specs.declared.answer.Told.TheVariants as told_of
 use Rattle.afr_moves.specs.Rules as weak
 

@@ -21,7 +21,7 @@ use Rattle.afr_moves.specs.Register.{Exact, HealUnlocks, Mends, Settles, Unlocks
 use Rattle.afr_moves.specs.Rules.{Register, heal_area, is_area}
 use Rattle.afr_moves.specs.Sets.{with, without}
 use Rattle.afr_moves.specs.Steps.{may_heal, mends_over, passed, pres_over, settles_over, turn}
-use Rattle.afr_range_locks.specs.declared.domain.Domain.TheVariants.{Heal, Work}
+use Rattle.afr_lines.specs.declared.lock.Domain.TheVariants.{Heal, Work}
 use Rattle.afr_lines.specs.declared.answer.Told.TheVariants as told_of
 use Rattle.afr_moves.specs.Rules as weak
 

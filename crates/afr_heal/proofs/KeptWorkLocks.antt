@@ -20,7 +20,7 @@ use Rattle.afr_moves.specs.Register.{Exact, Opening, WorkLocks, over, whole_area
 use Rattle.afr_moves.specs.Rules.{busy, is_area}
 use Rattle.afr_moves.specs.Sets.{empty, with}
 use Rattle.afr_moves.specs.Steps.{locks_at, may_heal, turn}
-use Rattle.afr_range_locks.specs.declared.domain.Domain.TheVariants.{Work}
+use Rattle.afr_lines.specs.declared.lock.Domain.TheVariants.{Work}
 use Rattle.afr_lines.specs.declared.answer.Told.TheVariants as told_of
 use Rattle.afr_moves.specs.Rules as weak
 use Rattle.afr_moves.proofs.AreaLemmas.{same_area_self}

@@ -21,7 +21,7 @@ use Rattle.afr_moves.specs.Past.{is_gone}
 use Rattle.afr_moves.specs.Register.{Exact, area_kind, is_opening, len_of, piece_area, whole_area}
 use Rattle.afr_moves.specs.Rules.{Register as LawRegister, busy, heal_area, is_area}
 use Rattle.afr_object.specs.declared.entry.View.{View}
-use Rattle.afr_range_locks.specs.declared.domain.Domain.TheVariants.{Heal, Work}
+use Rattle.afr_lines.specs.declared.lock.Domain.TheVariants.{Heal, Work}
 use Rattle.afr_lines.specs.declared.answer.Told.TheVariants as told_of
 use Rattle.afr_moves.specs.Rules as weak
 

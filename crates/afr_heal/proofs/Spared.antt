@@ -23,7 +23,7 @@ use Rattle.afr_moves.specs.Register.{Exact, Finish, HealLocks, HealPres, HealUnl
 use Rattle.afr_moves.specs.Rules.{heal_area}
 use Rattle.afr_moves.specs.Steps.{turn}
 use Rattle.afr_moves.proofs.AreaLemmas.{same_area_self}
-use Rattle.afr_range_locks.specs.declared.domain.Domain.TheVariants.{Heal, Work}
+use Rattle.afr_lines.specs.declared.lock.Domain.TheVariants.{Heal, Work}
 
 -- a request that leaves the part, its bytes and the first views
 abbrev is_plain : Request → Bool

@@ -17,7 +17,7 @@ use Rattle.afr_moves.specs.Rules.{Register, begun, busy, heal_area, is_area, no_
 use Rattle.afr_moves.specs.Sets.{empty, with, without}
 use Rattle.afr_object.specs.declared.change.Repair.{Repair}
 use Rattle.afr_object.specs.declared.entry.View.{View}
-use Rattle.afr_range_locks.specs.declared.domain.Domain.TheVariants.{Heal, Work}
+use Rattle.afr_lines.specs.declared.lock.Domain.TheVariants.{Heal, Work}
 
 -- a read of the contents
 abbrev pub is_read : Request → Bool

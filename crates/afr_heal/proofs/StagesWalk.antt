@@ -16,7 +16,7 @@ use Rattle.afr_moves.specs.Register.{Exact, Finish, HealLocks, HealPres, HealUnl
 use Rattle.afr_moves.specs.Rules.{busy, heal_area}
 use Rattle.afr_moves.specs.Sets.{empty}
 use Rattle.afr_moves.specs.Steps.{is_lowest, locks_at, looks_at, mends_over, passed, pres_over, reads_over, settles_over, turn}
-use Rattle.afr_range_locks.specs.declared.domain.Domain.TheVariants.{Heal, Work}
+use Rattle.afr_lines.specs.declared.lock.Domain.TheVariants.{Heal, Work}
 
 -- ---- one step of the chain
 -- the step asks the lowest brick whose turn it is, or it is over and the rest comes

@@ -12,7 +12,7 @@ use Rattle.afr_lines.specs.declared.request.Request.TheVariants.{Lock}
 use Rattle.afr_moves.specs.Keeps.{keeps_in}
 use Rattle.afr_moves.specs.Register.{Exact, HealLocks, HealPres, Looks, Mends, Reads, Settles, Step, Unlocks, Untouched, WorkLocks}
 use Rattle.afr_moves.specs.Rules.{heal_area}
-use Rattle.afr_range_locks.specs.declared.domain.Domain.TheVariants.{Heal}
+use Rattle.afr_lines.specs.declared.lock.Domain.TheVariants.{Heal}
 
 -- the request of the step that is due, at its brick, or else the line that is there
 abbrev pub due_or : ℕ → (ℕ → Kind → Bool) → Exact → ℕ → Gfid → Kind → Option Due → Next → Next

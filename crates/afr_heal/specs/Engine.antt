@@ -11,7 +11,7 @@ use Rattle.afr_lines.specs.declared.request.Request.TheVariants.{Lock, Unlock}
 use Rattle.afr_moves.specs.Register.{Exact, HealLocks, HealPres, HealUnlocks, Looks, Mends, Phase, Reads, Settles, Step, Unlocks, Untouched, WorkLocks, is_finish}
 use Rattle.afr_moves.specs.Rules.{heal_area}
 use Rattle.afr_moves.specs.Steps.{is_lowest}
-use Rattle.afr_range_locks.specs.declared.domain.Domain.TheVariants.{Heal, Work}
+use Rattle.afr_lines.specs.declared.lock.Domain.TheVariants.{Heal, Work}
 
 -- the next line of a heal: a request at a brick, a HealBegin or the HealEnd
 pub data Next : Type 0 where

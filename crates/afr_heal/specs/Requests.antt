@@ -11,7 +11,7 @@ use Rattle.afr_moves.specs.Register.{Exact, HealLocks, HealPres, Looks, Mends, O
 use Rattle.afr_moves.specs.Rules.{heal_area}
 use Rattle.afr_object.specs.declared.change.Repair.{Repair}
 use Rattle.afr_object.specs.declared.change.Repair.TheVariants.{Copy, CutTo, PutAttrs, PutNames}
-use Rattle.afr_range_locks.specs.declared.domain.Domain.TheVariants.{Heal, Work}
+use Rattle.afr_lines.specs.declared.lock.Domain.TheVariants.{Heal, Work}
 
 -- the area that is there, or all of the kind
 abbrev pub area_or : Option Area → Area → Area

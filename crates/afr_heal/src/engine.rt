@@ -13,8 +13,7 @@ use crate::due::{asked, first_due};
 use crate::requests::{area_of, heal_range, next_of, request_of};
 use afr_base::{BrickId, Gfid, Kind};
 use afr_discipline::{Phase, Register, Step, first_of, present_part, present_step};
-use afr_lines::Request;
-use afr_range_locks::Domain;
+use afr_lines::{Domain, Request};
 
 /// Whether another part is to come: only a heal of bytes has more than the first.
 fn is_part_left(register: &Register, kind: Kind) -> bool

@@ -9,9 +9,8 @@ ghost use Rattle.afr_moves.specs.Rules.{heal_area};
 
 use afr_base::{BrickId, FIRST_ATTRIBUTE, Gfid, HEAL_BLOCK, Kind};
 use afr_discipline::{Phase, Register, Step, len_at, owed_at, present_part};
-use afr_lines::{Area, Request};
+use afr_lines::{Area, Domain, Request};
 use afr_object::Repair;
-use afr_range_locks::Domain;
 
 /// All of one kind of the object.
 fn whole_of(gfid: Gfid, kind: Kind) -> Area

@@ -14,8 +14,8 @@ use Rattle.afr_lines.specs.declared.request.Request.{Request}
 use Rattle.afr_lines.specs.declared.request.Request.TheVariants.{Index, Lock, Look, Mend, Pre, Settle, Unlock}
 use Rattle.afr_moves.specs.Register.{Exact, Mends, Phase, Reads, Step, over, rank}
 use Rattle.afr_moves.specs.Steps.{looks_at, passed, pres_over, reads_over, turn}
-use Rattle.afr_range_locks.specs.declared.domain.Domain.{Domain}
-use Rattle.afr_range_locks.specs.declared.domain.Domain.TheVariants.{Heal}
+use Rattle.afr_lines.specs.declared.lock.Domain.{Domain}
+use Rattle.afr_lines.specs.declared.lock.Domain.TheVariants.{Heal}
 
 -- the request that a heal asks next: which it is, and what holds of the register there
 pub data Asked (n : ℕ) (keeps : ℕ → Kind → Bool) (r : Exact) (s : ℕ) (g : Gfid) (kind : Kind) (b : ℕ) (request : Request) : Type 0 where

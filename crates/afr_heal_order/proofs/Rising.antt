@@ -21,7 +21,7 @@ use Rattle.afr_moves.specs.Past.{Log}
 use Rattle.afr_moves.specs.Positions.{by_position}
 use Rattle.afr_moves.specs.Register.{Exact}
 use Rattle.afr_plan.specs.declared.plan.Plan.{Plan}
-use Rattle.afr_range_locks.specs.declared.domain.Domain.TheVariants.{Work}
+use Rattle.afr_lines.specs.declared.lock.Domain.TheVariants.{Work}
 use Rattle.afr_standstill.proofs.Positions.{present_register}
 use Rattle.afr_tables.specs.Codes.{kept_by}
 use Rattle.afr_waits.proofs.Begun.{begun_now}

@@ -19,7 +19,7 @@ use Rattle.afr_moves.specs.Rules.{Register, busy, heal_area, is_area}
 use Rattle.afr_moves.specs.Sets.{empty, with, without}
 use Rattle.afr_moves.specs.Steps.{turn}
 use Rattle.afr_object.specs.declared.entry.View.{View}
-use Rattle.afr_range_locks.specs.declared.domain.Domain.TheVariants.{Heal, Work}
+use Rattle.afr_lines.specs.declared.lock.Domain.TheVariants.{Heal, Work}
 use Rattle.afr_heal_pace.specs.Laws.{Nearer}
 use Rattle.afr_heal_pace.specs.Left.{left_in, lines_left, rest_of, taken}
 use Rattle.afr_heal_pace.proofs.Bounds.{bound_heal, bound_work}

@@ -16,7 +16,7 @@ use Rattle.afr_moves.specs.Register.{Exact, whole_area}
 use Rattle.afr_moves.specs.Rules as weak
 use Rattle.afr_moves.specs.Rules.{Register, heal_area, is_area}
 use Rattle.afr_moves.specs.Sets.{with, without}
-use Rattle.afr_range_locks.specs.declared.domain.Domain.TheVariants.{Heal, Work}
+use Rattle.afr_lines.specs.declared.lock.Domain.TheVariants.{Heal, Work}
 use Rattle.afr_heal_pace.specs.Left.{Rooted}
 use Rattle.afr_heal_pace.proofs.Counting.{without_here}
 use Rattle.afr_counting.proofs.Counts.{count_falls, count_less}

@@ -25,7 +25,7 @@ use Rattle.afr_moves.specs.Rules as weak
 use Rattle.afr_moves.specs.Rules.{Register, heal_area}
 use Rattle.afr_moves.specs.Sets.{with, without}
 use Rattle.afr_moves.specs.Steps.{may_heal, set_of, turn}
-use Rattle.afr_range_locks.specs.declared.domain.Domain.TheVariants.{Heal, Work}
+use Rattle.afr_lines.specs.declared.lock.Domain.TheVariants.{Heal, Work}
 use Rattle.afr_heal_pace.specs.Left.{giving, left_in, lines_left, parts_left, parts_of, pieces, taken, times, todo}
 use Rattle.afr_heal_pace.proofs.Bounds.{bound_part}
 use Rattle.afr_heal_pace.proofs.Counting.{count_none, left_most, left_one, pieces_fall, times_less, without_here}

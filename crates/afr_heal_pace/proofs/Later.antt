@@ -18,7 +18,7 @@ use Rattle.afr_moves.specs.Rules as weak
 use Rattle.afr_moves.specs.Rules.{Register}
 use Rattle.afr_moves.specs.Sets.{empty, with, without}
 use Rattle.afr_moves.specs.Steps.{locks_at, looks_at, turn}
-use Rattle.afr_range_locks.specs.declared.domain.Domain.TheVariants.{Work}
+use Rattle.afr_lines.specs.declared.lock.Domain.TheVariants.{Work}
 use Rattle.afr_heal_pace.specs.Left.{later_rest, left_in, lines_left, parts_of, taken}
 use Rattle.afr_heal_pace.proofs.Bounds.{bound_part, lines_part}
 use Rattle.afr_heal_pace.proofs.Counting.{left_falls, left_most}

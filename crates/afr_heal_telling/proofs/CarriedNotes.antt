@@ -25,7 +25,7 @@ use Rattle.afr_lines.specs.declared.request.Request.TheVariants.{Lock, Look, Unl
 use Rattle.afr_moves.specs.Keeps.{keeps_in}
 use Rattle.afr_moves.specs.Register.{Exact}
 use Rattle.afr_moves.specs.Rules.{heal_area}
-use Rattle.afr_range_locks.specs.declared.domain.Domain.TheVariants.{Heal, Work}
+use Rattle.afr_lines.specs.declared.lock.Domain.TheVariants.{Heal, Work}
 
 -- ---- the looks
 -- the looks after a request are the ones before with its answer

@@ -46,7 +46,7 @@ use Rattle.afr_moves.specs.Rules as weak
 use Rattle.afr_moves.specs.Rules.{Register, begun, busy}
 use Rattle.afr_moves.specs.Sets.{empty, with}
 use Rattle.afr_moves.specs.Steps.{is_lowest, may_heal, mends_over, passed, pres_over, reads_over, settles_over}
-use Rattle.afr_range_locks.specs.declared.domain.Domain.TheVariants.{Work as WorkDomain}
+use Rattle.afr_lines.specs.declared.lock.Domain.TheVariants.{Work as WorkDomain}
 use Rattle.afr_self_heal.specs.declared.outcome.Outcome.{Outcome}
 use Rattle.afr_self_heal.specs.declared.outcome.Outcome.TheVariants.{Settled}
 

@@ -38,8 +38,8 @@ use Rattle.afr_moves.specs.Keeps.{keeps_in}
 use Rattle.afr_moves.specs.Register.{Exact, HealPres, HealUnlocks, Settles, Unlocks, holder, rank}
 use Rattle.afr_moves.specs.Rules.{heal_area}
 use Rattle.afr_moves.specs.Steps.{mends_over, passed, pres_over, reads_over, settles_over}
-use Rattle.afr_range_locks.specs.declared.domain.Domain.{Domain}
-use Rattle.afr_range_locks.specs.declared.domain.Domain.TheVariants.{Heal, Work as WorkDomain}
+use Rattle.afr_lines.specs.declared.lock.Domain.{Domain}
+use Rattle.afr_lines.specs.declared.lock.Domain.TheVariants.{Heal, Work as WorkDomain}
 use Rattle.afr_self_heal.specs.Outcome.{reply_of}
 use Rattle.afr_self_heal.specs.declared.outcome.Outcome.{Outcome}
 use Rattle.afr_self_heal.specs.declared.outcome.Outcome.TheVariants.{Failed, Settled}

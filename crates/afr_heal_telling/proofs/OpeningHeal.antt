@@ -37,7 +37,7 @@ use Rattle.afr_moves.specs.Rules.{Register, begun, busy, heal_area}
 use Rattle.afr_moves.specs.Sets.{empty, with, without}
 use Rattle.afr_moves.specs.Steps.{passed, turn}
 use Rattle.afr_moves.proofs.AreaLemmas.{same_area_self}
-use Rattle.afr_range_locks.specs.declared.domain.Domain.TheVariants.{Heal, Work}
+use Rattle.afr_lines.specs.declared.lock.Domain.TheVariants.{Heal, Work}
 use Rattle.afr_self_heal.specs.declared.outcome.Outcome.{Outcome}
 use Rattle.afr_self_heal.specs.declared.outcome.Outcome.TheVariants.{Settled}
 

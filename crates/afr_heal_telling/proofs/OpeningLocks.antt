@@ -20,8 +20,8 @@ use Rattle.afr_model.specs.Healing.{First, busy_after, busy_by, first_after, fir
 use Rattle.afr_model.specs.Showing.{among, is_fault, is_granted, is_held}
 use Rattle.afr_moves.specs.Note.{put}
 use Rattle.afr_moves.specs.Register.{Exact, HealLocks, asked_in}
-use Rattle.afr_range_locks.specs.declared.domain.Domain.{Domain}
-use Rattle.afr_range_locks.specs.declared.domain.Domain.TheVariants.{Heal}
+use Rattle.afr_lines.specs.declared.lock.Domain.{Domain}
+use Rattle.afr_lines.specs.declared.lock.Domain.TheVariants.{Heal}
 
 -- a lock before the first HealBegin: who fails it is missing
 pub first_lock : (s : First) (a : ActorId) (b : BrickId) (d : Domain) (area : Area) (told : Told) (took : Bool) → s ≡ record none_yet { missing = s.missing }

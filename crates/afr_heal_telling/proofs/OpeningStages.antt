@@ -33,7 +33,7 @@ use Rattle.afr_moves.specs.Note.{put}
 use Rattle.afr_moves.specs.Past.{is_gone}
 use Rattle.afr_moves.specs.Register.{Exact, HealLocks, Looks, Opening, Phase, Step, WorkLocks, asked_in, everywhere, over}
 use Rattle.afr_moves.specs.Sets.{any}
-use Rattle.afr_range_locks.specs.declared.domain.Domain.TheVariants.{Heal, Work}
+use Rattle.afr_lines.specs.declared.lock.Domain.TheVariants.{Heal, Work}
 use Rattle.afr_self_heal.specs.Outcome.{by_looks, outcome_after}
 use Rattle.afr_self_heal.specs.declared.outcome.Outcome.{Outcome}
 use Rattle.afr_self_heal.specs.declared.outcome.Outcome.TheVariants.{Settled, Short}

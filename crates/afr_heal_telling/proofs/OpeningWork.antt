@@ -29,7 +29,7 @@ use Rattle.afr_moves.specs.Past.{is_gone}
 use Rattle.afr_moves.specs.Register.{Exact, HealLocks, asked_in, over}
 use Rattle.afr_moves.specs.Sets.{empty}
 use Rattle.afr_object.specs.declared.entry.View.{View}
-use Rattle.afr_range_locks.specs.declared.domain.Domain.TheVariants.{Work}
+use Rattle.afr_lines.specs.declared.lock.Domain.TheVariants.{Work}
 
 -- ---- nothing was looked at
 none_member : (s : List ℕ) → ((x : ℕ) → member s x ≡ false) → s ≡ []

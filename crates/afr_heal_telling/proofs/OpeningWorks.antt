@@ -36,7 +36,7 @@ use Rattle.afr_moves.specs.Sets.{any, without}
 use Rattle.afr_moves.specs.Steps.{turn}
 use Rattle.afr_moves.proofs.AreaLemmas.{same_area_self}
 use Rattle.afr_object.specs.declared.entry.View.{View}
-use Rattle.afr_range_locks.specs.declared.domain.Domain.TheVariants.{Work}
+use Rattle.afr_lines.specs.declared.lock.Domain.TheVariants.{Work}
 use Rattle.afr_self_heal.specs.declared.outcome.Outcome.{Outcome}
 use Rattle.afr_self_heal.specs.declared.outcome.Outcome.TheVariants.{Settled}
 

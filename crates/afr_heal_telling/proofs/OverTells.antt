@@ -28,8 +28,8 @@ use Rattle.afr_model.specs.HealReplies.{IsHealAnswered, IsHealAsked, by_first, b
 use Rattle.afr_model.specs.Moved.{moved_by}
 use Rattle.afr_moves.specs.Keeps.{keeps_in}
 use Rattle.afr_moves.specs.Register.{Exact}
-use Rattle.afr_range_locks.specs.declared.domain.Domain.{Domain}
-use Rattle.afr_range_locks.specs.declared.domain.Domain.TheVariants.{Heal, Work as WorkDomain}
+use Rattle.afr_lines.specs.declared.lock.Domain.{Domain}
+use Rattle.afr_lines.specs.declared.lock.Domain.TheVariants.{Heal, Work as WorkDomain}
 use Rattle.afr_self_heal.specs.Outcome.{cause, outcome_after, reply_of}
 use Rattle.afr_self_heal.specs.declared.outcome.Outcome.{Outcome}
 

@@ -3,9 +3,8 @@ use crate::lines::{
     ahead, asks, begins, clean, ends, locks, sees_behind, tells, tells_three, unlocks, untouched,
 };
 use afr_base::Kind;
-use afr_lines::{Area, Request, Told};
+use afr_lines::{Area, Domain, Request, Told};
 use afr_object::Repair;
-use afr_range_locks::Domain;
 
 #[test]
 fn attributes_are_locked_and_looked_at_first(rt: HostRuntime) {

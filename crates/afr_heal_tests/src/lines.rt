@@ -4,9 +4,8 @@ ghost use Rattle.std.specs.Prelude.{◌≡◌, ◌<◌, ◌≤◌};
 use afr_base::{AllMarks, BrickId, Gfid, Kind, Shape, What};
 use afr_discipline::{Move, Register, fresh, note};
 use afr_heal::{Coming, has_room, heal_next};
-use afr_lines::{Request, Told};
+use afr_lines::{Domain, Request, Told};
 use afr_object::View;
-use afr_range_locks::Domain;
 
 pub(crate) const FILE: Gfid = Gfid(2);
 

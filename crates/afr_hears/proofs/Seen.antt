@@ -25,7 +25,7 @@ use Rattle.afr_object.specs.Tables.{copy_at}
 use Rattle.afr_object.specs.declared.entry.View.{View}
 use Rattle.afr_object.specs.declared.object.Object.{Object}
 use Rattle.afr_plan.specs.declared.plan.Plan.{Plan}
-use Rattle.afr_range_locks.specs.declared.domain.Domain.TheVariants.{Work as WorkDomain}
+use Rattle.afr_lines.specs.declared.lock.Domain.TheVariants.{Work as WorkDomain}
 use Rattle.afr_tables.specs.CopyLaws.{gfid_is}
 use Rattle.afr_tables.specs.TableLaws.{copy_stays}
 use Rattle.afr_hears.proofs.SomeLines.{AreIn, IsBefore, copy_since, honest_before, work_in}

@@ -17,7 +17,7 @@ use Rattle.afr_object.specs.declared.entry.Entry.{Entry}
 use Rattle.afr_plan.specs.declared.command.Command.{Command}
 use Rattle.afr_plan.specs.declared.command.Command.TheVariants as command
 use Rattle.afr_plan.specs.declared.plan.Plan.{Plan}
-use Rattle.afr_range_locks.specs.declared.domain.Domain.TheVariants.{Work as WorkDomain}
+use Rattle.afr_lines.specs.declared.lock.Domain.TheVariants.{Work as WorkDomain}
 use Rattle.afr_model.specs.Answered.{IsAnswered, IsAsked, answer, by_posts}
 use Rattle.afr_model.specs.Commands.{area_on, change_on, is_on_name, path_of, steps_of}
 use Rattle.afr_model.specs.Keeping.{Names}

@@ -14,7 +14,7 @@ use Rattle.afr_lines.specs.declared.request.Area.{Area}
 use Rattle.afr_moves.specs.Covering.{HasItsLocks, HasNumber}
 use Rattle.afr_object.specs.declared.change.Change.{Change}
 use Rattle.afr_plan.specs.declared.plan.Plan.{Plan}
-use Rattle.afr_range_locks.specs.declared.domain.Domain.{Domain}
+use Rattle.afr_lines.specs.declared.lock.Domain.{Domain}
 use Rattle.afr_law.specs.Exactly.{IsLawfulExactly}
 use Rattle.afr_law.specs.ModelNext.{IsNext, MayAskNext, is_carried}
 

@@ -4,7 +4,7 @@ use Rattle.afr_lines.specs.Work.{is_of}
 use Rattle.afr_lines.specs.declared.line.Line.{Line}
 use Rattle.afr_lines.specs.declared.line.Line.TheVariants.{Ask, End, HealEnd}
 use Rattle.afr_lines.specs.declared.request.Request.TheVariants.{Lock, Index}
-use Rattle.afr_range_locks.specs.declared.domain.Domain.TheVariants.{Heal}
+use Rattle.afr_lines.specs.declared.lock.Domain.TheVariants.{Heal}
 
 -- where an actor stands in its works: its next line is a work's first, it has asked for an index alone, its last line ended a heal, or it is within
 pub data Place : Type 0 where

@@ -5,6 +5,7 @@ mod answer;
 mod fault;
 mod kept_reply;
 mod line;
+mod lock;
 mod reply;
 mod request;
 
@@ -12,5 +13,6 @@ pub use answer::{Answer, Told, told_of};
 pub use fault::Fault;
 pub use kept_reply::KeptReply;
 pub use line::{Event, Heard, Line, Next};
+pub use lock::{Domain, HeldLock};
 pub use reply::{Good, HealReply, Reply};
 pub use request::{Area, Request};

@@ -1,8 +1,8 @@
 //! What an actor asks a brick.
 
+use crate::lock::Domain;
 use afr_base::{BrickSet, Gfid, KeyId, Kind, Marks, NameId};
 use afr_object::Repair;
-use afr_range_locks::Domain;
 
 /// What a lock covers. A range is `[from, to)` of a file's bytes, with `to` at most 2^63; the range
 /// `[2^63, 2^63 + 1)` stands for the attributes. A name of None is the whole directory.

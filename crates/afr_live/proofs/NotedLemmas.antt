@@ -18,7 +18,7 @@ use Rattle.afr_model.specs.Actors.{IsActor}
 use Rattle.afr_model.specs.Actors.IsActor.{Client, Healer}
 use Rattle.afr_order.specs.Going.{Goes, IsHappening, Later, Still}
 use Rattle.afr_plan.specs.declared.plan.Plan.{Plan}
-use Rattle.afr_range_locks.specs.declared.domain.Domain.TheVariants.{Work}
+use Rattle.afr_lines.specs.declared.lock.Domain.TheVariants.{Work}
 use Rattle.afr_volume.specs.State.{State}
 use Rattle.afr_volume.specs.Turning.{AddsLine, Turns}
 use Rattle.afr_volume.specs.declared.turned.Turned.{Turned}

@@ -12,7 +12,7 @@ use Rattle.afr_model.specs.Following.{NoneDue}
 use Rattle.afr_order.proofs.DoneLemmas.{pass_each, pass_same}
 use Rattle.afr_order.specs.Going.{Goes, IsIdle}
 use Rattle.afr_plan.specs.declared.plan.Plan.{Plan}
-use Rattle.afr_range_locks.specs.declared.domain.Domain.TheVariants.{Work}
+use Rattle.afr_lines.specs.declared.lock.Domain.TheVariants.{Work}
 use Rattle.afr_standstill.proofs.Standing.{goes_on, held_waits, kept_before}
 use Rattle.afr_standstill.specs.Law.{IsKept, NotAllWait}
 use Rattle.afr_standstill.specs.Order.{IsWaiting}

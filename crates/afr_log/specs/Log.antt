@@ -7,8 +7,8 @@ use Rattle.afr_lines.specs.declared.line.Line.{Line}
 use Rattle.afr_lines.specs.declared.line.Line.TheVariants.{Ask}
 use Rattle.afr_lines.specs.declared.request.Request.{Request}
 use Rattle.afr_lines.specs.declared.request.Request.TheVariants.{Lock}
-use Rattle.afr_range_locks.specs.declared.domain.Domain.TheVariants.{Work}
-use Rattle.afr_range_locks.specs.declared.domain.Domain.{Domain}
+use Rattle.afr_lines.specs.declared.lock.Domain.TheVariants.{Work}
+use Rattle.afr_lines.specs.declared.lock.Domain.{Domain}
 use Rattle.afr_log.specs.declared.asked.Asker.{Asker}
 use Rattle.afr_log.specs.declared.packed.Short.{Short}
 use Rattle.afr_log.specs.declared.packed.Short.TheVariants as short

@@ -11,9 +11,8 @@ ghost use Rattle.afr_log.specs.Entries.{IsThere, ask_by, line_of, told_in};
 use crate::asked::Asker;
 use crate::id::{Id, id_of};
 use afr_base::{ActorId, AllMarks, BrickId, BrickSet, Gfid, KeyId, Kind, Marks, NameId, What};
-use afr_lines::{Answer, Area, Line, Request, Told};
+use afr_lines::{Answer, Area, Domain, Line, Request, Told};
 use afr_object::{Repair, View};
-use afr_range_locks::Domain;
 use std::mem::size_of;
 
 /// What the log keeps of an answer, in 8 bytes. A look is clean where all its changelog numbers are 0.

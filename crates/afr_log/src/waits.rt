@@ -6,8 +6,7 @@ ghost use Rattle.afr_log.specs.Log.{holder, unasked_line, waits_for};
 
 use crate::packed::{Packed, Short};
 use afr_base::ActorId;
-use afr_lines::{Line, Request, Told};
-use afr_range_locks::Domain;
+use afr_lines::{Domain, Line, Request, Told};
 
 /// A line that is kept, where it is no request.
 fn unasked(line: &Line) -> Option<&Line>

@@ -19,7 +19,7 @@ use Rattle.afr_lines.specs.declared.line.Line.TheVariants.{Ask, HealBegin, HealE
 use Rattle.afr_lines.specs.declared.request.Area.{Area}
 use Rattle.afr_lines.specs.declared.request.Area.TheVariants.{Range, Name}
 use Rattle.afr_lines.specs.declared.request.Request.TheVariants as request
-use Rattle.afr_range_locks.specs.declared.domain.Domain.TheVariants as domain
+use Rattle.afr_lines.specs.declared.lock.Domain.TheVariants as domain
 use Rattle.afr_model.specs.Showing.{look_shows, among, prepared, is_fault, is_done, is_granted}
 
 -- the lines of the present heal: those after the round's last HealEnd line, or after its Index line

@@ -25,7 +25,7 @@ use Rattle.afr_plan.specs.declared.plan.Plan.{Plan}
 use Rattle.afr_plan.specs.declared.schedule.PlannedFault.{PlannedFault}
 use Rattle.afr_model.specs.Tables.{holds}
 use Rattle.afr_model.specs.Sessions.{is_joined, opens_with}
-use Rattle.afr_range_locks.specs.Locks.{first_conflict}
+use Rattle.afr_lines.specs.Locks.{first_conflict}
 use Rattle.afr_model.specs.Locks.{locks_held}
 use Rattle.afr_lines.specs.Overlap.{overlap}
 

@@ -7,9 +7,8 @@ use Rattle.afr_lines.specs.declared.line.Line.TheVariants.{Ask}
 use Rattle.afr_lines.specs.declared.request.Area.{Area}
 use Rattle.afr_lines.specs.declared.request.Area.TheVariants.{Range, Name}
 use Rattle.afr_lines.specs.declared.request.Request.TheVariants.{Lock, Unlock}
-use Rattle.afr_range_locks.specs.Locks.{is_lock, overlap_range, same_range}
-use Rattle.afr_range_locks.specs.declared.held.HeldLock.{HeldLock}
-use Rattle.afr_name_locks.specs.Names.{overlap_dir_name, same_dir_name}
+use Rattle.afr_lines.specs.Locks.{is_lock}
+use Rattle.afr_lines.specs.declared.lock.HeldLock.{HeldLock}
 use Rattle.afr_model.specs.Sessions.{ends_session}
 
 -- a request to unlock releases a lock of its owner with the same domain and area

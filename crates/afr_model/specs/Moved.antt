@@ -13,7 +13,7 @@ use Rattle.afr_lines.specs.declared.line.Line.{Line}
 use Rattle.afr_lines.specs.declared.line.Line.TheVariants.{Ask, HealBegin}
 use Rattle.afr_lines.specs.declared.request.Area.{Area}
 use Rattle.afr_lines.specs.declared.request.Request.TheVariants as request
-use Rattle.afr_range_locks.specs.declared.domain.Domain.TheVariants as domain
+use Rattle.afr_lines.specs.declared.lock.Domain.TheVariants as domain
 use Rattle.afr_model.specs.Healing.{first_by, source_of, whole_of}
 use Rattle.afr_lines.specs.Overlap.{same_area}
 use Rattle.afr_model.specs.Showing.{looked_by}

@@ -5,7 +5,7 @@ use Rattle.afr_lines.specs.Work.{Work}
 use Rattle.afr_lines.specs.declared.line.Line.{Line}
 use Rattle.afr_lines.specs.declared.line.Line.TheVariants.{Ask}
 use Rattle.afr_lines.specs.declared.request.Request.TheVariants as request
-use Rattle.afr_range_locks.specs.declared.domain.Domain.TheVariants.{Work as WorkDomain}
+use Rattle.afr_lines.specs.declared.lock.Domain.TheVariants.{Work as WorkDomain}
 use Rattle.afr_model.specs.Showing.{has}
 use Rattle.afr_model.specs.Standing.{asks_name, locks_any}
 

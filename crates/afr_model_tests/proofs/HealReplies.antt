@@ -13,7 +13,7 @@ use Rattle.afr_lines.specs.declared.reply.Reply.{Reply}
 use Rattle.afr_lines.specs.declared.reply.Reply.TheVariants as reply
 use Rattle.afr_lines.specs.declared.request.Area.TheVariants.{Range}
 use Rattle.afr_lines.specs.declared.request.Request.TheVariants as request
-use Rattle.afr_range_locks.specs.declared.domain.Domain.TheVariants as domain
+use Rattle.afr_lines.specs.declared.lock.Domain.TheVariants as domain
 use Rattle.afr_model.specs.HealReplies.{IsHealAnswered, IsHealAsked, IsHealing, IsSettling, heal_reply}
 use Rattle.afr_model.specs.Healing.{changed_by, first_by, less_at, source_of, whole_of}
 use Rattle.afr_model.specs.Moved.{moved_by}

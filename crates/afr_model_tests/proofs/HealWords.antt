@@ -14,7 +14,7 @@ use Rattle.afr_lines.specs.declared.line.Line.TheVariants.{HealBegin, HealEnd}
 use Rattle.afr_lines.specs.declared.reply.HealReply.{HealReply}
 use Rattle.afr_lines.specs.declared.reply.HealReply.TheVariants as healed
 use Rattle.afr_lines.specs.declared.request.Request.TheVariants as request
-use Rattle.afr_range_locks.specs.declared.domain.Domain.TheVariants as domain
+use Rattle.afr_lines.specs.declared.lock.Domain.TheVariants as domain
 use Rattle.afr_model.specs.Healing.{heal_by, whole_of}
 use Rattle.afr_model_tests.proofs.Words.{at_each, at_two, file, file_view, half_written, heal_ask, healer}
 

@@ -14,7 +14,7 @@ use Rattle.afr_lines.specs.declared.reply.HealReply.TheVariants as healed
 use Rattle.afr_lines.specs.declared.reply.Reply.TheVariants as reply
 use Rattle.afr_lines.specs.declared.request.Request.{Request}
 use Rattle.afr_lines.specs.declared.request.Request.TheVariants as request
-use Rattle.afr_range_locks.specs.declared.domain.Domain.TheVariants as domain
+use Rattle.afr_lines.specs.declared.lock.Domain.TheVariants as domain
 use Rattle.afr_model.specs.Actors.{IsActor, rounds_of}
 use Rattle.afr_model.specs.Following.{Follows, IsTurnOf, KeepsToTask, NoneDue}
 use Rattle.afr_model.specs.Healing.{whole_of}

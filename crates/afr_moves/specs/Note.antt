@@ -4,7 +4,7 @@ use Rattle.afr_base.specs.Majority.{is_most}
 use Rattle.afr_base.specs.declared.ids.Kind.{Kind}
 use Rattle.afr_base.specs.declared.ids.Kind.TheVariants.{Bytes}
 use Rattle.afr_object.specs.declared.entry.View.{View}
-use Rattle.afr_range_locks.specs.declared.domain.Domain.TheVariants.{Work, Heal}
+use Rattle.afr_lines.specs.declared.lock.Domain.TheVariants.{Work, Heal}
 use Rattle.afr_lines.specs.declared.request.Area.{Area}
 use Rattle.afr_lines.specs.declared.request.Request.{Request}
 use Rattle.afr_lines.specs.declared.request.Request.TheVariants.{Lock, Unlock, Look, ReadBytes, List, ReadAttrs, Pre, Apply, Post, Mend, Settle}

@@ -5,8 +5,8 @@ use Rattle.afr_base.specs.declared.ids.What.{What}
 use Rattle.afr_base.specs.declared.ids.What.TheVariants.{File, Dir}
 use Rattle.afr_moves.specs.Cells.{Cell, Byte, Attr, Entry, what_code, entry_code, fits, object_of, touches, leaves}
 use Rattle.afr_base.specs.declared.ids.Kind.{Kind}
-use Rattle.afr_range_locks.specs.declared.domain.Domain.{Domain}
-use Rattle.afr_range_locks.specs.declared.domain.Domain.TheVariants.{Heal}
+use Rattle.afr_lines.specs.declared.lock.Domain.{Domain}
+use Rattle.afr_lines.specs.declared.lock.Domain.TheVariants.{Heal}
 use Rattle.afr_lines.specs.declared.request.Area.{Area}
 use Rattle.afr_object.specs.declared.change.Change.TheVariants.{Write, Cut, SetAttr, Make, Remove}
 use Rattle.afr_object.specs.declared.change.Repair.{Repair}
@@ -17,7 +17,7 @@ use Rattle.afr_lines.specs.declared.answer.Told.TheVariants.{Granted, NotConnect
 use Rattle.afr_lines.specs.declared.line.Event.TheVariants.{Stop, Start, Cut as CutLink, Join, Kill}
 use Rattle.afr_lines.specs.declared.line.Line.{Line}
 use Rattle.afr_base.specs.Bricks.{member}
-use Rattle.afr_range_locks.specs.Locks.{same_domain}
+use Rattle.afr_lines.specs.Locks.{same_domain}
 use Rattle.afr_lines.specs.Overlap.{same_area, overlap}
 use Rattle.afr_lines.specs.Places.{Place, Fresh, Indexed, Between, Within, next_place}
 use Rattle.afr_base.specs.Kinds.{same_kind}

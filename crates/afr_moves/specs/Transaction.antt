@@ -6,7 +6,7 @@ use Rattle.afr_base.specs.declared.ids.Kind.{Kind}
 use Rattle.afr_object.specs.declared.change.Change.{Change}
 use Rattle.afr_object.specs.declared.change.Change.TheVariants.{Write, Cut, SetAttr, Make, Remove}
 use Rattle.afr_object.specs.declared.entry.View.{View}
-use Rattle.afr_range_locks.specs.declared.domain.Domain.TheVariants.{Work, Heal}
+use Rattle.afr_lines.specs.declared.lock.Domain.TheVariants.{Work, Heal}
 use Rattle.afr_lines.specs.declared.request.Area.{Area}
 use Rattle.afr_lines.specs.declared.request.Area.TheVariants.{Range, Name}
 use Rattle.afr_lines.specs.declared.request.Request.{Request}

@@ -1,23 +1,12 @@
 -- Names of directories as locks cover them: one name, or the whole directory.
-use Rattle.std.specs.Prelude.{◌==◌, ◌&&◌, Bool, true, false, Option, Some, None}
+use Rattle.std.specs.Prelude.{◌==◌, ◌&&◌, Bool, Option}
 use Rattle.afr_base.specs.declared.ids.ActorId.{ActorId}
 use Rattle.afr_base.specs.declared.ids.Gfid.{Gfid}
 use Rattle.afr_base.specs.declared.ids.NameId.{NameId}
-use Rattle.afr_range_locks.specs.declared.domain.Domain.{Domain}
-use Rattle.afr_range_locks.specs.declared.held.HeldLock.{HeldLock}
+use Rattle.afr_lines.specs.Locks.{same_name, share_name}
+use Rattle.afr_lines.specs.declared.lock.Domain.{Domain}
+use Rattle.afr_lines.specs.declared.lock.HeldLock.{HeldLock}
 use Rattle.afr_name_locks.specs.declared.names.DirName.{DirName}
-
--- two names are the same; none stands for the whole directory
-abbrev pub same_name : Option NameId → Option NameId → Bool
-same_name None None = true
-same_name (Some n) (Some m) = n.0 == m.0
-same_name one other = false
-
--- two owners can't lock both names of a directory at a time: the names are equal, or one is the whole directory
-abbrev pub share_name : Option NameId → Option NameId → Bool
-share_name None other = true
-share_name (Some n) None = true
-share_name (Some n) (Some m) = n.0 == m.0
 
 -- two names are of one directory and can't both be locked
 abbrev pub overlap_dir_name : DirName → DirName → Bool

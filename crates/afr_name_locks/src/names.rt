@@ -1,11 +1,12 @@
 //! Locks on names of a directory, or on the whole of it.
 ghost use Rattle.std.specs.Prelude.{◌≡◌, [], ◌∷◌, ◌++◌, Ok, Some, None, OnErr};
-ghost use Rattle.afr_name_locks.specs.Names.{name_lock, overlap_dir_name, same_dir_name, same_name, share_name};
-ghost use Rattle.afr_range_locks.specs.Locks.{AreApart, first_conflict, unlocked, without_owner};
-ghost use Rattle.afr_range_locks.specs.declared.domain.Got.TheVariants as got;
+ghost use Rattle.afr_name_locks.specs.Names.{name_lock, overlap_dir_name, same_dir_name};
+ghost use Rattle.afr_lines.specs.Locks.{same_name, share_name, AreApart, first_conflict, unlocked, without_owner};
+ghost use Rattle.afr_range_locks.specs.declared.got.Got.TheVariants as got;
 
 use afr_base::{ActorId, Gfid, NameId, NoMemory};
-use afr_range_locks::{Domain, Got, HeldLock, HeldLocks, Lockable};
+use afr_lines::{Domain, HeldLock};
+use afr_range_locks::{Got, HeldLocks, Lockable};
 use std::alloc::Global;
 use std::marker::Model;
 
@@ -57,7 +58,7 @@ pub struct NameLocks {
 
 impl Model for NameLocks {
     ghost use Rattle.std.specs.Prelude.{List};
-    ghost use Rattle.afr_range_locks.specs.declared.held.HeldLock.{HeldLock};
+    ghost use Rattle.afr_lines.specs.declared.lock.HeldLock.{HeldLock};
     ghost use Rattle.afr_name_locks.specs.declared.names.DirName.{DirName};
 
     ghost Value = { List (HeldLock DirName) };

@@ -6,7 +6,7 @@ use Rattle.afr_lines.specs.declared.line.Line.{Line}
 use Rattle.afr_lines.specs.declared.request.Area.{Area}
 use Rattle.afr_lines.specs.declared.request.Request.{Request}
 use Rattle.afr_lines.specs.declared.request.Request.TheVariants.{Lock}
-use Rattle.afr_range_locks.specs.declared.domain.Domain.{Domain}
+use Rattle.afr_lines.specs.declared.lock.Domain.{Domain}
 use Rattle.afr_model.specs.Honest.{Honest}
 use Rattle.afr_model.specs.Locks.{locks_held}
 use Rattle.afr_plan.specs.declared.plan.Plan.{Plan}

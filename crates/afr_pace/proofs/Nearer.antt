@@ -18,7 +18,7 @@ use Rattle.afr_moves.specs.Note.{is_failed, is_held}
 use Rattle.afr_moves.specs.Past.{is_gone}
 use Rattle.afr_moves.specs.Rules.{is_area}
 use Rattle.afr_moves.proofs.AreaLemmas.{own_area}
-use Rattle.afr_range_locks.specs.declared.domain.Domain.TheVariants.{Work}
+use Rattle.afr_lines.specs.declared.lock.Domain.TheVariants.{Work}
 use Rattle.afr_counting.proofs.Counts.{count_most}
 use Rattle.afr_pace.proofs.Counting.{asked_falls, removed_falls}
 use Rattle.afr_pace.specs.Laws.{BeginsNearer, ComesNearer, KeepsEnd, StartsWithin}

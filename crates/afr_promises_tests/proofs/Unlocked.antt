@@ -15,9 +15,9 @@ use Rattle.afr_lines.specs.declared.reply.Reply.TheVariants as reply
 use Rattle.afr_lines.specs.declared.request.Area.{Area}
 use Rattle.afr_lines.specs.declared.request.Area.TheVariants.{Range}
 use Rattle.afr_lines.specs.declared.request.Request.TheVariants.{Lock, Unlock}
-use Rattle.afr_range_locks.specs.declared.domain.Domain.TheVariants.{Heal}
-use Rattle.afr_range_locks.specs.declared.held.HeldLock.{HeldLock}
-use Rattle.afr_range_locks.specs.Locks.{is_lock}
+use Rattle.afr_lines.specs.declared.lock.Domain.TheVariants.{Heal}
+use Rattle.afr_lines.specs.declared.lock.HeldLock.{HeldLock}
+use Rattle.afr_lines.specs.Locks.{is_lock}
 use Rattle.afr_model.specs.Locks.{granted_by_line, locks_held, outlives}
 use Rattle.afr_model.specs.Sessions.{ends_session}
 use Rattle.afr_unlocked.specs.Unlocked.{AreUnlocked, HoldsNone}

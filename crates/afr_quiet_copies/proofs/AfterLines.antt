@@ -16,7 +16,7 @@ use Rattle.afr_lines.specs.declared.line.Line.TheVariants.{Ask, Begin, End, Even
 use Rattle.afr_lines.specs.declared.request.Area.{Area}
 use Rattle.afr_lines.specs.declared.request.Request.{Request}
 use Rattle.afr_lines.specs.declared.request.Request.TheVariants.{Apply, Index, List, Lock, Look, Mend, Post, Pre, ReadAttr, ReadAttrs, ReadBytes, ReadName, Settle, Unlock}
-use Rattle.afr_range_locks.specs.declared.domain.Domain.TheVariants.{Heal, Work}
+use Rattle.afr_lines.specs.declared.lock.Domain.TheVariants.{Heal, Work}
 use Rattle.afr_plan.specs.declared.plan.Plan.{Plan}
 use Rattle.afr_model.specs.Actors.{script_of}
 use Rattle.afr_model.specs.Following.{IsDue, KeepsToTask, ToCommand, ToRound}

@@ -15,7 +15,7 @@ use Rattle.afr_lines.specs.declared.line.Line.TheVariants.{Ask, Begin, End, Even
 use Rattle.afr_lines.specs.declared.request.Area.{Area}
 use Rattle.afr_lines.specs.declared.request.Request.{Request}
 use Rattle.afr_lines.specs.declared.request.Request.TheVariants.{Apply, Index, List, Lock, Look, Mend, Post, Pre, ReadAttr, ReadAttrs, ReadBytes, ReadName, Settle, Unlock}
-use Rattle.afr_range_locks.specs.declared.domain.Domain.TheVariants.{Heal, Work}
+use Rattle.afr_lines.specs.declared.lock.Domain.TheVariants.{Heal, Work}
 use Rattle.afr_plan.specs.declared.plan.Plan.{Plan}
 use Rattle.afr_model.specs.Following.{IsDue, KeepsToTask, ToCommand, ToRound}
 use Rattle.afr_model.specs.Healing.{heal_by, is_border, settled_at}
@@ -26,7 +26,7 @@ use Rattle.afr_tables.specs.Codes.{kept_by}
 use Rattle.afr_tables.specs.CopyLaws.{gfid_is}
 use Rattle.afr_moves.specs.Discipline.{MayAskExactly, MayExactly, MovesExactly, note, present}
 use Rattle.afr_moves.specs.Heal.{Gives, Goes, IsUnlock, MayHeal, MayHealBegin}
-use Rattle.afr_range_locks.specs.declared.domain.Domain.{Domain}
+use Rattle.afr_lines.specs.declared.lock.Domain.{Domain}
 use Rattle.afr_moves.specs.Note.{breaks, left_in_heal, stopping}
 use Rattle.afr_moves.specs.Past.{Log, is_gone}
 use Rattle.afr_moves.specs.Register.{Exact, Looks, Untouched, rank, untouched}

@@ -17,7 +17,7 @@ use Rattle.afr_lines.specs.declared.line.Line.TheVariants.{Ask, Begin, End, Even
 use Rattle.afr_lines.specs.declared.reply.HealReply.{HealReply}
 use Rattle.afr_lines.specs.declared.reply.Reply.{Reply}
 use Rattle.afr_lines.specs.declared.request.Request.TheVariants.{Lock}
-use Rattle.afr_range_locks.specs.declared.domain.Domain.TheVariants.{Heal as HealDomain}
+use Rattle.afr_lines.specs.declared.lock.Domain.TheVariants.{Heal as HealDomain}
 use Rattle.afr_plan.specs.declared.plan.Plan.{Plan}
 use Rattle.afr_model.specs.Actors.{IsActor, rounds_of}
 use Rattle.afr_model.specs.HealReplies.{IsHealAnswered, IsHealing}

@@ -11,7 +11,7 @@ use Rattle.afr_lines.specs.declared.line.Line.TheVariants.{Ask, Begin, End, Even
 use Rattle.afr_lines.specs.declared.request.Area.{Area}
 use Rattle.afr_lines.specs.declared.request.Request.{Request}
 use Rattle.afr_lines.specs.declared.request.Request.TheVariants.{Lock, Look, Unlock}
-use Rattle.afr_range_locks.specs.declared.domain.Domain.TheVariants.{Heal, Work}
+use Rattle.afr_lines.specs.declared.lock.Domain.TheVariants.{Heal, Work}
 use Rattle.afr_moves.specs.Discipline.{LawfulExactly, MayAskExactly, MayExactly, MovesExactly, note, present}
 use Rattle.afr_moves.specs.Heal.{Gives, Goes, MayHeal}
 use Rattle.afr_moves.specs.Honest.{Honest}

@@ -16,7 +16,7 @@ use Rattle.afr_lines.specs.declared.line.Line.{Line}
 use Rattle.afr_lines.specs.declared.line.Line.TheVariants.{Ask, Begin, End, Event, HealBegin, HealEnd}
 use Rattle.afr_lines.specs.declared.request.Request.{Request}
 use Rattle.afr_lines.specs.declared.request.Request.TheVariants.{Index, Lock}
-use Rattle.afr_range_locks.specs.declared.domain.Domain.TheVariants.{Heal}
+use Rattle.afr_lines.specs.declared.lock.Domain.TheVariants.{Heal}
 use Rattle.afr_plan.specs.declared.plan.Plan.{Plan}
 use Rattle.afr_model.specs.HealReplies.{IsHealing}
 use Rattle.afr_model.specs.Honest.{IsHonest, fault_in, is_live, over_session, requests_to, tells, Outcome}

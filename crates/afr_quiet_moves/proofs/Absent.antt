@@ -26,7 +26,7 @@ use Rattle.afr_lines.specs.declared.answer.Told.TheVariants.{Done, Failed, Given
 use Rattle.afr_lines.specs.declared.line.Line.{Line}
 use Rattle.afr_lines.specs.declared.request.Request.{Request}
 use Rattle.afr_lines.specs.declared.request.Request.TheVariants.{Apply, Index, List as ListNames, Lock, Look, Mend, Post, Pre, ReadAttr, ReadAttrs, ReadBytes, ReadName, Settle, Unlock}
-use Rattle.afr_range_locks.specs.declared.domain.Domain.TheVariants.{Heal, Work}
+use Rattle.afr_lines.specs.declared.lock.Domain.TheVariants.{Heal, Work}
 use Rattle.afr_model.specs.Honest.{IsHonest, Outcome, copy_answer, over_session}
 use Rattle.afr_model.specs.Tables.{all_names_shown, attrs_shown, bytes_shown, held_before, holds, keeps_bytes}
 use Rattle.afr_moves.specs.Heal.{MayHeal}

@@ -12,8 +12,8 @@ use Rattle.afr_lines.specs.declared.line.Line.TheVariants.{Ask, Begin, End, Even
 use Rattle.afr_lines.specs.declared.request.Area.{Area}
 use Rattle.afr_lines.specs.declared.request.Request.{Request}
 use Rattle.afr_lines.specs.declared.request.Request.TheVariants.{Lock, Unlock}
-use Rattle.afr_range_locks.specs.declared.domain.Domain.{Domain}
-use Rattle.afr_range_locks.specs.declared.domain.Domain.TheVariants.{Heal, Work as WorkDomain}
+use Rattle.afr_lines.specs.declared.lock.Domain.{Domain}
+use Rattle.afr_lines.specs.declared.lock.Domain.TheVariants.{Heal, Work as WorkDomain}
 use Rattle.afr_model.specs.Honest.{Honest}
 use Rattle.afr_moves.proofs.ByPosition.{newest_at, older_at, past_whole}
 use Rattle.afr_moves.proofs.Places.{of_same, opens_same, place_is}

@@ -23,7 +23,7 @@ use Rattle.afr_lines.specs.declared.line.Line.{Line}
 use Rattle.afr_lines.specs.declared.request.Area.{Area}
 use Rattle.afr_lines.specs.declared.request.Request.{Request}
 use Rattle.afr_lines.specs.declared.request.Request.TheVariants.{List as ListNames, Lock, ReadAttrs, ReadBytes, Unlock}
-use Rattle.afr_range_locks.specs.declared.domain.Domain.TheVariants.{Heal, Work}
+use Rattle.afr_lines.specs.declared.lock.Domain.TheVariants.{Heal, Work}
 use Rattle.afr_model.specs.Honest.{IsHonest}
 use Rattle.afr_model.specs.Tables.{bytes_shown, content_in, held_before, holds}
 use Rattle.afr_moves.proofs.AreaLemmas.{same_area_is}

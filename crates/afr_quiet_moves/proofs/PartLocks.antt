@@ -8,7 +8,7 @@ use Rattle.afr_lines.specs.Overlap.{same_area}
 use Rattle.afr_lines.specs.declared.request.Area.{Area}
 use Rattle.afr_lines.specs.declared.request.Area.TheVariants.{Name, Range}
 use Rattle.afr_lines.specs.declared.request.Request.TheVariants.{Lock}
-use Rattle.afr_range_locks.specs.declared.domain.Domain.TheVariants.{Work as WorkDomain}
+use Rattle.afr_lines.specs.declared.lock.Domain.TheVariants.{Work as WorkDomain}
 use Rattle.afr_moves.proofs.AreaLemmas.{same_area_is}
 use Rattle.afr_moves.specs.Heal.{MayHeal}
 use Rattle.afr_moves.specs.Note.{next_phase}

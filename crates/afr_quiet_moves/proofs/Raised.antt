@@ -9,7 +9,7 @@ use Rattle.afr_lines.specs.declared.answer.Told.{Told}
 use Rattle.afr_lines.specs.declared.answer.Told.TheVariants.{Done, NotConnected, Seen}
 use Rattle.afr_lines.specs.declared.request.Request.{Request}
 use Rattle.afr_lines.specs.declared.request.Request.TheVariants.{Apply, Index, List as ListNames, Lock, Look, Mend, Post, Pre, ReadAttr, ReadAttrs, ReadBytes, ReadName, Settle, Unlock}
-use Rattle.afr_range_locks.specs.declared.domain.Domain.TheVariants.{Heal, Work as WorkDomain}
+use Rattle.afr_lines.specs.declared.lock.Domain.TheVariants.{Heal, Work as WorkDomain}
 use Rattle.afr_model.specs.Showing.{is_done as done_by}
 use Rattle.afr_moves.proofs.Tests.{turned}
 use Rattle.afr_moves.specs.Past.{is_gone}

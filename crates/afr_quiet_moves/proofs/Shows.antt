@@ -23,7 +23,7 @@ use Rattle.afr_lines.specs.declared.line.Line.TheVariants.{Ask, Begin, End, Even
 use Rattle.afr_lines.specs.declared.request.Area.{Area}
 use Rattle.afr_lines.specs.declared.request.Request.{Request}
 use Rattle.afr_lines.specs.declared.request.Request.TheVariants.{Index, Lock}
-use Rattle.afr_range_locks.specs.declared.domain.Domain.{Domain}
+use Rattle.afr_lines.specs.declared.lock.Domain.{Domain}
 use Rattle.afr_model.specs.Healing.{First, first_after, first_by, heal_by, is_border, whole_of}
 use Rattle.afr_model.specs.Moved.{is_whole_by, len_in, pieces}
 use Rattle.afr_model.specs.Rounds.{heal_due}

@@ -4,8 +4,8 @@ use Rattle.std.specs.List.{filter}
 use Rattle.std.proofs.lemmas.Option.{none-some}
 use Rattle.std.proofs.lemmas.List.Kept.{AllPairs-filter}
 use Rattle.std.proofs.lemmas.List.Quantifiers.{all_pairs_push}
-use Rattle.afr_range_locks.specs.Locks.{AreApart, conflicts, first_conflict}
-use Rattle.afr_range_locks.specs.declared.held.HeldLock.{HeldLock}
+use Rattle.afr_lines.specs.Locks.{AreApart, conflicts, first_conflict}
+use Rattle.afr_lines.specs.declared.lock.HeldLock.{HeldLock}
 
 module _ {A : Type 0} (overlap : A → A → Bool) (wanted : HeldLock A) where
   -- where the first lock isn't in the way and none of the others is, none is

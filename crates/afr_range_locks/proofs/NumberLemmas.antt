@@ -2,7 +2,7 @@
 use Rattle.std.proofs.Common.{◌≡◌, ℕ, ◌<◌, ◌≤◌, ◌↔◌, true, ◌⊎◌, inl, inr, arith}
 use Rattle.std.proofs.lemmas.Bool.{cases_lt}
 use Rattle.std.proofs.lemmas.Bool.Decides.{nat_tests}
-use Rattle.afr_range_locks.specs.Locks.{share_number, IsInBoth}
+use Rattle.afr_lines.specs.Locks.{share_number, IsInBoth}
 
 begins : (from to start end : ℕ) → share_number from to start end ≡ true → (from < end) × (start < to)
 begins from to start end e = (grind (arith, nat_tests, e), grind (arith, nat_tests, e))

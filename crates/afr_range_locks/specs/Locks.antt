@@ -1,26 +1,11 @@
--- Locks: which conflict, and what a request leaves of those that are held.
-use Rattle.std.specs.Prelude.{◌≡◌, ℕ, ◌<◌, ◌≤◌, ◌==◌, ◌&&◌, not, nat_lt, Bool, true, false, List, [], ◌∷◌, Option, Some, None, filter, if◌then◌else◌}
-use Rattle.std.specs.List.{AllPairs}
+-- Locks on ranges: which overlap.
+use Rattle.std.specs.Prelude.{ℕ, ◌==◌, ◌&&◌, Bool}
 use Rattle.afr_base.specs.declared.ids.ActorId.{ActorId}
 use Rattle.afr_base.specs.declared.ids.Gfid.{Gfid}
-use Rattle.afr_range_locks.specs.declared.domain.Domain.{Domain}
-use Rattle.afr_range_locks.specs.declared.domain.Domain.TheVariants.{Work, Heal}
-use Rattle.afr_range_locks.specs.declared.held.HeldLock.{HeldLock}
+use Rattle.afr_lines.specs.Locks.{share_number}
+use Rattle.afr_lines.specs.declared.lock.Domain.{Domain}
+use Rattle.afr_lines.specs.declared.lock.HeldLock.{HeldLock}
 use Rattle.afr_range_locks.specs.declared.ranges.ObjectRange.{ObjectRange}
-
--- two domains are the same
-abbrev pub same_domain : Domain → Domain → Bool
-same_domain Work Work = true
-same_domain Heal Heal = true
-same_domain one other = false
-
--- the range from one number up to another shares a number with the range from start up to end
-abbrev pub share_number : ℕ → ℕ → ℕ → ℕ → Bool
-share_number from to start end = nat_lt from end && nat_lt start to
-
--- a number is in the range from one number up to another, and in the range from start up to end
-abbrev pub IsInBoth : ℕ → ℕ → ℕ → ℕ → Type 0
-IsInBoth from to start end = (n : ℕ) × (from ≤ n) × (n < to) × (start ≤ n) × (n < end)
 
 -- two ranges of one object share a number
 abbrev pub overlap_range : ObjectRange → ObjectRange → Bool
@@ -29,31 +14,6 @@ overlap_range one other = (one.gfid.0 == other.gfid.0) && share_number one.from 
 -- two ranges are the same
 abbrev pub same_range : ObjectRange → ObjectRange → Bool
 same_range one other = (one.gfid.0 == other.gfid.0) && (one.from == other.from) && (one.to == other.to)
-
--- a held lock is in the way of a wanted one: another owner has it, in the same domain, and what they cover overlaps
-abbrev pub conflicts : {A : Type 0} → (A → A → Bool) → HeldLock A → HeldLock A → Bool
-conflicts overlap wanted lock = not (lock.owner.0 == wanted.owner.0) && same_domain wanted.domain lock.domain && overlap wanted.area lock.area
-
--- the owner of the first lock that is in the way
-abbrev pub first_conflict : {A : Type 0} → (A → A → Bool) → HeldLock A → List (HeldLock A) → Option ActorId
-first_conflict overlap wanted [] = None
-first_conflict overlap wanted (lock ∷ more) = if conflicts overlap wanted lock then Some lock.owner else first_conflict overlap wanted more
-
--- no lock is in the way of one that was granted after it
-abbrev pub AreApart : {A : Type 0} → (A → A → Bool) → List (HeldLock A) → Type 0
-AreApart overlap locks = AllPairs (λ earlier later. conflicts overlap later earlier ≡ false) locks
-
--- two locks have the same owner and domain, and cover the same
-abbrev pub is_lock : {A : Type 0} → (A → A → Bool) → HeldLock A → HeldLock A → Bool
-is_lock same one lock = (one.owner.0 == lock.owner.0) && same_domain one.domain lock.domain && same one.area lock.area
-
--- the locks that are left when one is released, as often as it was granted
-abbrev pub unlocked : {A : Type 0} → (A → A → Bool) → HeldLock A → List (HeldLock A) → List (HeldLock A)
-unlocked same one locks = filter (λ lock. not (is_lock same one lock)) locks
-
--- the locks of all other owners
-abbrev pub without_owner : {A : Type 0} → ActorId → List (HeldLock A) → List (HeldLock A)
-without_owner owner locks = filter (λ lock. not (lock.owner.0 == owner.0)) locks
 
 -- a lock of an owner in a domain on a range of an object
 abbrev pub range_lock : ActorId → Domain → Gfid → ℕ → ℕ → HeldLock ObjectRange

@@ -1,10 +1,11 @@
 //! The list of held locks, in the order in which they were granted, whatever they cover.
 ghost use Rattle.std.specs.Prelude.{◌≡◌, Bool, [], ◌∷◌, ◌++◌, not, Ok, Some, None, OnErr};
-ghost use Rattle.afr_range_locks.specs.Locks.{AreApart, conflicts, first_conflict, is_lock, unlocked, without_owner};
-ghost use Rattle.afr_range_locks.specs.declared.domain.Got.TheVariants as got;
+ghost use Rattle.afr_lines.specs.Locks.{AreApart, conflicts, first_conflict, is_lock, same_domain, unlocked, without_owner};
+ghost use Rattle.afr_range_locks.specs.declared.got.Got.TheVariants as got;
 
-use crate::domain::{Domain, Got};
+use crate::got::Got;
 use afr_base::{ActorId, NoMemory};
+use afr_lines::{Domain, HeldLock};
 use std::alloc::Global;
 use std::marker::Model;
 
@@ -23,14 +24,6 @@ pub trait Lockable: Copy {
         ensures { result ≡ same self.now other.now };
 }
 
-/// A lock that was granted, or one that is asked for.
-#[derive(Clone, Copy, Debug)]
-pub struct HeldLock<A> {
-    pub owner: ActorId,
-    pub domain: Domain,
-    pub area: A,
-}
-
 /// The locks that are held, which contracts see as a list with the one that was granted first at its front.
 #[derive(Drop)]
 pub struct HeldLocks<A: Lockable> {
@@ -39,8 +32,8 @@ pub struct HeldLocks<A: Lockable> {
 
 impl<A: Lockable> Model for HeldLocks<A> {
     ghost use Rattle.std.specs.Prelude.{List};
-    ghost use Rattle.afr_range_locks.specs.Locks.{AreApart};
-    ghost use Rattle.afr_range_locks.specs.declared.held.HeldLock.{HeldLock};
+    ghost use Rattle.afr_lines.specs.Locks.{AreApart};
+    ghost use Rattle.afr_lines.specs.declared.lock.HeldLock.{HeldLock};
 
     ghost Value = { List (HeldLock A) };
 
@@ -78,7 +71,7 @@ impl<A: Lockable> HeldLocks<A> {
     pub fn unlock(&mut self, held: HeldLock<A>)
         ensures { self.new ≡ unlocked A.same held self.old }
     {
-        self.locks.retain(|lock| !held.is_lock(lock));
+        self.locks.retain(|lock| !is_lock(&held, lock));
     }
 
     /// Releases all locks of an owner. O(n) steps on n held locks.
@@ -96,21 +89,29 @@ impl<A: Lockable> HeldLocks<A> {
     }
 }
 
-impl<A: Lockable> HeldLock<A> {
-    fn conflicts(&self, held: &HeldLock<A>) -> bool
-        ensures { result ≡ conflicts A.overlap self.now held.now }
-    {
-        held.owner.0 != self.owner.0
-            && self.domain.is_same(held.domain)
-            && self.area.overlaps(&held.area)
-    }
+fn conflicts<A: Lockable>(wanted: &HeldLock<A>, held: &HeldLock<A>) -> bool
+    ensures { result ≡ conflicts A.overlap wanted.now held.now }
+{
+    held.owner.0 != wanted.owner.0
+        && same_domain(wanted.domain, held.domain)
+        && wanted.area.overlaps(&held.area)
+}
 
-    fn is_lock(&self, held: &HeldLock<A>) -> bool
-        ensures { result ≡ is_lock A.same self.now held.now }
-    {
-        self.owner.0 == held.owner.0
-            && self.domain.is_same(held.domain)
-            && self.area.is_same(&held.area)
+fn is_lock<A: Lockable>(one: &HeldLock<A>, held: &HeldLock<A>) -> bool
+    ensures { result ≡ is_lock A.same one.now held.now }
+{
+    one.owner.0 == held.owner.0
+        && same_domain(one.domain, held.domain)
+        && one.area.is_same(&held.area)
+}
+
+fn same_domain(one: Domain, other: Domain) -> bool
+    ensures { result ≡ same_domain one other }
+{
+    match (one, other) {
+        (Domain::Work, Domain::Work) => true,
+        (Domain::Heal, Domain::Heal) => true,
+        _ => false,
     }
 }
 
@@ -118,7 +119,7 @@ fn blocked_by<A: Lockable>(locks: &[HeldLock<A>], wanted: &HeldLock<A>) -> Optio
     ensures { result ≡ first_conflict A.overlap wanted.now locks.now }
 {
     for lock in locks {
-        if wanted.conflicts(lock) {
+        if conflicts(wanted, lock) {
             return Some(lock.owner);
         }
     }

@@ -1,11 +1,13 @@
 //! Locks on ranges of an object.
 ghost use Rattle.std.specs.Prelude.{◌≡◌, ℕ, ◌<◌, ◌↔◌, true, [], ◌∷◌, ◌++◌, Ok, Some, None, OnErr};
-ghost use Rattle.afr_range_locks.specs.Locks.{AreApart, IsInBoth, first_conflict, overlap_range, range_lock, same_range, share_number, unlocked, without_owner};
-ghost use Rattle.afr_range_locks.specs.declared.domain.Got.TheVariants as got;
+ghost use Rattle.afr_range_locks.specs.Locks.{overlap_range, range_lock, same_range};
+ghost use Rattle.afr_lines.specs.Locks.{AreApart, IsInBoth, first_conflict, share_number, unlocked, without_owner};
+ghost use Rattle.afr_range_locks.specs.declared.got.Got.TheVariants as got;
 
-use crate::domain::{Domain, Got};
-use crate::held::{HeldLock, HeldLocks, Lockable};
+use crate::got::Got;
+use crate::held::{HeldLocks, Lockable};
 use afr_base::{ActorId, Gfid, NoMemory};
+use afr_lines::{Domain, HeldLock};
 use std::alloc::Global;
 use std::marker::Model;
 
@@ -39,7 +41,7 @@ pub struct RangeLocks {
 
 impl Model for RangeLocks {
     ghost use Rattle.std.specs.Prelude.{List};
-    ghost use Rattle.afr_range_locks.specs.declared.held.HeldLock.{HeldLock};
+    ghost use Rattle.afr_lines.specs.declared.lock.HeldLock.{HeldLock};
     ghost use Rattle.afr_range_locks.specs.declared.ranges.ObjectRange.{ObjectRange};
 
     ghost Value = { List (HeldLock ObjectRange) };

@@ -13,7 +13,7 @@ use Rattle.afr_object.specs.declared.change.Load.TheVariants as load
 use Rattle.afr_choice.specs.Looks.{no_looks}
 use Rattle.afr_choice.specs.Verdict.{holders_of, good_copies}
 use Rattle.afr_choice.specs.declared.looked.Looked.{Looked}
-use Rattle.afr_range_locks.specs.declared.domain.Domain.TheVariants.{Work}
+use Rattle.afr_lines.specs.declared.lock.Domain.TheVariants.{Work}
 use Rattle.afr_lines.specs.Areas.{area_for}
 use Rattle.afr_lines.specs.Told.{told_by}
 use Rattle.afr_lines.specs.declared.answer.Answer.{Answer}

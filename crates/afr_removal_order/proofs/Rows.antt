@@ -15,7 +15,7 @@ use Rattle.afr_moves.specs.Note.{is_done, is_granted}
 use Rattle.afr_moves.specs.Past.{is_gone}
 use Rattle.afr_moves.specs.Rules.{is_area}
 use Rattle.afr_pace.proofs.Order.{Rises}
-use Rattle.afr_range_locks.specs.declared.domain.Domain.TheVariants.{Heal, Work}
+use Rattle.afr_lines.specs.declared.lock.Domain.TheVariants.{Heal, Work}
 use Rattle.afr_removal_order.specs.Queue.{KeepsRow}
 
 pub none_rises : Rises []

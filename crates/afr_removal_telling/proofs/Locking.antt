@@ -26,7 +26,7 @@ use Rattle.afr_lines.specs.declared.request.Area.{Area}
 use Rattle.afr_lines.specs.declared.request.Area.TheVariants.{Name}
 use Rattle.afr_lines.specs.declared.request.Request.TheVariants as request
 use Rattle.afr_object.specs.Tables.{object_of}
-use Rattle.afr_range_locks.specs.declared.domain.Domain.TheVariants.{Work as WorkDomain}
+use Rattle.afr_lines.specs.declared.lock.Domain.TheVariants.{Work as WorkDomain}
 use Rattle.afr_plan.specs.declared.plan.Plan.{Plan}
 use Rattle.afr_model.specs.Refusals.{meets}
 use Rattle.afr_model.specs.Showing.{among, has, is_held, locks, looked_by, looking}

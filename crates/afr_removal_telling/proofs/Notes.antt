@@ -20,7 +20,7 @@ use Rattle.afr_lines.specs.declared.request.Request.TheVariants as request
 use Rattle.afr_moves.specs.Register.{is_on}
 use Rattle.afr_object.specs.Tables.{object_of}
 use Rattle.afr_object.specs.declared.change.Change.{Change}
-use Rattle.afr_range_locks.specs.declared.domain.Domain.TheVariants.{Work as WorkDomain}
+use Rattle.afr_lines.specs.declared.lock.Domain.TheVariants.{Work as WorkDomain}
 use Rattle.afr_model.specs.Showing.{among}
 use Rattle.afr_model.specs.Standing.{holding}
 use Rattle.afr_transaction.proofs.Requests.{after_by, after_outside, locked_w}

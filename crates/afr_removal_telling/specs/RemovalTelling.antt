@@ -24,7 +24,7 @@ use Rattle.afr_lines.specs.declared.request.Request.TheVariants.{Unlock}
 use Rattle.afr_object.specs.Tables.{object_of}
 use Rattle.afr_object.specs.declared.change.Change.{Change}
 use Rattle.afr_object.specs.declared.entry.Entry.{Entry}
-use Rattle.afr_range_locks.specs.declared.domain.Domain.TheVariants.{Work as WorkDomain}
+use Rattle.afr_lines.specs.declared.lock.Domain.TheVariants.{Work as WorkDomain}
 use Rattle.afr_plan.specs.declared.command.Command.TheVariants as command
 use Rattle.afr_plan.specs.declared.plan.Plan.{Plan}
 use Rattle.afr_model.specs.Answered.{IsAnswered}

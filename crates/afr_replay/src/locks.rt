@@ -2,14 +2,12 @@
 ghost use Rattle.std.specs.Prelude.{◌≡◌, true, false, filter, reverse, IfOk, IfSome, IfNone, OnOk, ◌∷◌, [], ◌++◌};
 ghost use Rattle.afr_model.specs.Locks.{granted_by_line, locks_held, outlives, releases};
 ghost use Rattle.afr_lines.specs.Overlap.{overlap, same_area};
-ghost use Rattle.afr_name_locks.specs.Names.{same_name, share_name};
-ghost use Rattle.afr_range_locks.specs.Locks.{conflicts, first_conflict, same_domain};
+ghost use Rattle.afr_lines.specs.Locks.{same_name, share_name, conflicts, first_conflict, same_domain};
 ghost use Rattle.afr_lines.specs.declared.answer.Told.{Told};
 
 use crate::sessions::ends_session;
 use afr_base::{ActorId, BrickId, Gfid, NameId, NoMemory};
-use afr_lines::{Area, Line, Request, Told};
-use afr_range_locks::{Domain, HeldLock};
+use afr_lines::{Area, Domain, HeldLock, Line, Request, Told};
 use std::alloc::Global;
 
 /// The locks on the brick, in the order in which they were granted.

@@ -9,9 +9,8 @@ ghost use Rattle.afr_replay.specs.Seen.{place_seen};
 
 use crate::works::is_of;
 use afr_base::{ActorId, BrickId};
-use afr_lines::{Event, Line, Request, Told};
+use afr_lines::{Domain, Event, Line, Request, Told};
 use afr_plan::Plan;
-use afr_range_locks::Domain;
 
 /// Where an actor stands in its works.
 #[derive(Clone, Copy, Debug)]

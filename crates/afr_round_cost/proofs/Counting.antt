@@ -13,7 +13,7 @@ use Rattle.afr_lines.specs.declared.request.Request.TheVariants as request
 use Rattle.afr_lines.specs.declared.request.Request.{Request}
 use Rattle.afr_model.specs.Actors.{rounds_of}
 use Rattle.afr_plan.specs.declared.plan.Plan.{Plan}
-use Rattle.afr_range_locks.specs.declared.domain.Domain.TheVariants.{Heal, Work}
+use Rattle.afr_lines.specs.declared.lock.Domain.TheVariants.{Heal, Work}
 
 -- a line that answers a request counts what it takes from the lines left
 pub counted_ask : (a : ActorId) (b : BrickId) (asked : Request) (told : Told) (took : Bool) → counted (Ask a b asked told took) ≡ taken asked told

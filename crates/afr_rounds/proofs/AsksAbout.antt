@@ -35,7 +35,7 @@ use Rattle.afr_moves.specs.Rules.{heal_area, is_area}
 use Rattle.afr_moves.specs.Steps.{is_lowest}
 use Rattle.afr_object.specs.Repairs.{repaired}
 use Rattle.afr_plan.specs.declared.plan.Plan.{Plan}
-use Rattle.afr_range_locks.specs.declared.domain.Domain.TheVariants.{Heal, Work as WorkDomain}
+use Rattle.afr_lines.specs.declared.lock.Domain.TheVariants.{Heal, Work as WorkDomain}
 use Rattle.afr_rounds.specs.Acting.{met_after}
 use Rattle.afr_rounds.specs.Keeping.{IsOnObject}
 

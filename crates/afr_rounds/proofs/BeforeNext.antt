@@ -28,7 +28,7 @@ use Rattle.afr_lines.specs.declared.request.Request.TheVariants.{Index, Lock}
 use Rattle.afr_moves.specs.Keeps.{keeps_in}
 use Rattle.afr_moves.specs.Rules.{heal_area}
 use Rattle.afr_plan.specs.declared.plan.Plan.{Plan}
-use Rattle.afr_range_locks.specs.declared.domain.Domain.TheVariants.{Heal as HealDomain}
+use Rattle.afr_lines.specs.declared.lock.Domain.TheVariants.{Heal as HealDomain}
 use Rattle.afr_rounds.specs.Keeping.{CarriesIts, CarriesRound, IsBetweenHeals, IsBetweenRounds, IsNotedHeal, RunsHeal, StageStands}
 use Rattle.afr_rounds.specs.Laws.{CanStepNext, IsBeforeRound}
 use Rattle.afr_self_heal.specs.Contents.{load_in, readied}

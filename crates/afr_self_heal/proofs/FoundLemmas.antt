@@ -20,7 +20,7 @@ use Rattle.afr_moves.specs.Register.{Exact, Looks, Opening, Phase, Step, is_open
 use Rattle.afr_moves.specs.Rules.{heal_area}
 use Rattle.afr_moves.specs.Sets.{any}
 use Rattle.afr_moves.specs.Steps.{may_heal, passed, turn}
-use Rattle.afr_range_locks.specs.declared.domain.Domain.TheVariants.{Heal, Work}
+use Rattle.afr_lines.specs.declared.lock.Domain.TheVariants.{Heal, Work}
 use Rattle.afr_self_heal.specs.Source.{is_found}
 
 -- ---- the parts of the test

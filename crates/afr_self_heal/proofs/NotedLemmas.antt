@@ -19,7 +19,7 @@ use Rattle.afr_lines.specs.declared.request.Request.TheVariants.{List as ListNam
 use Rattle.afr_moves.specs.Note.{answers, given, view_of}
 use Rattle.afr_moves.specs.Register.{is_opening, len_of}
 use Rattle.afr_object.specs.declared.entry.View.{View}
-use Rattle.afr_range_locks.specs.declared.domain.Domain.TheVariants.{Heal, Work}
+use Rattle.afr_lines.specs.declared.lock.Domain.TheVariants.{Heal, Work}
 use Rattle.afr_self_heal.specs.Healing.{IsTellable}
 
 -- ---- a fact of what was seen holds after an answer, if it does after a look

@@ -30,7 +30,7 @@ use Rattle.afr_lines.specs.declared.answer.Told.TheVariants.{Done, Seen}
 use Rattle.afr_lines.specs.declared.request.Request.{Request}
 use Rattle.afr_lines.specs.declared.request.Request.TheVariants.{Lock}
 use Rattle.afr_moves.specs.Rules.{heal_area}
-use Rattle.afr_range_locks.specs.declared.domain.Domain.TheVariants.{Heal}
+use Rattle.afr_lines.specs.declared.lock.Domain.TheVariants.{Heal}
 use Rattle.afr_moves.specs.Keeps.{keeps_in}
 use Rattle.afr_moves.specs.Register.{Exact, Looks, Opening, Phase, good, is_opening, len_of, same_step, span}
 use Rattle.afr_moves.specs.Steps.{goes_on, goes_on_at}

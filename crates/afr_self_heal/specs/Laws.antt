@@ -16,7 +16,7 @@ use Rattle.afr_lines.specs.declared.request.Request.TheVariants.{Lock}
 use Rattle.afr_moves.specs.Keeps.{keeps_in}
 use Rattle.afr_moves.specs.Register.{area_kind, span}
 use Rattle.afr_moves.specs.Rules.{heal_area}
-use Rattle.afr_range_locks.specs.declared.domain.Domain.TheVariants.{Heal}
+use Rattle.afr_lines.specs.declared.lock.Domain.TheVariants.{Heal}
 use Rattle.afr_self_heal.specs.Healing.{CanHear, Healing, IsHealing, answered, begun, coming, heal_from, register_after}
 use Rattle.afr_self_heal.specs.Source.{HasSource, IsCandidate, is_found}
 

@@ -22,8 +22,8 @@ use Rattle.afr_model.specs.Healing.{marks_in}
 use Rattle.afr_model.specs.Moved.{accuser, or_brick, unlike}
 use Rattle.afr_moves.specs.Note.{fails}
 use Rattle.afr_moves.specs.Register.{Phase, is_finish, is_opening}
-use Rattle.afr_range_locks.specs.declared.domain.Domain.{Domain}
-use Rattle.afr_range_locks.specs.declared.domain.Domain.TheVariants.{Heal}
+use Rattle.afr_lines.specs.declared.lock.Domain.{Domain}
+use Rattle.afr_lines.specs.declared.lock.Domain.TheVariants.{Heal}
 use Rattle.afr_self_heal.specs.declared.outcome.Outcome.{Outcome}
 use Rattle.afr_self_heal.specs.declared.outcome.Outcome.TheVariants.{Settled, Busy, Short, Nothing, Split, Moved, Failed}
 

@@ -11,8 +11,7 @@ use crate::outcome::Outcome;
 use afr_base::{BrickId, Kind, Shape};
 use afr_choice::{Looked, holders};
 use afr_discipline::{Phase, Register, present_part};
-use afr_lines::{Request, Told};
-use afr_range_locks::Domain;
+use afr_lines::{Domain, Request, Told};
 
 fn fails(told: &Told) -> bool
     ensures { result ≡ fails told.now }

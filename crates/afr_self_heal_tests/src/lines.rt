@@ -1,8 +1,7 @@
 //! The lines of the tests: what a heal asks next, and the answers that it hears.
 use afr_base::{AllMarks, Gfid, Kind, Marks, Shape, What};
-use afr_lines::{Answer, HealReply, Next, Request};
+use afr_lines::{Answer, Domain, HealReply, Next, Request};
 use afr_object::{Load, View};
-use afr_range_locks::Domain;
 use afr_rule::SourceRule;
 use afr_rule::shipped::longest;
 use afr_self_heal::HealMachine;

@@ -22,9 +22,9 @@ use Rattle.afr_object.specs.declared.change.Load.{Load}
 use Rattle.afr_object.specs.declared.change.Load.TheVariants as load
 use Rattle.afr_plan.specs.declared.plan.Plan.{Plan}
 use Rattle.afr_range_locks.specs.Locks.{range_lock}
-use Rattle.afr_range_locks.specs.declared.domain.Domain.{Domain}
-use Rattle.afr_range_locks.specs.declared.domain.Domain.TheVariants.{Work, Heal}
-use Rattle.afr_range_locks.specs.declared.held.HeldLock.{HeldLock}
+use Rattle.afr_lines.specs.declared.lock.Domain.{Domain}
+use Rattle.afr_lines.specs.declared.lock.Domain.TheVariants.{Work, Heal}
+use Rattle.afr_lines.specs.declared.lock.HeldLock.{HeldLock}
 use Rattle.afr_server.specs.Carried.{Brings}
 use Rattle.afr_server.specs.Covered.{IsUnderLocks, change_with, locks_of, of_name, of_range}
 use Rattle.afr_server.specs.Log.{IsServed, name_before, names_in, range_before, ranges_in}

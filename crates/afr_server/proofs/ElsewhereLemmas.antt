@@ -22,9 +22,9 @@ use Rattle.afr_model.specs.Sessions.{ends_session, is_linked}
 use Rattle.afr_model.specs.Tables.{Past, held_before, holds, step}
 use Rattle.afr_object.specs.Tables.{Table}
 use Rattle.afr_plan.specs.declared.plan.Plan.{Plan}
-use Rattle.afr_range_locks.specs.Locks.{is_lock}
-use Rattle.afr_range_locks.specs.declared.domain.Domain.{Domain}
-use Rattle.afr_range_locks.specs.declared.held.HeldLock.{HeldLock}
+use Rattle.afr_lines.specs.Locks.{is_lock}
+use Rattle.afr_lines.specs.declared.lock.Domain.{Domain}
+use Rattle.afr_lines.specs.declared.lock.HeldLock.{HeldLock}
 use Rattle.afr_session.specs.Calls.{Does, only}
 use Rattle.afr_session.specs.Calls.{Meet}
 use Rattle.afr_session.specs.Links.{Links, link_of, met}

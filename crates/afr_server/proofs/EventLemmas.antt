@@ -18,8 +18,8 @@ use Rattle.afr_model.specs.Report.{started_after, started_bricks}
 use Rattle.afr_model.specs.Sessions.{is_joined, is_linked}
 use Rattle.afr_name_locks.specs.declared.names.DirName.{DirName}
 use Rattle.afr_plan.specs.declared.plan.Plan.{Plan}
-use Rattle.afr_range_locks.specs.Locks.{without_owner}
-use Rattle.afr_range_locks.specs.declared.held.HeldLock.{HeldLock}
+use Rattle.afr_lines.specs.Locks.{without_owner}
+use Rattle.afr_lines.specs.declared.lock.HeldLock.{HeldLock}
 use Rattle.afr_range_locks.specs.declared.ranges.ObjectRange.{ObjectRange}
 use Rattle.afr_session.specs.Links.{cut_off, ended, joined, link_of}
 use Rattle.afr_session.specs.declared.link.Link.{Link}

@@ -3,18 +3,18 @@ use Rattle.std.proofs.Common.{◌≡◌, ℕ, Bool, true, false, List, [], ◌�
 use Rattle.std.proofs.lemmas.Bool.Decides.{eqb_tells, nat_tests}
 use Rattle.std.specs.List.{filter}
 use Rattle.afr_base.specs.declared.ids.ActorId.{ActorId}
-use Rattle.afr_range_locks.specs.Locks.{without_owner}
-use Rattle.afr_range_locks.specs.declared.held.HeldLock.{HeldLock}
+use Rattle.afr_lines.specs.Locks.{without_owner, is_lock}
+use Rattle.afr_lines.specs.declared.lock.HeldLock.{HeldLock}
 use Rattle.afr_session.specs.Links.{Links, link_of}
 use Rattle.afr_lines.specs.declared.request.Area.TheVariants.{Range, Name}
 use Rattle.afr_lines.specs.declared.request.Request.{Request}
 use Rattle.afr_lines.specs.declared.request.Request.TheVariants.{Lock, Unlock}
 use Rattle.afr_lines.specs.declared.request.Area.{Area}
-use Rattle.afr_range_locks.specs.declared.domain.Domain.{Domain}
+use Rattle.afr_lines.specs.declared.lock.Domain.{Domain}
 use Rattle.afr_server.proofs.RequestLemmas.{by_locks}
 use Rattle.afr_name_locks.specs.Names.{name_lock, same_dir_name}
 use Rattle.afr_name_locks.specs.declared.names.DirName.{DirName}
-use Rattle.afr_range_locks.specs.Locks.{is_lock, range_lock, same_range}
+use Rattle.afr_range_locks.specs.Locks.{range_lock, same_range}
 use Rattle.afr_range_locks.specs.declared.ranges.ObjectRange.{ObjectRange}
 use Rattle.afr_session.specs.Calls.{Does, only}
 use Rattle.afr_session.specs.Calls.Call.{Cut, End, Join, Start, Stop}

@@ -35,9 +35,10 @@ use Rattle.afr_model.specs.Locks.{outlives, granted_by_line, releases}
 use Rattle.afr_model.specs.Sessions.{ends_session}
 use Rattle.afr_name_locks.specs.Names.{name_lock, overlap_dir_name, same_dir_name}
 use Rattle.afr_name_locks.specs.declared.names.DirName.{DirName}
-use Rattle.afr_range_locks.specs.Locks.{conflicts, first_conflict, is_lock, overlap_range, range_lock, same_domain, same_range, without_owner}
-use Rattle.afr_range_locks.specs.declared.domain.Domain.{Domain}
-use Rattle.afr_range_locks.specs.declared.held.HeldLock.{HeldLock}
+use Rattle.afr_range_locks.specs.Locks.{overlap_range, range_lock, same_range}
+use Rattle.afr_lines.specs.Locks.{conflicts, first_conflict, is_lock, same_domain, without_owner}
+use Rattle.afr_lines.specs.declared.lock.Domain.{Domain}
+use Rattle.afr_lines.specs.declared.lock.HeldLock.{HeldLock}
 use Rattle.afr_range_locks.specs.declared.ranges.ObjectRange.{ObjectRange}
 use Rattle.afr_server.proofs.ListLemmas.{filter_and, filter_true, never}
 use Rattle.afr_server.proofs.RequestLemmas.{by_locks}

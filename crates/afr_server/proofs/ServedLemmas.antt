@@ -16,7 +16,7 @@ use Rattle.afr_lines.specs.declared.request.Area.TheVariants.{Range, Name}
 use Rattle.afr_lines.specs.declared.request.Request.{Request}
 use Rattle.afr_lines.specs.declared.request.Area.{Area}
 use Rattle.afr_lines.specs.declared.request.Request.TheVariants.{Lock}
-use Rattle.afr_range_locks.specs.declared.domain.Domain.{Domain}
+use Rattle.afr_lines.specs.declared.lock.Domain.{Domain}
 use Rattle.afr_server.proofs.RequestLemmas.{by_locks}
 use Rattle.afr_model.specs.Honest.{IsHonest, Outcome, answer_by, fault_in, in_the_way, is_live, over_session, requests_to, tells}
 use Rattle.afr_model.specs.Locks.{locks_held}
@@ -28,7 +28,7 @@ use Rattle.afr_object.specs.Tables.{Table}
 use Rattle.afr_object.specs.declared.change.Load.{Load}
 use Rattle.afr_plan.specs.declared.plan.Plan.{Plan}
 use Rattle.afr_name_locks.specs.declared.names.DirName.{DirName}
-use Rattle.afr_range_locks.specs.declared.held.HeldLock.{HeldLock}
+use Rattle.afr_lines.specs.declared.lock.HeldLock.{HeldLock}
 use Rattle.afr_range_locks.specs.declared.ranges.ObjectRange.{ObjectRange}
 use Rattle.afr_session.specs.Links.{is_reached, link_of}
 use Rattle.afr_server.specs.declared.server.Asked.{Asked}

@@ -8,8 +8,9 @@ use Rattle.afr_lines.specs.declared.request.Request.{Request}
 use Rattle.afr_lines.specs.declared.request.Request.TheVariants.{Lock}
 use Rattle.afr_name_locks.specs.Names.{name_lock, overlap_dir_name}
 use Rattle.afr_name_locks.specs.declared.names.DirName.{DirName}
-use Rattle.afr_range_locks.specs.Locks.{first_conflict, overlap_range, range_lock}
-use Rattle.afr_range_locks.specs.declared.held.HeldLock.{HeldLock}
+use Rattle.afr_range_locks.specs.Locks.{overlap_range, range_lock}
+use Rattle.afr_lines.specs.Locks.{first_conflict}
+use Rattle.afr_lines.specs.declared.lock.HeldLock.{HeldLock}
 use Rattle.afr_range_locks.specs.declared.ranges.ObjectRange.{ObjectRange}
 use Rattle.afr_session.specs.Links.{Links, epoch_met, is_reached, link_of, opens}
 use Rattle.afr_session.specs.declared.link.Link.{Link}

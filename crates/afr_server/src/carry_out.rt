@@ -9,10 +9,10 @@ use crate::locks::{lock_name, lock_range};
 use crate::reads::{index, list, look, read_attr, read_attrs, read_bytes, read_name};
 use afr_base::{ActorId, NoMemory};
 use afr_brick::Brick;
-use afr_lines::{Answer, Area, Request};
+use afr_lines::{Answer, Area, Domain, Request};
 use afr_name_locks::NameLocks;
 use afr_object::Load;
-use afr_range_locks::{Domain, RangeLocks};
+use afr_range_locks::RangeLocks;
 
 /// A brick carries a request out. It takes the parts of a server and not the server: a lock that a
 /// first line takes stands there before the session that it goes with.

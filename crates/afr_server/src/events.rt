@@ -4,7 +4,7 @@ ghost use Rattle.afr_server.specs.Happening.{HasLink, IsAlready, Meets};
 ghost use Rattle.afr_session.specs.Calls.{Does};
 ghost use Rattle.afr_session.specs.Links.{link_of};
 ghost use Rattle.afr_session.specs.Calls.Call.{Cut, End, Stop};
-ghost use Rattle.afr_range_locks.specs.Locks.{without_owner};
+ghost use Rattle.afr_lines.specs.Locks.{without_owner};
 
 use crate::server::Server;
 use afr_base::{ActorId, BrickId};

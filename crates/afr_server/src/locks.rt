@@ -1,14 +1,15 @@
 //! Locks that are asked for: granted, or held by another.
 ghost use Rattle.std.specs.Prelude.{◌≡◌, ◌<◌, IfOk, OnErr};
 ghost use Rattle.afr_model.specs.Honest.{lock_answer};
-ghost use Rattle.afr_range_locks.specs.Locks.{first_conflict, overlap_range, range_lock};
+ghost use Rattle.afr_range_locks.specs.Locks.{overlap_range, range_lock};
+ghost use Rattle.afr_lines.specs.Locks.{first_conflict};
 ghost use Rattle.afr_name_locks.specs.Names.{name_lock, overlap_dir_name};
 ghost use Rattle.afr_server.specs.Carried.{joined_by};
 
 use afr_base::{ActorId, Gfid, NameId, NoMemory};
-use afr_lines::Answer;
+use afr_lines::{Answer, Domain};
 use afr_name_locks::NameLocks;
-use afr_range_locks::{Domain, Got, RangeLocks};
+use afr_range_locks::{Got, RangeLocks};
 
 pub(crate) fn lock_range(
     ranges: &mut RangeLocks,

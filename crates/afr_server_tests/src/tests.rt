@@ -4,10 +4,9 @@ ghost use Rattle.afr_server_tests.specs.Fresh.{IsFresh};
 
 use afr_base::{ActorId, BrickId, Gfid};
 use afr_brick::Brick;
-use afr_lines::{Answer, Area, Event, Fault, Request};
+use afr_lines::{Answer, Area, Domain, Event, Fault, Request};
 use afr_object::Load;
 use afr_plan::PlannedFault;
-use afr_range_locks::Domain;
 use afr_server::{Asked, Server, planned_faults};
 use std::alloc::Global;
 

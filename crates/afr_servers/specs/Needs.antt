@@ -20,7 +20,7 @@ use Rattle.afr_moves.specs.Covering.{HasItsLocks, HasNumber}
 use Rattle.afr_object.specs.declared.change.Change.{Change}
 use Rattle.afr_object.specs.declared.change.Load.{Load}
 use Rattle.afr_plan.specs.declared.plan.Plan.{Plan}
-use Rattle.afr_range_locks.specs.declared.domain.Domain.{Domain}
+use Rattle.afr_lines.specs.declared.lock.Domain.{Domain}
 use Rattle.afr_server.specs.declared.server.Asked.{Asked}
 use Rattle.afr_server.specs.Carried.{Brings, CanCarryOut, CanLock}
 use Rattle.afr_server.specs.Covered.{IsUnderLocks}

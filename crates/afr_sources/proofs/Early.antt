@@ -17,7 +17,7 @@ use Rattle.afr_model.specs.Chosen.{KeepsSource, goes_on}
 use Rattle.afr_model.specs.Healing.{First, first_after}
 use Rattle.afr_moves.specs.Register as exact
 use Rattle.afr_moves.specs.Register.{Exact, Phase, is_opening, over, same_step}
-use Rattle.afr_range_locks.specs.declared.domain.Domain.TheVariants as domain
+use Rattle.afr_lines.specs.declared.lock.Domain.TheVariants as domain
 use Rattle.afr_self_heal.proofs.FoundLemmas.{opening_is}
 use Rattle.afr_self_heal.specs.Outcome.{cause}
 use Rattle.afr_self_heal.specs.Source.{is_found}

@@ -15,8 +15,8 @@ use Rattle.afr_lines.specs.declared.request.Request.{Request}
 use Rattle.afr_lines.specs.declared.request.Request.TheVariants.{Lock, Look}
 use Rattle.afr_moves.specs.Register as exact
 use Rattle.afr_moves.specs.Register.{Finish, Opening, Phase, Piece, is_opening, same_step}
-use Rattle.afr_range_locks.specs.declared.domain.Domain.{Domain}
-use Rattle.afr_range_locks.specs.declared.domain.Domain.TheVariants.{Heal, Work}
+use Rattle.afr_lines.specs.declared.lock.Domain.{Domain}
+use Rattle.afr_lines.specs.declared.lock.Domain.TheVariants.{Heal, Work}
 use Rattle.afr_self_heal.specs.Outcome.{by_looks, cause, locks_cause, looks_cause}
 use Rattle.afr_self_heal.specs.declared.outcome.Outcome.TheVariants.{Nothing, Short, Split}
 use Rattle.afr_sources.specs.Sources.{is_later}

@@ -16,7 +16,7 @@ use Rattle.afr_model.specs.Chosen.{AllKeep, KeepsSource, goes_on}
 use Rattle.afr_model.specs.Healing.{First, busy_after, first_after, is_border}
 use Rattle.afr_model.specs.Moved.{pieces}
 use Rattle.afr_model.specs.Showing.{has, is_fault, look_shows}
-use Rattle.afr_range_locks.specs.declared.domain.Domain.TheVariants as domain
+use Rattle.afr_lines.specs.declared.lock.Domain.TheVariants as domain
 use Rattle.afr_sources.specs.Chosen.{went_on}
 
 -- ---- before there is a source

@@ -26,7 +26,7 @@ use Rattle.afr_moves.specs.Past as past
 use Rattle.afr_moves.specs.Positions.{by_position}
 use Rattle.afr_moves.specs.Register.{Exact}
 use Rattle.afr_plan.specs.declared.plan.Plan.{Plan}
-use Rattle.afr_range_locks.specs.declared.domain.Domain.TheVariants.{Work}
+use Rattle.afr_lines.specs.declared.lock.Domain.TheVariants.{Work}
 use Rattle.afr_law.proofs.Model.Alive.{joined_alive}
 use Rattle.afr_standstill.proofs.Positions.{fair, older_register, present_register, register_at}
 use Rattle.afr_law.proofs.Model.Tasks.{task_of}

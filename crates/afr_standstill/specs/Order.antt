@@ -13,7 +13,7 @@ use Rattle.afr_moves.specs.Discipline.{in_force}
 use Rattle.afr_moves.specs.Followed.{register_by}
 use Rattle.afr_moves.specs.Rules.{Register, area_object}
 use Rattle.afr_plan.specs.declared.plan.Plan.{Plan}
-use Rattle.afr_range_locks.specs.declared.domain.Domain.TheVariants.{Work}
+use Rattle.afr_lines.specs.declared.lock.Domain.TheVariants.{Work}
 use Rattle.afr_tables.specs.Codes.{kept_by}
 use Rattle.afr_waits.specs.Waiting.{Holds, RisesTo}
 

@@ -1,7 +1,7 @@
 -- The texts of requests.
 use Rattle.std.specs.Prelude.{ℕ, ◌+◌, List, [], ◌++◌, codes, decimal}
-use Rattle.afr_range_locks.specs.declared.domain.Domain.{Domain}
-use Rattle.afr_range_locks.specs.declared.domain.Domain.TheVariants.{Work, Heal}
+use Rattle.afr_lines.specs.declared.lock.Domain.{Domain}
+use Rattle.afr_lines.specs.declared.lock.Domain.TheVariants.{Work, Heal}
 use Rattle.afr_lines.specs.declared.request.Request.{Request}
 use Rattle.afr_lines.specs.declared.request.Request.TheVariants as request
 use Rattle.afr_plan.specs.declared.plan.Plan.{Plan}

@@ -4,9 +4,8 @@ ghost use Rattle.afr_lines.specs.declared.request.Area.TheVariants.{Name, Range}
 ghost use Rattle.afr_object.specs.declared.change.Repair.TheVariants.{Copy, CutTo};
 
 use afr_base::{Gfid, Kind, Marks, NameId};
-use afr_lines::{Area, Request};
+use afr_lines::{Area, Domain, Request};
 use afr_object::Repair;
-use afr_range_locks::Domain;
 
 /// Whether a request is one that most bricks are asked alike, one after another. It is kept then
 /// and else is not; its text is the same either way.

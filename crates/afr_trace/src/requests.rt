@@ -10,9 +10,8 @@ use crate::numbers::push_bricks;
 use crate::objects::{push_area, push_key, push_name, push_object, push_range};
 use crate::repairs::{push_marks, push_repair};
 use afr_base::{BrickSet, Gfid, KeyId, Kind, Marks, NameId, NoMemory};
-use afr_lines::{Area, Request};
+use afr_lines::{Area, Domain, Request};
 use afr_plan::Plan;
-use afr_range_locks::Domain;
 use afr_replies::{kind_word, push_number, push_word};
 
 /// Adds a request: its word, and what it is about.

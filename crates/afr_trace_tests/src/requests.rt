@@ -1,9 +1,8 @@
 //! Logs in which a brick is asked each request once.
 
 use afr_base::{ActorId, BrickId, BrickSet, Gfid, KeyId, Kind, Marks, NameId, NoMemory};
-use afr_lines::{Area, Line, Request, Told};
+use afr_lines::{Area, Domain, Line, Request, Told};
 use afr_object::Repair;
-use afr_range_locks::Domain;
 use std::alloc::Global;
 
 /// Where ranges of bytes end, and the range of the attributes begins.

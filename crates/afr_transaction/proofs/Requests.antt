@@ -6,7 +6,7 @@ use Rattle.afr_base.specs.Bricks.{added, added_if, member, removed, is_nothing, 
 use Rattle.afr_base.specs.SetLemmas.{member_added, member_removed, within_added_if}
 use Rattle.afr_object.specs.declared.change.Change.{Change}
 use Rattle.afr_choice.specs.Looks.{no_looks}
-use Rattle.afr_range_locks.specs.declared.domain.Domain.TheVariants.{Work}
+use Rattle.afr_lines.specs.declared.lock.Domain.TheVariants.{Work}
 use Rattle.afr_lines.specs.Areas.{area_for}
 use Rattle.afr_lines.specs.declared.answer.Told.{Told}
 use Rattle.afr_lines.specs.declared.answer.Told.TheVariants as told_of

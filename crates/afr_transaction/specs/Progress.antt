@@ -10,7 +10,7 @@ use Rattle.afr_object.specs.declared.change.Load.{Load}
 use Rattle.afr_object.specs.declared.change.Load.TheVariants as load
 use Rattle.afr_object.specs.declared.change.Change.TheVariants.{Write, Cut, SetAttr, Make, Remove}
 use Rattle.afr_choice.specs.Verdict.{holders_of}
-use Rattle.afr_range_locks.specs.declared.domain.Domain.TheVariants.{Work}
+use Rattle.afr_lines.specs.declared.lock.Domain.TheVariants.{Work}
 use Rattle.afr_lines.specs.Areas.{area_for, kind_for}
 use Rattle.afr_lines.specs.declared.answer.Told.{Told}
 use Rattle.afr_lines.specs.declared.line.Next.{Next}

@@ -9,9 +9,8 @@ ghost use Rattle.afr_transaction.specs.declared.stage.Stage.{Stage};
 use crate::change::area_of;
 use crate::stage::Asked;
 use afr_base::{BrickId, BrickSet};
-use afr_lines::{Request, Told};
+use afr_lines::{Domain, Request, Told};
 use afr_object::Change;
-use afr_range_locks::Domain;
 
 /// The bricks whose lock is still to be asked for.
 pub(crate) fn to_lock(n: u8, asked: &Asked) -> BrickSet

@@ -5,9 +5,8 @@ ghost use Rattle.afr_lines.specs.Areas.{area_for};
 use crate::change::area_of;
 use afr_base::BrickSet;
 use afr_discipline::Register;
-use afr_lines::Request;
+use afr_lines::{Domain, Request};
 use afr_object::Change;
-use afr_range_locks::Domain;
 
 /// The bricks that still hold the lock: a brick that answered NotConnected holds it no more.
 pub(crate) fn to_unlock(r: &Register) -> BrickSet

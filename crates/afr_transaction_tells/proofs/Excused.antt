@@ -21,7 +21,7 @@ use Rattle.afr_lines.specs.declared.line.Line.TheVariants.{Ask, Begin}
 use Rattle.afr_lines.specs.declared.request.Area.{Area}
 use Rattle.afr_lines.specs.declared.request.Request.{Request}
 use Rattle.afr_lines.specs.declared.request.Request.TheVariants as request
-use Rattle.afr_range_locks.specs.declared.domain.Domain.TheVariants.{Work as WorkDomain}
+use Rattle.afr_lines.specs.declared.lock.Domain.TheVariants.{Work as WorkDomain}
 use Rattle.afr_model.specs.Blamed.{misses, missing}
 use Rattle.afr_model.specs.Showing.{among, has, is_done, is_fault, is_granted, is_held, locks, look_shows, looked_after, looked_by, looking, preparing, prepared, applying, applied_at}
 use Rattle.afr_model.specs.Standing.{since, locks_any, asking, getting, marked}

@@ -24,7 +24,7 @@ use Rattle.afr_moves.specs.Followed.{register_by}
 use Rattle.afr_moves.specs.Keeps.{keeps_in}
 use Rattle.afr_moves.specs.Rules.{heal_area}
 use Rattle.afr_plan.specs.declared.plan.Plan.{Plan}
-use Rattle.afr_range_locks.specs.declared.domain.Domain.TheVariants.{Heal as HealDomain, Work as WorkDomain}
+use Rattle.afr_lines.specs.declared.lock.Domain.TheVariants.{Heal as HealDomain, Work as WorkDomain}
 use Rattle.afr_rounds.specs.Acting.{Stepped, SteppedBy}
 use Rattle.afr_rounds.specs.Keeping.{CarriesIts, CarriesRound, IsHealer, IsNotedHeal, StageStands}
 use Rattle.afr_rounds.specs.declared.healer.Healer.{Healer}

@@ -25,7 +25,7 @@ use Rattle.afr_model.specs.Honest.{IsHonest}
 use Rattle.afr_object.specs.declared.change.Change.{Change}
 use Rattle.afr_plan.specs.declared.command.Command.{Command}
 use Rattle.afr_plan.specs.declared.plan.Plan.{Plan}
-use Rattle.afr_range_locks.specs.declared.domain.Domain.TheVariants.{Heal, Work as WorkDomain}
+use Rattle.afr_lines.specs.declared.lock.Domain.TheVariants.{Heal, Work as WorkDomain}
 use Rattle.afr_server.specs.Serving.{Serving}
 use Rattle.afr_standstill.specs.Order.{IsRisingLine}
 use Rattle.afr_walk.specs.Choosing.{IsAmong, reader_of}

@@ -22,7 +22,7 @@ use Rattle.afr_moves.specs.Transaction.{Outside}
 use Rattle.afr_moves.specs.Sets.{any, empty, with}
 use Rattle.afr_moves.specs.Steps.{after_unlocks, is_lowest, is_next, locks_at, may_heal, may_heal_work}
 use Rattle.afr_moves.specs.Register.{is_finish}
-use Rattle.afr_range_locks.specs.declared.domain.Domain.TheVariants.{Heal, Work}
+use Rattle.afr_lines.specs.declared.lock.Domain.TheVariants.{Heal, Work}
 use Rattle.afr_waits.proofs.Fields.{Still, busy_less, heal_kept, heal_locked, less_dropped, less_still, second_dropped, second_unlocked, still}
 use Rattle.afr_law.proofs.Discipline.Asks.{IsHealLock, heal_dropped}
 use Rattle.afr_law.proofs.Discipline.Projection.{along_now}

@@ -11,7 +11,7 @@ use Rattle.afr_moves.specs.Rules.{Register, busy, is_area}
 use Rattle.afr_moves.specs.Sets.{any, with, without}
 use Rattle.afr_moves.proofs.Tests.{without_in}
 use Rattle.afr_object.specs.declared.entry.View.{View}
-use Rattle.afr_range_locks.specs.declared.domain.Domain.TheVariants.{Heal, Work}
+use Rattle.afr_lines.specs.declared.lock.Domain.TheVariants.{Heal, Work}
 use Rattle.std.proofs.lemmas.Bool.{or_parts}
 use Rattle.afr_law.proofs.Discipline.Asks.{IsHealLock, kept}
 

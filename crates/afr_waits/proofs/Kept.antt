@@ -24,7 +24,7 @@ use Rattle.afr_moves.specs.Register.{Exact}
 use Rattle.afr_moves.specs.Rules as weak
 use Rattle.afr_moves.specs.Rules.{Register, busy, is_area}
 use Rattle.afr_moves.specs.Sets.{any, empty, with, without}
-use Rattle.afr_range_locks.specs.declared.domain.Domain.TheVariants.{Heal, Work}
+use Rattle.afr_lines.specs.declared.lock.Domain.TheVariants.{Heal, Work}
 use Rattle.afr_waits.proofs.Begun.{IsBegun, begun_now, no_busy, own_or_idle}
 use Rattle.afr_law.proofs.Safety.Acks.{opens_out}
 use Rattle.afr_law.proofs.Safety.Sessions.{all_four, begin_place, gone_apart, heal_place, held_joined, honest_at, inner_place, kept_freed, step_of, without_other}

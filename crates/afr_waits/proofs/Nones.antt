@@ -16,7 +16,7 @@ use Rattle.afr_moves.specs.Register.{Exact}
 use Rattle.afr_moves.specs.Rules as weak
 use Rattle.afr_moves.specs.Rules.{Register, begun, busy, is_area}
 use Rattle.afr_moves.specs.Sets.{with, without}
-use Rattle.afr_range_locks.specs.declared.domain.Domain.TheVariants.{Heal, Work}
+use Rattle.afr_lines.specs.declared.lock.Domain.TheVariants.{Heal, Work}
 use Rattle.std.proofs.lemmas.Bool.{false_from_ne_true}
 use Rattle.afr_law.proofs.Discipline.Projection.{along_now}
 use Rattle.afr_waits.proofs.Fields.{Still, still}

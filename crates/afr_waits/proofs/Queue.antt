@@ -25,7 +25,7 @@ use Rattle.afr_moves.specs.Rules.{Register, begun, busy, is_area, no_views, area
 use Rattle.afr_moves.specs.Sets.{empty, with}
 use Rattle.afr_moves.specs.Steps.{after_unlocks, is_lowest, is_next, locks_at, may_heal, may_heal_work}
 use Rattle.afr_moves.specs.Transaction.{Outside}
-use Rattle.afr_range_locks.specs.declared.domain.Domain.TheVariants.{Heal, Work}
+use Rattle.afr_lines.specs.declared.lock.Domain.TheVariants.{Heal, Work}
 use Rattle.afr_waits.proofs.Begun.{IsBegun, begun_now, heal_locks}
 use Rattle.afr_waits.proofs.Fields.{heal_kept}
 use Rattle.afr_waits.proofs.Kept.{has_busy}

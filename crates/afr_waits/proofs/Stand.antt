@@ -22,8 +22,8 @@ use Rattle.afr_moves.specs.Lines.{ask_by}
 use Rattle.afr_moves.specs.Past.{Beginning, Log, blocks, held, is_of, joined, opening, opens, place}
 use Rattle.afr_moves.specs.Rules as weak
 use Rattle.afr_moves.specs.Rules.{Register, area_object, begun, busy, is_area}
-use Rattle.afr_range_locks.specs.declared.domain.Domain.TheVariants.{Heal, Work}
-use Rattle.afr_range_locks.specs.declared.domain.Domain.{Domain}
+use Rattle.afr_lines.specs.declared.lock.Domain.TheVariants.{Heal, Work}
+use Rattle.afr_lines.specs.declared.lock.Domain.{Domain}
 use Rattle.afr_waits.proofs.Begun.{begun_now}
 use Rattle.afr_waits.proofs.Circle.{Gathered, In, gather, no_rise}
 use Rattle.afr_waits.proofs.Kept.{Has, IsOneOf, has_busy, kept, locks, one_of}

@@ -11,7 +11,7 @@ use Rattle.afr_moves.specs.Honest.{Honest}
 use Rattle.afr_moves.specs.Lines.{ask_by}
 use Rattle.afr_moves.specs.Past.{Beginning, Log, is_of, joined}
 use Rattle.afr_moves.specs.Steps.{may_heal}
-use Rattle.afr_range_locks.specs.declared.domain.Domain.TheVariants.{Work}
+use Rattle.afr_lines.specs.declared.lock.Domain.TheVariants.{Work}
 use Rattle.afr_waits.specs.Waiting.{IsStill, RisesTo, Waits}
 
 -- what is so of an honest log of moves that the discipline allows

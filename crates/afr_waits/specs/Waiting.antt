@@ -9,7 +9,7 @@ use Rattle.afr_lines.specs.declared.request.Request.TheVariants.{Lock}
 use Rattle.afr_moves.specs.Discipline.{exact}
 use Rattle.afr_moves.specs.Past.{Log}
 use Rattle.afr_moves.specs.Rules.{Register, area_object}
-use Rattle.afr_range_locks.specs.declared.domain.Domain.TheVariants.{Work}
+use Rattle.afr_lines.specs.declared.lock.Domain.TheVariants.{Work}
 
 -- by the register its actor holds a Work lock of this area at brick b
 pub data Holds (r : Register) (b : ℕ) (area : Area) : Type 0 where

@@ -32,7 +32,7 @@ use Rattle.afr_object.specs.declared.change.Change.{Change}
 use Rattle.afr_object.specs.declared.change.Change.TheVariants.{Cut, Make, Remove, SetAttr, Write as Writes}
 use Rattle.afr_pace.proofs.Order.{asks_above}
 use Rattle.afr_pace.specs.Left.{IsQueued as Queued}
-use Rattle.afr_range_locks.specs.declared.domain.Domain.TheVariants.{Work as WorkDomain}
+use Rattle.afr_lines.specs.declared.lock.Domain.TheVariants.{Work as WorkDomain}
 use Rattle.afr_removal.specs.Removal as removal
 use Rattle.afr_removal.specs.Removal.{Removing, whole}
 use Rattle.afr_removal.specs.Sound as removing

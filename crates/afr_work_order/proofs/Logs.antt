@@ -27,7 +27,7 @@ use Rattle.afr_object.specs.Tables.{object_of}
 use Rattle.afr_object.specs.declared.entry.Entry.{Entry}
 use Rattle.afr_plan.specs.declared.command.Command.{Command}
 use Rattle.afr_plan.specs.declared.plan.Plan.{Plan}
-use Rattle.afr_range_locks.specs.declared.domain.Domain.TheVariants.{Work as WorkDomain}
+use Rattle.afr_lines.specs.declared.lock.Domain.TheVariants.{Work as WorkDomain}
 use Rattle.afr_removal.specs.Removal.{Removing}
 use Rattle.afr_removal.specs.declared.stage.RemovalStage.TheVariants as removes
 use Rattle.afr_removal.specs.declared.stage.RemovalStage.{RemovalStage}

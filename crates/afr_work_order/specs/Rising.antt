@@ -10,7 +10,7 @@ use Rattle.afr_lines.specs.declared.request.Area.{Area}
 use Rattle.afr_lines.specs.declared.request.Request.TheVariants.{Lock}
 use Rattle.afr_moves.specs.Rules.{area_object}
 use Rattle.afr_object.specs.Tables.{object_of}
-use Rattle.afr_range_locks.specs.declared.domain.Domain.TheVariants.{Work as WorkDomain}
+use Rattle.afr_lines.specs.declared.lock.Domain.TheVariants.{Work as WorkDomain}
 use Rattle.afr_waits.specs.Waiting.{IsBelow}
 use Rattle.afr_work_order.specs.Queue.{IsQueued}
 use Rattle.afr_works.specs.Work.{IsWork, next_of, register_of}

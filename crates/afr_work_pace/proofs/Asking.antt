@@ -17,7 +17,7 @@ use Rattle.afr_lines.specs.declared.request.Request.{Request}
 use Rattle.afr_moves.specs.Note.{is_failed, is_held}
 use Rattle.afr_pace.proofs.Nearer.{step_of}
 use Rattle.afr_pace.specs.Left.{Fits, asks_again}
-use Rattle.afr_range_locks.specs.declared.domain.Domain.TheVariants.{Work}
+use Rattle.afr_lines.specs.declared.lock.Domain.TheVariants.{Work}
 use Rattle.afr_removal.specs.Removal as removal
 use Rattle.afr_removal.specs.Removal.{Removing}
 use Rattle.afr_removal.specs.Sound as removing

@@ -44,7 +44,7 @@ use Rattle.afr_pace.specs.Left.{Fits, asks_again}
 use Rattle.afr_pace.specs.Lookups.{read_left}
 use Rattle.afr_pace.specs.Writes.{Asks, FitsWrite, again_at, whole_change, write_left}
 use Rattle.afr_plan.specs.declared.command.Command.TheVariants as command
-use Rattle.afr_range_locks.specs.declared.domain.Domain.TheVariants.{Work}
+use Rattle.afr_lines.specs.declared.lock.Domain.TheVariants.{Work}
 use Rattle.afr_removal.specs.Removal as removal
 use Rattle.afr_removal.specs.Removal.{Removing}
 use Rattle.afr_removal.specs.declared.stage.RemovalStage.TheVariants as removes

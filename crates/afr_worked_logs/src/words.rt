@@ -3,9 +3,8 @@ ghost use Rattle.std.specs.Prelude.{◌<◌, IfSome};
 
 use crate::trace::NoLog;
 use afr_base::{ActorId, AllMarks, BrickId, BrickSet, Gfid, Kind, Marks, NameId, NoMemory, What};
-use afr_lines::{Area, Line, Told};
+use afr_lines::{Area, Domain, Line, Told};
 use afr_object::{Change, Chunk, List, View};
-use afr_range_locks::Domain;
 use hex::FromHexError;
 use std::alloc::Global;
 use std::str::SplitWhitespace;

@@ -4,7 +4,7 @@ use Rattle.afr_base.specs.declared.ids.Shape.{Shape}
 use Rattle.afr_choice.specs.Looks.{no_looks, with_look, without_look}
 use Rattle.afr_choice.specs.LooksLemmas.{length_after_look, length_after_loss}
 use Rattle.afr_choice.specs.declared.looked.Looked.{Looked}
-use Rattle.afr_range_locks.specs.declared.domain.Domain.TheVariants as domain
+use Rattle.afr_lines.specs.declared.lock.Domain.TheVariants as domain
 use Rattle.afr_lines.specs.Told.{told_by}
 use Rattle.afr_lines.specs.declared.answer.Told.{Told}
 use Rattle.afr_lines.specs.declared.request.Request.{Request}

@@ -11,8 +11,8 @@ use Rattle.afr_lines.specs.declared.request.Area.{Area}
 use Rattle.afr_lines.specs.declared.request.Area.TheVariants.{Name, Range}
 use Rattle.afr_lines.specs.declared.request.Request.{Request}
 use Rattle.afr_lines.specs.declared.request.Request.TheVariants.{Lock}
-use Rattle.afr_range_locks.specs.declared.domain.Domain.{Domain}
-use Rattle.afr_range_locks.specs.declared.domain.Domain.TheVariants.{Heal, Work}
+use Rattle.afr_lines.specs.declared.lock.Domain.{Domain}
+use Rattle.afr_lines.specs.declared.lock.Domain.TheVariants.{Heal, Work}
 use Rattle.afr_moves.proofs.AreaLemmas.{is_area_is, same_area_is}
 use Rattle.afr_moves.specs.Covering.{HasNumber}
 use Rattle.afr_moves.specs.Discipline.{MayAskExactly, MayExactly, MovesExactly, exact, in_force, note, present}

@@ -25,7 +25,7 @@ use Rattle.afr_lines.specs.declared.request.Request.TheVariants.{Apply, Index, L
 use Rattle.afr_lines.specs.Overlap.{same_area}
 use Rattle.afr_base.specs.Kinds.{same_kind}
 use Rattle.afr_object.specs.declared.entry.View.{View}
-use Rattle.afr_range_locks.specs.declared.domain.Domain.TheVariants.{Heal, Work}
+use Rattle.afr_lines.specs.declared.lock.Domain.TheVariants.{Heal, Work}
 use Rattle.std.proofs.Common.{Bool, ap, arith, false, inl, inr, not, refl, subst, sym, true, true≢false, ℕ, ◌&&◌, ◌<◌, ◌||◌, ◌∙◌, ◌≡◌, ◌≤◌}
 use Rattle.std.proofs.lemmas.Bool.Decides.{nat_tests}
 use Rattle.std.specs.Prelude.{Some, if◌then◌else◌, ◌==◌}

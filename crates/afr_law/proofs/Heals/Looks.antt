@@ -9,7 +9,7 @@ use Rattle.afr_base.specs.declared.ids.Kind.{Kind}
 use Rattle.afr_object.specs.declared.entry.View.{View}
 use Rattle.afr_base.specs.declared.marks.Marks.{Marks}
 use Rattle.afr_object.specs.declared.change.Repair.{Repair}
-use Rattle.afr_range_locks.specs.declared.domain.Domain.TheVariants.{Work}
+use Rattle.afr_lines.specs.declared.lock.Domain.TheVariants.{Work}
 use Rattle.afr_lines.specs.declared.request.Area.{Area}
 use Rattle.afr_lines.specs.declared.request.Request.{Request}
 use Rattle.afr_lines.specs.declared.request.Request.TheVariants.{Mend, Settle}

@@ -4,7 +4,7 @@ use Rattle.std.proofs.Common.{◌≡◌, ℕ, suc, Bool, true, false, ◌||◌, 
 use Rattle.std.specs.Prelude.{Option, Some}
 use Rattle.afr_base.specs.declared.ids.Kind.{Kind}
 use Rattle.afr_base.specs.declared.marks.Marks.{Marks}
-use Rattle.afr_range_locks.specs.declared.domain.Domain.TheVariants.{Heal}
+use Rattle.afr_lines.specs.declared.lock.Domain.TheVariants.{Heal}
 use Rattle.afr_lines.specs.declared.request.Request.{Request}
 use Rattle.afr_lines.specs.declared.answer.Told.{Told}
 use Rattle.afr_lines.specs.declared.answer.Told.TheVariants.{Done}

@@ -15,7 +15,7 @@ use Rattle.afr_lines.specs.declared.reply.Reply.{Reply}
 use Rattle.afr_lines.specs.declared.request.Area.{Area}
 use Rattle.afr_lines.specs.declared.request.Request.TheVariants.{Lock}
 use Rattle.afr_lines.specs.Places.{Between, Fresh, Indexed, Place, Within, next_place}
-use Rattle.afr_range_locks.specs.declared.domain.Domain.TheVariants.{Heal}
+use Rattle.afr_lines.specs.declared.lock.Domain.TheVariants.{Heal}
 use Rattle.std.proofs.Common.{Bool, ap, false, refl, subst, suc, sym, true, true≢false, zero, ℕ, ◌≡◌}
 use Rattle.std.specs.Prelude.{None, Option, Some}
 use Rattle.afr_moves.specs.Rules as weak

@@ -11,7 +11,7 @@ use Rattle.afr_lines.specs.declared.request.Request.{Request}
 use Rattle.afr_lines.specs.declared.request.Request.TheVariants.{Apply, Index, List, Lock, Look, Mend, Post, Pre, ReadAttr, ReadAttrs, ReadBytes, ReadName, Settle, Unlock}
 use Rattle.afr_lines.specs.Overlap.{same_area}
 use Rattle.afr_object.specs.declared.entry.View.{View}
-use Rattle.afr_range_locks.specs.declared.domain.Domain.TheVariants.{Heal, Work}
+use Rattle.afr_lines.specs.declared.lock.Domain.TheVariants.{Heal, Work}
 use Rattle.afr_moves.specs.Discipline.{MovesExactly, present}
 use Rattle.afr_moves.specs.Note.{left_in_heal, next_phase, put, view_of}
 use Rattle.afr_moves.specs.Register.{Exact, Finish, HealPres, Mends, Phase, Piece, Reads, Settles, Step, Unlocks, is_opening, len_of, piece_area, rank, span, whole_area}

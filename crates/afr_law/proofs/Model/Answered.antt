@@ -25,8 +25,8 @@ use Rattle.afr_model.specs.Tables.{holds}
 use Rattle.afr_object.specs.Tables.{Table, copy_at, view_of}
 use Rattle.afr_object.specs.declared.object.Object.{Object}
 use Rattle.afr_plan.specs.declared.plan.Plan.{Plan}
-use Rattle.afr_range_locks.specs.Locks.{conflicts, first_conflict}
-use Rattle.afr_range_locks.specs.declared.held.HeldLock.{HeldLock}
+use Rattle.afr_lines.specs.Locks.{conflicts, first_conflict}
+use Rattle.afr_lines.specs.declared.lock.HeldLock.{HeldLock}
 use Rattle.afr_tables.specs.TableLaws.{five_pending, numbers_below}
 use Rattle.afr_moves.specs.ByList.{IsExactlyLawful}
 use Rattle.afr_moves.specs.Past.{Beginning}

@@ -18,9 +18,9 @@ use Rattle.afr_lines.specs.declared.request.Request.TheVariants.{Apply, Lock, Me
 use Rattle.afr_model.specs.Honest.{Honest as IsHonestLog, IsHonest, fault_in}
 use Rattle.afr_model.specs.Locks.{locks_held}
 use Rattle.afr_plan.specs.declared.plan.Plan.{Plan}
-use Rattle.afr_range_locks.specs.declared.domain.Domain.{Domain}
-use Rattle.afr_range_locks.specs.declared.domain.Domain.TheVariants.{Heal, Work}
-use Rattle.afr_range_locks.specs.declared.held.HeldLock.{HeldLock}
+use Rattle.afr_lines.specs.declared.lock.Domain.{Domain}
+use Rattle.afr_lines.specs.declared.lock.Domain.TheVariants.{Heal, Work}
+use Rattle.afr_lines.specs.declared.lock.HeldLock.{HeldLock}
 use Rattle.afr_moves.specs.Covering.{Changes, Covers, HasHealLock, IsCovered}
 use Rattle.afr_moves.specs.Discipline.{LawfulExactly, MayExactly}
 use Rattle.afr_moves.specs.Discipline as exactly

@@ -31,7 +31,7 @@ use Rattle.afr_lines.specs.declared.request.Request.TheVariants as request
 use Rattle.afr_plan.specs.declared.plan.Plan.{Plan}
 use Rattle.afr_model.specs.Honest.{requests_to, fault_in, copy_answer, copy_for, lock_answer, answer_by, in_the_way, tells, Outcome, over_session, is_live, outcome_of, IsHonest}
 use Rattle.afr_model.specs.Honest as model
-use Rattle.afr_range_locks.specs.Locks.{first_conflict}
+use Rattle.afr_lines.specs.Locks.{first_conflict}
 use Rattle.afr_model.specs.Locks.{locks_held}
 use Rattle.afr_lines.specs.Overlap.{overlap}
 use Rattle.afr_model.specs.Sums.{has_object}
@@ -126,7 +126,7 @@ module _ (p : Plan) (n : ℕ) (L : Log) (b : ℕ) (older : List Line) (h : IsPas
   mend_found (PutAttrs g read) = found g
   mend_found (PutNames g reads) = found g
 
-  lock_tells : (a : ActorId) (domain : Rattle.afr_range_locks.specs.declared.domain.Domain.Domain) (area : Rattle.afr_lines.specs.declared.request.Area.Area)
+  lock_tells : (a : ActorId) (domain : Rattle.afr_lines.specs.declared.lock.Domain.Domain) (area : Rattle.afr_lines.specs.declared.request.Area.Area)
       → Answers (start_of p n) L (length older) a.0 b (request.Lock domain area) (told_by (lock_answer (first_conflict overlap (record { owner = a; domain = domain; area = area }) (locks_held b older))))
   lock_tells a domain area = go (first_conflict overlap (record { owner = a; domain = domain; area = area }) (locks_held b older)) refl
     where

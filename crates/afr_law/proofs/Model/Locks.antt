@@ -3,17 +3,16 @@ use Rattle.std.proofs.Common.{◌≡◌, ℕ, ◌<◌, Bool, true, false, ◌&&�
 use Rattle.std.specs.Prelude.{Option, None, Some, ◌==◌, if◌then◌else◌}
 use Rattle.afr_base.specs.declared.ids.ActorId.{ActorId}
 use Rattle.afr_base.specs.declared.ids.NameId.{NameId}
-use Rattle.afr_range_locks.specs.declared.domain.Domain.{Domain}
-use Rattle.afr_range_locks.specs.declared.domain.Domain.TheVariants.{Work, Heal}
+use Rattle.afr_lines.specs.declared.lock.Domain.{Domain}
+use Rattle.afr_lines.specs.declared.lock.Domain.TheVariants.{Work, Heal}
 use Rattle.afr_lines.specs.declared.answer.Told.TheVariants.{Granted}
 use Rattle.afr_lines.specs.declared.line.Line.{Line}
 use Rattle.afr_lines.specs.declared.line.Line.TheVariants.{Ask, Begin, HealBegin, End, HealEnd, Event}
 use Rattle.afr_lines.specs.declared.request.Area.{Area}
 use Rattle.afr_lines.specs.declared.request.Area.TheVariants.{Range, Name}
 use Rattle.afr_lines.specs.declared.request.Request.TheVariants.{Lock, Unlock}
-use Rattle.afr_range_locks.specs.Locks.{same_domain, conflicts, first_conflict}
-use Rattle.afr_range_locks.specs.declared.held.HeldLock.{HeldLock}
-use Rattle.afr_name_locks.specs.Names.{same_name}
+use Rattle.afr_lines.specs.Locks.{same_domain, conflicts, first_conflict, same_name}
+use Rattle.afr_lines.specs.declared.lock.HeldLock.{HeldLock}
 use Rattle.afr_lines.specs.Overlap.{same_area, overlap}
 use Rattle.afr_model.specs.Locks.{releases, outlives, granted_by_line, locks_held}
 use Rattle.afr_model.specs.Sessions.{ends_session}

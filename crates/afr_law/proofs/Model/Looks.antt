@@ -20,7 +20,7 @@ use Rattle.afr_lines.specs.declared.answer.Told.TheVariants.{Seen, NoObject}
 use Rattle.afr_lines.specs.declared.line.Line.{Line}
 use Rattle.afr_lines.specs.declared.line.Line.TheVariants.{Ask}
 use Rattle.afr_lines.specs.declared.request.Request.TheVariants as request
-use Rattle.afr_range_locks.specs.declared.domain.Domain.TheVariants.{Work as WorkDomain}
+use Rattle.afr_lines.specs.declared.lock.Domain.TheVariants.{Work as WorkDomain}
 use Rattle.afr_model.specs.Safe.{log_before}
 use Rattle.afr_model.specs.Showing.{look_shows, looked_after, looked_by}
 use Rattle.afr_law.proofs.Model.Cells.{below_length}

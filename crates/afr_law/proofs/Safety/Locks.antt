@@ -1,13 +1,13 @@
 -- A lock that is held keeps others out, from its Lock line on.
 use Rattle.afr_lines.specs.declared.fault.Fault.TheVariants.{Fail, Lost}
 use Rattle.afr_lines.specs.declared.fault.Fault.{Fault}
-use Rattle.afr_range_locks.specs.Locks.{same_domain}
+use Rattle.afr_lines.specs.Locks.{same_domain}
 use Rattle.afr_lines.specs.Overlap.{overlap}
 use Rattle.std.proofs.Common.{◌≡◌, ℕ, zero, suc, ◌<◌, ◌≤◌, Bool, true, false, ◌&&◌, ◌||◌, not, ◌⊎◌, inl, inr, refl, sym, ap, subst, arith, ◌∙◌}
 use Rattle.std.specs.Prelude.{Option, None, Some, ◌==◌, nat_lt, if◌then◌else◌}
 use Rattle.std.proofs.lemmas.Bool.Decides.{nat_tests}
-use Rattle.afr_range_locks.specs.declared.domain.Domain.{Domain}
-use Rattle.afr_range_locks.specs.declared.domain.Domain.TheVariants.{Work}
+use Rattle.afr_lines.specs.declared.lock.Domain.{Domain}
+use Rattle.afr_lines.specs.declared.lock.Domain.TheVariants.{Work}
 use Rattle.afr_lines.specs.declared.request.Area.{Area}
 use Rattle.afr_lines.specs.declared.request.Request.TheVariants.{Lock}
 use Rattle.afr_lines.specs.declared.answer.Told.TheVariants.{Granted}

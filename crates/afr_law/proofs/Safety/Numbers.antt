@@ -11,7 +11,7 @@ use Rattle.std.proofs.lemmas.Bool.Decides.{nat_tests}
 use Rattle.afr_base.specs.declared.ids.Kind.{Kind}
 use Rattle.afr_object.specs.declared.entry.View.{View}
 use Rattle.afr_object.specs.declared.change.Change.{Change}
-use Rattle.afr_range_locks.specs.declared.domain.Domain.TheVariants.{Heal}
+use Rattle.afr_lines.specs.declared.lock.Domain.TheVariants.{Heal}
 use Rattle.afr_lines.specs.declared.request.Area.{Area}
 use Rattle.afr_lines.specs.declared.request.Request.{Request}
 use Rattle.afr_lines.specs.declared.request.Request.TheVariants.{Lock, Apply}

@@ -21,7 +21,7 @@ use Rattle.afr_moves.specs.Honest.{Honest, HonestAsk, HonestLine, asked}
 use Rattle.afr_moves.specs.Lines.{ask_by}
 use Rattle.afr_moves.specs.Past.{Beginning, Log, before, ends, frees, grants, held, is_gone, joined, opening, unlocks}
 use Rattle.afr_moves.specs.Sets.{without}
-use Rattle.afr_range_locks.specs.declared.domain.Domain.{Domain}
+use Rattle.afr_lines.specs.declared.lock.Domain.{Domain}
 use Rattle.std.proofs.lemmas.Bool.{or_parts}
 use Rattle.afr_law.proofs.Safety.Locks.{Grant, before_is, held_past, step_cases}
 

@@ -17,7 +17,7 @@ use Rattle.afr_lines.specs.declared.request.Request.{Request}
 use Rattle.afr_lines.specs.declared.request.Request.TheVariants.{Lock, Mend, ReadAttrs, Unlock}
 use Rattle.afr_object.specs.declared.change.Repair.TheVariants.{PutAttrs}
 use Rattle.afr_object.specs.declared.entry.View.{View}
-use Rattle.afr_range_locks.specs.declared.domain.Domain.TheVariants.{Heal, Work}
+use Rattle.afr_lines.specs.declared.lock.Domain.TheVariants.{Heal, Work}
 use Rattle.std.proofs.Common.{Bool, [], arith, false, inr, refl, true, ℕ, ◌+◌, ◌∷◌, ◌≡◌}
 use Rattle.std.specs.Prelude.{slice_get, ◌^◌}
 use Rattle.afr_lines.specs.declared.reply.HealReply.TheVariants.{Settled}

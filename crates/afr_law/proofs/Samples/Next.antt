@@ -18,7 +18,7 @@ use Rattle.afr_object.specs.declared.change.Change.{Change}
 use Rattle.afr_object.specs.declared.change.Change.TheVariants.{SetAttr}
 use Rattle.afr_object.specs.declared.entry.View.{View}
 use Rattle.afr_plan.specs.declared.plan.Plan.{Plan}
-use Rattle.afr_range_locks.specs.declared.domain.Domain.TheVariants.{Work}
+use Rattle.afr_lines.specs.declared.lock.Domain.TheVariants.{Work}
 use Rattle.std.proofs.Common.{Bool, List, [], arith, false, inl, inr, not, refl, subst, sym, true, true≢false, ℕ, ◌&&◌, ◌+◌, ◌<◌, ◌∷◌, ◌≡◌}
 use Rattle.std.proofs.lemmas.Bool.Decides.{nat_tests}
 use Rattle.std.specs.Prelude.{None, Some, if◌then◌else◌, nat_lt, ◌==◌, ◌^◌}

@@ -1,9 +1,8 @@
 //! One log, in which each public call has its part.
 use afr_base::{ActorId, AllMarks, BrickId, Gfid, NameId, NoMemory, What};
-use afr_lines::{Answer, Area, Event, Line, Request, Told};
+use afr_lines::{Answer, Area, Domain, Event, Line, Request, Told};
 use afr_log::Log;
 use afr_object::View;
-use afr_range_locks::Domain;
 use std::alloc::Global;
 use std::test::Fail;
 

@@ -1,7 +1,8 @@
 //! One table of locks on names, in which each public call has its part.
 use afr_base::{ActorId, Gfid, NameId};
+use afr_lines::Domain;
 use afr_name_locks::NameLocks;
-use afr_range_locks::{Domain, Got};
+use afr_range_locks::Got;
 
 const ROOT: Gfid = Gfid(1);
 

@@ -1,6 +1,7 @@
 //! One table of locks on ranges, in which each public call has its part.
 use afr_base::{ActorId, Gfid};
-use afr_range_locks::{Domain, Got, RangeLocks};
+use afr_lines::Domain;
+use afr_range_locks::{Got, RangeLocks};
 
 const FILE: Gfid = Gfid(18_446_744_073_709_551_617);
 

@@ -10,7 +10,7 @@ use Rattle.afr_heal.specs.declared.coming.Coming.TheVariants as coming
 use Rattle.afr_lines.specs.declared.request.Area.{Area}
 use Rattle.afr_lines.specs.declared.request.Request.TheVariants.{Lock}
 use Rattle.afr_moves.specs.Keeps.{keeps_in}
-use Rattle.afr_range_locks.specs.declared.domain.Domain.TheVariants.{Work}
+use Rattle.afr_lines.specs.declared.lock.Domain.TheVariants.{Work}
 
 pub returns-in-Some : goal.returns-in-Some
 returns-in-Some c =

@@ -1,6 +1,6 @@
 -- What the search for a lock that is in the way knows on its way.
 use Rattle.std.proofs.Common.{◌≡◌, drop}
-use Rattle.afr_range_locks.specs.Locks.{first_conflict}
+use Rattle.afr_lines.specs.Locks.{first_conflict}
 use Rattle.afr_range_locks.proofs.held.blocked_by.Given as goal
 
 -- the first lock in the way is among those that are left

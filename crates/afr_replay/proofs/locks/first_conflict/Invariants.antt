@@ -1,6 +1,6 @@
 use Rattle.std.proofs.Common.{◌≡◌, drop}
 use Rattle.afr_lines.specs.Overlap.{overlap}
-use Rattle.afr_range_locks.specs.Locks.{first_conflict}
+use Rattle.afr_lines.specs.Locks.{first_conflict}
 use Rattle.afr_replay.proofs.locks.first_conflict.Given as goal
 
 abbrev pub invariant-loop-lock : goal.invariant-loop-lock

@@ -1,7 +1,7 @@
 -- The locks of all others are left, and are apart as before.
 use Rattle.std.proofs.Common.{rules, ◌≡◌, ◌∙◌, ap}
 use Rattle.std.proofs.lemmas.Fn.{filter_same}
-use Rattle.afr_range_locks.specs.Locks.{without_owner}
+use Rattle.afr_lines.specs.Locks.{without_owner}
 use Rattle.afr_range_locks.proofs.ApartLemmas.{left_over}
 use Rattle.afr_range_locks.proofs.held.HeldLocks.drop_owner.Goals as goal
 

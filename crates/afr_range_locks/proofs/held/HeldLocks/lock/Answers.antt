@@ -1,6 +1,6 @@
 -- A lock that is granted has none in its way.
 use Rattle.std.proofs.Common.{rules, ◌≡◌, None}
-use Rattle.afr_range_locks.specs.Locks.{first_conflict}
+use Rattle.afr_lines.specs.Locks.{first_conflict}
 use Rattle.afr_range_locks.proofs.ApartLemmas.{pushed}
 use Rattle.afr_range_locks.proofs.held.HeldLocks.lock.Goals as goal
 

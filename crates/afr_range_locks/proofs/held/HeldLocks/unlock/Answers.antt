@@ -1,7 +1,7 @@
 -- All but the released lock are left, and are apart as before.
 use Rattle.std.proofs.Common.{rules, ◌≡◌, ◌∙◌, ap}
 use Rattle.std.proofs.lemmas.Fn.{filter_same}
-use Rattle.afr_range_locks.specs.Locks.{unlocked}
+use Rattle.afr_lines.specs.Locks.{unlocked}
 use Rattle.afr_range_locks.proofs.ApartLemmas.{left_over}
 use Rattle.afr_range_locks.proofs.held.HeldLocks.unlock.Goals as goal
 
