@@ -27,7 +27,7 @@ use Rattle.afr_moves.specs.Past.{Log, changes, leaves_of, value}
 use Rattle.afr_moves.specs.Positions.{by_position}
 use Rattle.afr_object.specs.Tables.{Table, copy_at, opening}
 use Rattle.afr_object.specs.declared.entry.Entry.{Entry as NameEntry}
-use Rattle.afr_object.specs.declared.object.Object.{Object}
+use Rattle.afr_object.specs.Object.{Object}
 use Rattle.afr_plan.specs.declared.plan.Plan.{Plan}
 use Rattle.afr_tables.proofs.Entries.{entry_some}
 use Rattle.afr_tables.proofs.Values.{code_of}

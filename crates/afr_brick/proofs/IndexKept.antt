@@ -8,7 +8,7 @@ use Rattle.std.specs.Map.{keys_of, remove_entry}
 use Rattle.afr_base.specs.declared.ids.Gfid.{Gfid}
 use Rattle.afr_base.specs.declared.ids.NameId.{NameId}
 use Rattle.afr_base.specs.declared.ids.What.{What}
-use Rattle.afr_content.specs.Bytes.{copied_in, written}
+use Rattle.afr_object.specs.Bytes.{copied_in, written}
 use Rattle.afr_index.specs.Listed.{Listed}
 use Rattle.afr_object.specs.Indexed.{index_of}
 use Rattle.afr_object.specs.Repairs.{Contents, all_made, mended, renamed, with_attrs}
@@ -19,7 +19,7 @@ use Rattle.afr_object.specs.declared.change.Change.TheVariants.{Write, Cut, SetA
 use Rattle.afr_object.specs.declared.change.Repair.{Repair}
 use Rattle.afr_object.specs.declared.change.Repair.TheVariants.{CutTo, Copy, PutAttrs, PutNames}
 use Rattle.afr_object.specs.declared.entry.Entry.{Entry}
-use Rattle.afr_object.specs.declared.object.Object.{Object}
+use Rattle.afr_object.specs.Object.{Object}
 use Rattle.afr_brick.specs.Followed.{Follows, IsIndexOf, relisted}
 use Rattle.afr_object.specs.State.{Copies}
 use Rattle.afr_object.specs.TablesLemmas.{copy_at-changed}

@@ -13,7 +13,7 @@ use Rattle.afr_base.specs.declared.ids.What.{What}
 use Rattle.afr_index.specs.Listed.{Listed}
 use Rattle.afr_object.specs.Indexed.{index_of}
 use Rattle.afr_object.specs.Tables.{Table, changed, copy_at, gfid_cmp, made, new_object, with_copy}
-use Rattle.afr_object.specs.declared.object.Object.{Object}
+use Rattle.afr_object.specs.Object.{Object}
 use Rattle.afr_brick.specs.Followed.{relisted}
 use Rattle.afr_object.specs.TablesLemmas.{same_gfid}
 

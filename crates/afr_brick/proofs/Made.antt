@@ -7,7 +7,7 @@ use Rattle.afr_base.specs.declared.ids.Gfid.{Gfid}
 use Rattle.afr_base.specs.declared.ids.NameId.{NameId}
 use Rattle.afr_base.specs.declared.ids.What.{What}
 use Rattle.afr_object.specs.Tables.{Table, changed, copy_at, gfid_cmp, linked, name_cmp, new_object, with_copy, with_names}
-use Rattle.afr_object.specs.declared.object.Object.{Object}
+use Rattle.afr_object.specs.Object.{Object}
 use Rattle.afr_object.specs.State.{Copies}
 use Rattle.afr_object.specs.TablesLemmas.{copy_at-insert_entry, copy_at-with_copy, with_copy-insert_entry}
 

@@ -12,7 +12,7 @@ use Rattle.afr_base.specs.declared.ids.What.{What}
 use Rattle.afr_object.specs.Repairs.{all_made, renamed}
 use Rattle.afr_object.specs.Tables.{Table, changed, copy_at, gfid_cmp, made, new_object, with_copy, with_names}
 use Rattle.afr_object.specs.declared.entry.Entry.{Entry}
-use Rattle.afr_object.specs.declared.object.Object.{Object}
+use Rattle.afr_object.specs.Object.{Object}
 use Rattle.afr_object.specs.TablesLemmas.{copy_at-with_copy, with_copy-insert_entry}
 use Rattle.afr_brick.specs.Undone.{without}
 use Rattle.afr_brick.proofs.Made.{still_there}

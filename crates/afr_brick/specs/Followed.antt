@@ -7,7 +7,7 @@ use Rattle.afr_base.specs.declared.ids.Gfid.{Gfid}
 use Rattle.afr_index.specs.Listed.{Listed}
 use Rattle.afr_object.specs.Indexed.{index_of}
 use Rattle.afr_object.specs.Tables.{Table, gfid_cmp}
-use Rattle.afr_object.specs.declared.object.Object.{Object}
+use Rattle.afr_object.specs.Object.{Object}
 
 -- an index that is kept lists the objects with a number above 0, and no other
 abbrev pub IsIndexOf : Table → Option Listed → Type 0

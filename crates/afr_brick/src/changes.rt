@@ -2,14 +2,15 @@
 ghost use Rattle.std.specs.Prelude.{◌≡◌, ◌≢◌, ◌+◌, ◌≤◌, ◌↔◌, None, true, false, IfSome, OnOk, OnErr, is_some, length, take};
 ghost use Rattle.std.specs.BTreeMap.{insert_entry, is_at};
 ghost use Rattle.std.specs.Map.{remove_entry};
-ghost use Rattle.afr_content.specs.Bytes.{written};
+ghost use Rattle.afr_object.specs.Bytes.{written};
 ghost use Rattle.afr_object.specs.State.{CanApply, takes_memory};
 ghost use Rattle.afr_object.specs.Tables.{applied, changed, copy_at, gfid_cmp, linked, name_cmp, new_object, object_of, with_attr, with_bytes, with_names};
 
+use crate::object::Object;
 use crate::refused::Refused;
 use crate::store::Store;
 use afr_base::{Gfid, KeyId, NameId, NoMemory, ValueId, What};
-use afr_object::{Change, Chunk, Entry, Object};
+use afr_object::{Change, Chunk, Entry};
 
 impl Store {
     /// Carries a change out. A change of bytes leaves a directory as it is, a change of names leaves

@@ -3,10 +3,10 @@ ghost use Rattle.std.specs.Prelude.{◌≡◌, Some, IfSome, option_map};
 ghost use Rattle.afr_brick.specs.Followed.{Follows, relisted};
 ghost use Rattle.afr_object.specs.Tables.{copy_at};
 
+use crate::object::Object;
 use crate::store::Store;
 use afr_base::Gfid;
 use afr_index::Index;
-use afr_object::Object;
 
 /// Lists the copy where it has a number above zero, and takes it away where it has none. An index
 /// that can't grow for want of memory is given up.

@@ -5,6 +5,7 @@ mod brick;
 mod changes;
 mod index;
 mod numbers;
+mod object;
 mod reads;
 mod refused;
 mod repairs;

@@ -2,16 +2,17 @@
 ghost use Rattle.std.specs.Prelude.{◌≡◌, ◌≢◌, ◌+◌, ◌≤◌, ◌↔◌, None, true, IfSome, OnOk, OnErr, is_some, length, reverse};
 ghost use Rattle.std.specs.List.Sorted.{IsStrictlySortedBy};
 ghost use Rattle.std.specs.Map.{keys_of};
-ghost use Rattle.afr_content.specs.Bytes.{copied_in};
+ghost use Rattle.afr_object.specs.Bytes.{copied_in};
 ghost use Rattle.afr_object.specs.State.{CanRepair, IsInOrder, contents_of, repair_takes_memory};
 ghost use Rattle.afr_brick.specs.Undone.{without};
 ghost use Rattle.afr_object.specs.Repairs.{all_made, mended, renamed, repaired, with_attrs};
 ghost use Rattle.afr_object.specs.Tables.{changed, copy_at, key_cmp, made, name_cmp, with_bytes, with_names};
 
+use crate::object::Object;
 use crate::refused::Refused;
 use crate::store::Store;
 use afr_base::{Gfid, NameId, NoMemory, What};
-use afr_object::{AttrList, Entry, Load, NameList, Object, Repair, SortedMap};
+use afr_object::{AttrList, Entry, Load, NameList, Repair, SortedMap};
 
 impl Store {
     /// Carries a repair out with the contents that go with it. Contents of another sort change

@@ -4,8 +4,9 @@ ghost use Rattle.afr_object.specs.State.{Copies};
 ghost use Rattle.afr_object.specs.Indexed.{index_of};
 ghost use Rattle.afr_object.specs.Tables.{copy_at, opening, view_of};
 
+use crate::object::Object;
 use afr_base::{Gfid, NoMemory, What};
-use afr_object::{IndexList, List, Object, View};
+use afr_object::{IndexList, List, View};
 use std::alloc::Global;
 use std::collections::BTreeMap;
 use std::marker::Model;

@@ -10,7 +10,7 @@ use Rattle.afr_base.specs.declared.ids.NameId.{NameId}
 use Rattle.afr_base.specs.declared.marks.Marks.{Marks}
 use Rattle.afr_object.specs.Tables.{Table, copy_at, view_of}
 use Rattle.afr_object.specs.declared.change.Repair.{Repair}
-use Rattle.afr_object.specs.declared.object.Object.{Object}
+use Rattle.afr_object.specs.Object.{Object}
 use Rattle.afr_lines.specs.Told.{told_by}
 use Rattle.afr_lines.specs.declared.answer.Answer.{Answer}
 use Rattle.afr_lines.specs.declared.answer.Answer.TheVariants as answer

@@ -1,6 +1,6 @@
 //! Writing, clearing and reading a range of a list of bytes, and what each byte becomes.
 ghost use Rattle.std.specs.Prelude.{◌≡◌, ℕ, List, ◌+◌, ◌-◌, ◌≤◌, length, take, drop, min, nat_lt, if◌then◌else◌, OnOk, OnErr};
-ghost use Rattle.afr_content.specs.Bytes.{written, zeroed, copied_in, byte_at, is_within};
+ghost use Rattle.afr_object.specs.Bytes.{written, zeroed, copied_in, byte_at, is_within};
 
 use crate::content::NoMemory;
 

@@ -1,6 +1,6 @@
 //! A file's content, seen by contracts as a list of bytes.
 ghost use Rattle.std.specs.Prelude.{◌≡◌, ◌+◌, ◌-◌, ◌≤◌, [], length, take, drop, min, OnOk, OnErr};
-ghost use Rattle.afr_content.specs.Bytes.{written, copied_in};
+ghost use Rattle.afr_object.specs.Bytes.{written, copied_in};
 
 use crate::bytes::{put, take_from, zero};
 use std::alloc::{AllocError, Global};

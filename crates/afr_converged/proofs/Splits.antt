@@ -11,7 +11,7 @@ use Rattle.afr_choice.specs.Verdict.{accuses_at, copies_of, good_copies, is_copy
 use Rattle.afr_choice.specs.VerdictLemmas.{good_are_copies, good_below, member_copies, nobody_accuses}
 use Rattle.afr_choice.specs.declared.looked.Looked.{Looked}
 use Rattle.afr_object.specs.Tables.{copy_at, view_of}
-use Rattle.afr_object.specs.declared.object.Object.{Object}
+use Rattle.afr_object.specs.Object.{Object}
 use Rattle.afr_lines.specs.declared.line.Line.{Line}
 use Rattle.afr_plan.specs.declared.plan.Plan.{Plan}
 use Rattle.afr_model.specs.Safe.{accuses}

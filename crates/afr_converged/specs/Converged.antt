@@ -11,7 +11,7 @@ use Rattle.afr_base.specs.declared.ids.What.{What}
 use Rattle.afr_object.specs.Repairs.{Contents}
 use Rattle.afr_object.specs.Repairs as contents
 use Rattle.afr_object.specs.Tables.{copy_at}
-use Rattle.afr_object.specs.declared.object.Object.{Object}
+use Rattle.afr_object.specs.Object.{Object}
 use Rattle.afr_lines.specs.Log.{EachLine, EveryPrefix}
 use Rattle.afr_lines.specs.Work.{ended, work}
 use Rattle.afr_lines.specs.declared.line.Line.{Line}

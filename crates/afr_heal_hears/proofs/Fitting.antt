@@ -53,7 +53,7 @@ use Rattle.afr_object.specs.Indexed.{index_of}
 use Rattle.afr_object.specs.Repairs.{repaired}
 use Rattle.afr_object.specs.Tables.{copy_at, view_of}
 use Rattle.afr_object.specs.declared.entry.View.{View}
-use Rattle.afr_object.specs.declared.object.Object.{Object}
+use Rattle.afr_object.specs.Object.{Object}
 use Rattle.afr_plan.specs.declared.plan.Plan.{Plan}
 use Rattle.afr_self_heal.specs.Healing.{CanHear, IsShowable, IsTellable}
 use Rattle.afr_self_heal.specs.declared.outcome.Outcome.{Outcome as HealOutcome}

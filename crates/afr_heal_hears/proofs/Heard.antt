@@ -33,7 +33,7 @@ use Rattle.afr_moves.specs.Register.{Exact, is_opening, rank, same_step, whole_a
 use Rattle.afr_moves.specs.Sets.{empty}
 use Rattle.afr_object.specs.Repairs.{repaired}
 use Rattle.afr_object.specs.Tables.{Table, copy_at, view_of}
-use Rattle.afr_object.specs.declared.object.Object.{Object}
+use Rattle.afr_object.specs.Object.{Object}
 use Rattle.afr_lines.specs.declared.lock.Domain.TheVariants.{Heal, Work}
 use Rattle.afr_self_heal.specs.Contents.{kept}
 use Rattle.afr_self_heal.specs.declared.contents.Contents.{Contents}

@@ -41,7 +41,7 @@ use Rattle.afr_moves.specs.Note.{fails, given, is_given}
 use Rattle.afr_moves.specs.Register.{Exact, Finish, Looks, Opening, Phase, Piece, Reads, asked_in, is_opening, over, rank, same_step, span}
 use Rattle.afr_moves.specs.Steps.{reads_at, turn}
 use Rattle.afr_object.specs.Tables.{Table, copy_at}
-use Rattle.afr_object.specs.declared.object.Object.{Object}
+use Rattle.afr_object.specs.Object.{Object}
 use Rattle.afr_plan.specs.declared.plan.Plan.{Plan}
 use Rattle.afr_self_heal.specs.Contents.{kept}
 use Rattle.afr_self_heal.specs.Healing.{Healing, IsHealing, answered}

@@ -43,7 +43,7 @@ use Rattle.afr_moves.specs.Rules.{is_none}
 use Rattle.afr_moves.specs.Steps.{onward, reads_at, turn}
 use Rattle.afr_object.specs.Tables.{copy_at}
 use Rattle.afr_object.specs.declared.entry.View.{View}
-use Rattle.afr_object.specs.declared.object.Object.{Object}
+use Rattle.afr_object.specs.Object.{Object}
 use Rattle.afr_plan.specs.declared.plan.Plan.{Plan}
 use Rattle.afr_tables.specs.Codes.{kept_by}
 use Rattle.afr_tables.specs.TableLaws.{copy_stays}

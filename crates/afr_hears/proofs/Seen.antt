@@ -23,7 +23,7 @@ use Rattle.afr_model.specs.Sums.{has_object}
 use Rattle.afr_model.specs.Tables.{holds}
 use Rattle.afr_object.specs.Tables.{copy_at}
 use Rattle.afr_object.specs.declared.entry.View.{View}
-use Rattle.afr_object.specs.declared.object.Object.{Object}
+use Rattle.afr_object.specs.Object.{Object}
 use Rattle.afr_plan.specs.declared.plan.Plan.{Plan}
 use Rattle.afr_lines.specs.declared.lock.Domain.TheVariants.{Work as WorkDomain}
 use Rattle.afr_tables.specs.CopyLaws.{gfid_is}

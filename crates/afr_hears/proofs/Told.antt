@@ -31,7 +31,7 @@ use Rattle.afr_object.specs.Tables.{copy_at, key_cmp, name_cmp}
 use Rattle.afr_object.specs.declared.change.Change.{Change}
 use Rattle.afr_object.specs.declared.entry.Entry.{Entry}
 use Rattle.afr_object.specs.declared.entry.View.{View}
-use Rattle.afr_object.specs.declared.object.Object.{Object}
+use Rattle.afr_object.specs.Object.{Object}
 use Rattle.afr_plan.specs.declared.plan.Plan.{Plan}
 use Rattle.afr_transaction_tells.proofs.HonestFits.{honest_fits, honest_phases}
 use Rattle.afr_transaction_tells.specs.Fits.{FitsPhase}

@@ -7,7 +7,7 @@ use Rattle.afr_base.specs.Marks.{is_no_marks}
 use Rattle.afr_object.specs.TablesLemmas.{same_gfid}
 use Rattle.afr_object.specs.Indexed.{index_of}
 use Rattle.afr_object.specs.Tables.{Table, copy_at}
-use Rattle.afr_object.specs.declared.object.Object.{Object}
+use Rattle.afr_object.specs.Object.{Object}
 use Rattle.afr_quiet_lists.proofs.Rises.{AreAbove, Rises}
 use Rattle.afr_waits.proofs.Circle.{In}
 

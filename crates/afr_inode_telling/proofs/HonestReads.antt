@@ -16,7 +16,7 @@ use Rattle.afr_lines.specs.declared.line.Line.TheVariants.{Ask}
 use Rattle.afr_lines.specs.declared.request.Request.{Request}
 use Rattle.afr_lines.specs.declared.request.Request.TheVariants.{Look, ReadName, ReadBytes, ReadAttr, List as ListNames}
 use Rattle.afr_object.specs.Tables.{Table, copy_at, key_cmp, name_cmp}
-use Rattle.afr_object.specs.declared.object.Object.{Object}
+use Rattle.afr_object.specs.Object.{Object}
 use Rattle.afr_model.specs.Honest.{Outcome, copy_answer, fault_in, is_live, over_session, requests_to, tells}
 use Rattle.afr_model.specs.Tables.{holds}
 use Rattle.afr_walk.specs.Free.{is_free}

@@ -10,7 +10,7 @@ use Rattle.afr_base.specs.declared.ids.Gfid.{Gfid}
 use Rattle.afr_base.specs.declared.ids.NameId.{NameId}
 use Rattle.afr_base.specs.declared.ids.Shape.{Shape}
 use Rattle.afr_object.specs.Tables.{Table, copy_at, key_cmp}
-use Rattle.afr_object.specs.declared.object.Object.{Object}
+use Rattle.afr_object.specs.Object.{Object}
 use Rattle.afr_choice.specs.declared.looked.Looked.{Looked}
 use Rattle.afr_lines.specs.Told.{told_by}
 use Rattle.afr_lines.specs.Work.{Work}

@@ -13,7 +13,7 @@ use Rattle.afr_base.specs.declared.ids.NameId.{NameId}
 use Rattle.afr_base.specs.declared.ids.Shape.{Shape}
 use Rattle.afr_object.specs.Tables.{is_dir, copy_at, name_cmp, root_entry}
 use Rattle.afr_object.specs.declared.entry.Entry.{Entry}
-use Rattle.afr_object.specs.declared.object.Object.{Object}
+use Rattle.afr_object.specs.Object.{Object}
 use Rattle.afr_choice.specs.Verdict.{verdict_of}
 use Rattle.afr_choice.specs.VerdictLemmas.{sources_say}
 use Rattle.afr_choice.specs.declared.looked.Looked.{Looked}

@@ -15,7 +15,7 @@ use Rattle.afr_model.specs.Tables.{entry_at, held_before, holds}
 use Rattle.afr_object.specs.Tables.{Table, copy_at, root}
 use Rattle.afr_object.specs.declared.entry.Entry.{Entry}
 use Rattle.afr_object.specs.declared.entry.View.{View}
-use Rattle.afr_object.specs.declared.object.Object.{Object}
+use Rattle.afr_object.specs.Object.{Object}
 use Rattle.afr_plan.specs.declared.plan.Plan.{Plan}
 use Rattle.afr_law.specs.Exactly.{IsLawfulExactly}
 

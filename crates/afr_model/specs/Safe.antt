@@ -6,7 +6,7 @@ use Rattle.afr_base.specs.Majority.{is_majority}
 use Rattle.afr_base.specs.declared.ids.Gfid.{Gfid}
 use Rattle.afr_base.specs.declared.ids.Kind.{Kind}
 use Rattle.afr_base.specs.Keeping.{keeps}
-use Rattle.afr_content.specs.Bytes.{is_within}
+use Rattle.afr_object.specs.Bytes.{is_within}
 use Rattle.afr_lines.specs.Log.{EveryPrefix, EachLine}
 use Rattle.afr_lines.specs.Work.{Work, work}
 use Rattle.afr_lines.specs.declared.answer.Told.TheVariants.{Given}

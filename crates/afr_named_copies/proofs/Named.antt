@@ -10,7 +10,7 @@ use Rattle.afr_base.specs.declared.ids.NameId.{NameId}
 use Rattle.afr_base.specs.declared.ids.What.{What}
 use Rattle.afr_base.specs.declared.ids.What.TheVariants.{File, Dir}
 use Rattle.afr_base.specs.declared.marks.Marks.{Marks}
-use Rattle.afr_content.specs.Bytes.{copied_in, written}
+use Rattle.afr_object.specs.Bytes.{copied_in, written}
 use Rattle.afr_object.specs.Repairs.{Contents, Bytes, Attrs, Names, all_made, mended, renamed, with_attrs}
 use Rattle.afr_object.specs.Tables.{Table, applied, changed, copy_at, is_dir, is_file, linked, made, name_cmp, new_object, opening, opening_gfid, root, with_attr, with_bytes, with_copy, with_names, with_numbers}
 use Rattle.afr_object.specs.declared.change.Change.{Change}
@@ -18,7 +18,7 @@ use Rattle.afr_object.specs.declared.change.Change.TheVariants.{Write, Cut, SetA
 use Rattle.afr_object.specs.declared.change.Repair.{Repair}
 use Rattle.afr_object.specs.declared.change.Repair.TheVariants.{CutTo, Copy, PutAttrs, PutNames}
 use Rattle.afr_object.specs.declared.entry.Entry.{Entry}
-use Rattle.afr_object.specs.declared.object.Object.{Object}
+use Rattle.afr_object.specs.Object.{Object}
 use Rattle.afr_lines.specs.Log.{change_at}
 use Rattle.afr_lines.specs.declared.line.Line.{Line}
 use Rattle.afr_lines.specs.declared.line.Line.TheVariants.{Ask}

@@ -6,12 +6,12 @@ use Rattle.afr_base.specs.declared.ids.Gfid.{Gfid}
 use Rattle.afr_base.specs.declared.ids.KeyId.{KeyId}
 use Rattle.afr_base.specs.declared.ids.NameId.{NameId}
 use Rattle.afr_base.specs.declared.ids.ValueId.{ValueId}
-use Rattle.afr_content.specs.Bytes.{copied_in}
+use Rattle.afr_object.specs.Bytes.{copied_in}
 use Rattle.afr_object.specs.Tables.{Table, changed, copy_at, is_dir, made, name_cmp, with_bytes, with_copy, with_names}
 use Rattle.afr_object.specs.declared.change.Repair.{Repair}
 use Rattle.afr_object.specs.declared.change.Repair.TheVariants.{CutTo, Copy, PutAttrs, PutNames}
 use Rattle.afr_object.specs.declared.entry.Entry.{Entry}
-use Rattle.afr_object.specs.declared.object.Object.{Object}
+use Rattle.afr_object.specs.Object.{Object}
 
 -- of two entries the one that stands has the greater gfid; of one gfid that of a directory
 abbrev pub outranks : Entry → Entry → Bool

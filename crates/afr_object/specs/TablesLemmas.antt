@@ -8,7 +8,7 @@ use Rattle.std.specs.Map.{set_value, remove_entry}
 use Rattle.afr_base.specs.declared.ids.Gfid.{Gfid}
 use Rattle.afr_base.specs.declared.ids.What.{What}
 use Rattle.afr_object.specs.Tables.{Table, changed, copy_at, gfid_cmp, made, new_object, with_copy}
-use Rattle.afr_object.specs.declared.object.Object.{Object}
+use Rattle.afr_object.specs.Object.{Object}
 
 -- A look-up for a gfid passes exactly the keys with its number.
 pub same_gfid : (g k : Gfid) → is_at (gfid_cmp g) k ≡ (g.0 == k.0)

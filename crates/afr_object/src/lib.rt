@@ -4,7 +4,6 @@
 mod change;
 mod entry;
 mod list;
-mod object;
 mod sorted_map;
 mod try_copy;
 mod views;
@@ -12,7 +11,6 @@ mod views;
 pub use change::{Change, Load, Repair};
 pub use entry::{AttrList, Chunk, Entry, IndexList, NameList, View};
 pub use list::List;
-pub use object::Object;
 pub use sorted_map::SortedMap;
 pub use try_copy::TryCopy;
 pub use views::Views;

@@ -11,7 +11,7 @@ use Rattle.afr_base.specs.declared.ids.What.TheVariants.{Dir, File}
 use Rattle.afr_object.specs.Tables.{new_object, opening_gfid, root}
 use Rattle.afr_object.specs.declared.change.Change.{Change}
 use Rattle.afr_object.specs.declared.change.Change.TheVariants.{Make, Write}
-use Rattle.afr_object.specs.declared.object.Object.{Object}
+use Rattle.afr_object.specs.Object.{Object}
 use Rattle.afr_lines.specs.declared.answer.Told.{Told}
 use Rattle.afr_lines.specs.declared.answer.Told.TheVariants.{Done, Failed, NoObject}
 use Rattle.afr_lines.specs.declared.line.Line.{Line}

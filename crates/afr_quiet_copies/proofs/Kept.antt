@@ -14,7 +14,7 @@ use Rattle.afr_base.specs.declared.ids.Kind.{Kind}
 use Rattle.afr_base.specs.declared.ids.Kind.TheVariants.{Attrs, Bytes, Names}
 use Rattle.afr_choice.specs.Verdict.{good_copies, holders_of}
 use Rattle.afr_object.specs.declared.entry.View.{View}
-use Rattle.afr_object.specs.declared.object.Object.{Object}
+use Rattle.afr_object.specs.Object.{Object}
 use Rattle.afr_object.specs.Tables.{copy_at}
 use Rattle.afr_lines.specs.Log.{EachLine, EveryPrefix}
 use Rattle.afr_lines.specs.Places.{Fresh, Place}

@@ -11,14 +11,14 @@ use Rattle.afr_base.specs.declared.ids.Gfid.{Gfid}
 use Rattle.afr_base.specs.declared.ids.Kind.TheVariants.{Bytes}
 use Rattle.afr_base.specs.declared.ids.NameId.{NameId}
 use Rattle.afr_base.specs.declared.ids.What.{What}
-use Rattle.afr_content.specs.Bytes.{copied_in}
+use Rattle.afr_object.specs.Bytes.{copied_in}
 use Rattle.afr_object.specs.Repairs.{Contents, all_made, mended, renamed, with_attrs}
 use Rattle.afr_object.specs.Repairs as contents
 use Rattle.afr_object.specs.Tables.{Table, changed, copy_at, is_dir, made, new_object, with_bytes, with_copy, with_names, with_numbers}
 use Rattle.afr_object.specs.declared.change.Repair.{Repair}
 use Rattle.afr_object.specs.declared.change.Repair.TheVariants.{Copy, CutTo, PutAttrs, PutNames}
 use Rattle.afr_object.specs.declared.entry.Entry.{Entry}
-use Rattle.afr_object.specs.declared.object.Object.{Object}
+use Rattle.afr_object.specs.Object.{Object}
 use Rattle.afr_lines.specs.declared.line.Line.{Line}
 use Rattle.afr_lines.specs.declared.line.Line.TheVariants.{Ask, Begin, End, Event, HealBegin, HealEnd}
 use Rattle.afr_lines.specs.declared.request.Request.{Request}

@@ -16,7 +16,7 @@ use Rattle.afr_lines.specs.declared.request.Request.TheVariants.{Lock, Unlock, L
 use Rattle.afr_lines.specs.declared.request.Request.TheVariants as request
 use Rattle.afr_object.specs.Repairs.{repaired}
 use Rattle.afr_object.specs.Tables.{copy_at, view_of}
-use Rattle.afr_object.specs.declared.object.Object.{Object}
+use Rattle.afr_object.specs.Object.{Object}
 use Rattle.afr_plan.specs.declared.plan.Plan.{Plan}
 use Rattle.afr_model.specs.Honest.{IsHonest, Outcome, over_session, is_live, fault_in, requests_to, tells, copy_answer, lock_answer, in_the_way}
 use Rattle.afr_model.specs.Showing.{is_fault}

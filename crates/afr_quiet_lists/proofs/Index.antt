@@ -13,7 +13,7 @@ use Rattle.afr_base.specs.declared.marks.Marks.{Marks}
 use Rattle.afr_base.specs.declared.marks.AllMarks.{AllMarks}
 use Rattle.afr_object.specs.Indexed.{index_of}
 use Rattle.afr_object.specs.Tables.{Table, copy_at}
-use Rattle.afr_object.specs.declared.object.Object.{Object}
+use Rattle.afr_object.specs.Object.{Object}
 use Rattle.afr_object.specs.TablesLemmas.{same_gfid}
 use Rattle.afr_moves.proofs.Tests.{three_parts}
 use Rattle.afr_quiet.specs.Undisturbed.{IsListed}

@@ -9,7 +9,7 @@ use Rattle.afr_base.specs.Bricks.{and_left}
 use Rattle.afr_base.specs.declared.ids.Kind.TheVariants.{Names}
 use Rattle.afr_base.specs.declared.ids.NameId.{NameId}
 use Rattle.afr_object.specs.declared.entry.Entry.{Entry}
-use Rattle.afr_content.specs.Bytes.{copied_in}
+use Rattle.afr_object.specs.Bytes.{copied_in}
 use Rattle.afr_lines.specs.declared.fault.Fault.{Fault}
 use Rattle.afr_lines.specs.declared.fault.Fault.TheVariants.{Fail, Lost}
 use Rattle.afr_object.specs.Repairs.{merged, renamed}
@@ -17,7 +17,7 @@ use Rattle.afr_object.specs.Tables.{Table, changed, copy_at, view_of as view_of_
 use Rattle.afr_object.specs.Repairs.{with_attrs}
 use Rattle.afr_object.specs.declared.change.Repair.TheVariants.{Copy, CutTo, PutAttrs, PutNames}
 use Rattle.afr_object.specs.declared.entry.View.{View}
-use Rattle.afr_object.specs.declared.object.Object.{Object}
+use Rattle.afr_object.specs.Object.{Object}
 use Rattle.afr_lines.specs.Log.{from_oldest}
 use Rattle.afr_lines.specs.Told.{told_by}
 use Rattle.afr_lines.specs.declared.answer.Answer.TheVariants as answer

@@ -8,10 +8,10 @@ use Rattle.afr_base.specs.declared.ids.Gfid.{Gfid}
 use Rattle.afr_base.specs.declared.ids.What.{What}
 use Rattle.afr_base.specs.declared.ids.What.TheVariants.{Dir, File}
 use Rattle.afr_object.specs.TablesLemmas.{copy_at-changed}
-use Rattle.afr_content.specs.Bytes.{written}
-use Rattle.afr_content.specs.BytesLemmas.{length-written}
+use Rattle.afr_object.specs.Bytes.{written}
+use Rattle.afr_object.specs.BytesLemmas.{length-written}
 use Rattle.afr_object.specs.Tables.{Table, changed, copy_at, is_file, with_bytes}
-use Rattle.afr_object.specs.declared.object.Object.{Object}
+use Rattle.afr_object.specs.Object.{Object}
 use Rattle.afr_lines.specs.declared.line.Line.{Line}
 use Rattle.afr_model.specs.Tables.{content_in, holds}
 use Rattle.afr_moves.proofs.Tests.{same_self}

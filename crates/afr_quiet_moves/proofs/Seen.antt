@@ -13,7 +13,7 @@ use Rattle.afr_choice.specs.Verdict.{copies_of, is_copy}
 use Rattle.afr_choice.specs.VerdictLemmas.{copies_below, member_copies}
 use Rattle.afr_choice.specs.declared.looked.Looked.{Looked}
 use Rattle.afr_object.specs.declared.entry.View.{View}
-use Rattle.afr_object.specs.declared.object.Object.{Object}
+use Rattle.afr_object.specs.Object.{Object}
 use Rattle.afr_lines.specs.declared.answer.Told.{Told}
 use Rattle.afr_lines.specs.declared.answer.Told.TheVariants.{NoObject, Seen}
 use Rattle.afr_lines.specs.declared.line.Line.{Line}

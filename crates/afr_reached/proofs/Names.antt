@@ -15,7 +15,7 @@ use Rattle.afr_object.specs.Repairs as contents
 use Rattle.afr_object.specs.Tables.{copy_at, is_dir, name_cmp, opening, opening_gfid, root}
 use Rattle.afr_object.specs.declared.change.Change.TheVariants.{Make}
 use Rattle.afr_object.specs.declared.entry.Entry.{Entry}
-use Rattle.afr_object.specs.declared.object.Object.{Object}
+use Rattle.afr_object.specs.Object.{Object}
 use Rattle.afr_lines.specs.declared.line.Line.{Line}
 use Rattle.afr_plan.specs.declared.plan.Plan.{Plan}
 use Rattle.afr_model.specs.Cells.{IsEntry, Name, value_if}

@@ -8,10 +8,10 @@ use Rattle.afr_base.specs.declared.ids.Gfid.{Gfid}
 use Rattle.afr_base.specs.declared.ids.KeyId.{KeyId}
 use Rattle.afr_base.specs.declared.ids.NameId.{NameId}
 use Rattle.afr_base.specs.declared.ids.ValueId.{ValueId}
-use Rattle.afr_content.specs.Bytes.{byte_at}
+use Rattle.afr_object.specs.Bytes.{byte_at}
 use Rattle.afr_object.specs.Tables.{key_cmp, name_cmp}
 use Rattle.afr_object.specs.declared.entry.Entry.{Entry}
-use Rattle.afr_object.specs.declared.object.Object.{Object}
+use Rattle.afr_object.specs.Object.{Object}
 use Rattle.afr_model.specs.Cells.{Byte, Attr, Name, IsByte, IsAttr, IsEntry, value_if}
 use Rattle.std.proofs.lemmas.Option.{same_Some}
 

@@ -1,6 +1,6 @@
 //! Cells, what a change does to them, and what stands there.
 ghost use Rattle.std.specs.Prelude.{◌≡◌, ◌<◌};
-ghost use Rattle.afr_content.specs.Bytes.{byte_at, is_within};
+ghost use Rattle.afr_object.specs.Bytes.{byte_at, is_within};
 ghost use Rattle.afr_model.specs.Cells.{leaves, nothing_in, touches};
 ghost use Rattle.afr_replay.specs.Seen.{cell_of, value_seen};
 

@@ -6,7 +6,7 @@ use Rattle.afr_base.specs.declared.ids.BrickId.{BrickId}
 use Rattle.afr_base.specs.declared.ids.Gfid.{Gfid}
 use Rattle.afr_base.specs.declared.ids.Kind.{Kind}
 use Rattle.afr_base.specs.declared.ids.What.{What}
-use Rattle.afr_object.specs.declared.object.Object.{Object}
+use Rattle.afr_object.specs.Object.{Object}
 use Rattle.afr_lines.specs.Log.{EachLine, EveryPrefix}
 use Rattle.afr_lines.specs.Work.{work}
 use Rattle.afr_lines.specs.declared.line.Line.{Line}

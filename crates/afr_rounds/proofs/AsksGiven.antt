@@ -17,7 +17,7 @@ use Rattle.afr_model.specs.Honest.{IsHonest, Outcome, answer_by, copy_answer, co
 use Rattle.afr_model.specs.Tables.{holds}
 use Rattle.afr_object.specs.Repairs.{repaired}
 use Rattle.afr_object.specs.Tables.{copy_at, view_of}
-use Rattle.afr_object.specs.declared.object.Object.{Object}
+use Rattle.afr_object.specs.Object.{Object}
 use Rattle.afr_plan.specs.declared.plan.Plan.{Plan}
 use Rattle.afr_server.specs.declared.server.Asked.{Asked}
 use Rattle.afr_servers.specs.Needs.{IsRead}

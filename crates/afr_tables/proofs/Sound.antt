@@ -8,15 +8,15 @@ use Rattle.afr_base.specs.declared.ids.Gfid.{Gfid}
 use Rattle.afr_base.specs.declared.ids.NameId.{NameId}
 use Rattle.afr_base.specs.declared.ids.What.{What}
 use Rattle.afr_base.specs.declared.ids.What.TheVariants.{File, Dir}
-use Rattle.afr_content.specs.Bytes.{copied_in, written}
-use Rattle.afr_content.specs.BytesLemmas.{length-copied_in, length-written}
+use Rattle.afr_object.specs.Bytes.{copied_in, written}
+use Rattle.afr_object.specs.BytesLemmas.{length-copied_in, length-written}
 use Rattle.afr_object.specs.Repairs.{Contents, Bytes, Attrs, Names, all_made, mended, renamed, with_attrs}
 use Rattle.afr_object.specs.Tables.{Table, copy_at, changed, with_copy, with_bytes, with_attr, with_names, made, linked, applied, new_object, opening, opening_gfid, root, is_file, is_dir, name_cmp}
 use Rattle.afr_object.specs.declared.change.Change.{Change}
 use Rattle.afr_object.specs.declared.change.Change.TheVariants.{Write, Cut, SetAttr, Make, Remove}
 use Rattle.afr_object.specs.declared.change.Repair.{Repair}
 use Rattle.afr_object.specs.declared.change.Repair.TheVariants.{CutTo, Copy, PutAttrs, PutNames}
-use Rattle.afr_object.specs.declared.object.Object.{Object}
+use Rattle.afr_object.specs.Object.{Object}
 use Rattle.afr_object.specs.TablesLemmas.{same_gfid, copy_at-changed, copy_at-made}
 use Rattle.afr_tables.proofs.Names.{AreRising, rising_inserted, rising_removed}
 use Rattle.afr_tables.specs.Ends.{EndsInTime}

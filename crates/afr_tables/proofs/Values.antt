@@ -12,13 +12,13 @@ use Rattle.afr_base.specs.declared.ids.ValueId.{ValueId}
 use Rattle.afr_base.specs.declared.ids.What.{What}
 use Rattle.afr_base.specs.declared.ids.What.TheVariants.{File, Dir}
 use Rattle.afr_base.specs.declared.ids.Kind.TheVariants.{Bytes}
-use Rattle.afr_content.specs.Bytes.{byte_at, written, is_within}
-use Rattle.afr_content.specs.BytesLemmas.{byte_at-written, byte_at-take}
+use Rattle.afr_object.specs.Bytes.{byte_at, written, is_within}
+use Rattle.afr_object.specs.BytesLemmas.{byte_at-written, byte_at-take}
 use Rattle.afr_object.specs.Tables.{Table, copy_at, changed, with_copy, with_bytes, with_attr, with_names, made, linked, applied, new_object, is_file, is_dir, name_cmp, key_cmp}
 use Rattle.afr_object.specs.declared.change.Change.{Change}
 use Rattle.afr_object.specs.declared.change.Change.TheVariants.{Write, Cut, SetAttr, Make, Remove}
 use Rattle.afr_object.specs.declared.entry.Entry.{Entry as NameEntry}
-use Rattle.afr_object.specs.declared.object.Object.{Object}
+use Rattle.afr_object.specs.Object.{Object}
 use Rattle.afr_object.specs.TablesLemmas.{copy_at-changed, copy_at-made}
 use Rattle.afr_model.specs.Cells.{IsByte, IsAttr, IsEntry, value_if, value_in}
 use Rattle.afr_moves.specs.Cells.{Cell, Byte, Attr, Entry, object_of, kind_of, what_code, entry_code, fits, is_cell, touches, leaves}

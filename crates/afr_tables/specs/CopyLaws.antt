@@ -6,7 +6,7 @@ use Rattle.std.specs.Option.{option_map}
 use Rattle.afr_base.specs.declared.ids.Gfid.{Gfid}
 use Rattle.afr_base.specs.declared.ids.What.{What}
 use Rattle.afr_object.specs.Tables.{Table, copy_at, changed, made, new_object}
-use Rattle.afr_object.specs.declared.object.Object.{Object}
+use Rattle.afr_object.specs.Object.{Object}
 use Rattle.afr_object.specs.TablesLemmas.{copy_at-changed, copy_at-made}
 
 -- ---- an object never goes

@@ -6,14 +6,14 @@ use Rattle.afr_base.specs.declared.ids.KeyId.{KeyId}
 use Rattle.afr_base.specs.declared.ids.NameId.{NameId}
 use Rattle.afr_base.specs.declared.ids.ValueId.{ValueId}
 use Rattle.afr_base.specs.declared.ids.What.{What}
-use Rattle.afr_content.specs.Bytes.{copied_in}
+use Rattle.afr_object.specs.Bytes.{copied_in}
 use Rattle.afr_object.specs.Repairs.{Contents, all_made, mended, renamed, with_attrs}
 use Rattle.afr_object.specs.Repairs as contents
 use Rattle.afr_object.specs.Tables.{Table, changed, copy_at, new_object, with_bytes, with_copy, with_names}
 use Rattle.afr_object.specs.declared.change.Repair.{Repair}
 use Rattle.afr_object.specs.declared.change.Repair.TheVariants.{CutTo, Copy, PutAttrs, PutNames}
 use Rattle.afr_object.specs.declared.entry.Entry.{Entry}
-use Rattle.afr_object.specs.declared.object.Object.{Object}
+use Rattle.afr_object.specs.Object.{Object}
 use Rattle.afr_tables.specs.CopyLaws.{HasAll, EachCopy, stays_changed, stays_made, each_changed, each_made}
 
 -- ---- an object never goes

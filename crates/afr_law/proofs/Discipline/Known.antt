@@ -46,7 +46,7 @@ use Rattle.afr_object.specs.declared.change.Change.TheVariants.{Cut, Make, Remov
 use Rattle.afr_object.specs.declared.change.Repair.{Repair}
 use Rattle.afr_object.specs.declared.change.Repair.TheVariants.{Copy, CutTo, PutAttrs, PutNames}
 use Rattle.afr_object.specs.declared.entry.Entry.{Entry as NameEntry}
-use Rattle.afr_object.specs.declared.object.Object.{Object}
+use Rattle.afr_object.specs.Object.{Object}
 use Rattle.afr_plan.specs.declared.plan.Plan.{Plan}
 use Rattle.std.proofs.Common.{Bool, [], ap, arith, inl, inr, length, refl, subst, suc, sym, true, ℕ, ◌+◌, ◌<◌, ◌∙◌, ◌∷◌, ◌≡◌, ◌≤◌}
 use Rattle.std.specs.Prelude.{None, Option, Some}

@@ -23,7 +23,7 @@ use Rattle.afr_model.specs.Honest.{copy_answer, fault_in, is_live, lock_answer, 
 use Rattle.afr_model.specs.Locks.{granted_by_line, locks_held, outlives}
 use Rattle.afr_model.specs.Tables.{holds}
 use Rattle.afr_object.specs.Tables.{Table, copy_at, view_of}
-use Rattle.afr_object.specs.declared.object.Object.{Object}
+use Rattle.afr_object.specs.Object.{Object}
 use Rattle.afr_plan.specs.declared.plan.Plan.{Plan}
 use Rattle.afr_lines.specs.Locks.{conflicts, first_conflict}
 use Rattle.afr_lines.specs.declared.lock.HeldLock.{HeldLock}

@@ -6,12 +6,12 @@ use Rattle.std.proofs.lemmas.List.{get_or_past, get_or-drop}
 use Rattle.afr_base.specs.declared.ids.Gfid.{Gfid}
 use Rattle.afr_base.specs.declared.ids.Kind.{Kind}
 use Rattle.afr_base.specs.declared.ids.Kind.TheVariants.{Bytes, Attrs, Names}
-use Rattle.afr_content.specs.Bytes.{byte_at, is_within}
-use Rattle.afr_content.specs.BytesLemmas.{byte_at-take}
+use Rattle.afr_object.specs.Bytes.{byte_at, is_within}
+use Rattle.afr_object.specs.BytesLemmas.{byte_at-take}
 use Rattle.afr_object.specs.Tables.{Table, copy_at}
 use Rattle.afr_object.specs.declared.change.Repair.{Repair}
 use Rattle.afr_object.specs.declared.change.Repair.TheVariants.{CutTo, Copy, PutAttrs, PutNames}
-use Rattle.afr_object.specs.declared.object.Object.{Object}
+use Rattle.afr_object.specs.Object.{Object}
 use Rattle.afr_lines.specs.Log.{from_oldest}
 use Rattle.afr_lines.specs.declared.line.Line.{Line}
 use Rattle.afr_lines.specs.declared.request.Request.{Request}

@@ -7,7 +7,7 @@ use Rattle.afr_base.specs.declared.ids.ValueId.{ValueId}
 use Rattle.afr_object.specs.declared.change.Change.{Change}
 use Rattle.afr_object.specs.declared.change.Change.TheVariants.{Write, Cut, SetAttr, Make, Remove}
 use Rattle.afr_object.specs.declared.entry.Entry.{Entry as NameEntry}
-use Rattle.afr_object.specs.declared.object.Object.{Object}
+use Rattle.afr_object.specs.Object.{Object}
 use Rattle.afr_lines.specs.Log.{from_oldest}
 use Rattle.afr_lines.specs.Work.{reply_by}
 use Rattle.afr_lines.specs.declared.line.Line.{Line}

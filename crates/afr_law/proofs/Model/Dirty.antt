@@ -9,7 +9,7 @@ use Rattle.afr_lines.specs.declared.fault.Fault.TheVariants.{Fail, Lost as LostA
 use Rattle.afr_object.specs.Repairs.{mended}
 use Rattle.afr_object.specs.Tables.{copy_at, view_of}
 use Rattle.afr_object.specs.declared.entry.View.{View}
-use Rattle.afr_object.specs.declared.object.Object.{Object}
+use Rattle.afr_object.specs.Object.{Object}
 use Rattle.afr_lines.specs.Log.{change_at}
 use Rattle.afr_lines.specs.Told.{told_by}
 use Rattle.afr_lines.specs.declared.answer.Answer.TheVariants as answer

@@ -10,7 +10,7 @@ use Rattle.afr_model.specs.Tables.{entry_at, entry_in, holds}
 use Rattle.afr_object.specs.Tables.{Table, copy_at, root, view_of}
 use Rattle.afr_object.specs.declared.entry.Entry.{Entry as NameEntry}
 use Rattle.afr_object.specs.declared.entry.View.{View}
-use Rattle.afr_object.specs.declared.object.Object.{Object}
+use Rattle.afr_object.specs.Object.{Object}
 use Rattle.afr_plan.specs.declared.plan.Plan.{Plan}
 use Rattle.afr_law.proofs.Model.Dirty.{seen_copy}
 use Rattle.afr_law.proofs.Model.Discipline.{exactly_below}

@@ -11,14 +11,14 @@ use Rattle.afr_base.specs.declared.ids.ValueId.{ValueId}
 use Rattle.afr_base.specs.declared.ids.Kind.TheVariants.{Bytes}
 use Rattle.afr_base.specs.declared.ids.What.{What}
 use Rattle.afr_base.specs.declared.ids.What.TheVariants.{File, Dir}
-use Rattle.afr_content.specs.Bytes.{byte_at, copied_in, is_within}
-use Rattle.afr_content.specs.BytesLemmas.{byte_at-copied_in}
+use Rattle.afr_object.specs.Bytes.{byte_at, copied_in, is_within}
+use Rattle.afr_object.specs.BytesLemmas.{byte_at-copied_in}
 use Rattle.afr_object.specs.Repairs.{Contents, all_made, mended, renamed, with_attrs}
 use Rattle.afr_object.specs.Repairs as load
 use Rattle.afr_object.specs.Tables.{Table, copy_at, changed, with_copy, with_bytes, with_names, key_cmp, name_cmp}
 use Rattle.afr_object.specs.declared.change.Repair.{Repair}
 use Rattle.afr_object.specs.declared.change.Repair.TheVariants.{CutTo, Copy, PutAttrs, PutNames}
-use Rattle.afr_object.specs.declared.object.Object.{Object}
+use Rattle.afr_object.specs.Object.{Object}
 use Rattle.afr_lines.specs.declared.answer.Told.TheVariants.{Done}
 use Rattle.afr_lines.specs.declared.request.Request.TheVariants.{Mend}
 use Rattle.afr_model.specs.Cells.{IsByte, IsAttr, IsEntry, value_in}

@@ -19,7 +19,7 @@ use Rattle.afr_model.specs.Report.{started_bricks}
 use Rattle.afr_lines.specs.Places.{Between, Fresh, Indexed, Place, Within, opens, place_of}
 use Rattle.afr_model.specs.Sessions.{is_joined, is_linked}
 use Rattle.afr_model.specs.Tables.{holds}
-use Rattle.afr_object.specs.declared.object.Object.{Object}
+use Rattle.afr_object.specs.Object.{Object}
 use Rattle.afr_plan.specs.declared.plan.Plan.{Plan}
 use Rattle.afr_lines.specs.declared.lock.Domain.TheVariants.{Heal, Work}
 use Rattle.afr_tables.specs.Codes.{kept_by}

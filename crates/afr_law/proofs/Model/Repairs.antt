@@ -32,7 +32,7 @@ use Rattle.afr_object.specs.declared.change.Repair.{Repair}
 use Rattle.afr_object.specs.declared.change.Repair.TheVariants.{Copy, CutTo, PutAttrs, PutNames}
 use Rattle.afr_object.specs.declared.entry.Entry.{Entry}
 use Rattle.afr_object.specs.declared.entry.View.{View}
-use Rattle.afr_object.specs.declared.object.Object.{Object}
+use Rattle.afr_object.specs.Object.{Object}
 use Rattle.afr_plan.specs.declared.plan.Plan.{Plan}
 use Rattle.afr_law.proofs.Model.Dirty.{seen_copy}
 use Rattle.afr_law.proofs.Model.Discipline.{weakly_lawful}

@@ -39,7 +39,7 @@ use Rattle.afr_object.specs.Tables.{copy_at}
 use Rattle.afr_object.specs.declared.change.Change.{Change}
 use Rattle.afr_object.specs.declared.change.Change.TheVariants.{Write, Cut, SetAttr, Make, Remove}
 use Rattle.afr_object.specs.declared.entry.Entry.{Entry as NameEntry}
-use Rattle.afr_object.specs.declared.object.Object.{Object}
+use Rattle.afr_object.specs.Object.{Object}
 use Rattle.afr_model.specs.Cells.{IsEntry}
 use Rattle.afr_model.specs.Tables.{entry_in, held_before}
 use Rattle.afr_law.proofs.Model.Sums.{TakesWithin, TakeWithin, now_pending, pending_is}

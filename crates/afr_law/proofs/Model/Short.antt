@@ -16,8 +16,8 @@ use Rattle.afr_base.specs.declared.marks.Marks.{Marks}
 use Rattle.afr_base.specs.Marks.{closed_op, dirtied, taken_back}
 use Rattle.afr_base.specs.declared.ids.ActorId.{ActorId}
 use Rattle.afr_base.specs.declared.ids.BrickId.{BrickId}
-use Rattle.afr_content.specs.Bytes.{copied_in, written}
-use Rattle.afr_content.specs.BytesLemmas.{length-copied_in, length-written}
+use Rattle.afr_object.specs.Bytes.{copied_in, written}
+use Rattle.afr_object.specs.BytesLemmas.{length-copied_in, length-written}
 use Rattle.afr_lines.specs.Log.{change_at, from_oldest}
 use Rattle.afr_lines.specs.declared.answer.Told.{Told}
 use Rattle.afr_lines.specs.declared.line.Line.{Line}
@@ -33,7 +33,7 @@ use Rattle.afr_object.specs.declared.change.Change.TheVariants.{Cut, Make, Remov
 use Rattle.afr_object.specs.declared.change.Repair.{Repair}
 use Rattle.afr_object.specs.declared.change.Repair.TheVariants.{Copy, CutTo, PutAttrs, PutNames}
 use Rattle.afr_object.specs.declared.entry.Entry.{Entry}
-use Rattle.afr_object.specs.declared.object.Object.{Object}
+use Rattle.afr_object.specs.Object.{Object}
 use Rattle.afr_object.specs.TablesLemmas.{same_gfid}
 use Rattle.afr_plan.specs.declared.plan.Plan.{Plan}
 use Rattle.afr_tables.proofs.Sound.{EachCopy, each_all_made, each_changed, each_made}

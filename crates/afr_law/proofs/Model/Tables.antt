@@ -14,7 +14,7 @@ use Rattle.afr_object.specs.declared.change.Change.{Change}
 use Rattle.afr_object.specs.declared.change.Change.TheVariants.{Write, Cut, SetAttr, Make, Remove}
 use Rattle.afr_object.specs.declared.change.Repair.{Repair}
 use Rattle.afr_object.specs.declared.change.Repair.TheVariants.{CutTo, Copy, PutAttrs, PutNames}
-use Rattle.afr_object.specs.declared.object.Object.{Object}
+use Rattle.afr_object.specs.Object.{Object}
 use Rattle.afr_object.specs.Repairs.{mended}
 use Rattle.afr_lines.specs.Log.{from_oldest, change_of}
 use Rattle.afr_lines.specs.declared.answer.Told.{Told}

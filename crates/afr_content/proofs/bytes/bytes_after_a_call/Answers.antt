@@ -1,5 +1,5 @@
 -- What each byte becomes, from the lemmas on the definitions.
-use Rattle.afr_content.specs.BytesLemmas.{byte_at-written, byte_at-copied_in}
+use Rattle.afr_object.specs.BytesLemmas.{byte_at-written, byte_at-copied_in}
 use Rattle.afr_content.proofs.bytes.bytes_after_a_call.Goals as goal
 
 pub returns-clause-written : goal.returns-clause-written

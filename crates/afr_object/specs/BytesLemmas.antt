@@ -3,7 +3,7 @@ use Rattle.std.proofs.Common.{◌≡◌, ℕ, suc, ◌+◌, ◌-◌, ◌<◌, �
 use Rattle.std.proofs.lemmas.List.{length-take, length-drop, length-append, length-replicate, get_or-replicate, get_or_append_left, get_or-append_right, get_or-take, get_or-drop, get_or_past}
 use Rattle.std.proofs.lemmas.Bool.{cases_lt}
 use Rattle.std.proofs.lemmas.Bool.Decides.{leb_tells, nat_tests}
-use Rattle.afr_content.specs.Bytes.{zeros, padded, written, zeroed, copied_in, byte_at, is_within}
+use Rattle.afr_object.specs.Bytes.{zeros, padded, written, zeroed, copied_in, byte_at, is_within}
 
 -- So many zeros are a list of that length.
 length-zeros : (n : ℕ) → length (zeros n) ≡ n
