@@ -46,9 +46,7 @@ impl Store {
         let Some(object) = self.objects.get_mut(&g) else {
             return Err(Refused::NoObject);
         };
-        if self.keeps && object.what == What::File {
-            object.content.write_at(at, bytes.as_slice())?;
-        }
+        object.write(self.keeps, at, bytes.as_slice())?;
         Ok(())
     }
 
@@ -62,9 +60,7 @@ impl Store {
         let Some(object) = self.objects.get_mut(&g) else {
             return Err(Refused::NoObject);
         };
-        if self.keeps && object.what == What::File {
-            object.content.cut(len);
-        }
+        object.cut(self.keeps, len);
         Ok(())
     }
 
@@ -77,7 +73,7 @@ impl Store {
         let Some(object) = self.objects.get_mut(&g) else {
             return Err(Refused::NoObject);
         };
-        object.attrs.insert(key, value)?;
+        object.set_attr(key, value)?;
         Ok(())
     }
 
@@ -91,7 +87,7 @@ impl Store {
         let Some(object) = self.objects.get_mut(&dir) else {
             return Err(Refused::NoObject);
         };
-        drop_name(object, name);
+        object.drop_name(name);
         Ok(())
     }
 
@@ -158,26 +154,7 @@ impl Store {
         let Some(object) = self.objects.get_mut(&dir) else {
             return Err(Refused::NoObject);
         };
-        put_name(object, name, entry)?;
+        object.put_name(name, entry)?;
         Ok(())
-    }
-}
-
-fn put_name(object: &mut Object, name: NameId, entry: Entry) -> Result<(), NoMemory>
-    ensures ok { OnOk result (object.new ≡ with_names (λ names. insert_entry name_cmp names name entry) object.old) }
-    ensures err { OnErr result (object.new ≡ object.old) }
-{
-    match object.what {
-        What::File => Ok(()),
-        What::Dir => object.names.insert(name, entry),
-    }
-}
-
-fn drop_name(object: &mut Object, name: NameId)
-    ensures { object.new ≡ with_names (remove_entry (is_at (name_cmp name))) object.old }
-{
-    match object.what {
-        What::File => {}
-        What::Dir => object.names.remove(name),
     }
 }

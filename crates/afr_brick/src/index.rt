@@ -25,11 +25,11 @@ fn relist(index: Option<Index>, g: Gfid, object: &Object) -> Option<Index>
     let Some(mut index) = index else {
         return None;
     };
-    if object.marks.is_zero() {
+    if object.is_clean() {
         index.clear(g);
         return Some(index);
     }
-    match index.set(g, object.what) {
+    match index.set(g, object.what()) {
         Ok(()) => Some(index),
         Err(_) => None,
     }

@@ -23,9 +23,7 @@ impl Store {
         let Some(object) = self.objects.get_mut(&g) else {
             return Err(Refused::NoObject);
         };
-        let mut marks = object.marks.of(kind);
-        marks.raise_dirty();
-        object.marks.put(kind, marks);
+        object.pre(kind);
         Ok(())
     }
 
@@ -41,9 +39,7 @@ impl Store {
         let Some(object) = self.objects.get_mut(&g) else {
             return Err(Refused::NoObject);
         };
-        let mut marks = object.marks.of(kind);
-        marks.after_op(missed);
-        object.marks.put(kind, marks);
+        object.post(kind, missed);
         Ok(())
     }
 
@@ -59,9 +55,7 @@ impl Store {
         let Some(object) = self.objects.get_mut(&g) else {
             return Err(Refused::NoObject);
         };
-        let mut marks = object.marks.of(kind);
-        marks.settle(less);
-        object.marks.put(kind, marks);
+        object.settle(kind, less);
         Ok(())
     }
 }

@@ -23,7 +23,7 @@ impl Brick {
         let Some(object) = store.objects.get(&g) else {
             return Err(Refused::NoObject);
         };
-        let bytes = bytes_of(store.alloc, &object.content, at, len)?;
+        let bytes = bytes_of(store.alloc, object.content(), at, len)?;
         Ok(List::from_vec(bytes))
     }
 
@@ -37,7 +37,7 @@ impl Brick {
         let Some(object) = store.objects.get(&g) else {
             return Err(Refused::NoObject);
         };
-        Ok(object.names.get(name))
+        Ok(object.names().get(name))
     }
 
     /// All names of a directory. A file has none.
@@ -50,7 +50,7 @@ impl Brick {
         let Some(object) = store.objects.get(&g) else {
             return Err(Refused::NoObject);
         };
-        let names = object.names.list(store.alloc)?;
+        let names = object.names().list(store.alloc)?;
         Ok(names)
     }
 
@@ -64,7 +64,7 @@ impl Brick {
         let Some(object) = store.objects.get(&g) else {
             return Err(Refused::NoObject);
         };
-        Ok(object.attrs.get(key))
+        Ok(object.attrs().get(key))
     }
 
     /// All attributes of an object.
@@ -77,7 +77,7 @@ impl Brick {
         let Some(object) = store.objects.get(&g) else {
             return Err(Refused::NoObject);
         };
-        let attrs = object.attrs.list(store.alloc)?;
+        let attrs = object.attrs().list(store.alloc)?;
         Ok(attrs)
     }
 

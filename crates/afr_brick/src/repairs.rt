@@ -8,10 +8,9 @@ ghost use Rattle.afr_brick.specs.Undone.{without};
 ghost use Rattle.afr_object.specs.Repairs.{all_made, mended, renamed, repaired, with_attrs};
 ghost use Rattle.afr_object.specs.Tables.{changed, copy_at, key_cmp, made, name_cmp, with_bytes, with_names};
 
-use crate::object::Object;
 use crate::refused::Refused;
 use crate::store::Store;
-use afr_base::{Gfid, NameId, NoMemory, What};
+use afr_base::{Gfid, NameId, NoMemory};
 use afr_object::{AttrList, Entry, Load, NameList, Repair, SortedMap};
 
 impl Store {
@@ -64,9 +63,7 @@ impl Store {
         let Some(object) = self.objects.get_mut(&g) else {
             return Err(Refused::NoObject);
         };
-        if self.keeps && object.what == What::File {
-            object.content.copy_in(at, span, bytes)?;
-        }
+        object.copy_in(self.keeps, at, span, bytes)?;
         Ok(())
     }
 
@@ -80,7 +77,8 @@ impl Store {
         let Some(object) = self.objects.get_mut(&g) else {
             return Err(Refused::NoObject);
         };
-        object.attrs = SortedMap::from_list(self.alloc, attrs)?;
+        let map = SortedMap::from_list(self.alloc, attrs)?;
+        object.put_attrs(map);
         Ok(())
     }
 
@@ -103,7 +101,7 @@ impl Store {
         ensures { self.new ≡ record self.old { objects = changed (with_names (λ old. names)) g (copy_at g self.old.objects) self.old.objects } }
     {
         if let Some(object) = self.objects.get_mut(&g) {
-            put_all_names(object, names);
+            object.put_names(names);
         }
     }
 
@@ -154,14 +152,5 @@ impl Store {
         for i in 0..len {
             self.drop_object(gfids[len - 1 - i]);
         }
-    }
-}
-
-fn put_all_names(object: &mut Object, names: SortedMap<NameId, Entry>)
-    ensures { object.new ≡ with_names (λ old. names) object.old }
-{
-    match object.what {
-        What::File => {}
-        What::Dir => object.names = names,
     }
 }

@@ -59,8 +59,8 @@ impl Store {
     {
         let mut list = List::new(self.alloc);
         for (g, object) in self.objects.iter() {
-            if !object.marks.is_zero() {
-                list.push((*g, object.what))?;
+            if !object.is_clean() {
+                list.push((*g, object.what()))?;
             }
         }
         Ok(list)

@@ -1,4 +1,4 @@
-//! The lines of the log: requests, answers, replies, events.
+//! The lines of the log: requests with their locks and faults, answers, replies, events.
 #![tactic(auto)]
 
 mod answer;

@@ -1,6 +1,6 @@
-//! One copy of an object, and copies of a change.
+//! Names in their order, and copies of a change.
 use afr_base::{Gfid, NameId, NoMemory, What};
-use afr_object::{Change, Entry, List, Object, SortedMap, TryCopy};
+use afr_object::{Change, Entry, List, SortedMap, TryCopy};
 use std::alloc::Global;
 use std::test::Fail;
 
@@ -10,23 +10,19 @@ const ENTRY: Entry = Entry {
 };
 
 /// A name comes, stands in the list of all names, and goes.
-fn keeps_a_name(alloc: Global, dir: &mut Object) -> Result<bool, NoMemory> {
-    dir.names.insert(NameId(4), ENTRY)?;
-    let names = dir.names.list(alloc)?;
+fn keeps_a_name(alloc: Global) -> Result<bool, NoMemory> {
+    let mut map = SortedMap::new(alloc);
+    map.insert(NameId(4), ENTRY)?;
+    let names = map.list(alloc)?;
     let same = SortedMap::from_list(alloc, &names)?;
     let listed = names.len() == 1 && same.get(NameId(4)) == Some(ENTRY);
-    dir.names.remove(NameId(4));
-    Ok(listed && dir.names.get(NameId(4)).is_none())
+    map.remove(NameId(4));
+    Ok(listed && map.get(NameId(4)).is_none())
 }
 
 #[test]
-fn an_object_is_empty_and_shows_it(rt: HostRuntime) -> Result<(), Fail> {
-    let view = Object::new(rt.alloc(), What::Dir).view();
-    assert_eq!(rt; view.what, What::Dir);
-    assert_eq!(rt; view.len, 0);
-    let kept = keeps_a_name(rt.alloc(), &mut Object::new(rt.alloc(), What::Dir))
-        .ok()
-        .ok_or("memory")?;
+fn a_name_comes_is_listed_and_goes(rt: HostRuntime) -> Result<(), Fail> {
+    let kept = keeps_a_name(rt.alloc()).ok().ok_or("memory")?;
     assert!(rt; kept);
     Ok(())
 }

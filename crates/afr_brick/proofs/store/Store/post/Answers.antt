@@ -6,14 +6,14 @@ use Rattle.afr_brick.proofs.store.Store.post.Goals as goal
 pub returns-clause-absent : goal.returns-clause-absent
 returns-clause-absent c = rw (← c.self.view_is) (found _ _ c.in-Some.object.now (sym c.in-Some.ensures.value) (λ h. cc))
 
-pub after_op-requires-clause-open : goal.after_op-requires-clause-open
-after_op-requires-clause-open c =
+pub post-requires-clause-open : goal.post-requires-clause-open
+post-requires-clause-open c =
     let e : copy_at c.args.g c.args.self.now.objects ≡ Some c.in-Some.object.now = rw (← c.self.view_is) (sym c.in-Some.ensures.value) in
     let r = rw e at c.requires in
-    rw c.of-marks.ensures r.0
+    r.0
 
-pub after_op-requires-clause-room : goal.after_op-requires-clause-room
-after_op-requires-clause-room c =
+pub post-requires-clause-room : goal.post-requires-clause-room
+post-requires-clause-room c =
     let e : copy_at c.args.g c.args.self.now.objects ≡ Some c.in-Some.object.now = rw (← c.self.view_is) (sym c.in-Some.ensures.value) in
     let r = rw e at c.requires in
-    rw c.of-marks.ensures r.1
+    r.1

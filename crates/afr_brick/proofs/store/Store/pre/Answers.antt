@@ -6,8 +6,7 @@ use Rattle.afr_brick.proofs.store.Store.pre.Goals as goal
 pub returns-clause-absent : goal.returns-clause-absent
 returns-clause-absent c = rw (← c.self.view_is) (found _ _ c.in-Some.object.now (sym c.in-Some.ensures.value) (λ h. cc))
 
-pub raise_dirty-requires : goal.raise_dirty-requires
-raise_dirty-requires c =
+pub pre-requires : goal.pre-requires
+pre-requires c =
     let e : copy_at c.args.g c.args.self.now.objects ≡ Some c.in-Some.object.now = rw (← c.self.view_is) (sym c.in-Some.ensures.value) in
-    let r = rw e at c.requires in
-    rw c.of-marks.ensures r
+    rw e at c.requires

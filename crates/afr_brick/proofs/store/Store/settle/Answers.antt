@@ -10,10 +10,10 @@ pub settle-requires-clause-dirty : goal.settle-requires-clause-dirty
 settle-requires-clause-dirty c =
     let e : copy_at c.args.g c.args.self.now.objects ≡ Some c.in-Some.object.now = rw (← c.self.view_is) (sym c.in-Some.ensures.value) in
     let r = rw e at c.requires in
-    rw c.of-marks.ensures r.0
+    r.0
 
 pub settle-requires-clause-pending : goal.settle-requires-clause-pending
 settle-requires-clause-pending c =
     let e : copy_at c.args.g c.args.self.now.objects ≡ Some c.in-Some.object.now = rw (← c.self.view_is) (sym c.in-Some.ensures.value) in
     let r = rw e at c.requires in
-    rw c.of-marks.ensures r.1
+    r.1
