@@ -27,7 +27,7 @@ use Rattle.afr_model.specs.Parts.{first_part, second_part, the_make, the_removal
 use Rattle.afr_model.specs.Refusals.{refusal}
 use Rattle.afr_model.specs.Renamed.{HasFound, IsMade, IsRenamed, by_halves, or_halves, refusal_at, rename_refusal}
 use Rattle.afr_model.specs.Showing.{Path, among, begins_attempt, begun_after, begun_by, has, locks, looked_by, posted}
-use Rattle.afr_model.specs.Skipped.{IsCarried}
+use Rattle.afr_model.specs.Skipped.{WentThroughPhases}
 use Rattle.afr_model.specs.Standing.{change_by, suffices}
 use Rattle.afr_cut.proofs.Anew.{has_first, same_applied, same_applying, same_change, same_looks, same_posted, same_posting, same_prepared, unbegun_change}
 use Rattle.afr_cut.proofs.Cut.{first_all, parts_whole}
@@ -62,7 +62,7 @@ closed_begun p c v h most = go (has begins_attempt v) refl
     go false e = absurd (no_majority p.shape.n (subst (λ (s : List ℕ). is_majority p.shape.n s ≡ true) (unposted p c v h e) most))
 
 -- what enough bricks bore is closed, by the lines of its attempt
-closed_anew : (p : Plan) (c : Command) (s u t w : Work) → s ++ u ≡ w → has begins_attempt s ≡ true → (borne : IsBorne p w) → has (locks (object_of borne.change)) s ≡ true → IsCarried p c borne.change (s ++ t)
+closed_anew : (p : Plan) (c : Command) (s u t w : Work) → s ++ u ≡ w → has begins_attempt s ≡ true → (borne : IsBorne p w) → has (locks (object_of borne.change)) s ≡ true → WentThroughPhases p c borne.change (s ++ t)
     → is_majority p.shape.n (among posted (s ++ t)) ≡ true
 closed_anew p c s u t w whole begins borne locked carried =
     posted_most p c (s ++ t) (record {
@@ -159,7 +159,7 @@ module _ (p : Plan) (from to : List NameId) (a : ℕ) (older : List Line) (is : 
           by (inr made) = made
           by (inl alone) = subst (λ (v : Work). is_majority p.shape.n (among posted v) ≡ true) (append-nil (the_make from w))
               (closed_anew p (command.Create to) (the_make from w) (the_walk from w) [] w (k.cut ∙ first_all w alone) begins borne link.locked
-              (subst (IsCarried p (command.Create to) borne.change) (sym (append-nil (the_make from w))) (ended.made.carried borne.change at_make)))
+              (subst (WentThroughPhases p (command.Create to) borne.change) (sym (append-nil (the_make from w))) (ended.made.carried borne.change at_make)))
 
       go : (begins : Bool) → has begins_attempt (second_part w) ≡ begins → (second_part w ≡ []) ⊎ IsMade p from w → SaysStored p a older borne.change said
       go true e (inr made) = removed e made

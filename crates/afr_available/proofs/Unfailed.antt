@@ -20,7 +20,7 @@ use Rattle.afr_lines.specs.declared.line.Line.TheVariants.{Ask, Begin, HealBegin
 use Rattle.afr_lines.specs.declared.request.Request.{Request}
 use Rattle.afr_lines.specs.declared.request.Request.TheVariants.{Apply, Lock, Post, Pre, Unlock}
 use Rattle.afr_plan.specs.declared.plan.Plan.{Plan}
-use Rattle.afr_model.specs.Honest.{Honest, IsHonest, Outcome, copy_answer, copy_for, fault_in, is_live, over_session, requests_to, tells}
+use Rattle.afr_model.specs.Honest.{Honest, IsHonest, RequestOutcome, copy_answer, copy_for, fault_in, is_live, over_session, requests_to, tells}
 use Rattle.afr_model.specs.Showing.{among, applied_at, applying, is_done, is_fault, posted, posting, prepared, preparing}
 use Rattle.afr_model.specs.Tables.{holds}
 use Rattle.afr_moves.specs.Discipline.{MayAskExactly, exact, in_force}
@@ -88,7 +88,7 @@ module _ (p : Plan) (log : List Line) (a : ActorId) (b : BrickId) where
 
   fits_there : (r : Request) (told : Told) (took : Bool) → HasCopy p log b.0 r → IsHonest p (Ask a b r told took) log → IsDoneOrFailed (Ask a b r told took)
   fits_there r told took has said phase =
-      subst (λ (x : Told). is_done x ≡ false → is_fault x ≡ true) (sym (ap (λ (o : Outcome). o.told) said))
+      subst (λ (x : Told). is_done x ≡ false → is_fault x ≡ true) (sym (ap (λ (o : RequestOutcome). o.told) said))
       (by_fault (is_live p a b.0 (Ask a b r told took) log) (fault_in p.faults b.0 (suc (requests_to b.0 log))) (tells a r b.0 (holds p log b.0) log) (would r has phase))
 
 -- each phase of such a log was done, or failed

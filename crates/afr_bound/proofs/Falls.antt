@@ -16,11 +16,11 @@ use Rattle.afr_model.specs.Ordered.{actors_of}
 use Rattle.afr_plan.specs.declared.plan.Plan.{Plan}
 use Rattle.afr_standstill.proofs.Standing.{kept_before}
 use Rattle.afr_law.proofs.Model.Tasks.{HasTask, task_here, turn_of}
-use Rattle.afr_standstill.specs.Law.{IsKept}
+use Rattle.afr_standstill.specs.Law.{IsPresumed}
 
 -- what is presumed of a log
 pub record Facts (p : Plan) (log : List Line) : Type 0 where
-  pub kept : IsKept p log
+  pub kept : IsPresumed p log
   pub within : AreWithinCost p log
 
 pub facts_before : (p : Plan) (line : Line) (older : List Line) → Facts p (line ∷ older) → Facts p older

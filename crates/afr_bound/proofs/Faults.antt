@@ -15,7 +15,7 @@ use Rattle.afr_lines.specs.declared.line.Line.TheVariants.{Ask, Begin, End, Even
 use Rattle.afr_lines.specs.declared.line.Line.{Line}
 use Rattle.afr_lines.specs.declared.request.Area.{Area}
 use Rattle.afr_lines.specs.declared.request.Request.TheVariants.{Unlock}
-use Rattle.afr_model.specs.Honest.{IsHonest, Outcome, fault_in, is_live, one_more, over_session, requests_to}
+use Rattle.afr_model.specs.Honest.{IsHonest, RequestOutcome, fault_in, is_live, one_more, over_session, requests_to}
 use Rattle.afr_plan.specs.declared.plan.Plan.{Plan}
 use Rattle.afr_plan.specs.declared.schedule.PlannedFault.{PlannedFault}
 use Rattle.afr_lines.specs.declared.lock.Domain.{Domain}
@@ -56,10 +56,10 @@ fault_there (x ∷ xs) b k fault e = go ((x.brick.0 == b) && (x.at == k)) refl e
 
 -- an unlock is told Failed only by a planned fault
 failed_planned : (live : Bool) (fault : Option Fault) (took : Bool) → (record { told = Failed; took = took }) ≡ over_session live fault Done → fault ≡ Some Fail
-failed_planned false fault took e = absurd (let k : Failed ≡ NotConnected = ap (λ (o : Outcome). o.told) e in cc k)
+failed_planned false fault took e = absurd (let k : Failed ≡ NotConnected = ap (λ (o : RequestOutcome). o.told) e in cc k)
 failed_planned true (Some Fail) took e = refl
-failed_planned true (Some Lost) took e = absurd (let k : Failed ≡ NotConnected = ap (λ (o : Outcome). o.told) e in cc k)
-failed_planned true None took e = absurd (let k : Failed ≡ Done = ap (λ (o : Outcome). o.told) e in cc k)
+failed_planned true (Some Lost) took e = absurd (let k : Failed ≡ NotConnected = ap (λ (o : RequestOutcome). o.told) e in cc k)
+failed_planned true None took e = absurd (let k : Failed ≡ Done = ap (λ (o : RequestOutcome). o.told) e in cc k)
 
 used : (line : Line) (older : List Line) (x : PlannedFault) → one_more x.brick.0 line (requests_to x.brick.0 older) ≡ requests_to x.brick.0 older + 1 → x.at ≡ suc (requests_to x.brick.0 older) → is_to_come (line ∷ older) x < is_to_come older x
 used line older x more at = go (requests_to x.brick.0 older) (one_more x.brick.0 line (requests_to x.brick.0 older)) x.at more at

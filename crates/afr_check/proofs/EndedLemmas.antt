@@ -25,12 +25,12 @@ use Rattle.afr_plan.specs.declared.command.Command.{Command}
 use Rattle.afr_plan.specs.declared.plan.Plan.{Plan}
 use Rattle.afr_moves.proofs.AreaLemmas.{same_area_is}
 use Rattle.afr_model.specs.Answered.{IsAnswered, IsCaused, is_by_views}
-use Rattle.afr_model.specs.Commands.{path_of, is_rmdir, area_on}
+use Rattle.afr_model.specs.Commands.{area_on, is_rmdir, path_of}
 use Rattle.afr_model.specs.Refusals.{both_locked}
-use Rattle.afr_model.specs.Showing.{Path, At, NoName, Untold, path_by, looked_by, among, looking, preparing, prepared, applying, applied_at, posting, has, looks_at, locks, begins_attempt, is_faulted, refuses_read}
-use Rattle.afr_model.specs.Skipped.{AsksAll, IsCarried, IsChildLocked, IsLocked, IsLooked, SkipsNothing, is_whole, takers}
-use Rattle.afr_model.specs.Standing.{place_by, looks_here, area_here, up_to, asks_name, locks_area, asking, getting, holding, change_by, suffices}
-use Rattle.afr_check.specs.Ended.{EndsWell, ends_well, is_in, asks_all, is_by_all, is_failed, is_told_failed, is_done_reply, is_undisturbed, all_lines, looked_well, is_locked, locked_well, is_child_locked, child_named, child_at, child_well, is_carried, carried_well, skips_nothing}
+use Rattle.afr_model.specs.Showing.{At, NoName, Path, Untold, among, applied_at, applying, begins_attempt, has, is_faulted, locks, looked_by, looking, looks_at, path_by, posting, prepared, preparing, refuses_read}
+use Rattle.afr_model.specs.Skipped.{AsksAll, IsChildLocked, IsLocked, IsLooked, SkipsNothing, WentThroughPhases, is_whole, takers}
+use Rattle.afr_model.specs.Standing.{area_here, asking, asks_name, change_by, getting, holding, locks_area, looks_here, place_by, suffices, up_to}
+use Rattle.afr_check.specs.Ended.{EndsWell, ends_well, is_in, asks_all, is_by_all, is_failed, is_told_failed, is_done_reply, is_undisturbed, all_lines, looked_well, is_locked, locked_well, is_child_locked, child_named, child_at, child_well, went_through_phases, phases_well, skips_nothing}
 
 -- ---- small tests
 both : (a b : Bool) → a ≡ true → b ≡ true → (a && b) ≡ true
@@ -321,7 +321,7 @@ child_is p c w = (λ h r read dir child name e f d n. to (then_is (is_rmdir c) _
     from (At read dir) e Untold f h = refl
 
 -- ---- the attempt
-pub carried_one_is : (p : Plan) (c : Command) (change : Change) (w : Work) → (is_carried p c change w ≡ true) ↔ IsCarried p c change w
+pub carried_one_is : (p : Plan) (c : Command) (change : Change) (w : Work) → (went_through_phases p c change w ≡ true) ↔ WentThroughPhases p c change w
 carried_one_is p c change w = (
   λ h. record {
     prepared_all = (in_is _ (among preparing w)).0 (and_left first rest h);
@@ -350,17 +350,17 @@ carried_one_is p c change w = (
     rest : Bool
     rest = not enough || (second && last)
 
-pub carried_is : (p : Plan) (c : Command) (w : Work) → (carried_well p c (change_by w) w ≡ true) ↔ ((change : Change) → change_by w ≡ Some change → IsCarried p c change w)
+pub carried_is : (p : Plan) (c : Command) (w : Work) → (phases_well p c (change_by w) w ≡ true) ↔ ((change : Change) → change_by w ≡ Some change → WentThroughPhases p c change w)
 carried_is p c w = (λ h change e. to (change_by w) refl h change e, λ h. from (change_by w) refl h)
   where
     some_is : (x y : Change) → Some x ≡ Some y → x ≡ y
     some_is x y e = cc e
 
-    to : (o : Option Change) → change_by w ≡ o → carried_well p c o w ≡ true → (change : Change) → o ≡ Some change → IsCarried p c change w
+    to : (o : Option Change) → change_by w ≡ o → phases_well p c o w ≡ true → (change : Change) → o ≡ Some change → WentThroughPhases p c change w
     to None e h change f = absurd (cc f)
-    to (Some other) e h change f = subst (λ (x : Change). IsCarried p c x w) (some_is other change f) ((carried_one_is p c other w).0 h)
+    to (Some other) e h change f = subst (λ (x : Change). WentThroughPhases p c x w) (some_is other change f) ((carried_one_is p c other w).0 h)
 
-    from : (o : Option Change) → change_by w ≡ o → ((change : Change) → change_by w ≡ Some change → IsCarried p c change w) → carried_well p c o w ≡ true
+    from : (o : Option Change) → change_by w ≡ o → ((change : Change) → change_by w ≡ Some change → WentThroughPhases p c change w) → phases_well p c o w ≡ true
     from None e h = refl
     from (Some change) e h = (carried_one_is p c change w).1 (h change e)
 
@@ -386,7 +386,7 @@ skips_is p c a lines few = (
     child = child_well p c (work a lines)
 
     carried : Bool
-    carried = carried_well p c (change_by (work a lines)) (work a lines)
+    carried = phases_well p c (change_by (work a lines)) (work a lines)
 
 -- ---- the end
 pub ends_well_is : (p : Plan) (c : Command) (said : Reply) (a : ℕ) (lines : List Line) → p.shape.n ≤ 5 → (ends_well p c said lines (work a lines) ≡ true) ↔ EndsWell p c (work a lines) said

@@ -102,20 +102,20 @@ abbrev pub child_well : Plan → Command → Work → Bool
 child_well p c w = not (is_rmdir c) || child_at p c (place_by p c w) (path_by p w) w
 
 -- an attempt went through its phases
-abbrev pub is_carried : Plan → Command → Change → Work → Bool
-is_carried p c change w =
+abbrev pub went_through_phases : Plan → Command → Change → Work → Bool
+went_through_phases p c change w =
     is_in (takers c (object_of change) (path_by p w) w) (among preparing w)
     && (not (suffices p.shape (kind_for change) (looked_by (object_of change) w) (among prepared w))
     || (is_in (among prepared w) (among applying w)
     && (not (suffices p.shape (kind_for change) (looked_by (object_of change) w) (among applied_at w)) || is_in (among applied_at w) (among posting w))))
 
-abbrev pub carried_well : Plan → Command → Option Change → Work → Bool
-carried_well p c None w = true
-carried_well p c (Some change) w = is_carried p c change w
+abbrev pub phases_well : Plan → Command → Option Change → Work → Bool
+phases_well p c None w = true
+phases_well p c (Some change) w = went_through_phases p c change w
 
 -- nothing was skipped; the lines are those of the whole log
 abbrev pub skips_nothing : Plan → Command → List Line → Work → Bool
-skips_nothing p c lines w = all_lines (looked_well p.shape.n w) lines && all_lines (locked_well p.shape.n w) lines && child_well p c w && carried_well p c (change_by w) w
+skips_nothing p c lines w = all_lines (looked_well p.shape.n w) lines && all_lines (locked_well p.shape.n w) lines && child_well p c w && phases_well p c (change_by w) w
 
 abbrev pub ends_well : Plan → Command → Reply → List Line → Work → Bool
 ends_well p c said lines w = is_by_all p c said w && is_told_failed said w && is_undisturbed said w && skips_nothing p c lines w

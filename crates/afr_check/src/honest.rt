@@ -14,14 +14,14 @@ use std::marker::Model;
 
 /// What is told, and whether the brick carries the request out.
 #[derive(Clone, Copy)]
-pub(crate) struct Outcome {
+pub(crate) struct RequestOutcome {
     told: Told,
     took: bool,
 }
 
-impl Model for Outcome {
+impl Model for RequestOutcome {
     ghost use Rattle.std.specs.Prelude.{refl};
-    ghost use Rattle.afr_model.specs.Honest.{Outcome as PlainOutcome};
+    ghost use Rattle.afr_model.specs.Honest.{RequestOutcome as PlainOutcome};
 
     ghost Value = { PlainOutcome };
 
@@ -76,7 +76,7 @@ pub fn is_honest_line(
     }
 }
 
-fn is_outcome(told: Told, took: bool, outcome: Outcome) -> bool
+fn is_outcome(told: Told, took: bool, outcome: RequestOutcome) -> bool
     ensures { (result ≡ true) ↔ ((record { told = told; took = took }) ≡ outcome) }
 {
     same_told(told, outcome.told) && took == outcome.took
@@ -90,7 +90,7 @@ fn outcome_of(
     request: &Request,
     line: &Line,
     older: &[Line],
-) -> Result<Outcome, Unfit>
+) -> Result<RequestOutcome, Unfit>
     requires few { plan.now.shape.n ≤ 5 }
     ensures ok { IfOk result (λ outcome. outcome ≡ outcome_of plan.now a b.0 request.now line.now (reverse older.now)) }
     ensures too_much { result ≡ Err Unfit.TooMuch → ((y : ℕ) → Fits plan.now (reverse older.now) y) → ⊥ }
@@ -184,32 +184,32 @@ fn in_the_way(
 }
 
 /// What comes of a request, by the session and by the fault that the plan has for it.
-fn over_session(live: bool, fault: Option<Fault>, said: Told) -> Outcome
+fn over_session(live: bool, fault: Option<Fault>, said: Told) -> RequestOutcome
     ensures { result ≡ over_session live fault said }
 {
     if live {
         faulted(fault, said)
     } else {
-        Outcome {
+        RequestOutcome {
             told: Told::NotConnected,
             took: false,
         }
     }
 }
 
-fn faulted(fault: Option<Fault>, said: Told) -> Outcome
+fn faulted(fault: Option<Fault>, said: Told) -> RequestOutcome
     ensures { result ≡ faulted fault said }
 {
     match fault {
-        Some(Fault::Fail) => Outcome {
+        Some(Fault::Fail) => RequestOutcome {
             told: Told::Failed,
             took: false,
         },
-        Some(Fault::Lost) => Outcome {
+        Some(Fault::Lost) => RequestOutcome {
             told: Told::NotConnected,
             took: true,
         },
-        None => Outcome {
+        None => RequestOutcome {
             told: said,
             took: true,
         },

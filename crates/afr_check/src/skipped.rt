@@ -12,7 +12,7 @@ ghost use Rattle.afr_model.specs.Refusals.{both_locked};
 ghost use Rattle.afr_model.specs.Showing.{At as SpecAt, applied_at, applying, among, has, locks, looked_by, looking, looks_at, posting, prepared};
 ghost use Rattle.afr_model.specs.Skipped.{is_whole, takers};
 ghost use Rattle.afr_model.specs.Standing.{asking, asks_name, getting, holding, locks_area, suffices, up_to};
-ghost use Rattle.afr_check.specs.Ended.{all_lines, carried_well, child_at, child_named, child_well, is_carried, is_child_locked, is_in, is_locked, locked_area, locked_well, looked_well, skips_nothing};
+ghost use Rattle.afr_check.specs.Ended.{all_lines, child_at, child_named, child_well, is_child_locked, is_in, is_locked, locked_area, locked_well, looked_well, phases_well, skips_nothing, went_through_phases};
 ghost use Rattle.afr_check.specs.Readings.{path_seen};
 
 use crate::areas::object_of_area;
@@ -45,7 +45,7 @@ pub(crate) fn skips_nothing(
     let looked = all_looked(plan.shape.n, log, a)?;
     let locked = all_locked(plan.shape.n, log, a)?;
     let child = child_well(alloc, plan, command, log, a)?;
-    let carried = carried_well(alloc, plan, command, change_by(log, a), log, a)?;
+    let carried = phases_well(alloc, plan, command, change_by(log, a), log, a)?;
     Ok(looked && locked && child && carried)
 }
 
@@ -356,7 +356,7 @@ fn child_looked(
 
 // ---- the attempt
 
-fn carried_well(
+fn phases_well(
     alloc: Global,
     plan: &Plan,
     command: &Command,
@@ -365,16 +365,16 @@ fn carried_well(
     a: ActorId,
 ) -> Result<bool, Unfit>
     requires few { plan.now.shape.n ≤ 5 }
-    ensures ok { IfOk result (λ flag. flag ≡ carried_well plan.now command.now (option_copied change.entry) (work a.0 (reverse log.now))) }
+    ensures ok { IfOk result (λ flag. flag ≡ phases_well plan.now command.now (option_copied change.entry) (work a.0 (reverse log.now))) }
 {
     match change {
         None => Ok(true),
-        Some(change) => is_carried(alloc, plan, command, change, log, a),
+        Some(change) => went_through_phases(alloc, plan, command, change, log, a),
     }
 }
 
 /// Each phase was asked of every brick that did the one before, as long as they suffice.
-fn is_carried(
+fn went_through_phases(
     alloc: Global,
     plan: &Plan,
     command: &Command,
@@ -383,7 +383,7 @@ fn is_carried(
     a: ActorId,
 ) -> Result<bool, Unfit>
     requires few { plan.now.shape.n ≤ 5 }
-    ensures ok { IfOk result (λ flag. flag ≡ is_carried plan.now command.now change.now (work a.0 (reverse log.now))) }
+    ensures ok { IfOk result (λ flag. flag ≡ went_through_phases plan.now command.now change.now (work a.0 (reverse log.now))) }
 {
     let g = object_of(change);
     let path = path_by(alloc, plan, log, a)?;

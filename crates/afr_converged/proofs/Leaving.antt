@@ -24,10 +24,10 @@ use Rattle.afr_model.specs.Sums.{dirty_of, pending_of}
 use Rattle.afr_model.specs.Tables.{holds}
 use Rattle.afr_tables.specs.CopyLaws.{gfid_is}
 use Rattle.afr_moves.specs.Honest.{view_marks}
-use Rattle.afr_moves.specs.Note.{left_in_heal, next_phase, put}
+use Rattle.afr_moves.specs.Note.{left_in_heal, next_part, put}
 use Rattle.afr_moves.specs.Past.{is_gone}
 use Rattle.afr_moves.specs.Past as position
-use Rattle.afr_moves.specs.Register.{Exact, Looks, Opening, Phase, Step, WorkLocks, holder, is_opening, rank}
+use Rattle.afr_moves.specs.Register.{Exact, HealPart, Looks, Opening, Step, WorkLocks, holder, is_opening, rank}
 use Rattle.afr_moves.specs.Rules as weak
 use Rattle.afr_moves.specs.Rules.{Register, repair_kind}
 use Rattle.afr_moves.specs.Steps.{goes_on, looks_over, may_heal, onward, settles_over}
@@ -49,8 +49,8 @@ abbrev pub ShowsWas : Plan → Seq Line → Gfid → Kind → ℕ → View → T
 ShowsWas p was g kind x view = ((view_marks view kind).dirty ≡ dirty_of p was x g kind) × ((c : ℕ) → c < 5 → slice_index (view_marks view kind).pending c ≡ pending_of p was x c g kind)
 
 -- a heal of the object and kind comes no further than its first looks, and they show what was there
-pub record Looking (p : Plan) (was : Seq Line) (g : Gfid) (kind : Kind) (step : Step) (phase : Phase) (first_views : ℕ → Option View) : Type 0 where
-  pub first : phase ≡ Opening
+pub record Looking (p : Plan) (was : Seq Line) (g : Gfid) (kind : Kind) (step : Step) (part : HealPart) (first_views : ℕ → Option View) : Type 0 where
+  pub first : part ≡ Opening
   pub low : rank step ≤ 7
   pub seen : (x : ℕ) (view : View) → first_views x ≡ Some view → (x < p.shape.n) × ShowsWas p was g kind x view
 
@@ -59,7 +59,7 @@ shows_was : (p : Plan) (was older : Seq Line) → Premises p older → (g : Gfid
 shows_was p was older q g kind same b low o there = (let w = sums p older q b g kind o there in (w.0 ∙ same.dirty b low, λ c near. w.1 c near ∙ same.pending b c low))
 
 module _ (p : Plan) (keeps : ℕ → Kind → Bool) (was : Seq Line) (g : Gfid) (kind : Kind) (older : Seq Line) (q : Premises p older) (r : Exact) (t s : ℕ) (inside : r.law.heal ≡ true) (stage : StageOf r) (firsts : FirstsOf r)
-    (same : IsUnchanged p was older g kind) (early : r.law.object ≡ g.0 → r.law.kind ≡ kind → Looking p was g kind r.step r.phase r.first_views)
+    (same : IsUnchanged p was older g kind) (early : r.law.object ≡ g.0 → r.law.kind ≡ kind → Looking p was g kind r.step r.part r.first_views)
     (stop : goes_on p.shape.n keeps r s ≡ true → looks_over p.shape.n keeps r s ≡ true → r.law.object ≡ g.0 → r.law.kind ≡ kind → ⊥) (x : ActorId) (y : BrickId) (below : y.0 < p.shape.n) (took : Bool) where
   abbrev pub n : ℕ
   n = p.shape.n
@@ -67,7 +67,7 @@ module _ (p : Plan) (keeps : ℕ → Kind → Bool) (was : Seq Line) (g : Gfid) 
   abbrev pub law_after : Request → Told → Register
   law_after request told = weak.dropping (is_gone told) y.0 (weak.note_ask n r.law y.0 request told)
 
-  no_view : rank r.step ≤ 6 → r.phase ≡ Opening → (z : ℕ) (v : View) → r.first_views z ≡ Some v → ⊥
+  no_view : rank r.step ≤ 6 → r.part ≡ Opening → (z : ℕ) (v : View) → r.first_views z ≡ Some v → ⊥
   no_view low first z v e = (let there : holder r.first_views z ≡ true = rw e refl in true≢false (sym (firsts.reached z there) ∙ firsts.early inside low first z))
 
   stops_on : (h : ℕ) (k : Kind) → onward n keeps r s h k ≡ true → h ≡ g.0 → k ≡ kind → ⊥
@@ -76,7 +76,7 @@ module _ (p : Plan) (keeps : ℕ → Kind → Bool) (was : Seq Line) (g : Gfid) 
   -- what a request leaves
   pub record Leaves (request : Request) (told : Told) : Type 0 where
     pub spared : Spares g kind (Ask x y request told took)
-    pub unseen : (law_after request told).object ≡ g.0 → (law_after request told).kind ≡ kind → Looking p was g kind (left_in_heal n r t y.0 request told).step (left_in_heal n r t y.0 request told).phase (left_in_heal n r t y.0 request told).first_views
+    pub unseen : (law_after request told).object ≡ g.0 → (law_after request told).kind ≡ kind → Looking p was g kind (left_in_heal n r t y.0 request told).step (left_in_heal n r t y.0 request told).part (left_in_heal n r t y.0 request told).first_views
 
   heal_lock : (area : Area) (told : Told) → rank r.step ≡ 5 → Leaves (Lock Heal area) told
   heal_lock area told five = record {
@@ -90,7 +90,7 @@ module _ (p : Plan) (keeps : ℕ → Kind → Bool) (was : Seq Line) (g : Gfid) 
       w : WorkLocked n r.law (law_after (Lock Work area) told) y.0 area (is_gone told)
       w = work_locked n r.law y.0 area told
 
-      go : r.law.object ≡ g.0 → r.law.kind ≡ kind → WorkPlace n keeps r s y.0 area → Looking p was g kind WorkLocks (next_phase r area) r.first_views
+      go : r.law.object ≡ g.0 → r.law.kind ≡ kind → WorkPlace n keeps r s y.0 area → Looking p was g kind WorkLocks (next_part r area) r.first_views
       go o k (Waits at still own lock fresh) = (let i = early o k in record { first = still ∙ i.first; low = omega arith; seen = i.seen })
       go o k (Starts five still lock) = (let i = early o k in record { first = still ∙ i.first; low = omega arith; seen = i.seen })
       go o k (Resumes twelve still idle bytes unfinished lock next) = (let i = early o k in let near = i.low in absurd (omega (arith, twelve, near)))
@@ -101,16 +101,16 @@ module _ (p : Plan) (keeps : ℕ → Kind → Bool) (was : Seq Line) (g : Gfid) 
       here : r.law.object ≡ g.0 → h ≡ g
       here o = gfid_is h g (eqb-true h.0 r.law.object (look_object n keeps r s y.0 h.0 e) ∙ o)
 
-      more : (v : Option View) → r.law.object ≡ g.0 → r.law.kind ≡ kind → ((view : View) → v ≡ Some view → ShowsWas p was g kind y.0 view) → (views : ℕ → Option View) → views ≡ (if is_opening r.phase then put r.first_views y.0 v else r.first_views) → Looking p was g kind Looks r.phase views
+      more : (v : Option View) → r.law.object ≡ g.0 → r.law.kind ≡ kind → ((view : View) → v ≡ Some view → ShowsWas p was g kind y.0 view) → (views : ℕ → Option View) → views ≡ (if is_opening r.part then put r.first_views y.0 v else r.first_views) → Looking p was g kind Looks r.part views
       more v o k shown views is = (let i = early o k in record { first = i.first; low = omega arith; seen = λ z view m. found i z view (sym (ap (λ (f : ℕ → Option View). f z) is ∙ ap (λ (b : Bool). (if b then put r.first_views y.0 v else r.first_views) z) (ap is_opening i.first)) ∙ m) })
         where
-          found : Looking p was g kind r.step r.phase r.first_views → (z : ℕ) (view : View) → put r.first_views y.0 v z ≡ Some view → (z < n) × ShowsWas p was g kind z view
+          found : Looking p was g kind r.step r.part r.first_views → (z : ℕ) (view : View) → put r.first_views y.0 v z ≡ Some view → (z < n) × ShowsWas p was g kind z view
           found i z view m = elim (here_or y.0 z) [
             | inl at ↦ subst (λ (j : ℕ). (j < n) × ShowsWas p was g kind j view) (sym at) (below, shown view (sym (put_same r.first_views y.0 v) ∙ ap (put r.first_views y.0 v) (sym at) ∙ m))
             | inr other ↦ i.seen z view (sym (put_other r.first_views y.0 z v other) ∙ m)
           ]
 
-      seen : (d : Told) → Hears p older y.0 (Look h) d → (law_after (Look h) d).object ≡ g.0 → (law_after (Look h) d).kind ≡ kind → Looking p was g kind Looks r.phase (left_in_heal n r t y.0 (Look h) d).first_views
+      seen : (d : Told) → Hears p older y.0 (Look h) d → (law_after (Look h) d).object ≡ g.0 → (law_after (Look h) d).kind ≡ kind → Looking p was g kind Looks r.part (left_in_heal n r t y.0 (Look h) d).first_views
       seen (Seen view) shown o k = (
           let w = sees r.law y.0 h.0 view in
           let mine : r.law.object ≡ g.0 = sym w.object ∙ o in

@@ -47,7 +47,7 @@ use Rattle.afr_moves.specs.Steps.{goes_on, goes_on_at, looks_over}
 use Rattle.afr_moves.proofs.Tests.{all_yes, same_kind_self, same_kind_yes, same_self, some_yes}
 use Rattle.afr_law.proofs.Heals.Conditions.{looks_far}
 use Rattle.afr_law.proofs.Heals.Along.{healed_is}
-use Rattle.afr_quiet.specs.Undisturbed.{IsEverywhere, IsKept, IsTold, OfHeal, begun_after}
+use Rattle.afr_quiet.specs.Undisturbed.{EndsRepaired, IsEverywhere, IsTold, OfHeal, begun_after}
 use Rattle.afr_quiet_copies.proofs.AfterLines.{no_begin}
 use Rattle.afr_quiet_copies.proofs.After.{none_beyond}
 use Rattle.afr_quiet_copies.proofs.Counted.{view_here}
@@ -113,7 +113,7 @@ module _ (p : Plan) (was : Seq Line) (q : Premises p was) (g : Gfid) (kind : Kin
 pub record Still (p : Plan) (a : ℕ) (was : Seq Line) (g : Gfid) (kind : Kind) (older : Seq Line) (r : Exact) : Type 0 where
   pub same : Same p a was g kind older
   pub idle : r.law.heal ≡ false → r.law.number ≡ 0
-  pub looking : r.law.heal ≡ true → r.broken ≡ false → r.law.object ≡ g.0 → r.law.kind ≡ kind → Looking p was g kind r.step r.phase r.first_views
+  pub looking : r.law.heal ≡ true → r.broken ≡ false → r.law.object ≡ g.0 → r.law.kind ≡ kind → Looking p was g kind r.step r.part r.first_views
 
 -- where no line of a work or heal is yet
 pub still_fresh : (p : Plan) (a : ℕ) (was : Seq Line) (g : Gfid) (kind : Kind) (older : Seq Line) → Same p a was g kind older → Still p a was g kind older untouched
@@ -159,7 +159,7 @@ module _ (p : Plan) (L : Log) (moves : MovesExactly p.shape.n (kept_by p) L) (a 
       whole : Whole p a older r
       whole = round.whole inside unbroken
 
-      look : Looking p was g kind r.step r.phase r.first_views
+      look : Looking p was g kind r.step r.part r.first_views
       look = h.looking inside unbroken object kin
 
       far : 7 ≤ rank r.step
@@ -178,7 +178,7 @@ module _ (p : Plan) (L : Log) (moves : MovesExactly p.shape.n (kept_by p) L) (a 
       shown = looked_all p keeps older (heal_by (work a older)) r whole.locks s over (whole.looks.shown first.0 first.1 (subst (IsEverywhere p first.0) (sym (gfid_is (gfid r.law.object) g object)) held))
 
       is_good : good n keeps r.law.kind r.first_views s ≡ true
-      is_good = and_left (good n keeps r.law.kind r.first_views s) (goes_on_at n keeps r s r.phase) on
+      is_good = and_left (good n keeps r.law.kind r.first_views s) (goes_on_at n keeps r s r.part) on
 
       free : unaccused n kind r.first_views s ≡ true
       free = subst (λ k. unaccused n k r.first_views s ≡ true) kin (and_right (holder r.first_views s && keeps s r.law.kind) (unaccused n r.law.kind r.first_views s) is_good)
@@ -188,7 +188,7 @@ module _ (p : Plan) (L : Log) (moves : MovesExactly p.shape.n (kept_by p) L) (a 
 
       some : (x : ℕ) × (x < n) × (shows_number r.law.kind (r.first_views x) ≡ true)
       some = some_yes n (λ x. shows_number r.law.kind (r.first_views x)) (and_right (is_most n r.first_reached && is_most n (holder r.first_views)) (any n (λ x. shows_number r.law.kind (r.first_views x)))
-          (subst (λ z. goes_on_at n keeps r s z ≡ true) look.first (and_right (good n keeps r.law.kind r.first_views s) (goes_on_at n keeps r s r.phase) on)))
+          (subst (λ z. goes_on_at n keeps r s z ≡ true) look.first (and_right (good n keeps r.law.kind r.first_views s) (goes_on_at n keeps r s r.part) on)))
 
       never_clear : IsClear p was g kind → ⊥
       never_clear clear = not_clear p was before g kind every r.first_views look.seen some.0 (subst (λ k. shows_number k (r.first_views some.0) ≡ true) kin some.2) clear
@@ -215,7 +215,7 @@ module _ (p : Plan) (L : Log) (moves : MovesExactly p.shape.n (kept_by p) L) (a 
         record {
           same = same_on p a was g kind line older q calm w.spared h.same;
           idle = λ out. absurd (on_heals m.inside out);
-          looking = λ in_heal whole o k. subst (λ (z : Exact). Looking p was g kind z.step z.phase z.first_views) (healed_is n keeps r t x.0 y.0 request told took m.inside) (w.unseen o k);
+          looking = λ in_heal whole o k. subst (λ (z : Exact). Looking p was g kind z.step z.part z.first_views) (healed_is n keeps r t x.0 y.0 request told took m.inside) (w.unseen o k);
         }
         )
 
@@ -285,13 +285,13 @@ module _ (p : Plan) (L : Log) (moves : MovesExactly p.shape.n (kept_by p) L) (a 
   begins x i k q calm h may = inl (record {
     same = same_on p a was g kind (HealBegin x i k) older q calm tt h.same;
     idle = λ out. absurd (true≢false (sym may.inside ∙ out));
-    looking = λ in_heal whole o c. elim (opening_or r.phase) [
+    looking = λ in_heal whole o c. elim (opening_or r.part) [
       | inl first ↦ record { first = first; low = omega arith; seen = λ z v e. absurd (no_view first z v e) }
       | inr later ↦ absurd (later (h.looking may.inside may.whole o (sym (may.later later) ∙ c)).first)
     ];
   })
     where
-      no_view : r.phase ≡ Opening → (z : ℕ) (v : View) → r.first_views z ≡ Some v → ⊥
+      no_view : r.part ≡ Opening → (z : ℕ) (v : View) → r.first_views z ≡ Some v → ⊥
       no_view first z v e = (
           let six : rank r.step ≡ 6 = ap rank may.step in
           let f = (firsts_now n keeps L moves t a).0 in
@@ -308,7 +308,7 @@ module _ (p : Plan) (L : Log) (moves : MovesExactly p.shape.n (kept_by p) L) (a 
   still_own (Event e) q past calm round h may = absurd (true≢false (sym calm.mine))
 
   -- each line of the round
-  pub state_own : (line : Line) → Premises p (line ∷ older) → IsPast L (line ∷ older) → Calm a line → OfHeal (λ h k said before. IsTold p h k said (heal_by (work a before))) line older → OfHeal (λ h k said before. IsKept p log h k said (heal_by (work a before))) line older → Round p a older r → State older r
+  pub state_own : (line : Line) → Premises p (line ∷ older) → IsPast L (line ∷ older) → Calm a line → OfHeal (λ h k said before. IsTold p h k said (heal_by (work a before))) line older → OfHeal (λ h k said before. EndsRepaired p log h k said (heal_by (work a before))) line older → Round p a older r → State older r
       → MayExactly n keeps (λ x. r) (Some line) → State (line ∷ older) (note n keeps r t (Some line))
   state_own this q past calm told kept round (inl h) may = still_own this q past calm round h may
   state_own this q past calm told kept round (inr (inl w)) may = inr (went_on p a was g kind log no_command older this q calm told kept w)

@@ -33,11 +33,11 @@ use Rattle.afr_model.specs.Tables.{Past, asked, carried, holds, keeps_bytes, tab
 use Rattle.afr_tables.specs.CopyLaws.{gfid_is}
 use Rattle.afr_moves.specs.Past as position
 use Rattle.afr_moves.specs.Rules.{repair_kind}
-use Rattle.afr_converged.specs.Converged.{HasPart, part_of}
+use Rattle.afr_converged.specs.Converged.{HasPart, contents_in}
 
 -- the sort of an object, and what it has of a kind
 abbrev pub part_in : Kind → Object → What × Contents
-part_in kind o = (o.what, part_of kind o)
+part_in kind o = (o.what, contents_in kind o)
 
 -- the same of a table
 abbrev pub PartIn : Table → Gfid → Kind → What × Contents → Type 0

@@ -33,12 +33,12 @@ use Rattle.afr_tables.specs.Clear.{IsClear, IsClearOn}
 use Rattle.afr_tables.specs.TableLaws.{copy_stays}
 use Rattle.afr_law.specs.ModelAlike.{AreAlike}
 use Rattle.afr_law.proofs.Model.Discipline.{exact_alike}
-use Rattle.afr_quiet.specs.Undisturbed.{AreQuietWhole, EachHeal, IsEverywhere, IsKept, IsListed, IsSplitReply, IsTold, IsWholeRound, begun_after, ended_heals}
+use Rattle.afr_quiet.specs.Undisturbed.{AreQuietWhole, EachHeal, EndsRepaired, IsEverywhere, IsListed, IsSplitReply, IsTold, IsWholeRound, begun_after, ended_heals}
 use Rattle.afr_quiet_copies.proofs.Premises.{Premises, sums}
 use Rattle.afr_quiet_copies.proofs.Stretch.{IsTail, before_tail, now_of, tail_self}
 use Rattle.afr_quiet_lists.proofs.Premises.{Sound, sound_before}
 use Rattle.afr_quiet_rounds.specs.Whole.{QuietRoundsAreWhole, RoundsAreLow}
-use Rattle.afr_converged.specs.Converged.{AreAll, AreRounds, IsClearAlike, IsConverged, IsEverywhereAs, IsKindOf, IsUnchanged, QuietRoundsConverge, part_of, HasConverged}
+use Rattle.afr_converged.specs.Converged.{AreAll, AreRounds, IsClearAlike, IsConverged, IsEverywhereAs, IsKindOf, IsUnchanged, QuietRoundsConverge, contents_in, HasConverged}
 use Rattle.afr_converged.proofs.Heals.{Healed, IsIn, IsOpenOn, healed, heals_have, listed_as, open_marked, round_list}
 use Rattle.afr_converged.proofs.Rounds.{premises_then, round_clears, round_leaves}
 use Rattle.afr_converged.proofs.Spared.{clear_still, clear_was, everywhere_still, spared, unchanged_on, unchanged_self}
@@ -88,7 +88,7 @@ everywhere_as p log g what h b low = ap (λ (o : Option Object). is_some o) (h b
 as_still : (p : Plan) (was log : Seq Line) (g : Gfid) (kind : Kind) (what : What) → IsUnchanged p was log g kind → IsEverywhereAs p was g what → IsEverywhereAs p log g what
 as_still p was log g kind what u h b low = (
     let w = h b low in
-    let v = u.parts b low (w.0.what, part_of kind w.0) (w.0, w.1, refl) in
+    let v = u.parts b low (w.0.what, contents_in kind w.0) (w.0, w.1, refl) in
     (v.0, v.1, ap (λ pair. pair.0) v.2 ∙ w.2)
     )
 
@@ -129,9 +129,9 @@ module _ (p : Plan) (start : Seq Line) (g : Gfid) (what : What) (kind : Kind) (a
     leaves every = round_leaves p x said older (premises_of (End x said ∷ older) s) s.clients high quiet b whole g kind every
 
     abbrev Fact : Gfid → Kind → HealReply → Seq Line → Type 0
-    Fact h k reply before = IsTold p h k reply (heal_by (work x.0 before)) × IsKept p older h k reply (heal_by (work x.0 before)) × (h ≡ g → k ≡ kind → (first : Seq Line) → begun_after (heal_by (work x.0 before)) ≡ Some first → Begun p x.0 then_ g kind first)
+    Fact h k reply before = IsTold p h k reply (heal_by (work x.0 before)) × EndsRepaired p older h k reply (heal_by (work x.0 before)) × (h ≡ g → k ≡ kind → (first : Seq Line) → begun_after (heal_by (work x.0 before)) ≡ Some first → Begun p x.0 then_ g kind first)
 
-    facts : (w : Lines) → EachHeal (λ h k reply before. IsTold p h k reply (heal_by (work x.0 before))) w → EachHeal (λ h k reply before. IsKept p older h k reply (heal_by (work x.0 before))) w → EachHeal (λ h k reply before. h ≡ g → k ≡ kind → (first : Seq Line) → begun_after (heal_by (work x.0 before)) ≡ Some first → Begun p x.0 then_ g kind first) w → EachHeal Fact w
+    facts : (w : Lines) → EachHeal (λ h k reply before. IsTold p h k reply (heal_by (work x.0 before))) w → EachHeal (λ h k reply before. EndsRepaired p older h k reply (heal_by (work x.0 before))) w → EachHeal (λ h k reply before. h ≡ g → k ≡ kind → (first : Seq Line) → begun_after (heal_by (work x.0 before)) ≡ Some first → Begun p x.0 then_ g kind first) w → EachHeal Fact w
     facts [] t k f = tt
     facts ((HealEnd y h i reply, before) ∷ w) t k f = ((t.0, k.0, f.0), facts w t.1 k.1 f.1)
     facts ((Ask y z request told took, before) ∷ w) t k f = (tt, facts w t.1 k.1 f.1)

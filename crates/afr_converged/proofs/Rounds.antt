@@ -27,7 +27,7 @@ use Rattle.afr_moves.specs.Positions.{by_position}
 use Rattle.afr_moves.specs.Register.{Exact, untouched}
 use Rattle.afr_moves.proofs.ByPosition.{IsPast, past_whole}
 use Rattle.afr_moves.proofs.Places.{place_is}
-use Rattle.afr_quiet.specs.Undisturbed.{AreQuietWhole, EachHeal, IsEverywhere, IsKept, IsQuietWhole, IsTold, IsWholeRound, begun_after}
+use Rattle.afr_quiet.specs.Undisturbed.{AreQuietWhole, EachHeal, EndsRepaired, IsEverywhere, IsQuietWhole, IsTold, IsWholeRound, begun_after}
 use Rattle.afr_quiet_copies.proofs.After.{After, after_fresh}
 use Rattle.afr_quiet_copies.proofs.AfterLines.{after_own}
 use Rattle.afr_quiet_copies.proofs.Kept.{fresh_now}
@@ -73,7 +73,7 @@ module _ (p : Plan) (log : Seq Line) (premises : Premises p log) (a : ℕ) (quie
   Tells h k said before = IsTold p h k said (heal_by (work a before))
 
   abbrev Keeps : Gfid → Kind → HealReply → Seq Line → Type 0
-  Keeps h k said before = IsKept p log h k said (heal_by (work a before))
+  Keeps h k said before = EndsRepaired p log h k said (heal_by (work a before))
 
   at_start : now start ≡ untouched
   at_start = fresh_now n (kept_by p) L lo a (place_is L a start (past_then L start log (before_tail a log) (past_whole log)) ∙ fresh_before a log)

@@ -24,7 +24,7 @@ use Rattle.afr_model.specs.Healing.{heal_by, is_border}
 use Rattle.afr_model.specs.Rounds.{KeepsToRound, heal_due}
 use Rattle.afr_model.specs.Splits.{IsSplit}
 use Rattle.afr_tables.specs.Clear.{IsClear}
-use Rattle.afr_quiet.specs.Undisturbed.{EachHeal, IsEverywhere, IsKept, IsRepaired, IsSplitReply, IsTold, OfHeal, begun_after, if_begin, or_log}
+use Rattle.afr_quiet.specs.Undisturbed.{EachHeal, EndsRepaired, IsEverywhere, IsRepaired, IsSplitReply, IsTold, OfHeal, begun_after, if_begin, or_log}
 use Rattle.afr_quiet_copies.proofs.Premises.{Premises, shorter}
 use Rattle.afr_quiet_copies.proofs.Round.{work_own}
 use Rattle.afr_quiet_copies.proofs.Stretch.{Calm}
@@ -144,7 +144,7 @@ module _ (p : Plan) (a : ℕ) (was : Seq Line) (g : Gfid) (kind : Kind) where
     }
 
   -- its end tells that it settled
-  pub went_ends : (log : Seq Line) (h : Gfid) (k : Kind) (said : HealReply) (older : Seq Line) → Went older → heal_due p (work a older) ≡ Some (h, k) → IsTold p h k said (heal_by (work a older)) → IsKept p log h k said (heal_by (work a older)) → Gone log
+  pub went_ends : (log : Seq Line) (h : Gfid) (k : Kind) (said : HealReply) (older : Seq Line) → Went older → heal_due p (work a older) ≡ Some (h, k) → IsTold p h k said (heal_by (work a older)) → EndsRepaired p log h k said (heal_by (work a older)) → Gone log
   went_ends log h k said older w due told kept = (go told.few, w.none_was, w.unclear_was)
     where
       same : Path (Gfid × Kind) (h, k) (g, kind)
@@ -173,7 +173,7 @@ module _ (p : Plan) (a : ℕ) (was : Seq Line) (g : Gfid) (kind : Kind) where
     no_begun first e none = (let k : begun_after (heal_by []) ≡ Some first = subst (λ (w : Lines). begun_after (heal_by w) ≡ Some first) none e in cc k)
 
     -- each line leaves a heal that goes on, or ends it
-    pub went_on : (line : Line) → Premises p (line ∷ older) → Calm a line → OfHeal (λ h k said before. IsTold p h k said (heal_by (work a before))) line older → OfHeal (λ h k said before. IsKept p log h k said (heal_by (work a before))) line older → Went older → Went (line ∷ older) ⊎ Gone log
+    pub went_on : (line : Line) → Premises p (line ∷ older) → Calm a line → OfHeal (λ h k said before. IsTold p h k said (heal_by (work a before))) line older → OfHeal (λ h k said before. EndsRepaired p log h k said (heal_by (work a before))) line older → Went older → Went (line ∷ older) ⊎ Gone log
     went_on (Ask x y request told took) q calm t k w = (
         let plain = ask_stays x y request told took older (work a older) no_index in
         inl (went_still (Ask x y request told took) older calm w plain.0 plain.1)

@@ -36,14 +36,14 @@ use Rattle.afr_law.specs.Exactly.{IsLawfulExactly}
 
 -- ---- unchanged
 -- what an object has of a kind: its bytes, its attributes or its names
-abbrev pub part_of : Kind → Object → Contents
-part_of Bytes o = contents.Bytes o.content
-part_of Attrs o = contents.Attrs o.attrs
-part_of Names o = contents.Names o.names
+abbrev pub contents_in : Kind → Object → Contents
+contents_in Bytes o = contents.Bytes o.content
+contents_in Attrs o = contents.Attrs o.attrs
+contents_in Names o = contents.Names o.names
 
 -- brick b has the object, as a file or directory of this sort, and this is its part of the kind
 abbrev pub HasPart : Plan → List Line → ℕ → Gfid → Kind → What × Contents → Type 0
-HasPart p log b g kind part = (o : Object) × (copy_at g (holds p log b) ≡ Some o) × ((o.what, part_of kind o) ≡ part)
+HasPart p log b g kind part = (o : Object) × (copy_at g (holds p log b) ≡ Some o) × ((o.what, contents_in kind o) ≡ part)
 
 -- on every brick the numbers of the object and kind are what they were, and so is what its copy has of the kind
 pub record IsUnchanged (p : Plan) (was log : List Line) (g : Gfid) (kind : Kind) : Type 0 where

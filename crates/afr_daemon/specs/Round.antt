@@ -8,17 +8,17 @@ use Rattle.afr_base.specs.declared.ids.What.{What}
 use Rattle.afr_model.specs.Rounds.{heals_of, kind_within}
 
 -- the brick of a round, the list that its index had, if it was given, and how many heals of the list were given
-pub record Progress : Type 0 where
+pub record RoundProgress : Type 0 where
   pub brick : BrickId
   pub list : Option (List (Gfid × What))
   pub given : ℕ
 
 -- a round that has no list yet
-abbrev pub begun : BrickId → Progress
+abbrev pub begun : BrickId → RoundProgress
 begun b = record { brick = b; list = None; given = 0 }
 
 -- a round that has this list, and gave none of its heals
-abbrev pub with_list : List (Gfid × What) → Progress → Progress
+abbrev pub with_list : List (Gfid × What) → RoundProgress → RoundProgress
 with_list list p = record p { list = Some list; given = 0 }
 
 -- the heals of the list, if it was given
@@ -27,11 +27,11 @@ heals_in None = []
 heals_in (Some list) = heals_of list
 
 -- the heal that is given next: none where all were given, or no list was
-abbrev pub next_due : Progress → Option (Gfid × Kind)
+abbrev pub next_due : RoundProgress → Option (Gfid × Kind)
 next_due p = slice_get (heals_in p.list) p.given
 
 -- one more heal was given, where one was left
-abbrev pub without_next : Progress → Progress
+abbrev pub without_next : RoundProgress → RoundProgress
 without_next p = if is_some (next_due p) then record p { given = p.given + 1 } else p
 
 -- the object at a place of the list

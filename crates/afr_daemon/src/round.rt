@@ -20,9 +20,9 @@ pub struct Round {
 }
 
 impl Model for Round {
-    ghost use Rattle.afr_daemon.specs.Round.{Progress, given};
+    ghost use Rattle.afr_daemon.specs.Round.{RoundProgress, given};
 
-    ghost Value = { Progress };
+    ghost Value = { RoundProgress };
 
     ghost view = { λ r. record { brick = r.brick; list = r.list; given = given r.at r.within } };
 }

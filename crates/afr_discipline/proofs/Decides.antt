@@ -9,10 +9,10 @@ use Rattle.afr_lines.specs.declared.request.Area.{Area}
 use Rattle.afr_lines.specs.declared.request.Area.TheVariants.{Range, Name}
 use Rattle.afr_base.specs.Kinds.{same_kind}
 use Rattle.afr_moves.specs.Sets.{any}
-use Rattle.afr_moves.specs.Rules.{Register, LastPosted, busy, is_area, area_object}
-use Rattle.afr_moves.specs.Register.{Exact, Step, IsArea, PlaneIn, area_kind, asked_in, good, rank}
-use Rattle.afr_moves.specs.Transaction.{Carried, MayWork, Once, OneOf}
-use Rattle.afr_discipline.specs.Tests.{carried, is_open, is_valid, last_posted, may_work, once, one_of, plane_in}
+use Rattle.afr_moves.specs.Rules.{LastPosted, Register, area_object, busy, is_area}
+use Rattle.afr_moves.specs.Register.{Exact, IsArea, PlaneIn, Step, area_kind, asked_in, good, rank}
+use Rattle.afr_moves.specs.Transaction.{MayWork, Once, OneOf, SufficesBy}
+use Rattle.afr_discipline.specs.Tests.{is_open, is_valid, last_posted, may_work, once, one_of, plane_in, suffices_by}
 use Rattle.afr_moves.proofs.Tests.{some_yes, some_no, most_yes, most_no, same_kind_yes, same_kind_self}
 
 then_part : (c x y : Bool) → (if c then x else y) ≡ true → c ≡ true → x ≡ true
@@ -105,15 +105,15 @@ once_no r step b o =
     (and_from (nat_le (rank r.step) (rank step)) (not (asked_in r step b)) (le_test (rank r.step) (rank step) o.order) (not_from_false (asked_in r step b) o.once))
     (not_from_false r.unlocked o.open_still)
 
-pub carried_yes : (n : ℕ) (keeps : ℕ → Kind → Bool) (kind : Kind) (views : ℕ → Option View) (set : ℕ → Bool) → carried n keeps kind views set ≡ true → Carried n keeps kind views set
-carried_yes n keeps kind views set h =
+pub suffices_yes : (n : ℕ) (keeps : ℕ → Kind → Bool) (kind : Kind) (views : ℕ → Option View) (set : ℕ → Bool) → suffices_by n keeps kind views set ≡ true → SufficesBy n keeps kind views set
+suffices_yes n keeps kind views set h =
     let w = and_parts (is_most n set) (any n (λ s. set s && good n keeps kind views s)) h in
     let some = some_yes n (λ s. set s && good n keeps kind views s) w.1 in
     let v = and_parts (set some.0) (good n keeps kind views some.0) some.2 in
     record { majority = most_yes n set w.0; source = some.0; below = some.1; member = v.0; unblamed = v.1 }
 
-pub carried_no : (n : ℕ) (keeps : ℕ → Kind → Bool) (kind : Kind) (views : ℕ → Option View) (set : ℕ → Bool) → Carried n keeps kind views set → carried n keeps kind views set ≡ true
-carried_no n keeps kind views set c =
+pub suffices_no : (n : ℕ) (keeps : ℕ → Kind → Bool) (kind : Kind) (views : ℕ → Option View) (set : ℕ → Bool) → SufficesBy n keeps kind views set → suffices_by n keeps kind views set ≡ true
+suffices_no n keeps kind views set c =
     and_from (is_most n set) (any n (λ s. set s && good n keeps kind views s)) (most_no n set c.majority)
     (some_no n (λ s. set s && good n keeps kind views s) c.source c.below (and_from (set c.source) (good n keeps kind views c.source) c.member c.unblamed))
 

@@ -30,8 +30,8 @@ use Rattle.afr_discipline.specs.declared.register.Register.{Register}
 use Rattle.afr_moves.specs.Keeps.{keeps_in}
 use Rattle.afr_discipline.specs.Stands.{seen_as}
 use Rattle.afr_discipline.proofs.StandsLemmas.{filled}
-use Rattle.afr_discipline.specs.Tests.{carried, ends_low, fits_view, has_name, is_heal_area, last_posted, lies_in, may_apply, may_ask_outside, may_begin, may_end, may_move_outside, may_open, may_post, may_pre, misses, once, plane_in, same_flag}
-use Rattle.afr_discipline.proofs.Decides.{le_test, posted_yes, posted_no, work_yes, work_no, once_yes, once_no, carried_yes, carried_no, plane_yes, plane_no}
+use Rattle.afr_discipline.specs.Tests.{ends_low, fits_view, has_name, is_heal_area, last_posted, lies_in, may_apply, may_ask_outside, may_begin, may_end, may_move_outside, may_open, may_post, may_pre, misses, once, plane_in, same_flag, suffices_by}
+use Rattle.afr_discipline.proofs.Decides.{le_test, posted_yes, posted_no, work_yes, work_no, once_yes, once_no, suffices_yes, suffices_no, plane_yes, plane_no}
 use Rattle.afr_moves.proofs.Tests.{all_yes, all_no, most_yes, most_no, some_number}
 
 -- the change lies in the area
@@ -105,7 +105,7 @@ fit_yes shown change view h e = let k : fits_view (Some view) change ≡ true = 
 
 begin_yes : (n : ℕ) (keeps : ℕ → Kind → Bool) (r : Exact) (change : Change) → r.law.heal ≡ false → may_begin n keeps r change ≡ true → MayBegin n keeps r change
 begin_yes n keeps r change out h =
-    let a = and_parts _ (carried n keeps (plane_kind change) r.views (holder r.views)) h in
+    let a = and_parts _ (suffices_by n keeps (plane_kind change) r.views (holder r.views)) h in
     let b = and_parts _ (is_most n r.reached) a.0 in
     let c = and_parts _ (all n (λ x. fits_view (r.views x) change)) b.0 in
     let d = and_parts _ (ends_low change) c.0 in
@@ -119,12 +119,12 @@ begin_yes n keeps r change out h =
       low = low_yes change d.1;
       fits = λ x view l shown. fit_yes (r.views x) change view (all_yes n (λ x. fits_view (r.views x) change) c.1 x l) shown;
       reached = most_yes n r.reached b.1;
-      holders = carried_yes n keeps (plane_kind change) r.views (holder r.views) a.1;
+      holders = suffices_yes n keeps (plane_kind change) r.views (holder r.views) a.1;
     }
 
 begin_no : (n : ℕ) (keeps : ℕ → Kind → Bool) (r : Exact) (change : Change) → MayBegin n keeps r change → may_begin n keeps r change ≡ true
 begin_no n keeps r change m =
-    and_from _ (carried n keeps (plane_kind change) r.views (holder r.views))
+    and_from _ (suffices_by n keeps (plane_kind change) r.views (holder r.views))
     (and_from _ (is_most n r.reached)
     (and_from _ (all n (λ x. fits_view (r.views x) change))
     (and_from _ (ends_low change)
@@ -132,7 +132,7 @@ begin_no n keeps r change m =
     (low_no change m.low))
     (all_no n (λ x. fits_view (r.views x) change) (λ x l. fit_no (r.views x) change (λ view shown. m.fits x view l shown))))
     (most_no n r.reached m.reached))
-    (carried_no n keeps (plane_kind change) r.views (holder r.views) m.holders)
+    (suffices_no n keeps (plane_kind change) r.views (holder r.views) m.holders)
 
 not_zero : (k : ℕ) → not (k == 0) ≡ true → k ≡ 0 → ⊥
 not_zero k h e = let w : not (0 == 0) ≡ true = rw e at h in absurd (cc w)
@@ -151,14 +151,14 @@ pre_no n r b g kind m =
 apply_yes : (n : ℕ) (keeps : ℕ → Kind → Bool) (r : Exact) (b q : ℕ) → r.law.heal ≡ false → may_apply n keeps r b q ≡ true → MayApply n keeps r b q
 apply_yes n keeps r b q out h =
     let x = and_parts _ (once r Applies b) h in
-    let y = and_parts _ (carried n keeps (kind_in r.law.area) r.views r.law.pre) x.0 in
+    let y = and_parts _ (suffices_by n keeps (kind_in r.law.area) r.views r.law.pre) x.0 in
     let z = and_parts (r.law.number == suc q) (r.law.pre b) y.0 in
-    record { outside = out; own = eqb-true r.law.number (suc q) z.0; ready = z.1; enough = carried_yes n keeps (kind_in r.law.area) r.views r.law.pre y.1; turn = once_yes r Applies b x.1 }
+    record { outside = out; own = eqb-true r.law.number (suc q) z.0; ready = z.1; enough = suffices_yes n keeps (kind_in r.law.area) r.views r.law.pre y.1; turn = once_yes r Applies b x.1 }
 
 apply_no : (n : ℕ) (keeps : ℕ → Kind → Bool) (r : Exact) (b q : ℕ) → MayApply n keeps r b q → may_apply n keeps r b q ≡ true
 apply_no n keeps r b q m =
     and_from _ (once r Applies b)
-    (and_from _ (carried n keeps (kind_in r.law.area) r.views r.law.pre) (and_from (r.law.number == suc q) (r.law.pre b) (eq-eqb r.law.number (suc q) m.own) m.ready) (carried_no n keeps (kind_in r.law.area) r.views r.law.pre m.enough))
+    (and_from _ (suffices_by n keeps (kind_in r.law.area) r.views r.law.pre) (and_from (r.law.number == suc q) (r.law.pre b) (eq-eqb r.law.number (suc q) m.own) m.ready) (suffices_no n keeps (kind_in r.law.area) r.views r.law.pre m.enough))
     (once_no r Applies b m.turn)
 
 same_flag_yes : (x y : Bool) → same_flag x y ≡ true → x ≡ y
@@ -210,7 +210,7 @@ post_yes : (n : ℕ) (keeps : ℕ → Kind → Bool) (r : Exact) (b q g : ℕ) (
 post_yes n keeps r b q g kind missed few out h =
     let u = and_parts _ (misses n r.law.done missed) h in
     let v = and_parts _ (once r Posts b) u.0 in
-    let x = and_parts _ (carried n keeps kind r.views r.law.done) v.0 in
+    let x = and_parts _ (suffices_by n keeps kind r.views r.law.done) v.0 in
     let y = and_parts _ (r.law.done b) x.0 in
     let z = and_parts (r.law.number == suc q) (plane_in r.law.area g kind) y.0 in
     record {
@@ -218,7 +218,7 @@ post_yes n keeps r b q g kind missed few out h =
       own = eqb-true r.law.number (suc q) z.0;
       plane = plane_yes r.law.area g kind z.1;
       ready = y.1;
-      enough = carried_yes n keeps kind r.views r.law.done x.1;
+      enough = suffices_yes n keeps kind r.views r.law.done x.1;
       exact = misses_yes n r.law.done missed few u.1;
       turn = once_yes r Posts b v.1;
     }
@@ -227,9 +227,9 @@ post_no : (n : ℕ) (keeps : ℕ → Kind → Bool) (r : Exact) (b q g : ℕ) (k
 post_no n keeps r b q g kind missed few m =
     and_from _ (misses n r.law.done missed)
     (and_from _ (once r Posts b)
-    (and_from _ (carried n keeps kind r.views r.law.done)
+    (and_from _ (suffices_by n keeps kind r.views r.law.done)
     (and_from _ (r.law.done b) (and_from (r.law.number == suc q) (plane_in r.law.area g kind) (eq-eqb r.law.number (suc q) m.own) (plane_no r.law.area g kind m.plane)) m.ready)
-    (carried_no n keeps kind r.views r.law.done m.enough))
+    (suffices_no n keeps kind r.views r.law.done m.enough))
     (once_no r Posts b m.turn))
     (misses_no n r.law.done missed few m.exact)
 

@@ -12,7 +12,7 @@ use Rattle.afr_moves.specs.Sets.{any}
 use Rattle.afr_moves.specs.Rules.{busy, is_area}
 use Rattle.afr_moves.specs.Discipline.{MayAskExactly}
 use Rattle.afr_moves.specs.Heal.{InHeal, Goes, Gives, IsUnlock, MayHealBegin, MayHealEnd}
-use Rattle.afr_moves.specs.Register.{Exact, Step, HealUnlocks, WorkLocks, Phase, Opening, Piece, Finish, over, same_step, whole_area}
+use Rattle.afr_moves.specs.Register.{Exact, Step, HealUnlocks, WorkLocks, HealPart, Opening, Piece, Finish, over, same_step, whole_area}
 use Rattle.afr_moves.specs.Steps.{locks_at, may_heal}
 use Rattle.afr_moves.specs.Transaction.{MayEnd}
 use Rattle.afr_moves.proofs.AreaLemmas.{is_area_is}
@@ -61,12 +61,12 @@ unlocks_yes HealUnlocks h = refl
 unlocks_yes _ h = absurd (cc h)
 
 -- how a part of a heal begins
-record Parts (n : ℕ) (r : Exact) (g : ℕ) (kind : Kind) (phase : Phase) : Type 0 where
-  enough : phase ≡ Opening → IsMajority n r.law.held
-  opening : phase ≡ Opening → r.law.area ≡ Some (whole_area g kind)
-  later : (phase ≡ Opening → ⊥) → kind ≡ r.law.kind
+record Parts (n : ℕ) (r : Exact) (g : ℕ) (kind : Kind) (part : HealPart) : Type 0 where
+  enough : part ≡ Opening → IsMajority n r.law.held
+  opening : part ≡ Opening → r.law.area ≡ Some (whole_area g kind)
+  later : (part ≡ Opening → ⊥) → kind ≡ r.law.kind
 
-part_yes : (n : ℕ) (r : Exact) (g : ℕ) (kind : Kind) (phase : Phase) → begins_part n r g kind phase ≡ true → Parts n r g kind phase
+part_yes : (n : ℕ) (r : Exact) (g : ℕ) (kind : Kind) (part : HealPart) → begins_part n r g kind part ≡ true → Parts n r g kind part
 part_yes n r g kind Opening h =
     let w = and_parts (is_most n r.law.held) (is_area r.law.area (whole_area g kind)) h in
     record { enough = λ e. most_yes n r.law.held w.0; opening = λ e. is_area_is r.law.area (whole_area g kind) w.1; later = λ no. absurd (no refl) }
@@ -78,18 +78,18 @@ whole_self g Bytes = rw (eq-eqb g g refl) refl
 whole_self g Attrs = rw (eq-eqb g g refl) refl
 whole_self g Names = rw (eq-eqb g g refl) refl
 
-part_no : (n : ℕ) (r : Exact) (g : ℕ) (kind : Kind) (phase : Phase) → Parts n r g kind phase → begins_part n r g kind phase ≡ true
+part_no : (n : ℕ) (r : Exact) (g : ℕ) (kind : Kind) (part : HealPart) → Parts n r g kind part → begins_part n r g kind part ≡ true
 part_no n r g kind Opening m = and_from (is_most n r.law.held) (is_area r.law.area (whole_area g kind)) (most_no n r.law.held (m.enough refl)) (rw (m.opening refl) (whole_self g kind))
 part_no n r g kind Piece m = rw (m.later (λ e. cc e)) (same_kind_self r.law.kind)
 part_no n r g kind Finish m = rw (m.later (λ e. cc e)) (same_kind_self r.law.kind)
 
 begin_yes : (n : ℕ) (r : Exact) (g : ℕ) (kind : Kind) → r.law.heal ≡ true → may_heal_begin n r g kind ≡ true → MayHealBegin n r g kind
 begin_yes n r g kind inside h =
-    let u = and_parts _ (begins_part n r g kind r.phase) h in
-    let v = and_parts _ (over n (locks_at r r.phase) r.asked) u.0 in
+    let u = and_parts _ (begins_part n r g kind r.part) h in
+    let v = and_parts _ (over n (locks_at r r.part) r.asked) u.0 in
     let x = and_parts _ (same_step r.step WorkLocks) v.0 in
     let y = and_parts (not r.broken) (g == r.law.object) x.0 in
-    let parts = part_yes n r g kind r.phase u.1 in
+    let parts = part_yes n r g kind r.part u.1 in
     record {
       inside = inside;
       whole = not-true r.broken y.0;
@@ -103,11 +103,11 @@ begin_yes n r g kind inside h =
 
 begin_no : (n : ℕ) (r : Exact) (g : ℕ) (kind : Kind) → MayHealBegin n r g kind → may_heal_begin n r g kind ≡ true
 begin_no n r g kind m =
-    and_from _ (begins_part n r g kind r.phase)
-    (and_from _ (over n (locks_at r r.phase) r.asked)
+    and_from _ (begins_part n r g kind r.part)
+    (and_from _ (over n (locks_at r r.part) r.asked)
     (and_from _ (same_step r.step WorkLocks) (and_from (not r.broken) (g == r.law.object) (not_from_false r.broken m.whole) (eq-eqb g r.law.object m.object)) (rw m.step refl))
     m.over)
-    (part_no n r g kind r.phase (record { enough = m.enough; opening = m.opening; later = m.later }))
+    (part_no n r g kind r.part (record { enough = m.enough; opening = m.opening; later = m.later }))
 
 end_yes : (n : ℕ) (r : Exact) → r.law.heal ≡ true → may_end_heal n r ≡ true → MayHealEnd n r
 end_yes n r inside h =

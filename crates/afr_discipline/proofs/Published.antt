@@ -39,7 +39,7 @@ law_half p r s = record {
 -- the exact register is that of the program's fields
 halves_fill : (p : Register) (r : Exact) → LawStands p r.law → StepsStand p r → r ≡ filled p r
 halves_fill p r l s =
-    rw (← l.number, ← l.area, ← l.held, ← l.second, ← l.second_held, ← l.pre, ← l.done, ← l.post, ← l.inside, ← l.object, ← l.kind, ← l.healing, ← l.settled, ← s.step, ← s.asked, ← s.unlocked, ← s.reached, ← s.views, ← s.first_reached, ← s.first_views, ← s.phase, ← s.reads, ← s.upto, ← s.broken) refl
+    rw (← l.number, ← l.area, ← l.held, ← l.second, ← l.second_held, ← l.pre, ← l.done, ← l.post, ← l.inside, ← l.object, ← l.kind, ← l.healing, ← l.settled, ← s.step, ← s.asked, ← s.unlocked, ← s.reached, ← s.views, ← s.first_reached, ← s.first_views, ← s.part, ← s.reads, ← s.upto, ← s.broken) refl
 
 -- ---- the one source
 -- tests that are the same below n have the same least number
@@ -82,7 +82,7 @@ published_stands p r l s = record {
   views = s.views;
   first_reached = s.first_reached;
   first_views = s.first_views;
-  phase = s.phase;
+  part = s.part;
   possible = s.possible;
   reads = s.reads;
   upto = s.upto;
@@ -100,7 +100,7 @@ stops_unseen : (p : Register) (r : Exact) (step : exact.Step) → MayMatch p r �
 stops_unseen p r exact.HealLocks possible = refl
 stops_unseen p r exact.WorkLocks possible = refl
 stops_unseen p r exact.Looks possible =
-    ap (λ (some : Bool). over p.shape.n (looks_at (seen_as p) (seen_as p).phase) (member p.asked) && not some)
+    ap (λ (some : Bool). over p.shape.n (looks_at (seen_as p) (seen_as p).part) (member p.asked) && not some)
     (any_same p.shape.n (λ s. r.possible s && goes_on p.shape.n (keeps_in p.shape) (filled p r) s) (λ s. member p.possible s && goes_on p.shape.n (keeps_in p.shape) (seen_as p) s)
     (λ s l. ap (λ (may : Bool). may && goes_on p.shape.n (keeps_in p.shape) (seen_as p) s) (possible s l)))
 stops_unseen p r _ possible = refl
@@ -122,7 +122,7 @@ stopped_steps p r l s = record {
   views = s.views;
   first_reached = s.first_reached;
   first_views = s.first_views;
-  phase = s.phase;
+  part = s.part;
   possible = s.possible;
   reads = s.reads;
   upto = s.upto;
@@ -139,7 +139,7 @@ joined_steps p q r law s = record {
   views = s.views;
   first_reached = s.first_reached;
   first_views = s.first_views;
-  phase = s.phase;
+  part = s.part;
   possible = s.possible;
   reads = s.reads;
   upto = s.upto;

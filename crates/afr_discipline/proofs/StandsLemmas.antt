@@ -49,7 +49,7 @@ stands_untouched shape few = record {
   views = no_views_shown;
   first_reached = refl;
   first_views = no_views_shown;
-  phase = refl;
+  part = refl;
   possible = λ s l. sym (below_all shape.n s few l);
   reads = no_reads_kept;
   upto = refl;
@@ -68,4 +68,4 @@ filled p r =
 
 pub is_filled : (p : Register) (r : Exact) → Stands p r → r ≡ filled p r
 is_filled p r s =
-    rw (← s.number, ← s.area, ← s.held, ← s.second, ← s.second_held, ← s.pre, ← s.done, ← s.post, ← s.inside, ← s.object, ← s.kind, ← s.healing, ← s.settled, ← s.step, ← s.asked, ← s.unlocked, ← s.reached, ← s.views, ← s.first_reached, ← s.first_views, ← s.phase, ← s.reads, ← s.upto, ← s.broken) refl
+    rw (← s.number, ← s.area, ← s.held, ← s.second, ← s.second_held, ← s.pre, ← s.done, ← s.post, ← s.inside, ← s.object, ← s.kind, ← s.healing, ← s.settled, ← s.step, ← s.asked, ← s.unlocked, ← s.reached, ← s.views, ← s.first_reached, ← s.first_views, ← s.part, ← s.reads, ← s.upto, ← s.broken) refl

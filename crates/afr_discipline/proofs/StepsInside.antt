@@ -9,18 +9,18 @@ use Rattle.afr_lines.specs.declared.request.Area.{Area}
 use Rattle.afr_lines.specs.declared.request.Request.{Request}
 use Rattle.afr_lines.specs.declared.request.Request.TheVariants.{Lock, Unlock, Look, ReadBytes, List as ListNames, ReadAttrs, Pre, Mend, Settle}
 use Rattle.afr_lines.specs.Overlap.{same_area}
-use Rattle.afr_moves.specs.Note.{answers, breaks, entering, fails, given, is_failed, is_given, is_granted, left_in_heal, next_phase, put_first, put_look, reading}
+use Rattle.afr_moves.specs.Note.{answers, breaks, entering, fails, given, is_failed, is_given, is_granted, left_in_heal, next_part, put_first, put_look, reading}
 use Rattle.afr_moves.specs.Register as exact
 use Rattle.afr_moves.specs.Register.{Exact, is_opening, same_step, whole_area}
 use Rattle.afr_moves.specs.Steps.{may_heal}
 use Rattle.afr_discipline.specs.declared.register.Register.{Register}
 use Rattle.afr_discipline.specs.declared.register.Step.TheVariants.{HealLocks, WorkLocks, HealPres, Mends, Settles, Unlocks, HealUnlocks}
-use Rattle.afr_discipline.specs.declared.register.Phase.{Phase}
-use Rattle.afr_discipline.specs.declared.register.Phase.TheVariants.{Piece, Finish}
+use Rattle.afr_discipline.specs.declared.register.HealPart.{HealPart}
+use Rattle.afr_discipline.specs.declared.register.HealPart.TheVariants.{Piece, Finish}
 use Rattle.afr_discipline.specs.Inside.{allows}
 use Rattle.afr_discipline.specs.Notes.{broken_by, entered, leaves_open, looked_inside, noted_inside, part_after, read_inside, still_possible, upto_after}
 use Rattle.afr_moves.specs.Keeps.{keeps_in}
-use Rattle.afr_discipline.specs.Stands.{HasFive, phase_of, seen_as, step_of}
+use Rattle.afr_discipline.specs.Stands.{HasFive, heal_part_of, seen_as, step_of}
 use Rattle.afr_discipline.proofs.StandsLemmas.{filled}
 use Rattle.afr_discipline.proofs.HealDecisions.{heal_unseen}
 use Rattle.afr_discipline.proofs.NotedShape.{inside_shape}
@@ -28,19 +28,19 @@ use Rattle.afr_discipline.proofs.SetsOfFive.{member_picked, put_read}
 use Rattle.afr_discipline.proofs.StepsOutside.{MayMatch, StepsStand, WalkStands, asked_again, counted_reached, counted_views, entered_walks, shown_reached, shown_views, whole_with}
 
 -- the part of a heal that a Work lock begins
-part_at : (first all : Bool) (phase : Phase) → (if first then (if all then exact.Finish else exact.Piece) else phase_of phase) ≡ phase_of (if first then (if all then Finish else Piece) else phase)
-part_at true true phase = refl
-part_at true false phase = refl
-part_at false all phase = refl
+part_at : (first all : Bool) (part : HealPart) → (if first then (if all then exact.Finish else exact.Piece) else heal_part_of part) ≡ heal_part_of (if first then (if all then Finish else Piece) else part)
+part_at true true part = refl
+part_at true false part = refl
+part_at false all part = refl
 
 -- the part that the exact register and the program name is the same
-part_is : (p : Register) (r : Exact) (area : Area) → next_phase (filled p r) area ≡ phase_of (part_after p area)
-part_is p r area = part_at (same_step (step_of p.step) exact.Unlocks) (same_area (whole_area p.object.0 Bytes) area) p.phase
+part_is : (p : Register) (r : Exact) (area : Area) → next_part (filled p r) area ≡ heal_part_of (part_after p area)
+part_is p r area = part_at (same_step (step_of p.step) exact.Unlocks) (same_area (whole_area p.object.0 Bytes) area) p.part
 
 -- ---- the walk
 -- a Work lock
 locked_walks : (p : Register) (r : Exact) (b : ℕ) (area : Area) (again : Bool)
-    → WalkStands (record (entered p WorkLocks b again) { phase = part_after p area }) (record (entering (filled p r) exact.WorkLocks b again) { phase = next_phase (filled p r) area })
+    → WalkStands (record (entered p WorkLocks b again) { part = part_after p area }) (record (entering (filled p r) exact.WorkLocks b again) { part = next_part (filled p r) area })
 locked_walks p r b area again = record {
   step = refl;
   asked = asked_again again b (same_step (step_of p.step) exact.WorkLocks) p.asked;
@@ -49,7 +49,7 @@ locked_walks p r b area again = record {
   views = refl;
   first_reached = refl;
   first_views = refl;
-  phase = part_is p r area;
+  part = part_is p r area;
   reads = refl;
   upto = refl;
 }
@@ -64,7 +64,7 @@ unlocked_walks p r b upto again = record {
   views = refl;
   first_reached = refl;
   first_views = refl;
-  phase = refl;
+  part = refl;
   reads = refl;
   upto = refl;
 }
@@ -78,9 +78,9 @@ looked_walks p r b told small five = record {
   unlocked = refl;
   reached = shown_reached b p.looked told;
   views = shown_views b p.looked told small five.looked;
-  first_reached = counted_reached (is_opening (phase_of p.phase)) b p.seen told;
-  first_views = counted_views (is_opening (phase_of p.phase)) b p.seen told small five.seen;
-  phase = refl;
+  first_reached = counted_reached (is_opening (heal_part_of p.part)) b p.seen told;
+  first_views = counted_views (is_opening (heal_part_of p.part)) b p.seen told small five.seen;
+  part = refl;
   reads = refl;
   upto = refl;
 }
@@ -95,7 +95,7 @@ read_walks p r t b told small five = record {
   views = refl;
   first_reached = refl;
   first_views = refl;
-  phase = refl;
+  part = refl;
   reads = put_read b small p.reads (given told t) five.reads;
   upto = refl;
 }
@@ -110,7 +110,7 @@ same_walks p r = record {
   views = refl;
   first_reached = refl;
   first_views = refl;
-  phase = refl;
+  part = refl;
   reads = refl;
   upto = refl;
 }
@@ -134,7 +134,7 @@ inside_walks p r t b request told small five = same_walks p r
 -- the answer that ends the heal
 breaks_is : (p : Register) (r : Exact) (request : Request) (told : Told) → breaks (filled p r) request told ≡ broken_by p request told
 breaks_is p r (Lock Heal area) told = refl
-breaks_is p r (Lock Work area) told = ap (λ (phase : exact.Phase). fails told && not (is_opening phase)) (part_is p r area)
+breaks_is p r (Lock Work area) told = ap (λ (part : exact.HealPart). fails told && not (is_opening part)) (part_is p r area)
 breaks_is p r (Look g) told = refl
 breaks_is p r (Unlock domain area) told = refl
 breaks_is p r request told = refl

@@ -17,7 +17,7 @@ use Rattle.afr_discipline.specs.declared.register.Register.{Register}
 use Rattle.afr_discipline.specs.declared.register.Step.{Step}
 use Rattle.afr_discipline.specs.declared.register.Step.TheVariants.{Open, Pres, Applies, Posts, HealLocks}
 use Rattle.afr_discipline.specs.Notes.{counts, entered, is_working, noted_outside, shown, shown_if, stayed}
-use Rattle.afr_discipline.specs.Stands.{phase_of, reads_of, step_of, views_of}
+use Rattle.afr_discipline.specs.Stands.{heal_part_of, reads_of, step_of, views_of}
 use Rattle.afr_discipline.proofs.StandsLemmas.{filled, no_views_shown}
 use Rattle.afr_discipline.proofs.SetsOfFive.{put_marked_no, put_marked_yes, put_no_view, put_view, with_not}
 
@@ -30,7 +30,7 @@ pub record StepsStand (p : Register) (r : Exact) : Type 0 where
   pub views : r.views ≡ views_of p.looked
   pub first_reached : r.first_reached ≡ member p.seen.reached
   pub first_views : r.first_views ≡ views_of p.seen
-  pub phase : r.phase ≡ phase_of p.phase
+  pub part : r.part ≡ heal_part_of p.part
   pub possible : (s : ℕ) → s < p.shape.n → r.possible s ≡ member p.possible s
   pub reads : r.reads ≡ reads_of p.reads
   pub upto : r.upto ≡ p.upto
@@ -45,7 +45,7 @@ pub record WalkStands (p : Register) (r : Exact) : Type 0 where
   pub views : r.views ≡ views_of p.looked
   pub first_reached : r.first_reached ≡ member p.seen.reached
   pub first_views : r.first_views ≡ views_of p.seen
-  pub phase : r.phase ≡ phase_of p.phase
+  pub part : r.part ≡ heal_part_of p.part
   pub reads : r.reads ≡ reads_of p.reads
   pub upto : r.upto ≡ p.upto
 
@@ -104,7 +104,7 @@ entered_walks p r step b again = record {
   views = refl;
   first_reached = refl;
   first_views = refl;
-  phase = refl;
+  part = refl;
   reads = refl;
   upto = refl;
 }
@@ -119,7 +119,7 @@ stayed_walks p r = record {
   views = refl;
   first_reached = refl;
   first_views = refl;
-  phase = refl;
+  part = refl;
   reads = refl;
   upto = refl;
 }
@@ -136,7 +136,7 @@ locked_walks p r false = record {
   views = no_views_shown;
   first_reached = refl;
   first_views = refl;
-  phase = refl;
+  part = refl;
   reads = refl;
   upto = refl;
 }
@@ -151,7 +151,7 @@ unlocked_walks p r unlocked = record {
   views = refl;
   first_reached = refl;
   first_views = refl;
-  phase = refl;
+  part = refl;
   reads = refl;
   upto = refl;
 }
@@ -167,7 +167,7 @@ looked_walks p r counted b told small five = record {
   views = counted_views counted b p.looked told small five;
   first_reached = refl;
   first_views = refl;
-  phase = refl;
+  part = refl;
   reads = refl;
   upto = refl;
 }
@@ -183,7 +183,7 @@ whole walk possible broken = record {
   views = walk.views;
   first_reached = walk.first_reached;
   first_views = walk.first_views;
-  phase = walk.phase;
+  part = walk.part;
   possible = possible;
   reads = walk.reads;
   upto = walk.upto;
@@ -201,7 +201,7 @@ whole_with p r set may ends end walk possible broken = record {
   views = walk.views;
   first_reached = walk.first_reached;
   first_views = walk.first_views;
-  phase = walk.phase;
+  part = walk.part;
   possible = possible;
   reads = walk.reads;
   upto = walk.upto;

@@ -7,7 +7,7 @@ use Rattle.afr_lines.specs.declared.request.Request.TheVariants.{Unlock}
 use Rattle.afr_base.specs.Kinds.{same_kind}
 use Rattle.afr_moves.specs.Sets.{any}
 use Rattle.afr_moves.specs.Rules.{busy, is_area}
-use Rattle.afr_moves.specs.Register.{Exact, HealUnlocks, Opening, Phase, WorkLocks, over, same_step, whole_area}
+use Rattle.afr_moves.specs.Register.{Exact, HealPart, HealUnlocks, Opening, WorkLocks, over, same_step, whole_area}
 use Rattle.afr_moves.specs.Steps.{locks_at, may_heal}
 use Rattle.afr_discipline.specs.declared.register.Move.{Move}
 use Rattle.afr_discipline.specs.declared.register.Move.TheVariants.{Ask, Begin, HealBegin, End}
@@ -27,13 +27,13 @@ abbrev pub may_ask_inside : ℕ → (ℕ → Kind → Bool) → Exact → ℕ �
 may_ask_inside n keeps r b request = if r.broken then is_unlock request else any n (allows n keeps r b request)
 
 -- the first part of a heal has Work locks of all of its kind at a majority; the later ones keep the kind
-abbrev pub begins_part : ℕ → Exact → ℕ → Kind → Phase → Bool
+abbrev pub begins_part : ℕ → Exact → ℕ → Kind → HealPart → Bool
 begins_part n r g kind Opening = is_most n r.law.held && is_area r.law.area (whole_area g kind)
 begins_part n r g kind _ = same_kind kind r.law.kind
 
 -- a part of a heal begins, after its Work locks
 abbrev pub may_heal_begin : ℕ → Exact → ℕ → Kind → Bool
-may_heal_begin n r g kind = not r.broken && (g == r.law.object) && same_step r.step WorkLocks && over n (locks_at r r.phase) r.asked && begins_part n r g kind r.phase
+may_heal_begin n r g kind = not r.broken && (g == r.law.object) && same_step r.step WorkLocks && over n (locks_at r r.part) r.asked && begins_part n r g kind r.part
 
 -- the end of a heal: no lock is held, and no step is left
 abbrev pub may_end_heal : ℕ → Exact → Bool

@@ -21,11 +21,11 @@ use Rattle.afr_discipline.specs.declared.register.Move.TheVariants as move
 use Rattle.afr_discipline.specs.declared.register.Register.{Register}
 use Rattle.afr_discipline.specs.declared.register.Step.{Step}
 use Rattle.afr_discipline.specs.declared.register.Step.TheVariants.{Open, Pres, Applies, Posts, HealLocks, WorkLocks, Looks, Reads, HealPres, Mends, Settles, Unlocks, HealUnlocks}
-use Rattle.afr_discipline.specs.declared.register.Phase.{Phase}
-use Rattle.afr_discipline.specs.declared.register.Phase.TheVariants.{Piece, Finish}
+use Rattle.afr_discipline.specs.declared.register.HealPart.{HealPart}
+use Rattle.afr_discipline.specs.declared.register.HealPart.TheVariants.{Piece, Finish}
 use Rattle.afr_discipline.specs.Inside.{allows}
 use Rattle.afr_moves.specs.Keeps.{keeps_in}
-use Rattle.afr_discipline.specs.Stands.{attempt_of, has_begun, heal_of, no_lines, phase_of, seen_as, source_of, step_of}
+use Rattle.afr_discipline.specs.Stands.{attempt_of, has_begun, heal_of, heal_part_of, no_lines, seen_as, source_of, step_of}
 
 -- the actor holds a Work lock
 abbrev pub is_working : Register → Bool
@@ -133,12 +133,12 @@ noted_outside p b (Post q g kind missed) told = entered p Posts b false
 noted_outside p b request told = stayed p
 
 -- the first Work lock after the unlocks begins a piece, or the finish where it is of all bytes
-abbrev pub part_after : Register → Area → Phase
-part_after p area = if same_step (step_of p.step) exact.Unlocks then (if same_area (whole_area p.object.0 Bytes) area then Finish else Piece) else p.phase
+abbrev pub part_after : Register → Area → HealPart
+part_after p area = if same_step (step_of p.step) exact.Unlocks then (if same_area (whole_area p.object.0 Bytes) area then Finish else Piece) else p.part
 
 -- a look of a heal
 abbrev pub looked_inside : Register → ℕ → Told → Register
-looked_inside p b told = record (entered p Looks b (not (answers told || fails told))) { looked = shown p.looked b told; seen = shown_if (is_opening (phase_of p.phase)) p.seen b told }
+looked_inside p b told = record (entered p Looks b (not (answers told || fails told))) { looked = shown p.looked b told; seen = shown_if (is_opening (heal_part_of p.part)) p.seen b told }
 
 -- a read of a heal
 abbrev pub read_inside : Register → ℕ → ℕ → Told → Register
@@ -146,7 +146,7 @@ read_inside p t b told = record (entered p Reads b (not (is_given told || fails 
 
 -- the bytes that are done after an unlock: the first one ends a piece
 abbrev pub upto_after : Register → ℕ
-upto_after p = if is_piece (phase_of p.phase) && nat_lt (rank (step_of p.step)) (rank exact.Unlocks) then p.upto + span else p.upto
+upto_after p = if is_piece (heal_part_of p.part) && nat_lt (rank (step_of p.step)) (rank exact.Unlocks) then p.upto + span else p.upto
 
 -- a change of the numbers or of the contents is asked again unless it was carried out or failed
 abbrev pub leaves_open : Told → Bool
@@ -155,7 +155,7 @@ leaves_open told = not (is_done told || fails told)
 -- in a heal
 abbrev pub noted_inside : Register → ℕ → ℕ → Request → Told → Register
 noted_inside p t b (Lock Heal area) told = entered p HealLocks b false
-noted_inside p t b (Lock Work area) told = record (entered p WorkLocks b (not (is_granted told || fails told))) { phase = part_after p area }
+noted_inside p t b (Lock Work area) told = record (entered p WorkLocks b (not (is_granted told || fails told))) { part = part_after p area }
 noted_inside p t b (Unlock Work area) told = record (entered p Unlocks b (is_failed told)) { upto = upto_after p }
 noted_inside p t b (Unlock Heal area) told = entered p HealUnlocks b (is_failed told)
 noted_inside p t b (Look g) told = looked_inside p b told
@@ -170,8 +170,8 @@ noted_inside p t b request told = p
 -- the answer ends the heal
 abbrev pub broken_by : Register → Request → Told → Bool
 broken_by p (Lock Heal area) told = is_held told
-broken_by p (Lock Work area) told = fails told && not (is_opening (phase_of (part_after p area)))
-broken_by p (Look g) told = fails told && not (is_opening (phase_of p.phase))
+broken_by p (Lock Work area) told = fails told && not (is_opening (heal_part_of (part_after p area)))
+broken_by p (Look g) told = fails told && not (is_opening (heal_part_of p.part))
 broken_by p (Unlock domain area) told = is_gone told
 broken_by p request told = fails told
 

@@ -18,8 +18,8 @@ use Rattle.afr_moves.specs.Register.{Exact, Mends, asked_in, good}
 use Rattle.afr_discipline.specs.declared.register.Register.{Register}
 use Rattle.afr_discipline.specs.declared.register.Step.{Step}
 use Rattle.afr_discipline.specs.declared.register.Step.TheVariants as step
-use Rattle.afr_discipline.specs.declared.register.Phase.{Phase}
-use Rattle.afr_discipline.specs.declared.register.Phase.TheVariants as phase
+use Rattle.afr_discipline.specs.declared.register.HealPart.{HealPart}
+use Rattle.afr_discipline.specs.declared.register.HealPart.TheVariants as heal_part
 
 -- the steps by their names
 abbrev pub step_of : Step → exact.Step
@@ -39,10 +39,10 @@ step_of step.Unlocks = exact.Unlocks
 step_of step.HealUnlocks = exact.HealUnlocks
 
 -- the parts of a heal
-abbrev pub phase_of : Phase → exact.Phase
-phase_of phase.Opening = exact.Opening
-phase_of phase.Piece = exact.Piece
-phase_of phase.Finish = exact.Finish
+abbrev pub heal_part_of : HealPart → exact.HealPart
+heal_part_of heal_part.Opening = exact.Opening
+heal_part_of heal_part.Piece = exact.Piece
+heal_part_of heal_part.Finish = exact.Finish
 
 -- the number of an attempt or a part of a heal: suc of its position, or 0
 abbrev pub number_of : Option ℕ → ℕ
@@ -109,7 +109,7 @@ pub record Stands (p : Register) (r : Exact) : Type 0 where
   pub views : r.views ≡ views_of p.looked
   pub first_reached : r.first_reached ≡ member p.seen.reached
   pub first_views : r.first_views ≡ views_of p.seen
-  pub phase : r.phase ≡ phase_of p.phase
+  pub part : r.part ≡ heal_part_of p.part
   pub possible : (s : ℕ) → s < p.shape.n → r.possible s ≡ member p.possible s
   pub reads : r.reads ≡ reads_of p.reads
   pub upto : r.upto ≡ p.upto
@@ -151,7 +151,7 @@ seen_as p = record {
   views = views_of p.looked;
   first_reached = member p.seen.reached;
   first_views = views_of p.seen;
-  phase = phase_of p.phase;
+  part = heal_part_of p.part;
   possible = member p.possible;
   reads = reads_of p.reads;
   upto = p.upto;
@@ -188,6 +188,6 @@ no_lines shape = record {
   inside = false;
   object = record { 0 = 0 };
   kind = Bytes;
-  phase = phase.Opening;
+  part = heal_part.Opening;
   possible = below shape.n;
 }

@@ -61,8 +61,8 @@ fits_view None change = true
 fits_view (Some view) change = fits_change (what_code view.what) change
 
 -- a majority in which a copy is good
-abbrev pub carried : ℕ → (ℕ → Kind → Bool) → Kind → (ℕ → Option View) → (ℕ → Bool) → Bool
-carried n keeps kind views set = is_most n set && any n (λ s. set s && good n keeps kind views s)
+abbrev pub suffices_by : ℕ → (ℕ → Kind → Bool) → Kind → (ℕ → Option View) → (ℕ → Bool) → Bool
+suffices_by n keeps kind views set = is_most n set && any n (λ s. set s && good n keeps kind views s)
 
 -- a step that hasn't passed, in which the brick wasn't asked, before the first unlock of the area
 abbrev pub once : Exact → Step → ℕ → Bool
@@ -98,7 +98,7 @@ may_work n r area = is_valid area && (if busy n r.law then not r.unlocked && one
 abbrev pub may_begin : ℕ → (ℕ → Kind → Bool) → Exact → Change → Bool
 may_begin n keeps r change =
     (r.law.number == 0) && not r.unlocked && lies_in r.law.area change && ends_low change && all n (λ x. fits_view (r.views x) change)
-    && is_most n r.reached && carried n keeps (plane_kind change) r.views (holder r.views)
+    && is_most n r.reached && suffices_by n keeps (plane_kind change) r.views (holder r.views)
 
 -- a Pre of a transaction
 abbrev pub may_pre : Exact → ℕ → ℕ → Kind → Bool
@@ -106,12 +106,12 @@ may_pre r b g kind = not (r.law.number == 0) && plane_in r.law.area g kind && ho
 
 -- an Apply
 abbrev pub may_apply : ℕ → (ℕ → Kind → Bool) → Exact → ℕ → ℕ → Bool
-may_apply n keeps r b q = (r.law.number == suc q) && r.law.pre b && carried n keeps (kind_in r.law.area) r.views r.law.pre && once r Applies b
+may_apply n keeps r b q = (r.law.number == suc q) && r.law.pre b && suffices_by n keeps (kind_in r.law.area) r.views r.law.pre && once r Applies b
 
 -- a Post
 abbrev pub may_post : ℕ → (ℕ → Kind → Bool) → Exact → ℕ → ℕ → ℕ → Kind → List ℕ → Bool
 may_post n keeps r b q g kind missed =
-    (r.law.number == suc q) && plane_in r.law.area g kind && r.law.done b && carried n keeps kind r.views r.law.done && once r Posts b && misses n r.law.done missed
+    (r.law.number == suc q) && plane_in r.law.area g kind && r.law.done b && suffices_by n keeps kind r.views r.law.done && once r Posts b && misses n r.law.done missed
 
 -- the range of the Heal lock of an object
 abbrev pub is_heal_area : Area → Bool

@@ -8,14 +8,14 @@ ghost use Rattle.afr_moves.specs.Steps.{after_unlocks, is_lowest, is_next, is_wh
 ghost use Rattle.afr_lines.specs.Overlap.{same_area};
 ghost use Rattle.afr_base.specs.Kinds.{same_kind};
 ghost use Rattle.afr_moves.specs.Keeps.{keeps_in};
-ghost use Rattle.afr_discipline.specs.Stands.{phase_of, seen_as, step_of, views_of};
+ghost use Rattle.afr_discipline.specs.Stands.{heal_part_of, seen_as, step_of, views_of};
 
 use crate::areas::{is_same_area, is_same_kind, is_the_area};
 use crate::heal_sets::{is_locked, is_over, is_turn};
 use crate::heals::{has_read, has_settled, is_going_on, is_onward, len_at};
 use crate::of_five::all_of;
 use crate::outside::is_busy;
-use crate::register::{Phase, Register, Step};
+use crate::register::{HealPart, Register, Step};
 use crate::steps::{is_same_step, rank};
 use afr_base::{BrickId, BrickSet, FIRST_ATTRIBUTE, Gfid, HEAL_BLOCK, Kind};
 use afr_lines::{Area, Domain, Request};
@@ -104,7 +104,7 @@ fn is_later_lock(register: &Register, s: BrickId, area: Area) -> bool
 
 fn is_left_out(register: &Register, x: BrickId) -> bool
     requires { x.0 < 5 }
-    ensures { result ≡ (not (locks_at (seen_as register.now) (phase_of register.now.phase) x.0) || member register.now.asked x.0) }
+    ensures { result ≡ (not (locks_at (seen_as register.now) (heal_part_of register.now.part) x.0) || member register.now.asked x.0) }
 {
     !is_locked(register, x) || register.asked.has(x)
 }
@@ -112,14 +112,14 @@ fn is_left_out(register: &Register, x: BrickId) -> bool
 /// The lowest brick of this part's Work locks that was not asked.
 fn is_lowest_unlocked(register: &Register, b: BrickId) -> bool
     requires { b.0 < 5 }
-    ensures { result ≡ is_lowest (locks_at (seen_as register.now) (phase_of register.now.phase)) (member register.now.asked) b.0 }
+    ensures { result ≡ is_lowest (locks_at (seen_as register.now) (heal_part_of register.now.part)) (member register.now.asked) b.0 }
 {
     is_locked(register, b) && !register.asked.has(b) && are_left_out(register, b.0)
 }
 
 pub(crate) fn are_left_out(register: &Register, upto: u8) -> bool
     requires { upto ≤ 5 }
-    ensures { result ≡ over upto (locks_at (seen_as register.now) (phase_of register.now.phase)) (member register.now.asked) }
+    ensures { result ≡ over upto (locks_at (seen_as register.now) (heal_part_of register.now.part)) (member register.now.asked) }
 {
     all_of(
         upto,
@@ -160,12 +160,12 @@ fn are_missing(set: BrickSet, upto: u8) -> bool
     )
 }
 
-fn is_finishing(phase: Phase) -> bool
-    ensures { result ≡ is_finish (phase_of phase) }
+fn is_finishing(part: HealPart) -> bool
+    ensures { result ≡ is_finish (heal_part_of part) }
 {
-    match phase {
-        Phase::Finish => true,
-        Phase::Opening | Phase::Piece => false,
+    match part {
+        HealPart::Finish => true,
+        HealPart::Opening | HealPart::Piece => false,
     }
 }
 
@@ -182,7 +182,7 @@ pub(crate) fn may_lock_in_heal(register: &Register, s: BrickId, b: BrickId, area
         is_first_lock(register, s, area) && is_first(register.healing, b)
     } else {
         is_later_lock(register, s, area)
-            && !is_finishing(register.phase)
+            && !is_finishing(register.part)
             && is_first(register.seen.reached, b)
     }
 }
@@ -283,9 +283,9 @@ pub(crate) fn may_unlock_work(register: &Register, s: BrickId, b: BrickId, area:
 }
 
 fn has_parts_left(register: &Register) -> bool
-    ensures { result ≡ same_kind register.now.kind Kind.Bytes && not (is_finish (phase_of register.now.phase)) }
+    ensures { result ≡ same_kind register.now.kind Kind.Bytes && not (is_finish (heal_part_of register.now.part)) }
 {
-    is_same_kind(register.kind, Kind::Bytes) && !is_finishing(register.phase)
+    is_same_kind(register.kind, Kind::Bytes) && !is_finishing(register.part)
 }
 
 pub(crate) fn may_unlock_heal(register: &Register, s: BrickId, b: BrickId, area: Area) -> bool

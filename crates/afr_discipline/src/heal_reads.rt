@@ -4,12 +4,12 @@ ghost use Rattle.afr_moves.specs.Rules.{some_read};
 ghost use Rattle.afr_moves.specs.Register.{is_opening};
 ghost use Rattle.afr_moves.specs.Steps.{may_heal, may_mend, same_read, same_reads};
 ghost use Rattle.afr_moves.specs.Keeps.{keeps_in};
-ghost use Rattle.afr_discipline.specs.Stands.{phase_of, reads_of, seen_as};
+ghost use Rattle.afr_discipline.specs.Stands.{heal_part_of, reads_of, seen_as};
 ghost use Rattle.afr_discipline.specs.Five.{has_read};
 
 use crate::heal_sets::is_turn;
 use crate::heals::{has_raised, is_onward, len_at};
-use crate::register::{Phase, Register, Step};
+use crate::register::{HealPart, Register, Step};
 use afr_base::{BrickId, Gfid, HEAL_BLOCK, Kind};
 use afr_lines::Request;
 use afr_object::Repair;
@@ -68,12 +68,12 @@ fn has_some_read(reads: &[Option<u32>; 5]) -> bool
         || has_read_at(reads, BrickId(4))
 }
 
-pub(crate) fn is_in_opening(phase: Phase) -> bool
-    ensures { result ≡ is_opening (phase_of phase) }
+pub(crate) fn is_in_opening(part: HealPart) -> bool
+    ensures { result ≡ is_opening (heal_part_of part) }
 {
-    match phase {
-        Phase::Opening => true,
-        Phase::Piece | Phase::Finish => false,
+    match part {
+        HealPart::Opening => true,
+        HealPart::Piece | HealPart::Finish => false,
     }
 }
 
@@ -83,7 +83,7 @@ fn may_cut(register: &Register, s: BrickId, g: Gfid, len: u32) -> bool
     ensures { result ≡ may_mend register.now.shape.n (keeps_in register.now.shape) (seen_as register.now) s.0 (Repair.CutTo g len) }
 {
     is_onward(register, s, g, Kind::Bytes)
-        && is_in_opening(register.phase)
+        && is_in_opening(register.part)
         && len == len_at(&register.seen, s)
 }
 
@@ -93,7 +93,7 @@ fn may_copy(register: &Register, s: BrickId, g: Gfid, at: u32, span: u32, read: 
     ensures { result ≡ may_mend register.now.shape.n (keeps_in register.now.shape) (seen_as register.now) s.0 (Repair.Copy g at span read) }
 {
     is_onward(register, s, g, Kind::Bytes)
-        && !is_in_opening(register.phase)
+        && !is_in_opening(register.part)
         && at == register.upto
         && span == HEAL_BLOCK
         && is_same_read(read_at(&register.reads, s), Some(read))

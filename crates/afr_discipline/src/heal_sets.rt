@@ -7,11 +7,11 @@ ghost use Rattle.afr_moves.specs.Keeps.{keeps_in};
 ghost use Rattle.afr_moves.specs.Sets.{any};
 ghost use Rattle.afr_base.specs.Bricks.{member};
 ghost use Rattle.afr_discipline.specs.Left.{AreLeft};
-ghost use Rattle.afr_discipline.specs.Stands.{phase_of, seen_as, step_of, views_of};
+ghost use Rattle.afr_discipline.specs.Stands.{heal_part_of, seen_as, step_of, views_of};
 
 use crate::note_steps::asked_at;
 use crate::of_five::picked;
-use crate::register::{Phase, Register, Step};
+use crate::register::{HealPart, Register, Step};
 use crate::steps::rank;
 use crate::views::{has_some, holds, is_good, keeps};
 use afr_base::{BrickId, BrickSet, Kind};
@@ -95,48 +95,48 @@ fn only(s: BrickId) -> BrickSet
 
 fn read(register: &Register, s: BrickId) -> BrickSet
     requires { register.now.shape.n ≤ 5 }
-    ensures { (x : ℕ) → x < 5 → member result x ≡ reads_at register.now.shape.n (keeps_in register.now.shape) (seen_as register.now) s.0 register.now.kind (phase_of register.now.phase) x }
+    ensures { (x : ℕ) → x < 5 → member result x ≡ reads_at register.now.shape.n (keeps_in register.now.shape) (seen_as register.now) s.0 register.now.kind (heal_part_of register.now.part) x }
 {
-    match (register.kind, register.phase) {
-        (Kind::Bytes, Phase::Piece) => only(s),
-        (Kind::Bytes, Phase::Opening) => BrickSet::none(),
-        (Kind::Bytes, Phase::Finish) => BrickSet::none(),
+    match (register.kind, register.part) {
+        (Kind::Bytes, HealPart::Piece) => only(s),
+        (Kind::Bytes, HealPart::Opening) => BrickSet::none(),
+        (Kind::Bytes, HealPart::Finish) => BrickSet::none(),
         (Kind::Attrs, _) => only(s),
         (Kind::Names, _) => good_names(register),
     }
 }
 
 fn raised_first(register: &Register, s: BrickId) -> BrickSet
-    ensures { (x : ℕ) → x < 5 → member result x ≡ pres_at (keeps_in register.now.shape) (seen_as register.now) s.0 register.now.kind (phase_of register.now.phase) x }
+    ensures { (x : ℕ) → x < 5 → member result x ≡ pres_at (keeps_in register.now.shape) (seen_as register.now) s.0 register.now.kind (heal_part_of register.now.part) x }
 {
-    match (register.kind, register.phase) {
-        (Kind::Bytes, Phase::Opening) => sinks(register, s),
-        (Kind::Bytes, Phase::Piece) => BrickSet::none(),
-        (Kind::Bytes, Phase::Finish) => BrickSet::none(),
+    match (register.kind, register.part) {
+        (Kind::Bytes, HealPart::Opening) => sinks(register, s),
+        (Kind::Bytes, HealPart::Piece) => BrickSet::none(),
+        (Kind::Bytes, HealPart::Finish) => BrickSet::none(),
         (Kind::Attrs, _) => others(register, s),
         (Kind::Names, _) => holders(register),
     }
 }
 
 fn mended(register: &Register, s: BrickId) -> BrickSet
-    ensures { (x : ℕ) → x < 5 → member result x ≡ mends_at (keeps_in register.now.shape) (seen_as register.now) s.0 register.now.kind (phase_of register.now.phase) x }
+    ensures { (x : ℕ) → x < 5 → member result x ≡ mends_at (keeps_in register.now.shape) (seen_as register.now) s.0 register.now.kind (heal_part_of register.now.part) x }
 {
-    match (register.kind, register.phase) {
-        (Kind::Bytes, Phase::Finish) => BrickSet::none(),
-        (Kind::Bytes, Phase::Opening) => sinks(register, s),
-        (Kind::Bytes, Phase::Piece) => sinks(register, s),
+    match (register.kind, register.part) {
+        (Kind::Bytes, HealPart::Finish) => BrickSet::none(),
+        (Kind::Bytes, HealPart::Opening) => sinks(register, s),
+        (Kind::Bytes, HealPart::Piece) => sinks(register, s),
         (Kind::Attrs, _) => others(register, s),
         (Kind::Names, _) => holders(register),
     }
 }
 
 fn settled(register: &Register) -> BrickSet
-    ensures { (x : ℕ) → x < 5 → member result x ≡ settles_at (seen_as register.now) register.now.kind (phase_of register.now.phase) x }
+    ensures { (x : ℕ) → x < 5 → member result x ≡ settles_at (seen_as register.now) register.now.kind (heal_part_of register.now.part) x }
 {
-    match (register.kind, register.phase) {
-        (Kind::Bytes, Phase::Finish) => holders(register),
-        (Kind::Bytes, Phase::Opening) => BrickSet::none(),
-        (Kind::Bytes, Phase::Piece) => BrickSet::none(),
+    match (register.kind, register.part) {
+        (Kind::Bytes, HealPart::Finish) => holders(register),
+        (Kind::Bytes, HealPart::Opening) => BrickSet::none(),
+        (Kind::Bytes, HealPart::Piece) => BrickSet::none(),
         (Kind::Attrs, _) => holders(register),
         (Kind::Names, _) => holders(register),
     }
@@ -144,29 +144,29 @@ fn settled(register: &Register) -> BrickSet
 
 pub(crate) fn is_locked(register: &Register, x: BrickId) -> bool
     requires { x.0 < 5 }
-    ensures { result ≡ locks_at (seen_as register.now) (phase_of register.now.phase) x.0 }
+    ensures { result ≡ locks_at (seen_as register.now) (heal_part_of register.now.part) x.0 }
 {
-    match register.phase {
-        Phase::Opening => register.healing.has(x),
-        Phase::Piece | Phase::Finish => register.seen.reached.has(x),
+    match register.part {
+        HealPart::Opening => register.healing.has(x),
+        HealPart::Piece | HealPart::Finish => register.seen.reached.has(x),
     }
 }
 
 fn locked(register: &Register) -> BrickSet
-    ensures { (x : ℕ) → x < 5 → member result x ≡ locks_at (seen_as register.now) (phase_of register.now.phase) x }
+    ensures { (x : ℕ) → x < 5 → member result x ≡ locks_at (seen_as register.now) (heal_part_of register.now.part) x }
 {
-    match register.phase {
-        Phase::Opening => register.healing,
-        Phase::Piece | Phase::Finish => register.seen.reached,
+    match register.part {
+        HealPart::Opening => register.healing,
+        HealPart::Piece | HealPart::Finish => register.seen.reached,
     }
 }
 
 fn looked_at(register: &Register) -> BrickSet
-    ensures { (x : ℕ) → x < 5 → member result x ≡ looks_at (seen_as register.now) (phase_of register.now.phase) x }
+    ensures { (x : ℕ) → x < 5 → member result x ≡ looks_at (seen_as register.now) (heal_part_of register.now.part) x }
 {
-    match register.phase {
-        Phase::Opening => register.held,
-        Phase::Piece | Phase::Finish => register.seen.reached,
+    match register.part {
+        HealPart::Opening => register.held,
+        HealPart::Piece | HealPart::Finish => register.seen.reached,
     }
 }
 

@@ -5,12 +5,12 @@ ghost use Rattle.afr_moves.specs.Sets.{any};
 ghost use Rattle.afr_moves.specs.Register.{all, has_number, holder, len_of, shows_number};
 ghost use Rattle.afr_moves.specs.Steps.{changed, goes_on, goes_on_at, looks_over, mends_over, onward, pres_over, raised, reads_over, settles_over, sink};
 ghost use Rattle.afr_moves.specs.Keeps.{keeps_in};
-ghost use Rattle.afr_discipline.specs.Stands.{phase_of, seen_as, views_of};
+ghost use Rattle.afr_discipline.specs.Stands.{heal_part_of, seen_as, views_of};
 
 use crate::areas::is_same_kind;
 use crate::heal_sets::{has_passed, is_other, is_sink};
 use crate::of_five::{all_of, any_of};
-use crate::register::{Phase, Register, Step};
+use crate::register::{HealPart, Register, Step};
 use crate::steps::rank;
 use crate::views::{holds, is_good, is_unaccused, marks_shown, most_hold};
 use afr_base::{BrickId, Gfid, Kind, Marks};
@@ -126,13 +126,13 @@ fn opens_way(register: &Register) -> bool
 fn is_accepted(register: &Register, s: BrickId) -> bool
     requires few { register.now.shape.n ≤ 5 }
     requires small { s.0 < 5 }
-    ensures { result ≡ goes_on_at register.now.shape.n (keeps_in register.now.shape) (seen_as register.now) s.0 (phase_of register.now.phase) }
+    ensures { result ≡ goes_on_at register.now.shape.n (keeps_in register.now.shape) (seen_as register.now) s.0 (heal_part_of register.now.part) }
 {
     let n = register.shape.n;
-    match register.phase {
-        Phase::Opening => opens_way(register),
-        Phase::Piece => is_unaccused(n, &register.looked, register.kind, s),
-        Phase::Finish => {
+    match register.part {
+        HealPart::Opening => opens_way(register),
+        HealPart::Piece => is_unaccused(n, &register.looked, register.kind, s),
+        HealPart::Finish => {
             is_unaccused(n, &register.looked, register.kind, s) && are_level(register, s)
         }
     }

@@ -36,5 +36,5 @@ pub use note_steps::asked_at;
 pub use notes::note;
 pub use of_five::{all_of, lowest_of};
 pub use of_heals::{begun, healed, is_heal, present_part, present_step};
-pub use register::{Move, Phase, Register, Step, fresh};
-pub use views::is_carried;
+pub use register::{HealPart, Move, Register, Step, fresh};
+pub use views::suffices;

@@ -4,26 +4,26 @@ ghost use Rattle.afr_moves.specs.Register.{Exact};
 ghost use Rattle.afr_discipline.specs.Inside.{begins_part, may_end_heal, may_heal_begin, may_move, may_move_inside};
 ghost use Rattle.afr_discipline.specs.Moves.{IffTrue, MayMove};
 ghost use Rattle.afr_moves.specs.Keeps.{keeps_in};
-ghost use Rattle.afr_discipline.specs.Stands.{Stands, phase_of, seen_as};
+ghost use Rattle.afr_discipline.specs.Stands.{Stands, heal_part_of, seen_as};
 
 use crate::areas::{is_same_kind, is_the_area};
 use crate::heal_asks::may_ask_in_heal;
 use crate::heal_moves::{are_left_out, whole};
 use crate::outside::{is_allowed, is_busy};
-use crate::register::{Move, Phase, Register, Step};
+use crate::register::{HealPart, Move, Register, Step};
 use crate::steps::is_same_step;
 use crate::views::has_some;
 use afr_base::{Gfid, Kind};
 
 fn begins(register: &Register, g: Gfid, kind: Kind) -> bool
     requires { register.now.shape.n ≤ 5 }
-    ensures { result ≡ begins_part register.now.shape.n (seen_as register.now) g.0 kind (phase_of register.now.phase) }
+    ensures { result ≡ begins_part register.now.shape.n (seen_as register.now) g.0 kind (heal_part_of register.now.part) }
 {
-    match register.phase {
-        Phase::Opening => {
+    match register.part {
+        HealPart::Opening => {
             register.held.has_quorum(register.shape.n) && is_the_area(register.area, whole(g, kind))
         }
-        Phase::Piece | Phase::Finish => is_same_kind(kind, register.kind),
+        HealPart::Piece | HealPart::Finish => is_same_kind(kind, register.kind),
     }
 }
 

@@ -2,7 +2,7 @@
 ghost use Rattle.std.specs.Prelude.{◌≡◌, ◌+◌, ◌^◌, ◌<◌, ◌≤◌, false};
 ghost use Rattle.afr_moves.specs.Register.{is_piece, span};
 ghost use Rattle.afr_discipline.specs.Notes.{broken_by, leaves_open, looked_inside, noted_inside, noted_steps, part_after, read_inside, upto_after};
-ghost use Rattle.afr_discipline.specs.Stands.{phase_of};
+ghost use Rattle.afr_discipline.specs.Stands.{heal_part_of};
 
 use crate::answers::{
     answers, fails, given, is_done, is_failed, is_given, is_gone, is_granted, is_held,
@@ -12,30 +12,30 @@ use crate::heal_moves::whole;
 use crate::heal_possible::still_possible;
 use crate::heal_reads::is_in_opening;
 use crate::note_steps::{entered, noted_outside, shown, shown_if};
-use crate::register::{Phase, Register, Step};
+use crate::register::{HealPart, Register, Step};
 use crate::steps::{is_same_step, rank};
 use afr_base::{BrickId, BrickSet, HEAL_BLOCK, Kind};
 use afr_lines::{Area, Domain, Request, Told};
 
-fn is_piece(phase: Phase) -> bool
-    ensures { result ≡ is_piece (phase_of phase) }
+fn is_piece(part: HealPart) -> bool
+    ensures { result ≡ is_piece (heal_part_of part) }
 {
-    match phase {
-        Phase::Piece => true,
-        Phase::Opening | Phase::Finish => false,
+    match part {
+        HealPart::Piece => true,
+        HealPart::Opening | HealPart::Finish => false,
     }
 }
 
 /// The first Work lock after the unlocks begins a piece, or the finish where it is of all bytes.
-fn part_after(register: &Register, area: Area) -> Phase
+fn part_after(register: &Register, area: Area) -> HealPart
     ensures { result ≡ part_after register.now area }
 {
     if !is_same_step(register.step, Step::Unlocks) {
-        register.phase
+        register.part
     } else if is_same_area(whole(register.object, Kind::Bytes), area) {
-        Phase::Finish
+        HealPart::Finish
     } else {
-        Phase::Piece
+        HealPart::Piece
     }
 }
 
@@ -45,7 +45,7 @@ fn looked_inside(register: &mut Register, b: BrickId, told: &Told)
     ensures { register.new ≡ looked_inside register.old b.0 told.now }
 {
     let again = !(answers(told) || fails(told));
-    let opening = is_in_opening(register.phase);
+    let opening = is_in_opening(register.part);
     shown(&mut register.looked, b, told);
     shown_if(opening, &mut register.seen, b, told);
     entered(register, Step::Looks, b, again);
@@ -66,7 +66,7 @@ fn upto_after(register: &Register) -> u32
     requires { register.now.upto + span < 2 ^ 32 }
     ensures { result ≡ upto_after register.now }
 {
-    if is_piece(register.phase) && rank(register.step) < rank(Step::Unlocks) {
+    if is_piece(register.part) && rank(register.step) < rank(Step::Unlocks) {
         register.upto + HEAL_BLOCK
     } else {
         register.upto
@@ -87,7 +87,7 @@ fn noted_lock(register: &mut Register, at: u32, b: BrickId, domain: Domain, area
     match domain {
         Domain::Heal => entered(register, Step::HealLocks, b, false),
         Domain::Work => {
-            register.phase = part_after(register, area);
+            register.part = part_after(register, area);
             let again = !(is_granted(told) || fails(told));
             entered(register, Step::WorkLocks, b, again);
         }
@@ -153,7 +153,7 @@ fn broken_by(register: &Register, request: &Request, told: &Told) -> bool
 {
     match request {
         Request::Lock { domain, area } => broken_by_lock(register, *domain, *area, told),
-        Request::Look { .. } => fails(told) && !is_in_opening(register.phase),
+        Request::Look { .. } => fails(told) && !is_in_opening(register.part),
         Request::Unlock { .. } => is_gone(told),
         Request::ReadBytes { .. }
         | Request::ReadName { .. }

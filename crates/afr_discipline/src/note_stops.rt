@@ -11,7 +11,7 @@ ghost use Rattle.afr_discipline.specs.Stands.{seen_as, step_of};
 use crate::heal_sets::is_over;
 use crate::heals::is_going_on;
 use crate::of_five::any_of;
-use crate::register::{Phase, Register, Step};
+use crate::register::{HealPart, Register, Step};
 use afr_base::BrickId;
 
 /// A copy that may be the source by all the lines, and lets the heal go on.
@@ -42,12 +42,12 @@ fn stops_at_locks(register: &Register) -> bool
     requires { register.now.shape.n ≤ 5 }
     ensures { register.now.step ≡ Step.WorkLocks → result ≡ stops_at register.now.shape.n (keeps_in register.now.shape) (seen_as register.now) (step_of Step.WorkLocks) }
 {
-    match register.phase {
-        Phase::Opening => {
+    match register.part {
+        HealPart::Opening => {
             is_over(register, BrickId(0), Step::WorkLocks, register.shape.n)
                 && !register.held.has_quorum(register.shape.n)
         }
-        Phase::Piece | Phase::Finish => false,
+        HealPart::Piece | HealPart::Finish => false,
     }
 }
 

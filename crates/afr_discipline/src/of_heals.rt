@@ -3,7 +3,7 @@ ghost use Rattle.std.specs.Prelude.{◌≡◌};
 ghost use Rattle.afr_moves.specs.Register.{Exact};
 ghost use Rattle.afr_discipline.specs.Stands.{Stands};
 
-use crate::register::{Phase, Register, Step};
+use crate::register::{HealPart, Register, Step};
 use afr_base::Gfid;
 
 /// Whether the lines are those of a heal.
@@ -35,8 +35,8 @@ pub fn present_step(register: &Register) -> Step
 }
 
 /// The part that a heal is in.
-pub fn present_part(register: &Register) -> Phase
-    ensures { result ≡ register.now.phase }
+pub fn present_part(register: &Register) -> HealPart
+    ensures { result ≡ register.now.part }
 {
-    register.phase
+    register.part
 }

@@ -14,7 +14,7 @@ use crate::areas::{
 use crate::of_five::all_of;
 use crate::register::{Move, Register, Step};
 use crate::steps::{is_once, is_same_step};
-use crate::views::{fits_all, has_some, holds, is_carried, is_carried_by_holders};
+use crate::views::{fits_all, has_some, holders_suffice, holds, suffices};
 use afr_base::{BrickId, BrickSet, Gfid, Kind};
 use afr_lines::{Area, Domain, Request};
 use afr_object::Change;
@@ -73,7 +73,7 @@ fn may_begin_now(register: &Register, change: &Change) -> bool
         && is_low(change)
         && fits_all(shape.n, looked, change)
         && looked.reached.has_quorum(shape.n)
-        && is_carried_by_holders(shape, looked, kind_of_change(change))
+        && holders_suffice(shape, looked, kind_of_change(change))
 }
 
 fn may_raise(register: &Register, b: BrickId, g: Gfid, kind: Kind) -> bool
@@ -102,7 +102,7 @@ fn may_carry_out(register: &Register, b: BrickId, attempt: u32) -> bool
 {
     is_own(register.begun, attempt)
         && register.pre.has(b)
-        && is_carried(
+        && suffices(
             register.shape,
             &register.looked,
             kind_of_some(register.area),
@@ -153,7 +153,7 @@ fn may_close(
     is_own(register.begun, attempt)
         && is_in_plane(register.area, g, kind)
         && register.done.has(b)
-        && is_carried(register.shape, &register.looked, kind, register.done)
+        && suffices(register.shape, &register.looked, kind, register.done)
         && is_once(register, Step::Posts, b)
         && are_missed(register.shape.n, register.done, missed)
 }

@@ -39,7 +39,7 @@ pub enum Step {
 
 /// The parts of a heal; only that of bytes has more than the first.
 #[derive(Clone, Copy, Debug)]
-pub enum Phase {
+pub enum HealPart {
     Opening,
     Piece,
     Finish,
@@ -103,7 +103,7 @@ pub struct Register {
     /// The kind of the heal, by its HealBegin.
     pub(crate) kind: Kind,
     /// The part that the heal is in.
-    pub(crate) phase: Phase,
+    pub(crate) part: HealPart,
     /// The copies that may be the source by all lines of the heal.
     pub(crate) possible: BrickSet,
 }
@@ -151,7 +151,7 @@ pub(crate) fn empty(shape: Shape) -> Register
         inside: false,
         object: Gfid(0),
         kind: Kind::Bytes,
-        phase: Phase::Opening,
+        part: HealPart::Opening,
         possible: BrickSet::all(shape.n),
     }
 }

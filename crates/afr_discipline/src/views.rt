@@ -10,7 +10,7 @@ ghost use Rattle.afr_base.specs.Keeping.{is_bytes, keeps};
 ghost use Rattle.afr_base.specs.Marks.{marks_of};
 ghost use Rattle.afr_moves.specs.Keeps.{keeps_in};
 ghost use Rattle.afr_discipline.specs.Stands.{views_of};
-ghost use Rattle.afr_discipline.specs.Tests.{carried, fits_view};
+ghost use Rattle.afr_discipline.specs.Tests.{fits_view, suffices_by};
 
 use crate::of_five::{all_of, any_of, most_of};
 use afr_base::{BrickId, BrickSet, Kind, MOST_BRICKS, Marks, Shape, What};
@@ -103,9 +103,9 @@ fn is_good_in(shape: Shape, looked: &Looked, kind: Kind, set: BrickSet, s: Brick
 }
 
 /// Whether the set is a majority in which a copy is good.
-pub fn is_carried(shape: Shape, looked: &Looked, kind: Kind, set: BrickSet) -> bool
+pub fn suffices(shape: Shape, looked: &Looked, kind: Kind, set: BrickSet) -> bool
     requires { shape.n ≤ 5 }
-    ensures { result ≡ carried shape.n (keeps_in shape) kind (views_of looked.now) (member set) }
+    ensures { result ≡ suffices_by shape.n (keeps_in shape) kind (views_of looked.now) (member set) }
 {
     set.has_quorum(shape.n) && some_good(shape, looked, kind, set)
 }
@@ -125,9 +125,9 @@ fn some_good(shape: Shape, looked: &Looked, kind: Kind, set: BrickSet) -> bool
 }
 
 /// Whether the bricks with a copy are a majority in which a copy is good.
-pub(crate) fn is_carried_by_holders(shape: Shape, looked: &Looked, kind: Kind) -> bool
+pub(crate) fn holders_suffice(shape: Shape, looked: &Looked, kind: Kind) -> bool
     requires { shape.n ≤ 5 }
-    ensures { result ≡ carried shape.n (keeps_in shape) kind (views_of looked.now) (holder (views_of looked.now)) }
+    ensures { result ≡ suffices_by shape.n (keeps_in shape) kind (views_of looked.now) (holder (views_of looked.now)) }
 {
     most_hold(shape.n, looked) && some_holder_good(shape, looked, kind)
 }

@@ -25,7 +25,7 @@ use Rattle.afr_walk.proofs.FreeLemmas.{allows_end, shape_is}
 use Rattle.afr_walk.proofs.WalkLemmas.{asks_allowed}
 use Rattle.afr_transaction.specs.Laws as transaction
 use Rattle.afr_transaction.specs.Progress as progress
-use Rattle.afr_transaction.specs.Progress.{Progress, is_beginning, starting}
+use Rattle.afr_transaction.specs.Progress.{TransactionProgress, is_beginning, starting}
 use Rattle.afr_transaction.specs.Sound.{IsUnused, Suits}
 use Rattle.afr_transaction.proofs.Allowed.{allowed_moves}
 use Rattle.afr_transaction.proofs.Kept.{sound_first}
@@ -92,13 +92,13 @@ is_after_walk j w k = record { sound = k; ready = go w.step refl }
     go (walking.Stopped why) e = tt
 
 -- ---- who is asked for the name
-pub kind_is : (w : Walk) (j : EntryJob) (t : Progress) (found : Found) → IsChanging w j t found → kind_for t.change ≡ Names
+pub kind_is : (w : Walk) (j : EntryJob) (t : TransactionProgress) (found : Found) → IsChanging w j t found → kind_for t.change ≡ Names
 kind_is w j t found k = ap kind_for k.of_job ∙ of_names w.object.gfid j
 
-reader_inside : (w : Walk) (j : EntryJob) (t : Progress) (b : BrickId) → IsChanging w j t (Unread b) → is_beginning t.stage ≡ true → b.0 < t.register.shape.n
+reader_inside : (w : Walk) (j : EntryJob) (t : TransactionProgress) (b : BrickId) → IsChanging w j t (Unread b) → is_beginning t.stage ≡ true → b.0 < t.register.shape.n
 reader_inside w j t b k e = k.sound.base.shown.reached b.0 (holders_are_reached t.register.looked b.0 (good_are_holders t.register.shape t.register.looked Names b.0 (k.reads e)))
 
-pub reader_small : (w : Walk) (j : EntryJob) (t : Progress) (b : BrickId) → IsChanging w j t (Unread b) → is_beginning t.stage ≡ true → b.0 < 5
+pub reader_small : (w : Walk) (j : EntryJob) (t : TransactionProgress) (b : BrickId) → IsChanging w j t (Unread b) → is_beginning t.stage ≡ true → b.0 < 5
 reader_small w j t b k e = good_below t.register.shape t.register.looked Names b.0 (k.reads e)
 
 -- ---- what is asked
@@ -116,7 +116,7 @@ not_ok refusal.Exists = refl
 not_ok refusal.IsDir = refl
 not_ok refusal.NotDir = refl
 
-allowed_under : (found : Found) (w : Walk) (j : EntryJob) (t : Progress) → IsChanging w j t found → (at : ℕ) → Allows t.register (next_under found at j w t)
+allowed_under : (found : Found) (w : Walk) (j : EntryJob) (t : TransactionProgress) → IsChanging w j t found → (at : ℕ) → Allows t.register (next_under found at j w t)
 allowed_under (Unread b) w j t k at = go (is_beginning t.stage) refl
   where
     go : (e : Bool) → is_beginning t.stage ≡ e → Allows t.register (if e then next.Ask b (reads_name j w) else progress.next_at t.stage at t)

@@ -15,7 +15,7 @@ use Rattle.afr_lines.specs.Told.{told_by}
 use Rattle.afr_lines.specs.declared.answer.Answer.{Answer}
 use Rattle.afr_lines.specs.declared.answer.Answer.TheVariants as answer
 use Rattle.afr_lines.specs.declared.answer.Told.{Told}
-use Rattle.afr_lines.specs.declared.answer.Told.TheVariants as told_of
+use Rattle.afr_lines.specs.declared.answer.Told.TheVariants as as_told
 use Rattle.afr_lines.specs.declared.line.Heard.TheVariants as heard
 use Rattle.afr_lines.specs.declared.line.Next.TheVariants as next
 use Rattle.afr_lines.specs.declared.reply.Reply.TheVariants as reply
@@ -30,7 +30,7 @@ use Rattle.afr_walk.specs.declared.walk.WalkStep.TheVariants as walking
 use Rattle.afr_walk.proofs.ChoosingLemmas.{among_good, answers_among}
 use Rattle.afr_walk.proofs.WalkLemmas.{is_walked, walked_notes}
 use Rattle.afr_transaction.specs.Progress as progress
-use Rattle.afr_transaction.specs.Progress.{Progress, after, answered_by, begun, enough, fed, is_beginning, left, may_start, starting, told_to}
+use Rattle.afr_transaction.specs.Progress.{TransactionProgress, after, answered_by, begun, enough, fed, is_beginning, left, may_start, starting, told_to}
 use Rattle.afr_transaction.specs.Sound as progress_sound
 use Rattle.afr_transaction.specs.declared.stage.Stage.{Stage}
 use Rattle.afr_transaction.specs.declared.stage.Stage.TheVariants.{Locking, Looking, Beginning, Preparing, Applying, Posting, Closing}
@@ -59,7 +59,7 @@ use Rattle.afr_entry.proofs.AskedLemmas.{is_after_walk, kind_is}
 
 -- ---- what is heard
 -- the order of the name and the phases
-next_fits : (found : Found) (stage : Stage) (x : Progress) → fits_stage found stage ≡ true → is_beginning stage ≡ false → fits_stage found (after stage x) ≡ true
+next_fits : (found : Found) (stage : Stage) (x : TransactionProgress) → fits_stage found stage ≡ true → is_beginning stage ≡ false → fits_stage found (after stage x) ≡ true
 next_fits (Unread b) Locking x h e = go (is_nothing (left Locking x)) (is_majority x.register.shape.n x.asked.locked_on)
   where
     go : (over f : Bool) → fits_stage (Unread b) (if over then (if f then Looking else Closing) else Locking) ≡ true
@@ -118,7 +118,7 @@ next_fits (Refused why) Preparing x h e = absurd (cc h)
 next_fits (Refused why) Applying x h e = absurd (cc h)
 next_fits (Refused why) Posting x h e = absurd (cc h)
 
-pub fed_fits : (found : Found) (stage : Stage) (told : Told) (at : ℕ) (t : Progress) → fits_stage found stage ≡ true → is_beginning stage ≡ false → fits_stage found (fed stage told at t).stage ≡ true
+pub fed_fits : (found : Found) (stage : Stage) (told : Told) (at : ℕ) (t : TransactionProgress) → fits_stage found stage ≡ true → is_beginning stage ≡ false → fits_stage found (fed stage told at t).stage ≡ true
 fed_fits found Locking told at t h e = next_fits found Locking (answered_by Locking (lowest (left Locking t)) told at t) h e
 fed_fits found Looking told at t h e = next_fits found Looking (answered_by Looking (lowest (left Looking t)) told at t) h e
 fed_fits found Beginning told at t h e = absurd (cc e)
@@ -127,7 +127,7 @@ fed_fits found Applying told at t h e = next_fits found Applying (answered_by Ap
 fed_fits found Posting told at t h e = next_fits found Posting (answered_by Posting (lowest (left Posting t)) told at t) h e
 fed_fits found Closing told at t h e = next_fits found Closing (answered_by Closing (lowest (left Closing t)) told at t) h e
 
-fed_kept : (w : Walk) (j : EntryJob) (t : Progress) (found : Found) (told : Told) (at : ℕ) → IsChanging w j t found → HasReader (fed t.stage told at t) found → progress.is_over t.stage t ≡ false → is_beginning t.stage ≡ false
+fed_kept : (w : Walk) (j : EntryJob) (t : TransactionProgress) (found : Found) (told : Told) (at : ℕ) → IsChanging w j t found → HasReader (fed t.stage told at t) found → progress.is_over t.stage t ≡ false → is_beginning t.stage ≡ false
     → IsChanging w j (fed t.stage told at t) found
 fed_kept w j t found told at k reads more e = record {
   sound = transaction_stays t k.sound more told at;
@@ -138,7 +138,7 @@ fed_kept w j t found told at k reads more e = record {
 }
 
 -- once the name is read, nobody is asked for it
-told_kept : (w : Walk) (j : EntryJob) (t : Progress) (found : Found) (told : Told) (at : ℕ) → ((x : Progress) → HasReader x found) → IsChanging w j t found → progress.is_over t.stage t ≡ false → IsChanging w j (told_to told at t) found
+told_kept : (w : Walk) (j : EntryJob) (t : TransactionProgress) (found : Found) (told : Told) (at : ℕ) → ((x : TransactionProgress) → HasReader x found) → IsChanging w j t found → progress.is_over t.stage t ≡ false → IsChanging w j (told_to told at t) found
 told_kept w j t found told at free k more = go (is_beginning t.stage) refl
   where
     go : (e : Bool) → is_beginning t.stage ≡ e → IsChanging w j (if e then t else fed t.stage told at t) found
@@ -146,7 +146,7 @@ told_kept w j t found told at free k more = go (is_beginning t.stage) refl
     go false e = fed_kept w j t found told at k (free (fed t.stage told at t)) more e
 
 -- the copy to ask may be another, as long as the looks aren't over
-other_reader : (w : Walk) (j : EntryJob) (t : Progress) (b chosen : BrickId) → is_beginning t.stage ≡ false → IsChanging w j t (Unread b) → IsChanging w j t (Unread chosen)
+other_reader : (w : Walk) (j : EntryJob) (t : TransactionProgress) (b chosen : BrickId) → is_beginning t.stage ≡ false → IsChanging w j t (Unread b) → IsChanging w j t (Unread chosen)
 other_reader w j t b chosen e k = record { sound = k.sound; of_job = k.of_job; in_turn = same t.stage k.in_turn; fits = refl; reads = λ h. absurd (cc (e, h)) }
   where
     same : (stage : Stage) → fits_stage (Unread b) stage ≡ true → fits_stage (Unread chosen) stage ≡ true
@@ -159,13 +159,13 @@ other_reader w j t b chosen e k = record { sound = k.sound; of_job = k.of_job; i
     same Posting h = absurd (cc h)
 
 -- of the good copies one was chosen, where the looks under the locks are over
-pub reader_chosen : (t : Progress) → kind_for t.change ≡ Names → progress_sound.Sound t → (chosen : BrickId) → IsAmong (offered t) chosen → HasReader t (Unread chosen)
+pub reader_chosen : (t : TransactionProgress) → kind_for t.change ≡ Names → progress_sound.Sound t → (chosen : BrickId) → IsAmong (offered t) chosen → HasReader t (Unread chosen)
 reader_chosen t kind sound chosen among = λ h.
     among_good t.register.shape t.register.looked Names chosen (subst (λ (k : Kind). is_nothing (good_copies t.register.shape t.register.looked k) ≡ false) kind (some_good t sound h))
     (subst (λ (e : Bool). IsAmong (if e then candidates_of t.register.shape t.register.looked Names else []) chosen) h among)
 
 -- the name was told
-name_kept : (w : Walk) (j : EntryJob) (t : Progress) (told : Told) (at : ℕ) (why : Option Refusal) (b : BrickId) → fits_job (found_by why) j ≡ true → IsChanging w j t (Unread b) → is_beginning t.stage ≡ true
+name_kept : (w : Walk) (j : EntryJob) (t : TransactionProgress) (told : Told) (at : ℕ) (why : Option Refusal) (b : BrickId) → fits_job (found_by why) j ≡ true → IsChanging w j t (Unread b) → is_beginning t.stage ≡ true
     → IsChanging w j (settled why (name_noted b j w told at t)) (found_by why)
 name_kept w j t told at None b fits k e = record {
   sound = kept_read t k.sound e b.0 (reads_name j w) refl told at;
@@ -183,10 +183,10 @@ name_kept w j t told at (Some why) b fits k e = record {
 }
 
 -- what is to be removed goes on as a removal
-pub first_removal : (w : Walk) (j : EntryJob) (t : Progress) (g : Gfid) → IsToRemove w j t → removal_sound.Sound (removing t.change t.register g)
+pub first_removal : (w : Walk) (j : EntryJob) (t : TransactionProgress) (g : Gfid) → IsToRemove w j t → removal_sound.Sound (removing t.change t.register g)
 first_removal w j t g k = removal_first t.change t.register g k.removes (base_of t k.sound) (named_of t k.sound k.beginning) k.sound.base.no_second k.sound.base.none_second (unbegun_of t k.sound k.beginning)
 
-to_remove : (w : Walk) (name : NameId) (t : Progress) (b : BrickId) (told : Told) (at : ℕ) → IsChanging w (job.Rmdir name) t (Unread b) → is_beginning t.stage ≡ true → IsToRemove w (job.Rmdir name) (name_noted b (job.Rmdir name) w told at t)
+to_remove : (w : Walk) (name : NameId) (t : TransactionProgress) (b : BrickId) (told : Told) (at : ℕ) → IsChanging w (job.Rmdir name) t (Unread b) → is_beginning t.stage ≡ true → IsToRemove w (job.Rmdir name) (name_noted b (job.Rmdir name) w told at t)
 to_remove w name t b told at k e = record {
   sound = kept_read t k.sound e b.0 (reads_name (job.Rmdir name) w) refl told at;
   of_job = k.of_job;
@@ -194,7 +194,7 @@ to_remove w name t b told at k e = record {
   removes = subst (λ (c : Change). removal_sound.IsRemoval c) (sym k.of_job) tt;
 }
 
-name_stage : (w : Walk) (j : EntryJob) (t : Progress) (b : BrickId) (a : Answer) (at : ℕ) → IsChanging w j t (Unread b) → is_beginning t.stage ≡ true
+name_stage : (w : Walk) (j : EntryJob) (t : TransactionProgress) (b : BrickId) (a : Answer) (at : ℕ) → IsChanging w j t (Unread b) → is_beginning t.stage ≡ true
     → IsStage w j (or_removes (child_by j a) (settled (ruled_out j a) (name_noted b j w (told_by a) at t)) (found_by (ruled_out j a)))
 name_stage w (job.Create name) t b a at k e = name_kept w (job.Create name) t (told_by a) at (ruled_out (job.Create name) a) b (fits (ruled_out (job.Create name) a)) k e
   where
@@ -211,30 +211,30 @@ name_stage w (job.Unlink name) t b a at k e = name_kept w (job.Unlink name) t (t
     fits : (why : Option Refusal) → fits_job (found_by why) (job.Unlink name) ≡ true
     fits None = refl
     fits (Some why) = refl
-name_stage w (job.Rmdir name) t b (answer.Entry None) at k e = name_kept w (job.Rmdir name) t told_of.Given at (Some refusal.NoEntry) b refl k e
+name_stage w (job.Rmdir name) t b (answer.Entry None) at k e = name_kept w (job.Rmdir name) t as_told.Given at (Some refusal.NoEntry) b refl k e
 name_stage w (job.Rmdir name) t b (answer.Entry (Some entry)) at k e = go (is_dir entry.what)
   where
     go : (d : Bool)
         → IsStage w (job.Rmdir name)
-        (or_removes (if d then Some entry.gfid else None) (settled (if d then None else Some refusal.NotDir) (name_noted b (job.Rmdir name) w told_of.Given at t)) (found_by (if d then None else Some refusal.NotDir)))
-    go true = record { sound = first_removal w (job.Rmdir name) (name_noted b (job.Rmdir name) w told_of.Given at t) entry.gfid (to_remove w name t b told_of.Given at k e); of_job = k.of_job }
-    go false = name_kept w (job.Rmdir name) t told_of.Given at (Some refusal.NotDir) b refl k e
+        (or_removes (if d then Some entry.gfid else None) (settled (if d then None else Some refusal.NotDir) (name_noted b (job.Rmdir name) w as_told.Given at t)) (found_by (if d then None else Some refusal.NotDir)))
+    go true = record { sound = first_removal w (job.Rmdir name) (name_noted b (job.Rmdir name) w as_told.Given at t) entry.gfid (to_remove w name t b as_told.Given at k e); of_job = k.of_job }
+    go false = name_kept w (job.Rmdir name) t as_told.Given at (Some refusal.NotDir) b refl k e
 name_stage w (job.Rmdir name) t b a at k e = name_kept w (job.Rmdir name) t (told_by a) at (Some refusal.Failed) b refl k e
 
-named_to_remove : (w : Walk) (j : EntryJob) (t : Progress) (b : BrickId) (a : Answer) (at : ℕ) (g : Gfid) → IsChanging w j t (Unread b) → is_beginning t.stage ≡ true → child_by j a ≡ Some g
+named_to_remove : (w : Walk) (j : EntryJob) (t : TransactionProgress) (b : BrickId) (a : Answer) (at : ℕ) (g : Gfid) → IsChanging w j t (Unread b) → is_beginning t.stage ≡ true → child_by j a ≡ Some g
     → IsToRemove w j (settled (ruled_out j a) (name_noted b j w (told_by a) at t))
 named_to_remove w (job.Create name) t b a at g k e f = absurd (cc f)
 named_to_remove w (job.Mkdir name) t b a at g k e f = absurd (cc f)
 named_to_remove w (job.Unlink name) t b a at g k e f = absurd (cc f)
 named_to_remove w (job.Rmdir name) t b (answer.Entry (Some entry)) at g k e f = go (is_dir entry.what) f
   where
-    go : (d : Bool) → (if d then Some entry.gfid else None) ≡ Some g → IsToRemove w (job.Rmdir name) (settled (if d then None else Some refusal.NotDir) (name_noted b (job.Rmdir name) w told_of.Given at t))
-    go true f = to_remove w name t b told_of.Given at k e
+    go : (d : Bool) → (if d then Some entry.gfid else None) ≡ Some g → IsToRemove w (job.Rmdir name) (settled (if d then None else Some refusal.NotDir) (name_noted b (job.Rmdir name) w as_told.Given at t))
+    go true f = to_remove w name t b as_told.Given at k e
     go false f = absurd (cc f)
 named_to_remove w (job.Rmdir name) t b (answer.Entry None) at g k e f = absurd (cc f)
 named_to_remove w (job.Rmdir name) t b a at g k e f = absurd (cc f)
 
-pub found_to_remove : (found : Found) (a : Answer) (at : ℕ) (w : Walk) (j : EntryJob) (t : Progress) (g : Gfid) → IsChanging w j t found → child_after found a j t.stage ≡ Some g → IsToRemove w j (progress_after found a at j w t)
+pub found_to_remove : (found : Found) (a : Answer) (at : ℕ) (w : Walk) (j : EntryJob) (t : TransactionProgress) (g : Gfid) → IsChanging w j t found → child_after found a j t.stage ≡ Some g → IsToRemove w j (progress_after found a at j w t)
 found_to_remove (Unread b) a at w j t g k f = go (is_beginning t.stage) refl f
   where
     go : (e : Bool) → is_beginning t.stage ≡ e → (if e then child_by j a else None) ≡ Some g → IsToRemove w j (if e then settled (ruled_out j a) (name_noted b j w (told_by a) at t) else fed t.stage (told_by a) at t)
@@ -243,7 +243,7 @@ found_to_remove (Unread b) a at w j t g k f = go (is_beginning t.stage) refl f
 found_to_remove Fits a at w j t g k f = absurd (cc f)
 found_to_remove (Refused why) a at w j t g k f = absurd (cc f)
 
-pub progress_kept : (chosen : BrickId) (found : Found) (a : Answer) (at : ℕ) (w : Walk) (j : EntryJob) (t : Progress) → IsChanging w j t found → progress.is_over t.stage t ≡ false → IsAmong (choices_under found a at t) chosen
+pub progress_kept : (chosen : BrickId) (found : Found) (a : Answer) (at : ℕ) (w : Walk) (j : EntryJob) (t : TransactionProgress) → IsChanging w j t found → progress.is_over t.stage t ≡ false → IsAmong (choices_under found a at t) chosen
     → IsStage w j (or_removes (child_after found a j t.stage) (progress_after found a at j w t) (found_after chosen found a j t.stage))
 progress_kept chosen (Unread b) a at w j t k more among = go (is_beginning t.stage) refl among
   where
@@ -271,7 +271,7 @@ removal_begun_kept at w j m k = go (removal.is_beginning m.stage) refl
     go true e = record { sound = begins_sound m k.sound e at; of_job = k.of_job }
     go false e = k
 
-begun_kept : (w : Walk) (j : EntryJob) (t : Progress) (found : Found) (at : ℕ) → fits_stage found Beginning ≡ true → fits_stage found Preparing ≡ true → ((x : Progress) → HasReader x found) → IsChanging w j t found
+begun_kept : (w : Walk) (j : EntryJob) (t : TransactionProgress) (found : Found) (at : ℕ) → fits_stage found Beginning ≡ true → fits_stage found Preparing ≡ true → ((x : TransactionProgress) → HasReader x found) → IsChanging w j t found
     → IsChanging w j (if is_beginning t.stage then begun at t else t) found
 begun_kept w j t found at one two free k = go (is_beginning t.stage) refl
   where
@@ -280,7 +280,7 @@ begun_kept w j t found at one two free k = go (is_beginning t.stage) refl
     go false e = k
 
 -- a change that was ruled out never begins
-refused_kept : (w : Walk) (j : EntryJob) (t : Progress) (why : Refusal) (at : ℕ) → IsChanging w j t (Refused why) → IsChanging w j (if is_beginning t.stage then begun at t else t) (Refused why)
+refused_kept : (w : Walk) (j : EntryJob) (t : TransactionProgress) (why : Refusal) (at : ℕ) → IsChanging w j t (Refused why) → IsChanging w j (if is_beginning t.stage then begun at t else t) (Refused why)
 refused_kept w j t why at k = go (is_beginning t.stage) refl
   where
     closed : (stage : Stage) → fits_stage (Refused why) stage ≡ true → is_beginning stage ≡ false
@@ -296,7 +296,7 @@ refused_kept w j t why at k = go (is_beginning t.stage) refl
     go true e = let f = closed t.stage k.in_turn in absurd (cc (e, f))
     go false e = k
 
-progress_begun_kept : (found : Found) (at : ℕ) (w : Walk) (j : EntryJob) (t : Progress) → IsChanging w j t found → IsChanging w j (progress_begun found at t) found
+progress_begun_kept : (found : Found) (at : ℕ) (w : Walk) (j : EntryJob) (t : TransactionProgress) → IsChanging w j t found → IsChanging w j (progress_begun found at t) found
 progress_begun_kept (Unread b) at w j t k = k
 progress_begun_kept Fits at w j t k = begun_kept w j t Fits at refl refl (λ x. tt) k
 progress_begun_kept (Refused why) at w j t k = refused_kept w j t why at k
@@ -334,12 +334,12 @@ left_register walking.Arrived j w = go (is_dir w.object.what)
     go false = refl
 left_register (walking.Stopped why) j w = refl
 
-pub settled_register : (why : Option Refusal) (t : Progress) → (settled why t).register ≡ t.register
+pub settled_register : (why : Option Refusal) (t : TransactionProgress) → (settled why t).register ≡ t.register
 settled_register None t = refl
 settled_register (Some why) t = refl
 
 -- a transaction that asks notes its request
-pub told_notes : (t : Progress) (at : ℕ) (brick : BrickId) (request : Request) (told : Told) → progress.next_at t.stage at t ≡ next.Ask brick request
+pub told_notes : (t : TransactionProgress) (at : ℕ) (brick : BrickId) (request : Request) (told : Told) → progress.next_at t.stage at t ≡ next.Ask brick request
     → (told_to told at t).register ≡ noted_ask t.register at brick.0 request told
 told_notes t at brick request told e = go (is_beginning t.stage) (asks_elsewhere t.stage t at brick request e)
   where
@@ -347,7 +347,7 @@ told_notes t at brick request told e = go (is_beginning t.stage) (asks_elsewhere
     go true f = absurd (cc f)
     go false f = fed_notes t.stage t at brick request told e
 
-under_notes : (found : Found) (w : Walk) (j : EntryJob) (t : Progress) (at : ℕ) (brick : BrickId) (request : Request) → next_under found at j w t ≡ next.Ask brick request → (a : Answer)
+under_notes : (found : Found) (w : Walk) (j : EntryJob) (t : TransactionProgress) (at : ℕ) (brick : BrickId) (request : Request) → next_under found at j w t ≡ next.Ask brick request → (a : Answer)
     → (progress_after found a at j w t).register ≡ noted_ask t.register at brick.0 request (told_by a)
 under_notes (Unread b) w j t at brick request e a = go (is_beginning t.stage) e
   where
@@ -362,7 +362,7 @@ under_notes (Refused why) w j t at brick request e a = go (progress.is_over t.st
     go true e = absurd (cc e)
     go false e = told_notes t at brick request (told_by a) e
 
-removes_register : (child : Option Gfid) (t : Progress) (found : Found) (w : Walk) → register_at (or_removes child t found) w ≡ t.register
+removes_register : (child : Option Gfid) (t : TransactionProgress) (found : Found) (w : Walk) → register_at (or_removes child t found) w ≡ t.register
 removes_register None t found w = refl
 removes_register (Some child) t found w = refl
 
@@ -382,14 +382,14 @@ notes_at (Ending said) w j at brick request e chosen a = absurd (cc e)
 pub notes_each : NotesEach
 notes_each m at brick request e chosen a = notes_at m.stage m.walk m.job at brick request e chosen a
 
-pub begun_notes : (t : Progress) (at : ℕ) (change : Change) → progress.next_at t.stage at t ≡ next.Begin change → (if is_beginning t.stage then begun at t else t).register ≡ noted_begin t.register at
+pub begun_notes : (t : TransactionProgress) (at : ℕ) (change : Change) → progress.next_at t.stage at t ≡ next.Begin change → (if is_beginning t.stage then begun at t else t).register ≡ noted_begin t.register at
 begun_notes t at change e = go (is_beginning t.stage) (begins_there t.stage t at change e)
   where
     go : (b : Bool) → b ≡ true → (if b then begun at t else t).register ≡ noted_begin t.register at
     go true f = refl
     go false f = absurd (cc f)
 
-under_begins : (found : Found) (w : Walk) (j : EntryJob) (t : Progress) (at : ℕ) (change : Change) → next_under found at j w t ≡ next.Begin change → (progress_begun found at t).register ≡ noted_begin t.register at
+under_begins : (found : Found) (w : Walk) (j : EntryJob) (t : TransactionProgress) (at : ℕ) (change : Change) → next_under found at j w t ≡ next.Begin change → (progress_begun found at t).register ≡ noted_begin t.register at
 under_begins (Unread b) w j t at change e = go (is_beginning t.stage) refl e
   where
     go : (x : Bool) → is_beginning t.stage ≡ x → (if x then next.Ask b (reads_name j w) else progress.next_at t.stage at t) ≡ next.Begin change → t.register ≡ noted_begin t.register at

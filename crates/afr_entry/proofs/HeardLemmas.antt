@@ -17,7 +17,7 @@ use Rattle.afr_walk.specs.Choosing.{reader_of}
 use Rattle.afr_transaction.specs.Between.{is_read, noted_read}
 use Rattle.afr_transaction.specs.Outcome.{reply_of}
 use Rattle.afr_transaction.specs.Progress as progress
-use Rattle.afr_transaction.specs.Progress.{Progress, answered, asks, fed, is_beginning, told_to}
+use Rattle.afr_transaction.specs.Progress.{TransactionProgress, answered, asks, fed, is_beginning, told_to}
 use Rattle.afr_transaction.specs.declared.stage.Stage.{Stage}
 use Rattle.afr_transaction.specs.declared.stage.Stage.TheVariants.{Locking, Looking, Beginning, Preparing, Applying, Posting, Closing}
 use Rattle.afr_transaction.proofs.NoteLemmas.{fed_change}
@@ -36,7 +36,7 @@ use Rattle.afr_entry.specs.declared.stage.Found.TheVariants.{Unread, Fits, Refus
 use Rattle.afr_entry.proofs.AskedLemmas.{kind_is, reader_small}
 
 -- where a transaction asks, its answer is what it is fed
-pub fed_is : (stage : Stage) (t : Progress) (at : ℕ) (b : BrickId) (q : Request) (told : Told) → progress.next_at stage at t ≡ next.Ask b q → answered stage told at t ≡ fed stage told at t
+pub fed_is : (stage : Stage) (t : TransactionProgress) (at : ℕ) (b : BrickId) (q : Request) (told : Told) → progress.next_at stage at t ≡ next.Ask b q → answered stage told at t ≡ fed stage told at t
 fed_is Beginning t at b q told e = absurd (cc e)
 fed_is Locking t at b q told e = refl
 fed_is Looking t at b q told e = refl
@@ -56,7 +56,7 @@ name_read found (inl e) = ap is_unread e
 name_read found (inr e) = ap is_unread e.1
 
 -- a transaction that has asked is told
-told_fed : (t x : Progress) (at : ℕ) (a : Answer) (told : Told) → is_beginning t.stage ≡ false → told ≡ told_by a → x ≡ fed t.stage told at t → x ≡ told_to (told_by a) at t
+told_fed : (t x : TransactionProgress) (at : ℕ) (a : Answer) (told : Told) → is_beginning t.stage ≡ false → told ≡ told_by a → x ≡ fed t.stage told at t → x ≡ told_to (told_by a) at t
 told_fed t x at a told f et ex = go (is_beginning t.stage) f
   where
     go : (s : Bool) → s ≡ false → x ≡ (if s then t else fed t.stage (told_by a) at t)
@@ -64,14 +64,14 @@ told_fed t x at a told f et ex = go (is_beginning t.stage) f
     go false f = ex ∙ ap (λ (heard : Told). fed t.stage heard at t) et
 
 -- while the name isn't asked for, the transaction asks
-pub unread_asks : (w : Walk) (j : EntryJob) (t : Progress) (reader b : BrickId) (q : Request) (at : ℕ) → is_beginning t.stage ≡ false → next_under (Unread reader) at j w t ≡ next.Ask b q → progress.next_at t.stage at t ≡ next.Ask b q
+pub unread_asks : (w : Walk) (j : EntryJob) (t : TransactionProgress) (reader b : BrickId) (q : Request) (at : ℕ) → is_beginning t.stage ≡ false → next_under (Unread reader) at j w t ≡ next.Ask b q → progress.next_at t.stage at t ≡ next.Ask b q
 unread_asks w j t reader b q at f e = go (is_beginning t.stage) f e
   where
     go : (x : Bool) → x ≡ false → (if x then next.Ask reader (reads_name j w) else progress.next_at t.stage at t) ≡ next.Ask b q → progress.next_at t.stage at t ≡ next.Ask b q
     go true f e = absurd (cc f)
     go false f e = e
 
-pub refused_asks : (w : Walk) (j : EntryJob) (t : Progress) (why : Refusal) (b : BrickId) (q : Request) (at : ℕ) → next_under (Refused why) at j w t ≡ next.Ask b q → progress.next_at t.stage at t ≡ next.Ask b q
+pub refused_asks : (w : Walk) (j : EntryJob) (t : TransactionProgress) (why : Refusal) (b : BrickId) (q : Request) (at : ℕ) → next_under (Refused why) at j w t ≡ next.Ask b q → progress.next_at t.stage at t ≡ next.Ask b q
 refused_asks w j t why b q at e = go (progress.is_over t.stage t) e
   where
     go : (x : Bool) → (if x then next.End (reply_to why) else progress.next_at t.stage at t) ≡ next.Ask b q → progress.next_at t.stage at t ≡ next.Ask b q
@@ -79,28 +79,28 @@ refused_asks w j t why b q at e = go (progress.is_over t.stage t) e
     go false e = e
 
 -- where the name is asked for, it is asked for at the copy that was chosen
-pub name_brick : (w : Walk) (j : EntryJob) (t : Progress) (reader b : BrickId) (q : Request) (at : ℕ) → is_beginning t.stage ≡ true → next_under (Unread reader) at j w t ≡ next.Ask b q → reader ≡ b
+pub name_brick : (w : Walk) (j : EntryJob) (t : TransactionProgress) (reader b : BrickId) (q : Request) (at : ℕ) → is_beginning t.stage ≡ true → next_under (Unread reader) at j w t ≡ next.Ask b q → reader ≡ b
 name_brick w j t reader b q at f e = go (is_beginning t.stage) f e
   where
     go : (x : Bool) → x ≡ true → (if x then next.Ask reader (reads_name j w) else progress.next_at t.stage at t) ≡ next.Ask b q → reader ≡ b
     go true f e = cc e
     go false f e = absurd (cc f)
 
-pub name_request : (w : Walk) (j : EntryJob) (t : Progress) (reader b : BrickId) (q : Request) (at : ℕ) → is_beginning t.stage ≡ true → next_under (Unread reader) at j w t ≡ next.Ask b q → reads_name j w ≡ q
+pub name_request : (w : Walk) (j : EntryJob) (t : TransactionProgress) (reader b : BrickId) (q : Request) (at : ℕ) → is_beginning t.stage ≡ true → next_under (Unread reader) at j w t ≡ next.Ask b q → reads_name j w ≡ q
 name_request w j t reader b q at f e = go (is_beginning t.stage) f e
   where
     go : (x : Bool) → x ≡ true → (if x then next.Ask reader (reads_name j w) else progress.next_at t.stage at t) ≡ next.Ask b q → reads_name j w ≡ q
     go true f e = cc e
     go false f e = absurd (cc f)
 
-pub name_small : (w : Walk) (j : EntryJob) (t : Progress) (reader b : BrickId) (q : Request) (at : ℕ) → IsChanging w j t (Unread reader) → is_beginning t.stage ≡ true → next_under (Unread reader) at j w t ≡ next.Ask b q → b.0 < 5
+pub name_small : (w : Walk) (j : EntryJob) (t : TransactionProgress) (reader b : BrickId) (q : Request) (at : ℕ) → IsChanging w j t (Unread reader) → is_beginning t.stage ≡ true → next_under (Unread reader) at j w t ≡ next.Ask b q → b.0 < 5
 name_small w j t reader b q at k f e = subst (λ (x : BrickId). x.0 < 5) (name_brick w j t reader b q at f e) (reader_small w j t reader k f)
 
-pub name_reads : (w : Walk) (j : EntryJob) (t : Progress) (reader b : BrickId) (q : Request) (at : ℕ) → is_beginning t.stage ≡ true → next_under (Unread reader) at j w t ≡ next.Ask b q → is_read q ≡ true
+pub name_reads : (w : Walk) (j : EntryJob) (t : TransactionProgress) (reader b : BrickId) (q : Request) (at : ℕ) → is_beginning t.stage ≡ true → next_under (Unread reader) at j w t ≡ next.Ask b q → is_read q ≡ true
 name_reads w j t reader b q at f e = subst (λ (x : Request). is_read x ≡ true) (name_request w j t reader b q at f e) refl
 
 -- what the code makes of the name is what the answer makes
-pub name_heard : (w : Walk) (j : EntryJob) (t x y : Progress) (reader b : BrickId) (q : Request) (at : ℕ) (a : Answer) (told : Told) → is_beginning t.stage ≡ true → next_under (Unread reader) at j w t ≡ next.Ask b q
+pub name_heard : (w : Walk) (j : EntryJob) (t x y : TransactionProgress) (reader b : BrickId) (q : Request) (at : ℕ) (a : Answer) (told : Told) → is_beginning t.stage ≡ true → next_under (Unread reader) at j w t ≡ next.Ask b q
     → told ≡ told_by a → x ≡ noted_read b.0 q told at t → y ≡ settled (ruled_out j a) x → y ≡ progress_after (Unread reader) a at j w t
 name_heard w j t x y reader b q at a told f e et ex ey = go (is_beginning t.stage) f
   where
@@ -110,11 +110,11 @@ name_heard w j t x y reader b q at a told f e et ex ey = go (is_beginning t.stag
         ∙ ap (λ (heard : Told). noted_read reader.0 (reads_name j w) heard at t) et
 
     go : (s : Bool) → s ≡ true → y ≡ (if s then settled (ruled_out j a) (name_noted reader j w (told_by a) at t) else fed t.stage (told_by a) at t)
-    go true f = ey ∙ ap (λ (p : Progress). settled (ruled_out j a) p) same
+    go true f = ey ∙ ap (λ (p : TransactionProgress). settled (ruled_out j a) p) same
     go false f = absurd (cc f)
 
 -- while the name isn't asked for, the transaction has its answer
-pub progress_fed : (w : Walk) (j : EntryJob) (t x : Progress) (reader : BrickId) (at : ℕ) (a : Answer) (told : Told) → is_beginning t.stage ≡ false → told ≡ told_by a → x ≡ fed t.stage told at t → x ≡ progress_after (Unread reader) a at j w t
+pub progress_fed : (w : Walk) (j : EntryJob) (t x : TransactionProgress) (reader : BrickId) (at : ℕ) (a : Answer) (told : Told) → is_beginning t.stage ≡ false → told ≡ told_by a → x ≡ fed t.stage told at t → x ≡ progress_after (Unread reader) a at j w t
 progress_fed w j t x reader at a told f et ex = go (is_beginning t.stage) f
   where
     go : (s : Bool) → s ≡ false → x ≡ (if s then settled (ruled_out j a) (name_noted reader j w (told_by a) at t) else fed t.stage (told_by a) at t)
@@ -122,7 +122,7 @@ progress_fed w j t x reader at a told f et ex = go (is_beginning t.stage) f
     go false f = ex ∙ ap (λ (heard : Told). fed t.stage heard at t) et
 
 -- the rule is asked for what the answer has left
-pub offered_fed : (t x : Progress) (reader : BrickId) (at : ℕ) (a : Answer) (told : Told) → is_beginning t.stage ≡ false → told ≡ told_by a → x ≡ fed t.stage told at t → offered x ≡ choices_under (Unread reader) a at t
+pub offered_fed : (t x : TransactionProgress) (reader : BrickId) (at : ℕ) (a : Answer) (told : Told) → is_beginning t.stage ≡ false → told ≡ told_by a → x ≡ fed t.stage told at t → offered x ≡ choices_under (Unread reader) a at t
 offered_fed t x reader at a told f et ex = go (is_beginning t.stage) f
   where
     go : (s : Bool) → s ≡ false → offered x ≡ (if s then [] else offered (fed t.stage (told_by a) at t))
@@ -130,7 +130,7 @@ offered_fed t x reader at a told f et ex = go (is_beginning t.stage) f
     go false f = ap offered (ex ∙ ap (λ (heard : Told). fed t.stage heard at t) et)
 
 -- what the name says leaves nothing to choose from
-pub nothing_offered : (t : Progress) (reader : BrickId) (at : ℕ) (a : Answer) → is_beginning t.stage ≡ true → [] ≡ choices_under (Unread reader) a at t
+pub nothing_offered : (t : TransactionProgress) (reader : BrickId) (at : ℕ) (a : Answer) → is_beginning t.stage ≡ true → [] ≡ choices_under (Unread reader) a at t
 nothing_offered t reader at a f = go (is_beginning t.stage) f
   where
     go : (s : Bool) → s ≡ true → [] ≡ (if s then [] else offered (fed t.stage (told_by a) at t))
@@ -152,16 +152,16 @@ found_named chosen reader found a j stage f e = go (is_beginning stage) f
     go false f = absurd (cc f)
 
 -- the change stays that of a name
-pub names_fed : (w : Walk) (j : EntryJob) (t x : Progress) (found : Found) (at : ℕ) (told : Told) → IsChanging w j t found → x ≡ fed t.stage told at t → kind_for x.change ≡ Names
-names_fed w j t x found at told k ex = ap (λ (p : Progress). kind_for p.change) ex ∙ ap kind_for (fed_change t.stage told at t) ∙ kind_is w j t found k
+pub names_fed : (w : Walk) (j : EntryJob) (t x : TransactionProgress) (found : Found) (at : ℕ) (told : Told) → IsChanging w j t found → x ≡ fed t.stage told at t → kind_for x.change ≡ Names
+names_fed w j t x found at told k ex = ap (λ (p : TransactionProgress). kind_for p.change) ex ∙ ap kind_for (fed_change t.stage told at t) ∙ kind_is w j t found k
 
 -- once the name is read, the transaction asks
-pub found_asks : (w : Walk) (j : EntryJob) (t : Progress) (found : Found) (b : BrickId) (q : Request) (at : ℕ) → is_unread found ≡ false → next_under found at j w t ≡ next.Ask b q → progress.next_at t.stage at t ≡ next.Ask b q
+pub found_asks : (w : Walk) (j : EntryJob) (t : TransactionProgress) (found : Found) (b : BrickId) (q : Request) (at : ℕ) → is_unread found ≡ false → next_under found at j w t ≡ next.Ask b q → progress.next_at t.stage at t ≡ next.Ask b q
 found_asks w j t (Unread reader) b q at u e = absurd (cc u)
 found_asks w j t Fits b q at u e = e
 found_asks w j t (Refused why) b q at u e = refused_asks w j t why b q at e
 
-pub found_told : (w : Walk) (j : EntryJob) (t x : Progress) (found : Found) (at : ℕ) (a : Answer) (told : Told) → is_unread found ≡ false → is_beginning t.stage ≡ false → told ≡ told_by a → x ≡ fed t.stage told at t → x ≡ progress_after found a at j w t
+pub found_told : (w : Walk) (j : EntryJob) (t x : TransactionProgress) (found : Found) (at : ℕ) (a : Answer) (told : Told) → is_unread found ≡ false → is_beginning t.stage ≡ false → told ≡ told_by a → x ≡ fed t.stage told at t → x ≡ progress_after found a at j w t
 found_told w j t x (Unread reader) at a told u f et ex = absurd (cc u)
 found_told w j t x Fits at a told u f et ex = told_fed t x at a told f et ex
 found_told w j t x (Refused why) at a told u f et ex = told_fed t x at a told f et ex
@@ -171,7 +171,7 @@ found_same chosen (Unread reader) a j stage u = absurd (cc u)
 found_same chosen Fits a j stage u = refl
 found_same chosen (Refused why) a j stage u = refl
 
-pub found_offers : (found : Found) (t : Progress) (at : ℕ) (a : Answer) → is_unread found ≡ false → [] ≡ choices_under found a at t
+pub found_offers : (found : Found) (t : TransactionProgress) (at : ℕ) (a : Answer) → is_unread found ≡ false → [] ≡ choices_under found a at t
 found_offers (Unread reader) t at a u = absurd (cc u)
 found_offers Fits t at a u = refl
 found_offers (Refused why) t at a u = refl
@@ -193,7 +193,7 @@ removing_told chosen m a at f = go (removal.is_beginning m.stage) f
 
 -- ---- where nobody is asked
 -- a transaction that isn't over and asks nobody is at its Begin line
-pub beginning_where : (stage : Stage) (t : Progress) (at : ℕ) → is_ask (progress.next_at stage at t) ≡ false → progress.is_over stage t ≡ false → is_beginning stage ≡ true
+pub beginning_where : (stage : Stage) (t : TransactionProgress) (at : ℕ) → is_ask (progress.next_at stage at t) ≡ false → progress.is_over stage t ≡ false → is_beginning stage ≡ true
 beginning_where Locking t at none more = absurd (cc none)
 beginning_where Looking t at none more = absurd (cc none)
 beginning_where Beginning t at none more = refl
@@ -221,21 +221,21 @@ removal_where (removing.Closing why) m none more = go (removal.is_over (removing
     go false none more = absurd (cc none)
 
 -- there an answer changes nothing
-untold : (told : Told) (at : ℕ) (t : Progress) → is_beginning t.stage ≡ true → t ≡ told_to told at t
+untold : (told : Told) (at : ℕ) (t : TransactionProgress) → is_beginning t.stage ≡ true → t ≡ told_to told at t
 untold told at t f = go (is_beginning t.stage) f
   where
     go : (s : Bool) → s ≡ true → t ≡ (if s then t else fed t.stage told at t)
     go true f = refl
     go false f = absurd (cc f)
 
-unread_none : (t : Progress) (w : Walk) (j : EntryJob) (reader : BrickId) (at : ℕ) → is_ask (next_under (Unread reader) at j w t) ≡ false → progress.is_over t.stage t ≡ false → ⊥
+unread_none : (t : TransactionProgress) (w : Walk) (j : EntryJob) (reader : BrickId) (at : ℕ) → is_ask (next_under (Unread reader) at j w t) ≡ false → progress.is_over t.stage t ≡ false → ⊥
 unread_none t w j reader at none more = go (is_beginning t.stage) refl none
   where
     go : (s : Bool) → is_beginning t.stage ≡ s → is_ask (if s then next.Ask reader (reads_name j w) else progress.next_at t.stage at t) ≡ false → ⊥
     go true f none = absurd (cc none)
     go false f none = let g = beginning_where t.stage t at none more in absurd (cc (f, g))
 
-refused_none : (t : Progress) (w : Walk) (j : EntryJob) (why : Refusal) (at : ℕ) → is_ask (next_under (Refused why) at j w t) ≡ false → progress.is_over t.stage t ≡ false → is_beginning t.stage ≡ true
+refused_none : (t : TransactionProgress) (w : Walk) (j : EntryJob) (why : Refusal) (at : ℕ) → is_ask (next_under (Refused why) at j w t) ≡ false → progress.is_over t.stage t ≡ false → is_beginning t.stage ≡ true
 refused_none t w j why at none more = go (progress.is_over t.stage t) more none
   where
     go : (s : Bool) → s ≡ false → is_ask (if s then next.End (reply_to why) else progress.next_at t.stage at t) ≡ false → is_beginning t.stage ≡ true
@@ -264,9 +264,9 @@ unheard calls choose m a at none more = go m.stage none more
     go Walking none more = absurd (cc none)
     go (Changing t (Unread reader)) none more = absurd (unread_none t m.walk m.job reader at none more)
     go (Changing t Fits) none more =
-        record { picked = None; answers = refl; value = ap (λ (x : Progress). record { walk = m.walk; job = m.job; stage = Changing x Fits }) (untold (told_by a) at t (beginning_where t.stage t at none more)) }
+        record { picked = None; answers = refl; value = ap (λ (x : TransactionProgress). record { walk = m.walk; job = m.job; stage = Changing x Fits }) (untold (told_by a) at t (beginning_where t.stage t at none more)) }
     go (Changing t (Refused why)) none more =
-        record { picked = None; answers = refl; value = ap (λ (x : Progress). record { walk = m.walk; job = m.job; stage = Changing x (Refused why) }) (untold (told_by a) at t (refused_none t m.walk m.job why at none more)) }
+        record { picked = None; answers = refl; value = ap (λ (x : TransactionProgress). record { walk = m.walk; job = m.job; stage = Changing x (Refused why) }) (untold (told_by a) at t (refused_none t m.walk m.job why at none more)) }
     go (Removes r) none more =
         record {
           picked = None;

@@ -34,7 +34,7 @@ use Rattle.afr_walk.specs.declared.walk.WalkStep.TheVariants as walking
 use Rattle.afr_transaction.specs.Between.{given_up, noted_read}
 use Rattle.afr_transaction.specs.Made.{attempted}
 use Rattle.afr_transaction.specs.Progress as transaction
-use Rattle.afr_transaction.specs.Progress.{Progress, CarriesAt, begun, fed, is_beginning, starting, told_to}
+use Rattle.afr_transaction.specs.Progress.{TransactionProgress, CarriesAt, begun, fed, is_beginning, starting, told_to}
 use Rattle.afr_transaction.specs.Sound.{Sound}
 use Rattle.afr_transaction.specs.declared.stage.Stage.{Stage}
 use Rattle.afr_transaction.specs.declared.stage.Stage.TheVariants.{Locking, Looking, Preparing, Applying, Posting, Closing}
@@ -82,7 +82,7 @@ abbrev pub reads_name : EntryJob → Walk → Request
 reads_name job w = request.ReadName w.object.gfid (name_of job)
 
 -- the next line under the locks: the name is read before the attempt, at the copy that was chosen, and a refusal is said once no lock is left
-abbrev pub next_under : Found → ℕ → EntryJob → Walk → Progress → Next
+abbrev pub next_under : Found → ℕ → EntryJob → Walk → TransactionProgress → Next
 next_under (Unread b) at job w t = if is_beginning t.stage then next.Ask b (reads_name job w) else transaction.next_at t.stage at t
 next_under Fits at job w t = transaction.next_at t.stage at t
 next_under (Refused why) at job w t = if transaction.is_over t.stage t then next.End (reply_to why) else transaction.next_at t.stage at t
@@ -128,16 +128,16 @@ found_by None = Fits
 found_by (Some why) = Refused why
 
 -- a change that is ruled out is given up
-abbrev pub settled : Option Refusal → Progress → Progress
+abbrev pub settled : Option Refusal → TransactionProgress → TransactionProgress
 settled None t = t
 settled (Some why) t = given_up t
 
 -- the register notes the read of the name
-abbrev pub name_noted : BrickId → EntryJob → Walk → Told → ℕ → Progress → Progress
+abbrev pub name_noted : BrickId → EntryJob → Walk → Told → ℕ → TransactionProgress → TransactionProgress
 name_noted b job w told at t = noted_read b.0 (reads_name job w) told at t
 
 -- the transaction after an answer
-abbrev pub progress_after : Found → Answer → ℕ → EntryJob → Walk → Progress → Progress
+abbrev pub progress_after : Found → Answer → ℕ → EntryJob → Walk → TransactionProgress → TransactionProgress
 progress_after (Unread b) a at job w t = if is_beginning t.stage then settled (ruled_out job a) (name_noted b job w (told_by a) at t) else fed t.stage (told_by a) at t
 progress_after found a at job w t = told_to (told_by a) at t
 
@@ -152,7 +152,7 @@ child_after (Unread b) a job stage = if is_beginning stage then child_by job a e
 child_after found a job stage = None
 
 -- the change goes on, or a removal goes on to the directory itself
-abbrev pub or_removes : Option Gfid → Progress → Found → EntryStage
+abbrev pub or_removes : Option Gfid → TransactionProgress → Found → EntryStage
 or_removes None t found = Changing t found
 or_removes (Some child) t found = Removes (removing t.change t.register child)
 
@@ -162,11 +162,11 @@ removal_after chosen a at m = if removal.is_beginning m.stage then m else remova
 
 -- ---- what the rule is asked for
 -- the good copies of the directory, where the looks under the locks are over
-abbrev pub offered : Progress → List Candidate
+abbrev pub offered : TransactionProgress → List Candidate
 offered t = if is_beginning t.stage then candidates_of t.register.shape t.register.looked Names else []
 
 -- so it is by the answer that ends them, before the name is read
-abbrev pub choices_under : Found → Answer → ℕ → Progress → List Candidate
+abbrev pub choices_under : Found → Answer → ℕ → TransactionProgress → List Candidate
 choices_under (Unread b) a at t = if is_beginning t.stage then [] else offered (fed t.stage (told_by a) at t)
 choices_under found a at t = []
 
@@ -199,7 +199,7 @@ abbrev pub answered : BrickId → Answer → ℕ → Entering → Entering
 answered chosen a at m = record { walk = walk_after chosen m.stage a at m.walk; job = m.job; stage = stage_after chosen m.stage a at m.job (walk_after chosen m.stage a at m.walk) }
 
 -- the transaction's attempt has its number; before the name is read it has none
-abbrev pub progress_begun : Found → ℕ → Progress → Progress
+abbrev pub progress_begun : Found → ℕ → TransactionProgress → TransactionProgress
 progress_begun (Unread b) at t = t
 progress_begun found at t = if is_beginning t.stage then begun at t else t
 
@@ -254,12 +254,12 @@ fits_job Fits (Rmdir name) = false
 fits_job found job = true
 
 -- once the looks are over, the copy to ask for the name is a good one
-abbrev pub HasReader : Progress → Found → Type 0
+abbrev pub HasReader : TransactionProgress → Found → Type 0
 HasReader t (Unread b) = is_beginning t.stage ≡ true → member (good_copies t.register.shape t.register.looked Names) b.0 ≡ true
 HasReader t found = Unit {0}
 
 -- a sound transaction of the job's change of the directory that the path has led to
-pub record IsChanging (w : Walk) (job : EntryJob) (t : Progress) (found : Found) : Type 0 where
+pub record IsChanging (w : Walk) (job : EntryJob) (t : TransactionProgress) (found : Found) : Type 0 where
   pub sound : Sound t
   pub of_job : t.change ≡ change_of w.object.gfid job
   pub in_turn : fits_stage found t.stage ≡ true
@@ -272,7 +272,7 @@ pub record IsRemoving (w : Walk) (job : EntryJob) (m : Removing) : Type 0 where
   pub of_job : m.change ≡ change_of w.object.gfid job
 
 -- the name was told to lead to a directory that is to be removed
-pub record IsToRemove (w : Walk) (job : EntryJob) (t : Progress) : Type 0 where
+pub record IsToRemove (w : Walk) (job : EntryJob) (t : TransactionProgress) : Type 0 where
   pub sound : Sound t
   pub of_job : t.change ≡ change_of w.object.gfid job
   pub beginning : is_beginning t.stage ≡ true

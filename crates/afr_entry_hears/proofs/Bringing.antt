@@ -21,7 +21,7 @@ use Rattle.afr_model.specs.Tables.{Past, held_before}
 use Rattle.afr_next.specs.Begun.{HasNewGfid}
 use Rattle.afr_server.specs.Carried.{Brings}
 use Rattle.afr_transaction.specs.Made.{attempted}
-use Rattle.afr_transaction.specs.Progress.{CarriesAt, Progress, number_in, numbered}
+use Rattle.afr_transaction.specs.Progress.{CarriesAt, TransactionProgress, number_in, numbered}
 use Rattle.afr_walk.specs.Walk.{next_in}
 use Rattle.afr_walk.specs.declared.walk.Walk.{Walk}
 use Rattle.afr_removal_telling.specs.RemovalTelling.{During}
@@ -39,7 +39,7 @@ use Rattle.afr_entry.specs.declared.stage.EntryStage.TheVariants.{Walking, Chang
 use Rattle.afr_entry.specs.declared.stage.Found.{Found}
 use Rattle.afr_entry.specs.declared.stage.Found.TheVariants.{Unread, Fits, Refused}
 use Rattle.afr_inode_telling.proofs.ReadsMore.{asks_same}
-use Rattle.afr_entry_telling.specs.EntryTelling.{Changes, TellsIn}
+use Rattle.afr_entry_telling.specs.EntryTelling.{ChangesName, TellsIn}
 use Rattle.afr_hears.proofs.Bringing.{step_brings}
 use Rattle.afr_hears.proofs.SomeLines.{work_in}
 use Rattle.afr_hears.proofs.Stood.{finds_attempt}
@@ -47,8 +47,8 @@ use Rattle.afr_entry_hears.proofs.Under.{begun_in, fits_begins, goes_brings, ref
 use Rattle.afr_entry_hears.specs.EntryHears.{EntryBrings, EntryMakesNew}
 
 -- ---- loads
-module _ (p : Plan) (c : Command) (log : List Line) (a : ActorId) (b : BrickId) (request : Request) (past : Past) (job : EntryJob) (w : Walk) (t : Progress) (carried : Load) (brought : CarriesAt t.stage carried (attempted t)) where
-  under_brings : (found : Found) → IsChanging w job t found → Changes p c job w.object t found (work a.0 log) → next_under found (length log) job w t ≡ next.Ask b request → Brings request carried log past
+module _ (p : Plan) (c : Command) (log : List Line) (a : ActorId) (b : BrickId) (request : Request) (past : Past) (job : EntryJob) (w : Walk) (t : TransactionProgress) (carried : Load) (brought : CarriesAt t.stage carried (attempted t)) where
+  under_brings : (found : Found) → IsChanging w job t found → ChangesName p c job w.object t found (work a.0 log) → next_under found (length log) job w t ≡ next.Ask b request → Brings request carried log past
   under_brings (Unread copy) sound k e = unread_brings p log (work a.0 log) (work_in a.0 log) b request past t carried brought k.on.0.tells copy w.object.gfid (name_of job) e
   under_brings Fits sound k e = goes_brings p log (work a.0 log) (work_in a.0 log) b request past t carried brought k.on.tells e
   under_brings (Refused why) sound k e = refused_brings p log (work a.0 log) (work_in a.0 log) b request past t carried brought why sound.in_turn (reply_to why) e
@@ -108,7 +108,7 @@ numbered_new at g (Mkdir name) = refl
 numbered_new at g (Unlink name) = tt
 numbered_new at g (Rmdir name) = tt
 
-under_new : (found : Found) (at : ℕ) (job : EntryJob) (w : Walk) (t : Progress) (change : Change) → HasNewGfid at (numbered at t.change) → next_under found at job w t ≡ next.Begin change → HasNewGfid at change
+under_new : (found : Found) (at : ℕ) (job : EntryJob) (w : Walk) (t : TransactionProgress) (change : Change) → HasNewGfid at (numbered at t.change) → next_under found at job w t ≡ next.Begin change → HasNewGfid at change
 under_new (Unread copy) at job w t change new e = unread_begins (HasNewGfid at) at t change new copy (reads_name job w) e
 under_new Fits at job w t change new e = fits_begins (HasNewGfid at) at t change new e
 under_new (Refused why) at job w t change new e = refused_begins (HasNewGfid at) at t change new (reply_to why) e

@@ -20,7 +20,7 @@ use Rattle.afr_plan.specs.declared.plan.Plan.{Plan}
 use Rattle.afr_model.specs.Following.{Follows}
 use Rattle.afr_model.specs.Showing.{root_entry}
 use Rattle.afr_law.specs.ModelKinds.{Top}
-use Rattle.afr_transaction.specs.Progress.{Progress}
+use Rattle.afr_transaction.specs.Progress.{TransactionProgress}
 use Rattle.afr_walk.specs.Walk.{next_in}
 use Rattle.afr_walk.specs.declared.walk.Walk.{Walk}
 use Rattle.afr_entry.specs.Entry.{IsChanging, IsStage, next_at, next_under}
@@ -44,7 +44,7 @@ use Rattle.afr_transaction_tells.specs.Laws.{IsNextLine}
 use Rattle.afr_transaction_tells.proofs.HonestFits.{honest_fits}
 use Rattle.afr_inode_telling.specs.Lines.{CanAnswer}
 use Rattle.afr_inode_telling.proofs.ReadsMore.{asks_same}
-use Rattle.afr_entry_telling.specs.EntryTelling.{CanHear, CanHearUnder, Changes, TellsIn, command_of}
+use Rattle.afr_entry_telling.specs.EntryTelling.{CanHear, CanHearUnder, ChangesName, TellsIn, command_of}
 use Rattle.afr_entry_telling.proofs.Words.{object_is}
 use Rattle.afr_hears.specs.Hears.{IsHeard}
 use Rattle.afr_hears.proofs.Hearing.{step_there}
@@ -89,7 +89,7 @@ module _ (p : Plan) (log : List Line) (a : ActorId) (b : BrickId) (request : Req
       go (removal_stage.Closing why) at = of_child
 
   -- ---- under the lock of the name
-  under : Follows p log → (job : EntryJob) (w : Walk) (t : Progress) (found : Found) → IsChanging w job t found → Changes p (command_of job w.path) job w.object t found (work a.0 log) → next_under found (length log) job w t ≡ next.Ask b request
+  under : Follows p log → (job : EntryJob) (w : Walk) (t : TransactionProgress) (found : Found) → IsChanging w job t found → ChangesName p (command_of job w.path) job w.object t found (work a.0 log) → next_under found (length log) job w t ≡ next.Ask b request
       → CanHearUnder found t.stage p w.object b.0 request log heard
   under follows job w t (Unread copy) sound k e =
       unread_hears p log a b request heard took h follows (work a.0 log) (work_in a.0 log) w.object (name_of job) t (ap object_of sound.of_job ∙ object_is w.object.gfid job) k.on.0.tells _ k.name.path copy sound.reads e
@@ -106,6 +106,6 @@ entry_hears p c m log a b request heard took sound k e h follows = go m.stage so
     go Walking ready t e =
         can_answer p log a b request heard took h
         (asks_same (λ (x : BrickId) (r : Request). IsThere p log x.0 r) (next_in w).0 b (next_in w).1 request e (step_there p (command.Ls w.path) log (work a.0 log) (work_in a.0 log) w h.honest w.step ready t.tells.step))
-    go (Changing t found) ready x e = under p log a b request heard took h follows m.job w t found ready (subst (λ (y : Command). Changes p y m.job w.object t found (work a.0 log)) k.named x) e
+    go (Changing t found) ready x e = under p log a b request heard took h follows m.job w t found ready (subst (λ (y : Command). ChangesName p y m.job w.object t found (work a.0 log)) k.named x) e
     go (Removes r) ready t e = removes p log a b request heard took h (w.path ++ t.name ∷ []) r ready.sound t.tells e
     go (Ending said) ready t e = absurd (cc e)

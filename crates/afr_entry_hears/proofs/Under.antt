@@ -32,7 +32,7 @@ use Rattle.afr_server.specs.Carried.{Brings}
 use Rattle.afr_transaction.proofs.ReadLemmas.{begins_at}
 use Rattle.afr_transaction.specs.Made.{attempted}
 use Rattle.afr_transaction.specs.Outcome.{reply_of}
-use Rattle.afr_transaction.specs.Progress.{CarriesAt, Progress, asks, is_beginning, is_over, next_at, numbered, request_at}
+use Rattle.afr_transaction.specs.Progress.{CarriesAt, TransactionProgress, asks, is_beginning, is_over, next_at, numbered, request_at}
 use Rattle.afr_transaction.specs.declared.stage.Stage.{Stage}
 use Rattle.afr_transaction.specs.declared.stage.Stage.TheVariants.{Locking, Looking, Beginning, Preparing, Applying, Posting, Closing}
 use Rattle.afr_entry.specs.Entry.{HasReader, fits_stage}
@@ -56,7 +56,7 @@ use Rattle.afr_hears.proofs.Told.{IsAtObject, IsThere, can_answer, can_tell}
 use Rattle.afr_entry_hears.proofs.Elsewhere.{elsewhere}
 
 -- once the name was read, it looks no more
-looks_no_more : (stage : Stage) (t : Progress) → fits_stage Fits stage ≡ true → is_beginning stage ≡ false → is_look (request_at stage t) ≡ false
+looks_no_more : (stage : Stage) (t : TransactionProgress) → fits_stage Fits stage ≡ true → is_beginning stage ≡ false → is_look (request_at stage t) ≡ false
 looks_no_more Locking t h e = absurd (cc h)
 looks_no_more Looking t h e = absurd (cc h)
 looks_no_more Beginning t h e = absurd (cc e)
@@ -94,12 +94,12 @@ module _ (p : Plan) (log : List Line) (a : ActorId) (b : BrickId) (request : Req
   by_stage copy Closing dir name other = other refl
 
   -- where the name was read, and where its reading rules the change out
-  pub fits_hears : (dir : Entry) (t : Progress) → fits_stage Fits t.stage ≡ true → next_at t.stage (length log) t ≡ next.Ask b request → CanTell dir request (told_by heard)
+  pub fits_hears : (dir : Entry) (t : TransactionProgress) → fits_stage Fits t.stage ≡ true → next_at t.stage (length log) t ≡ next.Ask b request → CanTell dir request (told_by heard)
   fits_hears dir t in_turn e =
       let at_stage = asked_stage t.stage (length log) t b request e in
       told_without dir (subst (λ (r : Request). is_look r ≡ false) at_stage.1 (looks_no_more t.stage t in_turn at_stage.0))
 
-  pub refused_hears : (dir : Entry) (t : Progress) (why : Refusal) → fits_stage (Refused why) t.stage ≡ true → (said : Reply) → (if is_over t.stage t then next.End said else next_at t.stage (length log) t) ≡ next.Ask b request → CanTell dir request (told_by heard)
+  pub refused_hears : (dir : Entry) (t : TransactionProgress) (why : Refusal) → fits_stage (Refused why) t.stage ≡ true → (said : Reply) → (if is_over t.stage t then next.End said else next_at t.stage (length log) t) ≡ next.Ask b request → CanTell dir request (told_by heard)
   refused_hears dir t why in_turn said e = go (is_over t.stage t) e
     where
       go : (x : Bool) → (if x then next.End said else next_at t.stage (length log) t) ≡ next.Ask b request → CanTell dir request (told_by heard)
@@ -107,7 +107,7 @@ module _ (p : Plan) (log : List Line) (a : ActorId) (b : BrickId) (request : Req
       go false e = fits_hears dir t (fits_too why t.stage in_turn) e
 
   -- until it is read, by these lines, of which the path has led to the directory
-  module _ (follows : Follows p log) (lines : Work) (is : AreIn log lines) (dir : Entry) (name : NameId) (t : Progress) (of : object_of t.change ≡ dir.gfid) (tells : Tells p lines t) (read : ℕ) (led : path_by p lines ≡ At read dir) (copy : BrickId) (reads : HasReader t (Unread copy)) where
+  module _ (follows : Follows p log) (lines : Work) (is : AreIn log lines) (dir : Entry) (name : NameId) (t : TransactionProgress) (of : object_of t.change ≡ dir.gfid) (tells : Tells p lines t) (read : ℕ) (led : path_by p lines ≡ At read dir) (copy : BrickId) (reads : HasReader t (Unread copy)) where
     abbrev asked : Request
     asked = request_of.ReadName dir.gfid name
 
@@ -144,7 +144,7 @@ module _ (p : Plan) (log : List Line) (a : ActorId) (b : BrickId) (request : Req
             can_tell p log a b heard took dir (path_in p log lines is read dir led) request h (subst (IsAtObject dir) at_stage.1 (stage_object t.stage t dir of))
 
 -- ---- what goes with a request
-module _ (p : Plan) (log : List Line) (lines : Work) (is : AreIn log lines) (b : BrickId) (request : Request) (past : Past) (t : Progress) (carried : Load) (brought : CarriesAt t.stage carried (attempted t)) where
+module _ (p : Plan) (log : List Line) (lines : Work) (is : AreIn log lines) (b : BrickId) (request : Request) (past : Past) (t : TransactionProgress) (carried : Load) (brought : CarriesAt t.stage carried (attempted t)) where
   pub goes_brings : Tells p lines t → next_at t.stage (length log) t ≡ next.Ask b request → Brings request carried log past
   goes_brings tells e =
       subst (λ (r : Request). Brings r carried log past) (asked_stage t.stage (length log) t b request e).1 (stage_brings p log lines t past is tells.sets t.stage tells.during carried brought)
@@ -175,7 +175,7 @@ begun_in (next.Begin change) other = change
 begun_in line other = other
 
 -- what is so of the change with its number is so of what is begun
-module _ (P : Change → Type 0) (at : ℕ) (t : Progress) (change : Change) (of_change : P (numbered at t.change)) where
+module _ (P : Change → Type 0) (at : ℕ) (t : TransactionProgress) (change : Change) (of_change : P (numbered at t.change)) where
   stage_begins : (stage : Stage) → next_at stage at t ≡ next.Begin change → P change
   stage_begins Locking e = absurd (cc e)
   stage_begins Looking e = absurd (cc e)

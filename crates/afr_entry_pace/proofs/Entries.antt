@@ -39,7 +39,7 @@ use Rattle.afr_removal.specs.Sound as removing
 use Rattle.afr_removal.specs.declared.stage.RemovalStage.TheVariants as removes
 use Rattle.afr_removal.specs.declared.stage.RemovalStage.{RemovalStage}
 use Rattle.afr_transaction.specs.Progress as transaction
-use Rattle.afr_transaction.specs.Progress.{Progress, begun, fed, is_beginning, left, request_at, starting}
+use Rattle.afr_transaction.specs.Progress.{TransactionProgress, begun, fed, is_beginning, left, request_at, starting}
 use Rattle.afr_transaction.specs.Sound.{During, IsAsking, Sound}
 use Rattle.afr_transaction.specs.declared.stage.Stage.TheVariants.{Applying, Beginning, Closing, Locking, Looking, Posting, Preparing}
 use Rattle.afr_transaction.specs.declared.stage.Stage.{Stage}
@@ -104,7 +104,7 @@ module _ (w : Walk) (k : IsWalk w) (chosen : BrickId) (a : Answer) (at : ℕ) wh
 asked_shape : ShapesKept → (r : Register) (at b : ℕ) (asked : Request) (told : Told) → (noted_ask r at b asked told).shape ≡ r.shape
 asked_shape shapes r at b asked told = shapes r (move.Ask (record { 0 = b }) (record { ref_ptr = (0, 0); now = asked })) told at
 
-module _ (shapes : ShapesKept) (w : Walk) (job : EntryJob) (t : Progress) (sound : Sound t) (chosen : BrickId) (a : Answer) (at : ℕ) where
+module _ (shapes : ShapesKept) (w : Walk) (job : EntryJob) (t : TransactionProgress) (sound : Sound t) (chosen : BrickId) (a : Answer) (at : ℕ) where
   abbrev n : ℕ
   n = t.register.shape.n
 
@@ -118,7 +118,7 @@ module _ (shapes : ShapesKept) (w : Walk) (job : EntryJob) (t : Progress) (sound
       + (if asks_again stage told then 0 else 1) ≤ left_at stage t + (3 * n + 2)
 
   -- the transaction goes on
-  goes : (b : BrickId) (stage : Stage) → During stage t → IsAsking stage t → pace.Fits stage told → lines_left (transaction.answered stage told at t) + (3 * (transaction.answered stage told at t).register.shape.n + 2) + step_of (asks_again stage told) ≤ left_at stage t + (3 * n + 2)
+  goes : (b : BrickId) (stage : Stage) → During stage t → IsAsking stage t → pace.FitsAnUnlock stage told → lines_left (transaction.answered stage told at t) + (3 * (transaction.answered stage told at t).register.shape.n + 2) + step_of (asks_again stage told) ≤ left_at stage t + (3 * n + 2)
   goes b stage d e fits =
       sum (lines_left (transaction.answered stage told at t)) (transaction.answered stage told at t).register.shape.n (step_of (asks_again stage told)) (left_at stage t) n (by_stage t sound told at stage d e fits)
       (ap (λ (q : Shape). q.n) (asked_shape shapes t.register at (lowest (left stage t)) (request_at stage t) told))
@@ -130,7 +130,7 @@ module _ (shapes : ShapesKept) (w : Walk) (job : EntryJob) (t : Progress) (sound
   reads : (b : BrickId) → t.stage ≡ Beginning → UnreadNearer b Beginning
   reads b first = go (child_by job a) (ruled_out job a)
     where
-      u : Progress
+      u : TransactionProgress
       u = name_noted b job w told at t
 
       same : u.register.shape.n ≡ n
@@ -148,7 +148,7 @@ module _ (shapes : ShapesKept) (w : Walk) (job : EntryJob) (t : Progress) (sound
       go None None = fitting u.stage first
       go None (Some why) = (let k = most u.register.shape.n (left Closing u) in omega (arith, k, same))
 
-  unread : (b : BrickId) (stage : Stage) → t.stage ≡ stage → During stage t → AsksUnder (Unread b) stage t → pace.Fits stage told → UnreadNearer b stage
+  unread : (b : BrickId) (stage : Stage) → t.stage ≡ stage → During stage t → AsksUnder (Unread b) stage t → pace.FitsAnUnlock stage told → UnreadNearer b stage
   unread b Beginning is d e fits = reads b is
   unread b Locking is d e fits = goes b Locking d e fits
   unread b Looking is d e fits = goes b Looking d e fits
@@ -158,10 +158,10 @@ module _ (shapes : ShapesKept) (w : Walk) (job : EntryJob) (t : Progress) (sound
   unread b Closing is d e fits = goes b Closing d e fits
 
   -- the name was read
-  read : IsAsking t.stage t → pace.Fits t.stage told → lines_left (if is_beginning t.stage then t else fed t.stage told at t) + 0 + step_of (asks_again t.stage told) ≤ lines_left t + 0
-  read e fits = subst (λ (q : Progress). lines_left q + 0 + step_of (asks_again t.stage told) ≤ lines_left t + 0) (sym (told_is told at t t.stage e)) (let h = nearer t sound e told at fits in omega (arith, h))
+  read : IsAsking t.stage t → pace.FitsAnUnlock t.stage told → lines_left (if is_beginning t.stage then t else fed t.stage told at t) + 0 + step_of (asks_again t.stage told) ≤ lines_left t + 0
+  read e fits = subst (λ (q : TransactionProgress). lines_left q + 0 + step_of (asks_again t.stage told) ≤ lines_left t + 0) (sym (told_is told at t t.stage e)) (let h = nearer t sound e told at fits in omega (arith, h))
 
-  changing : (found : Found) → AsksUnder found t.stage t → pace.Fits t.stage told
+  changing : (found : Found) → AsksUnder found t.stage t → pace.FitsAnUnlock t.stage told
       → entry_left_at (or_removes (child_after found a job t.stage) (progress_after found a at job w t) (found_after chosen found a job t.stage)) w + step_of (asks_again t.stage told) ≤ lines_left t + for_name found n
   changing (Unread b) e fits = unread b t.stage refl sound.during e fits
   changing Fits e fits = read e fits
@@ -193,7 +193,7 @@ entry_nearer shapes m k asks chosen a at among fits = by_entry shapes m.walk m.j
 pub entry_begins : EntryBeginsNearer
 entry_begins m first chosen at = go m.stage first
   where
-    under : (t : Progress) → t.stage ≡ Beginning → lines_left (if is_beginning t.stage then begun at t else t) + 0 + 1 ≤ lines_left t + 0
+    under : (t : TransactionProgress) → t.stage ≡ Beginning → lines_left (if is_beginning t.stage then begun at t else t) + 0 + 1 ≤ lines_left t + 0
     under t is = subst (λ (s : Stage). lines_left (if is_beginning s then begun at t else t) + 0 + 1 ≤ lines_left t + 0) (sym is) (let h = begins t is at in omega (arith, h))
 
     go : (stage : EntryStage) → BeginsEntry stage → entry_left_at (stage_begun stage at) m.walk + 1 ≤ entry_left_at stage m.walk

@@ -15,7 +15,7 @@ use Rattle.afr_entry_pace.specs.Removals.{FitsRemoval, RemovalBeginsNearer, Remo
 use Rattle.afr_lines.specs.Areas.{area_for}
 use Rattle.afr_lines.specs.Told.{told_by}
 use Rattle.afr_lines.specs.declared.answer.Answer.{Answer}
-use Rattle.afr_lines.specs.declared.answer.Told.TheVariants as told_of
+use Rattle.afr_lines.specs.declared.answer.Told.TheVariants as as_told
 use Rattle.afr_lines.specs.declared.answer.Told.{Told}
 use Rattle.afr_lines.specs.declared.request.Area.{Area}
 use Rattle.afr_lines.specs.declared.request.Request.TheVariants as request
@@ -32,7 +32,7 @@ use Rattle.afr_removal.proofs.Facts.{apart, common_left, is_busy}
 use Rattle.afr_removal.specs.Removal.{Removing, answered, begun, both_held, brick_at, left_in, moved, request_at, unlocks, untouched, whole}
 use Rattle.afr_removal.specs.Sound.{During, IsAsking, Sound}
 use Rattle.afr_removal.specs.declared.child.Child.{Child}
-use Rattle.afr_removal.specs.declared.stage.Ending.{Ending}
+use Rattle.afr_removal.specs.declared.stage.RemovalEnding.{RemovalEnding}
 use Rattle.afr_removal.specs.declared.stage.RemovalStage.TheVariants.{Applying, Beginning, Closing, Listing, Locking, Looking, Posting, Preparing}
 use Rattle.afr_removal.specs.declared.stage.RemovalStage.{RemovalStage}
 use Rattle.afr_transaction.proofs.Parts.{holder_shows}
@@ -49,8 +49,8 @@ dropped_second false b l x e = e
 
 -- a lock of the directory takes none of its name's
 lock_held : (r : Register) (child : Area) (b : ℕ) (told : Told) (x : ℕ) → member (locked_w true false r child b told).held x ≡ true → member r.held x ≡ true
-lock_held r child b told_of.Granted x e = e
-lock_held r child b told_of.NotConnected x e = removed_in b r.held x e
+lock_held r child b as_told.Granted x e = e
+lock_held r child b as_told.NotConnected x e = removed_in b r.held x e
 lock_held r child b told x e = e
 
 -- ---- an unlock
@@ -78,7 +78,7 @@ module _ (r : Register) (b : ℕ) (area : Area) (low : b < r.shape.n) where
   abbrev UnlockLess : Told → Type 0
   UnlockLess told = Less (after_outside r b (request.Unlock Work area) told) (step_of (is_failed told))
 
-  unlock_less : Own r b area → (told : Told) → (told ≡ told_of.Done) ⊎ (told ≡ told_of.NotConnected) ⊎ (told ≡ told_of.Failed) → UnlockLess told
+  unlock_less : Own r b area → (told : Told) → (told ≡ as_told.Done) ⊎ (told ≡ as_told.NotConnected) ⊎ (told ≡ as_told.Failed) → UnlockLess told
   unlock_less own told (inl is) = subst UnlockLess (sym is) (freed_less own)
   unlock_less own told (inr (inl is)) = subst UnlockLess (sym is) (lost_less own)
   unlock_less own told (inr (inr is)) = subst UnlockLess (sym is) (omega arith)
@@ -202,7 +202,7 @@ module _ (m : Removing) (s : Sound m) (chosen : BrickId) (a : Answer) (at : ℕ)
       falls = subst (λ (z : List ℕ). count n (minus z (added b (asked_at r step.Posts))) + 1 ≤ count n (left_in Posting r c)) (sym (done_kept (is_gone told) b (noted_law r b (request_at Posting m) told)))
           (asked_falls n b r.done (asked_at r step.Posts) (s.base.done_within b there.1) there.1 there.0)
 
-  closing : (why : Ending) → FitsRemoval (Closing why) told → is_nothing (left_in (Closing why) r c) ≡ false → Nearer (Closing why) (answered chosen (Closing why) a at m)
+  closing : (why : RemovalEnding) → FitsRemoval (Closing why) told → is_nothing (left_in (Closing why) r c) ≡ false → Nearer (Closing why) (answered chosen (Closing why) a at m)
   closing why fits e = seen (Closing why) (goes_on q c (step_of (is_failed told)) (closing_left r) (Closing why) less less)
     where
       b : ℕ

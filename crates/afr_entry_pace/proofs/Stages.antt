@@ -11,8 +11,8 @@ use Rattle.afr_object.specs.declared.change.Change.{Change}
 use Rattle.afr_pace.proofs.Nearer.{most}
 use Rattle.afr_removal.specs.Removal.{against, gone_on, has_takers, left_in, listed, or_close}
 use Rattle.afr_removal.specs.declared.child.Child.{Child}
-use Rattle.afr_removal.specs.declared.stage.Ending.{Ending}
-use Rattle.afr_removal.specs.declared.stage.Ending.TheVariants.{Counted, Failed, NoQuorum, NotEmpty}
+use Rattle.afr_removal.specs.declared.stage.RemovalEnding.{RemovalEnding}
+use Rattle.afr_removal.specs.declared.stage.RemovalEnding.TheVariants.{Counted, Failed, NoQuorum, NotEmpty}
 use Rattle.afr_removal.specs.declared.stage.RemovalStage.TheVariants.{Applying, Beginning, Closing, Listing, Locking, Looking, Posting, Preparing}
 use Rattle.afr_removal.specs.declared.stage.RemovalStage.{RemovalStage}
 use Rattle.afr_transaction.specs.Progress.{enough, may_start}
@@ -33,7 +33,7 @@ module _ (r : Register) (c : Child) (taken target : ℕ) where
       go true = b
       go false = a
 
-  pub end_low : 2 * n + 1 + taken ≤ target → (why : Ending) → Low (Closing why)
+  pub end_low : 2 * n + 1 + taken ≤ target → (why : RemovalEnding) → Low (Closing why)
   end_low h why = (let a = most n r.second_held in let b = most n r.held in omega (arith, a, b, h))
 
   either : (stage other : RemovalStage) → Low stage → Low other → (on : Bool) → Low (if on then stage else other)
@@ -46,7 +46,7 @@ module _ (r : Register) (c : Child) (taken target : ℕ) where
   pub looks_next : 5 * n + 3 + taken ≤ target → Low (gone_on Looking r c)
   looks_next h = either (or_close (against r.shape c.looked) Listing) (Closing NoQuorum) (judged (against r.shape c.looked)) (end_low (omega (arith, h)) NoQuorum) (has_takers r)
     where
-      judged : (o : Option Ending) → Low (or_close o Listing)
+      judged : (o : Option RemovalEnding) → Low (or_close o Listing)
       judged None = h
       judged (Some why) = end_low (omega (arith, h)) why
 

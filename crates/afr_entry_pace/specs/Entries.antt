@@ -13,12 +13,12 @@ use Rattle.afr_lines.specs.Told.{told_by}
 use Rattle.afr_lines.specs.declared.answer.Answer.{Answer}
 use Rattle.afr_lines.specs.declared.answer.Told.{Told}
 use Rattle.afr_lines.specs.declared.line.Heard.TheVariants as heard
-use Rattle.afr_pace.specs.Left.{Fits, asks_again, lines_left}
+use Rattle.afr_pace.specs.Left.{FitsAnUnlock, asks_again, lines_left}
 use Rattle.afr_entry_pace.specs.Removals.{FitsRemoval, removal_again, removal_left}
 use Rattle.afr_pace.specs.Walks.{walk_left}
 use Rattle.afr_removal.specs.Sound as removal
 use Rattle.afr_removal.specs.declared.stage.RemovalStage.TheVariants as removes
-use Rattle.afr_transaction.specs.Progress.{Progress}
+use Rattle.afr_transaction.specs.Progress.{TransactionProgress}
 use Rattle.afr_transaction.specs.Sound.{IsAsking}
 use Rattle.afr_transaction.specs.declared.stage.Stage.TheVariants.{Beginning}
 use Rattle.afr_transaction.specs.declared.stage.Stage.{Stage}
@@ -45,7 +45,7 @@ abbrev pub entry_left : Entering → ℕ
 entry_left m = entry_left_at m.stage m.walk
 
 -- the next line is a request: the name is read before the attempt
-abbrev pub AsksUnder : Found → Stage → Progress → Type 0
+abbrev pub AsksUnder : Found → Stage → TransactionProgress → Type 0
 AsksUnder (Unread b) Beginning t = Unit {0}
 AsksUnder found stage t = IsAsking stage t
 
@@ -57,7 +57,7 @@ AsksEntry (Ending said) = ⊥
 
 -- and this is an answer that it may get
 abbrev pub FitsEntry : EntryStage → Told → Type 0
-FitsEntry (Changing t found) told = Fits t.stage told
+FitsEntry (Changing t found) told = FitsAnUnlock t.stage told
 FitsEntry (Removes m) told = FitsRemoval m.stage told
 FitsEntry stage told = Unit {0}
 

@@ -58,7 +58,7 @@ use Rattle.afr_transaction_tells.proofs.Calm.{calm_first}
 use Rattle.afr_transaction_tells.proofs.Excused.{excused_first}
 use Rattle.afr_transaction_tells.proofs.First.{tells_first}
 use Rattle.afr_entry_telling.specs.EntryLaws.{EntryBegins}
-use Rattle.afr_entry_telling.specs.EntryTelling.{Goes, TellsIn, Walks, command_of}
+use Rattle.afr_entry_telling.specs.EntryTelling.{TellsIn, TransactionGoes, Walks, command_of}
 use Rattle.afr_entry_telling.proofs.Held.{holds_first}
 use Rattle.afr_entry_telling.proofs.Words.{longer, on_name, path_is, place_upto, small_is, steps_are}
 
@@ -257,7 +257,7 @@ module _ (p : Plan) (job : EntryJob) (w : Walk) (lines : Work) (sound : IsWalk w
   }
 
   -- its first line finds a work that has touched nothing
-  goes : (change : Change) → Goes p (starting change w.register) lines
+  goes : (change : Change) → TransactionGoes p (starting change w.register) lines
   goes change = let free = untouched w.shape w.register sound.free in record {
     tells = tells_first p lines (starting change w.register) (record {
       shape_is = shape_is w.shape w.register sound.free ∙ shape;

@@ -36,7 +36,7 @@ use Rattle.afr_model.specs.Showing.{Path, At, NotAsked, has, looked_by, path_by,
 use Rattle.afr_model.specs.Standing.{area_here, looks_here, place_by}
 use Rattle.afr_model.specs.Tables.{entry_at, holds}
 use Rattle.afr_transaction.specs.Outcome.{reply_of}
-use Rattle.afr_transaction.specs.Progress.{Progress, asks, is_beginning, next_at as next_change, numbered, request_at}
+use Rattle.afr_transaction.specs.Progress.{TransactionProgress, asks, is_beginning, next_at as next_change, numbered, request_at}
 use Rattle.afr_transaction.specs.Sound.{Sound}
 use Rattle.afr_transaction.specs.declared.stage.Stage.{Stage}
 use Rattle.afr_transaction.specs.declared.stage.Stage.TheVariants.{Locking, Looking, Beginning, Preparing, Applying, Posting, Closing}
@@ -52,7 +52,7 @@ use Rattle.afr_transaction_tells.specs.Tells.{During}
 use Rattle.afr_transaction_tells.proofs.About.{about_next, passes}
 use Rattle.afr_transaction_tells.proofs.GivenUpLemmas.{gives_up}
 use Rattle.afr_transaction_tells.proofs.ReadsLemmas.{reads_kept}
-use Rattle.afr_entry_telling.specs.EntryTelling.{ByFault, ByName, Changes, FitsName, Goes, IsUnread, NameTells, WasGiven, command_of}
+use Rattle.afr_entry_telling.specs.EntryTelling.{ByFault, ByName, ChangesName, FitsName, IsUnread, NameTells, TransactionGoes, WasGiven, command_of}
 use Rattle.afr_entry_telling.proofs.Names as name_told
 use Rattle.afr_entry_telling.proofs.Names.{NameTold}
 use Rattle.afr_entry_telling.proofs.Under.{area_there, place_more, refused_by_locks}
@@ -98,7 +98,7 @@ led_like p c change like lines k Posting led = tt
 led_like p c change like lines k Closing led = tt
 
 -- what holds of each request of a transaction, and of its Begin line, holds of its next line
-pub each_line : (t : Progress) (a : ActorId) (log : List Line) (K : Line → Type 0) → ((stage : Stage) (b : BrickId) (told : Told) (took : Bool) → t.stage ≡ stage → K (Ask a b (request_at stage t) told took))
+pub each_line : (t : TransactionProgress) (a : ActorId) (log : List Line) (K : Line → Type 0) → ((stage : Stage) (b : BrickId) (told : Told) (took : Bool) → t.stage ≡ stage → K (Ask a b (request_at stage t) told took))
     → (t.stage ≡ Beginning → K (Begin a (numbered (length log) t.change))) → (told : Told) (line : Line) → IsNextLine a (next_change t.stage (length log) t) told line → K line
 each_line t a log K asked begun told line is = go t.stage refl is
   where
@@ -119,7 +119,7 @@ each_line t a log K asked begun told line is = go t.stage refl is
     go Closing now is = unlock (is_nothing t.register.held) now is
 
 -- a request of a transaction reads no name
-pub keeps_request : (p : Plan) (c : Command) (lines : Work) (t : Progress) (a : ActorId) (at : ℕ) (stage : Stage) (b : BrickId) (told : Told) (took : Bool) → KeepsTo p c (Ask a b (request_at stage t) told took) at lines
+pub keeps_request : (p : Plan) (c : Command) (lines : Work) (t : TransactionProgress) (a : ActorId) (at : ℕ) (stage : Stage) (b : BrickId) (told : Told) (took : Bool) → KeepsTo p c (Ask a b (request_at stage t) told took) at lines
 keeps_request p c lines t a at Locking b told took = tt
 keeps_request p c lines t a at Looking b told took = tt
 keeps_request p c lines t a at Beginning b told took = tt
@@ -128,7 +128,7 @@ keeps_request p c lines t a at Applying b told took = tt
 keeps_request p c lines t a at Posting b told took = tt
 keeps_request p c lines t a at Closing b told took = tt
 
-module _ (p : Plan) (job : EntryJob) (w : Walk) (lines : Work) (t : Progress) where
+module _ (p : Plan) (job : EntryJob) (w : Walk) (lines : Work) (t : TransactionProgress) where
   abbrev c : Command
   c = command_of job w.path
 
@@ -187,7 +187,7 @@ module _ (p : Plan) (job : EntryJob) (w : Walk) (lines : Work) (t : Progress) wh
     led_fits plain k Closing e = tt
 
     -- ---- a line of the transaction
-    module _ (a : ActorId) (log : List Line) (sound : Sound t) (k : Goes p t lines) where
+    module _ (a : ActorId) (log : List Line) (sound : Sound t) (k : TransactionGoes p t lines) where
       -- it is about the command, whichever object it gives the name to
       pub line_about : IsLike t.change change → (told : Told) (line : Line) → Led t.stage p c change lines → IsNextLine a (next_change t.stage (length log) t) told line → IsAbout p c line lines
       line_about like told line led is = about_next p c lines t a told line log sound k.tells (led_like p c t.change change lines like t.stage led) is
@@ -201,12 +201,12 @@ module _ (p : Plan) (job : EntryJob) (w : Walk) (lines : Work) (t : Progress) wh
       line_keeps : t.change ≡ change → (told : Told) (line : Line) → IsNextLine a (next_change t.stage (length log) t) told line → KeepsTo p c line (length log) lines
       line_keeps of told line is = each_line t a log (λ (x : Line). KeepsTo p c x (length log) lines) (λ stage b told took now. keeps_request p c lines t a (length log) stage b told took) (begins_named of) told line is
 
-    pub change_line : (a : ActorId) (log : List Line) → Sound t → t.change ≡ change → Goes p t lines → (told : Told) (line : Line) → Led t.stage p c change lines → IsNextLine a (next_change t.stage (length log) t) told line
+    pub change_line : (a : ActorId) (log : List Line) → Sound t → t.change ≡ change → TransactionGoes p t lines → (told : Told) (line : Line) → Led t.stage p c change lines → IsNextLine a (next_change t.stage (length log) t) told line
         → IsAbout p c line lines × KeepsTo p c line (length log) lines
     change_line a log sound of k told line led is = (line_about a log sound k (like_same t.change change of) told line led is, line_keeps a log sound k of told line is)
 
     -- ---- the read of the name
-    module _ (a : ActorId) (log : List Line) (b : BrickId) (sound : Sound t) (like : IsLike t.change change) (reads : HasReader t (Unread b)) (k : Goes p t lines) (n : IsUnread p c dir lines) (at_begin : is_beginning t.stage ≡ true) where
+    module _ (a : ActorId) (log : List Line) (b : BrickId) (sound : Sound t) (like : IsLike t.change change) (reads : HasReader t (Unread b)) (k : TransactionGoes p t lines) (n : IsUnread p c dir lines) (at_begin : is_beginning t.stage ≡ true) where
       d : During Beginning p.shape t lines
       d = subst (λ (stage : Stage). During stage p.shape t lines) (begins_at t.stage at_begin) k.tells.during
 
@@ -250,17 +250,17 @@ module _ (p : Plan) (job : EntryJob) (w : Walk) (lines : Work) (t : Progress) wh
       abbrev pub more : Told → Bool → Work
       more told took = (Ask a b (reads_name job w) told took, log) ∷ lines
 
-      abbrev pub after : Told → Progress
+      abbrev pub after : Told → TransactionProgress
       after told = name_noted b job w told (length log) t
 
-      pub name_goes : (told : Told) (took : Bool) → Goes p (after told) (more told took) × Sound (after told)
+      pub name_goes : (told : Told) (took : Bool) → TransactionGoes p (after told) (more told took) × Sound (after told)
       name_goes told took = let h = reads_kept p lines t a b (reads_name job w) told took log small tt (begins_at t.stage at_begin) sound k.tells in (
         record { tells = h.tells; excused = h.excused k.excused; calm = h.calm k.calm; fitting = k.fitting },
         h.sound,
       )
 
       abbrev pub Left : Option Refusal → Told → Bool → Type 0
-      Left why told took = Changes p c job dir (settled why (after told)) (found_by why) (more told took)
+      Left why told took = ChangesName p c job dir (settled why (after told)) (found_by why) (more told took)
 
       pub left : (told : Told) (took : Bool) (why : Option Refusal) → NameTells (found_by why) p c job dir (more told took) → Left why told took
       left told took None name = record { place = place_more p job w.path dir (Ask a b (reads_name job w) told took) log lines place; directory = directory; unread = unread; name = name; on = (name_goes told took).0 }
@@ -287,19 +287,19 @@ module _ (p : Plan) (job : EntryJob) (w : Walk) (lines : Work) (t : Progress) wh
       name_read heard took (name_told.Fails e) = subst (λ (x : Answer). Left (ruled_out job x) (told_by x) took) (sym e) (left (told_by answer.Failed) took (ruled_out job answer.Failed) (ByFault refl refl refl))
 
     -- ---- so it is of a command with one path
-    module _ (a : ActorId) (log : List Line) (b : BrickId) (sound : IsChanging w job t (Unread b)) (k : Goes p t lines) (n : IsUnread p c dir lines) (at_begin : is_beginning t.stage ≡ true) where
+    module _ (a : ActorId) (log : List Line) (b : BrickId) (sound : IsChanging w job t (Unread b)) (k : TransactionGoes p t lines) (n : IsUnread p c dir lines) (at_begin : is_beginning t.stage ≡ true) where
       like : IsLike t.change change
       like = like_same t.change change sound.of_job
 
       pub read_line : (told : Told) (took : Bool) → IsAbout p c (Ask a b (reads_name job w) told took) lines × KeepsTo p c (Ask a b (reads_name job w) told took) (length log) lines
       read_line told took = name_line a log b sound.sound like sound.reads k n at_begin told took
 
-      pub goes_on : (told : Told) (took : Bool) → Goes p (name_noted b job w told (length log) t) ((Ask a b (reads_name job w) told took, log) ∷ lines) × Sound (name_noted b job w told (length log) t)
+      pub goes_on : (told : Told) (took : Bool) → TransactionGoes p (name_noted b job w told (length log) t) ((Ask a b (reads_name job w) told took, log) ∷ lines) × Sound (name_noted b job w told (length log) t)
       goes_on told took = name_goes a log b sound.sound like sound.reads k n at_begin told took
 
       pub given : (took : Bool) (entry : Option Entry) → entry_at dir.gfid (name_of job) (holds p log b.0) ≡ entry → WasGiven p c dir entry ((Ask a b (reads_name job w) (told_by (answer.Entry entry)) took, log) ∷ lines)
       given took entry e = name_given a log b sound.sound like sound.reads k n at_begin took entry e
 
       pub read_more : (heard : Answer) (took : Bool) → NameTold p b.0 dir.gfid (name_of job) log heard
-          → Changes p c job dir (settled (ruled_out job heard) (name_noted b job w (told_by heard) (length log) t)) (found_by (ruled_out job heard)) ((Ask a b (reads_name job w) (told_by heard) took, log) ∷ lines)
+          → ChangesName p c job dir (settled (ruled_out job heard) (name_noted b job w (told_by heard) (length log) t)) (found_by (ruled_out job heard)) ((Ask a b (reads_name job w) (told_by heard) took, log) ∷ lines)
       read_more heard took told = name_read a log b sound.sound like sound.reads k n at_begin heard took told

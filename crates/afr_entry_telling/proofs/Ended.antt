@@ -21,7 +21,7 @@ use Rattle.afr_model.specs.Showing.{Path, At, begins_attempt, has, locks, looked
 use Rattle.afr_model.specs.Skipped.{AsksAll, SkipsNothing}
 use Rattle.afr_model.specs.Standing.{looks_here, place_by}
 use Rattle.afr_transaction.specs.Outcome.{reply_of}
-use Rattle.afr_transaction.specs.Progress.{Progress, asks, is_over, next_at as next_change}
+use Rattle.afr_transaction.specs.Progress.{TransactionProgress, asks, is_over, next_at as next_change}
 use Rattle.afr_transaction.specs.Sound.{Sound}
 use Rattle.afr_transaction.specs.declared.stage.Stage.{Stage}
 use Rattle.afr_transaction.specs.declared.stage.Stage.TheVariants.{Closing}
@@ -38,7 +38,7 @@ use Rattle.afr_transaction_tells.proofs.GivenUpLemmas.{given_up_ends}
 use Rattle.afr_transaction_tells.proofs.Over.{asks_all_for_locks, ends_answered, failed_by_brick, replies_exactly, skips_none}
 use Rattle.afr_transaction_tells.proofs.Small.{no_change}
 use Rattle.afr_write_telling.proofs.Goes.{ended_stage}
-use Rattle.afr_entry_telling.specs.EntryTelling.{ByFault, ByName, Goes, IsUnread, RulesOut, command_of}
+use Rattle.afr_entry_telling.specs.EntryTelling.{ByFault, ByName, IsUnread, RulesOut, TransactionGoes, command_of}
 use Rattle.afr_entry_telling.proofs.Begins.{ended}
 use Rattle.afr_entry_telling.proofs.Under.{area_there, refused_by_locks}
 use Rattle.afr_entry_telling.proofs.Words.{answer_is, given_refuses, given_told, low_is, refused_there}
@@ -65,7 +65,7 @@ object_in (At read object) = object
 object_in other = root_entry
 
 -- the object of a transaction that has gone as far as it could was locked
-pub was_locked : (p : Plan) (t : Progress) (lines : Work) → OnUnlocks p.shape t.change t.register.looked t.asked.looked_at lines → has (locks (object_of t.change)) lines ≡ true
+pub was_locked : (p : Plan) (t : TransactionProgress) (lines : Work) → OnUnlocks p.shape t.change t.register.looked t.asked.looked_at lines → has (locks (object_of t.change)) lines ≡ true
 was_locked p t lines (TooFew idle locked looks few none) = locked.locked
 was_locked p t lines (Unfit idle locked looks most all unfit) = locked.locked
 was_locked p t lines (Tried under whole) = under.allows.locked.locked
@@ -132,8 +132,8 @@ module _ (p : Plan) (job : EntryJob) (w : Walk) (lines : Work) (place : place_by
   by_read why (ByName entry e g) same = absurd (given_told job entry (e ∙ ap (λ (x : Refusal). Some x) (is_failed why same)))
 
   -- ---- its transaction has gone as far as it could
-  module _ (t : Progress) (sound : Sound t) (of : t.change ≡ change) where
-    pub change_end : is_rmdir c ≡ false → Goes p t lines → has refuses_read lines ≡ false → by_name p c dir (path_by p lines) lines ≡ None → (at : ℕ) (said : Reply) → next_change t.stage at t ≡ next.End said → IsAnswered p c lines said
+  module _ (t : TransactionProgress) (sound : Sound t) (of : t.change ≡ change) where
+    pub change_end : is_rmdir c ≡ false → TransactionGoes p t lines → has refuses_read lines ≡ false → by_name p c dir (path_by p lines) lines ≡ None → (at : ℕ) (said : Reply) → next_change t.stage at t ≡ next.End said → IsAnswered p c lines said
     change_end plain k unrefused free at said e =
         let over = ended_stage t.stage at t said e in
         let locked = was_locked p t lines (subst (λ (x : Stage). During x p.shape t lines) over.0 k.tells.during) in
@@ -148,7 +148,7 @@ module _ (p : Plan) (job : EntryJob) (w : Walk) (lines : Work) (place : place_by
         }))
 
     -- its locks or looks have failed
-    pub unread_end : Goes p t lines → IsUnread p c dir lines → by_name p c dir (path_by p lines) lines ≡ None → (at : ℕ) (said : Reply) → next_change t.stage at t ≡ next.End said → IsAnswered p c lines said
+    pub unread_end : TransactionGoes p t lines → IsUnread p c dir lines → by_name p c dir (path_by p lines) lines ≡ None → (at : ℕ) (said : Reply) → next_change t.stage at t ≡ next.End said → IsAnswered p c lines said
     unread_end k n free at said e =
         let over = ended_stage t.stage at t said e in
         let locked = was_locked p t lines (subst (λ (x : Stage). During x p.shape t lines) over.0 k.tells.during) in

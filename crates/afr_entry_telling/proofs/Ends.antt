@@ -22,7 +22,7 @@ use Rattle.afr_model.specs.Answered.{IsAbout, IsAnswered}
 use Rattle.afr_model.specs.Commands.{is_rmdir}
 use Rattle.afr_model.specs.Keeping.{KeepsTo}
 use Rattle.afr_transaction.specs.Outcome.{reply_of}
-use Rattle.afr_transaction.specs.Progress.{Progress, asks, is_beginning, is_over, next_at as next_change}
+use Rattle.afr_transaction.specs.Progress.{TransactionProgress, asks, is_beginning, is_over, next_at as next_change}
 use Rattle.afr_transaction.specs.declared.stage.Stage.{Stage}
 use Rattle.afr_transaction.specs.declared.stage.Stage.TheVariants.{Closing}
 use Rattle.afr_walk.specs.Choosing.{IsAmong}
@@ -53,7 +53,7 @@ use Rattle.afr_transaction_tells.proofs.About.{blames_kept}
 use Rattle.afr_transaction_tells.proofs.GivenUpLemmas.{given_up_about}
 use Rattle.afr_write_telling.proofs.Goes.{begun_stage}
 use Rattle.afr_entry_telling.specs.EntryLaws.{EntryAbout, EntryBegun, EntryBlames, EntryEnds, EntryTellsMore}
-use Rattle.afr_entry_telling.specs.EntryTelling.{CanHear, Changes, EntryTells, TellsIn, command_of}
+use Rattle.afr_entry_telling.specs.EntryTelling.{CanHear, ChangesName, EntryTells, TellsIn, command_of}
 use Rattle.afr_entry_telling.proofs.Begins.{about_walk}
 use Rattle.afr_entry_telling.proofs.Changing.{change_line, led_fits, led_unread, read_line, unrefused_fits, unrefused_unread}
 use Rattle.afr_entry_telling.proofs.Ended.{change_end, refused_end, unread_end}
@@ -69,7 +69,7 @@ goes_plain (Mkdir name) path h = refl
 goes_plain (Unlink name) path h = refl
 goes_plain (Rmdir name) path h = absurd (cc h)
 
-module _ (p : Plan) (job : EntryJob) (w : Walk) (lines : Work) (t : Progress) where
+module _ (p : Plan) (job : EntryJob) (w : Walk) (lines : Work) (t : TransactionProgress) where
   abbrev c : Command
   c = command_of job w.path
 
@@ -77,8 +77,8 @@ module _ (p : Plan) (job : EntryJob) (w : Walk) (lines : Work) (t : Progress) wh
   dir = w.object
 
   -- ---- the Begin line
-  under_begun : (found : Found) (a : ActorId) (change : Change) (log : List Line) → IsChanging w job t found → Changes p c job dir t found lines → next_under found (length log) job w t ≡ next.Begin change
-      → Changes p c job dir (progress_begun found (length log) t) found ((Begin a change, log) ∷ lines)
+  under_begun : (found : Found) (a : ActorId) (change : Change) (log : List Line) → IsChanging w job t found → ChangesName p c job dir t found lines → next_under found (length log) job w t ≡ next.Begin change
+      → ChangesName p c job dir (progress_begun found (length log) t) found ((Begin a change, log) ∷ lines)
   under_begun (Unread copy) a change log sound k e = absurd (go (is_beginning t.stage) refl e)
     where
       go : (x : Bool) → is_beginning t.stage ≡ x → (if x then next.Ask copy (reads_name job w) else next_change t.stage (length log) t) ≡ next.Begin change → ⊥
@@ -103,7 +103,7 @@ module _ (p : Plan) (job : EntryJob) (w : Walk) (lines : Work) (t : Progress) wh
       go false e = closed e
 
   -- ---- each line under the lock
-  under_line : (found : Found) (a : ActorId) (told : Told) (line : Line) (log : List Line) → IsChanging w job t found → Changes p c job dir t found lines → IsNextLine a (next_under found (length log) job w t) told line
+  under_line : (found : Found) (a : ActorId) (told : Told) (line : Line) (log : List Line) → IsChanging w job t found → ChangesName p c job dir t found lines → IsNextLine a (next_under found (length log) job w t) told line
       → IsAbout p c line lines × KeepsTo p c line (length log) lines
   under_line (Unread copy) a told line log sound k is = go (is_beginning t.stage) refl is
     where
@@ -129,7 +129,7 @@ module _ (p : Plan) (job : EntryJob) (w : Walk) (lines : Work) (t : Progress) wh
       go false is = (given_up_about p c lines t a told line log k.on is, free t.stage k.on.closing is)
 
   -- ---- who is accused
-  under_blames : (found : Found) (at : ℕ) → IsChanging w job t found → Changes p c job dir t found lines → BlamesNext p lines (next_under found at job w t)
+  under_blames : (found : Found) (at : ℕ) → IsChanging w job t found → ChangesName p c job dir t found lines → BlamesNext p lines (next_under found at job w t)
   under_blames (Unread copy) at sound k = go (is_beginning t.stage)
     where
       go : (x : Bool) → BlamesNext p lines (if x then next.Ask copy (reads_name job w) else next_change t.stage at t)
@@ -151,7 +151,7 @@ module _ (p : Plan) (job : EntryJob) (w : Walk) (lines : Work) (t : Progress) wh
       go false = unlocks t.stage k.on.closing
 
   -- ---- the end
-  under_ends : (found : Found) (at : ℕ) (said : Reply) → IsChanging w job t found → Changes p c job dir t found lines → next_under found at job w t ≡ next.End said → IsAnswered p c lines said
+  under_ends : (found : Found) (at : ℕ) (said : Reply) → IsChanging w job t found → ChangesName p c job dir t found lines → next_under found at job w t ≡ next.End said → IsAnswered p c lines said
   under_ends (Unread copy) at said sound k e = go (is_beginning t.stage) e
     where
       go : (x : Bool) → (if x then next.Ask copy (reads_name job w) else next_change t.stage at t) ≡ next.End said → IsAnswered p c lines said
@@ -190,7 +190,7 @@ more p c m lines a b request chosen heard took log sound k e can among = go m.st
       shape = k.shape;
       named = k.named;
       stage = subst (λ (y : Command). TellsIn p y m.job (stage_after chosen (Changing t found) heard (length log) m.job w) w ((Ask a b request (told_by heard) took, log) ∷ lines)) (sym k.named)
-          (under_more p m.job w lines a log t found ready (subst (λ (y : Command). Changes p y m.job w.object t found lines) k.named x) b request chosen heard took e can);
+          (under_more p m.job w lines a log t found ready (subst (λ (y : Command). ChangesName p y m.job w.object t found lines) k.named x) b request chosen heard took e can);
     }
     go (Removes r) ready t e can among = record {
       shape = k.shape;
@@ -216,7 +216,7 @@ begun p c m lines a change chosen log sound k e = go m.stage sound.ready k.stage
       shape = k.shape;
       named = k.named;
       stage = subst (λ (y : Command). TellsIn p y m.job (stage_begun (Changing t found) (length log)) w ((Begin a change, log) ∷ lines)) (sym k.named)
-          (under_begun p m.job w lines t found a change log ready (subst (λ (y : Command). Changes p y m.job w.object t found lines) k.named x) e);
+          (under_begun p m.job w lines t found a change log ready (subst (λ (y : Command). ChangesName p y m.job w.object t found lines) k.named x) e);
     }
     go (Removes r) ready t e = record {
       shape = k.shape;
@@ -243,7 +243,7 @@ about p c m lines a told line log sound k is = go m.stage sound.ready k.stage is
         (about_walk p m.job w.path w lines a told took (length log) refl sound.sound ready t.tells t.upto))
     go (Changing t found) ready x is =
         subst (λ (y : Command). IsAbout p y line lines × KeepsTo p y line (length log) lines) (sym k.named)
-        (under_line p m.job w lines t found a told line log ready (subst (λ (y : Command). Changes p y m.job w.object t found lines) k.named x) is)
+        (under_line p m.job w lines t found a told line log ready (subst (λ (y : Command). ChangesName p y m.job w.object t found lines) k.named x) is)
     go (Removes r) ready t is =
         subst (λ (y : Command). IsAbout p y line lines × KeepsTo p y line (length log) lines) (sym (removes_is c m.job w.path t.name k.named t.is_job))
         (removal_about p (w.path ++ t.name ∷ []) r lines a told line log ready.sound t.tells is)
@@ -260,7 +260,7 @@ blames p c m lines at sound k = go m.stage sound.ready k.stage
 
     go : (stage : EntryStage) → IsStage m.walk m.job stage → TellsIn p c m.job stage m.walk lines → BlamesNext p lines (next_at at stage m.job m.walk)
     go Walking ready t = by_step m.walk.step ready
-    go (Changing t found) ready x = under_blames p m.job m.walk lines t found at ready (subst (λ (y : Command). Changes p y m.job m.walk.object t found lines) k.named x)
+    go (Changing t found) ready x = under_blames p m.job m.walk lines t found at ready (subst (λ (y : Command). ChangesName p y m.job m.walk.object t found lines) k.named x)
     go (Removes r) ready t = removal_blames p (m.walk.path ++ t.name ∷ []) r lines ready.sound t.tells
     go (Ending said) ready t = tt
 
@@ -271,7 +271,7 @@ ends p c m lines at said sound k e = go m.stage sound.ready k.stage e
     go Walking ready t e = absurd (cc e)
     go (Changing t found) ready x e =
         subst (λ (y : Command). IsAnswered p y lines said) (sym k.named)
-        (under_ends p m.job m.walk lines t found at said ready (subst (λ (y : Command). Changes p y m.job m.walk.object t found lines) k.named x) e)
+        (under_ends p m.job m.walk lines t found at said ready (subst (λ (y : Command). ChangesName p y m.job m.walk.object t found lines) k.named x) e)
     go (Removes r) ready t e =
         subst (λ (y : Command). IsAnswered p y lines said) (sym (removes_is c m.job m.walk.path t.name k.named t.is_job)) (removal_ends p (m.walk.path ++ t.name ∷ []) r lines said t.tells e)
     go (Ending x) ready t e = let same : x ≡ said = cc e in subst (λ (y : Reply). IsAnswered p c lines y) same t

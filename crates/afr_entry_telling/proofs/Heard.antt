@@ -19,7 +19,7 @@ use Rattle.afr_object.specs.declared.entry.Entry.{Entry}
 use Rattle.afr_object.specs.declared.entry.View.{View}
 use Rattle.afr_plan.specs.declared.command.Command.{Command}
 use Rattle.afr_plan.specs.declared.plan.Plan.{Plan}
-use Rattle.afr_transaction.specs.Progress.{Progress, fed, is_beginning, is_over, next_at as next_change, told_to}
+use Rattle.afr_transaction.specs.Progress.{TransactionProgress, fed, is_beginning, is_over, next_at as next_change, told_to}
 use Rattle.afr_transaction.specs.declared.stage.Stage.{Stage}
 use Rattle.afr_transaction.specs.declared.stage.Stage.TheVariants.{Locking, Looking, Beginning, Preparing, Applying, Posting, Closing}
 use Rattle.afr_walk.specs.declared.walk.Walk.{Walk}
@@ -36,7 +36,7 @@ use Rattle.afr_transaction_tells.specs.Laws.{IsNextLine}
 use Rattle.afr_transaction_tells.proofs.GivenUpLemmas.{given_up_kept}
 use Rattle.afr_write_telling.specs.WriteTelling.{CanTell}
 use Rattle.afr_write_telling.proofs.Goes.{asked_stage, of_stage}
-use Rattle.afr_entry_telling.specs.EntryTelling.{CanHearUnder, CanName, Changes, Goes, HoldsAt, HoldsName, TellsIn, command_of}
+use Rattle.afr_entry_telling.specs.EntryTelling.{CanHearUnder, CanName, ChangesName, HoldsAt, HoldsName, TellsIn, TransactionGoes, command_of}
 use Rattle.afr_entry_telling.proofs.Changing.{read_more}
 use Rattle.afr_entry_telling.proofs.Held.{holds_more}
 use Rattle.afr_entry_telling.proofs.Names.{name_told, quiet}
@@ -77,14 +77,14 @@ closes : (stage : Stage) → stage ≡ Closing → is_beginning stage ≡ false
 closes Closing e = refl
 closes stage e = absurd (cc e)
 
-module _ (p : Plan) (job : EntryJob) (w : Walk) (lines : Work) (a : ActorId) (log : List Line) (t : Progress) where
+module _ (p : Plan) (job : EntryJob) (w : Walk) (lines : Work) (a : ActorId) (log : List Line) (t : TransactionProgress) where
   abbrev c : Command
   c = command_of job w.path
 
   abbrev dir : Entry
   dir = w.object
 
-  suits : t.change ≡ change_of dir.gfid job → (found : Found) → Changes p c job dir t found lines → (view : View) → view.what ≡ dir.what → fits_view (Some view) t.change ≡ true
+  suits : t.change ≡ change_of dir.gfid job → (found : Found) → ChangesName p c job dir t found lines → (view : View) → view.what ≡ dir.what → fits_view (Some view) t.change ≡ true
   suits of found k view e = subst (λ (x : Change). fits_view (Some view) x ≡ true) (sym of) (suits_view dir.gfid job dir view k.directory e)
 
   -- ---- after a line of the transaction
@@ -95,8 +95,8 @@ module _ (p : Plan) (job : EntryJob) (w : Walk) (lines : Work) (a : ActorId) (lo
   told_is true told e = absurd (cc e)
   told_is false told e = refl
 
-  unread_more : (copy chosen : BrickId) → IsChanging w job t (Unread copy) → Changes p c job dir t (Unread copy) lines → (b : BrickId) (request : Request) (told : Told) (took : Bool) → next_change t.stage (length log) t ≡ next.Ask b request → CanTell dir request told
-      → Changes p c job dir (fed t.stage told (length log) t) (Unread chosen) ((Ask a b request told took, log) ∷ lines)
+  unread_more : (copy chosen : BrickId) → IsChanging w job t (Unread copy) → ChangesName p c job dir t (Unread copy) lines → (b : BrickId) (request : Request) (told : Told) (took : Bool) → next_change t.stage (length log) t ≡ next.Ask b request → CanTell dir request told
+      → ChangesName p c job dir (fed t.stage told (length log) t) (Unread chosen) ((Ask a b request told took, log) ∷ lines)
   unread_more copy chosen sound k b request told took e can =
       let after = asked_more p lines a log t sound.sound k.on.0 dir b request told took (suits sound.of_job (Unread copy) k) e can in
       let q = quiet p (line_of b request told took) log lines after.1 in
@@ -108,8 +108,8 @@ module _ (p : Plan) (job : EntryJob) (w : Walk) (lines : Work) (a : ActorId) (lo
         on = (after.0, holds_more lines a log t sound.sound told took copy t.stage b request sound.in_turn k.on.1 e);
       }
 
-  fits_more : IsChanging w job t Fits → Changes p c job dir t Fits lines → (b : BrickId) (request : Request) (told : Told) (took : Bool) → next_change t.stage (length log) t ≡ next.Ask b request → CanTell dir request told
-      → Changes p c job dir (told_to told (length log) t) Fits ((Ask a b request told took, log) ∷ lines)
+  fits_more : IsChanging w job t Fits → ChangesName p c job dir t Fits lines → (b : BrickId) (request : Request) (told : Told) (took : Bool) → next_change t.stage (length log) t ≡ next.Ask b request → CanTell dir request told
+      → ChangesName p c job dir (told_to told (length log) t) Fits ((Ask a b request told took, log) ∷ lines)
   fits_more sound k b request told took e can =
       let after = asked_more p lines a log t sound.sound k.on dir b request told took (suits sound.of_job Fits k) e can in
       let q = quiet p (line_of b request told took) log lines after.1 in
@@ -118,7 +118,7 @@ module _ (p : Plan) (job : EntryJob) (w : Walk) (lines : Work) (a : ActorId) (lo
         directory = k.directory;
         unread = q.reading ∙ k.unread;
         name = name_more Fits p c job dir (line_of b request told took) log lines q (λ x none. refl) k.name;
-        on = subst (λ (x : Progress). Goes p x ((line_of b request told took, log) ∷ lines)) (sym (told_is (is_beginning t.stage) told after.2)) after.0;
+        on = subst (λ (x : TransactionProgress). TransactionGoes p x ((line_of b request told took, log) ∷ lines)) (sym (told_is (is_beginning t.stage) told after.2)) after.0;
       }
 
   -- an unlock of a change that was given up
@@ -129,8 +129,8 @@ module _ (p : Plan) (job : EntryJob) (w : Walk) (lines : Work) (a : ActorId) (lo
       go true e = absurd (cc e)
       go false e = e
 
-  refused_more : (why : Refusal) → IsChanging w job t (Refused why) → Changes p c job dir t (Refused why) lines → (b : BrickId) (request : Request) (told : Told) (took : Bool) → next_change t.stage (length log) t ≡ next.Ask b request
-      → Changes p c job dir (told_to told (length log) t) (Refused why) ((Ask a b request told took, log) ∷ lines)
+  refused_more : (why : Refusal) → IsChanging w job t (Refused why) → ChangesName p c job dir t (Refused why) lines → (b : BrickId) (request : Request) (told : Told) (took : Bool) → next_change t.stage (length log) t ≡ next.Ask b request
+      → ChangesName p c job dir (told_to told (length log) t) (Refused why) ((Ask a b request told took, log) ∷ lines)
   refused_more why sound k b request told took e =
       let at_stage = asked_stage t.stage (length log) t b request e in
       let q = quiet p (line_of b request told took) log lines (subst (λ (r : Request). is_of_change (Ask a b r told took) ≡ true) at_stage.1 (of_stage t.stage t a b told took)) in
@@ -139,12 +139,12 @@ module _ (p : Plan) (job : EntryJob) (w : Walk) (lines : Work) (a : ActorId) (lo
         directory = k.directory;
         unread = q.reading ∙ k.unread;
         name = name_more (Refused why) p c job dir (line_of b request told took) log lines q (λ x none. refl) k.name;
-        on = subst (λ (x : Progress). GaveUp p ((line_of b request told took, log) ∷ lines) x) (sym (told_is (is_beginning t.stage) told at_stage.0))
+        on = subst (λ (x : TransactionProgress). GaveUp p ((line_of b request told took, log) ∷ lines) x) (sym (told_is (is_beginning t.stage) told at_stage.0))
             (given_up_kept p lines t a told (line_of b request told took) log sound.sound k.on (subst (λ (n : Next). IsNextLine a n told (line_of b request told took)) (sym e) (took, refl)));
       }
 
   -- ---- after any line that is told
-  pub under_more : (found : Found) → IsChanging w job t found → Changes p c job dir t found lines → (b : BrickId) (request : Request) (chosen : BrickId) (heard : Answer) (took : Bool) → next_under found (length log) job w t ≡ next.Ask b request
+  pub under_more : (found : Found) → IsChanging w job t found → ChangesName p c job dir t found lines → (b : BrickId) (request : Request) (chosen : BrickId) (heard : Answer) (took : Bool) → next_under found (length log) job w t ≡ next.Ask b request
       → CanHearUnder found t.stage p dir b.0 request log heard
       → TellsIn p c job (or_removes (child_after found heard job t.stage) (progress_after found heard (length log) job w t) (found_after chosen found heard job t.stage)) w ((Ask a b request (told_by heard) took, log) ∷ lines)
   under_more (Unread copy) sound k b request chosen heard took e can = go (is_beginning t.stage) refl e

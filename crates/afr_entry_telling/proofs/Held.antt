@@ -9,7 +9,7 @@ use Rattle.afr_discipline.specs.declared.register.Register.{Register}
 use Rattle.afr_lines.specs.Areas.{area_for}
 use Rattle.afr_lines.specs.Work.{Work}
 use Rattle.afr_lines.specs.declared.answer.Told.{Told}
-use Rattle.afr_lines.specs.declared.answer.Told.TheVariants as told_of
+use Rattle.afr_lines.specs.declared.answer.Told.TheVariants as as_told
 use Rattle.afr_lines.specs.declared.line.Line.{Line}
 use Rattle.afr_lines.specs.declared.line.Line.TheVariants.{Ask}
 use Rattle.afr_lines.specs.declared.line.Next.TheVariants as next
@@ -29,7 +29,7 @@ use Rattle.afr_walk.specs.Free.{IsFree}
 use Rattle.afr_inode_telling.specs.Lines.{OnlyReads}
 use Rattle.afr_inode_telling.proofs.Quiet.{IsQuiet, has_none}
 use Rattle.afr_inode_telling.proofs.ReadsMore.{asks_same}
-use Rattle.afr_transaction.specs.Progress.{Progress, after, answered_by, fed, left, next_at, request_at}
+use Rattle.afr_transaction.specs.Progress.{TransactionProgress, after, answered_by, fed, left, next_at, request_at}
 use Rattle.afr_transaction.specs.Sound.{IsBase, Sound}
 use Rattle.afr_transaction.specs.declared.stage.Stage.{Stage}
 use Rattle.afr_transaction.specs.declared.stage.Stage.TheVariants.{Locking, Looking, Beginning, Preparing, Applying, Posting, Closing}
@@ -89,11 +89,11 @@ module _ (change : Change) (r : Register) (a : ActorId) (b : BrickId) (took : Bo
   lock_by : (w o : Bool) → busy r.shape.n (seen_as r).law ≡ w → (w ≡ true → o ≡ true) → (told : Told) (c : ℕ)
       → member (locked_w w o r area b.0 told).held c ≡ member (holding area (Ask a b (request_of.Lock WorkDomain area) told took) s) c
   lock_by true false e own told c = absurd (cc (own refl))
-  lock_by true true e own told_of.Granted c = rw (area_self area) (same_added r b r.held s h c)
-  lock_by true true e own told_of.NotConnected c = same_removed r b r.held s h c
+  lock_by true true e own as_told.Granted c = rw (area_self area) (same_added r b r.held s h c)
+  lock_by true true e own as_told.NotConnected c = same_removed r b r.held s h c
   lock_by true true e own told c = h c
-  lock_by false o e own told_of.Granted c = rw (area_self area) (same_added r b [] s (λ x. free_of e x) c)
-  lock_by false o e own told_of.NotConnected c = same_removed r b [] s (λ x. free_of e x) c
+  lock_by false o e own as_told.Granted c = rw (area_self area) (same_added r b [] s (λ x. free_of e x) c)
+  lock_by false o e own as_told.NotConnected c = same_removed r b [] s (λ x. free_of e x) c
   lock_by false o e own told c = free_of e c
 
   pub lock_held : (told : Told) (c : ℕ) → member (after_outside r b.0 (request_of.Lock WorkDomain area) told).held c ≡ member (holding area (Ask a b (request_of.Lock WorkDomain area) told took) s) c
@@ -109,14 +109,14 @@ at_stage Preparing change r w k = k
 at_stage Applying change r w k = k
 at_stage Posting change r w k = k
 
-module _ (lines : Work) (a : ActorId) (log : List Line) (t : Progress) (sound : Sound t) (told : Told) (took : Bool) where
+module _ (lines : Work) (a : ActorId) (log : List Line) (t : TransactionProgress) (sound : Sound t) (told : Told) (took : Bool) where
   abbrev After : Stage → BrickId → Request → Type 0
   After stage b request = HoldsAt (fed stage told (length log) t).stage (fed stage told (length log) t).change (fed stage told (length log) t).register ((Ask a b request told took, log) ∷ lines)
 
   abbrev own : Stage → BrickId
   own stage = record { 0 = lowest (left stage t) }
 
-  abbrev x : Stage → Progress
+  abbrev x : Stage → TransactionProgress
   x stage = answered_by stage (own stage).0 told (length log) t
 
   on_lock : HoldsName t.change t.register lines → HoldsName t.change (x Locking).register ((Ask a (own Locking) (request_at Locking t) told took, log) ∷ lines)

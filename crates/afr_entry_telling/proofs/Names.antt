@@ -9,7 +9,7 @@ use Rattle.afr_lines.specs.Told.{told_by}
 use Rattle.afr_lines.specs.Work.{Work}
 use Rattle.afr_lines.specs.declared.answer.Answer.{Answer}
 use Rattle.afr_lines.specs.declared.answer.Answer.TheVariants as answer
-use Rattle.afr_lines.specs.declared.answer.Told.TheVariants as told_of
+use Rattle.afr_lines.specs.declared.answer.Told.TheVariants as as_told
 use Rattle.afr_lines.specs.declared.line.Line.{Line}
 use Rattle.afr_lines.specs.declared.line.Line.TheVariants.{Ask, Begin}
 use Rattle.afr_lines.specs.declared.request.Request.TheVariants.{Lock, Unlock, Look, Pre, Apply, Post, ReadName}
@@ -84,14 +84,14 @@ module _ (p : Plan) (b : ℕ) (g : Gfid) (name : NameId) (log : List Line) where
   entry_is entry None e = absurd (cc e)
   entry_is entry (Some o) e = cc e
 
-  given_entry : (heard : Answer) (o : Option Object) → heard ≡ copy_answer entry_of o → told_by heard ≡ told_of.Given → is_entry heard ≡ true
+  given_entry : (heard : Answer) (o : Option Object) → heard ≡ copy_answer entry_of o → told_by heard ≡ as_told.Given → is_entry heard ≡ true
   given_entry heard None e t = absurd (clash (sym (ap told_by e) ∙ t))
     where
-      clash : told_of.NoObject ≡ told_of.Given → ⊥
+      clash : as_told.NoObject ≡ as_told.Given → ⊥
       clash h = cc h
   given_entry heard (Some o) e t = ap is_entry e
 
-  not_given : (heard : Answer) → CanAnswer p b (ReadName g name) log heard → told_by heard ≡ told_of.Given → is_entry heard ≡ false → ⊥
+  not_given : (heard : Answer) → CanAnswer p b (ReadName g name) log heard → told_by heard ≡ as_told.Given → is_entry heard ≡ false → ⊥
   not_given heard can t e = let f : is_entry heard ≡ true = given_entry heard (copy_at g (holds p log b)) (can.given t) t in cc (e, f)
 
   pub name_told : (heard : Answer) → CanAnswer p b (ReadName g name) log heard → NameTold p b g name log heard

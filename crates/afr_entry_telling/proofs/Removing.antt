@@ -14,7 +14,7 @@ use Rattle.afr_lines.specs.Told.{told_by}
 use Rattle.afr_lines.specs.Work.{Work}
 use Rattle.afr_lines.specs.declared.answer.Answer.{Answer}
 use Rattle.afr_lines.specs.declared.answer.Answer.TheVariants as answer
-use Rattle.afr_lines.specs.declared.answer.Told.TheVariants as told_of
+use Rattle.afr_lines.specs.declared.answer.Told.TheVariants as as_told
 use Rattle.afr_lines.specs.declared.line.Line.{Line}
 use Rattle.afr_lines.specs.declared.line.Line.TheVariants.{Ask}
 use Rattle.afr_object.specs.Tables.{is_dir, object_of}
@@ -25,7 +25,7 @@ use Rattle.afr_model.specs.Commands.{steps_of}
 use Rattle.afr_model.specs.Showing.{At, NotAsked, among, reading_by}
 use Rattle.afr_model.specs.Standing.{holding, place_by}
 use Rattle.afr_model.specs.Tables.{entry_at, holds}
-use Rattle.afr_transaction.specs.Progress.{Progress, is_beginning}
+use Rattle.afr_transaction.specs.Progress.{TransactionProgress, is_beginning}
 use Rattle.afr_transaction.proofs.Requests.{noted_is}
 use Rattle.afr_walk.specs.declared.walk.Walk.{Walk}
 use Rattle.afr_entry.specs.Entry.{IsChanging, found_by, name_noted, or_removes, reads_name, settled}
@@ -38,7 +38,7 @@ use Rattle.afr_removal.specs.Removal.{removing}
 use Rattle.afr_removal.specs.Sound.{IsRemoval}
 use Rattle.afr_removal_telling.specs.RemovalTelling.{HasLed, IsOfPath, RemovalTells, dir_at}
 use Rattle.afr_removal_telling.proofs.First.{begins}
-use Rattle.afr_entry_telling.specs.EntryTelling.{CanName, Goes, HoldsName, IsUnread, TellsIn, WasGiven, command_of}
+use Rattle.afr_entry_telling.specs.EntryTelling.{CanName, HoldsName, IsUnread, TellsIn, TransactionGoes, WasGiven, command_of}
 use Rattle.afr_entry_telling.proofs.Changing.{begins_at, given, goes_on}
 use Rattle.afr_entry_telling.proofs.Names as name_told
 use Rattle.afr_entry_telling.proofs.Names.{NameTold}
@@ -52,7 +52,7 @@ entry_is entry g d e = let what : entry.what ≡ Dir = dir_is entry.what d in re
     rebuilt : entry.what ≡ Dir → entry ≡ dir_at g
     rebuilt w = ap (λ (x : What). let y : Entry = record { gfid = entry.gfid; what = x } in y) w ∙ ap dir_at e
 
-module _ (p : Plan) (name : NameId) (w : Walk) (lines : Work) (t : Progress) (place : place_by p (command_of (Rmdir name) w.path) lines ≡ At (steps_of (command_of (Rmdir name) w.path)) w.object) (directory : is_dir w.object.what ≡ true) (unread : reading_by p lines ≡ NotAsked) (a : ActorId) (log : List Line) (b : BrickId) (sound : IsChanging w (Rmdir name) t (Unread b)) (k : Goes p t lines) (n : IsUnread p (command_of (Rmdir name) w.path) w.object lines) (at_begin : is_beginning t.stage ≡ true) (holds_name : HoldsName t.change t.register lines) (took : Bool) where
+module _ (p : Plan) (name : NameId) (w : Walk) (lines : Work) (t : TransactionProgress) (place : place_by p (command_of (Rmdir name) w.path) lines ≡ At (steps_of (command_of (Rmdir name) w.path)) w.object) (directory : is_dir w.object.what ≡ true) (unread : reading_by p lines ≡ NotAsked) (a : ActorId) (log : List Line) (b : BrickId) (sound : IsChanging w (Rmdir name) t (Unread b)) (k : TransactionGoes p t lines) (n : IsUnread p (command_of (Rmdir name) w.path) w.object lines) (at_begin : is_beginning t.stage ≡ true) (holds_name : HoldsName t.change t.register lines) (took : Bool) where
   abbrev job : EntryJob
   job = Rmdir name
 
@@ -60,16 +60,16 @@ module _ (p : Plan) (name : NameId) (w : Walk) (lines : Work) (t : Progress) (pl
   path = w.path ++ name ∷ []
 
   abbrev more : Work
-  more = (Ask a b (reads_name job w) told_of.Given took, log) ∷ lines
+  more = (Ask a b (reads_name job w) as_told.Given took, log) ∷ lines
 
-  abbrev after : Progress
-  after = name_noted b job w told_of.Given (length log) t
+  abbrev after : TransactionProgress
+  after = name_noted b job w as_told.Given (length log) t
 
   object_same : object_of t.change ≡ w.object.gfid
   object_same = ap object_of sound.of_job
 
   held_now : (c : ℕ) → member after.register.held c ≡ member (among (holding (area_for t.change)) more) c
-  held_now c = subst (λ (q : Register). member q.held c ≡ member (among (holding (area_for t.change)) lines) c) (sym (noted_is t.register (length log) b.0 (reads_name job w) told_of.Given sound.sound.base.outside)) (holds_name.held c)
+  held_now c = subst (λ (q : Register). member q.held c ≡ member (among (holding (area_for t.change)) lines) c) (sym (noted_is t.register (length log) b.0 (reads_name job w) as_told.Given sound.sound.base.outside)) (holds_name.held c)
 
   module _ (entry : Entry) (found : is_dir entry.what ≡ true) (shows : entry_at w.object.gfid name (holds p log b.0) ≡ Some entry) (apart : (entry.gfid.0 == w.object.gfid.0) ≡ false) where
     was_given : WasGiven p (command_of job w.path) w.object (Some entry) more
@@ -77,7 +77,7 @@ module _ (p : Plan) (name : NameId) (w : Walk) (lines : Work) (t : Progress) (pl
 
     led : HasLed p path (object_of t.change) entry.gfid more
     led = record {
-      place = place_more p job w.path w.object (Ask a b (reads_name job w) told_of.Given took) log lines place ∙ ap (λ (x : Entry). At (steps_of (command_of job w.path)) x) (entry_is w.object (object_of t.change) directory (sym object_same));
+      place = place_more p job w.path w.object (Ask a b (reads_name job w) as_told.Given took) log lines place ∙ ap (λ (x : Entry). At (steps_of (command_of job w.path)) x) (entry_is w.object (object_of t.change) directory (sym object_same));
       leads = was_given.path ∙ ap (λ (x : ℕ). At x entry) (again w.path name) ∙ ap (λ (x : Entry). At (length path) x) (entry_is entry entry.gfid found refl);
     }
 
@@ -91,7 +91,7 @@ module _ (p : Plan) (name : NameId) (w : Walk) (lines : Work) (t : Progress) (pl
 
     tells_removal : RemovalTells p path (removing t.change after.register entry.gfid) more
     tells_removal =
-        let g = goes_on p job w lines t place directory unread a log b sound k n at_begin told_of.Given took in
+        let g = goes_on p job w lines t place directory unread a log b sound k n at_begin as_told.Given took in
         begins p path entry.gfid after more g.1 (record {
           stage = begins_at t.stage at_begin;
           removes = subst (λ (x : Change). IsRemoval x) (sym sound.of_job) tt;
@@ -108,7 +108,7 @@ module _ (p : Plan) (name : NameId) (w : Walk) (lines : Work) (t : Progress) (pl
         })
 
 -- ---- so the lines show its removal
-abbrev pub Removed : Plan → EntryJob → Walk → Work → Progress → ActorId → List Line → BrickId → Answer → Bool → Gfid → Type 0
+abbrev pub Removed : Plan → EntryJob → Walk → Work → TransactionProgress → ActorId → List Line → BrickId → Answer → Bool → Gfid → Type 0
 Removed p job w lines t a log b heard took child =
     TellsIn p (command_of job w.path) job (or_removes (Some child) (settled (ruled_out job heard) (name_noted b job w (told_by heard) (length log) t)) (found_by (ruled_out job heard))) w
     ((Ask a b (reads_name job w) (told_by heard) took, log) ∷ lines)
@@ -122,8 +122,8 @@ shown p b g name log entry (name_told.Found found e f) = f ∙ sym (is_entry e)
 shown p b g name log entry (name_told.Lost e) = absurd (cc e)
 shown p b g name log entry (name_told.Fails e) = absurd (cc e)
 
-pub read_removes : (p : Plan) (job : EntryJob) (w : Walk) (lines : Work) (t : Progress) → place_by p (command_of job w.path) lines ≡ At (steps_of (command_of job w.path)) w.object → is_dir w.object.what ≡ true → reading_by p lines ≡ NotAsked
-    → (a : ActorId) (log : List Line) (b : BrickId) → IsChanging w job t (Unread b) → Goes p t lines → IsUnread p (command_of job w.path) w.object lines → is_beginning t.stage ≡ true → HoldsName t.change t.register lines → (heard : Answer) (took : Bool) (child : Gfid)
+pub read_removes : (p : Plan) (job : EntryJob) (w : Walk) (lines : Work) (t : TransactionProgress) → place_by p (command_of job w.path) lines ≡ At (steps_of (command_of job w.path)) w.object → is_dir w.object.what ≡ true → reading_by p lines ≡ NotAsked
+    → (a : ActorId) (log : List Line) (b : BrickId) → IsChanging w job t (Unread b) → TransactionGoes p t lines → IsUnread p (command_of job w.path) w.object lines → is_beginning t.stage ≡ true → HoldsName t.change t.register lines → (heard : Answer) (took : Bool) (child : Gfid)
     → child_by job heard ≡ Some child → CanName p w.object b.0 (reads_name job w) log heard → Removed p job w lines t a log b heard took child
 read_removes p (Rmdir name) w lines t place directory unread a log b sound k n at_begin held (answer.Entry (Some entry)) took child some can = go (is_dir entry.what) refl some
   where
@@ -132,12 +132,12 @@ read_removes p (Rmdir name) w lines t place directory unread a log b sound k n a
 
     go : (d : Bool) → is_dir entry.what ≡ d → (if d then Some entry.gfid else None) ≡ Some child
         → TellsIn p (command_of (Rmdir name) w.path) (Rmdir name)
-        (or_removes (Some child) (settled (if d then None else Some refusal_of.NotDir) (name_noted b (Rmdir name) w told_of.Given (length log) t)) (found_by (if d then None else Some refusal_of.NotDir))) w
-        ((Ask a b (reads_name (Rmdir name) w) told_of.Given took, log) ∷ lines)
+        (or_removes (Some child) (settled (if d then None else Some refusal_of.NotDir) (name_noted b (Rmdir name) w as_told.Given (length log) t)) (found_by (if d then None else Some refusal_of.NotDir))) w
+        ((Ask a b (reads_name (Rmdir name) w) as_told.Given took, log) ∷ lines)
     go true f e = record {
       name = name;
       is_job = refl;
-      tells = subst (λ (g : Gfid). RemovalTells p (w.path ++ name ∷ []) (removing t.change (name_noted b (Rmdir name) w told_of.Given (length log) t).register g) ((Ask a b (reads_name (Rmdir name) w) told_of.Given took, log) ∷ lines))
+      tells = subst (λ (g : Gfid). RemovalTells p (w.path ++ name ∷ []) (removing t.change (name_noted b (Rmdir name) w as_told.Given (length log) t).register g) ((Ask a b (reads_name (Rmdir name) w) as_told.Given took, log) ∷ lines))
           (same_Some entry.gfid child e) (tells_removal p name w lines t place directory unread a log b sound k n at_begin held took entry f shows (can.elsewhere entry refl));
     }
     go false f e = absurd (cc e)

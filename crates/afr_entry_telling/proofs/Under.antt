@@ -7,7 +7,7 @@ use Rattle.afr_discipline.specs.Tests.{fits_view}
 use Rattle.afr_lines.specs.Areas.{area_for, kind_for}
 use Rattle.afr_lines.specs.Work.{Work}
 use Rattle.afr_lines.specs.declared.answer.Told.{Told}
-use Rattle.afr_lines.specs.declared.answer.Told.TheVariants as told_of
+use Rattle.afr_lines.specs.declared.answer.Told.TheVariants as as_told
 use Rattle.afr_lines.specs.declared.line.Line.{Line}
 use Rattle.afr_lines.specs.declared.line.Line.TheVariants.{Ask, Begin}
 use Rattle.afr_lines.specs.declared.line.Next.{Next}
@@ -24,7 +24,7 @@ use Rattle.afr_model.specs.Commands.{steps_of}
 use Rattle.afr_model.specs.Refusals.{by_locks, by_name, or_else, read_refused, refusal}
 use Rattle.afr_model.specs.Showing.{Path, At, begins_attempt, has, path_by, refuses_read}
 use Rattle.afr_model.specs.Standing.{area_here, place_by}
-use Rattle.afr_transaction.specs.Progress.{Progress, begun, fed, is_beginning, next_at as next_change}
+use Rattle.afr_transaction.specs.Progress.{TransactionProgress, begun, fed, is_beginning, next_at as next_change}
 use Rattle.afr_transaction.specs.Sound.{Sound}
 use Rattle.afr_entry.specs.Job.{change_of}
 use Rattle.afr_entry.specs.declared.job.EntryJob.{EntryJob}
@@ -40,7 +40,7 @@ use Rattle.afr_transaction_tells.proofs.Kept.{tells_kept}
 use Rattle.afr_transaction_tells.proofs.Small.{self}
 use Rattle.afr_write_telling.specs.WriteTelling.{AreFitting, CanTell}
 use Rattle.afr_write_telling.proofs.Goes.{asked_stage, begun_fed, begun_stage, fed_same, fitting_more, of_stage}
-use Rattle.afr_entry_telling.specs.EntryTelling.{Goes, NameTells, ByFault, ByName, WasGiven, command_of}
+use Rattle.afr_entry_telling.specs.EntryTelling.{TransactionGoes, NameTells, ByFault, ByName, WasGiven, command_of}
 use Rattle.afr_entry_telling.proofs.Names.{Quiet, upto_stays}
 use Rattle.afr_entry_telling.proofs.Words.{area_is, place_upto, refused_there}
 
@@ -60,10 +60,10 @@ place_more p job path dir line log w e =
     place_upto p job path ((line, log) ∷ w) ∙ upto_stays (steps_of (command_of job path)) p w line log dir (sym (place_upto p job path w) ∙ e)
 
 -- ---- a line of the transaction
-module _ (p : Plan) (lines : Work) (a : ActorId) (log : List Line) (t : Progress) (sound : Sound t) (k : Goes p t lines) where
+module _ (p : Plan) (lines : Work) (a : ActorId) (log : List Line) (t : TransactionProgress) (sound : Sound t) (k : TransactionGoes p t lines) where
   -- after a line that is told
   after_line : (told : Told) (line : Line) → IsNextLine a (next_change t.stage (length log) t) told line → LineFits line → LineFitsPhase line → AreFitting p.shape.n t.change ((line, log) ∷ lines)
-      → Goes p (fed t.stage told (length log) t) ((line, log) ∷ lines)
+      → TransactionGoes p (fed t.stage told (length log) t) ((line, log) ∷ lines)
   after_line told line is fits phase fitting = record {
     tells = tells_kept p lines t a told line log sound k.tells is;
     excused = excused_kept p lines t a told line log sound k.tells is fits phase k.excused;
@@ -73,7 +73,7 @@ module _ (p : Plan) (lines : Work) (a : ActorId) (log : List Line) (t : Progress
 
   -- after a request, which is one of a change
   pub asked_more : (dir : Entry) (b : BrickId) (request : Request) (told : Told) (took : Bool) → ((view : View) → view.what ≡ dir.what → fits_view (Some view) t.change ≡ true) → next_change t.stage (length log) t ≡ next.Ask b request → CanTell dir request told
-      → Goes p (fed t.stage told (length log) t) ((Ask a b request told took, log) ∷ lines) × (is_of_change (Ask a b request told took) ≡ true) × (is_beginning t.stage ≡ false)
+      → TransactionGoes p (fed t.stage told (length log) t) ((Ask a b request told took, log) ∷ lines) × (is_of_change (Ask a b request told took) ≡ true) × (is_beginning t.stage ≡ false)
   asked_more dir b request told took suits e can =
       let at_stage = asked_stage t.stage (length log) t b request e in (
         after_line told (Ask a b request told took) (subst (λ (n : Next). IsNextLine a n told (Ask a b request told took)) (sym e) (took, refl)) can.fits can.phase
@@ -83,10 +83,10 @@ module _ (p : Plan) (lines : Work) (a : ActorId) (log : List Line) (t : Progress
         at_stage.0,
       )
 
-  pub begun_more : (change : Change) → next_change t.stage (length log) t ≡ next.Begin change → Goes p (if is_beginning t.stage then begun (length log) t else t) ((Begin a change, log) ∷ lines)
+  pub begun_more : (change : Change) → next_change t.stage (length log) t ≡ next.Begin change → TransactionGoes p (if is_beginning t.stage then begun (length log) t else t) ((Begin a change, log) ∷ lines)
   begun_more change e =
-      subst (λ (x : Progress). Goes p x ((Begin a change, log) ∷ lines)) (sym (begun_fed t.stage (length log) t (begun_stage t.stage (length log) t change e)))
-      (after_line told_of.Done (Begin a change) (subst (λ (n : Next). IsNextLine a n told_of.Done (Begin a change)) (sym e) refl) tt tt k.fitting)
+      subst (λ (x : TransactionProgress). TransactionGoes p x ((Begin a change, log) ∷ lines)) (sym (begun_fed t.stage (length log) t (begun_stage t.stage (length log) t change e)))
+      (after_line as_told.Done (Begin a change) (subst (λ (n : Next). IsNextLine a n as_told.Done (Begin a change)) (sym e) refl) tt tt k.fitting)
 
 -- ---- where its command has led it
 module _ (p : Plan) (job : EntryJob) (path : List NameId) (dir : Entry) (lines : Work) (place : place_by p (command_of job path) lines ≡ At (steps_of (command_of job path)) dir) (directory : is_dir dir.what ≡ true) where

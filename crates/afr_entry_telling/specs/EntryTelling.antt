@@ -20,7 +20,7 @@ use Rattle.afr_model.specs.Answered.{IsAnswered}
 use Rattle.afr_model.specs.Commands.{steps_of}
 use Rattle.afr_model.specs.Showing.{At, NotAsked, Untold, among, begins_attempt, has, one_name, path_by, reading_by, refuses_read}
 use Rattle.afr_model.specs.Standing.{holding, path_upto, place_by}
-use Rattle.afr_transaction.specs.Progress.{Progress}
+use Rattle.afr_transaction.specs.Progress.{TransactionProgress}
 use Rattle.afr_transaction.specs.declared.stage.Stage.{Stage}
 use Rattle.afr_transaction.specs.declared.stage.Stage.TheVariants.{Beginning, Closing}
 use Rattle.afr_walk.specs.declared.walk.Walk.{Walk}
@@ -85,7 +85,7 @@ NameTells Fits p c job dir w = FitsName p c job dir w
 NameTells (Refused why) p c job dir w = RulesOut p c job dir why w
 
 -- the lines show how far the transaction is that locks the name and changes it
-pub record Goes (p : Plan) (t : Progress) (w : Work) : Type 0 where
+pub record TransactionGoes (p : Plan) (t : TransactionProgress) (w : Work) : Type 0 where
   pub tells : Tells p w t
   pub excused : AreExcused w
   pub calm : IsCalm w
@@ -102,13 +102,13 @@ HoldsAt Closing change r w = Unit {0}
 HoldsAt stage change r w = HoldsName change r w
 
 -- a change that is ruled out was given up
-abbrev pub OnChange : Found → Plan → Progress → Work → Type 0
-OnChange (Unread b) p t w = Goes p t w × HoldsAt t.stage t.change t.register w
-OnChange Fits p t w = Goes p t w
+abbrev pub OnChange : Found → Plan → TransactionProgress → Work → Type 0
+OnChange (Unread b) p t w = TransactionGoes p t w × HoldsAt t.stage t.change t.register w
+OnChange Fits p t w = TransactionGoes p t w
 OnChange (Refused why) p t w = GaveUp p w t
 
 -- the path has led to a directory, whose name is locked, read and changed
-pub record Changes (p : Plan) (c : Command) (job : EntryJob) (dir : Entry) (t : Progress) (found : Found) (w : Work) : Type 0 where
+pub record ChangesName (p : Plan) (c : Command) (job : EntryJob) (dir : Entry) (t : TransactionProgress) (found : Found) (w : Work) : Type 0 where
   pub place : place_by p c w ≡ At (steps_of c) dir
   pub directory : is_dir dir.what ≡ true
   pub unread : reading_by p w ≡ NotAsked
@@ -124,7 +124,7 @@ pub record RemovesChild (p : Plan) (job : EntryJob) (path : List NameId) (m : Re
 -- by the stage of the command
 abbrev pub TellsIn : Plan → Command → EntryJob → EntryStage → Walk → Work → Type 0
 TellsIn p c job Walking w lines = Walks p w lines
-TellsIn p c job (Changing t found) w lines = Changes p c job w.object t found lines
+TellsIn p c job (Changing t found) w lines = ChangesName p c job w.object t found lines
 TellsIn p c job (Removes m) w lines = RemovesChild p job w.path m lines
 TellsIn p c job (Ending said) w lines = IsAnswered p c lines said
 

@@ -14,7 +14,7 @@ use Rattle.afr_plan.specs.Names.{file_name, file_names, number_of, with_name, wi
 use Rattle.afr_plan.specs.PlanOf.{onto_last, path_of, plan_of, with_line}
 use Rattle.afr_plan.specs.Said as said
 use Rattle.afr_plan.specs.Said.{Said}
-use Rattle.afr_plan.specs.Work as work
+use Rattle.afr_plan.specs.Action as action
 use Rattle.afr_plan.specs.declared.command.Command.{Command}
 use Rattle.afr_plan.specs.declared.command.Command.TheVariants.{Write, Read, SetAttr}
 use Rattle.afr_plan.specs.declared.plan.Plan.{Plan}
@@ -151,14 +151,14 @@ abbrev so_far : List (List ℕ) → List (List ℕ) → List (List ℕ) → List
 so_far names ks vs clients = record { shape = record { n = 3; arbiter = false }; files = 8; turns = 4000000; clients = clients; healers = []; faults = []; events = []; go = []; words = record { names = names; keys = ks; values = vs } }
 
 module _ (names ks vs p : List (List ℕ)) (q : List NameId) (ids : path_of names p ≡ q) (same : with_names names p ≡ names) (older : List (List Command)) (s : List Command) where
-  with_read : (at len : ℕ) → with_line (said.Command p (work.Read at len)) (so_far names ks vs (older ++ s ∷ [])) ≡ so_far names ks vs (older ++ (s ++ Read q at len ∷ []) ∷ [])
+  with_read : (at len : ℕ) → with_line (said.Command p (action.Read at len)) (so_far names ks vs (older ++ s ∷ [])) ≡ so_far names ks vs (older ++ (s ++ Read q at len ∷ []) ∷ [])
   with_read at len = rw (ids, same, onto_end (Read q at len) older s) refl
 
-  with_write : (at : ℕ) (bytes : List ℕ) → with_line (said.Command p (work.Write at bytes)) (so_far names ks vs (older ++ s ∷ [])) ≡ so_far names ks vs (older ++ (s ++ Write q at bytes ∷ []) ∷ [])
+  with_write : (at : ℕ) (bytes : List ℕ) → with_line (said.Command p (action.Write at bytes)) (so_far names ks vs (older ++ s ∷ [])) ≡ so_far names ks vs (older ++ (s ++ Write q at bytes ∷ []) ∷ [])
   with_write at bytes = rw (ids, same, onto_end (Write q at bytes) older s) refl
 
   with_set : (key w : List ℕ) (k v : ℕ) (ks' vs' : List (List ℕ)) → number_of ks key ≡ k → number_of vs w ≡ v → with_name ks key ≡ ks' → with_name vs w ≡ vs'
-      → with_line (said.Command p (work.SetAttr key w)) (so_far names ks vs (older ++ s ∷ [])) ≡ so_far names ks' vs' (older ++ (s ++ SetAttr q (record { 0 = k }) (record { 0 = v }) ∷ []) ∷ [])
+      → with_line (said.Command p (action.SetAttr key w)) (so_far names ks vs (older ++ s ∷ [])) ≡ so_far names ks' vs' (older ++ (s ++ SetAttr q (record { 0 = k }) (record { 0 = v }) ∷ []) ∷ [])
   with_set key w k v ks' vs' a b c d = rw (ids, same, a, b, c, d, onto_end (SetAttr q (record { 0 = k }) (record { 0 = v })) older s) refl
 
 -- ---- one command more
@@ -188,7 +188,7 @@ module _ (vs : List (List ℕ)) (older : List (List Command)) (s : List Command)
   one_more b = by_tests b (sets r) (r % 4 == 1)
     where
       by_tests : (b set read : Bool)
-          → with_line (said.Command (file_name (r / 4 % 8 + 1) ∷ []) (if set then work.SetAttr (codes "owner") (value i) else (if read then work.Read (offset r) 1024 else work.Write (offset r) (block i)))) (after b s)
+          → with_line (said.Command (file_name (r / 4 % 8 + 1) ∷ []) (if set then action.SetAttr (codes "owner") (value i) else (if read then action.Read (offset r) 1024 else action.Write (offset r) (block i)))) (after b s)
           ≡ after (b || set) (s ++ (if set then SetAttr (path r) (record { 0 = 0 }) (record { 0 = length vs }) else (if read then Read (path r) (offset r) 1024 else Write (path r) (offset r) (block i))) ∷ [])
       by_tests true true read =
           with_set (file_names 8) (keys (vs ++ value i ∷ [])) (vs ++ value i ∷ []) (file_name (r / 4 % 8 + 1) ∷ []) (path r) ids same older s (codes "owner") (value i) 0 (length vs) (keys (vs ++ value i ∷ [])) (vs ++ value i ∷ [])

@@ -4,11 +4,11 @@ use Rattle.afr_plan.specs.Happening.{Stop, Start}
 use Rattle.afr_plan.specs.Names.{file_name}
 use Rattle.afr_plan.specs.declared.version.Version.TheVariants.{One}
 use Rattle.afr_plan.specs.Said.{three_replicas, Said, Afr, Volume, Files, Turns, Client, Command, Healer, Round, At, End}
-use Rattle.afr_plan.specs.Work.{Work, Write, Read, SetAttr}
+use Rattle.afr_plan.specs.Action.{Action, Write, Read, SetAttr}
 use Rattle.afr_gen.specs.Generated.{block, lot, offset, sets, value}
 
 -- what client i does at a lot
-abbrev pub work_at : ℕ → ℕ → Work
+abbrev pub work_at : ℕ → ℕ → Action
 work_at i r = if sets r then SetAttr (codes "owner") (value i) else (if r % 4 == 1 then Read (offset r) 1024 else Write (offset r) (block i))
 
 -- its line: the files are `f1` to `f8`

@@ -38,7 +38,7 @@ restyled r possible = record r {
 pub restyled_is : (p : Register) (r : Exact) → Stands p r → restyled r (member p.possible) ≡ seen_as p
 restyled_is p r k =
     let e1 = k.number in let e2 = k.area in let e3 = k.held in let e4 = k.second in let e5 = k.second_held in let e6 = k.pre in let e7 = k.done in let e8 = k.post in let e9 = k.inside in let e10 = k.object in let e11 = k.kind in let e12 = k.healing in let e13 = k.settled in
-    let f1 = k.step in let f2 = k.asked in let f3 = k.unlocked in let f4 = k.reached in let f5 = k.views in let f6 = k.first_reached in let f7 = k.first_views in let f8 = k.phase in let f9 = k.reads in let f10 = k.upto in let f11 = k.broken in
+    let f1 = k.step in let f2 = k.asked in let f3 = k.unlocked in let f4 = k.reached in let f5 = k.views in let f6 = k.first_reached in let f7 = k.first_views in let f8 = k.part in let f9 = k.reads in let f10 = k.upto in let f11 = k.broken in
     λ i. record {
       law = record fresh { number = e1 i; area = e2 i; held = e3 i; second = e4 i; second_held = e5 i; pre = e6 i; done = e7 i; post = e8 i; heal = e9 i; object = e10 i; kind = e11 i; healing = e12 i; settled = e13 i };
       step = f1 i;
@@ -48,7 +48,7 @@ restyled_is p r k =
       views = f5 i;
       first_reached = f6 i;
       first_views = f7 i;
-      phase = f8 i;
+      part = f8 i;
       possible = member p.possible;
       reads = f9 i;
       upto = f10 i;
@@ -126,7 +126,7 @@ self_stands p k = record {
   views = refl;
   first_reached = refl;
   first_views = refl;
-  phase = refl;
+  part = refl;
   possible = λ s l. refl;
   reads = refl;
   upto = refl;

@@ -38,10 +38,10 @@ heal_stands n keeps pick r s g kind some few picks (Looking k) =
     subst (λ (r : Exact). KeepsAt n keeps pick r s g kind) (sym e) (look_kept n keeps pick picks r s g kind (subst (λ (r : Exact). AtLooks n keeps r g kind) e k))
 heal_stands n keeps pick r s g kind some few picks (Parting k) =
     let e = part_form n keeps r s g kind k in
-    subst (λ (r : Exact). KeepsAt n keeps pick r s g kind) (sym e) (part_lock_kept n keeps pick r r.phase k.part s g kind k.area (subst (λ (r : Exact). AtPart n keeps r s g kind) e k))
+    subst (λ (r : Exact). KeepsAt n keeps pick r s g kind) (sym e) (part_lock_kept n keeps pick r r.part k.part s g kind k.area (subst (λ (r : Exact). AtPart n keeps r s g kind) e k))
 heal_stands n keeps pick r s g kind some few picks (Viewing k) =
     let e = views_form n keeps r s g kind k in
-    subst (λ (r : Exact). KeepsAt n keeps pick r s g kind) (sym e) (views_kept n keeps pick r s g kind k.area r.phase k.part (subst (λ (r : Exact). AtViews n keeps r s g kind) e k))
+    subst (λ (r : Exact). KeepsAt n keeps pick r s g kind) (sym e) (views_kept n keeps pick r s g kind k.area r.part k.part (subst (λ (r : Exact). AtViews n keeps r s g kind) e k))
 heal_stands n keeps pick r s g kind some few picks (Going k) =
     let e = going_form n keeps r s g kind k in
     subst (λ (r : Exact). KeepsAt n keeps pick r s g kind) (sym e) (going_kept n keeps pick few r s g kind k.area (subst (λ (r : Exact). AfterLooks n keeps r s g kind) e k))

@@ -18,7 +18,7 @@ use Rattle.afr_moves.specs.Register.{Exact}
 use Rattle.afr_moves.specs.Rules.{Register, heal_area, is_area}
 use Rattle.afr_moves.specs.Sets.{with, without}
 use Rattle.afr_lines.specs.declared.lock.Domain.TheVariants.{Heal, Work}
-use Rattle.afr_lines.specs.declared.answer.Told.TheVariants as told_of
+use Rattle.afr_lines.specs.declared.answer.Told.TheVariants as as_told
 use Rattle.afr_moves.specs.Rules as weak
 
 -- what every stage keeps of the law's register
@@ -42,15 +42,15 @@ module _ (g : Gfid) where
 
   -- an unlock keeps the heal's object
   pub unlock_base : (n : ℕ) (law : Register) (b : ℕ) (area : Area) (told : Told) → fits (Unlock Work area) told ≡ true → Base g law.heal law.object law.second_held → (let q = weak.note_ask n law b (Unlock Work area) told in Base g q.heal q.object q.second_held)
-  unlock_base n law b area told_of.Done h k = released_base law (is_area law.area area) (is_area law.second area) area b k
-  unlock_base n law b area told_of.NotConnected h k = unlocked_base law (is_area law.area area) b k
-  unlock_base n law b area told_of.Failed h k = unlocked_base law (is_area law.area area) b k
+  unlock_base n law b area as_told.Done h k = released_base law (is_area law.area area) (is_area law.second area) area b k
+  unlock_base n law b area as_told.NotConnected h k = unlocked_base law (is_area law.area area) b k
+  unlock_base n law b area as_told.Failed h k = unlocked_base law (is_area law.area area) b k
   unlock_base n law b area _ h k = absurd (cc h)
 
   pub heal_unlock_base : (n : ℕ) (law : Register) (b : ℕ) (area : Area) (told : Told) → fits (Unlock Heal area) told ≡ true → Base g law.heal law.object law.second_held → (let q = weak.note_ask n law b (Unlock Heal area) told in Base g q.heal q.object q.second_held)
-  heal_unlock_base n law b area told_of.Done h k = record { inside = k.inside; is_object = k.is_object; no_second = k.no_second }
-  heal_unlock_base n law b area told_of.NotConnected h k = k
-  heal_unlock_base n law b area told_of.Failed h k = k
+  heal_unlock_base n law b area as_told.Done h k = record { inside = k.inside; is_object = k.is_object; no_second = k.no_second }
+  heal_unlock_base n law b area as_told.NotConnected h k = k
+  heal_unlock_base n law b area as_told.Failed h k = k
   heal_unlock_base n law b area _ h k = absurd (cc h)
 
 -- whatever is told to the next line, the heal keeps standing

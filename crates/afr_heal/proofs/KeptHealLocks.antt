@@ -22,7 +22,7 @@ use Rattle.afr_moves.specs.Rules.{Register, begun, busy, heal_area}
 use Rattle.afr_moves.specs.Sets.{empty, with}
 use Rattle.afr_moves.specs.Steps.{may_heal, passed, turn}
 use Rattle.afr_lines.specs.declared.lock.Domain.TheVariants.{Heal, Work}
-use Rattle.afr_lines.specs.declared.answer.Told.TheVariants as told_of
+use Rattle.afr_lines.specs.declared.answer.Told.TheVariants as as_told
 use Rattle.afr_moves.specs.Rules as weak
 
 module _ (n : ℕ) (keeps : ℕ → Kind → Bool) (q : Exact) (s : ℕ) (g : Gfid) (kind : Kind) (asked possible : ℕ → Bool) (law : Register) where
@@ -46,10 +46,10 @@ module _ (n : ℕ) (keeps : ℕ → Kind → Bool) (q : Exact) (s : ℕ) (g : Gf
 
 module _ (n : ℕ) (keeps : ℕ → Kind → Bool) (pick : (ℕ → Bool) → ℕ) where
   first_told : (q : Exact) (s : ℕ) (g : Gfid) (kind : Kind) (k : AtFirst n (new_at q)) → Keeps n keeps pick (new_at q) s g kind (Ask 0 (Lock Heal (heal_area g.0)))
-  first_told q s g kind k at told_of.Granted f = healed n keeps (new_at q) s g kind (with empty 0) q.possible _ (record { inside = refl; is_object = refl; no_second = k.no_second }) k.every k.none_held refl k.none_first
-  first_told q s g kind k at (told_of.Held owner) f = Ending (record { base = record { inside = refl; is_object = refl; no_second = k.no_second }; broken = refl })
-  first_told q s g kind k at told_of.Failed f = healed n keeps (new_at q) s g kind (with empty 0) q.possible _ (record { inside = refl; is_object = refl; no_second = k.no_second }) k.every k.none_held refl k.none_first
-  first_told q s g kind k at told_of.NotConnected f =
+  first_told q s g kind k at as_told.Granted f = healed n keeps (new_at q) s g kind (with empty 0) q.possible _ (record { inside = refl; is_object = refl; no_second = k.no_second }) k.every k.none_held refl k.none_first
+  first_told q s g kind k at (as_told.Held owner) f = Ending (record { base = record { inside = refl; is_object = refl; no_second = k.no_second }; broken = refl })
+  first_told q s g kind k at as_told.Failed f = healed n keeps (new_at q) s g kind (with empty 0) q.possible _ (record { inside = refl; is_object = refl; no_second = k.no_second }) k.every k.none_held refl k.none_first
+  first_told q s g kind k at as_told.NotConnected f =
       healed n keeps (new_at q) s g kind (with empty 0) q.possible _ (record { inside = refl; is_object = refl; no_second = λ x. without_no q.law.second_held 0 x (k.no_second x) }) k.every (λ x. without_no q.law.held 0 x (k.none_held x)) refl k.none_first
   first_told q s g kind k at _ f = absurd (cc f)
 
@@ -68,10 +68,10 @@ module _ (n : ℕ) (keeps : ℕ → Kind → Bool) (pick : (ℕ → Bool) → �
     every_heal b t x l = pair _ _ (k.every x l) (heal_lock_ok n keeps r s g kind k x b t)
 
     heals_at : (b : ℕ) → b < n → turn n keeps r s HealLocks b ≡ true → Keeps n keeps pick r s g kind (Ask b (request_in n keeps r s g kind HealLocks b))
-    heals_at b l t at told_of.Granted f = healed n keeps r s g kind (with q.asked b) _ _ (record { inside = refl; is_object = refl; no_second = k.base.no_second }) (every_heal b t) k.none_held refl k.none_first
-    heals_at b l t at (told_of.Held owner) f = Ending (record { base = record { inside = refl; is_object = refl; no_second = k.base.no_second }; broken = refl })
-    heals_at b l t at told_of.Failed f = healed n keeps r s g kind (with q.asked b) _ _ (record { inside = refl; is_object = refl; no_second = k.base.no_second }) (every_heal b t) k.none_held refl k.none_first
-    heals_at b l t at told_of.NotConnected f =
+    heals_at b l t at as_told.Granted f = healed n keeps r s g kind (with q.asked b) _ _ (record { inside = refl; is_object = refl; no_second = k.base.no_second }) (every_heal b t) k.none_held refl k.none_first
+    heals_at b l t at (as_told.Held owner) f = Ending (record { base = record { inside = refl; is_object = refl; no_second = k.base.no_second }; broken = refl })
+    heals_at b l t at as_told.Failed f = healed n keeps r s g kind (with q.asked b) _ _ (record { inside = refl; is_object = refl; no_second = k.base.no_second }) (every_heal b t) k.none_held refl k.none_first
+    heals_at b l t at as_told.NotConnected f =
         healed n keeps r s g kind (with q.asked b) _ _ (record { inside = refl; is_object = refl; no_second = λ x. without_no q.law.second_held b x (k.base.no_second x) }) (every_heal b t) (λ x. without_no q.law.held b x (k.none_held x)) refl k.none_first
     heals_at b l t at _ f = absurd (cc f)
 
@@ -95,16 +95,16 @@ module _ (n : ℕ) (keeps : ℕ → Kind → Bool) (pick : (ℕ → Bool) → �
       grant_none = granting_first n r.law first_area b no_work
 
       works_told : (told : Told) → fits (Lock Work first_area) told ≡ true → Standing n keeps (asked_for n keeps r at b (Lock Work first_area) told) (source_after n keeps pick (asked_for n keeps r at b (Lock Work first_area) told) s) g kind
-      works_told told_of.Granted f =
+      works_told as_told.Granted f =
           subst (λ (law : Register). Standing n keeps (work_at n keeps r (with empty b) (λ x. r.possible x && may_heal n keeps r x b (Lock Work first_area)) law) s g kind) (sym grant_none)
           (worked n keeps r s g kind (with empty b) _ _ (record { inside = refl; is_object = refl; no_second = λ x. refl }) every_first (λ x. with_sub empty q.law.healing b x heal_held (λ e. absurd (cc e))) refl k.none_first)
-      works_told (told_of.Held owner) f =
+      works_told (as_told.Held owner) f =
           subst (λ (law : Register). Standing n keeps (work_at n keeps r empty (λ x. r.possible x && may_heal n keeps r x b (Lock Work first_area)) law) s g kind) (sym lock_none)
           (worked n keeps r s g kind empty _ _ (record { inside = refl; is_object = refl; no_second = λ x. refl }) every_first (λ x e. absurd (cc e)) refl k.none_first)
-      works_told told_of.Failed f =
+      works_told as_told.Failed f =
           subst (λ (law : Register). Standing n keeps (work_at n keeps r (with empty b) (λ x. r.possible x && may_heal n keeps r x b (Lock Work first_area)) law) s g kind) (sym lock_none)
           (worked n keeps r s g kind (with empty b) _ _ (record { inside = refl; is_object = refl; no_second = λ x. refl }) every_first (λ x e. absurd (cc e)) refl k.none_first)
-      works_told told_of.NotConnected f =
+      works_told as_told.NotConnected f =
           subst (λ (law : Register). Standing n keeps (work_at n keeps r (with empty b) (λ x. r.possible x && may_heal n keeps r x b (Lock Work first_area)) (weak.dropping true b law)) s g kind) (sym lock_none)
           (worked n keeps r s g kind (with empty b) _ _ (record { inside = refl; is_object = refl; no_second = λ x. without_no empty b x refl }) every_first (λ x. without_both empty q.law.healing b x (λ e. absurd (cc e))) refl k.none_first)
       works_told _ f = absurd (cc f)

@@ -12,7 +12,7 @@ use Rattle.afr_heal.proofs.Parts.{both, over_then, pair, without_both, without_n
 use Rattle.afr_heal.proofs.StagesAllowed.{look_ok}
 use Rattle.afr_heal.proofs.StagesForms.{looked_at, shape, viewed_form}
 use Rattle.afr_heal.proofs.StagesWalk.{look_elim}
-use Rattle.afr_heal.specs.Answers.{Picks, asked_for, fits, source_after}
+use Rattle.afr_heal.specs.Answers.{PicksOne, asked_for, fits, source_after}
 use Rattle.afr_heal.specs.Laws.{Keeps}
 use Rattle.afr_heal.specs.Standing.{AfterLooks, AtLooks, Base, Ending, Going, Looking, OfKind, Standing}
 use Rattle.afr_lines.specs.declared.answer.Told.{Told}
@@ -23,11 +23,11 @@ use Rattle.afr_moves.specs.Rules.{Register}
 use Rattle.afr_moves.specs.Sets.{any, with, without}
 use Rattle.afr_moves.specs.Steps.{goes_on, goes_on_at, may_heal, turn}
 use Rattle.afr_object.specs.declared.entry.View.{View}
-use Rattle.afr_lines.specs.declared.answer.Told.TheVariants as told_of
+use Rattle.afr_lines.specs.declared.answer.Told.TheVariants as as_told
 use Rattle.afr_moves.specs.Rules as weak
 use Rattle.afr_moves.proofs.Tests.{some_yes}
 
-module _ (n : ℕ) (keeps : ℕ → Kind → Bool) (pick : (ℕ → Bool) → ℕ) (picks : Picks n pick) (q : Exact) (s : ℕ) (g : Gfid) (kind : Kind) (k : AtLooks n keeps (shape q Looks Opening g kind (Some (whole_area g.0 kind))) g kind) where
+module _ (n : ℕ) (keeps : ℕ → Kind → Bool) (pick : (ℕ → Bool) → ℕ) (picks : PicksOne n pick) (q : Exact) (s : ℕ) (g : Gfid) (kind : Kind) (k : AtLooks n keeps (shape q Looks Opening g kind (Some (whole_area g.0 kind))) g kind) where
   abbrev r : Exact
   r = shape q Looks Opening g kind (Some (whole_area g.0 kind))
 
@@ -109,17 +109,17 @@ module _ (n : ℕ) (keeps : ℕ → Kind → Bool) (pick : (ℕ → Bool) → �
         go false h = k.first x h
 
     look_told : (told : Told) → fits (Look g) told ≡ true → Standing n keeps (asked_for n keeps r at b (Look g) told) (source_after n keeps pick (asked_for n keeps r at b (Look g) told) s) g kind
-    look_told (told_of.Seen view) f =
+    look_told (as_told.Seen view) f =
         subst (λ (law : Register). (let r1 = looked_at n keeps r (with q.asked b) (put q.reached b true) (put q.views b (Some view)) (put q.first_reached b true) (put q.first_views b (Some view)) may_look law in Standing n keeps r1 (source_after n keeps pick r1 s) g kind)) (sym (viewed_form r.law b g.0 view))
         (looks_stand (with q.asked b) (put q.reached b true) (put q.views b (Some view)) (put q.first_reached b true) (put q.first_views b (Some view)) may_look _
         (record { inside = refl; is_object = refl; no_second = k.base.no_second }) refl still_all refl k.among (put_on true))
-    look_told told_of.NoObject f =
+    look_told as_told.NoObject f =
         looks_stand (with q.asked b) (put q.reached b true) (put q.views b None) (put q.first_reached b true) (put q.first_views b None) may_look _
         (record { inside = refl; is_object = refl; no_second = k.base.no_second }) refl still_all refl k.among (put_on true)
-    look_told told_of.Failed f =
+    look_told as_told.Failed f =
         looks_stand (with q.asked b) (put q.reached b false) (put q.views b None) (put q.first_reached b false) (put q.first_views b None) may_look _
         (record { inside = refl; is_object = refl; no_second = k.base.no_second }) refl still_all refl k.among (put_on false)
-    look_told told_of.NotConnected f =
+    look_told as_told.NotConnected f =
         looks_stand (with q.asked b) (put q.reached b false) (put q.views b None) (put q.first_reached b false) (put q.first_views b None) may_look (weak.dropping true b r.law)
         (record { inside = refl; is_object = refl; no_second = λ x. without_no q.law.second_held b x (k.base.no_second x) }) refl still_all refl (λ x. without_both q.law.held q.law.healing b x (k.among x)) put_off
     look_told _ f = absurd (cc f)

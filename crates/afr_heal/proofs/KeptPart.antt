@@ -19,13 +19,13 @@ use Rattle.afr_lines.specs.Overlap.{same_area}
 use Rattle.afr_lines.specs.declared.answer.Told.{Told}
 use Rattle.afr_lines.specs.declared.request.Area.{Area}
 use Rattle.afr_lines.specs.declared.request.Request.TheVariants.{Lock}
-use Rattle.afr_moves.specs.Note.{next_phase}
-use Rattle.afr_moves.specs.Register.{Exact, Finish, Mends, Phase, Piece, Settles, Unlocks, WorkLocks, asked_in, is_finish, is_opening, rank, same_step, whole_area}
+use Rattle.afr_moves.specs.Note.{next_part}
+use Rattle.afr_moves.specs.Register.{Exact, Finish, HealPart, Mends, Piece, Settles, Unlocks, WorkLocks, asked_in, is_finish, is_opening, rank, same_step, whole_area}
 use Rattle.afr_moves.specs.Rules.{Register, begun, busy}
 use Rattle.afr_moves.specs.Sets.{empty, with}
 use Rattle.afr_moves.specs.Steps.{is_lowest, may_heal, mends_over, passed, pres_over, settles_over}
 use Rattle.afr_lines.specs.declared.lock.Domain.TheVariants.{Work}
-use Rattle.afr_lines.specs.declared.answer.Told.TheVariants as told_of
+use Rattle.afr_lines.specs.declared.answer.Told.TheVariants as as_told
 use Rattle.afr_moves.specs.Rules as weak
 
 module _ (n : ℕ) (keeps : ℕ → Kind → Bool) (few : n ≤ 5) (q : Exact) (s : ℕ) (g : Gfid) (kind : Kind) (area : Area) (k : AfterLooks n keeps (going_at q g kind area) s g kind) where
@@ -33,11 +33,11 @@ module _ (n : ℕ) (keeps : ℕ → Kind → Bool) (few : n ≤ 5) (q : Exact) (
   r = going_at q g kind area
 
   module _ (pick : (ℕ → Bool) → ℕ) where
-    module _ (b at : ℕ) (o : settles_over n keeps r s ≡ true) (u : passed n keeps r s Unlocks ≡ true) (p : has_part kind q.phase ≡ true) (l : b < n) (t : is_lowest r.first_reached (λ x. false) b ≡ true) where
+    module _ (b at : ℕ) (o : settles_over n keeps r s ≡ true) (u : passed n keeps r s Unlocks ≡ true) (p : has_part kind q.part ≡ true) (l : b < n) (t : is_lowest r.first_reached (λ x. false) b ≡ true) where
       abbrev there : Area
       there = next_area r s g
 
-      abbrev new_part : Phase
+      abbrev new_part : HealPart
       new_part = if same_area (whole_area g.0 Bytes) there then Finish else Piece
 
       later : is_opening new_part ≡ false
@@ -50,8 +50,8 @@ module _ (n : ℕ) (keeps : ℕ → Kind → Bool) (few : n ≤ 5) (q : Exact) (
       stepped : rank q.step ≡ 12
       stepped = at_unlocks n keeps r s g kind k u p
 
-      phase_is : next_phase r there ≡ new_part
-      phase_is = let e : same_step q.step Unlocks ≡ true = rw stepped refl in rw e refl
+      part_is : next_part r there ≡ new_part
+      part_is = let e : same_step q.step Unlocks ≡ true = rw stepped refl in rw e refl
 
       asked_is : asked_in r WorkLocks ≡ empty
       asked_is = let e : same_step q.step WorkLocks ≡ false = rw stepped refl in rw e refl
@@ -60,7 +60,7 @@ module _ (n : ℕ) (keeps : ℕ → Kind → Bool) (few : n ≤ 5) (q : Exact) (
       free = is_free n keeps r s g kind k u
 
       bytes : kind ≡ Bytes
-      bytes = is_bytes kind (both (same_kind kind Bytes) (not (is_finish q.phase)) p).0
+      bytes = is_bytes kind (both (same_kind kind Bytes) (not (is_finish q.part)) p).0
         where
           is_bytes : (kind : Kind) → same_kind kind Bytes ≡ true → kind ≡ Bytes
           is_bytes Bytes h = refl
@@ -99,26 +99,26 @@ module _ (n : ℕ) (keeps : ℕ → Kind → Bool) (few : n ≤ 5) (q : Exact) (
       grant_is = granting_first n r.law there b free
 
       part_told : (told : Told) → fits (Lock Work there) told ≡ true → Standing n keeps (asked_for n keeps r at b (Lock Work there) told) (source_after n keeps pick (asked_for n keeps r at b (Lock Work there) told) s) g kind
-      part_told told_of.Granted f =
-          subst (λ (part : Phase). Standing n keeps (part_at n keeps r part (with (asked_in r WorkLocks) b) still false (weak.granting n r.law there b)) s g kind) (sym phase_is)
+      part_told as_told.Granted f =
+          subst (λ (part : HealPart). Standing n keeps (part_at n keeps r part (with (asked_in r WorkLocks) b) still false (weak.granting n r.law there b)) s g kind) (sym part_is)
           (subst (λ (law : Register). Standing n keeps (part_at n keeps r new_part (with (asked_in r WorkLocks) b) still false law) s g kind) (sym grant_is)
           (subst (λ (none : ℕ → Bool). Standing n keeps (part_at n keeps r new_part (with none b) still false (record (begun r.law there) { held = with empty b })) s g kind) (sym asked_is)
           (Parting (parts (with empty b) (with empty b) (λ x l h. h)))))
-      part_told (told_of.Held owner) f =
-          subst (λ (part : Phase). Standing n keeps (part_at n keeps r part (asked_in r WorkLocks) still false (weak.locking n r.law there)) s g kind) (sym phase_is)
+      part_told (as_told.Held owner) f =
+          subst (λ (part : HealPart). Standing n keeps (part_at n keeps r part (asked_in r WorkLocks) still false (weak.locking n r.law there)) s g kind) (sym part_is)
           (subst (λ (law : Register). Standing n keeps (part_at n keeps r new_part (asked_in r WorkLocks) still false law) s g kind) (sym lock_is)
           (subst (λ (none : ℕ → Bool). Standing n keeps (part_at n keeps r new_part none still false (begun r.law there)) s g kind) (sym asked_is)
           (Parting (parts empty empty (λ x l h. h)))))
-      part_told told_of.Failed f =
-          subst (λ (part : Phase). Standing n keeps (part_at n keeps r part (with (asked_in r WorkLocks) b) still true (weak.locking n r.law there)) s g kind) (sym phase_is)
+      part_told as_told.Failed f =
+          subst (λ (part : HealPart). Standing n keeps (part_at n keeps r part (with (asked_in r WorkLocks) b) still true (weak.locking n r.law there)) s g kind) (sym part_is)
           (subst (λ (law : Register). Standing n keeps (part_at n keeps r new_part (with (asked_in r WorkLocks) b) still true law) s g kind) (sym lock_is)
           (Ending (fallen false)))
-      part_told told_of.NotConnected f =
-          subst (λ (part : Phase). Standing n keeps (part_at n keeps r part (with (asked_in r WorkLocks) b) still true (weak.dropping true b (weak.locking n r.law there))) s g kind) (sym phase_is)
+      part_told as_told.NotConnected f =
+          subst (λ (part : HealPart). Standing n keeps (part_at n keeps r part (with (asked_in r WorkLocks) b) still true (weak.dropping true b (weak.locking n r.law there))) s g kind) (sym part_is)
           (subst (λ (law : Register). Standing n keeps (part_at n keeps r new_part (with (asked_in r WorkLocks) b) still true (weak.dropping true b law)) s g kind) (sym lock_is)
           (Ending (fallen true)))
       part_told _ f = absurd (cc f)
 
     -- the first Work lock of the next part
-    pub part_kept : settles_over n keeps r s ≡ true → passed n keeps r s Unlocks ≡ true → has_part kind q.phase ≡ true → (b : ℕ) → b < n → is_lowest r.first_reached (λ x. false) b ≡ true → Keeps n keeps pick r s g kind (Ask b (lock_next r s g b))
+    pub part_kept : settles_over n keeps r s ≡ true → passed n keeps r s Unlocks ≡ true → has_part kind q.part ≡ true → (b : ℕ) → b < n → is_lowest r.first_reached (λ x. false) b ≡ true → Keeps n keeps pick r s g kind (Ask b (lock_next r s g b))
     part_kept o u p b l t at told f = part_told b at o u p l t told f

@@ -15,16 +15,16 @@ use Rattle.afr_heal.specs.Standing.{AtPart, Base, Ending, Parting, Standing, Vie
 use Rattle.afr_lines.specs.declared.answer.Told.{Told}
 use Rattle.afr_lines.specs.declared.request.Area.{Area}
 use Rattle.afr_lines.specs.declared.request.Request.TheVariants.{Lock}
-use Rattle.afr_moves.specs.Register.{Exact, Finish, Opening, Phase, Piece, WorkLocks, is_opening, over}
+use Rattle.afr_moves.specs.Register.{Exact, Finish, HealPart, Opening, Piece, WorkLocks, is_opening, over}
 use Rattle.afr_moves.specs.Rules.{Register, busy, is_area}
 use Rattle.afr_moves.specs.Sets.{empty, with}
 use Rattle.afr_moves.specs.Steps.{locks_at, may_heal, turn}
 use Rattle.afr_lines.specs.declared.lock.Domain.TheVariants.{Work}
-use Rattle.afr_lines.specs.declared.answer.Told.TheVariants as told_of
+use Rattle.afr_lines.specs.declared.answer.Told.TheVariants as as_told
 use Rattle.afr_moves.specs.Rules as weak
 use Rattle.afr_moves.proofs.AreaLemmas.{same_area_self}
 
-module _ (n : ℕ) (keeps : ℕ → Kind → Bool) (pick : (ℕ → Bool) → ℕ) (q : Exact) (part : Phase) (later : is_opening part ≡ false) (s : ℕ) (g : Gfid) (kind : Kind) (area : Area) (k : AtPart n keeps (shape q WorkLocks part g kind (Some area)) s g kind) where
+module _ (n : ℕ) (keeps : ℕ → Kind → Bool) (pick : (ℕ → Bool) → ℕ) (q : Exact) (part : HealPart) (later : is_opening part ≡ false) (s : ℕ) (g : Gfid) (kind : Kind) (area : Area) (k : AtPart n keeps (shape q WorkLocks part g kind (Some area)) s g kind) where
   abbrev r : Exact
   r = shape q WorkLocks part g kind (Some area)
 
@@ -68,13 +68,13 @@ module _ (n : ℕ) (keeps : ℕ → Kind → Bool) (pick : (ℕ → Bool) → �
     part_lost gone false own = Ending (record { base = dropped_base g (locking_by false own r.law area) gone b (lock_base false own); broken = rw later refl })
 
     part_lock_told : (told : Told) → fits (Lock Work area) told ≡ true → Standing n keeps (asked_for n keeps r at b (Lock Work area) told) (source_after n keeps pick (asked_for n keeps r at b (Lock Work area) told) s) g kind
-    part_lock_told told_of.Granted f = part_granted (busy n r.law) (is_area (Some area) area) (same_area_self area) refl
-    part_lock_told (told_of.Held owner) f = part_held (busy n r.law) (is_area (Some area) area) (same_area_self area) refl
-    part_lock_told told_of.Failed f = part_lost false (busy n r.law) (is_area (Some area) area)
-    part_lock_told told_of.NotConnected f = part_lost true (busy n r.law) (is_area (Some area) area)
+    part_lock_told as_told.Granted f = part_granted (busy n r.law) (is_area (Some area) area) (same_area_self area) refl
+    part_lock_told (as_told.Held owner) f = part_held (busy n r.law) (is_area (Some area) area) (same_area_self area) refl
+    part_lock_told as_told.Failed f = part_lost false (busy n r.law) (is_area (Some area) area)
+    part_lock_told as_told.NotConnected f = part_lost true (busy n r.law) (is_area (Some area) area)
     part_lock_told _ f = absurd (cc f)
 
-  locks_of : (part : Phase) → is_opening part ≡ false → over n (locks_at r part) q.asked ≡ true → over n q.first_reached q.asked ≡ true
+  locks_of : (part : HealPart) → is_opening part ≡ false → over n (locks_at r part) q.asked ≡ true → over n q.first_reached q.asked ≡ true
   locks_of Opening e h = absurd (cc e)
   locks_of Piece e h = h
   locks_of Finish e h = h

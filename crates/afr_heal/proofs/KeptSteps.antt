@@ -26,12 +26,12 @@ use Rattle.afr_lines.specs.declared.request.Request.{Request}
 use Rattle.afr_lines.specs.declared.request.Request.TheVariants.{List, Mend, Pre, ReadAttrs, ReadBytes, Settle}
 use Rattle.afr_moves.specs.Cells.{Cell}
 use Rattle.afr_moves.specs.Note.{put}
-use Rattle.afr_moves.specs.Register.{Exact, Finish, HealPres, HealUnlocks, Mends, Opening, Phase, Piece, Reads, Settles, Step, Unlocks, asked_in, holder, is_opening, rank}
+use Rattle.afr_moves.specs.Register.{Exact, Finish, HealPart, HealPres, HealUnlocks, Mends, Opening, Piece, Reads, Settles, Step, Unlocks, asked_in, holder, is_opening, rank}
 use Rattle.afr_moves.specs.Rules.{Register}
 use Rattle.afr_moves.specs.Sets.{with}
 use Rattle.afr_moves.specs.Steps.{looks_over, may_heal, mends_at, mends_over, passed, pres_over, raised, reads_over, set_of, sink, turn}
 use Rattle.afr_object.specs.declared.change.Repair.{Repair}
-use Rattle.afr_lines.specs.declared.answer.Told.TheVariants as told_of
+use Rattle.afr_lines.specs.declared.answer.Told.TheVariants as as_told
 use Rattle.afr_moves.specs.Rules as weak
 use Rattle.afr_moves.proofs.Tests.{same_self}
 
@@ -41,13 +41,13 @@ module _ (n : ℕ) (keeps : ℕ → Kind → Bool) (few : n ≤ 5) (q : Exact) (
 
   -- no sink may be the source, once all its cuts are asked
   pub told_all : passed n keeps r s Mends ≡ true → kind ≡ Bytes → (x : ℕ) → x < n → sink keeps r s x ≡ true → r.possible x ≡ false
-  told_all h bytes x l m = go q.phase refl
+  told_all h bytes x l m = go q.part refl
     where
-      go : (part : Phase) → q.phase ≡ part → r.possible x ≡ false
+      go : (part : HealPart) → q.part ≡ part → r.possible x ≡ false
       go Opening e =
-          let set : set_of n keeps r s Mends x ≡ true = subst (λ (kind : Kind). mends_at keeps r s kind q.phase x ≡ true) (sym bytes) (subst (λ (part : Phase). mends_at keeps r s Bytes part x ≡ true) (sym e) m) in
+          let set : set_of n keeps r s Mends x ≡ true = subst (λ (kind : Kind). mends_at keeps r s kind q.part x ≡ true) (sym bytes) (subst (λ (part : HealPart). mends_at keeps r s Bytes part x ≡ true) (sym e) m) in
           let b : behind r Mends x ≡ true = passed_behind n keeps r s Mends h x l set in
-          k.told bytes x l m (rw b (or_true (not (is_opening q.phase))))
+          k.told bytes x l m (rw b (or_true (not (is_opening q.part))))
       go Piece e = k.told bytes x l m (rw e refl)
       go Finish e = k.told bytes x l m (rw e refl)
 
@@ -64,7 +64,7 @@ module _ (n : ℕ) (keeps : ℕ → Kind → Bool) (few : n ≤ 5) (q : Exact) (
       → nat_lt 7 (rank step) ≡ true → nat_lt (rank step) 12 ≡ true → nat_le (rank r.step) (rank step) ≡ true → possible s ≡ true
       → (let r1 = on step asked possible reads (record r.law { pre = pre; raised = raised; settled = settled; mended = mended }) in
       ((x : ℕ) → x < n → set_of n keeps r s Reads x ≡ true → behind r1 Reads x ≡ true → has_read (reads x) ≡ true)
-      → (kind ≡ Bytes → (x : ℕ) → x < n → sink keeps r s x ≡ true → (not (is_opening q.phase) || behind r1 Mends x) ≡ true → possible x ≡ false)
+      → (kind ≡ Bytes → (x : ℕ) → x < n → sink keeps r s x ≡ true → (not (is_opening q.part) || behind r1 Mends x) ≡ true → possible x ≡ false)
       → ((x : ℕ) → behind r1 Unlocks x ≡ false) → ((x : ℕ) → behind r1 HealUnlocks x ≡ false)
       → AfterLooks n keeps r1 s g kind)
   onto step asked possible reads pre raised settled mended low high order may noted told none_unlocked none_given = record {
@@ -105,8 +105,8 @@ module _ (n : ℕ) (keeps : ℕ → Kind → Bool) (few : n ≤ 5) (q : Exact) (
   may_still b request h = pair _ _ k.possible h
 
   -- before the Mends the sinks told are those of the parts before
-  told_before : kind ≡ Bytes → (x : ℕ) → x < n → sink keeps r s x ≡ true → (not (is_opening q.phase) || false) ≡ true → (more : Bool) → (r.possible x && more) ≡ false
-  told_before bytes x l m h more = off (r.possible x) more (k.told bytes x l m (go (not (is_opening q.phase)) (behind r Mends x) h))
+  told_before : kind ≡ Bytes → (x : ℕ) → x < n → sink keeps r s x ≡ true → (not (is_opening q.part) || false) ≡ true → (more : Bool) → (r.possible x && more) ≡ false
+  told_before bytes x l m h more = off (r.possible x) more (k.told bytes x l m (go (not (is_opening q.part)) (behind r Mends x) h))
     where
       go : (a b : Bool) → (a || false) ≡ true → (a || b) ≡ true
       go true b h = refl
@@ -128,17 +128,17 @@ module _ (n : ℕ) (keeps : ℕ → Kind → Bool) (few : n ≤ 5) (q : Exact) (
 
       read_told : turn n keeps r s Reads b ≡ true → (request : Request) → is_read request ≡ true → may_heal n keeps r s b request ≡ true → (told : Told) → fits request told ≡ true
           → Standing n keeps (asked_for n keeps r at b request told) (source_after n keeps pick (asked_for n keeps r at b request told) s) g kind
-      read_told t (ReadBytes h from len) e may told_of.Given f = Going (read_done t (λ x. may_heal n keeps r x b (ReadBytes h from len)) may)
-      read_told t (ReadBytes h from len) e may told_of.NotConnected f = Ending (record { base = dropped_base g r.law true b k.base; broken = refl })
-      read_told t (ReadBytes h from len) e may told_of.Failed f = Ending (record { base = k.base; broken = refl })
+      read_told t (ReadBytes h from len) e may as_told.Given f = Going (read_done t (λ x. may_heal n keeps r x b (ReadBytes h from len)) may)
+      read_told t (ReadBytes h from len) e may as_told.NotConnected f = Ending (record { base = dropped_base g r.law true b k.base; broken = refl })
+      read_told t (ReadBytes h from len) e may as_told.Failed f = Ending (record { base = k.base; broken = refl })
       read_told t (ReadBytes h from len) e may _ f = absurd (cc f)
-      read_told t (ReadAttrs h) e may told_of.Given f = Going (read_done t (λ x. may_heal n keeps r x b (ReadAttrs h)) may)
-      read_told t (ReadAttrs h) e may told_of.NotConnected f = Ending (record { base = dropped_base g r.law true b k.base; broken = refl })
-      read_told t (ReadAttrs h) e may told_of.Failed f = Ending (record { base = k.base; broken = refl })
+      read_told t (ReadAttrs h) e may as_told.Given f = Going (read_done t (λ x. may_heal n keeps r x b (ReadAttrs h)) may)
+      read_told t (ReadAttrs h) e may as_told.NotConnected f = Ending (record { base = dropped_base g r.law true b k.base; broken = refl })
+      read_told t (ReadAttrs h) e may as_told.Failed f = Ending (record { base = k.base; broken = refl })
       read_told t (ReadAttrs h) e may _ f = absurd (cc f)
-      read_told t (List h) e may told_of.Given f = Going (read_done t (λ x. may_heal n keeps r x b (List h)) may)
-      read_told t (List h) e may told_of.NotConnected f = Ending (record { base = dropped_base g r.law true b k.base; broken = refl })
-      read_told t (List h) e may told_of.Failed f = Ending (record { base = k.base; broken = refl })
+      read_told t (List h) e may as_told.Given f = Going (read_done t (λ x. may_heal n keeps r x b (List h)) may)
+      read_told t (List h) e may as_told.NotConnected f = Ending (record { base = dropped_base g r.law true b k.base; broken = refl })
+      read_told t (List h) e may as_told.Failed f = Ending (record { base = k.base; broken = refl })
       read_told t (List h) e may _ f = absurd (cc f)
       read_told t _ e may told f = absurd (cc e)
 
@@ -153,33 +153,33 @@ module _ (n : ℕ) (keeps : ℕ → Kind → Bool) (few : n ≤ 5) (q : Exact) (
 
     -- its pre-ops
     pub pres_kept : reads_over n keeps r s ≡ true → (b : ℕ) → b < n → turn n keeps r s HealPres b ≡ true → Keeps n keeps pick r s g kind (Ask b (request_in n keeps r s g kind HealPres b))
-    pres_kept o b l t at told_of.Done f =
+    pres_kept o b l t at as_told.Done f =
         Going (onto HealPres (with (asked_in r HealPres) b) (λ x. r.possible x && may_heal n keeps r x b (Pre g kind)) r.reads (with r.law.pre b) (with r.law.raised b) r.law.settled r.law.mended
         refl refl (turn_low n keeps r s HealPres b t) (may_still b (Pre g kind) (may_pre n keeps r s g kind few k o b l t))
         (λ x lx m h. noted_all (both (looks_over n keeps r s) (passed n keeps r s Reads) o).1 x lx m)
         (λ bytes x lx m h. told_before bytes x lx m h (may_heal n keeps r x b (Pre g kind))) (λ x. refl) (λ x. refl))
-    pres_kept o b l t at told_of.NotConnected f = Ending (record { base = dropped_base g r.law true b k.base; broken = refl })
-    pres_kept o b l t at told_of.Failed f = Ending (record { base = k.base; broken = refl })
+    pres_kept o b l t at as_told.NotConnected f = Ending (record { base = dropped_base g r.law true b k.base; broken = refl })
+    pres_kept o b l t at as_told.Failed f = Ending (record { base = k.base; broken = refl })
     pres_kept o b l t at _ f = absurd (cc f)
 
     -- a sink that is asked its cut isn't the source
     pub not_self : kind ≡ Bytes → (b : ℕ) (repair : Repair) → may_heal n keeps r b b (Mend repair) ≡ false
     not_self bytes b repair = go (may_heal n keeps r b b (Mend repair)) refl
       where
-        no_sink : (part : Phase) → mends_at keeps r b Bytes part b ≡ true → ⊥
+        no_sink : (part : HealPart) → mends_at keeps r b Bytes part b ≡ true → ⊥
         no_sink Finish h = cc h
         no_sink Opening h = let d = denied (b == b) (both (holder r.first_views b) (not (b == b)) (both _ (keeps b Bytes) h).0).1 in not_both (b == b) (same_self b) d
         no_sink Piece h = let d = denied (b == b) (both (holder r.first_views b) (not (b == b)) (both _ (keeps b Bytes) h).0).1 in not_both (b == b) (same_self b) d
 
         go : (f : Bool) → may_heal n keeps r b b (Mend repair) ≡ f → may_heal n keeps r b b (Mend repair) ≡ false
-        go true e = absurd (no_sink q.phase (subst (λ (kind : Kind). mends_at keeps r b kind q.phase b ≡ true) bytes (turn_set n keeps r b Mends b (both _ (turn n keeps r b Mends b) e).1)))
+        go true e = absurd (no_sink q.part (subst (λ (kind : Kind). mends_at keeps r b kind q.part b ≡ true) bytes (turn_set n keeps r b Mends b (both _ (turn n keeps r b Mends b) e).1)))
         go false e = e
 
     -- its mends
     pub mends_kept : pres_over n keeps r s ≡ true → (b : ℕ) → b < n → turn n keeps r s Mends b ≡ true → Keeps n keeps pick r s g kind (Ask b (request_in n keeps r s g kind Mends b))
-    mends_kept o b l t at told f = go (repair_in r s g kind q.phase) (may_mends n keeps r s g kind few k o b l t) told f
+    mends_kept o b l t at told f = go (repair_in r s g kind q.part) (may_mends n keeps r s g kind few k o b l t) told f
       where
-        now_told : (repair : Repair) → kind ≡ Bytes → (x : ℕ) → x < n → sink keeps r s x ≡ true → (not (is_opening q.phase) || with (asked_in r Mends) b x) ≡ true → (r.possible x && may_heal n keeps r x b (Mend repair)) ≡ false
+        now_told : (repair : Repair) → kind ≡ Bytes → (x : ℕ) → x < n → sink keeps r s x ≡ true → (not (is_opening q.part) || with (asked_in r Mends) b x) ≡ true → (r.possible x && may_heal n keeps r x b (Mend repair)) ≡ false
         now_told repair bytes x lx m = here (x == b) refl
           where
             both_off : (p t : Bool) → t ≡ false → (p && t) ≡ false
@@ -191,18 +191,18 @@ module _ (n : ℕ) (keeps : ℕ → Kind → Bool) (few : n ≤ 5) (q : Exact) (
             asks false true d h = refl
             asks false false d h = h
 
-            here : (e : Bool) → (x == b) ≡ e → (not (is_opening q.phase) || (if e then true else asked_in r Mends x)) ≡ true → (r.possible x && may_heal n keeps r x b (Mend repair)) ≡ false
+            here : (e : Bool) → (x == b) ≡ e → (not (is_opening q.part) || (if e then true else asked_in r Mends x)) ≡ true → (r.possible x && may_heal n keeps r x b (Mend repair)) ≡ false
             here true e h = let is = eqb-true x b e in both_off (r.possible x) _ (subst (λ (y : ℕ). may_heal n keeps r y b (Mend repair) ≡ false) (sym is) (not_self bytes b repair))
-            here false e h = off (r.possible x) _ (k.told bytes x lx m (asks (not (is_opening q.phase)) (nat_lt 10 (rank q.step)) (asked_in r Mends x) h))
+            here false e h = off (r.possible x) _ (k.told bytes x lx m (asks (not (is_opening q.part)) (nat_lt 10 (rank q.step)) (asked_in r Mends x) h))
 
         go : (repair : Repair) → may_heal n keeps r s b (Mend repair) ≡ true → (told : Told) → fits (Mend repair) told ≡ true
             → Standing n keeps (asked_for n keeps r at b (Mend repair) told) (source_after n keeps pick (asked_for n keeps r at b (Mend repair) told) s) g kind
-        go repair may told_of.Done f =
+        go repair may as_told.Done f =
             Going (onto Mends (with (asked_in r Mends) b) (λ x. r.possible x && may_heal n keeps r x b (Mend repair)) r.reads r.law.pre r.law.raised r.law.settled (weak.mend_cells r.law.mended r.law.number b repair)
             refl refl (turn_low n keeps r s Mends b t) (may_still b (Mend repair) may)
             (λ x lx m h. noted_all (reads_passed n keeps r s g kind few k o) x lx m) (now_told repair) (λ x. refl) (λ x. refl))
-        go repair may told_of.NotConnected f = Ending (record { base = dropped_base g r.law true b k.base; broken = refl })
-        go repair may told_of.Failed f = Ending (record { base = k.base; broken = refl })
+        go repair may as_told.NotConnected f = Ending (record { base = dropped_base g r.law true b k.base; broken = refl })
+        go repair may as_told.Failed f = Ending (record { base = k.base; broken = refl })
         go repair may _ f = absurd (cc f)
 
     -- the pre-ops are over before the settling
@@ -215,11 +215,11 @@ module _ (n : ℕ) (keeps : ℕ → Kind → Bool) (few : n ≤ 5) (q : Exact) (
       where
         go : (less : Marks) → may_heal n keeps r s b (Settle g kind less) ≡ true → (told : Told) → fits (Settle g kind less) told ≡ true
             → Standing n keeps (asked_for n keeps r at b (Settle g kind less) told) (source_after n keeps pick (asked_for n keeps r at b (Settle g kind less) told) s) g kind
-        go less may told_of.Done f =
+        go less may as_told.Done f =
             Going (onto Settles (with (asked_in r Settles) b) (λ x. r.possible x && may_heal n keeps r x b (Settle g kind less)) r.reads r.law.pre r.law.raised (with r.law.settled b) r.law.mended
             refl refl (turn_low n keeps r s Settles b t) (may_still b (Settle g kind less) may)
             (λ x lx m h. noted_all (reads_passed n keeps r s g kind few k (pres_of o)) x lx m)
             (λ bytes x lx m h. off (r.possible x) _ (told_all (both (pres_over n keeps r s) (passed n keeps r s Mends) o).1 bytes x lx m)) (λ x. refl) (λ x. refl))
-        go less may told_of.NotConnected f = Ending (record { base = dropped_base g r.law true b k.base; broken = refl })
-        go less may told_of.Failed f = Ending (record { base = k.base; broken = refl })
+        go less may as_told.NotConnected f = Ending (record { base = dropped_base g r.law true b k.base; broken = refl })
+        go less may as_told.Failed f = Ending (record { base = k.base; broken = refl })
         go less may _ f = absurd (cc f)

@@ -13,11 +13,11 @@ use Rattle.afr_heal.proofs.StagesWalk.{look_elim}
 use Rattle.afr_heal.specs.Engine.{Ask}
 use Rattle.afr_heal.specs.Laws.{Keeps}
 use Rattle.afr_heal.specs.Standing.{AfterLooks, AtViews, Base, Ending, Going, OfKind, Standing, Viewing}
-use Rattle.afr_lines.specs.declared.answer.Told.TheVariants as told_of
+use Rattle.afr_lines.specs.declared.answer.Told.TheVariants as as_told
 use Rattle.afr_lines.specs.declared.request.Area.{Area}
 use Rattle.afr_lines.specs.declared.request.Request.TheVariants.{Look}
 use Rattle.afr_moves.specs.Note.{put, stops_at}
-use Rattle.afr_moves.specs.Register.{Exact, Finish, Looks, Opening, Phase, Piece, good, holder, is_opening, over, unaccused}
+use Rattle.afr_moves.specs.Register.{Exact, Finish, HealPart, Looks, Opening, Piece, good, holder, is_opening, over, unaccused}
 use Rattle.afr_moves.specs.Rules as weak
 use Rattle.afr_moves.specs.Rules.{Register}
 use Rattle.afr_moves.specs.Sets.{any, with}
@@ -26,12 +26,12 @@ use Rattle.afr_object.specs.declared.entry.View.{View}
 use Rattle.afr_moves.proofs.Tests.{some_yes}
 
 -- a later part looks at the bricks of the first looks
-pub looks_there : (r : Exact) (part : Phase) → is_opening part ≡ false → looks_at r part ≡ r.first_reached
+pub looks_there : (r : Exact) (part : HealPart) → is_opening part ≡ false → looks_at r part ≡ r.first_reached
 looks_there r Opening h = absurd (cc h)
 looks_there r Piece h = refl
 looks_there r Finish h = refl
 
-module _ (n : ℕ) (keeps : ℕ → Kind → Bool) (q : Exact) (part : Phase) (later : is_opening part ≡ false) (s : ℕ) (g : Gfid) (kind : Kind) (area : Area) (k : AtViews n keeps (shape q Looks part g kind (Some area)) s g kind) (b : ℕ) (t : turn n keeps (shape q Looks part g kind (Some area)) s Looks b ≡ true) where
+module _ (n : ℕ) (keeps : ℕ → Kind → Bool) (q : Exact) (part : HealPart) (later : is_opening part ≡ false) (s : ℕ) (g : Gfid) (kind : Kind) (area : Area) (k : AtViews n keeps (shape q Looks part g kind (Some area)) s g kind) (b : ℕ) (t : turn n keeps (shape q Looks part g kind (Some area)) s Looks b ≡ true) where
   abbrev r : Exact
   r = shape q Looks part g kind (Some area)
 
@@ -131,21 +131,21 @@ module _ (n : ℕ) (keeps : ℕ → Kind → Bool) (q : Exact) (part : Phase) (l
 
 module _ (n : ℕ) (keeps : ℕ → Kind → Bool) (pick : (ℕ → Bool) → ℕ) (q : Exact) (s : ℕ) (g : Gfid) (kind : Kind) (area : Area) where
   piece_told : (k : AtViews n keeps (shape q Looks Piece g kind (Some area)) s g kind) (b : ℕ) (t : turn n keeps (shape q Looks Piece g kind (Some area)) s Looks b ≡ true) → Keeps n keeps pick (shape q Looks Piece g kind (Some area)) s g kind (Ask b (Look g))
-  piece_told k b t at (told_of.Seen view) f = seen_there n keeps q Piece refl s g kind area k b t view
-  piece_told k b t at told_of.NoObject f = none_there n keeps q Piece refl s g kind area k b t
-  piece_told k b t at told_of.Failed f = Ending (record { base = base_there n keeps q Piece refl s g kind area k b t; broken = refl })
-  piece_told k b t at told_of.NotConnected f = Ending (record { base = dropped_base g (shape q Looks Piece g kind (Some area)).law true b (base_there n keeps q Piece refl s g kind area k b t); broken = refl })
+  piece_told k b t at (as_told.Seen view) f = seen_there n keeps q Piece refl s g kind area k b t view
+  piece_told k b t at as_told.NoObject f = none_there n keeps q Piece refl s g kind area k b t
+  piece_told k b t at as_told.Failed f = Ending (record { base = base_there n keeps q Piece refl s g kind area k b t; broken = refl })
+  piece_told k b t at as_told.NotConnected f = Ending (record { base = dropped_base g (shape q Looks Piece g kind (Some area)).law true b (base_there n keeps q Piece refl s g kind area k b t); broken = refl })
   piece_told k b t at _ f = absurd (cc f)
 
   finish_told : (k : AtViews n keeps (shape q Looks Finish g kind (Some area)) s g kind) (b : ℕ) (t : turn n keeps (shape q Looks Finish g kind (Some area)) s Looks b ≡ true) → Keeps n keeps pick (shape q Looks Finish g kind (Some area)) s g kind (Ask b (Look g))
-  finish_told k b t at (told_of.Seen view) f = seen_there n keeps q Finish refl s g kind area k b t view
-  finish_told k b t at told_of.NoObject f = none_there n keeps q Finish refl s g kind area k b t
-  finish_told k b t at told_of.Failed f = Ending (record { base = base_there n keeps q Finish refl s g kind area k b t; broken = refl })
-  finish_told k b t at told_of.NotConnected f = Ending (record { base = dropped_base g (shape q Looks Finish g kind (Some area)).law true b (base_there n keeps q Finish refl s g kind area k b t); broken = refl })
+  finish_told k b t at (as_told.Seen view) f = seen_there n keeps q Finish refl s g kind area k b t view
+  finish_told k b t at as_told.NoObject f = none_there n keeps q Finish refl s g kind area k b t
+  finish_told k b t at as_told.Failed f = Ending (record { base = base_there n keeps q Finish refl s g kind area k b t; broken = refl })
+  finish_told k b t at as_told.NotConnected f = Ending (record { base = dropped_base g (shape q Looks Finish g kind (Some area)).law true b (base_there n keeps q Finish refl s g kind area k b t); broken = refl })
   finish_told k b t at _ f = absurd (cc f)
 
   -- the looks of a later part
-  pub views_kept : (part : Phase) → is_opening part ≡ false → AtViews n keeps (shape q Looks part g kind (Some area)) s g kind → KeepsAt n keeps pick (shape q Looks part g kind (Some area)) s g kind
+  pub views_kept : (part : HealPart) → is_opening part ≡ false → AtViews n keeps (shape q Looks part g kind (Some area)) s g kind → KeepsAt n keeps pick (shape q Looks part g kind (Some area)) s g kind
   views_kept Opening later k = absurd (cc later)
   views_kept Piece later k = look_elim n keeps (shape q Looks Piece g kind (Some area)) s g kind (Keeps n keeps pick (shape q Looks Piece g kind (Some area)) s g kind) refl refl k.more (λ b l t. piece_told k b t)
   views_kept Finish later k = look_elim n keeps (shape q Looks Finish g kind (Some area)) s g kind (Keeps n keeps pick (shape q Looks Finish g kind (Some area)) s g kind) refl refl k.more (λ b l t. finish_told k b t)

@@ -21,7 +21,7 @@ use Rattle.afr_moves.specs.Rules.{busy, is_area}
 use Rattle.afr_moves.specs.Sets.{empty, with}
 use Rattle.afr_moves.specs.Steps.{locks_at, may_heal, turn}
 use Rattle.afr_lines.specs.declared.lock.Domain.TheVariants.{Work}
-use Rattle.afr_lines.specs.declared.answer.Told.TheVariants as told_of
+use Rattle.afr_lines.specs.declared.answer.Told.TheVariants as as_told
 use Rattle.afr_moves.specs.Rules as weak
 use Rattle.afr_moves.proofs.AreaLemmas.{same_area_self}
 
@@ -58,10 +58,10 @@ module _ (n : ℕ) (keeps : ℕ → Kind → Bool) (pick : (ℕ → Bool) → �
     work_gone w false e = absurd (cc e)
 
     work_told : (told : Told) → fits (Lock Work here) told ≡ true → Standing n keeps (asked_for n keeps r at b (Lock Work here) told) (source_after n keeps pick (asked_for n keeps r at b (Lock Work here) told) s) g kind
-    work_told told_of.Granted f = work_granted (busy n r.law) (is_area (Some here) here) (same_area_self here)
-    work_told (told_of.Held owner) f = work_refused (busy n r.law) (is_area (Some here) here) q.asked (same_area_self here)
-    work_told told_of.Failed f = work_refused (busy n r.law) (is_area (Some here) here) (with q.asked b) (same_area_self here)
-    work_told told_of.NotConnected f = work_gone (busy n r.law) (is_area (Some here) here) (same_area_self here)
+    work_told as_told.Granted f = work_granted (busy n r.law) (is_area (Some here) here) (same_area_self here)
+    work_told (as_told.Held owner) f = work_refused (busy n r.law) (is_area (Some here) here) q.asked (same_area_self here)
+    work_told as_told.Failed f = work_refused (busy n r.law) (is_area (Some here) here) (with q.asked b) (same_area_self here)
+    work_told as_told.NotConnected f = work_gone (busy n r.law) (is_area (Some here) here) (same_area_self here)
     work_told _ f = absurd (cc f)
 
   work_begins : over n (locks_at r Opening) r.asked ≡ true → Keeps n keeps pick r s g kind Begins

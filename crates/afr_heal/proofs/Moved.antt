@@ -18,9 +18,9 @@ use Rattle.afr_heal.proofs.Kept.{heal_stands}
 use Rattle.afr_heal.proofs.NamedLemmas.{stays_named}
 use Rattle.afr_heal.proofs.Parts.{both}
 use Rattle.afr_heal.proofs.StagesForms.{shape}
-use Rattle.afr_heal.specs.Answers.{Picks, asked_for, begun_at, fits, in_range}
+use Rattle.afr_heal.specs.Answers.{PicksOne, asked_for, begun_at, fits, in_range}
 use Rattle.afr_heal.specs.Carried.{AsksOf, BeginsOf, Heals, IsNamed, MovesOf, next_by, source_by}
-use Rattle.afr_heal.specs.Engine.{Ask, Begins, Ends, Next, next_of}
+use Rattle.afr_heal.specs.Engine.{Ask, Begins, Ends, NextOfHeal, next_of}
 use Rattle.afr_heal.specs.Laws.{Keeps, allows_next, asks_well}
 use Rattle.afr_heal.specs.Moves.{HealsAllowed, HealsBegun, HealsKept, HealsMove, HealsNew}
 use Rattle.afr_heal.specs.Standing.{First, Standing}
@@ -31,10 +31,10 @@ use Rattle.afr_moves.specs.Register.{Exact, len_of}
 use Rattle.afr_discipline.specs.declared.register.Move.TheVariants as move
 
 -- ---- the program's register
-keeps_next : (n : ℕ) (keeps : ℕ → Kind → Bool) (pick : (ℕ → Bool) → ℕ) (r : Exact) (s : ℕ) (g : Gfid) (kind : Kind) (next : Next) → next_of n keeps r s g kind ≡ next → Keeps n keeps pick r s g kind (next_of n keeps r s g kind) → Keeps n keeps pick r s g kind next
-keeps_next n keeps pick r s g kind next e h = subst (λ (next : Next). Keeps n keeps pick r s g kind next) e h
+keeps_next : (n : ℕ) (keeps : ℕ → Kind → Bool) (pick : (ℕ → Bool) → ℕ) (r : Exact) (s : ℕ) (g : Gfid) (kind : Kind) (next : NextOfHeal) → next_of n keeps r s g kind ≡ next → Keeps n keeps pick r s g kind (next_of n keeps r s g kind) → Keeps n keeps pick r s g kind next
+keeps_next n keeps pick r s g kind next e h = subst (λ (next : NextOfHeal). Keeps n keeps pick r s g kind next) e h
 
-module _ (notes : NotesStand) (shapes : ShapesKept) (pick : (ℕ → Bool) → ℕ) (p : Register) (s : ℕ) (g : Gfid) (kind : Kind) (picks : Picks p.shape.n pick) (k : Heals p s g kind) where
+module _ (notes : NotesStand) (shapes : ShapesKept) (pick : (ℕ → Bool) → ℕ) (p : Register) (s : ℕ) (g : Gfid) (kind : Kind) (picks : PicksOne p.shape.n pick) (k : Heals p s g kind) where
   after_ask : (step : Move) (told : Told) (t b : ℕ) (request : Request) → AsksOf step b request → next_by p s g kind ≡ Ask b request → b < 5 → fits request told ≡ true → in_range told ≡ true → HasFive (noted p step told t)
       → Heals (noted p step told t) (source_by pick p (noted p step told t) t b request told s) g kind
   after_ask (move.Ask brick ref) told t b request w next small f range five = record {
@@ -111,7 +111,7 @@ heals_begun notes shapes pick p s g kind picks k step told t w next five = after
 pub heals_kept : NotesStand → ShapesKept → HealsKept
 heals_kept notes shapes pick p s g kind picks k step told t b request w next f range five =
     let allowed = heal_next_allowed p.shape.n (keeps_in p.shape) (seen_as p) s g kind k.some k.few k.standing in
-    let asks : asks_well p.shape.n (keeps_in p.shape) (seen_as p) b request ≡ true = subst (λ (next : Next). allows_next p.shape.n (keeps_in p.shape) (seen_as p) g kind next ≡ true) next allowed in
+    let asks : asks_well p.shape.n (keeps_in p.shape) (seen_as p) b request ≡ true = subst (λ (next : NextOfHeal). allows_next p.shape.n (keeps_in p.shape) (seen_as p) g kind next ≡ true) next allowed in
     let low = (both (nat_lt b p.shape.n) _ asks).0 in
     let few = k.few in
     after_ask notes shapes pick p s g kind picks k step told t b request w next (small b p.shape.n low few) f range five
@@ -150,7 +150,7 @@ module _ (p : Register) (g : Gfid) (kind : Kind) where
   heal_move true test other h = h
   heal_move false test other h = absurd (cc h)
 
-  may_next : (next : Next) (step : Move) → allows_next p.shape.n (keeps_in p.shape) (seen_as p) g kind next ≡ true → MovesOf g kind next step → may_move p.shape.n (keeps_in p.shape) (seen_as p) step ≡ true
+  may_next : (next : NextOfHeal) (step : Move) → allows_next p.shape.n (keeps_in p.shape) (seen_as p) g kind next ≡ true → MovesOf g kind next step → may_move p.shape.n (keeps_in p.shape) (seen_as p) step ≡ true
   may_next (Ask b request) (move.Ask brick ref) h w =
       asks_move p.inside (may_ask_inside p.shape.n (keeps_in p.shape) (seen_as p) brick.0 ref.now) (may_ask_outside p.shape.n (keeps_in p.shape) (seen_as p) brick.0 ref.now) (nat_lt brick.0 p.shape.n)
       (subst (λ (c : ℕ). asks_well p.shape.n (keeps_in p.shape) (seen_as p) c ref.now ≡ true) (sym w.0) (subst (λ (request : Request). asks_well p.shape.n (keeps_in p.shape) (seen_as p) b request ≡ true) (sym w.1) h))

@@ -8,7 +8,7 @@ use Rattle.afr_heal.proofs.StagesForms.{granting_by, locking_by}
 use Rattle.afr_heal.proofs.StagesWalk.{after_elim, broken_elim, first_elim, heal_elim, lock_elim, look_elim, looks_later}
 use Rattle.afr_heal.specs.Answers.{asked_for, fits, in_range}
 use Rattle.afr_heal.specs.Carried.{IsNamed}
-use Rattle.afr_heal.specs.Engine.{Ask, Next, has_part, lock_next, next_of}
+use Rattle.afr_heal.specs.Engine.{Ask, NextOfHeal, has_part, lock_next, next_of}
 use Rattle.afr_heal.specs.Moves.{StaysNamed}
 use Rattle.afr_heal.specs.Requests.{area_or, next_area, read_in}
 use Rattle.afr_heal.specs.Standing.{Ending, First, Going, Healing, Looking, Parting, Standing, Viewing, Working}
@@ -22,7 +22,7 @@ use Rattle.afr_moves.specs.Register.{Exact, area_kind, is_opening, len_of, piece
 use Rattle.afr_moves.specs.Rules.{Register as LawRegister, busy, heal_area, is_area}
 use Rattle.afr_object.specs.declared.entry.View.{View}
 use Rattle.afr_lines.specs.declared.lock.Domain.TheVariants.{Heal, Work}
-use Rattle.afr_lines.specs.declared.answer.Told.TheVariants as told_of
+use Rattle.afr_lines.specs.declared.answer.Told.TheVariants as as_told
 use Rattle.afr_moves.specs.Rules as weak
 
 -- ---- the kind of the area
@@ -44,7 +44,7 @@ piece_kind g upto len h false e = refl
 
 module _ (n : ℕ) (keeps : ℕ → Kind → Bool) (r : Exact) (s : ℕ) (g : Gfid) (kind : Kind) (named : IsNamed kind r) where
   -- a Work lock is of the heal's kind
-  abbrev LocksKind : Next → Type 0
+  abbrev LocksKind : NextOfHeal → Type 0
   LocksKind next = (b : ℕ) (a : Area) → next ≡ Ask b (Lock Work a) → kind ≡ area_kind a
 
   now_lock : (c : ℕ) → LocksKind (Ask c (Lock Work (area_or r.law.area (whole_area g.0 kind))))
@@ -66,12 +66,12 @@ module _ (n : ℕ) (keeps : ℕ → Kind → Bool) (r : Exact) (s : ℕ) (g : Gf
       reads Attrs c b a e = absurd (cc e)
       reads Names c b a e = absurd (cc e)
 
-      bytes_is : (kind : Kind) → has_part kind r.phase ≡ true → kind ≡ Bytes
+      bytes_is : (kind : Kind) → has_part kind r.part ≡ true → kind ≡ Bytes
       bytes_is Bytes h = refl
       bytes_is Attrs h = absurd (cc h)
       bytes_is Names h = absurd (cc h)
 
-      part : has_part kind r.phase ≡ true → (c : ℕ) → LocksKind (Ask c (lock_next r s g c))
+      part : has_part kind r.part ≡ true → (c : ℕ) → LocksKind (Ask c (lock_next r s g c))
       part p c b a e =
           let is : next_area r s g ≡ a = cc e in
           bytes_is kind p ∙ piece_kind g.0 r.upto (len_of (r.first_views s)) (named.short s) (nat_lt r.upto (len_of (r.first_views s))) refl ∙ ap area_kind is
@@ -118,37 +118,37 @@ module _ (n : ℕ) (kind : Kind) (law : LawRegister) (b : ℕ) (named : (a : Are
   looking_kind false p q h k = k
 
   asked_kind : (request : Request) (told : Told) → fits request told ≡ true → ((a : Area) → request ≡ Lock Work a → kind ≡ area_kind a) → KindOf (weak.note_ask n law b request told)
-  asked_kind (Lock Work area) told_of.Granted f lock = granted_kind area (lock area refl) (busy n law) (is_area law.area area)
-  asked_kind (Lock Work area) (told_of.Held owner) f lock = locked_kind area (lock area refl) (busy n law) (is_area law.area area)
-  asked_kind (Lock Work area) told_of.Failed f lock = locked_kind area (lock area refl) (busy n law) (is_area law.area area)
-  asked_kind (Lock Work area) told_of.NotConnected f lock = locked_kind area (lock area refl) (busy n law) (is_area law.area area)
+  asked_kind (Lock Work area) as_told.Granted f lock = granted_kind area (lock area refl) (busy n law) (is_area law.area area)
+  asked_kind (Lock Work area) (as_told.Held owner) f lock = locked_kind area (lock area refl) (busy n law) (is_area law.area area)
+  asked_kind (Lock Work area) as_told.Failed f lock = locked_kind area (lock area refl) (busy n law) (is_area law.area area)
+  asked_kind (Lock Work area) as_told.NotConnected f lock = locked_kind area (lock area refl) (busy n law) (is_area law.area area)
   asked_kind (Lock Work area) _ f lock = absurd (cc f)
-  asked_kind (Lock Heal area) told_of.Granted f lock = named
+  asked_kind (Lock Heal area) as_told.Granted f lock = named
   asked_kind (Lock Heal area) _ f lock = named
-  asked_kind (Unlock Work area) told_of.Done f lock = released_kind (is_area law.area area) _ _ _
-  asked_kind (Unlock Work area) told_of.Failed f lock = unlocked_kind (is_area law.area area) _
-  asked_kind (Unlock Work area) told_of.NotConnected f lock = unlocked_kind (is_area law.area area) _
+  asked_kind (Unlock Work area) as_told.Done f lock = released_kind (is_area law.area area) _ _ _
+  asked_kind (Unlock Work area) as_told.Failed f lock = unlocked_kind (is_area law.area area) _
+  asked_kind (Unlock Work area) as_told.NotConnected f lock = unlocked_kind (is_area law.area area) _
   asked_kind (Unlock Work area) _ f lock = absurd (cc f)
-  asked_kind (Unlock Heal area) told_of.Done f lock = named
+  asked_kind (Unlock Heal area) as_told.Done f lock = named
   asked_kind (Unlock Heal area) _ f lock = named
-  asked_kind (Look h) (told_of.Seen view) f lock =
+  asked_kind (Look h) (as_told.Seen view) f lock =
       looking_kind law.heal (weak.viewed law b h.0 view) (weak.looked law b)
       (viewed_kind (not (law.number == 0) && law.seen b && not (law.closed b) && (h.0 == law.object) && law.healing b && not (law.settled b)) _ _) (seen_kind ((law.number == 0) && law.held b) _)
-  asked_kind (Look h) told_of.NoObject f lock = named
-  asked_kind (Look h) told_of.Failed f lock = named
-  asked_kind (Look h) told_of.NotConnected f lock = named
+  asked_kind (Look h) as_told.NoObject f lock = named
+  asked_kind (Look h) as_told.Failed f lock = named
+  asked_kind (Look h) as_told.NotConnected f lock = named
   asked_kind (Look h) _ f lock = absurd (cc f)
-  asked_kind (Pre h what) told_of.Done f lock = named
+  asked_kind (Pre h what) as_told.Done f lock = named
   asked_kind (Pre h what) _ f lock = named
-  asked_kind (Mend repair) told_of.Done f lock = named
+  asked_kind (Mend repair) as_told.Done f lock = named
   asked_kind (Mend repair) _ f lock = named
-  asked_kind (Settle h what less) told_of.Done f lock = named
+  asked_kind (Settle h what less) as_told.Done f lock = named
   asked_kind (Settle h what less) _ f lock = named
   asked_kind (ReadBytes h at len) told f lock = named
   asked_kind (ReadAttrs h) told f lock = named
   asked_kind (List h) told f lock = named
-  asked_kind _ told_of.Failed f lock = named
-  asked_kind _ told_of.NotConnected f lock = named
+  asked_kind _ as_told.Failed f lock = named
+  asked_kind _ as_told.NotConnected f lock = named
   asked_kind _ _ f lock = absurd (cc f)
 
 -- what it leaves of the first views
@@ -160,7 +160,7 @@ module _ (n : ℕ) (keeps : ℕ → Kind → Bool) (q : Exact) (t b : ℕ) (shor
   outside = record q { law = record q.law { heal = false } }
 
   shown_short : (told : Told) → in_range told ≡ true → nat_lt (len_of (view_of told)) (2 ^ 63) ≡ true
-  shown_short (told_of.Seen view) h = word view.len h
+  shown_short (as_told.Seen view) h = word view.len h
     where
       word : (len : ℕ) → nat_lt len (2 ^ 32) ≡ true → nat_lt len (2 ^ 63) ≡ true
       word len h = grind (arith, nat_tests, h)
@@ -175,7 +175,7 @@ module _ (n : ℕ) (keeps : ℕ → Kind → Bool) (q : Exact) (t b : ℕ) (shor
       here false = short x
 
   asked_short : (request : Request) (told : Told) → in_range told ≡ true → (x : ℕ) → nat_lt (len_of ((asked_for n keeps inside t b request told).first_views x)) (2 ^ 63) ≡ true
-  asked_short (Look g) told h x = put_short (is_opening q.phase) told h x
+  asked_short (Look g) told h x = put_short (is_opening q.part) told h x
   asked_short (Lock Heal area) told h x = short x
   asked_short (Lock Work area) told h x = short x
   asked_short (Unlock Heal area) told h x = short x
@@ -204,7 +204,7 @@ stays_named n keeps r s g kind some few standing named t b request told next f r
 
     shorts : Standing n keeps r s g kind → (x : ℕ) → nat_lt (len_of ((asked_for n keeps r t b request told).first_views x)) (2 ^ 63) ≡ true
     shorts (First k) x =
-        let is : Ask b request ≡ Ask 0 (Lock Heal (heal_area g.0)) = first_elim n keeps r s g kind k (λ (next : Next). next ≡ Ask b request → Ask b request ≡ Ask 0 (Lock Heal (heal_area g.0))) (λ e. sym e) next in
+        let is : Ask b request ≡ Ask 0 (Lock Heal (heal_area g.0)) = first_elim n keeps r s g kind k (λ (next : NextOfHeal). next ≡ Ask b request → Ask b request ≡ Ask 0 (Lock Heal (heal_area g.0))) (λ e. sym e) next in
         let what : request ≡ Lock Heal (heal_area g.0) = cc is in
         subst (λ (request : Request). nat_lt (len_of ((asked_for n keeps r t b request told).first_views x)) (2 ^ 63) ≡ true) (sym what)
         (subst (λ (r : Exact). nat_lt (len_of ((asked_for n keeps r t b (Lock Heal (heal_area g.0)) told).first_views x)) (2 ^ 63) ≡ true) (sym (outside_is k.outside)) (outside_short n keeps r t b named.short (heal_area g.0) told x))

@@ -19,7 +19,7 @@ use Rattle.afr_lines.specs.declared.answer.Told.{Told}
 use Rattle.afr_lines.specs.declared.request.Area.{Area}
 use Rattle.afr_lines.specs.declared.request.Request.{Request}
 use Rattle.afr_lines.specs.declared.request.Request.TheVariants.{List, Lock, Look, Mend, Pre, ReadAttrs, ReadBytes, Settle, Unlock}
-use Rattle.afr_moves.specs.Register.{Exact, Finish, HealLocks, HealPres, HealUnlocks, Looks, Mends, Opening, Phase, Piece, Reads, Settles, Step, Unlocks, WorkLocks, is_opening, is_piece, len_of, piece_area, rank, same_step, span, whole_area}
+use Rattle.afr_moves.specs.Register.{Exact, Finish, HealLocks, HealPart, HealPres, HealUnlocks, Looks, Mends, Opening, Piece, Reads, Settles, Step, Unlocks, WorkLocks, is_opening, is_piece, len_of, piece_area, rank, same_step, span, whole_area}
 use Rattle.afr_moves.specs.Rules.{heal_area}
 use Rattle.afr_moves.specs.Steps.{turn}
 use Rattle.afr_moves.proofs.AreaLemmas.{same_area_self}
@@ -59,7 +59,7 @@ module _ (n : ℕ) (keeps : ℕ → Kind → Bool) (pick : (ℕ → Bool) → �
   step_for request = Reads
 
   -- a later step of the same part
-  onward : (part : Phase) (upto len : ℕ) (old new : Step) → (nat_lt (rank new) 12 ≡ true → nat_lt (rank old) 12 ≡ true) → Spare part upto old len → Spare part upto new len
+  onward : (part : HealPart) (upto len : ℕ) (old new : Step) → (nat_lt (rank new) 12 ≡ true → nat_lt (rank old) 12 ≡ true) → Spare part upto old len → Spare part upto new len
   onward part upto len old new order k = record {
     zero_first = k.zero_first;
     low = k.low;
@@ -72,20 +72,20 @@ module _ (n : ℕ) (keeps : ℕ → Kind → Bool) (pick : (ℕ → Bool) → �
 
     -- after a look of the opening any copy may be the source
     looked : (g : Gfid) (told : Told) → (nat_lt 7 12 ≡ true → nat_lt (rank q.step) 12 ≡ true) → After (inside q) s t b (Look g) told
-    looked g told order = go q.phase refl
+    looked g told order = go q.part refl
       where
-        placed : (part : Phase) → q.phase ≡ part → q ≡ record q { phase = part }
-        placed part e = λ i. record q { phase = e i }
+        placed : (part : HealPart) → q.part ≡ part → q ≡ record q { part = part }
+        placed part e = λ i. record q { part = e i }
 
-        go : (part : Phase) → q.phase ≡ part → After (inside q) s t b (Look g) told
+        go : (part : HealPart) → q.part ≡ part → After (inside q) s t b (Look g) told
         go Opening e =
             let none : q.upto ≡ 0 = k.zero_first (rw e refl) in
             subst (λ (q : Exact). After (inside q) s t b (Look g) told) (sym (placed Opening e)) (record { zero_first = λ h. none; low = zero_low q.upto _ none; piece = λ h. absurd (cc h) })
-        go Piece e = subst (λ (q : Exact). After (inside q) s t b (Look g) told) (sym (placed Piece e)) (onward Piece q.upto (len_of (q.first_views s)) q.step Looks order (subst (λ (part : Phase). Spare part q.upto q.step (len_of (q.first_views s))) e k))
-        go Finish e = subst (λ (q : Exact). After (inside q) s t b (Look g) told) (sym (placed Finish e)) (onward Finish q.upto (len_of (q.first_views s)) q.step Looks order (subst (λ (part : Phase). Spare part q.upto q.step (len_of (q.first_views s))) e k))
+        go Piece e = subst (λ (q : Exact). After (inside q) s t b (Look g) told) (sym (placed Piece e)) (onward Piece q.upto (len_of (q.first_views s)) q.step Looks order (subst (λ (part : HealPart). Spare part q.upto q.step (len_of (q.first_views s))) e k))
+        go Finish e = subst (λ (q : Exact). After (inside q) s t b (Look g) told) (sym (placed Finish e)) (onward Finish q.upto (len_of (q.first_views s)) q.step Looks order (subst (λ (part : HealPart). Spare part q.upto q.step (len_of (q.first_views s))) e k))
 
     released : (area : Area) (told : Told) → After (inside q) s t b (Unlock Work area) told
-    released area told = by (is_piece q.phase && nat_lt (rank q.step) 12) refl
+    released area told = by (is_piece q.part && nat_lt (rank q.step) 12) refl
       where
         more : (upto len : ℕ) → nat_lt upto len ≡ true → nat_lt (upto + span) (len + span) ≡ true
         more upto len h = grind (arith, nat_tests, h)
@@ -94,27 +94,27 @@ module _ (n : ℕ) (keeps : ℕ → Kind → Bool) (pick : (ℕ → Bool) → �
         no_both true h = cc h
         no_both false h = cc h
 
-        no_piece : (part : Phase) → is_opening part ≡ true → is_piece part ≡ true → ⊥
+        no_piece : (part : HealPart) → is_opening part ≡ true → is_piece part ≡ true → ⊥
         no_piece Opening a b = cc b
         no_piece Piece a b = cc a
         no_piece Finish a b = cc a
 
-        by : (f : Bool) → (is_piece q.phase && nat_lt (rank q.step) 12) ≡ f → Spare q.phase (if is_piece q.phase && nat_lt (rank q.step) 12 then q.upto + span else q.upto) Unlocks (len_of (q.first_views s))
-        by true e = rw e (record { zero_first = λ h. absurd (no_piece q.phase h (both (is_piece q.phase) _ e).0); low = more q.upto (len_of (q.first_views s)) (k.piece e); piece = λ h. absurd (no_both (is_piece q.phase) h) })
-        by false e = rw e (record { zero_first = k.zero_first; low = k.low; piece = λ h. absurd (no_both (is_piece q.phase) h) })
+        by : (f : Bool) → (is_piece q.part && nat_lt (rank q.step) 12) ≡ f → Spare q.part (if is_piece q.part && nat_lt (rank q.step) 12 then q.upto + span else q.upto) Unlocks (len_of (q.first_views s))
+        by true e = rw e (record { zero_first = λ h. absurd (no_piece q.part h (both (is_piece q.part) _ e).0); low = more q.upto (len_of (q.first_views s)) (k.piece e); piece = λ h. absurd (no_both (is_piece q.part) h) })
+        by false e = rw e (record { zero_first = k.zero_first; low = k.low; piece = λ h. absurd (no_both (is_piece q.part) h) })
 
     locked : (area : Area) (told : Told) → same_step q.step Unlocks ≡ false → (nat_lt 6 12 ≡ true → nat_lt (rank q.step) 12 ≡ true) → After (inside q) s t b (Lock Work area) told
-    locked area told other order = rw other (onward q.phase q.upto (len_of (q.first_views s)) q.step WorkLocks order k)
+    locked area told other order = rw other (onward q.part q.upto (len_of (q.first_views s)) q.step WorkLocks order k)
 
     plain : (request : Request) (told : Told) → (nat_lt (rank (step_for request)) 12 ≡ true → nat_lt (rank q.step) 12 ≡ true) → is_plain request ≡ true → After (inside q) s t b request told
-    plain (Lock Heal area) told order e = onward q.phase q.upto (len_of (q.first_views s)) q.step HealLocks order k
-    plain (ReadBytes g at len) told order e = onward q.phase q.upto (len_of (q.first_views s)) q.step Reads order k
-    plain (ReadAttrs g) told order e = onward q.phase q.upto (len_of (q.first_views s)) q.step Reads order k
-    plain (List g) told order e = onward q.phase q.upto (len_of (q.first_views s)) q.step Reads order k
-    plain (Pre g kind) told order e = onward q.phase q.upto (len_of (q.first_views s)) q.step HealPres order k
-    plain (Mend repair) told order e = onward q.phase q.upto (len_of (q.first_views s)) q.step Mends order k
-    plain (Settle g kind less) told order e = onward q.phase q.upto (len_of (q.first_views s)) q.step Settles order k
-    plain (Unlock Heal area) told order e = onward q.phase q.upto (len_of (q.first_views s)) q.step HealUnlocks order k
+    plain (Lock Heal area) told order e = onward q.part q.upto (len_of (q.first_views s)) q.step HealLocks order k
+    plain (ReadBytes g at len) told order e = onward q.part q.upto (len_of (q.first_views s)) q.step Reads order k
+    plain (ReadAttrs g) told order e = onward q.part q.upto (len_of (q.first_views s)) q.step Reads order k
+    plain (List g) told order e = onward q.part q.upto (len_of (q.first_views s)) q.step Reads order k
+    plain (Pre g kind) told order e = onward q.part q.upto (len_of (q.first_views s)) q.step HealPres order k
+    plain (Mend repair) told order e = onward q.part q.upto (len_of (q.first_views s)) q.step Mends order k
+    plain (Settle g kind less) told order e = onward q.part q.upto (len_of (q.first_views s)) q.step Settles order k
+    plain (Unlock Heal area) told order e = onward q.part q.upto (len_of (q.first_views s)) q.step HealUnlocks order k
     plain _ told order e = absurd (cc e)
 
     -- the first Work lock of the next part
@@ -122,7 +122,7 @@ module _ (n : ℕ) (keeps : ℕ → Kind → Bool) (pick : (ℕ → Bool) → �
     parted g told at object short = by (nat_lt q.upto (len_of (q.first_views s))) refl
       where
         by : (f : Bool) → nat_lt q.upto (len_of (q.first_views s)) ≡ f
-            → Spare (if same_step q.step Unlocks then (if same_area (whole_area q.law.object Bytes) (next_area q s g) then Finish else Piece) else q.phase) q.upto WorkLocks (len_of (q.first_views s))
+            → Spare (if same_step q.step Unlocks then (if same_area (whole_area q.law.object Bytes) (next_area q s g) then Finish else Piece) else q.part) q.upto WorkLocks (len_of (q.first_views s))
         by true e = rw at (each (same_area (whole_area q.law.object Bytes) (next_area q s g)))
           where
             each : (f : Bool) → Spare (if f then Finish else Piece) q.upto WorkLocks (len_of (q.first_views s))
@@ -149,16 +149,16 @@ module _ (n : ℕ) (keeps : ℕ → Kind → Bool) (pick : (ℕ → Bool) → �
             let eh = w.outside in
             let is : r ≡ record r { law = record r.law { heal = false } } = λ i. record r { law = record r.law { heal = eh i } } in
             let order : nat_lt (rank HealLocks) 12 ≡ true → nat_lt (rank r.step) 12 ≡ true = λ h. rw w.step refl in
-            subst (λ (r : Exact). After r s t 0 (Lock Heal (heal_area g.0)) told) (sym is) (onward r.phase r.upto (len_of (r.first_views s)) r.step HealLocks order k)
+            subst (λ (r : Exact). After r s t 0 (Lock Heal (heal_area g.0)) told) (sym is) (onward r.part r.upto (len_of (r.first_views s)) r.step HealLocks order k)
     by_stage (Healing w) = heal_elim n keeps r s g kind w (SpareNext n keeps pick r s g kind)
         (λ b l h t told. in_heal w.base.inside t b (Lock Heal (heal_area g.0)) told (plain r s t b k (Lock Heal (heal_area g.0)) told (in_order HealLocks b h) refl))
         (λ o b l h t told. in_heal w.base.inside t b (Lock Work (area_now r g kind)) told (locked r s t b k (area_now r g kind) told (rw w.step refl) (λ e. rw w.step refl)))
     by_stage (Working w) = lock_elim n keeps r s g kind (SpareNext n keeps pick r s g kind) w.whole w.step
         (λ b l h t told. in_heal w.base.inside t b (Lock Work (area_now r g kind)) told (locked r s t b k (area_now r g kind) told (rw w.step refl) (λ e. rw w.step refl)))
-        (λ o t. onward r.phase r.upto (len_of (r.first_views s)) r.step Looks (λ e. rw w.step refl) k)
+        (λ o t. onward r.part r.upto (len_of (r.first_views s)) r.step Looks (λ e. rw w.step refl) k)
     by_stage (Parting w) = lock_elim n keeps r s g kind (SpareNext n keeps pick r s g kind) w.whole w.step
         (λ b l h t told. in_heal w.base.inside t b (Lock Work (area_now r g kind)) told (locked r s t b k (area_now r g kind) told (rw w.step refl) (λ e. rw w.step refl)))
-        (λ o t. onward r.phase r.upto (len_of (r.first_views s)) r.step Looks (λ e. rw w.step refl) k)
+        (λ o t. onward r.part r.upto (len_of (r.first_views s)) r.step Looks (λ e. rw w.step refl) k)
     by_stage (Looking w) = look_elim n keeps r s g kind (SpareNext n keeps pick r s g kind) w.whole w.step (rw w.opening w.more)
         (λ b l h t told. in_heal w.base.inside t b (Look g) told (looked r s t b k g told (λ e. rw w.step refl)))
     by_stage (Viewing w) = look_elim n keeps r s g kind (SpareNext n keeps pick r s g kind) w.whole w.step (looks_later n keeps r s g kind w.part w.more)
@@ -170,7 +170,7 @@ module _ (n : ℕ) (keeps : ℕ → Kind → Bool) (pick : (ℕ → Bool) → �
     by_stage (Going w) = after_elim n keeps r s g kind w (SpareNext n keeps pick r s g kind)
         (λ b l h t told. in_heal w.base.inside t b (read_in r g kind) told (reads kind t b told (in_order Reads b h)))
         (λ o b l h t told. in_heal w.base.inside t b (Pre g kind) told (plain r s t b k (Pre g kind) told (in_order HealPres b h) refl))
-        (λ o b l h t told. in_heal w.base.inside t b (Mend (repair_in r s g kind r.phase)) told (plain r s t b k (Mend (repair_in r s g kind r.phase)) told (in_order Mends b h) refl))
+        (λ o b l h t told. in_heal w.base.inside t b (Mend (repair_in r s g kind r.part)) told (plain r s t b k (Mend (repair_in r s g kind r.part)) told (in_order Mends b h) refl))
         (λ o b l h t told. in_heal w.base.inside t b (Settle g kind (less_in n keeps r s kind b)) told (plain r s t b k (Settle g kind (less_in n keeps r s kind b)) told (in_order Settles b h) refl))
         (λ o b l h t told. in_heal w.base.inside t b (Unlock Work (area_now r g kind)) told (released r s t b k (area_now r g kind) told))
         (λ o u p b l h t told. in_heal w.base.inside t b (lock_next r s g b) told (parted r s t b k g told (let e = at_unlocks n keeps r s g kind w u p in rw e refl) w.base.is_object (named.short s)))

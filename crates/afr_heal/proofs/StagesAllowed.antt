@@ -18,7 +18,7 @@ use Rattle.afr_lines.specs.Overlap.{same_area}
 use Rattle.afr_lines.specs.declared.request.Area.{Area}
 use Rattle.afr_lines.specs.declared.request.Request.TheVariants.{Mend}
 use Rattle.afr_moves.specs.Honest.{view_marks}
-use Rattle.afr_moves.specs.Register.{Exact, Finish, HealLocks, HealPres, HealUnlocks, Looks, Mends, Opening, Phase, Piece, Reads, Settles, Step, Unlocks, WorkLocks, good, holder, is_finish, is_opening, len_of, over, piece_area, rank, same_step, whole_area}
+use Rattle.afr_moves.specs.Register.{Exact, Finish, HealLocks, HealPart, HealPres, HealUnlocks, Looks, Mends, Opening, Piece, Reads, Settles, Step, Unlocks, WorkLocks, good, holder, is_finish, is_opening, len_of, over, piece_area, rank, same_step, whole_area}
 use Rattle.afr_moves.specs.Rules.{heal_area, is_area, is_none, some_read}
 use Rattle.afr_moves.specs.Sets.{empty}
 use Rattle.afr_moves.specs.Steps.{after_unlocks, is_lowest, is_whole, locks_at, looks_over, may_heal, mends_at, mends_over, onward, passed, pres_over, reads_at, reads_over, same_read, same_reads, set_of, settles_at, settles_over, takes, turn}
@@ -65,11 +65,11 @@ module _ (n : ℕ) (keeps : ℕ → Kind → Bool) (r : Exact) (s : ℕ) (g : Gf
       at : {x : ℕ} → s ≡ x → has_read (r.reads x) ≡ true
       at {x} e = subst (λ (y : ℕ). has_read (r.reads y) ≡ true) e h
 
-  mend_ok : n ≤ 5 → s < n → (kind : Kind) (part : Phase) (b : ℕ) → r.phase ≡ part → OfKind kind part → good n keeps kind r.first_views s ≡ true → (reads_at n keeps r s kind part s ≡ true → has_read (r.reads s) ≡ true) → mends_at keeps r s kind part b ≡ true
+  mend_ok : n ≤ 5 → s < n → (kind : Kind) (part : HealPart) (b : ℕ) → r.part ≡ part → OfKind kind part → good n keeps kind r.first_views s ≡ true → (reads_at n keeps r s kind part s ≡ true → has_read (r.reads s) ≡ true) → mends_at keeps r s kind part b ≡ true
       → onward n keeps r s g.0 kind ≡ true → pres_over n keeps r s ≡ true → turn n keeps r s Mends b ≡ true → may_heal n keeps r s b (Mend (repair_in r s g kind part)) ≡ true
-  mend_ok few l Bytes Opening b e of is noted set o p t = let opening : is_opening r.phase ≡ true = rw e refl in pair _ _ (pair _ _ (pair _ _ (pair _ _ o opening) (same_self (len_of (r.first_views s)))) p) t
+  mend_ok few l Bytes Opening b e of is noted set o p t = let opening : is_opening r.part ≡ true = rw e refl in pair _ _ (pair _ _ (pair _ _ (pair _ _ o opening) (same_self (len_of (r.first_views s)))) p) t
   mend_ok few l Bytes Piece b e of is noted set o p t =
-      let later : not (is_opening r.phase) ≡ true = rw e refl in
+      let later : not (is_opening r.part) ≡ true = rw e refl in
       pair _ _ (pair _ _ (pair _ _ (pair _ _ (pair _ _ (pair _ _ o later) (same_self r.upto)) refl) (read_same (r.reads s) (noted (same_self s)))) p) t
   mend_ok few l Bytes Finish b e of is noted set o p t = absurd (cc set)
   mend_ok few l Attrs Opening b e of is noted set o p t = pair _ _ (pair _ _ (pair _ _ o (read_same (r.reads s) (noted (same_self s)))) p) t
@@ -88,7 +88,7 @@ module _ (n : ℕ) (keeps : ℕ → Kind → Bool) (r : Exact) (s : ℕ) (g : Gf
       at : (c : ℕ) → (pending_less n r s kind (view_marks view kind) c == pending_less n r s kind (view_marks view kind) c) ≡ true
       at c = same_self (pending_less n r s kind (view_marks view kind) c)
 
-  settles_hold : (kind : Kind) (part : Phase) (b : ℕ) → settles_at r kind part b ≡ true → holder r.first_views b ≡ true
+  settles_hold : (kind : Kind) (part : HealPart) (b : ℕ) → settles_at r kind part b ≡ true → holder r.first_views b ≡ true
   settles_hold Bytes Opening b h = absurd (cc h)
   settles_hold Bytes Piece b h = absurd (cc h)
   settles_hold Bytes Finish b h = h
@@ -133,15 +133,15 @@ module _ (n : ℕ) (keeps : ℕ → Kind → Bool) (r : Exact) (s : ℕ) (g : Gf
   pub lock_ok : (x : ℕ) (area : Area) → r.step ≡ WorkLocks → r.law.area ≡ Some area → (b : ℕ) → turn n keeps r s WorkLocks b ≡ true → may_heal n keeps r x b (request_in n keeps r s g kind WorkLocks b) ≡ true
   lock_ok x area at is b t =
       let now : same_step r.step WorkLocks ≡ true = rw at refl in
-      let lowest : is_lowest (locks_at r r.phase) r.asked b ≡ true = rw at at t in
+      let lowest : is_lowest (locks_at r r.part) r.asked b ≡ true = rw at at t in
       rw now (pair _ _ (own_now r.law.area (whole_area g.0 kind) area is) lowest)
 
   -- all were asked their Work lock, and a majority granted it
-  pub enough_work : AtWork n keeps r g kind → over n (locks_at r r.phase) r.asked ≡ true → is_most n r.law.held ≡ true
+  pub enough_work : AtWork n keeps r g kind → over n (locks_at r r.part) r.asked ≡ true → is_most n r.law.held ≡ true
   enough_work k h =
       let o : over n r.law.healing r.asked ≡ true = rw k.opening at h in
-      let opening : is_opening r.phase ≡ true = rw k.opening refl in
-      go (is_opening r.phase) (over n r.law.healing r.asked) (is_most n r.law.held) opening o k.going
+      let opening : is_opening r.part ≡ true = rw k.opening refl in
+      go (is_opening r.part) (over n r.law.healing r.asked) (is_most n r.law.held) opening o k.going
     where
       go : (p o m : Bool) → p ≡ true → o ≡ true → (p && o && not m) ≡ false → m ≡ true
       go true true true p o h = refl
@@ -178,38 +178,38 @@ module _ (n : ℕ) (keeps : ℕ → Kind → Bool) (r : Exact) (s : ℕ) (g : Gf
   -- a mend
   pub may_mends : pres_over n keeps r s ≡ true → (b : ℕ) → b < n → turn n keeps r s Mends b ≡ true → may_heal n keeps r s b (request_in n keeps r s g kind Mends b) ≡ true
   may_mends o b l t =
-      mend_ok n keeps r s g few k.below kind r.phase b refl k.of_kind is_good noted
-      (subst (λ (kind : Kind). mends_at keeps r s kind r.phase b ≡ true) k.is_kind (turn_set n keeps r s Mends b t)) is_onward o t
+      mend_ok n keeps r s g few k.below kind r.part b refl k.of_kind is_good noted
+      (subst (λ (kind : Kind). mends_at keeps r s kind r.part b ≡ true) k.is_kind (turn_set n keeps r s Mends b t)) is_onward o t
     where
-      noted : reads_at n keeps r s kind r.phase s ≡ true → has_read (r.reads s) ≡ true
+      noted : reads_at n keeps r s kind r.part s ≡ true → has_read (r.reads s) ≡ true
       noted h =
-          let set : set_of n keeps r s Reads s ≡ true = subst (λ (kind : Kind). reads_at n keeps r s kind r.phase s ≡ true) (sym k.is_kind) h in
+          let set : set_of n keeps r s Reads s ≡ true = subst (λ (kind : Kind). reads_at n keeps r s kind r.part s ≡ true) (sym k.is_kind) h in
           k.noted s k.below set (passed_behind n keeps r s Reads (reads_passed o) s k.below set)
 
   -- a settling
   pub may_settles : mends_over n keeps r s ≡ true → (b : ℕ) → b < n → turn n keeps r s Settles b ≡ true → may_heal n keeps r s b (request_in n keeps r s g kind Settles b) ≡ true
-  may_settles o b l t = pair _ _ (pair _ _ (pair _ _ is_onward o) t) (takes_ok n keeps r s g kind b (r.first_views b) (settles_hold n keeps r s g r.law.kind r.phase b (turn_set n keeps r s Settles b t)))
+  may_settles o b l t = pair _ _ (pair _ _ (pair _ _ is_onward o) t) (takes_ok n keeps r s g kind b (r.first_views b) (settles_hold n keeps r s g r.law.kind r.part b (turn_set n keeps r s Settles b t)))
 
   -- an unlock
   pub may_unlocks : settles_over n keeps r s ≡ true → (b : ℕ) → b < n → turn n keeps r s Unlocks b ≡ true → may_heal n keeps r s b (request_in n keeps r s g kind Unlocks b) ≡ true
   may_unlocks o b l t = pair _ _ (pair _ _ (pair _ _ k.onwards o) t) (own_now r.law.area (whole_area g.0 kind) k.area k.area_is)
 
   -- the first Work lock of the next part
-  pub may_part : passed n keeps r s Unlocks ≡ true → has_part kind r.phase ≡ true → (b : ℕ) → b < n → is_lowest r.first_reached (λ x. false) b ≡ true → may_heal n keeps r s b (lock_next r s g b) ≡ true
+  pub may_part : passed n keeps r s Unlocks ≡ true → has_part kind r.part ≡ true → (b : ℕ) → b < n → is_lowest r.first_reached (λ x. false) b ≡ true → may_heal n keeps r s b (lock_next r s g b) ≡ true
   may_part h p b l t =
       let at = at_unlocks n keeps r s g kind k h p in
       let no_work : same_step r.step WorkLocks ≡ false = rw at refl in
       let no_heal : same_step r.step HealLocks ≡ false = rw at refl in
       let unlocks : same_step r.step Unlocks ≡ true = rw at refl in
-      let two = both (same_kind kind Bytes) (not (is_finish r.phase)) p in
+      let two = both (same_kind kind Bytes) (not (is_finish r.part)) p in
       let bytes : same_kind r.law.kind Bytes ≡ true = rw k.is_kind two.0 in
       let goes_on_there : after_unlocks n r (next_area r s g) s ≡ true = pair _ _ (pair _ _ (pair _ _ unlocks (deny _ (is_free n keeps r s g kind k h))) bytes) (next_ok n keeps r s g r.law.object k.base.is_object (nat_lt r.upto (len_of (r.first_views s))) r.upto) in
       rw (no_work, no_heal) (pair _ _ (pair _ _ goes_on_there two.1) t)
 
   -- a Heal unlock
-  pub may_heals : settles_over n keeps r s ≡ true → passed n keeps r s Unlocks ≡ true → has_part kind r.phase ≡ false → (b : ℕ) → b < n → turn n keeps r s HealUnlocks b ≡ true → may_heal n keeps r s b (request_in n keeps r s g kind HealUnlocks b) ≡ true
+  pub may_heals : settles_over n keeps r s ≡ true → passed n keeps r s Unlocks ≡ true → has_part kind r.part ≡ false → (b : ℕ) → b < n → turn n keeps r s HealUnlocks b ≡ true → may_heal n keeps r s b (request_in n keeps r s g kind HealUnlocks b) ≡ true
   may_heals o h p b l t =
-      let last : has_part r.law.kind r.phase ≡ false = rw k.is_kind p in
+      let last : has_part r.law.kind r.part ≡ false = rw k.is_kind p in
       pair _ _ (pair _ _ (pair _ _ (pair _ _ (pair _ _ k.onwards o) (deny _ (is_free n keeps r s g kind k h))) (deny _ last)) t) (heal_area_ok n keeps r s g kind k.base)
 
   -- the end

@@ -4,7 +4,7 @@ use Rattle.afr_base.specs.declared.ids.Gfid.{Gfid}
 use Rattle.afr_base.specs.declared.ids.Kind.{Kind}
 use Rattle.afr_heal.specs.Standing.{AfterLooks, AtFirst, AtHeal, AtLooks, AtPart, AtViews, AtWork, Broken}
 use Rattle.afr_lines.specs.declared.request.Area.{Area}
-use Rattle.afr_moves.specs.Register.{Exact, HealLocks, Looks, Opening, Phase, Step, Untouched, WorkLocks, is_opening, whole_area}
+use Rattle.afr_moves.specs.Register.{Exact, HealLocks, HealPart, Looks, Opening, Step, Untouched, WorkLocks, is_opening, whole_area}
 use Rattle.afr_moves.specs.Note.{stopping}
 use Rattle.afr_moves.specs.Steps.{may_heal}
 use Rattle.afr_lines.specs.declared.request.Request.{Request}
@@ -16,20 +16,20 @@ use Rattle.afr_object.specs.declared.entry.View.{View}
 
 -- ---- the register of each stage
 -- a heal that goes on, of this object and kind, in this step and part, with this area
-abbrev pub shape : Exact → Step → Phase → Gfid → Kind → Option Area → Exact
-shape q step part g kind area = record q { step = step; phase = part; broken = false; law = record q.law { heal = true; object = g.0; kind = kind; area = area } }
+abbrev pub shape : Exact → Step → HealPart → Gfid → Kind → Option Area → Exact
+shape q step part g kind area = record q { step = step; part = part; broken = false; law = record q.law { heal = true; object = g.0; kind = kind; area = area } }
 
 -- a register that has these values is of that form
-pub shape_is : (r : Exact) (step : Step) (part : Phase) (g : Gfid) (kind : Kind) (area : Option Area) → r.step ≡ step → r.phase ≡ part → r.broken ≡ false → r.law.heal ≡ true → r.law.object ≡ g.0 → r.law.kind ≡ kind → r.law.area ≡ area → r ≡ shape r step part g kind area
-shape_is r step part g kind area es ep eb eh eo ek ea = λ i. record r { step = es i; phase = ep i; broken = eb i; law = record r.law { heal = eh i; object = eo i; kind = ek i; area = ea i } }
+pub shape_is : (r : Exact) (step : Step) (part : HealPart) (g : Gfid) (kind : Kind) (area : Option Area) → r.step ≡ step → r.part ≡ part → r.broken ≡ false → r.law.heal ≡ true → r.law.object ≡ g.0 → r.law.kind ≡ kind → r.law.area ≡ area → r ≡ shape r step part g kind area
+shape_is r step part g kind area es ep eb eh eo ek ea = λ i. record r { step = es i; part = ep i; broken = eb i; law = record r.law { heal = eh i; object = eo i; kind = ek i; area = ea i } }
 
 -- before any line
 abbrev pub new_at : Exact → Exact
-new_at q = record q { step = Untouched; phase = Opening; broken = false; law = record q.law { heal = false; area = None } }
+new_at q = record q { step = Untouched; part = Opening; broken = false; law = record q.law { heal = false; area = None } }
 
 -- after the looks of a part
 abbrev pub going_at : Exact → Gfid → Kind → Area → Exact
-going_at q g kind area = shape q q.step q.phase g kind (Some area)
+going_at q g kind area = shape q q.step q.part g kind (Some area)
 
 -- in a broken heal
 abbrev pub lost : Exact → Gfid → Exact
@@ -38,19 +38,19 @@ lost q g = record q { broken = true; law = record q.law { heal = true; object = 
 -- ---- the register after an answer, by its step, before the heal goes on or not
 -- after a Heal lock
 abbrev pub heal_at : (n : ℕ) → (ℕ → Kind → Bool) → Exact → (ℕ → Bool) → (ℕ → Bool) → Register → Exact
-heal_at n keeps r asked possible law = stopping n keeps (record r { step = HealLocks; asked = asked; phase = Opening; possible = possible; broken = false; law = law })
+heal_at n keeps r asked possible law = stopping n keeps (record r { step = HealLocks; asked = asked; part = Opening; possible = possible; broken = false; law = law })
 
 -- after a Work lock of the opening
 abbrev pub work_at : (n : ℕ) → (ℕ → Kind → Bool) → Exact → (ℕ → Bool) → (ℕ → Bool) → Register → Exact
-work_at n keeps r asked possible law = stopping n keeps (record r { step = WorkLocks; asked = asked; phase = Opening; possible = possible; broken = false; law = law })
+work_at n keeps r asked possible law = stopping n keeps (record r { step = WorkLocks; asked = asked; part = Opening; possible = possible; broken = false; law = law })
 
 -- after a look of the opening
 abbrev pub looked_at : (n : ℕ) → (ℕ → Kind → Bool) → Exact → (ℕ → Bool) → (ℕ → Bool) → (ℕ → Option View) → (ℕ → Bool) → (ℕ → Option View) → (ℕ → Bool) → Register → Exact
 looked_at n keeps r asked reached views first_reached first_views possible law = stopping n keeps (record r { asked = asked; reached = reached; views = views; first_reached = first_reached; first_views = first_views; possible = possible; law = law })
 
 -- after a Work lock of a later part, which breaks the heal where it fails
-abbrev pub part_at : (n : ℕ) → (ℕ → Kind → Bool) → Exact → Phase → (ℕ → Bool) → (ℕ → Bool) → Bool → Register → Exact
-part_at n keeps r part asked possible fail law = stopping n keeps (record r { step = WorkLocks; asked = asked; phase = part; possible = possible; broken = fail && not (is_opening part); law = law })
+abbrev pub part_at : (n : ℕ) → (ℕ → Kind → Bool) → Exact → HealPart → (ℕ → Bool) → (ℕ → Bool) → Bool → Register → Exact
+part_at n keeps r part asked possible fail law = stopping n keeps (record r { step = WorkLocks; asked = asked; part = part; possible = possible; broken = fail && not (is_opening part); law = law })
 
 -- after a look of a later part
 abbrev pub viewed_at : (n : ℕ) → (ℕ → Kind → Bool) → Exact → (ℕ → Bool) → (ℕ → Bool) → (ℕ → Option View) → (ℕ → Bool) → Register → Exact
@@ -68,7 +68,7 @@ still n keeps r b request x = r.possible x && may_heal n keeps r x b request
 module _ (n : ℕ) (keeps : ℕ → Kind → Bool) (r : Exact) (s : ℕ) (g : Gfid) (kind : Kind) where
   -- no line was
   pub first_form : AtFirst n r → r ≡ new_at r
-  first_form k = let es = k.step in let ep = k.opening in let eb = k.whole in let eh = k.outside in let ea = k.no_area in λ i. record r { step = es i; phase = ep i; broken = eb i; law = record r.law { heal = eh i; area = ea i } }
+  first_form k = let es = k.step in let ep = k.opening in let eb = k.whole in let eh = k.outside in let ea = k.no_area in λ i. record r { step = es i; part = ep i; broken = eb i; law = record r.law { heal = eh i; area = ea i } }
 
   -- the Heal locks are asked
   pub heal_form : AtHeal n keeps r g → r ≡ shape r HealLocks Opening g r.law.kind None
@@ -83,16 +83,16 @@ module _ (n : ℕ) (keeps : ℕ → Kind → Bool) (r : Exact) (s : ℕ) (g : Gf
   looks_form k = shape_is r Looks Opening g kind (Some (whole_area g.0 kind)) k.step k.opening k.whole k.base.inside k.base.is_object k.is_kind k.area
 
   -- the Work locks of a later part
-  pub part_form : (k : AtPart n keeps r s g kind) → r ≡ shape r WorkLocks r.phase g kind (Some k.area)
-  part_form k = shape_is r WorkLocks r.phase g kind (Some k.area) k.step refl k.whole k.base.inside k.base.is_object k.is_kind k.area_is
+  pub part_form : (k : AtPart n keeps r s g kind) → r ≡ shape r WorkLocks r.part g kind (Some k.area)
+  part_form k = shape_is r WorkLocks r.part g kind (Some k.area) k.step refl k.whole k.base.inside k.base.is_object k.is_kind k.area_is
 
   -- the looks of a later part
-  pub views_form : (k : AtViews n keeps r s g kind) → r ≡ shape r Looks r.phase g kind (Some k.area)
-  views_form k = shape_is r Looks r.phase g kind (Some k.area) k.step refl k.whole k.base.inside k.base.is_object k.is_kind k.area_is
+  pub views_form : (k : AtViews n keeps r s g kind) → r ≡ shape r Looks r.part g kind (Some k.area)
+  views_form k = shape_is r Looks r.part g kind (Some k.area) k.step refl k.whole k.base.inside k.base.is_object k.is_kind k.area_is
 
   -- the looks of a part are over
   pub going_form : (k : AfterLooks n keeps r s g kind) → r ≡ going_at r g kind k.area
-  going_form k = shape_is r r.step r.phase g kind (Some k.area) refl refl k.whole k.base.inside k.base.is_object k.is_kind k.area_is
+  going_form k = shape_is r r.step r.part g kind (Some k.area) refl refl k.whole k.base.inside k.base.is_object k.is_kind k.area_is
 
   -- only unlocks are left
   pub lost_form : Broken r g → r ≡ lost r g

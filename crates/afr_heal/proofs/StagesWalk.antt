@@ -7,12 +7,12 @@ use Rattle.afr_base.specs.declared.ids.Kind.{Kind}
 use Rattle.afr_discipline.specs.Turns.{find, turn_of}
 use Rattle.afr_heal.proofs.Finding.{find_none, find_some, over_asked, over_lowest, passed_behind, passed_none, passed_off}
 use Rattle.afr_heal.proofs.Parts.{any_no, both, not_both, pair, some_of_most}
-use Rattle.afr_heal.specs.Engine.{Ask, Begins, Ends, Next, after_looks, broken_next, has_part, lock_next, next_of, or_else, part_or_end, step_or, whole_next}
+use Rattle.afr_heal.specs.Engine.{Ask, Begins, Ends, NextOfHeal, after_looks, broken_next, has_part, lock_next, next_of, or_else, part_or_end, step_or, whole_next}
 use Rattle.afr_heal.specs.Requests.{area_now, request_in}
 use Rattle.afr_heal.specs.Standing.{AfterLooks, AtFirst, AtHeal}
 use Rattle.afr_lines.specs.declared.request.Request.{Request}
 use Rattle.afr_lines.specs.declared.request.Request.TheVariants.{Lock, Unlock}
-use Rattle.afr_moves.specs.Register.{Exact, Finish, HealLocks, HealPres, HealUnlocks, Looks, Mends, Opening, Phase, Piece, Reads, Settles, Step, Unlocks, Untouched, WorkLocks, everywhere, is_opening, over, rank}
+use Rattle.afr_moves.specs.Register.{Exact, Finish, HealLocks, HealPart, HealPres, HealUnlocks, Looks, Mends, Opening, Piece, Reads, Settles, Step, Unlocks, Untouched, WorkLocks, everywhere, is_opening, over, rank}
 use Rattle.afr_moves.specs.Rules.{busy, heal_area}
 use Rattle.afr_moves.specs.Sets.{empty}
 use Rattle.afr_moves.specs.Steps.{is_lowest, locks_at, looks_at, mends_over, passed, pres_over, reads_over, settles_over, turn}
@@ -20,7 +20,7 @@ use Rattle.afr_lines.specs.declared.lock.Domain.TheVariants.{Heal, Work}
 
 -- ---- one step of the chain
 -- the step asks the lowest brick whose turn it is, or it is over and the rest comes
-pub from_here : (P : Next → Type 0) (n : ℕ) (keeps : ℕ → Kind → Bool) (r : Exact) (s : ℕ) (g : Gfid) (kind : Kind) (step : Step) (rest : Next)
+pub from_here : (P : NextOfHeal → Type 0) (n : ℕ) (keeps : ℕ → Kind → Bool) (r : Exact) (s : ℕ) (g : Gfid) (kind : Kind) (step : Step) (rest : NextOfHeal)
     → ((b : ℕ) → b < n → turn n keeps r s step b ≡ true → P (Ask b (request_in n keeps r s g kind step b))) → (passed n keeps r s step ≡ true → P rest) → P (step_or n keeps r s g kind step rest)
 from_here P n keeps r s g kind step rest some none = go (turn_of n keeps r s step) refl
   where
@@ -29,7 +29,7 @@ from_here P n keeps r s g kind step rest some none = go (turn_of n keeps r s ste
     go None e = none (passed_none n keeps r s step e)
 
 -- the lowest brick of a set is asked, or the set is empty and the rest comes
-pub chosen : (P : Next → Type 0) (n : ℕ) (test : ℕ → Bool) (request : ℕ → Request) (rest : Next)
+pub chosen : (P : NextOfHeal → Type 0) (n : ℕ) (test : ℕ → Bool) (request : ℕ → Request) (rest : NextOfHeal)
     → ((b : ℕ) → b < n → test b ≡ true → P (Ask b (request b))) → (((b : ℕ) → b < n → test b ≡ false) → P rest) → P (or_else request (find n test) rest)
 chosen P n test request rest some none = go (find n test) refl
   where
@@ -38,17 +38,17 @@ chosen P n test request rest some none = go (find n test) refl
     go None e = none (find_none n test e)
 
 -- a heal that goes on is in one step of the chain
-pub next_is : (P : Next → Type 0) (n : ℕ) (keeps : ℕ → Kind → Bool) (r : Exact) (s : ℕ) (g : Gfid) (kind : Kind) → r.broken ≡ false → P (whole_next n keeps r s g kind r.step) → P (next_of n keeps r s g kind)
+pub next_is : (P : NextOfHeal → Type 0) (n : ℕ) (keeps : ℕ → Kind → Bool) (r : Exact) (s : ℕ) (g : Gfid) (kind : Kind) → r.broken ≡ false → P (whole_next n keeps r s g kind r.step) → P (next_of n keeps r s g kind)
 next_is P n keeps r s g kind whole h = subst P (sym (pick r.broken (broken_next n r g kind) (whole_next n keeps r s g kind r.step) whole)) h
   where
-    pick : (x : Bool) (p q : Next) → x ≡ false → (if x then p else q) ≡ q
+    pick : (x : Bool) (p q : NextOfHeal) → x ≡ false → (if x then p else q) ≡ q
     pick true p q h = absurd (cc h)
     pick false p q h = refl
 
 -- ---- the stages up to the looks of a part
 module _ (n : ℕ) (keeps : ℕ → Kind → Bool) (r : Exact) (s : ℕ) (g : Gfid) (kind : Kind) where
   -- no line was: the first Heal lock
-  pub first_elim : AtFirst n r → (P : Next → Type 0) → P (Ask 0 (Lock Heal (heal_area g.0))) → P (next_of n keeps r s g kind)
+  pub first_elim : AtFirst n r → (P : NextOfHeal → Type 0) → P (Ask 0 (Lock Heal (heal_area g.0))) → P (next_of n keeps r s g kind)
   first_elim k P h = next_is P n keeps r s g kind k.whole (subst (λ (step : Step). P (whole_next n keeps r s g kind step)) (sym k.step) h)
 
   -- all were asked, and a majority granted it
@@ -70,7 +70,7 @@ module _ (n : ℕ) (keeps : ℕ → Kind → Bool) (r : Exact) (s : ℕ) (g : Gf
       cc (over_asked n r.law.healing empty over_in one.0 one.1 one.2)
 
   -- the Heal locks: another one, or the first Work lock once they are over
-  pub heal_elim : AtHeal n keeps r g → (P : Next → Type 0)
+  pub heal_elim : AtHeal n keeps r g → (P : NextOfHeal → Type 0)
       → ((b : ℕ) → b < n → turn n keeps r s HealLocks b ≡ true → P (Ask b (request_in n keeps r s g kind HealLocks b)))
       → (passed n keeps r s HealLocks ≡ true → (b : ℕ) → b < n → turn n keeps r s WorkLocks b ≡ true → P (Ask b (request_in n keeps r s g kind WorkLocks b)))
       → P (next_of n keeps r s g kind)
@@ -79,35 +79,35 @@ module _ (n : ℕ) (keeps : ℕ → Kind → Bool) (r : Exact) (s : ℕ) (g : Gf
       (from_here P n keeps r s g kind HealLocks _ heals (λ h. from_here P n keeps r s g kind WorkLocks _ (works h) (λ w. absurd (some_lock k h w)))))
 
   -- where it is nobody's turn, all Work locks of the part were asked
-  pub locks_over : r.step ≡ WorkLocks → passed n keeps r s WorkLocks ≡ true → over n (locks_at r r.phase) r.asked ≡ true
+  pub locks_over : r.step ≡ WorkLocks → passed n keeps r s WorkLocks ≡ true → over n (locks_at r r.part) r.asked ≡ true
   locks_over at h = rw at at h
 
   -- the Work locks of a part: another one, or the HealBegin once they are over
-  pub lock_elim : (P : Next → Type 0) → r.broken ≡ false → r.step ≡ WorkLocks
+  pub lock_elim : (P : NextOfHeal → Type 0) → r.broken ≡ false → r.step ≡ WorkLocks
       → ((b : ℕ) → b < n → turn n keeps r s WorkLocks b ≡ true → P (Ask b (request_in n keeps r s g kind WorkLocks b)))
-      → (over n (locks_at r r.phase) r.asked ≡ true → P Begins) → P (next_of n keeps r s g kind)
+      → (over n (locks_at r r.part) r.asked ≡ true → P Begins) → P (next_of n keeps r s g kind)
   lock_elim P whole at locks begins =
       next_is P n keeps r s g kind whole (subst (λ (step : Step). P (whole_next n keeps r s g kind step)) (sym at)
       (from_here P n keeps r s g kind WorkLocks _ locks (λ h. begins (locks_over at h))))
 
   -- the looks of a part, of which some are left
-  pub look_elim : (P : Next → Type 0) → r.broken ≡ false → r.step ≡ Looks → over n (looks_at r r.phase) r.asked ≡ false
+  pub look_elim : (P : NextOfHeal → Type 0) → r.broken ≡ false → r.step ≡ Looks → over n (looks_at r r.part) r.asked ≡ false
       → ((b : ℕ) → b < n → turn n keeps r s Looks b ≡ true → P (Ask b (request_in n keeps r s g kind Looks b))) → P (next_of n keeps r s g kind)
   look_elim P whole at more looks =
       next_is P n keeps r s g kind whole (subst (λ (step : Step). P (whole_next n keeps r s g kind step)) (sym at)
-      (from_here P n keeps r s g kind Looks _ looks (λ h. absurd (not_both (over n (looks_at r r.phase) r.asked) (rw at at h) more))))
+      (from_here P n keeps r s g kind Looks _ looks (λ h. absurd (not_both (over n (looks_at r r.part) r.asked) (rw at at h) more))))
 
   -- the looks of a later part are at the bricks of the first looks
-  pub looks_later : is_opening r.phase ≡ false → over n r.first_reached r.asked ≡ false → over n (looks_at r r.phase) r.asked ≡ false
-  looks_later part more = go r.phase part
+  pub looks_later : is_opening r.part ≡ false → over n r.first_reached r.asked ≡ false → over n (looks_at r r.part) r.asked ≡ false
+  looks_later part more = go r.part part
     where
-      go : (part : Phase) → is_opening part ≡ false → over n (looks_at r part) r.asked ≡ false
+      go : (part : HealPart) → is_opening part ≡ false → over n (looks_at r part) r.asked ≡ false
       go Opening h = absurd (cc h)
       go Piece h = more
       go Finish h = more
 
   -- a broken heal: a Work lock is given back, or else a Heal lock, or it ends
-  pub broken_elim : (P : Next → Type 0) → r.broken ≡ true
+  pub broken_elim : (P : NextOfHeal → Type 0) → r.broken ≡ true
       → ((b : ℕ) → b < n → r.law.held b ≡ true → P (Ask b (Unlock Work (area_now r g kind))))
       → (((b : ℕ) → b < n → r.law.held b ≡ false) → (b : ℕ) → b < n → r.law.healing b ≡ true → P (Ask b (Unlock Heal (heal_area g.0))))
       → (((b : ℕ) → b < n → r.law.held b ≡ false) → ((b : ℕ) → b < n → r.law.healing b ≡ false) → P Ends)
@@ -116,7 +116,7 @@ module _ (n : ℕ) (keeps : ℕ → Kind → Bool) (r : Exact) (s : ℕ) (g : Gf
       (chosen P n r.law.held (λ b. Unlock Work (area_now r g kind)) (or_else (λ b. Unlock Heal (heal_area g.0)) (find n r.law.healing) Ends) works (λ none.
       chosen P n r.law.healing (λ b. Unlock Heal (heal_area g.0)) Ends (heals none) (ends none)))
     where
-      pick : (x : Bool) (p q : Next) → x ≡ true → (if x then p else q) ≡ p
+      pick : (x : Bool) (p q : NextOfHeal) → x ≡ true → (if x then p else q) ≡ p
       pick true p q h = refl
       pick false p q h = absurd (cc h)
 
@@ -165,18 +165,18 @@ module _ (n : ℕ) (keeps : ℕ → Kind → Bool) (r : Exact) (s : ℕ) (g : Gf
       go false e = e
 
   -- where another part is to come, the step is the unlocks
-  pub at_unlocks : passed n keeps r s Unlocks ≡ true → has_part kind r.phase ≡ true → (rank r.step) ≡ 12
+  pub at_unlocks : passed n keeps r s Unlocks ≡ true → has_part kind r.part ≡ true → (rank r.step) ≡ 12
   at_unlocks h p = let low = past_unlocks h in let high = k.parts p in grind (arith, nat_tests, low, high)
 
   -- the chain after the looks, walked once: reads, pre-ops, mends, settling, unlocks, the lock of the next part or the Heal unlocks, the end
-  pub after_elim : (P : Next → Type 0)
+  pub after_elim : (P : NextOfHeal → Type 0)
       → ((b : ℕ) → b < n → turn n keeps r s Reads b ≡ true → P (Ask b (request_in n keeps r s g kind Reads b)))
       → (reads_over n keeps r s ≡ true → (b : ℕ) → b < n → turn n keeps r s HealPres b ≡ true → P (Ask b (request_in n keeps r s g kind HealPres b)))
       → (pres_over n keeps r s ≡ true → (b : ℕ) → b < n → turn n keeps r s Mends b ≡ true → P (Ask b (request_in n keeps r s g kind Mends b)))
       → (mends_over n keeps r s ≡ true → (b : ℕ) → b < n → turn n keeps r s Settles b ≡ true → P (Ask b (request_in n keeps r s g kind Settles b)))
       → (settles_over n keeps r s ≡ true → (b : ℕ) → b < n → turn n keeps r s Unlocks b ≡ true → P (Ask b (request_in n keeps r s g kind Unlocks b)))
-      → (settles_over n keeps r s ≡ true → passed n keeps r s Unlocks ≡ true → has_part kind r.phase ≡ true → (b : ℕ) → b < n → is_lowest r.first_reached (λ x. false) b ≡ true → P (Ask b (lock_next r s g b)))
-      → (settles_over n keeps r s ≡ true → passed n keeps r s Unlocks ≡ true → has_part kind r.phase ≡ false → (b : ℕ) → b < n → turn n keeps r s HealUnlocks b ≡ true → P (Ask b (request_in n keeps r s g kind HealUnlocks b)))
+      → (settles_over n keeps r s ≡ true → passed n keeps r s Unlocks ≡ true → has_part kind r.part ≡ true → (b : ℕ) → b < n → is_lowest r.first_reached (λ x. false) b ≡ true → P (Ask b (lock_next r s g b)))
+      → (settles_over n keeps r s ≡ true → passed n keeps r s Unlocks ≡ true → has_part kind r.part ≡ false → (b : ℕ) → b < n → turn n keeps r s HealUnlocks b ≡ true → P (Ask b (request_in n keeps r s g kind HealUnlocks b)))
       → (passed n keeps r s Unlocks ≡ true → passed n keeps r s HealUnlocks ≡ true → P Ends)
       → P (next_of n keeps r s g kind)
   after_elim P reads pres mends settles unlocks part heals ends =
@@ -185,7 +185,7 @@ module _ (n : ℕ) (keeps : ℕ → Kind → Bool) (r : Exact) (s : ℕ) (g : Gf
       looks_passed : passed n keeps r s Looks ≡ true
       looks_passed = (both (nat_le 7 (rank r.step)) (passed n keeps r s Looks) k.looked).1
 
-      last : settles_over n keeps r s ≡ true → passed n keeps r s Unlocks ≡ true → (f : Bool) → has_part kind r.phase ≡ f → P (part_or_end n keeps r s g kind f)
+      last : settles_over n keeps r s ≡ true → passed n keeps r s Unlocks ≡ true → (f : Bool) → has_part kind r.part ≡ f → P (part_or_end n keeps r s g kind f)
       last r4 r5 true e = chosen P n (is_lowest r.first_reached (λ x. false)) (lock_next r s g) Ends (part r4 r5 e) (λ none. absurd (
           let one = some_of_most n r.first_reached k.many in
           cc (over_asked n r.first_reached (λ x. false) (over_lowest_of none) one.0 one.1 one.2)))
@@ -201,7 +201,7 @@ module _ (n : ℕ) (keeps : ℕ → Kind → Bool) (r : Exact) (s : ℕ) (g : Gf
           from_here P n keeps r s g kind Mends _ (mends (pair _ _ (pair _ _ k.looked r0) r1)) (λ r2.
           from_here P n keeps r s g kind Settles _ (settles (pair _ _ (pair _ _ (pair _ _ k.looked r0) r1) r2)) (λ r3.
           from_here P n keeps r s g kind Unlocks _ (unlocks (pair _ _ (pair _ _ (pair _ _ (pair _ _ k.looked r0) r1) r2) r3)) (λ r4.
-          last (pair _ _ (pair _ _ (pair _ _ (pair _ _ k.looked r0) r1) r2) r3) r4 (has_part kind r.phase) refl)))))
+          last (pair _ _ (pair _ _ (pair _ _ (pair _ _ k.looked r0) r1) r2) r3) r4 (has_part kind r.part) refl)))))
 
       going : P (step_or n keeps r s g kind Looks (after_looks n keeps r s g kind))
       going = from_here P n keeps r s g kind Looks _ (λ b l t. absurd (passed_off n keeps r s Looks looks_passed b l t)) (λ h. rest)

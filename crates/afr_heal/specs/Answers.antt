@@ -42,9 +42,9 @@ abbrev pub begun_at : ℕ → (ℕ → Kind → Bool) → Exact → ℕ → Gfid
 begun_at n keeps r t g kind = note n keeps r t (Some (heal_begin_by 0 g.0 kind))
 
 -- the rule picks one of the copies below n that pass, if any does
-abbrev pub Picks : ℕ → ((ℕ → Bool) → ℕ) → Type 0
-Picks n pick = (p : ℕ → Bool) → (x : ℕ) → x < n → p x ≡ true → (pick p < n) × (p (pick p) ≡ true)
+abbrev pub PicksOne : ℕ → ((ℕ → Bool) → ℕ) → Type 0
+PicksOne n pick = (p : ℕ → Bool) → (x : ℕ) → x < n → p x ≡ true → (pick p < n) × (p (pick p) ≡ true)
 
 -- a look of the opening leaves the source to the rule; otherwise it stays
 abbrev pub source_after : ℕ → (ℕ → Kind → Bool) → ((ℕ → Bool) → ℕ) → Exact → ℕ → ℕ
-source_after n keeps pick r s = if same_step r.step Looks && is_opening r.phase then pick (candidate n keeps r) else s
+source_after n keeps pick r s = if same_step r.step Looks && is_opening r.part then pick (candidate n keeps r) else s

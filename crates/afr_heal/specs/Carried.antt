@@ -7,7 +7,7 @@ use Rattle.afr_discipline.specs.Stands.{HasFive, attempt_of, has_begun, heal_of,
 use Rattle.afr_discipline.specs.declared.register.Move.{Move}
 use Rattle.afr_discipline.specs.declared.register.Register.{Register}
 use Rattle.afr_heal.specs.Answers.{asked_for, source_after}
-use Rattle.afr_heal.specs.Engine.{Ask, Begins, Ends, Next, next_of}
+use Rattle.afr_heal.specs.Engine.{Ask, Begins, Ends, NextOfHeal, next_of}
 use Rattle.afr_heal.specs.Standing.{Standing}
 use Rattle.afr_lines.specs.declared.answer.Told.{Told}
 use Rattle.afr_lines.specs.declared.request.Area.{Area}
@@ -45,7 +45,7 @@ pub record Heals (p : Register) (s : ℕ) (g : Gfid) (kind : Kind) : Type 0 wher
   pub named : IsNamed kind (seen_as p)
 
 -- the next line, by the program's register
-abbrev pub next_by : Register → ℕ → Gfid → Kind → Next
+abbrev pub next_by : Register → ℕ → Gfid → Kind → NextOfHeal
 next_by p s g kind = next_of p.shape.n (keeps_in p.shape) (seen_as p) s g kind
 
 -- the source that the machine has after an answer
@@ -63,7 +63,7 @@ BeginsOf (move.HealBegin g kind) h what = (g ≡ h) × (kind ≡ what)
 BeginsOf step h what = ⊥
 
 -- the move is that of the next line
-abbrev pub MovesOf : Gfid → Kind → Next → Move → Type 0
+abbrev pub MovesOf : Gfid → Kind → NextOfHeal → Move → Type 0
 MovesOf g kind (Ask b request) step = AsksOf step b request
 MovesOf g kind Begins step = BeginsOf step g kind
 MovesOf g kind Ends (move.End ok) = Unit {0}

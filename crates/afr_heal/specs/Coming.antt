@@ -4,12 +4,12 @@ use Rattle.afr_base.specs.declared.ids.Kind.{Kind}
 use Rattle.afr_discipline.specs.Stands.{views_of}
 use Rattle.afr_discipline.specs.Turns.{marks_in}
 use Rattle.afr_discipline.specs.declared.register.Register.{Register}
-use Rattle.afr_heal.specs.Engine.{Next, Ask, Begins, Ends}
+use Rattle.afr_heal.specs.Engine.{NextOfHeal, Ask, Begins, Ends}
 use Rattle.afr_heal.specs.declared.coming.Coming.{Coming}
 use Rattle.afr_heal.specs.declared.coming.Coming.TheVariants as coming
 
 -- the line as the machine says it
-abbrev pub coming_of : Next → Coming
+abbrev pub coming_of : NextOfHeal → Coming
 coming_of (Ask b request) = coming.Ask (record { 0 = b }) request
 coming_of Begins = coming.Begin
 coming_of Ends = coming.End

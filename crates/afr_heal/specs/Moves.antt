@@ -8,7 +8,7 @@ use Rattle.afr_discipline.specs.Notes.{noted}
 use Rattle.afr_discipline.specs.Stands.{HasFive, Stands, no_lines, seen_as}
 use Rattle.afr_discipline.specs.declared.register.Move.{Move}
 use Rattle.afr_discipline.specs.declared.register.Register.{Register}
-use Rattle.afr_heal.specs.Answers.{Picks, asked_for, fits, in_range}
+use Rattle.afr_heal.specs.Answers.{PicksOne, asked_for, fits, in_range}
 use Rattle.afr_heal.specs.Carried.{AsksOf, BeginsOf, Heals, IsNamed, MovesOf, next_by, source_by}
 use Rattle.afr_heal.specs.Engine.{Ask, Begins, next_of}
 use Rattle.afr_heal.specs.Laws.{allows_next}
@@ -43,12 +43,12 @@ HealsMove = (p : Register) (s : ℕ) (g : Gfid) (kind : Kind) → Heals p s g ki
 -- whatever is told, the machine keeps what it keeps; that the lists have five places comes from their types
 abbrev pub HealsKept : Type 0
 HealsKept =
-    (pick : (ℕ → Bool) → ℕ) (p : Register) (s : ℕ) (g : Gfid) (kind : Kind) → Picks p.shape.n pick → Heals p s g kind
+    (pick : (ℕ → Bool) → ℕ) (p : Register) (s : ℕ) (g : Gfid) (kind : Kind) → PicksOne p.shape.n pick → Heals p s g kind
     → (step : Move) (told : Told) (t b : ℕ) (request : Request) → AsksOf step b request → next_by p s g kind ≡ Ask b request → fits request told ≡ true → in_range told ≡ true → HasFive (noted p step told t)
     → Heals (noted p step told t) (source_by pick p (noted p step told t) t b request told s) g kind
 
 -- and so it does where a part begins
 abbrev pub HealsBegun : Type 0
 HealsBegun =
-    (pick : (ℕ → Bool) → ℕ) (p : Register) (s : ℕ) (g : Gfid) (kind : Kind) → Picks p.shape.n pick → Heals p s g kind
+    (pick : (ℕ → Bool) → ℕ) (p : Register) (s : ℕ) (g : Gfid) (kind : Kind) → PicksOne p.shape.n pick → Heals p s g kind
     → (step : Move) (told : Told) (t : ℕ) → BeginsOf step g kind → next_by p s g kind ≡ Begins → HasFive (noted p step told t) → Heals (noted p step told t) s g kind

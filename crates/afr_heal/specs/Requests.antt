@@ -7,7 +7,7 @@ use Rattle.afr_discipline.specs.Turns.{less_in}
 use Rattle.afr_lines.specs.declared.request.Area.{Area}
 use Rattle.afr_lines.specs.declared.request.Request.{Request}
 use Rattle.afr_lines.specs.declared.request.Request.TheVariants.{List, Lock, Look, Mend, Pre, ReadAttrs, ReadBytes, Settle, Unlock}
-use Rattle.afr_moves.specs.Register.{Exact, HealLocks, HealPres, Looks, Mends, Opening, Phase, Reads, Settles, Step, Unlocks, WorkLocks, len_of, piece_area, span, whole_area}
+use Rattle.afr_moves.specs.Register.{Exact, HealLocks, HealPart, HealPres, Looks, Mends, Opening, Reads, Settles, Step, Unlocks, WorkLocks, len_of, piece_area, span, whole_area}
 use Rattle.afr_moves.specs.Rules.{heal_area}
 use Rattle.afr_object.specs.declared.change.Repair.{Repair}
 use Rattle.afr_object.specs.declared.change.Repair.TheVariants.{Copy, CutTo, PutAttrs, PutNames}
@@ -38,7 +38,7 @@ read_in r g Attrs = ReadAttrs g
 read_in r g Names = List g
 
 -- what a copy is given: first its length, then the bytes of each piece; all attributes, or all names
-abbrev pub repair_in : Exact → ℕ → Gfid → Kind → Phase → Repair
+abbrev pub repair_in : Exact → ℕ → Gfid → Kind → HealPart → Repair
 repair_in r s g Bytes Opening = CutTo g (len_of (r.first_views s))
 repair_in r s g Bytes part = Copy g r.upto span (position (r.reads s))
 repair_in r s g Attrs part = PutAttrs g (position (r.reads s))
@@ -51,7 +51,7 @@ request_in n keeps r s g kind WorkLocks b = Lock Work (area_now r g kind)
 request_in n keeps r s g kind Looks b = Look g
 request_in n keeps r s g kind Reads b = read_in r g kind
 request_in n keeps r s g kind HealPres b = Pre g kind
-request_in n keeps r s g kind Mends b = Mend (repair_in r s g kind r.phase)
+request_in n keeps r s g kind Mends b = Mend (repair_in r s g kind r.part)
 request_in n keeps r s g kind Settles b = Settle g kind (less_in n keeps r s kind b)
 request_in n keeps r s g kind Unlocks b = Unlock Work (area_now r g kind)
 request_in n keeps r s g kind step b = Unlock Heal (heal_area g.0)

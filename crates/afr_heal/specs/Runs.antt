@@ -4,7 +4,7 @@ use Rattle.afr_base.specs.declared.ids.Gfid.{Gfid}
 use Rattle.afr_base.specs.declared.ids.Kind.{Kind}
 use Rattle.afr_discipline.specs.Turns.{find}
 use Rattle.afr_heal.specs.Answers.{asked_for, begun_at, source_after}
-use Rattle.afr_heal.specs.Engine.{Ask, Begins, Ends, Next, next_of}
+use Rattle.afr_heal.specs.Engine.{Ask, Begins, Ends, NextOfHeal, next_of}
 use Rattle.afr_lines.specs.declared.answer.Told.{Told}
 use Rattle.afr_lines.specs.declared.request.Request.{Request}
 use Rattle.afr_moves.specs.Register.{Exact}
@@ -25,7 +25,7 @@ pub record Play : Type 0 where
   pub at : ℕ
 
 -- after the next line; None where it is the end
-abbrev pub advance : ℕ → (ℕ → Kind → Bool) → (ℕ → ℕ → Request → Told) → Gfid → Kind → Play → Next → Option Play
+abbrev pub advance : ℕ → (ℕ → Kind → Bool) → (ℕ → ℕ → Request → Told) → Gfid → Kind → Play → NextOfHeal → Option Play
 advance n keeps answer g kind p (Ask b request) = (let r = asked_for n keeps p.register p.at b request (answer p.at b request) in Some (record { register = r; source = source_after n keeps (pick_of n) r p.source; at = suc p.at }))
 advance n keeps answer g kind p Begins = Some (record { register = begun_at n keeps p.register p.at g kind; source = p.source; at = suc p.at })
 advance n keeps answer g kind p Ends = None

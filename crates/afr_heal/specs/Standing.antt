@@ -8,7 +8,7 @@ use Rattle.afr_discipline.specs.Five.{has_read}
 use Rattle.afr_heal.specs.Engine.{has_part}
 use Rattle.afr_lines.specs.declared.request.Area.{Area}
 use Rattle.afr_moves.specs.Note.{stops_at}
-use Rattle.afr_moves.specs.Register.{Exact, HealLocks, HealUnlocks, Looks, Mends, Opening, Phase, Reads, Step, Unlocks, Untouched, WorkLocks, asked_in, good, is_opening, over, rank, whole_area}
+use Rattle.afr_moves.specs.Register.{Exact, HealLocks, HealPart, HealUnlocks, Looks, Mends, Opening, Reads, Step, Unlocks, Untouched, WorkLocks, asked_in, good, is_opening, over, rank, whole_area}
 use Rattle.afr_moves.specs.Steps.{goes_on, looks_over, set_of, sink}
 
 -- the step is behind, or asked this brick
@@ -16,7 +16,7 @@ abbrev pub behind : Exact → Step → ℕ → Bool
 behind r step x = nat_lt (rank step) (rank r.step) || asked_in r step x
 
 -- only a heal of bytes has more than the opening
-abbrev pub OfKind : Kind → Phase → Type 0
+abbrev pub OfKind : Kind → HealPart → Type 0
 OfKind Bytes part = Unit {0}
 OfKind kind Opening = Unit {0}
 OfKind kind part = ⊥
@@ -43,7 +43,7 @@ pub record AtFirst (n : ℕ) (r : Exact) : Type 0 where
   pub outside : r.law.heal ≡ false
   pub whole : r.broken ≡ false
   pub step : r.step ≡ Untouched
-  pub opening : r.phase ≡ Opening
+  pub opening : r.part ≡ Opening
   pub every : (x : ℕ) → x < n → r.possible x ≡ true
   pub none_held : (x : ℕ) → r.law.held x ≡ false
   pub no_second : (x : ℕ) → r.law.second_held x ≡ false
@@ -55,7 +55,7 @@ pub record AtHeal (n : ℕ) (keeps : ℕ → Kind → Bool) (r : Exact) (g : Gfi
   pub base : IsBase g r
   pub whole : r.broken ≡ false
   pub step : r.step ≡ HealLocks
-  pub opening : r.phase ≡ Opening
+  pub opening : r.part ≡ Opening
   pub every : (x : ℕ) → x < n → r.possible x ≡ true
   pub none_held : (x : ℕ) → r.law.held x ≡ false
   pub no_area : r.law.area ≡ None
@@ -67,7 +67,7 @@ pub record AtWork (n : ℕ) (keeps : ℕ → Kind → Bool) (r : Exact) (g : Gfi
   pub base : IsBase g r
   pub whole : r.broken ≡ false
   pub step : r.step ≡ WorkLocks
-  pub opening : r.phase ≡ Opening
+  pub opening : r.part ≡ Opening
   pub every : (x : ℕ) → x < n → r.possible x ≡ true
   pub area : r.law.area ≡ Some (whole_area g.0 kind)
   pub among : (x : ℕ) → r.law.held x ≡ true → r.law.healing x ≡ true
@@ -79,7 +79,7 @@ pub record AtLooks (n : ℕ) (keeps : ℕ → Kind → Bool) (r : Exact) (g : Gf
   pub base : IsBase g r
   pub whole : r.broken ≡ false
   pub step : r.step ≡ Looks
-  pub opening : r.phase ≡ Opening
+  pub opening : r.part ≡ Opening
   pub is_kind : r.law.kind ≡ kind
   pub every : (x : ℕ) → x < n → r.possible x ≡ true
   pub area : r.law.area ≡ Some (whole_area g.0 kind)
@@ -92,7 +92,7 @@ pub record AtPart (n : ℕ) (keeps : ℕ → Kind → Bool) (r : Exact) (s : ℕ
   pub base : IsBase g r
   pub whole : r.broken ≡ false
   pub step : r.step ≡ WorkLocks
-  pub part : is_opening r.phase ≡ false
+  pub part : is_opening r.part ≡ false
   pub bytes : kind ≡ Bytes
   pub is_kind : r.law.kind ≡ kind
   pub picked : Picked n keeps r s kind
@@ -107,7 +107,7 @@ pub record AtViews (n : ℕ) (keeps : ℕ → Kind → Bool) (r : Exact) (s : �
   pub base : IsBase g r
   pub whole : r.broken ≡ false
   pub step : r.step ≡ Looks
-  pub part : is_opening r.phase ≡ false
+  pub part : is_opening r.part ≡ false
   pub bytes : kind ≡ Bytes
   pub is_kind : r.law.kind ≡ kind
   pub picked : Picked n keeps r s kind
@@ -123,7 +123,7 @@ pub record AfterLooks (n : ℕ) (keeps : ℕ → Kind → Bool) (r : Exact) (s :
   pub base : IsBase g r
   pub whole : r.broken ≡ false
   pub is_kind : r.law.kind ≡ kind
-  pub of_kind : OfKind kind r.phase
+  pub of_kind : OfKind kind r.part
   pub below : s < n
   pub possible : r.possible s ≡ true
   pub many : is_most n r.first_reached ≡ true
@@ -134,13 +134,13 @@ pub record AfterLooks (n : ℕ) (keeps : ℕ → Kind → Bool) (r : Exact) (s :
   -- a read that was asked is noted
   pub noted : (x : ℕ) → x < n → set_of n keeps r s Reads x ≡ true → behind r Reads x ≡ true → has_read (r.reads x) ≡ true
   -- a sink that was asked its cut, or any after the opening, isn't the source
-  pub told : kind ≡ Bytes → (x : ℕ) → x < n → sink keeps r s x ≡ true → (not (is_opening r.phase) || behind r Mends x) ≡ true → r.possible x ≡ false
+  pub told : kind ≡ Bytes → (x : ℕ) → x < n → sink keeps r s x ≡ true → (not (is_opening r.part) || behind r Mends x) ≡ true → r.possible x ≡ false
   pub freed : (x : ℕ) → x < n → behind r Unlocks x ≡ true → r.law.held x ≡ false
   pub holding : (x : ℕ) → x < n → r.first_reached x ≡ true → nat_lt (rank r.step) 12 ≡ true → r.law.held x ≡ true
   pub lost : (x : ℕ) → x < n → behind r HealUnlocks x ≡ true → r.law.healing x ≡ false
   pub healing : (x : ℕ) → x < n → r.first_reached x ≡ true → nat_lt (rank r.step) 13 ≡ true → r.law.healing x ≡ true
   -- the Heal locks are given back after the last part alone
-  pub parts : has_part kind r.phase ≡ true → nat_lt (rank r.step) 13 ≡ true
+  pub parts : has_part kind r.part ≡ true → nat_lt (rank r.step) 13 ≡ true
 
 -- only unlocks are left
 pub record Broken (r : Exact) (g : Gfid) : Type 0 where

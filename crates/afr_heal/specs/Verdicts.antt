@@ -9,11 +9,11 @@ use Rattle.afr_moves.specs.Sets.{any}
 use Rattle.afr_moves.specs.Steps.{goes_on, sink}
 
 -- what the first looks say
-pub data Verdict : Type 0 where
-  Short : Verdict
-  Nothing : Verdict
-  Split : Verdict
-  Sources : Verdict
+pub data HealVerdict : Type 0 where
+  Short : HealVerdict
+  Nothing : HealVerdict
+  Split : HealVerdict
+  Sources : HealVerdict
 
 -- a majority answered the first looks, and a majority showed a copy
 abbrev pub are_enough : ℕ → Exact → Bool
@@ -28,21 +28,21 @@ abbrev pub has_good : ℕ → (ℕ → Kind → Bool) → Exact → Bool
 has_good n keeps r = any n (good n keeps r.law.kind r.first_views)
 
 -- the verdict, in the order in which a heal answers
-abbrev pub verdict_by : Bool → Bool → Bool → Verdict
+abbrev pub verdict_by : Bool → Bool → Bool → HealVerdict
 verdict_by enough numbers copies = if not enough then Short else (if not numbers then Nothing else (if not copies then Split else Sources))
 
 -- the verdict of the first looks
-abbrev pub verdict : ℕ → (ℕ → Kind → Bool) → Exact → Verdict
+abbrev pub verdict : ℕ → (ℕ → Kind → Bool) → Exact → HealVerdict
 verdict n keeps r = verdict_by (are_enough n r) (has_numbers n r) (has_good n keeps r)
 
 -- the heal goes on with this verdict
-abbrev pub goes : Verdict → Bool
+abbrev pub goes : HealVerdict → Bool
 goes Sources = true
 goes other = false
 
 -- while every copy may be the source, the heal goes on exactly where the verdict is Sources
 abbrev pub OpeningIsVerdict : Type 0
-OpeningIsVerdict = (n : ℕ) (keeps : ℕ → Kind → Bool) (r : Exact) → r.phase ≡ Opening → ((x : ℕ) → x < n → r.possible x ≡ true) → any n (candidate n keeps r) ≡ goes (verdict n keeps r)
+OpeningIsVerdict = (n : ℕ) (keeps : ℕ → Kind → Bool) (r : Exact) → r.part ≡ Opening → ((x : ℕ) → x < n → r.possible x ≡ true) → any n (candidate n keeps r) ≡ goes (verdict n keeps r)
 
 -- later the source is told: the heal goes on exactly where its source does
 abbrev pub LaterIsSource : Type 0

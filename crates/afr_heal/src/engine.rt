@@ -1,6 +1,6 @@
 //! The next line of a heal: that of the first step, in order, in which it is some brick's turn.
 ghost use Rattle.std.specs.Prelude.{◌≡◌, ◌<◌, ◌≤◌};
-ghost use Rattle.afr_discipline.specs.Stands.{phase_of, seen_as, step_of};
+ghost use Rattle.afr_discipline.specs.Stands.{heal_part_of, seen_as, step_of};
 ghost use Rattle.afr_heal.specs.Carried.{next_by};
 ghost use Rattle.afr_heal.specs.Coming.{RoomEach, coming_of};
 ghost use Rattle.afr_heal.specs.Due.{rest_next};
@@ -12,15 +12,15 @@ use crate::coming::Coming;
 use crate::due::{asked, first_due};
 use crate::requests::{area_of, heal_range, next_of, request_of};
 use afr_base::{BrickId, Gfid, Kind};
-use afr_discipline::{Phase, Register, Step, first_of, present_part, present_step};
+use afr_discipline::{HealPart, Register, Step, first_of, present_part, present_step};
 use afr_lines::{Domain, Request};
 
 /// Whether another part is to come: only a heal of bytes has more than the first.
 fn is_part_left(register: &Register, kind: Kind) -> bool
-    ensures { result ≡ has_part kind (phase_of register.now.phase) }
+    ensures { result ≡ has_part kind (heal_part_of register.now.part) }
 {
     match (kind, present_part(register)) {
-        (Kind::Bytes, Phase::Finish) => false,
+        (Kind::Bytes, HealPart::Finish) => false,
         (Kind::Bytes, _) => true,
         (_, _) => false,
     }
@@ -47,7 +47,7 @@ fn end_or_giving(register: &Register, source: BrickId, gfid: Gfid, kind: Kind) -
     requires few { register.now.shape.n ≤ 5 }
     requires source { source.0 < 5 }
     requires room { RoomEach register.now kind }
-    ensures { result ≡ coming_of (part_or_end register.now.shape.n (keeps_in register.now.shape) (seen_as register.now) source.0 gfid kind (has_part kind (phase_of register.now.phase))) }
+    ensures { result ≡ coming_of (part_or_end register.now.shape.n (keeps_in register.now.shape) (seen_as register.now) source.0 gfid kind (has_part kind (heal_part_of register.now.part))) }
 {
     if is_part_left(register, kind) {
         match first_of(register.shape.n, register.seen.reached) {

@@ -1,6 +1,6 @@
 //! What each step of a heal asks of a brick.
 ghost use Rattle.std.specs.Prelude.{◌≡◌, ◌<◌, ◌≤◌};
-ghost use Rattle.afr_discipline.specs.Stands.{phase_of, seen_as, step_of};
+ghost use Rattle.afr_discipline.specs.Stands.{heal_part_of, seen_as, step_of};
 ghost use Rattle.afr_heal.specs.Coming.{HasRoom};
 ghost use Rattle.afr_heal.specs.Requests.{area_now, next_area, position, read_in, repair_in, request_in};
 ghost use Rattle.afr_moves.specs.Keeps.{keeps_in};
@@ -8,7 +8,7 @@ ghost use Rattle.afr_moves.specs.Register.{piece_area, whole_area};
 ghost use Rattle.afr_moves.specs.Rules.{heal_area};
 
 use afr_base::{BrickId, FIRST_ATTRIBUTE, Gfid, HEAL_BLOCK, Kind};
-use afr_discipline::{Phase, Register, Step, len_at, owed_at, present_part};
+use afr_discipline::{HealPart, Register, Step, len_at, owed_at, present_part};
 use afr_lines::{Area, Domain, Request};
 use afr_object::Repair;
 
@@ -99,10 +99,10 @@ fn read_of(register: &Register, gfid: Gfid, kind: Kind) -> Request
 
 fn repair_of(register: &Register, source: BrickId, gfid: Gfid, kind: Kind) -> Repair
     requires { source.0 < 5 }
-    ensures { result ≡ repair_in (seen_as register.now) source.0 gfid kind (phase_of register.now.phase) }
+    ensures { result ≡ repair_in (seen_as register.now) source.0 gfid kind (heal_part_of register.now.part) }
 {
     match (kind, present_part(register)) {
-        (Kind::Bytes, Phase::Opening) => Repair::CutTo {
+        (Kind::Bytes, HealPart::Opening) => Repair::CutTo {
             gfid,
             len: len_at(&register.seen, source),
         },

@@ -9,20 +9,20 @@ use Rattle.afr_discipline.specs.Five.{has_read}
 use Rattle.afr_discipline.specs.Stands.{reads_of, seen_as}
 use Rattle.afr_heal.proofs.Finding.{passed_behind, turn_set}
 use Rattle.afr_heal.proofs.StagesWalk.{after_elim, broken_elim, first_elim, heal_elim, lock_elim, look_elim, looks_later}
-use Rattle.afr_heal.specs.Engine.{Begins, Next, next_of}
+use Rattle.afr_heal.specs.Engine.{Begins, NextOfHeal, next_of}
 use Rattle.afr_heal.specs.Requests.{position, read_in, repair_in}
 use Rattle.afr_heal.specs.Standing.{Ending, First, Going, Healing as HealingLocks, Looking, Parting, Standing, Viewing, Working}
 use Rattle.afr_heal_entry.specs.Merging.{present}
-use Rattle.afr_heal_hears.proofs.Asks.{Asked, OfFirst, OfLock, OfLook, OfMend, OfPre, OfRead, OfSettle, OfUnlock, asked_of}
+use Rattle.afr_heal_hears.proofs.Asks.{HealAsked, OfFirst, OfLock, OfLook, OfMend, OfPre, OfRead, OfSettle, OfUnlock, asked_of}
 use Rattle.afr_heal_hears.proofs.Showing.{all_shown, all_unread, bytes_any, five_places, itself, none_at, still_held, unread}
-use Rattle.afr_heal_hears.specs.Holds.{AreShown, HealBrings, Holds, HoldsBegun, HoldsOther, Unread}
+use Rattle.afr_heal_hears.specs.Holds.{AreShown, HealBrings, HoldsBegun, HoldsOther, HoldsReads, NothingRead}
 use Rattle.afr_lines.specs.Log.{from_oldest}
 use Rattle.afr_lines.specs.declared.line.Line.{Line}
 use Rattle.afr_lines.specs.declared.line.Line.TheVariants.{HealBegin}
 use Rattle.afr_lines.specs.declared.request.Request.{Request}
 use Rattle.afr_model.specs.Tables.{Past, all_names_shown, attrs_shown, bytes_shown, carried, held_before}
 use Rattle.afr_moves.specs.Keeps.{keeps_in}
-use Rattle.afr_moves.specs.Register.{Exact, Finish, Mends, Opening, Phase, Piece, Reads, WorkLocks, asked_in, is_opening, over, rank}
+use Rattle.afr_moves.specs.Register.{Exact, Finish, HealPart, Mends, Opening, Piece, Reads, WorkLocks, asked_in, is_opening, over, rank}
 use Rattle.afr_moves.specs.Steps.{looks_at, mends_at, reads_at}
 use Rattle.afr_object.specs.Repairs.{merged}
 use Rattle.afr_object.specs.Repairs as contents_in
@@ -31,8 +31,8 @@ use Rattle.afr_object.specs.declared.entry.Entry.{Entry}
 use Rattle.afr_plan.specs.declared.plan.Plan.{Plan}
 use Rattle.afr_self_heal.specs.Contents.{AreMerged, IsMerged, carried_in, merge_in, readied}
 use Rattle.afr_self_heal.specs.Healing.{begun}
-use Rattle.afr_self_heal.specs.declared.contents.Contents.{Contents}
-use Rattle.afr_self_heal.specs.declared.contents.Contents.TheVariants.{Nothing, Bytes, Attrs, Names}
+use Rattle.afr_self_heal.specs.declared.contents.ReadSoFar.{ReadSoFar}
+use Rattle.afr_self_heal.specs.declared.contents.ReadSoFar.TheVariants.{Nothing, Bytes, Attrs, Names}
 use Rattle.afr_self_heal.specs.declared.contents.NamesRead.{NamesRead}
 use Rattle.afr_server.specs.Carried.{Brings}
 
@@ -43,29 +43,29 @@ holds_other p m log line k = record { shown = still_held p line log m.kind (read
 -- ---- a part begins
 -- only Work locks come before it
 begins_at : (n : ℕ) (keeps : ℕ → Kind → Bool) (r : Exact) (s : ℕ) (g : Gfid) (kind : Kind) → Standing n keeps r s g kind → next_of n keeps r s g kind ≡ Begins → r.step ≡ WorkLocks
-begins_at n keeps r s g kind (First k) = first_elim n keeps r s g kind k (λ (next : Next). next ≡ Begins → r.step ≡ WorkLocks) (λ e. absurd (cc e))
-begins_at n keeps r s g kind (HealingLocks k) = heal_elim n keeps r s g kind k (λ (next : Next). next ≡ Begins → r.step ≡ WorkLocks) (λ c l t e. absurd (cc e)) (λ o c l t e. absurd (cc e))
-begins_at n keeps r s g kind (Working k) = lock_elim n keeps r s g kind (λ (next : Next). next ≡ Begins → r.step ≡ WorkLocks) k.whole k.step (λ c l t e. absurd (cc e)) (λ o e. k.step)
+begins_at n keeps r s g kind (First k) = first_elim n keeps r s g kind k (λ (next : NextOfHeal). next ≡ Begins → r.step ≡ WorkLocks) (λ e. absurd (cc e))
+begins_at n keeps r s g kind (HealingLocks k) = heal_elim n keeps r s g kind k (λ (next : NextOfHeal). next ≡ Begins → r.step ≡ WorkLocks) (λ c l t e. absurd (cc e)) (λ o c l t e. absurd (cc e))
+begins_at n keeps r s g kind (Working k) = lock_elim n keeps r s g kind (λ (next : NextOfHeal). next ≡ Begins → r.step ≡ WorkLocks) k.whole k.step (λ c l t e. absurd (cc e)) (λ o e. k.step)
 begins_at n keeps r s g kind (Looking k) =
-    look_elim n keeps r s g kind (λ (next : Next). next ≡ Begins → r.step ≡ WorkLocks) k.whole k.step (subst (λ (part : Phase). over n (looks_at r part) r.asked ≡ false) (sym k.opening) k.more) (λ c l t e. absurd (cc e))
-begins_at n keeps r s g kind (Parting k) = lock_elim n keeps r s g kind (λ (next : Next). next ≡ Begins → r.step ≡ WorkLocks) k.whole k.step (λ c l t e. absurd (cc e)) (λ o e. k.step)
-begins_at n keeps r s g kind (Viewing k) = look_elim n keeps r s g kind (λ (next : Next). next ≡ Begins → r.step ≡ WorkLocks) k.whole k.step (looks_later n keeps r s g kind k.part k.more) (λ c l t e. absurd (cc e))
-begins_at n keeps r s g kind (Going k) = after_elim n keeps r s g kind k (λ (next : Next). next ≡ Begins → r.step ≡ WorkLocks)
+    look_elim n keeps r s g kind (λ (next : NextOfHeal). next ≡ Begins → r.step ≡ WorkLocks) k.whole k.step (subst (λ (part : HealPart). over n (looks_at r part) r.asked ≡ false) (sym k.opening) k.more) (λ c l t e. absurd (cc e))
+begins_at n keeps r s g kind (Parting k) = lock_elim n keeps r s g kind (λ (next : NextOfHeal). next ≡ Begins → r.step ≡ WorkLocks) k.whole k.step (λ c l t e. absurd (cc e)) (λ o e. k.step)
+begins_at n keeps r s g kind (Viewing k) = look_elim n keeps r s g kind (λ (next : NextOfHeal). next ≡ Begins → r.step ≡ WorkLocks) k.whole k.step (looks_later n keeps r s g kind k.part k.more) (λ c l t e. absurd (cc e))
+begins_at n keeps r s g kind (Going k) = after_elim n keeps r s g kind k (λ (next : NextOfHeal). next ≡ Begins → r.step ≡ WorkLocks)
     (λ c l t e. absurd (cc e)) (λ o c l t e. absurd (cc e)) (λ o c l t e. absurd (cc e)) (λ o c l t e. absurd (cc e)) (λ o c l t e. absurd (cc e)) (λ o p q c l t e. absurd (cc e)) (λ o p q c l t e. absurd (cc e)) (λ p q e. absurd (cc e))
-begins_at n keeps r s g kind (Ending k) = broken_elim n keeps r s g kind (λ (next : Next). next ≡ Begins → r.step ≡ WorkLocks) k.broken (λ c l t e. absurd (cc e)) (λ none c l t e. absurd (cc e)) (λ none left e. absurd (cc e))
+begins_at n keeps r s g kind (Ending k) = broken_elim n keeps r s g kind (λ (next : NextOfHeal). next ≡ Begins → r.step ≡ WorkLocks) k.broken (λ c l t e. absurd (cc e)) (λ none c l t e. absurd (cc e)) (λ none left e. absurd (cc e))
 
 -- nothing was read before the looks
 none_before : (r : Exact) → r.step ≡ WorkLocks → ((x : ℕ) → nat_le (rank r.step) 8 ≡ true → asked_in r Reads x ≡ false → r.reads x ≡ None) → (x : ℕ) → r.reads x ≡ None
 none_before r at unread x = unread x (rw at refl) (rw at refl)
 
 -- so what is held is what no read showed
-held_begun : (p : Plan) (log longer : List Line) (kind : Kind) (reads : List (Option ℕ)) (s : ℕ) (r : Exact) (contents : Contents) → r.reads ≡ reads_of reads → length reads ≡ 5 → r.step ≡ WorkLocks → Unread kind r contents
-    → Holds p log kind (reads_of reads s) reads contents → Holds p longer kind (reads_of unread s) unread contents
-held_begun p log longer kind_of.Bytes reads s r contents same five at none h = subst (λ (read : Option ℕ). Holds p longer kind_of.Bytes read unread contents) (sym (none_at s)) (bytes_any p log longer (reads_of reads s) reads unread contents h)
+held_begun : (p : Plan) (log longer : List Line) (kind : Kind) (reads : List (Option ℕ)) (s : ℕ) (r : Exact) (contents : ReadSoFar) → r.reads ≡ reads_of reads → length reads ≡ 5 → r.step ≡ WorkLocks → NothingRead kind r contents
+    → HoldsReads p log kind (reads_of reads s) reads contents → HoldsReads p longer kind (reads_of unread s) unread contents
+held_begun p log longer kind_of.Bytes reads s r contents same five at none h = subst (λ (read : Option ℕ). HoldsReads p longer kind_of.Bytes read unread contents) (sym (none_at s)) (bytes_any p log longer (reads_of reads s) reads unread contents h)
 held_begun p log longer kind_of.Attrs reads s r contents same five at none h =
     let is : reads_of reads s ≡ None = ap (λ (f : ℕ → Option ℕ). f s) (sym same) ∙ none_before r at none s in
-    let was : Holds p log kind_of.Attrs None reads contents = subst (λ (read : Option ℕ). Holds p log kind_of.Attrs read reads contents) is h in
-    subst (λ (read : Option ℕ). Holds p longer kind_of.Attrs read unread contents) (sym (none_at s)) was
+    let was : HoldsReads p log kind_of.Attrs None reads contents = subst (λ (read : Option ℕ). HoldsReads p log kind_of.Attrs read reads contents) is h in
+    subst (λ (read : Option ℕ). HoldsReads p longer kind_of.Attrs read unread contents) (sym (none_at s)) was
 held_begun p log longer kind_of.Names reads s r (Names names) same five at none h = go names.lists (subst (λ (x : List (Option ℕ)). AreShown p log x names.lists) is h)
   where
     is : reads ≡ unread
@@ -88,7 +88,7 @@ held_begun p log longer kind_of.Names reads s r Nothing same five at none h = ab
 held_begun p log longer kind_of.Names reads s r (Bytes bytes) same five at none h = absurd h
 held_begun p log longer kind_of.Names reads s r (Attrs attrs) same five at none h = absurd h
 
-unread_begun : (kind : Kind) (r new : Exact) (contents : Contents) → ((x : ℕ) → new.reads x ≡ None) → new.phase ≡ r.phase → Unread kind r contents → Unread kind new contents
+unread_begun : (kind : Kind) (r new : Exact) (contents : ReadSoFar) → ((x : ℕ) → new.reads x ≡ None) → new.part ≡ r.part → NothingRead kind r contents → NothingRead kind new contents
 unread_begun kind_of.Bytes r new contents none part k = λ first. (none, (k (ap is_opening (sym part) ∙ first)).1)
 unread_begun kind_of.Attrs r new contents none part k = λ x low new. none x
 unread_begun kind_of.Names r new contents none part k = λ x low new. none x
@@ -110,32 +110,32 @@ merge_is read k = go read.merged refl
     go None e = refl
     go (Some names) e = k.merge names e
 
-module _ (p : Plan) (log : List Line) (n : ℕ) (keeps : ℕ → Kind → Bool) (r : Exact) (s b : ℕ) (g : Gfid) (reads : List (Option ℕ)) (same : r.reads ≡ reads_of reads) (five : length reads ≡ 5) (contents : Contents) (sound : AreMerged contents) (load : Load)
+module _ (p : Plan) (log : List Line) (n : ℕ) (keeps : ℕ → Kind → Bool) (r : Exact) (s b : ℕ) (g : Gfid) (reads : List (Option ℕ)) (same : r.reads ≡ reads_of reads) (five : length reads ≡ 5) (contents : ReadSoFar) (sound : AreMerged contents) (load : Load)
     (goes : contents_of load ≡ carried_in (readied contents)) where
-  abbrev Goal : Kind → Phase → Type 0
+  abbrev Goal : Kind → HealPart → Type 0
   Goal kind part = contents_of load ≡ carried (held_before p log) log (repair_in r s g kind part)
 
-  bytes_goes : (read : Option ℕ) → has_read read ≡ true → Holds p log kind_of.Bytes read reads contents → contents_of load ≡ contents_in.Bytes (bytes_shown (held_before p log) (position read) (from_oldest (position read) log))
+  bytes_goes : (read : Option ℕ) → has_read read ≡ true → HoldsReads p log kind_of.Bytes read reads contents → contents_of load ≡ contents_in.Bytes (bytes_shown (held_before p log) (position read) (from_oldest (position read) log))
   bytes_goes None there h = absurd (cc there)
-  bytes_goes (Some t) there h = goes ∙ ap (λ (c : Contents). carried_in (readied c)) h.1
+  bytes_goes (Some t) there h = goes ∙ ap (λ (c : ReadSoFar). carried_in (readied c)) h.1
 
-  attrs_goes : (read : Option ℕ) → has_read read ≡ true → Holds p log kind_of.Attrs read reads contents → contents_of load ≡ contents_in.Attrs (attrs_shown (held_before p log) (position read) (from_oldest (position read) log))
+  attrs_goes : (read : Option ℕ) → has_read read ≡ true → HoldsReads p log kind_of.Attrs read reads contents → contents_of load ≡ contents_in.Attrs (attrs_shown (held_before p log) (position read) (from_oldest (position read) log))
   attrs_goes None there h = absurd (cc there)
-  attrs_goes (Some t) there h = goes ∙ ap (λ (c : Contents). carried_in (readied c)) h.1
+  attrs_goes (Some t) there h = goes ∙ ap (λ (c : ReadSoFar). carried_in (readied c)) h.1
 
-  names_goes : (c : Contents) → contents ≡ c → AreMerged c → Holds p log kind_of.Names (reads_of reads s) reads c → contents_of load ≡ contents_in.Names (merged (all_names_shown (held_before p log) log reads))
-  names_goes (Names read) e k h = goes ∙ ap (λ (c : Contents). carried_in (readied c)) e ∙ ap contents_in.Names (merge_is read k ∙ ap merged (all_shown p log reads read.lists h))
+  names_goes : (c : ReadSoFar) → contents ≡ c → AreMerged c → HoldsReads p log kind_of.Names (reads_of reads s) reads c → contents_of load ≡ contents_in.Names (merged (all_names_shown (held_before p log) log reads))
+  names_goes (Names read) e k h = goes ∙ ap (λ (c : ReadSoFar). carried_in (readied c)) e ∙ ap contents_in.Names (merge_is read k ∙ ap merged (all_shown p log reads read.lists h))
   names_goes Nothing e k h = absurd h
   names_goes (Bytes bytes) e k h = absurd h
   names_goes (Attrs attrs) e k h = absurd h
 
   -- the repair of a part carries what the part's reads showed
-  mend_goes : (kind : Kind) (part : Phase) → mends_at keeps r s kind part b ≡ true → (reads_at n keeps r s kind part s ≡ true → has_read (r.reads s) ≡ true) → (kind ≡ kind_of.Bytes → is_opening part ≡ true → contents ≡ Nothing)
-      → Holds p log kind (reads_of reads s) reads contents → Goal kind part
-  mend_goes kind_of.Bytes Opening turns noted none h = goes ∙ ap (λ (c : Contents). carried_in (readied c)) (none refl refl)
-  mend_goes kind_of.Bytes Piece turns noted none h = bytes_goes (r.reads s) (noted (itself s)) (subst (λ (f : ℕ → Option ℕ). Holds p log kind_of.Bytes (f s) reads contents) (sym same) h)
+  mend_goes : (kind : Kind) (part : HealPart) → mends_at keeps r s kind part b ≡ true → (reads_at n keeps r s kind part s ≡ true → has_read (r.reads s) ≡ true) → (kind ≡ kind_of.Bytes → is_opening part ≡ true → contents ≡ Nothing)
+      → HoldsReads p log kind (reads_of reads s) reads contents → Goal kind part
+  mend_goes kind_of.Bytes Opening turns noted none h = goes ∙ ap (λ (c : ReadSoFar). carried_in (readied c)) (none refl refl)
+  mend_goes kind_of.Bytes Piece turns noted none h = bytes_goes (r.reads s) (noted (itself s)) (subst (λ (f : ℕ → Option ℕ). HoldsReads p log kind_of.Bytes (f s) reads contents) (sym same) h)
   mend_goes kind_of.Bytes Finish turns noted none h = absurd (cc turns)
-  mend_goes kind_of.Attrs part turns noted none h = attrs_goes (r.reads s) (noted (itself s)) (subst (λ (f : ℕ → Option ℕ). Holds p log kind_of.Attrs (f s) reads contents) (sym same) h)
+  mend_goes kind_of.Attrs part turns noted none h = attrs_goes (r.reads s) (noted (itself s)) (subst (λ (f : ℕ → Option ℕ). HoldsReads p log kind_of.Attrs (f s) reads contents) (sym same) h)
   mend_goes kind_of.Names part turns noted none h =
       names_goes contents refl sound h
       ∙ ap (λ (xs : List (Option ℕ)). contents_in.Names (merged (all_names_shown (held_before p log) log xs))) (five_places reads five ∙ ap (λ (f : ℕ → Option ℕ). f 0 ∷ f 1 ∷ f 2 ∷ f 3 ∷ f 4 ∷ []) (sym same))
@@ -146,7 +146,7 @@ read_brings r g kind_of.Bytes load log past = tt
 read_brings r g kind_of.Attrs load log past = tt
 read_brings r g kind_of.Names load log past = tt
 
-none_read : (kind : Kind) (r : Exact) (contents : Contents) → Unread kind r contents → kind ≡ kind_of.Bytes → is_opening r.phase ≡ true → contents ≡ Nothing
+none_read : (kind : Kind) (r : Exact) (contents : ReadSoFar) → NothingRead kind r contents → kind ≡ kind_of.Bytes → is_opening r.part ≡ true → contents ≡ Nothing
 none_read kind_of.Bytes r contents k e first = (k first).1
 none_read kind_of.Attrs r contents k e first = absurd (cc e)
 none_read kind_of.Names r contents k e first = absurd (cc e)
@@ -169,7 +169,7 @@ heal_brings p m log b request load h k e goes = by (asked_of n keeps r s m.gfid 
     same : (q : Request) → request ≡ q → Brings q load log (held_before p log) → Brings request load log (held_before p log)
     same q is given = subst (λ (x : Request). Brings x load log (held_before p log)) (sym is) given
 
-    by : Asked n keeps r s m.gfid m.kind b request → Brings request load log (held_before p log)
+    by : HealAsked n keeps r s m.gfid m.kind b request → Brings request load log (held_before p log)
     by (OfFirst area out is low) = same _ is tt
     by (OfLock domain area on is low) = same _ is tt
     by (OfUnlock domain area on is) = same _ is tt
@@ -179,7 +179,7 @@ heal_brings p m log b request load h k e goes = by (asked_of n keeps r s m.gfid 
     by (OfSettle less on is) = same _ is tt
     by (OfMend going is passed turns) =
         same _ is
-        (mend_goes p log n keeps r s b m.gfid m.register.reads refl h.heals.five.reads m.contents h.merged load goes m.kind r.phase
-        (subst (λ (what : Kind). mends_at keeps r s what r.phase b ≡ true) going.is_kind (turn_set n keeps r s Mends b turns))
-        (λ set. let own = subst (λ (what : Kind). reads_at n keeps r s what r.phase s ≡ true) (sym going.is_kind) set in going.noted s going.below own (passed_behind n keeps r s Reads passed s going.below own))
+        (mend_goes p log n keeps r s b m.gfid m.register.reads refl h.heals.five.reads m.contents h.merged load goes m.kind r.part
+        (subst (λ (what : Kind). mends_at keeps r s what r.part b ≡ true) going.is_kind (turn_set n keeps r s Mends b turns))
+        (λ set. let own = subst (λ (what : Kind). reads_at n keeps r s what r.part s ≡ true) (sym going.is_kind) set in going.noted s going.below own (passed_behind n keeps r s Reads passed s going.below own))
         (none_read m.kind r m.contents k.unread) k.shown)

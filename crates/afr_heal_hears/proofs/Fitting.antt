@@ -13,13 +13,13 @@ use Rattle.afr_lines.specs.declared.fault.Fault.{Fault}
 use Rattle.afr_lines.specs.declared.fault.Fault.TheVariants.{Fail, Lost}
 use Rattle.afr_heal.proofs.Parts.{both}
 use Rattle.afr_heal.specs.Answers.{fits}
-use Rattle.afr_heal.specs.Engine.{Next}
+use Rattle.afr_heal.specs.Engine.{NextOfHeal}
 use Rattle.afr_heal.specs.Requests.{read_in, repair_in}
 use Rattle.afr_heal.specs.Standing.{AfterLooks}
-use Rattle.afr_heal_hears.proofs.Asks.{Asked, OfFirst, OfLock, OfLook, OfMend, OfPre, OfRead, OfSettle, OfUnlock, asked_of}
+use Rattle.afr_heal_hears.proofs.Asks.{HealAsked, OfFirst, OfLock, OfLook, OfMend, OfPre, OfRead, OfSettle, OfUnlock, asked_of}
 use Rattle.afr_heal_hears.proofs.Inside.{IsInside, is_inside}
 use Rattle.afr_heal_hears.proofs.There.{attrs_there, bytes_there, names_there}
-use Rattle.afr_heal_hears.specs.Hears.{HealHears, IndexIsListed, IsTold, Listed, Refused}
+use Rattle.afr_heal_hears.specs.Hears.{HealHears, IndexIsListed, IsHeardInHeal, Listed, Refused}
 use Rattle.afr_heal_telling.specs.HealLaws.{IsWholeTold}
 use Rattle.afr_heal_telling.specs.HealTelling.{TellsAt}
 use Rattle.afr_law.proofs.Model.Dirty.{seen_copy}
@@ -36,19 +36,19 @@ use Rattle.afr_lines.specs.Work.{Work, work}
 use Rattle.afr_lines.specs.declared.answer.Answer.{Answer}
 use Rattle.afr_lines.specs.declared.answer.Answer.TheVariants as answer
 use Rattle.afr_lines.specs.declared.answer.Told.{Told}
-use Rattle.afr_lines.specs.declared.answer.Told.TheVariants as told_of
+use Rattle.afr_lines.specs.declared.answer.Told.TheVariants as as_told
 use Rattle.afr_lines.specs.declared.line.Line.{Line}
 use Rattle.afr_lines.specs.declared.line.Line.TheVariants.{Ask}
 use Rattle.afr_lines.specs.declared.request.Request.{Request}
 use Rattle.afr_lines.specs.declared.request.Request.TheVariants as request_of
 use Rattle.afr_model.specs.Healing.{heal_asking, heal_by}
-use Rattle.afr_model.specs.Honest.{Honest, IsHonest, Outcome, answer_by, copy_answer, fault_in, in_the_way, is_live, over_session, requests_to, tells}
+use Rattle.afr_model.specs.Honest.{Honest, IsHonest, RequestOutcome, answer_by, copy_answer, fault_in, in_the_way, is_live, over_session, requests_to, tells}
 use Rattle.afr_model.specs.Rounds.{listed_after}
 use Rattle.afr_model.specs.Showing.{among, is_fault}
 use Rattle.afr_model.specs.Sums.{has_object}
 use Rattle.afr_model.specs.Tables.{holds}
 use Rattle.afr_moves.specs.Keeps.{keeps_in}
-use Rattle.afr_moves.specs.Register.{Exact, Finish, HealLocks, HealPres, HealUnlocks, Looks, Mends, Opening, Phase, Piece, Reads, Settles, Step, Unlocks, Untouched, WorkLocks, Open, Pres, Applies, Posts, rank}
+use Rattle.afr_moves.specs.Register.{Exact, Finish, HealLocks, HealPres, HealUnlocks, Looks, Mends, Opening, HealPart, Piece, Reads, Settles, Step, Unlocks, Untouched, WorkLocks, Open, Pres, Applies, Posts, rank}
 use Rattle.afr_object.specs.Indexed.{index_of}
 use Rattle.afr_object.specs.Repairs.{repaired}
 use Rattle.afr_object.specs.Tables.{copy_at, view_of}
@@ -56,7 +56,7 @@ use Rattle.afr_object.specs.declared.entry.View.{View}
 use Rattle.afr_object.specs.Object.{Object}
 use Rattle.afr_plan.specs.declared.plan.Plan.{Plan}
 use Rattle.afr_self_heal.specs.Healing.{CanHear, IsShowable, IsTellable}
-use Rattle.afr_self_heal.specs.declared.outcome.Outcome.{Outcome as HealOutcome}
+use Rattle.afr_self_heal.specs.declared.outcome.HealOutcome.{HealOutcome as HealOutcome}
 use Rattle.afr_tables.specs.Codes.{kept_by}
 use Rattle.afr_tables.specs.TableLaws.{numbers_below}
 
@@ -102,11 +102,11 @@ said_fits p log b way (request_of.Apply attempt) ready = absurd ready
 said_fits p log b way (request_of.Post attempt g kind missed) ready = absurd ready
 
 -- a fault fits any request
-gone_fits : (request : Request) → fits request told_of.NotConnected ≡ true
+gone_fits : (request : Request) → fits request as_told.NotConnected ≡ true
 gone_fits (request_of.Lock domain area) = refl
 gone_fits request = refl
 
-failed_fits : (request : Request) → fits request told_of.Failed ≡ true
+failed_fits : (request : Request) → fits request as_told.Failed ≡ true
 failed_fits (request_of.Lock domain area) = refl
 failed_fits request = refl
 
@@ -119,12 +119,12 @@ session_fits request true None said h = h
 -- so does an honest answer
 told_fits : (p : Plan) (log : List Line) (a : ActorId) (b : ℕ) (request : Request) (told : Told) (took : Bool) → IsHonest p (Ask a (record { 0 = b }) request told took) log → Ready p log b request → fits request told ≡ true
 told_fits p log a b request told took said ready =
-    subst (λ (x : Told). fits request x ≡ true) (sym (ap (λ (o : Outcome). o.told) said))
+    subst (λ (x : Told). fits request x ≡ true) (sym (ap (λ (o : RequestOutcome). o.told) said))
     (session_fits request (is_live p a b (Ask a (record { 0 = b }) request told took) log) (fault_in p.faults b (suc (requests_to b log))) (tells a request b (holds p log b) log) (said_fits p log b (in_the_way a request b log) request ready))
 
 -- ---- what a look shows
 -- only a look is told a view
-look_is : (request : Request) (view : View) → fits request (told_of.Seen view) ≡ true → (g : Gfid) × (request ≡ request_of.Look g)
+look_is : (request : Request) (view : View) → fits request (as_told.Seen view) ≡ true → (g : Gfid) × (request ≡ request_of.Look g)
 look_is (request_of.Look g) view h = (g, refl)
 look_is (request_of.Lock domain area) view h = absurd (cc h)
 look_is (request_of.Unlock domain area) view h = absurd (cc h)
@@ -138,24 +138,24 @@ module _ (p : Plan) (log : List Line) (few : p.shape.n ≤ 5) (short : length lo
   dirty_low b g o e kind = (let dirty = (numbers_below p log b g kind o e).0 in omega (arith, dirty, short))
 
   -- a view is short, and each of its numbers leaves room
-  view_told : (b : ℕ) (g : Gfid) (o : Object) → copy_at g (holds p log b) ≡ Some o → IsShowable (view_of o) × IsWholeTold (told_of.Seen (view_of o))
+  view_told : (b : ℕ) (g : Gfid) (o : Object) → copy_at g (holds p log b) ≡ Some o → IsShowable (view_of o) × IsWholeTold (as_told.Seen (view_of o))
   view_told b g o e = (
     record { len = copy_short b g o e; bytes = dirty_low b g o e kind_of.Bytes; attrs = dirty_low b g o e kind_of.Attrs; names = dirty_low b g o e kind_of.Names },
     (marks_range p log short b g o e kind_of.Bytes, marks_range p log short b g o e kind_of.Attrs, marks_range p log short b g o e kind_of.Names),
   )
 
   told_shown : (a : ActorId) (b : ℕ) (request : Request) (told : Told) (took : Bool) → IsHonest p (Ask a (record { 0 = b }) request told took) log → fits request told ≡ true → IsTellable told × IsWholeTold told
-  told_shown a b request (told_of.Seen view) took said fit =
+  told_shown a b request (as_told.Seen view) took said fit =
       let look = look_is request view fit in
-      let at_look : IsHonest p (Ask a (record { 0 = b }) (request_of.Look look.0) (told_of.Seen view) took) log = subst (λ (q : Request). IsHonest p (Ask a (record { 0 = b }) q (told_of.Seen view) took) log) look.1 said in
+      let at_look : IsHonest p (Ask a (record { 0 = b }) (request_of.Look look.0) (as_told.Seen view) took) log = subst (λ (q : Request). IsHonest p (Ask a (record { 0 = b }) q (as_told.Seen view) took) log) look.1 said in
       let w = seen_copy _ _ (copy_at look.0 (holds p log b)) view took at_look in
-      subst (λ (v : View). IsShowable v × IsWholeTold (told_of.Seen v)) (sym w.2) (view_told b look.0 w.0 w.1)
-  told_shown a b request told_of.Granted took said fit = (tt, tt)
+      subst (λ (v : View). IsShowable v × IsWholeTold (as_told.Seen v)) (sym w.2) (view_told b look.0 w.0 w.1)
+  told_shown a b request as_told.Granted took said fit = (tt, tt)
   told_shown a b request told took said fit = (tt, tt)
 
 -- ---- a heal
 -- after its first looks each brick was asked for its Heal lock
-heal_asked : (shape : Shape) (r : Exact) (seen looked : Looked) (s : ℕ) (g : Gfid) (kind : Kind) (o : HealOutcome) (w : Work) (broken : Bool) (step : Step) (part : Phase)
+heal_asked : (shape : Shape) (r : Exact) (seen looked : Looked) (s : ℕ) (g : Gfid) (kind : Kind) (o : HealOutcome) (w : Work) (broken : Bool) (step : Step) (part : HealPart)
     → TellsAt broken step part shape r seen looked s g kind o w → broken ≡ false → nat_le 7 (rank step) ≡ true → (x : ℕ) → x < shape.n → member (among heal_asking w) x ≡ true
 heal_asked shape r seen looked s g kind o w true step part t e far = absurd (cc e)
 heal_asked shape r seen looked s g kind o w false Untouched part t e far = absurd (cc far)
@@ -175,7 +175,7 @@ heal_asked shape r seen looked s g kind o w false Settles part t e far = t.asked
 heal_asked shape r seen looked s g kind o w false Unlocks part t e far = t.asked
 heal_asked shape r seen looked s g kind o w false HealUnlocks part t e far = t.asked
 
-module _ (p : Plan) (log : List Line) (a : ActorId) (b : ℕ) (request : Request) (heard : Answer) (took : Bool) (h : IsTold p log a (record { 0 = b }) request heard took) where
+module _ (p : Plan) (log : List Line) (a : ActorId) (b : ℕ) (request : Request) (heard : Answer) (took : Bool) (h : IsHeardInHeal p log a (record { 0 = b }) request heard took) where
   found : HasCopy p log b request
   found = next_found p log a (record { 0 = b }) request h.few h.short h.honest h.lawful h.may
 
@@ -191,19 +191,19 @@ module _ (p : Plan) (log : List Line) (a : ActorId) (b : ℕ) (request : Request
   read_ready r g kind_of.Names inside e = subst (Ready p log b) (sym e) (names_there p log a b h.few h.short h.honest h.lawful inside g (may_for _ e))
 
   -- what a heal asks, its brick has
-  asked_ready : (n : ℕ) (keeps : ℕ → Kind → Bool) (r : Exact) (s : ℕ) (g : Gfid) (kind : Kind) → (AfterLooks n keeps r s g kind → IsInside p.shape.n (kept_by p) a.0 log) → Asked n keeps r s g kind b request → Ready p log b request
+  asked_ready : (n : ℕ) (keeps : ℕ → Kind → Bool) (r : Exact) (s : ℕ) (g : Gfid) (kind : Kind) → (AfterLooks n keeps r s g kind → IsInside p.shape.n (kept_by p) a.0 log) → HealAsked n keeps r s g kind b request → Ready p log b request
   asked_ready n keeps r s g kind inside (OfFirst area out e low) = subst (Ready p log b) (sym e) tt
   asked_ready n keeps r s g kind inside (OfLock domain area on e low) = subst (Ready p log b) (sym e) tt
   asked_ready n keeps r s g kind inside (OfUnlock domain area on e) = subst (Ready p log b) (sym e) tt
   asked_ready n keeps r s g kind inside (OfLook on e low) = subst (Ready p log b) (sym e) tt
   asked_ready n keeps r s g kind inside (OfRead k e turns) = read_ready r g kind (inside k) e
   asked_ready n keeps r s g kind inside (OfPre on e) = subst (Ready p log b) (sym e) (found_for (request_of.Pre g kind) e)
-  asked_ready n keeps r s g kind inside (OfMend k e passed turns) = subst (Ready p log b) (sym e) (found_for (request_of.Mend (repair_in r s g kind r.phase)) e)
+  asked_ready n keeps r s g kind inside (OfMend k e passed turns) = subst (Ready p log b) (sym e) (found_for (request_of.Mend (repair_in r s g kind r.part)) e)
   asked_ready n keeps r s g kind inside (OfSettle less on e) = subst (Ready p log b) (sym e) (found_for (request_of.Settle g kind less) e)
 
 pub heal_hears : HealHears
 heal_hears p m log a b request heard took k same tells e h =
-    (subst (λ (next : Next). CanHear next heard) (sym e) (fit, shown.0), shown.1)
+    (subst (λ (next : NextOfHeal). CanHear next heard) (sym e) (fit, shown.0), shown.1)
   where
     n : ℕ
     n = m.register.shape.n
@@ -212,7 +212,7 @@ heal_hears p m log a b request heard took k same tells e h =
     r = seen_as m.register
 
     inside : AfterLooks n (keeps_in m.register.shape) r m.source.0 m.gfid m.kind → IsInside p.shape.n (kept_by p) a.0 log
-    inside going = is_inside p.shape.n (kept_by p) a.0 0 log (heal_asked m.register.shape r m.register.seen m.register.looked m.source.0 m.gfid m.kind m.outcome (heal_by (work a.0 log)) r.broken r.step r.phase tells.at going.whole (both _ _ going.looked).0 0 k.heals.some)
+    inside going = is_inside p.shape.n (kept_by p) a.0 0 log (heal_asked m.register.shape r m.register.seen m.register.looked m.source.0 m.gfid m.kind m.outcome (heal_by (work a.0 log)) r.broken r.step r.part tells.at going.whole (both _ _ going.looked).0 0 k.heals.some)
 
     ready : Ready p log b request
     ready = asked_ready p log a b request heard took h n (keeps_in m.register.shape) r m.source.0 m.gfid m.kind inside (asked_of n (keeps_in m.register.shape) r m.source.0 m.gfid m.kind b request k.heals.standing e)
@@ -224,7 +224,7 @@ heal_hears p m log a b request heard took k same tells e h =
     shown = told_shown p log h.few h.short h.honest h.lawful a b request (told_by heard) took h.said fit
 
 -- ---- an index
-index_told : (live : Bool) (fault : Option Fault) → ((over_session live fault told_of.Given).told ≡ told_of.Given) ⊎ (is_fault (over_session live fault told_of.Given).told ≡ true)
+index_told : (live : Bool) (fault : Option Fault) → ((over_session live fault as_told.Given).told ≡ as_told.Given) ⊎ (is_fault (over_session live fault as_told.Given).told ≡ true)
 index_told false fault = inr refl
 index_told true (Some Fail) = inr refl
 index_told true (Some Lost) = inr refl
@@ -233,11 +233,11 @@ index_told true None = inl refl
 pub index_listed : IndexIsListed
 index_listed p log a b heard took h = elim (index_told (is_live p a b.0 (Ask a b request_of.Index (told_by heard) took) log) (fault_in p.faults b.0 (suc (requests_to b.0 log)))) [
   | inl given ↦ (
-      let is : told_by heard ≡ told_of.Given = said ∙ given in
+      let is : told_by heard ≡ as_told.Given = said ∙ given in
       Listed (index_of (holds p log b.0)) (h.full is) (ap (λ (x : Told). listed_after p (Ask a b request_of.Index x took) log []) is)
       )
   | inr fault ↦ Refused (ap is_fault said ∙ fault)
 ]
   where
-    said : told_by heard ≡ (over_session (is_live p a b.0 (Ask a b request_of.Index (told_by heard) took) log) (fault_in p.faults b.0 (suc (requests_to b.0 log))) told_of.Given).told
-    said = ap (λ (o : Outcome). o.told) h.said
+    said : told_by heard ≡ (over_session (is_live p a b.0 (Ask a b request_of.Index (told_by heard) took) log) (fault_in p.faults b.0 (suc (requests_to b.0 log))) as_told.Given).told
+    said = ap (λ (o : RequestOutcome). o.told) h.said

@@ -8,20 +8,20 @@ use Rattle.afr_base.specs.declared.ids.Gfid.{Gfid}
 use Rattle.afr_base.specs.declared.ids.Kind.{Kind}
 use Rattle.afr_base.specs.declared.ids.Kind.TheVariants as kind_of
 use Rattle.afr_discipline.specs.Notes.{asked_at, broken_by, noted_ask, noted_inside, noted_outside, noted_steps, part_after, still_possible}
-use Rattle.afr_discipline.specs.Stands.{phase_of, seen_as, step_of}
-use Rattle.afr_discipline.specs.declared.register.Phase.{Phase}
-use Rattle.afr_discipline.specs.declared.register.Phase.TheVariants as phase
+use Rattle.afr_discipline.specs.Stands.{heal_part_of, seen_as, step_of}
+use Rattle.afr_discipline.specs.declared.register.HealPart.{HealPart}
+use Rattle.afr_discipline.specs.declared.register.HealPart.TheVariants as heal_part
 use Rattle.afr_discipline.specs.declared.register.Register.{Register}
 use Rattle.afr_discipline.specs.declared.register.Step.{Step}
 use Rattle.afr_discipline.specs.declared.register.Step.TheVariants as step
 use Rattle.afr_heal.specs.Requests.{read_in}
-use Rattle.afr_heal_hears.proofs.Asks.{Asked, OfFirst, OfLock, OfLook, OfMend, OfPre, OfRead, OfSettle, OfUnlock}
+use Rattle.afr_heal_hears.proofs.Asks.{HealAsked, OfFirst, OfLock, OfLook, OfMend, OfPre, OfRead, OfSettle, OfUnlock}
 use Rattle.afr_lines.specs.Overlap.{same_area}
 use Rattle.afr_lines.specs.Told.{told_by}
 use Rattle.afr_lines.specs.declared.answer.Answer.{Answer}
 use Rattle.afr_lines.specs.declared.answer.Answer.TheVariants as answer
 use Rattle.afr_lines.specs.declared.answer.Told.{Told}
-use Rattle.afr_lines.specs.declared.answer.Told.TheVariants as told_of
+use Rattle.afr_lines.specs.declared.answer.Told.TheVariants as as_told
 use Rattle.afr_lines.specs.declared.line.Line.{Line}
 use Rattle.afr_lines.specs.declared.request.Area.{Area}
 use Rattle.afr_lines.specs.declared.request.Request.{Request}
@@ -36,7 +36,7 @@ use Rattle.afr_object.specs.Tables.{Table, copy_at, view_of}
 use Rattle.afr_object.specs.Object.{Object}
 use Rattle.afr_lines.specs.declared.lock.Domain.TheVariants.{Heal, Work}
 use Rattle.afr_self_heal.specs.Contents.{kept}
-use Rattle.afr_self_heal.specs.declared.contents.Contents.{Contents}
+use Rattle.afr_self_heal.specs.declared.contents.ReadSoFar.{ReadSoFar}
 
 -- ---- answers
 -- an answer that has what was read
@@ -47,21 +47,21 @@ is_content (answer.Names names) = true
 is_content other = false
 
 -- any other is not kept
-pub kept_plain : (b : ℕ) (heard : Answer) (contents : Contents) → is_content heard ≡ false → kept b heard contents ≡ contents
+pub kept_plain : (b : ℕ) (heard : Answer) (contents : ReadSoFar) → is_content heard ≡ false → kept b heard contents ≡ contents
 kept_plain b (answer.Bytes bytes) contents h = absurd (cc h)
 kept_plain b (answer.Attrs attrs) contents h = absurd (cc h)
 kept_plain b (answer.Names names) contents h = absurd (cc h)
 kept_plain b heard contents h = refl
 
-given_is : (told : Told) → is_given told ≡ true → told ≡ told_of.Given
-given_is told_of.Given h = refl
+given_is : (told : Told) → is_given told ≡ true → told ≡ as_told.Given
+given_is as_told.Given h = refl
 given_is told h = absurd (cc h)
 
 pub given_none : (told : Told) (t : ℕ) → is_given told ≡ false → given told t ≡ None
-given_none told_of.Given t h = absurd (cc h)
+given_none as_told.Given t h = absurd (cc h)
 given_none told t h = refl
 
-content_told : (heard : Answer) → is_content heard ≡ true → told_by heard ≡ told_of.Given
+content_told : (heard : Answer) → is_content heard ≡ true → told_by heard ≡ as_told.Given
 content_told (answer.Bytes bytes) h = refl
 content_told (answer.Attrs attrs) h = refl
 content_told (answer.Names names) h = refl
@@ -98,7 +98,7 @@ plain_answer (request_of.Settle g kind less) h t log = copy_plain (λ o. answer.
 plain_answer request h t log = absurd (cc h)
 
 -- so nothing that was read is heard
-pub heard_plain : (request : Request) (heard : Answer) (t : Table) (log : List Line) → is_plain request ≡ true → (told_by heard ≡ told_of.Given → heard ≡ answer_by None request t log) → is_content heard ≡ false
+pub heard_plain : (request : Request) (heard : Answer) (t : Table) (log : List Line) → is_plain request ≡ true → (told_by heard ≡ as_told.Given → heard ≡ answer_by None request t log) → is_content heard ≡ false
 heard_plain request heard t log plain full = go (is_content heard) refl
   where
     go : (x : Bool) → is_content heard ≡ x → is_content heard ≡ false
@@ -107,13 +107,13 @@ heard_plain request heard t log plain full = go (is_content heard) refl
 
 -- a read was given what the copy has, or it wasn't given
 pub data Read (f : Object → Answer) (c : Option Object) (heard : Answer) : Type 0 where
-  Gave : (o : Object) → c ≡ Some o → heard ≡ f o → told_by heard ≡ told_of.Given → Read f c heard
+  Gave : (o : Object) → c ≡ Some o → heard ≡ f o → told_by heard ≡ as_told.Given → Read f c heard
   Refused : is_given (told_by heard) ≡ false → Read f c heard
 
-pub read_told : (f : Object → Answer) (c : Option Object) (heard : Answer) → (told_by heard ≡ told_of.Given → heard ≡ copy_answer f c) → Read f c heard
+pub read_told : (f : Object → Answer) (c : Option Object) (heard : Answer) → (told_by heard ≡ as_told.Given → heard ≡ copy_answer f c) → Read f c heard
 read_told f c heard full = go (is_given (told_by heard)) refl
   where
-    by_copy : (copy : Option Object) → c ≡ copy → told_by heard ≡ told_of.Given → heard ≡ copy_answer f copy → Read f c heard
+    by_copy : (copy : Option Object) → c ≡ copy → told_by heard ≡ as_told.Given → heard ≡ copy_answer f copy → Read f c heard
     by_copy None e told k = absurd (true≢false (sym (ap is_given told) ∙ ap (λ (x : Answer). is_given (told_by x)) k))
     by_copy (Some o) e told k = Gave o e k told
 
@@ -131,15 +131,15 @@ chosen_no true p q e = absurd (cc e)
 chosen_no false p q e = refl
 
 -- the reads stay, no part becomes the opening again, and what comes before the reads came before them
-pub record Plain (kind : Kind) (reads after_reads : List (Option ℕ)) (part after_part : Phase) (at after_at : Step) : Type 0 where
+pub record Plain (kind : Kind) (reads after_reads : List (Option ℕ)) (part after_part : HealPart) (at after_at : Step) : Type 0 where
   pub reads_same : after_reads ≡ reads
-  pub opening : is_opening (phase_of after_part) ≡ true → is_opening (phase_of part) ≡ true
+  pub opening : is_opening (heal_part_of after_part) ≡ true → is_opening (heal_part_of part) ≡ true
   pub early : (kind ≡ kind_of.Bytes → ⊥) → nat_le (rank (step_of after_at)) 8 ≡ true → nat_le (rank (step_of at)) 7 ≡ true
 
 -- a read is noted at its brick, which was asked then
-pub record Noted (p : Register) (t b : ℕ) (told : Told) (reads : List (Option ℕ)) (part : Phase) (at : Step) (asked : List ℕ) : Type 0 where
+pub record Noted (p : Register) (t b : ℕ) (told : Told) (reads : List (Option ℕ)) (part : HealPart) (at : Step) (asked : List ℕ) : Type 0 where
   pub reads_are : reads ≡ slice_set p.reads b (given told t)
-  pub part_is : part ≡ p.phase
+  pub part_is : part ≡ p.part
   pub step_is : at ≡ step.Reads
   pub asked_are : asked ≡ added_if (not (not (is_given told || fails told))) b (asked_at p step.Reads)
 
@@ -149,10 +149,10 @@ up_to_looks k h = grind (arith, nat_tests, h)
 
 module _ (p : Register) (t b : ℕ) (told : Told) where
   abbrev pub PlainIn : Kind → Register → Type 0
-  PlainIn kind q = Plain kind p.reads q.reads p.phase q.phase p.step q.step
+  PlainIn kind q = Plain kind p.reads q.reads p.part q.part p.step q.step
 
   abbrev pub NotedIn : Register → Type 0
-  NotedIn q = Noted p t b told q.reads q.phase q.step q.asked
+  NotedIn q = Noted p t b told q.reads q.part q.step q.asked
 
   -- in a heal its own steps are noted
   inside : (request : Request) → p.inside ≡ true → noted_steps p t b request told ≡ record (noted_inside p t b request told) { possible = still_possible p b request; broken = p.broken || broken_by p request told }
@@ -162,19 +162,19 @@ module _ (p : Register) (t b : ℕ) (told : Told) where
   plain_inside kind request e k = subst (PlainIn kind) (sym (inside request e)) k
 
   -- a part that is the opening was it
-  opening_before : (area : Area) → is_opening (phase_of (part_after p area)) ≡ true → is_opening (phase_of p.phase) ≡ true
+  opening_before : (area : Area) → is_opening (heal_part_of (part_after p area)) ≡ true → is_opening (heal_part_of p.part) ≡ true
   opening_before area h = go (same_step (step_of p.step) exact.Unlocks) (same_area (whole_area p.object.0 kind_of.Bytes) area) h
     where
-      go : (x y : Bool) → is_opening (phase_of (if x then (if y then phase.Finish else phase.Piece) else p.phase)) ≡ true → is_opening (phase_of p.phase) ≡ true
+      go : (x y : Bool) → is_opening (heal_part_of (if x then (if y then heal_part.Finish else heal_part.Piece) else p.part)) ≡ true → is_opening (heal_part_of p.part) ≡ true
       go true true h = absurd (cc h)
       go true false h = absurd (cc h)
       go false y h = h
 
   -- a request that comes after the reads
-  late : (kind : Kind) (request : Request) → p.inside ≡ true → (noted_inside p t b request told).reads ≡ p.reads → (noted_inside p t b request told).phase ≡ p.phase → nat_le (rank (step_of (noted_inside p t b request told).step)) 8 ≡ false
+  late : (kind : Kind) (request : Request) → p.inside ≡ true → (noted_inside p t b request told).reads ≡ p.reads → (noted_inside p t b request told).part ≡ p.part → nat_le (rank (step_of (noted_inside p t b request told).step)) 8 ≡ false
       → PlainIn kind (noted_ask p t b request told)
   late kind request on reads part far =
-      plain_inside kind request on (record { reads_same = reads; opening = λ h. ap (λ (x : Phase). is_opening (phase_of x)) (sym part) ∙ h; early = λ other h. absurd (true≢false (sym h ∙ far)) })
+      plain_inside kind request on (record { reads_same = reads; opening = λ h. ap (λ (x : HealPart). is_opening (heal_part_of x)) (sym part) ∙ h; early = λ other h. absurd (true≢false (sym h ∙ far)) })
 
   module _ (n : ℕ) (keeps : ℕ → Kind → Bool) (s : ℕ) (g : Gfid) (kind : Kind) (request : Request) where
     low_before : (kind ≡ kind_of.Bytes) ⊎ (nat_le (rank (step_of p.step)) 6 ≡ true) → (kind ≡ kind_of.Bytes → ⊥) → nat_le (rank (step_of p.step)) 7 ≡ true
@@ -185,7 +185,7 @@ module _ (p : Register) (t b : ℕ) (told : Told) where
     as_request q e k = subst (λ (x : Request). PlainIn kind (noted_ask p t b x told)) (sym e) k
 
     -- what reads nothing leaves the reads
-    pub plain_left : is_plain request ≡ true → Asked n keeps (seen_as p) s g kind b request → PlainIn kind (noted_ask p t b request told)
+    pub plain_left : is_plain request ≡ true → HealAsked n keeps (seen_as p) s g kind b request → PlainIn kind (noted_ask p t b request told)
     plain_left plain (OfFirst area out is low) =
         as_request (request_of.Lock Heal area) is
         (subst (PlainIn kind) (sym (chosen_no p.inside _ (noted_outside p b (request_of.Lock Heal area) told) out)) (record { reads_same = refl; opening = λ h. h; early = λ other h. up_to_looks (rank (step_of p.step)) low }))

@@ -10,26 +10,26 @@ use Rattle.afr_base.specs.declared.ids.Gfid.{Gfid}
 use Rattle.afr_base.specs.declared.ids.Kind.{Kind}
 use Rattle.afr_base.specs.declared.ids.Kind.TheVariants as kind_of
 use Rattle.afr_discipline.specs.Notes.{asked_at, noted_ask}
-use Rattle.afr_discipline.specs.Stands.{phase_of, reads_of, seen_as, step_of}
-use Rattle.afr_discipline.specs.declared.register.Phase.{Phase as StoredPhase}
+use Rattle.afr_discipline.specs.Stands.{heal_part_of, reads_of, seen_as, step_of}
+use Rattle.afr_discipline.specs.declared.register.HealPart.{HealPart as StoredPhase}
 use Rattle.afr_discipline.specs.declared.register.Register.{Register}
 use Rattle.afr_discipline.specs.declared.register.Step.TheVariants as step
 use Rattle.afr_heal.proofs.Finding.{turn_low, turn_new, turn_set}
 use Rattle.afr_heal.proofs.Parts.{both}
 use Rattle.afr_heal.specs.Requests.{read_in}
 use Rattle.afr_heal.specs.Standing.{AfterLooks}
-use Rattle.afr_heal_hears.proofs.Asks.{Asked, OfFirst, OfLock, OfLook, OfMend, OfPre, OfRead, OfSettle, OfUnlock, asked_of}
+use Rattle.afr_heal_hears.proofs.Asks.{HealAsked, OfFirst, OfLock, OfLook, OfMend, OfPre, OfRead, OfSettle, OfUnlock, asked_of}
 use Rattle.afr_heal_hears.proofs.Heard.{Gave, NotedIn, PlainIn, Read, Refused, asked_here, asked_list, content_given, given_none, heard_plain, is_plain, kept_plain, plain_left, read_left, read_told, unasked}
 use Rattle.afr_heal_hears.proofs.Showing.{bytes_any, held_now, line_now, set_here, set_none, set_there, shown_set, still_held, still_shown}
-use Rattle.afr_heal_hears.specs.Hears.{IsTold}
-use Rattle.afr_heal_hears.specs.Holds.{AreShown, Holds, HoldsMore, HoldsRead, Unread}
+use Rattle.afr_heal_hears.specs.Hears.{IsHeardInHeal}
+use Rattle.afr_heal_hears.specs.Holds.{AreShown, HoldsMore, HoldsRead, HoldsReads, NothingRead}
 use Rattle.afr_law.proofs.Heals.Conditions.{asked_now}
 use Rattle.afr_lines.specs.Log.{from_oldest}
 use Rattle.afr_lines.specs.Told.{told_by}
 use Rattle.afr_lines.specs.declared.answer.Answer.{Answer}
 use Rattle.afr_lines.specs.declared.answer.Answer.TheVariants as answer
 use Rattle.afr_lines.specs.declared.answer.Told.{Told}
-use Rattle.afr_lines.specs.declared.answer.Told.TheVariants as told_of
+use Rattle.afr_lines.specs.declared.answer.Told.TheVariants as as_told
 use Rattle.afr_lines.specs.declared.line.Line.{Line}
 use Rattle.afr_lines.specs.declared.line.Line.TheVariants.{Ask}
 use Rattle.afr_lines.specs.declared.request.Request.{Request}
@@ -38,7 +38,7 @@ use Rattle.afr_model.specs.Honest.{answer_by}
 use Rattle.afr_model.specs.Tables.{attrs_in, attrs_shown, bytes_shown, content_in, held_before, holds, names_in, names_shown}
 use Rattle.afr_moves.specs.Keeps.{keeps_in}
 use Rattle.afr_moves.specs.Note.{fails, given, is_given}
-use Rattle.afr_moves.specs.Register.{Exact, Finish, Looks, Opening, Phase, Piece, Reads, asked_in, is_opening, over, rank, same_step, span}
+use Rattle.afr_moves.specs.Register.{Exact, Finish, HealPart, Looks, Opening, Piece, Reads, asked_in, is_opening, over, rank, same_step, span}
 use Rattle.afr_moves.specs.Steps.{reads_at, turn}
 use Rattle.afr_object.specs.Tables.{Table, copy_at}
 use Rattle.afr_object.specs.Object.{Object}
@@ -46,8 +46,8 @@ use Rattle.afr_plan.specs.declared.plan.Plan.{Plan}
 use Rattle.afr_self_heal.specs.Contents.{kept}
 use Rattle.afr_self_heal.specs.Healing.{Healing, IsHealing, answered}
 use Rattle.afr_self_heal.specs.Source.{is_found}
-use Rattle.afr_self_heal.specs.declared.contents.Contents.{Contents}
-use Rattle.afr_self_heal.specs.declared.contents.Contents.TheVariants.{Nothing, Bytes, Attrs, Names}
+use Rattle.afr_self_heal.specs.declared.contents.ReadSoFar.{ReadSoFar}
+use Rattle.afr_self_heal.specs.declared.contents.ReadSoFar.TheVariants.{Nothing, Bytes, Attrs, Names}
 
 -- ---- before the reads
 -- up to the looks no brick was asked for a read
@@ -59,37 +59,37 @@ none_low : (r : Exact) → nat_le (rank r.step) 7 ≡ true → ((x : ℕ) → na
 none_low r low unread x = unread x (grind (arith, nat_tests, low)) (unasked_low r low x)
 
 -- the first looks are over
-found_looks : (n : ℕ) (r : Exact) → is_found n r ≡ true → ((rank r.step == 7) ≡ true) × (is_opening r.phase ≡ true)
+found_looks : (n : ℕ) (r : Exact) → is_found n r ≡ true → ((rank r.step == 7) ≡ true) × (is_opening r.part ≡ true)
 found_looks n r h = (
     let three = both _ (over n r.law.held r.asked) h in
-    let two = both _ (is_opening r.phase) three.0 in
+    let two = both _ (is_opening r.part) three.0 in
     ((both (not r.broken) (same_step r.step Looks) two.0).1, two.1)
     )
 
 -- ---- a request that reads nothing
-module _ (r new : Exact) (same : new.reads ≡ r.reads) (opening : is_opening new.phase ≡ true → is_opening r.phase ≡ true) (contents : Contents) where
-  unread_plain : (kind : Kind) → ((kind ≡ kind_of.Bytes → ⊥) → nat_le (rank new.step) 8 ≡ true → nat_le (rank r.step) 7 ≡ true) → Unread kind r contents → Unread kind new contents
+module _ (r new : Exact) (same : new.reads ≡ r.reads) (opening : is_opening new.part ≡ true → is_opening r.part ≡ true) (contents : ReadSoFar) where
+  unread_plain : (kind : Kind) → ((kind ≡ kind_of.Bytes → ⊥) → nat_le (rank new.step) 8 ≡ true → nat_le (rank r.step) 7 ≡ true) → NothingRead kind r contents → NothingRead kind new contents
   unread_plain kind_of.Bytes early k = λ first. (λ x. ap (λ (f : ℕ → Option ℕ). f x) same ∙ (k (opening first)).0 x, (k (opening first)).1)
   unread_plain kind_of.Attrs early k = λ x low asked. ap (λ (f : ℕ → Option ℕ). f x) same ∙ none_low r (early (λ e. cc e) low) k x
   unread_plain kind_of.Names early k = λ x low asked. ap (λ (f : ℕ → Option ℕ). f x) same ∙ none_low r (early (λ e. cc e) low) k x
 
   -- where the first looks are over, any copy may be the source: nothing was read
   held_found : (p : Plan) (log : List Line) (kind : Kind) (reads : List (Option ℕ)) (s chosen n : ℕ) → r.reads ≡ reads_of reads → ((kind ≡ kind_of.Bytes → ⊥) → nat_le (rank new.step) 8 ≡ true → nat_le (rank r.step) 7 ≡ true)
-      → is_found n new ≡ true → Unread kind r contents → Holds p log kind (reads_of reads s) reads contents → Holds p log kind (reads_of reads chosen) reads contents
+      → is_found n new ≡ true → NothingRead kind r contents → HoldsReads p log kind (reads_of reads s) reads contents → HoldsReads p log kind (reads_of reads chosen) reads contents
   held_found p log kind_of.Bytes reads s chosen n are early found k h =
       let none = k (opening (found_looks n new found).1) in
       let read : reads_of reads chosen ≡ None = ap (λ (f : ℕ → Option ℕ). f chosen) (sym are) ∙ none.0 chosen in
-      let nothing : Holds p log kind_of.Bytes None reads contents = subst (Holds p log kind_of.Bytes None reads) (sym none.1) tt in
-      subst (λ (x : Option ℕ). Holds p log kind_of.Bytes x reads contents) (sym read) nothing
+      let nothing : HoldsReads p log kind_of.Bytes None reads contents = subst (HoldsReads p log kind_of.Bytes None reads) (sym none.1) tt in
+      subst (λ (x : Option ℕ). HoldsReads p log kind_of.Bytes x reads contents) (sym read) nothing
   held_found p log kind_of.Attrs reads s chosen n are early found k h =
       let seven = (found_looks n new found).0 in
       let none = none_low r (early (λ e. cc e) (grind (arith, nat_tests, seven))) k in
       let at : (x : ℕ) → reads_of reads x ≡ None = λ x. ap (λ (f : ℕ → Option ℕ). f x) (sym are) ∙ none x in
-      let was : Holds p log kind_of.Attrs None reads contents = subst (λ (x : Option ℕ). Holds p log kind_of.Attrs x reads contents) (at s) h in
-      subst (λ (x : Option ℕ). Holds p log kind_of.Attrs x reads contents) (sym (at chosen)) was
+      let was : HoldsReads p log kind_of.Attrs None reads contents = subst (λ (x : Option ℕ). HoldsReads p log kind_of.Attrs x reads contents) (at s) h in
+      subst (λ (x : Option ℕ). HoldsReads p log kind_of.Attrs x reads contents) (sym (at chosen)) was
   held_found p log kind_of.Names reads s chosen n are early found k h = go contents h
     where
-      go : (c : Contents) → Holds p log kind_of.Names (reads_of reads s) reads c → Holds p log kind_of.Names (reads_of reads chosen) reads c
+      go : (c : ReadSoFar) → HoldsReads p log kind_of.Names (reads_of reads s) reads c → HoldsReads p log kind_of.Names (reads_of reads chosen) reads c
       go (Names read) h = h
       go Nothing h = absurd h
       go (Bytes bytes) h = absurd h
@@ -123,7 +123,7 @@ module _ (p : Plan) (log : List Line) (a : ActorId) (b : ℕ) (heard : Answer) (
   read_here : reads_of new.reads b ≡ given (told_by heard) (length log)
   read_here = ap (λ (xs : List (Option ℕ)). reads_of xs b) noted.reads_are ∙ set_here old.reads b (given (told_by heard) (length log)) inside_five
 
-  read_given : told_by heard ≡ told_of.Given → reads_of new.reads b ≡ Some (length log)
+  read_given : told_by heard ≡ as_told.Given → reads_of new.reads b ≡ Some (length log)
   read_given told = read_here ∙ ap (λ (x : Told). given x (length log)) told
 
   read_none : is_given (told_by heard) ≡ false → reads_of new.reads b ≡ None
@@ -156,65 +156,65 @@ module _ (p : Plan) (log : List Line) (a : ActorId) (b : ℕ) (heard : Answer) (
 
   module _ (n : ℕ) (keeps : ℕ → Kind → Bool) (s : ℕ) (g : Gfid) where
     -- what is held after the read of a kind
-    abbrev HeldAfter : Kind → Contents → Type 0
-    HeldAfter kind contents = Holds p (line (read_in (seen_as old) g kind) ∷ log) kind (reads_of new.reads s) new.reads (kept b heard contents)
+    abbrev HeldAfter : Kind → ReadSoFar → Type 0
+    HeldAfter kind contents = HoldsReads p (line (read_in (seen_as old) g kind) ∷ log) kind (reads_of new.reads s) new.reads (kept b heard contents)
 
     -- bytes are read in a piece alone, at the source
-    bytes_at : (part : Phase) → reads_at n keeps (seen_as old) s kind_of.Bytes part b ≡ true → (is_opening part ≡ false) × (b ≡ s)
+    bytes_at : (part : HealPart) → reads_at n keeps (seen_as old) s kind_of.Bytes part b ≡ true → (is_opening part ≡ false) × (b ≡ s)
     bytes_at Opening h = absurd (cc h)
     bytes_at Piece h = (refl, eqb-true b s h)
     bytes_at Finish h = absurd (cc h)
 
-    bytes_held : (contents : Contents) → b ≡ s → Holds p log kind_of.Bytes (reads_of old.reads s) old.reads contents
+    bytes_held : (contents : ReadSoFar) → b ≡ s → HoldsReads p log kind_of.Bytes (reads_of old.reads s) old.reads contents
         → Read (λ o. answer.Bytes (take span (drop old.upto o.content))) (copy_at g (holds p log b)) heard → HeldAfter kind_of.Bytes contents
     bytes_held contents at h (Gave o there is told) =
         let whole : List Line = line (request_of.ReadBytes g old.upto span) ∷ log in
         let same : kept b heard contents ≡ Bytes (take span (drop old.upto o.content)) = ap (λ (x : Answer). kept b x contents) is in
-        let value : Holds p whole kind_of.Bytes (Some (length log)) new.reads (kept b heard contents) = (omega arith, same ∙ ap Bytes (bytes_newest p log a (record { 0 = b }) g (told_by heard) took o there old.upto span)) in
-        subst (λ (x : Option ℕ). Holds p whole kind_of.Bytes x new.reads (kept b heard contents)) (sym (ap (reads_of new.reads) (sym at) ∙ read_given told)) value
+        let value : HoldsReads p whole kind_of.Bytes (Some (length log)) new.reads (kept b heard contents) = (omega arith, same ∙ ap Bytes (bytes_newest p log a (record { 0 = b }) g (told_by heard) took o there old.upto span)) in
+        subst (λ (x : Option ℕ). HoldsReads p whole kind_of.Bytes x new.reads (kept b heard contents)) (sym (ap (reads_of new.reads) (sym at) ∙ read_given told)) value
     bytes_held contents at h (Refused failed) =
         let whole : List Line = line (request_of.ReadBytes g old.upto span) ∷ log in
-        let value : Holds p whole kind_of.Bytes None new.reads (kept b heard contents) = subst (Holds p whole kind_of.Bytes None new.reads) (sym (kept_plain b heard contents (content_given heard failed))) (bytes_any p log whole (reads_of old.reads s) old.reads new.reads contents h) in
-        subst (λ (x : Option ℕ). Holds p whole kind_of.Bytes x new.reads (kept b heard contents)) (sym (ap (reads_of new.reads) (sym at) ∙ read_none failed)) value
+        let value : HoldsReads p whole kind_of.Bytes None new.reads (kept b heard contents) = subst (HoldsReads p whole kind_of.Bytes None new.reads) (sym (kept_plain b heard contents (content_given heard failed))) (bytes_any p log whole (reads_of old.reads s) old.reads new.reads contents h) in
+        subst (λ (x : Option ℕ). HoldsReads p whole kind_of.Bytes x new.reads (kept b heard contents)) (sym (ap (reads_of new.reads) (sym at) ∙ read_none failed)) value
 
-    attrs_held : (contents : Contents) → b ≡ s → reads_of old.reads b ≡ None → Holds p log kind_of.Attrs (reads_of old.reads s) old.reads contents
+    attrs_held : (contents : ReadSoFar) → b ≡ s → reads_of old.reads b ≡ None → HoldsReads p log kind_of.Attrs (reads_of old.reads s) old.reads contents
         → Read (λ o. answer.Attrs o.attrs) (copy_at g (holds p log b)) heard → HeldAfter kind_of.Attrs contents
     attrs_held contents at none h (Gave o there is told) =
         let whole : List Line = line (request_of.ReadAttrs g) ∷ log in
         let same : kept b heard contents ≡ Attrs o.attrs = ap (λ (x : Answer). kept b x contents) is in
-        let value : Holds p whole kind_of.Attrs (Some (length log)) new.reads (kept b heard contents) = (omega arith, same ∙ ap Attrs (attrs_newest p log a (record { 0 = b }) g (told_by heard) took o there)) in
-        subst (λ (x : Option ℕ). Holds p whole kind_of.Attrs x new.reads (kept b heard contents)) (sym (ap (reads_of new.reads) (sym at) ∙ read_given told)) value
+        let value : HoldsReads p whole kind_of.Attrs (Some (length log)) new.reads (kept b heard contents) = (omega arith, same ∙ ap Attrs (attrs_newest p log a (record { 0 = b }) g (told_by heard) took o there)) in
+        subst (λ (x : Option ℕ). HoldsReads p whole kind_of.Attrs x new.reads (kept b heard contents)) (sym (ap (reads_of new.reads) (sym at) ∙ read_given told)) value
     attrs_held contents at none h (Refused failed) =
         let whole : List Line = line (request_of.ReadAttrs g) ∷ log in
-        let nothing : contents ≡ Nothing = subst (λ (x : Option ℕ). Holds p log kind_of.Attrs x old.reads contents) (ap (reads_of old.reads) (sym at) ∙ none) h in
-        let value : Holds p whole kind_of.Attrs None new.reads (kept b heard contents) = kept_plain b heard contents (content_given heard failed) ∙ nothing in
-        subst (λ (x : Option ℕ). Holds p whole kind_of.Attrs x new.reads (kept b heard contents)) (sym (ap (reads_of new.reads) (sym at) ∙ read_none failed)) value
+        let nothing : contents ≡ Nothing = subst (λ (x : Option ℕ). HoldsReads p log kind_of.Attrs x old.reads contents) (ap (reads_of old.reads) (sym at) ∙ none) h in
+        let value : HoldsReads p whole kind_of.Attrs None new.reads (kept b heard contents) = kept_plain b heard contents (content_given heard failed) ∙ nothing in
+        subst (λ (x : Option ℕ). HoldsReads p whole kind_of.Attrs x new.reads (kept b heard contents)) (sym (ap (reads_of new.reads) (sym at) ∙ read_none failed)) value
 
-    names_held : (contents : Contents) → reads_of old.reads b ≡ None → Holds p log kind_of.Names (reads_of old.reads s) old.reads contents
+    names_held : (contents : ReadSoFar) → reads_of old.reads b ≡ None → HoldsReads p log kind_of.Names (reads_of old.reads s) old.reads contents
         → Read (λ o. answer.Names o.names) (copy_at g (holds p log b)) heard → HeldAfter kind_of.Names contents
     names_held (Names read) none h (Gave o there is told) =
         let whole : List Line = line (request_of.List g) ∷ log in
         let reads : new.reads ≡ slice_set old.reads b (Some (length log)) = noted.reads_are ∙ ap (λ (x : Told). slice_set old.reads b (given x (length log))) told in
         let all : AreShown p whole (slice_set old.reads b (Some (length log))) (slice_set read.lists b (Some o.names)) =
         shown_set p whole old.reads read.lists b (length log) o.names (omega arith) (names_newest p log a (record { 0 = b }) g (told_by heard) took o there) (still_shown p (line (request_of.List g)) log old.reads read.lists h) in
-        subst (λ (x : Answer). Holds p whole kind_of.Names (reads_of new.reads s) new.reads (kept b x (Names read))) (sym is) (subst (λ (xs : List (Option ℕ)). AreShown p whole xs (slice_set read.lists b (Some o.names))) (sym reads) all)
+        subst (λ (x : Answer). HoldsReads p whole kind_of.Names (reads_of new.reads s) new.reads (kept b x (Names read))) (sym is) (subst (λ (xs : List (Option ℕ)). AreShown p whole xs (slice_set read.lists b (Some o.names))) (sym reads) all)
     names_held (Names read) none h (Refused failed) =
         let whole : List Line = line (request_of.List g) ∷ log in
         let reads : new.reads ≡ old.reads = noted.reads_are ∙ ap (slice_set old.reads b) (given_none (told_by heard) (length log) failed) ∙ set_none old.reads b none in
         let all : AreShown p whole new.reads read.lists = subst (λ (xs : List (Option ℕ)). AreShown p whole xs read.lists) (sym reads) (still_shown p (line (request_of.List g)) log old.reads read.lists h) in
-        subst (Holds p whole kind_of.Names (reads_of new.reads s) new.reads) (sym (kept_plain b heard (Names read) (content_given heard failed))) all
+        subst (HoldsReads p whole kind_of.Names (reads_of new.reads s) new.reads) (sym (kept_plain b heard (Names read) (content_given heard failed))) all
     names_held Nothing none h said = absurd h
     names_held (Bytes bytes) none h said = absurd h
     names_held (Attrs attrs) none h said = absurd h
 
     -- of each kind
-    read_held : (kind : Kind) (contents : Contents) → (told_by heard ≡ told_of.Given → heard ≡ answer_by None (read_in (seen_as old) g kind) (holds p log b) log) → reads_at n keeps (seen_as old) s kind (phase_of old.phase) b ≡ true
-        → asked_in (seen_as old) Reads b ≡ false → nat_le (rank (step_of old.step)) 8 ≡ true → Holds p log kind (reads_of old.reads s) old.reads contents → Unread kind (seen_as old) contents
-        → HeldAfter kind contents × Unread kind (seen_as new) (kept b heard contents)
+    read_held : (kind : Kind) (contents : ReadSoFar) → (told_by heard ≡ as_told.Given → heard ≡ answer_by None (read_in (seen_as old) g kind) (holds p log b) log) → reads_at n keeps (seen_as old) s kind (heal_part_of old.part) b ≡ true
+        → asked_in (seen_as old) Reads b ≡ false → nat_le (rank (step_of old.step)) 8 ≡ true → HoldsReads p log kind (reads_of old.reads s) old.reads contents → NothingRead kind (seen_as old) contents
+        → HeldAfter kind contents × NothingRead kind (seen_as new) (kept b heard contents)
     read_held kind_of.Bytes contents full set fresh low h k =
-        let at = bytes_at (phase_of old.phase) set in (
+        let at = bytes_at (heal_part_of old.part) set in (
           bytes_held contents at.1 h (read_told (λ o. answer.Bytes (take span (drop old.upto o.content))) (copy_at g (holds p log b)) heard full),
-          λ first. absurd (true≢false (sym first ∙ ap (λ (x : StoredPhase). is_opening (phase_of x)) noted.part_is ∙ at.0)),
+          λ first. absurd (true≢false (sym first ∙ ap (λ (x : StoredPhase). is_opening (heal_part_of x)) noted.part_is ∙ at.0)),
         )
     read_held kind_of.Attrs contents full set fresh low h k = (
       attrs_held contents (eqb-true b s set) (k b low fresh) h (read_told (λ o. answer.Attrs o.attrs) (copy_at g (holds p log b)) heard full),
@@ -252,12 +252,12 @@ module _ (p : Plan) (m : Healing) (log : List Line) (a : ActorId) (b : ℕ) (hea
   abbrev Goal : Request → Type 0
   Goal request = HoldsRead p (longer request) (answered m b request heard (length log) chosen)
 
-  more_plain : (request : Request) → (told_by heard ≡ told_of.Given → heard ≡ answer_by None request (holds p log b) log) → is_plain request ≡ true → Asked m.register.shape.n (keeps_in m.register.shape) r m.source.0 m.gfid m.kind b request → Goal request
+  more_plain : (request : Request) → (told_by heard ≡ as_told.Given → heard ≡ answer_by None request (holds p log b) log) → is_plain request ≡ true → HealAsked m.register.shape.n (keeps_in m.register.shape) r m.source.0 m.gfid m.kind b request → Goal request
   more_plain request full plain asked = record {
-    shown = subst (λ (c : Contents). Holds p (longer request) m.kind (reads_of (after request).reads source.0) (after request).reads c) (sym same)
-        (subst (λ (xs : List (Option ℕ)). Holds p (longer request) m.kind (reads_of xs source.0) xs m.contents) (sym left.reads_same)
+    shown = subst (λ (c : ReadSoFar). HoldsReads p (longer request) m.kind (reads_of (after request).reads source.0) (after request).reads c) (sym same)
+        (subst (λ (xs : List (Option ℕ)). HoldsReads p (longer request) m.kind (reads_of xs source.0) xs m.contents) (sym left.reads_same)
         (still_held p (Ask a (record { 0 = b }) request (told_by heard) took) log m.kind (reads_of m.register.reads source.0) m.register.reads m.contents (by_source (is_found m.register.shape.n (seen_as (after request))) refl)));
-    unread = subst (Unread m.kind (seen_as (after request))) (sym same) (unread_plain r (seen_as (after request)) (ap reads_of left.reads_same) left.opening m.contents m.kind left.early k.unread);
+    unread = subst (NothingRead m.kind (seen_as (after request))) (sym same) (unread_plain r (seen_as (after request)) (ap reads_of left.reads_same) left.opening m.contents m.kind left.early k.unread);
   }
     where
       source : BrickId
@@ -269,14 +269,14 @@ module _ (p : Plan) (m : Healing) (log : List Line) (a : ActorId) (b : ℕ) (hea
       same : kept b heard m.contents ≡ m.contents
       same = kept_plain b heard m.contents (heard_plain request heard (holds p log b) log plain full)
 
-      by_source : (x : Bool) → is_found m.register.shape.n (seen_as (after request)) ≡ x → Holds p log m.kind (reads_of m.register.reads (if x then chosen else m.source).0) m.register.reads m.contents
+      by_source : (x : Bool) → is_found m.register.shape.n (seen_as (after request)) ≡ x → HoldsReads p log m.kind (reads_of m.register.reads (if x then chosen else m.source).0) m.register.reads m.contents
       by_source true e = held_found r (seen_as (after request)) (ap reads_of left.reads_same) left.opening m.contents p log m.kind m.register.reads m.source.0 chosen.0 m.register.shape.n refl left.early e k.unread k.shown
       by_source false e = k.shown
 
-  more_read : b < 5 → (told_by heard ≡ told_of.Given → heard ≡ answer_by None (read_in r m.gfid m.kind) (holds p log b) log) → AfterLooks m.register.shape.n (keeps_in m.register.shape) r m.source.0 m.gfid m.kind
+  more_read : b < 5 → (told_by heard ≡ as_told.Given → heard ≡ answer_by None (read_in r m.gfid m.kind) (holds p log b) log) → AfterLooks m.register.shape.n (keeps_in m.register.shape) r m.source.0 m.gfid m.kind
       → turn m.register.shape.n (keeps_in m.register.shape) r m.source.0 Reads b ≡ true → Goal (read_in r m.gfid m.kind)
   more_read low full going turns = record {
-    shown = subst (λ (x : BrickId). Holds p (longer request) m.kind (reads_of (after request).reads x.0) (after request).reads (kept b heard m.contents)) (sym (source_stays (is_found m.register.shape.n (seen_as (after request))) chosen m.source stays)) both_held.0;
+    shown = subst (λ (x : BrickId). HoldsReads p (longer request) m.kind (reads_of (after request).reads x.0) (after request).reads (kept b heard m.contents)) (sym (source_stays (is_found m.register.shape.n (seen_as (after request))) chosen m.source stays)) both_held.0;
     unread = both_held.1;
   }
     where
@@ -289,15 +289,15 @@ module _ (p : Plan) (m : Healing) (log : List Line) (a : ActorId) (b : ℕ) (hea
       stays : is_found m.register.shape.n (seen_as (after (read_in r m.gfid m.kind))) ≡ false
       stays = reads_on m.register.shape.n (seen_as (after (read_in r m.gfid m.kind))) (ap step_of noted.step_is)
 
-      set : reads_at m.register.shape.n (keeps_in m.register.shape) r m.source.0 m.kind (phase_of m.register.phase) b ≡ true
-      set = subst (λ (kind : Kind). reads_at m.register.shape.n (keeps_in m.register.shape) r m.source.0 kind (phase_of m.register.phase) b ≡ true) going.is_kind (turn_set m.register.shape.n (keeps_in m.register.shape) r m.source.0 Reads b turns)
+      set : reads_at m.register.shape.n (keeps_in m.register.shape) r m.source.0 m.kind (heal_part_of m.register.part) b ≡ true
+      set = subst (λ (kind : Kind). reads_at m.register.shape.n (keeps_in m.register.shape) r m.source.0 kind (heal_part_of m.register.part) b ≡ true) going.is_kind (turn_set m.register.shape.n (keeps_in m.register.shape) r m.source.0 Reads b turns)
 
-      both_held : Holds p (longer (read_in r m.gfid m.kind)) m.kind (reads_of (after (read_in r m.gfid m.kind)).reads m.source.0) (after (read_in r m.gfid m.kind)).reads (kept b heard m.contents)
-          × Unread m.kind (seen_as (after (read_in r m.gfid m.kind))) (kept b heard m.contents)
+      both_held : HoldsReads p (longer (read_in r m.gfid m.kind)) m.kind (reads_of (after (read_in r m.gfid m.kind)).reads m.source.0) (after (read_in r m.gfid m.kind)).reads (kept b heard m.contents)
+          × NothingRead m.kind (seen_as (after (read_in r m.gfid m.kind))) (kept b heard m.contents)
       both_held = read_held p log a b heard took m.register (after (read_in r m.gfid m.kind)) noted h.heals.five.reads low m.register.shape.n (keeps_in m.register.shape) m.source.0 m.gfid m.kind m.contents full set
           (turn_new m.register.shape.n (keeps_in m.register.shape) r m.source.0 Reads b turns) (turn_low m.register.shape.n (keeps_in m.register.shape) r m.source.0 Reads b turns) k.shown k.unread
 
-  by_request : (request : Request) → IsTold p log a (record { 0 = b }) request heard took → Asked m.register.shape.n (keeps_in m.register.shape) r m.source.0 m.gfid m.kind b request → Goal request
+  by_request : (request : Request) → IsHeardInHeal p log a (record { 0 = b }) request heard took → HealAsked m.register.shape.n (keeps_in m.register.shape) r m.source.0 m.gfid m.kind b request → Goal request
   by_request request told (OfFirst area out is low) = more_plain request told.full (ap is_plain is) (OfFirst area out is low)
   by_request request told (OfLock domain area on is low) = more_plain request told.full (ap is_plain is) (OfLock domain area on is low)
   by_request request told (OfUnlock domain area on is) = more_plain request told.full (ap is_plain is) (OfUnlock domain area on is)
@@ -307,7 +307,7 @@ module _ (p : Plan) (m : Healing) (log : List Line) (a : ActorId) (b : ℕ) (hea
   by_request request told (OfSettle less on is) = more_plain request told.full (ap is_plain is) (OfSettle less on is)
   by_request request told (OfRead going is turns) = subst Goal (sym is)
       (more_read (let below : b < p.shape.n = (told.may.1).0 in let few = told.few in omega (arith, below, few))
-      (subst (λ (q : Request). told_by heard ≡ told_of.Given → heard ≡ answer_by None q (holds p log b) log) is told.full) going turns)
+      (subst (λ (q : Request). told_by heard ≡ as_told.Given → heard ≡ answer_by None q (holds p log b) log) is told.full) going turns)
 
 pub holds_more : HoldsMore
 holds_more p m log a b request heard took chosen h e told k =

@@ -6,7 +6,7 @@ use Rattle.afr_base.specs.declared.ids.Kind.{Kind}
 use Rattle.afr_base.specs.declared.ids.Kind.TheVariants as kind_of
 use Rattle.afr_base.specs.declared.ids.NameId.{NameId}
 use Rattle.afr_heal_entry.specs.Merging.{present}
-use Rattle.afr_heal_hears.specs.Holds.{AreShown, Holds}
+use Rattle.afr_heal_hears.specs.Holds.{AreShown, HoldsReads}
 use Rattle.afr_lines.specs.Log.{from_oldest}
 use Rattle.afr_lines.specs.declared.line.Line.{Line}
 use Rattle.afr_lines.specs.declared.line.Line.TheVariants.{Ask}
@@ -15,8 +15,8 @@ use Rattle.afr_model.specs.Tables.{Past, all_names_shown, attrs_in, attrs_shown,
 use Rattle.afr_object.specs.Tables.{Table, copy_at}
 use Rattle.afr_object.specs.declared.entry.Entry.{Entry}
 use Rattle.afr_plan.specs.declared.plan.Plan.{Plan}
-use Rattle.afr_self_heal.specs.declared.contents.Contents.{Contents}
-use Rattle.afr_self_heal.specs.declared.contents.Contents.TheVariants.{Nothing, Bytes, Attrs, Names}
+use Rattle.afr_self_heal.specs.declared.contents.ReadSoFar.{ReadSoFar}
+use Rattle.afr_self_heal.specs.declared.contents.ReadSoFar.TheVariants.{Nothing, Bytes, Attrs, Names}
 
 -- ---- what a line showed, by other tables of that moment
 bytes_by : (past older : Past) (k : ℕ) → ((b : ℕ) → past k b ≡ older k b) → (line : Option Line) → bytes_shown past k line ≡ bytes_shown older k line
@@ -76,7 +76,7 @@ module _ (p : Plan) (line : Line) (log : List Line) where
   still_shown (Some t ∷ reads) (None ∷ lists) h = absurd h
   still_shown (Some t ∷ reads) (Some names ∷ lists) h = (omega (arith, h.0), h.1 ∙ sym (names_then t h.0), still_shown reads lists h.2)
 
-  pub still_held : (kind : Kind) (read : Option ℕ) (reads : List (Option ℕ)) (contents : Contents) → Holds p log kind read reads contents → Holds p (line ∷ log) kind read reads contents
+  pub still_held : (kind : Kind) (read : Option ℕ) (reads : List (Option ℕ)) (contents : ReadSoFar) → HoldsReads p log kind read reads contents → HoldsReads p (line ∷ log) kind read reads contents
   still_held kind_of.Names read reads (Names names) h = still_shown reads names.lists h
   still_held kind_of.Names read reads Nothing h = absurd h
   still_held kind_of.Names read reads (Bytes bytes) h = absurd h
@@ -91,8 +91,8 @@ module _ (p : Plan) (line : Line) (log : List Line) where
 
 -- ---- without a read
 -- what is held of bytes, one may hold where the source's read isn't there
-pub bytes_any : (p : Plan) (log longer : List Line) (read : Option ℕ) (reads others : List (Option ℕ)) (contents : Contents) → Holds p log kind_of.Bytes read reads contents → Holds p longer kind_of.Bytes None others contents
-bytes_any p log longer (Some t) reads others contents h = subst (Holds p longer kind_of.Bytes None others) (sym h.1) tt
+pub bytes_any : (p : Plan) (log longer : List Line) (read : Option ℕ) (reads others : List (Option ℕ)) (contents : ReadSoFar) → HoldsReads p log kind_of.Bytes read reads contents → HoldsReads p longer kind_of.Bytes None others contents
+bytes_any p log longer (Some t) reads others contents h = subst (HoldsReads p longer kind_of.Bytes None others) (sym h.1) tt
 bytes_any p log longer None reads others Nothing h = tt
 bytes_any p log longer None reads others (Bytes bytes) h = tt
 bytes_any p log longer None reads others (Attrs attrs) h = absurd h

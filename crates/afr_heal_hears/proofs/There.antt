@@ -38,7 +38,7 @@ use Rattle.afr_moves.specs.Honest.{Honest as HonestBy}
 use Rattle.afr_moves.specs.Lines.{ask_by, look_at}
 use Rattle.afr_moves.specs.Past.{opens, place}
 use Rattle.afr_moves.specs.Positions.{by_position}
-use Rattle.afr_moves.specs.Register.{Exact, Finish, Opening, Phase, Piece, Reads, good, holder, unaccused}
+use Rattle.afr_moves.specs.Register.{Exact, Finish, HealPart, Opening, Piece, Reads, good, holder, unaccused}
 use Rattle.afr_moves.specs.Rules.{is_none}
 use Rattle.afr_moves.specs.Steps.{onward, reads_at, turn}
 use Rattle.afr_object.specs.Tables.{copy_at}
@@ -70,7 +70,7 @@ seen_has p (line ∷ older) honest l a b g view e = go (l == length older) e (se
 
 -- ---- who is read
 -- a read is asked at a holder
-read_holder : (n : ℕ) (keeps : ℕ → Kind → Bool) (r : Exact) (s b : ℕ) (kind : Kind) (part : Phase) → reads_at n keeps r s kind part b ≡ true → good n keeps kind r.first_views s ≡ true → holder r.first_views b ≡ true
+read_holder : (n : ℕ) (keeps : ℕ → Kind → Bool) (r : Exact) (s b : ℕ) (kind : Kind) (part : HealPart) → reads_at n keeps r s kind part b ≡ true → good n keeps kind r.first_views s ≡ true → holder r.first_views b ≡ true
 read_holder n keeps r s b Bytes Opening h k = absurd (cc h)
 read_holder n keeps r s b Bytes Piece h k = subst (λ (x : ℕ). holder r.first_views x ≡ true) (sym (eqb-true b s h)) (and_left _ (keeps s Bytes) (and_left _ (unaccused n Bytes r.first_views s) k))
 read_holder n keeps r s b Bytes Finish h k = absurd (cc h)
@@ -134,7 +134,7 @@ module _ (p : Plan) (log : List Line) (a : ActorId) (b : ℕ) (few : p.shape.n �
   read_has : (g : Gfid) (kind : Kind) (s : ℕ) → R.broken ≡ false → onward p.shape.n (kept_by p) R s g.0 kind ≡ true → turn p.shape.n (kept_by p) R s Reads b ≡ true → has_object p log g b ≡ true
   read_has g kind s whole on turns =
       let good_source = goes_good p.shape.n (kept_by p) R s (onward_goes p.shape.n (kept_by p) R s g.0 kind on) in
-      let view = holder_view R.first_views b (read_holder p.shape.n (kept_by p) R s b R.law.kind R.phase (turn_in p.shape.n (kept_by p) R s Reads b turns) good_source) in
+      let view = holder_view R.first_views b (read_holder p.shape.n (kept_by p) R s b R.law.kind R.part (turn_in p.shape.n (kept_by p) R s Reads b turns) good_source) in
       subst (λ (x : ℕ). has_object p log (record { 0 = x }) b ≡ true) (sym (eqb-true g.0 R.law.object (onward_object p.shape.n (kept_by p) R s g.0 kind on))) (shown_has whole view.0 view.1)
 
   -- so the brick of a read has the object

@@ -27,7 +27,7 @@ use Rattle.afr_plan.specs.declared.plan.Plan.{Plan}
 use Rattle.afr_self_heal.specs.Healing.{CanHear, Healing, IsHealing, coming}
 
 -- after an honest log that keeps the discipline in full the request may be asked next, and this is its honest answer: what a read is given is what the brick's tables show
-pub record IsTold (p : Plan) (log : List Line) (a : ActorId) (b : BrickId) (request : Request) (heard : Answer) (took : Bool) : Type 0 where
+pub record IsHeardInHeal (p : Plan) (log : List Line) (a : ActorId) (b : BrickId) (request : Request) (heard : Answer) (took : Bool) : Type 0 where
   pub honest : Honest p log
   pub lawful : IsLawfulExactly p log
   pub short : length log < 4000000
@@ -41,7 +41,7 @@ abbrev pub HealHears : Type 0
 HealHears =
     (p : Plan) (m : Healing) (log : List Line) (a : ActorId) (b : ℕ) (request : Request) (heard : Answer) (took : Bool)
     → IsHealing m → m.register.shape ≡ p.shape → HealTells m.register m.source.0 m.gfid m.kind m.outcome (heal_by (work a.0 log)) → coming m ≡ Ask b request
-    → IsTold p log a (record { 0 = b }) request heard took → CanHear (coming m) heard × IsWholeTold (told_by heard)
+    → IsHeardInHeal p log a (record { 0 = b }) request heard took → CanHear (coming m) heard × IsWholeTold (told_by heard)
 
 -- what an index lists is what the round's lines show then; or it was refused
 pub data IsIndexed (p : Plan) (log : List Line) (a : ActorId) (b : BrickId) (heard : Answer) (took : Bool) : Type 0 where
@@ -49,4 +49,4 @@ pub data IsIndexed (p : Plan) (log : List Line) (a : ActorId) (b : BrickId) (hea
   Refused : is_fault (told_by heard) ≡ true → IsIndexed p log a b heard took
 
 abbrev pub IndexIsListed : Type 0
-IndexIsListed = (p : Plan) (log : List Line) (a : ActorId) (b : BrickId) (heard : Answer) (took : Bool) → IsTold p log a b Index heard took → IsIndexed p log a b heard took
+IndexIsListed = (p : Plan) (log : List Line) (a : ActorId) (b : BrickId) (heard : Answer) (took : Bool) → IsHeardInHeal p log a b Index heard took → IsIndexed p log a b heard took

@@ -9,7 +9,7 @@ use Rattle.afr_base.specs.declared.ids.NameId.{NameId}
 use Rattle.afr_base.specs.declared.ids.Shape.{Shape}
 use Rattle.afr_discipline.specs.Stands.{reads_of, seen_as}
 use Rattle.afr_heal.specs.Engine.{Ask, Begins}
-use Rattle.afr_heal_hears.specs.Hears.{IsTold}
+use Rattle.afr_heal_hears.specs.Hears.{IsHeardInHeal}
 use Rattle.afr_lines.specs.Log.{from_oldest}
 use Rattle.afr_lines.specs.Told.{told_by}
 use Rattle.afr_lines.specs.declared.answer.Answer.{Answer}
@@ -23,8 +23,8 @@ use Rattle.afr_object.specs.declared.entry.Entry.{Entry}
 use Rattle.afr_plan.specs.declared.plan.Plan.{Plan}
 use Rattle.afr_self_heal.specs.Contents.{load_in, readied}
 use Rattle.afr_self_heal.specs.Healing.{Healing, IsHealing, answered, begun, coming, heal_from, made_ready}
-use Rattle.afr_self_heal.specs.declared.contents.Contents.{Contents}
-use Rattle.afr_self_heal.specs.declared.contents.Contents.TheVariants.{Nothing, Bytes, Attrs, Names}
+use Rattle.afr_self_heal.specs.declared.contents.ReadSoFar.{ReadSoFar}
+use Rattle.afr_self_heal.specs.declared.contents.ReadSoFar.TheVariants.{Nothing, Bytes, Attrs, Names}
 use Rattle.afr_server.specs.Carried.{Brings}
 
 -- brick by brick, the names that were read are those that the read line at the position showed
@@ -35,25 +35,25 @@ AreShown p log (Some t ∷ reads) (Some names ∷ lists) = (t < length log) × (
 AreShown p log reads lists = ⊥
 
 -- what the reads of a heal's present part showed; of bytes and attributes the source alone is read
-abbrev pub Holds : Plan → List Line → Kind → Option ℕ → List (Option ℕ) → Contents → Type 0
-Holds p log kind_of.Names read reads (Names names) = AreShown p log reads names.lists
-Holds p log kind_of.Names read reads contents = ⊥
-Holds p log kind_of.Bytes (Some t) reads contents = (t < length log) × (contents ≡ Bytes (bytes_shown (held_before p log) t (from_oldest t log)))
-Holds p log kind_of.Bytes None reads (Names names) = ⊥
-Holds p log kind_of.Bytes None reads (Attrs attrs) = ⊥
-Holds p log kind_of.Bytes None reads contents = Unit {0}
-Holds p log kind_of.Attrs (Some t) reads contents = (t < length log) × (contents ≡ Attrs (attrs_shown (held_before p log) t (from_oldest t log)))
-Holds p log kind_of.Attrs None reads contents = contents ≡ Nothing
+abbrev pub HoldsReads : Plan → List Line → Kind → Option ℕ → List (Option ℕ) → ReadSoFar → Type 0
+HoldsReads p log kind_of.Names read reads (Names names) = AreShown p log reads names.lists
+HoldsReads p log kind_of.Names read reads contents = ⊥
+HoldsReads p log kind_of.Bytes (Some t) reads contents = (t < length log) × (contents ≡ Bytes (bytes_shown (held_before p log) t (from_oldest t log)))
+HoldsReads p log kind_of.Bytes None reads (Names names) = ⊥
+HoldsReads p log kind_of.Bytes None reads (Attrs attrs) = ⊥
+HoldsReads p log kind_of.Bytes None reads contents = Unit {0}
+HoldsReads p log kind_of.Attrs (Some t) reads contents = (t < length log) × (contents ≡ Attrs (attrs_shown (held_before p log) t (from_oldest t log)))
+HoldsReads p log kind_of.Attrs None reads contents = contents ≡ Nothing
 
 -- in the opening of bytes nothing was read; of attributes and names nothing at a brick before its read
-abbrev pub Unread : Kind → Exact → Contents → Type 0
-Unread kind_of.Bytes r contents = is_opening r.phase ≡ true → ((x : ℕ) → r.reads x ≡ None) × (contents ≡ Nothing)
-Unread kind r contents = (x : ℕ) → nat_le (rank r.step) (rank Reads) ≡ true → asked_in r Reads x ≡ false → r.reads x ≡ None
+abbrev pub NothingRead : Kind → Exact → ReadSoFar → Type 0
+NothingRead kind_of.Bytes r contents = is_opening r.part ≡ true → ((x : ℕ) → r.reads x ≡ None) × (contents ≡ Nothing)
+NothingRead kind r contents = (x : ℕ) → nat_le (rank r.step) (rank Reads) ≡ true → asked_in r Reads x ≡ false → r.reads x ≡ None
 
 -- what a heal holds is what its reads showed, and it holds nothing before them
 pub record HoldsRead (p : Plan) (log : List Line) (m : Healing) : Type 0 where
-  pub shown : Holds p log m.kind (reads_of m.register.reads m.source.0) m.register.reads m.contents
-  pub unread : Unread m.kind (seen_as m.register) m.contents
+  pub shown : HoldsReads p log m.kind (reads_of m.register.reads m.source.0) m.register.reads m.contents
+  pub unread : NothingRead m.kind (seen_as m.register) m.contents
 
 -- a heal that begins has read nothing
 abbrev pub HoldsNone : Type 0
@@ -63,7 +63,7 @@ HoldsNone = (p : Plan) (log : List Line) (shape : Shape) (g : Gfid) (kind : Kind
 abbrev pub HoldsMore : Type 0
 HoldsMore =
     (p : Plan) (m : Healing) (log : List Line) (a : ActorId) (b : ℕ) (request : Request) (heard : Answer) (took : Bool) (chosen : BrickId)
-    → IsHealing m → coming m ≡ Ask b request → IsTold p log a (record { 0 = b }) request heard took → HoldsRead p log m
+    → IsHealing m → coming m ≡ Ask b request → IsHeardInHeal p log a (record { 0 = b }) request heard took → HoldsRead p log m
     → HoldsRead p (AskLine a (record { 0 = b }) request (told_by heard) took ∷ log) (answered m b request heard (length log) chosen)
 
 -- after its HealBegin line the reads of the part before are over

@@ -5,7 +5,7 @@ use Rattle.afr_base.specs.declared.ids.Kind.{Kind}
 use Rattle.afr_base.specs.declared.ids.Kind.TheVariants.{Attrs, Bytes, Names}
 use Rattle.afr_heal.proofs.Parts.{both, not_both}
 use Rattle.afr_heal.specs.Standing.{AfterLooks}
-use Rattle.afr_moves.specs.Register.{Exact, Finish, HealLocks, Looks, Opening, Phase, Piece, Step, Untouched, WorkLocks, everywhere, is_opening, over, rank}
+use Rattle.afr_moves.specs.Register.{Exact, Finish, HealLocks, HealPart, Looks, Opening, Piece, Step, Untouched, WorkLocks, everywhere, is_opening, over, rank}
 use Rattle.afr_moves.specs.Steps.{locks_at, looks_at, passed}
 use Rattle.afr_heal_pace.specs.Left.{after_looks, giving, later_rest, left_at, left_in, lines_left, looking, onward, rest_of}
 use Rattle.afr_counting.proofs.Counts.{count_most}
@@ -50,32 +50,32 @@ module _ (n : ℕ) (keeps : ℕ → Kind → Bool) (r : Exact) (s : ℕ) (kind :
       go Bytes = omega (arith, some)
 
   -- while the first Work locks are asked
-  pub bound_work : 0 < n → r.step ≡ WorkLocks → r.phase ≡ Opening → lines_left n keeps r s kind ≤ left_in n r.law.healing r.asked + (n + 1) + rest_of n kind
-  bound_work some at opening = lines_by (left_in n r.law.healing r.asked + (n + 1) + rest_of n kind) (λ e. let k = giving_most in let j = rest_giving some in omega (arith, k, j)) (λ e. let k = ap (left_at n keeps r s kind) at in let j = parted r.phase opening in omega (arith, k, j))
+  pub bound_work : 0 < n → r.step ≡ WorkLocks → r.part ≡ Opening → lines_left n keeps r s kind ≤ left_in n r.law.healing r.asked + (n + 1) + rest_of n kind
+  bound_work some at opening = lines_by (left_in n r.law.healing r.asked + (n + 1) + rest_of n kind) (λ e. let k = giving_most in let j = rest_giving some in omega (arith, k, j)) (λ e. let k = ap (left_at n keeps r s kind) at in let j = parted r.part opening in omega (arith, k, j))
     where
-      parted : (part : Phase) → part ≡ Opening → left_in n (locks_at r part) r.asked + (n + 1) + onward n r s kind (is_opening part) ≡ left_in n r.law.healing r.asked + (n + 1) + rest_of n kind
+      parted : (part : HealPart) → part ≡ Opening → left_in n (locks_at r part) r.asked + (n + 1) + onward n r s kind (is_opening part) ≡ left_in n r.law.healing r.asked + (n + 1) + rest_of n kind
       parted Opening e = refl
       parted Piece e = absurd (cc e)
       parted Finish e = absurd (cc e)
 
   -- while the Work locks of a later part are asked
-  pub bound_part : r.step ≡ WorkLocks → is_opening r.phase ≡ false → lines_left n keeps r s kind ≤ left_in n r.first_reached r.asked + (n + 1) + later_rest n r s kind
-  bound_part at later = lines_by (left_in n r.first_reached r.asked + (n + 1) + later_rest n r s kind) (λ e. let k = count_most n r.law.held in omega (arith, k)) (λ e. let k = ap (left_at n keeps r s kind) at in let j = parted r.phase later in omega (arith, k, j))
+  pub bound_part : r.step ≡ WorkLocks → is_opening r.part ≡ false → lines_left n keeps r s kind ≤ left_in n r.first_reached r.asked + (n + 1) + later_rest n r s kind
+  bound_part at later = lines_by (left_in n r.first_reached r.asked + (n + 1) + later_rest n r s kind) (λ e. let k = count_most n r.law.held in omega (arith, k)) (λ e. let k = ap (left_at n keeps r s kind) at in let j = parted r.part later in omega (arith, k, j))
     where
-      parted : (part : Phase) → is_opening part ≡ false → left_in n (locks_at r part) r.asked + (n + 1) + onward n r s kind (is_opening part) ≡ left_in n r.first_reached r.asked + (n + 1) + later_rest n r s kind
+      parted : (part : HealPart) → is_opening part ≡ false → left_in n (locks_at r part) r.asked + (n + 1) + onward n r s kind (is_opening part) ≡ left_in n r.first_reached r.asked + (n + 1) + later_rest n r s kind
       parted Opening e = absurd (cc e)
       parted Piece e = refl
       parted Finish e = refl
 
-  pub lines_part : r.broken ≡ false → r.step ≡ WorkLocks → is_opening r.phase ≡ false → lines_left n keeps r s kind ≡ left_in n r.first_reached r.asked + (n + 1) + later_rest n r s kind
-  lines_part whole at later = whole_lines whole ∙ ap (left_at n keeps r s kind) at ∙ parted r.phase later
+  pub lines_part : r.broken ≡ false → r.step ≡ WorkLocks → is_opening r.part ≡ false → lines_left n keeps r s kind ≡ left_in n r.first_reached r.asked + (n + 1) + later_rest n r s kind
+  lines_part whole at later = whole_lines whole ∙ ap (left_at n keeps r s kind) at ∙ parted r.part later
     where
-      parted : (part : Phase) → is_opening part ≡ false → left_in n (locks_at r part) r.asked + (n + 1) + onward n r s kind (is_opening part) ≡ left_in n r.first_reached r.asked + (n + 1) + later_rest n r s kind
+      parted : (part : HealPart) → is_opening part ≡ false → left_in n (locks_at r part) r.asked + (n + 1) + onward n r s kind (is_opening part) ≡ left_in n r.first_reached r.asked + (n + 1) + later_rest n r s kind
       parted Opening e = absurd (cc e)
       parted Piece e = refl
       parted Finish e = refl
 
-  looks_ended : r.step ≡ Looks → passed n keeps r s Looks ≡ true → over n (looks_at r r.phase) r.asked ≡ true
+  looks_ended : r.step ≡ Looks → passed n keeps r s Looks ≡ true → over n (looks_at r r.part) r.asked ≡ true
   looks_ended at h = rw at at h
 
   -- once the looks are over
@@ -96,5 +96,5 @@ module _ (n : ℕ) (keeps : ℕ → Kind → Bool) (r : Exact) (s : ℕ) (kind :
       by_step Untouched e = absurd (cc (rw e at high))
       by_step HealLocks e = absurd (cc (rw e at high))
       by_step WorkLocks e = absurd (cc (rw e at high))
-      by_step Looks e = ended (over n (looks_at r r.phase) r.asked) (looks_ended e looks_passed)
+      by_step Looks e = ended (over n (looks_at r r.part) r.asked) (looks_ended e looks_passed)
       by_step _ e = refl

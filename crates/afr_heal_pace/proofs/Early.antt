@@ -6,11 +6,11 @@ use Rattle.afr_heal.proofs.Finding.{turn_new, turn_set}
 use Rattle.afr_heal.proofs.StagesForms.{granting_by, locking_by, new_at, shape, viewed_form}
 use Rattle.afr_heal.proofs.StagesWalk.{first_elim, heal_elim, lock_elim, look_elim}
 use Rattle.afr_heal.specs.Answers.{asked_for, begun_at, fits, source_after}
-use Rattle.afr_heal.specs.Engine.{Ask, Begins, Next, next_of}
+use Rattle.afr_heal.specs.Engine.{Ask, Begins, NextOfHeal, next_of}
 use Rattle.afr_heal.specs.Laws.{Keeps}
 use Rattle.afr_heal.specs.Standing.{AtFirst, AtHeal, AtLooks}
 use Rattle.afr_lines.specs.declared.answer.Told.{Told}
-use Rattle.afr_lines.specs.declared.answer.Told.TheVariants as told_of
+use Rattle.afr_lines.specs.declared.answer.Told.TheVariants as as_told
 use Rattle.afr_lines.specs.declared.request.Area.{Area}
 use Rattle.afr_lines.specs.declared.request.Request.TheVariants.{Lock, Look}
 use Rattle.afr_moves.specs.Register.{Exact, HealLocks, Looks, Opening, WorkLocks, everywhere, whole_area}
@@ -52,7 +52,7 @@ as_was f h e x k = subst (λ (f : ℕ → Bool). f x ≡ true) e k
 
 module _ (n : ℕ) (keeps : ℕ → Kind → Bool) (pick : (ℕ → Bool) → ℕ) (some : 0 < n) where
   -- the next line comes nearer, if the heal keeps standing
-  abbrev pub Nears : Exact → ℕ → Gfid → Kind → Next → Type 0
+  abbrev pub Nears : Exact → ℕ → Gfid → Kind → NextOfHeal → Type 0
   Nears r s g kind next = Keeps n keeps pick r s g kind next → Nearer n keeps pick r s g kind next
 
   first_near : (q : Exact) (s : ℕ) (g : Gfid) (kind : Kind) → Nears (new_at q) s g kind (Ask 0 (Lock Heal (heal_area g.0)))
@@ -85,10 +85,10 @@ module _ (n : ℕ) (keeps : ℕ → Kind → Bool) (pick : (ℕ → Bool) → �
       after told = asked_for n keeps r at b (Lock Work here) told
 
       works_left : (told : Told) → fits (Lock Work here) told ≡ true → left_in n (after told).law.healing (after told).asked + taken (Lock Work here) told ≤ n
-      works_left told_of.Granted f = left_one n (after told_of.Granted).law.healing (with empty b) b l (with_self empty b)
-      works_left (told_of.Held owner) f = (let h = left_most n (after (told_of.Held owner)).law.healing empty in omega (arith, h))
-      works_left told_of.Failed f = left_one n (after told_of.Failed).law.healing (with empty b) b l (with_self empty b)
-      works_left told_of.NotConnected f = left_one n (after told_of.NotConnected).law.healing (with empty b) b l (with_self empty b)
+      works_left as_told.Granted f = left_one n (after as_told.Granted).law.healing (with empty b) b l (with_self empty b)
+      works_left (as_told.Held owner) f = (let h = left_most n (after (as_told.Held owner)).law.healing empty in omega (arith, h))
+      works_left as_told.Failed f = left_one n (after as_told.Failed).law.healing (with empty b) b l (with_self empty b)
+      works_left as_told.NotConnected f = left_one n (after as_told.NotConnected).law.healing (with empty b) b l (with_self empty b)
       works_left _ f = absurd (cc f)
 
       works_near : (told : Told) → fits (Lock Work here) told ≡ true → lines_left n keeps (after told) (source_after n keeps pick (after told) s) kind + taken (Lock Work here) told ≤ left_in n everywhere q.asked + (2 * n + 1) + rest_of n kind
@@ -119,10 +119,10 @@ module _ (n : ℕ) (keeps : ℕ → Kind → Bool) (pick : (ℕ → Bool) → �
       dropped x h = as_was (weak.locking n w.law there).healing q.law.healing (locked_healing n w.law there) x (without_in (weak.locking n w.law there).healing b x h)
 
       more_left : (told : Told) → fits (Lock Work there) told ≡ true → left_in n (told_at told).law.healing (told_at told).asked + taken (Lock Work there) told ≤ left_in n q.law.healing q.asked
-      more_left told_of.Granted f = left_falls n q.law.healing (weak.granting n w.law there b).healing q.asked (with q.asked b) b (λ x l h. as_was (weak.granting n w.law there b).healing q.law.healing (granted_healing n w.law there b) x h) (λ x l h. with_more q.asked b x h) l (turn_set n keeps w s WorkLocks b t) (turn_new n keeps w s WorkLocks b t) (with_self q.asked b)
-      more_left (told_of.Held owner) f = (let h = left_less n q.law.healing (weak.locking n w.law there).healing q.asked q.asked (λ x l h. as_was (weak.locking n w.law there).healing q.law.healing (locked_healing n w.law there) x h) (λ x l h. h) in omega (arith, h))
-      more_left told_of.Failed f = left_falls n q.law.healing (weak.locking n w.law there).healing q.asked (with q.asked b) b (λ x l h. as_was (weak.locking n w.law there).healing q.law.healing (locked_healing n w.law there) x h) (λ x l h. with_more q.asked b x h) l (turn_set n keeps w s WorkLocks b t) (turn_new n keeps w s WorkLocks b t) (with_self q.asked b)
-      more_left told_of.NotConnected f = left_falls n q.law.healing (without (weak.locking n w.law there).healing b) q.asked (with q.asked b) b (λ x l h. dropped x h) (λ x l h. with_more q.asked b x h) l (turn_set n keeps w s WorkLocks b t) (turn_new n keeps w s WorkLocks b t) (with_self q.asked b)
+      more_left as_told.Granted f = left_falls n q.law.healing (weak.granting n w.law there b).healing q.asked (with q.asked b) b (λ x l h. as_was (weak.granting n w.law there b).healing q.law.healing (granted_healing n w.law there b) x h) (λ x l h. with_more q.asked b x h) l (turn_set n keeps w s WorkLocks b t) (turn_new n keeps w s WorkLocks b t) (with_self q.asked b)
+      more_left (as_told.Held owner) f = (let h = left_less n q.law.healing (weak.locking n w.law there).healing q.asked q.asked (λ x l h. as_was (weak.locking n w.law there).healing q.law.healing (locked_healing n w.law there) x h) (λ x l h. h) in omega (arith, h))
+      more_left as_told.Failed f = left_falls n q.law.healing (weak.locking n w.law there).healing q.asked (with q.asked b) b (λ x l h. as_was (weak.locking n w.law there).healing q.law.healing (locked_healing n w.law there) x h) (λ x l h. with_more q.asked b x h) l (turn_set n keeps w s WorkLocks b t) (turn_new n keeps w s WorkLocks b t) (with_self q.asked b)
+      more_left as_told.NotConnected f = left_falls n q.law.healing (without (weak.locking n w.law there).healing b) q.asked (with q.asked b) b (λ x l h. dropped x h) (λ x l h. with_more q.asked b x h) l (turn_set n keeps w s WorkLocks b t) (turn_new n keeps w s WorkLocks b t) (with_self q.asked b)
       more_left _ f = absurd (cc f)
 
       more_near : (told : Told) → fits (Lock Work there) told ≡ true → lines_left n keeps (told_at told) (source_after n keeps pick (told_at told) s) kind + taken (Lock Work there) told ≤ left_in n q.law.healing q.asked + (n + 1) + rest_of n kind
@@ -154,10 +154,10 @@ module _ (n : ℕ) (keeps : ℕ → Kind → Bool) (pick : (ℕ → Bool) → �
       held_of view x h = as_was (weak.viewed v.law b g.0 view).held q.law.held (ap (λ (law : Register). law.held) (viewed_form v.law b g.0 view)) x h
 
       looks_left : (told : Told) → fits (Look g) told ≡ true → left_in n (seen told).law.held (seen told).asked + 1 ≤ left_in n q.law.held q.asked
-      looks_left (told_of.Seen view) f = left_falls n q.law.held (weak.viewed v.law b g.0 view).held q.asked (with q.asked b) b (λ x l h. held_of view x h) (λ x l h. with_more q.asked b x h) l (turn_set n keeps v s Looks b t) (turn_new n keeps v s Looks b t) (with_self q.asked b)
-      looks_left told_of.NoObject f = left_falls n q.law.held q.law.held q.asked (with q.asked b) b (λ x l h. h) (λ x l h. with_more q.asked b x h) l (turn_set n keeps v s Looks b t) (turn_new n keeps v s Looks b t) (with_self q.asked b)
-      looks_left told_of.Failed f = left_falls n q.law.held q.law.held q.asked (with q.asked b) b (λ x l h. h) (λ x l h. with_more q.asked b x h) l (turn_set n keeps v s Looks b t) (turn_new n keeps v s Looks b t) (with_self q.asked b)
-      looks_left told_of.NotConnected f = left_falls n q.law.held (without q.law.held b) q.asked (with q.asked b) b (λ x l h. without_in q.law.held b x h) (λ x l h. with_more q.asked b x h) l (turn_set n keeps v s Looks b t) (turn_new n keeps v s Looks b t) (with_self q.asked b)
+      looks_left (as_told.Seen view) f = left_falls n q.law.held (weak.viewed v.law b g.0 view).held q.asked (with q.asked b) b (λ x l h. held_of view x h) (λ x l h. with_more q.asked b x h) l (turn_set n keeps v s Looks b t) (turn_new n keeps v s Looks b t) (with_self q.asked b)
+      looks_left as_told.NoObject f = left_falls n q.law.held q.law.held q.asked (with q.asked b) b (λ x l h. h) (λ x l h. with_more q.asked b x h) l (turn_set n keeps v s Looks b t) (turn_new n keeps v s Looks b t) (with_self q.asked b)
+      looks_left as_told.Failed f = left_falls n q.law.held q.law.held q.asked (with q.asked b) b (λ x l h. h) (λ x l h. with_more q.asked b x h) l (turn_set n keeps v s Looks b t) (turn_new n keeps v s Looks b t) (with_self q.asked b)
+      looks_left as_told.NotConnected f = left_falls n q.law.held (without q.law.held b) q.asked (with q.asked b) b (λ x l h. without_in q.law.held b x h) (λ x l h. with_more q.asked b x h) l (turn_set n keeps v s Looks b t) (turn_new n keeps v s Looks b t) (with_self q.asked b)
       looks_left _ f = absurd (cc f)
 
     look_near : (b : ℕ) → b < n → turn n keeps v s Looks b ≡ true → Nears v s g kind (Ask b (Look g))

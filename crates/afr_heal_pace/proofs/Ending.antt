@@ -8,7 +8,7 @@ use Rattle.afr_heal.proofs.StagesForms.{lost}
 use Rattle.afr_heal.proofs.StagesWalk.{broken_elim}
 use Rattle.afr_heal.specs.Engine.{Ask, next_of}
 use Rattle.afr_heal.specs.Requests.{area_now, area_or}
-use Rattle.afr_lines.specs.declared.answer.Told.TheVariants as told_of
+use Rattle.afr_lines.specs.declared.answer.Told.TheVariants as as_told
 use Rattle.afr_lines.specs.declared.request.Area.{Area}
 use Rattle.afr_lines.specs.declared.request.Request.TheVariants.{Unlock}
 use Rattle.afr_moves.proofs.AreaLemmas.{heal_freed_own}
@@ -75,16 +75,16 @@ module _ (n : ℕ) where
     here = area_now r g kind
 
     works_near : (b : ℕ) → b < n → q.law.held b ≡ true → Nears n keeps pick some r s g kind (Ask b (Unlock Work here))
-    works_near b l h st at told_of.Done f =
+    works_near b l h st at as_told.Done f =
         let a = same (weak.released r.law here b).held (without q.law.held b) (held_released r.law here b (own q.law.area (whole_area g.0 kind) (rooted b h))) in
         let c = same (weak.released r.law here b).healing q.law.healing (healing_released r.law here b) in
         let d = falls q.law.held b l h in
         omega (arith, a, c, d)
-    works_near b l h st at told_of.Failed f =
+    works_near b l h st at as_told.Failed f =
         let a = same (weak.unlocked r.law here b).held q.law.held (held_unlocked r.law here b) in
         let c = same (weak.unlocked r.law here b).healing q.law.healing (healing_unlocked r.law here b) in
         omega (arith, a, c)
-    works_near b l h st at told_of.NotConnected f =
+    works_near b l h st at as_told.NotConnected f =
         let a = same (without (weak.unlocked r.law here b).held b) (without q.law.held b) (ap (λ (held : ℕ → Bool). without held b) (held_unlocked r.law here b)) in
         let c = same (without (weak.unlocked r.law here b).healing b) (without q.law.healing b) (ap (λ (held : ℕ → Bool). without held b) (healing_unlocked r.law here b)) in
         let d = falls q.law.held b l h in
@@ -93,12 +93,12 @@ module _ (n : ℕ) where
     works_near b l h st at _ f = absurd (cc f)
 
     heals_near : (b : ℕ) → b < n → q.law.healing b ≡ true → Nears n keeps pick some r s g kind (Ask b (Unlock Heal (heal_area g.0)))
-    heals_near b l h st at told_of.Done f =
+    heals_near b l h st at as_told.Done f =
         let c = same (weak.heal_freed r.law (heal_area g.0) b) (without q.law.healing b) (heal_freed_own r.law b) in
         let d = falls q.law.healing b l h in
         omega (arith, c, d)
-    heals_near b l h st at told_of.Failed f = omega arith
-    heals_near b l h st at told_of.NotConnected f = (let d = falls q.law.healing b l h in let e = less q.law.held b in omega (arith, d, e))
+    heals_near b l h st at as_told.Failed f = omega arith
+    heals_near b l h st at as_told.NotConnected f = (let d = falls q.law.healing b l h in let e = less q.law.held b in omega (arith, d, e))
     heals_near b l h st at _ f = absurd (cc f)
 
     pub near_ending : Nears n keeps pick some r s g kind (next_of n keeps r s g kind)

@@ -14,13 +14,13 @@ use Rattle.afr_heal.specs.Requests.{next_area}
 use Rattle.afr_heal.specs.Standing.{AfterLooks}
 use Rattle.afr_lines.specs.Overlap.{same_area}
 use Rattle.afr_lines.specs.declared.answer.Told.{Told}
-use Rattle.afr_lines.specs.declared.answer.Told.TheVariants as told_of
+use Rattle.afr_lines.specs.declared.answer.Told.TheVariants as as_told
 use Rattle.afr_lines.specs.declared.request.Area.{Area}
 use Rattle.afr_lines.specs.declared.request.Request.{Request}
 use Rattle.afr_lines.specs.declared.request.Request.TheVariants.{Lock, Unlock}
 use Rattle.afr_moves.proofs.AreaLemmas.{heal_freed_own}
-use Rattle.afr_moves.specs.Note.{next_phase}
-use Rattle.afr_moves.specs.Register.{Exact, Finish, HealPres, HealUnlocks, Mends, Phase, Piece, Reads, Settles, Unlocks, WorkLocks, asked_in, is_opening, is_piece, len_of, piece_area, rank, same_step, span, whole_area}
+use Rattle.afr_moves.specs.Note.{next_part}
+use Rattle.afr_moves.specs.Register.{Exact, Finish, HealPart, HealPres, HealUnlocks, Mends, Piece, Reads, Settles, Unlocks, WorkLocks, asked_in, is_opening, is_piece, len_of, piece_area, rank, same_step, span, whole_area}
 use Rattle.afr_moves.specs.Rules as weak
 use Rattle.afr_moves.specs.Rules.{Register, heal_area}
 use Rattle.afr_moves.specs.Sets.{with, without}
@@ -81,7 +81,7 @@ module _ (n : ℕ) (keeps : ℕ → Kind → Bool) (pick : (ℕ → Bool) → �
 
   -- ---- the unlocks of a part
   abbrev after_piece : ℕ
-  after_piece = if is_piece q.phase && nat_lt (rank q.step) 12 then q.upto + span else q.upto
+  after_piece = if is_piece q.part && nat_lt (rank q.step) 12 then q.upto + span else q.upto
 
   abbrev unlocked_at : (ℕ → Bool) → (ℕ → Bool) → Register → Exact
   unlocked_at asked possible law = record r { step = Unlocks; asked = asked; possible = possible; upto = after_piece; broken = false; law = law }
@@ -94,22 +94,22 @@ module _ (n : ℕ) (keeps : ℕ → Kind → Bool) (pick : (ℕ → Bool) → �
       let b : todo n keeps r1 s HealPres ≤ 0 = none_left n (set_of n keeps r1 s HealPres) in
       let c : todo n keeps r1 s Mends ≤ 0 = none_left n (set_of n keeps r1 s Mends) in
       let d : todo n keeps r1 s Settles ≤ 0 = none_left n (set_of n keeps r1 s Settles) in
-      let e : parts_of n r1 s kind ≡ parts_of n r s kind = ap (λ (upto : ℕ). parts_left n (has_part kind q.phase) (pieces (len_of (q.first_views s)) upto)) (other_of (is_piece q.phase) (after_piece + span) after_piece) in
+      let e : parts_of n r1 s kind ≡ parts_of n r s kind = ap (λ (upto : ℕ). parts_left n (has_part kind q.part) (pieces (len_of (q.first_views s)) upto)) (other_of (is_piece q.part) (after_piece + span) after_piece) in
       omega (arith, a, b, c, d, e)
 
   pub near_unlocks : turn n keeps r s Unlocks b ≡ true → (told : Told) → fits (Unlock Work area) told ≡ true → NearsHere (Unlock Work area) told
-  near_unlocks t told_of.Done f =
+  near_unlocks t as_told.Done f =
       subst (λ (law : Register). lines_left n keeps (unlocked_at (with (asked_in r Unlocks) b) (λ x. r.possible x && may_heal n keeps r x b (Unlock Work area)) law) s kind + 1 ≤ lines_left n keeps r s kind) (sym (released_own n r.law area b refl))
       (let h = unlocks_most (with (asked_in r Unlocks) b) (λ x. r.possible x && may_heal n keeps r x b (Unlock Work area)) (with r.law.closed b) (without r.law.held b) in
       let j = held_falls n q.law.held b l (turn_set n keeps r s Unlocks b t) in
       let e = all_left in
       omega (arith, h, j, e))
-  near_unlocks t told_of.Failed f =
+  near_unlocks t as_told.Failed f =
       subst (λ (law : Register). lines_left n keeps (unlocked_at (asked_in r Unlocks) (λ x. r.possible x && may_heal n keeps r x b (Unlock Work area)) law) s kind + 0 ≤ lines_left n keeps r s kind) (sym (unlocked_own n r.law area b refl))
       (let h = unlocks_most (asked_in r Unlocks) (λ x. r.possible x && may_heal n keeps r x b (Unlock Work area)) (with r.law.closed b) r.law.held in
       let e = all_left in
       omega (arith, h, e))
-  near_unlocks t told_of.NotConnected f =
+  near_unlocks t as_told.NotConnected f =
       subst (λ (law : Register). count_below n (without law.held b) + count_below n (without law.healing b) + 1 + 1 ≤ lines_left n keeps r s kind) (sym (unlocked_own n r.law area b refl))
       (let h = held_falls n q.law.held b l (turn_set n keeps r s Unlocks b t) in
       let j = held_less n q.law.healing b in
@@ -121,28 +121,28 @@ module _ (n : ℕ) (keeps : ℕ → Kind → Bool) (pick : (ℕ → Bool) → �
   abbrev given_at : (ℕ → Bool) → (ℕ → Bool) → (ℕ → Bool) → Exact
   given_at asked possible healing = record r { step = HealUnlocks; asked = asked; possible = possible; broken = false; law = record r.law { healing = healing } }
 
-  given_most : has_part kind q.phase ≡ false → (asked possible healing : ℕ → Bool) → lines_left n keeps (given_at asked possible healing) s kind ≤ count_below n q.law.held + count_below n healing + 1
+  given_most : has_part kind q.part ≡ false → (asked possible healing : ℕ → Bool) → lines_left n keeps (given_at asked possible healing) s kind ≤ count_below n q.law.held + count_below n healing + 1
   given_most last asked possible healing =
       let r1 = given_at asked possible healing in
       let a : todo n keeps r1 s Reads ≤ 0 = none_left n (set_of n keeps r1 s Reads) in
       let b : todo n keeps r1 s HealPres ≤ 0 = none_left n (set_of n keeps r1 s HealPres) in
       let c : todo n keeps r1 s Mends ≤ 0 = none_left n (set_of n keeps r1 s Mends) in
       let d : todo n keeps r1 s Settles ≤ 0 = none_left n (set_of n keeps r1 s Settles) in
-      let e : parts_of n r1 s kind ≤ 0 = no_parts n (pieces (len_of (q.first_views s)) (if is_piece q.phase && false then q.upto + span else q.upto)) (has_part kind q.phase) last in
+      let e : parts_of n r1 s kind ≤ 0 = no_parts n (pieces (len_of (q.first_views s)) (if is_piece q.part && false then q.upto + span else q.upto)) (has_part kind q.part) last in
       omega (arith, a, b, c, d, e)
 
-  pub near_heals : has_part kind q.phase ≡ false → turn n keeps r s HealUnlocks b ≡ true → (told : Told) → fits (Unlock Heal (heal_area g.0)) told ≡ true → NearsHere (Unlock Heal (heal_area g.0)) told
-  near_heals last t told_of.Done f =
+  pub near_heals : has_part kind q.part ≡ false → turn n keeps r s HealUnlocks b ≡ true → (told : Told) → fits (Unlock Heal (heal_area g.0)) told ≡ true → NearsHere (Unlock Heal (heal_area g.0)) told
+  near_heals last t as_told.Done f =
       subst (λ (healing : ℕ → Bool). lines_left n keeps (given_at (with (asked_in r HealUnlocks) b) (λ x. r.possible x && may_heal n keeps r x b (Unlock Heal (heal_area g.0))) healing) s kind + 1 ≤ lines_left n keeps r s kind) (sym (heal_freed_own r.law b))
       (let h = given_most last (with (asked_in r HealUnlocks) b) (λ x. r.possible x && may_heal n keeps r x b (Unlock Heal (heal_area g.0))) (without r.law.healing b) in
       let j = held_falls n q.law.healing b l (turn_set n keeps r s HealUnlocks b t) in
       let e = all_left in
       omega (arith, h, j, e))
-  near_heals last t told_of.Failed f =
+  near_heals last t as_told.Failed f =
       let h = given_most last (asked_in r HealUnlocks) (λ x. r.possible x && may_heal n keeps r x b (Unlock Heal (heal_area g.0))) r.law.healing in
       let e = all_left in
       omega (arith, h, e)
-  near_heals last t told_of.NotConnected f =
+  near_heals last t as_told.NotConnected f =
       let h : count_below n (without q.law.healing b) + 1 ≤ count_below n q.law.healing = held_falls n q.law.healing b l (turn_set n keeps r s HealUnlocks b t) in
       let j = held_less n q.law.held b in
       let e = all_left in
@@ -153,14 +153,14 @@ module _ (n : ℕ) (keeps : ℕ → Kind → Bool) (pick : (ℕ → Bool) → �
   near_heals last t _ f = absurd (cc f)
 
   -- ---- the first lock of the next part
-  module _ (u : rank q.step ≡ 12) (p : has_part kind q.phase ≡ true) (short : len_of (q.first_views s) ≤ 1048576) where
+  module _ (u : rank q.step ≡ 12) (p : has_part kind q.part ≡ true) (short : len_of (q.first_views s) ≤ 1048576) where
     abbrev there : Area
     there = next_area r s g
 
     abbrev len : ℕ
     len = len_of (q.first_views s)
 
-    abbrev new_part : Phase
+    abbrev new_part : HealPart
     new_part = if same_area (whole_area g.0 Bytes) there then Finish else Piece
 
     later : is_opening new_part ≡ false
@@ -170,10 +170,10 @@ module _ (n : ℕ) (keeps : ℕ → Kind → Bool) (pick : (ℕ → Bool) → �
         by_area true = refl
         by_area false = refl
 
-    phase_is : next_phase r there ≡ new_part
-    phase_is = let e : same_step q.step Unlocks ≡ true = rw u refl in rw e refl
+    part_is : next_part r there ≡ new_part
+    part_is = let e : same_step q.step Unlocks ≡ true = rw u refl in rw e refl
 
-    abbrev parts_then : Phase → ℕ
+    abbrev parts_then : HealPart → ℕ
     parts_then part = parts_left n (has_part kind part) (pieces len (if is_piece part && true then q.upto + span else q.upto))
 
     no_finish : (kind : Kind) → has_part kind Finish ≡ false
@@ -184,9 +184,9 @@ module _ (n : ℕ) (keeps : ℕ → Kind → Bool) (pick : (ℕ → Bool) → �
     before_part : parts_of n r s kind ≡ times (suc (pieces len q.upto)) (4 * n + 1)
     before_part =
         let e : nat_lt (rank q.step) 12 ≡ false = grind (arith, nat_tests, u) in
-        some_parts n (pieces len (if is_piece q.phase && nat_lt (rank q.step) 12 then q.upto + span else q.upto)) (has_part kind q.phase) p
-        ∙ ap (λ (a : Bool). times (suc (pieces len (if is_piece q.phase && a then q.upto + span else q.upto))) (4 * n + 1)) e
-        ∙ ap (λ (upto : ℕ). times (suc (pieces len upto)) (4 * n + 1)) (other_of (is_piece q.phase) (q.upto + span) q.upto)
+        some_parts n (pieces len (if is_piece q.part && nat_lt (rank q.step) 12 then q.upto + span else q.upto)) (has_part kind q.part) p
+        ∙ ap (λ (a : Bool). times (suc (pieces len (if is_piece q.part && a then q.upto + span else q.upto))) (4 * n + 1)) e
+        ∙ ap (λ (upto : ℕ). times (suc (pieces len upto)) (4 * n + 1)) (other_of (is_piece q.part) (q.upto + span) q.upto)
 
     part_falls : parts_then new_part + (4 * n + 1) ≤ times (suc (pieces len q.upto)) (4 * n + 1)
     part_falls = go (nat_lt q.upto len) refl (same_area (whole_area g.0 Bytes) there) refl
@@ -205,28 +205,28 @@ module _ (n : ℕ) (keeps : ℕ → Kind → Bool) (pick : (ℕ → Bool) → �
     next told = asked_for n keeps r at b (Lock Work there) told
 
     next_left : (told : Told) → fits (Lock Work there) told ≡ true → left_in n q.first_reached (next told).asked + taken (Lock Work there) told ≤ n
-    next_left told_of.Granted f = left_one n q.first_reached (with (asked_in r WorkLocks) b) b l (with_self (asked_in r WorkLocks) b)
-    next_left (told_of.Held owner) f = (let h = left_most n q.first_reached (asked_in r WorkLocks) in omega (arith, h))
-    next_left told_of.Failed f = left_one n q.first_reached (with (asked_in r WorkLocks) b) b l (with_self (asked_in r WorkLocks) b)
-    next_left told_of.NotConnected f = left_one n q.first_reached (with (asked_in r WorkLocks) b) b l (with_self (asked_in r WorkLocks) b)
+    next_left as_told.Granted f = left_one n q.first_reached (with (asked_in r WorkLocks) b) b l (with_self (asked_in r WorkLocks) b)
+    next_left (as_told.Held owner) f = (let h = left_most n q.first_reached (asked_in r WorkLocks) in omega (arith, h))
+    next_left as_told.Failed f = left_one n q.first_reached (with (asked_in r WorkLocks) b) b l (with_self (asked_in r WorkLocks) b)
+    next_left as_told.NotConnected f = left_one n q.first_reached (with (asked_in r WorkLocks) b) b l (with_self (asked_in r WorkLocks) b)
     next_left _ f = absurd (cc f)
 
     next_healing : (told : Told) → fits (Lock Work there) told ≡ true → count_below n (next told).law.healing ≤ count_below n q.law.healing
-    next_healing told_of.Granted f = count_less n q.law.healing (weak.granting n r.law there b).healing (λ x l h. as_was (weak.granting n r.law there b).healing q.law.healing (granted_healing n r.law there b) x h)
-    next_healing (told_of.Held owner) f = count_less n q.law.healing (weak.locking n r.law there).healing (λ x l h. as_was (weak.locking n r.law there).healing q.law.healing (locked_healing n r.law there) x h)
-    next_healing told_of.Failed f = count_less n q.law.healing (weak.locking n r.law there).healing (λ x l h. as_was (weak.locking n r.law there).healing q.law.healing (locked_healing n r.law there) x h)
-    next_healing told_of.NotConnected f = count_less n q.law.healing (without (weak.locking n r.law there).healing b) (λ x l h. as_was (weak.locking n r.law there).healing q.law.healing (locked_healing n r.law there) x (without_in (weak.locking n r.law there).healing b x h))
+    next_healing as_told.Granted f = count_less n q.law.healing (weak.granting n r.law there b).healing (λ x l h. as_was (weak.granting n r.law there b).healing q.law.healing (granted_healing n r.law there b) x h)
+    next_healing (as_told.Held owner) f = count_less n q.law.healing (weak.locking n r.law there).healing (λ x l h. as_was (weak.locking n r.law there).healing q.law.healing (locked_healing n r.law there) x h)
+    next_healing as_told.Failed f = count_less n q.law.healing (weak.locking n r.law there).healing (λ x l h. as_was (weak.locking n r.law there).healing q.law.healing (locked_healing n r.law there) x h)
+    next_healing as_told.NotConnected f = count_less n q.law.healing (without (weak.locking n r.law there).healing b) (λ x l h. as_was (weak.locking n r.law there).healing q.law.healing (locked_healing n r.law there) x (without_in (weak.locking n r.law there).healing b x h))
     next_healing _ f = absurd (cc f)
 
-    next_later : is_opening (next_phase r there) ≡ false
-    next_later = ap is_opening phase_is ∙ later
+    next_later : is_opening (next_part r there) ≡ false
+    next_later = ap is_opening part_is ∙ later
 
     pub near_next : (told : Told) → fits (Lock Work there) told ≡ true → NearsHere (Lock Work there) told
     near_next told f =
         let h = bound_part n keeps (next told) s kind refl next_later in
         let a = next_left told f in
         let c = next_healing told f in
-        let d : parts_of n (next told) s kind ≡ parts_then new_part = ap parts_then phase_is in
+        let d : parts_of n (next told) s kind ≡ parts_then new_part = ap parts_then part_is in
         let e = all_left in
         sum (lines_left n keeps (next told) s kind) (left_in n q.first_reached (next told).asked) (parts_of n (next told) s kind) (parts_then new_part) (parts_of n r s kind) (times (suc (pieces len q.upto)) (4 * n + 1)) (count_below n (next told).law.healing) (count_below n q.law.healing)
         (count_below n q.law.held) (sets n keeps q s g kind area k r) (taken (Lock Work there) told) (lines_left n keeps r s kind) h a c d before_part part_falls e

@@ -10,10 +10,10 @@ use Rattle.afr_heal.specs.Answers.{asked_for, begun_at, fits, source_after}
 use Rattle.afr_heal.specs.Engine.{Ask, Begins, next_of}
 use Rattle.afr_heal.specs.Standing.{AtViews}
 use Rattle.afr_lines.specs.declared.answer.Told.{Told}
-use Rattle.afr_lines.specs.declared.answer.Told.TheVariants as told_of
+use Rattle.afr_lines.specs.declared.answer.Told.TheVariants as as_told
 use Rattle.afr_lines.specs.declared.request.Area.{Area}
 use Rattle.afr_lines.specs.declared.request.Request.TheVariants.{Lock, Look}
-use Rattle.afr_moves.specs.Register.{Exact, Finish, Looks, Opening, Phase, Piece, WorkLocks, is_opening}
+use Rattle.afr_moves.specs.Register.{Exact, Finish, HealPart, Looks, Opening, Piece, WorkLocks, is_opening}
 use Rattle.afr_moves.specs.Rules as weak
 use Rattle.afr_moves.specs.Rules.{Register}
 use Rattle.afr_moves.specs.Sets.{empty, with, without}
@@ -29,11 +29,11 @@ use Rattle.afr_heal_pace.proofs.Looked.{bound_views, looks_not}
 
 module _ (n : ℕ) (keeps : ℕ → Kind → Bool) (pick : (ℕ → Bool) → ℕ) (some : 0 < n) (q : Exact) (s : ℕ) (g : Gfid) (kind : Kind) (area : Area) where
   -- the Work locks
-  module _ (part : Phase) (later : is_opening part ≡ false) where
+  module _ (part : HealPart) (later : is_opening part ≡ false) where
     abbrev w : Exact
     w = shape q WorkLocks part g kind (Some area)
 
-    locks_first : (part : Phase) → is_opening part ≡ false → (b : ℕ) → locks_at w part b ≡ true → q.first_reached b ≡ true
+    locks_first : (part : HealPart) → is_opening part ≡ false → (b : ℕ) → locks_at w part b ≡ true → q.first_reached b ≡ true
     locks_first Opening e b h = absurd (cc e)
     locks_first Piece e b h = h
     locks_first Finish e b h = h
@@ -49,17 +49,17 @@ module _ (n : ℕ) (keeps : ℕ → Kind → Bool) (pick : (ℕ → Bool) → �
       asked_more = left_falls n q.first_reached q.first_reached q.asked (with q.asked b) b (λ x l h. h) (λ x l h. with_more q.asked b x h) l here (turn_new n keeps w s WorkLocks b t) (with_self q.asked b)
 
       left_told : (told : Told) → fits (Lock Work area) told ≡ true → left_in n q.first_reached (after told).asked + taken (Lock Work area) told ≤ left_in n q.first_reached q.asked
-      left_told told_of.Granted f = asked_more
-      left_told (told_of.Held owner) f = omega arith
-      left_told told_of.Failed f = asked_more
-      left_told told_of.NotConnected f = asked_more
+      left_told as_told.Granted f = asked_more
+      left_told (as_told.Held owner) f = omega arith
+      left_told as_told.Failed f = asked_more
+      left_told as_told.NotConnected f = asked_more
       left_told _ f = absurd (cc f)
 
       healing_told : (told : Told) → fits (Lock Work area) told ≡ true → count_below n (after told).law.healing ≤ count_below n q.law.healing
-      healing_told told_of.Granted f = count_less n q.law.healing (weak.granting n w.law area b).healing (λ x l h. as_was (weak.granting n w.law area b).healing q.law.healing (granted_healing n w.law area b) x h)
-      healing_told (told_of.Held owner) f = count_less n q.law.healing (weak.locking n w.law area).healing (λ x l h. as_was (weak.locking n w.law area).healing q.law.healing (locked_healing n w.law area) x h)
-      healing_told told_of.Failed f = count_less n q.law.healing (weak.locking n w.law area).healing (λ x l h. as_was (weak.locking n w.law area).healing q.law.healing (locked_healing n w.law area) x h)
-      healing_told told_of.NotConnected f = count_less n q.law.healing (without (weak.locking n w.law area).healing b) (λ x l h. as_was (weak.locking n w.law area).healing q.law.healing (locked_healing n w.law area) x (without_in (weak.locking n w.law area).healing b x h))
+      healing_told as_told.Granted f = count_less n q.law.healing (weak.granting n w.law area b).healing (λ x l h. as_was (weak.granting n w.law area b).healing q.law.healing (granted_healing n w.law area b) x h)
+      healing_told (as_told.Held owner) f = count_less n q.law.healing (weak.locking n w.law area).healing (λ x l h. as_was (weak.locking n w.law area).healing q.law.healing (locked_healing n w.law area) x h)
+      healing_told as_told.Failed f = count_less n q.law.healing (weak.locking n w.law area).healing (λ x l h. as_was (weak.locking n w.law area).healing q.law.healing (locked_healing n w.law area) x h)
+      healing_told as_told.NotConnected f = count_less n q.law.healing (without (weak.locking n w.law area).healing b) (λ x l h. as_was (weak.locking n w.law area).healing q.law.healing (locked_healing n w.law area) x (without_in (weak.locking n w.law area).healing b x h))
       healing_told _ f = absurd (cc f)
 
       part_near : (told : Told) → fits (Lock Work area) told ≡ true → lines_left n keeps (after told) (source_after n keeps pick (after told) s) kind + taken (Lock Work area) told ≤ lines_left n keeps w s kind
@@ -88,7 +88,7 @@ module _ (n : ℕ) (keeps : ℕ → Kind → Bool) (pick : (ℕ → Bool) → �
     near_part = lock_elim n keeps w s g kind (Nears n keeps pick some w s g kind) refl refl (λ b l t st at told f. part_near b at l t told f) (λ o. begin_near)
 
   -- the looks
-  module _ (part : Phase) (b at : ℕ) (l : b < n) (t : turn n keeps (shape q Looks part g kind (Some area)) s Looks b ≡ true) where
+  module _ (part : HealPart) (b at : ℕ) (l : b < n) (t : turn n keeps (shape q Looks part g kind (Some area)) s Looks b ≡ true) where
     abbrev v : Exact
     v = shape q Looks part g kind (Some area)
 
@@ -98,7 +98,7 @@ module _ (n : ℕ) (keeps : ℕ → Kind → Bool) (pick : (ℕ → Bool) → �
     first_here : is_opening part ≡ false → q.first_reached b ≡ true
     first_here later = go part later (turn_set n keeps v s Looks b t)
       where
-        go : (part : Phase) → is_opening part ≡ false → looks_at v part b ≡ true → q.first_reached b ≡ true
+        go : (part : HealPart) → is_opening part ≡ false → looks_at v part b ≡ true → q.first_reached b ≡ true
         go Opening e h = absurd (cc e)
         go Piece e h = h
         go Finish e h = h
@@ -107,17 +107,17 @@ module _ (n : ℕ) (keeps : ℕ → Kind → Bool) (pick : (ℕ → Bool) → �
     asked_once later = left_falls n q.first_reached q.first_reached q.asked (with q.asked b) b (λ x l h. h) (λ x l h. with_more q.asked b x h) l (first_here later) (turn_new n keeps v s Looks b t) (with_self q.asked b)
 
     looked_told : is_opening part ≡ false → (told : Told) → fits (Look g) told ≡ true → left_in n q.first_reached (seen told).asked + 1 ≤ left_in n q.first_reached q.asked
-    looked_told later (told_of.Seen view) f = asked_once later
-    looked_told later told_of.NoObject f = asked_once later
-    looked_told later told_of.Failed f = asked_once later
-    looked_told later told_of.NotConnected f = asked_once later
+    looked_told later (as_told.Seen view) f = asked_once later
+    looked_told later as_told.NoObject f = asked_once later
+    looked_told later as_told.Failed f = asked_once later
+    looked_told later as_told.NotConnected f = asked_once later
     looked_told later _ f = absurd (cc f)
 
     healing_of : (told : Told) → fits (Look g) told ≡ true → count_below n (seen told).law.healing ≤ count_below n q.law.healing
-    healing_of (told_of.Seen view) f = count_less n q.law.healing (weak.viewed v.law b g.0 view).healing (λ x l h. as_was (weak.viewed v.law b g.0 view).healing q.law.healing (ap (λ (law : Register). law.healing) (viewed_form v.law b g.0 view)) x h)
-    healing_of told_of.NoObject f = omega arith
-    healing_of told_of.Failed f = omega arith
-    healing_of told_of.NotConnected f = count_less n q.law.healing (without q.law.healing b) (λ x l h. without_in q.law.healing b x h)
+    healing_of (as_told.Seen view) f = count_less n q.law.healing (weak.viewed v.law b g.0 view).healing (λ x l h. as_was (weak.viewed v.law b g.0 view).healing q.law.healing (ap (λ (law : Register). law.healing) (viewed_form v.law b g.0 view)) x h)
+    healing_of as_told.NoObject f = omega arith
+    healing_of as_told.Failed f = omega arith
+    healing_of as_told.NotConnected f = count_less n q.law.healing (without q.law.healing b) (λ x l h. without_in q.law.healing b x h)
     healing_of _ f = absurd (cc f)
 
     pub view_sum : (l left' left p h' h m : ℕ) → l ≤ left' + (2 * n + p + h' + 1) → left' + 1 ≤ left → h' ≤ h → m ≡ left + (2 * n + p + h + 1) → l + 1 ≤ m
@@ -137,7 +137,7 @@ module _ (n : ℕ) (keeps : ℕ → Kind → Bool) (pick : (ℕ → Bool) → �
       view_sum Finish b at l t (lines_left n keeps (seen Finish b at l t told) s kind) (left_in n q.first_reached (seen Finish b at l t told).asked) (left_in n q.first_reached q.asked) (parts_of n (v Finish b at l t) s kind)
       (count_below n (seen Finish b at l t told).law.healing) (count_below n q.law.healing) (lines_left n keeps (v Finish b at l t) s kind) h (looked_told Finish b at l t refl told f) (healing_of Finish b at l t told f) i
 
-  pub near_views : (part : Phase) → is_opening part ≡ false → AtViews n keeps (shape q Looks part g kind (Some area)) s g kind → Nears n keeps pick some (shape q Looks part g kind (Some area)) s g kind (next_of n keeps (shape q Looks part g kind (Some area)) s g kind)
+  pub near_views : (part : HealPart) → is_opening part ≡ false → AtViews n keeps (shape q Looks part g kind (Some area)) s g kind → Nears n keeps pick some (shape q Looks part g kind (Some area)) s g kind (next_of n keeps (shape q Looks part g kind (Some area)) s g kind)
   near_views Opening later k = absurd (cc later)
   near_views Piece later k = look_elim n keeps (shape q Looks Piece g kind (Some area)) s g kind (Nears n keeps pick some (shape q Looks Piece g kind (Some area)) s g kind) refl refl k.more (piece_near k)
   near_views Finish later k = look_elim n keeps (shape q Looks Finish g kind (Some area)) s g kind (Nears n keeps pick some (shape q Looks Finish g kind (Some area)) s g kind) refl refl k.more (finish_near k)

@@ -15,7 +15,7 @@ use Rattle.afr_discipline.specs.Turns.{less_in}
 use Rattle.afr_heal.specs.Requests.{read_in, repair_in, request_in}
 use Rattle.afr_heal.specs.Standing.{AfterLooks}
 use Rattle.afr_lines.specs.declared.answer.Told.{Told}
-use Rattle.afr_lines.specs.declared.answer.Told.TheVariants as told_of
+use Rattle.afr_lines.specs.declared.answer.Told.TheVariants as as_told
 use Rattle.afr_lines.specs.declared.request.Area.{Area}
 use Rattle.afr_lines.specs.declared.request.Request.{Request}
 use Rattle.afr_lines.specs.declared.request.Request.TheVariants.{List, Mend, Pre, ReadAttrs, ReadBytes, Settle}
@@ -88,8 +88,8 @@ module _ (n : ℕ) (keeps : ℕ → Kind → Bool) (q : Exact) (s : ℕ) (g : Gf
   sets r1 = todo n keeps r1 s Reads + todo n keeps r1 s HealPres + todo n keeps r1 s Mends + todo n keeps r1 s Settles
 
   parts_same : (t : ℕ) → nat_lt t 12 ≡ true → nat_le (rank q.step) t ≡ true
-      → parts_left n (has_part kind q.phase) (pieces (len_of (q.first_views s)) (if is_piece q.phase && nat_lt t 12 then q.upto + span else q.upto)) ≡ parts_of n r s kind
-  parts_same t high low = ap (λ (a : Bool). parts_left n (has_part kind q.phase) (pieces (len_of (q.first_views s)) (if is_piece q.phase && a then q.upto + span else q.upto))) (high ∙ sym before)
+      → parts_left n (has_part kind q.part) (pieces (len_of (q.first_views s)) (if is_piece q.part && nat_lt t 12 then q.upto + span else q.upto)) ≡ parts_of n r s kind
+  parts_same t high low = ap (λ (a : Bool). parts_left n (has_part kind q.part) (pieces (len_of (q.first_views s)) (if is_piece q.part && a then q.upto + span else q.upto))) (high ∙ sym before)
     where
       before : nat_lt (rank q.step) 12 ≡ true
       before = grind (arith, nat_tests, high, low)
@@ -186,17 +186,17 @@ module _ (n : ℕ) (keeps : ℕ → Kind → Bool) (q : Exact) (s : ℕ) (g : Gf
 
     -- the reads
     read_told : turn n keeps r s Reads b ≡ true → (request : Request) → is_read request ≡ true → (told : Told) → fits request told ≡ true → NearsHere request told
-    read_told t (ReadBytes h from len) e told_of.Given f = reads_on b l (λ x. r.possible x && may_heal n keeps r x b (ReadBytes h from len)) (put r.reads b (Some at)) r.law.pre r.law.raised r.law.settled r.law.mended t
-    read_told t (ReadBytes h from len) e told_of.NotConnected f = lost_next b (some_reads b l t)
-    read_told t (ReadBytes h from len) e told_of.Failed f = failed_next b (some_reads b l t)
+    read_told t (ReadBytes h from len) e as_told.Given f = reads_on b l (λ x. r.possible x && may_heal n keeps r x b (ReadBytes h from len)) (put r.reads b (Some at)) r.law.pre r.law.raised r.law.settled r.law.mended t
+    read_told t (ReadBytes h from len) e as_told.NotConnected f = lost_next b (some_reads b l t)
+    read_told t (ReadBytes h from len) e as_told.Failed f = failed_next b (some_reads b l t)
     read_told t (ReadBytes h from len) e _ f = absurd (cc f)
-    read_told t (ReadAttrs h) e told_of.Given f = reads_on b l (λ x. r.possible x && may_heal n keeps r x b (ReadAttrs h)) (put r.reads b (Some at)) r.law.pre r.law.raised r.law.settled r.law.mended t
-    read_told t (ReadAttrs h) e told_of.NotConnected f = lost_next b (some_reads b l t)
-    read_told t (ReadAttrs h) e told_of.Failed f = failed_next b (some_reads b l t)
+    read_told t (ReadAttrs h) e as_told.Given f = reads_on b l (λ x. r.possible x && may_heal n keeps r x b (ReadAttrs h)) (put r.reads b (Some at)) r.law.pre r.law.raised r.law.settled r.law.mended t
+    read_told t (ReadAttrs h) e as_told.NotConnected f = lost_next b (some_reads b l t)
+    read_told t (ReadAttrs h) e as_told.Failed f = failed_next b (some_reads b l t)
     read_told t (ReadAttrs h) e _ f = absurd (cc f)
-    read_told t (List h) e told_of.Given f = reads_on b l (λ x. r.possible x && may_heal n keeps r x b (List h)) (put r.reads b (Some at)) r.law.pre r.law.raised r.law.settled r.law.mended t
-    read_told t (List h) e told_of.NotConnected f = lost_next b (some_reads b l t)
-    read_told t (List h) e told_of.Failed f = failed_next b (some_reads b l t)
+    read_told t (List h) e as_told.Given f = reads_on b l (λ x. r.possible x && may_heal n keeps r x b (List h)) (put r.reads b (Some at)) r.law.pre r.law.raised r.law.settled r.law.mended t
+    read_told t (List h) e as_told.NotConnected f = lost_next b (some_reads b l t)
+    read_told t (List h) e as_told.Failed f = failed_next b (some_reads b l t)
     read_told t (List h) e _ f = absurd (cc f)
     read_told t _ e told f = absurd (cc e)
 
@@ -209,24 +209,24 @@ module _ (n : ℕ) (keeps : ℕ → Kind → Bool) (q : Exact) (s : ℕ) (g : Gf
     near_reads t told f = read_told t (request_in n keeps r s g kind Reads b) (is_reading kind) told f
 
     pub near_pres : turn n keeps r s HealPres b ≡ true → (told : Told) → fits (Pre g kind) told ≡ true → NearsHere (Pre g kind) told
-    near_pres t told_of.Done f = pres_on b l (λ x. r.possible x && may_heal n keeps r x b (Pre g kind)) r.reads (with r.law.pre b) (with r.law.raised b) r.law.settled r.law.mended t
-    near_pres t told_of.NotConnected f = lost_next b (some_pres b l t)
-    near_pres t told_of.Failed f = failed_next b (some_pres b l t)
+    near_pres t as_told.Done f = pres_on b l (λ x. r.possible x && may_heal n keeps r x b (Pre g kind)) r.reads (with r.law.pre b) (with r.law.raised b) r.law.settled r.law.mended t
+    near_pres t as_told.NotConnected f = lost_next b (some_pres b l t)
+    near_pres t as_told.Failed f = failed_next b (some_pres b l t)
     near_pres t _ f = absurd (cc f)
 
     mend_told : turn n keeps r s Mends b ≡ true → (repair : Repair) → (told : Told) → fits (Mend repair) told ≡ true → NearsHere (Mend repair) told
-    mend_told t repair told_of.Done f = mends_on b l (λ x. r.possible x && may_heal n keeps r x b (Mend repair)) r.reads r.law.pre r.law.raised r.law.settled (weak.mend_cells r.law.mended r.law.number b repair) t
-    mend_told t repair told_of.NotConnected f = lost_next b (some_mends b l t)
-    mend_told t repair told_of.Failed f = failed_next b (some_mends b l t)
+    mend_told t repair as_told.Done f = mends_on b l (λ x. r.possible x && may_heal n keeps r x b (Mend repair)) r.reads r.law.pre r.law.raised r.law.settled (weak.mend_cells r.law.mended r.law.number b repair) t
+    mend_told t repair as_told.NotConnected f = lost_next b (some_mends b l t)
+    mend_told t repair as_told.Failed f = failed_next b (some_mends b l t)
     mend_told t repair _ f = absurd (cc f)
 
     pub near_mends : turn n keeps r s Mends b ≡ true → (told : Told) → fits (request_in n keeps r s g kind Mends b) told ≡ true → NearsHere (request_in n keeps r s g kind Mends b) told
-    near_mends t told f = mend_told t (repair_in r s g kind q.phase) told f
+    near_mends t told f = mend_told t (repair_in r s g kind q.part) told f
 
     settle_told : turn n keeps r s Settles b ≡ true → (less : Marks) → (told : Told) → fits (Settle g kind less) told ≡ true → NearsHere (Settle g kind less) told
-    settle_told t less told_of.Done f = settles_on b l (λ x. r.possible x && may_heal n keeps r x b (Settle g kind less)) r.reads r.law.pre r.law.raised (with r.law.settled b) r.law.mended t
-    settle_told t less told_of.NotConnected f = lost_next b (some_settles b l t)
-    settle_told t less told_of.Failed f = failed_next b (some_settles b l t)
+    settle_told t less as_told.Done f = settles_on b l (λ x. r.possible x && may_heal n keeps r x b (Settle g kind less)) r.reads r.law.pre r.law.raised (with r.law.settled b) r.law.mended t
+    settle_told t less as_told.NotConnected f = lost_next b (some_settles b l t)
+    settle_told t less as_told.Failed f = failed_next b (some_settles b l t)
     settle_told t less _ f = absurd (cc f)
 
     pub near_settles : turn n keeps r s Settles b ≡ true → (told : Told) → fits (request_in n keeps r s g kind Settles b) told ≡ true → NearsHere (request_in n keeps r s g kind Settles b) told

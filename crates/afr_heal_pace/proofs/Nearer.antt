@@ -37,8 +37,8 @@ module _ (n : ℕ) (keeps : ℕ → Kind → Bool) (pick : (ℕ → Bool) → �
   nears r rooted short (Healing k) = (let e = heal_form n keeps r s g kind k in subst NearsAt (sym e) (near_heal n keeps pick some r s g kind (subst (λ (r : Exact). AtHeal n keeps r g) e k)))
   nears r rooted short (Working k) = (let e = work_form n keeps r s g kind k in subst NearsAt (sym e) (near_work n keeps pick some r s g kind))
   nears r rooted short (Looking k) = (let e = looks_form n keeps r s g kind k in subst NearsAt (sym e) (near_looks n keeps pick some r s g kind (subst (λ (r : Exact). AtLooks n keeps r g kind) e k)))
-  nears r rooted short (Parting k) = (let e = part_form n keeps r s g kind k in subst NearsAt (sym e) (near_part n keeps pick some r s g kind k.area r.phase k.part))
-  nears r rooted short (Viewing k) = (let e = views_form n keeps r s g kind k in subst NearsAt (sym e) (near_views n keeps pick some r s g kind k.area r.phase k.part (subst (λ (r : Exact). AtViews n keeps r s g kind) e k)))
+  nears r rooted short (Parting k) = (let e = part_form n keeps r s g kind k in subst NearsAt (sym e) (near_part n keeps pick some r s g kind k.area r.part k.part))
+  nears r rooted short (Viewing k) = (let e = views_form n keeps r s g kind k in subst NearsAt (sym e) (near_views n keeps pick some r s g kind k.area r.part k.part (subst (λ (r : Exact). AtViews n keeps r s g kind) e k)))
   nears r rooted short (Going k) = (let e = going_form n keeps r s g kind k in subst NearsAt (sym e) (going_near r k.area (short s) (subst (λ (r : Exact). AfterLooks n keeps r s g kind) e k)))
   nears r rooted short (Ending k) = (let e = lost_form n keeps r s g kind k in subst NearsAt (sym e) (near_ending n keeps pick some r s g kind rooted))
 

@@ -4,7 +4,7 @@ use Rattle.afr_heal.proofs.Parts.{not_both}
 use Rattle.afr_heal.proofs.StagesForms.{granting_by, locking_by, viewed_form}
 use Rattle.afr_heal.specs.Answers.{fits}
 use Rattle.afr_lines.specs.declared.answer.Told.{Told}
-use Rattle.afr_lines.specs.declared.answer.Told.TheVariants as told_of
+use Rattle.afr_lines.specs.declared.answer.Told.TheVariants as as_told
 use Rattle.afr_lines.specs.declared.request.Area.{Area}
 use Rattle.afr_lines.specs.declared.request.Request.{Request}
 use Rattle.afr_lines.specs.declared.request.Request.TheVariants.{Apply, Index, List, Lock, Look, Mend, Post, Pre, ReadAttr, ReadAttrs, ReadBytes, ReadName, Settle, Unlock}
@@ -67,43 +67,43 @@ module _ (n : ℕ) (law : Register) (b : ℕ) (k : RootedIn law) where
       go false = seen ((law.number == 0) && law.held b)
 
   told_rooted : (request : Request) (told : Told) → fits request told ≡ true → RootedIn (weak.note_ask n law b request told)
-  told_rooted (Lock Work area) told_of.Granted f = granted area
-  told_rooted (Lock Work area) (told_of.Held owner) f = locked area
-  told_rooted (Lock Work area) told_of.Failed f = locked area
-  told_rooted (Lock Work area) told_of.NotConnected f = locked area
-  told_rooted (Lock Heal area) told_of.Granted f = k
-  told_rooted (Lock Heal area) (told_of.Held owner) f = k
-  told_rooted (Lock Heal area) told_of.Failed f = k
-  told_rooted (Lock Heal area) told_of.NotConnected f = k
-  told_rooted (Unlock Work area) told_of.Done f = released area
-  told_rooted (Unlock Work area) told_of.Failed f = unlocked area
-  told_rooted (Unlock Work area) told_of.NotConnected f = unlocked area
-  told_rooted (Unlock Heal area) told_of.Done f = k
-  told_rooted (Unlock Heal area) told_of.Failed f = k
-  told_rooted (Unlock Heal area) told_of.NotConnected f = k
-  told_rooted (Look g) (told_of.Seen view) f = looked g.0 view
-  told_rooted (Look g) told_of.NoObject f = k
-  told_rooted (Look g) told_of.Failed f = k
-  told_rooted (Look g) told_of.NotConnected f = k
+  told_rooted (Lock Work area) as_told.Granted f = granted area
+  told_rooted (Lock Work area) (as_told.Held owner) f = locked area
+  told_rooted (Lock Work area) as_told.Failed f = locked area
+  told_rooted (Lock Work area) as_told.NotConnected f = locked area
+  told_rooted (Lock Heal area) as_told.Granted f = k
+  told_rooted (Lock Heal area) (as_told.Held owner) f = k
+  told_rooted (Lock Heal area) as_told.Failed f = k
+  told_rooted (Lock Heal area) as_told.NotConnected f = k
+  told_rooted (Unlock Work area) as_told.Done f = released area
+  told_rooted (Unlock Work area) as_told.Failed f = unlocked area
+  told_rooted (Unlock Work area) as_told.NotConnected f = unlocked area
+  told_rooted (Unlock Heal area) as_told.Done f = k
+  told_rooted (Unlock Heal area) as_told.Failed f = k
+  told_rooted (Unlock Heal area) as_told.NotConnected f = k
+  told_rooted (Look g) (as_told.Seen view) f = looked g.0 view
+  told_rooted (Look g) as_told.NoObject f = k
+  told_rooted (Look g) as_told.Failed f = k
+  told_rooted (Look g) as_told.NotConnected f = k
   told_rooted (ReadBytes g at len) told f = k
   told_rooted (ReadAttrs g) told f = k
   told_rooted (List g) told f = k
-  told_rooted (Pre g kind) told_of.Done f = k
-  told_rooted (Pre g kind) told_of.Failed f = k
-  told_rooted (Pre g kind) told_of.NotConnected f = k
-  told_rooted (Mend repair) told_of.Done f = k
-  told_rooted (Mend repair) told_of.Failed f = k
-  told_rooted (Mend repair) told_of.NotConnected f = k
-  told_rooted (Settle g kind marks) told_of.Done f = k
-  told_rooted (Settle g kind marks) told_of.Failed f = k
-  told_rooted (Settle g kind marks) told_of.NotConnected f = k
+  told_rooted (Pre g kind) as_told.Done f = k
+  told_rooted (Pre g kind) as_told.Failed f = k
+  told_rooted (Pre g kind) as_told.NotConnected f = k
+  told_rooted (Mend repair) as_told.Done f = k
+  told_rooted (Mend repair) as_told.Failed f = k
+  told_rooted (Mend repair) as_told.NotConnected f = k
+  told_rooted (Settle g kind marks) as_told.Done f = k
+  told_rooted (Settle g kind marks) as_told.Failed f = k
+  told_rooted (Settle g kind marks) as_told.NotConnected f = k
   told_rooted (ReadName g name) told f = k
   told_rooted (ReadAttr g key) told f = k
   told_rooted Index told f = k
-  told_rooted (Apply q) told_of.NotConnected f = k
-  told_rooted (Apply q) told_of.Failed f = k
-  told_rooted (Post q g kind missed) told_of.NotConnected f = k
-  told_rooted (Post q g kind missed) told_of.Failed f = k
+  told_rooted (Apply q) as_told.NotConnected f = k
+  told_rooted (Apply q) as_told.Failed f = k
+  told_rooted (Post q g kind missed) as_told.NotConnected f = k
+  told_rooted (Post q g kind missed) as_told.Failed f = k
   told_rooted _ _ f = absurd (cc f)
 
 dropped : (gone : Bool) (b : ℕ) (law : Register) → RootedIn law → RootedIn (weak.dropping gone b law)

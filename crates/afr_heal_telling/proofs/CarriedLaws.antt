@@ -16,9 +16,9 @@ use Rattle.afr_discipline.specs.declared.register.Register.{Register}
 use Rattle.afr_heal.proofs.Carried.{restyled_is, self_stands}
 use Rattle.afr_heal.proofs.Finding.{find_none, find_some}
 use Rattle.afr_heal.proofs.Parts.{not_both}
-use Rattle.afr_heal.specs.Answers.{Picks, asked_for, begun_at, fits}
+use Rattle.afr_heal.specs.Answers.{PicksOne, asked_for, begun_at, fits}
 use Rattle.afr_heal.specs.Carried.{Heals, next_by}
-use Rattle.afr_heal.specs.Engine.{Ask, Begins, Ends, Next}
+use Rattle.afr_heal.specs.Engine.{Ask, Begins, Ends, NextOfHeal}
 use Rattle.afr_heal.specs.Runs.{lowest, pick_of}
 use Rattle.afr_heal_telling.proofs.CarriedNotes.{LooksKept, looks_kept, shown_noted, stands_noted}
 use Rattle.afr_heal_telling.proofs.CarriedStages.{tells_restyled}
@@ -28,16 +28,16 @@ use Rattle.afr_heal_telling.specs.HealTelling.{HealTells, Tells}
 use Rattle.afr_heal_telling.specs.Stages.{IsShown}
 use Rattle.afr_lines.specs.Work.{Work}
 use Rattle.afr_lines.specs.declared.answer.Told.{Told}
-use Rattle.afr_lines.specs.declared.answer.Told.TheVariants as told_of
+use Rattle.afr_lines.specs.declared.answer.Told.TheVariants as as_told
 use Rattle.afr_lines.specs.declared.line.Line.{Line}
 use Rattle.afr_lines.specs.declared.line.Line.TheVariants as line
 use Rattle.afr_lines.specs.declared.request.Request.{Request}
 use Rattle.afr_moves.specs.Keeps.{keeps_in}
 use Rattle.afr_moves.specs.Register.{Exact}
-use Rattle.afr_self_heal.specs.declared.outcome.Outcome.{Outcome}
+use Rattle.afr_self_heal.specs.declared.outcome.HealOutcome.{HealOutcome}
 
 -- the lowest copy that passes is one that does
-lowest_picks : (n : ℕ) → Picks n (pick_of n)
+lowest_picks : (n : ℕ) → PicksOne n (pick_of n)
 lowest_picks n p x l h = go (find n p) refl
   where
     go : (o : Option ℕ) → find n p ≡ o → (lowest o < n) × (p (lowest o) ≡ true)
@@ -73,13 +73,13 @@ begins_told shape s g kind some few = record {
 
 module _ (stages : StageTells) (notes : NotesStand) (shapes : ShapesKept) where
   -- what the next line leaves, by the exact register that the program's gives
-  next_tells : (pick : (ℕ → Bool) → ℕ) (p : Register) (s : ℕ) (g : Gfid) (kind : Kind) (o : Outcome) (w : Work) (next : Next) → Picks p.shape.n pick → Heals p s g kind → HealTells p s g kind o w → next_by p s g kind ≡ next
+  next_tells : (pick : (ℕ → Bool) → ℕ) (p : Register) (s : ℕ) (g : Gfid) (kind : Kind) (o : HealOutcome) (w : Work) (next : NextOfHeal) → PicksOne p.shape.n pick → Heals p s g kind → HealTells p s g kind o w → next_by p s g kind ≡ next
       → TellsNext pick p.shape (seen_as p) p.seen p.looked s g kind o w next
   next_tells pick p s g kind o w next picks k tells e = subst (TellsNext pick p.shape (seen_as p) p.seen p.looked s g kind o w) e
       (stages pick p.shape (seen_as p) p.seen p.looked s g kind o w k.some k.few picks k.standing (shown_noted p (seen_as p) (self_stands p k.published) k.five) tells)
 
-  module _ (pick : (ℕ → Bool) → ℕ) (p : Register) (s : ℕ) (g : Gfid) (kind : Kind) (o : Outcome) (w : Work) (a : ActorId) (b t : ℕ) (request : Request) (told : Told) (took : Bool) (log : List Line)
-      (picks : Picks p.shape.n pick) (k : Heals p s g kind) (five : HasFive (noted_ask p t b request told)) (next : next_by p s g kind ≡ Ask b request) (fit : fits request told ≡ true) (whole : IsWholeTold told) (tells : HealTells p s g kind o w) where
+  module _ (pick : (ℕ → Bool) → ℕ) (p : Register) (s : ℕ) (g : Gfid) (kind : Kind) (o : HealOutcome) (w : Work) (a : ActorId) (b t : ℕ) (request : Request) (told : Told) (took : Bool) (log : List Line)
+      (picks : PicksOne p.shape.n pick) (k : Heals p s g kind) (five : HasFive (noted_ask p t b request told)) (next : next_by p s g kind ≡ Ask b request) (fit : fits request told ≡ true) (whole : IsWholeTold told) (tells : HealTells p s g kind o w) where
     abbrev new : Register
     new = noted_ask p t b request told
 
@@ -87,7 +87,7 @@ module _ (stages : StageTells) (notes : NotesStand) (shapes : ShapesKept) where
     q = asked_for p.shape.n (keeps_in p.shape) (seen_as p) t b request told
 
     abbrev seen1 : Looked
-    seen1 = seen_next request b told (seen_as p).phase p.seen
+    seen1 = seen_next request b told (seen_as p).part p.seen
 
     abbrev looked1 : Looked
     looked1 = looked_next request b told p.looked
@@ -143,7 +143,7 @@ module _ (stages : StageTells) (notes : NotesStand) (shapes : ShapesKept) where
       w1 = (line.HealBegin a g kind, log) ∷ w
 
       there : Stands new q
-      there = notes p (seen_as p) (move.HealBegin g kind) told_of.Done t k.few k.five tt (self_stands p k.published)
+      there = notes p (seen_as p) (move.HealBegin g kind) as_told.Done t k.few k.five tt (self_stands p k.published)
 
       by_exact : Tells p.shape q p.seen no_looks s g kind o w1
       by_exact = next_tells (pick_of p.shape.n) p s g kind o w Begins (lowest_picks p.shape.n) k tells next t a log

@@ -5,7 +5,7 @@ use Rattle.afr_base.specs.declared.ids.Gfid.{Gfid}
 use Rattle.afr_base.specs.declared.ids.Kind.{Kind}
 use Rattle.afr_discipline.specs.Laws.{NotesStand}
 use Rattle.afr_discipline.specs.Notes.{broken_by, noted_ask, noted_inside, noted_outside, still_possible}
-use Rattle.afr_discipline.specs.Stands.{HasFive, Stands, phase_of, seen_as}
+use Rattle.afr_discipline.specs.Stands.{HasFive, Stands, heal_part_of, seen_as}
 use Rattle.afr_discipline.specs.declared.register.Move.TheVariants as move
 use Rattle.afr_discipline.specs.declared.register.Register.{Register}
 use Rattle.afr_heal.proofs.Allowed.{heal_next_allowed}
@@ -14,7 +14,7 @@ use Rattle.afr_heal.proofs.Parts.{both}
 use Rattle.afr_heal.proofs.StagesWalk.{first_elim}
 use Rattle.afr_heal.specs.Answers.{asked_for}
 use Rattle.afr_heal.specs.Carried.{Heals, next_by}
-use Rattle.afr_heal.specs.Engine.{Ask, Next}
+use Rattle.afr_heal.specs.Engine.{Ask, NextOfHeal}
 use Rattle.afr_heal.specs.Laws.{allows_next, asks_well}
 use Rattle.afr_heal.specs.Standing.{Ending, First, Going, Healing, Looking, Parting, Standing, Viewing, Working}
 use Rattle.afr_heal_telling.proofs.StageLaws.{looked_next, seen_next}
@@ -30,10 +30,10 @@ use Rattle.afr_lines.specs.declared.lock.Domain.TheVariants.{Heal, Work}
 -- ---- the looks
 -- the looks after a request are the ones before with its answer
 abbrev pub LooksKept : Register → ℕ → ℕ → Told → Request → Type 0
-LooksKept p t b told request = ((noted_ask p t b request told).seen ≡ seen_next request b told (phase_of p.phase) p.seen) × ((noted_ask p t b request told).looked ≡ looked_next request b told p.looked)
+LooksKept p t b told request = ((noted_ask p t b request told).seen ≡ seen_next request b told (heal_part_of p.part) p.seen) × ((noted_ask p t b request told).looked ≡ looked_next request b told p.looked)
 
 module _ (p : Register) (t b : ℕ) (told : Told) where
-  seen_inside : (request : Request) → (noted_inside p t b request told).seen ≡ seen_next request b told (phase_of p.phase) p.seen
+  seen_inside : (request : Request) → (noted_inside p t b request told).seen ≡ seen_next request b told (heal_part_of p.part) p.seen
   seen_inside (Look g) = refl
   seen_inside (Lock Heal area) = refl
   seen_inside (Lock Work area) = refl
@@ -73,7 +73,7 @@ looks_kept p s g kind t b request told k next = by k.standing
   where
     by : Standing p.shape.n (keeps_in p.shape) (seen_as p) s g kind → LooksKept p t b told request
     by (First at) =
-        let same : Ask b request ≡ Ask 0 (Lock Heal (heal_area g.0)) = first_elim p.shape.n (keeps_in p.shape) (seen_as p) s g kind at (λ (next : Next). next ≡ Ask b request → Ask b request ≡ Ask 0 (Lock Heal (heal_area g.0))) (λ e. sym e) next in
+        let same : Ask b request ≡ Ask 0 (Lock Heal (heal_area g.0)) = first_elim p.shape.n (keeps_in p.shape) (seen_as p) s g kind at (λ (next : NextOfHeal). next ≡ Ask b request → Ask b request ≡ Ask 0 (Lock Heal (heal_area g.0))) (λ e. sym e) next in
         let is : request ≡ Lock Heal (heal_area g.0) = cc same in
         subst (LooksKept p t b told) (sym is) (at_first p t b told at.outside g.0)
     by (Healing at) = in_heal p t b told at.base.inside request
@@ -91,7 +91,7 @@ stands_noted notes p s g kind t b request told k next =
     notes p (seen_as p) (move.Ask (record { 0 = b }) (record { ref_ptr = (0, 0); now = request })) told t k.few k.five (small b p.shape.n low k.few) (self_stands p k.published)
   where
     asks : asks_well p.shape.n (keeps_in p.shape) (seen_as p) b request ≡ true
-    asks = subst (λ (next : Next). allows_next p.shape.n (keeps_in p.shape) (seen_as p) g kind next ≡ true) next (heal_next_allowed p.shape.n (keeps_in p.shape) (seen_as p) s g kind k.some k.few k.standing)
+    asks = subst (λ (next : NextOfHeal). allows_next p.shape.n (keeps_in p.shape) (seen_as p) g kind next ≡ true) next (heal_next_allowed p.shape.n (keeps_in p.shape) (seen_as p) s g kind k.some k.few k.standing)
 
     low : nat_lt b p.shape.n ≡ true
     low = (both (nat_lt b p.shape.n) _ asks).0

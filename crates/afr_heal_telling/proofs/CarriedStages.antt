@@ -8,10 +8,10 @@ use Rattle.afr_heal.proofs.Carried.{restyled}
 use Rattle.afr_heal_telling.specs.HealTelling.{Tells, TellsAt}
 use Rattle.afr_heal_telling.specs.Stages.{TellsAfter, TellsLocks, TellsLooks, TellsWork}
 use Rattle.afr_lines.specs.Work.{Work}
-use Rattle.afr_moves.specs.Register.{Exact, HealLocks, Looks, Opening, Phase, Step, Untouched, WorkLocks}
-use Rattle.afr_self_heal.specs.declared.outcome.Outcome.{Outcome}
+use Rattle.afr_moves.specs.Register.{Exact, HealLocks, HealPart, Looks, Opening, Step, Untouched, WorkLocks}
+use Rattle.afr_self_heal.specs.declared.outcome.HealOutcome.{HealOutcome}
 
-module _ (shape : Shape) (r : Exact) (possible : ℕ → Bool) (seen looked : Looked) (s : ℕ) (g : Gfid) (kind : Kind) (o : Outcome) (w : Work) where
+module _ (shape : Shape) (r : Exact) (possible : ℕ → Bool) (seen looked : Looked) (s : ℕ) (g : Gfid) (kind : Kind) (o : HealOutcome) (w : Work) where
   locks : TellsLocks shape r g kind w → TellsLocks shape (restyled r possible) g kind w
   locks k = record { unseen = k.unseen; missing = k.missing; asked = k.asked; granted = k.granted; fresh = k.fresh; low = k.low; unlocked = k.unlocked; free = k.free; whole = k.whole; none = k.none; unviewed = k.unviewed }
 
@@ -24,7 +24,7 @@ module _ (shape : Shape) (r : Exact) (possible : ℕ → Bool) (seen looked : Lo
   afters : TellsAfter shape r seen looked s g kind w → TellsAfter shape (restyled r possible) seen looked s g kind w
   afters k = record { begun = k.begun; still = k.still; missing = k.missing; first = k.first; none = k.none; low = k.low; shown = k.shown; numbers = k.numbers; free = k.free; asked = k.asked; worked = k.worked; watched = k.watched; opened = k.opened; closing = k.closing; closed = k.closed; unsettled = k.unsettled; one = k.one; some = k.some; more = k.more; again = k.again; finish = k.finish; parted = k.parted; present = k.present }
 
-  stage : (broken : Bool) (step : Step) (part : Phase) → TellsAt broken step part shape r seen looked s g kind o w → TellsAt broken step part shape (restyled r possible) seen looked s g kind o w
+  stage : (broken : Bool) (step : Step) (part : HealPart) → TellsAt broken step part shape r seen looked s g kind o w → TellsAt broken step part shape (restyled r possible) seen looked s g kind o w
   stage true step part k = k
   stage false Untouched part k = locks k
   stage false HealLocks part k = locks k
@@ -34,4 +34,4 @@ module _ (shape : Shape) (r : Exact) (possible : ℕ → Bool) (seen looked : Lo
 
   -- what isn't in the program's register isn't told of
   pub tells_restyled : Tells shape r seen looked s g kind o w → Tells shape (restyled r possible) seen looked s g kind o w
-  tells_restyled k = record { at = stage r.broken r.step r.phase k.at; will = k.will }
+  tells_restyled k = record { at = stage r.broken r.step r.part k.at; will = k.will }

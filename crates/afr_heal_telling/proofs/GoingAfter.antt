@@ -20,7 +20,7 @@ use Rattle.afr_lines.specs.declared.request.Area.{Area}
 use Rattle.afr_model.specs.Healing.{holders_in, source_of}
 use Rattle.afr_model.specs.Showing.{among, prepared}
 use Rattle.afr_moves.specs.Keeps.{keeps_in}
-use Rattle.afr_moves.specs.Register.{Exact, Finish, HealPres, Looks, Opening, Phase, Piece, Settles, Step, WorkLocks, asked_in, good, holder, is_opening, rank, same_step, unaccused}
+use Rattle.afr_moves.specs.Register.{Exact, Finish, HealPart, HealPres, Looks, Opening, Piece, Settles, Step, WorkLocks, asked_in, good, holder, is_opening, rank, same_step, unaccused}
 use Rattle.afr_moves.specs.Steps.{passed, pres_at, settles_at}
 
 -- a step that is to come is not behind
@@ -68,19 +68,19 @@ module _ (shape : Shape) (few : shape.n ≤ 5) (p : Exact) (seen looked : Looked
     raise_set Names x = refl
 
     -- once they are over all of them have
-    pub raised_all : passed n keeps r s HealPres ≡ true → (x : ℕ) → x < n → (raises shape r s kind x && (not (is_opening p.phase) || behind r HealPres x)) ≡ raises shape r s kind x
-    raised_all h x l = go p.phase refl (raises shape r s kind x) refl
+    pub raised_all : passed n keeps r s HealPres ≡ true → (x : ℕ) → x < n → (raises shape r s kind x && (not (is_opening p.part) || behind r HealPres x)) ≡ raises shape r s kind x
+    raised_all h x l = go p.part refl (raises shape r s kind x) refl
       where
-        go : (part : Phase) → p.phase ≡ part → (f : Bool) → raises shape r s kind x ≡ f → (f && (not (is_opening part) || behind r HealPres x)) ≡ f
+        go : (part : HealPart) → p.part ≡ part → (f : Bool) → raises shape r s kind x ≡ f → (f && (not (is_opening part) || behind r HealPres x)) ≡ f
         go part e false i = refl
         go Opening e true i =
-            let set : pres_at keeps r s kind p.phase x ≡ true = rw e (sym (raise_set kind x) ∙ i) in
+            let set : pres_at keeps r s kind p.part x ≡ true = rw e (sym (raise_set kind x) ∙ i) in
             passed_behind n keeps r s HealPres h x l set
         go Piece e true i = refl
         go Finish e true i = refl
 
     -- ---- the settling
-    pub settle_set : (of : Kind) (part : Phase) → OfKind of part → (x : ℕ) → (not (has_part of part) && holder r.first_views x) ≡ settles_at r of part x
+    pub settle_set : (of : Kind) (part : HealPart) → OfKind of part → (x : ℕ) → (not (has_part of part) && holder r.first_views x) ≡ settles_at r of part x
     settle_set Bytes Opening e x = refl
     settle_set Bytes Piece e x = refl
     settle_set Bytes Finish e x = refl
@@ -92,12 +92,12 @@ module _ (shape : Shape) (few : shape.n ≤ 5) (p : Exact) (seen looked : Looked
     settle_set Names Finish e x = absurd e
 
     -- once it is over every holder has settled, if this was the last part
-    pub settled_all : passed n keeps r s Settles ≡ true → (x : ℕ) → x < n → (not (has_part kind p.phase) && holder r.first_views x && behind r Settles x) ≡ (not (has_part kind p.phase) && holder r.first_views x)
-    settled_all h x l = go (not (has_part kind p.phase) && holder r.first_views x) refl
+    pub settled_all : passed n keeps r s Settles ≡ true → (x : ℕ) → x < n → (not (has_part kind p.part) && holder r.first_views x && behind r Settles x) ≡ (not (has_part kind p.part) && holder r.first_views x)
+    settled_all h x l = go (not (has_part kind p.part) && holder r.first_views x) refl
       where
-        go : (f : Bool) → (not (has_part kind p.phase) && holder r.first_views x) ≡ f → (f && behind r Settles x) ≡ f
+        go : (f : Bool) → (not (has_part kind p.part) && holder r.first_views x) ≡ f → (f && behind r Settles x) ≡ f
         go false e = refl
-        go true e = passed_behind n keeps r s Settles h x l (sym (settle_set kind p.phase k.of_kind x) ∙ e)
+        go true e = passed_behind n keeps r s Settles h x l (sym (settle_set kind p.part k.of_kind x) ∙ e)
 
     module _ (w : Work) (shown : IsShown r seen looked) (ta : TellsAfter shape r seen looked s g kind w) where
       -- ---- lists and tests

@@ -28,7 +28,7 @@ use Rattle.afr_model.specs.Moved.{accuser, is_whole_by, len_in, moved_by, or_bri
 use Rattle.afr_model.specs.Showing.{among, looked_by, prepared}
 use Rattle.afr_model.specs.Standing.{asking}
 use Rattle.afr_moves.specs.Keeps.{keeps_in}
-use Rattle.afr_moves.specs.Register.{Exact, Finish, Opening, Phase, Piece, good, holder, is_finish, is_opening, len_of, unaccused, all}
+use Rattle.afr_moves.specs.Register.{Exact, Finish, Opening, HealPart, Piece, good, holder, is_finish, is_opening, len_of, unaccused, all}
 use Rattle.afr_object.specs.declared.entry.View.{View}
 use Rattle.afr_moves.specs.Steps.{goes_on_at, sink}
 
@@ -72,33 +72,33 @@ module _ (shape : Shape) (few : shape.n ≤ 5) (p : Exact) (seen looked : Looked
 
     -- ---- the source didn't move
     -- a later part is one of a heal of bytes, and its looks accuse nobody
-    later_free : is_opening p.phase ≡ false → (x : ℕ) → accuses_at kind x s looked ≡ false
+    later_free : is_opening p.part ≡ false → (x : ℕ) → accuses_at kind x s looked ≡ false
     later_free later x = none_accuses n kind looked s (ta.present later (past_locks shape few p seen looked s g kind area k)).1 free x
       where
-        by : (part : Phase) → is_opening part ≡ false → goes_on_at n keeps r s part ≡ true → unaccused n kind r.views s ≡ true
+        by : (part : HealPart) → is_opening part ≡ false → goes_on_at n keeps r s part ≡ true → unaccused n kind r.views s ≡ true
         by Opening e h = absurd (cc e)
         by Piece e h = h
         by Finish e h = (both (unaccused n kind r.views s) _ h).0
 
         free : unaccused n kind (λ x. view_at x looked) s ≡ true
-        free = subst (λ (f : ℕ → Option View). unaccused n kind f s ≡ true) shown.views (by p.phase later (both (good n keeps kind r.first_views s) _ k.onwards).1)
+        free = subst (λ (f : ℕ → Option View). unaccused n kind f s ≡ true) shown.views (by p.part later (both (good n keeps kind r.first_views s) _ k.onwards).1)
 
     -- and at the finish the copies are as long as the source
-    as_long : is_finish p.phase ≡ true → (x : ℕ) → x < n → sink keeps r s x ≡ true → (len_of (view_at x looked) == len_of (view_at s looked)) ≡ true
+    as_long : is_finish p.part ≡ true → (x : ℕ) → x < n → sink keeps r s x ≡ true → (len_of (view_at x looked) == len_of (view_at s looked)) ≡ true
     as_long last x l h = surely (sink keeps r s x) _ h (subst (λ (f : ℕ → Option View). (not (sink keeps r s x) || (len_of (f x) == len_of (f s))) ≡ true) shown.views
-        (all_at n (λ x. not (sink keeps r s x) || (len_of (r.views x) == len_of (r.views s))) (by p.phase last (both (good n keeps kind r.first_views s) _ k.onwards).1) x l))
+        (all_at n (λ x. not (sink keeps r s x) || (len_of (r.views x) == len_of (r.views s))) (by p.part last (both (good n keeps kind r.first_views s) _ k.onwards).1) x l))
       where
         surely : (a b : Bool) → a ≡ true → (not a || b) ≡ true → b ≡ true
         surely true b e h = h
         surely false b e h = absurd (cc e)
 
-        by : (part : Phase) → is_finish part ≡ true → goes_on_at n keeps r s part ≡ true → all n (λ x. not (sink keeps r s x) || (len_of (r.views x) == len_of (r.views s))) ≡ true
+        by : (part : HealPart) → is_finish part ≡ true → goes_on_at n keeps r s part ≡ true → all n (λ x. not (sink keeps r s x) || (len_of (r.views x) == len_of (r.views s))) ≡ true
         by Opening e h = absurd (cc e)
         by Piece e h = absurd (cc e)
         by Finish e h = (both (unaccused n kind r.views s) _ h).1
 
     -- a later part is of bytes
-    later_bytes : (of : Kind) (part : Phase) → OfKind of part → is_opening part ≡ false → of ≡ Bytes
+    later_bytes : (of : Kind) (part : HealPart) → OfKind of part → is_opening part ≡ false → of ≡ Bytes
     later_bytes Bytes part e h = refl
     later_bytes Attrs Opening e h = absurd (cc h)
     later_bytes Attrs Piece e h = absurd e
@@ -111,7 +111,7 @@ module _ (shape : Shape) (few : shape.n ≤ 5) (p : Exact) (seen looked : Looked
     no_names e h = let d : Bytes ≡ Names = sym e ∙ h in cc d
 
     -- no sink shows another length at the finish
-    even : kind ≡ Bytes → is_finish p.phase ≡ true → (x : ℕ) → member (minus (copies_of shape seen kind) (s ∷ [])) x ≡ true → not (len_in (view_at x looked) == len_in (view_at s looked)) ≡ false
+    even : kind ≡ Bytes → is_finish p.part ≡ true → (x : ℕ) → member (minus (copies_of shape seen kind) (s ∷ [])) x ≡ true → not (len_in (view_at x looked) == len_in (view_at s looked)) ≡ false
     even bytes last x m =
         let two = left_in (copies_of shape seen kind) (s ∷ []) x m in
         let l = copy_low shape seen few ta.low ta.shown kind x two.0 in
@@ -132,9 +132,9 @@ module _ (shape : Shape) (few : shape.n ≤ 5) (p : Exact) (seen looked : Looked
         same_len (Some a) (Some b) h = rw h refl
 
     -- so the later looks of a part show nothing
-    moved_later : is_opening p.phase ≡ false → moved_by shape g kind w ≡ None
+    moved_later : is_opening p.part ≡ false → moved_by shape g kind w ≡ None
     moved_later e =
-        let bytes = later_bytes kind p.phase k.of_kind e in
+        let bytes = later_bytes kind p.part k.of_kind e in
         let source : source_of shape kind w ≡ s = source_is shape few p seen looked s g kind area k w shown ta (no_names bytes) (λ x l. ta.opened x l ∙ rw e (whole (raises shape r s kind x))) in
         let looks : looked_by g w ≡ looked = ta.again e ∙ rw (past_locks shape few p seen looked s g kind area k) refl in
         moved_none _ (is_whole_by (whole_of g kind) w) _ _
@@ -150,12 +150,12 @@ module _ (shape : Shape) (few : shape.n ≤ 5) (p : Exact) (seen looked : Looked
         whole false = refl
 
     pub moved_still : moved_by shape g kind w ≡ None
-    moved_still = go (is_opening p.phase) refl
+    moved_still = go (is_opening p.part) refl
       where
         few_parts : (k : ℕ) (c : Bool) (m : Option ℕ) → k ≡ 1 → (if not (nat_lt 1 k) || c then None else m) ≡ None
         few_parts k c m e = rw e refl
 
-        go : (f : Bool) → is_opening p.phase ≡ f → moved_by shape g kind w ≡ None
+        go : (f : Bool) → is_opening p.part ≡ f → moved_by shape g kind w ≡ None
         go true e = few_parts (pieces w) _ _ (ta.one e)
         go false e = moved_later e
 

@@ -75,10 +75,10 @@ module _ (shape : Shape) (r : Exact) (seen looked : Looked) (s : ℕ) (g : Gfid)
     raises_same Names x = refl
 
     pub carried_to : same_step r.step WorkLocks ≡ false → same_step step WorkLocks ≡ false → same_step step Looks ≡ false
-        → ((x : ℕ) → x < shape.n → member (among prepared v) x ≡ (raises shape r s kind x && (not (is_opening r.phase) || behind q HealPres x)))
-        → ((x : ℕ) → x < shape.n → member (among settling v) x ≡ (not (has_part kind r.phase) && holder r.first_views x && behind q Settles x))
+        → ((x : ℕ) → x < shape.n → member (among prepared v) x ≡ (raises shape r s kind x && (not (is_opening r.part) || behind q HealPres x)))
+        → ((x : ℕ) → x < shape.n → member (among settling v) x ≡ (not (has_part kind r.part) && holder r.first_views x && behind q Settles x))
         → ((x : ℕ) → x < shape.n → member (among settled_at v) x ≡ member (among settling v) x)
-        → (has_part kind r.phase ≡ true → has settles v ≡ false)
+        → (has_part kind r.part ≡ true → has settles v ≡ false)
         → TellsAfter shape q seen looked s g kind v
     carried_to was now past opened closing closed unsettled = record {
       begun = rw m.first ta.begun;

@@ -28,7 +28,7 @@ use Rattle.afr_lines.specs.Areas.{object_of_area}
 use Rattle.afr_lines.specs.Overlap.{same_area}
 use Rattle.afr_lines.specs.Work.{Work}
 use Rattle.afr_lines.specs.declared.answer.Told.{Told}
-use Rattle.afr_lines.specs.declared.answer.Told.TheVariants as told_of
+use Rattle.afr_lines.specs.declared.answer.Told.TheVariants as as_told
 use Rattle.afr_lines.specs.declared.line.Line.{Line}
 use Rattle.afr_lines.specs.declared.line.Line.TheVariants as line
 use Rattle.afr_lines.specs.declared.reply.HealReply.TheVariants as healed
@@ -40,15 +40,15 @@ use Rattle.afr_model.specs.Moved.{moved_by, pieces}
 use Rattle.afr_model.specs.Showing.{among, is_fault, is_granted, is_held, looked_by}
 use Rattle.afr_model.specs.Standing.{asking, getting, marked}
 use Rattle.afr_moves.specs.Keeps.{keeps_in}
-use Rattle.afr_moves.specs.Note.{next_phase}
-use Rattle.afr_moves.specs.Register.{Exact, Finish, HealPres, Phase, Piece, Unlocks, WorkLocks, asked_in, holder, is_finish, is_opening, len_of, piece_area, rank, same_step, whole_area}
+use Rattle.afr_moves.specs.Note.{next_part}
+use Rattle.afr_moves.specs.Register.{Exact, Finish, HealPart, HealPres, Piece, Unlocks, WorkLocks, asked_in, holder, is_finish, is_opening, len_of, piece_area, rank, same_step, whole_area}
 use Rattle.afr_moves.specs.Rules as weak
 use Rattle.afr_moves.specs.Rules.{Register, begun, busy}
 use Rattle.afr_moves.specs.Sets.{empty, with}
 use Rattle.afr_moves.specs.Steps.{is_lowest, may_heal, mends_over, passed, pres_over, reads_over, settles_over}
 use Rattle.afr_lines.specs.declared.lock.Domain.TheVariants.{Work as WorkDomain}
-use Rattle.afr_self_heal.specs.declared.outcome.Outcome.{Outcome}
-use Rattle.afr_self_heal.specs.declared.outcome.Outcome.TheVariants.{Settled}
+use Rattle.afr_self_heal.specs.declared.outcome.HealOutcome.{HealOutcome}
+use Rattle.afr_self_heal.specs.declared.outcome.HealOutcome.TheVariants.{Settled}
 
 or_yes : (a b : Bool) → b ≡ true → (a || b) ≡ true
 or_yes true b h = refl
@@ -106,7 +106,7 @@ module _ (shape : Shape) (few : shape.n ≤ 5) (p : Exact) (seen looked : Looked
   r = going_at p g kind area
 
   module _ (k : AfterLooks n keeps r s g kind) (w : Work) (shown : IsShown r seen looked) (ta : TellsAfter shape r seen looked s g kind w) where
-    module _ (o : settles_over n keeps r s ≡ true) (hp : has_part kind p.phase ≡ true) (b : ℕ) (t : is_lowest r.first_reached (λ x. false) b ≡ true)
+    module _ (o : settles_over n keeps r s ≡ true) (hp : has_part kind p.part ≡ true) (b : ℕ) (t : is_lowest r.first_reached (λ x. false) b ≡ true)
         (there : Area) (on : (object_of_area there).0 ≡ g.0) (a : ActorId) (took : Bool) (log : List Line) where
       abbrev lines : Told → Work
       lines told = (line.Ask a (record { 0 = b }) (Lock WorkDomain there) told took, log) ∷ w
@@ -130,9 +130,9 @@ module _ (shape : Shape) (few : shape.n ≤ 5) (p : Exact) (seen looked : Looked
       pres_passed = (both (reads_over n keeps r s) (passed n keeps r s HealPres) (both (pres_over n keeps r s) _ (both (mends_over n keeps r s) _ o).0).0).1
 
       -- what the lines tell of the next part
-      module _ (told : Told) (part : Phase) (asked possible : ℕ → Bool) (law : Register) (broken : Bool) where
+      module _ (told : Told) (part : HealPart) (asked possible : ℕ → Bool) (law : Register) (broken : Bool) where
         abbrev q : Exact
-        q = record r { step = WorkLocks; asked = asked; phase = part; possible = possible; broken = broken; law = law }
+        q = record r { step = WorkLocks; asked = asked; part = part; possible = possible; broken = broken; law = law }
 
         raises_same : (kind : Kind) (x : ℕ) → raises shape q s kind x ≡ raises shape r s kind x
         raises_same Bytes x = refl
@@ -201,12 +201,12 @@ module _ (shape : Shape) (few : shape.n ≤ 5) (p : Exact) (seen looked : Looked
           failing : (f : First) (x : Bool) → f ≡ record (first_by w) { still = false } → x ≡ true → ((f.begun && not f.still && x) || is_failed w) ≡ true
           failing f x e ex = rw (e, ex, ta.begun) refl
 
-    module _ (pick : (ℕ → Bool) → ℕ) (o : Outcome) (will : o ≡ Settled) where
-      module _ (over : settles_over n keeps r s ≡ true) (u : passed n keeps r s Unlocks ≡ true) (hp : has_part kind p.phase ≡ true) (b at : ℕ) (l : b < n) (t : is_lowest r.first_reached (λ x. false) b ≡ true) (a : ActorId) (took : Bool) (log : List Line) where
+    module _ (pick : (ℕ → Bool) → ℕ) (o : HealOutcome) (will : o ≡ Settled) where
+      module _ (over : settles_over n keeps r s ≡ true) (u : passed n keeps r s Unlocks ≡ true) (hp : has_part kind p.part ≡ true) (b at : ℕ) (l : b < n) (t : is_lowest r.first_reached (λ x. false) b ≡ true) (a : ActorId) (took : Bool) (log : List Line) where
         abbrev there : Area
         there = next_area r s g
 
-        abbrev part_of : Bool → Phase
+        abbrev part_of : Bool → HealPart
         part_of f = if f then Finish else Piece
 
         on : (object_of_area there).0 ≡ g.0
@@ -219,8 +219,8 @@ module _ (shape : Shape) (few : shape.n ≤ 5) (p : Exact) (seen looked : Looked
         stepped : rank p.step ≡ 12
         stepped = at_unlocks n keeps r s g kind k u hp
 
-        phase_is : next_phase r there ≡ part_of (same_area (whole_area g.0 Bytes) there)
-        phase_is = let e : same_step p.step Unlocks ≡ true = rw stepped refl in rw e refl
+        part_is : next_part r there ≡ part_of (same_area (whole_area g.0 Bytes) there)
+        part_is = let e : same_step p.step Unlocks ≡ true = rw stepped refl in rw e refl
 
         asked_is : asked_in r WorkLocks ≡ empty
         asked_is = let e : same_step p.step WorkLocks ≡ false = rw stepped refl in rw e refl
@@ -229,7 +229,7 @@ module _ (shape : Shape) (few : shape.n ≤ 5) (p : Exact) (seen looked : Looked
         free = is_free n keeps r s g kind k u
 
         whole_is : (f : Bool) → same_area (whole_area g.0 Bytes) there ≡ f → f ≡ same_area (whole_of g kind) there
-        whole_is f e = by kind (both (same_kind kind Bytes) (not (is_finish p.phase)) hp).0
+        whole_is f e = by kind (both (same_kind kind Bytes) (not (is_finish p.part)) hp).0
           where
             by : (of : Kind) → same_kind of Bytes ≡ true → f ≡ same_area (whole_of g of) there
             by Bytes h = sym e
@@ -246,64 +246,64 @@ module _ (shape : Shape) (few : shape.n ≤ 5) (p : Exact) (seen looked : Looked
         Leaves told q = Tells shape q seen looked (source_after n keeps pick q s) g kind (outcome_next shape r q seen looked s kind (Lock WorkDomain there) told o) (v told)
 
         -- it was granted
-        granted_part : (f : Bool) → same_area (whole_area g.0 Bytes) there ≡ f → (held : ℕ → Bool) → Leaves told_of.Granted (part_at n keeps r (part_of f) (with empty b) still false (record (begun r.law there) { held = held }))
+        granted_part : (f : Bool) → same_area (whole_area g.0 Bytes) there ≡ f → (held : ℕ → Bool) → Leaves as_told.Granted (part_at n keeps r (part_of f) (with empty b) still false (record (begun r.law there) { held = held }))
         granted_part f e held = by f (whole_is f e)
           where
-            worked : (x : ℕ) → member (among heal_getting w) x ≡ true → (z : Bool) → (member (among (asking (whole_of g kind)) (v told_of.Granted)) x || z) ≡ true
+            worked : (x : ℕ) → member (among heal_getting w) x ≡ true → (z : Bool) → (member (among (asking (whole_of g kind)) (v as_told.Granted)) x || z) ≡ true
             worked x h z = first_yes _ z (marked_more b x (among (asking (whole_of g kind)) w) (same_area (whole_of g kind) there) (asked_before shape few p seen looked s g kind area k w shown ta x h))
 
-            watched : (x : ℕ) → member (among (getting (whole_of g kind)) (v told_of.Granted)) x ≡ true → (member seen.reached x || member (first_by w).missing x) ≡ true
+            watched : (x : ℕ) → member (among (getting (whole_of g kind)) (v as_told.Granted)) x ≡ true → (member seen.reached x || member (first_by w).missing x) ≡ true
             watched x h = granted_more b x (among (getting (whole_of g kind)) w) (same_area (whole_of g kind) there) _ (ta.watched x)
                 (λ e. (let is : b ≡ x = grind (arith, nat_tests, e) in first_yes _ (member (first_by w).missing x) (subst (λ (y : ℕ). member seen.reached y ≡ true) is (reached_there over hp b t there on a took log)))) h
 
-            by : (f : Bool) → f ≡ same_area (whole_of g kind) there → Leaves told_of.Granted (part_at n keeps r (part_of f) (with empty b) still false (record (begun r.law there) { held = held }))
-            by true e = record { at = after_lock over hp b t there on a took log told_of.Granted Finish (with empty b) still (record (begun r.law there) { held = held }) false refl e refl (λ x h. worked x h _) watched; will = λ h. will }
-            by false e = record { at = after_lock over hp b t there on a took log told_of.Granted Piece (with empty b) still (record (begun r.law there) { held = held }) false refl e refl (λ x h. worked x h _) watched; will = λ h. will }
+            by : (f : Bool) → f ≡ same_area (whole_of g kind) there → Leaves as_told.Granted (part_at n keeps r (part_of f) (with empty b) still false (record (begun r.law there) { held = held }))
+            by true e = record { at = after_lock over hp b t there on a took log as_told.Granted Finish (with empty b) still (record (begun r.law there) { held = held }) false refl e refl (λ x h. worked x h _) watched; will = λ h. will }
+            by false e = record { at = after_lock over hp b t there on a took log as_told.Granted Piece (with empty b) still (record (begun r.law there) { held = held }) false refl e refl (λ x h. worked x h _) watched; will = λ h. will }
 
         -- another holds it
-        held_part : (owner : ActorId) (f : Bool) → same_area (whole_area g.0 Bytes) there ≡ f → Leaves (told_of.Held owner) (part_at n keeps r (part_of f) empty still false (begun r.law there))
+        held_part : (owner : ActorId) (f : Bool) → same_area (whole_area g.0 Bytes) there ≡ f → Leaves (as_told.Held owner) (part_at n keeps r (part_of f) empty still false (begun r.law there))
         held_part owner f e = by f (whole_is f e)
           where
-            worked : (f : Bool) → f ≡ same_area (whole_of g kind) there → (x : ℕ) → member (among heal_getting w) x ≡ true → (member (among (asking (whole_of g kind)) (v (told_of.Held owner))) x || (f && true && is_lowest r.first_reached empty x)) ≡ true
+            worked : (f : Bool) → f ≡ same_area (whole_of g kind) there → (x : ℕ) → member (among heal_getting w) x ≡ true → (member (among (asking (whole_of g kind)) (v (as_told.Held owner))) x || (f && true && is_lowest r.first_reached empty x)) ≡ true
             worked f e x h = subst (λ (c : Bool). (member (if c then marked false b (among (asking (whole_of g kind)) w) else among (asking (whole_of g kind)) w) x || (f && true && is_lowest r.first_reached empty x)) ≡ true) e
                 (marked_held b x (among (asking (whole_of g kind)) w) f (is_lowest r.first_reached empty x) (asked_before shape few p seen looked s g kind area k w shown ta x h) (λ e. (let is : b ≡ x = grind (arith, nat_tests, e) in subst (λ (y : ℕ). is_lowest r.first_reached empty y ≡ true) is t)))
 
-            watched : (x : ℕ) → member (among (getting (whole_of g kind)) (v (told_of.Held owner))) x ≡ true → (member seen.reached x || member (first_by w).missing x) ≡ true
+            watched : (x : ℕ) → member (among (getting (whole_of g kind)) (v (as_told.Held owner))) x ≡ true → (member seen.reached x || member (first_by w).missing x) ≡ true
             watched x h = ta.watched x (granted_none b x (among (getting (whole_of g kind)) w) (same_area (whole_of g kind) there) h)
 
-            by : (f : Bool) → f ≡ same_area (whole_of g kind) there → Leaves (told_of.Held owner) (part_at n keeps r (part_of f) empty still false (begun r.law there))
-            by true e = record { at = after_lock over hp b t there on a took log (told_of.Held owner) Finish empty still (begun r.law there) false refl e refl (worked true e) watched; will = λ h. will }
-            by false e = record { at = after_lock over hp b t there on a took log (told_of.Held owner) Piece empty still (begun r.law there) false refl e refl (worked false e) watched; will = λ h. will }
+            by : (f : Bool) → f ≡ same_area (whole_of g kind) there → Leaves (as_told.Held owner) (part_at n keeps r (part_of f) empty still false (begun r.law there))
+            by true e = record { at = after_lock over hp b t there on a took log (as_told.Held owner) Finish empty still (begun r.law there) false refl e refl (worked true e) watched; will = λ h. will }
+            by false e = record { at = after_lock over hp b t there on a took log (as_told.Held owner) Piece empty still (begun r.law there) false refl e refl (worked false e) watched; will = λ h. will }
 
         -- it failed
-        failed_part : (f : Bool) (asked : ℕ → Bool) (law : Register) → Leaves told_of.Failed (part_at n keeps r (part_of f) asked still true law)
-        failed_part true asked law = record { at = lock_fails over hp b t there on a took log told_of.Failed refl refl refl; will = λ h. absurd (cc h) }
-        failed_part false asked law = record { at = lock_fails over hp b t there on a took log told_of.Failed refl refl refl; will = λ h. absurd (cc h) }
+        failed_part : (f : Bool) (asked : ℕ → Bool) (law : Register) → Leaves as_told.Failed (part_at n keeps r (part_of f) asked still true law)
+        failed_part true asked law = record { at = lock_fails over hp b t there on a took log as_told.Failed refl refl refl; will = λ h. absurd (cc h) }
+        failed_part false asked law = record { at = lock_fails over hp b t there on a took log as_told.Failed refl refl refl; will = λ h. absurd (cc h) }
 
-        gone_part : (f : Bool) (asked : ℕ → Bool) (law : Register) → Leaves told_of.NotConnected (part_at n keeps r (part_of f) asked still true law)
-        gone_part true asked law = record { at = lock_fails over hp b t there on a took log told_of.NotConnected refl refl refl; will = λ h. absurd (cc h) }
-        gone_part false asked law = record { at = lock_fails over hp b t there on a took log told_of.NotConnected refl refl refl; will = λ h. absurd (cc h) }
+        gone_part : (f : Bool) (asked : ℕ → Bool) (law : Register) → Leaves as_told.NotConnected (part_at n keeps r (part_of f) asked still true law)
+        gone_part true asked law = record { at = lock_fails over hp b t there on a took log as_told.NotConnected refl refl refl; will = λ h. absurd (cc h) }
+        gone_part false asked law = record { at = lock_fails over hp b t there on a took log as_told.NotConnected refl refl refl; will = λ h. absurd (cc h) }
 
         part_told : (told : Told) → fits (Lock WorkDomain there) told ≡ true → Leaves told (asked_for n keeps r at b (Lock WorkDomain there) told)
-        part_told told_of.Granted f =
-            subst (λ (part : Phase). Leaves told_of.Granted (part_at n keeps r part (with (asked_in r WorkLocks) b) still false (weak.granting n r.law there b))) (sym phase_is)
-            (subst (λ (law : Register). Leaves told_of.Granted (part_at n keeps r (part_of (same_area (whole_area g.0 Bytes) there)) (with (asked_in r WorkLocks) b) still false law)) (sym (granting_first n r.law there b free))
-            (subst (λ (none : ℕ → Bool). Leaves told_of.Granted (part_at n keeps r (part_of (same_area (whole_area g.0 Bytes) there)) (with none b) still false (record (begun r.law there) { held = with empty b }))) (sym asked_is)
+        part_told as_told.Granted f =
+            subst (λ (part : HealPart). Leaves as_told.Granted (part_at n keeps r part (with (asked_in r WorkLocks) b) still false (weak.granting n r.law there b))) (sym part_is)
+            (subst (λ (law : Register). Leaves as_told.Granted (part_at n keeps r (part_of (same_area (whole_area g.0 Bytes) there)) (with (asked_in r WorkLocks) b) still false law)) (sym (granting_first n r.law there b free))
+            (subst (λ (none : ℕ → Bool). Leaves as_told.Granted (part_at n keeps r (part_of (same_area (whole_area g.0 Bytes) there)) (with none b) still false (record (begun r.law there) { held = with empty b }))) (sym asked_is)
             (granted_part (same_area (whole_area g.0 Bytes) there) refl (with empty b))))
-        part_told (told_of.Held owner) f =
-            subst (λ (part : Phase). Leaves (told_of.Held owner) (part_at n keeps r part (asked_in r WorkLocks) still false (weak.locking n r.law there))) (sym phase_is)
-            (subst (λ (law : Register). Leaves (told_of.Held owner) (part_at n keeps r (part_of (same_area (whole_area g.0 Bytes) there)) (asked_in r WorkLocks) still false law)) (sym (locking_first n r.law there b free))
-            (subst (λ (none : ℕ → Bool). Leaves (told_of.Held owner) (part_at n keeps r (part_of (same_area (whole_area g.0 Bytes) there)) none still false (begun r.law there))) (sym asked_is)
+        part_told (as_told.Held owner) f =
+            subst (λ (part : HealPart). Leaves (as_told.Held owner) (part_at n keeps r part (asked_in r WorkLocks) still false (weak.locking n r.law there))) (sym part_is)
+            (subst (λ (law : Register). Leaves (as_told.Held owner) (part_at n keeps r (part_of (same_area (whole_area g.0 Bytes) there)) (asked_in r WorkLocks) still false law)) (sym (locking_first n r.law there b free))
+            (subst (λ (none : ℕ → Bool). Leaves (as_told.Held owner) (part_at n keeps r (part_of (same_area (whole_area g.0 Bytes) there)) none still false (begun r.law there))) (sym asked_is)
             (held_part owner (same_area (whole_area g.0 Bytes) there) refl)))
-        part_told told_of.Failed f =
-            subst (λ (part : Phase). Leaves told_of.Failed (part_at n keeps r part (with (asked_in r WorkLocks) b) still true (weak.locking n r.law there))) (sym phase_is)
+        part_told as_told.Failed f =
+            subst (λ (part : HealPart). Leaves as_told.Failed (part_at n keeps r part (with (asked_in r WorkLocks) b) still true (weak.locking n r.law there))) (sym part_is)
             (failed_part (same_area (whole_area g.0 Bytes) there) (with (asked_in r WorkLocks) b) (weak.locking n r.law there))
-        part_told told_of.NotConnected f =
-            subst (λ (part : Phase). Leaves told_of.NotConnected (part_at n keeps r part (with (asked_in r WorkLocks) b) still true (weak.dropping true b (weak.locking n r.law there)))) (sym phase_is)
+        part_told as_told.NotConnected f =
+            subst (λ (part : HealPart). Leaves as_told.NotConnected (part_at n keeps r part (with (asked_in r WorkLocks) b) still true (weak.dropping true b (weak.locking n r.law there)))) (sym part_is)
             (gone_part (same_area (whole_area g.0 Bytes) there) (with (asked_in r WorkLocks) b) (weak.dropping true b (weak.locking n r.law there)))
         part_told _ f = absurd (cc f)
 
       -- the next part's first Work lock
-      pub part_tells : settles_over n keeps r s ≡ true → passed n keeps r s Unlocks ≡ true → has_part kind p.phase ≡ true → (b : ℕ) → b < n → is_lowest r.first_reached (λ x. false) b ≡ true
+      pub part_tells : settles_over n keeps r s ≡ true → passed n keeps r s Unlocks ≡ true → has_part kind p.part ≡ true → (b : ℕ) → b < n → is_lowest r.first_reached (λ x. false) b ≡ true
           → TellsNext pick shape r seen looked s g kind o w (Ask b (lock_next r s g b))
       part_tells over u hp b l t = (λ at told a took log f whole after. part_told over u hp b at l t a took log told f, tt)

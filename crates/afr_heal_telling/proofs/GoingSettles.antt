@@ -167,12 +167,12 @@ module _ (shape : Shape) (few : shape.n ≤ 5) (p : Exact) (seen looked : Looked
     pub settling_seen : mends_over n keeps r s ≡ true → (b : ℕ) → b < n → turn n keeps r s Settles b ≡ true → IsSettling shape kind (less_in n keeps r s kind b) b w
     settling_seen o b l t = record {
       holder = holder_there b l ∙ held.1;
-      once = ta.closing b l ∙ rw (behind_here r Settles b (turn_low n keeps r s Settles b t), turn_new n keeps r s Settles b t) (and_false (not (has_part kind p.phase) && holder r.first_views b));
+      once = ta.closing b l ∙ rw (behind_here r Settles b (turn_low n keeps r s Settles b t), turn_new n keeps r s Settles b t) (and_false (not (has_part kind p.part) && holder r.first_views b));
       seen = less_is over b l held.1;
     }
       where
         over : passed n keeps r s HealPres ≡ true
         over = (both (reads_over n keeps r s) (passed n keeps r s HealPres) (both (pres_over n keeps r s) _ o).0).1
 
-        held : (not (has_part kind p.phase) ≡ true) × (holder r.first_views b ≡ true)
-        held = both (not (has_part kind p.phase)) (holder r.first_views b) (settle_set shape few p seen looked s g kind area k kind p.phase k.of_kind b ∙ turn_set n keeps r s Settles b t)
+        held : (not (has_part kind p.part) ≡ true) × (holder r.first_views b ≡ true)
+        held = both (not (has_part kind p.part)) (holder r.first_views b) (settle_set shape few p seen looked s g kind area k kind p.part k.of_kind b ∙ turn_set n keeps r s Settles b t)

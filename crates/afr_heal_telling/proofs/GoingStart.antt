@@ -19,11 +19,11 @@ use Rattle.afr_lines.specs.declared.request.Area.{Area}
 use Rattle.afr_model.specs.Healing.{first_by}
 use Rattle.afr_model.specs.HealReplies.{by_first}
 use Rattle.afr_moves.specs.Keeps.{keeps_in}
-use Rattle.afr_moves.specs.Register.{Exact, Finish, HealLocks, Looks, Opening, Phase, Piece, Step, Untouched, WorkLocks, good, holder, is_opening, over, rank, shows_number}
+use Rattle.afr_moves.specs.Register.{Exact, Finish, HealLocks, HealPart, Looks, Opening, Piece, Step, Untouched, WorkLocks, good, holder, is_opening, over, rank, shows_number}
 use Rattle.afr_moves.specs.Sets.{any}
 use Rattle.afr_moves.specs.Steps.{goes_on_at, passed}
 use Rattle.afr_object.specs.declared.entry.View.{View}
-use Rattle.afr_self_heal.specs.declared.outcome.Outcome.{Outcome}
+use Rattle.afr_self_heal.specs.declared.outcome.HealOutcome.{HealOutcome}
 
 module _ (shape : Shape) (few : shape.n ≤ 5) (p : Exact) (seen looked : Looked) (s : ℕ) (g : Gfid) (kind : Kind) (area : Area) where
   abbrev n : ℕ
@@ -37,7 +37,7 @@ module _ (shape : Shape) (few : shape.n ≤ 5) (p : Exact) (seen looked : Looked
 
   module _ (k : AfterLooks n keeps r s g kind) (w : Work) (shown : IsShown r seen looked) where
     -- the first looks are over
-    module _ (at : p.step ≡ Looks) (opening : p.phase ≡ Opening) (t : TellsLooks shape r seen g kind w) where
+    module _ (at : p.step ≡ Looks) (opening : p.part ≡ Opening) (t : TellsLooks shape r seen g kind w) where
       all_looked : over n r.law.held p.asked ≡ true
       all_looked = rw (at, opening) at (both (nat_le 7 (rank r.step)) (passed n keeps r s Looks) k.looked).1
 
@@ -57,7 +57,7 @@ module _ (shape : Shape) (few : shape.n ≤ 5) (p : Exact) (seen looked : Looked
           plain false = refl
 
       goes_here : (is_most n r.first_reached && is_most n (holder r.first_views) && any n (λ x. shows_number kind (r.first_views x))) ≡ true
-      goes_here = rw opening at (both (good n keeps kind r.first_views s) (goes_on_at n keeps r s p.phase) k.onwards).1
+      goes_here = rw opening at (both (good n keeps kind r.first_views s) (goes_on_at n keeps r s p.part) k.onwards).1
 
       looked_seen : (first_by w).looked ≡ seen
       looked_seen = rw t.first refl
@@ -75,7 +75,7 @@ module _ (shape : Shape) (few : shape.n ≤ 5) (p : Exact) (seen looked : Looked
       pub looks_over_tell : TellsAfter shape r seen looked s g kind w
       looks_over_tell = record {
         begun = rw t.first refl;
-        still = λ h. absurd (not_both (is_opening p.phase) (rw opening refl) h);
+        still = λ h. absurd (not_both (is_opening p.part) (rw opening refl) h);
         missing = missing_now;
         first = looked_seen;
         none = lets_go;
@@ -87,7 +87,7 @@ module _ (shape : Shape) (few : shape.n ≤ 5) (p : Exact) (seen looked : Looked
         worked = λ x h. rw (t.worked x h) refl;
         watched = λ x h. (let l = t.locked x h in rw (missing_now x l.0) (tidy (member seen.reached x)));
         opened = λ x l. rw (t.whole.prepared, opening, at) (sym (and_false (raises shape r s kind x)));
-        closing = λ x l. rw (t.whole.settling, at) (sym (and_false (not (has_part kind p.phase) && holder r.first_views x)));
+        closing = λ x l. rw (t.whole.settling, at) (sym (and_false (not (has_part kind p.part) && holder r.first_views x)));
         closed = λ x l. rw (t.whole.settled, t.whole.settling) refl;
         unsettled = λ h. t.whole.unsettled;
         one = λ h. t.one;
@@ -99,21 +99,21 @@ module _ (shape : Shape) (few : shape.n ≤ 5) (p : Exact) (seen looked : Looked
         present = λ h e. absurd (later h);
       }
         where
-          later : is_opening p.phase ≡ false → ⊥
-          later h = not_both (is_opening p.phase) (rw opening refl) h
+          later : is_opening p.part ≡ false → ⊥
+          later h = not_both (is_opening p.part) (rw opening refl) h
 
           tidy : (m : Bool) → (m || not m) ≡ true
           tidy true = refl
           tidy false = refl
 
     -- what the lines tell
-    pub going_after : (o : Outcome) → TellsAt false r.step r.phase shape r seen looked s g kind o w → TellsAfter shape r seen looked s g kind w
-    going_after o h = by p.step p.phase refl refl h
+    pub going_after : (o : HealOutcome) → TellsAt false r.step r.part shape r seen looked s g kind o w → TellsAfter shape r seen looked s g kind w
+    going_after o h = by p.step p.part refl refl h
       where
         high : nat_le 7 (rank r.step) ≡ true
         high = (both (nat_le 7 (rank r.step)) (passed n keeps r s Looks) k.looked).0
 
-        by : (step : Step) (part : Phase) → p.step ≡ step → p.phase ≡ part → TellsAt false step part shape r seen looked s g kind o w → TellsAfter shape r seen looked s g kind w
+        by : (step : Step) (part : HealPart) → p.step ≡ step → p.part ≡ part → TellsAt false step part shape r seen looked s g kind o w → TellsAfter shape r seen looked s g kind w
         by Untouched part e f h = absurd (cc (rw e at high))
         by HealLocks part e f h = absurd (cc (rw e at high))
         by WorkLocks part e f h = absurd (cc (rw e at high))

@@ -25,7 +25,7 @@ use Rattle.afr_heal_telling.specs.HealTelling.{Tells}
 use Rattle.afr_heal_telling.specs.Stages.{IsShown, TellsAfter}
 use Rattle.afr_lines.specs.Work.{Work}
 use Rattle.afr_lines.specs.declared.answer.Told.{Told}
-use Rattle.afr_lines.specs.declared.answer.Told.TheVariants as told_of
+use Rattle.afr_lines.specs.declared.answer.Told.TheVariants as as_told
 use Rattle.afr_lines.specs.declared.line.Line.{Line}
 use Rattle.afr_lines.specs.declared.line.Line.TheVariants as line
 use Rattle.afr_lines.specs.declared.reply.HealReply.TheVariants as healed
@@ -41,8 +41,8 @@ use Rattle.afr_moves.specs.Steps.{mends_over, passed, pres_over, reads_over, set
 use Rattle.afr_lines.specs.declared.lock.Domain.{Domain}
 use Rattle.afr_lines.specs.declared.lock.Domain.TheVariants.{Heal, Work as WorkDomain}
 use Rattle.afr_self_heal.specs.Outcome.{reply_of}
-use Rattle.afr_self_heal.specs.declared.outcome.Outcome.{Outcome}
-use Rattle.afr_self_heal.specs.declared.outcome.Outcome.TheVariants.{Failed, Settled}
+use Rattle.afr_self_heal.specs.declared.outcome.HealOutcome.{HealOutcome}
+use Rattle.afr_self_heal.specs.declared.outcome.HealOutcome.TheVariants.{Failed, Settled}
 
 module _ (shape : Shape) (few : shape.n ≤ 5) (p : Exact) (seen looked : Looked) (s : ℕ) (g : Gfid) (kind : Kind) (area : Area) where
   abbrev n : ℕ
@@ -54,7 +54,7 @@ module _ (shape : Shape) (few : shape.n ≤ 5) (p : Exact) (seen looked : Looked
   abbrev r : Exact
   r = going_at p g kind area
 
-  module _ (k : AfterLooks n keeps r s g kind) (w : Work) (shown : IsShown r seen looked) (ta : TellsAfter shape r seen looked s g kind w) (pick : (ℕ → Bool) → ℕ) (o : Outcome) (will : o ≡ Settled) where
+  module _ (k : AfterLooks n keeps r s g kind) (w : Work) (shown : IsShown r seen looked) (ta : TellsAfter shape r seen looked s g kind w) (pick : (ℕ → Bool) → ℕ) (o : HealOutcome) (will : o ≡ Settled) where
     -- ---- the locks are given back
     module _ (over : settles_over n keeps r s ≡ true) (b at : ℕ) (a : ActorId) (took : Bool) (log : List Line) where
       abbrev v : Domain → Area → Told → Work
@@ -73,56 +73,56 @@ module _ (shape : Shape) (few : shape.n ≤ 5) (p : Exact) (seen looked : Looked
       raised = (both (reads_over n keeps r s) (passed n keeps r s HealPres) (both (pres_over n keeps r s) _ (both (mends_over n keeps r s) _ over).0).0).1
 
       -- a session that ended breaks the heal, but once it is settled its reply stands
-      gone : (domain : Domain) (here : Area) → IsHealAnswered shape g kind (v domain here told_of.NotConnected) (reply_of (if has_part kind p.phase then Failed else Settled) seen)
-      gone domain here = by (has_part kind p.phase) refl
+      gone : (domain : Domain) (here : Area) → IsHealAnswered shape g kind (v domain here as_told.NotConnected) (reply_of (if has_part kind p.part then Failed else Settled) seen)
+      gone domain here = by (has_part kind p.part) refl
         where
-          by : (f : Bool) → has_part kind p.phase ≡ f → IsHealAnswered shape g kind (v domain here told_of.NotConnected) (reply_of (if f then Failed else Settled) seen)
-          by true e = falls shape few p seen looked s g kind area k w shown ta _ (same domain here told_of.NotConnected) refl s k.below (source_copy shape few p seen looked s g kind area k).0
+          by : (f : Bool) → has_part kind p.part ≡ f → IsHealAnswered shape g kind (v domain here as_told.NotConnected) (reply_of (if f then Failed else Settled) seen)
+          by true e = falls shape few p seen looked s g kind area k w shown ta _ (same domain here as_told.NotConnected) refl s k.below (source_copy shape few p seen looked s g kind area k).0
               (unsettled_part shape few p seen looked s g kind area k w shown ta e s k.below) (rw (ta.begun, ta.unsettled e) refl)
-          by false e = reply_stands shape g kind w healed.Settled a (record { 0 = b }) domain here told_of.NotConnected took log
+          by false e = reply_stands shape g kind w healed.Settled a (record { 0 = b }) domain here as_told.NotConnected took log
               (settles_well shape few p seen looked s g kind area k w shown ta (settled_part shape few p seen looked s g kind area k w shown ta settled e))
 
       -- a Work lock
       unlock_told : (told : Told) → fits (Unlock WorkDomain area) told ≡ true → Leaves WorkDomain area told (asked_for n keeps r at b (Unlock WorkDomain area) told)
-      unlock_told told_of.Done f = record {
-        at = passes shape few p seen looked s g kind area k w shown ta _ (same WorkDomain area told_of.Done) _ Unlocks _ _ _ _ _ refl refl refl refl refl refl
+      unlock_told as_told.Done f = record {
+        at = passes shape few p seen looked s g kind area k w shown ta _ (same WorkDomain area as_told.Done) _ Unlocks _ _ _ _ _ refl refl refl refl refl refl
             (pres_after shape few p seen looked s g kind area k w shown ta raised) (settle_after shape few p seen looked s g kind area k w shown ta settled);
         will = λ h. will;
       }
-      unlock_told told_of.Failed f = record {
-        at = passes shape few p seen looked s g kind area k w shown ta _ (same WorkDomain area told_of.Failed) _ Unlocks _ _ _ _ _ refl refl refl refl refl refl
+      unlock_told as_told.Failed f = record {
+        at = passes shape few p seen looked s g kind area k w shown ta _ (same WorkDomain area as_told.Failed) _ Unlocks _ _ _ _ _ refl refl refl refl refl refl
             (pres_after shape few p seen looked s g kind area k w shown ta raised) (settle_after shape few p seen looked s g kind area k w shown ta settled);
         will = λ h. will;
       }
-      unlock_told told_of.NotConnected f = record { at = gone WorkDomain area; will = λ h. absurd (cc h) }
+      unlock_told as_told.NotConnected f = record { at = gone WorkDomain area; will = λ h. absurd (cc h) }
       unlock_told _ f = absurd (cc f)
 
       -- a Heal lock
       heal_told : (told : Told) → fits (Unlock Heal (heal_area g.0)) told ≡ true → Leaves Heal (heal_area g.0) told (asked_for n keeps r at b (Unlock Heal (heal_area g.0)) told)
-      heal_told told_of.Done f = record {
-        at = passes shape few p seen looked s g kind area k w shown ta _ (same Heal (heal_area g.0) told_of.Done) _ HealUnlocks _ _ _ _ _ refl refl refl refl refl refl
+      heal_told as_told.Done f = record {
+        at = passes shape few p seen looked s g kind area k w shown ta _ (same Heal (heal_area g.0) as_told.Done) _ HealUnlocks _ _ _ _ _ refl refl refl refl refl refl
             (pres_after shape few p seen looked s g kind area k w shown ta raised) (settle_after shape few p seen looked s g kind area k w shown ta settled);
         will = λ h. will;
       }
-      heal_told told_of.Failed f = record {
-        at = passes shape few p seen looked s g kind area k w shown ta _ (same Heal (heal_area g.0) told_of.Failed) _ HealUnlocks _ _ _ _ _ refl refl refl refl refl refl
+      heal_told as_told.Failed f = record {
+        at = passes shape few p seen looked s g kind area k w shown ta _ (same Heal (heal_area g.0) as_told.Failed) _ HealUnlocks _ _ _ _ _ refl refl refl refl refl refl
             (pres_after shape few p seen looked s g kind area k w shown ta raised) (settle_after shape few p seen looked s g kind area k w shown ta settled);
         will = λ h. will;
       }
-      heal_told told_of.NotConnected f = record { at = gone Heal (heal_area g.0); will = λ h. absurd (cc h) }
+      heal_told as_told.NotConnected f = record { at = gone Heal (heal_area g.0); will = λ h. absurd (cc h) }
       heal_told _ f = absurd (cc f)
 
     -- ---- the end
     ends_tell : passed n keeps r s HealUnlocks ≡ true → IsHealAnswered shape g kind w (reply_of o seen)
-    ends_tell u = subst (λ (o : Outcome). IsHealAnswered shape g kind w (reply_of o seen)) (sym will) (settles_well shape few p seen looked s g kind area k w shown ta all)
+    ends_tell u = subst (λ (o : HealOutcome). IsHealAnswered shape g kind w (reply_of o seen)) (sym will) (settles_well shape few p seen looked s g kind area k w shown ta all)
       where
         last : nat_lt (rank r.step) 13 ≡ false
         last = past_heal n keeps r s g kind k u
 
-        no_part : has_part kind p.phase ≡ false
-        no_part = by (has_part kind p.phase) refl
+        no_part : has_part kind p.part ≡ false
+        no_part = by (has_part kind p.part) refl
           where
-            by : (f : Bool) → has_part kind p.phase ≡ f → f ≡ false
+            by : (f : Bool) → has_part kind p.part ≡ f → f ≡ false
             by true e = absurd (not_both (nat_lt (rank r.step) 13) (k.parts e) last)
             by false e = refl
 
@@ -145,7 +145,7 @@ module _ (shape : Shape) (few : shape.n ≤ 5) (p : Exact) (seen looked : Looked
         (λ u h. ends_tell h)
 
 -- the case of a heal whose looks are over
-pub going_tells : (pick : (ℕ → Bool) → ℕ) (shape : Shape) (r : Exact) (seen looked : Looked) (s : ℕ) (g : Gfid) (kind : Kind) (o : Outcome) (w : Work)
+pub going_tells : (pick : (ℕ → Bool) → ℕ) (shape : Shape) (r : Exact) (seen looked : Looked) (s : ℕ) (g : Gfid) (kind : Kind) (o : HealOutcome) (w : Work)
     → shape.n ≤ 5 → AfterLooks shape.n (keeps_in shape) r s g kind → IsShown r seen looked → Tells shape r seen looked s g kind o w
     → TellsNext pick shape r seen looked s g kind o w (next_of shape.n (keeps_in shape) r s g kind)
 going_tells pick shape r seen looked s g kind o w few k shown tells =

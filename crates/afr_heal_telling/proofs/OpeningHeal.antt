@@ -11,7 +11,7 @@ use Rattle.afr_heal.proofs.Parts.{any_no}
 use Rattle.afr_heal.proofs.StagesForms as form
 use Rattle.afr_heal.proofs.StagesForms.{first_form, granting_first, heal_form, locking_first, new_at}
 use Rattle.afr_heal.proofs.StagesWalk.{enough_heal, first_elim, heal_elim}
-use Rattle.afr_heal.specs.Answers.{Picks, asked_for, fits}
+use Rattle.afr_heal.specs.Answers.{PicksOne, asked_for, fits}
 use Rattle.afr_heal.specs.Engine.{next_of}
 use Rattle.afr_heal.specs.Standing.{AtFirst, AtHeal}
 use Rattle.afr_heal_telling.proofs.OpeningOver.{busy_answered}
@@ -24,7 +24,7 @@ use Rattle.afr_heal_telling.specs.Stages.{IsShown, TellsLocks, TellsWork}
 use Rattle.afr_lines.specs.Overlap.{same_area}
 use Rattle.afr_lines.specs.Work as lines
 use Rattle.afr_lines.specs.declared.answer.Told.{Told}
-use Rattle.afr_lines.specs.declared.answer.Told.TheVariants as told_of
+use Rattle.afr_lines.specs.declared.answer.Told.TheVariants as as_told
 use Rattle.afr_lines.specs.declared.line.Line.{Line}
 use Rattle.afr_lines.specs.declared.line.Line.TheVariants as line
 use Rattle.afr_lines.specs.declared.request.Area.{Area}
@@ -38,8 +38,8 @@ use Rattle.afr_moves.specs.Sets.{empty, with, without}
 use Rattle.afr_moves.specs.Steps.{passed, turn}
 use Rattle.afr_moves.proofs.AreaLemmas.{same_area_self}
 use Rattle.afr_lines.specs.declared.lock.Domain.TheVariants.{Heal, Work}
-use Rattle.afr_self_heal.specs.declared.outcome.Outcome.{Outcome}
-use Rattle.afr_self_heal.specs.declared.outcome.Outcome.TheVariants.{Settled}
+use Rattle.afr_self_heal.specs.declared.outcome.HealOutcome.{HealOutcome}
+use Rattle.afr_self_heal.specs.declared.outcome.HealOutcome.TheVariants.{Settled}
 
 -- all of a kind is the same area by the lines and by the register
 pub whole_same : (g : Gfid) (kind : Kind) → same_area (whole_of g kind) (whole_area g.0 kind) ≡ true
@@ -47,20 +47,20 @@ whole_same g Bytes = same_area_self (whole_of g Bytes)
 whole_same g Attrs = same_area_self (whole_of g Attrs)
 whole_same g Names = same_area_self (whole_of g Names)
 
-module _ (pick : (ℕ → Bool) → ℕ) (shape : Shape) (seen looked : Looked) (s : ℕ) (g : Gfid) (kind : Kind) (o : Outcome) (w : lines.Work) (some : 0 < shape.n) (few : shape.n ≤ 5) where
+module _ (pick : (ℕ → Bool) → ℕ) (shape : Shape) (seen looked : Looked) (s : ℕ) (g : Gfid) (kind : Kind) (o : HealOutcome) (w : lines.Work) (some : 0 < shape.n) (few : shape.n ≤ 5) where
   abbrev heal_told : Exact → ℕ → Type 0
   heal_told r b = (t : ℕ) (told : Told) (a : ActorId) (took : Bool) (log : List Line) → fits (Lock Heal (heal_area g.0)) told ≡ true
       → TellsAsked pick shape r seen looked s g kind o w b (Lock Heal (heal_area g.0)) (asked_for shape.n (keeps_in shape) r t b (Lock Heal (heal_area g.0)) told) told (line.Ask a (record { 0 = b }) (Lock Heal (heal_area g.0)) told took) log
 
   -- the first Heal lock
   first_told : (q : Exact) → AtFirst shape.n (new_at q) → TellsLocks shape (new_at q) g kind w → o ≡ Settled → heal_told (new_at q) 0
-  first_told q k t will at told_of.Granted a took log f shown =
-      locks_tell shape g kind (new_at q) _ seen looked s o w a 0 (heal_area g.0) told_of.Granted took log few some will refl (λ x. refl) refl refl refl (λ x. refl) (λ x. refl) refl refl t
-  first_told q k t will at (told_of.Held owner) a took log f shown = record { at = busy_answered shape g kind _ owner (ap (busy_after (line.Ask a (record { 0 = 0 }) (Lock Heal (heal_area g.0)) (told_of.Held owner) took)) t.free); will = λ h. absurd (cc h) }
-  first_told q k t will at told_of.Failed a took log f shown =
-      locks_tell shape g kind (new_at q) _ seen looked s o w a 0 (heal_area g.0) told_of.Failed took log few some will refl (λ x. refl) refl refl refl (λ x. refl) (λ x. put_old q.law.healing 0 false x (t.fresh 0 refl)) refl refl t
-  first_told q k t will at told_of.NotConnected a took log f shown =
-      locks_tell shape g kind (new_at q) _ seen looked s o w a 0 (heal_area g.0) told_of.NotConnected took log few some will refl (λ x. refl) refl refl refl (λ x. refl) (λ x. refl) refl refl t
+  first_told q k t will at as_told.Granted a took log f shown =
+      locks_tell shape g kind (new_at q) _ seen looked s o w a 0 (heal_area g.0) as_told.Granted took log few some will refl (λ x. refl) refl refl refl (λ x. refl) (λ x. refl) refl refl t
+  first_told q k t will at (as_told.Held owner) a took log f shown = record { at = busy_answered shape g kind _ owner (ap (busy_after (line.Ask a (record { 0 = 0 }) (Lock Heal (heal_area g.0)) (as_told.Held owner) took)) t.free); will = λ h. absurd (cc h) }
+  first_told q k t will at as_told.Failed a took log f shown =
+      locks_tell shape g kind (new_at q) _ seen looked s o w a 0 (heal_area g.0) as_told.Failed took log few some will refl (λ x. refl) refl refl refl (λ x. refl) (λ x. put_old q.law.healing 0 false x (t.fresh 0 refl)) refl refl t
+  first_told q k t will at as_told.NotConnected a took log f shown =
+      locks_tell shape g kind (new_at q) _ seen looked s o w a 0 (heal_area g.0) as_told.NotConnected took log few some will refl (λ x. refl) refl refl refl (λ x. refl) (λ x. refl) refl refl t
   first_told q k t will at _ a took log f shown = absurd (cc f)
 
   module _ (q : Exact) (k : AtHeal shape.n (keeps_in shape) (form.shape q HealLocks Opening g q.law.kind None) g) (t : TellsLocks shape (form.shape q HealLocks Opening g q.law.kind None) g kind w) (will : o ≡ Settled) where
@@ -69,14 +69,14 @@ module _ (pick : (ℕ → Bool) → ℕ) (shape : Shape) (seen looked : Looked) 
 
     -- another Heal lock
     heals_told : (b : ℕ) → b < shape.n → turn shape.n (keeps_in shape) r s HealLocks b ≡ true → heal_told r b
-    heals_told b l turn at told_of.Granted a took log f shown =
-        locks_tell shape g kind r _ seen looked s o w a b (heal_area g.0) told_of.Granted took log few l will refl (λ x. refl) (turn_new shape.n (keeps_in shape) r s HealLocks b turn) refl refl (λ x. refl) (λ x. refl) refl refl t
-    heals_told b l turn at (told_of.Held owner) a took log f shown = record { at = busy_answered shape g kind _ owner (ap (busy_after (line.Ask a (record { 0 = b }) (Lock Heal (heal_area g.0)) (told_of.Held owner) took)) t.free); will = λ h. absurd (cc h) }
-    heals_told b l turn at told_of.Failed a took log f shown =
-        locks_tell shape g kind r _ seen looked s o w a b (heal_area g.0) told_of.Failed took log few l will refl (λ x. refl) (turn_new shape.n (keeps_in shape) r s HealLocks b turn) refl refl (λ x. refl)
+    heals_told b l turn at as_told.Granted a took log f shown =
+        locks_tell shape g kind r _ seen looked s o w a b (heal_area g.0) as_told.Granted took log few l will refl (λ x. refl) (turn_new shape.n (keeps_in shape) r s HealLocks b turn) refl refl (λ x. refl) (λ x. refl) refl refl t
+    heals_told b l turn at (as_told.Held owner) a took log f shown = record { at = busy_answered shape g kind _ owner (ap (busy_after (line.Ask a (record { 0 = b }) (Lock Heal (heal_area g.0)) (as_told.Held owner) took)) t.free); will = λ h. absurd (cc h) }
+    heals_told b l turn at as_told.Failed a took log f shown =
+        locks_tell shape g kind r _ seen looked s o w a b (heal_area g.0) as_told.Failed took log few l will refl (λ x. refl) (turn_new shape.n (keeps_in shape) r s HealLocks b turn) refl refl (λ x. refl)
         (λ x. put_old q.law.healing b false x (t.fresh b (turn_new shape.n (keeps_in shape) r s HealLocks b turn))) refl refl t
-    heals_told b l turn at told_of.NotConnected a took log f shown =
-        locks_tell shape g kind r _ seen looked s o w a b (heal_area g.0) told_of.NotConnected took log few l will refl (λ x. refl) (turn_new shape.n (keeps_in shape) r s HealLocks b turn) refl refl (λ x. refl) (λ x. refl) refl refl t
+    heals_told b l turn at as_told.NotConnected a took log f shown =
+        locks_tell shape g kind r _ seen looked s o w a b (heal_area g.0) as_told.NotConnected took log few l will refl (λ x. refl) (turn_new shape.n (keeps_in shape) r s HealLocks b turn) refl refl (λ x. refl) (λ x. refl) refl refl t
     heals_told b l turn at _ a took log f shown = absurd (cc f)
 
     module _ (over : passed shape.n (keeps_in shape) r s HealLocks ≡ true) (b : ℕ) (l : b < shape.n) (turn : turn shape.n (keeps_in shape) r s WorkLocks b ≡ true) where
@@ -101,27 +101,27 @@ module _ (pick : (ℕ → Bool) → ℕ) (shape : Shape) (seen looked : Looked) 
       -- the first Work lock
       works_told : (t : ℕ) (told : Told) (a : ActorId) (took : Bool) (log : List Line) → fits (Lock Work here) told ≡ true
           → TellsAsked pick shape r seen looked s g kind o w b (Lock Work here) (asked_for shape.n (keeps_in shape) r t b (Lock Work here) told) told (line.Ask a (record { 0 = b }) (Lock Work here) told took) log
-      works_told at told_of.Granted a took log f shown =
-          work_tells shape g kind (unasked r) _ seen looked s o w a b here told_of.Granted took log few l will refl (λ x. refl) (whole_same g kind) refl granted_here refl (λ x. refl)
+      works_told at as_told.Granted a took log f shown =
+          work_tells shape g kind (unasked r) _ seen looked s o w a b here as_told.Granted took log few l will refl (λ x. refl) (whole_same g kind) refl granted_here refl (λ x. refl)
           (λ x. ap (λ (law : Register). law.held x) grant_none) (λ x. ap (λ (law : Register). law.healing x) grant_none ∙ put_old q.law.healing b true x granted_here) refl refl before
-      works_told at (told_of.Held owner) a took log f shown =
-          work_tells shape g kind (unasked r) _ seen looked s o w a b here (told_of.Held owner) took log few l will refl (λ x. refl) (whole_same g kind) refl granted_here refl (λ x. put_old empty b false x refl)
+      works_told at (as_told.Held owner) a took log f shown =
+          work_tells shape g kind (unasked r) _ seen looked s o w a b here (as_told.Held owner) took log few l will refl (λ x. refl) (whole_same g kind) refl granted_here refl (λ x. put_old empty b false x refl)
           (λ x. ap (λ (law : Register). law.held x) lock_none ∙ put_old empty b false x refl) (λ x. ap (λ (law : Register). law.healing x) lock_none ∙ put_old q.law.healing b true x granted_here) refl refl before
-      works_told at told_of.Failed a took log f shown =
-          work_tells shape g kind (unasked r) _ seen looked s o w a b here told_of.Failed took log few l will refl (λ x. refl) (whole_same g kind) refl granted_here refl (λ x. refl)
+      works_told at as_told.Failed a took log f shown =
+          work_tells shape g kind (unasked r) _ seen looked s o w a b here as_told.Failed took log few l will refl (λ x. refl) (whole_same g kind) refl granted_here refl (λ x. refl)
           (λ x. ap (λ (law : Register). law.held x) lock_none ∙ put_old empty b false x refl) (λ x. ap (λ (law : Register). law.healing x) lock_none ∙ put_old q.law.healing b true x granted_here) refl refl before
-      works_told at told_of.NotConnected a took log f shown =
-          work_tells shape g kind (unasked r) _ seen looked s o w a b here told_of.NotConnected took log few l will refl (λ x. refl) (whole_same g kind) refl granted_here refl (λ x. refl)
+      works_told at as_told.NotConnected a took log f shown =
+          work_tells shape g kind (unasked r) _ seen looked s o w a b here as_told.NotConnected took log few l will refl (λ x. refl) (whole_same g kind) refl granted_here refl (λ x. refl)
           (λ x. ap (λ (law : Register). without law.held b x) lock_none) (λ x. ap (λ (law : Register). without law.healing b x) lock_none) refl refl before
       works_told at _ a took log f shown = absurd (cc f)
 
 -- what is shown of the next line of a register
-abbrev pub TellsHere : ((ℕ → Bool) → ℕ) → Shape → Looked → Looked → ℕ → Gfid → Kind → Outcome → lines.Work → Exact → Type 0
+abbrev pub TellsHere : ((ℕ → Bool) → ℕ) → Shape → Looked → Looked → ℕ → Gfid → Kind → HealOutcome → lines.Work → Exact → Type 0
 TellsHere pick shape seen looked s g kind o w r = IsShown r seen looked → Tells shape r seen looked s g kind o w → TellsNext pick shape r seen looked s g kind o w (next_of shape.n (keeps_in shape) r s g kind)
 
 -- no line was: the first Heal lock
-pub first_tells : (pick : (ℕ → Bool) → ℕ) (shape : Shape) (r : Exact) (seen looked : Looked) (s : ℕ) (g : Gfid) (kind : Kind) (o : Outcome) (w : lines.Work)
-    → 0 < shape.n → shape.n ≤ 5 → Picks shape.n pick → AtFirst shape.n r → IsShown r seen looked → Tells shape r seen looked s g kind o w
+pub first_tells : (pick : (ℕ → Bool) → ℕ) (shape : Shape) (r : Exact) (seen looked : Looked) (s : ℕ) (g : Gfid) (kind : Kind) (o : HealOutcome) (w : lines.Work)
+    → 0 < shape.n → shape.n ≤ 5 → PicksOne shape.n pick → AtFirst shape.n r → IsShown r seen looked → Tells shape r seen looked s g kind o w
     → TellsNext pick shape r seen looked s g kind o w (next_of shape.n (keeps_in shape) r s g kind)
 first_tells pick shape r seen looked s g kind o w some few picks k =
     subst (TellsHere pick shape seen looked s g kind o w) (sym e) (λ shown t.
@@ -135,8 +135,8 @@ first_tells pick shape r seen looked s g kind o w some few picks k =
     k1 = subst (λ (r : Exact). AtFirst shape.n r) e k
 
 -- the Heal locks are asked
-pub healing_tells : (pick : (ℕ → Bool) → ℕ) (shape : Shape) (r : Exact) (seen looked : Looked) (s : ℕ) (g : Gfid) (kind : Kind) (o : Outcome) (w : lines.Work)
-    → 0 < shape.n → shape.n ≤ 5 → Picks shape.n pick → AtHeal shape.n (keeps_in shape) r g → IsShown r seen looked → Tells shape r seen looked s g kind o w
+pub healing_tells : (pick : (ℕ → Bool) → ℕ) (shape : Shape) (r : Exact) (seen looked : Looked) (s : ℕ) (g : Gfid) (kind : Kind) (o : HealOutcome) (w : lines.Work)
+    → 0 < shape.n → shape.n ≤ 5 → PicksOne shape.n pick → AtHeal shape.n (keeps_in shape) r g → IsShown r seen looked → Tells shape r seen looked s g kind o w
     → TellsNext pick shape r seen looked s g kind o w (next_of shape.n (keeps_in shape) r s g kind)
 healing_tells pick shape r seen looked s g kind o w some few picks k =
     subst (TellsHere pick shape seen looked s g kind o w) (sym e) (λ shown t.

@@ -11,7 +11,7 @@ use Rattle.afr_heal_telling.proofs.OpeningParts.{added_if_other, added_if_own, a
 use Rattle.afr_heal_telling.specs.Stages.{TellsLocks}
 use Rattle.afr_lines.specs.Work.{Work}
 use Rattle.afr_lines.specs.declared.answer.Told.{Told}
-use Rattle.afr_lines.specs.declared.answer.Told.TheVariants as told_of
+use Rattle.afr_lines.specs.declared.answer.Told.TheVariants as as_told
 use Rattle.afr_lines.specs.declared.line.Line.{Line}
 use Rattle.afr_lines.specs.declared.line.Line.TheVariants.{Ask}
 use Rattle.afr_lines.specs.declared.request.Area.{Area}
@@ -65,20 +65,20 @@ module _ (shape : Shape) (g : Gfid) (kind : Kind) (r q : Exact) (w : Work) (a : 
   free_is = ap (busy_after (Ask a (record { 0 = b }) (Lock Heal area) told took)) t.free ∙ go told fit calm
     where
       go : (told : Told) → fits (Lock Heal area) told ≡ true → is_held told ≡ false → busy_after (Ask a (record { 0 = b }) (Lock Heal area) told took) None ≡ None
-      go told_of.Granted f e = refl
-      go (told_of.Held owner) f e = absurd (cc e)
-      go told_of.NotConnected f e = refl
-      go told_of.Failed f e = refl
+      go as_told.Granted f e = refl
+      go (as_told.Held owner) f e = absurd (cc e)
+      go as_told.NotConnected f e = refl
+      go as_told.Failed f e = refl
       go _ f e = absurd (cc f)
 
   missing_own : member (added_if (is_fault told) b (first_by w).missing) b ≡ (asked_in q HealLocks b && not (q.law.healing b))
   missing_own = added_if_own (is_fault told) b (first_by w).missing ∙ rw (asked_own, healing_own) (go told fit calm (member (first_by w).missing b) (t.missing b small ∙ rw new refl))
     where
       go : (told : Told) → fits (Lock Heal area) told ≡ true → is_held told ≡ false → (m : Bool) → m ≡ false → (is_fault told || m) ≡ not (is_granted told)
-      go told_of.Granted f e m h = h
-      go (told_of.Held owner) f e m h = absurd (cc e)
-      go told_of.NotConnected f e m h = refl
-      go told_of.Failed f e m h = refl
+      go as_told.Granted f e m h = h
+      go (as_told.Held owner) f e m h = absurd (cc e)
+      go as_told.NotConnected f e m h = refl
+      go as_told.Failed f e m h = refl
       go _ f e m h = absurd (cc f)
 
   missing_all : (x : ℕ) → x < shape.n → member (first_by more).missing x ≡ (asked_in q HealLocks x && not (q.law.healing x))

@@ -17,7 +17,7 @@ use Rattle.afr_heal_telling.specs.HealLaws.{IsWholeTold}
 use Rattle.afr_heal_telling.specs.Stages.{TellsLooks}
 use Rattle.afr_lines.specs.Work.{Work}
 use Rattle.afr_lines.specs.declared.answer.Told.{Told}
-use Rattle.afr_lines.specs.declared.answer.Told.TheVariants as told_of
+use Rattle.afr_lines.specs.declared.answer.Told.TheVariants as as_told
 use Rattle.afr_lines.specs.declared.line.Line.{Line}
 use Rattle.afr_lines.specs.declared.line.Line.TheVariants.{Ask}
 use Rattle.afr_lines.specs.declared.request.Request.TheVariants.{Look}
@@ -32,10 +32,10 @@ use Rattle.afr_object.specs.declared.entry.View.{View}
 
 -- what a look shows is the same by the lines and by the register
 pub look_is : (g : Gfid) (b : ℕ) (told : Told) (seen : Looked) → fits (Look g) told ≡ true → look_shows b told seen ≡ shown seen b told
-look_is g b (told_of.Seen view) seen f = refl
-look_is g b told_of.NoObject seen f = refl
-look_is g b told_of.NotConnected seen f = refl
-look_is g b told_of.Failed seen f = refl
+look_is g b (as_told.Seen view) seen f = refl
+look_is g b as_told.NoObject seen f = refl
+look_is g b as_told.NotConnected seen f = refl
+look_is g b as_told.Failed seen f = refl
 look_is g b _ seen f = absurd (cc f)
 
 -- a look of the first ones: who fails it is missing
@@ -120,10 +120,10 @@ module _ (shape : Shape) (g : Gfid) (kind : Kind) (r q : Exact) (seen : Looked) 
       here false = refl
 
       go : (told : Told) → fits (Look g) told ≡ true → (m : Bool) → m ≡ false → (is_fault told || m) ≡ not (answers told || (not (is_gone told) && false))
-      go (told_of.Seen view) f m h = h
-      go told_of.NoObject f m h = h
-      go told_of.NotConnected f m h = refl
-      go told_of.Failed f m h = refl
+      go (as_told.Seen view) f m h = h
+      go as_told.NoObject f m h = h
+      go as_told.NotConnected f m h = refl
+      go as_told.Failed f m h = refl
       go _ f m h = absurd (cc f)
 
   missing_all : (x : ℕ) → x < shape.n → member (first_by more).missing x ≡ not (member after.reached x || (q.law.held x && not (q.asked x)))
@@ -151,7 +151,7 @@ module _ (shape : Shape) (g : Gfid) (kind : Kind) (r q : Exact) (seen : Looked) 
       (λ h. go told full (sym (view_own b told seen in_five five) ∙ h)) (λ e h. t.numbers x view (sym (view_other b told seen in_five five x e) ∙ h))
     where
       go : (told : Told) → IsWholeTold told → (if answers told then view_of told else None) ≡ Some view → IsFull view
-      go (told_of.Seen v) k e = let is : v ≡ view = cc e in subst (λ (v : View). IsFull v) is k
+      go (as_told.Seen v) k e = let is : v ≡ view = cc e in subst (λ (v : View). IsFull v) is k
       go _ k e = absurd (cc e)
 
   locked_all : (x : ℕ) → member (among (getting (whole_of g kind)) w) x ≡ true → (x < shape.n) × ((q.asked x || q.law.held x) ≡ true)

@@ -17,8 +17,8 @@ use Rattle.afr_model.specs.Standing.{marked}
 use Rattle.afr_moves.specs.Note.{put}
 use Rattle.afr_moves.specs.Register.{Exact}
 use Rattle.afr_self_heal.specs.Outcome.{outcome_after}
-use Rattle.afr_self_heal.specs.declared.outcome.Outcome.{Outcome}
-use Rattle.afr_self_heal.specs.declared.outcome.Outcome.TheVariants.{Settled}
+use Rattle.afr_self_heal.specs.declared.outcome.HealOutcome.{HealOutcome}
+use Rattle.afr_self_heal.specs.declared.outcome.HealOutcome.TheVariants.{Settled}
 
 -- ---- one brick noted anew
 -- what is noted anew as it was changes nothing
@@ -104,12 +104,12 @@ no_most n = let z : count_below n (member []) ≡ 0 = count n in rw z (none n)
 
 -- ---- the end of a stage, or its next line
 -- a heal that an answer ends, or that goes on
-pub tells_by : (was : Bool) (shape : Shape) (q : Exact) (seen looked : Looked) (s : ℕ) (g : Gfid) (kind : Kind) (o c : Outcome) (w : Work) → was ≡ false → o ≡ Settled
-    → (q.broken ≡ true → TellsOver shape seen g kind c w) → (q.broken ≡ false → TellsAt false q.step q.phase shape q seen looked s g kind o w) → Tells shape q seen looked s g kind (outcome_after was q.broken o c) w
+pub tells_by : (was : Bool) (shape : Shape) (q : Exact) (seen looked : Looked) (s : ℕ) (g : Gfid) (kind : Kind) (o c : HealOutcome) (w : Work) → was ≡ false → o ≡ Settled
+    → (q.broken ≡ true → TellsOver shape seen g kind c w) → (q.broken ≡ false → TellsAt false q.step q.part shape q seen looked s g kind o w) → Tells shape q seen looked s g kind (outcome_after was q.broken o c) w
 tells_by true shape q seen looked s g kind o c w e will over more = absurd (cc e)
 tells_by false shape q seen looked s g kind o c w e will over more = record { at = go q.broken refl; will = calm q.broken }
   where
-    go : (f : Bool) → q.broken ≡ f → TellsAt f q.step q.phase shape q seen looked s g kind (outcome_after false f o c) w
+    go : (f : Bool) → q.broken ≡ f → TellsAt f q.step q.part shape q seen looked s g kind (outcome_after false f o c) w
     go true h = over h
     go false h = more h
 

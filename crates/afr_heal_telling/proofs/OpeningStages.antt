@@ -31,22 +31,22 @@ use Rattle.afr_model.specs.Showing.{is_granted, is_held}
 use Rattle.afr_moves.specs.Keeps.{keeps_in}
 use Rattle.afr_moves.specs.Note.{put}
 use Rattle.afr_moves.specs.Past.{is_gone}
-use Rattle.afr_moves.specs.Register.{Exact, HealLocks, Looks, Opening, Phase, Step, WorkLocks, asked_in, everywhere, over}
+use Rattle.afr_moves.specs.Register.{Exact, HealLocks, HealPart, Looks, Opening, Step, WorkLocks, asked_in, everywhere, over}
 use Rattle.afr_moves.specs.Sets.{any}
 use Rattle.afr_lines.specs.declared.lock.Domain.TheVariants.{Heal, Work}
 use Rattle.afr_self_heal.specs.Outcome.{by_looks, outcome_after}
-use Rattle.afr_self_heal.specs.declared.outcome.Outcome.{Outcome}
-use Rattle.afr_self_heal.specs.declared.outcome.Outcome.TheVariants.{Settled, Short}
+use Rattle.afr_self_heal.specs.declared.outcome.HealOutcome.{HealOutcome}
+use Rattle.afr_self_heal.specs.declared.outcome.HealOutcome.TheVariants.{Settled, Short}
 
-module _ (shape : Shape) (g : Gfid) (kind : Kind) (r q : Exact) (seen looked : Looked) (s : ℕ) (o : Outcome) (w : lines.Work) (a : ActorId) (b : ℕ) (area : Area) (told : Told) (took : Bool) (log : List Line)
-    (few : shape.n ≤ 5) (small : b < shape.n) (will : o ≡ Settled) (opening : q.phase ≡ Opening) (views : (x : ℕ) → q.first_views x ≡ r.first_views x) where
+module _ (shape : Shape) (g : Gfid) (kind : Kind) (r q : Exact) (seen looked : Looked) (s : ℕ) (o : HealOutcome) (w : lines.Work) (a : ActorId) (b : ℕ) (area : Area) (told : Told) (took : Bool) (log : List Line)
+    (few : shape.n ≤ 5) (small : b < shape.n) (will : o ≡ Settled) (opening : q.part ≡ Opening) (views : (x : ℕ) → q.first_views x ≡ r.first_views x) where
   -- a Heal lock that no other holds
   pub locks_tell : asked_in r HealLocks b ≡ false → fits (Lock Heal area) told ≡ true → is_held told ≡ false → ((x : ℕ) → asked_in q HealLocks x ≡ put (asked_in r HealLocks) b true x)
       → ((x : ℕ) → q.law.healing x ≡ put r.law.healing b (is_granted told) x) → q.step ≡ HealLocks → q.broken ≡ (over shape.n everywhere q.asked && not (is_most shape.n q.law.healing)) → TellsLocks shape r g kind w
       → Tells shape q seen looked s g kind (outcome_after false q.broken o Short) ((Ask a (record { 0 = b }) (Lock Heal area) told took, log) ∷ w)
   locks_tell new fit calm asked healing step broken t = tells_by false shape q seen looked s g kind o Short more refl will
       (λ h. let parts = both (over shape.n everywhere q.asked) (not (is_most shape.n q.law.healing)) (sym broken ∙ h) in short_of_heal shape q g kind more few (rw step refl) next parts.0 (denied _ parts.1))
-      (λ h. subst (λ (st : Step). TellsAt false st q.phase shape q seen looked s g kind o more) (sym step) next)
+      (λ h. subst (λ (st : Step). TellsAt false st q.part shape q seen looked s g kind o more) (sym step) next)
     where
       more : lines.Work
       more = (Ask a (record { 0 = b }) (Lock Heal area) told took, log) ∷ w
@@ -61,7 +61,7 @@ module _ (shape : Shape) (g : Gfid) (kind : Kind) (r q : Exact) (seen looked : L
       → Tells shape q seen looked s g kind (outcome_after false q.broken o Short) ((Ask a (record { 0 = b }) (Lock Work area) told took, log) ∷ w)
   work_tells own new granted fit asked held healing step broken t = tells_by false shape q seen looked s g kind o Short more refl will
       (λ h. let parts = both (over shape.n q.law.healing q.asked) (not (is_most shape.n q.law.held)) (sym broken ∙ h) in short_of_work shape q g kind more few next parts.0 (denied _ parts.1))
-      (λ h. subst (λ (st : Step). TellsAt false st q.phase shape q seen looked s g kind o more) (sym step) (subst (λ (part : Phase). TellsAt false WorkLocks part shape q seen looked s g kind o more) (sym opening) next))
+      (λ h. subst (λ (st : Step). TellsAt false st q.part shape q seen looked s g kind o more) (sym step) (subst (λ (part : HealPart). TellsAt false WorkLocks part shape q seen looked s g kind o more) (sym opening) next))
     where
       more : lines.Work
       more = (Ask a (record { 0 = b }) (Lock Work area) told took, log) ∷ w
@@ -69,8 +69,8 @@ module _ (shape : Shape) (g : Gfid) (kind : Kind) (r q : Exact) (seen looked : L
       next : TellsWork shape q g kind more
       next = work_more shape g kind r q w a b area told took log own small new granted fit asked held healing views t
 
-module _ (shape : Shape) (g : Gfid) (kind : Kind) (r q : Exact) (seen looked : Looked) (s : ℕ) (o : Outcome) (w : lines.Work) (a : ActorId) (b : ℕ) (told : Told) (took : Bool) (log : List Line)
-    (few : shape.n ≤ 5) (small : b < shape.n) (will : o ≡ Settled) (opening : q.phase ≡ Opening) where
+module _ (shape : Shape) (g : Gfid) (kind : Kind) (r q : Exact) (seen looked : Looked) (s : ℕ) (o : HealOutcome) (w : lines.Work) (a : ActorId) (b : ℕ) (told : Told) (took : Bool) (log : List Line)
+    (few : shape.n ≤ 5) (small : b < shape.n) (will : o ≡ Settled) (opening : q.part ≡ Opening) where
   -- a look of the opening
   pub looks_tell : length seen.views ≡ 5 → r.asked b ≡ false → r.law.held b ≡ true → fits (Look g) told ≡ true → IsWholeTold told → ((x : ℕ) → q.asked x ≡ put r.asked b true x)
       → ((x : ℕ) → q.law.held x ≡ put r.law.held b (not (is_gone told)) x) → q.law.kind ≡ kind → q.step ≡ Looks → ((x : ℕ) → x < shape.n → q.possible x ≡ true)
@@ -79,7 +79,7 @@ module _ (shape : Shape) (g : Gfid) (kind : Kind) (r q : Exact) (seen looked : L
   looks_tell five new held_here fit full asked held is_kind step every broken says t = tells_by false shape q (shown seen b told) looked s g kind o (by_looks shape kind (shown seen b told)) more refl will
       (λ h. let parts = both (over shape.n q.law.held q.asked) (not (any shape.n (candidate shape.n (keeps_in shape) q))) (sym broken ∙ h) in
       ended_by_looks shape g kind q (shown seen b told) more few next says.first_reached says.first_views is_kind opening parts.0 every (denied _ parts.1))
-      (λ h. subst (λ (st : Step). TellsAt false st q.phase shape q (shown seen b told) looked s g kind o more) (sym step) (subst (λ (part : Phase). TellsAt false Looks part shape q (shown seen b told) looked s g kind o more) (sym opening) next))
+      (λ h. subst (λ (st : Step). TellsAt false st q.part shape q (shown seen b told) looked s g kind o more) (sym step) (subst (λ (part : HealPart). TellsAt false Looks part shape q (shown seen b told) looked s g kind o more) (sym opening) next))
     where
       more : lines.Work
       more = (Ask a (record { 0 = b }) (Look g) told took, log) ∷ w

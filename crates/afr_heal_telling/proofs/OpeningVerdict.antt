@@ -20,7 +20,7 @@ use Rattle.afr_discipline.specs.Turns.{candidate}
 use Rattle.afr_heal.proofs.Finding.{over_asked}
 use Rattle.afr_heal.proofs.Parts.{both, not_both, pair}
 use Rattle.afr_heal_telling.proofs.OpeningParts.{left_most, most_more}
-use Rattle.afr_heal_telling.specs.Stages.{AreWhole, IsReached, TellsLooks}
+use Rattle.afr_heal_telling.specs.Stages.{IsReached, TellsLooks, ViewsAreWhole}
 use Rattle.afr_lines.specs.Work.{Work}
 use Rattle.afr_lines.specs.declared.reply.HealReply.{HealReply}
 use Rattle.afr_lines.specs.declared.reply.HealReply.TheVariants as healed
@@ -31,12 +31,12 @@ use Rattle.afr_model.specs.Standing.{getting}
 use Rattle.afr_moves.proofs.Tests.{all_no, some_no}
 use Rattle.afr_moves.specs.Keeps.{keeps_in}
 use Rattle.afr_moves.specs.Ranges.{MarksInRange}
-use Rattle.afr_moves.specs.Register.{Exact, Opening, Phase, accuses, good, has_number, holder, over, shows_number}
+use Rattle.afr_moves.specs.Register.{Exact, HealPart, Opening, accuses, good, has_number, holder, over, shows_number}
 use Rattle.afr_moves.specs.Sets.{any}
 use Rattle.afr_moves.specs.Steps.{goes_on_at}
 use Rattle.afr_object.specs.declared.entry.View.{View}
 use Rattle.afr_self_heal.specs.Outcome.{by_looks, reply_of}
-use Rattle.afr_self_heal.specs.declared.outcome.Outcome.TheVariants.{Nothing, Short, Split}
+use Rattle.afr_self_heal.specs.declared.outcome.HealOutcome.TheVariants.{Nothing, Short, Split}
 
 -- ---- views and numbers
 -- a brick that fails a test that not all pass
@@ -83,7 +83,7 @@ none_shown Names s (Some view) h = zero_of _ h
 
 -- looks whose views are of bricks below n that answered
 module _ (shape : Shape) (kind : Kind) (seen : Looked) (few : shape.n ≤ 5) (low : (x : ℕ) → member seen.reached x ≡ true → x < shape.n) (shown : IsReached seen)
-    (numbers : AreWhole seen) where
+    (numbers : ViewsAreWhole seen) where
   abbrev views : ℕ → Option View
   views x = view_at x seen
 
@@ -139,7 +139,7 @@ module _ (shape : Shape) (kind : Kind) (seen : Looked) (few : shape.n ≤ 5) (lo
 
 -- the reply by the lines is that of the first looks
 module _ (shape : Shape) (g : Gfid) (kind : Kind) (q : Exact) (seen : Looked) (w : Work) (few : shape.n ≤ 5) (t : TellsLooks shape q seen g kind w) (reached : q.first_reached ≡ member seen.reached) (views : q.first_views ≡ (λ x. view_at x seen))
-    (is_kind : q.law.kind ≡ kind) (opening : q.phase ≡ Opening) (all_asked : over shape.n q.law.held q.asked ≡ true) (every : (x : ℕ) → x < shape.n → q.possible x ≡ true)
+    (is_kind : q.law.kind ≡ kind) (opening : q.part ≡ Opening) (all_asked : over shape.n q.law.held q.asked ≡ true) (every : (x : ℕ) → x < shape.n → q.possible x ≡ true)
     (stops : any shape.n (candidate shape.n (keeps_in shape) q) ≡ false) where
   missing_is : (x : ℕ) → x < shape.n → member (first_by w).missing x ≡ not (member seen.reached x)
   missing_is x l = t.missing x l ∙ go (member seen.reached x) (q.law.held x) (q.asked x) (over_asked shape.n q.law.held q.asked all_asked x l)
@@ -170,8 +170,8 @@ module _ (shape : Shape) (g : Gfid) (kind : Kind) (q : Exact) (seen : Looked) (w
           by_opening = rw (reached, views, is_kind) (pair _ _ (pair _ _ most (most_more shape.n (member (holders_of seen)) (holder (λ x. view_at x seen)) (λ x l m. holds shape kind seen few t.low t.shown t.numbers x m) held))
               (number_seen shape kind seen few t.low t.shown t.numbers dirty))
 
-          onward : goes_on_at shape.n (keeps_in shape) q (lowest (good_copies shape seen kind)) q.phase ≡ true
-          onward = subst (λ (part : Phase). goes_on_at shape.n (keeps_in shape) q (lowest (good_copies shape seen kind)) part ≡ true) (sym opening) by_opening
+          onward : goes_on_at shape.n (keeps_in shape) q (lowest (good_copies shape seen kind)) q.part ≡ true
+          onward = subst (λ (part : HealPart). goes_on_at shape.n (keeps_in shape) q (lowest (good_copies shape seen kind)) part ≡ true) (sym opening) by_opening
 
   first_says : by_first shape kind (first_by w) ≡ Some (reply_of (by_looks shape kind seen) seen)
   first_says = rw (ap (λ (z : First). z.looked) t.first, answered_most) (go (is_majority shape.n seen.reached) (is_majority shape.n (holders_of seen)) (is_clean kind seen) (is_nothing (good_copies shape seen kind)) no_good)

@@ -11,7 +11,7 @@ use Rattle.afr_heal.proofs.StagesAllowed.{look_ok}
 use Rattle.afr_heal.proofs.StagesForms as form
 use Rattle.afr_heal.proofs.StagesForms.{looks_form, viewed_form}
 use Rattle.afr_heal.proofs.StagesWalk.{look_elim}
-use Rattle.afr_heal.specs.Answers.{Picks, asked_for, fits}
+use Rattle.afr_heal.specs.Answers.{PicksOne, asked_for, fits}
 use Rattle.afr_heal.specs.Engine.{next_of}
 use Rattle.afr_heal.specs.Standing.{AtLooks}
 use Rattle.afr_heal_telling.proofs.OpeningHeal.{TellsHere}
@@ -23,7 +23,7 @@ use Rattle.afr_heal_telling.specs.HealTelling.{Tells}
 use Rattle.afr_heal_telling.specs.Stages.{IsShown, TellsLooks}
 use Rattle.afr_lines.specs.Work as lines
 use Rattle.afr_lines.specs.declared.answer.Told.{Told}
-use Rattle.afr_lines.specs.declared.answer.Told.TheVariants as told_of
+use Rattle.afr_lines.specs.declared.answer.Told.TheVariants as as_told
 use Rattle.afr_lines.specs.declared.line.Line.{Line}
 use Rattle.afr_lines.specs.declared.line.Line.TheVariants as line
 use Rattle.afr_lines.specs.declared.request.Request.TheVariants.{Look}
@@ -31,10 +31,10 @@ use Rattle.afr_moves.specs.Keeps.{keeps_in}
 use Rattle.afr_moves.specs.Register.{Exact, Looks, Opening, whole_area}
 use Rattle.afr_moves.specs.Rules.{Register}
 use Rattle.afr_moves.specs.Steps.{may_heal, turn}
-use Rattle.afr_self_heal.specs.declared.outcome.Outcome.{Outcome}
-use Rattle.afr_self_heal.specs.declared.outcome.Outcome.TheVariants.{Settled}
+use Rattle.afr_self_heal.specs.declared.outcome.HealOutcome.{HealOutcome}
+use Rattle.afr_self_heal.specs.declared.outcome.HealOutcome.TheVariants.{Settled}
 
-module _ (pick : (ℕ → Bool) → ℕ) (shape : Shape) (seen looked : Looked) (s : ℕ) (g : Gfid) (kind : Kind) (o : Outcome) (w : lines.Work) (few : shape.n ≤ 5)
+module _ (pick : (ℕ → Bool) → ℕ) (shape : Shape) (seen looked : Looked) (s : ℕ) (g : Gfid) (kind : Kind) (o : HealOutcome) (w : lines.Work) (few : shape.n ≤ 5)
     (q : Exact) (k : AtLooks shape.n (keeps_in shape) (form.shape q Looks Opening g kind (Some (whole_area g.0 kind))) g kind) (says : IsShown (form.shape q Looks Opening g kind (Some (whole_area g.0 kind))) seen looked)
     (t : TellsLooks shape (form.shape q Looks Opening g kind (Some (whole_area g.0 kind))) seen g kind w) (will : o ≡ Settled)
     (b : ℕ) (l : b < shape.n) (turn : turn shape.n (keeps_in shape) (form.shape q Looks Opening g kind (Some (whole_area g.0 kind))) s Looks b ≡ true) where
@@ -53,20 +53,20 @@ module _ (pick : (ℕ → Bool) → ℕ) (shape : Shape) (seen looked : Looked) 
   -- another look
   look_told : (t : ℕ) (told : Told) (a : ActorId) (took : Bool) (log : List Line) → fits (Look g) told ≡ true → IsWholeTold told
       → TellsAsked pick shape r seen looked s g kind o w b (Look g) (asked_for shape.n (keeps_in shape) r t b (Look g) told) told (line.Ask a (record { 0 = b }) (Look g) told took) log
-  look_told at (told_of.Seen view) a took log f full shown =
-      looks_tell shape g kind r _ seen _ _ o w a b (told_of.Seen view) took log few l will refl says.five_first new held_here refl full (λ x. refl)
+  look_told at (as_told.Seen view) a took log f full shown =
+      looks_tell shape g kind r _ seen _ _ o w a b (as_told.Seen view) took log few l will refl says.five_first new held_here refl full (λ x. refl)
       (λ x. ap (λ (law : Register). law.held x) (viewed_form r.law b g.0 view) ∙ put_old q.law.held b true x held_here) (ap (λ (law : Register). law.kind) (viewed_form r.law b g.0 view)) refl still_all refl shown t
-  look_told at told_of.NoObject a took log f full shown =
-      looks_tell shape g kind r _ seen _ _ o w a b told_of.NoObject took log few l will refl says.five_first new held_here refl full (λ x. refl) (λ x. put_old q.law.held b true x held_here) refl refl still_all refl shown t
-  look_told at told_of.Failed a took log f full shown =
-      looks_tell shape g kind r _ seen _ _ o w a b told_of.Failed took log few l will refl says.five_first new held_here refl full (λ x. refl) (λ x. put_old q.law.held b true x held_here) refl refl still_all refl shown t
-  look_told at told_of.NotConnected a took log f full shown =
-      looks_tell shape g kind r _ seen _ _ o w a b told_of.NotConnected took log few l will refl says.five_first new held_here refl full (λ x. refl) (λ x. refl) refl refl still_all refl shown t
+  look_told at as_told.NoObject a took log f full shown =
+      looks_tell shape g kind r _ seen _ _ o w a b as_told.NoObject took log few l will refl says.five_first new held_here refl full (λ x. refl) (λ x. put_old q.law.held b true x held_here) refl refl still_all refl shown t
+  look_told at as_told.Failed a took log f full shown =
+      looks_tell shape g kind r _ seen _ _ o w a b as_told.Failed took log few l will refl says.five_first new held_here refl full (λ x. refl) (λ x. put_old q.law.held b true x held_here) refl refl still_all refl shown t
+  look_told at as_told.NotConnected a took log f full shown =
+      looks_tell shape g kind r _ seen _ _ o w a b as_told.NotConnected took log few l will refl says.five_first new held_here refl full (λ x. refl) (λ x. refl) refl refl still_all refl shown t
   look_told at _ a took log f full shown = absurd (cc f)
 
 -- the locked bricks are looked at first
-pub looking_tells : (pick : (ℕ → Bool) → ℕ) (shape : Shape) (r : Exact) (seen looked : Looked) (s : ℕ) (g : Gfid) (kind : Kind) (o : Outcome) (w : lines.Work)
-    → 0 < shape.n → shape.n ≤ 5 → Picks shape.n pick → AtLooks shape.n (keeps_in shape) r g kind → IsShown r seen looked → Tells shape r seen looked s g kind o w
+pub looking_tells : (pick : (ℕ → Bool) → ℕ) (shape : Shape) (r : Exact) (seen looked : Looked) (s : ℕ) (g : Gfid) (kind : Kind) (o : HealOutcome) (w : lines.Work)
+    → 0 < shape.n → shape.n ≤ 5 → PicksOne shape.n pick → AtLooks shape.n (keeps_in shape) r g kind → IsShown r seen looked → Tells shape r seen looked s g kind o w
     → TellsNext pick shape r seen looked s g kind o w (next_of shape.n (keeps_in shape) r s g kind)
 looking_tells pick shape r seen looked s g kind o w some few picks k =
     subst (TellsHere pick shape seen looked s g kind o w) (sym e) (λ shown t.

@@ -16,7 +16,7 @@ use Rattle.afr_heal_telling.specs.Stages.{TellsLocks, TellsLooks, TellsWork}
 use Rattle.afr_lines.specs.Overlap.{same_area}
 use Rattle.afr_lines.specs.Work as lines
 use Rattle.afr_lines.specs.declared.answer.Told.{Told}
-use Rattle.afr_lines.specs.declared.answer.Told.TheVariants as told_of
+use Rattle.afr_lines.specs.declared.answer.Told.TheVariants as as_told
 use Rattle.afr_lines.specs.declared.line.Line.{Line}
 use Rattle.afr_lines.specs.declared.line.Line.TheVariants.{Ask, HealBegin}
 use Rattle.afr_lines.specs.declared.request.Area.{Area}
@@ -131,10 +131,10 @@ module _ (shape : Shape) (g : Gfid) (kind : Kind) (r q : Exact) (w : lines.Work)
   missing_own = added_if_own (is_fault told) b (first_by w).missing ∙ rw (held_own, healing_own, asked_own) (go told fit (member (first_by w).missing b) (t.missing b small ∙ rw (t.unheld b new, granted_here, new) refl))
     where
       go : (told : Told) → fits (Lock Work area) told ≡ true → (m : Bool) → m ≡ false → (is_fault told || m) ≡ not (is_granted told || (not (is_gone told) && not (not (is_held told))))
-      go told_of.Granted f m h = h
-      go (told_of.Held owner) f m h = h
-      go told_of.NotConnected f m h = refl
-      go told_of.Failed f m h = refl
+      go as_told.Granted f m h = h
+      go (as_told.Held owner) f m h = h
+      go as_told.NotConnected f m h = refl
+      go as_told.Failed f m h = refl
       go _ f m h = absurd (cc f)
 
   missing_all : (x : ℕ) → x < shape.n → member (first_by more).missing x ≡ not (q.law.held x || (q.law.healing x && not (q.asked x)))
@@ -146,10 +146,10 @@ module _ (shape : Shape) (g : Gfid) (kind : Kind) (r q : Exact) (w : lines.Work)
   granted_all x = at_each (λ (x : ℕ). member (among heal_getting w) x ≡ true → (q.asked x || q.law.healing x) ≡ true) b x (λ m. rw (asked_own, healing_own) (go told fit)) (λ e m. rw (asked_other x e, healing_other x e) (t.granted x m))
     where
       go : (told : Told) → fits (Lock Work area) told ≡ true → (not (is_held told) || not (is_gone told)) ≡ true
-      go told_of.Granted f = refl
-      go (told_of.Held owner) f = refl
-      go told_of.NotConnected f = refl
-      go told_of.Failed f = refl
+      go as_told.Granted f = refl
+      go (as_told.Held owner) f = refl
+      go as_told.NotConnected f = refl
+      go as_told.Failed f = refl
       go _ f = absurd (cc f)
 
   worked_all : (x : ℕ) → q.asked x ≡ true → member (among (asking (whole_of g kind)) more) x ≡ true
@@ -171,7 +171,7 @@ module _ (shape : Shape) (g : Gfid) (kind : Kind) (r q : Exact) (w : lines.Work)
   not_granted h = go told h
     where
       go : (told : Told) → not (is_held told) ≡ false → is_granted told ≡ false
-      go told_of.Granted h = absurd (cc h)
+      go as_told.Granted h = absurd (cc h)
       go _ h = refl
 
   fresh_all : (x : ℕ) → q.asked x ≡ false → member (among (getting (whole_of g kind)) more) x ≡ false

@@ -11,7 +11,7 @@ use Rattle.afr_heal.proofs.Parts.{any_none, no_or, not_both}
 use Rattle.afr_heal.proofs.StagesForms as form
 use Rattle.afr_heal.proofs.StagesForms.{granting_by, locking_by, work_form}
 use Rattle.afr_heal.proofs.StagesWalk.{lock_elim}
-use Rattle.afr_heal.specs.Answers.{Picks, asked_for, begun_at, fits}
+use Rattle.afr_heal.specs.Answers.{PicksOne, asked_for, begun_at, fits}
 use Rattle.afr_heal.specs.Engine.{next_of}
 use Rattle.afr_heal.specs.Standing.{AtWork}
 use Rattle.afr_heal_telling.proofs.OpeningHeal.{TellsHere, whole_same}
@@ -23,7 +23,7 @@ use Rattle.afr_heal_telling.specs.HealTelling.{Tells}
 use Rattle.afr_heal_telling.specs.Stages.{IsShown, TellsLooks, TellsWork}
 use Rattle.afr_lines.specs.Work as lines
 use Rattle.afr_lines.specs.declared.answer.Told.{Told}
-use Rattle.afr_lines.specs.declared.answer.Told.TheVariants as told_of
+use Rattle.afr_lines.specs.declared.answer.Told.TheVariants as as_told
 use Rattle.afr_lines.specs.declared.line.Line.{Line}
 use Rattle.afr_lines.specs.declared.line.Line.TheVariants as line
 use Rattle.afr_lines.specs.declared.request.Area.{Area}
@@ -37,8 +37,8 @@ use Rattle.afr_moves.specs.Steps.{turn}
 use Rattle.afr_moves.proofs.AreaLemmas.{same_area_self}
 use Rattle.afr_object.specs.declared.entry.View.{View}
 use Rattle.afr_lines.specs.declared.lock.Domain.TheVariants.{Work}
-use Rattle.afr_self_heal.specs.declared.outcome.Outcome.{Outcome}
-use Rattle.afr_self_heal.specs.declared.outcome.Outcome.TheVariants.{Settled}
+use Rattle.afr_self_heal.specs.declared.outcome.HealOutcome.{HealOutcome}
+use Rattle.afr_self_heal.specs.declared.outcome.HealOutcome.TheVariants.{Settled}
 
 -- ---- what a Work lock leaves of the law's register, by whether the actor holds one and whether the area is its own
 module _ (law : Register) (area : Area) (b : ℕ) (x : ℕ) where
@@ -71,7 +71,7 @@ module _ (law : Register) (area : Area) (b : ℕ) (x : ℕ) where
   gone_healing : (holds own : Bool) → without (locking_by holds own law area).healing b x ≡ put law.healing b false x
   gone_healing holds own = ap (λ (f : Bool). if x == b then false else f) (refused_healing holds own)
 
-module _ (pick : (ℕ → Bool) → ℕ) (shape : Shape) (seen looked : Looked) (s : ℕ) (g : Gfid) (kind : Kind) (o : Outcome) (w : lines.Work) (few : shape.n ≤ 5)
+module _ (pick : (ℕ → Bool) → ℕ) (shape : Shape) (seen looked : Looked) (s : ℕ) (g : Gfid) (kind : Kind) (o : HealOutcome) (w : lines.Work) (few : shape.n ≤ 5)
     (q : Exact) (k : AtWork shape.n (keeps_in shape) (form.shape q WorkLocks Opening g q.law.kind (Some (whole_area g.0 kind))) g kind)
     (t : TellsWork shape (form.shape q WorkLocks Opening g q.law.kind (Some (whole_area g.0 kind))) g kind w) (will : o ≡ Settled) where
   abbrev r : Exact
@@ -101,20 +101,20 @@ module _ (pick : (ℕ → Bool) → ℕ) (shape : Shape) (seen looked : Looked) 
     -- another Work lock
     work_told : (t : ℕ) (told : Told) (a : ActorId) (took : Bool) (log : List Line) → fits (Lock Work here) told ≡ true
         → TellsAsked pick shape r seen looked s g kind o w b (Lock Work here) (asked_for shape.n (keeps_in shape) r t b (Lock Work here) told) told (line.Ask a (record { 0 = b }) (Lock Work here) told took) log
-    work_told at told_of.Granted a took log f shown =
-        work_tells shape g kind r _ seen looked s o w a b here told_of.Granted took log few l will refl (λ x. refl) (whole_same g kind) new granted_here refl (λ x. refl)
+    work_told at as_told.Granted a took log f shown =
+        work_tells shape g kind r _ seen looked s o w a b here as_told.Granted took log few l will refl (λ x. refl) (whole_same g kind) new granted_here refl (λ x. refl)
         (λ x. granted_held r.law here b x (busy shape.n r.law) (is_area (Some here) here) (same_area_self here) (idle x))
         (λ x. granted_healing r.law here b x (busy shape.n r.law) (is_area (Some here) here) (same_area_self here) ∙ put_old q.law.healing b true x granted_here) refl refl t
-    work_told at (told_of.Held owner) a took log f shown =
-        work_tells shape g kind r _ seen looked s o w a b here (told_of.Held owner) took log few l will refl (λ x. refl) (whole_same g kind) new granted_here refl (λ x. put_old q.asked b false x new)
+    work_told at (as_told.Held owner) a took log f shown =
+        work_tells shape g kind r _ seen looked s o w a b here (as_told.Held owner) took log few l will refl (λ x. refl) (whole_same g kind) new granted_here refl (λ x. put_old q.asked b false x new)
         (λ x. refused_held r.law here b x (busy shape.n r.law) (is_area (Some here) here) (same_area_self here) (idle x) ∙ put_old q.law.held b false x unheld)
         (λ x. refused_healing r.law here b x (busy shape.n r.law) (is_area (Some here) here) ∙ put_old q.law.healing b true x granted_here) refl refl t
-    work_told at told_of.Failed a took log f shown =
-        work_tells shape g kind r _ seen looked s o w a b here told_of.Failed took log few l will refl (λ x. refl) (whole_same g kind) new granted_here refl (λ x. refl)
+    work_told at as_told.Failed a took log f shown =
+        work_tells shape g kind r _ seen looked s o w a b here as_told.Failed took log few l will refl (λ x. refl) (whole_same g kind) new granted_here refl (λ x. refl)
         (λ x. refused_held r.law here b x (busy shape.n r.law) (is_area (Some here) here) (same_area_self here) (idle x) ∙ put_old q.law.held b false x unheld)
         (λ x. refused_healing r.law here b x (busy shape.n r.law) (is_area (Some here) here) ∙ put_old q.law.healing b true x granted_here) refl refl t
-    work_told at told_of.NotConnected a took log f shown =
-        work_tells shape g kind r _ seen looked s o w a b here told_of.NotConnected took log few l will refl (λ x. refl) (whole_same g kind) new granted_here refl (λ x. refl)
+    work_told at as_told.NotConnected a took log f shown =
+        work_tells shape g kind r _ seen looked s o w a b here as_told.NotConnected took log few l will refl (λ x. refl) (whole_same g kind) new granted_here refl (λ x. refl)
         (λ x. gone_held r.law here b x (busy shape.n r.law) (is_area (Some here) here) (same_area_self here) (idle x)) (λ x. gone_healing r.law here b x (busy shape.n r.law) (is_area (Some here) here)) refl refl t
     work_told at _ a took log f shown = absurd (cc f)
 
@@ -131,8 +131,8 @@ module _ (pick : (ℕ → Bool) → ℕ) (shape : Shape) (seen looked : Looked) 
           (λ x l. sym (ap (λ (f : ℕ → Option View). f x) says.first_views) ∙ t.unviewed x l)
 
 -- the first Work locks are asked
-pub working_tells : (pick : (ℕ → Bool) → ℕ) (shape : Shape) (r : Exact) (seen looked : Looked) (s : ℕ) (g : Gfid) (kind : Kind) (o : Outcome) (w : lines.Work)
-    → 0 < shape.n → shape.n ≤ 5 → Picks shape.n pick → AtWork shape.n (keeps_in shape) r g kind → IsShown r seen looked → Tells shape r seen looked s g kind o w
+pub working_tells : (pick : (ℕ → Bool) → ℕ) (shape : Shape) (r : Exact) (seen looked : Looked) (s : ℕ) (g : Gfid) (kind : Kind) (o : HealOutcome) (w : lines.Work)
+    → 0 < shape.n → shape.n ≤ 5 → PicksOne shape.n pick → AtWork shape.n (keeps_in shape) r g kind → IsShown r seen looked → Tells shape r seen looked s g kind o w
     → TellsNext pick shape r seen looked s g kind o w (next_of shape.n (keeps_in shape) r s g kind)
 working_tells pick shape r seen looked s g kind o w some few picks k =
     subst (TellsHere pick shape seen looked s g kind o w) (sym e) (λ shown t.

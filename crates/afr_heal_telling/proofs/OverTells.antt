@@ -31,7 +31,7 @@ use Rattle.afr_moves.specs.Register.{Exact}
 use Rattle.afr_lines.specs.declared.lock.Domain.{Domain}
 use Rattle.afr_lines.specs.declared.lock.Domain.TheVariants.{Heal, Work as WorkDomain}
 use Rattle.afr_self_heal.specs.Outcome.{cause, outcome_after, reply_of}
-use Rattle.afr_self_heal.specs.declared.outcome.Outcome.{Outcome}
+use Rattle.afr_self_heal.specs.declared.outcome.HealOutcome.{HealOutcome}
 
 -- ---- an unlock
 -- nobody is found busy by it
@@ -65,7 +65,7 @@ reply_stands shape g kind w said a b domain area told took log k = record {
 broken_stays : (n : ℕ) (keeps : ℕ → Kind → Bool) (r : Exact) (t b : ℕ) (domain : Domain) (area : Area) (told : Told) → r.law.heal ≡ true → r.broken ≡ true → (asked_for n keeps r t b (Unlock domain area) told).broken ≡ true
 broken_stays n keeps r t b domain area told heal broken = rw (heal, broken) refl
 
-module _ (pick : (ℕ → Bool) → ℕ) (shape : Shape) (r : Exact) (seen looked : Looked) (s : ℕ) (g : Gfid) (kind : Kind) (o : Outcome) (w : Work) (k : Broken r g) (over : TellsOver shape seen g kind o w) where
+module _ (pick : (ℕ → Bool) → ℕ) (shape : Shape) (r : Exact) (seen looked : Looked) (s : ℕ) (g : Gfid) (kind : Kind) (o : HealOutcome) (w : Work) (k : Broken r g) (over : TellsOver shape seen g kind o w) where
   -- an unlock
   over_unlock : (b : ℕ) (domain : Domain) (area : Area) → TellsNext pick shape r seen looked s g kind o w (Ask b (Unlock domain area))
   over_unlock b domain area = (told_any, tt)
@@ -77,8 +77,8 @@ module _ (pick : (ℕ → Bool) → ℕ) (shape : Shape) (r : Exact) (seen looke
           (outcome_next shape r (asked_for shape.n (keeps_in shape) r t b (Unlock domain area) told) seen looked s kind (Unlock domain area) told o)
           ((line.Ask a (record { 0 = b }) (Unlock domain area) told took, log) ∷ w)
       told_any t told a took log f whole shown = record {
-        at = subst (λ (x : Bool). TellsAt x q.step q.phase shape q seen looked (source_after shape.n (keeps_in shape) pick q s) g kind (outcome_next shape r q seen looked s kind (Unlock domain area) told o) lines) (sym still)
-            (subst (λ (x : Bool). TellsOver shape seen g kind (outcome_after x q.broken o (cause shape kind r.phase q.phase s seen looked (Unlock domain area) told)) lines) (sym k.broken)
+        at = subst (λ (x : Bool). TellsAt x q.step q.part shape q seen looked (source_after shape.n (keeps_in shape) pick q s) g kind (outcome_next shape r q seen looked s kind (Unlock domain area) told o) lines) (sym still)
+            (subst (λ (x : Bool). TellsOver shape seen g kind (outcome_after x q.broken o (cause shape kind r.part q.part s seen looked (Unlock domain area) told)) lines) (sym k.broken)
             (reply_stands shape g kind w (reply_of o seen) a (record { 0 = b }) domain area told took log over));
         will = λ h. absurd (cc (still, h));
       }
@@ -98,7 +98,7 @@ module _ (pick : (ℕ → Bool) → ℕ) (shape : Shape) (r : Exact) (seen looke
       (λ b l h. over_unlock b WorkDomain (area_now r g kind)) (λ none b l h. over_unlock b Heal _) (λ none gone. over)
 
 -- the case of a broken heal
-pub ending_tells : (pick : (ℕ → Bool) → ℕ) (shape : Shape) (r : Exact) (seen looked : Looked) (s : ℕ) (g : Gfid) (kind : Kind) (o : Outcome) (w : Work)
+pub ending_tells : (pick : (ℕ → Bool) → ℕ) (shape : Shape) (r : Exact) (seen looked : Looked) (s : ℕ) (g : Gfid) (kind : Kind) (o : HealOutcome) (w : Work)
     → Broken r g → Tells shape r seen looked s g kind o w → TellsNext pick shape r seen looked s g kind o w (next_of shape.n (keeps_in shape) r s g kind)
 ending_tells pick shape r seen looked s g kind o w k tells =
-    over_next pick shape r seen looked s g kind o w k (subst (λ (x : Bool). TellsAt x r.step r.phase shape r seen looked s g kind o w) k.broken tells.at)
+    over_next pick shape r seen looked s g kind o w k (subst (λ (x : Bool). TellsAt x r.step r.part shape r seen looked s g kind o w) k.broken tells.at)

@@ -12,7 +12,7 @@ use Rattle.afr_heal.proofs.Finding.{over_asked}
 use Rattle.afr_heal.proofs.Parts.{both, not_both, off}
 use Rattle.afr_heal.proofs.StagesForms.{granting_by, locking_by, part_form, shape as formed}
 use Rattle.afr_heal.proofs.StagesWalk.{lock_elim}
-use Rattle.afr_heal.specs.Answers.{Picks, asked_for, begun_at, fits}
+use Rattle.afr_heal.specs.Answers.{PicksOne, asked_for, begun_at, fits}
 use Rattle.afr_heal.specs.Engine.{Begins, has_part, next_of}
 use Rattle.afr_heal.specs.Standing.{AtPart}
 use Rattle.afr_heal_telling.proofs.PartingEnds.{has_view, late_reply, moved_unseen, not_settled}
@@ -24,7 +24,7 @@ use Rattle.afr_lines.specs.Areas.{object_of_area}
 use Rattle.afr_lines.specs.Overlap.{same_area}
 use Rattle.afr_lines.specs.Work.{Work}
 use Rattle.afr_lines.specs.declared.answer.Told.{Told}
-use Rattle.afr_lines.specs.declared.answer.Told.TheVariants as told_of
+use Rattle.afr_lines.specs.declared.answer.Told.TheVariants as as_told
 use Rattle.afr_lines.specs.declared.line.Line.{Line}
 use Rattle.afr_lines.specs.declared.line.Line.TheVariants as line
 use Rattle.afr_lines.specs.declared.reply.HealReply.TheVariants as healed
@@ -37,7 +37,7 @@ use Rattle.afr_model.specs.Showing.{among, is_fault, is_granted, is_held, looked
 use Rattle.afr_model.specs.Standing.{asking, getting}
 use Rattle.afr_moves.specs.Keeps.{keeps_in}
 use Rattle.afr_moves.specs.Note.{stopping}
-use Rattle.afr_moves.specs.Register.{Exact, Finish, Looks, Opening, Phase, Piece, WorkLocks, holder, is_finish, is_opening, over}
+use Rattle.afr_moves.specs.Register.{Exact, Finish, HealPart, Looks, Opening, Piece, WorkLocks, holder, is_finish, is_opening, over}
 use Rattle.afr_moves.specs.Rules as weak
 use Rattle.afr_moves.specs.Rules.{Register, begun, busy, is_area}
 use Rattle.afr_moves.specs.Sets.{empty, with}
@@ -45,37 +45,37 @@ use Rattle.afr_moves.specs.Steps.{is_lowest, locks_at, may_heal, turn}
 use Rattle.afr_object.specs.declared.entry.View.{View}
 use Rattle.afr_lines.specs.declared.lock.Domain.TheVariants.{Work as WorkDomain}
 use Rattle.afr_self_heal.specs.Outcome.{outcome_after, reply_of}
-use Rattle.afr_self_heal.specs.declared.outcome.Outcome.{Outcome}
-use Rattle.afr_self_heal.specs.declared.outcome.Outcome.TheVariants.{Settled, Failed}
+use Rattle.afr_self_heal.specs.declared.outcome.HealOutcome.{HealOutcome}
+use Rattle.afr_self_heal.specs.declared.outcome.HealOutcome.TheVariants.{Settled, Failed}
 
 -- a later part has its own lines
-in_part : (shape : Shape) (r : Exact) (part : Phase) (seen looked : Looked) (s : ℕ) (g : Gfid) (kind : Kind) (o : Outcome) (w : Work) → is_opening part ≡ false → TellsAfter shape r seen looked s g kind w → TellsAt false WorkLocks part shape r seen looked s g kind o w
+in_part : (shape : Shape) (r : Exact) (part : HealPart) (seen looked : Looked) (s : ℕ) (g : Gfid) (kind : Kind) (o : HealOutcome) (w : Work) → is_opening part ≡ false → TellsAfter shape r seen looked s g kind w → TellsAt false WorkLocks part shape r seen looked s g kind o w
 in_part shape r Opening seen looked s g kind o w later k = absurd (cc later)
 in_part shape r Piece seen looked s g kind o w later k = k
 in_part shape r Finish seen looked s g kind o w later k = k
 
-of_part : (shape : Shape) (r : Exact) (part : Phase) (seen looked : Looked) (s : ℕ) (g : Gfid) (kind : Kind) (o : Outcome) (w : Work) → is_opening part ≡ false → TellsAt false WorkLocks part shape r seen looked s g kind o w → TellsAfter shape r seen looked s g kind w
+of_part : (shape : Shape) (r : Exact) (part : HealPart) (seen looked : Looked) (s : ℕ) (g : Gfid) (kind : Kind) (o : HealOutcome) (w : Work) → is_opening part ≡ false → TellsAt false WorkLocks part shape r seen looked s g kind o w → TellsAfter shape r seen looked s g kind w
 of_part shape r Opening seen looked s g kind o w later k = absurd (cc later)
 of_part shape r Piece seen looked s g kind o w later k = k
 of_part shape r Finish seen looked s g kind o w later k = k
 
-pub in_looks : (shape : Shape) (r : Exact) (part : Phase) (seen looked : Looked) (s : ℕ) (g : Gfid) (kind : Kind) (o : Outcome) (w : Work) → is_opening part ≡ false → TellsAfter shape r seen looked s g kind w → TellsAt false Looks part shape r seen looked s g kind o w
+pub in_looks : (shape : Shape) (r : Exact) (part : HealPart) (seen looked : Looked) (s : ℕ) (g : Gfid) (kind : Kind) (o : HealOutcome) (w : Work) → is_opening part ≡ false → TellsAfter shape r seen looked s g kind w → TellsAt false Looks part shape r seen looked s g kind o w
 in_looks shape r Opening seen looked s g kind o w later k = absurd (cc later)
 in_looks shape r Piece seen looked s g kind o w later k = k
 in_looks shape r Finish seen looked s g kind o w later k = k
 
-pub of_looks : (shape : Shape) (r : Exact) (part : Phase) (seen looked : Looked) (s : ℕ) (g : Gfid) (kind : Kind) (o : Outcome) (w : Work) → is_opening part ≡ false → TellsAt false Looks part shape r seen looked s g kind o w → TellsAfter shape r seen looked s g kind w
+pub of_looks : (shape : Shape) (r : Exact) (part : HealPart) (seen looked : Looked) (s : ℕ) (g : Gfid) (kind : Kind) (o : HealOutcome) (w : Work) → is_opening part ≡ false → TellsAt false Looks part shape r seen looked s g kind o w → TellsAfter shape r seen looked s g kind w
 of_looks shape r Opening seen looked s g kind o w later k = absurd (cc later)
 of_looks shape r Piece seen looked s g kind o w later k = k
 of_looks shape r Finish seen looked s g kind o w later k = k
 
 -- a later part locks the bricks of the first looks
-locks_there : (r : Exact) (part : Phase) → is_opening part ≡ false → locks_at r part ≡ r.first_reached
+locks_there : (r : Exact) (part : HealPart) → is_opening part ≡ false → locks_at r part ≡ r.first_reached
 locks_there r Opening h = absurd (cc h)
 locks_there r Piece h = refl
 locks_there r Finish h = refl
 
-module _ (shape : Shape) (q : Exact) (part : Phase) (later : is_opening part ≡ false) (s : ℕ) (g : Gfid) (kind : Kind) (area : Area) (seen looked : Looked) (w : Work) where
+module _ (shape : Shape) (q : Exact) (part : HealPart) (later : is_opening part ≡ false) (s : ℕ) (g : Gfid) (kind : Kind) (area : Area) (seen looked : Looked) (w : Work) where
   abbrev r : Exact
   r = formed q WorkLocks part g kind (Some area)
 
@@ -181,27 +181,27 @@ module _ (shape : Shape) (q : Exact) (part : Phase) (later : is_opening part ≡
                   go false = rw before (some_left seen.reached [] s reached_source refl)
 
 -- ---- what the heal is then
-module _ (shape : Shape) (q : Exact) (seen looked : Looked) (s : ℕ) (g : Gfid) (kind : Kind) (o caused : Outcome) (w : Work) where
-  abbrev outcome : Outcome
+module _ (shape : Shape) (q : Exact) (seen looked : Looked) (s : ℕ) (g : Gfid) (kind : Kind) (o caused : HealOutcome) (w : Work) where
+  abbrev outcome : HealOutcome
   outcome = outcome_after false q.broken o caused
 
   -- it goes on, and will settle
-  pub still_tells : q.broken ≡ false → o ≡ Settled → TellsAt false q.step q.phase shape q seen looked s g kind outcome w → Tells shape q seen looked s g kind outcome w
+  pub still_tells : q.broken ≡ false → o ≡ Settled → TellsAt false q.step q.part shape q seen looked s g kind outcome w → Tells shape q seen looked s g kind outcome w
   still_tells whole settled k = record {
-    at = subst (λ (f : Bool). TellsAt f q.step q.phase shape q seen looked s g kind outcome w) (sym whole) k;
+    at = subst (λ (f : Bool). TellsAt f q.step q.part shape q seen looked s g kind outcome w) (sym whole) k;
     will = λ h. rw whole settled;
   }
 
   -- or it has ended
   pub ends_told : q.broken ≡ true → IsHealAnswered shape g kind w (reply_of caused seen) → Tells shape q seen looked s g kind outcome w
   ends_told broken answered = record {
-    at = subst (λ (f : Bool). TellsAt f q.step q.phase shape q seen looked s g kind outcome w) (sym broken) (rw broken answered);
+    at = subst (λ (f : Bool). TellsAt f q.step q.part shape q seen looked s g kind outcome w) (sym broken) (rw broken answered);
     will = λ h. absurd (not_both q.broken broken h);
   }
 
 -- ---- each answer
-module _ (pick : (ℕ → Bool) → ℕ) (shape : Shape) (few : shape.n ≤ 5) (q : Exact) (part : Phase) (later : is_opening part ≡ false) (s : ℕ) (g : Gfid) (kind : Kind) (area : Area) (at : AtPart shape.n (keeps_in shape) (formed q WorkLocks part g kind (Some area)) s g kind)
-    (seen looked : Looked) (o : Outcome) (w : Work) (settled : o ≡ Settled) (shown : IsShown (formed q WorkLocks part g kind (Some area)) seen looked) (k : TellsAfter shape (formed q WorkLocks part g kind (Some area)) seen looked s g kind w) where
+module _ (pick : (ℕ → Bool) → ℕ) (shape : Shape) (few : shape.n ≤ 5) (q : Exact) (part : HealPart) (later : is_opening part ≡ false) (s : ℕ) (g : Gfid) (kind : Kind) (area : Area) (at : AtPart shape.n (keeps_in shape) (formed q WorkLocks part g kind (Some area)) s g kind)
+    (seen looked : Looked) (o : HealOutcome) (w : Work) (settled : o ≡ Settled) (shown : IsShown (formed q WorkLocks part g kind (Some area)) seen looked) (k : TellsAfter shape (formed q WorkLocks part g kind (Some area)) seen looked s g kind w) where
   abbrev r2 : Exact
   r2 = formed q WorkLocks part g kind (Some area)
 
@@ -234,26 +234,26 @@ module _ (pick : (ℕ → Bool) → ℕ) (shape : Shape) (few : shape.n ≤ 5) (
     -- it goes on
     goes : (told : Told) (asked : ℕ → Bool) (law : Register) → law.area ≡ Some area
         → ((x : ℕ) → member (among heal_getting w) x ≡ true → (member (among (asking (whole_of g kind)) (said told)) x || ((is_finish part && true) && is_lowest q.first_reached asked x)) ≡ true)
-        → (caused : Outcome) → Tells shape (after_lock asked false law) seen looked s g kind (outcome_after false (after_lock asked false law).broken o caused) (said told)
+        → (caused : HealOutcome) → Tells shape (after_lock asked false law) seen looked s g kind (outcome_after false (after_lock asked false law).broken o caused) (said told)
     goes told asked law of_area worked caused =
         still_tells shape (after_lock asked false law) seen looked s g kind o caused (said told) (off _ _ (off _ _ later)) settled
         (in_part shape (after_lock asked false law) part seen looked s g kind (outcome_after false (after_lock asked false law).broken o caused) (said told) later
         (lock_tells shape q part later s g kind area seen looked w shown k a b told took log lowest asked may_lock _ law of_area worked))
 
     -- it ends
-    falls : (told : Told) → is_fault told ≡ true → is_held told ≡ false → (law : Register) (caused : Outcome) → caused ≡ Failed → Tells shape (after_lock (with q.asked b) true law) seen looked s g kind (outcome_after false (after_lock (with q.asked b) true law).broken o caused) (said told)
+    falls : (told : Told) → is_fault told ≡ true → is_held told ≡ false → (law : Register) (caused : HealOutcome) → caused ≡ Failed → Tells shape (after_lock (with q.asked b) true law) seen looked s g kind (outcome_after false (after_lock (with q.asked b) true law).broken o caused) (said told)
     falls told fault free law caused e =
         ends_told shape (after_lock (with q.asked b) true law) seen looked s g kind o caused (said told) (rw later refl)
         (rw e (lock_fails shape q part later s g kind area seen looked w shown k a b told took log lowest at.picked.below few source_held fault free))
 
     lock_told : (told : Told) → fits (Lock WorkDomain area) told ≡ true
         → TellsAsked pick shape r2 seen looked s g kind o w b (Lock WorkDomain area) (asked_for shape.n (keeps_in shape) r2 t b (Lock WorkDomain area) told) told (line.Ask a (record { 0 = b }) (Lock WorkDomain area) told took) log
-    lock_told told_of.Granted f now = goes told_of.Granted (with q.asked b) (granting_by (busy shape.n r2.law) (is_area (Some area) area) r2.law area b) (granted_area (busy shape.n r2.law) (is_area (Some area) area))
-        (λ x m. or_left _ _ (worked_more shape q part later s g kind area seen looked w shown k a b told_of.Granted took log lowest refl x m)) _
-    lock_told (told_of.Held owner) f now = goes (told_of.Held owner) q.asked (locking_by (busy shape.n r2.law) (is_area (Some area) area) r2.law area) (held_area (busy shape.n r2.law) (is_area (Some area) area))
+    lock_told as_told.Granted f now = goes as_told.Granted (with q.asked b) (granting_by (busy shape.n r2.law) (is_area (Some area) area) r2.law area b) (granted_area (busy shape.n r2.law) (is_area (Some area) area))
+        (λ x m. or_left _ _ (worked_more shape q part later s g kind area seen looked w shown k a b as_told.Granted took log lowest refl x m)) _
+    lock_told (as_told.Held owner) f now = goes (as_told.Held owner) q.asked (locking_by (busy shape.n r2.law) (is_area (Some area) area) r2.law area) (held_area (busy shape.n r2.law) (is_area (Some area) area))
         (λ x m. rw (k.parted later refl area refl) (asked_again q.first_reached q.asked (among (asking (whole_of g kind)) w) b x (is_finish part) lowest (k.worked x m))) _
-    lock_told told_of.Failed f now = falls told_of.Failed refl refl (locking_by (busy shape.n r2.law) (is_area (Some area) area) r2.law area) _ (rw later refl)
-    lock_told told_of.NotConnected f now = falls told_of.NotConnected refl refl (weak.dropping true b (locking_by (busy shape.n r2.law) (is_area (Some area) area) r2.law area)) _ (rw later refl)
+    lock_told as_told.Failed f now = falls as_told.Failed refl refl (locking_by (busy shape.n r2.law) (is_area (Some area) area) r2.law area) _ (rw later refl)
+    lock_told as_told.NotConnected f now = falls as_told.NotConnected refl refl (weak.dropping true b (locking_by (busy shape.n r2.law) (is_area (Some area) area) r2.law area)) _ (rw later refl)
     lock_told _ f now = absurd (cc f)
 
   -- ---- the HealBegin line of the part
@@ -338,8 +338,8 @@ module _ (pick : (ℕ → Bool) → ℕ) (shape : Shape) (few : shape.n ≤ 5) (
       lowest_now b turned = subst (λ (set : ℕ → Bool). is_lowest set q.asked b ≡ true) (locks_there r2 part later) turned
 
 -- the Work locks of a later part
-pub parting_tells : (pick : (ℕ → Bool) → ℕ) (shape : Shape) (r : Exact) (seen looked : Looked) (s : ℕ) (g : Gfid) (kind : Kind) (o : Outcome) (w : Work)
-    → 0 < shape.n → shape.n ≤ 5 → Picks shape.n pick → AtPart shape.n (keeps_in shape) r s g kind → IsShown r seen looked → Tells shape r seen looked s g kind o w
+pub parting_tells : (pick : (ℕ → Bool) → ℕ) (shape : Shape) (r : Exact) (seen looked : Looked) (s : ℕ) (g : Gfid) (kind : Kind) (o : HealOutcome) (w : Work)
+    → 0 < shape.n → shape.n ≤ 5 → PicksOne shape.n pick → AtPart shape.n (keeps_in shape) r s g kind → IsShown r seen looked → Tells shape r seen looked s g kind o w
     → TellsNext pick shape r seen looked s g kind o w (next_of shape.n (keeps_in shape) r s g kind)
 parting_tells pick shape r seen looked s g kind o w some few picks at shown tells =
     let e = part_form shape.n (keeps_in shape) r s g kind at in
@@ -347,5 +347,5 @@ parting_tells pick shape r seen looked s g kind o w some few picks at shown tell
     let formed_shown = subst (λ (r : Exact). IsShown r seen looked) e shown in
     let formed_tells = subst (λ (r : Exact). Tells shape r seen looked s g kind o w) e tells in
     subst (λ (r : Exact). TellsNext pick shape r seen looked s g kind o w (next_of shape.n (keeps_in shape) r s g kind)) (sym e)
-    (parting_formed pick shape few r r.phase at.part s g kind at.area formed_at seen looked o w (formed_tells.will refl) formed_shown
-    (of_part shape (formed r WorkLocks r.phase g kind (Some at.area)) r.phase seen looked s g kind o w at.part formed_tells.at))
+    (parting_formed pick shape few r r.part at.part s g kind at.area formed_at seen looked o w (formed_tells.will refl) formed_shown
+    (of_part shape (formed r WorkLocks r.part g kind (Some at.area)) r.part seen looked s g kind o w at.part formed_tells.at))

@@ -7,8 +7,8 @@ use Rattle.afr_base.specs.declared.ids.Shape.{Shape}
 use Rattle.afr_choice.specs.Looks.{no_looks}
 use Rattle.afr_choice.specs.declared.looked.Looked.{Looked}
 use Rattle.afr_discipline.specs.Notes.{shown, shown_if}
-use Rattle.afr_heal.specs.Answers.{Picks, asked_for, begun_at, fits, source_after}
-use Rattle.afr_heal.specs.Engine.{Next, Ask, Begins, Ends, next_of}
+use Rattle.afr_heal.specs.Answers.{PicksOne, asked_for, begun_at, fits, source_after}
+use Rattle.afr_heal.specs.Engine.{Ask, Begins, Ends, NextOfHeal, next_of}
 use Rattle.afr_heal.specs.Standing.{Standing}
 use Rattle.afr_heal_telling.specs.HealLaws.{IsWholeTold, SettlesSeen}
 use Rattle.afr_heal_telling.specs.HealTelling.{Tells}
@@ -21,12 +21,12 @@ use Rattle.afr_lines.specs.declared.request.Request.{Request}
 use Rattle.afr_lines.specs.declared.request.Request.TheVariants.{Look}
 use Rattle.afr_model.specs.HealReplies.{IsHealAnswered}
 use Rattle.afr_moves.specs.Keeps.{keeps_in}
-use Rattle.afr_moves.specs.Register.{Exact, Phase, is_opening}
+use Rattle.afr_moves.specs.Register.{Exact, HealPart, is_opening}
 use Rattle.afr_self_heal.specs.Outcome.{cause, outcome_after, reply_of}
-use Rattle.afr_self_heal.specs.declared.outcome.Outcome.{Outcome}
+use Rattle.afr_self_heal.specs.declared.outcome.HealOutcome.{HealOutcome}
 
 -- the first looks after a request, and the last ones
-abbrev pub seen_next : Request → ℕ → Told → Phase → Looked → Looked
+abbrev pub seen_next : Request → ℕ → Told → HealPart → Looked → Looked
 seen_next (Look g) b told part seen = shown_if (is_opening part) seen b told
 seen_next request b told part seen = seen
 
@@ -35,18 +35,18 @@ looked_next (Look g) b told looked = shown looked b told
 looked_next request b told looked = looked
 
 -- the outcome after it: `r` is the register before, `q` after, and the looks are those after it
-abbrev pub outcome_next : Shape → Exact → Exact → Looked → Looked → ℕ → Kind → Request → Told → Outcome → Outcome
-outcome_next shape r q seen looked s kind request told o = outcome_after r.broken q.broken o (cause shape kind r.phase q.phase s seen looked request told)
+abbrev pub outcome_next : Shape → Exact → Exact → Looked → Looked → ℕ → Kind → Request → Told → HealOutcome → HealOutcome
+outcome_next shape r q seen looked s kind request told o = outcome_after r.broken q.broken o (cause shape kind r.part q.part s seen looked request told)
 
 -- after a request, whatever was told
-abbrev pub TellsAsked : ((ℕ → Bool) → ℕ) → Shape → Exact → Looked → Looked → ℕ → Gfid → Kind → Outcome → Work → ℕ → Request → Exact → Told → Line → List Line → Type 0
+abbrev pub TellsAsked : ((ℕ → Bool) → ℕ) → Shape → Exact → Looked → Looked → ℕ → Gfid → Kind → HealOutcome → Work → ℕ → Request → Exact → Told → Line → List Line → Type 0
 TellsAsked pick shape r seen looked s g kind o w b request q told said log =
-    IsShown q (seen_next request b told r.phase seen) (looked_next request b told looked)
-    → Tells shape q (seen_next request b told r.phase seen) (looked_next request b told looked) (source_after shape.n (keeps_in shape) pick q s) g kind
-    (outcome_next shape r q (seen_next request b told r.phase seen) (looked_next request b told looked) s kind request told o) ((said, log) ∷ w)
+    IsShown q (seen_next request b told r.part seen) (looked_next request b told looked)
+    → Tells shape q (seen_next request b told r.part seen) (looked_next request b told looked) (source_after shape.n (keeps_in shape) pick q s) g kind
+    (outcome_next shape r q (seen_next request b told r.part seen) (looked_next request b told looked) s kind request told o) ((said, log) ∷ w)
 
 -- what the next line leaves of what the lines tell; a settling takes back what they show; the end has its cause
-abbrev pub TellsNext : ((ℕ → Bool) → ℕ) → Shape → Exact → Looked → Looked → ℕ → Gfid → Kind → Outcome → Work → Next → Type 0
+abbrev pub TellsNext : ((ℕ → Bool) → ℕ) → Shape → Exact → Looked → Looked → ℕ → Gfid → Kind → HealOutcome → Work → NextOfHeal → Type 0
 TellsNext pick shape r seen looked s g kind o w (Ask b request) =
     ((t : ℕ) (told : Told) (a : ActorId) (took : Bool) (log : List Line) → fits request told ≡ true → IsWholeTold told
     → TellsAsked pick shape r seen looked s g kind o w b request (asked_for shape.n (keeps_in shape) r t b request told) told (line.Ask a (record { 0 = b }) request told took) log)
@@ -58,6 +58,6 @@ TellsNext pick shape r seen looked s g kind o w Ends = IsHealAnswered shape g ki
 -- the law of each stage: in each case of `Standing`
 abbrev pub StageTells : Type 0
 StageTells =
-    (pick : (ℕ → Bool) → ℕ) (shape : Shape) (r : Exact) (seen looked : Looked) (s : ℕ) (g : Gfid) (kind : Kind) (o : Outcome) (w : Work)
-    → 0 < shape.n → shape.n ≤ 5 → Picks shape.n pick → Standing shape.n (keeps_in shape) r s g kind → IsShown r seen looked → Tells shape r seen looked s g kind o w
+    (pick : (ℕ → Bool) → ℕ) (shape : Shape) (r : Exact) (seen looked : Looked) (s : ℕ) (g : Gfid) (kind : Kind) (o : HealOutcome) (w : Work)
+    → 0 < shape.n → shape.n ≤ 5 → PicksOne shape.n pick → Standing shape.n (keeps_in shape) r s g kind → IsShown r seen looked → Tells shape r seen looked s g kind o w
     → TellsNext pick shape r seen looked s g kind o w (next_of shape.n (keeps_in shape) r s g kind)

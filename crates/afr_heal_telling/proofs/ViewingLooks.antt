@@ -37,16 +37,16 @@ use Rattle.afr_model.specs.Standing.{asking}
 use Rattle.afr_moves.proofs.Tests.{same_self, some_no}
 use Rattle.afr_moves.specs.Keeps.{keeps_in}
 use Rattle.afr_moves.specs.Note.{stopping, stops_at}
-use Rattle.afr_moves.specs.Register.{Exact, Looks, Phase, good, holder, is_finish, is_opening, over}
+use Rattle.afr_moves.specs.Register.{Exact, HealPart, Looks, good, holder, is_finish, is_opening, over}
 use Rattle.afr_moves.specs.Rules.{Register}
 use Rattle.afr_moves.specs.Sets.{any, with}
 use Rattle.afr_moves.specs.Steps.{goes_on_at, looks_at}
 use Rattle.afr_object.specs.declared.entry.View.{View}
 use Rattle.afr_self_heal.specs.Outcome.{by_mover, mover, outcome_after, reply_of}
-use Rattle.afr_self_heal.specs.declared.outcome.Outcome.{Outcome}
-use Rattle.afr_self_heal.specs.declared.outcome.Outcome.TheVariants.{Settled}
+use Rattle.afr_self_heal.specs.declared.outcome.HealOutcome.{HealOutcome}
+use Rattle.afr_self_heal.specs.declared.outcome.HealOutcome.TheVariants.{Settled}
 
-module _ (shape : Shape) (q : Exact) (part : Phase) (later : is_opening part ≡ false) (s : ℕ) (g : Gfid) (area : Area) (seen looked : Looked) (w : Work) where
+module _ (shape : Shape) (q : Exact) (part : HealPart) (later : is_opening part ≡ false) (s : ℕ) (g : Gfid) (area : Area) (seen looked : Looked) (w : Work) where
   abbrev r : Exact
   r = formed q Looks part g Bytes (Some area)
 
@@ -196,7 +196,7 @@ module _ (shape : Shape) (q : Exact) (part : Phase) (later : is_opening part ≡
               none false h e = cc e
 
           -- a look that was answered: the heal goes on, or the source has moved
-          pub look_answered : (o caused : Outcome) → o ≡ Settled → caused ≡ by_mover (mover shape Bytes part s seen looked1) → views ≡ (λ x. view_at x looked1)
+          pub look_answered : (o caused : HealOutcome) → o ≡ Settled → caused ≡ by_mover (mover shape Bytes part s seen looked1) → views ≡ (λ x. view_at x looked1)
               → (let r1 = stopping shape.n (keeps_in shape) r0 in Tells shape r1 seen looked1 s g Bytes (outcome_after false r1.broken o caused) w1)
           look_answered o caused settled of_cause now = go (stops_at shape.n (keeps_in shape) r0 Looks) refl
             where

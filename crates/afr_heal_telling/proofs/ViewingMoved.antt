@@ -18,7 +18,7 @@ use Rattle.afr_heal_telling.specs.Stages.{IsReached}
 use Rattle.afr_model.specs.Moved.{accuser, len_in, or_brick, unlike}
 use Rattle.afr_moves.proofs.Tests.{all_no}
 use Rattle.afr_moves.specs.Keeps.{keeps_in}
-use Rattle.afr_moves.specs.Register.{Exact, Finish, Opening, Phase, Piece, accuses, all, holder, is_opening, len_of, unaccused}
+use Rattle.afr_moves.specs.Register.{Exact, Finish, HealPart, Opening, Piece, accuses, all, holder, is_opening, len_of, unaccused}
 use Rattle.afr_moves.specs.Steps.{goes_on_at, sink}
 use Rattle.afr_object.specs.declared.entry.View.{View}
 use Rattle.afr_self_heal.specs.Outcome.{mover}
@@ -92,7 +92,7 @@ module _ (shape : Shape) (r : Exact) (seen looked : Looked) (s : ℕ) (few : sha
               same_len x (filter_none (λ x. not (len_in (view_at x looked) == len_in (view_at s looked))) (minus (copies_of shape seen Bytes) (s ∷ [])) h x (member_minus (copies_of shape seen Bytes) (s ∷ []) x ∙ rw (other, copy) refl))
 
 -- nobody shows that it moved: the present looks let the heal go on
-pub goes_unmoved : (shape : Shape) (r : Exact) (part : Phase) (seen looked : Looked) (s : ℕ) → shape.n ≤ 5 → IsReached seen → IsReached looked → r.law.kind ≡ Bytes → r.first_views ≡ (λ x. view_at x seen) → r.views ≡ (λ x. view_at x looked)
+pub goes_unmoved : (shape : Shape) (r : Exact) (part : HealPart) (seen looked : Looked) (s : ℕ) → shape.n ≤ 5 → IsReached seen → IsReached looked → r.law.kind ≡ Bytes → r.first_views ≡ (λ x. view_at x seen) → r.views ≡ (λ x. view_at x looked)
     → is_opening part ≡ false → mover shape Bytes part s seen looked ≡ None → goes_on_at shape.n (keeps_in shape) r s part ≡ true
 goes_unmoved shape r Opening seen looked s few held shown is_kind first now later h = absurd (cc later)
 goes_unmoved shape r Piece seen looked s few held shown is_kind first now later h = rw (is_kind, now) (nobody_blames shape Bytes seen looked s few shown (first_off _ None h))

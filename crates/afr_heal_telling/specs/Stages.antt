@@ -23,7 +23,7 @@ use Rattle.afr_moves.specs.Register.{Exact, HealLocks, HealPres, Looks, Settles,
 use Rattle.afr_moves.specs.Steps.{is_lowest, other, sink}
 use Rattle.afr_object.specs.declared.entry.View.{View}
 use Rattle.afr_self_heal.specs.Outcome.{reply_of}
-use Rattle.afr_self_heal.specs.declared.outcome.Outcome.{Outcome}
+use Rattle.afr_self_heal.specs.declared.outcome.HealOutcome.{HealOutcome}
 
 -- the looks that the register keeps, as the program has them
 pub record IsShown (r : Exact) (seen looked : Looked) : Type 0 where
@@ -73,8 +73,8 @@ pub record TellsWork (shape : Shape) (r : Exact) (g : Gfid) (kind : Kind) (w : W
   pub unviewed : (x : ℕ) → x < 5 → r.first_views x ≡ None
 
 -- each view has a number for each of five bricks
-abbrev pub AreWhole : Looked → Type 0
-AreWhole looked = (x : ℕ) (view : View) → view_at x looked ≡ Some view → MarksInRange view.marks.bytes × MarksInRange view.marks.attrs × MarksInRange view.marks.names
+abbrev pub ViewsAreWhole : Looked → Type 0
+ViewsAreWhole looked = (x : ℕ) (view : View) → view_at x looked ≡ Some view → MarksInRange view.marks.bytes × MarksInRange view.marks.attrs × MarksInRange view.marks.names
 
 -- who shows a view has answered
 abbrev pub IsReached : Looked → Type 0
@@ -86,7 +86,7 @@ pub record TellsLooks (shape : Shape) (r : Exact) (seen : Looked) (g : Gfid) (ki
   pub missing : (x : ℕ) → x < shape.n → member (first_by w).missing x ≡ not (member seen.reached x || (r.law.held x && not (r.asked x)))
   pub low : (x : ℕ) → member seen.reached x ≡ true → x < shape.n
   pub shown : IsReached seen
-  pub numbers : AreWhole seen
+  pub numbers : ViewsAreWhole seen
   pub asked : (x : ℕ) → x < shape.n → member (among heal_asking w) x ≡ true
   pub worked : (x : ℕ) → member (among heal_getting w) x ≡ true → member (among (asking (whole_of g kind)) w) x ≡ true
   pub locked : (x : ℕ) → member (among (getting (whole_of g kind)) w) x ≡ true → (x < shape.n) × ((r.asked x || r.law.held x) ≡ true)
@@ -103,32 +103,32 @@ raises shape r s Names x = holder r.first_views x
 -- after the first looks: what was changed, by the steps that are behind
 pub record TellsAfter (shape : Shape) (r : Exact) (seen looked : Looked) (s : ℕ) (g : Gfid) (kind : Kind) (w : Work) : Type 0 where
   pub begun : (first_by w).begun ≡ true
-  pub still : is_opening r.phase ≡ false → (first_by w).still ≡ false
+  pub still : is_opening r.part ≡ false → (first_by w).still ≡ false
   pub missing : (x : ℕ) → x < shape.n → member (first_by w).missing x ≡ not (member seen.reached x)
   pub first : (first_by w).looked ≡ seen
   -- the first looks don't end the heal
   pub none : by_first shape kind (first_by w) ≡ None
   pub low : (x : ℕ) → member seen.reached x ≡ true → x < shape.n
   pub shown : IsReached seen
-  pub numbers : AreWhole seen
+  pub numbers : ViewsAreWhole seen
   pub free : busy_by w ≡ None
   pub asked : (x : ℕ) → x < shape.n → member (among heal_asking w) x ≡ true
   -- the brick that the finish asked last for its Work lock may have been told that another holds it
-  pub worked : (x : ℕ) → member (among heal_getting w) x ≡ true → (member (among (asking (whole_of g kind)) w) x || (is_finish r.phase && same_step r.step WorkLocks && is_lowest r.first_reached r.asked x)) ≡ true
+  pub worked : (x : ℕ) → member (among heal_getting w) x ≡ true → (member (among (asking (whole_of g kind)) w) x || (is_finish r.part && same_step r.step WorkLocks && is_lowest r.first_reached r.asked x)) ≡ true
   pub watched : (x : ℕ) → member (among (getting (whole_of g kind)) w) x ≡ true → (member seen.reached x || member (first_by w).missing x) ≡ true
-  pub opened : (x : ℕ) → x < shape.n → member (among prepared w) x ≡ (raises shape r s kind x && (not (is_opening r.phase) || behind r HealPres x))
-  pub closing : (x : ℕ) → x < shape.n → member (among settling w) x ≡ (not (has_part kind r.phase) && holder r.first_views x && behind r Settles x)
+  pub opened : (x : ℕ) → x < shape.n → member (among prepared w) x ≡ (raises shape r s kind x && (not (is_opening r.part) || behind r HealPres x))
+  pub closing : (x : ℕ) → x < shape.n → member (among settling w) x ≡ (not (has_part kind r.part) && holder r.first_views x && behind r Settles x)
   pub closed : (x : ℕ) → x < shape.n → member (among settled_at w) x ≡ member (among settling w) x
-  pub unsettled : has_part kind r.phase ≡ true → has settles w ≡ false
-  pub one : is_opening r.phase ≡ true → pieces w ≡ 1
+  pub unsettled : has_part kind r.part ≡ true → has settles w ≡ false
+  pub one : is_opening r.part ≡ true → pieces w ≡ 1
   pub some : nat_lt 0 (pieces w) ≡ true
-  pub more : is_opening r.phase ≡ false → same_step r.step WorkLocks ≡ false → nat_lt 1 (pieces w) ≡ true
-  pub again : is_opening r.phase ≡ false → looked_by g w ≡ (if same_step r.step WorkLocks then no_looks else looked)
-  pub finish : is_opening r.phase ≡ false → is_whole_by (whole_of g kind) w ≡ is_finish r.phase
-  pub parted : is_opening r.phase ≡ false → same_step r.step WorkLocks ≡ true → (area : Area) → r.law.area ≡ Some area → same_area (whole_of g kind) area ≡ is_finish r.phase
+  pub more : is_opening r.part ≡ false → same_step r.step WorkLocks ≡ false → nat_lt 1 (pieces w) ≡ true
+  pub again : is_opening r.part ≡ false → looked_by g w ≡ (if same_step r.step WorkLocks then no_looks else looked)
+  pub finish : is_opening r.part ≡ false → is_whole_by (whole_of g kind) w ≡ is_finish r.part
+  pub parted : is_opening r.part ≡ false → same_step r.step WorkLocks ≡ true → (area : Area) → r.law.area ≡ Some area → same_area (whole_of g kind) area ≡ is_finish r.part
   -- the present looks of a later part
-  pub present : is_opening r.phase ≡ false → same_step r.step WorkLocks ≡ false → IsReached looked × ((x : ℕ) → member looked.reached x ≡ true → x < shape.n) × ((x : ℕ) → asked_in r Looks x ≡ true → member looked.reached x ≡ true)
+  pub present : is_opening r.part ≡ false → same_step r.step WorkLocks ≡ false → IsReached looked × ((x : ℕ) → member looked.reached x ≡ true → x < shape.n) × ((x : ℕ) → asked_in r Looks x ≡ true → member looked.reached x ≡ true)
 
 -- the heal was ended: its reply has its cause, and no further unlock changes that
-abbrev pub TellsOver : Shape → Looked → Gfid → Kind → Outcome → Work → Type 0
+abbrev pub TellsOver : Shape → Looked → Gfid → Kind → HealOutcome → Work → Type 0
 TellsOver shape seen g kind o w = IsHealAnswered shape g kind w (reply_of o seen)

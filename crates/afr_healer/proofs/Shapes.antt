@@ -2,7 +2,7 @@
 use Rattle.std.proofs.Common.{◌≡◌, ◌∙◌, ℕ, true, refl, ap}
 use Rattle.afr_discipline.specs.Laws.{ShapesKept}
 use Rattle.afr_discipline.specs.declared.register.Move.TheVariants as move
-use Rattle.afr_heal.specs.Engine.{Ask, Begins, Ends, Next}
+use Rattle.afr_heal.specs.Engine.{Ask, Begins, Ends, NextOfHeal}
 use Rattle.afr_healer.specs.Rounding.{is_beginning}
 use Rattle.afr_lines.specs.Told.{told_by}
 use Rattle.afr_lines.specs.declared.answer.Answer.{Answer}
@@ -21,7 +21,7 @@ shape_begun shapes at m = shapes m.register (move.HealBegin m.gfid m.kind) Done 
 pub begins_part : (m : Healing) → is_beginning (next_of m) ≡ true → coming m ≡ Begins
 begins_part m k = by (coming m) refl k
   where
-    by : (n : Next) → coming m ≡ n → is_beginning (line_of m n) ≡ true → coming m ≡ Begins
+    by : (n : NextOfHeal) → coming m ≡ n → is_beginning (line_of m n) ≡ true → coming m ≡ Begins
     by (Ask b request) e k = absurd (cc k)
     by Begins e k = e
     by Ends e k = absurd (cc k)

@@ -4,7 +4,7 @@ use Rattle.afr_base.specs.declared.ids.BrickId.{BrickId}
 use Rattle.afr_base.specs.declared.ids.Gfid.{Gfid}
 use Rattle.afr_base.specs.declared.ids.Kind.{Kind}
 use Rattle.afr_base.specs.declared.ids.Shape.{Shape}
-use Rattle.afr_daemon.specs.Round.{Progress, next_due, with_list, without_next}
+use Rattle.afr_daemon.specs.Round.{RoundProgress, next_due, with_list, without_next}
 use Rattle.afr_daemon.specs.Round as round
 use Rattle.afr_healer.specs.declared.stage.RoundStage.{RoundStage}
 use Rattle.afr_healer.specs.declared.stage.RoundStage.TheVariants.{Asking, Healing, Over}
@@ -26,7 +26,7 @@ use Rattle.afr_self_heal.specs.Healing.{Healing as Heal, IsHealing, coming, heal
 -- a round: its list and how far it is in it, and where it stands
 pub record Rounding : Type 0 where
   pub shape : Shape
-  pub round : Progress
+  pub round : RoundProgress
   pub stage : RoundStage
 
 -- a round that begins asks for the index of its brick
@@ -86,15 +86,15 @@ stage_due shape (Some due) = Healing (heal_from shape due.0 due.1)
 stage_due shape None = Over false
 
 -- the next heal of the list begins, or the round is over
-abbrev pub going_on : Shape → Progress → Rounding
+abbrev pub going_on : Shape → RoundProgress → Rounding
 going_on shape r = record { shape = shape; round = without_next r; stage = stage_due shape (next_due r) }
 
 -- the index was answered: its list is gone through, or it was refused
-abbrev pub stage_indexed : Shape → Answer → Progress → RoundStage
+abbrev pub stage_indexed : Shape → Answer → RoundProgress → RoundStage
 stage_indexed shape (answer.Index list) r = stage_due shape (next_due (with_list list r))
 stage_indexed shape other r = Over true
 
-abbrev pub round_indexed : Answer → Progress → Progress
+abbrev pub round_indexed : Answer → RoundProgress → RoundProgress
 round_indexed (answer.Index list) r = without_next (with_list list r)
 round_indexed other r = r
 

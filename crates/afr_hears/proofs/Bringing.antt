@@ -5,8 +5,8 @@ use Rattle.afr_base.specs.declared.ids.BrickId.{BrickId}
 use Rattle.afr_base.specs.declared.ids.Gfid.{Gfid}
 use Rattle.afr_inode_read.specs.Job.{request_of}
 use Rattle.afr_inode_read.specs.Lookup as reading
-use Rattle.afr_inode_read.specs.declared.job.Content.{Content}
-use Rattle.afr_inode_read.specs.declared.job.Content.TheVariants as content
+use Rattle.afr_inode_read.specs.declared.job.Wanted.{Wanted}
+use Rattle.afr_inode_read.specs.declared.job.Wanted.TheVariants as content
 use Rattle.afr_inode_read.specs.declared.stage.LookupStage.{LookupStage}
 use Rattle.afr_inode_read.specs.declared.stage.LookupStage.TheVariants as lookup_stage
 use Rattle.afr_inode_telling.proofs.ReadsMore.{asks_same}
@@ -33,7 +33,7 @@ use Rattle.afr_plan.specs.declared.plan.Plan.{Plan}
 use Rattle.afr_server.specs.Carried.{Brings}
 use Rattle.afr_transaction.specs.Outcome.{reply_of}
 use Rattle.afr_transaction.specs.Made.{attempted}
-use Rattle.afr_transaction.specs.Progress.{CarriesAt, Progress, asks, number_in, numbered, request_at}
+use Rattle.afr_transaction.specs.Progress.{CarriesAt, TransactionProgress, asks, number_in, numbered, request_at}
 use Rattle.afr_transaction.specs.Progress as transaction
 use Rattle.afr_transaction.specs.declared.stage.Stage.{Stage}
 use Rattle.afr_transaction.specs.declared.stage.Stage.TheVariants.{Locking, Looking, Beginning, Preparing, Applying, Posting, Closing}
@@ -60,7 +60,7 @@ step_brings log past w (walking.Naming b) = tt
 step_brings log past w walking.Arrived = tt
 step_brings log past w (walking.Stopped why) = tt
 
-content_brings : (log : List Line) (past : Past) (g : Gfid) (of : Content) → Brings (request_of g of) load.Nothing log past
+content_brings : (log : List Line) (past : Past) (g : Gfid) (of : Wanted) → Brings (request_of g of) load.Nothing log past
 content_brings log past g (content.Bytes at len) = tt
 content_brings log past g (content.Value key) = tt
 content_brings log past g content.Names = tt
@@ -94,7 +94,7 @@ numbered_same at (change_of.Make dir name g what) k = absurd k
 numbered_same at (change_of.Remove dir name what) k = refl
 
 -- ---- what goes with a request of a change
-module _ (p : Plan) (log : List Line) (w : Work) (t : Progress) (past : Past) (is : AreIn log w) (sets : HasSets t w) where
+module _ (p : Plan) (log : List Line) (w : Work) (t : TransactionProgress) (past : Past) (is : AreIn log w) (sets : HasSets t w) where
   -- with the operation goes the change of its attempt
   pub stage_brings : (stage : Stage) → During stage p.shape t w → (x : Load) → CarriesAt stage x (attempted t) → Brings (request_at stage t) x log past
   stage_brings Applying d (load.Change change) k =
@@ -130,7 +130,7 @@ abbrev begun_in : Next → Change → Change
 begun_in (next.Begin change) other = change
 begun_in line other = other
 
-stage_begins : (stage : Stage) (at : ℕ) (t : Progress) (change : Change) → MakesNothing t.change → transaction.next_at stage at t ≡ next.Begin change → MakesNothing change
+stage_begins : (stage : Stage) (at : ℕ) (t : TransactionProgress) (change : Change) → MakesNothing t.change → transaction.next_at stage at t ≡ next.Begin change → MakesNothing change
 stage_begins Locking at t change k e = absurd (cc e)
 stage_begins Looking at t change k e = absurd (cc e)
 stage_begins Beginning at t change k e = subst MakesNothing (sym (numbered_same at t.change k) ∙ ap (λ (line : Next). begun_in line t.change) e) k

@@ -6,8 +6,8 @@ use Rattle.afr_base.specs.declared.ids.Gfid.{Gfid}
 use Rattle.afr_base.specs.declared.ids.Kind.TheVariants.{Names}
 use Rattle.afr_inode_read.specs.Job.{kind_of, request_of}
 use Rattle.afr_inode_read.specs.Lookup as reading
-use Rattle.afr_inode_read.specs.declared.job.Content.{Content}
-use Rattle.afr_inode_read.specs.declared.job.Content.TheVariants as content
+use Rattle.afr_inode_read.specs.declared.job.Wanted.{Wanted}
+use Rattle.afr_inode_read.specs.declared.job.Wanted.TheVariants as content
 use Rattle.afr_inode_read.specs.declared.stage.LookupStage.{LookupStage}
 use Rattle.afr_inode_read.specs.declared.stage.LookupStage.TheVariants as lookup_stage
 use Rattle.afr_inode_telling.proofs.ReadsMore.{asks_same}
@@ -29,7 +29,7 @@ use Rattle.afr_object.specs.declared.entry.Entry.{Entry}
 use Rattle.afr_plan.specs.declared.command.Command.{Command}
 use Rattle.afr_plan.specs.declared.plan.Plan.{Plan}
 use Rattle.afr_transaction.specs.Outcome.{reply_of}
-use Rattle.afr_transaction.specs.Progress.{Progress, asks, request_at}
+use Rattle.afr_transaction.specs.Progress.{TransactionProgress, asks, request_at}
 use Rattle.afr_transaction.specs.Progress as transaction
 use Rattle.afr_transaction.specs.declared.stage.Stage.{Stage}
 use Rattle.afr_transaction.specs.declared.stage.Stage.TheVariants.{Locking, Looking, Beginning, Preparing, Applying, Posting, Closing}
@@ -56,7 +56,7 @@ step_there p c log lines is w honest walking.Arrived going t = absurd (cc going)
 step_there p c log lines is w honest (walking.Stopped why) going t = absurd (cc going)
 
 -- ---- reads
-content_there : (p : Plan) (log : List Line) (g : Gfid) (b : ℕ) (of : Content) → has_object p log g b ≡ true → IsThere p log b (request_of g of)
+content_there : (p : Plan) (log : List Line) (g : Gfid) (b : ℕ) (of : Wanted) → has_object p log g b ≡ true → IsThere p log b (request_of g of)
 content_there p log g b (content.Bytes at len) h = record { free = refl; has = h }
 content_there p log g b (content.Value key) h = record { free = refl; has = h }
 content_there p log g b content.Names h = record { free = refl; has = h }
@@ -82,7 +82,7 @@ request_in (next.Ask b request) = request
 request_in other = request_of_kind.Index
 
 -- a request is that of its stage
-pub asked_stage : (stage : Stage) (at : ℕ) (t : Progress) (b : BrickId) (request : Request) → transaction.next_at stage at t ≡ next.Ask b request → request_at stage t ≡ request
+pub asked_stage : (stage : Stage) (at : ℕ) (t : TransactionProgress) (b : BrickId) (request : Request) → transaction.next_at stage at t ≡ next.Ask b request → request_at stage t ≡ request
 asked_stage Locking at t b request e = ap request_in e
 asked_stage Looking at t b request e = ap request_in e
 asked_stage Beginning at t b request e = absurd (cc e)
@@ -96,7 +96,7 @@ asked_stage Closing at t b request e = go (is_nothing t.register.held) e
     go false e = ap request_in e
 
 -- its looks are at the object of the change
-pub stage_object : (stage : Stage) (t : Progress) (object : Entry) → object_of t.change ≡ object.gfid → IsAtObject object (request_at stage t)
+pub stage_object : (stage : Stage) (t : TransactionProgress) (object : Entry) → object_of t.change ≡ object.gfid → IsAtObject object (request_at stage t)
 stage_object Locking t object e = tt
 stage_object Looking t object e = e
 stage_object Beginning t object e = e

@@ -13,7 +13,7 @@ use Rattle.afr_law.proofs.Model.Dirty.{seen_copy}
 use Rattle.afr_lines.specs.Areas.{object_of_area}
 use Rattle.afr_lines.specs.Work.{Work, work}
 use Rattle.afr_lines.specs.declared.answer.Told.{Told}
-use Rattle.afr_lines.specs.declared.answer.Told.TheVariants as told_of
+use Rattle.afr_lines.specs.declared.answer.Told.TheVariants as as_told
 use Rattle.afr_lines.specs.declared.line.Line.{Line}
 use Rattle.afr_lines.specs.declared.line.Line.TheVariants.{Ask}
 use Rattle.afr_lines.specs.declared.request.Request.TheVariants.{Lock, Look}
@@ -60,14 +60,14 @@ shown_set (x ∷ xs) (suc b) (suc c) v view e = go (shown_set xs b c v view e)
     go (inr h) = inr h
 
 -- after one look more each does
-shown_have : (p : Plan) (log : List Line) (g : Gfid) (c : ℕ) (told : Told) (looked : Looked) → ((view : View) → told ≡ told_of.Seen view → has_object p log g c ≡ true) → AllHave p log g looked
+shown_have : (p : Plan) (log : List Line) (g : Gfid) (c : ℕ) (told : Told) (looked : Looked) → ((view : View) → told ≡ as_told.Seen view → has_object p log g c ≡ true) → AllHave p log g looked
     → AllHave p log g (look_shows c told looked)
-shown_have p log g c (told_of.Seen shown) looked own was b view e = go (shown_set looked.views c b (Some shown) view e)
+shown_have p log g c (as_told.Seen shown) looked own was b view e = go (shown_set looked.views c b (Some shown) view e)
   where
     go : ((c ≡ b) × (Some shown ≡ Some view)) ⊎ (view_at b looked ≡ Some view) → has_object p log g b ≡ true
     go (inl h) = subst (λ (x : ℕ). has_object p log g x ≡ true) h.0 (own shown refl)
     go (inr h) = was b view h
-shown_have p log g c told_of.NoObject looked own was b view e = go (shown_set looked.views c b None view e)
+shown_have p log g c as_told.NoObject looked own was b view e = go (shown_set looked.views c b None view e)
   where
     go : ((c ≡ b) × (None ≡ Some view)) ⊎ (view_at b looked ≡ Some view) → has_object p log g b ≡ true
     go (inl h) = absurd (cc (h.1))
@@ -82,9 +82,9 @@ shown_have p log g c told looked own was b view e = go (shown_set looked.views c
 line_has : (p : Plan) (log : List Line) (line : Line) (older : List Line) → IsBefore (line ∷ older) log → (g : Gfid) (looked : Looked) → IsHonest p line older → AllHave p log g looked → AllHave p log g (looked_after g line looked)
 line_has p log (Ask a b (Look h) told took) older before g looked said k = go (h.0 == g.0) refl
   where
-    own : h.0 ≡ g.0 → (view : View) → told ≡ told_of.Seen view → has_object p log g b.0 ≡ true
+    own : h.0 ≡ g.0 → (view : View) → told ≡ as_told.Seen view → has_object p log g b.0 ≡ true
     own same view e =
-        let honest : IsHonest p (Ask a b (Look h) (told_of.Seen view) took) older = subst (λ (x : Told). IsHonest p (Ask a b (Look h) x took) older) e said in
+        let honest : IsHonest p (Ask a b (Look h) (as_told.Seen view) took) older = subst (λ (x : Told). IsHonest p (Ask a b (Look h) x took) older) e said in
         let there = seen_copy _ _ (copy_at h (holds p older b.0)) view took honest in
         let was_there : has_object p older g b.0 ≡ true = subst (λ (x : Gfid). has_object p older x b.0 ≡ true) (gfid_is h g same) (ap (λ (o : Option Object). is_some o) there.1) in
         copy_since p g b.0 (Ask a b (Look h) told took ∷ older) log before (copy_stays p (Ask a b (Look h) told took) older b.0 g was_there)

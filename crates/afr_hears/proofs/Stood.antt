@@ -3,10 +3,10 @@ use Rattle.std.proofs.Common.{◌≡◌, ℕ, ◌<◌, ◌==◌, true, false, Li
 use Rattle.std.proofs.lemmas.Bool.Decides.{nat_tests}
 use Rattle.afr_base.specs.declared.ids.Gfid.{Gfid}
 use Rattle.afr_base.specs.declared.ids.NameId.{NameId}
-use Rattle.afr_law.specs.ModelKinds.{Before, Named, Now, Says, Top, WasTable}
+use Rattle.afr_law.specs.ModelKinds.{Before, Named, Now, SaysKind, Top, WasTable}
 use Rattle.afr_lines.specs.Log.{change_at}
 use Rattle.afr_lines.specs.Work.{Work, work}
-use Rattle.afr_lines.specs.declared.answer.Told.TheVariants as told_of
+use Rattle.afr_lines.specs.declared.answer.Told.TheVariants as as_told
 use Rattle.afr_lines.specs.declared.line.Line.{Line}
 use Rattle.afr_lines.specs.declared.line.Line.TheVariants.{Ask, Begin}
 use Rattle.afr_lines.specs.declared.request.Request.TheVariants.{ReadName}
@@ -42,7 +42,7 @@ was_since p start (line ∷ older) (inr k) t was = was_more p line older t (was_
 
 -- the object that the path has led to stood somewhere
 abbrev IsLed : Plan → List Line → Path → Type 0
-IsLed p log (At read object) = Says p log object.gfid object.what
+IsLed p log (At read object) = SaysKind p log object.gfid object.what
 IsLed p log other = Unit {0}
 
 -- one name more leads to the entry that it has
@@ -56,7 +56,7 @@ led_named p log line older before g name b None e Untold = tt
 
 -- and so after any line
 led_after : (p : Plan) (log : List Line) (line : Line) (older : List Line) → IsBefore (line ∷ older) log → (path : Path) → IsLed p log path → IsLed p log (path_after p line older path)
-led_after p log (Ask a b (ReadName g name) told_of.Given took) older before path k = led_named p log (Ask a b (ReadName g name) told_of.Given took) older before g name b.0 (entry_at g name (holds p older b.0)) refl path
+led_after p log (Ask a b (ReadName g name) as_told.Given took) older before path k = led_named p log (Ask a b (ReadName g name) as_told.Given took) older before g name b.0 (entry_at g name (holds p older b.0)) refl path
 led_after p log (Ask a b (ReadName g name) told took) older before path k = tt
 led_after p log line older before path k = k
 
@@ -64,7 +64,7 @@ led_in : (p : Plan) (log : List Line) (w : Work) → AreIn log w → IsLed p log
 led_in p log [] is = Top refl refl
 led_in p log (x ∷ w) is = led_after p log x.0 x.1 is.0 (path_by p w) (led_in p log w is.1)
 
-pub path_in : (p : Plan) (log : List Line) (w : Work) → AreIn log w → (read : ℕ) (object : Entry) → path_by p w ≡ At read object → Says p log object.gfid object.what
+pub path_in : (p : Plan) (log : List Line) (w : Work) → AreIn log w → (read : ℕ) (object : Entry) → path_by p w ≡ At read object → SaysKind p log object.gfid object.what
 path_in p log w is read object e = subst (IsLed p log) e (led_in p log w is)
 
 pub finds_path : FindsPath

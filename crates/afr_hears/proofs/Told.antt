@@ -13,7 +13,7 @@ use Rattle.afr_inode_telling.specs.Lines.{CanAnswer, is_look}
 use Rattle.afr_law.proofs.Model.Found.{next_found}
 use Rattle.afr_law.proofs.Model.Kinds.{next_looks}
 use Rattle.afr_law.specs.ModelFits.{HasCopy}
-use Rattle.afr_law.specs.ModelKinds.{Says}
+use Rattle.afr_law.specs.ModelKinds.{SaysKind}
 use Rattle.afr_lines.specs.Log.{change_at}
 use Rattle.afr_lines.specs.Told.{told_by}
 use Rattle.afr_lines.specs.declared.answer.Answer.{Answer}
@@ -24,7 +24,7 @@ use Rattle.afr_lines.specs.declared.line.Line.{Line}
 use Rattle.afr_lines.specs.declared.line.Line.TheVariants.{Ask}
 use Rattle.afr_lines.specs.declared.request.Request.{Request}
 use Rattle.afr_lines.specs.declared.request.Request.TheVariants.{Apply, Look, Post, Pre, ReadAttr, ReadBytes, ReadName, List as ListNames}
-use Rattle.afr_model.specs.Honest.{IsHonest, Outcome, copy_answer, copy_for, fault_in, is_live, over_session, requests_to, tells}
+use Rattle.afr_model.specs.Honest.{IsHonest, RequestOutcome, copy_answer, copy_for, fault_in, is_live, over_session, requests_to, tells}
 use Rattle.afr_model.specs.Sums.{has_object}
 use Rattle.afr_model.specs.Tables.{holds}
 use Rattle.afr_object.specs.Tables.{copy_at, key_cmp, name_cmp}
@@ -50,7 +50,7 @@ lacks true None said told e h = sym e ∙ h
 told_none : (p : Plan) (a : ActorId) (b : BrickId) (request : Request) (told : Told) (took : Bool) (older : List Line) → IsHonest p (Ask a b request told took) older → told ≡ NoObject
     → tells a request b.0 (holds p older b.0) older ≡ NoObject
 told_none p a b request told took older said e =
-    lacks (is_live p a b.0 (Ask a b request told took) older) (fault_in p.faults b.0 (suc (requests_to b.0 older))) (tells a request b.0 (holds p older b.0) older) told (ap (λ (x : Outcome). x.told) said) e
+    lacks (is_live p a b.0 (Ask a b request told took) older) (fault_in p.faults b.0 (suc (requests_to b.0 older))) (tells a request b.0 (holds p older b.0) older) told (ap (λ (x : RequestOutcome). x.told) said) e
 
 -- a copy answers
 copy_there : (f : Object → Answer) → ((o : Object) → told_by (f o) ≡ NoObject → ⊥) → (c : Option Object) → is_some c ≡ true → told_by (copy_answer f c) ≡ NoObject → ⊥
@@ -107,11 +107,11 @@ abbrev pub IsAtObject : Entry → Request → Type 0
 IsAtObject object (Look g) = g ≡ object.gfid
 IsAtObject object request = Unit {0}
 
-module _ (p : Plan) (log : List Line) (a : ActorId) (b : BrickId) (heard : Answer) (took : Bool) (object : Entry) (says : Says p log object.gfid object.what) where
+module _ (p : Plan) (log : List Line) (a : ActorId) (b : BrickId) (heard : Answer) (took : Bool) (object : Entry) (says : SaysKind p log object.gfid object.what) where
   -- it shows the kind that the entry says
   look_shows : (request : Request) → IsHeard p log a b request heard took → IsAtObject object request → (view : View) → told_by heard ≡ Seen view → is_look request ≡ true → view.what ≡ object.what
   look_shows (Look g) h own view e look =
-      let named : Says p log g object.what = subst (λ (x : Gfid). Says p log x object.what) (sym own) says in
+      let named : SaysKind p log g object.what = subst (λ (x : Gfid). SaysKind p log x object.what) (sym own) says in
       let said : IsHonest p (Ask a b (Look g) (Seen view) took) log = subst (λ (x : Told). IsHonest p (Ask a b (Look g) x took) log) e h.said in
       let short : length log ≤ 4000000 = omega (arith, h.short) in
       next_looks p log a b g object.what view took h.few short h.honest h.lawful named said

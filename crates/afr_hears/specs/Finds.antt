@@ -4,7 +4,7 @@ use Rattle.afr_base.specs.declared.ids.Gfid.{Gfid}
 use Rattle.afr_base.specs.declared.ids.Kind.{Kind}
 use Rattle.afr_choice.specs.Looks.{view_at}
 use Rattle.afr_inode_telling.specs.Looks.{IsSource}
-use Rattle.afr_law.specs.ModelKinds.{Says}
+use Rattle.afr_law.specs.ModelKinds.{SaysKind}
 use Rattle.afr_lines.specs.Log.{change_at}
 use Rattle.afr_lines.specs.Work.{work}
 use Rattle.afr_lines.specs.declared.line.Line.{Line}
@@ -26,7 +26,7 @@ FindsSource = (p : Plan) (a : ℕ) (log : List Line) (g : Gfid) (kind : Kind) (b
 
 -- an entry that leads to the object of the work's path stood on some brick, or it is the root
 abbrev pub FindsPath : Type 0
-FindsPath = (p : Plan) (a : ℕ) (log : List Line) (read : ℕ) (object : Entry) → path_by p (work a log) ≡ At read object → Says p log object.gfid object.what
+FindsPath = (p : Plan) (a : ℕ) (log : List Line) (read : ℕ) (object : Entry) → path_by p (work a log) ≡ At read object → SaysKind p log object.gfid object.what
 
 -- by the number of the work's attempt the log has the change that the work began
 abbrev pub FindsAttempt : Type 0

@@ -35,8 +35,8 @@ use Rattle.afr_walk.proofs.WalkLemmas.{HasLow, low, asks_allowed, asks_free, ask
 use Rattle.afr_inode_read.specs.Job.{kind_of, request_of}
 use Rattle.afr_inode_read.specs.Laws.{AllowedNext, FedIsAnswered, NotesEach, StaysSound}
 use Rattle.afr_inode_read.specs.Lookup.{IsLookup, IsStage, after_step, after_walk, asked_at, at_object, choices_at, choices_heard, from_copy, is_asking, next_at, object_judged, object_looked, stage_after, walk_after}
-use Rattle.afr_inode_read.specs.declared.job.Content.{Content}
-use Rattle.afr_inode_read.specs.declared.job.Content.TheVariants as content
+use Rattle.afr_inode_read.specs.declared.job.Wanted.{Wanted}
+use Rattle.afr_inode_read.specs.declared.job.Wanted.TheVariants as content
 use Rattle.afr_inode_read.specs.declared.job.LookupJob.{LookupJob}
 use Rattle.afr_inode_read.specs.declared.job.LookupJob.TheVariants.{Read, GetAttr, Ls, Stat}
 use Rattle.afr_inode_read.specs.declared.stage.LookupStage.{LookupStage}
@@ -102,7 +102,7 @@ is_object_looked shape step chosen job object s within among = go (is_nothing (l
     go false k h = record { left = k; reached = within }
 
 -- ---- what is asked
-pub free_request : (g : Gfid) (of : Content) → is_free (request_of g of) ≡ true
+pub free_request : (g : Gfid) (of : Wanted) → is_free (request_of g of) ≡ true
 free_request g (content.Bytes at len) = refl
 free_request g (content.Value key) = refl
 free_request g content.Names = refl
@@ -212,5 +212,5 @@ looks_end chosen w s t told job stage k e of among = record {
       (is_object_looked w.shape w.step chosen job w.object t (subst (λ (x : Looks). IsWithin w.shape.n x.looked.reached) (sym e) (heard_within w.shape.n told s k.ready)) among);
 }
 
-pub read_kept : (w : Walk) (b : BrickId) (of : Content) (a : Answer) (at : ℕ) (said : Reply) → IsLookup w (Reading b of) → IsLookup (noted (asked_at (Reading b of) w) (told_by a) at w) (Ending said)
+pub read_kept : (w : Walk) (b : BrickId) (of : Wanted) (a : Answer) (at : ℕ) (said : Reply) → IsLookup w (Reading b of) → IsLookup (noted (asked_at (Reading b of) w) (told_by a) at w) (Ending said)
 read_kept w b of a at said k = record { sound = is_noted (asked_at (Reading b of) w) (told_by a) at w k.sound (free_request w.object.gfid of); ready = tt }

@@ -12,8 +12,8 @@ use Rattle.afr_lines.specs.declared.reply.Reply.{Reply}
 use Rattle.afr_lines.specs.declared.reply.Reply.TheVariants as reply
 use Rattle.afr_lines.specs.declared.request.Request.{Request}
 use Rattle.afr_lines.specs.declared.request.Request.TheVariants as request
-use Rattle.afr_inode_read.specs.declared.job.Content.{Content}
-use Rattle.afr_inode_read.specs.declared.job.Content.TheVariants.{Bytes, Value, Names}
+use Rattle.afr_inode_read.specs.declared.job.Wanted.{Wanted}
+use Rattle.afr_inode_read.specs.declared.job.Wanted.TheVariants.{Bytes, Value, Names}
 use Rattle.afr_inode_read.specs.declared.job.LookupJob.{LookupJob}
 use Rattle.afr_inode_read.specs.declared.job.LookupJob.TheVariants.{Read, GetAttr, Ls, Stat}
 
@@ -26,7 +26,7 @@ kind_of Stat File = BytesKind
 kind_of Stat Dir = NamesKind
 
 -- what the copy is asked
-abbrev pub request_of : Gfid → Content → Request
+abbrev pub request_of : Gfid → Wanted → Request
 request_of g (Bytes at len) = request.ReadBytes g at len
 request_of g (Value key) = request.ReadAttr g key
 request_of g Names = request.List g

@@ -16,7 +16,7 @@ pub enum LookupJob {
 
 /// What a copy is asked for.
 #[derive(Clone, Copy, Debug)]
-pub enum Content {
+pub enum Wanted {
     Bytes { at: u32, len: u32 },
     Value { key: KeyId },
     Names,
@@ -44,13 +44,13 @@ fn kind_shown(what: What) -> Kind
 }
 
 /// What the copy is asked.
-pub(crate) fn request_of(gfid: Gfid, content: Content) -> Request
+pub(crate) fn request_of(gfid: Gfid, content: Wanted) -> Request
     ensures { result ≡ request_of gfid content }
 {
     match content {
-        Content::Bytes { at, len } => Request::ReadBytes { gfid, at, len },
-        Content::Value { key } => Request::ReadAttr { gfid, key },
-        Content::Names => Request::List { gfid },
+        Wanted::Bytes { at, len } => Request::ReadBytes { gfid, at, len },
+        Wanted::Value { key } => Request::ReadAttr { gfid, key },
+        Wanted::Names => Request::List { gfid },
     }
 }
 

@@ -7,7 +7,7 @@ mod laws;
 mod machine;
 mod stage;
 
-pub use job::{Content, LookupJob};
+pub use job::{LookupJob, Wanted};
 pub use laws::{a_lookup_keeps_the_discipline, a_picked_copy_is_good};
 pub use machine::LookupMachine;
 pub use stage::LookupStage;

@@ -12,7 +12,7 @@ ghost use Rattle.afr_walk.specs.Looks.{left_to_look};
 ghost use Rattle.afr_walk.specs.declared.looks.Looks.{Looks};
 ghost use Rattle.afr_walk.specs.Walk.{IsWalk, is_walking, noted};
 
-use crate::job::{Content, LookupJob, kind_of, reply_to};
+use crate::job::{LookupJob, Wanted, kind_of, reply_to};
 use afr_base::{BrickId, Shape, What};
 use afr_choice::{Looked, Verdict, judge};
 use afr_lines::{Answer, Good, KeptReply, Reply, Request, told_of};
@@ -30,7 +30,7 @@ pub enum LookupStage {
     /// The copies of the object are looked at.
     Looking(Looks),
     /// The copy that the rule picked is read.
-    Reading(BrickId, Content),
+    Reading(BrickId, Wanted),
     Ending(KeptReply),
 }
 
@@ -226,7 +226,7 @@ fn looked_at<G: Fn(&[Candidate]) -> usize>(
 fn read_noted(
     walk: &mut Walk,
     reader: BrickId,
-    content: Content,
+    content: Wanted,
     brick: BrickId,
     request: &Request,
     answer: &Answer,
@@ -272,9 +272,9 @@ fn reading(
 {
     match job {
         LookupJob::Read { len: 0, .. } => { ending(Reply::Ok(Good::Bytes(Chunk::new(alloc)))) }
-        LookupJob::Read { at, len } => LookupStage::Reading(brick, Content::Bytes { at, len }),
-        LookupJob::GetAttr { key } => LookupStage::Reading(brick, Content::Value { key }),
-        LookupJob::Ls => LookupStage::Reading(brick, Content::Names),
+        LookupJob::Read { at, len } => LookupStage::Reading(brick, Wanted::Bytes { at, len }),
+        LookupJob::GetAttr { key } => LookupStage::Reading(brick, Wanted::Value { key }),
+        LookupJob::Ls => LookupStage::Reading(brick, Wanted::Names),
         LookupJob::Stat => ending(Reply::Ok(Good::Stat {
             entry: object,
             len: len_at(looked, brick),

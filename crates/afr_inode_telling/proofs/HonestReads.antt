@@ -17,7 +17,7 @@ use Rattle.afr_lines.specs.declared.request.Request.{Request}
 use Rattle.afr_lines.specs.declared.request.Request.TheVariants.{Look, ReadName, ReadBytes, ReadAttr, List as ListNames}
 use Rattle.afr_object.specs.Tables.{Table, copy_at, key_cmp, name_cmp}
 use Rattle.afr_object.specs.Object.{Object}
-use Rattle.afr_model.specs.Honest.{Outcome, copy_answer, fault_in, is_live, over_session, requests_to, tells}
+use Rattle.afr_model.specs.Honest.{RequestOutcome, copy_answer, fault_in, is_live, over_session, requests_to, tells}
 use Rattle.afr_model.specs.Tables.{holds}
 use Rattle.afr_walk.specs.Free.{is_free}
 use Rattle.afr_inode_telling.specs.Lines.{HonestReads, gives_or_fails, is_look}
@@ -43,5 +43,5 @@ by_fault true None said told e there carried = ap gives_or_fails e ∙ carried (
 
 pub honest_reads : HonestReads
 honest_reads p a b request told took older honest free look there =
-    by_fault (is_live p a b.0 (Ask a b request told took) older) (fault_in p.faults b.0 (suc (requests_to b.0 older))) (tells a request b.0 (holds p older b.0) older) told (ap (λ (x : Outcome). x.told) honest) there
+    by_fault (is_live p a b.0 (Ask a b request told took) older) (fault_in p.faults b.0 (suc (requests_to b.0 older))) (tells a request b.0 (holds p older b.0) older) told (ap (λ (x : RequestOutcome). x.told) honest) there
     (λ h. by_tables a request b.0 (holds p older b.0) older free look h)

@@ -9,7 +9,7 @@ use Rattle.afr_choice.specs.Looks.{no_looks, view_at, with_look, without_look}
 use Rattle.afr_choice.specs.LooksLemmas.{view_after_look, view_after_loss, view_after_other_look, view_after_other_loss, length_after_look, length_after_loss}
 use Rattle.afr_choice.specs.declared.looked.Looked.{Looked}
 use Rattle.afr_lines.specs.declared.answer.Told.{Told}
-use Rattle.afr_lines.specs.declared.answer.Told.TheVariants as told_of
+use Rattle.afr_lines.specs.declared.answer.Told.TheVariants as as_told
 use Rattle.afr_model.specs.Showing.{look_shows}
 use Rattle.afr_walk.specs.Looks.{no_look, left_to_look, heard_look, noted_look}
 use Rattle.afr_walk.specs.declared.looks.Looks.{Looks}
@@ -20,8 +20,8 @@ use Rattle.afr_base.proofs.RisingLemmas.{rising_added, rising_removed}
 
 -- a look shows what its answer does
 pub look_shows_is : (b : ℕ) (told : Told) (looked : Looked) → look_shows b told looked ≡ noted_look b told looked
-look_shows_is b (told_of.Seen view) looked = refl
-look_shows_is b told_of.NoObject looked = refl
+look_shows_is b (as_told.Seen view) looked = refl
+look_shows_is b as_told.NoObject looked = refl
 look_shows_is b told looked = refl
 
 itself : (b : ℕ) → (b == b) ≡ true
@@ -51,8 +51,8 @@ same_here b told x y l fx fy = go told
     lost = (here_removed b x.reached ∙ sym (here_removed b y.reached), view_after_loss b x lx ∙ sym (view_after_loss b y ly))
 
     go : (told : Told) → (member (noted_look b told x).reached b ≡ member (noted_look b told y).reached b) × (view_at b (noted_look b told x) ≡ view_at b (noted_look b told y))
-    go (told_of.Seen view) = looked (Some view)
-    go told_of.NoObject = looked None
+    go (as_told.Seen view) = looked (Some view)
+    go as_told.NoObject = looked None
     go told = lost
 
 -- the other bricks tell what they told
@@ -66,8 +66,8 @@ same_there b c told x d = go told
     looked view = (member_added b x.reached c ∙ rw apart refl, view_after_other_look b c view x (λ e. d (sym e)))
 
     go : (told : Told) → (member (noted_look b told x).reached c ≡ member x.reached c) × (view_at c (noted_look b told x) ≡ view_at c x)
-    go (told_of.Seen view) = looked (Some view)
-    go told_of.NoObject = looked None
+    go (as_told.Seen view) = looked (Some view)
+    go as_told.NoObject = looked None
     go told = (member_removed b x.reached c ∙ rw apart refl, view_after_other_loss b c x (λ e. d (sym e)))
 
 -- ---- five places
@@ -97,13 +97,13 @@ plain_noted n b told x l k = record {
     zero_low = omega arith
 
     rising : (told : Told) → IsRising 0 (noted_look b told x).reached
-    rising (told_of.Seen view) = rising_added b 0 x.reached zero_low k.rising
-    rising told_of.NoObject = rising_added b 0 x.reached zero_low k.rising
+    rising (as_told.Seen view) = rising_added b 0 x.reached zero_low k.rising
+    rising as_told.NoObject = rising_added b 0 x.reached zero_low k.rising
     rising told = rising_removed b 0 x.reached k.rising
 
     five : (told : Told) → length (noted_look b told x).views ≡ 5
-    five (told_of.Seen view) = length_after_look b (Some view) x ∙ k.five
-    five told_of.NoObject = length_after_look b None x ∙ k.five
+    five (as_told.Seen view) = length_after_look b (Some view) x ∙ k.five
+    five as_told.NoObject = length_after_look b None x ∙ k.five
     five told = length_after_loss b x ∙ k.five
 
 -- ---- looks that agree

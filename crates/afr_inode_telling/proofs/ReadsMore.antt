@@ -17,7 +17,7 @@ use Rattle.afr_lines.specs.Work.{Work}
 use Rattle.afr_lines.specs.declared.answer.Answer.{Answer}
 use Rattle.afr_lines.specs.declared.answer.Answer.TheVariants as answer_of
 use Rattle.afr_lines.specs.declared.answer.Told.{Told}
-use Rattle.afr_lines.specs.declared.answer.Told.TheVariants as told_of
+use Rattle.afr_lines.specs.declared.answer.Told.TheVariants as as_told
 use Rattle.afr_lines.specs.declared.line.Line.{Line}
 use Rattle.afr_lines.specs.declared.line.Line.TheVariants.{Ask}
 use Rattle.afr_lines.specs.declared.line.Next.{Next}
@@ -43,8 +43,8 @@ use Rattle.afr_walk.specs.declared.walk.Walk.{Walk}
 use Rattle.afr_walk.proofs.WalkLemmas.{is_walked}
 use Rattle.afr_inode_read.specs.Job.{kind_of, reply_to, request_of}
 use Rattle.afr_inode_read.specs.Lookup.{Lookup, IsLookup, IsStage, asked_at, choices_at, is_asking, next_at, object_looked, stage_after, walk_after}
-use Rattle.afr_inode_read.specs.declared.job.Content.{Content}
-use Rattle.afr_inode_read.specs.declared.job.Content.TheVariants as content
+use Rattle.afr_inode_read.specs.declared.job.Wanted.{Wanted}
+use Rattle.afr_inode_read.specs.declared.job.Wanted.TheVariants as content
 use Rattle.afr_inode_read.specs.declared.job.LookupJob.{LookupJob}
 use Rattle.afr_inode_read.specs.declared.job.LookupJob.TheVariants.{Read, GetAttr, Ls, Stat}
 use Rattle.afr_inode_read.specs.declared.stage.LookupStage.{LookupStage}
@@ -63,27 +63,27 @@ use Rattle.afr_inode_telling.proofs.WalksEnd.{walk_follows}
 use Rattle.afr_inode_telling.proofs.Walking.{looks_on_way, path_kept, walk_about, walk_tells_more}
 
 -- ---- what a copy gives
-abbrev gives : Content → Object → Answer
+abbrev gives : Wanted → Object → Answer
 gives (content.Bytes at len) o = answer_of.Bytes (take len (drop at o.content))
 gives (content.Value key) o = answer_of.Value (lookup (is_at (key_cmp key)) o.attrs)
 gives content.Names o = answer_of.Names o.names
 
-given_answer : (g : Gfid) (of : Content) (t : Table) (log : List Line) → answer_by None (request_of g of) t log ≡ copy_answer (gives of) (copy_at g t)
+given_answer : (g : Gfid) (of : Wanted) (t : Table) (log : List Line) → answer_by None (request_of g of) t log ≡ copy_answer (gives of) (copy_at g t)
 given_answer g (content.Bytes at len) t log = refl
 given_answer g (content.Value key) t log = refl
 given_answer g content.Names t log = refl
 
-clash : (heard : Answer) → told_by heard ≡ told_of.Given → heard ≡ answer_of.NoObject → ⊥
-clash heard t e = let k : told_by heard ≡ told_of.NoObject = ap told_by e in cc (t, k)
+clash : (heard : Answer) → told_by heard ≡ as_told.Given → heard ≡ answer_of.NoObject → ⊥
+clash heard t e = let k : told_by heard ≡ as_told.NoObject = ap told_by e in cc (t, k)
 
 -- the reply tells what was given
-given_reply : (g : Gfid) (of : Content) (o : Option Object) (heard : Answer) → told_by heard ≡ told_of.Given → heard ≡ copy_answer (gives of) o → by_reading (given_by (request_of g of) o) ≡ Some (reply_to heard)
+given_reply : (g : Gfid) (of : Wanted) (o : Option Object) (heard : Answer) → told_by heard ≡ as_told.Given → heard ≡ copy_answer (gives of) o → by_reading (given_by (request_of g of) o) ≡ Some (reply_to heard)
 given_reply g of None heard t e = absurd (clash heard t e)
 given_reply g (content.Bytes at len) (Some o) heard t e = sym (ap (λ (x : Answer). Some (reply_to x)) e)
 given_reply g (content.Value key) (Some o) heard t e = sym (ap (λ (x : Answer). Some (reply_to x)) e)
 given_reply g content.Names (Some o) heard t e = sym (ap (λ (x : Answer). Some (reply_to x)) e)
 
-given_ok : (of : Content) (o : Option Object) (heard : Answer) → told_by heard ≡ told_of.Given → heard ≡ copy_answer (gives of) o → reply_to heard ≡ reply.Failed → ⊥
+given_ok : (of : Wanted) (o : Option Object) (heard : Answer) → told_by heard ≡ as_told.Given → heard ≡ copy_answer (gives of) o → reply_to heard ≡ reply.Failed → ⊥
 given_ok of None heard t e f = clash heard t e
 given_ok (content.Bytes at len) (Some o) heard t e f = let k = ap reply_to e in cc (f, k)
 given_ok (content.Value key) (Some o) heard t e f = let k = ap reply_to e in cc (f, k)
@@ -104,32 +104,32 @@ fault_reply (answer_of.Value value) h = absurd (cc h)
 fault_reply heard h = refl
 
 -- ---- a line that reads
-no_look : (g : Gfid) (of : Content) → is_look (request_of g of) ≡ false
+no_look : (g : Gfid) (of : Wanted) → is_look (request_of g of) ≡ false
 no_look g (content.Bytes at len) = refl
 no_look g (content.Value key) = refl
 no_look g content.Names = refl
 
 -- what it leaves as it was, and what it shows
-record ReadShows (p : Plan) (g : Gfid) (of : Content) (told : Told) (b : ℕ) (log : List Line) (lines more : Work) : Type 0 where
+record ReadShows (p : Plan) (g : Gfid) (of : Wanted) (told : Told) (b : ℕ) (log : List Line) (lines more : Work) : Type 0 where
   all : LookedAll p.shape.n lines → LookedAll p.shape.n more
   path : path_by p more ≡ path_by p lines
   looked : looked_by g more ≡ looked_by g lines
   refuses : has refuses_read more ≡ (is_fault told || has refuses_read lines)
   reading : reading_by p more ≡ reading_told (request_of g of) g told (holds p log b)
 
-read_shows : (p : Plan) (g : Gfid) (of : Content) (told : Told) (a : ActorId) (b : BrickId) (took : Bool) (log : List Line) (lines : Work) → ReadShows p g of told b.0 log lines ((Ask a b (request_of g of) told took, log) ∷ lines)
+read_shows : (p : Plan) (g : Gfid) (of : Wanted) (told : Told) (a : ActorId) (b : BrickId) (took : Bool) (log : List Line) (lines : Work) → ReadShows p g of told b.0 log lines ((Ask a b (request_of g of) told took, log) ∷ lines)
 read_shows p g (content.Bytes at len) told a b took log lines = record { all = λ k. k; path = refl; looked = refl; refuses = refl; reading = refl }
 read_shows p g (content.Value key) told a b took log lines = record { all = λ k. k; path = refl; looked = refl; refuses = refl; reading = refl }
 read_shows p g content.Names told a b took log lines = record { all = λ k. k; path = refl; looked = refl; refuses = refl; reading = refl }
 
 -- the answer of a command that reads is what was read
-answer_read : (p : Plan) (job : LookupJob) (of : Content) (names : List NameId) (w : Work) → IsNamed job of → answer p (command_of job names) w ≡ by_reading (reading_by p w)
+answer_read : (p : Plan) (job : LookupJob) (of : Wanted) (names : List NameId) (w : Work) → IsNamed job of → answer p (command_of job names) w ≡ by_reading (reading_by p w)
 answer_read p (Read at len) of names w k = rw k.1 refl
 answer_read p (GetAttr key) of names w k = refl
 answer_read p Ls of names w k = refl
 answer_read p Stat of names w k = absurd k
 
-module _ (p : Plan) (few : p.shape.n ≤ 5) (job : LookupJob) (w : Walk) (lines : Work) (a : ActorId) (b : BrickId) (of : Content) (took : Bool) (log : List Line) (k : IsAtObject p job w.path w.read w.object lines) (is_named : IsNamed job of) (source : IsSource p w.object.gfid (kind_of job w.object.what) b.0 lines) (all : LookedAll p.shape.n lines) where
+module _ (p : Plan) (few : p.shape.n ≤ 5) (job : LookupJob) (w : Walk) (lines : Work) (a : ActorId) (b : BrickId) (of : Wanted) (took : Bool) (log : List Line) (k : IsAtObject p job w.path w.read w.object lines) (is_named : IsNamed job of) (source : IsSource p w.object.gfid (kind_of job w.object.what) b.0 lines) (all : LookedAll p.shape.n lines) where
   abbrev said_by : Command
   said_by = command_of job w.path
 
@@ -147,9 +147,9 @@ module _ (p : Plan) (few : p.shape.n ≤ 5) (job : LookupJob) (w : Walk) (lines 
       may job k source = record { unbegun = begins_none p.shape.n lines k.goes.only; goes_on = refusal_looks p few job w.path w.read w.object lines k ∙ source.none; answered = source.answered; good = source.good }
 
       go : (job : LookupJob) → IsAtObject p job w.path w.read w.object lines → IsNamed job of → IsSource p w.object.gfid (kind_of job w.object.what) b.0 lines → IsAbout p (command_of job w.path) (Ask a b (request_of w.object.gfid of) told took) lines
-      go (Read at len) k n source = subst (λ (x : Content). IsAbout p (command_of (Read at len) w.path) (Ask a b (request_of w.object.gfid x) told took) lines) (sym n.0) (may (Read at len) k source, record { object = w.object; led = led; named = rw n.1 refl })
-      go (GetAttr key) k n source = subst (λ (x : Content). IsAbout p (command_of (GetAttr key) w.path) (Ask a b (request_of w.object.gfid x) told took) lines) (sym n) (may (GetAttr key) k source, record { object = w.object; led = led; named = refl })
-      go Ls k n source = subst (λ (x : Content). IsAbout p (command_of Ls w.path) (Ask a b (request_of w.object.gfid x) told took) lines) (sym n) (may Ls k source, record { object = w.object; led = led; named = refl })
+      go (Read at len) k n source = subst (λ (x : Wanted). IsAbout p (command_of (Read at len) w.path) (Ask a b (request_of w.object.gfid x) told took) lines) (sym n.0) (may (Read at len) k source, record { object = w.object; led = led; named = rw n.1 refl })
+      go (GetAttr key) k n source = subst (λ (x : Wanted). IsAbout p (command_of (GetAttr key) w.path) (Ask a b (request_of w.object.gfid x) told took) lines) (sym n) (may (GetAttr key) k source, record { object = w.object; led = led; named = refl })
+      go Ls k n source = subst (λ (x : Wanted). IsAbout p (command_of Ls w.path) (Ask a b (request_of w.object.gfid x) told took) lines) (sym n) (may Ls k source, record { object = w.object; led = led; named = refl })
       go Stat k n source = absurd n
 
   -- and its answer ends the command
@@ -169,10 +169,10 @@ module _ (p : Plan) (few : p.shape.n ≤ 5) (job : LookupJob) (w : Walk) (lines 
           (refused_end p said_by (read_line told) (only told) ((shows told).all all) (whole_of job w.path) reply.Failed
           (refusal_here p said_by (read_line told) (whole_of job w.path) (large_none job w.path) ∙ rw refused refl) (λ x. absurd (cc x)) (λ x. refused))
 
-      given : heard ≡ copy_answer (gives of) (copy_at w.object.gfid (holds p log b.0)) → told_by heard ≡ told_of.Given → IsAnswered p said_by (read_line told_of.Given) (reply_to heard)
+      given : heard ≡ copy_answer (gives of) (copy_at w.object.gfid (holds p log b.0)) → told_by heard ≡ as_told.Given → IsAnswered p said_by (read_line as_told.Given) (reply_to heard)
       given h e =
-          let x = shows told_of.Given in
-          let more = read_line told_of.Given in
+          let x = shows as_told.Given in
+          let more = read_line as_told.Given in
           let unrefused : has refuses_read more ≡ false = x.refuses ∙ k.goes.unrefused in
           let path : path_by p more ≡ At w.read w.object = x.path ∙ k.goes.path in
           let none : refusal p said_by more ≡ None =
@@ -186,13 +186,13 @@ module _ (p : Plan) (few : p.shape.n ≤ 5) (job : LookupJob) (w : Walk) (lines 
           ∙ ap by_reading x.reading
           ∙ given_reply w.object.gfid of (copy_at w.object.gfid (holds p log b.0)) heard e h
           in
-          answered_end p said_by more (only told_of.Given) (x.all all) (whole_of job w.path) (reply_to heard)
+          answered_end p said_by more (only as_told.Given) (x.all all) (whole_of job w.path) (reply_to heard)
           (Answers none w.object (place_at p few job w.path w.read w.object more path k.whole) says) (plain_reply heard) (given_ok of (copy_at w.object.gfid (holds p log b.0)) heard e h)
 
       go : (told : Told) → told_by heard ≡ told → gives_or_fails told ≡ true → IsAnswered p said_by (read_line told) (reply_to heard)
-      go told_of.Given e h = given (can.given e ∙ given_answer w.object.gfid of (holds p log b.0) log) e
-      go told_of.NotConnected e h = failed told_of.NotConnected e refl
-      go told_of.Failed e h = failed told_of.Failed e refl
+      go as_told.Given e h = given (can.given e ∙ given_answer w.object.gfid of (holds p log b.0) log) e
+      go as_told.NotConnected e h = failed as_told.NotConnected e refl
+      go as_told.Failed e h = failed as_told.Failed e refl
       go told e h = absurd (cc h)
 
 -- ---- a line of a read
@@ -295,7 +295,7 @@ follows p m lines a b request told took at sound k asks = go m.stage sound.ready
     c : Command
     c = command_of m.job m.walk.path
 
-    free : (g : Gfid) (of : Content) (x : BrickId) → KeepsTo p c (Ask a x (request_of g of) told took) at lines
+    free : (g : Gfid) (of : Wanted) (x : BrickId) → KeepsTo p c (Ask a x (request_of g of) told took) at lines
     free g (content.Bytes from len) x = tt
     free g (content.Value key) x = tt
     free g content.Names x = tt

@@ -44,7 +44,7 @@ use Rattle.afr_walk.specs.declared.walk.WalkStep.TheVariants as walking
 use Rattle.afr_walk.proofs.WalkLemmas.{is_walk_from}
 use Rattle.afr_inode_read.specs.Job.{kind_of}
 use Rattle.afr_inode_read.specs.Lookup.{after_step, after_walk, at_object as first_stage, from_copy, len_at, len_in, object_judged, object_looked}
-use Rattle.afr_inode_read.specs.declared.job.Content.TheVariants as content
+use Rattle.afr_inode_read.specs.declared.job.Wanted.TheVariants as content
 use Rattle.afr_inode_read.specs.declared.job.LookupJob.{LookupJob}
 use Rattle.afr_inode_read.specs.declared.job.LookupJob.TheVariants.{Read, GetAttr, Ls, Stat}
 use Rattle.afr_inode_read.specs.declared.stage.LookupStage.TheVariants.{Looking, Reading, Ending}

@@ -24,7 +24,7 @@ use Rattle.afr_lines.specs.Work.{Work}
 use Rattle.afr_lines.specs.declared.answer.Answer.{Answer}
 use Rattle.afr_lines.specs.declared.answer.Answer.TheVariants as answer
 use Rattle.afr_lines.specs.declared.answer.Told.{Told}
-use Rattle.afr_lines.specs.declared.answer.Told.TheVariants as told_of
+use Rattle.afr_lines.specs.declared.answer.Told.TheVariants as as_told
 use Rattle.afr_lines.specs.declared.line.Line.{Line}
 use Rattle.afr_lines.specs.declared.line.Line.TheVariants.{Ask}
 use Rattle.afr_lines.specs.declared.reply.Reply.{Reply}
@@ -173,42 +173,42 @@ module _ (p : Plan) (c : Command) (names : List NameId) (few : p.shape.n ≤ 5) 
     name_only told = only_more n a b (ReadName object.gfid name) told took log lines low refl goes.only
 
     -- an entry was read: the path goes on to it
-    entry_goes : (entry : Entry) → entry_at object.gfid name (holds p log b.0) ≡ Some entry → GoesOn p (read + 1) entry (line_more told_of.Given)
-    entry_goes entry e = record { only = name_only told_of.Given; unread = goes.unread; unrefused = goes.unrefused; path = rw (e, goes.path) refl }
+    entry_goes : (entry : Entry) → entry_at object.gfid name (holds p log b.0) ≡ Some entry → GoesOn p (read + 1) entry (line_more as_told.Given)
+    entry_goes entry e = record { only = name_only as_told.Given; unread = goes.unread; unrefused = goes.unrefused; path = rw (e, goes.path) refl }
 
-    entry_step : (entry : Entry) → entry_at object.gfid name (holds p log b.0) ≡ Some entry → TellsAt p c (step_at (length names) (read + 1) entry) (read + 1) entry (line_more told_of.Given)
+    entry_step : (entry : Entry) → entry_at object.gfid name (holds p log b.0) ≡ Some entry → TellsAt p c (step_at (length names) (read + 1) entry) (read + 1) entry (line_more as_told.Given)
     entry_step entry e = go (read + 1 == length names) (eqb_tells (read + 1) (length names)) (is_dir entry.what) refl
       where
-        next : GoesOn p (read + 1) entry (line_more told_of.Given)
+        next : GoesOn p (read + 1) entry (line_more as_told.Given)
         next = entry_goes entry e
 
         go : (f : Bool) → (f ≡ true) × (read + 1 ≡ length names) ⊎ (f ≡ false) × (read + 1 ≢ length names) → (d : Bool) → is_dir entry.what ≡ d
-            → TellsAt p c (if f then Arrived else (if d then Looking no_look else Stopped stop.NotDir)) (read + 1) entry (line_more told_of.Given)
+            → TellsAt p c (if f then Arrived else (if d then Looking no_look else Stopped stop.NotDir)) (read + 1) entry (line_more as_told.Given)
         go true h d e = (next, all)
         go false (inl h) d e = absurd (cc h.0)
-        go false (inr h) true e = (next, e, agree_first n (among (looking entry.gfid) lines) (looked_by entry.gfid lines), but_from_all n entry.gfid (line_more told_of.Given) all)
+        go false (inr h) true e = (next, e, agree_first n (among (looking entry.gfid) lines) (looked_by entry.gfid lines), but_from_all n entry.gfid (line_more as_told.Given) all)
         go false (inr h) false e =
             let other = h.1 in
             let below : read + 1 < length names = omega (arith, l, other) in
             record {
               only = next.only;
-              cause = unrefused_is (line_more told_of.Given) _ next.unrefused ∙ on_way_file (read + 1) entry (line_more told_of.Given) next.path below e;
+              cause = unrefused_is (line_more as_told.Given) _ next.unrefused ∙ on_way_file (read + 1) entry (line_more as_told.Given) next.path below e;
               asked = λ k. absurd (cc k);
               failed = λ k. absurd (cc k);
               all = all;
             }
 
     -- no entry was there
-    entry_none : entry_at object.gfid name (holds p log b.0) ≡ None → Stops p c (line_more told_of.Given) reply.NoEntry
+    entry_none : entry_at object.gfid name (holds p log b.0) ≡ None → Stops p c (line_more as_told.Given) reply.NoEntry
     entry_none e = record {
-      only = name_only told_of.Given;
-      cause = unrefused_is (line_more told_of.Given) _ goes.unrefused ∙ gone;
+      only = name_only as_told.Given;
+      cause = unrefused_is (line_more as_told.Given) _ goes.unrefused ∙ gone;
       asked = λ k. absurd (cc k);
       failed = λ k. absurd (cc k);
       all = all;
     }
       where
-        gone : by_path p c (path_by p (line_more told_of.Given)) (line_more told_of.Given) ≡ Some reply.NoEntry
+        gone : by_path p c (path_by p (line_more as_told.Given)) (line_more as_told.Given) ≡ Some reply.NoEntry
         gone = rw (e, goes.path) refl
 
     refused : (told : Told) → has refuses_read (line_more told) ≡ true → Stops p c (line_more told) reply.Failed
@@ -228,10 +228,10 @@ module _ (p : Plan) (c : Command) (names : List NameId) (few : p.shape.n ≤ 5) 
     abbrev entry_of : Object → Answer
     entry_of o = answer.Entry (lookup (is_at (name_cmp name)) o.names)
 
-    given_entry : (heard : Answer) (o : Option Object) → heard ≡ copy_answer entry_of o → told_by heard ≡ told_of.Given → is_entry heard ≡ true
+    given_entry : (heard : Answer) (o : Option Object) → heard ≡ copy_answer entry_of o → told_by heard ≡ as_told.Given → is_entry heard ≡ true
     given_entry heard None e t = absurd (clash (sym (ap told_by e) ∙ t))
       where
-        clash : told_of.NoObject ≡ told_of.Given → ⊥
+        clash : as_told.NoObject ≡ as_told.Given → ⊥
         clash h = cc h
     given_entry heard (Some o) e t = ap is_entry e
 
@@ -239,18 +239,18 @@ module _ (p : Plan) (c : Command) (names : List NameId) (few : p.shape.n ≤ 5) 
     entry_is entry None e = absurd (cc e)
     entry_is entry (Some o) e = cc e
 
-    not_given : (heard : Answer) → CanAnswer p b.0 (ReadName object.gfid name) log heard → told_by heard ≡ told_of.Given → is_entry heard ≡ false → ⊥
+    not_given : (heard : Answer) → CanAnswer p b.0 (ReadName object.gfid name) log heard → told_by heard ≡ as_told.Given → is_entry heard ≡ false → ⊥
     not_given heard can t e = let f : is_entry heard ≡ true = given_entry heard (copy_at object.gfid (holds p log b.0)) (can.given t) t in cc (e, f)
 
     pub name_tells : (w : Walk) (heard : Answer) → w.read ≡ read → w.path ≡ names → CanAnswer p b.0 (ReadName object.gfid name) log heard
         → TellsAt p c (named heard w).step (named heard w).read (named heard w).object (line_more (told_by heard))
     name_tells w (answer.Entry (Some entry)) er en can =
         let e = entry_is (Some entry) (copy_at object.gfid (holds p log b.0)) (can.given refl) in
-        subst (λ (x : List NameId). TellsAt p c (step_at (length x) (w.read + 1) entry) (w.read + 1) entry (line_more told_of.Given)) (sym en)
-        (subst (λ (x : ℕ). TellsAt p c (step_at (length names) (x + 1) entry) (x + 1) entry (line_more told_of.Given)) (sym er) (entry_step entry e))
+        subst (λ (x : List NameId). TellsAt p c (step_at (length x) (w.read + 1) entry) (w.read + 1) entry (line_more as_told.Given)) (sym en)
+        (subst (λ (x : ℕ). TellsAt p c (step_at (length names) (x + 1) entry) (x + 1) entry (line_more as_told.Given)) (sym er) (entry_step entry e))
     name_tells w (answer.Entry None) er en can = entry_none (entry_is None (copy_at object.gfid (holds p log b.0)) (can.given refl))
-    name_tells w answer.NotConnected er en can = refused told_of.NotConnected refl
-    name_tells w answer.Failed er en can = refused told_of.Failed refl
+    name_tells w answer.NotConnected er en can = refused as_told.NotConnected refl
+    name_tells w answer.Failed er en can = refused as_told.Failed refl
     name_tells w (answer.Bytes bytes) er en can = absurd (not_given (answer.Bytes bytes) can refl refl)
     name_tells w (answer.Names found) er en can = absurd (not_given (answer.Names found) can refl refl)
     name_tells w (answer.Value value) er en can = absurd (not_given (answer.Value value) can refl refl)

@@ -12,8 +12,8 @@ use Rattle.afr_model.specs.Answered.{IsAnswered}
 use Rattle.afr_walk.specs.declared.walk.Walk.{Walk}
 use Rattle.afr_inode_read.specs.Job.{kind_of}
 use Rattle.afr_inode_read.specs.Lookup.{Lookup}
-use Rattle.afr_inode_read.specs.declared.job.Content.{Content}
-use Rattle.afr_inode_read.specs.declared.job.Content.TheVariants as content
+use Rattle.afr_inode_read.specs.declared.job.Wanted.{Wanted}
+use Rattle.afr_inode_read.specs.declared.job.Wanted.TheVariants as content
 use Rattle.afr_inode_read.specs.declared.job.LookupJob.{LookupJob}
 use Rattle.afr_inode_read.specs.declared.job.LookupJob.TheVariants.{Read, GetAttr, Ls, Stat}
 use Rattle.afr_inode_read.specs.declared.stage.LookupStage.{LookupStage}
@@ -36,7 +36,7 @@ IsSuited Ls what = is_file what ≡ false
 IsSuited other what = Unit {0}
 
 -- what is read is what the job names
-abbrev pub IsNamed : LookupJob → Content → Type 0
+abbrev pub IsNamed : LookupJob → Wanted → Type 0
 IsNamed (Read at len) of = (of ≡ content.Bytes at len) × ((len == 0) ≡ false)
 IsNamed (GetAttr key) of = of ≡ content.Value key
 IsNamed Ls of = of ≡ content.Names

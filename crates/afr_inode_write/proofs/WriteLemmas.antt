@@ -35,7 +35,7 @@ use Rattle.afr_walk.proofs.WalkLemmas.{asks_allowed, is_walked, walked_notes}
 use Rattle.afr_transaction.specs.Laws as transaction
 use Rattle.afr_transaction.specs.Outcome.{reply_of}
 use Rattle.afr_transaction.specs.Progress as progress
-use Rattle.afr_transaction.specs.Progress.{Progress, asks, begun, fed, is_beginning, left, request_at, starting, told_to}
+use Rattle.afr_transaction.specs.Progress.{TransactionProgress, asks, begun, fed, is_beginning, left, request_at, starting, told_to}
 use Rattle.afr_transaction.specs.Sound.{IsUnused, Suits}
 use Rattle.afr_transaction.specs.declared.stage.Stage.{Stage}
 use Rattle.afr_transaction.specs.declared.stage.Stage.TheVariants.{Locking, Looking, Beginning, Preparing, Applying, Posting, Closing}
@@ -108,7 +108,7 @@ pub allowed_next : AllowedNext
 allowed_next m k at = allowed_at m.stage m.walk k at
 
 -- ---- what is heard
-fed_change : (stage : Stage) (told : Told) (at : ℕ) (t : Progress) → (fed stage told at t).change ≡ t.change
+fed_change : (stage : Stage) (told : Told) (at : ℕ) (t : TransactionProgress) → (fed stage told at t).change ≡ t.change
 fed_change Locking told at t = refl
 fed_change Looking told at t = refl
 fed_change Beginning told at t = refl
@@ -117,7 +117,7 @@ fed_change Applying told at t = refl
 fed_change Posting told at t = refl
 fed_change Closing told at t = refl
 
-told_sound : (w : Walk) (t : Progress) (told : Told) (at : ℕ) → IsStage w (Changing t) → is_over (Changing t) ≡ false → IsStage w (Changing (told_to told at t))
+told_sound : (w : Walk) (t : TransactionProgress) (told : Told) (at : ℕ) → IsStage w (Changing t) → is_over (Changing t) ≡ false → IsStage w (Changing (told_to told at t))
 told_sound w t told at k more = go (is_beginning t.stage)
   where
     go : (e : Bool) → IsStage w (Changing (if e then t else fed t.stage told at t))
@@ -128,7 +128,7 @@ begins_at : (stage : Stage) → is_beginning stage ≡ true → stage ≡ Beginn
 begins_at Beginning e = refl
 begins_at stage e = absurd (cc e)
 
-begun_sound : (w : Walk) (t : Progress) (at : ℕ) → IsStage w (Changing t) → IsStage w (Changing (begun_in at t))
+begun_sound : (w : Walk) (t : TransactionProgress) (at : ℕ) → IsStage w (Changing t) → IsStage w (Changing (begun_in at t))
 begun_sound w t at k = go (is_beginning t.stage) refl
   where
     go : (e : Bool) → is_beginning t.stage ≡ e → IsStage w (Changing (if e then begun at t else t))
@@ -136,7 +136,7 @@ begun_sound w t at k = go (is_beginning t.stage) refl
     go false e = k
 
 -- where a transaction has asked, it takes the answer
-pub told_answers : (stage : Stage) (told : Told) (at : ℕ) (t : Progress) (brick : BrickId) (request : Request) → progress.next_at stage at t ≡ next.Ask brick request
+pub told_answers : (stage : Stage) (told : Told) (at : ℕ) (t : TransactionProgress) (brick : BrickId) (request : Request) → progress.next_at stage at t ≡ next.Ask brick request
     → progress.answered stage told at t ≡ (if is_beginning stage then t else fed stage told at t)
 told_answers Locking told at t brick request e = refl
 told_answers Looking told at t brick request e = refl
@@ -147,7 +147,7 @@ told_answers Posting told at t brick request e = refl
 told_answers Closing told at t brick request e = refl
 
 -- where it has asked nobody and isn't over, an answer changes nothing
-not_asked : (stage : Stage) (told : Told) (at : ℕ) (t : Progress) → is_ask (progress.next_at stage at t) ≡ false → progress.is_over stage t ≡ false → (if is_beginning stage then t else fed stage told at t) ≡ t
+not_asked : (stage : Stage) (told : Told) (at : ℕ) (t : TransactionProgress) → is_ask (progress.next_at stage at t) ≡ false → progress.is_over stage t ≡ false → (if is_beginning stage then t else fed stage told at t) ≡ t
 not_asked Locking told at t none more = absurd (cc none)
 not_asked Looking told at t none more = absurd (cc none)
 not_asked Beginning told at t none more = refl
@@ -166,7 +166,7 @@ unheard calls choose m a at none more = go m.stage none more
     go : (stage : WriteStage) → is_ask (next_at at stage m.walk) ≡ false → is_over stage ≡ false
         → IsFed calls choose (heard.Answer a at) (record { walk = m.walk; stage = stage }) (record { walk = m.walk; stage = stage })
     go (Walking j) none more = absurd (cc none)
-    go (Changing t) none more = record { picked = None; answers = refl; value = ap (λ (x : Progress). record { walk = m.walk; stage = Changing x }) (sym (not_asked t.stage (told_by a) at t none more)) }
+    go (Changing t) none more = record { picked = None; answers = refl; value = ap (λ (x : TransactionProgress). record { walk = m.walk; stage = Changing x }) (sym (not_asked t.stage (told_by a) at t none more)) }
     go (Ending said) none more = absurd (cc more)
 
 pub kept_answer : (chosen : BrickId) (stage : WriteStage) (a : Answer) (at : ℕ) (w : Walk) → IsWrite w stage → is_over stage ≡ false → IsAmong (choices_at stage a w) chosen
@@ -176,9 +176,9 @@ kept_answer chosen (Changing t) a at w k more among = record { sound = k.sound; 
 kept_answer chosen (Ending said) a at w k more among = absurd (cc more)
 
 -- a transaction's answer leaves the write sound
-pub told_kept : (stage : WriteStage) (t t' : Progress) (a : Answer) (told : Told) (at : ℕ) (w : Walk) → stage ≡ Changing t → IsWrite w stage → is_over stage ≡ false → told ≡ told_by a → t' ≡ told_to told at t → IsWrite w (Changing t')
+pub told_kept : (stage : WriteStage) (t t' : TransactionProgress) (a : Answer) (told : Told) (at : ℕ) (w : Walk) → stage ≡ Changing t → IsWrite w stage → is_over stage ≡ false → told ≡ told_by a → t' ≡ told_to told at t → IsWrite w (Changing t')
 told_kept stage t t' a told at w es k more el et =
-    subst (λ (x : Progress). IsWrite w (Changing x)) (sym (et ∙ ap (λ (x : Told). told_to x at t) el))
+    subst (λ (x : TransactionProgress). IsWrite w (Changing x)) (sym (et ∙ ap (λ (x : Told). told_to x at t) el))
     (record { sound = k.sound; ready = told_sound w t (told_by a) at (subst (λ (x : WriteStage). IsStage w x) es k.ready) (subst (λ (x : WriteStage). is_over x ≡ false) es more) })
 
 pub kept_begun : (stage : WriteStage) (at : ℕ) (w : Walk) → IsWrite w stage → IsWrite w (stage_begun stage at)
@@ -224,7 +224,7 @@ left_register walking.Arrived j w = kind (is_of_bytes j && is_dir w.object.what)
 left_register (walking.Stopped why) j w = refl
 
 -- a transaction's register notes its request
-told_notes : (stage : Stage) (t : Progress) (at : ℕ) (brick : BrickId) (request : Request) (told : Told) → progress.next_at stage at t ≡ next.Ask brick request
+told_notes : (stage : Stage) (t : TransactionProgress) (at : ℕ) (brick : BrickId) (request : Request) (told : Told) → progress.next_at stage at t ≡ next.Ask brick request
     → (if is_beginning stage then t else fed stage told at t).register ≡ noted_ask t.register at brick.0 request told
 told_notes Locking t at brick request told e = noted_as t.register at (record { 0 = lowest (left Locking t) }) brick (request_at Locking t) request told e
 told_notes Looking t at brick request told e = noted_as t.register at (record { 0 = lowest (left Looking t) }) brick (request_at Looking t) request told e
@@ -249,7 +249,7 @@ notes_at (Ending said) w at brick request e chosen a = absurd (cc e)
 pub notes_each : NotesEach
 notes_each m at brick request e chosen a = notes_at m.stage m.walk at brick request e chosen a
 
-begun_notes : (stage : Stage) (t : Progress) (at : ℕ) (change : Change) → progress.next_at stage at t ≡ next.Begin change → (if is_beginning stage then begun at t else t).register ≡ noted_begin t.register at
+begun_notes : (stage : Stage) (t : TransactionProgress) (at : ℕ) (change : Change) → progress.next_at stage at t ≡ next.Begin change → (if is_beginning stage then begun at t else t).register ≡ noted_begin t.register at
 begun_notes Locking t at change e = absurd (cc e)
 begun_notes Looking t at change e = absurd (cc e)
 begun_notes Beginning t at change e = refl

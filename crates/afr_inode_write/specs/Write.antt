@@ -27,7 +27,7 @@ use Rattle.afr_walk.specs.declared.walk.WalkStep.{WalkStep}
 use Rattle.afr_walk.specs.declared.walk.WalkStep.TheVariants as walking
 use Rattle.afr_transaction.specs.Made.{attempted}
 use Rattle.afr_transaction.specs.Progress as transaction
-use Rattle.afr_transaction.specs.Progress.{Progress, CarriesAt, is_beginning, starting, told_to}
+use Rattle.afr_transaction.specs.Progress.{TransactionProgress, CarriesAt, is_beginning, starting, told_to}
 use Rattle.afr_transaction.specs.Sound.{Sound}
 use Rattle.afr_inode_write.specs.Job.{IsJob, change_of, is_empty, is_of_bytes, is_too_large}
 use Rattle.afr_inode_write.specs.declared.job.WriteJob.{WriteJob}
@@ -95,7 +95,7 @@ CarriesNext (Changing t) carried = CarriesAt t.stage carried (attempted t)
 CarriesNext stage carried = carried ≡ load.Nothing
 
 -- the transaction's attempt has its number, where it begins
-abbrev pub begun_in : ℕ → Progress → Progress
+abbrev pub begun_in : ℕ → TransactionProgress → TransactionProgress
 begun_in at t = if is_beginning t.stage then transaction.begun at t else t
 
 -- what the rule is asked for at an answer: the good copies of a directory on the way, where it ends the looks

@@ -16,7 +16,7 @@ use Rattle.afr_object.specs.declared.change.Change.{Change}
 use Rattle.afr_plan.specs.declared.plan.Plan.{Plan}
 use Rattle.afr_lines.specs.declared.lock.Domain.{Domain}
 use Rattle.afr_law.specs.Exactly.{IsLawfulExactly}
-use Rattle.afr_law.specs.ModelNext.{IsNext, MayAskNext, is_carried}
+use Rattle.afr_law.specs.ModelNext.{IsNext, MayAskNext, is_carried_out}
 
 -- the change that a request carries out: that of an Apply's attempt
 abbrev pub change_for : Request → List Line → Option Change
@@ -33,7 +33,7 @@ ModelNextCovered =
 abbrev pub ModelCarriedCovered : Type 0
 ModelCarriedCovered =
     (p : Plan) (log : List Line) (a : ActorId) (b : BrickId) (request : Request) → p.shape.n ≤ 5 → length log < 4000000 → Honest p log → IsLawfulExactly p log
-    → MayAskNext p a b request log → is_carried p a b request log ≡ true → HasItsLocks (locks_held b.0 log) a request (change_for request log)
+    → MayAskNext p a b request log → is_carried_out p a b request log ≡ true → HasItsLocks (locks_held b.0 log) a request (change_for request log)
 
 -- a range that may be locked next has a number in it
 abbrev pub ModelNextLocks : Type 0

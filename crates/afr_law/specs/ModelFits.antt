@@ -15,25 +15,25 @@ use Rattle.afr_object.specs.Tables.{object_of}
 use Rattle.afr_object.specs.declared.change.Change.{Change}
 use Rattle.afr_plan.specs.declared.plan.Plan.{Plan}
 use Rattle.afr_law.specs.Exactly.{IsLawfulExactly}
-use Rattle.afr_law.specs.ModelNext.{IsNext, MayAskNext, is_carried}
+use Rattle.afr_law.specs.ModelNext.{IsNext, MayAskNext, is_carried_out}
 use Rattle.afr_tables.specs.Carrying.{CanCarry}
 
 -- what the line's brick carried out, it could
-abbrev pub Fits : Plan → Line → List Line → Type 0
-Fits p (Ask a b request told took) older = took ≡ true → CanCarry p older b.0 request
-Fits p line older = Unit {0}
+abbrev pub CouldCarryOut : Plan → Line → List Line → Type 0
+CouldCarryOut p (Ask a b request told took) older = took ≡ true → CanCarry p older b.0 request
+CouldCarryOut p line older = Unit {0}
 
 -- after an honest log that keeps the discipline in full, a line that keeps it and is told its honest answer can be carried out
 abbrev pub ModelNextFits : Type 0
 ModelNextFits =
     (p : Plan) (log : List Line) (line : Line) → p.shape.n ≤ 5 → length log < 4000000 → Honest p log → IsLawfulExactly p log
-    → IsHonest p line log → IsNext p line log → Fits p line log × FitsSums p line log
+    → IsHonest p line log → IsNext p line log → CouldCarryOut p line log × FitsSums p line log
 
 -- what the brick would carry out next, it can, before anybody knows what it tells
 abbrev pub ModelNextCarries : Type 0
 ModelNextCarries =
     (p : Plan) (log : List Line) (a : ActorId) (b : BrickId) (request : Request) → p.shape.n ≤ 5 → length log < 4000000 → Honest p log → IsLawfulExactly p log
-    → MayAskNext p a b request log → is_carried p a b request log ≡ true → CanCarry p log b.0 request
+    → MayAskNext p a b request log → is_carried_out p a b request log ≡ true → CanCarry p log b.0 request
 
 -- the brick has the copy that the request changes
 abbrev pub HasCopy : Plan → List Line → ℕ → Request → Type 0

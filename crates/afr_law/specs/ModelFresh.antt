@@ -59,14 +59,14 @@ pub record IsLet (p : Plan) (b : ℕ) (g : Gfid) (kind : Kind) (w : Work) : Type
   pub good : member (good_copies p.shape (looked_by g w) kind) b ≡ true
 
 -- one of these lines
-abbrev pub IsIn : Line × List Line → Work → Type 0
-IsIn x [] = ⊥
-IsIn x (y ∷ w) = (x ≡ y) ⊎ IsIn x w
+abbrev pub IsOneOfLines : Line × List Line → Work → Type 0
+IsOneOfLines x [] = ⊥
+IsOneOfLines x (y ∷ w) = (x ≡ y) ⊎ IsOneOfLines x w
 
 -- the last looks among some lines of a work let brick b be read
 pub record IsLetBySome (p : Plan) (b : ℕ) (g : Gfid) (kind : Kind) (w : Work) : Type 0 where
   pub some : Work
-  pub are : (x : Line × List Line) → IsIn x some → IsIn x w
+  pub are : (x : Line × List Line) → IsOneOfLines x some → IsOneOfLines x w
   pub lets : IsLet p b g kind some
 
 -- the last looks among some lines of its work, or of all of it, let a read line read what it names

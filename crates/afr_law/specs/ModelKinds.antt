@@ -36,12 +36,12 @@ abbrev pub ModelOneKind : Type 0
 ModelOneKind = (p : Plan) (log : List Line) → p.shape.n ≤ 5 → length log ≤ 4000000 → Honest p log → IsLawfulExactly p log → IsOneKind p log
 
 -- an entry of the gfid that stood somewhere says this kind; the root is a directory
-pub data Says (p : Plan) (log : List Line) (g : Gfid) (what : What) : Type 0 where
-  Named : (t : Table) (dir : Gfid) (name : NameId) → WasTable p log t → entry_at dir name t ≡ Some (record { gfid = g; what = what }) → Says p log g what
-  Top : g ≡ root → what ≡ Dir → Says p log g what
+pub data SaysKind (p : Plan) (log : List Line) (g : Gfid) (what : What) : Type 0 where
+  Named : (t : Table) (dir : Gfid) (name : NameId) → WasTable p log t → entry_at dir name t ≡ Some (record { gfid = g; what = what }) → SaysKind p log g what
+  Top : g ≡ root → what ≡ Dir → SaysKind p log g what
 
 -- what the next look at an object shows is of the kind that its entry says, whenever and wherever that stood
 abbrev pub ModelNextLooks : Type 0
 ModelNextLooks =
     (p : Plan) (log : List Line) (a : ActorId) (b : BrickId) (g : Gfid) (what : What) (view : View) (took : Bool) → p.shape.n ≤ 5 → length log ≤ 4000000 → Honest p log → IsLawfulExactly p log
-    → Says p log g what → IsHonest p (Ask a b (Look g) (Seen view) took) log → view.what ≡ what
+    → SaysKind p log g what → IsHonest p (Ask a b (Look g) (Seen view) took) log → view.what ≡ what

@@ -27,7 +27,7 @@ use Rattle.afr_moves.specs.Rules.{EachRead}
 use Rattle.afr_moves.specs.Positions.{by_position}
 
 -- the line at a position is this read, and a copy answered it
-pub record IsRead (older : List Line) (asked : Request) (read : ℕ) : Type 0 where
+pub record IsReadAt (older : List Line) (asked : Request) (read : ℕ) : Type 0 where
   pub actor : ActorId
   pub brick : BrickId
   pub took : Bool
@@ -36,9 +36,9 @@ pub record IsRead (older : List Line) (asked : Request) (read : ℕ) : Type 0 wh
 -- the lines that a repair names are reads of what it repairs
 abbrev pub NamesReads : Repair → List Line → Type 0
 NamesReads (CutTo g len) older = Unit {0}
-NamesReads (Copy g at span read) older = IsRead older (request.ReadBytes g at span) read
-NamesReads (PutAttrs g read) older = IsRead older (request.ReadAttrs g) read
-NamesReads (PutNames g reads) older = EachRead (IsRead older (request.List g)) reads
+NamesReads (Copy g at span read) older = IsReadAt older (request.ReadBytes g at span) read
+NamesReads (PutAttrs g read) older = IsReadAt older (request.ReadAttrs g) read
+NamesReads (PutNames g reads) older = EachRead (IsReadAt older (request.List g)) reads
 
 -- an entry of this gfid and kind stood in a directory of some brick before an earlier line
 pub record WasShown (p : Plan) (older : List Line) (g : Gfid) (what : What) : Type 0 where

@@ -25,12 +25,12 @@ abbrev pub MayAskNext : Plan → ActorId → BrickId → Request → List Line �
 MayAskNext p a b request log = InRange (asking a b request) × MayExactlyNext p.shape.n (kept_by p) (by_position log) (length log) (asking a b request)
 
 -- whether the brick would carry the request out next: the session is live then, and the plan doesn't refuse it
-abbrev pub is_carried : Plan → ActorId → BrickId → Request → List Line → Bool
-is_carried p a b request log = (outcome_of p a b.0 request (asking a b request) log).took
+abbrev pub is_carried_out : Plan → ActorId → BrickId → Request → List Line → Bool
+is_carried_out p a b request log = (outcome_of p a b.0 request (asking a b request) log).took
 
 -- the line that asks for it, told what its brick then gives
 abbrev pub answered : Plan → ActorId → BrickId → Request → List Line → Line
-answered p a b request log = Ask a b request (outcome_of p a b.0 request (asking a b request) log).told (is_carried p a b request log)
+answered p a b request log = Ask a b request (outcome_of p a b.0 request (asking a b request) log).told (is_carried_out p a b request log)
 
 -- after an honest log that keeps the discipline in full, a request that may be asked next makes an honest line that may come next: its answer lies in the ranges of its types too
 abbrev pub ModelNextAnswered : Type 0

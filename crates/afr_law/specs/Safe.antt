@@ -39,7 +39,7 @@ pub data Current (files : Beginning) (log : Log) (t b : ℕ) (cell : Cell) : Typ
       → ((k : ℕ) → Acknowledged log t k → changes (log k) cell ≡ true → k ≤ q) → Current files log t b cell
 
 -- b is a good copy among these bricks
-pub record Good (n : ℕ) (keeps : ℕ → Kind → Bool) (files : Beginning) (log : Log) (t : ℕ) (among : ℕ → Bool) (g : ℕ) (kind : Kind) (b : ℕ) : Type 0 where
+pub record IsGoodCopy (n : ℕ) (keeps : ℕ → Kind → Bool) (files : Beginning) (log : Log) (t : ℕ) (among : ℕ → Bool) (g : ℕ) (kind : Kind) (b : ℕ) : Type 0 where
   pub below : b < n
   pub member : among b ≡ true
   pub holder : holds files log t b g ≡ true
@@ -49,4 +49,4 @@ pub record Good (n : ℕ) (keeps : ℕ → Kind → Bool) (files : Beginning) (l
 -- whatever majority is asked, each copy that it shows good is current in each cell
 abbrev pub Safe : ℕ → (ℕ → Kind → Bool) → Beginning → Log → ℕ → Type 0
 Safe n keeps files log t =
-    (among : ℕ → Bool) → IsMajority n among → (b : ℕ) (cell : Cell) → Good n keeps files log t among (object_of cell) (kind_of cell) b → Current files log t b cell
+    (among : ℕ → Bool) → IsMajority n among → (b : ℕ) (cell : Cell) → IsGoodCopy n keeps files log t among (object_of cell) (kind_of cell) b → Current files log t b cell

@@ -9,12 +9,12 @@ use Rattle.afr_model.specs.Actors.{is_done}
 use Rattle.afr_model.specs.Complete.{IsComplete, IsFinished}
 use Rattle.afr_model.specs.Ordered.{actors_of}
 use Rattle.afr_plan.specs.declared.plan.Plan.{Plan}
-use Rattle.afr_standstill.specs.Law.{IsKept}
+use Rattle.afr_standstill.specs.Law.{IsPresumed}
 
 no_room : (len turns bound : ℕ) → len < bound → len ≡ turns → bound ≤ turns → ⊥
 no_room len turns bound short full room = omega arith
 
-pub eager_done : (law : EagerEndsWithin) (p : Plan) (log : List Line) → IsKept p log → AreWithinCost p log → AreEager log → IsComplete p log → EndsInAnyOrder p log
+pub eager_done : (law : EagerEndsWithin) (p : Plan) (log : List Line) → IsPresumed p log → AreWithinCost p log → AreEager log → IsComplete p log → EndsInAnyOrder p log
 eager_done law p log kept within eager complete room a actor = go complete
   where
     over : (d : Bool) → is_done p a log ≡ d → length log ≡ p.turns → is_done p a log ≡ true

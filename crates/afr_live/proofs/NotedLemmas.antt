@@ -11,7 +11,7 @@ use Rattle.afr_lines.specs.declared.answer.Told.TheVariants.{Held as HeldBy}
 use Rattle.afr_lines.specs.declared.line.Line.TheVariants.{Ask, Begin, End, Event, HealBegin, HealEnd}
 use Rattle.afr_lines.specs.declared.line.Line.{Line}
 use Rattle.afr_lines.specs.declared.request.Request.TheVariants.{Lock}
-use Rattle.afr_live.specs.Noted.{AreNoted, MayAsk, noted_after, told_at}
+use Rattle.afr_live.specs.Noted.{AreNoted, MayTakeTurn, noted_after, told_at}
 use Rattle.afr_live.specs.declared.held.Held.{Held}
 use Rattle.afr_log.specs.Log.{waits_for}
 use Rattle.afr_model.specs.Actors.{IsActor}
@@ -132,7 +132,7 @@ pub events_eager : (old new : State) → IsHappening old new → AreEager old.lo
 events_eager old new Still eager = eager
 events_eager old new (Later mid _ h comes) eager = rw comes.added ((λ held a own. absurd (true≢false (sym held))), events_eager old mid h eager)
 
-pub events_free : (old new : State) (a : ℕ) → Goes old new → IsHappening old new → MayAsk a old.plan old.log → MayAsk a new.plan new.log
+pub events_free : (old new : State) (a : ℕ) → Goes old new → IsHappening old new → MayTakeTurn a old.plan old.log → MayTakeTurn a new.plan new.log
 events_free old new a g Still may = may
 events_free old new a g (Later mid _ h comes) may = inl (rw comes.added refl)
 
@@ -151,7 +151,7 @@ turn_noted a old new Ended held len h low size n = rw h.1 n
 turn_noted a old new Full held len h low size n = rw h.2 n
 
 -- who was told so may ask again only once another line has come
-pub turn_eager : (a : ActorId) (old new : State) (turned : Turned) → Turns a old turned new → length new.log ≤ new.plan.turns → MayAsk a.0 old.plan old.log → AreEager old.log → AreEager new.log
+pub turn_eager : (a : ActorId) (old new : State) (turned : Turned) → Turns a old turned new → length new.log ≤ new.plan.turns → MayTakeTurn a.0 old.plan old.log → AreEager old.log → AreEager new.log
 turn_eager a old new Moved h room may eager = subst AreEager (sym h.added) ((λ held b own. absurd (true≢false (sym held ∙ turn_moved a old new h))), eager)
 turn_eager a old new (Waits owner) h room may eager = subst AreEager (sym h.added) ((λ held b own. rw (one_actor h.line a.0 b h.own own) free), eager)
   where

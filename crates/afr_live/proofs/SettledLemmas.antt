@@ -14,12 +14,12 @@ use Rattle.afr_order.specs.Going.{Goes, IsIdle}
 use Rattle.afr_plan.specs.declared.plan.Plan.{Plan}
 use Rattle.afr_lines.specs.declared.lock.Domain.TheVariants.{Work}
 use Rattle.afr_standstill.proofs.Standing.{goes_on, held_waits, kept_before}
-use Rattle.afr_standstill.specs.Law.{IsKept, NotAllWait}
+use Rattle.afr_standstill.specs.Law.{IsPresumed, NotAllWait}
 use Rattle.afr_standstill.specs.Order.{IsWaiting}
 use Rattle.afr_volume.specs.State.{State}
 
 -- who was told so since the last other line waits
-back_waits : (p : Plan) (log : List Line) (a : ℕ) → IsKept p log → is_back a log ≡ true → IsWaiting p log a
+back_waits : (p : Plan) (log : List Line) (a : ℕ) → IsPresumed p log → is_back a log ≡ true → IsWaiting p log a
 back_waits p [] a kept back = absurd (true≢false (sym back))
 back_waits p (Ask x y (Lock Work area) (Held owner) took ∷ older) a kept back = go (x.0 == a) refl back (λ h. back_waits p older a (kept_before p (Ask x y (Lock Work area) (Held owner) took) older kept) h)
   where
@@ -29,7 +29,7 @@ back_waits p (Ask x y (Lock Work area) (Held owner) took ∷ older) a kept back 
 back_waits p (line ∷ older) a kept back = absurd (true≢false (sym back))
 
 -- so where each actor is done or was told so, all are done
-all_settled : (law : NotAllWait) (p : Plan) (log : List Line) → IsKept p log → ((a : ℕ) → IsActor p a → (is_done p a log ≡ true) ⊎ (is_back a log ≡ true)) → (a : ℕ) → IsActor p a → is_done p a log ≡ true
+all_settled : (law : NotAllWait) (p : Plan) (log : List Line) → IsPresumed p log → ((a : ℕ) → IsActor p a → (is_done p a log ≡ true) ⊎ (is_back a log ≡ true)) → (a : ℕ) → IsActor p a → is_done p a log ≡ true
 all_settled law p log kept settled a actor = law p log kept waits a actor
   where
     waits : (b : ℕ) → IsActor p b → is_done p b log ≡ false → IsWaiting p log b
@@ -38,7 +38,7 @@ all_settled law p log kept settled a actor = law p log kept waits a actor
       | inr back ↦ back_waits p log b kept back
     ]
 
-pub pass_settled : (law : NotAllWait) (a b c d : State) → IsKept a.plan a.log → Goes a b → Goes b c → Goes c d
+pub pass_settled : (law : NotAllWait) (a b c d : State) → IsPresumed a.plan a.log → Goes a b → Goes b c → Goes c d
     → (length b.log ≤ length a.log → (k : ℕ) → k < length a.plan.clients → IsSettled (1 + k) b)
     → (length c.log ≤ length b.log → (k : ℕ) → k < length a.plan.healers → IsSettled (17 + k) c)
     → (length d.log < d.plan.turns → NoneDue d.plan d.log)

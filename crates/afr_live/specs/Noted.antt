@@ -35,8 +35,8 @@ pub record AreNoted (log : List Line) (held : Held) : Type 0 where
   pub since : (a : ℕ) → a < 20 → is_back a log ≡ is_noted held a
 
 -- an actor may take a turn: it wasn't told so since the last other line, or the log takes no line more
-abbrev pub MayAsk : ℕ → Plan → List Line → Type 0
-MayAsk a p log = (is_back a log ≡ false) ⊎ (p.turns ≤ length log)
+abbrev pub MayTakeTurn : ℕ → Plan → List Line → Type 0
+MayTakeTurn a p log = (is_back a log ≡ false) ⊎ (p.turns ≤ length log)
 
 -- an actor is done, or was told so since the last other line
 abbrev pub IsSettled : ℕ → State → Type 0

@@ -7,8 +7,8 @@ use Rattle.afr_volume.specs.declared.turned.Turned.{Turned}
 use Rattle.afr_volume.specs.declared.turned.Turned.TheVariants.{Moved, Waits, Ended, Full}
 
 -- the log has a line more; or the actor is done; or the log is full
-abbrev pub Takes : ActorId → State → Turned → State → Type 0
-Takes a old Moved new = length old.log < length new.log
-Takes a old (Waits owner) new = length old.log < length new.log
-Takes a old Ended new = is_done new.plan a.0 new.log ≡ true
-Takes a old Full new = length new.log ≡ new.plan.turns
+abbrev pub TakesTurn : ActorId → State → Turned → State → Type 0
+TakesTurn a old Moved new = length old.log < length new.log
+TakesTurn a old (Waits owner) new = length old.log < length new.log
+TakesTurn a old Ended new = is_done new.plan a.0 new.log ≡ true
+TakesTurn a old Full new = length new.log ≡ new.plan.turns

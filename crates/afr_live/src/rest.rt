@@ -7,7 +7,7 @@ ghost use Rattle.afr_order.specs.Going.{Goes, IsIdle};
 ghost use Rattle.afr_rule.specs.Choosing.{IsRule};
 
 use crate::shared::Shared;
-use crate::tally::{Run, Tally};
+use crate::tally::{EndedWorks, Run};
 use afr_base::{ActorId, FIRST_CLIENT, FIRST_HEALER, NoMemory};
 use afr_rule::{Candidate, Rules};
 use afr_standstill::a_log_goes_on;
@@ -19,7 +19,7 @@ use afr_volume::Turned;
 pub fn take_rest<J: Run, F: Fn(&[Candidate]) -> usize, G: Fn(&[Candidate]) -> usize>(
     state: &mut Shared<J>,
     rules: &Rules<F, G>,
-    mine: &mut Tally<J>,
+    mine: &mut EndedWorks<J>,
 ) -> Result<(), NoMemory>
     requires rule { IsRule F.Fn rules.now.heal }
     requires read_rule { IsRule G.Fn rules.now.read }
@@ -43,7 +43,7 @@ pub fn take_rest<J: Run, F: Fn(&[Candidate]) -> usize, G: Fn(&[Candidate]) -> us
 fn take_pass<J: Run, F: Fn(&[Candidate]) -> usize, G: Fn(&[Candidate]) -> usize>(
     state: &mut Shared<J>,
     rules: &Rules<F, G>,
-    mine: &mut Tally<J>,
+    mine: &mut EndedWorks<J>,
 ) -> Result<bool, NoMemory>
     requires rule { IsRule F.Fn rules.now.heal }
     requires read_rule { IsRule G.Fn rules.now.read }
@@ -73,7 +73,7 @@ fn take_row<J: Run, F: Fn(&[Candidate]) -> usize, G: Fn(&[Candidate]) -> usize>(
     first: u16,
     count: u16,
     rules: &Rules<F, G>,
-    mine: &mut Tally<J>,
+    mine: &mut EndedWorks<J>,
 ) -> Result<bool, NoMemory>
     requires rule { IsRule F.Fn rules.now.heal }
     requires read_rule { IsRule G.Fn rules.now.read }
@@ -98,7 +98,7 @@ fn ask<J: Run, F: Fn(&[Candidate]) -> usize, G: Fn(&[Candidate]) -> usize>(
     state: &mut Shared<J>,
     a: ActorId,
     rules: &Rules<F, G>,
-    mine: &mut Tally<J>,
+    mine: &mut EndedWorks<J>,
 ) -> Result<bool, NoMemory>
     requires rule { IsRule F.Fn rules.now.heal }
     requires read_rule { IsRule G.Fn rules.now.read }

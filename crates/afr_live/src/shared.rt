@@ -2,8 +2,8 @@
 ghost use Rattle.std.specs.Prelude.{◌≡◌, ◌⊎◌, ◌<◌, ◌≤◌, ◌+◌, ℕ, true, false, None, OnOk, IfOk, List, [], ◌∷◌, length};
 ghost use Rattle.afr_bound.specs.Law.{AreEager, is_back};
 ghost use Rattle.afr_live.specs.Ends.{works_ended};
-ghost use Rattle.afr_live.specs.Noted.{AreEager-prop, AreNoted, MayAsk};
-ghost use Rattle.afr_live.specs.Turns.{Takes};
+ghost use Rattle.afr_live.specs.Noted.{AreEager-prop, AreNoted, MayTakeTurn};
+ghost use Rattle.afr_live.specs.Turns.{TakesTurn};
 ghost use Rattle.afr_lines.specs.Work.{is_end};
 ghost use Rattle.afr_lines.specs.declared.line.Line.{Line};
 ghost use Rattle.afr_model.specs.Actors.{IsActor, is_done};
@@ -14,7 +14,7 @@ ghost use Rattle.afr_volume.specs.State.{State};
 ghost use Rattle.afr_volume.specs.Turning.{Turns, due_of};
 
 use crate::held::Held;
-use crate::tally::{Handed, Run, Tally};
+use crate::tally::{EndedWorks, Handed, Run};
 use afr_base::{ActorId, NoMemory};
 use afr_lines::Line;
 use afr_order::come_due;
@@ -69,7 +69,7 @@ impl<J: Run> Shared<J> {
     /// All events that are due. Each of them lets a thread that waits go on.
     pub fn come_due(&mut self) -> Result<(), NoMemory>
         ensures goes { Goes self.old.volume self.new.volume }
-        ensures free { (a : ℕ) → MayAsk a self.old.volume.plan self.old.volume.log → MayAsk a self.new.volume.plan self.new.volume.log }
+        ensures free { (a : ℕ) → MayTakeTurn a self.old.volume.plan self.old.volume.log → MayTakeTurn a self.new.volume.plan self.new.volume.log }
         ensures none { OnOk result (due_of self.new.volume ≡ None) }
         ensures events { OnOk result (length self.new.volume.log < self.new.volume.plan.turns → NoneDue self.new.volume.plan self.new.volume.log) }
     {
@@ -85,15 +85,15 @@ impl<J: Run> Shared<J> {
         &mut self,
         a: ActorId,
         rules: &Rules<F, G>,
-        mine: &mut Tally<J>,
+        mine: &mut EndedWorks<J>,
     ) -> Result<Turned, NoMemory>
         requires rule { IsRule F.Fn rules.now.heal }
         requires read_rule { IsRule G.Fn rules.now.read }
         requires actor { IsActor J.plan a.0 }
-        requires free { MayAsk a.0 self.old.volume.plan self.old.volume.log }
+        requires free { MayTakeTurn a.0 self.old.volume.plan self.old.volume.log }
         requires backed { 0 < mine.old.share.parts }
         ensures goes { Goes self.old.volume self.new.volume }
-        ensures ok { IfOk result (λ turned. Takes a self.old.volume turned self.new.volume) }
+        ensures ok { IfOk result (λ turned. TakesTurn a self.old.volume turned self.new.volume) }
         ensures parts { mine.new.share.parts ≡ mine.old.share.parts }
     {
         self.come_due()?;
@@ -115,7 +115,7 @@ impl<J: Run> Shared<J> {
         &mut self,
         a: ActorId,
         rules: &Rules<F, G>,
-        mine: &mut Tally<J>,
+        mine: &mut EndedWorks<J>,
     ) -> After
         requires rule { IsRule F.Fn rules.now.heal }
         requires read_rule { IsRule G.Fn rules.now.read }
@@ -144,7 +144,7 @@ impl<J: Run> Shared<J> {
     }
 
     /// Takes over what a thread has counted.
-    pub fn gather(&mut self, all: &mut Tally<J>, handed: Handed<J>)
+    pub fn gather(&mut self, all: &mut EndedWorks<J>, handed: Handed<J>)
         ensures parts { all.new.share.parts ≡ all.old.share.parts + 1 }
         ensures same { self.new.volume ≡ self.old.volume }
     {
@@ -153,7 +153,7 @@ impl<J: Run> Shared<J> {
     }
 
     /// How many works have ended, where every part of the ledger is there.
-    pub fn sum(&mut self, all: &mut Tally<J>) -> u64
+    pub fn sum(&mut self, all: &mut EndedWorks<J>) -> u64
         requires { all.old.share.parts ≡ J.parts }
         ensures sum { result ≡ works_ended self.new.volume.log }
         ensures same { self.new.volume ≡ self.old.volume }
@@ -181,7 +181,7 @@ impl<J: Run> Shared<J> {
 
     /// Whether the actor's next turn waits: it is held, and the log has room for a line that lets it go on.
     pub fn waits(&self, a: ActorId) -> bool
-        ensures { IsActor J.plan a.0 → result ≡ false → MayAsk a.0 self.now.volume.plan self.now.volume.log }
+        ensures { IsActor J.plan a.0 → result ≡ false → MayTakeTurn a.0 self.now.volume.plan self.now.volume.log }
     {
         if self.is_full() {
             return false;
@@ -212,7 +212,7 @@ fn count<J: Run>(
     a: ActorId,
     turned: Turned,
     ended: &mut Book<J>,
-    mine: &mut Tally<J>,
+    mine: &mut EndedWorks<J>,
 )
     requires counted { (old : State) × Turns a old turned volume.now × (ended.old.total ≡ works_ended old.log) }
     requires backed { 0 < mine.old.share.parts }

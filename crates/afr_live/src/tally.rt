@@ -20,7 +20,7 @@ impl Run for Brand {
 
 /// A number of works that ended, and the share of the ledger that says so.
 #[derive(Drop)]
-pub struct Tally<J: Run> {
+pub struct EndedWorks<J: Run> {
     count: u64,
     pub share: Share<J>,
     ghost counts: { share.amount ≡ count },
@@ -29,34 +29,34 @@ pub struct Tally<J: Run> {
 /// What one thread hands back: it has one part of the ledger.
 #[derive(Drop)]
 pub struct Handed<J: Run> {
-    tally: Tally<J>,
+    tally: EndedWorks<J>,
     ghost one_part: { tally.share.parts ≡ 1 },
 }
 
 impl<J: Run> Handed<J> {
-    pub fn new(tally: Tally<J>) -> Handed<J>
+    pub fn new(tally: EndedWorks<J>) -> Handed<J>
         requires one { tally.share.parts ≡ 1 }
     {
         Handed { tally }
     }
 }
 
-impl<J: Run> Tally<J> {
+impl<J: Run> EndedWorks<J> {
     /// Nothing counted yet.
-    pub fn new(share: Share<J>) -> Tally<J>
+    pub fn new(share: Share<J>) -> EndedWorks<J>
         requires none { share.amount ≡ 0 }
         ensures { result.share.parts ≡ share.parts }
     {
-        Tally { count: 0, share }
+        EndedWorks { count: 0, share }
     }
 
     /// A tally of its own for a thread, of one part and nothing counted.
-    pub fn split(&mut self) -> Tally<J>
+    pub fn split(&mut self) -> EndedWorks<J>
         requires more { 1 < self.old.share.parts }
         ensures one { result.share.parts ≡ 1 }
         ensures left { self.new.share.parts + 1 ≡ self.old.share.parts }
     {
-        Tally::new(self.share.split_off(1, 0))
+        EndedWorks::new(self.share.split_off(1, 0))
     }
 
     /// Counts one work that ended, here and in the book.
@@ -78,7 +78,7 @@ impl<J: Run> Tally<J> {
         ensures total { book.new.total ≡ book.old.total }
     {
         let Handed { tally } = handed;
-        let Tally { count, share } = tally;
+        let EndedWorks { count, share } = tally;
         self.share.merge(share);
         book.audit(&mut self.share);
         self.count += count;

@@ -12,7 +12,7 @@ ghost use Rattle.afr_volume.specs.Right.{IsRight};
 use crate::gate::Gate;
 use crate::rest::take_rest;
 use crate::shared::{After, Shared};
-use crate::tally::{Handed, Run, Tally};
+use crate::tally::{EndedWorks, Handed, Run};
 use afr_base::{ActorId, FIRST_CLIENT, FIRST_HEALER, NoMemory};
 use afr_bound::an_ordered_run_ends;
 use afr_rule::{Candidate, Rules};
@@ -102,7 +102,7 @@ fn live_as<
         return Err((volume, NoMemory));
     };
     let (book, share) = blank.open::<J>();
-    let tally = Tally::new(share);
+    let tally = EndedWorks::new(share);
     let shared = Mutex::new(Shared::new(volume, book));
     let moved = Condvar::new();
     let (tally, running) = run_threads(
@@ -129,9 +129,9 @@ fn run_threads<
     gate: &'x H,
     clients: u16,
     actors: u16,
-    tally: Tally<J>,
+    tally: EndedWorks<J>,
     running: Vec<JoinHandle<Handed<J>>>,
-) -> (Tally<J>, Vec<JoinHandle<Handed<J>>>)
+) -> (EndedWorks<J>, Vec<JoinHandle<Handed<J>>>)
     requires rule { IsRule F.Fn rules.now.heal }
     requires read_rule { IsRule G.Fn rules.now.read }
     requires clients { clients ≡ length J.plan.clients }
@@ -146,7 +146,7 @@ fn run_threads<
     thread::scope(
         thread::scope_env(),
         here,
-        move |scope| -> (Tally<J>, Vec<JoinHandle<Handed<J>>>)
+        move |scope| -> (EndedWorks<J>, Vec<JoinHandle<Handed<J>>>)
             requires rule { IsRule F.Fn rules.now.heal }
             requires read_rule { IsRule G.Fn rules.now.read }
             requires clients { clients ≡ length J.plan.clients }
@@ -183,9 +183,9 @@ fn start_all<
     gate: &'s H,
     clients: u16,
     actors: u16,
-    tally: Tally<J>,
+    tally: EndedWorks<J>,
     running: Vec<JoinHandle<Handed<J>>>,
-) -> (Tally<J>, Vec<JoinHandle<Handed<J>>>)
+) -> (EndedWorks<J>, Vec<JoinHandle<Handed<J>>>)
     requires rule { IsRule F.Fn rules.now.heal }
     requires read_rule { IsRule G.Fn rules.now.read }
     requires clients { clients ≡ length J.plan.clients }
@@ -248,7 +248,7 @@ fn take_turns<J: Run, R: Wait, F: Fn(&[Candidate]) -> usize, G: Fn(&[Candidate])
     a: ActorId,
     rules: &Rules<F, G>,
     gate: &H,
-    mine: Tally<J>,
+    mine: EndedWorks<J>,
 ) -> Handed<J>
     requires rule { IsRule F.Fn rules.now.heal }
     requires read_rule { IsRule G.Fn rules.now.read }
@@ -275,7 +275,7 @@ fn take_turn<J: Run, R: Wait, F: Fn(&[Candidate]) -> usize, G: Fn(&[Candidate]) 
     moved: &Condvar,
     a: ActorId,
     rules: &Rules<F, G>,
-    mine: &mut Tally<J>,
+    mine: &mut EndedWorks<J>,
 ) -> bool
     requires rule { IsRule F.Fn rules.now.heal }
     requires read_rule { IsRule G.Fn rules.now.read }
@@ -305,7 +305,7 @@ fn finish<J: Run, R: Threads, F: Fn(&[Candidate]) -> usize, G: Fn(&[Candidate]) 
     rt: &R,
     state: Shared<J>,
     rules: &Rules<F, G>,
-    tally: Tally<J>,
+    tally: EndedWorks<J>,
     running: Vec<JoinHandle<Handed<J>>>,
 ) -> Result<(Volume, u64), (Volume, NoMemory)>
     requires rule { IsRule F.Fn rules.now.heal }

@@ -12,8 +12,8 @@ use Rattle.afr_lines.specs.declared.lock.Domain.{Domain}
 use Rattle.afr_log.specs.declared.asked.Asker.{Asker}
 use Rattle.afr_log.specs.declared.packed.Short.{Short}
 use Rattle.afr_log.specs.declared.packed.Short.TheVariants as short
-use Rattle.afr_log.specs.declared.shown.Shown.{Shown}
-use Rattle.afr_log.specs.declared.shown.Shown.TheVariants.{Made, Kept}
+use Rattle.afr_log.specs.declared.shown.ShownLine.{ShownLine}
+use Rattle.afr_log.specs.declared.shown.ShownLine.TheVariants.{Made, Kept}
 
 -- the lines, the oldest first, and whether there is room for one more
 pub record Logged : Type 0 where
@@ -21,7 +21,7 @@ pub record Logged : Type 0 where
   pub room : Bool
 
 -- the line that is shown
-abbrev pub shown_line : Shown → Line
+abbrev pub shown_line : ShownLine → Line
 shown_line (Made line) = line
 shown_line (Kept line) = line.now
 
@@ -45,6 +45,6 @@ waits_for (Ask actor brick (Lock Work area) (Held owner) took) = Some owner
 waits_for line = None
 
 -- whom a packed lock waits for
-abbrev pub holder : Domain → Short → Option ActorId
-holder Work (short.Held owner) = Some owner
-holder domain told = None
+abbrev pub waited_for : Domain → Short → Option ActorId
+waited_for Work (short.Held owner) = Some owner
+waited_for domain told = None

@@ -11,4 +11,4 @@ mod waits;
 
 pub use asked::Asker;
 pub use log::Log;
-pub use shown::Shown;
+pub use shown::ShownLine;

@@ -10,7 +10,7 @@ ghost use Rattle.afr_log.specs.Log.{asked_line, shown_line, unasked, waits_for};
 use crate::asked::{Asker, unpack};
 use crate::marked::pack_shown;
 use crate::packed::{By, Packed, pack, short_of};
-use crate::shown::{Shown, show};
+use crate::shown::{ShownLine, show};
 use crate::waits::{entry_unasked, entry_waits};
 use afr_base::{ActorId, BrickId, NoMemory};
 use afr_lines::{Answer, Line, Request, Told, told_of};
@@ -181,7 +181,7 @@ impl Log {
     }
 
     /// The line at a position.
-    pub fn line(&self, at: usize) -> Option<Shown<'_>>
+    pub fn line(&self, at: usize) -> Option<ShownLine<'_>>
         ensures { option_map shown_line result ≡ slice_get self.now.items at }
     {
         match entry_at(self.packed.as_slice(), at) {

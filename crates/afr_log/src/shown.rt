@@ -11,31 +11,31 @@ use afr_lines::{Line, Request, Told};
 
 /// A line that was made of its entry, or one that the log keeps.
 #[derive(Debug, Drop)]
-pub enum Shown<'a> {
+pub enum ShownLine<'a> {
     Made(Line),
     Kept(&'a Line),
 }
 
-impl<'a> Shown<'a> {
+impl<'a> ShownLine<'a> {
     pub fn as_line(&self) -> &Line
         ensures { result.now ≡ shown_line self.now }
     {
         match self {
-            Shown::Made(line) => line,
-            Shown::Kept(line) => *line,
+            ShownLine::Made(line) => line,
+            ShownLine::Kept(line) => *line,
         }
     }
 }
 
 /// The line of an entry, where these lines are kept.
-pub(crate) fn show<'a>(entry: &Packed, kept: &'a [Line]) -> Shown<'a>
+pub(crate) fn show<'a>(entry: &Packed, kept: &'a [Line]) -> ShownLine<'a>
     requires { IsThere (length kept.now) entry.now }
     ensures { shown_line result ≡ line_of kept.now entry.now }
 {
     match entry {
-        Packed::Kept(place) => Shown::Kept(&kept[*place]),
-        Packed::MarkedFile { .. } | Packed::MarkedDir { .. } => Shown::Made(marked_line(entry)),
-        _ => Shown::Made(made(entry)),
+        Packed::Kept(place) => ShownLine::Kept(&kept[*place]),
+        Packed::MarkedFile { .. } | Packed::MarkedDir { .. } => ShownLine::Made(marked_line(entry)),
+        _ => ShownLine::Made(made(entry)),
     }
 }
 

@@ -2,7 +2,7 @@
 ghost use Rattle.std.specs.Prelude.{◌≡◌, length};
 ghost use Rattle.std.specs.Option.{option_copied};
 ghost use Rattle.afr_log.specs.Entries.{IsThere, line_of};
-ghost use Rattle.afr_log.specs.Log.{holder, unasked_line, waits_for};
+ghost use Rattle.afr_log.specs.Log.{unasked_line, waited_for, waits_for};
 
 use crate::packed::{Packed, Short};
 use afr_base::ActorId;
@@ -48,7 +48,7 @@ fn waits_for(line: &Line) -> Option<ActorId>
 
 /// Whom a lock of the works waits for, by what it was told.
 fn holder(domain: Domain, told: Short) -> Option<ActorId>
-    ensures { result ≡ holder domain told }
+    ensures { result ≡ waited_for domain told }
 {
     match (domain, told) {
         (Domain::Work, Short::Held(owner)) => Some(owner),

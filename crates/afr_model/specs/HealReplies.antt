@@ -13,7 +13,7 @@ use Rattle.afr_choice.specs.Looks.{view_at}
 use Rattle.afr_choice.specs.Verdict.{good_copies, holders_of}
 use Rattle.afr_choice.specs.declared.looked.Looked.{Looked}
 use Rattle.afr_lines.specs.Work.{Work}
-use Rattle.afr_lines.specs.declared.answer.Told.TheVariants as told_of
+use Rattle.afr_lines.specs.declared.answer.Told.TheVariants as as_told
 use Rattle.afr_lines.specs.declared.line.Line.{Line}
 use Rattle.afr_lines.specs.declared.line.Line.TheVariants.{Ask, End, HealEnd}
 use Rattle.afr_lines.specs.declared.reply.Good.TheVariants as good
@@ -69,7 +69,7 @@ settles line = false
 
 -- a line ends a heal with Failed: a request was told a fault, but not an unlock that failed, nor an unlock after the settling
 abbrev pub fails_heal : Line → Work → Bool
-fails_heal (Ask a b (request.Unlock domain area) told_of.NotConnected took) w = not (has settles w)
+fails_heal (Ask a b (request.Unlock domain area) as_told.NotConnected took) w = not (has settles w)
 fails_heal (Ask a b (request.Unlock domain area) told took) w = false
 fails_heal (Ask a b request told took) w = is_fault told
 fails_heal line w = false

@@ -13,7 +13,7 @@ use Rattle.afr_choice.specs.Verdict.{copies_of, holders_of}
 use Rattle.afr_choice.specs.declared.looked.Looked.{Looked}
 use Rattle.afr_object.specs.declared.entry.View.{View}
 use Rattle.afr_lines.specs.Work.{Work}
-use Rattle.afr_lines.specs.declared.answer.Told.TheVariants as told_of
+use Rattle.afr_lines.specs.declared.answer.Told.TheVariants as as_told
 use Rattle.afr_lines.specs.declared.line.Line.{Line}
 use Rattle.afr_lines.specs.declared.line.Line.TheVariants.{Ask, HealBegin, HealEnd}
 use Rattle.afr_lines.specs.declared.request.Area.{Area}
@@ -91,7 +91,7 @@ settled_at line s = s
 -- who held the Heal lock where it was asked first in vain
 abbrev pub busy_after : Line → Option ActorId → Option ActorId
 busy_after line (Some owner) = Some owner
-busy_after (Ask a b (request.Lock domain.Heal area) (told_of.Held owner) took) None = Some owner
+busy_after (Ask a b (request.Lock domain.Heal area) (as_told.Held owner) took) None = Some owner
 busy_after line None = None
 
 -- the same of all lines of a heal

@@ -86,18 +86,18 @@ abbrev pub tells : ActorId → Request → ℕ → Table → List Line → Told
 tells a request b t older = told_by (answer_by (in_the_way a request b older) request t older)
 
 -- what is told, and whether the brick carried the request out
-pub record Outcome : Type 0 where
+pub record RequestOutcome : Type 0 where
   pub told : Told
   pub took : Bool
 
 -- by the fault that the plan has for a request over a live session: refused, carried out with its answer lost, or carried out and answered
-abbrev pub faulted : Option Fault → Told → Outcome
+abbrev pub faulted : Option Fault → Told → RequestOutcome
 faulted (Some Fail) said = record { told = told.Failed; took = false }
 faulted (Some Lost) said = record { told = told.NotConnected; took = true }
 faulted None said = record { told = said; took = true }
 
 -- by the session: without a live one nothing is carried out
-abbrev pub over_session : Bool → Option Fault → Told → Outcome
+abbrev pub over_session : Bool → Option Fault → Told → RequestOutcome
 over_session live fault said = if live then faulted fault said else record { told = told.NotConnected; took = false }
 
 -- whether the session of the line's actor with the brick is live, be it by this line
@@ -105,7 +105,7 @@ abbrev pub is_live : Plan → ActorId → ℕ → Line → List Line → Bool
 is_live p a b line older = is_joined p a.0 b older || opens_with p a.0 b line older
 
 -- what the brick's tables, locks and sessions, and the plan's faults, give for a request
-abbrev pub outcome_of : Plan → ActorId → ℕ → Request → Line → List Line → Outcome
+abbrev pub outcome_of : Plan → ActorId → ℕ → Request → Line → List Line → RequestOutcome
 outcome_of p a b request line older = over_session (is_live p a b line older) (fault_in p.faults b (suc (requests_to b older))) (tells a request b (holds p older b) older)
 
 -- a line was told what its brick then gives

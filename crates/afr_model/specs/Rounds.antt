@@ -43,13 +43,13 @@ plus_healed (HealEnd a g kind reply) n = n + 1
 plus_healed line n = n
 
 -- how many heals of a round have ended
-abbrev pub healed : Work → ℕ
-healed [] = 0
-healed (x ∷ w) = plus_healed x.0 (healed w)
+abbrev pub heals_ended : Work → ℕ
+heals_ended [] = 0
+heals_ended (x ∷ w) = plus_healed x.0 (heals_ended w)
 
 -- the heal that the round is at, or none where all have ended
 abbrev pub heal_due : Plan → Work → Option (Gfid × Kind)
-heal_due p w = slice_get (heals_of (listed_by p w)) (healed w)
+heal_due p w = slice_get (heals_of (listed_by p w)) (heals_ended w)
 
 -- the object of a heal's request; requests that no heal makes have none
 abbrev pub object_healed : Request → Option Gfid

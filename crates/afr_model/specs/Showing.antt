@@ -13,7 +13,7 @@ use Rattle.afr_object.specs.Object.{Object}
 use Rattle.afr_lines.specs.Areas.{object_of_area}
 use Rattle.afr_lines.specs.Work.{Work}
 use Rattle.afr_lines.specs.declared.answer.Told.{Told}
-use Rattle.afr_lines.specs.declared.answer.Told.TheVariants as told_of
+use Rattle.afr_lines.specs.declared.answer.Told.TheVariants as as_told
 use Rattle.afr_lines.specs.declared.line.Line.{Line}
 use Rattle.afr_lines.specs.declared.line.Line.TheVariants.{Ask, Begin}
 use Rattle.afr_lines.specs.declared.reply.Good.{Good}
@@ -28,23 +28,23 @@ pub use Rattle.afr_object.specs.Tables.{root_entry}
 -- ---- answers
 -- the brick refused, or couldn't be reached
 abbrev pub is_fault : Told → Bool
-is_fault told_of.Failed = true
-is_fault told_of.NotConnected = true
+is_fault as_told.Failed = true
+is_fault as_told.NotConnected = true
 is_fault other = false
 
 -- whether the brick carried the request out
 abbrev pub is_done : Told → Bool
-is_done told_of.Done = true
+is_done as_told.Done = true
 is_done other = false
 
 -- whether the lock was granted
 abbrev pub is_granted : Told → Bool
-is_granted told_of.Granted = true
+is_granted as_told.Granted = true
 is_granted other = false
 
 -- whether another holds a lock in the way
 abbrev pub is_held : Told → Bool
-is_held (told_of.Held owner) = true
+is_held (as_told.Held owner) = true
 is_held other = false
 
 -- ---- the path
@@ -62,7 +62,7 @@ one_name entry path = path
 
 -- what a line makes of it
 abbrev pub path_after : Plan → Line → List Line → Path → Path
-path_after p (Ask a b (request.ReadName g name) told_of.Given took) older path = one_name (entry_at g name (holds p older b.0)) path
+path_after p (Ask a b (request.ReadName g name) as_told.Given took) older path = one_name (entry_at g name (holds p older b.0)) path
 path_after p (Ask a b (request.ReadName g name) told took) older path = Untold
 path_after p line older path = path
 
@@ -74,8 +74,8 @@ path_by p (x ∷ w) = path_after p x.0 x.1 (path_by p w)
 -- ---- the looks
 -- what a look's answer shows of brick b
 abbrev pub look_shows : ℕ → Told → Looked → Looked
-look_shows b (told_of.Seen view) looked = with_look b (Some view) looked
-look_shows b told_of.NoObject looked = with_look b None looked
+look_shows b (as_told.Seen view) looked = with_look b (Some view) looked
+look_shows b as_told.NoObject looked = with_look b None looked
 look_shows b told looked = without_look b looked
 
 -- what a line shows of an object: a look its view; a lock on it makes the earlier looks void
@@ -218,7 +218,7 @@ given_by request (Some o) = Gave (shown_by request o)
 
 -- a read was told that it was given
 abbrev pub reading_told : Request → Gfid → Told → Table → Reading
-reading_told request g told_of.Given t = given_by request (copy_at g t)
+reading_told request g as_told.Given t = given_by request (copy_at g t)
 reading_told request g told t = Refused
 
 -- what a line makes of it

@@ -10,7 +10,7 @@ use Rattle.afr_choice.specs.declared.looked.Looked.{Looked}
 use Rattle.afr_object.specs.declared.change.Change.{Change}
 use Rattle.afr_lines.specs.Log.{change_of}
 use Rattle.afr_lines.specs.Work.{Work}
-use Rattle.afr_lines.specs.declared.answer.Told.TheVariants as told_of
+use Rattle.afr_lines.specs.declared.answer.Told.TheVariants as as_told
 use Rattle.afr_lines.specs.declared.line.Line.{Line}
 use Rattle.afr_lines.specs.declared.line.Line.TheVariants.{Ask}
 use Rattle.afr_lines.specs.declared.request.Area.{Area}
@@ -91,9 +91,9 @@ getting area line s = s
 
 -- those where it is held: it was granted, and neither released nor lost since
 abbrev pub holding : Area → Line → List ℕ → List ℕ
-holding area (Ask a b (request.Lock WorkDomain other) told_of.Granted took) s = if same_area area other then added b.0 s else s
-holding area (Ask a b (request.Unlock WorkDomain other) told_of.Done took) s = if same_area area other then removed b.0 s else s
-holding area (Ask a b request told_of.NotConnected took) s = removed b.0 s
+holding area (Ask a b (request.Lock WorkDomain other) as_told.Granted took) s = if same_area area other then added b.0 s else s
+holding area (Ask a b (request.Unlock WorkDomain other) as_told.Done took) s = if same_area area other then removed b.0 s else s
+holding area (Ask a b request as_told.NotConnected took) s = removed b.0 s
 holding area line s = s
 
 -- ---- the attempt

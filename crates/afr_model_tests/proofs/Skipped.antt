@@ -11,7 +11,7 @@ use Rattle.afr_object.specs.declared.entry.Entry.{Entry}
 use Rattle.afr_lines.specs.declared.request.Area.{Area}
 use Rattle.afr_model.specs.Commands.{area_on}
 use Rattle.afr_model.specs.Showing.{At, Path, root_entry}
-use Rattle.afr_model.specs.Skipped.{takers, AsksAll, IsCarried, IsChildLocked, IsLocked, IsLooked, SkipsNothing}
+use Rattle.afr_model.specs.Skipped.{takers, AsksAll, WentThroughPhases, IsChildLocked, IsLocked, IsLooked, SkipsNothing}
 use Rattle.afr_model_tests.proofs.Means.{each_of_three, fails, from_some}
 use Rattle.afr_model_tests.proofs.Skipping.{all_locked, all_looked}
 use Rattle.afr_model_tests.proofs.Words.{plan, work_of, file, new_name, child, child_area, child_entry, child_found, child_listed, child_removed, file_entry, removes, writes, write_area, write_change, name_area, led_to_file, ask, at_each, at_two, begin, pre, apply, post, lock, look_root, look_file, look_failed, look_child, ready, written}
@@ -70,23 +70,23 @@ a_child_not_looked_at_on_2 locked = fails (locked.looked refl 2 refl refl)
 
 -- ---- the phases of an attempt
 -- each of three holders went through all three
-pub three_phases_at_each : IsCarried plan writes write_change (work_of written)
+pub three_phases_at_each : WentThroughPhases plan writes write_change (work_of written)
 three_phases_at_each = record { prepared_all = λ b taker. taker; applied_all = λ enough b did. did; posted_all = λ enough done b did. did }
 
 -- brick 2's pre-op failed, so it isn't asked for more
-pub a_failed_pre_ends_a_brick : IsCarried plan writes write_change (work_of (at_two (post 10 file Bytes (2 ∷ [])) (at_two (apply 10) (ask 2 (request.Pre file Bytes) told.Failed ∷ at_two (pre file Bytes) (begin write_change ∷ ready)))))
+pub a_failed_pre_ends_a_brick : WentThroughPhases plan writes write_change (work_of (at_two (post 10 file Bytes (2 ∷ [])) (at_two (apply 10) (ask 2 (request.Pre file Bytes) told.Failed ∷ at_two (pre file Bytes) (begin write_change ∷ ready)))))
 a_failed_pre_ends_a_brick = record { prepared_all = λ b taker. taker; applied_all = λ enough b did. did; posted_all = λ enough done b did. did }
 
 -- holder 2 wasn't asked for its pre-op
-pub a_holder_without_a_pre : IsCarried plan writes write_change (work_of (at_two (post 10 file Bytes []) (at_two (apply 10) (at_two (pre file Bytes) (begin write_change ∷ ready))))) → ⊥
+pub a_holder_without_a_pre : WentThroughPhases plan writes write_change (work_of (at_two (post 10 file Bytes []) (at_two (apply 10) (at_two (pre file Bytes) (begin write_change ∷ ready))))) → ⊥
 a_holder_without_a_pre carried = fails (carried.prepared_all 2 refl)
 
 -- brick 2 did its pre-op and wasn't asked for the operation
-pub a_pre_without_an_apply : IsCarried plan writes write_change (work_of (at_two (post 10 file Bytes []) (at_two (apply 10) (at_each (pre file Bytes) (begin write_change ∷ ready))))) → ⊥
+pub a_pre_without_an_apply : WentThroughPhases plan writes write_change (work_of (at_two (post 10 file Bytes []) (at_two (apply 10) (at_each (pre file Bytes) (begin write_change ∷ ready))))) → ⊥
 a_pre_without_an_apply carried = fails (carried.applied_all refl 2 refl)
 
 -- brick 2 did the operation and wasn't asked for its post-op
-pub an_apply_without_a_post : IsCarried plan writes write_change (work_of (at_two (post 10 file Bytes []) (at_each (apply 10) (at_each (pre file Bytes) (begin write_change ∷ ready))))) → ⊥
+pub an_apply_without_a_post : WentThroughPhases plan writes write_change (work_of (at_two (post 10 file Bytes []) (at_each (apply 10) (at_each (pre file Bytes) (begin write_change ∷ ready))))) → ⊥
 an_apply_without_a_post carried = fails (carried.posted_all refl refl 2 refl)
 
 -- ---- a whole command
@@ -96,7 +96,7 @@ a_write_skips_nothing = record {
   looked = all_looked 3 (work_of written) refl;
   locked = all_locked 3 (work_of written) refl;
   child = λ rmdir. fails rmdir;
-  carried = λ change same. from_some (λ it. IsCarried plan writes it (work_of written)) write_change change three_phases_at_each same;
+  carried = λ change same. from_some (λ it. WentThroughPhases plan writes it (work_of written)) write_change change three_phases_at_each same;
 }
 
 -- a write that left out its lock at brick 2
@@ -127,7 +127,7 @@ an_rmdir_skips_nothing = record {
   looked = all_looked 3 (work_of child_removed) refl;
   locked = all_locked 3 (work_of child_removed) refl;
   child = λ rmdir read dir found name at_dir at_child is area. of dir (ap entry_at at_dir) found (ap entry_at at_child) name area;
-  carried = λ begun same. from_some (λ it. IsCarried plan removes it (work_of child_removed)) (change.Remove root new_name Dir) begun (record { prepared_all = λ b taker. taker; applied_all = λ enough b did. did; posted_all = λ enough done b did. did }) same;
+  carried = λ begun same. from_some (λ it. WentThroughPhases plan removes it (work_of child_removed)) (change.Remove root new_name Dir) begun (record { prepared_all = λ b taker. taker; applied_all = λ enough b did. did; posted_all = λ enough done b did. did }) same;
 }
   where
     of : (dir : Entry) → root_entry ≡ dir → (found : Entry) → child_entry ≡ found → (name : Area) → area_on dir.gfid removes ≡ Some name → IsChildLocked plan dir.gfid found.gfid name (work_of child_removed)

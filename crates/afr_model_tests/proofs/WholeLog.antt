@@ -21,7 +21,7 @@ use Rattle.afr_model.specs.Chosen.{IsChosen}
 use Rattle.afr_model.specs.Complete.{IsFinished}
 use Rattle.afr_model.specs.Following.{Follows, IsTurnOf, KeepsToTask, NoneDue}
 use Rattle.afr_model.specs.Keeping.{KeepsTo}
-use Rattle.afr_model.specs.Honest.{Honest, Outcome}
+use Rattle.afr_model.specs.Honest.{Honest, RequestOutcome}
 use Rattle.afr_model.specs.Replied.{IsOf, IsOfTask, Replied}
 use Rattle.afr_model.specs.ReportHealers.{report_of}
 use Rattle.afr_model.specs.Showing.{At, NotAsked, begins_attempt, has, path_by, reading_by, root_entry}
@@ -80,7 +80,7 @@ is_empty_view said = false
 -- isn't honest
 pub a_wrong_view_is_not_honest : Honest listing (long_look ∷ []) → ⊥
 unfolding below
-a_wrong_view_is_not_honest honest = told_apart (λ (outcome : Outcome). is_empty_view outcome.told) _ _ refl refl (sym honest.0)
+a_wrong_view_is_not_honest honest = told_apart (λ (outcome : RequestOutcome). is_empty_view outcome.told) _ _ refl refl (sym honest.0)
 
 -- ---- the command
 -- a line of the client is of its only command

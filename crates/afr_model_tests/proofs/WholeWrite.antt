@@ -26,7 +26,7 @@ use Rattle.afr_model.specs.Honest.{Honest}
 use Rattle.afr_model.specs.Replied.{IsOf, IsOfTask, Replied}
 use Rattle.afr_model.specs.ReportHealers.{report_of}
 use Rattle.afr_model.specs.Showing.{At, NotAsked, among, begins_attempt, has, path_by, reading_by, root_entry}
-use Rattle.afr_model.specs.Skipped.{IsCarried}
+use Rattle.afr_model.specs.Skipped.{WentThroughPhases}
 use Rattle.afr_model.specs.Standing.{area_here, change_by, getting, looks_here}
 use Rattle.afr_model_tests.proofs.Answered.{is_ok}
 use Rattle.afr_model_tests.proofs.Blamed.{none_blamed}
@@ -94,7 +94,7 @@ task : {line : Line} {older : List Line} → slice_get (script_of failing 1) (en
 task {line = line} {older = older} first about = record { command = λ it same. from_some (λ c. IsOf failing c line (work 1 older)) writes it about (sym first ∙ same); round = λ healer b same. absurd (omega (arith, healer)) }
 
 -- the attempt went through its phases where it could
-carried : IsCarried failing writes write_change (work_of released)
+carried : WentThroughPhases failing writes write_change (work_of released)
 carried = record { prepared_all = λ b taker. taker; applied_all = λ enough b did. did; posted_all = λ enough done b did. did }
 
 -- a write that two of three bricks did is acknowledged
@@ -108,7 +108,7 @@ a_write_that_two_did_is_acknowledged = record {
     looked = all_looked 3 (work_of released) refl;
     locked = all_locked 3 (work_of released) refl;
     child = λ rmdir. fails rmdir;
-    carried = λ begun same. from_some (λ it. IsCarried failing writes it (work_of released)) write_change begun carried same;
+    carried = λ begun same. from_some (λ it. WentThroughPhases failing writes it (work_of released)) write_change begun carried same;
   };
 }
 

@@ -34,10 +34,10 @@ pub record MayHealBegin (n : ℕ) (r : Exact) (g : ℕ) (kind : Kind) : Type 0 w
   pub whole : r.broken ≡ false
   pub object : g ≡ r.law.object
   pub step : r.step ≡ WorkLocks
-  pub over : over n (locks_at r r.phase) r.asked ≡ true
-  pub enough : r.phase ≡ Opening → IsMajority n r.law.held
-  pub opening : r.phase ≡ Opening → r.law.area ≡ Some (whole_area g kind)
-  pub later : (r.phase ≡ Opening → ⊥) → kind ≡ r.law.kind
+  pub over : over n (locks_at r r.part) r.asked ≡ true
+  pub enough : r.part ≡ Opening → IsMajority n r.law.held
+  pub opening : r.part ≡ Opening → r.law.area ≡ Some (whole_area g kind)
+  pub later : (r.part ≡ Opening → ⊥) → kind ≡ r.law.kind
 
 -- the end of a heal: no lock is held, and no step is left
 pub record MayHealEnd (n : ℕ) (r : Exact) : Type 0 where

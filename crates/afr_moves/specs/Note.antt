@@ -14,7 +14,7 @@ use Rattle.afr_lines.specs.Overlap.{same_area}
 use Rattle.afr_moves.specs.Sets.{any, empty, with}
 use Rattle.afr_moves.specs.Past.{is_gone}
 use Rattle.afr_moves.specs.Rules.{busy, is_area, no_views}
-use Rattle.afr_moves.specs.Register.{Exact, Step, Untouched, Open, Pres, Applies, Posts, HealLocks, WorkLocks, Looks, Reads, HealPres, Mends, Settles, Unlocks, HealUnlocks, rank, same_step, Phase, Piece, Finish, is_opening, is_piece, everywhere, asked_in, over, whole_area, span, is_on}
+use Rattle.afr_moves.specs.Register.{Exact, Step, Untouched, Open, Pres, Applies, Posts, HealLocks, WorkLocks, Looks, Reads, HealPres, Mends, Settles, Unlocks, HealUnlocks, rank, same_step, HealPart, Piece, Finish, is_opening, is_piece, everywhere, asked_in, over, whole_area, span, is_on}
 use Rattle.afr_moves.specs.Steps.{may_heal, goes_on, looks_at}
 
 -- no answer, as far as a heal goes
@@ -67,12 +67,12 @@ left_outside n r b (Post q g kind missed) told = entering r Posts b false
 left_outside n r b request told = stay r
 
 -- the first Work lock after the unlocks begins a piece, or the finish where it is of all bytes
-abbrev pub next_phase : Exact → Area → Phase
-next_phase r area = if same_step r.step Unlocks then (if same_area (whole_area r.law.object Bytes) area then Finish else Piece) else r.phase
+abbrev pub next_part : Exact → Area → HealPart
+next_part r area = if same_step r.step Unlocks then (if same_area (whole_area r.law.object Bytes) area then Finish else Piece) else r.part
 
 -- a look of the first part
 abbrev pub put_first : Exact → ℕ → Told → Exact
-put_first r b told = record r { first_reached = if is_opening r.phase then put r.first_reached b (answers told) else r.first_reached; first_views = if is_opening r.phase then put r.first_views b (view_of told) else r.first_views }
+put_first r b told = record r { first_reached = if is_opening r.part then put r.first_reached b (answers told) else r.first_reached; first_views = if is_opening r.part then put r.first_views b (view_of told) else r.first_views }
 
 -- the position of a read that gave something
 abbrev pub given : Told → ℕ → Option ℕ
@@ -106,8 +106,8 @@ is_failed _ = false
 -- in a heal
 abbrev pub left_in_heal : ℕ → Exact → ℕ → ℕ → Request → Told → Exact
 left_in_heal n r t b (Lock Heal area) told = entering r HealLocks b false
-left_in_heal n r t b (Lock Work area) told = record (entering r WorkLocks b (not (is_granted told || fails told))) { phase = next_phase r area }
-left_in_heal n r t b (Unlock Work area) told = record (entering r Unlocks b (is_failed told)) { upto = if is_piece r.phase && nat_lt (rank r.step) (rank Unlocks) then r.upto + span else r.upto }
+left_in_heal n r t b (Lock Work area) told = record (entering r WorkLocks b (not (is_granted told || fails told))) { part = next_part r area }
+left_in_heal n r t b (Unlock Work area) told = record (entering r Unlocks b (is_failed told)) { upto = if is_piece r.part && nat_lt (rank r.step) (rank Unlocks) then r.upto + span else r.upto }
 left_in_heal n r t b (Unlock Heal area) told = entering r HealUnlocks b (is_failed told)
 left_in_heal n r t b (Look g) told = put_first (put_look (entering r Looks b (not (answers told || fails told))) true b told) b told
 left_in_heal n r t b (ReadBytes g at len) told = reading r t b told
@@ -121,8 +121,8 @@ left_in_heal n r t b request told = r
 -- the answer ends the heal: busy; or it comes after the first looks and is no answer, a failed unlock aside
 abbrev pub breaks : Exact → Request → Told → Bool
 breaks r (Lock Heal area) told = is_held told
-breaks r (Lock Work area) told = fails told && not (is_opening (next_phase r area))
-breaks r (Look g) told = fails told && not (is_opening r.phase)
+breaks r (Lock Work area) told = fails told && not (is_opening (next_part r area))
+breaks r (Look g) told = fails told && not (is_opening r.part)
 breaks r (Unlock domain area) told = is_gone told
 breaks r request told = fails told
 
@@ -136,8 +136,8 @@ left_by n keeps r t b request told =
 -- too few locks, or a verdict or looks that end the heal
 abbrev pub stops_at : ℕ → (ℕ → Kind → Bool) → Exact → Step → Bool
 stops_at n keeps r HealLocks = over n everywhere r.asked && not (is_most n r.law.healing)
-stops_at n keeps r WorkLocks = is_opening r.phase && over n r.law.healing r.asked && not (is_most n r.law.held)
-stops_at n keeps r Looks = over n (looks_at r r.phase) r.asked && not (any n (λ s. r.possible s && goes_on n keeps r s))
+stops_at n keeps r WorkLocks = is_opening r.part && over n r.law.healing r.asked && not (is_most n r.law.held)
+stops_at n keeps r Looks = over n (looks_at r r.part) r.asked && not (any n (λ s. r.possible s && goes_on n keeps r s))
 stops_at n keeps r _ = false
 
 -- a heal that a step ends has only unlocks left

@@ -31,8 +31,8 @@ abbrev pub IsByte : ℕ → Type 0
 IsByte k = k < 2 ^ 8
 
 -- a number of two bytes
-abbrev pub IsShort : ℕ → Type 0
-IsShort k = k < 2 ^ 16
+abbrev pub IsTwoBytes : ℕ → Type 0
+IsTwoBytes k = k < 2 ^ 16
 
 -- a number of four bytes
 abbrev pub IsWord : ℕ → Type 0
@@ -103,7 +103,7 @@ RequestInRange (Settle g kind less) = IsGfid g.0 × MarksInRange less
 
 -- the numbers of an answer
 abbrev pub ToldInRange : Told → Type 0
-ToldInRange (Held owner) = IsShort owner.0
+ToldInRange (Held owner) = IsTwoBytes owner.0
 ToldInRange (Seen view) = ViewInRange view
 ToldInRange _ = Unit {0}
 
@@ -128,7 +128,7 @@ ReplyInRange _ = Unit {0}
 -- the numbers of a reply of a heal
 abbrev pub HealReplyInRange : HealReply → Type 0
 HealReplyInRange (heal.Split views) = ViewsInRange views
-HealReplyInRange (heal.Busy owner) = IsShort owner.0
+HealReplyInRange (heal.Busy owner) = IsTwoBytes owner.0
 HealReplyInRange (heal.Moved brick) = IsByte brick.0
 HealReplyInRange _ = Unit {0}
 
@@ -136,15 +136,15 @@ HealReplyInRange _ = Unit {0}
 abbrev pub EventInRange : Event → Type 0
 EventInRange (event.Stop b) = IsByte b.0
 EventInRange (event.Start b) = IsByte b.0
-EventInRange (event.Cut a b) = IsShort a.0 × IsByte b.0
-EventInRange (event.Join a b) = IsShort a.0 × IsByte b.0
-EventInRange (event.Kill a) = IsShort a.0
+EventInRange (event.Cut a b) = IsTwoBytes a.0 × IsByte b.0
+EventInRange (event.Join a b) = IsTwoBytes a.0 × IsByte b.0
+EventInRange (event.Kill a) = IsTwoBytes a.0
 
 -- each number of the line lies in the range of its type
 abbrev pub InRange : Line → Type 0
-InRange (line_of.Ask a b request told took) = IsShort a.0 × IsByte b.0 × RequestInRange request × ToldInRange told
-InRange (line_of.Begin a change) = IsShort a.0 × ChangeInRange change
-InRange (line_of.HealBegin a g kind) = IsShort a.0 × IsGfid g.0
-InRange (line_of.End a reply) = IsShort a.0 × ReplyInRange reply
-InRange (line_of.HealEnd a g kind reply) = IsShort a.0 × IsGfid g.0 × HealReplyInRange reply
+InRange (line_of.Ask a b request told took) = IsTwoBytes a.0 × IsByte b.0 × RequestInRange request × ToldInRange told
+InRange (line_of.Begin a change) = IsTwoBytes a.0 × ChangeInRange change
+InRange (line_of.HealBegin a g kind) = IsTwoBytes a.0 × IsGfid g.0
+InRange (line_of.End a reply) = IsTwoBytes a.0 × ReplyInRange reply
+InRange (line_of.HealEnd a g kind reply) = IsTwoBytes a.0 × IsGfid g.0 × HealReplyInRange reply
 InRange (line_of.Event e) = EventInRange e

@@ -50,23 +50,23 @@ abbrev pub same_step : Step → Step → Bool
 same_step a b = rank a == rank b
 
 -- the parts of a heal; only that of bytes has more than the first
-pub data Phase : Type 0 where
-  Opening : Phase
-  Piece : Phase
-  Finish : Phase
+pub data HealPart : Type 0 where
+  Opening : HealPart
+  Piece : HealPart
+  Finish : HealPart
 
 -- whether it is the first part
-abbrev pub is_opening : Phase → Bool
+abbrev pub is_opening : HealPart → Bool
 is_opening Opening = true
 is_opening _ = false
 
 -- whether it is a piece
-abbrev pub is_piece : Phase → Bool
+abbrev pub is_piece : HealPart → Bool
 is_piece Piece = true
 is_piece _ = false
 
 -- whether it is the last part of a heal of bytes
-abbrev pub is_finish : Phase → Bool
+abbrev pub is_finish : HealPart → Bool
 is_finish Finish = true
 is_finish _ = false
 
@@ -80,7 +80,7 @@ pub record Exact : Type 0 where
   pub views : ℕ → Option View
   pub first_reached : ℕ → Bool  -- those of a heal's first looks
   pub first_views : ℕ → Option View
-  pub phase : Phase
+  pub part : HealPart
   pub possible : ℕ → Bool  -- the bricks that may be the source, as far as the lines tell
   pub reads : ℕ → Option ℕ  -- the positions of the reads of this piece, by brick
   pub upto : ℕ  -- the bytes of the pieces that are done
@@ -105,7 +105,7 @@ untouched = record {
   views = no_views;
   first_reached = empty;
   first_views = no_views;
-  phase = Opening;
+  part = Opening;
   possible = everywhere;
   reads = no_reads;
   upto = 0;

@@ -326,7 +326,7 @@ pub record MayHealBegin (r : Register) (g : ℕ) (kind : Kind) : Type 0 where
   pub whole : r.start ≡ 0 → CoversAll r.area g kind
 
 -- a majority of views since the HealBegin, none of which accuses s
-pub record Views (n : ℕ) (keeps : ℕ → Kind → Bool) (log : Log) (t a : ℕ) (r : Register) (s : ℕ) : Type 0 where
+pub record UnaccusedViews (n : ℕ) (keeps : ℕ → Kind → Bool) (log : Log) (t a : ℕ) (r : Register) (s : ℕ) : Type 0 where
   pub among : ℕ → Bool
   pub majority : IsMajority n among
   pub member : among s ≡ true
@@ -343,7 +343,7 @@ pub record ReadOf (n : ℕ) (keeps : ℕ → Kind → Bool) (log : Log) (t a : �
   pub is : log read ≡ Some (ask_by a s request Given true)
   pub since : r.number ≤ read
   pub past : read < t
-  pub source : Views n keeps log t a r s
+  pub source : UnaccusedViews n keeps log t a r s
 
 -- a fact of each read that is named
 abbrev pub EachRead : (ℕ → Type 0) → Seq (Option ℕ) → Type 0
@@ -363,14 +363,14 @@ pub record CutOf (n : ℕ) (keeps : ℕ → Kind → Bool) (log : Log) (t a : �
   pub view : View
   pub seen : r.view s ≡ Some view
   pub length : len ≡ view.len
-  pub source : Views n keeps log t a r s
+  pub source : UnaccusedViews n keeps log t a r s
 
 -- what a repair brings was seen at an unaccused copy since the HealBegin
-abbrev pub Contents : ℕ → (ℕ → Kind → Bool) → Log → ℕ → ℕ → Register → Repair → Type 0
-Contents n keeps log t a r (CutTo g len) = CutOf n keeps log t a r len
-Contents n keeps log t a r (Copy g at span read) = ReadOf n keeps log t a r read
-Contents n keeps log t a r (PutAttrs g read) = ReadOf n keeps log t a r read
-Contents n keeps log t a r (PutNames g reads) = EachRead (ReadOf n keeps log t a r) reads × (some_read reads ≡ true)
+abbrev pub BringsSeen : ℕ → (ℕ → Kind → Bool) → Log → ℕ → ℕ → Register → Repair → Type 0
+BringsSeen n keeps log t a r (CutTo g len) = CutOf n keeps log t a r len
+BringsSeen n keeps log t a r (Copy g at span read) = ReadOf n keeps log t a r read
+BringsSeen n keeps log t a r (PutAttrs g read) = ReadOf n keeps log t a r read
+BringsSeen n keeps log t a r (PutNames g reads) = EachRead (ReadOf n keeps log t a r) reads × (some_read reads ≡ true)
 
 -- the kind of the cells that a repair changes
 abbrev pub repair_kind : Repair → Kind
@@ -393,7 +393,7 @@ pub record MayMend (n : ℕ) (keeps : ℕ → Kind → Bool) (log : Log) (t a : 
   pub object_same : repaired repair ≡ r.object
   pub kind_same : repair_kind repair ≡ r.kind
   pub within : CoversMend r.area repair
-  pub contents : Contents n keeps log t a r repair
+  pub contents : BringsSeen n keeps log t a r repair
   -- under the Heal lock, after the heal's Pre there, before its Settle there
   pub healing : r.healing b ≡ true
   pub unsettled : r.settled b ≡ false

@@ -16,7 +16,7 @@ use Rattle.afr_base.specs.Kinds.{same_kind}
 use Rattle.afr_moves.specs.Sets.{any, empty}
 use Rattle.afr_moves.specs.Honest.{view_marks}
 use Rattle.afr_moves.specs.Rules.{busy, is_area, heal_area, some_read}
-use Rattle.afr_moves.specs.Register.{Exact, Step, HealLocks, WorkLocks, Looks, Reads, HealPres, Mends, Settles, Unlocks, HealUnlocks, rank, same_step, Phase, Opening, Piece, Finish, is_opening, is_finish, everywhere, asked_in, all, over, holder, unaccused, good, shows_number, len_of, whole_area, span, piece_area}
+use Rattle.afr_moves.specs.Register.{Exact, Step, HealLocks, WorkLocks, Looks, Reads, HealPres, Mends, Settles, Unlocks, HealUnlocks, rank, same_step, HealPart, Opening, Piece, Finish, is_opening, is_finish, everywhere, asked_in, all, over, holder, unaccused, good, shows_number, len_of, whole_area, span, piece_area}
 
 -- a holder by the first looks that is neither the source nor an arbiter
 abbrev pub sink : (ℕ → Kind → Bool) → Exact → ℕ → ℕ → Bool
@@ -31,51 +31,51 @@ abbrev pub is_only : ℕ → ℕ → Bool
 is_only s x = x == s
 
 -- reads are asked at the source, and for names at each good copy
-abbrev pub reads_at : ℕ → (ℕ → Kind → Bool) → Exact → ℕ → Kind → Phase → ℕ → Bool
+abbrev pub reads_at : ℕ → (ℕ → Kind → Bool) → Exact → ℕ → Kind → HealPart → ℕ → Bool
 reads_at n keeps r s Bytes Piece = is_only s
-reads_at n keeps r s Attrs phase = is_only s
-reads_at n keeps r s Names phase = good n keeps Names r.first_views
+reads_at n keeps r s Attrs part = is_only s
+reads_at n keeps r s Names part = good n keeps Names r.first_views
 reads_at n keeps r s _ _ = empty
 
 -- a dirty number is raised at each copy that the heal will change, before it does
-abbrev pub pres_at : (ℕ → Kind → Bool) → Exact → ℕ → Kind → Phase → ℕ → Bool
+abbrev pub pres_at : (ℕ → Kind → Bool) → Exact → ℕ → Kind → HealPart → ℕ → Bool
 pres_at keeps r s Bytes Opening = sink keeps r s
-pres_at keeps r s Attrs phase = other r s
-pres_at keeps r s Names phase = holder r.first_views
+pres_at keeps r s Attrs part = other r s
+pres_at keeps r s Names part = holder r.first_views
 pres_at keeps r s _ _ = empty
 
 -- the bricks that get the repair of this part of the heal
-abbrev pub mends_at : (ℕ → Kind → Bool) → Exact → ℕ → Kind → Phase → ℕ → Bool
+abbrev pub mends_at : (ℕ → Kind → Bool) → Exact → ℕ → Kind → HealPart → ℕ → Bool
 mends_at keeps r s Bytes Finish = empty
-mends_at keeps r s Bytes phase = sink keeps r s
-mends_at keeps r s Attrs phase = other r s
-mends_at keeps r s Names phase = holder r.first_views
+mends_at keeps r s Bytes part = sink keeps r s
+mends_at keeps r s Attrs part = other r s
+mends_at keeps r s Names part = holder r.first_views
 
 -- numbers are taken back at each holder, at the end of the last part
-abbrev pub settles_at : Exact → Kind → Phase → ℕ → Bool
+abbrev pub settles_at : Exact → Kind → HealPart → ℕ → Bool
 settles_at r Bytes Finish = holder r.first_views
-settles_at r Bytes phase = empty
-settles_at r _ phase = holder r.first_views
+settles_at r Bytes part = empty
+settles_at r _ part = holder r.first_views
 
 -- the first Work locks are asked where the Heal lock was granted, the later ones at the bricks of the first looks
-abbrev pub locks_at : Exact → Phase → ℕ → Bool
+abbrev pub locks_at : Exact → HealPart → ℕ → Bool
 locks_at r Opening = r.law.healing
-locks_at r phase = r.first_reached
+locks_at r part = r.first_reached
 
 -- the locked bricks are looked at first, later the same bricks again
-abbrev pub looks_at : Exact → Phase → ℕ → Bool
+abbrev pub looks_at : Exact → HealPart → ℕ → Bool
 looks_at r Opening = r.law.held
-looks_at r phase = r.first_reached
+looks_at r part = r.first_reached
 
 -- the bricks that a step asks, with s as the source
 abbrev pub set_of : ℕ → (ℕ → Kind → Bool) → Exact → ℕ → Step → ℕ → Bool
 set_of n keeps r s HealLocks = everywhere
-set_of n keeps r s WorkLocks = locks_at r r.phase
-set_of n keeps r s Looks = looks_at r r.phase
-set_of n keeps r s Reads = reads_at n keeps r s r.law.kind r.phase
-set_of n keeps r s HealPres = pres_at keeps r s r.law.kind r.phase
-set_of n keeps r s Mends = mends_at keeps r s r.law.kind r.phase
-set_of n keeps r s Settles = settles_at r r.law.kind r.phase
+set_of n keeps r s WorkLocks = locks_at r r.part
+set_of n keeps r s Looks = looks_at r r.part
+set_of n keeps r s Reads = reads_at n keeps r s r.law.kind r.part
+set_of n keeps r s HealPres = pres_at keeps r s r.law.kind r.part
+set_of n keeps r s Mends = mends_at keeps r s r.law.kind r.part
+set_of n keeps r s Settles = settles_at r r.law.kind r.part
 set_of n keeps r s Unlocks = r.law.held
 set_of n keeps r s HealUnlocks = r.law.healing
 set_of n keeps r s _ = empty
@@ -109,14 +109,14 @@ abbrev pub settles_over : ℕ → (ℕ → Kind → Bool) → Exact → ℕ → 
 settles_over n keeps r s = mends_over n keeps r s && passed n keeps r s Settles
 
 -- the looks let the heal go on with s as its source
-abbrev pub goes_on_at : ℕ → (ℕ → Kind → Bool) → Exact → ℕ → Phase → Bool
+abbrev pub goes_on_at : ℕ → (ℕ → Kind → Bool) → Exact → ℕ → HealPart → Bool
 goes_on_at n keeps r s Opening = is_most n r.first_reached && is_most n (holder r.first_views) && any n (λ x. shows_number r.law.kind (r.first_views x))
 goes_on_at n keeps r s Piece = unaccused n r.law.kind r.views s
 goes_on_at n keeps r s Finish = unaccused n r.law.kind r.views s && all n (λ x. not (sink keeps r s x) || (len_of (r.views x) == len_of (r.views s)))
 
 -- s is good by the first looks, and the present ones let the heal go on
 abbrev pub goes_on : ℕ → (ℕ → Kind → Bool) → Exact → ℕ → Bool
-goes_on n keeps r s = good n keeps r.law.kind r.first_views s && goes_on_at n keeps r s r.phase
+goes_on n keeps r s = good n keeps r.law.kind r.first_views s && goes_on_at n keeps r s r.part
 
 -- all of one kind of the object: the first Work lock says the kind of the heal
 abbrev pub is_whole : Area → ℕ → Bool
@@ -139,9 +139,9 @@ is_lowest set asked b = set b && not (asked b) && over b set asked
 -- a Work lock of this part, at the lowest brick that was not granted or left out
 abbrev pub may_heal_work : ℕ → (ℕ → Kind → Bool) → Exact → ℕ → ℕ → Area → Bool
 may_heal_work n keeps r s b area =
-    if same_step r.step WorkLocks then is_area r.law.area area && is_lowest (locks_at r r.phase) r.asked b
+    if same_step r.step WorkLocks then is_area r.law.area area && is_lowest (locks_at r r.part) r.asked b
     else if same_step r.step HealLocks then is_next n r s area && is_lowest r.law.healing empty b
-    else after_unlocks n r area s && not (is_finish r.phase) && is_lowest r.first_reached empty b
+    else after_unlocks n r area s && not (is_finish r.part) && is_lowest r.first_reached empty b
 
 -- the holders that the heal changes: what is held against them is taken back
 abbrev pub changed : Exact → ℕ → Kind → ℕ → Bool
@@ -178,8 +178,8 @@ onward n keeps r s g kind = goes_on n keeps r s && looks_over n keeps r s && (g 
 
 -- the repair of this part: with the length of the source, or the positions of its reads
 abbrev pub may_mend : ℕ → (ℕ → Kind → Bool) → Exact → ℕ → Repair → Bool
-may_mend n keeps r s (CutTo g len) = onward n keeps r s g.0 Bytes && is_opening r.phase && (len == len_of (r.first_views s))
-may_mend n keeps r s (Copy g at some read) = onward n keeps r s g.0 Bytes && not (is_opening r.phase) && (at == r.upto) && (some == span) && same_read (r.reads s) (Some read)
+may_mend n keeps r s (CutTo g len) = onward n keeps r s g.0 Bytes && is_opening r.part && (len == len_of (r.first_views s))
+may_mend n keeps r s (Copy g at some read) = onward n keeps r s g.0 Bytes && not (is_opening r.part) && (at == r.upto) && (some == span) && same_read (r.reads s) (Some read)
 may_mend n keeps r s (PutAttrs g read) = onward n keeps r s g.0 Attrs && same_read (r.reads s) (Some read)
 may_mend n keeps r s (PutNames g reads) = onward n keeps r s g.0 Names && same_reads r.reads 0 reads && some_read reads
 
@@ -196,5 +196,5 @@ may_heal n keeps r s b (Mend repair) = may_mend n keeps r s repair && pres_over 
 may_heal n keeps r s b (Settle g kind less) = onward n keeps r s g.0 kind && mends_over n keeps r s && turn n keeps r s Settles b && takes n keeps r s b kind less (r.first_views b)
 may_heal n keeps r s b (Unlock Work area) = goes_on n keeps r s && settles_over n keeps r s && turn n keeps r s Unlocks b && is_area r.law.area area
 may_heal n keeps r s b (Unlock Heal area) =
-    goes_on n keeps r s && settles_over n keeps r s && not (busy n r.law) && not (same_kind r.law.kind Bytes && not (is_finish r.phase)) && turn n keeps r s HealUnlocks b && same_area (heal_area r.law.object) area
+    goes_on n keeps r s && settles_over n keeps r s && not (busy n r.law) && not (same_kind r.law.kind Bytes && not (is_finish r.part)) && turn n keeps r s HealUnlocks b && same_area (heal_area r.law.object) area
 may_heal n keeps r s b _ = false

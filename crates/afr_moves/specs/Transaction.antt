@@ -32,7 +32,7 @@ EndsLow (Write h at bytes) = at + length bytes ≤ 1048576
 EndsLow _ = Unit {0}
 
 -- a majority in which a copy is good
-pub record Carried (n : ℕ) (keeps : ℕ → Kind → Bool) (kind : Kind) (views : ℕ → Option View) (set : ℕ → Bool) : Type 0 where
+pub record SufficesBy (n : ℕ) (keeps : ℕ → Kind → Bool) (kind : Kind) (views : ℕ → Option View) (set : ℕ → Bool) : Type 0 where
   pub majority : IsMajority n set
   pub source : ℕ
   pub below : source < n
@@ -65,7 +65,7 @@ pub record MayBegin (n : ℕ) (keeps : ℕ → Kind → Bool) (r : Exact) (chang
   pub low : EndsLow change
   pub fits : (x : ℕ) (view : View) → x < n → r.views x ≡ Some view → fits_change (what_code view.what) change ≡ true
   pub reached : IsMajority n r.reached
-  pub holders : Carried n keeps (plane_kind change) r.views (holder r.views)
+  pub holders : SufficesBy n keeps (plane_kind change) r.views (holder r.views)
 
 -- after the Begin, on its object and kind, at a holder, once, before every Apply
 pub record MayPre (n : ℕ) (r : Exact) (b g : ℕ) (kind : Kind) : Type 0 where
@@ -80,7 +80,7 @@ pub record MayApply (n : ℕ) (keeps : ℕ → Kind → Bool) (r : Exact) (b q :
   pub outside : r.law.heal ≡ false
   pub own : r.law.number ≡ suc q
   pub ready : r.law.pre b ≡ true
-  pub enough : Carried n keeps (kind_in r.law.area) r.views r.law.pre
+  pub enough : SufficesBy n keeps (kind_in r.law.area) r.views r.law.pre
   pub turn : Once r Applies b
 
 -- this attempt, its object and kind, once, at a brick whose Apply was told Done, where these are a majority with a good copy; it names exactly the others
@@ -89,7 +89,7 @@ pub record MayPost (n : ℕ) (keeps : ℕ → Kind → Bool) (r : Exact) (b q g 
   pub own : r.law.number ≡ suc q
   pub plane : PlaneIn r.law.area g kind
   pub ready : r.law.done b ≡ true
-  pub enough : Carried n keeps kind r.views r.law.done
+  pub enough : SufficesBy n keeps kind r.views r.law.done
   pub exact : (c : ℕ) → missed c ≡ (nat_lt c n && not (r.law.done c))
   pub turn : Once r Posts b
 

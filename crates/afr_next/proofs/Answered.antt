@@ -10,7 +10,7 @@ use Rattle.afr_lines.specs.declared.answer.Told.{Told}
 use Rattle.afr_lines.specs.declared.line.Line.{Line}
 use Rattle.afr_lines.specs.declared.line.Line.TheVariants.{Ask}
 use Rattle.afr_lines.specs.declared.request.Request.{Request}
-use Rattle.afr_model.specs.Honest.{IsHonest, Outcome, fault_in, outcome_of, over_session, requests_to, tells}
+use Rattle.afr_model.specs.Honest.{IsHonest, RequestOutcome, fault_in, outcome_of, over_session, requests_to, tells}
 use Rattle.afr_model.specs.Report.{started_bricks}
 use Rattle.afr_model.specs.Sessions.{is_joined, is_linked}
 use Rattle.afr_model.specs.Tables.{holds}
@@ -36,7 +36,7 @@ module _ (p : Plan) (log : List Line) (a : ActorId) (b : BrickId) (request : Req
 pub answered_is_lawful : ModelNextAnswered → AnsweredIsLawful
 answered_is_lawful answers p log a b request told took five short honest lawful may said =
     let next = (answers p log a b request five short honest lawful may).1 in
-    (subst (λ (o : Outcome). IsNext p (Ask a b request o.told o.took) log) (answer_is p log a b request told took said) next, lawful)
+    (subst (λ (o : RequestOutcome). IsNext p (Ask a b request o.told o.took) log) (answer_is p log a b request told took said) next, lawful)
 
 pub next_is_ready : ModelNextCarries → ModelNextFound → ModelCarriedCovered → ModelNextLocks → NextIsReady
 next_is_ready carries found covered locks p log a b request five short honest lawful may = record {

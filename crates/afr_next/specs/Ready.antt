@@ -15,13 +15,13 @@ use Rattle.afr_tables.specs.Carrying.{CanCarry}
 use Rattle.afr_law.specs.Exactly.{IsLawfulExactly}
 use Rattle.afr_law.specs.ModelCovered.{change_for}
 use Rattle.afr_law.specs.ModelFits.{HasCopy}
-use Rattle.afr_law.specs.ModelNext.{MayAskNext, is_carried}
+use Rattle.afr_law.specs.ModelNext.{MayAskNext, is_carried_out}
 
 -- what is carried out can be, and its actor holds the locks for it; a request that changes a copy finds one; a range to be locked has a number
 pub record IsReady (p : Plan) (a : ActorId) (b : BrickId) (request : Request) (log : List Line) : Type 0 where
-  pub carries : is_carried p a b request log ≡ true → CanCarry p log b.0 request
+  pub carries : is_carried_out p a b request log ≡ true → CanCarry p log b.0 request
   pub found : HasCopy p log b.0 request
-  pub covered : is_carried p a b request log ≡ true → HasItsLocks (locks_held b.0 log) a request (change_for request log)
+  pub covered : is_carried_out p a b request log ≡ true → HasItsLocks (locks_held b.0 log) a request (change_for request log)
   pub locks : (domain : Domain) (area : Area) → request ≡ Lock domain area → HasNumber area
 
 -- the brick is ready for a request that may be asked next

@@ -6,7 +6,7 @@ use Rattle.afr_lines.specs.declared.line.Line.{Line}
 use Rattle.afr_model.specs.Complete.{IsComplete}
 use Rattle.afr_model.specs.Ordered.{IsOrdered}
 use Rattle.afr_plan.specs.declared.plan.Plan.{Plan}
-use Rattle.afr_standstill.specs.Law.{IsKept}
+use Rattle.afr_standstill.specs.Law.{IsPresumed}
 use Rattle.afr_volume.specs.Right.{IsRight}
 use Rattle.afr_order.specs.Ending.{EndsInBound}
 
@@ -18,7 +18,7 @@ pub record IsSmall (p : Plan) : Type 0 where
   pub turns : p.turns ≤ 4000000
 
 -- what the laws on the end of a run presume is kept by a volume
-pub kept_of : (p : Plan) (log : List Line) → IsSmall p → length log ≤ p.turns → IsRight p log → IsKept p log
+pub kept_of : (p : Plan) (log : List Line) → IsSmall p → length log ≤ p.turns → IsRight p log → IsPresumed p log
 kept_of p log small room right = record {
   few = small.few;
   clients = small.clients;

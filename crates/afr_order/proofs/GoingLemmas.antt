@@ -13,7 +13,7 @@ use Rattle.afr_volume.specs.Turning.{Turns, Comes, AddsLine}
 use Rattle.afr_volume.specs.declared.turned.Turned.{Turned}
 use Rattle.afr_volume.specs.declared.turned.Turned.TheVariants.{Moved, Waits, Ended, Full}
 use Rattle.afr_bound.proofs.Runs.{done_more}
-use Rattle.afr_order.specs.Going.{AreDone, Goes, IsHappening, Later, Still, Takes, TakesFront, Ends, goes_on_after}
+use Rattle.afr_order.specs.Going.{ClientsAreDone, Goes, IsHappening, Later, Still, Takes, TakesFront, Ends, goes_on_after}
 
 pub goes_nowhere : (s : State) → Goes s s
 goes_nowhere s = record { plan = refl; grows = omega arith; same = λ h. refl; stays = λ a d. d }
@@ -27,7 +27,7 @@ goes_then a b c f g = record {
 }
 
 -- the clients that are done stay done
-pub done_then : (a b : State) (count : ℕ) → Goes a b → AreDone count a → AreDone count b
+pub done_then : (a b : State) (count : ℕ) → Goes a b → ClientsAreDone count a → ClientsAreDone count b
 done_then a b count g d = record { within = rw g.plan d.within; done = λ k l. g.stays (1 + k) (d.done k l) }
 
 pub takes_none : (p : Plan) (log : List Line) → Takes p [] log log

@@ -43,7 +43,7 @@ Ends turns old true new = Takes old.plan turns old.log new.log
 Ends turns old false new = length new.log ≡ new.plan.turns
 
 -- so many clients from the first on are done
-pub record AreDone (count : ℕ) (s : State) : Type 0 where
+pub record ClientsAreDone (count : ℕ) (s : State) : Type 0 where
   pub within : count ≤ length s.plan.clients
   pub done : (k : ℕ) → k < count → is_done s.plan (1 + k) s.log ≡ true
 

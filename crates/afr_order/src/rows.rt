@@ -6,7 +6,7 @@ ghost use Rattle.afr_model.specs.Complete.{IsComplete};
 ghost use Rattle.afr_model.specs.Ordered.{actors_of, ordered_turns};
 ghost use Rattle.afr_rule.specs.Choosing.{IsRule};
 ghost use Rattle.afr_volume.specs.Right.{KeepsChosen};
-ghost use Rattle.afr_order.specs.Going.{AreDone, Goes, TakesFront, TakesPasses, Ends, IsIdle};
+ghost use Rattle.afr_order.specs.Going.{ClientsAreDone, Goes, TakesFront, TakesPasses, Ends, IsIdle};
 
 use crate::turns::{come_due, take_turn, take_turns};
 use afr_base::{ActorId, FIRST_CLIENT, FIRST_HEALER, NoMemory};
@@ -63,8 +63,8 @@ fn take_row<F: Fn(&[Candidate]) -> usize, G: Fn(&[Candidate]) -> usize>(
 
 /// How many clients from the first on are done; so many are known to be.
 fn count_done(volume: &Volume, known: u16) -> u16
-    requires { AreDone known volume.now }
-    ensures { AreDone result volume.now }
+    requires { ClientsAreDone known volume.now }
+    ensures { ClientsAreDone result volume.now }
 {
     volume.every_line();
     let clients = volume.plan().clients.len() as u16;
@@ -107,7 +107,7 @@ fn take_pass<F: Fn(&[Candidate]) -> usize, G: Fn(&[Candidate]) -> usize>(
 ) -> Result<bool, NoMemory>
     requires rule { IsRule F.Fn rules.now.heal }
     requires read_rule { IsRule G.Fn rules.now.read }
-    requires done { AreDone done volume.old }
+    requires done { ClientsAreDone done volume.old }
     ensures goes { Goes volume.old volume.new }
     ensures front { TakesFront volume.old.plan (actors_of volume.old.plan) volume.old.log volume.new.log }
     ensures ok { IfOk result (λ on. Ends (actors_of volume.old.plan) volume.old on volume.new) }

@@ -15,7 +15,7 @@ use Rattle.afr_inode_read.specs.declared.job.LookupJob.{LookupJob}
 use Rattle.afr_inode_read.specs.declared.job.LookupJob.TheVariants as job
 use Rattle.afr_inode_read.specs.declared.stage.LookupStage.TheVariants.{Ending, Looking, Reading, Walking}
 use Rattle.afr_inode_read.specs.declared.stage.LookupStage.{LookupStage}
-use Rattle.afr_inode_read.specs.declared.job.Content.TheVariants as content
+use Rattle.afr_inode_read.specs.declared.job.Wanted.TheVariants as content
 use Rattle.afr_lines.specs.Told.{told_by}
 use Rattle.afr_lines.specs.declared.reply.Good.TheVariants as good
 use Rattle.afr_lines.specs.declared.reply.Reply.TheVariants as reply

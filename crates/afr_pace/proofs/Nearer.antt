@@ -22,10 +22,10 @@ use Rattle.afr_lines.specs.declared.lock.Domain.TheVariants.{Work}
 use Rattle.afr_counting.proofs.Counts.{count_most}
 use Rattle.afr_pace.proofs.Counting.{asked_falls, removed_falls}
 use Rattle.afr_pace.specs.Laws.{BeginsNearer, ComesNearer, KeepsEnd, StartsWithin}
-use Rattle.afr_pace.specs.Left.{Fits, asks_again, count, left_at, lines_left}
+use Rattle.afr_pace.specs.Left.{FitsAnUnlock, asks_again, count, left_at, lines_left}
 use Rattle.afr_transaction.proofs.Parts.{holder_shows}
 use Rattle.afr_transaction.proofs.Requests.{after_outside, noted_is}
-use Rattle.afr_transaction.specs.Progress.{Progress, after, begun, enough, gone_on, left, may_start, request_at, sets_after, starting}
+use Rattle.afr_transaction.specs.Progress.{TransactionProgress, after, begun, enough, gone_on, left, may_start, request_at, sets_after, starting}
 use Rattle.afr_transaction.specs.Sound.{During, IsAsking, Sound}
 use Rattle.afr_transaction.specs.declared.stage.Stage.TheVariants.{Applying, Beginning, Closing, Locking, Looking, Posting, Preparing}
 use Rattle.afr_transaction.specs.declared.stage.Stage.{Stage}
@@ -51,7 +51,7 @@ pub step_low : (again : Bool) → step_of again ≤ 1
 step_low true = omega arith
 step_low false = omega arith
 
-module _ (x : Progress) (c target : ℕ) where
+module _ (x : TransactionProgress) (c target : ℕ) where
   abbrev n : ℕ
   n = x.register.shape.n
 
@@ -83,7 +83,7 @@ module _ (x : Progress) (c target : ℕ) where
   applies_next h = (let k = most n (left Posting x) in either Posting (omega (arith, k, h)) (end_low (omega (arith, h))) (enough x.register (kind_for x.change) x.register.done))
 
 -- ---- from one moment to the next
-module _ (m x : Progress) (same : x.register.shape.n ≡ m.register.shape.n) where
+module _ (m x : TransactionProgress) (same : x.register.shape.n ≡ m.register.shape.n) where
   abbrev k : ℕ
   k = m.register.shape.n
 
@@ -124,7 +124,7 @@ module _ (m x : Progress) (same : x.register.shape.n ≡ m.register.shape.n) whe
       goes_on x (step_of again) (left_at Closing m) Closing h h
 
 -- ---- an answer
-module _ (m : Progress) (s : Sound m) (told : Told) (at : ℕ) where
+module _ (m : TransactionProgress) (s : Sound m) (told : Told) (at : ℕ) where
   abbrev r : Register
   r = m.register
 
@@ -134,10 +134,10 @@ module _ (m : Progress) (s : Sound m) (told : Told) (at : ℕ) where
   abbrev register_by : Stage → Register
   register_by stage = after_outside r (asked_of stage) (request_at stage m) told
 
-  abbrev next_by : Stage → Progress
+  abbrev next_by : Stage → TransactionProgress
   next_by stage = sets_after stage (asked_of stage) told (register_by stage) m
 
-  abbrev Nearer : Stage → Progress → Type 0
+  abbrev Nearer : Stage → TransactionProgress → Type 0
   Nearer stage x = left_at (after stage x) x + step_of (asks_again stage told) ≤ left_at stage m
 
   -- the machine with the register as it computes outside a heal
@@ -192,7 +192,7 @@ module _ (m : Progress) (s : Sound m) (told : Told) (at : ℕ) where
       (subst (λ (q : List ℕ). count r.shape.n (minus q (added (lowest (left Posting m)) (asked_at r step.Posts))) + 1 ≤ count r.shape.n (left Posting m))
       (sym (done_kept (is_gone told) (lowest (left Posting m)) (noted_law r (lowest (left Posting m)) (request_at Posting m) told))) falls)
 
-  closing : Fits Closing told → is_nothing (left Closing m) ≡ false → Nearer Closing (next_by Closing)
+  closing : FitsAnUnlock Closing told → is_nothing (left Closing m) ≡ false → Nearer Closing (next_by Closing)
   closing fits e = closed_nearer m (next_by Closing) refl (is_failed told) (part told fits)
     where
       b : ℕ
@@ -224,12 +224,12 @@ module _ (m : Progress) (s : Sound m) (told : Told) (at : ℕ) where
       failed : (t : Told) → t ≡ Failed → count r.shape.n (dropped (is_gone t) b (noted_law r b (request.Unlock Work (area_for m.change)) t)).held + step_of (is_failed t) ≤ count r.shape.n r.held
       failed t is = subst (λ (d : Told). count r.shape.n (dropped (is_gone d) b (noted_law r b (request.Unlock Work (area_for m.change)) d)).held + step_of (is_failed d) ≤ count r.shape.n r.held) (sym is) (omega arith)
 
-      part : (t : Told) → Fits Closing t → count r.shape.n (dropped (is_gone t) b (noted_law r b (request.Unlock Work (area_for m.change)) t)).held + step_of (is_failed t) ≤ count r.shape.n r.held
+      part : (t : Told) → FitsAnUnlock Closing t → count r.shape.n (dropped (is_gone t) b (noted_law r b (request.Unlock Work (area_for m.change)) t)).held + step_of (is_failed t) ≤ count r.shape.n r.held
       part t (inl is) = done t is
       part t (inr (inl is)) = lost t is
       part t (inr (inr is)) = failed t is
 
-  pub by_stage : (stage : Stage) → During stage m → IsAsking stage m → Fits stage told → left_at (after stage (sets_after stage (asked_of stage) told (noted_ask r at (asked_of stage) (request_at stage m) told) m)) (sets_after stage (asked_of stage) told (noted_ask r at (asked_of stage) (request_at stage m) told) m) + step_of (asks_again stage told) ≤ left_at stage m
+  pub by_stage : (stage : Stage) → During stage m → IsAsking stage m → FitsAnUnlock stage told → left_at (after stage (sets_after stage (asked_of stage) told (noted_ask r at (asked_of stage) (request_at stage m) told) m)) (sets_after stage (asked_of stage) told (noted_ask r at (asked_of stage) (request_at stage m) told) m) + step_of (asks_again stage told) ≤ left_at stage m
   by_stage Locking d e fits = seen Locking (locking e)
   by_stage Looking d e fits = seen Looking (looking d e)
   by_stage Beginning d e fits = absurd e

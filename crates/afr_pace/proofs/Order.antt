@@ -10,7 +10,7 @@ use Rattle.afr_lines.specs.Areas.{area_for}
 use Rattle.afr_moves.specs.Note.{is_held}
 use Rattle.afr_pace.specs.Laws.{AsksAbove, StartsQueued, StaysQueued}
 use Rattle.afr_pace.specs.Left.{InOrder, IsQueued}
-use Rattle.afr_transaction.specs.Progress.{Progress, after, answered, answered_by, enough, left, may_start, on_stage}
+use Rattle.afr_transaction.specs.Progress.{TransactionProgress, after, answered, answered_by, enough, left, may_start, on_stage}
 use Rattle.afr_transaction.specs.Sound.{During, IsAsking}
 use Rattle.afr_transaction.specs.declared.stage.Stage.TheVariants.{Applying, Beginning, Closing, Locking, Looking, Posting, Preparing}
 use Rattle.afr_transaction.specs.declared.stage.Stage.{Stage}
@@ -99,7 +99,7 @@ module _ (n : ℕ) (few : n ≤ 5) (asked : List ℕ) (some : is_nothing (minus 
       more x m = member_added (lowest (minus (below n) asked)) asked x ∙ or_right (lowest (minus (below n) asked) == x) (member asked x) m
 
 -- the stages after the locks have no more of them
-any_stage : (x : Progress) (stage : Stage) → InOrder x.asked.lock_asked → IsQueued stage x
+any_stage : (x : TransactionProgress) (stage : Stage) → InOrder x.asked.lock_asked → IsQueued stage x
 any_stage x Locking order = order
 any_stage x Looking order = tt
 any_stage x Beginning order = tt
@@ -109,7 +109,7 @@ any_stage x Posting order = tt
 any_stage x Closing order = tt
 
 -- no other stage goes back to them
-not_back : (stage : Stage) (x : Progress) → (stage ≡ Locking → ⊥) → IsQueued (after stage x) (on_stage (after stage x) x)
+not_back : (stage : Stage) (x : TransactionProgress) → (stage ≡ Locking → ⊥) → IsQueued (after stage x) (on_stage (after stage x) x)
 not_back Locking x other = absurd (other refl)
 not_back Looking x other = go (is_nothing (left Looking x)) (may_start x.register x.change)
   where

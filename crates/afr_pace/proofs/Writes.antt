@@ -23,7 +23,7 @@ use Rattle.afr_pace.specs.Left.{asks_again, lines_left}
 use Rattle.afr_pace.specs.Walks.{walk_left}
 use Rattle.afr_pace.specs.Writes.{Asks, FitsWrite, WriteBeginsNearer, WriteComesNearer, WriteKeepsEnd, WriteStartsWithin, again_at, whole_change, write_left, write_left_at}
 use Rattle.afr_transaction.specs.Progress as transaction
-use Rattle.afr_transaction.specs.Progress.{Progress, begun, fed, is_beginning, starting}
+use Rattle.afr_transaction.specs.Progress.{TransactionProgress, begun, fed, is_beginning, starting}
 use Rattle.afr_transaction.specs.Sound.{IsAsking}
 use Rattle.afr_transaction.specs.declared.stage.Stage.TheVariants.{Applying, Beginning, Closing, Locking, Looking, Posting, Preparing}
 use Rattle.afr_transaction.specs.declared.stage.Stage.{Stage}
@@ -89,7 +89,7 @@ module _ (w : Walk) (k : IsWalk w) (chosen : BrickId) (a : Answer) (at : ℕ) wh
       sum l r n o h e f = let g = f r (omega arith) in omega (arith, h, e, g)
 
 -- a transaction that asks has its answer
-pub told_is : (told : Told) (at : ℕ) (t : Progress) (stage : Stage) → IsAsking stage t → (if is_beginning stage then t else fed stage told at t) ≡ transaction.answered stage told at t
+pub told_is : (told : Told) (at : ℕ) (t : TransactionProgress) (stage : Stage) → IsAsking stage t → (if is_beginning stage then t else fed stage told at t) ≡ transaction.answered stage told at t
 told_is told at t Locking e = refl
 told_is told at t Looking e = refl
 told_is told at t Beginning e = absurd e
@@ -102,7 +102,7 @@ by_stage : (w : Walk) (stage : WriteStage) → IsWalk w → IsStage w stage → 
     → write_left (answered chosen a at (record { walk = w; stage = stage })) + (if again_at stage (told_by a) then 0 else 1) ≤ write_left_at stage w
 by_stage w (Walking job) k i asks chosen a at among fits = by_walk w k chosen a at job i.0 among
 by_stage w (Changing t) k i asks chosen a at among fits =
-    subst (λ (q : Progress). lines_left q + (if asks_again t.stage (told_by a) then 0 else 1) ≤ lines_left t) (sym (told_is (told_by a) at t t.stage asks)) (nearer t i.0 asks (told_by a) at fits)
+    subst (λ (q : TransactionProgress). lines_left q + (if asks_again t.stage (told_by a) then 0 else 1) ≤ lines_left t) (sym (told_is (told_by a) at t t.stage asks)) (nearer t i.0 asks (told_by a) at fits)
 by_stage w (Ending said) k i asks chosen a at among fits = absurd asks
 
 pub write_nearer : WriteComesNearer
@@ -110,7 +110,7 @@ write_nearer m k asks chosen a at among fits = by_stage m.walk m.stage k.sound k
 
 pub write_begins : WriteBeginsNearer
 write_begins m t is first chosen at = subst (λ (s : WriteStage). write_left (heard_by chosen (heard.Begun at) (record { walk = m.walk; stage = s })) + 1 ≤ write_left_at s m.walk) (sym is)
-    (subst (λ (q : Progress). lines_left q + 1 ≤ lines_left t) (sym begins_is) (begins t first at))
+    (subst (λ (q : TransactionProgress). lines_left q + 1 ≤ lines_left t) (sym begins_is) (begins t first at))
   where
     begins_is : begun_in at t ≡ begun at t
     begins_is = subst (λ (s : Stage). (if is_beginning s then begun at t else t) ≡ begun at t) (sym first) refl

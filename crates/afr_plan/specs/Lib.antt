@@ -5,7 +5,7 @@ pub mod Reading
 pub mod Spelling
 pub mod Data
 pub mod Happening
-pub mod Work
+pub mod Action
 pub mod Said
 pub mod SaidReading
 pub mod Rules

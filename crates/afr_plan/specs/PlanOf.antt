@@ -12,8 +12,8 @@ use Rattle.afr_plan.specs.Happening.{Who, OfClient, OfHealer, Happening, Stop, S
 use Rattle.afr_plan.specs.Names.{with_name, with_names, number_of, file_names}
 use Rattle.afr_plan.specs.Said.{three_replicas, Said, Volume, Files, Turns, Client, Healer, Round, Faulty, At, Go}
 use Rattle.afr_plan.specs.Said as said
-use Rattle.afr_plan.specs.Work.{Work, Write, Read, Create, Mkdir, Unlink, Rmdir, Ls, Stat, SetAttr, GetAttr, Rename}
-use Rattle.afr_plan.specs.Work as work
+use Rattle.afr_plan.specs.Action.{Action, Write, Read, Create, Mkdir, Unlink, Rmdir, Ls, Stat, SetAttr, GetAttr, Rename}
+use Rattle.afr_plan.specs.Action as action
 
 -- three bricks without an arbiter, and nothing else
 abbrev pub empty_plan : Plan
@@ -31,9 +31,9 @@ path_of names [] = []
 path_of names (name ∷ path) = record { 0 = number_of names name } ∷ path_of (with_name names name) path
 
 -- a command, its words numbered beside those before
-abbrev pub command_of : Words → List (List ℕ) → Work → Command
+abbrev pub command_of : Words → List (List ℕ) → Action → Command
 command_of words path (Write at bytes) = command.Write (path_of words.names path) at bytes
-command_of words path (work.Cut len) = command.Cut (path_of words.names path) len
+command_of words path (action.Cut len) = command.Cut (path_of words.names path) len
 command_of words path (Read at len) = command.Read (path_of words.names path) at len
 command_of words path Create = command.Create (path_of words.names path)
 command_of words path Mkdir = command.Mkdir (path_of words.names path)
@@ -46,7 +46,7 @@ command_of words path (GetAttr key) = command.GetAttr (path_of words.names path)
 command_of words path (Rename to) = command.Rename (path_of words.names path) (path_of (with_names words.names path) to)
 
 -- the words with those of a command
-abbrev pub words_with : Words → List (List ℕ) → Work → Words
+abbrev pub words_with : Words → List (List ℕ) → Action → Words
 words_with words path (SetAttr key value) = record words { names = with_names words.names path; keys = with_name words.keys key; values = with_name words.values value }
 words_with words path (GetAttr key) = record words { names = with_names words.names path; keys = with_name words.keys key }
 words_with words path (Rename to) = record words { names = with_names (with_names words.names path) to }

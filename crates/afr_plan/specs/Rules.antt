@@ -2,10 +2,10 @@
 use Rattle.std.specs.Prelude.{ℕ, ◌+◌, ◌==◌, List, [], ◌∷◌, length, Bool, true, false, not, ◌&&◌, ◌||◌, nat_lt, nat_le, codes, count_by, sum_by}
 use Rattle.std.specs.List.{list_any}
 use Rattle.std.specs.Str.{bytes_eq}
-use Rattle.afr_plan.specs.Happening.{Who, OfClient, OfHealer, Happening, Stop, Start, Cut, Join, Kill}
-use Rattle.afr_plan.specs.Said.{Said, Afr, Volume, Files, Turns, Client, Command, Healer, Round, Faulty, At, Go, End}
-use Rattle.afr_plan.specs.Work.{Work, work_word}
-use Rattle.afr_plan.specs.Work as work
+use Rattle.afr_plan.specs.Happening.{Cut, Happening, Join, Kill, OfClient, OfHealer, Start, Stop, Who}
+use Rattle.afr_plan.specs.Said.{Afr, At, Client, Command, End, Faulty, Files, Go, Healer, Round, Said, Turns, Volume}
+use Rattle.afr_plan.specs.Action.{Action, action_word}
+use Rattle.afr_plan.specs.Action as action
 use Rattle.afr_plan.specs.declared.version.Version.{Version}
 use Rattle.afr_plan.specs.declared.version.Version.TheVariants.{One, Two}
 
@@ -17,7 +17,7 @@ word_of (Volume version shape) = codes "volume"
 word_of (Files k) = codes "files"
 word_of (Turns t) = codes "turns"
 word_of (Client i) = codes "client"
-word_of (Command path w) = work_word w
+word_of (Command path w) = action_word w
 word_of (Healer j) = codes "healer"
 word_of (Round brick) = codes "round"
 word_of (Faulty brick at fault) = codes "fault"
@@ -121,13 +121,13 @@ abbrev pub is_path_beyond : List (List ℕ) → Bool
 is_path_beyond path = nat_lt 16 (length path) || list_any is_long path
 
 -- a number, a key, a value, a piece of data or a second path is beyond its limit
-abbrev pub is_work_beyond : Work → Bool
-is_work_beyond (work.Write at bytes) = nat_lt 1048576 at || nat_lt 65536 (length bytes)
-is_work_beyond (work.Cut len) = nat_lt 1048576 len
-is_work_beyond (work.Read at len) = nat_lt 1048576 at || nat_lt 65536 len
-is_work_beyond (work.SetAttr key value) = is_long key || is_long value
-is_work_beyond (work.GetAttr key) = is_long key
-is_work_beyond (work.Rename to) = is_path_beyond to
+abbrev pub is_work_beyond : Action → Bool
+is_work_beyond (action.Write at bytes) = nat_lt 1048576 at || nat_lt 65536 (length bytes)
+is_work_beyond (action.Cut len) = nat_lt 1048576 len
+is_work_beyond (action.Read at len) = nat_lt 1048576 at || nat_lt 65536 len
+is_work_beyond (action.SetAttr key value) = is_long key || is_long value
+is_work_beyond (action.GetAttr key) = is_long key
+is_work_beyond (action.Rename to) = is_path_beyond to
 is_work_beyond w = false
 
 -- no volume has so high a brick
@@ -176,8 +176,8 @@ is_command (Command path w) = true
 is_command s = false
 
 -- a command `ls`
-abbrev pub is_ls : Work → Bool
-is_ls work.Ls = true
+abbrev pub is_ls : Action → Bool
+is_ls action.Ls = true
 is_ls w = false
 
 -- a line with the command `ls`
@@ -228,8 +228,8 @@ bricks_of (Volume version shape ∷ older) = shape.n
 bricks_of (s ∷ older) = bricks_of older
 
 -- how far into the file a write goes
-abbrev pub work_end : Work → ℕ
-work_end (work.Write at bytes) = at + length bytes
+abbrev pub work_end : Action → ℕ
+work_end (action.Write at bytes) = at + length bytes
 work_end w = 0
 
 -- how far into the file the write of a line goes
@@ -238,8 +238,8 @@ write_end (Command path w) = work_end w
 write_end s = 0
 
 -- how many bytes a read asks for
-abbrev pub work_len : Work → ℕ
-work_len (work.Read at len) = len
+abbrev pub work_len : Action → ℕ
+work_len (action.Read at len) = len
 work_len w = 0
 
 -- how many bytes the read of a line asks for
@@ -277,10 +277,10 @@ is_disordered before s = false
 
 -- ---- totals
 -- 256 `ls`, 268,435,456 for the ends of writes, 67,108,864 for the lengths of reads: one of these is passed
-abbrev pub passes_work : List Said → Work → Bool
-passes_work before (work.Write at bytes) = nat_lt 268435456 (sum_by write_end before + (at + length bytes))
-passes_work before (work.Read at len) = nat_lt 67108864 (sum_by read_len before + len)
-passes_work before work.Ls = nat_le 256 (count_by is_listing before)
+abbrev pub passes_work : List Said → Action → Bool
+passes_work before (action.Write at bytes) = nat_lt 268435456 (sum_by write_end before + (at + length bytes))
+passes_work before (action.Read at len) = nat_lt 67108864 (sum_by read_len before + len)
+passes_work before action.Ls = nat_le 256 (count_by is_listing before)
 passes_work before w = false
 
 -- 16,384 commands, 1,024 rounds, faults, events and orders each, and the totals of commands: one of these is passed

@@ -5,7 +5,7 @@ use Rattle.afr_lines.specs.declared.fault.Fault.{Fault}
 use Rattle.afr_lines.specs.declared.fault.Fault.TheVariants.{Fail, Lost}
 use Rattle.afr_plan.specs.Happening.{Who, IsWho, Happening, IsHappening}
 use Rattle.afr_plan.specs.Spelling.{IsNumber, IsSmall, WordThen, Word, Both, Either}
-use Rattle.afr_plan.specs.Work.{Work, IsCommand}
+use Rattle.afr_plan.specs.Action.{Action, IsCommand}
 use Rattle.afr_plan.specs.declared.version.Version.{Version}
 use Rattle.afr_plan.specs.declared.version.Version.TheVariants.{One, Two}
 
@@ -16,7 +16,7 @@ pub data Said : Type 0 where
   Files : (k : ℕ) → Said
   Turns : (t : ℕ) → Said
   Client : (i : ℕ) → Said
-  Command : (path : List (List ℕ)) (work : Work) → Said
+  Command : (path : List (List ℕ)) (action : Action) → Said
   Healer : (j : ℕ) → Said
   Round : (brick : ℕ) → Said
   Faulty : (brick at : ℕ) (fault : Fault) → Said
@@ -60,7 +60,7 @@ IsSaid line (Volume version shape) = WordThen (codes "volume ") (IsShape version
 IsSaid line (Files k) = WordThen (codes "files ") IsNumber line k
 IsSaid line (Turns t) = WordThen (codes "turns ") IsNumber line t
 IsSaid line (Client i) = WordThen (codes "client ") IsNumber line i
-IsSaid line (Command path work) = IsCommand line path work
+IsSaid line (Command path action) = IsCommand line path action
 IsSaid line (Healer j) = WordThen (codes "healer ") IsNumber line j
 IsSaid line (Round brick) = WordThen (codes "round ") IsSmall line brick
 IsSaid line (Faulty brick at fault) = WordThen (codes "fault ") (Both IsSmall (WordThen (codes " ") (Both IsNumber (WordThen (codes " ") IsFault)))) line (brick, (at, fault))

@@ -8,8 +8,8 @@ use Rattle.afr_plan.specs.Data.{hex_bytes, is_paired, is_pair, quoted_of, filled
 use Rattle.afr_plan.specs.Happening.{Who, OfClient, OfHealer, Happening, Stop, Start, Cut, Join, Kill}
 use Rattle.afr_plan.specs.Reading.{Reader, word_then, word, both, as_a, either, or_else, run_of, whole, path_at, named_path_at, key_at, number_at, small_at, text_at}
 use Rattle.afr_plan.specs.Said.{three_replicas, three_with_arbiter, five_replicas, Said, Afr, Volume, Files, Turns, Client, Command, Healer, Round, Faulty, At, Go, End}
-use Rattle.afr_plan.specs.Work.{Work, Write, Read, Create, Mkdir, Unlink, Rmdir, Ls, Stat, SetAttr, GetAttr, Rename}
-use Rattle.afr_plan.specs.Work as work
+use Rattle.afr_plan.specs.Action.{Action, Write, Read, Create, Mkdir, Unlink, Rmdir, Ls, Stat, SetAttr, GetAttr, Rename}
+use Rattle.afr_plan.specs.Action as action
 use Rattle.afr_plan.specs.declared.version.Version.TheVariants.{One, Two}
 
 -- ---- data
@@ -84,7 +84,7 @@ write_of x = Command x.0 (Write x.1.0 x.1.1)
 
 -- a cut of a file
 abbrev pub cut_of : List (List ℕ) × ℕ → Said
-cut_of x = Command x.0 (work.Cut x.1)
+cut_of x = Command x.0 (action.Cut x.1)
 
 -- a read
 abbrev pub read_of : List (List ℕ) × (ℕ × ℕ) → Said
@@ -103,7 +103,7 @@ abbrev pub rename_of : List (List ℕ) × List (List ℕ) → Said
 rename_of x = Command x.0 (Rename x.1)
 
 -- a command that has a path alone
-abbrev pub on_path : Work → List (List ℕ) → Said
+abbrev pub on_path : Action → List (List ℕ) → Said
 on_path w path = Command path w
 
 -- ---- lines
@@ -148,11 +148,11 @@ unfoldable pub read_at : Reader Said
 read_at = as_a read_of (word_then (codes "read ") (both path_at (word_then (codes " ") (both number_at (word_then (codes " ") number_at)))))
 
 -- a command on a path, which may be `/`
-unfoldable pub path_line : List ℕ → Work → Reader Said
+unfoldable pub path_line : List ℕ → Action → Reader Said
 path_line text w = as_a (on_path w) (word_then text path_at)
 
 -- the same where the path isn't `/`
-unfoldable pub named_line : List ℕ → Work → Reader Said
+unfoldable pub named_line : List ℕ → Action → Reader Said
 named_line text w = as_a (on_path w) (word_then text named_path_at)
 
 -- a key's new value

@@ -6,16 +6,16 @@ use Rattle.afr_plan.specs.Happening as happening
 use Rattle.afr_plan.specs.Paths.{names_in}
 use Rattle.afr_plan.specs.Said.{Said}
 use Rattle.afr_plan.specs.Said as said
-use Rattle.afr_plan.specs.Work.{Work}
-use Rattle.afr_plan.specs.Work as work
+use Rattle.afr_plan.specs.Action.{Action}
+use Rattle.afr_plan.specs.Action as action
 use Rattle.afr_plan_line.specs.declared.spoken.SpokenData.{SpokenData}
 use Rattle.afr_plan_line.specs.declared.spoken.SpokenData.TheVariants.{Text, Hex, Fill}
 use Rattle.afr_plan_line.specs.declared.spoken.SpokenWho.{SpokenWho}
 use Rattle.afr_plan_line.specs.declared.spoken.SpokenWho.TheVariants.{OfClient, OfHealer}
 use Rattle.afr_plan_line.specs.declared.spoken.SpokenEvent.{SpokenEvent}
 use Rattle.afr_plan_line.specs.declared.spoken.SpokenEvent.TheVariants as event
-use Rattle.afr_plan_line.specs.declared.spoken.SpokenWork.{SpokenWork}
-use Rattle.afr_plan_line.specs.declared.spoken.SpokenWork.TheVariants.{Write, Cut, Read, Create, Mkdir, Unlink, Rmdir, Ls, Stat, SetAttr, GetAttr, Rename}
+use Rattle.afr_plan_line.specs.declared.spoken.SpokenAction.{SpokenAction}
+use Rattle.afr_plan_line.specs.declared.spoken.SpokenAction.TheVariants.{Write, Cut, Read, Create, Mkdir, Unlink, Rmdir, Ls, Stat, SetAttr, GetAttr, Rename}
 use Rattle.afr_plan_line.specs.declared.spoken.Spoken.{Spoken}
 use Rattle.afr_plan_line.specs.declared.spoken.Spoken.TheVariants.{Afr, Volume, Files, Turns, Client, Command, Healer, Round, Faulty, At, Go, End}
 
@@ -26,19 +26,19 @@ seen_data (Hex digits) = hex_bytes digits.now
 seen_data (Fill count byte) = replicate count byte
 
 -- what a command does, its words as their bytes
-abbrev pub seen_work : SpokenWork → Work
-seen_work (Write at d) = work.Write at (seen_data d)
-seen_work (Cut len) = work.Cut len
-seen_work (Read at len) = work.Read at len
-seen_work Create = work.Create
-seen_work Mkdir = work.Mkdir
-seen_work Unlink = work.Unlink
-seen_work Rmdir = work.Rmdir
-seen_work Ls = work.Ls
-seen_work Stat = work.Stat
-seen_work (SetAttr key value) = work.SetAttr key.now value.now
-seen_work (GetAttr key) = work.GetAttr key.now
-seen_work (Rename to) = work.Rename (names_in to.now)
+abbrev pub seen_action : SpokenAction → Action
+seen_action (Write at d) = action.Write at (seen_data d)
+seen_action (Cut len) = action.Cut len
+seen_action (Read at len) = action.Read at len
+seen_action Create = action.Create
+seen_action Mkdir = action.Mkdir
+seen_action Unlink = action.Unlink
+seen_action Rmdir = action.Rmdir
+seen_action Ls = action.Ls
+seen_action Stat = action.Stat
+seen_action (SetAttr key value) = action.SetAttr key.now value.now
+seen_action (GetAttr key) = action.GetAttr key.now
+seen_action (Rename to) = action.Rename (names_in to.now)
 
 -- an actor
 abbrev pub seen_who : SpokenWho → Who
@@ -60,7 +60,7 @@ seen (Volume version shape) = said.Volume version shape
 seen (Files k) = said.Files k
 seen (Turns t) = said.Turns t
 seen (Client i) = said.Client i
-seen (Command path w) = said.Command (names_in path.now) (seen_work w)
+seen (Command path w) = said.Command (names_in path.now) (seen_action w)
 seen (Healer j) = said.Healer j
 seen (Round brick) = said.Round brick
 seen (Faulty brick at fault) = said.Faulty brick at fault

@@ -9,6 +9,6 @@ mod spoken;
 
 pub use bytes::{hex_byte, is_plain, is_same, skip};
 pub use parts::data_len;
-pub use path::{Names, is_path_beyond, names_of};
+pub use path::{PathNames, is_path_beyond, names_of};
 pub use say::say_line;
-pub use spoken::{Spoken, SpokenData, SpokenEvent, SpokenWho, SpokenWork};
+pub use spoken::{Spoken, SpokenAction, SpokenData, SpokenEvent, SpokenWho};

@@ -14,11 +14,11 @@ use std::marker::Model;
 
 /// The names of a path that are still to come. Contracts see them as a list.
 #[derive(Drop)]
-pub struct Names<'a> {
+pub struct PathNames<'a> {
     rest: Option<&'a [u8]>,
 }
 
-impl<'a> Model for Names<'a> {
+impl<'a> Model for PathNames<'a> {
     ghost use Rattle.std.specs.Prelude.{List, ℕ};
     ghost use Rattle.std.specs.Option.{option_copied};
     ghost use Rattle.afr_plan.specs.Paths.{pieces_of};
@@ -29,17 +29,17 @@ impl<'a> Model for Names<'a> {
 }
 
 /// The names of a path.
-pub fn names_of(path: &[u8]) -> Names
+pub fn names_of(path: &[u8]) -> PathNames
     ensures { result ≡ names_in path.now }
 {
     match path {
-        [] => Names { rest: None },
-        [_] => Names { rest: None },
-        [_, rest @ ..] => Names { rest: Some(rest) },
+        [] => PathNames { rest: None },
+        [_] => PathNames { rest: None },
+        [_, rest @ ..] => PathNames { rest: Some(rest) },
     }
 }
 
-impl<'a> Names<'a> {
+impl<'a> PathNames<'a> {
     /// The next name, if there is one.
     pub fn next(&mut self) -> Option<&'a [u8]>
         ensures some { IfSome result (λ name. self.old ≡ name.now ∷ self.new) }

@@ -5,12 +5,12 @@ ghost use Rattle.afr_plan.specs.Reading.{all_used, whole};
 ghost use Rattle.afr_plan.specs.Reading as reading;
 ghost use Rattle.afr_plan.specs.SaidReading.{volume_one_at, volume_two_at, files_at, turns_at, client_at, write_at, cut_at, read_at, path_line, named_line, set_at, get_at, rename_at, healer_at, round_at, fault_at, event_at, order_at, shape_one_at, shape_two_at, kind_at, one_of, command_forms, line_forms, said};
 ghost use Rattle.afr_plan.specs.Said.{three_replicas, three_with_arbiter, five_replicas};
-ghost use Rattle.afr_plan_line.specs.Seen.{seen, seen_work};
+ghost use Rattle.afr_plan_line.specs.Seen.{seen, seen_action};
 
 use crate::bytes::{key, number, skip, small};
 use crate::parts::{data, event, who};
 use crate::path::{named_path, path};
-use crate::spoken::{Spoken, SpokenWork};
+use crate::spoken::{Spoken, SpokenAction};
 use afr_base::Shape;
 use afr_lines::Fault;
 use afr_plan::{Version, limits};
@@ -195,8 +195,8 @@ fn write(line: &[u8]) -> Option<Spoken>
     let (at, rest) = number(rest)?;
     let rest = skip(b" ", rest)?;
     let (data, rest) = data(rest)?;
-    let work = SpokenWork::Write { at, data };
-    alone(Spoken::Command { path, work }, rest)
+    let action = SpokenAction::Write { at, data };
+    alone(Spoken::Command { path, action }, rest)
 }
 
 #[tactic(auto, unfolding(afr_plan::specs::SaidReading::cut_at))]
@@ -207,8 +207,8 @@ fn cut(line: &[u8]) -> Option<Spoken>
     let (path, rest) = path(rest)?;
     let rest = skip(b" ", rest)?;
     let (len, rest) = number(rest)?;
-    let work = SpokenWork::Cut { len };
-    alone(Spoken::Command { path, work }, rest)
+    let action = SpokenAction::Cut { len };
+    alone(Spoken::Command { path, action }, rest)
 }
 
 #[tactic(auto, unfolding(afr_plan::specs::SaidReading::read_at))]
@@ -221,28 +221,28 @@ fn read(line: &[u8]) -> Option<Spoken>
     let (at, rest) = number(rest)?;
     let rest = skip(b" ", rest)?;
     let (len, rest) = number(rest)?;
-    let work = SpokenWork::Read { at, len };
-    alone(Spoken::Command { path, work }, rest)
+    let action = SpokenAction::Read { at, len };
+    alone(Spoken::Command { path, action }, rest)
 }
 
 /// A word and a path.
 #[tactic(auto, unfolding(afr_plan::specs::SaidReading::path_line))]
-fn on_path<'a>(word: &[u8], work: SpokenWork<'a>, line: &'a [u8]) -> Option<Spoken<'a>>
-    ensures { option_map seen result ≡ whole (path_line word.now (seen_work work.entry)) line.now }
+fn on_path<'a>(word: &[u8], action: SpokenAction<'a>, line: &'a [u8]) -> Option<Spoken<'a>>
+    ensures { option_map seen result ≡ whole (path_line word.now (seen_action action.entry)) line.now }
 {
     let rest = skip(word, line)?;
     let (path, rest) = path(rest)?;
-    alone(Spoken::Command { path, work }, rest)
+    alone(Spoken::Command { path, action }, rest)
 }
 
 /// A word and a path other than `/`.
 #[tactic(auto, unfolding(afr_plan::specs::SaidReading::named_line))]
-fn on_named_path<'a>(word: &[u8], work: SpokenWork<'a>, line: &'a [u8]) -> Option<Spoken<'a>>
-    ensures { option_map seen result ≡ whole (named_line word.now (seen_work work.entry)) line.now }
+fn on_named_path<'a>(word: &[u8], action: SpokenAction<'a>, line: &'a [u8]) -> Option<Spoken<'a>>
+    ensures { option_map seen result ≡ whole (named_line word.now (seen_action action.entry)) line.now }
 {
     let rest = skip(word, line)?;
     let (path, rest) = named_path(rest)?;
-    alone(Spoken::Command { path, work }, rest)
+    alone(Spoken::Command { path, action }, rest)
 }
 
 #[tactic(auto, unfolding(afr_plan::specs::SaidReading::set_at))]
@@ -255,8 +255,8 @@ fn set_attr(line: &[u8]) -> Option<Spoken>
     let (name, rest) = key(rest)?;
     let rest = skip(b" ", rest)?;
     let (value, rest) = key(rest)?;
-    let work = SpokenWork::SetAttr { key: name, value };
-    alone(Spoken::Command { path, work }, rest)
+    let action = SpokenAction::SetAttr { key: name, value };
+    alone(Spoken::Command { path, action }, rest)
 }
 
 #[tactic(auto, unfolding(afr_plan::specs::SaidReading::get_at))]
@@ -267,8 +267,8 @@ fn get_attr(line: &[u8]) -> Option<Spoken>
     let (path, rest) = path(rest)?;
     let rest = skip(b" ", rest)?;
     let (key, rest) = key(rest)?;
-    let work = SpokenWork::GetAttr { key };
-    alone(Spoken::Command { path, work }, rest)
+    let action = SpokenAction::GetAttr { key };
+    alone(Spoken::Command { path, action }, rest)
 }
 
 #[tactic(auto, unfolding(afr_plan::specs::SaidReading::rename_at))]
@@ -279,8 +279,8 @@ fn rename(line: &[u8]) -> Option<Spoken>
     let (path, rest) = named_path(rest)?;
     let rest = skip(b" ", rest)?;
     let (to, rest) = named_path(rest)?;
-    let work = SpokenWork::Rename { to };
-    alone(Spoken::Command { path, work }, rest)
+    let action = SpokenAction::Rename { to };
+    alone(Spoken::Command { path, action }, rest)
 }
 
 fn plain_word<'a>(word: &[u8], line: &[u8], value: Spoken<'a>) -> Option<Spoken<'a>>
@@ -303,22 +303,22 @@ fn say_command(line: &[u8]) -> Option<Spoken>
     if let Some(s) = read(line) {
         return Some(s);
     }
-    if let Some(s) = on_named_path(b"create ", SpokenWork::Create, line) {
+    if let Some(s) = on_named_path(b"create ", SpokenAction::Create, line) {
         return Some(s);
     }
-    if let Some(s) = on_named_path(b"mkdir ", SpokenWork::Mkdir, line) {
+    if let Some(s) = on_named_path(b"mkdir ", SpokenAction::Mkdir, line) {
         return Some(s);
     }
-    if let Some(s) = on_named_path(b"unlink ", SpokenWork::Unlink, line) {
+    if let Some(s) = on_named_path(b"unlink ", SpokenAction::Unlink, line) {
         return Some(s);
     }
-    if let Some(s) = on_named_path(b"rmdir ", SpokenWork::Rmdir, line) {
+    if let Some(s) = on_named_path(b"rmdir ", SpokenAction::Rmdir, line) {
         return Some(s);
     }
-    if let Some(s) = on_path(b"ls ", SpokenWork::Ls, line) {
+    if let Some(s) = on_path(b"ls ", SpokenAction::Ls, line) {
         return Some(s);
     }
-    if let Some(s) = on_path(b"stat ", SpokenWork::Stat, line) {
+    if let Some(s) = on_path(b"stat ", SpokenAction::Stat, line) {
         return Some(s);
     }
     if let Some(s) = set_attr(line) {

@@ -15,7 +15,7 @@ pub enum SpokenData<'a> {
 
 /// What a command does to the object of its path.
 #[derive(Clone, Copy, Drop)]
-pub enum SpokenWork<'a> {
+pub enum SpokenAction<'a> {
     Write { at: u32, data: SpokenData<'a> },
     Cut { len: u32 },
     Read { at: u32, len: u32 },
@@ -59,7 +59,7 @@ pub enum Spoken<'a> {
     Client(u32),
     Command {
         path: &'a [u8],
-        work: SpokenWork<'a>,
+        action: SpokenAction<'a>,
     },
     Healer(u32),
     Round(u8),

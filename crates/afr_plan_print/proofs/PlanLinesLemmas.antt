@@ -18,8 +18,8 @@ use Rattle.afr_plan.specs.declared.version.Version.{Version}
 use Rattle.afr_plan.specs.Happening.{Who, OfClient, OfHealer, Happening, Stop, Start, Cut, Join, Kill}
 use Rattle.afr_plan.specs.Bytes.{key_byte}
 use Rattle.afr_plan.specs.Spelling.{IsKey}
-use Rattle.afr_plan.specs.Work.{Work, IsCommand, work_word, Write, Read, Create, Mkdir, Unlink, Rmdir, Ls, Stat, SetAttr, GetAttr, Rename}
-use Rattle.afr_plan.specs.Work as work
+use Rattle.afr_plan.specs.Action.{Action, IsCommand, action_word, Write, Read, Create, Mkdir, Unlink, Rmdir, Ls, Stat, SetAttr, GetAttr, Rename}
+use Rattle.afr_plan.specs.Action as action
 use Rattle.afr_plan.specs.Said.{Said, IsSaid, Afr, Volume, Files, Turns, Client, Command, Healer, Round, Faulty, At, Go, End}
 use Rattle.afr_plan.specs.Rules.{word_of, is_one_of, is_client, is_healer, is_over, is_disordered, is_event_disordered, lacks_who, is_beyond, is_who_beyond, is_event_beyond, is_count_beyond}
 use Rattle.afr_plan.specs.PlanOf.{onto_last, command_of, actor_of, event_of, with_line, plan_of}
@@ -160,7 +160,7 @@ module _ (newest : Said) (older : List Said) (p : Plan) (h : Shape newest older 
         no_orders = λ k. h.no_orders (omega (arith, l));
       }
 
-  command_next : (path : List (List ℕ)) (w : Work) → AreAscii path → IsWorkAscii w → may newest (Command path w) ≡ true → Shape (Command path w) (newest ∷ older) (with_line (Command path w) p)
+  command_next : (path : List (List ℕ)) (w : Action) → AreAscii path → IsWorkAscii w → may newest (Command path w) ≡ true → Shape (Command path w) (newest ∷ older) (with_line (Command path w) p)
   command_next path w a k m =
       let one : stage newest ≡ 1 = in_script newest path w m in
       let l : stage newest ≤ 1 = omega (arith, one) in
@@ -309,9 +309,9 @@ key_ascii (b ∷ key) h =
 word_ascii : (w key : List ℕ) → IsKey w key → list_all ascii key ≡ true
 word_ascii w key h = let P : List ℕ → Type 0 = λ t. list_all ascii t ≡ true in subst P h.0 (key_ascii w h.1)
 
-work_ascii : (line : List ℕ) (path : List (List ℕ)) (w : Work) → IsCommand line path w → AreAscii path × IsWorkAscii w
+work_ascii : (line : List ℕ) (path : List (List ℕ)) (w : Action) → IsCommand line path w → AreAscii path × IsWorkAscii w
 work_ascii line path (Write at bytes) h = (path_ascii h.1.0 path h.1.2, tt)
-work_ascii line path (work.Cut len) h = (path_ascii h.1.0 path h.1.2, tt)
+work_ascii line path (action.Cut len) h = (path_ascii h.1.0 path h.1.2, tt)
 work_ascii line path (Read at len) h = (path_ascii h.1.0 path h.1.2, tt)
 work_ascii line path Create h = (named_path_ascii h.0 path h.1, tt)
 work_ascii line path Mkdir h = (named_path_ascii h.0 path h.1, tt)
@@ -367,7 +367,7 @@ lines_from (line ∷ lines) newest older all n k h a =
 abbrev pub is_word : Said → List ℕ → Bool
 is_word s w = is_one_of (w ∷ []) (word_of s)
 
-no_head_work : (w : Work) → (is_one_of (codes "afr" ∷ []) (work_word w) ≡ false) × (is_one_of (codes "volume" ∷ []) (work_word w) ≡ false) × (is_one_of (codes "files" ∷ []) (work_word w) ≡ false) × (is_one_of (codes "turns" ∷ []) (work_word w) ≡ false)
+no_head_work : (w : Action) → (is_one_of (codes "afr" ∷ []) (action_word w) ≡ false) × (is_one_of (codes "volume" ∷ []) (action_word w) ≡ false) × (is_one_of (codes "files" ∷ []) (action_word w) ≡ false) × (is_one_of (codes "turns" ∷ []) (action_word w) ≡ false)
 no_head_work (Write at bytes) = (refl, refl, refl, refl)
 no_head_work w = (refl, refl, refl, refl)
 

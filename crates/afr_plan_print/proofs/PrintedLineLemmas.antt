@@ -10,8 +10,8 @@ use Rattle.afr_plan.specs.Bytes.{plain}
 use Rattle.afr_plan.specs.Spelling.{WordThen, Both, IsKey, IsNumber, IsSmall, IsPath, IsNamedPath}
 use Rattle.afr_plan.specs.Data.{IsData}
 use Rattle.afr_plan.specs.Happening.{Who, IsWho, OfClient, OfHealer, Happening, IsHappening, Stop, Start, Cut, Join, Kill}
-use Rattle.afr_plan.specs.Work.{Work, IsCommand, work_word, Write, Read, Create, Mkdir, Unlink, Rmdir, Ls, Stat, SetAttr, GetAttr, Rename}
-use Rattle.afr_plan.specs.Work as work
+use Rattle.afr_plan.specs.Action.{Action, IsCommand, action_word, Write, Read, Create, Mkdir, Unlink, Rmdir, Ls, Stat, SetAttr, GetAttr, Rename}
+use Rattle.afr_plan.specs.Action as action
 use Rattle.afr_plan.specs.Said.{five_replicas, Said, IsSaid, IsShape, IsFault, Afr, Volume, Files, Turns, Client, Command, Healer, Round, Faulty, At, Go, End}
 use Rattle.afr_plan.specs.Rules.{is_beyond, is_path_beyond, is_work_beyond, is_brick_beyond, is_who_beyond, is_event_beyond, is_count_beyond}
 use Rattle.afr_plan.specs.declared.version.Version.{Version}
@@ -186,9 +186,9 @@ write_printed line path at bytes h p b =
     }
 
 -- ---- all kinds
-command_printed : (line : List ℕ) (path : List (List ℕ)) (w : Work) → IsCommand line path w → list_all plain line ≡ true → is_work_beyond w ≡ false → IsPrinted line (Command path w)
+command_printed : (line : List ℕ) (path : List (List ℕ)) (w : Action) → IsCommand line path w → list_all plain line ≡ true → is_work_beyond w ≡ false → IsPrinted line (Command path w)
 command_printed line path (Write at bytes) h p b = write_printed line path at bytes h p b
-command_printed line path (work.Cut len) h p b = as_it_stands line _ h p (on_path (codes "cut ") line path len (WordThen (codes " ") IsNumber) _ h (λ v t. number_after v len 1048576 t b (omega arith)))
+command_printed line path (action.Cut len) h p b = as_it_stands line _ h p (on_path (codes "cut ") line path len (WordThen (codes " ") IsNumber) _ h (λ v t. number_after v len 1048576 t b (omega arith)))
 command_printed line path (Read at len) h p b = as_it_stands line _ h p (on_path {A = ℕ × ℕ} (codes "read ") line path (at, len) (WordThen (codes " ") (Both IsNumber (WordThen (codes " ") IsNumber))) _ h (λ v t. numbers_after v at len t b))
 command_printed line path Create h p b = as_it_stands line _ h p (alone_named (codes "create ") line path h)
 command_printed line path Mkdir h p b = as_it_stands line _ h p (alone_named (codes "mkdir ") line path h)

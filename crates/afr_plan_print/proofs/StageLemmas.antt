@@ -1,6 +1,6 @@
 -- The parts of a plan stand in their order.
 use Rattle.std.proofs.Common.{◌≡◌, ℕ, ◌≤◌, List, [], ◌∷◌, refl, arith, Bool, true, false, codes}
-use Rattle.afr_plan.specs.Work.{Work, work_word, Write}
+use Rattle.afr_plan.specs.Action.{Action, action_word, Write}
 use Rattle.afr_plan.specs.Said.{Said, Afr, Volume, Files, Turns, Client, Command, Healer, Round, Faulty, At, Go, End}
 use Rattle.afr_plan.specs.Rules.{word_of, is_one_of, words_after, after_command, after_turns, after_round, after_fault, after_event, after_go}
 use Rattle.std.proofs.lemmas.Bool.{both_ways}
@@ -22,23 +22,23 @@ stage End = 6
 stage s = 0
 
 -- ---- where commands may not stand
-no_work_turns : (w : Work) → is_one_of after_turns (work_word w) ≡ false
+no_work_turns : (w : Action) → is_one_of after_turns (action_word w) ≡ false
 no_work_turns (Write at bytes) = refl
 no_work_turns w = refl
 
-no_work_round : (w : Work) → is_one_of after_round (work_word w) ≡ false
+no_work_round : (w : Action) → is_one_of after_round (action_word w) ≡ false
 no_work_round (Write at bytes) = refl
 no_work_round w = refl
 
-no_work_fault : (w : Work) → is_one_of after_fault (work_word w) ≡ false
+no_work_fault : (w : Action) → is_one_of after_fault (action_word w) ≡ false
 no_work_fault (Write at bytes) = refl
 no_work_fault w = refl
 
-no_work_event : (w : Work) → is_one_of after_event (work_word w) ≡ false
+no_work_event : (w : Action) → is_one_of after_event (action_word w) ≡ false
 no_work_event (Write at bytes) = refl
 no_work_event w = refl
 
-no_work_go : (w : Work) → is_one_of after_go (work_word w) ≡ false
+no_work_go : (w : Action) → is_one_of after_go (action_word w) ≡ false
 no_work_go (Write at bytes) = refl
 no_work_go w = refl
 
@@ -92,11 +92,11 @@ rises End s m = absurd (both_ways _ refl m)
 rises newest s m = omega arith
 
 -- a command stands after a client's head or command, and a round after a healer's head or round
-work_heads : (w : Work) → (is_one_of (codes "volume" ∷ []) (work_word w) ≡ false) × (is_one_of (codes "files" ∷ []) (work_word w) ≡ false) × (is_one_of (codes "turns" ∷ []) (work_word w) ≡ false)
+work_heads : (w : Action) → (is_one_of (codes "volume" ∷ []) (action_word w) ≡ false) × (is_one_of (codes "files" ∷ []) (action_word w) ≡ false) × (is_one_of (codes "turns" ∷ []) (action_word w) ≡ false)
 work_heads (Write at bytes) = (refl, refl, refl)
 work_heads w = (refl, refl, refl)
 
-pub in_script : (newest : Said) (path : List (List ℕ)) (w : Work) → may newest (Command path w) ≡ true → stage newest ≡ 1
+pub in_script : (newest : Said) (path : List (List ℕ)) (w : Action) → may newest (Command path w) ≡ true → stage newest ≡ 1
 in_script (Client i) path w m = refl
 in_script (Command p v) path w m = refl
 in_script (Afr v) path w m = absurd (both_ways _ (work_heads w).0 m)

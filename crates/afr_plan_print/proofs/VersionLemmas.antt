@@ -10,8 +10,8 @@ use Rattle.afr_plan.specs.declared.version.Version.{Version}
 use Rattle.afr_plan.specs.declared.version.Version.TheVariants.{One, Two}
 use Rattle.afr_plan.specs.Bytes.{plain}
 use Rattle.afr_plan.specs.Happening.{Who, OfClient, OfHealer, Happening, Stop, Start, Cut, Join, Kill}
-use Rattle.afr_plan.specs.Work.{Work}
-use Rattle.afr_plan.specs.Work as work
+use Rattle.afr_plan.specs.Action.{Action}
+use Rattle.afr_plan.specs.Action as action
 use Rattle.afr_plan.specs.TextLines.{bytes_of}
 use Rattle.afr_plan.specs.Said.{five_replicas, Said, IsSaid, IsShape, IsHead, Afr, Volume, Files, Turns, Client, Command, Healer, Round, Faulty, At, Go, End}
 use Rattle.afr_plan.specs.Rules.{word_of, next_words, may_stand, is_over, is_same, is_versioned, is_beyond, is_client, is_command, is_listing, is_healer, is_round, is_fault, is_fault_of, is_event, is_order, last_at, bricks_of, write_end, read_len, lacks_brick, lacks_who, is_event_disordered, is_disordered, passes_work, passes_total}
@@ -157,10 +157,10 @@ module _ (v : Version) (before : List Said) where
   order_kept (Go who count) = who_kept who
   order_kept s = refl
 
-  work_kept : (w : Work) → passes_work (map (in_version v) before) w ≡ passes_work before w
-  work_kept (work.Write at bytes) = ap (λ (n : ℕ). nat_lt 268435456 (n + (at + length bytes))) (sum_kept v write_end (end_same v) before)
-  work_kept (work.Read at len) = ap (λ (n : ℕ). nat_lt 67108864 (n + len)) (sum_kept v read_len (len_same v) before)
-  work_kept work.Ls = ap (λ (n : ℕ). nat_le 256 n) (count_kept v is_listing (listing_same v) before)
+  work_kept : (w : Action) → passes_work (map (in_version v) before) w ≡ passes_work before w
+  work_kept (action.Write at bytes) = ap (λ (n : ℕ). nat_lt 268435456 (n + (at + length bytes))) (sum_kept v write_end (end_same v) before)
+  work_kept (action.Read at len) = ap (λ (n : ℕ). nat_lt 67108864 (n + len)) (sum_kept v read_len (len_same v) before)
+  work_kept action.Ls = ap (λ (n : ℕ). nat_le 256 n) (count_kept v is_listing (listing_same v) before)
   work_kept w = refl
 
   total_kept : (s : Said) → passes_total (map (in_version v) before) (in_version v s) ≡ passes_total before s

@@ -10,8 +10,8 @@ use Rattle.afr_plan.specs.declared.plan.Words.{Words}
 use Rattle.afr_plan.specs.Names.{with_name, with_names, number_of}
 use Rattle.afr_plan.specs.PlanOf.{path_of, command_of, words_with}
 use Rattle.afr_plan.specs.Said.{Command}
-use Rattle.afr_plan.specs.Work.{Work, Write, Read, Create, Mkdir, Unlink, Rmdir, Ls, Stat, SetAttr, GetAttr, Rename}
-use Rattle.afr_plan.specs.Work as work
+use Rattle.afr_plan.specs.Action.{Action, Write, Read, Create, Mkdir, Unlink, Rmdir, Ls, Stat, SetAttr, GetAttr, Rename}
+use Rattle.afr_plan.specs.Action as action
 use Rattle.afr_plan_print.specs.PrintedPlan.{as_ascii, or_mark, word_at, names_of, said_command}
 use Rattle.afr_plan_print.proofs.PrintedPathLemmas.{ascii, AreAscii}
 
@@ -80,25 +80,25 @@ within_self w = record { names = extends_self w.names; keys = extends_self w.key
 within_on : (a b c : Words) → Within a b → Within b c → Within a c
 within_on a b c h k = record { names = extends_on _ _ _ h.names k.names; keys = extends_on _ _ _ h.keys k.keys; values = extends_on _ _ _ h.values k.values }
 
-pub within_command : (words new : Words) (path : List (List ℕ)) (w : Work) → Within (words_with words path w) new → Within words new
+pub within_command : (words new : Words) (path : List (List ℕ)) (w : Action) → Within (words_with words path w) new → Within words new
 within_command words new path (SetAttr key value) h = within_on words _ new (record { names = path_more path words.names; keys = one_more words.keys key; values = one_more words.values value }) h
 within_command words new path (GetAttr key) h = within_on words _ new (record { names = path_more path words.names; keys = one_more words.keys key; values = extends_self words.values }) h
 within_command words new path (Rename to) h = within_on words _ new (record { names = both_more path to words.names; keys = extends_self words.keys; values = extends_self words.values }) h
 within_command words new path w h = within_on words _ new (record { names = path_more path words.names; keys = extends_self words.keys; values = extends_self words.values }) h
 
 -- the keys and values of a command, and the names of its second path, are ASCII
-abbrev pub IsWorkAscii : Work → Type 0
+abbrev pub IsWorkAscii : Action → Type 0
 IsWorkAscii (SetAttr key value) = (list_all ascii key ≡ true) × (list_all ascii value ≡ true)
 IsWorkAscii (GetAttr key) = list_all ascii key ≡ true
 IsWorkAscii (Rename to) = AreAscii to
 IsWorkAscii w = Unit {0}
 
-with_path : (words new : Words) (path : List (List ℕ)) (w : Work) → AreAscii path → Extends (with_names words.names path) new.names → Command (names_of new (path_of words.names path)) w ≡ Command path w
+with_path : (words new : Words) (path : List (List ℕ)) (w : Action) → AreAscii path → Extends (with_names words.names path) new.names → Command (names_of new (path_of words.names path)) w ≡ Command path w
 with_path words new path w a e = ap (λ (t : List (List ℕ)). Command t w) (path_found path words.names new.names a e)
 
-pub command_found : (words new : Words) (path : List (List ℕ)) (w : Work) → AreAscii path → IsWorkAscii w → Within (words_with words path w) new → said_command new (command_of words path w) ≡ Command path w
+pub command_found : (words new : Words) (path : List (List ℕ)) (w : Action) → AreAscii path → IsWorkAscii w → Within (words_with words path w) new → said_command new (command_of words path w) ≡ Command path w
 command_found words new path (Write at bytes) a k h = with_path words new path (Write at bytes) a h.names
-command_found words new path (work.Cut len) a k h = with_path words new path (work.Cut len) a h.names
+command_found words new path (action.Cut len) a k h = with_path words new path (action.Cut len) a h.names
 command_found words new path (Read at len) a k h = with_path words new path (Read at len) a h.names
 command_found words new path Create a k h = with_path words new path Create a h.names
 command_found words new path Mkdir a k h = with_path words new path Mkdir a h.names

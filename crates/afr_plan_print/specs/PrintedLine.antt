@@ -4,8 +4,8 @@ use Rattle.afr_base.specs.declared.ids.Shape.{Shape}
 use Rattle.afr_lines.specs.declared.fault.Fault.{Fault}
 use Rattle.afr_lines.specs.declared.fault.Fault.TheVariants.{Fail, Lost}
 use Rattle.afr_plan.specs.Happening.{Who, OfClient, OfHealer, Happening, Stop, Start, Cut, Join, Kill}
-use Rattle.afr_plan.specs.Work.{Work, work_word, Write, Read, Create, Mkdir, Unlink, Rmdir, Ls, Stat, SetAttr, GetAttr, Rename}
-use Rattle.afr_plan.specs.Work as work
+use Rattle.afr_plan.specs.Action.{Action, action_word, Write, Read, Create, Mkdir, Unlink, Rmdir, Ls, Stat, SetAttr, GetAttr, Rename}
+use Rattle.afr_plan.specs.Action as action
 use Rattle.afr_plan.specs.Said.{Said, Afr, Volume, Files, Turns, Client, Command, Healer, Round, Faulty, At, Go, End}
 use Rattle.afr_plan.specs.declared.version.Version.{Version}
 use Rattle.afr_plan.specs.declared.version.Version.TheVariants.{One, Two}
@@ -21,9 +21,9 @@ path_text [] = codes "/"
 path_text (name ∷ more) = slashed (name ∷ more)
 
 -- what a command does after its path
-abbrev pub work_text : Work → List ℕ
+abbrev pub work_text : Action → List ℕ
 work_text (Write at bytes) = codes " " ++ (decimal at ++ (codes " " ++ data_text bytes))
-work_text (work.Cut len) = codes " " ++ decimal len
+work_text (action.Cut len) = codes " " ++ decimal len
 work_text (Read at len) = codes " " ++ (decimal at ++ (codes " " ++ decimal len))
 work_text (SetAttr key value) = codes " " ++ (key ++ (codes " " ++ value))
 work_text (GetAttr key) = codes " " ++ key
@@ -64,8 +64,8 @@ fault_text Fail = codes "fail"
 fault_text Lost = codes "lost"
 
 -- a command: its word, its path, and the rest
-abbrev pub command_text : List (List ℕ) → Work → List ℕ
-command_text path w = work_word w ++ (codes " " ++ (path_text path ++ work_text w))
+abbrev pub command_text : List (List ℕ) → Action → List ℕ
+command_text path w = action_word w ++ (codes " " ++ (path_text path ++ work_text w))
 
 -- a line, without its line feed
 abbrev pub line_text : Said → List ℕ

@@ -17,7 +17,7 @@ use Rattle.afr_plan.specs.declared.schedule.PlannedFault.{PlannedFault}
 use Rattle.afr_plan.specs.declared.version.Version.{Version}
 use Rattle.afr_plan.specs.declared.version.Version.TheVariants.{One, Two}
 use Rattle.afr_plan.specs.Happening.{Who, OfClient, OfHealer, Happening, Stop, Start, Cut, Join, Kill}
-use Rattle.afr_plan.specs.Work as work
+use Rattle.afr_plan.specs.Action as action
 use Rattle.afr_plan.specs.Said as said
 use Rattle.afr_plan.specs.Said.{Said}
 use Rattle.afr_plan_print.specs.PrintedLine.{lines_text}
@@ -43,18 +43,18 @@ names_of words path = map (λ id. word_at words.names id.0) path
 -- ---- what is said
 -- a command, with its words
 abbrev pub said_command : Words → Command → Said
-said_command words (command.Write path at bytes) = said.Command (names_of words path) (work.Write at bytes)
-said_command words (command.Cut path len) = said.Command (names_of words path) (work.Cut len)
-said_command words (command.Read path at len) = said.Command (names_of words path) (work.Read at len)
-said_command words (command.Create path) = said.Command (names_of words path) work.Create
-said_command words (command.Mkdir path) = said.Command (names_of words path) work.Mkdir
-said_command words (command.Unlink path) = said.Command (names_of words path) work.Unlink
-said_command words (command.Rmdir path) = said.Command (names_of words path) work.Rmdir
-said_command words (command.Ls path) = said.Command (names_of words path) work.Ls
-said_command words (command.Stat path) = said.Command (names_of words path) work.Stat
-said_command words (command.SetAttr path key value) = said.Command (names_of words path) (work.SetAttr (word_at words.keys key.0) (word_at words.values value.0))
-said_command words (command.GetAttr path key) = said.Command (names_of words path) (work.GetAttr (word_at words.keys key.0))
-said_command words (command.Rename from to) = said.Command (names_of words from) (work.Rename (names_of words to))
+said_command words (command.Write path at bytes) = said.Command (names_of words path) (action.Write at bytes)
+said_command words (command.Cut path len) = said.Command (names_of words path) (action.Cut len)
+said_command words (command.Read path at len) = said.Command (names_of words path) (action.Read at len)
+said_command words (command.Create path) = said.Command (names_of words path) action.Create
+said_command words (command.Mkdir path) = said.Command (names_of words path) action.Mkdir
+said_command words (command.Unlink path) = said.Command (names_of words path) action.Unlink
+said_command words (command.Rmdir path) = said.Command (names_of words path) action.Rmdir
+said_command words (command.Ls path) = said.Command (names_of words path) action.Ls
+said_command words (command.Stat path) = said.Command (names_of words path) action.Stat
+said_command words (command.SetAttr path key value) = said.Command (names_of words path) (action.SetAttr (word_at words.keys key.0) (word_at words.values value.0))
+said_command words (command.GetAttr path key) = said.Command (names_of words path) (action.GetAttr (word_at words.keys key.0))
+said_command words (command.Rename from to) = said.Command (names_of words from) (action.Rename (names_of words to))
 
 -- a round
 abbrev pub said_round : BrickId → Said

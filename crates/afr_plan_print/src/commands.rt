@@ -2,7 +2,7 @@
 ghost use Rattle.std.specs.Prelude.{◌≡◌, ◌++◌, OnOk, string_bytes, codes};
 ghost use Rattle.afr_plan_print.specs.PrintedLine.{command_text, line_text, path_text};
 ghost use Rattle.afr_plan_print.specs.PrintedPlan.{names_of, said_command, word_at};
-ghost use Rattle.afr_plan.specs.Work as work;
+ghost use Rattle.afr_plan.specs.Action as action;
 
 use crate::data_forms::push_data;
 use crate::words::{push_path, word_at};
@@ -54,7 +54,7 @@ fn push_write(
     at: u32,
     bytes: &[u8],
 ) -> Result<(), NoMemory>
-    ensures ok { OnOk result (string_bytes out.new ≡ string_bytes out.old ++ (command_text (names_of words.now path.now) (work.Write at bytes.now) ++ codes "\n")) }
+    ensures ok { OnOk result (string_bytes out.new ≡ string_bytes out.old ++ (command_text (names_of words.now path.now) (action.Write at bytes.now) ++ codes "\n")) }
 {
     push_path(out, "write ", words, path)?;
     write!(out, " {at} ")?;
@@ -64,7 +64,7 @@ fn push_write(
 }
 
 fn push_cut(out: &mut String, words: &Words, path: &NamePath, len: u32) -> Result<(), NoMemory>
-    ensures ok { OnOk result (string_bytes out.new ≡ string_bytes out.old ++ (command_text (names_of words.now path.now) (work.Cut len) ++ codes "\n")) }
+    ensures ok { OnOk result (string_bytes out.new ≡ string_bytes out.old ++ (command_text (names_of words.now path.now) (action.Cut len) ++ codes "\n")) }
 {
     push_path(out, "cut ", words, path)?;
     write!(out, " {len}\n")?;
@@ -78,7 +78,7 @@ fn push_read(
     at: u32,
     len: u32,
 ) -> Result<(), NoMemory>
-    ensures ok { OnOk result (string_bytes out.new ≡ string_bytes out.old ++ (command_text (names_of words.now path.now) (work.Read at len) ++ codes "\n")) }
+    ensures ok { OnOk result (string_bytes out.new ≡ string_bytes out.old ++ (command_text (names_of words.now path.now) (action.Read at len) ++ codes "\n")) }
 {
     push_path(out, "read ", words, path)?;
     write!(out, " {at} {len}\n")?;
@@ -92,7 +92,7 @@ fn push_set_attr(
     key: KeyId,
     value: ValueId,
 ) -> Result<(), NoMemory>
-    ensures ok { OnOk result (string_bytes out.new ≡ string_bytes out.old ++ (command_text (names_of words.now path.now) (work.SetAttr (word_at words.now.keys key.0) (word_at words.now.values value.0)) ++ codes "\n")) }
+    ensures ok { OnOk result (string_bytes out.new ≡ string_bytes out.old ++ (command_text (names_of words.now path.now) (action.SetAttr (word_at words.now.keys key.0) (word_at words.now.values value.0)) ++ codes "\n")) }
 {
     push_path(out, "setattr ", words, path)?;
     let key = word_at(&words.keys, key.0);
@@ -107,7 +107,7 @@ fn push_get_attr(
     path: &NamePath,
     key: KeyId,
 ) -> Result<(), NoMemory>
-    ensures ok { OnOk result (string_bytes out.new ≡ string_bytes out.old ++ (command_text (names_of words.now path.now) (work.GetAttr (word_at words.now.keys key.0)) ++ codes "\n")) }
+    ensures ok { OnOk result (string_bytes out.new ≡ string_bytes out.old ++ (command_text (names_of words.now path.now) (action.GetAttr (word_at words.now.keys key.0)) ++ codes "\n")) }
 {
     push_path(out, "getattr ", words, path)?;
     let key = word_at(&words.keys, key.0);
@@ -121,7 +121,7 @@ fn push_rename(
     from: &NamePath,
     to: &NamePath,
 ) -> Result<(), NoMemory>
-    ensures ok { OnOk result (string_bytes out.new ≡ string_bytes out.old ++ (command_text (names_of words.now from.now) (work.Rename (names_of words.now to.now)) ++ codes "\n")) }
+    ensures ok { OnOk result (string_bytes out.new ≡ string_bytes out.old ++ (command_text (names_of words.now from.now) (action.Rename (names_of words.now to.now)) ++ codes "\n")) }
 {
     push_path(out, "rename ", words, from)?;
     push_path(out, " ", words, to)?;

@@ -8,15 +8,15 @@ use Rattle.std.proofs.lemmas.List.Sums.{sum_by-cons}
 use Rattle.afr_plan_read.specs.Counts.{counted, head_lines, IsCounted}
 use Rattle.afr_plan.specs.Rules.{may_stand, bricks_of, is_client, is_command, is_listing, is_healer, is_round, is_fault, is_event, is_order, last_at, write_end, read_len, is_beyond, is_disordered, passes_total}
 use Rattle.afr_plan.specs.Said.{Said, Afr, Volume, Files, Turns, Client, Command, Healer, Round, Faulty, At, Go, End}
-use Rattle.afr_plan.specs.Work.{Work}
-use Rattle.afr_plan.specs.Work as work
+use Rattle.afr_plan.specs.Action.{Action}
+use Rattle.afr_plan.specs.Action as action
 use Rattle.std.proofs.lemmas.List.Folds.{list_any-append}
 use Rattle.afr_plan_read.specs.FaultPlaces.{is_place, place_at, ArePlaces, with_place}
 use Rattle.afr_plan.specs.Rules.{is_fault_of}
 use Rattle.afr_plan_line.specs.Seen.{seen}
 use Rattle.afr_plan_read.specs.declared.order.FaultPlace.{FaultPlace}
 use Rattle.afr_plan_line.specs.declared.spoken.Spoken.{Spoken}
-use Rattle.afr_plan_read.specs.declared.totals.Counts.{Counts}
+use Rattle.afr_plan_read.specs.declared.totals.LineCounts.{LineCounts}
 
 abbrev one : Bool → ℕ
 one b = cond b 1 0
@@ -30,7 +30,7 @@ bricks_with (Volume version shape) old = shape.n
 bricks_with s old = old
 
 -- each count rises by what the line adds
-record Adds (s : Said) (c d : Counts) : Type 0 where
+record Adds (s : Said) (c d : LineCounts) : Type 0 where
   bricks : d.bricks ≡ bricks_with s c.bricks
   clients : d.clients ≡ one (is_client s) + c.clients
   commands : d.commands ≡ one (is_command s) + c.commands
@@ -44,13 +44,13 @@ record Adds (s : Said) (c d : Counts) : Type 0 where
   ends : d.ends ≡ write_end s + c.ends
   lengths : d.lengths ≡ read_len s + c.lengths
 
-adds_work : (path : List (List ℕ)) (w : Work) (c : Counts) → Adds (Command path w) c (counted (Command path w) c)
-adds_work path (work.Write at bytes) c = grind arith
-adds_work path (work.Read at len) c = grind arith
-adds_work path work.Ls c = grind arith
+adds_work : (path : List (List ℕ)) (w : Action) (c : LineCounts) → Adds (Command path w) c (counted (Command path w) c)
+adds_work path (action.Write at bytes) c = grind arith
+adds_work path (action.Read at len) c = grind arith
+adds_work path action.Ls c = grind arith
 adds_work path w c = grind arith
 
-adds : (s : Said) (c : Counts) → Adds s c (counted s c)
+adds : (s : Said) (c : LineCounts) → Adds s c (counted s c)
 adds (Volume version shape) c = grind arith
 adds (Client i) c = grind arith
 adds (Command path w) c = adds_work path w c
@@ -91,17 +91,17 @@ few_orders before (Go who count) c e l t = let few : count_by is_order before < 
 few_orders before s c e l t = omega (arith, l)
 
 few_listings : (before : List Said) (s : Said) (c : ℕ) → c ≡ count_by is_listing before → c ≤ 256 → passes_total before s ≡ false → one (is_listing s) + c ≤ 256
-few_listings before (Command path work.Ls) c e l t = let few : count_by is_listing before < 256 = grind (arith, nat_tests) in omega (arith, e, few)
+few_listings before (Command path action.Ls) c e l t = let few : count_by is_listing before < 256 = grind (arith, nat_tests) in omega (arith, e, few)
 few_listings before (Command path w) c e l t = omega (arith, l)
 few_listings before s c e l t = omega (arith, l)
 
 few_ends : (before : List Said) (s : Said) (c : ℕ) → c ≡ sum_by write_end before → c ≤ 268435456 → passes_total before s ≡ false → write_end s + c ≤ 268435456
-few_ends before (Command path (work.Write at bytes)) c e l t = let few : sum_by write_end before + (at + length bytes) ≤ 268435456 = grind (arith, nat_tests) in omega (arith, e, few)
+few_ends before (Command path (action.Write at bytes)) c e l t = let few : sum_by write_end before + (at + length bytes) ≤ 268435456 = grind (arith, nat_tests) in omega (arith, e, few)
 few_ends before (Command path w) c e l t = omega (arith, l)
 few_ends before s c e l t = omega (arith, l)
 
 few_lengths : (before : List Said) (s : Said) (c : ℕ) → c ≡ sum_by read_len before → c ≤ 67108864 → passes_total before s ≡ false → read_len s + c ≤ 67108864
-few_lengths before (Command path (work.Read at len)) c e l t = let few : sum_by read_len before + len ≤ 67108864 = grind (arith, nat_tests) in omega (arith, e, few)
+few_lengths before (Command path (action.Read at len)) c e l t = let few : sum_by read_len before + len ≤ 67108864 = grind (arith, nat_tests) in omega (arith, e, few)
 few_lengths before (Command path w) c e l t = omega (arith, l)
 few_lengths before s c e l t = omega (arith, l)
 
@@ -127,7 +127,7 @@ heads (Turns t) before h = absurd (cc)
 heads s (End ∷ older) h = absurd (cc)
 heads s before h = omega arith
 
-lines_more : (before : List Said) (s : Said) (c d : Counts) → may_stand before s ≡ true → IsCounted before c → Adds s c d
+lines_more : (before : List Said) (s : Said) (c d : LineCounts) → may_stand before s ≡ true → IsCounted before c → Adds s c d
     → length (s ∷ before) ≤ head_lines (s ∷ before) + d.clients + d.commands + d.healers + d.rounds + d.faults + d.events + d.orders
 lines_more before s c d place h a =
     let n = heads s before place in
@@ -144,7 +144,7 @@ heads_few (End ∷ older) = omega arith
 heads_few (s ∷ older) = omega arith
 
 -- the totals bound the lines
-pub lines_few : (before : List Said) (c : Counts) → IsCounted before c → length before ≤ 20504
+pub lines_few : (before : List Said) (c : LineCounts) → IsCounted before c → length before ≤ 20504
 lines_few before c h =
     omega (arith, heads_few before, h.few_lines, h.few_clients, h.few_commands, h.few_healers, h.few_rounds, h.few_faults, h.few_events, h.few_orders)
 
@@ -166,7 +166,7 @@ summed f before s c d e g = omega (arith, e, g, sum_by-cons f s before)
 under : (a b n : ℕ) → a ≡ b → b ≤ n → a ≤ n
 under a b n e l = omega (arith, e, l)
 
-pub counts-kept : (before : List Said) (s : Said) (c : Counts) → may_stand before s ≡ true → IsCounted before c → is_beyond s ≡ false → is_disordered before s ≡ false → passes_total before s ≡ false → IsCounted (s ∷ before) (counted s c)
+pub counts-kept : (before : List Said) (s : Said) (c : LineCounts) → may_stand before s ≡ true → IsCounted before c → is_beyond s ≡ false → is_disordered before s ≡ false → passes_total before s ≡ false → IsCounted (s ∷ before) (counted s c)
 counts-kept before s c place h b o t =
     let a = adds s c in
     record {

@@ -5,8 +5,8 @@ use Rattle.afr_plan.specs.Bytes.{plain}
 use Rattle.afr_plan.specs.Said.{Said, IsSaid, Afr, Volume, Files, Turns, Client, Command, Healer, Round, Faulty, At, Go, End}
 use Rattle.afr_plan.specs.SaidReading.{said}
 use Rattle.afr_plan.specs.Rules.{is_over, may_stand, is_versioned, words_after, word_of, is_one_of, is_beyond, is_disordered, passes_total}
-use Rattle.afr_plan.specs.Work.{Work, IsCommand, work_word, Write, Read, Create, Mkdir, Unlink, Rmdir, Ls, Stat, SetAttr, GetAttr, Rename}
-use Rattle.afr_plan.specs.Work as work
+use Rattle.afr_plan.specs.Action.{Action, IsCommand, action_word, Write, Read, Create, Mkdir, Unlink, Rmdir, Ls, Stat, SetAttr, GetAttr, Rename}
+use Rattle.afr_plan.specs.Action as action
 use Rattle.afr_plan.specs.Judging.{begins_plan, may_begin, first_word, place_code, judged, formed, fitting}
 use Rattle.afr_plan.specs.Spells.{IsLine}
 use Rattle.afr_plan.specs.declared.version.Version.TheVariants.{One, Two}
@@ -14,9 +14,9 @@ use Rattle.afr_plan_read.proofs.SaidLemmas.{said-takes, said-again}
 
 -- ---- places
 -- a line's first word is that of what it says
-first_command : (line : List ℕ) (path : List (List ℕ)) (w : Work) → IsCommand line path w → first_word line ≡ work_word w
+first_command : (line : List ℕ) (path : List (List ℕ)) (w : Action) → IsCommand line path w → first_word line ≡ action_word w
 first_command line path (Write at bytes) h = ap first_word h.2
-first_command line path (work.Cut len) h = ap first_word h.2
+first_command line path (action.Cut len) h = ap first_word h.2
 first_command line path (Read at len) h = ap first_word h.2
 first_command line path Create h = ap first_word h.2
 first_command line path Mkdir h = ap first_word h.2
@@ -44,9 +44,9 @@ first_said line (Go who count) h = ap first_word h.2
 first_said line End h = ap first_word h
 
 -- and only the first line begins with the first line's words
-begun_command : (line : List ℕ) (path : List (List ℕ)) (w : Work) → IsCommand line path w → begins_plan line ≡ may_stand [] (Command path w)
+begun_command : (line : List ℕ) (path : List (List ℕ)) (w : Action) → IsCommand line path w → begins_plan line ≡ may_stand [] (Command path w)
 begun_command line path (Write at bytes) h = ap begins_plan h.2
-begun_command line path (work.Cut len) h = ap begins_plan h.2
+begun_command line path (action.Cut len) h = ap begins_plan h.2
 begun_command line path (Read at len) h = ap begins_plan h.2
 begun_command line path Create h = ap begins_plan h.2
 begun_command line path Mkdir h = ap begins_plan h.2

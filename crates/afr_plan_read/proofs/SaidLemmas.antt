@@ -6,8 +6,8 @@ use Rattle.afr_base.specs.declared.ids.Shape.{Shape}
 use Rattle.afr_plan.specs.Said.{Said, IsSaid, Afr, Volume, Files, Turns, Client, Command, Healer, Round, Faulty, At, Go, End}
 use Rattle.afr_plan.specs.SaidReading.{shape_one_at, shape_two_at, said, command_forms, line_forms, one_of, write_of, cut_of, read_of, set_of, get_of, rename_of, on_path, fault_of, event_of, order_of, volume_one_at, volume_two_at, files_at, turns_at, client_at, write_at, cut_at, read_at, path_line, named_line, set_at, get_at, rename_at, healer_at, round_at, fault_at, event_at, order_at}
 use Rattle.afr_plan.specs.Spelling.{IsNumber, IsPath, IsNamedPath, WordThen, Both}
-use Rattle.afr_plan.specs.Work.{Work, IsCommand, Write, Read, Create, Mkdir, Unlink, Rmdir, Ls, Stat, SetAttr, GetAttr, Rename}
-use Rattle.afr_plan.specs.Work as work
+use Rattle.afr_plan.specs.Action.{Action, IsCommand, Write, Read, Create, Mkdir, Unlink, Rmdir, Ls, Stat, SetAttr, GetAttr, Rename}
+use Rattle.afr_plan.specs.Action as action
 use Rattle.afr_plan.specs.declared.version.Version.{Version}
 use Rattle.afr_plan.specs.declared.version.Version.TheVariants.{One, Two}
 use Rattle.afr_plan_read.proofs.Laws.{Takes, Again, Any, Stops, word-takes, word_then-takes, word_then-again, both-takes, both-again, as-again, as-so, takes-so, or_some, whole-takes, whole-again, path-takes, path-again, named_path-takes, named_path-again, key-takes, key-again, number-takes, number-again, small-takes, small-again}
@@ -39,11 +39,11 @@ path_and text q T t = word_then-takes text _ _ (both-takes _ _ _ _ path-takes (w
 number_and : {A : Type 0} (q : Reader A) (T : List ℕ → A → Type 0) → Takes q T → Takes (both number_at (word_then (codes " ") q)) (Both IsNumber (WordThen (codes " ") T))
 number_and q T t = both-takes _ _ _ _ number-takes (word_then-takes (codes " ") _ _ t)
 
-named-said : (text : List ℕ) (w : Work) → ((line : List ℕ) (path : List (List ℕ)) → WordThen text IsNamedPath line path → IsSaid line (Command path w)) → Takes (named_line text w) IsSaid
+named-said : (text : List ℕ) (w : Action) → ((line : List ℕ) (path : List (List ℕ)) → WordThen text IsNamedPath line path → IsSaid line (Command path w)) → Takes (named_line text w) IsSaid
 unfolding named_line
 named-said text w f = as-so (on_path w) _ _ _ (word_then-takes text _ _ named_path-takes) f
 
-path-said : (text : List ℕ) (w : Work) → ((line : List ℕ) (path : List (List ℕ)) → WordThen text IsPath line path → IsSaid line (Command path w)) → Takes (path_line text w) IsSaid
+path-said : (text : List ℕ) (w : Action) → ((line : List ℕ) (path : List (List ℕ)) → WordThen text IsPath line path → IsSaid line (Command path w)) → Takes (path_line text w) IsSaid
 unfolding path_line
 path-said text w f = as-so (on_path w) _ _ _ (word_then-takes text _ _ path-takes) f
 
@@ -158,19 +158,19 @@ number_and_again q T Next t = both-again _ _ _ _ (Stops digit) Next number-again
 whole_as : {A : Type 0} (f : A → Said) (r : Reader A) (S : List ℕ → A → Type 0) (Next : List ℕ → Type 0) → Again r S Next → Next [] → (line : List ℕ) (x : A) → S line x → whole (as_a f r) line ≡ Some (f x)
 whole_as f r S Next t n line x s = whole-again _ _ _ (as-again f r S Next t) n line (f x) (x, s, refl)
 
-named_again : (text : List ℕ) (w : Work) (line : List ℕ) (path : List (List ℕ)) → WordThen text IsNamedPath line path → whole (named_line text w) line ≡ Some (Command path w)
+named_again : (text : List ℕ) (w : Action) (line : List ℕ) (path : List (List ℕ)) → WordThen text IsNamedPath line path → whole (named_line text w) line ≡ Some (Command path w)
 unfolding named_line
 named_again text w line path h = whole_as (on_path w) _ _ (Stops path_byte) (word_then-again text _ _ (Stops path_byte) named_path-again) tt line path h
 
-path_again : (text : List ℕ) (w : Work) (line : List ℕ) (path : List (List ℕ)) → WordThen text IsPath line path → whole (path_line text w) line ≡ Some (Command path w)
+path_again : (text : List ℕ) (w : Action) (line : List ℕ) (path : List (List ℕ)) → WordThen text IsPath line path → whole (path_line text w) line ≡ Some (Command path w)
 unfolding path_line
 path_again text w line path h = whole_as (on_path w) _ _ (Stops path_byte) (word_then-again text _ _ (Stops path_byte) path-again) tt line path h
 
-command_again : (line : List ℕ) (path : List (List ℕ)) (w : Work) → IsCommand line path w → said line ≡ Some (Command path w)
+command_again : (line : List ℕ) (path : List (List ℕ)) (w : Action) → IsCommand line path w → said line ≡ Some (Command path w)
 unfolding said write_at cut_at read_at set_at get_at rename_at named_line path_line
 command_again line path (Write at bytes) h = ap said h.2 ∙ command_is write_at (drop 1 command_forms) line_forms (codes "write " ++ h.0) _
     (whole_as write_of _ _ (Stops hex_digit) (path_and_again (codes "write ") _ _ _ (number_and_again _ _ _ data-again)) tt _ (path, (at, bytes)) (h.0, h.1, refl))
-command_again line path (work.Cut len) h = ap said h.2 ∙ command_is cut_at (drop 2 command_forms) line_forms (codes "cut " ++ h.0) _
+command_again line path (action.Cut len) h = ap said h.2 ∙ command_is cut_at (drop 2 command_forms) line_forms (codes "cut " ++ h.0) _
     (whole_as cut_of _ _ (Stops digit) (path_and_again (codes "cut ") _ _ _ number-again) tt _ (path, len) (h.0, h.1, refl))
 command_again line path (Read at len) h = ap said h.2 ∙ command_is read_at (drop 3 command_forms) line_forms (codes "read " ++ h.0) _
     (whole_as read_of _ _ (Stops digit) (path_and_again (codes "read ") _ _ _ (number_and_again _ _ _ number-again)) tt _ (path, (at, len)) (h.0, h.1, refl))

@@ -1,19 +1,19 @@
 -- What the reader keeps of the lines before, beside what they say.
 use Rattle.std.specs.Prelude.{◌≡◌, ◌+◌, ◌≤◌, ℕ, List, [], ◌∷◌, length, count_by, sum_by}
 use Rattle.afr_plan.specs.Said.{Said, Afr, Volume, Files, Client, Command, Healer, Round, Faulty, At, Go, End}
-use Rattle.afr_plan.specs.Work.{Work, Write, Read, Ls}
+use Rattle.afr_plan.specs.Action.{Action, Write, Read, Ls}
 use Rattle.afr_plan.specs.Rules.{bricks_of, is_client, is_command, is_listing, is_healer, is_round, is_fault, is_event, is_order, last_at, write_end, read_len}
-use Rattle.afr_plan_read.specs.declared.totals.Counts.{Counts}
+use Rattle.afr_plan_read.specs.declared.totals.LineCounts.{LineCounts}
 
 -- the counts of a command's kind with one more
-abbrev pub worked : Work → Counts → Counts
+abbrev pub worked : Action → LineCounts → LineCounts
 worked (Write at bytes) c = record c { ends = c.ends + (at + length bytes) }
 worked (Read at len) c = record c { lengths = c.lengths + len }
 worked Ls c = record c { listings = c.listings + 1 }
 worked w c = c
 
 -- the counts with one line more
-abbrev pub counted : Said → Counts → Counts
+abbrev pub counted : Said → LineCounts → LineCounts
 counted (Volume version shape) c = record c { bricks = shape.n }
 counted (Client i) c = record c { clients = c.clients + 1 }
 counted (Command path w) c = worked w (record c { commands = c.commands + 1 })
@@ -34,7 +34,7 @@ head_lines (End ∷ older) = 5
 head_lines (s ∷ older) = 4
 
 -- the counts are those of the lines, and within the totals
-pub record IsCounted (before : List Said) (c : Counts) : Type 0 where
+pub record IsCounted (before : List Said) (c : LineCounts) : Type 0 where
   pub bricks : c.bricks ≡ bricks_of before
   pub clients : c.clients ≡ count_by is_client before
   pub commands : c.commands ≡ count_by is_command before

@@ -4,14 +4,14 @@ ghost use Rattle.afr_plan.specs.Paths.{names_in};
 ghost use Rattle.afr_plan.specs.PlanOf.{empty_plan, onto_last, with_line, plan_of, actor_of};
 ghost use Rattle.afr_plan.specs.PlanOf as plans;
 ghost use Rattle.afr_plan.specs.Said as said;
-ghost use Rattle.afr_plan_line.specs.Seen.{seen, seen_work, seen_who, seen_event};
+ghost use Rattle.afr_plan_line.specs.Seen.{seen, seen_action, seen_who, seen_event};
 
 use crate::words::WordTables;
 use afr_base::{ActorId, BrickId, NoMemory, Shape};
 use afr_lines::Event;
 use afr_object::List;
 use afr_plan::{Go, Plan, PlannedEvent, PlannedFault, Words, limits};
-use afr_plan_line::{Spoken, SpokenEvent, SpokenWho, SpokenWork};
+use afr_plan_line::{Spoken, SpokenAction, SpokenEvent, SpokenWho};
 use std::alloc::Global;
 use std::marker::Model;
 
@@ -112,10 +112,10 @@ impl<'t> Draft<'t> {
         Ok(())
     }
 
-    fn add_command(&mut self, path: &[u8], work: &SpokenWork) -> Result<(), NoMemory>
-        ensures ok { OnOk result (self.new ≡ with_line (said.Command (names_in path.now) (seen_work work.now)) self.old) }
+    fn add_command(&mut self, path: &[u8], action: &SpokenAction) -> Result<(), NoMemory>
+        ensures ok { OnOk result (self.new ≡ with_line (said.Command (names_in path.now) (seen_action action.now)) self.old) }
     {
-        let command = self.words.command(self.alloc, path, work)?;
+        let command = self.words.command(self.alloc, path, action)?;
         push_last(&mut self.plan.clients, command)
     }
 
@@ -165,7 +165,7 @@ impl<'t> Draft<'t> {
                 Ok(())
             }
             Spoken::Client(_) => self.add_client(),
-            Spoken::Command { path, work } => self.add_command(path, &work),
+            Spoken::Command { path, action } => self.add_command(path, &action),
             Spoken::Healer(_) => self.add_healer(),
             Spoken::Round(brick) => self.add_round(brick),
             Spoken::Faulty { brick, at, fault } => self.add_fault(PlannedFault {

@@ -1,10 +1,10 @@
 //! What a line may not exceed by itself.
 ghost use Rattle.std.specs.Prelude.{◌≡◌};
 ghost use Rattle.afr_plan.specs.Rules as rule;
-ghost use Rattle.afr_plan_line.specs.Seen.{seen, seen_work, seen_who, seen_event};
+ghost use Rattle.afr_plan_line.specs.Seen.{seen, seen_action, seen_who, seen_event};
 
 use afr_plan::limits;
-use afr_plan_line::{Spoken, SpokenEvent, SpokenWho, SpokenWork, data_len, is_path_beyond};
+use afr_plan_line::{Spoken, SpokenAction, SpokenEvent, SpokenWho, data_len, is_path_beyond};
 
 fn is_long(word: &[u8]) -> bool
     ensures { result ≡ rule.is_long word.now }
@@ -12,23 +12,23 @@ fn is_long(word: &[u8]) -> bool
     word.len() > limits::WORD
 }
 
-fn is_work_beyond(work: &SpokenWork) -> bool
-    ensures { result ≡ rule.is_work_beyond (seen_work work.now) }
+fn is_work_beyond(action: &SpokenAction) -> bool
+    ensures { result ≡ rule.is_work_beyond (seen_action action.now) }
 {
-    match work {
-        SpokenWork::Write { at, data } => *at > limits::FILE
+    match action {
+        SpokenAction::Write { at, data } => *at > limits::FILE
             || data_len(data) > limits::PIECE as usize,
-        SpokenWork::Cut { len } => *len > limits::FILE,
-        SpokenWork::Read { at, len } => *at > limits::FILE || *len > limits::PIECE,
-        SpokenWork::SetAttr { key, value } => is_long(key) || is_long(value),
-        SpokenWork::GetAttr { key } => is_long(key),
-        SpokenWork::Rename { to } => is_path_beyond(to),
-        SpokenWork::Create => false,
-        SpokenWork::Mkdir => false,
-        SpokenWork::Unlink => false,
-        SpokenWork::Rmdir => false,
-        SpokenWork::Ls => false,
-        SpokenWork::Stat => false,
+        SpokenAction::Cut { len } => *len > limits::FILE,
+        SpokenAction::Read { at, len } => *at > limits::FILE || *len > limits::PIECE,
+        SpokenAction::SetAttr { key, value } => is_long(key) || is_long(value),
+        SpokenAction::GetAttr { key } => is_long(key),
+        SpokenAction::Rename { to } => is_path_beyond(to),
+        SpokenAction::Create => false,
+        SpokenAction::Mkdir => false,
+        SpokenAction::Unlink => false,
+        SpokenAction::Rmdir => false,
+        SpokenAction::Ls => false,
+        SpokenAction::Stat => false,
     }
 }
 
@@ -73,7 +73,7 @@ pub(crate) fn is_beyond(spoken: &Spoken) -> bool
         Spoken::Files(files) => *files > limits::FILES,
         Spoken::Turns(turns) => is_count_beyond(*turns),
         Spoken::Client(number) => *number > u32::from(limits::CLIENTS),
-        Spoken::Command { path, work } => is_path_beyond(path) || is_work_beyond(work),
+        Spoken::Command { path, action } => is_path_beyond(path) || is_work_beyond(action),
         Spoken::Healer(number) => *number > u32::from(limits::HEALERS),
         Spoken::Round(brick) => is_brick_beyond(*brick),
         Spoken::Faulty {

@@ -12,7 +12,7 @@ ghost use Rattle.afr_plan.specs.TextLines.{cut_of};
 
 use crate::order::FaultPlaces;
 use crate::rules::{Rule, judged, judged_tail};
-use crate::totals::{Counts, counted, no_counts};
+use crate::totals::{LineCounts, counted, no_counts};
 use afr_base::NoMemory;
 use afr_plan::{PlanFault, PlanStop};
 use afr_plan_line::Spoken;
@@ -23,7 +23,7 @@ use std::marker::Model;
 #[derive(Drop)]
 pub(crate) struct Lines<'a> {
     spoken: Vec<Spoken<'a>>,
-    counts: Counts,
+    counts: LineCounts,
     places: FaultPlaces,
 }
 
@@ -130,7 +130,7 @@ fn placed(places: &mut FaultPlaces, spoken: &Spoken) -> Result<(), NoMemory>
         Spoken::Files(_) => Ok(()),
         Spoken::Turns(_) => Ok(()),
         Spoken::Client(_) => Ok(()),
-        Spoken::Command { path: _, work: _ } => Ok(()),
+        Spoken::Command { path: _, action: _ } => Ok(()),
         Spoken::Healer(_) => Ok(()),
         Spoken::Round(_) => Ok(()),
         Spoken::At { at: _, event: _ } => Ok(()),

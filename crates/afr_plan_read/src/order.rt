@@ -7,7 +7,7 @@ ghost use Rattle.afr_plan.specs.Rules as rule;
 ghost use Rattle.afr_plan_line.specs.Seen.{seen, seen_who, seen_event};
 
 use crate::keyed::Keyed;
-use crate::totals::Counts;
+use crate::totals::LineCounts;
 use afr_base::NoMemory;
 use afr_plan_line::{Spoken, SpokenEvent, SpokenWho};
 use indexmap::IndexSet;
@@ -64,14 +64,14 @@ impl FaultPlaces {
     }
 }
 
-fn lacks_brick(before: &[Spoken], counts: &Counts, brick: u8) -> bool
+fn lacks_brick(before: &[Spoken], counts: &LineCounts, brick: u8) -> bool
     requires counts { IsCounted (reverse (map seen before.now)) counts.now }
     ensures { result ≡ rule.lacks_brick (reverse (map seen before.now)) brick }
 {
     brick >= counts.bricks
 }
 
-fn lacks_who(before: &[Spoken], counts: &Counts, who: &SpokenWho) -> bool
+fn lacks_who(before: &[Spoken], counts: &LineCounts, who: &SpokenWho) -> bool
     requires counts { IsCounted (reverse (map seen before.now)) counts.now }
     ensures { result ≡ rule.lacks_who (reverse (map seen before.now)) (seen_who who.now) }
 {
@@ -81,7 +81,7 @@ fn lacks_who(before: &[Spoken], counts: &Counts, who: &SpokenWho) -> bool
     }
 }
 
-fn is_event_disordered(before: &[Spoken], counts: &Counts, event: &SpokenEvent) -> bool
+fn is_event_disordered(before: &[Spoken], counts: &LineCounts, event: &SpokenEvent) -> bool
     requires counts { IsCounted (reverse (map seen before.now)) counts.now }
     ensures { result ≡ rule.is_event_disordered (reverse (map seen before.now)) (seen_event event.now) }
 {
@@ -100,7 +100,7 @@ fn is_event_disordered(before: &[Spoken], counts: &Counts, event: &SpokenEvent) 
 /// a position falls.
 pub(crate) fn is_disordered(
     before: &[Spoken],
-    counts: &Counts,
+    counts: &LineCounts,
     places: &FaultPlaces,
     spoken: &Spoken,
 ) -> bool
@@ -125,7 +125,7 @@ pub(crate) fn is_disordered(
         Spoken::Volume(_, _) => false,
         Spoken::Files(_) => false,
         Spoken::Turns(_) => false,
-        Spoken::Command { path: _, work: _ } => false,
+        Spoken::Command { path: _, action: _ } => false,
         Spoken::End => false,
     }
 }

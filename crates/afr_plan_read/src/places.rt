@@ -102,7 +102,7 @@ fn may_follow(newest: &Spoken, word: &[u8]) -> bool
         Spoken::Files(_) => is_same(word, b"turns"),
         Spoken::Turns(_) => after_turns(word),
         Spoken::Client(_) => after_command(word),
-        Spoken::Command { path: _, work: _ } => after_command(word),
+        Spoken::Command { path: _, action: _ } => after_command(word),
         Spoken::Healer(_) => after_round(word),
         Spoken::Round(_) => after_round(word),
         Spoken::Faulty {

@@ -11,7 +11,7 @@ ghost use Rattle.afr_plan_read.specs.Broken.{code_of, seen_ok, seen_rule};
 use crate::limits::is_beyond;
 use crate::order::{FaultPlaces, is_disordered};
 use crate::places::{is_over, may_begin};
-use crate::totals::{Counts, passes_total};
+use crate::totals::{LineCounts, passes_total};
 use crate::versions::is_versioned;
 use afr_plan_line::{Spoken, is_plain, say_line};
 
@@ -56,7 +56,7 @@ impl Rule {
 /// What a line of some form says, or the lowest rule that it breaks by it.
 fn formed<'a>(
     before: &[Spoken],
-    counts: &Counts,
+    counts: &LineCounts,
     places: &FaultPlaces,
     spoken: Spoken<'a>,
 ) -> Result<Spoken<'a>, Rule>
@@ -91,7 +91,7 @@ fn place_rule(before: &[Spoken]) -> Rule
 /// What a line says, or the lowest rule that it breaks.
 pub(crate) fn judged<'a>(
     before: &[Spoken],
-    counts: &Counts,
+    counts: &LineCounts,
     places: &FaultPlaces,
     line: &'a [u8],
 ) -> Result<Spoken<'a>, Rule>

@@ -3,14 +3,14 @@ ghost use Rattle.std.specs.Prelude.{◌≡◌, ◌+◌, ◌<◌, ◌^◌, [], fa
 ghost use Rattle.afr_plan_read.specs.Counts.{IsCounted};
 ghost use Rattle.afr_plan_read.specs.Counts as count;
 ghost use Rattle.afr_plan.specs.Rules as rule;
-ghost use Rattle.afr_plan_line.specs.Seen.{seen, seen_work};
+ghost use Rattle.afr_plan_line.specs.Seen.{seen, seen_action};
 
 use afr_plan::limits;
-use afr_plan_line::{Spoken, SpokenWork, data_len};
+use afr_plan_line::{Spoken, SpokenAction, data_len};
 
 /// What is counted over the lines.
 #[derive(Clone, Copy, Drop)]
-pub(crate) struct Counts {
+pub(crate) struct LineCounts {
     /// The bricks of the volume.
     pub(crate) bricks: u8,
     pub(crate) clients: u32,
@@ -30,10 +30,10 @@ pub(crate) struct Counts {
     pub(crate) lengths: u32,
 }
 
-pub(crate) fn no_counts() -> Counts
+pub(crate) fn no_counts() -> LineCounts
     ensures { IsCounted [] result }
 {
-    Counts {
+    LineCounts {
         bricks: 0,
         clients: 0,
         commands: 0,
@@ -49,38 +49,38 @@ pub(crate) fn no_counts() -> Counts
     }
 }
 
-fn passes_work(before: &[Spoken], counts: &Counts, work: &SpokenWork) -> bool
+fn passes_work(before: &[Spoken], counts: &LineCounts, action: &SpokenAction) -> bool
     requires counts { IsCounted (reverse (map seen before.now)) counts.now }
-    requires limits { rule.is_work_beyond (seen_work work.now) ≡ false }
-    ensures { result ≡ rule.passes_work (reverse (map seen before.now)) (seen_work work.now) }
+    requires limits { rule.is_work_beyond (seen_action action.now) ≡ false }
+    ensures { result ≡ rule.passes_work (reverse (map seen before.now)) (seen_action action.now) }
 {
-    match work {
-        SpokenWork::Write { at, data } => {
+    match action {
+        SpokenAction::Write { at, data } => {
             counts.ends as usize + (*at as usize + data_len(data)) > limits::WRITTEN
         }
-        SpokenWork::Read { at: _, len } => counts.lengths + *len > limits::READ,
-        SpokenWork::Ls => counts.listings >= limits::LISTINGS,
-        SpokenWork::Cut { len: _ } => false,
-        SpokenWork::Create => false,
-        SpokenWork::Mkdir => false,
-        SpokenWork::Unlink => false,
-        SpokenWork::Rmdir => false,
-        SpokenWork::Stat => false,
-        SpokenWork::SetAttr { key: _, value: _ } => false,
-        SpokenWork::GetAttr { key: _ } => false,
-        SpokenWork::Rename { to: _ } => false,
+        SpokenAction::Read { at: _, len } => counts.lengths + *len > limits::READ,
+        SpokenAction::Ls => counts.listings >= limits::LISTINGS,
+        SpokenAction::Cut { len: _ } => false,
+        SpokenAction::Create => false,
+        SpokenAction::Mkdir => false,
+        SpokenAction::Unlink => false,
+        SpokenAction::Rmdir => false,
+        SpokenAction::Stat => false,
+        SpokenAction::SetAttr { key: _, value: _ } => false,
+        SpokenAction::GetAttr { key: _ } => false,
+        SpokenAction::Rename { to: _ } => false,
     }
 }
 
 /// Whether a total is passed.
-pub(crate) fn passes_total(before: &[Spoken], counts: &Counts, spoken: &Spoken) -> bool
+pub(crate) fn passes_total(before: &[Spoken], counts: &LineCounts, spoken: &Spoken) -> bool
     requires counts { IsCounted (reverse (map seen before.now)) counts.now }
     requires limits { rule.is_beyond (seen spoken.now) ≡ false }
     ensures { result ≡ rule.passes_total (reverse (map seen before.now)) (seen spoken.now) }
 {
     match spoken {
-        Spoken::Command { path: _, work } => {
-            counts.commands >= limits::COMMANDS || passes_work(before, counts, work)
+        Spoken::Command { path: _, action } => {
+            counts.commands >= limits::COMMANDS || passes_work(before, counts, action)
         }
         Spoken::Round(_) => counts.rounds >= limits::SCHEDULE,
         Spoken::Faulty {
@@ -101,39 +101,39 @@ pub(crate) fn passes_total(before: &[Spoken], counts: &Counts, spoken: &Spoken) 
 }
 
 /// The counts of a command's kind with one more.
-fn worked(counts: Counts, work: &SpokenWork) -> Counts
+fn worked(counts: LineCounts, action: &SpokenAction) -> LineCounts
     requires listings { counts.listings < 2 ^ 31 }
-    requires ends { counts.ends + rule.work_end (seen_work work.now) < 2 ^ 32 }
-    requires lengths { counts.lengths + rule.work_len (seen_work work.now) < 2 ^ 32 }
-    ensures { result ≡ count.worked (seen_work work.now) counts }
+    requires ends { counts.ends + rule.work_end (seen_action action.now) < 2 ^ 32 }
+    requires lengths { counts.lengths + rule.work_len (seen_action action.now) < 2 ^ 32 }
+    ensures { result ≡ count.worked (seen_action action.now) counts }
 {
-    match work {
-        SpokenWork::Write { at, data } => Counts {
+    match action {
+        SpokenAction::Write { at, data } => LineCounts {
             ends: counts.ends + (*at + data_len(data) as u32),
             ..counts
         },
-        SpokenWork::Read { at: _, len } => Counts {
+        SpokenAction::Read { at: _, len } => LineCounts {
             lengths: counts.lengths + *len,
             ..counts
         },
-        SpokenWork::Ls => Counts {
+        SpokenAction::Ls => LineCounts {
             listings: counts.listings + 1,
             ..counts
         },
-        SpokenWork::Cut { len: _ } => counts,
-        SpokenWork::Create => counts,
-        SpokenWork::Mkdir => counts,
-        SpokenWork::Unlink => counts,
-        SpokenWork::Rmdir => counts,
-        SpokenWork::Stat => counts,
-        SpokenWork::SetAttr { key: _, value: _ } => counts,
-        SpokenWork::GetAttr { key: _ } => counts,
-        SpokenWork::Rename { to: _ } => counts,
+        SpokenAction::Cut { len: _ } => counts,
+        SpokenAction::Create => counts,
+        SpokenAction::Mkdir => counts,
+        SpokenAction::Unlink => counts,
+        SpokenAction::Rmdir => counts,
+        SpokenAction::Stat => counts,
+        SpokenAction::SetAttr { key: _, value: _ } => counts,
+        SpokenAction::GetAttr { key: _ } => counts,
+        SpokenAction::Rename { to: _ } => counts,
     }
 }
 
 /// The counts with one line more.
-pub(crate) fn counted(counts: Counts, spoken: &Spoken) -> Counts
+pub(crate) fn counted(counts: LineCounts, spoken: &Spoken) -> LineCounts
     requires clients { counts.clients < 2 ^ 31 }
     requires commands { counts.commands < 2 ^ 31 }
     requires listings { counts.listings < 2 ^ 31 }
@@ -147,39 +147,39 @@ pub(crate) fn counted(counts: Counts, spoken: &Spoken) -> Counts
     ensures { result ≡ count.counted (seen spoken.now) counts }
 {
     match spoken {
-        Spoken::Volume(_, shape) => Counts {
+        Spoken::Volume(_, shape) => LineCounts {
             bricks: shape.n,
             ..counts
         },
-        Spoken::Client(_) => Counts {
+        Spoken::Client(_) => LineCounts {
             clients: counts.clients + 1,
             ..counts
         },
-        Spoken::Command { path: _, work } => worked(
-            Counts {
+        Spoken::Command { path: _, action } => worked(
+            LineCounts {
                 commands: counts.commands + 1,
                 ..counts
             },
-            work,
+            action,
         ),
-        Spoken::Healer(_) => Counts {
+        Spoken::Healer(_) => LineCounts {
             healers: counts.healers + 1,
             ..counts
         },
-        Spoken::Round(_) => Counts {
+        Spoken::Round(_) => LineCounts {
             rounds: counts.rounds + 1,
             ..counts
         },
-        Spoken::Faulty { .. } => Counts {
+        Spoken::Faulty { .. } => LineCounts {
             faults: counts.faults + 1,
             ..counts
         },
-        Spoken::At { at, event: _ } => Counts {
+        Spoken::At { at, event: _ } => LineCounts {
             events: counts.events + 1,
             last_at: *at,
             ..counts
         },
-        Spoken::Go { who: _, count: _ } => Counts {
+        Spoken::Go { who: _, count: _ } => LineCounts {
             orders: counts.orders + 1,
             ..counts
         },

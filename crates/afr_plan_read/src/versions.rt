@@ -26,7 +26,7 @@ fn is_spelled(version: Version, spoken: &Spoken) -> bool
         Spoken::Files(_) => true,
         Spoken::Turns(_) => true,
         Spoken::Client(_) => true,
-        Spoken::Command { path: _, work: _ } => true,
+        Spoken::Command { path: _, action: _ } => true,
         Spoken::Healer(_) => true,
         Spoken::Round(_) => true,
         Spoken::Faulty {
@@ -49,7 +49,7 @@ fn may_follow(newest: &Spoken, spoken: &Spoken) -> bool
         Spoken::Files(_) => true,
         Spoken::Turns(_) => true,
         Spoken::Client(_) => true,
-        Spoken::Command { path: _, work: _ } => true,
+        Spoken::Command { path: _, action: _ } => true,
         Spoken::Healer(_) => true,
         Spoken::Round(_) => true,
         Spoken::Faulty {

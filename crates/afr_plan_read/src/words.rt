@@ -4,14 +4,14 @@ ghost use Rattle.afr_plan.specs.Names.{with_name, with_names, number_of, file_na
 ghost use Rattle.afr_plan.specs.Paths.{names_in};
 ghost use Rattle.afr_plan.specs.PlanOf.{empty_plan, path_of, command_of, words_with};
 ghost use Rattle.afr_plan.specs.declared.command.Command.TheVariants as commands;
-ghost use Rattle.afr_plan_line.specs.Seen.{seen_data, seen_work};
+ghost use Rattle.afr_plan_line.specs.Seen.{seen_action, seen_data};
 
 use crate::data_bytes::data_chunk;
 use crate::names::NameTable;
 use afr_base::{KeyId, NameId, NoMemory, ValueId};
 use afr_object::List;
 use afr_plan::{Command, NamePath, WordList, Words};
-use afr_plan_line::{SpokenData, SpokenWork, names_of};
+use afr_plan_line::{SpokenAction, SpokenData, names_of};
 use std::alloc::Global;
 use std::marker::Model;
 
@@ -84,29 +84,29 @@ impl<'t> WordTables<'t> {
         &mut self,
         alloc: Global,
         path: &[u8],
-        work: &SpokenWork,
+        action: &SpokenAction,
     ) -> Result<Command, NoMemory>
-        ensures ok { IfOk result (λ command. command ≡ command_of self.old (names_in path.now) (seen_work work.now)) }
-        ensures value { OnOk result (self.new ≡ words_with self.old (names_in path.now) (seen_work work.now)) }
+        ensures ok { IfOk result (λ command. command ≡ command_of self.old (names_in path.now) (seen_action action.now)) }
+        ensures value { OnOk result (self.new ≡ words_with self.old (names_in path.now) (seen_action action.now)) }
     {
         let path = self.path(alloc, path)?;
-        match work {
-            SpokenWork::Write { at, data } => write_of(alloc, path, *at, data),
-            SpokenWork::Cut { len } => Ok(Command::Cut { path, len: *len }),
-            SpokenWork::Read { at, len } => Ok(Command::Read {
+        match action {
+            SpokenAction::Write { at, data } => write_of(alloc, path, *at, data),
+            SpokenAction::Cut { len } => Ok(Command::Cut { path, len: *len }),
+            SpokenAction::Read { at, len } => Ok(Command::Read {
                 path,
                 at: *at,
                 len: *len,
             }),
-            SpokenWork::Create => Ok(Command::Create { path }),
-            SpokenWork::Mkdir => Ok(Command::Mkdir { path }),
-            SpokenWork::Unlink => Ok(Command::Unlink { path }),
-            SpokenWork::Rmdir => Ok(Command::Rmdir { path }),
-            SpokenWork::Ls => Ok(Command::Ls { path }),
-            SpokenWork::Stat => Ok(Command::Stat { path }),
-            SpokenWork::SetAttr { key, value } => self.set_attr(alloc, path, key, value),
-            SpokenWork::GetAttr { key } => self.get_attr(alloc, path, key),
-            SpokenWork::Rename { to } => self.rename(alloc, path, to),
+            SpokenAction::Create => Ok(Command::Create { path }),
+            SpokenAction::Mkdir => Ok(Command::Mkdir { path }),
+            SpokenAction::Unlink => Ok(Command::Unlink { path }),
+            SpokenAction::Rmdir => Ok(Command::Rmdir { path }),
+            SpokenAction::Ls => Ok(Command::Ls { path }),
+            SpokenAction::Stat => Ok(Command::Stat { path }),
+            SpokenAction::SetAttr { key, value } => self.set_attr(alloc, path, key, value),
+            SpokenAction::GetAttr { key } => self.get_attr(alloc, path, key),
+            SpokenAction::Rename { to } => self.rename(alloc, path, to),
         }
     }
 

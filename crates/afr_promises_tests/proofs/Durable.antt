@@ -20,7 +20,7 @@ use Rattle.afr_model.specs.Attempts.{IsAcknowledged, first_reply}
 use Rattle.afr_model.specs.Cells.{Attr, Byte, Cell, IsAttr, Name, leaves, touches}
 use Rattle.afr_model.specs.Splits.{IsSplit}
 use Rattle.afr_moves.proofs.ByPosition.{none_at}
-use Rattle.afr_durable.specs.Durable.{HasDone, IsDurable, IsKept, IsSince}
+use Rattle.afr_durable.specs.Durable.{HasDone, IsDurable, IsNotLost, IsSince}
 use Rattle.afr_promises_tests.proofs.Words.{begins, done, each_of_two, everybody, first, key, says, sets, split, three}
 
 -- an acknowledged change, and then a repair of one of its copies from a brick that missed it
@@ -61,7 +61,7 @@ module _ (q : Plan) where
   is_split = refl
 
   -- and each brick has what some attempt left that is no older than the first
-  pub a_split_brain_has_lost_nothing : IsKept (three q) split 0
+  pub a_split_brain_has_lost_nothing : IsNotLost (three q) split 0
   a_split_brain_has_lost_nothing = record {
     bricks = 0 ∷ 1 ∷ [];
     within = λ b inside. each_of_two (λ (k : ℕ). k < 3) (omega arith) (omega arith) b inside;
@@ -84,7 +84,7 @@ module _ (q : Plan) where
       acked : IsAcknowledged lost 0
       acked = record { actor = record { 0 = 1 }; change = sets 1; begun = refl; good = good.Done; replied = refl }
 
-      kept : IsKept (three q) lost 0
+      kept : IsNotLost (three q) lost 0
       kept = durable 0 acked
 
       -- nothing stands there, and an attempt that touches an attribute leaves a value

@@ -99,8 +99,8 @@ pub record IsRepaired (p : Plan) (log : List Line) (g : Gfid) (kind : Kind) : Ty
   pub equal : (b c : ℕ) → b < p.shape.n → c < p.shape.n → keeps p.shape kind b ≡ true → keeps p.shape kind c ≡ true → AreEqual p log g kind b c
 
 -- so it is at the round's end where the heal settled and every brick had the object when it began
-abbrev pub IsKept : Plan → List Line → Gfid → Kind → HealReply → Work → Type 0
-IsKept p log g kind said w = said ≡ healed.Settled → (begun : List Line) → begun_after w ≡ Some begun → IsEverywhere p begun g → IsRepaired p log g kind
+abbrev pub EndsRepaired : Plan → List Line → Gfid → Kind → HealReply → Work → Type 0
+EndsRepaired p log g kind said w = said ≡ healed.Settled → (begun : List Line) → begun_after w ≡ Some begun → IsEverywhere p begun g → IsRepaired p log g kind
 
 -- ---- the round
 -- the round of healer a at brick b, whose end comes next: its list is exactly what was open there, each object got its two heals, and each heal did what it told
@@ -108,7 +108,7 @@ pub record IsWholeRound (p : Plan) (a : ℕ) (b : BrickId) (older : List Line) :
   pub lists : (g : Gfid) → IsListed g (listed_by p (work a older)) ↔ IsOpenAt p (log_before (work a older) older) b.0 g
   pub both : ended_heals (work a older) ≡ heals_of (listed_by p (work a older))
   pub told : EachHeal (λ g kind said before. IsTold p g kind said (heal_by (work a before))) (work a older)
-  pub kept : EachHeal (λ g kind said before. IsKept p older g kind said (heal_by (work a before))) (work a older)
+  pub kept : EachHeal (λ g kind said before. EndsRepaired p older g kind said (heal_by (work a before))) (work a older)
 
 -- so is the round that a line ends, where nothing disturbed it
 abbrev pub IsQuietWhole : Plan → Line → List Line → Type 0

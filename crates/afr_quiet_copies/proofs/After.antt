@@ -33,11 +33,11 @@ use Rattle.afr_tables.specs.CopyLaws.{gfid_is}
 use Rattle.afr_moves.specs.Discipline.{MayAskExactly, MayExactly, present}
 use Rattle.afr_moves.specs.Heal.{Gives, Goes}
 use Rattle.afr_moves.specs.Honest.{view_marks}
-use Rattle.afr_moves.specs.Note.{left_in_heal, next_phase, put}
+use Rattle.afr_moves.specs.Note.{left_in_heal, next_part, put}
 use Rattle.afr_moves.specs.Past.{is_gone}
 use Rattle.afr_moves.specs.Past as position
 use Rattle.afr_moves.specs.Positions.{by_position}
-use Rattle.afr_moves.specs.Register.{Exact, Looks, Opening, Phase, Step, WorkLocks, has_number, holder, is_opening, rank, shows_number, untouched}
+use Rattle.afr_moves.specs.Register.{Exact, HealPart, Looks, Opening, Step, WorkLocks, has_number, holder, is_opening, rank, shows_number, untouched}
 use Rattle.afr_moves.specs.Rules as weak
 use Rattle.afr_moves.specs.Rules.{Register, repair_kind}
 use Rattle.afr_moves.specs.Sets.{any}
@@ -101,7 +101,7 @@ shows_zero p older q b g kind o there clear = (
     )
 
 -- a heal whose first looks show no number goes on nowhere
-no_goes : (n : ℕ) (keeps : ℕ → Kind → Bool) (r : Exact) (s : ℕ) → r.phase ≡ Opening → ((x : ℕ) (v : View) → r.first_views x ≡ Some v → IsZero r.law.kind v) → goes_on n keeps r s ≡ true → ⊥
+no_goes : (n : ℕ) (keeps : ℕ → Kind → Bool) (r : Exact) (s : ℕ) → r.part ≡ Opening → ((x : ℕ) (v : View) → r.first_views x ≡ Some v → IsZero r.law.kind v) → goes_on n keeps r s ≡ true → ⊥
 no_goes n keeps r s first none e = (
     let some = some_yes n (λ x. shows_number r.law.kind (r.first_views x)) (and_right _ _ (subst (λ q. goes_on_at n keeps r s q ≡ true) first (and_right _ _ e))) in
     go some.0 (r.first_views some.0) refl some.2
@@ -127,8 +127,8 @@ Spares kind g (Ask x y (Mend repair) told took) = kind ≡ Bytes → position.re
 Spares kind g line = Unit {0}
 
 -- a heal of the object and kind comes no further than its first looks
-pub record Early (kind : Kind) (step : Step) (phase : Phase) (first_views : ℕ → Option View) : Type 0 where
-  pub first : phase ≡ Opening
+pub record Early (kind : Kind) (step : Step) (part : HealPart) (first_views : ℕ → Option View) : Type 0 where
+  pub first : part ≡ Opening
   pub low : rank step ≤ 7
   pub zero : (x : ℕ) (view : View) → first_views x ≡ Some view → IsZero kind view
 
@@ -137,7 +137,7 @@ pub record After (p : Plan) (g : Gfid) (kind : Kind) (K : Seq Line → Type 0) (
   pub clear : (x : ℕ) → x < p.shape.n → IsClearOn p older g kind x
   pub kept : K older
   pub idle : r.law.heal ≡ false → r.law.number ≡ 0
-  pub early : r.law.heal ≡ true → r.broken ≡ false → r.law.object ≡ g.0 → r.law.kind ≡ kind → Early kind r.step r.phase r.first_views
+  pub early : r.law.heal ≡ true → r.broken ≡ false → r.law.object ≡ g.0 → r.law.kind ≡ kind → Early kind r.step r.part r.first_views
 
 -- where no line of a work or heal is yet
 pub after_fresh : (p : Plan) (g : Gfid) (kind : Kind) (K : Seq Line → Type 0) (older : Seq Line) → ((x : ℕ) → x < p.shape.n → IsClearOn p older g kind x) → K older → After p g kind K older untouched
@@ -151,14 +151,14 @@ module _ (p : Plan) (g : Gfid) (kind : Kind) (older : Seq Line) (line : Line) wh
       )
 
 module _ (p : Plan) (keeps : ℕ → Kind → Bool) (g : Gfid) (kind : Kind) (older : Seq Line) (q : Premises p older) (r : Exact) (t s : ℕ) (inside : r.law.heal ≡ true) (stage : StageOf r) (firsts : FirstsOf r)
-    (clear : (x : ℕ) → x < p.shape.n → IsClearOn p older g kind x) (early : r.law.object ≡ g.0 → r.law.kind ≡ kind → Early kind r.step r.phase r.first_views) (x : ActorId) (y : BrickId) (below : y.0 < p.shape.n) (took : Bool) where
+    (clear : (x : ℕ) → x < p.shape.n → IsClearOn p older g kind x) (early : r.law.object ≡ g.0 → r.law.kind ≡ kind → Early kind r.step r.part r.first_views) (x : ActorId) (y : BrickId) (below : y.0 < p.shape.n) (took : Bool) where
   abbrev pub n : ℕ
   n = p.shape.n
 
   abbrev pub law_after : Request → Told → Register
   law_after request told = weak.dropping (is_gone told) y.0 (weak.note_ask n r.law y.0 request told)
 
-  no_view : rank r.step ≤ 6 → r.phase ≡ Opening → (z : ℕ) (v : View) → r.first_views z ≡ Some v → ⊥
+  no_view : rank r.step ≤ 6 → r.part ≡ Opening → (z : ℕ) (v : View) → r.first_views z ≡ Some v → ⊥
   no_view low first z v e = (let there : holder r.first_views z ≡ true = rw e refl in true≢false (sym (firsts.reached z there) ∙ firsts.early inside low first z))
 
   stops : goes_on n keeps r s ≡ true → r.law.object ≡ g.0 → r.law.kind ≡ kind → ⊥
@@ -171,7 +171,7 @@ module _ (p : Plan) (keeps : ℕ → Kind → Bool) (g : Gfid) (kind : Kind) (ol
   pub record Leaves (request : Request) (told : Told) : Type 0 where
     pub cleared : (z : ℕ) → z < n → IsClearOn p (Ask x y request told took ∷ older) g kind z
     pub spared : Spares kind g (Ask x y request told took)
-    pub unseen : (law_after request told).object ≡ g.0 → (law_after request told).kind ≡ kind → Early kind (left_in_heal n r t y.0 request told).step (left_in_heal n r t y.0 request told).phase (left_in_heal n r t y.0 request told).first_views
+    pub unseen : (law_after request told).object ≡ g.0 → (law_after request told).kind ≡ kind → Early kind (left_in_heal n r t y.0 request told).step (left_in_heal n r t y.0 request told).part (left_in_heal n r t y.0 request told).first_views
 
   same_clear : (request : Request) (told : Told) → ((z : ℕ) → opens_op p z g kind (Ask x y request told took) older ≡ 0) → ((z c : ℕ) → blames p z c g kind (Ask x y request told took) older ≡ 0) → (z : ℕ) → z < n → IsClearOn p (Ask x y request told took ∷ older) g kind z
   same_clear request told opens blame = clear_by p g kind older (Ask x y request told took) opens blame clear
@@ -189,7 +189,7 @@ module _ (p : Plan) (keeps : ℕ → Kind → Bool) (g : Gfid) (kind : Kind) (ol
       w : WorkLocked n r.law (law_after (Lock Work area) told) y.0 area (is_gone told)
       w = work_locked n r.law y.0 area told
 
-      go : r.law.object ≡ g.0 → r.law.kind ≡ kind → WorkPlace n keeps r s y.0 area → Early kind WorkLocks (next_phase r area) r.first_views
+      go : r.law.object ≡ g.0 → r.law.kind ≡ kind → WorkPlace n keeps r s y.0 area → Early kind WorkLocks (next_part r area) r.first_views
       go o k (Waits at same own lock fresh) = (let i = early o k in record { first = same ∙ i.first; low = omega arith; zero = i.zero })
       go o k (Starts five same lock) = (let i = early o k in record { first = same ∙ i.first; low = omega arith; zero = i.zero })
       go o k (Resumes twelve same idle bytes unfinished lock next) = (let i = early o k in let near = i.low in absurd (omega (arith, twelve, near)))
@@ -200,16 +200,16 @@ module _ (p : Plan) (keeps : ℕ → Kind → Bool) (g : Gfid) (kind : Kind) (ol
       here : r.law.object ≡ g.0 → h ≡ g
       here o = gfid_is h g (eqb-true h.0 r.law.object (look_object n keeps r s y.0 h.0 e) ∙ o)
 
-      more : (v : Option View) → r.law.object ≡ g.0 → r.law.kind ≡ kind → ((view : View) → v ≡ Some view → IsZero kind view) → (views : ℕ → Option View) → views ≡ (if is_opening r.phase then put r.first_views y.0 v else r.first_views) → Early kind Looks r.phase views
+      more : (v : Option View) → r.law.object ≡ g.0 → r.law.kind ≡ kind → ((view : View) → v ≡ Some view → IsZero kind view) → (views : ℕ → Option View) → views ≡ (if is_opening r.part then put r.first_views y.0 v else r.first_views) → Early kind Looks r.part views
       more v o k none views is = (let i = early o k in record { first = i.first; low = omega arith; zero = λ z view m. found i z view (sym (ap (λ (f : ℕ → Option View). f z) is ∙ ap (λ (b : Bool). (if b then put r.first_views y.0 v else r.first_views) z) (ap is_opening i.first)) ∙ m) })
         where
-          found : Early kind r.step r.phase r.first_views → (z : ℕ) (view : View) → put r.first_views y.0 v z ≡ Some view → IsZero kind view
+          found : Early kind r.step r.part r.first_views → (z : ℕ) (view : View) → put r.first_views y.0 v z ≡ Some view → IsZero kind view
           found i z view m = elim (here_or y.0 z) [
             | inl same ↦ none view (sym (put_same r.first_views y.0 v) ∙ ap (put r.first_views y.0 v) (sym same) ∙ m)
             | inr other ↦ i.zero z view (sym (put_other r.first_views y.0 z v other) ∙ m)
           ]
 
-      seen : (d : Told) → Hears p older y.0 (Look h) d → (law_after (Look h) d).object ≡ g.0 → (law_after (Look h) d).kind ≡ kind → Early kind Looks r.phase (left_in_heal n r t y.0 (Look h) d).first_views
+      seen : (d : Told) → Hears p older y.0 (Look h) d → (law_after (Look h) d).object ≡ g.0 → (law_after (Look h) d).kind ≡ kind → Early kind Looks r.part (left_in_heal n r t y.0 (Look h) d).first_views
       seen (Seen view) shown o k = (
           let w = sees r.law y.0 h.0 view in
           let mine : r.law.object ≡ g.0 = sym w.object ∙ o in

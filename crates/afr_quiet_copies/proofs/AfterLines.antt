@@ -83,7 +83,7 @@ module _ (p : Plan) (L : Log) (moves : MovesExactly p.shape.n (kept_by p) L) (a 
           clear = w.cleared;
           kept = on line older q w.spared h.kept;
           idle = λ out. absurd (on_heals m.inside out);
-          early = λ in_heal whole o k. subst (λ (z : Exact). Early kind z.step z.phase z.first_views) (healed_is n keeps r t x.0 y.0 request told took m.inside) (w.unseen o k);
+          early = λ in_heal whole o k. subst (λ (z : Exact). Early kind z.step z.part z.first_views) (healed_is n keeps r t x.0 y.0 request told took m.inside) (w.unseen o k);
         }
         )
 
@@ -146,13 +146,13 @@ module _ (p : Plan) (L : Log) (moves : MovesExactly p.shape.n (kept_by p) L) (a 
     clear = clear_by p g kind older (HealBegin x i k) (λ z. refl) (λ z c. refl) h.clear;
     kept = on (HealBegin x i k) older q tt h.kept;
     idle = λ out. absurd (true≢false (sym may.inside ∙ out));
-    early = λ in_heal whole o c. elim (opening_or r.phase) [
+    early = λ in_heal whole o c. elim (opening_or r.part) [
       | inl first ↦ record { first = first; low = omega arith; zero = λ z v e. absurd (no_view first z v e) }
       | inr later ↦ absurd (later (h.early may.inside may.whole o (sym (may.later later) ∙ c)).first)
     ];
   }
     where
-      no_view : r.phase ≡ Opening → (z : ℕ) (v : View) → r.first_views z ≡ Some v → ⊥
+      no_view : r.part ≡ Opening → (z : ℕ) (v : View) → r.first_views z ≡ Some v → ⊥
       no_view first z v e = (
           let six : rank r.step ≡ 6 = ap rank may.step in
           let f = (firsts_now n keeps L moves t a).0 in

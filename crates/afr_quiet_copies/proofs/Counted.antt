@@ -12,7 +12,7 @@ use Rattle.afr_plan.specs.declared.plan.Plan.{Plan}
 use Rattle.afr_model.specs.Sums.{blames, dirty_of, opens_op, pending_of}
 use Rattle.afr_tables.specs.Clear.{IsClearOn}
 use Rattle.afr_moves.specs.Honest.{view_marks}
-use Rattle.afr_moves.specs.Register.{Exact, Opening, Finish, Piece, Phase, Settles, Step, holder, rank}
+use Rattle.afr_moves.specs.Register.{Exact, Opening, Finish, Piece, HealPart, Settles, Step, holder, rank}
 use Rattle.afr_moves.specs.Rules as weak
 use Rattle.afr_moves.specs.Rules.{Register, is_none, one_if}
 use Rattle.afr_moves.specs.Sets.{with}
@@ -28,25 +28,25 @@ pub record Few (p : Plan) (older : Seq Line) (object : ℕ) (kind : Kind) (x : �
   pub pending : (c : ℕ) → c < p.shape.n → pending_of p older x c (gfid object) kind ≤ slice_index (view_marks view kind).pending c
 
 -- a copy that wasn't settled has few numbers, a settled one none; and at the end each holder has settled
-pub record Counted (p : Plan) (older : Seq Line) (step : Step) (phase : Phase) (asked : ℕ → Bool) (first_views : ℕ → Option View) (kind : Kind) (object : ℕ) (first : ℕ → Option View) (raises settles : ℕ → Bool) : Type 0 where
+pub record Counted (p : Plan) (older : Seq Line) (step : Step) (part : HealPart) (asked : ℕ → Bool) (first_views : ℕ → Option View) (kind : Kind) (object : ℕ) (first : ℕ → Option View) (raises settles : ℕ → Bool) : Type 0 where
   pub fresh : (x : ℕ) (view : View) → first x ≡ Some view → settles x ≡ false → Few p older object kind x (raises x) view
   pub clear : (x : ℕ) → settles x ≡ true → ((y : ℕ) → y < p.shape.n → holder first_views y ≡ true) → IsClearOn p older (gfid object) kind x
   pub settling : step ≡ Settles → (x : ℕ) → asked x ≡ true → settles x ≡ true
-  pub over : 12 ≤ rank step → is_last kind phase ≡ true → (x : ℕ) → x < p.shape.n → holder first_views x ≡ true → settles x ≡ true
+  pub over : 12 ≤ rank step → is_last kind part ≡ true → (x : ℕ) → x < p.shape.n → holder first_views x ≡ true → settles x ≡ true
 
 -- the same of a register
 abbrev pub CountedIn : Plan → Seq Line → Exact → Register → Type 0
-CountedIn p older r w = Counted p older r.step r.phase r.asked r.first_views w.kind w.object w.first w.raised w.settled
+CountedIn p older r w = Counted p older r.step r.part r.asked r.first_views w.kind w.object w.first w.raised w.settled
 
 -- the same of a register that is alike in these fields
-pub law_on : (p : Plan) (older : Seq Line) (step : Step) (phase : Phase) (asked : ℕ → Bool) (views : ℕ → Option View) (w s : Register) → Rest w s → s.object ≡ w.object
-    → Counted p older step phase asked views w.kind w.object w.first w.raised w.settled → Counted p older step phase asked views s.kind s.object s.first s.raised s.settled
-law_on p older step phase asked views w s k e h =
-    subst (λ o. Counted p older step phase asked views s.kind o s.first s.raised s.settled) (sym e)
-    (subst (λ o. Counted p older step phase asked views o w.object s.first s.raised s.settled) (sym k.kind)
-    (subst (λ o. Counted p older step phase asked views w.kind w.object o s.raised s.settled) (sym k.first)
-    (subst (λ o. Counted p older step phase asked views w.kind w.object w.first o s.settled) (sym k.raised)
-    (subst (λ o. Counted p older step phase asked views w.kind w.object w.first w.raised o) (sym k.settled) h))))
+pub law_on : (p : Plan) (older : Seq Line) (step : Step) (part : HealPart) (asked : ℕ → Bool) (views : ℕ → Option View) (w s : Register) → Rest w s → s.object ≡ w.object
+    → Counted p older step part asked views w.kind w.object w.first w.raised w.settled → Counted p older step part asked views s.kind s.object s.first s.raised s.settled
+law_on p older step part asked views w s k e h =
+    subst (λ o. Counted p older step part asked views s.kind o s.first s.raised s.settled) (sym e)
+    (subst (λ o. Counted p older step part asked views o w.object s.first s.raised s.settled) (sym k.kind)
+    (subst (λ o. Counted p older step part asked views w.kind w.object o s.raised s.settled) (sym k.first)
+    (subst (λ o. Counted p older step part asked views w.kind w.object w.first o s.settled) (sym k.raised)
+    (subst (λ o. Counted p older step part asked views w.kind w.object w.first w.raised o) (sym k.settled) h))))
 
 -- the first views that a look adds to
 pub first_cases : (w : Register) (b g : ℕ) (view : View) (x : ℕ) (v : View) → (weak.looking w b g view).first x ≡ Some v → (w.first x ≡ Some v) ⊎ ((x ≡ b) × (v ≡ view))
@@ -74,12 +74,12 @@ pub view_here : (o : Option View) → not (is_none o) ≡ true → (v : View) ×
 view_here None e = absurd (true≢false (sym e))
 view_here (Some v) e = (v, refl)
 
-pub last_set : (r : Exact) (kind : Kind) (phase : Phase) (x : ℕ) → is_last kind phase ≡ true → holder r.first_views x ≡ true → settles_at r kind phase x ≡ true
+pub last_set : (r : Exact) (kind : Kind) (part : HealPart) (x : ℕ) → is_last kind part ≡ true → holder r.first_views x ≡ true → settles_at r kind part x ≡ true
 last_set r Bytes Finish x e h = h
 last_set r Bytes Opening x e h = absurd (true≢false (sym e))
 last_set r Bytes Piece x e h = absurd (true≢false (sym e))
-last_set r Attrs phase x e h = h
-last_set r Names phase x e h = h
+last_set r Attrs part x e h = h
+last_set r Names part x e h = h
 
 -- a holder that isn't changed is the source
 pub unchanged : (r : Exact) (s : ℕ) (kind : Kind) (c : ℕ) → holder r.first_views c ≡ true → changed r s kind c ≡ false → c ≡ s
@@ -108,9 +108,9 @@ module _ (p : Plan) (older : Seq Line) (line : Line) (opens : (x : ℕ) (g : Gfi
   )
 
   -- a step that changes none of the marks that the heal keeps
-  pub plain_on : (r : Exact) (next : Step) (phase : Phase) (asks : ℕ → Bool) → (next ≡ Settles → ⊥) → rank next ≤ 11 → CountedIn p older r r.law
-      → Counted p (line ∷ older) next phase asks r.first_views r.law.kind r.law.object r.law.first r.law.raised r.law.settled
-  plain_on r next phase asks other up h = record {
+  pub plain_on : (r : Exact) (next : Step) (part : HealPart) (asks : ℕ → Bool) → (next ≡ Settles → ⊥) → rank next ≤ 11 → CountedIn p older r r.law
+      → Counted p (line ∷ older) next part asks r.first_views r.law.kind r.law.object r.law.first r.law.raised r.law.settled
+  plain_on r next part asks other up h = record {
     fresh = λ x v e u. few_on r.law.object r.law.kind x (r.law.raised x) v (h.fresh x v e u);
     clear = λ x e every. clear_on (gfid r.law.object) r.law.kind x (h.clear x e every);
     settling = λ e. absurd (other e);

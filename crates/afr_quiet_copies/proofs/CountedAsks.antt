@@ -28,11 +28,11 @@ use Rattle.afr_tables.specs.CopyLaws.{gfid_is}
 use Rattle.afr_moves.specs.Honest.{view_marks}
 use Rattle.afr_moves.specs.Note.{breaks, left_in_heal}
 use Rattle.afr_moves.specs.Past.{Log, is_gone}
-use Rattle.afr_moves.specs.Register.{Exact, HealPres, HealUnlocks, Mends, Opening, Phase, Reads, Settles, Step, Unlocks, WorkLocks, accuses, all, asked_in, good, holder, rank}
+use Rattle.afr_moves.specs.Register.{Exact, HealPart, HealPres, HealUnlocks, Mends, Opening, Reads, Settles, Step, Unlocks, WorkLocks, accuses, all, asked_in, good, holder, rank}
 use Rattle.afr_moves.specs.Rules as weak
 use Rattle.afr_moves.specs.Rules.{Register, one_if}
 use Rattle.afr_moves.specs.Sets.{with}
-use Rattle.afr_moves.specs.Steps.{changed, may_heal, raised, onward, settles_at, settles_over, takes, turn}
+use Rattle.afr_moves.specs.Steps.{changed, may_heal, onward, raised, settles_at, settles_over, takes, turn}
 use Rattle.afr_moves.specs.Tally.{Tally}
 use Rattle.afr_moves.proofs.Tests.{all_no, all_yes, same_kind_yes, with_cases, with_false, with_more, with_self}
 use Rattle.afr_law.proofs.Discipline.AskFields.{Sees, frees_heal, frees_work, sees, work_locked}
@@ -110,8 +110,8 @@ module _ (p : Plan) (keeps : ℕ → Kind → Bool) (five : p.shape.n ≤ 5) (ol
       turns : turn p.shape.n keeps r s HealPres y.0 ≡ true
       turns = pre_turn p.shape.n keeps r s y.0 g.0 kind e
 
-      first : r.phase ≡ Opening
-      first = pres_opening keeps r s r.law.kind r.phase y.0 areas.bytes (turn_in p.shape.n keeps r s HealPres y.0 turns)
+      first : r.part ≡ Opening
+      first = pres_opening keeps r s r.law.kind r.part y.0 areas.bytes (turn_in p.shape.n keeps r s HealPres y.0 turns)
 
       go : (q : Bool) → r.law.raised y.0 ≡ q → r.law.raised y.0 ≡ false
       go false m = m
@@ -287,17 +287,17 @@ module _ (p : Plan) (keeps : ℕ → Kind → Bool) (five : p.shape.n ≤ 5) (ol
   }
 
   -- once the settling is over, each holder has settled
-  all_settled : settles_over p.shape.n keeps r s ≡ true → is_last r.law.kind r.phase ≡ true → (z : ℕ) → z < p.shape.n → holder r.first_views z ≡ true → r.law.settled z ≡ true
+  all_settled : settles_over p.shape.n keeps r s ≡ true → is_last r.law.kind r.part ≡ true → (z : ℕ) → z < p.shape.n → holder r.first_views z ≡ true → r.law.settled z ≡ true
   all_settled e last z low there = elim (cases_lt 11 (rank r.step)) [
     | inl far ↦ h.over (omega (arith, far)) last z low there
     | inr near ↦ (
-        let w = asked_is r Settles z (over_at p.shape.n (settles_at r r.law.kind r.phase) (asked_in r Settles) (passed_over p.shape.n keeps r s Settles (and_right _ _ e) near) z low (last_set r r.law.kind r.phase z last there)) in
+        let w = asked_is r Settles z (over_at p.shape.n (settles_at r r.law.kind r.part) (asked_in r Settles) (passed_over p.shape.n keeps r s Settles (and_right _ _ e) near) z low (last_set r r.law.kind r.part z last there)) in
         h.settling (settles_is r.step w.0) z w.1
         )
   ]
 
   unlocked : (next : Step) (asks : ℕ → Bool) (line : Line) → (next ≡ Settles → ⊥) → ((x : ℕ) (g : Gfid) (kind : Kind) → opens_op p x g kind line older ≡ 0) → ((x c : ℕ) (g : Gfid) (kind : Kind) → blames p x c g kind line older ≡ 0) → settles_over p.shape.n keeps r s ≡ true
-      → Counted p (line ∷ older) next r.phase asks r.first_views r.law.kind r.law.object r.law.first r.law.raised r.law.settled
+      → Counted p (line ∷ older) next r.part asks r.first_views r.law.kind r.law.object r.law.first r.law.raised r.law.settled
   unlocked next asks line other opens blame e = record {
     fresh = λ z v f u. few_on p older line opens blame r.law.object r.law.kind z (r.law.raised z) v (h.fresh z v f u);
     clear = λ z f every. clear_on p older line opens blame (gfid r.law.object) r.law.kind z (h.clear z f every);
@@ -305,9 +305,9 @@ module _ (p : Plan) (keeps : ℕ → Kind → Bool) (five : p.shape.n ≤ 5) (ol
     over = λ m last. all_settled e last;
   }
 
-  plain : (next : Step) (phase : Phase) (asks : ℕ → Bool) (request : Request) (told : Told) → (next ≡ Settles → ⊥) → rank next ≤ 11 → ((x : ℕ) (g : Gfid) (kind : Kind) → opens_op p x g kind (line_for request told) older ≡ 0) → ((x c : ℕ) (g : Gfid) (kind : Kind) → blames p x c g kind (line_for request told) older ≡ 0)
-      → Counted p (line_for request told ∷ older) next phase asks r.first_views r.law.kind r.law.object r.law.first r.law.raised r.law.settled
-  plain next phase asks request told other up opens blame = plain_on p older (line_for request told) opens blame r next phase asks other up h
+  plain : (next : Step) (part : HealPart) (asks : ℕ → Bool) (request : Request) (told : Told) → (next ≡ Settles → ⊥) → rank next ≤ 11 → ((x : ℕ) (g : Gfid) (kind : Kind) → opens_op p x g kind (line_for request told) older ≡ 0) → ((x c : ℕ) (g : Gfid) (kind : Kind) → blames p x c g kind (line_for request told) older ≡ 0)
+      → Counted p (line_for request told ∷ older) next part asks r.first_views r.law.kind r.law.object r.law.first r.law.raised r.law.settled
+  plain next part asks request told other up opens blame = plain_on p older (line_for request told) opens blame r next part asks other up h
 
   pub counted_request : (below : y.0 < p.shape.n) (request : Request) (told : Told) → may_heal p.shape.n keeps r s y.0 request ≡ true → breaks r request told ≡ false → Hears p older y.0 request told → CountedAfter request told
   counted_request below (Lock Heal area) Granted e un q = heal_lock area (heal_lock_step p.shape.n keeps r s y.0 area e)

@@ -20,9 +20,9 @@ use Rattle.afr_plan.specs.declared.plan.Plan.{Plan}
 use Rattle.afr_model.specs.Healing.{settled_at}
 use Rattle.afr_model.specs.Rounds.{heal_due}
 use Rattle.afr_model.specs.Showing.{among}
-use Rattle.afr_moves.specs.Note.{breaks, left_in_heal, next_phase, stops_at}
+use Rattle.afr_moves.specs.Note.{breaks, left_in_heal, next_part, stops_at}
 use Rattle.afr_moves.specs.Past.{is_gone}
-use Rattle.afr_moves.specs.Register.{Exact, Finish, Opening, Phase, Piece, Settles, Step, is_finish, rank}
+use Rattle.afr_moves.specs.Register.{Exact, Finish, HealPart, Opening, Piece, Settles, Step, is_finish, rank}
 use Rattle.afr_moves.specs.Rules as weak
 use Rattle.afr_moves.specs.Rules.{Register}
 use Rattle.afr_moves.specs.Steps.{may_heal}
@@ -34,22 +34,22 @@ use Rattle.afr_law.proofs.Heals.Conditions.{Resumes, Starts, Waits, WorkPlace, a
 use Rattle.afr_law.proofs.Heals.Holds.{is_last, settles_last}
 use Rattle.afr_quiet_copies.proofs.Looked.{gfid}
 use Rattle.afr_quiet_copies.proofs.Told.{Hears}
-use Rattle.afr_moves.specs.Register.{Reads, HealPres, Mends}
+use Rattle.afr_moves.specs.Register.{HealPres, Mends, Reads}
 
 -- a brick that settled did so in the last part of a heal that isn't broken
-abbrev pub HasEnded : Lines → Bool → Step → Phase → Kind → Type 0
-HasEnded w broken step phase kind = (x : ℕ) → member (among settled_at w) x ≡ true → (broken ≡ false) × (11 ≤ rank step) × (is_last kind phase ≡ true)
+abbrev pub HasEnded : Lines → Bool → Step → HealPart → Kind → Type 0
+HasEnded w broken step part kind = (x : ℕ) → member (among settled_at w) x ≡ true → (broken ≡ false) × (11 ≤ rank step) × (is_last kind part ≡ true)
 
 -- the heal that the round is at is the register's
-abbrev pub IsDueFor : Plan → Lines → Step → Phase → Kind → ℕ → Type 0
-IsDueFor p w step phase kind object = (phase ≡ Opening → rank step ≤ 6 → ⊥) → heal_due p w ≡ Some (gfid object, kind)
+abbrev pub IsDueFor : Plan → Lines → Step → HealPart → Kind → ℕ → Type 0
+IsDueFor p w step part kind object = (part ≡ Opening → rank step ≤ 6 → ⊥) → heal_due p w ≡ Some (gfid object, kind)
 
-not_last : (kind : Kind) (phase : Phase) → same_kind kind Bytes ≡ true → is_finish phase ≡ false → is_last kind phase ≡ true → ⊥
+not_last : (kind : Kind) (part : HealPart) → same_kind kind Bytes ≡ true → is_finish part ≡ false → is_last kind part ≡ true → ⊥
 not_last Bytes Opening e f k = true≢false (sym k)
 not_last Bytes Piece e f k = true≢false (sym k)
 not_last Bytes Finish e f k = true≢false f
-not_last Attrs phase e f k = true≢false (sym e)
-not_last Names phase e f k = true≢false (sym e)
+not_last Attrs part e f k = true≢false (sym e)
+not_last Names part e f k = true≢false (sym e)
 
 module _ (p : Plan) (keeps : ℕ → Kind → Bool) (older : Seq Line) (r : Exact) (t s : ℕ) (whole : r.broken ≡ false) (inside : r.law.heal ≡ true) (stage : StageOf r) (x : ActorId) (y : BrickId) (took : Bool) where
   abbrev n : ℕ
@@ -58,9 +58,9 @@ module _ (p : Plan) (keeps : ℕ → Kind → Bool) (older : Seq Line) (r : Exac
   abbrev pub law_after : Request → Told → Register
   law_after request told = weak.dropping (is_gone told) y.0 (weak.note_ask n r.law y.0 request told)
 
-  module _ (w : Lines) (h : HasEnded w r.broken r.step r.phase r.law.kind) where
+  module _ (w : Lines) (h : HasEnded w r.broken r.step r.part r.law.kind) where
     abbrev pub EndedAfter : Request → Told → Bool → Type 0
-    EndedAfter request told broken = HasEnded ((Ask x y request told took, older) ∷ w) broken (left_in_heal n r t y.0 request told).step (left_in_heal n r t y.0 request told).phase (law_after request told).kind
+    EndedAfter request told broken = HasEnded ((Ask x y request told took, older) ∷ w) broken (left_in_heal n r t y.0 request told).step (left_in_heal n r t y.0 request told).part (law_after request told).kind
 
     early : (low : rank r.step ≤ 10) (z : ℕ) → member (among settled_at w) z ≡ true → ⊥
     early low z e = (let far : 11 ≤ rank r.step = (h z e).1 in omega (arith, far, low))
@@ -71,7 +71,7 @@ module _ (p : Plan) (keeps : ℕ → Kind → Bool) (older : Seq Line) (r : Exac
         go : WorkPlace n keeps r s y.0 area → ⊥
         go (Waits at same own lock fresh) = (let six : rank r.step ≡ 6 = ap rank at in early (omega (arith, six)) z m)
         go (Starts five same lock) = early (omega (arith, five)) z m
-        go (Resumes twelve same idle bytes unfinished lock next) = not_last r.law.kind r.phase bytes unfinished (h z m).2
+        go (Resumes twelve same idle bytes unfinished lock next) = not_last r.law.kind r.part bytes unfinished (h z m).2
 
     -- what the answer and the step leave of the heal
     still : (more : Bool) → more ≡ false → ((r.broken || more) || false) ≡ false
@@ -80,9 +80,9 @@ module _ (p : Plan) (keeps : ℕ → Kind → Bool) (older : Seq Line) (r : Exac
     pub ended_asked : (request : Request) (told : Told) → may_heal n keeps r s y.0 request ≡ true → Hears p older y.0 request told → (broken : Bool) → (request_ends : broken ≡ ((r.broken || breaks r request told) || stops_at n keeps (record (left_in_heal n r t y.0 request told) { possible = λ q. r.possible q && may_heal n keeps r q y.0 request; broken = r.broken || breaks r request told; law = law_after request told }) (left_in_heal n r t y.0 request told).step)) → EndedAfter request told broken
     ended_asked (Lock Heal area) told e q broken is z m = (let five = heal_lock_step n keeps r s y.0 area e in absurd (early (omega (arith, five)) z m))
     ended_asked (Lock Work area) told e q broken is z m = absurd (resumes area e z m)
-    ended_asked (Unlock Work area) Done e q broken is z m = (is ∙ still false refl, omega arith, (let k = (frees_work n r.law y.0 area Done).0.rest.kind in ap (λ c. is_last c r.phase) k ∙ (h z m).2))
+    ended_asked (Unlock Work area) Done e q broken is z m = (is ∙ still false refl, omega arith, (let k = (frees_work n r.law y.0 area Done).0.rest.kind in ap (λ c. is_last c r.part) k ∙ (h z m).2))
     ended_asked (Unlock Work area) told e q broken is z m = absurd q
-    ended_asked (Unlock Heal area) Done e q broken is z m = (is ∙ still false refl, omega arith, (let k = (frees_heal n r.law y.0 area Done).rest.kind in ap (λ c. is_last c r.phase) k ∙ (h z m).2))
+    ended_asked (Unlock Heal area) Done e q broken is z m = (is ∙ still false refl, omega arith, (let k = (frees_heal n r.law y.0 area Done).rest.kind in ap (λ c. is_last c r.part) k ∙ (h z m).2))
     ended_asked (Unlock Heal area) told e q broken is z m = absurd q
     ended_asked (Look g) told e q broken is z m = (let seven = look_step n keeps r s y.0 g.0 e in absurd (early (omega (arith, seven)) z m))
     ended_asked (ReadBytes g at len) told e q broken is z m = (let up = turn_low n keeps r s Reads y.0 (bytes_turn n keeps r s y.0 g at len e) in absurd (early (omega (arith, up)) z m))
@@ -90,8 +90,8 @@ module _ (p : Plan) (keeps : ℕ → Kind → Bool) (older : Seq Line) (r : Exac
     ended_asked (List g) told e q broken is z m = (let up = turn_low n keeps r s Reads y.0 (list_turn n keeps r s y.0 g e) in absurd (early (omega (arith, up)) z m))
     ended_asked (Pre g kind) told e q broken is z m = (let up = turn_low n keeps r s HealPres y.0 (pre_turn n keeps r s y.0 g.0 kind e) in absurd (early (omega (arith, up)) z m))
     ended_asked (Mend repair) told e q broken is z m = (let up = turn_low n keeps r s Mends y.0 (mend_turn n keeps r s y.0 repair e) in absurd (early up z m))
-    ended_asked (Settle g kind less) Done e q broken is z m = (is ∙ still false refl, omega arith, settles_last r r.law.kind r.phase y.0 (turn_in n keeps r s Settles y.0 (settle_turn n keeps r s y.0 g.0 kind less e)))
-    ended_asked (Settle g kind less) NoObject e q broken is z m = (is ∙ still false refl, omega arith, settles_last r r.law.kind r.phase y.0 (turn_in n keeps r s Settles y.0 (settle_turn n keeps r s y.0 g.0 kind less e)))
+    ended_asked (Settle g kind less) Done e q broken is z m = (is ∙ still false refl, omega arith, settles_last r r.law.kind r.part y.0 (turn_in n keeps r s Settles y.0 (settle_turn n keeps r s y.0 g.0 kind less e)))
+    ended_asked (Settle g kind less) NoObject e q broken is z m = (is ∙ still false refl, omega arith, settles_last r r.law.kind r.part y.0 (turn_in n keeps r s Settles y.0 (settle_turn n keeps r s y.0 g.0 kind less e)))
     ended_asked (Settle g kind less) told e q broken is z m = absurd q
     ended_asked (Apply i) told e q broken is z m = absurd (true≢false (sym e))
     ended_asked (Post i g kind missed) told e q broken is z m = absurd (true≢false (sym e))
@@ -99,9 +99,9 @@ module _ (p : Plan) (keeps : ℕ → Kind → Bool) (older : Seq Line) (r : Exac
     ended_asked (ReadAttr g key) told e q broken is z m = absurd (true≢false (sym e))
     ended_asked Index told e q broken is z m = absurd (true≢false (sym e))
 
-  module _ (w : Lines) (h : IsDueFor p w r.step r.phase r.law.kind r.law.object) where
+  module _ (w : Lines) (h : IsDueFor p w r.step r.part r.law.kind r.law.object) where
     abbrev pub DueAfter : Request → Told → Type 0
-    DueAfter request told = IsDueFor p ((Ask x y request told took, older) ∷ w) (left_in_heal n r t y.0 request told).step (left_in_heal n r t y.0 request told).phase (law_after request told).kind (law_after request told).object
+    DueAfter request told = IsDueFor p ((Ask x y request told took, older) ∷ w) (left_in_heal n r t y.0 request told).step (left_in_heal n r t y.0 request told).part (law_after request told).kind (law_after request told).object
 
     later : 7 ≤ rank r.step → heal_due p w ≡ Some (gfid r.law.object, r.law.kind)
     later far = h (λ f low. omega (arith, far, low))
@@ -109,7 +109,7 @@ module _ (p : Plan) (keeps : ℕ → Kind → Bool) (older : Seq Line) (r : Exac
     named : (z : Register) → Rest r.law z → z.object ≡ r.law.object → heal_due p w ≡ Some (gfid r.law.object, r.law.kind) → heal_due p w ≡ Some (gfid z.object, z.kind)
     named z k e d = d ∙ (λ i. Some (gfid (sym e i), sym k.kind i))
 
-    locked : (area : Area) (e : may_heal n keeps r s y.0 (Lock Work area) ≡ true) → (next_phase r area ≡ Opening → 6 ≤ 6 → ⊥) → heal_due p w ≡ Some (gfid r.law.object, r.law.kind)
+    locked : (area : Area) (e : may_heal n keeps r s y.0 (Lock Work area) ≡ true) → (next_part r area ≡ Opening → 6 ≤ 6 → ⊥) → heal_due p w ≡ Some (gfid r.law.object, r.law.kind)
     locked area e f = go (work_place n keeps r s y.0 area e)
       where
         go : WorkPlace n keeps r s y.0 area → heal_due p w ≡ Some (gfid r.law.object, r.law.kind)

@@ -47,10 +47,10 @@ use Rattle.afr_moves.specs.Discipline.{MovesExactly, exact, in_force, present}
 use Rattle.afr_moves.specs.Heal.{MayHealEnd}
 use Rattle.afr_moves.specs.Past.{Log, opens, place}
 use Rattle.afr_moves.specs.Positions.{by_position}
-use Rattle.afr_moves.specs.Register.{Exact, Finish, Opening, Phase, Piece, holder, rank, untouched}
+use Rattle.afr_moves.specs.Register.{Exact, Finish, HealPart, Opening, Piece, holder, rank, untouched}
 use Rattle.afr_moves.proofs.ByPosition.{IsPast, past_whole}
 use Rattle.afr_moves.proofs.Places.{place_is}
-use Rattle.afr_quiet.specs.Undisturbed.{EachHeal, IsEverywhere, IsKept, IsRepaired, OfHeal, begun_after}
+use Rattle.afr_quiet.specs.Undisturbed.{EachHeal, EndsRepaired, IsEverywhere, IsRepaired, OfHeal, begun_after}
 use Rattle.afr_quiet_copies.specs.Repaired.{IsQuietKept, IsRoundKept, QuietRoundsAreRepaired}
 use Rattle.afr_quiet_copies.proofs.After.{After, Spares, after_fresh, clear_by}
 use Rattle.afr_quiet_copies.proofs.AfterLines.{after_own}
@@ -98,12 +98,12 @@ kind_or Bytes = inl refl
 kind_or Attrs = inr (λ e. cc e)
 kind_or Names = inr (λ e. cc e)
 
-last_finish : (kind : Kind) (phase : Phase) → kind ≡ Bytes → is_last kind phase ≡ true → phase ≡ Finish
+last_finish : (kind : Kind) (part : HealPart) → kind ≡ Bytes → is_last kind part ≡ true → part ≡ Finish
 last_finish Bytes Finish e k = refl
 last_finish Bytes Opening e k = absurd (true≢false (sym k))
 last_finish Bytes Piece e k = absurd (true≢false (sym k))
-last_finish Attrs phase e k = absurd (cc e)
-last_finish Names phase e k = absurd (cc e)
+last_finish Attrs part e k = absurd (cc e)
+last_finish Names part e k = absurd (cc e)
 
 -- all copies of bytes have this length
 abbrev pub AreOfLength : Plan → Gfid → Kind → ℕ → Seq Line → Type 0
@@ -188,7 +188,7 @@ module _ (p : Plan) (log : Seq Line) (premises : Premises p log) (a : ℕ) (quie
         some_settled p g kind (heal_by (work a rest)) (subst (λ o. heal_reply p.shape g kind (heal_by (work o rest)) ≡ Some healed.Settled) mine (answered.caused ∙ ap (λ (s : HealReply). Some s) settled))
         )
 
-    done : (r.broken ≡ false) × (11 ≤ rank r.step) × (is_last r.law.kind r.phase ≡ true)
+    done : (r.broken ≡ false) × (11 ≤ rank r.step) × (is_last r.law.kind r.part ≡ true)
     done = h.ended may.inside some.0 some.1
 
     whole : Whole p a rest (now rest)
@@ -222,7 +222,7 @@ module _ (p : Plan) (log : Seq Line) (premises : Premises p log) (a : ℕ) (quie
     level_end = elim (kind_or kind) [
       | inr other ↦ (0, λ e. absurd (other e))
       | inl bytes ↦ (
-          let w = whole.level.level (last_finish r.law.kind r.phase (sym kind_is ∙ bytes) done.2) (omega (arith, far)) in
+          let w = whole.level.level (last_finish r.law.kind r.part (sym kind_is ∙ bytes) done.2) (omega (arith, far)) in
           (w.0, λ e z low keeps_it. subst (λ o. HasLength (holds p rest z) o w.0) (sym object_is) (w.1 z low keeps_it (all_hold z low)))
           )
     ]
@@ -264,7 +264,7 @@ module _ (p : Plan) (log : Seq Line) (premises : Premises p log) (a : ℕ) (quie
 
   -- ---- each heal of the round
   abbrev Kept : Gfid → Kind → HealReply → Seq Line → Type 0
-  Kept g kind said before = IsKept p log g kind said (heal_by (work a before))
+  Kept g kind said before = EndsRepaired p log g kind said (heal_by (work a before))
 
   of_heal : (line : Line) (rest : Seq Line) → Premises p (line ∷ rest) → IsPast L (line ∷ rest) → Calm a line → Round p a rest (now rest) → IsTail (line ∷ rest) log → lo ≤ length rest → OfHeal Kept line rest
   of_heal (HealEnd x g kind said) rest q past calm h tail late = λ settled begun is_begun everywhere. repaired x g kind said rest q past calm h tail late settled begun is_begun everywhere

@@ -23,7 +23,7 @@ use Rattle.afr_model.specs.Tables.{holds}
 use Rattle.afr_tables.specs.CopyLaws.{gfid_is}
 use Rattle.afr_moves.specs.Note.{left_in_heal, put}
 use Rattle.afr_moves.specs.Past.{Log, is_gone}
-use Rattle.afr_moves.specs.Register.{Exact, Finish, HealPres, HealUnlocks, Looks, Mends, Opening, Phase, Reads, Settles, Step, Unlocks, asked_in, holder, len_of, over, rank}
+use Rattle.afr_moves.specs.Register.{Exact, Finish, HealPart, HealPres, HealUnlocks, Looks, Mends, Opening, Reads, Settles, Step, Unlocks, asked_in, holder, len_of, over, rank}
 use Rattle.afr_moves.specs.Rules as weak
 use Rattle.afr_moves.specs.Rules.{Register}
 use Rattle.afr_moves.specs.Steps.{goes_on, goes_on_at, looks_at, looks_over, may_heal, settles_over, sink}
@@ -44,13 +44,13 @@ use Rattle.afr_quiet_copies.proofs.Looked.{gfid}
 use Rattle.afr_quiet_copies.proofs.Told.{Hears}
 
 -- in the last part each view shows the length of its copy, and after it all copies have one length
-pub record Level (p : Plan) (keeps : ℕ → Kind → Bool) (older : Seq Line) (step : Step) (phase : Phase) (views first_views : ℕ → Option View) (object : ℕ) : Type 0 where
-  pub seen : phase ≡ Finish → 7 ≤ rank step → (x : ℕ) (view : View) → views x ≡ Some view → HasLength (holds p older x) (gfid object) view.len
-  pub level : phase ≡ Finish → 12 ≤ rank step → (m : ℕ) × ((x : ℕ) → x < p.shape.n → keeps x Bytes ≡ true → holder first_views x ≡ true → HasLength (holds p older x) (gfid object) m)
+pub record Level (p : Plan) (keeps : ℕ → Kind → Bool) (older : Seq Line) (step : Step) (part : HealPart) (views first_views : ℕ → Option View) (object : ℕ) : Type 0 where
+  pub seen : part ≡ Finish → 7 ≤ rank step → (x : ℕ) (view : View) → views x ≡ Some view → HasLength (holds p older x) (gfid object) view.len
+  pub level : part ≡ Finish → 12 ≤ rank step → (m : ℕ) × ((x : ℕ) → x < p.shape.n → keeps x Bytes ≡ true → holder first_views x ≡ true → HasLength (holds p older x) (gfid object) m)
 
 -- the same of a register
 abbrev pub LevelIn : Plan → (ℕ → Kind → Bool) → Seq Line → Exact → Register → Type 0
-LevelIn p keeps older r w = Level p keeps older r.step r.phase r.views r.first_views w.object
+LevelIn p keeps older r w = Level p keeps older r.step r.part r.views r.first_views w.object
 
 module _ (p : Plan) (keeps : ℕ → Kind → Bool) (older : Seq Line) (L : Log) (t a : ℕ) (r : Exact) (s : ℕ) (stage : StageOf r) (inside : r.law.heal ≡ true) (areas : AreasIn r r.law) (firsts : FirstsOf r) (sights : SightsIn p.shape.n L t a r r.law)
     (h : LevelIn p keeps older r r.law) (x : ActorId) (y : BrickId) (took : Bool) where
@@ -60,17 +60,17 @@ module _ (p : Plan) (keeps : ℕ → Kind → Bool) (older : Seq Line) (L : Log)
   abbrev pub LevelAfter : Request → Told → Type 0
   LevelAfter request told = LevelIn p keeps (Ask x y request told took ∷ older) (left_in_heal n r t y.0 request told) (weak.dropping (is_gone told) y.0 (weak.note_ask n r.law y.0 request told))
 
-  not_first : r.phase ≡ Finish → r.phase ≡ Opening → ⊥
+  not_first : r.part ≡ Finish → r.part ≡ Opening → ⊥
   not_first f o = cc (sym f ∙ o)
 
   -- a step between the looks and the unlocks
-  plain : (next : Step) (request : Request) (told : Told) → Spares Bytes (gfid r.law.object) (Ask x y request told took) → 7 ≤ rank r.step → rank next ≤ 11 → Level p keeps (Ask x y request told took ∷ older) next r.phase r.views r.first_views r.law.object
+  plain : (next : Step) (request : Request) (told : Told) → Spares Bytes (gfid r.law.object) (Ask x y request told took) → 7 ≤ rank r.step → rank next ≤ 11 → Level p keeps (Ask x y request told took ∷ older) next r.part r.views r.first_views r.law.object
   plain next request told spares far up = record {
     seen = λ f k z v e. len_on p (Ask x y request told took) older (gfid r.law.object) z v.len spares (h.seen f far z v e);
     level = λ f k. absurd (omega (arith, k, up));
   }
 
-  look : (g : Gfid) (told : Told) → may_heal n keeps r s y.0 (Look g) ≡ true → Hears p older y.0 (Look g) told → Level p keeps (Ask x y (Look g) told took ∷ older) Looks r.phase (left_in_heal n r t y.0 (Look g) told).views (left_in_heal n r t y.0 (Look g) told).first_views r.law.object
+  look : (g : Gfid) (told : Told) → may_heal n keeps r s y.0 (Look g) ≡ true → Hears p older y.0 (Look g) told → Level p keeps (Ask x y (Look g) told took ∷ older) Looks r.part (left_in_heal n r t y.0 (Look g) told).views (left_in_heal n r t y.0 (Look g) told).first_views r.law.object
   look g told e hear = record { seen = λ f k. go told f hear; level = λ f k. absurd (omega (arith, k)) }
     where
       seven : 7 ≤ rank r.step
@@ -79,30 +79,30 @@ module _ (p : Plan) (keeps : ℕ → Kind → Bool) (older : Seq Line) (L : Log)
       object_is : g ≡ gfid r.law.object
       object_is = gfid_is g (gfid r.law.object) (eqb-true g.0 r.law.object (look_object n keeps r s y.0 g.0 e))
 
-      found : (d : Told) (new : Option View) → r.phase ≡ Finish → ((view : View) → new ≡ Some view → HasLength (holds p older y.0) (gfid r.law.object) view.len) → (z : ℕ) (v : View) → put r.views y.0 new z ≡ Some v → HasLength (holds p (Ask x y (Look g) d took ∷ older) z) (gfid r.law.object) v.len
+      found : (d : Told) (new : Option View) → r.part ≡ Finish → ((view : View) → new ≡ Some view → HasLength (holds p older y.0) (gfid r.law.object) view.len) → (z : ℕ) (v : View) → put r.views y.0 new z ≡ Some v → HasLength (holds p (Ask x y (Look g) d took ∷ older) z) (gfid r.law.object) v.len
       found d new f shown z v m = len_on p (Ask x y (Look g) d took) older (gfid r.law.object) z v.len tt (elim (here_or y.0 z) [
         | inl same ↦ subst (λ b. HasLength (holds p older b) (gfid r.law.object) v.len) (sym same) (shown v (sym (put_same r.views y.0 new) ∙ ap (put r.views y.0 new) (sym same) ∙ m))
         | inr other ↦ h.seen f seven z v (sym (put_other r.views y.0 z new other) ∙ m)
       ])
 
-      go : (d : Told) → r.phase ≡ Finish → Hears p older y.0 (Look g) d → (z : ℕ) (v : View) → (left_in_heal n r t y.0 (Look g) d).views z ≡ Some v → HasLength (holds p (Ask x y (Look g) d took ∷ older) z) (gfid r.law.object) v.len
+      go : (d : Told) → r.part ≡ Finish → Hears p older y.0 (Look g) d → (z : ℕ) (v : View) → (left_in_heal n r t y.0 (Look g) d).views z ≡ Some v → HasLength (holds p (Ask x y (Look g) d took ∷ older) z) (gfid r.law.object) v.len
       go (Seen view) f q = found (Seen view) (Some view) f (λ v m. (q.0, subst (λ (k : Gfid). copy_at k (holds p older y.0) ≡ Some q.0) object_is q.1, (let same : view ≡ v = cc m in ap (λ (w : View). w.len) (sym q.2 ∙ same))))
       go NoObject f q = found NoObject None f (λ v m. absurd (cc m))
       go d f q = absurd q
 
   -- every holder was looked at again
-  still : r.phase ≡ Finish → looks_over n keeps r s ≡ true → 7 ≤ rank r.step → rank r.step ≤ 11 → (z : ℕ) → z < n → holder r.first_views z ≡ true → holder r.views z ≡ true
+  still : r.part ≡ Finish → looks_over n keeps r s ≡ true → 7 ≤ rank r.step → rank r.step ≤ 11 → (z : ℕ) → z < n → holder r.first_views z ≡ true → holder r.views z ≡ true
   still f e far up z low there = elim (cases_lt 7 (rank r.step)) [
     | inl more ↦ sights.still (not_first f) (omega (arith, more)) up z low there
     | inr few ↦ (
-        let set : over n (looks_at r Finish) (asked_in r Looks) ≡ true = subst (λ (q : Phase). over n (looks_at r q) (asked_in r Looks) ≡ true) f (passed_over n keeps r s Looks (looks_passed n keeps r s e) few) in
+        let set : over n (looks_at r Finish) (asked_in r Looks) ≡ true = subst (λ (q : HealPart). over n (looks_at r q) (asked_in r Looks) ≡ true) f (passed_over n keeps r s Looks (looks_passed n keeps r s e) few) in
         let w = asked_is r Looks z (over_at n (looks_at r Finish) (asked_in r Looks) set z low (firsts.reached z there)) in
         sights.again (not_first f) (looks_is r.step w.0) z w.1 there
         )
   ]
 
   -- the looks let the heal go on with all copies of one length
-  alike : r.phase ≡ Finish → goes_on n keeps r s ≡ true → (z : ℕ) → z < n → keeps z Bytes ≡ true → holder r.first_views z ≡ true → len_of (r.views z) ≡ len_of (r.views s)
+  alike : r.part ≡ Finish → goes_on n keeps r s ≡ true → (z : ℕ) → z < n → keeps z Bytes ≡ true → holder r.first_views z ≡ true → len_of (r.views z) ≡ len_of (r.views s)
   alike f e z low keeps_it there = elim (here_or s z) [
     | inl same ↦ ap (λ i. len_of (r.views i)) same
     | inr other ↦ (
@@ -115,7 +115,7 @@ module _ (p : Plan) (keeps : ℕ → Kind → Bool) (older : Seq Line) (L : Log)
       sure : (a b : Bool) (z s : ℕ) (c : Bool) → a ≡ true → b ≡ true → (z ≡ s → ⊥) → (not (a && not (z == s) && b) || c) ≡ true → c ≡ true
       sure a b z s c p q other e = grind (arith, nat_tests)
 
-  level_now : goes_on n keeps r s ≡ true → settles_over n keeps r s ≡ true → r.phase ≡ Finish → (m : ℕ) × ((z : ℕ) → z < n → keeps z Bytes ≡ true → holder r.first_views z ≡ true → HasLength (holds p older z) (gfid r.law.object) m)
+  level_now : goes_on n keeps r s ≡ true → settles_over n keeps r s ≡ true → r.part ≡ Finish → (m : ℕ) × ((z : ℕ) → z < n → keeps z Bytes ≡ true → holder r.first_views z ≡ true → HasLength (holds p older z) (gfid r.law.object) m)
   level_now e over_all f = elim (cases_lt 11 (rank r.step)) [
     | inl far ↦ h.level f (omega (arith, far))
     | inr near ↦ (
@@ -129,14 +129,14 @@ module _ (p : Plan) (keeps : ℕ → Kind → Bool) (older : Seq Line) (L : Log)
     )
   ]
 
-  unlock : (next : Step) (request : Request) (told : Told) → Spares Bytes (gfid r.law.object) (Ask x y request told took) → goes_on n keeps r s ≡ true → settles_over n keeps r s ≡ true → Level p keeps (Ask x y request told took ∷ older) next r.phase r.views r.first_views r.law.object
+  unlock : (next : Step) (request : Request) (told : Told) → Spares Bytes (gfid r.law.object) (Ask x y request told took) → goes_on n keeps r s ≡ true → settles_over n keeps r s ≡ true → Level p keeps (Ask x y request told took ∷ older) next r.part r.views r.first_views r.law.object
   unlock next request told spares e over_all = record {
     seen = λ f k z v m. len_on p (Ask x y request told took) older (gfid r.law.object) z v.len spares (h.seen f (settles_far n keeps r s over_all) z v m);
     level = λ f k. (let w = level_now e over_all f in (w.0, λ z low keeps_it there. len_on p (Ask x y request told took) older (gfid r.law.object) z w.0 spares (w.1 z low keeps_it there)));
   }
 
-  object_on : (request : Request) (told : Told) (next : Step) (views first_views : ℕ → Option View) (object : ℕ) → object ≡ r.law.object → Level p keeps (Ask x y request told took ∷ older) next r.phase views first_views r.law.object → Level p keeps (Ask x y request told took ∷ older) next r.phase views first_views object
-  object_on request told next views first_views object e = subst (λ o. Level p keeps (Ask x y request told took ∷ older) next r.phase views first_views o) (sym e)
+  object_on : (request : Request) (told : Told) (next : Step) (views first_views : ℕ → Option View) (object : ℕ) → object ≡ r.law.object → Level p keeps (Ask x y request told took ∷ older) next r.part views first_views r.law.object → Level p keeps (Ask x y request told took ∷ older) next r.part views first_views object
+  object_on request told next views first_views object e = subst (λ o. Level p keeps (Ask x y request told took ∷ older) next r.part views first_views o) (sym e)
 
   pub level_asked : (request : Request) (told : Told) → may_heal n keeps r s y.0 request ≡ true → Hears p older y.0 request told → LevelAfter request told
   level_asked (Lock Heal area) told e q = (let five = heal_lock_step n keeps r s y.0 area e in record { seen = λ f. absurd (not_first f (stage.early inside (omega (arith, five))).0); level = λ f k. absurd (omega (arith, k)) })
@@ -160,8 +160,8 @@ module _ (p : Plan) (keeps : ℕ → Kind → Bool) (older : Seq Line) (L : Log)
   level_asked (Pre g kind) Done e q = plain HealPres (Pre g kind) Done tt (onward_far n keeps r s g.0 kind (pre_onward n keeps r s y.0 g.0 kind e)) (omega arith)
   level_asked (Pre g kind) NoObject e q = plain HealPres (Pre g kind) NoObject tt (onward_far n keeps r s g.0 kind (pre_onward n keeps r s y.0 g.0 kind e)) (omega arith)
   level_asked (Pre g kind) told e q = absurd q
-  level_asked (Mend repair) Done e q = record { seen = λ f. absurd (mends_finish keeps r s r.law.kind r.phase y.0 (turn_in n keeps r s Mends y.0 (mend_turn n keeps r s y.0 repair e)) f (areas.bytes (not_first f))); level = λ f k. absurd (omega (arith, k)) }
-  level_asked (Mend repair) NoObject e q = record { seen = λ f. absurd (mends_finish keeps r s r.law.kind r.phase y.0 (turn_in n keeps r s Mends y.0 (mend_turn n keeps r s y.0 repair e)) f (areas.bytes (not_first f))); level = λ f k. absurd (omega (arith, k)) }
+  level_asked (Mend repair) Done e q = record { seen = λ f. absurd (mends_finish keeps r s r.law.kind r.part y.0 (turn_in n keeps r s Mends y.0 (mend_turn n keeps r s y.0 repair e)) f (areas.bytes (not_first f))); level = λ f k. absurd (omega (arith, k)) }
+  level_asked (Mend repair) NoObject e q = record { seen = λ f. absurd (mends_finish keeps r s r.law.kind r.part y.0 (turn_in n keeps r s Mends y.0 (mend_turn n keeps r s y.0 repair e)) f (areas.bytes (not_first f))); level = λ f k. absurd (omega (arith, k)) }
   level_asked (Mend repair) told e q = absurd q
   level_asked (Settle g kind less) Done e q = plain Settles (Settle g kind less) Done tt (onward_far n keeps r s g.0 kind (settle_onward n keeps r s y.0 g.0 kind less e)) (omega arith)
   level_asked (Settle g kind less) NoObject e q = plain Settles (Settle g kind less) NoObject tt (onward_far n keeps r s g.0 kind (settle_onward n keeps r s y.0 g.0 kind less e)) (omega arith)

@@ -16,9 +16,9 @@ use Rattle.afr_lines.specs.declared.request.Request.TheVariants.{Apply, Index, L
 use Rattle.afr_lines.specs.declared.lock.Domain.TheVariants.{Heal, Work}
 use Rattle.afr_plan.specs.declared.plan.Plan.{Plan}
 use Rattle.afr_moves.specs.Heal.{MayHealBegin}
-use Rattle.afr_moves.specs.Note.{breaks, left_in_heal, next_phase}
+use Rattle.afr_moves.specs.Note.{breaks, left_in_heal, next_part}
 use Rattle.afr_moves.specs.Past.{is_gone}
-use Rattle.afr_moves.specs.Register.{Exact, HealLocks, Looks, Opening, Phase, Step, WorkLocks, asked_in, everywhere, is_finish, over, rank, same_step, Reads, HealPres, Mends, Settles, Unlocks}
+use Rattle.afr_moves.specs.Register.{Exact, HealLocks, HealPart, HealPres, Looks, Mends, Opening, Reads, Settles, Step, Unlocks, WorkLocks, asked_in, everywhere, is_finish, over, rank, same_step}
 use Rattle.afr_moves.specs.Rules as weak
 use Rattle.afr_moves.specs.Rules.{Register, busy, is_area}
 use Rattle.afr_moves.specs.Sets.{any, empty, with}
@@ -31,16 +31,16 @@ use Rattle.afr_law.proofs.Heals.Conditions.{Resumes, Starts, Waits, WorkPlace, a
 use Rattle.afr_quiet_copies.proofs.Told.{Hears}
 
 -- what was granted so far: the Heal lock at every brick that was asked, and at all before the Work locks, which are granted likewise in the first part
-pub record Locked (n : ℕ) (step : Step) (phase : Phase) (asked healing held : ℕ → Bool) (idle : Bool) : Type 0 where
+pub record Locked (n : ℕ) (step : Step) (part : HealPart) (asked healing held : ℕ → Bool) (idle : Bool) : Type 0 where
   pub granted : step ≡ HealLocks → (x : ℕ) → x < n → asked x ≡ true → healing x ≡ true
   pub whole : 6 ≤ rank step → rank step ≤ 12 → (x : ℕ) → x < n → healing x ≡ true
-  pub waits : phase ≡ Opening → step ≡ WorkLocks → (x : ℕ) → x < n → asked x ≡ true → held x ≡ true
-  pub under : phase ≡ Opening → 7 ≤ rank step → rank step ≤ 11 → (x : ℕ) → x < n → held x ≡ true
+  pub waits : part ≡ Opening → step ≡ WorkLocks → (x : ℕ) → x < n → asked x ≡ true → held x ≡ true
+  pub under : part ≡ Opening → 7 ≤ rank step → rank step ≤ 11 → (x : ℕ) → x < n → held x ≡ true
   pub free : rank step ≤ 5 → idle ≡ false
 
 -- the same of a register
 abbrev pub LockedIn : ℕ → Exact → Register → Type 0
-LockedIn n r w = Locked n r.step r.phase r.asked w.healing w.held (busy n w)
+LockedIn n r w = Locked n r.step r.part r.asked w.healing w.held (busy n w)
 
 module _ (p : Plan) (older : Seq Line) (n : ℕ) (keeps : ℕ → Kind → Bool) (r : Exact) (t b : ℕ) (below : b < n) (h : LockedIn n r r.law) where
   abbrev pub LawAfter : Request → Told → Register
@@ -50,7 +50,7 @@ module _ (p : Plan) (older : Seq Line) (n : ℕ) (keeps : ℕ → Kind → Bool)
   LockedAfter request told = LockedIn n (left_in_heal n r t b request told) (LawAfter request told)
 
   -- a step after the looks, where locks stay
-  plain : (next : Step) (asks : ℕ → Bool) → 7 ≤ rank r.step → rank r.step ≤ 11 → 7 ≤ rank next → Locked n next r.phase asks r.law.healing r.law.held (busy n r.law)
+  plain : (next : Step) (asks : ℕ → Bool) → 7 ≤ rank r.step → rank r.step ≤ 11 → 7 ≤ rank next → Locked n next r.part asks r.law.healing r.law.held (busy n r.law)
   plain next asks low up far = record {
     granted = λ e. absurd (let k : rank next ≡ 5 = ap rank e in omega (arith, k, far));
     whole = λ k l. h.whole (omega (arith, low)) (omega (arith, up));
@@ -80,9 +80,9 @@ module _ (p : Plan) (older : Seq Line) (n : ℕ) (keeps : ℕ → Kind → Bool)
   starts_over s area at e = go (same_step r.step WorkLocks) refl (same_step r.step HealLocks) refl e
     where
       go : (wait : Bool) → same_step r.step WorkLocks ≡ wait → (heal : Bool) → same_step r.step HealLocks ≡ heal
-          → (if wait then is_area r.law.area area && is_lowest (locks_at r r.phase) r.asked b
+          → (if wait then is_area r.law.area area && is_lowest (locks_at r r.part) r.asked b
           else if heal then is_next n r s area && is_lowest r.law.healing empty b
-          else after_unlocks n r area s && not (is_finish r.phase) && is_lowest r.first_reached empty b) ≡ true → over n everywhere (asked_in r HealLocks) ≡ true
+          else after_unlocks n r area s && not (is_finish r.part) && is_lowest r.first_reached empty b) ≡ true → over n everywhere (asked_in r HealLocks) ≡ true
       go true q heal k m = (let six : rank r.step ≡ 6 = eqb-true (rank r.step) 6 q in absurd (omega (arith, six, at)))
       go false q true k m = and_right _ _ (and_left _ _ (and_left _ _ (and_left _ _ m)))
       go false q false k m = (let hit : (rank r.step == 5) ≡ true = rw at refl in absurd (true≢false (sym hit ∙ k)))
@@ -97,7 +97,7 @@ module _ (p : Plan) (older : Seq Line) (n : ℕ) (keeps : ℕ → Kind → Bool)
         go (Starts five same lock) = inr (h.free (omega (arith, five)))
         go (Resumes twelve same idle bytes unfinished lock next) = inr idle
 
-    first_held : next_phase r area ≡ Opening → (x : ℕ) → x < n → asked_in r WorkLocks x ≡ true → r.law.held x ≡ true
+    first_held : next_part r area ≡ Opening → (x : ℕ) → x < n → asked_in r WorkLocks x ≡ true → r.law.held x ≡ true
     first_held f x low k = go (work_place n keeps r s b area e)
       where
         six : rank r.step ≡ 6
@@ -123,11 +123,11 @@ module _ (p : Plan) (older : Seq Line) (n : ℕ) (keeps : ℕ → Kind → Bool)
         go (Starts five same lock) = (let w = asked_is r HealLocks x (over_at n everywhere (asked_in r HealLocks) (starts_over s area five e) x low refl) in h.granted (is_heal r.step five) x low w.1)
         go (Resumes twelve same idle bytes unfinished lock next) = h.whole (omega (arith, twelve)) (omega (arith, twelve)) x low
 
-    waiting_held : next_phase r area ≡ Opening → (x : ℕ) → x < n → (some : Bool) → busy n r.law ≡ some → asked_in r WorkLocks x ≡ true → (if some then record r.law { second = weak.second_of r.law area } else weak.begun r.law area).held x ≡ true
+    waiting_held : next_part r area ≡ Opening → (x : ℕ) → x < n → (some : Bool) → busy n r.law ≡ some → asked_in r WorkLocks x ≡ true → (if some then record r.law { second = weak.second_of r.law area } else weak.begun r.law area).held x ≡ true
     waiting_held f x low true k m = first_held f x low m
     waiting_held f x low false k m = absurd (true≢false (sym (some_busy x low (first_held f x low m)) ∙ k))
 
-    granted_held : next_phase r area ≡ Opening → (x : ℕ) → x < n → (some own : Bool) → busy n r.law ≡ some → is_area r.law.area area ≡ own → with (asked_in r WorkLocks) b x ≡ true
+    granted_held : next_part r area ≡ Opening → (x : ℕ) → x < n → (some own : Bool) → busy n r.law ≡ some → is_area r.law.area area ≡ own → with (asked_in r WorkLocks) b x ≡ true
         → (if some && not own then record r.law { second = Some area; second_held = with r.law.second_held b } else (let k = if some then record r.law { second = weak.second_of r.law area } else weak.begun r.law area in record k { held = with k.held b })).held x ≡ true
     granted_held f x low true true k own m = elim (with_cases (asked_in r WorkLocks) b x m) [
       | inl here ↦ subst (λ y. with r.law.held b y ≡ true) (sym here) (with_self r.law.held b)
@@ -139,7 +139,7 @@ module _ (p : Plan) (older : Seq Line) (n : ℕ) (keeps : ℕ → Kind → Bool)
       | inr was ↦ absurd (true≢false (sym (some_busy x low (first_held f x low was)) ∙ k))
     ]
 
-    work_lock : (told : Told) → is_gone told ≡ false → (next_phase r area ≡ Opening → (x : ℕ) → x < n → (left_in_heal n r t b (Lock Work area) told).asked x ≡ true → (LawAfter (Lock Work area) told).held x ≡ true) → LockedAfter (Lock Work area) told
+    work_lock : (told : Told) → is_gone told ≡ false → (next_part r area ≡ Opening → (x : ℕ) → x < n → (left_in_heal n r t b (Lock Work area) told).asked x ≡ true → (LawAfter (Lock Work area) told).held x ≡ true) → LockedAfter (Lock Work area) told
     work_lock told ok helds = record {
       granted = λ k. absurd (cc k);
       whole = λ k l x low. elim ((work_locked n r.law b area told).healing x (all_healing x low)) [ inl gone ↦ absurd (true≢false (sym gone.0 ∙ ok)) | inr still ↦ still ];
@@ -211,14 +211,14 @@ module _ (p : Plan) (older : Seq Line) (n : ℕ) (keeps : ℕ → Kind → Bool)
   locked_asked Index told s e un k = absurd (true≢false (sym e))
 
 -- a HealBegin line
-pub locked_begun : (n : ℕ) (r : Exact) (g : ℕ) (kind : Kind) (asks : ℕ → Bool) → MayHealBegin n r g kind → LockedIn n r r.law → Locked n Looks r.phase asks r.law.healing r.law.held (busy n r.law)
+pub locked_begun : (n : ℕ) (r : Exact) (g : ℕ) (kind : Kind) (asks : ℕ → Bool) → MayHealBegin n r g kind → LockedIn n r r.law → Locked n Looks r.part asks r.law.healing r.law.held (busy n r.law)
 locked_begun n r g kind asks may h = (
     let at : rank r.step ≡ 6 = ap rank may.step in
     record {
       granted = λ m. absurd (cc m);
       whole = λ k l. h.whole (omega (arith, at)) (omega (arith, at));
       waits = λ f m. absurd (cc m);
-      under = λ f k l x low. h.waits f may.step x low (over_at n r.law.healing r.asked (subst (λ (q : Phase). over n (locks_at r q) r.asked ≡ true) f may.over) x low (h.whole (omega (arith, at)) (omega (arith, at)) x low));
+      under = λ f k l x low. h.waits f may.step x low (over_at n r.law.healing r.asked (subst (λ (q : HealPart). over n (locks_at r q) r.asked ≡ true) f may.over) x low (h.whole (omega (arith, at)) (omega (arith, at)) x low));
       free = λ m. absurd (omega (arith, m));
     }
     )

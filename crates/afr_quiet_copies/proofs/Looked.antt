@@ -18,9 +18,9 @@ use Rattle.afr_plan.specs.declared.plan.Plan.{Plan}
 use Rattle.afr_model.specs.Sums.{has_object}
 use Rattle.afr_tables.specs.CopyLaws.{gfid_is}
 use Rattle.afr_tables.specs.TableLaws.{copy_stays}
-use Rattle.afr_moves.specs.Note.{breaks, left_in_heal, next_phase, put}
+use Rattle.afr_moves.specs.Note.{breaks, left_in_heal, next_part, put}
 use Rattle.afr_moves.specs.Past.{is_gone}
-use Rattle.afr_moves.specs.Register.{Exact, HealPres, Looks, Mends, Opening, Phase, Reads, Settles, Step, Unlocks, HealUnlocks, WorkLocks, asked_in, holder, is_opening, over, rank}
+use Rattle.afr_moves.specs.Register.{Exact, HealPart, HealPres, HealUnlocks, Looks, Mends, Opening, Reads, Settles, Step, Unlocks, WorkLocks, asked_in, holder, is_opening, over, rank}
 use Rattle.afr_moves.specs.Rules as weak
 use Rattle.afr_moves.specs.Rules.{Register}
 use Rattle.afr_moves.specs.Sets.{with}
@@ -40,20 +40,20 @@ abbrev pub gfid : ℕ → Gfid
 gfid g = record { 0 = g }
 
 -- every brick has the object still, and the first looks show it
-pub record Shown (p : Plan) (older : Seq Line) (step : Step) (phase : Phase) (asked : ℕ → Bool) (first_views : ℕ → Option View) (object : ℕ) : Type 0 where
+pub record Shown (p : Plan) (older : Seq Line) (step : Step) (part : HealPart) (asked : ℕ → Bool) (first_views : ℕ → Option View) (object : ℕ) : Type 0 where
   pub everywhere : IsEverywhere p older (gfid object)
-  pub looked : phase ≡ Opening → step ≡ Looks → (x : ℕ) → x < p.shape.n → asked x ≡ true → holder first_views x ≡ true
-  pub all : (phase ≡ Opening → ⊥) ⊎ (8 ≤ rank step) → (x : ℕ) → x < p.shape.n → holder first_views x ≡ true
+  pub looked : part ≡ Opening → step ≡ Looks → (x : ℕ) → x < p.shape.n → asked x ≡ true → holder first_views x ≡ true
+  pub all : (part ≡ Opening → ⊥) ⊎ (8 ≤ rank step) → (x : ℕ) → x < p.shape.n → holder first_views x ≡ true
 
 -- so it is in a heal that began with every brick having the object
-pub record Looked (p : Plan) (older : Seq Line) (w : Lines) (step : Step) (phase : Phase) (asked : ℕ → Bool) (first_views : ℕ → Option View) (object : ℕ) : Type 0 where
-  pub unbegun : phase ≡ Opening → rank step ≤ 6 → begun_after w ≡ None
-  pub begun : (phase ≡ Opening → ⊥) ⊎ (7 ≤ rank step) → begun_after w ≡ None → ⊥
-  pub shown : (first : Seq Line) → begun_after w ≡ Some first → IsEverywhere p first (gfid object) → Shown p older step phase asked first_views object
+pub record Looked (p : Plan) (older : Seq Line) (w : Lines) (step : Step) (part : HealPart) (asked : ℕ → Bool) (first_views : ℕ → Option View) (object : ℕ) : Type 0 where
+  pub unbegun : part ≡ Opening → rank step ≤ 6 → begun_after w ≡ None
+  pub begun : (part ≡ Opening → ⊥) ⊎ (7 ≤ rank step) → begun_after w ≡ None → ⊥
+  pub shown : (first : Seq Line) → begun_after w ≡ Some first → IsEverywhere p first (gfid object) → Shown p older step part asked first_views object
 
 -- the same of a register
 abbrev pub LookedIn : Plan → Seq Line → Lines → Exact → Register → Type 0
-LookedIn p older w r law = Looked p older w r.step r.phase r.asked r.first_views law.object
+LookedIn p older w r law = Looked p older w r.step r.part r.asked r.first_views law.object
 
 or_none : (o : Option (Seq Line)) → or_log o None ≡ o
 or_none None = refl
@@ -64,13 +64,13 @@ no_first o first e k = cc (sym e ∙ k)
 
 module _ (p : Plan) (keeps : ℕ → Kind → Bool) (older : Seq Line) (w : Lines) (r : Exact) (locks : LockedIn p.shape.n r r.law) where
   -- once the looks are over they have shown all
-  pub looked_all : (s : ℕ) → looks_over p.shape.n keeps r s ≡ true → Shown p older r.step r.phase r.asked r.first_views r.law.object → (x : ℕ) → x < p.shape.n → holder r.first_views x ≡ true
-  looked_all s e h x low = elim (opening_or r.phase) [
+  pub looked_all : (s : ℕ) → looks_over p.shape.n keeps r s ≡ true → Shown p older r.step r.part r.asked r.first_views r.law.object → (x : ℕ) → x < p.shape.n → holder r.first_views x ≡ true
+  looked_all s e h x low = elim (opening_or r.part) [
     | inr later ↦ h.all (inl later) x low
     | inl first ↦ elim (cases_lt 7 (rank r.step)) [
       | inl far ↦ h.all (inr (omega (arith, far))) x low
       | inr near ↦ (
-          let set : over p.shape.n (looks_at r Opening) (asked_in r Looks) ≡ true = subst (λ (q : Phase). over p.shape.n (looks_at r q) (asked_in r Looks) ≡ true) first (passed_over p.shape.n keeps r s Looks (looks_passed p.shape.n keeps r s e) near) in
+          let set : over p.shape.n (looks_at r Opening) (asked_in r Looks) ≡ true = subst (λ (q : HealPart). over p.shape.n (looks_at r q) (asked_in r Looks) ≡ true) first (passed_over p.shape.n keeps r s Looks (looks_passed p.shape.n keeps r s e) near) in
           let w = asked_is r Looks x (over_at p.shape.n (looks_at r Opening) (asked_in r Looks) set x low (locks.under first (looks_far p.shape.n keeps r s e) (omega (arith, near)) x low)) in
           h.looked first (looks_is r.step w.0) x low w.1
           )
@@ -90,14 +90,14 @@ module _ (p : Plan) (keeps : ℕ → Kind → Bool) (older : Seq Line) (w : Line
     abbrev pub LookedAfter : Request → Told → Type 0
     LookedAfter request told = LookedIn p (line ∷ older) Works (left_in_heal p.shape.n r t b request told) (weak.dropping (is_gone told) b (weak.note_ask p.shape.n r.law b request told))
 
-    abbrev LookedOn : Step → Phase → (ℕ → Bool) → (ℕ → Option View) → ℕ → Type 0
-    LookedOn step phase asks views object = Looked p (line ∷ older) Works step phase asks views object
+    abbrev LookedOn : Step → HealPart → (ℕ → Bool) → (ℕ → Option View) → ℕ → Type 0
+    LookedOn step part asks views object = Looked p (line ∷ older) Works step part asks views object
 
-    moved : (step : Step) (phase : Phase) (asks : ℕ → Bool) (views : ℕ → Option View) (object : ℕ) → object ≡ r.law.object → LookedOn step phase asks views r.law.object → LookedOn step phase asks views object
-    moved step phase asks views object e = subst (λ o. LookedOn step phase asks views o) (sym e)
+    moved : (step : Step) (part : HealPart) (asks : ℕ → Bool) (views : ℕ → Option View) (object : ℕ) → object ≡ r.law.object → LookedOn step part asks views r.law.object → LookedOn step part asks views object
+    moved step part asks views object e = subst (λ o. LookedOn step part asks views o) (sym e)
 
     -- a step after the looks
-    far_on : (next : Step) (asks : ℕ → Bool) (s : ℕ) → looks_over p.shape.n keeps r s ≡ true → 8 ≤ rank next → LookedOn next r.phase asks r.first_views r.law.object
+    far_on : (next : Step) (asks : ℕ → Bool) (s : ℕ) → looks_over p.shape.n keeps r s ≡ true → 8 ≤ rank next → LookedOn next r.part asks r.first_views r.law.object
     far_on next asks s e far = record {
       unbegun = λ f low. absurd (omega (arith, low, far));
       begun = λ m k. h.begun (inr (looks_far p.shape.n keeps r s e)) (sym same_begun ∙ k);
@@ -109,7 +109,7 @@ module _ (p : Plan) (keeps : ℕ → Kind → Bool) (older : Seq Line) (w : Line
     }
 
     -- a step before the first looks
-    early_on : (next : Step) (asks : ℕ → Bool) (object : ℕ) → r.phase ≡ Opening → rank r.step ≤ 6 → rank next ≤ 6 → LookedOn next r.phase asks r.first_views object
+    early_on : (next : Step) (asks : ℕ → Bool) (object : ℕ) → r.part ≡ Opening → rank r.step ≤ 6 → rank next ≤ 6 → LookedOn next r.part asks r.first_views object
     early_on next asks object f low up = record {
       unbegun = λ m k. same_begun ∙ h.unbegun f low;
       begun = λ m. elim m [ inl later ↦ absurd (later f) | inr far ↦ absurd (omega (arith, far, up)) ];
@@ -117,8 +117,8 @@ module _ (p : Plan) (keeps : ℕ → Kind → Bool) (older : Seq Line) (w : Line
     }
 
     -- a Work lock of a later part
-    lock_on : (asks : ℕ → Bool) (phase : Phase) → (phase ≡ Opening → ⊥) → ((r.phase ≡ Opening → ⊥) ⊎ (8 ≤ rank r.step)) → LookedOn WorkLocks phase asks r.first_views r.law.object
-    lock_on asks phase later far = record {
+    lock_on : (asks : ℕ → Bool) (part : HealPart) → (part ≡ Opening → ⊥) → ((r.part ≡ Opening → ⊥) ⊎ (8 ≤ rank r.step)) → LookedOn WorkLocks part asks r.first_views r.law.object
+    lock_on asks part later far = record {
       unbegun = λ m k. absurd (later m);
       begun = λ m k. h.begun (elim far [ inl l ↦ inl l | inr l ↦ inr (omega (arith, l)) ]) (sym same_begun ∙ k);
       shown = λ first k every. (let g = h.shown first (sym same_begun ∙ k) every in record {
@@ -134,26 +134,26 @@ module _ (p : Plan) (keeps : ℕ → Kind → Bool) (older : Seq Line) (w : Line
         asks : ℕ → Bool
         asks = (left_in_heal p.shape.n r t b (Lock Work area) told).asked
 
-        near : rank r.step ≤ 6 → next_phase r area ≡ r.phase → LookedOn WorkLocks (next_phase r area) asks r.first_views r.law.object
-        near low same = elim (opening_or r.phase) [
+        near : rank r.step ≤ 6 → next_part r area ≡ r.part → LookedOn WorkLocks (next_part r area) asks r.first_views r.law.object
+        near low same = elim (opening_or r.part) [
           | inl f ↦ subst (λ q. LookedOn WorkLocks q asks r.first_views r.law.object) (sym same) (early_on WorkLocks asks r.law.object f low (omega arith))
-          | inr later ↦ lock_on asks (next_phase r area) (λ k. later (sym same ∙ k)) (inl later)
+          | inr later ↦ lock_on asks (next_part r area) (λ k. later (sym same ∙ k)) (inl later)
         ]
 
-        go : WorkPlace p.shape.n keeps r s b area → LookedOn WorkLocks (next_phase r area) asks r.first_views r.law.object
+        go : WorkPlace p.shape.n keeps r s b area → LookedOn WorkLocks (next_part r area) asks r.first_views r.law.object
         go (Waits at same own lock fresh) = (let six : rank r.step ≡ 6 = ap rank at in near (omega (arith, six)) same)
         go (Starts five same lock) = near (omega (arith, five)) same
-        go (Resumes twelve same idle bytes unfinished lock next) = lock_on asks (next_phase r area) (λ k. next_not_opening _ (sym same ∙ k)) (inr (omega (arith, twelve)))
+        go (Resumes twelve same idle bytes unfinished lock next) = lock_on asks (next_part r area) (λ k. next_not_opening _ (sym same ∙ k)) (inr (omega (arith, twelve)))
 
     -- a look
-    look_seen : (g : Gfid) (view : View) → rank r.step ≡ 7 → LookedOn Looks r.phase (with (asked_in r Looks) b) (if is_opening r.phase then put r.first_views b (Some view) else r.first_views) r.law.object
+    look_seen : (g : Gfid) (view : View) → rank r.step ≡ 7 → LookedOn Looks r.part (with (asked_in r Looks) b) (if is_opening r.part then put r.first_views b (Some view) else r.first_views) r.law.object
     look_seen g view at = record {
       unbegun = λ f low. absurd (omega (arith, low));
       begun = λ m k. h.begun (inr (omega (arith, at))) (sym same_begun ∙ k);
       shown = λ first k every. (let q = h.shown first (sym same_begun ∙ k) every in record {
         everywhere = stays r.law.object q.everywhere;
         looked = λ f m x low asks. (
-            let op : is_opening r.phase ≡ true = ap is_opening f in
+            let op : is_opening r.part ≡ true = ap is_opening f in
             rw op (elim (here_or b x) [
               | inl here ↦ subst (λ y. holder (put r.first_views b (Some view)) y ≡ true) (sym here) (rw (put_same r.first_views b (Some view)) refl)
               | inr other ↦ elim (with_cases (asked_in r Looks) b x asks) [
@@ -163,16 +163,16 @@ module _ (p : Plan) (keeps : ℕ → Kind → Bool) (older : Seq Line) (w : Line
             ])
             );
         all = λ m x low. elim m [
-          | inl later ↦ kept (is_opening r.phase) refl later x (q.all (inl later) x low)
+          | inl later ↦ kept (is_opening r.part) refl later x (q.all (inl later) x low)
           | inr far ↦ absurd (omega (arith, far))
         ];
       });
     }
       where
-        kept : (op : Bool) → is_opening r.phase ≡ op → (r.phase ≡ Opening → ⊥) → (x : ℕ) → holder r.first_views x ≡ true → holder (if op then put r.first_views b (Some view) else r.first_views) x ≡ true
-        kept true e later x k = absurd (later (is r.phase e))
+        kept : (op : Bool) → is_opening r.part ≡ op → (r.part ≡ Opening → ⊥) → (x : ℕ) → holder r.first_views x ≡ true → holder (if op then put r.first_views b (Some view) else r.first_views) x ≡ true
+        kept true e later x k = absurd (later (is r.part e))
           where
-            is : (q : Phase) → is_opening q ≡ true → q ≡ Opening
+            is : (q : HealPart) → is_opening q ≡ true → q ≡ Opening
             is Opening m = refl
             is q m = absurd (true≢false (sym m))
         kept false e later x k = k
@@ -220,7 +220,7 @@ module _ (p : Plan) (keeps : ℕ → Kind → Bool) (older : Seq Line) (w : Line
 
 -- a HealBegin line
 pub looked_begun : (p : Plan) (older : Seq Line) (w : Lines) (r : Exact) (asks : ℕ → Bool) (line : Line) → if_begin line older ≡ Some older → rank r.step ≡ 6 → LookedIn p older w r r.law
-    → ((x : ℕ) → asks x ≡ false) → Looked p (line ∷ older) ((line, older) ∷ w) Looks r.phase asks r.first_views r.law.object
+    → ((x : ℕ) → asks x ≡ false) → Looked p (line ∷ older) ((line, older) ∷ w) Looks r.part asks r.first_views r.law.object
 looked_begun p older w r asks line begins at h none = record {
   unbegun = λ f low. absurd (omega (arith, low));
   begun = λ m k. some (begun_after w) k;
@@ -231,7 +231,7 @@ looked_begun p older w r asks line begins at h none = record {
     some None k = cc (sym begins ∙ k)
     some (Some l) k = cc k
 
-    go : (o : Option (Seq Line)) → begun_after w ≡ o → (first : Seq Line) → or_log o (if_begin line older) ≡ Some first → IsEverywhere p first (gfid r.law.object) → Shown p (line ∷ older) Looks r.phase asks r.first_views r.law.object
+    go : (o : Option (Seq Line)) → begun_after w ≡ o → (first : Seq Line) → or_log o (if_begin line older) ≡ Some first → IsEverywhere p first (gfid r.law.object) → Shown p (line ∷ older) Looks r.part asks r.first_views r.law.object
     go None e first k every = record {
       everywhere = λ x low. copy_stays p line older x (gfid r.law.object) (subst (λ l. IsEverywhere p l (gfid r.law.object)) (let same : first ≡ older = cc (sym begins ∙ k) in same) every x low);
       looked = λ f m x low asked. absurd (true≢false (sym asked ∙ none x));

@@ -63,13 +63,13 @@ pub record Whole (p : Plan) (a : ℕ) (older : Seq Line) (r : Exact) : Type 0 wh
   pub locks : LockedIn p.shape.n r r.law
   pub looks : LookedIn p older (heal_by (work a older)) r r.law
   pub counts : CountedIn p older r r.law
-  pub due : IsDueFor p (work a older) r.step r.phase r.law.kind r.law.object
+  pub due : IsDueFor p (work a older) r.step r.part r.law.kind r.law.object
   pub level : LevelIn p (kept_by p) older r r.law
 
 -- of a healer's register: whole heals as above, settled bricks in them alone, and no lines of a heal where it is untouched
 pub record Round (p : Plan) (a : ℕ) (older : Seq Line) (r : Exact) : Type 0 where
   pub still : r.step ≡ Untouched → heal_by (work a older) ≡ []
-  pub ended : r.law.heal ≡ true → HasEnded (heal_by (work a older)) r.broken r.step r.phase r.law.kind
+  pub ended : r.law.heal ≡ true → HasEnded (heal_by (work a older)) r.broken r.step r.part r.law.kind
   pub whole : r.law.heal ≡ true → r.broken ≡ false → Whole p a older r
 
 -- where no line of a work is yet
@@ -145,8 +145,8 @@ module _ (p : Plan) (L : Log) (moves : MovesExactly p.shape.n (kept_by p) L) (ho
         old : Whole p a older r
         old = h.whole m.inside m.whole
 
-        ends : HasEnded (heal_by (work a (line ∷ older))) after.broken after.step after.phase after.law.kind
-        ends = subst (λ w. HasEnded w after.broken after.step after.phase after.law.kind) (sym own_heal)
+        ends : HasEnded (heal_by (work a (line ∷ older))) after.broken after.step after.part after.law.kind
+        ends = subst (λ w. HasEnded w after.broken after.step after.part after.law.kind) (sym own_heal)
             (ended_asked p keeps older r t m.source m.whole m.inside (stage_now n keeps L moves t a) x y took (heal_by (work a older)) (h.ended m.inside) request told m.allowed hear.0 after.broken refl)
 
         wholly : breaks r request told ≡ false → Whole p a (line ∷ older) after
@@ -154,7 +154,7 @@ module _ (p : Plan) (L : Log) (moves : MovesExactly p.shape.n (kept_by p) L) (ho
           locks = locked_asked p older n keeps r t y.0 below old.locks request told m.source m.allowed un hear.0;
           looks = subst (λ w. LookedIn p (line ∷ older) w after after.law) (sym own_heal) (looked_asked p keeps older (heal_by (work a older)) r old.locks (stage_now n keeps L moves t a) t y.0 below m.inside old.looks line refl request told m.source m.allowed un hear.0);
           counts = counted_request p keeps q.five older (sums p older (shorter p line older q)) L t a r (tally_at L t a) m.source m.possible (stage_now n keeps L moves t a) m.inside (areas_now n keeps L moves t a m.inside m.whole) (holds_now n keeps L moves t a m.inside m.whole) (sights_now n keeps L honest moves t a m.inside m.whole) (raises_now n keeps L honest moves t a m.inside m.whole) old.counts x y took hear.1 below request told m.allowed un hear.0;
-          due = subst (λ w. IsDueFor p w after.step after.phase after.law.kind after.law.object) (sym own) (due_asked p keeps older r t m.source m.whole m.inside (stage_now n keeps L moves t a) x y took (work a older) old.due request told m.allowed hear.0);
+          due = subst (λ w. IsDueFor p w after.step after.part after.law.kind after.law.object) (sym own) (due_asked p keeps older r t m.source m.whole m.inside (stage_now n keeps L moves t a) x y took (work a older) old.due request told m.allowed hear.0);
           level = level_asked p keeps older L t a r m.source (stage_now n keeps L moves t a) m.inside (areas_now n keeps L moves t a m.inside m.whole) (firsts_now n keeps L moves t a).0 (sights_now n keeps L honest moves t a m.inside m.whole) old.level x y took request told m.allowed hear.0;
         }
 
@@ -162,7 +162,7 @@ module _ (p : Plan) (L : Log) (moves : MovesExactly p.shape.n (kept_by p) L) (ho
     unlocks : r.law.heal ≡ true → r.broken ≡ true → is_border line ≡ false → (same : (w : Lines) → among settled_at ((line, older) ∷ w) ≡ among settled_at w) → (after.step ≡ Untouched → ⊥) → Round p a (line ∷ older) after
     unlocks inside broken border same some = record {
       still = λ e. absurd (some e);
-      ended = λ on. subst (λ w. HasEnded w after.broken after.step after.phase after.law.kind) (sym (ap heal_by (work_own a line older calm) ∙ heal_own line older (work a older) border))
+      ended = λ on. subst (λ w. HasEnded w after.broken after.step after.part after.law.kind) (sym (ap heal_by (work_own a line older calm) ∙ heal_own line older (work a older) border))
           (λ z m. absurd (true≢false (sym broken ∙ (h.ended inside z (subst (λ (l : Seq ℕ). member l z ≡ true) (same (heal_by (work a older))) m)).0)));
       whole = λ on w. absurd (true≢false (sym broken ∙ (or_parts _ _ (or_parts _ _ w).0).0));
     }
@@ -278,24 +278,24 @@ module _ (p : Plan) (L : Log) (moves : MovesExactly p.shape.n (kept_by p) L) (ho
     old_whole : Whole p a older r
     old_whole = h.whole may.inside may.whole
 
-    begin_counts : Counted p (begin ∷ older) Looks r.phase empty r.first_views kind r.law.object r.law.first r.law.raised r.law.settled
-    begin_counts = elim (opening_or r.phase) [
+    begin_counts : Counted p (begin ∷ older) Looks r.part empty r.first_views kind r.law.object r.law.first r.law.raised r.law.settled
+    begin_counts = elim (opening_or r.part) [
       | inl first ↦ record {
         fresh = λ z v e u. absurd (cc (sym e ∙ (sights_now n keeps L honest moves t a may.inside may.whole).none first (omega (arith, six)) z));
         clear = λ z e every. absurd (let far : 11 ≤ rank r.step = ((holds_now n keeps L moves t a may.inside may.whole).settled z e).1 in omega (arith, far, six));
         settling = λ m. absurd (cc m);
         over = λ m. absurd (omega (arith, m));
       }
-      | inr later ↦ subst (λ c. Counted p (begin ∷ older) Looks r.phase empty r.first_views c r.law.object r.law.first r.law.raised r.law.settled) (sym (may.later later)) (plain_on p older begin (λ x g kind. refl) (λ x c g kind. refl) r Looks r.phase empty (λ m. cc m) (omega arith) old_whole.counts)
+      | inr later ↦ subst (λ c. Counted p (begin ∷ older) Looks r.part empty r.first_views c r.law.object r.law.first r.law.raised r.law.settled) (sym (may.later later)) (plain_on p older begin (λ x g kind. refl) (λ x c g kind. refl) r Looks r.part empty (λ m. cc m) (omega arith) old_whole.counts)
     ]
 
     pub round_begun : Round p a (begin ∷ older) (note n keeps r t (Some begin))
     round_begun = record {
       still = λ e. absurd (cc e);
-      ended = λ on. subst (λ w. HasEnded w r.broken Looks r.phase kind) (sym own_heal_begin) (λ z m. absurd (let far : 11 ≤ rank r.step = (h.ended may.inside z m).1 in omega (arith, far, six)));
+      ended = λ on. subst (λ w. HasEnded w r.broken Looks r.part kind) (sym own_heal_begin) (λ z m. absurd (let far : 11 ≤ rank r.step = (h.ended may.inside z m).1 in omega (arith, far, six)));
       whole = λ on w. record {
         locks = locked_begun n r g.0 kind empty may old_whole.locks;
-        looks = subst (λ w. Looked p (begin ∷ older) w Looks r.phase empty r.first_views r.law.object) (sym own_heal_begin) (looked_begun p older (heal_by (work a older)) r empty begin refl six old_whole.looks (λ z. refl));
+        looks = subst (λ w. Looked p (begin ∷ older) w Looks r.part empty r.first_views r.law.object) (sym own_heal_begin) (looked_begun p older (heal_by (work a older)) r empty begin refl six old_whole.looks (λ z. refl));
         counts = begin_counts;
         due = λ f. subst (λ w. heal_due p w ≡ Some (gfid r.law.object, kind)) (sym own_begin) (begin_due x g kind (eqb-true x.0 a calm.mine) (q.follows.0).1 ∙ (λ i. Some (gfid_is g (gfid r.law.object) may.object i, kind)));
         level = record { seen = λ f k z v e. absurd (cc e); level = λ f k. absurd (omega (arith, k)) };

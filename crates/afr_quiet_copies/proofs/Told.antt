@@ -18,7 +18,7 @@ use Rattle.afr_object.specs.Repairs.{repaired}
 use Rattle.afr_object.specs.Tables.{copy_at, view_of}
 use Rattle.afr_object.specs.Object.{Object}
 use Rattle.afr_plan.specs.declared.plan.Plan.{Plan}
-use Rattle.afr_model.specs.Honest.{IsHonest, Outcome, over_session, is_live, fault_in, requests_to, tells, copy_answer, lock_answer, in_the_way}
+use Rattle.afr_model.specs.Honest.{IsHonest, RequestOutcome, over_session, is_live, fault_in, requests_to, tells, copy_answer, lock_answer, in_the_way}
 use Rattle.afr_model.specs.Showing.{is_fault}
 use Rattle.afr_model.specs.Sums.{has_object}
 use Rattle.afr_model.specs.Tables.{holds}
@@ -99,11 +99,11 @@ module _ (p : Plan) (older : List Line) (b : ℕ) where
   answered a request.Index = tt
 
 -- without a fault the line tells just that
-told_fine : (told said : Told) (took live : Bool) (fault : Option Fault) → Path Outcome (record { told = told; took = took }) (over_session live fault said) → is_fault told ≡ false → (told ≡ said) × (took ≡ true)
-told_fine told said took false fault h fine = absurd (true≢false (sym (ap (λ (o : Outcome). is_fault o.told) h) ∙ fine))
-told_fine told said took true (Some Fail) h fine = absurd (true≢false (sym (ap (λ (o : Outcome). is_fault o.told) h) ∙ fine))
-told_fine told said took true (Some Lost) h fine = absurd (true≢false (sym (ap (λ (o : Outcome). is_fault o.told) h) ∙ fine))
-told_fine told said took true None h fine = (ap (λ (o : Outcome). o.told) h, ap (λ (o : Outcome). o.took) h)
+told_fine : (told said : Told) (took live : Bool) (fault : Option Fault) → Path RequestOutcome (record { told = told; took = took }) (over_session live fault said) → is_fault told ≡ false → (told ≡ said) × (took ≡ true)
+told_fine told said took false fault h fine = absurd (true≢false (sym (ap (λ (o : RequestOutcome). is_fault o.told) h) ∙ fine))
+told_fine told said took true (Some Fail) h fine = absurd (true≢false (sym (ap (λ (o : RequestOutcome). is_fault o.told) h) ∙ fine))
+told_fine told said took true (Some Lost) h fine = absurd (true≢false (sym (ap (λ (o : RequestOutcome). is_fault o.told) h) ∙ fine))
+told_fine told said took true None h fine = (ap (λ (o : RequestOutcome). o.told) h, ap (λ (o : RequestOutcome). o.took) h)
 
 pub hears : (p : Plan) (a : ActorId) (b : BrickId) (asked : Request) (told : Told) (took : Bool) (older : List Line) → IsHonest p (Ask a b asked told took) older → is_fault told ≡ false → Hears p older b.0 asked told × (took ≡ true)
 hears p a b asked told took older h fine = (

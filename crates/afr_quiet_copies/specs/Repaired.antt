@@ -12,12 +12,12 @@ use Rattle.afr_model.specs.Healing.{heal_by}
 use Rattle.afr_model.specs.Honest.{Honest}
 use Rattle.afr_model.specs.Quiet.{IsQuiet}
 use Rattle.afr_model.specs.Replied.{Replied}
-use Rattle.afr_quiet.specs.Undisturbed.{EachHeal, IsKept}
+use Rattle.afr_quiet.specs.Undisturbed.{EachHeal, EndsRepaired}
 use Rattle.afr_law.specs.Exactly.{IsLawfulExactly}
 
 -- each settled heal of the round of healer a, whose end comes next, leaves its object repaired to the round's end
 abbrev pub IsRoundKept : Plan → ℕ → List Line → Type 0
-IsRoundKept p a older = EachHeal (λ g kind said before. IsKept p older g kind said (heal_by (work a before))) (work a older)
+IsRoundKept p a older = EachHeal (λ g kind said before. EndsRepaired p older g kind said (heal_by (work a before))) (work a older)
 
 -- so is the round that a line ends, where nothing disturbed it
 abbrev pub IsQuietKept : Plan → Line → List Line → Type 0

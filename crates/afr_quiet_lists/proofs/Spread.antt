@@ -120,7 +120,7 @@ module _ (n : ℕ) (files : Beginning) (faults : ℕ → ℕ → Option Fault) (
       let sights = sights_now n files.keeps log (honestly files faults log honest) exactly.moves t a m.inside m.whole in
       let on = pre_onward n files.keeps r m.source b g kind m.allowed in
       let same : g ≡ r.law.object = eqb-true g r.law.object (onward_object n files.keeps r m.source g kind on) in
-      let most : is_most n (holder r.first_views) ≡ true = elim (opening_or r.phase) [ inl first ↦ goes_enough n files.keeps r m.source (onward_goes n files.keeps r m.source g kind on) first | inr later ↦ sights.enough (inl later) ] in
+      let most : is_most n (holder r.first_views) ≡ true = elim (opening_or r.part) [ inl first ↦ goes_enough n files.keeps r m.source (onward_goes n files.keeps r m.source g kind on) first | inr later ↦ sights.enough (inl later) ] in
       most_more n (holder r.first_views) (λ x. holds files log t x g)
       (λ x low h. (let v = held_view r.first_views x h in let look = sights.origin x v.0 v.1 in
       still_there files faults log honest look.l t a x g look.view look.past (look.is ∙ ap (λ (o : ℕ). Some (ask_by a x (look_at o) (Seen look.view) true)) (sym same))))

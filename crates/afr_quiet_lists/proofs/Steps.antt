@@ -19,9 +19,9 @@ use Rattle.afr_lines.specs.declared.request.Request.TheVariants.{Index, Lock}
 use Rattle.afr_lines.specs.declared.lock.Domain.TheVariants.{Heal}
 use Rattle.afr_plan.specs.declared.plan.Plan.{Plan}
 use Rattle.afr_model.specs.HealReplies.{IsHealing}
-use Rattle.afr_model.specs.Honest.{IsHonest, fault_in, is_live, over_session, requests_to, tells, Outcome}
+use Rattle.afr_model.specs.Honest.{IsHonest, RequestOutcome, fault_in, is_live, over_session, requests_to, tells}
 use Rattle.afr_model.specs.Quiet.{tells_any_fault}
-use Rattle.afr_model.specs.Rounds.{IsHealed, IsOfHeal, KeepsToRound, heal_due, healed, heals_of, listed_after, listed_by, plus_healed}
+use Rattle.afr_model.specs.Rounds.{IsHealed, IsOfHeal, KeepsToRound, heal_due, heals_ended, heals_of, listed_after, listed_by, plus_healed}
 use Rattle.afr_model.specs.Showing.{is_fault}
 use Rattle.afr_model.specs.Tables.{holds}
 use Rattle.afr_quiet.specs.Undisturbed.{ended_heals, ends_one}
@@ -53,10 +53,10 @@ Goes p b (line ∷ ls) base = Step p b line (works ls base) (ls ++ base) × Goes
 
 -- ---- what was told without a fault
 told_well : (live : Bool) (fault : Option Fault) (said told : Told) (took : Bool) → (record { told = told; took = took }) ≡ over_session live fault said → is_fault told ≡ false → (told ≡ said) × (took ≡ true)
-told_well false fault said told took e ok = absurd (true≢false (sym (ap is_fault (ap (λ (o : Outcome). o.told) e)) ∙ ok))
-told_well true (Some Fail) said told took e ok = absurd (true≢false (sym (ap is_fault (ap (λ (o : Outcome). o.told) e)) ∙ ok))
-told_well true (Some Lost) said told took e ok = absurd (true≢false (sym (ap is_fault (ap (λ (o : Outcome). o.told) e)) ∙ ok))
-told_well true None said told took e ok = (ap (λ (o : Outcome). o.told) e, ap (λ (o : Outcome). o.took) e)
+told_well false fault said told took e ok = absurd (true≢false (sym (ap is_fault (ap (λ (o : RequestOutcome). o.told) e)) ∙ ok))
+told_well true (Some Fail) said told took e ok = absurd (true≢false (sym (ap is_fault (ap (λ (o : RequestOutcome). o.told) e)) ∙ ok))
+told_well true (Some Lost) said told took e ok = absurd (true≢false (sym (ap is_fault (ap (λ (o : RequestOutcome). o.told) e)) ∙ ok))
+told_well true None said told took e ok = (ap (λ (o : RequestOutcome). o.told) e, ap (λ (o : RequestOutcome). o.took) e)
 
 pub answered : (p : Plan) (a : ActorId) (y : BrickId) (r : Request) (told : Told) (took : Bool) (older : List Line) → IsHonest p (Ask a y r told took) older → is_fault told ≡ false → (told ≡ tells a r y.0 (holds p older y.0) older) × (took ≡ true)
 answered p a y r told took older h ok =
@@ -106,22 +106,22 @@ module _ (p : Plan) (b : BrickId) (base : List Line) where
   heals_here = heals_of (index_of (holds p base b.0))
 
   -- the heal that is due is the next of the list
-  pub due_here : (ls : List Line) → Goes p b ls base → (x : Gfid × Kind) → heal_due p (works ls base) ≡ Some x → slice_get heals_here (healed (works ls base)) ≡ Some x
+  pub due_here : (ls : List Line) → Goes p b ls base → (x : Gfid × Kind) → heal_due p (works ls base) ≡ Some x → slice_get heals_here (heals_ended (works ls base)) ≡ Some x
   due_here [] g x e = absurd (cc e)
-  due_here (line ∷ ls) g x e = subst (λ (l : List (Gfid × What)). slice_get (heals_of l) (healed (works (line ∷ ls) base)) ≡ Some x) (listed_is p b line ls base g) e
+  due_here (line ∷ ls) g x e = subst (λ (l : List (Gfid × What)). slice_get (heals_of l) (heals_ended (works (line ∷ ls) base)) ≡ Some x) (listed_is p b line ls base g) e
 
-  pub ended_take : (ls : List Line) → Goes p b ls base → ended_heals (works ls base) ≡ take (healed (works ls base)) heals_here
+  pub ended_take : (ls : List Line) → Goes p b ls base → ended_heals (works ls base) ≡ take (heals_ended (works ls base)) heals_here
   ended_take [] g = refl
   ended_take (line ∷ ls) g = go line g.0 (ended_take ls g.1)
     where
       w : Work
       w = works ls base
 
-      other : ended_heals w ≡ take (healed w) heals_here → ended_heals w ++ [] ≡ take (healed w) heals_here
+      other : ended_heals w ≡ take (heals_ended w) heals_here → ended_heals w ++ [] ≡ take (heals_ended w) heals_here
       other e = append-nil (ended_heals w) ∙ e
 
-      go : (line : Line) → Step p b line w (ls ++ base) → ended_heals w ≡ take (healed w) heals_here → ended_heals w ++ ends_one line ≡ take (plus_healed line (healed w)) heals_here
-      go (HealEnd a h kind said) s e = ap (λ (l : List (Gfid × Kind)). l ++ (h, kind) ∷ []) e ∙ take_one heals_here (healed w) (h, kind) (due_here ls g.1 (h, kind) s.keeps)
+      go : (line : Line) → Step p b line w (ls ++ base) → ended_heals w ≡ take (heals_ended w) heals_here → ended_heals w ++ ends_one line ≡ take (plus_healed line (heals_ended w)) heals_here
+      go (HealEnd a h kind said) s e = ap (λ (l : List (Gfid × Kind)). l ++ (h, kind) ∷ []) e ∙ take_one heals_here (heals_ended w) (h, kind) (due_here ls g.1 (h, kind) s.keeps)
       go (Ask a y r told took) s e = other e
       go (Begin a change) s e = other e
       go (HealBegin a h kind) s e = other e
@@ -133,5 +133,5 @@ module _ (p : Plan) (b : BrickId) (base : List Line) where
   all_ended line ls g none =
       let same = listed_is p b line ls base g in
       ended_take (line ∷ ls) g
-      ∙ take_whole heals_here (healed (works (line ∷ ls) base)) (subst (λ (l : List (Gfid × What)). slice_get (heals_of l) (healed (works (line ∷ ls) base)) ≡ None) same none)
+      ∙ take_whole heals_here (heals_ended (works (line ∷ ls) base)) (subst (λ (l : List (Gfid × What)). slice_get (heals_of l) (heals_ended (works (line ∷ ls) base)) ≡ None) same none)
       ∙ ap heals_of (sym same)

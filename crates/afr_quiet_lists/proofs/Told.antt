@@ -37,12 +37,12 @@ use Rattle.afr_quiet_lists.proofs.Runs.{works}
 use Rattle.afr_quiet_lists.proofs.Tails.{each_tail, most_more, none_far, stays_more}
 
 -- how the reply of a heal comes about
-data Outcome (clean none : Bool) (views : List (Option View)) (said : HealReply) : Type 0 where
-  Clean : clean ≡ true → said ≡ healed.Nothing → Outcome clean none views said
-  Bad : clean ≡ false → none ≡ true → said ≡ healed.Split views → Outcome clean none views said
-  Settled : clean ≡ false → none ≡ false → said ≡ healed.Settled → Outcome clean none views said
-  Fails : clean ≡ false → none ≡ false → said ≡ healed.Failed → Outcome clean none views said
-  Moved : clean ≡ false → none ≡ false → (x : BrickId) → said ≡ healed.Moved x → Outcome clean none views said
+data RoundOutcome (clean none : Bool) (views : List (Option View)) (said : HealReply) : Type 0 where
+  Clean : clean ≡ true → said ≡ healed.Nothing → RoundOutcome clean none views said
+  Bad : clean ≡ false → none ≡ true → said ≡ healed.Split views → RoundOutcome clean none views said
+  Settled : clean ≡ false → none ≡ false → said ≡ healed.Settled → RoundOutcome clean none views said
+  Fails : clean ≡ false → none ≡ false → said ≡ healed.Failed → RoundOutcome clean none views said
+  Moved : clean ≡ false → none ≡ false → (x : BrickId) → said ≡ healed.Moved x → RoundOutcome clean none views said
 
 -- the reply where nobody else is at the heal
 abbrev ends_with : Bool → Bool → Bool → Bool → Bool → List (Option View) → Option ℕ → Option HealReply
@@ -53,7 +53,7 @@ ends_with some most clean none settled views moved =
 some_is : (x y : HealReply) → Some x ≡ Some y → y ≡ x
 some_is x y e = cc e
 
-outcome : (some most clean none settled : Bool) (views : List (Option View)) (moved : Option ℕ) (said : HealReply) → some ≡ true → most ≡ true → ends_with some most clean none settled views moved ≡ Some said → Outcome clean none views said
+outcome : (some most clean none settled : Bool) (views : List (Option View)) (moved : Option ℕ) (said : HealReply) → some ≡ true → most ≡ true → ends_with some most clean none settled views moved ≡ Some said → RoundOutcome clean none views said
 outcome false most clean none settled views moved said e f k = absurd (true≢false (sym e))
 outcome true false clean none settled views moved said e f k = absurd (true≢false (sym f))
 outcome true true true none settled views moved said e f k = Clean refl (some_is _ said k)
@@ -114,7 +114,7 @@ module _ (p : Plan) (g : Gfid) (kind : Kind) (some : 0 < p.shape.n) (small : p.s
   far x c high = none_far p begun.begun lawful_then x c g kind high
 
   abbrev Told : Type 0
-  Told = Outcome (is_clean kind s.looked) (is_nothing (good_copies p.shape s.looked kind)) s.looked.views said
+  Told = RoundOutcome (is_clean kind s.looked) (is_nothing (good_copies p.shape s.looked kind)) s.looked.views said
 
   told_so : Told
   told_so =

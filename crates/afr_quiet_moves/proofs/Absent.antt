@@ -27,7 +27,7 @@ use Rattle.afr_lines.specs.declared.line.Line.{Line}
 use Rattle.afr_lines.specs.declared.request.Request.{Request}
 use Rattle.afr_lines.specs.declared.request.Request.TheVariants.{Apply, Index, List as ListNames, Lock, Look, Mend, Post, Pre, ReadAttr, ReadAttrs, ReadBytes, ReadName, Settle, Unlock}
 use Rattle.afr_lines.specs.declared.lock.Domain.TheVariants.{Heal, Work}
-use Rattle.afr_model.specs.Honest.{IsHonest, Outcome, copy_answer, over_session}
+use Rattle.afr_model.specs.Honest.{IsHonest, RequestOutcome, copy_answer, over_session}
 use Rattle.afr_model.specs.Tables.{all_names_shown, attrs_shown, bytes_shown, held_before, holds, keeps_bytes}
 use Rattle.afr_moves.specs.Heal.{MayHeal}
 use Rattle.afr_moves.specs.Lines.{ask_by}
@@ -42,11 +42,11 @@ use Rattle.afr_quiet_moves.proofs.KeptAlong.{broken_stays, heal_same}
 
 -- a look that was told that there is no object found none
 pub unseen_copy : (live : Bool) (fault : Option Fault) (c : Option Object) (took : Bool) → (record { told = NoObject; took = took }) ≡ over_session live fault (told_by (copy_answer (λ o. answer.Seen (view_of_copy o)) c)) → c ≡ None
-unseen_copy false fault c took e = absurd (cc (ap (λ (q : Outcome). q.told) e))
-unseen_copy true (Some Fail) c took e = absurd (cc (ap (λ (q : Outcome). q.told) e))
-unseen_copy true (Some Lost) c took e = absurd (cc (ap (λ (q : Outcome). q.told) e))
+unseen_copy false fault c took e = absurd (cc (ap (λ (q : RequestOutcome). q.told) e))
+unseen_copy true (Some Fail) c took e = absurd (cc (ap (λ (q : RequestOutcome). q.told) e))
+unseen_copy true (Some Lost) c took e = absurd (cc (ap (λ (q : RequestOutcome). q.told) e))
 unseen_copy true None None took e = refl
-unseen_copy true None (Some o) took e = absurd (cc (ap (λ (q : Outcome). q.told) e))
+unseen_copy true None (Some o) took e = absurd (cc (ap (λ (q : RequestOutcome). q.told) e))
 
 module _ (p : Plan) (a : ℕ) where
   abbrev pub IsAbsent : List Line → ℕ → (ℕ → Bool) → (ℕ → Option View) → Type 0
@@ -85,7 +85,7 @@ module _ (p : Plan) (a : ℕ) where
   -- the first looks after a request
   absent_after : (older : List Line) (r : Exact) (b : ℕ) (request : Request) (told : Told) (took : Bool) → MayHeal p.shape.n (kept_by p) r b request → IsHonest p (ask_by a b request told took) older → IsAbsent older r.law.object r.first_reached r.first_views
       → (let l = left_in_heal p.shape.n r (length older) b request told in IsAbsent (ask_by a b request told took ∷ older) r.law.object l.first_reached l.first_views)
-  absent_after older r b (Look g) told took m honest k = go (is_opening r.phase)
+  absent_after older r b (Look g) told took m honest k = go (is_opening r.part)
     where
       none_told : (d : Told) → answers d ≡ true → view_of d ≡ None → d ≡ NoObject
       none_told NoObject e f = refl

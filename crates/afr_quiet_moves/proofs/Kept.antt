@@ -15,9 +15,9 @@ use Rattle.afr_lines.specs.declared.request.Request.TheVariants.{ReadBytes}
 use Rattle.afr_model.specs.Tables.{Past, bytes_shown, content_in, held_before}
 use Rattle.afr_moves.proofs.ByPosition.{older_at}
 use Rattle.afr_moves.proofs.Tests.{same_no}
-use Rattle.afr_moves.specs.Register.{Exact, Finish, Mends, Opening, Phase, Piece, Step, asked_in, good, holder, len_of, rank}
+use Rattle.afr_moves.specs.Register.{Exact, Finish, HealPart, Mends, Opening, Piece, Step, asked_in, good, holder, len_of, rank}
 use Rattle.afr_moves.specs.Rules.{is_none}
-use Rattle.afr_moves.specs.Steps.{mends_over, mends_at}
+use Rattle.afr_moves.specs.Steps.{mends_at, mends_over}
 use Rattle.afr_plan.specs.declared.plan.Plan.{Plan}
 use Rattle.afr_tables.specs.Codes.{kept_by}
 use Rattle.afr_law.proofs.Heals.Conditions.{asked_is, mends_passed, over_at, passed_over}
@@ -36,28 +36,28 @@ sink_apart p views s x k e = apart x s (and_right (holder views x) (not (x == s)
     apart x s h e = grind (arith, nat_tests)
 
 -- it is cut: the opening is over, or its Mends are, or it had its own
-abbrev pub IsCut : Step → Phase → (ℕ → Bool) → ℕ → Type 0
-IsCut step phase asked x = (phase ≡ Opening → ⊥) ⊎ ((11 ≤ rank step) ⊎ ((step ≡ Mends) × (asked x ≡ true)))
+abbrev pub IsCut : Step → HealPart → (ℕ → Bool) → ℕ → Type 0
+IsCut step part asked x = (part ≡ Opening → ⊥) ⊎ ((11 ≤ rank step) ⊎ ((step ≡ Mends) × (asked x ≡ true)))
 
 -- the read line at q showed what a source of this length has of the piece
 abbrev pub IsReadThere : Plan → List Line → ℕ → ℕ → ℕ → Type 0
 IsReadThere p log q upto len = (q < length log) × (length (bytes_shown (held_before p log) q (from_oldest q log)) ≡ min 131072 (len - upto))
 
-pub record Kept (p : Plan) (log : List Line) (g : ℕ) (step : Step) (phase : Phase) (asked possible : ℕ → Bool) (views : ℕ → Option View) (reads : ℕ → Option ℕ) (upto : ℕ) : Type 0 where
-  pub numbers : (phase ≡ Finish → rank step ≤ 10) → (x : ℕ) (v : View) → views x ≡ Some v → (o : Object) × (copy_of p log g x ≡ Some o) × (o.marks.bytes.pending ≡ v.marks.bytes.pending)
+pub record Kept (p : Plan) (log : List Line) (g : ℕ) (step : Step) (part : HealPart) (asked possible : ℕ → Bool) (views : ℕ → Option View) (reads : ℕ → Option ℕ) (upto : ℕ) : Type 0 where
+  pub numbers : (part ≡ Finish → rank step ≤ 10) → (x : ℕ) (v : View) → views x ≡ Some v → (o : Object) × (copy_of p log g x ≡ Some o) × (o.marks.bytes.pending ≡ v.marks.bytes.pending)
   pub source : (s : ℕ) (v : View) → possible s ≡ true → views s ≡ Some v → len_at p log g s ≡ v.len
-  pub cut : (s x : ℕ) → possible s ≡ true → Sink p views s x → IsCut step phase asked x → len_at p log g x ≤ len_of (views s)
-  pub filled : (phase ≡ Opening → ⊥) → (s x : ℕ) → possible s ≡ true → Sink p views s x → min upto (len_of (views s)) ≤ len_at p log g x
-  pub filling : phase ≡ Piece → step ≡ Mends → (s x : ℕ) → possible s ≡ true → Sink p views s x → asked x ≡ true → min (upto + 131072) (len_of (views s)) ≤ len_at p log g x
-  pub late : rank step ≡ 11 → phase ≡ Finish
-  pub zero : phase ≡ Opening → upto ≡ 0
-  pub ended : phase ≡ Finish → (s : ℕ) → possible s ≡ true → len_of (views s) ≤ upto
-  pub read : phase ≡ Piece → rank step ≤ 10 → 7 ≤ rank step → (s q : ℕ) → possible s ≡ true → reads s ≡ Some q → IsReadThere p log q upto (len_of (views s))
-  pub fit : (phase ≡ Opening → ⊥) ⊎ (12 ≤ rank step) → (s : ℕ) → possible s ≡ true → good p.shape.n (kept_by p) Bytes views s ≡ true
+  pub cut : (s x : ℕ) → possible s ≡ true → Sink p views s x → IsCut step part asked x → len_at p log g x ≤ len_of (views s)
+  pub filled : (part ≡ Opening → ⊥) → (s x : ℕ) → possible s ≡ true → Sink p views s x → min upto (len_of (views s)) ≤ len_at p log g x
+  pub filling : part ≡ Piece → step ≡ Mends → (s x : ℕ) → possible s ≡ true → Sink p views s x → asked x ≡ true → min (upto + 131072) (len_of (views s)) ≤ len_at p log g x
+  pub late : rank step ≡ 11 → part ≡ Finish
+  pub zero : part ≡ Opening → upto ≡ 0
+  pub ended : part ≡ Finish → (s : ℕ) → possible s ≡ true → len_of (views s) ≤ upto
+  pub read : part ≡ Piece → rank step ≤ 10 → 7 ≤ rank step → (s q : ℕ) → possible s ≡ true → reads s ≡ Some q → IsReadThere p log q upto (len_of (views s))
+  pub fit : (part ≡ Opening → ⊥) ⊎ (12 ≤ rank step) → (s : ℕ) → possible s ≡ true → good p.shape.n (kept_by p) Bytes views s ≡ true
 
 -- the same of a register
 abbrev pub KeptIn : Plan → List Line → Exact → Type 0
-KeptIn p log r = Kept p log r.law.object r.step r.phase r.asked r.possible r.first_views r.reads r.upto
+KeptIn p log r = Kept p log r.law.object r.step r.part r.asked r.possible r.first_views r.reads r.upto
 
 -- a read line shows later what it showed
 shown_same : (past now : Past) (q : ℕ) (line : Option Line) → ((b : ℕ) → now q b ≡ past q b) → length (bytes_shown now q line) ≡ length (bytes_shown past q line)
@@ -79,21 +79,21 @@ read_later p line older q upto len k = (
 -- ---- the steps by their places
 
 -- before the Mends of the opening nothing is cut
-pub early_cut : (step next : Step) (phase : Phase) (asked asks : ℕ → Bool) (x : ℕ) → rank next ≤ 10 → (next ≡ Mends → ⊥) → IsCut next phase asks x → IsCut step phase asked x
-early_cut step next phase asked asks x low other (inl later) = inl later
-early_cut step next phase asked asks x low other (inr (inl far)) = absurd (omega (arith, low, far))
-early_cut step next phase asked asks x low other (inr (inr k)) = absurd (other k.0)
+pub early_cut : (step next : Step) (part : HealPart) (asked asks : ℕ → Bool) (x : ℕ) → rank next ≤ 10 → (next ≡ Mends → ⊥) → IsCut next part asks x → IsCut step part asked x
+early_cut step next part asked asks x low other (inl later) = inl later
+early_cut step next part asked asks x low other (inr (inl far)) = absurd (omega (arith, low, far))
+early_cut step next part asked asks x low other (inr (inr k)) = absurd (other k.0)
 
 -- where the Mends are over, each sink had its own, in the opening and in a piece
-pub mends_done : (p : Plan) (r : Exact) (s x : ℕ) → r.law.kind ≡ Bytes → (r.phase ≡ Finish → ⊥) → mends_over p.shape.n (kept_by p) r s ≡ true → Sink p r.first_views s x → (11 ≤ rank r.step) ⊎ ((r.step ≡ Mends) × (r.asked x ≡ true))
+pub mends_done : (p : Plan) (r : Exact) (s x : ℕ) → r.law.kind ≡ Bytes → (r.part ≡ Finish → ⊥) → mends_over p.shape.n (kept_by p) r s ≡ true → Sink p r.first_views s x → (11 ≤ rank r.step) ⊎ ((r.step ≡ Mends) × (r.asked x ≡ true))
 mends_done p r s x bytes unfinished over sink = go (nat_lt 10 (rank r.step)) refl
   where
-    in_set : (kind : Kind) (phase : Phase) → kind ≡ Bytes → (phase ≡ Finish → ⊥) → mends_at (kept_by p) r s kind phase x ≡ true
+    in_set : (kind : Kind) (part : HealPart) → kind ≡ Bytes → (part ≡ Finish → ⊥) → mends_at (kept_by p) r s kind part x ≡ true
     in_set Bytes Opening e k = sink.1
     in_set Bytes Piece e k = sink.1
     in_set Bytes Finish e k = absurd (k refl)
-    in_set Attrs phase e k = absurd (cc e)
-    in_set Names phase e k = absurd (cc e)
+    in_set Attrs part e k = absurd (cc e)
+    in_set Names part e k = absurd (cc e)
 
     under : nat_lt 10 (rank r.step) ≡ false → rank r.step ≤ 10
     under e = grind (arith, nat_tests)
@@ -105,18 +105,18 @@ mends_done p r s x bytes unfinished over sink = go (nat_lt 10 (rank r.step)) ref
     go true e = inl (above e)
     go false e = (
         let all = passed_over p.shape.n (kept_by p) r s Mends (mends_passed p.shape.n (kept_by p) r s over) (under e) in
-        let was = asked_is r Mends x (over_at p.shape.n (mends_at (kept_by p) r s r.law.kind r.phase) (asked_in r Mends) all x sink.0 (in_set r.law.kind r.phase bytes unfinished)) in
+        let was = asked_is r Mends x (over_at p.shape.n (mends_at (kept_by p) r s r.law.kind r.part) (asked_in r Mends) all x sink.0 (in_set r.law.kind r.part bytes unfinished)) in
         inr (mends_is r.step was.0, was.1)
         )
 
 -- ---- a line that leaves the part of the heal as it is, and no copy with another length
 pub carry : (p : Plan) (line : Line) (older : List Line) (r : Exact) (next : Step) (asks possible : ℕ → Bool) (reads : ℕ → Option ℕ) → KeptIn p older r
     → ((s : ℕ) → possible s ≡ true → r.possible s ≡ true) → ((x : ℕ) → len_at p (line ∷ older) r.law.object x ≡ len_at p older r.law.object x)
-    → ((r.phase ≡ Finish → rank next ≤ 10) → (x : ℕ) (v : View) → r.first_views x ≡ Some v → (o : Object) × (copy_of p (line ∷ older) r.law.object x ≡ Some o) × (o.marks.bytes.pending ≡ v.marks.bytes.pending))
-    → ((s x : ℕ) → possible s ≡ true → Sink p r.first_views s x → IsCut next r.phase asks x → IsCut r.step r.phase r.asked x) → (next ≡ Mends → ⊥) → (rank next ≡ 11 → r.phase ≡ Finish)
-    → (r.phase ≡ Piece → rank next ≤ 10 → 7 ≤ rank next → (s q : ℕ) → possible s ≡ true → reads s ≡ Some q → IsReadThere p (line ∷ older) q r.upto (len_of (r.first_views s)))
-    → ((r.phase ≡ Opening → ⊥) ⊎ (12 ≤ rank next) → (s : ℕ) → possible s ≡ true → good p.shape.n (kept_by p) Bytes r.first_views s ≡ true)
-    → Kept p (line ∷ older) r.law.object next r.phase asks possible r.first_views reads r.upto
+    → ((r.part ≡ Finish → rank next ≤ 10) → (x : ℕ) (v : View) → r.first_views x ≡ Some v → (o : Object) × (copy_of p (line ∷ older) r.law.object x ≡ Some o) × (o.marks.bytes.pending ≡ v.marks.bytes.pending))
+    → ((s x : ℕ) → possible s ≡ true → Sink p r.first_views s x → IsCut next r.part asks x → IsCut r.step r.part r.asked x) → (next ≡ Mends → ⊥) → (rank next ≡ 11 → r.part ≡ Finish)
+    → (r.part ≡ Piece → rank next ≤ 10 → 7 ≤ rank next → (s q : ℕ) → possible s ≡ true → reads s ≡ Some q → IsReadThere p (line ∷ older) q r.upto (len_of (r.first_views s)))
+    → ((r.part ≡ Opening → ⊥) ⊎ (12 ≤ rank next) → (s : ℕ) → possible s ≡ true → good p.shape.n (kept_by p) Bytes r.first_views s ≡ true)
+    → Kept p (line ∷ older) r.law.object next r.part asks possible r.first_views reads r.upto
 carry p line older r next asks possible reads k less lens numbers cut other late read fit = record {
   numbers = numbers;
   source = λ s v m e. lens s ∙ k.source s v (less s m) e;
@@ -132,16 +132,16 @@ carry p line older r next asks possible reads k less lens numbers cut other late
 
 -- copies that stay as they are
 pub numbers_same : (p : Plan) (line : Line) (older : List Line) (r : Exact) (next : Step) → KeptIn p older r → rank r.step ≤ rank next → ((x : ℕ) → copy_of p (line ∷ older) r.law.object x ≡ copy_of p older r.law.object x)
-    → (r.phase ≡ Finish → rank next ≤ 10) → (x : ℕ) (v : View) → r.first_views x ≡ Some v → (o : Object) × (copy_of p (line ∷ older) r.law.object x ≡ Some o) × (o.marks.bytes.pending ≡ v.marks.bytes.pending)
+    → (r.part ≡ Finish → rank next ≤ 10) → (x : ℕ) (v : View) → r.first_views x ≡ Some v → (o : Object) × (copy_of p (line ∷ older) r.law.object x ≡ Some o) × (o.marks.bytes.pending ≡ v.marks.bytes.pending)
 numbers_same p line older r next k up same low x v e = (let w = k.numbers (λ f. (let l = low f in omega (arith, l, up))) x v e in (w.0, same x ∙ w.1, w.2))
 
 pub lens_same : (p : Plan) (line : Line) (older : List Line) (g : ℕ) → ((x : ℕ) → copy_of p (line ∷ older) g x ≡ copy_of p older g x) → (x : ℕ) → len_at p (line ∷ older) g x ≡ len_at p older g x
 lens_same p line older g same x = ap (λ (o : Option Object). length (content_in o)) (same x)
 
 -- nothing was looked at yet
-pub kept_early : (p : Plan) (log : List Line) (g : ℕ) (next : Step) (phase : Phase) (asks possible : ℕ → Bool) (views : ℕ → Option View) (reads : ℕ → Option ℕ) (upto : ℕ)
-    → phase ≡ Opening → rank next ≤ 7 → ((x : ℕ) → views x ≡ None) → upto ≡ 0 → Kept p log g next phase asks possible views reads upto
-kept_early p log g next phase asks possible views reads upto first low none zero = record {
+pub kept_early : (p : Plan) (log : List Line) (g : ℕ) (next : Step) (part : HealPart) (asks possible : ℕ → Bool) (views : ℕ → Option View) (reads : ℕ → Option ℕ) (upto : ℕ)
+    → part ≡ Opening → rank next ≤ 7 → ((x : ℕ) → views x ≡ None) → upto ≡ 0 → Kept p log g next part asks possible views reads upto
+kept_early p log g next part asks possible views reads upto first low none zero = record {
   numbers = λ f x v e. absurd (cc (none x, e));
   source = λ s v m e. absurd (cc (none s, e));
   cut = λ s x m sink c. absurd (no_sink s x sink);

@@ -102,15 +102,15 @@ after_same n w b (ReadAttrs g) told h = dropped_same w w (is_gone told) b (refl,
 after_same n w b Index told h = dropped_same w w (is_gone told) b (refl, refl)
 
 -- in the opening no piece is done
-zero_after : (n : ℕ) (r : Exact) (t b : ℕ) (request : Request) (told : Told) → (r.phase ≡ Opening → r.upto ≡ 0) → (left_in_heal n r t b request told).phase ≡ Opening → (left_in_heal n r t b request told).upto ≡ 0
+zero_after : (n : ℕ) (r : Exact) (t b : ℕ) (request : Request) (told : Told) → (r.part ≡ Opening → r.upto ≡ 0) → (left_in_heal n r t b request told).part ≡ Opening → (left_in_heal n r t b request told).upto ≡ 0
 zero_after n r t b (Lock Heal area) told z e = z e
 zero_after n r t b (Lock Work area) told z e = go (same_step r.step Unlocks) (same_area (whole_area r.law.object Bytes) area) e
   where
-    go : (late whole : Bool) → (if late then (if whole then Finish else Piece) else r.phase) ≡ Opening → r.upto ≡ 0
+    go : (late whole : Bool) → (if late then (if whole then Finish else Piece) else r.part) ≡ Opening → r.upto ≡ 0
     go true true f = absurd (cc f)
     go true false f = absurd (cc f)
     go false whole f = z f
-zero_after n r t b (Unlock Work area) told z e = (let p : is_piece r.phase ≡ false = ap is_piece e in rw p (z e))
+zero_after n r t b (Unlock Work area) told z e = (let p : is_piece r.part ≡ false = ap is_piece e in rw p (z e))
 zero_after n r t b (Unlock Heal area) told z e = z e
 zero_after n r t b (Look g) told z e = z e
 zero_after n r t b (ReadBytes g at len) told z e = z e
@@ -126,7 +126,7 @@ zero_after n r t b (ReadAttr g key) told z e = z e
 zero_after n r t b Index told z e = z e
 
 -- nothing was looked at before the first looks
-pub unviewed : (r : Exact) → FirstsOf r → r.law.heal ≡ true → rank r.step ≤ 6 → r.phase ≡ Opening → (x : ℕ) → r.first_views x ≡ None
+pub unviewed : (r : Exact) → FirstsOf r → r.law.heal ≡ true → rank r.step ≤ 6 → r.part ≡ Opening → (x : ℕ) → r.first_views x ≡ None
 unviewed r f inside low first x = go (r.first_views x) refl
   where
     go : (v : Option View) → r.first_views x ≡ v → v ≡ None
@@ -136,7 +136,7 @@ unviewed r f inside low first x = go (r.first_views x) refl
 module _ (p : Plan) (a : ℕ) where
   -- what is known of a heal's register after these lines
   abbrev pub IsKept : List Line → Exact → Type 0
-  IsKept log r = r.broken ≡ false → (r.phase ≡ Opening → r.upto ≡ 0) × (r.law.kind ≡ Bytes → KeptIn p log r)
+  IsKept log r = r.broken ≡ false → (r.part ≡ Opening → r.upto ≡ 0) × (r.law.kind ≡ Bytes → KeptIn p log r)
 
   -- the first lock
   first_kept : (older : List Line) (b g : ℕ) (told : Told) (took : Bool) → IsKept (ask_by a b (Lock Heal (heal_area g)) told took ∷ older) (opened_by p.shape.n (kept_by p) (length older) a b (heal_area g) told took)
@@ -149,21 +149,21 @@ module _ (p : Plan) (a : ℕ) where
   module _ (older : List Line) (b : ℕ) (told : Told) (took : Bool) (below : b < p.shape.n) where
     abbrev After : Request → Type 0
     After request = (let l = left_in_heal p.shape.n (reg p a older) (length older) b request told in
-        Kept p (ask_by a b request told took ∷ older) (reg p a older).law.object l.step l.phase l.asked (λ s. (reg p a older).possible s && may_heal p.shape.n (kept_by p) (reg p a older) s b request) l.first_views l.reads l.upto)
+        Kept p (ask_by a b request told took ∷ older) (reg p a older).law.object l.step l.part l.asked (λ s. (reg p a older).possible s && may_heal p.shape.n (kept_by p) (reg p a older) s b request) l.first_views l.reads l.upto)
 
     asked_kept : (request : Request) → Premises p (ask_by a b request told took ∷ older) → MayHeal p.shape.n (kept_by p) (reg p a older) b request → breaks (reg p a older) request told ≡ false → FirstsOf (reg p a older) → StageOf (reg p a older)
         → (reg p a older).law.kind ≡ Bytes → KeptIn p older (reg p a older) → After request
     asked_kept (Lock Heal area) premises m fine f s bytes k = (
         let five : rank (reg p a older).step ≡ 5 = heal_lock_step p.shape.n (kept_by p) (reg p a older) m.source b area m.allowed in
         let early = s.early m.inside (omega (arith, five)) in
-        kept_early p (ask_by a b (Lock Heal area) told took ∷ older) (reg p a older).law.object HealLocks (reg p a older).phase _ _ (reg p a older).first_views (reg p a older).reads (reg p a older).upto early.0 (omega arith) (unviewed (reg p a older) f m.inside (omega (arith, five)) early.0) (k.zero early.0)
+        kept_early p (ask_by a b (Lock Heal area) told took ∷ older) (reg p a older).law.object HealLocks (reg p a older).part _ _ (reg p a older).first_views (reg p a older).reads (reg p a older).upto early.0 (omega arith) (unviewed (reg p a older) f m.inside (omega (arith, five)) early.0) (k.zero early.0)
         )
     asked_kept (Lock Work area) premises m fine f s bytes k = lock_work p a b older (reg p a older) told took bytes k area m.source _ m.allowed
-    asked_kept (Look g) premises m fine f s bytes k = go (opening_or (reg p a older).phase)
+    asked_kept (Look g) premises m fine f s bytes k = go (opening_or (reg p a older).part)
       where
-        go : ((reg p a older).phase ≡ Opening) ⊎ ((reg p a older).phase ≡ Opening → ⊥) → After (Look g)
-        go (inl first) = (let yes : is_opening (reg p a older).phase ≡ true = ap is_opening first in rw yes (look_first p a b older (reg p a older) told took bytes k g.0 m.source _ m.allowed first premises.honest.0))
-        go (inr later) = (let no : is_opening (reg p a older).phase ≡ false = not_opening (reg p a older).phase later in rw no (look_later p a b older (reg p a older) told took bytes k g.0 m.source _ m.allowed))
+        go : ((reg p a older).part ≡ Opening) ⊎ ((reg p a older).part ≡ Opening → ⊥) → After (Look g)
+        go (inl first) = (let yes : is_opening (reg p a older).part ≡ true = ap is_opening first in rw yes (look_first p a b older (reg p a older) told took bytes k g.0 m.source _ m.allowed first premises.honest.0))
+        go (inr later) = (let no : is_opening (reg p a older).part ≡ false = not_opening (reg p a older).part later in rw no (look_later p a b older (reg p a older) told took bytes k g.0 m.source _ m.allowed))
     asked_kept (ReadBytes g at len) premises m fine f s bytes k = read_bytes p a b older (reg p a older) told took bytes k g at len m.source _ m.allowed
     asked_kept (ReadAttrs g) premises m fine f s bytes k = absurd (read_attrs p a b older (reg p a older) told took bytes k g m.source m.allowed)
     asked_kept (ListNames g) premises m fine f s bytes k = absurd (list_names p a b older (reg p a older) told took bytes k g m.source m.allowed)
@@ -218,7 +218,7 @@ module _ (p : Plan) (a : ℕ) where
         zero_after p.shape.n (reg p a older) (length older) b request told old.0,
         λ bytes. (
             let l = left_in_heal p.shape.n (reg p a older) (length older) b request told in
-            subst (λ (g : ℕ). Kept p (line ∷ older) g l.step l.phase l.asked (λ s. (reg p a older).possible s && may_heal p.shape.n (kept_by p) (reg p a older) s b request) l.first_views l.reads l.upto) (sym heal.0)
+            subst (λ (g : ℕ). Kept p (line ∷ older) g l.step l.part l.asked (λ s. (reg p a older).possible s && may_heal p.shape.n (kept_by p) (reg p a older) s b request) l.first_views l.reads l.upto) (sym heal.0)
             (asked_kept older b told took below request premises m fine (firsts_of p a line older premises same) (stage_of p a line older premises same) (sym heal.1 ∙ bytes) (old.1 (sym heal.1 ∙ bytes)))
             ),
       )
@@ -229,11 +229,11 @@ module _ (p : Plan) (a : ℕ) where
       → IsKept (heal_begin_by a g kind ∷ older) (note p.shape.n (kept_by p) (reg p a older) (length older) (Some (heal_begin_by a g kind)))
   begins_kept older g kind premises may f was whole = (
     old.0,
-    λ bytes. elim (opening_or r.phase) [
-      | inl first ↦ kept_early p line_older r.law.object Looks r.phase empty r.possible r.first_views no_reads r.upto first (omega arith) (unviewed r f may.inside (omega (arith, six)) first) (old.0 first)
+    λ bytes. elim (opening_or r.part) [
+      | inl first ↦ kept_early p line_older r.law.object Looks r.part empty r.possible r.first_views no_reads r.upto first (omega arith) (unviewed r f may.inside (omega (arith, six)) first) (old.0 first)
       | inr later ↦ (let k = old.1 (sym (may.later later) ∙ bytes) in
           carry p (heal_begin_by a g kind) older r Looks empty r.possible no_reads k (λ s m. m) (λ x. refl) (numbers_same p (heal_begin_by a g kind) older r Looks k (omega (arith, six)) (λ x. refl))
-          (λ s x m sink. early_cut r.step Looks r.phase r.asked empty x (omega arith) (λ e. cc e)) (λ e. cc e) (λ e. absurd (omega (arith, e))) (λ piece low far s q m e. absurd (cc e)) (λ c s m. k.fit (inl later) s m))
+          (λ s x m sink. early_cut r.step Looks r.part r.asked empty x (omega arith) (λ e. cc e)) (λ e. cc e) (λ e. absurd (omega (arith, e))) (λ piece low far s q m e. absurd (cc e)) (λ c s m. k.fit (inl later) s m))
     ],
   )
     where
@@ -243,7 +243,7 @@ module _ (p : Plan) (a : ℕ) where
       line_older : List Line
       line_older = heal_begin_by a g kind ∷ older
 
-      old : (r.phase ≡ Opening → r.upto ≡ 0) × (r.law.kind ≡ Bytes → KeptIn p older r)
+      old : (r.part ≡ Opening → r.upto ≡ 0) × (r.law.kind ≡ Bytes → KeptIn p older r)
       old = was may.whole
 
       six : rank r.step ≡ 6

@@ -30,8 +30,8 @@ use Rattle.afr_moves.proofs.AreaLemmas.{same_area_is}
 use Rattle.afr_moves.proofs.ByPosition.{newest_at}
 use Rattle.afr_moves.proofs.Tests.{next_not_opening, same_self}
 use Rattle.afr_moves.specs.Lines.{ask_by, look_at, pre_on, settle_on}
-use Rattle.afr_moves.specs.Note.{given, next_phase, put, view_of}
-use Rattle.afr_moves.specs.Register.{Exact, Finish, HealPres, HealUnlocks, Looks, Opening, Phase, Piece, Reads, Settles, Unlocks, WorkLocks, good, holder, is_finish, is_piece, len_of, piece_area, rank, span, whole_area}
+use Rattle.afr_moves.specs.Note.{given, next_part, put, view_of}
+use Rattle.afr_moves.specs.Register.{Exact, Finish, HealPart, HealPres, HealUnlocks, Looks, Opening, Piece, Reads, Settles, Unlocks, WorkLocks, good, holder, is_finish, is_piece, len_of, piece_area, rank, span, whole_area}
 use Rattle.afr_moves.specs.Steps.{goes_on, may_heal, mends_over, onward, reads_at, settles_at, turn}
 use Rattle.afr_plan.specs.declared.plan.Plan.{Plan}
 use Rattle.afr_tables.specs.Codes.{kept_by}
@@ -75,9 +75,9 @@ module _ (p : Plan) (a b : ℕ) (older : List Line) (r : Exact) (told : Told) (t
 
   -- ---- looks
   pub look_later : (g source : ℕ) (asks : ℕ → Bool) → may_heal p.shape.n (kept_by p) r source b (look_at g) ≡ true
-      → Kept p (ask_by a b (look_at g) told took ∷ older) r.law.object Looks r.phase asks (still (look_at g)) r.first_views r.reads r.upto
+      → Kept p (ask_by a b (look_at g) told took ∷ older) r.law.object Looks r.part asks (still (look_at g)) r.first_views r.reads r.upto
   look_later g source asks may = carry p (ask_by a b (look_at g) told took) older r Looks asks (still (look_at g)) r.reads k (less (look_at g)) (lens_same p line older r.law.object same) (numbers_same p line older r Looks k (omega (arith, at)) same)
-      (λ s x m sink. early_cut r.step Looks r.phase r.asked asks x (omega arith) (λ e. cc e)) (λ e. cc e) (λ e. absurd (omega (arith, e)))
+      (λ s x m sink. early_cut r.step Looks r.part r.asked asks x (omega arith) (λ e. cc e)) (λ e. cc e) (λ e. absurd (omega (arith, e)))
       (λ piece low far s q m e. read_later p line older q r.upto (len_of (r.first_views s)) (k.read piece (omega (arith, at)) (omega (arith, at)) s q (less (look_at g) s m) e))
       (λ c s m. elim c [ inl later ↦ k.fit (inl later) s (less (look_at g) s m) | inr far ↦ absurd (omega (arith, far)) ])
     where
@@ -91,8 +91,8 @@ module _ (p : Plan) (a b : ℕ) (older : List Line) (r : Exact) (told : Told) (t
       same x = ap (copy_at (record { 0 = r.law.object })) (unchanged took (b == x) (holds p older x))
 
   -- a look in the opening shows the copy as it is
-  pub look_first : (g source : ℕ) (asks : ℕ → Bool) → may_heal p.shape.n (kept_by p) r source b (look_at g) ≡ true → r.phase ≡ Opening → IsHonest p (ask_by a b (look_at g) told took) older
-      → Kept p (ask_by a b (look_at g) told took ∷ older) r.law.object Looks r.phase asks (still (look_at g)) (put r.first_views b (view_of told)) r.reads r.upto
+  pub look_first : (g source : ℕ) (asks : ℕ → Bool) → may_heal p.shape.n (kept_by p) r source b (look_at g) ≡ true → r.part ≡ Opening → IsHonest p (ask_by a b (look_at g) told took) older
+      → Kept p (ask_by a b (look_at g) told took ∷ older) r.law.object Looks r.part asks (still (look_at g)) (put r.first_views b (view_of told)) r.reads r.upto
   look_first g source asks may first honest = record {
     numbers = λ low x v e. numbers x v (put_view x v e);
     source = λ s v m e. lens s (less (look_at g) s m) v (put_view s v e);
@@ -115,7 +115,7 @@ module _ (p : Plan) (a b : ℕ) (older : List Line) (r : Exact) (told : Told) (t
       same : (x : ℕ) → copy_of p (ask_by a b (look_at g) told took ∷ older) r.law.object x ≡ copy_of p older r.law.object x
       same x = ap (copy_at (record { 0 = r.law.object })) (unchanged took (b == x) (holds p older x))
 
-      no_cut : (x : ℕ) → IsCut Looks r.phase asks x → ⊥
+      no_cut : (x : ℕ) → IsCut Looks r.part asks x → ⊥
       no_cut x (inl later) = later first
       no_cut x (inr (inl far)) = omega (arith, far)
       no_cut x (inr (inr w)) = cc w.0
@@ -148,10 +148,10 @@ module _ (p : Plan) (a b : ℕ) (older : List Line) (r : Exact) (told : Told) (t
 
   -- ---- reads
   pub read_bytes : (g : Gfid) (at len source : ℕ) (asks : ℕ → Bool) → may_heal p.shape.n (kept_by p) r source b (ReadBytes g at len) ≡ true
-      → Kept p (ask_by a b (ReadBytes g at len) told took ∷ older) r.law.object Reads r.phase asks (still (ReadBytes g at len)) r.first_views (put r.reads b (given told (length older))) r.upto
+      → Kept p (ask_by a b (ReadBytes g at len) told took ∷ older) r.law.object Reads r.part asks (still (ReadBytes g at len)) r.first_views (put r.reads b (given told (length older))) r.upto
   read_bytes g at len source asks may = carry p line older r Reads asks (still (ReadBytes g at len)) (put r.reads b (given told (length older))) k (less (ReadBytes g at len)) (lens_same p line older r.law.object same)
       (numbers_same p line older r Reads k (turn_low p.shape.n (kept_by p) r source Reads b (bytes_turn p.shape.n (kept_by p) r source b g at len may)) same)
-      (λ s x m sink. early_cut r.step Reads r.phase r.asked asks x (omega arith) (λ e. cc e)) (λ e. cc e) (λ e. absurd (omega (arith, e)))
+      (λ s x m sink. early_cut r.step Reads r.part r.asked asks x (omega arith) (λ e. cc e)) (λ e. cc e) (λ e. absurd (omega (arith, e)))
       (λ piece low far s q m e. read piece s q m e)
       (λ c s m. elim c [ inl later ↦ k.fit (inl later) s (less (ReadBytes g at len) s m) | inr far ↦ absurd (omega (arith, far)) ])
     where
@@ -161,25 +161,25 @@ module _ (p : Plan) (a b : ℕ) (older : List Line) (r : Exact) (told : Told) (t
       same : (x : ℕ) → copy_of p (ask_by a b (ReadBytes g at len) told took ∷ older) r.law.object x ≡ copy_of p older r.law.object x
       same x = ap (copy_at (record { 0 = r.law.object })) (unchanged took (b == x) (holds p older x))
 
-      here : (s : ℕ) (kind : Kind) (phase : Phase) → kind ≡ Bytes → phase ≡ Piece → reads_at p.shape.n (kept_by p) r s kind phase b ≡ true → b ≡ s
+      here : (s : ℕ) (kind : Kind) (part : HealPart) → kind ≡ Bytes → part ≡ Piece → reads_at p.shape.n (kept_by p) r s kind part b ≡ true → b ≡ s
       here s Bytes Piece e f m = eqb-true b s m
       here s Bytes Opening e f m = absurd (cc f)
       here s Bytes Finish e f m = absurd (cc f)
-      here s Attrs phase e f m = absurd (cc e)
-      here s Names phase e f m = absurd (cc e)
+      here s Attrs part e f m = absurd (cc e)
+      here s Names part e f m = absurd (cc e)
 
       was_given : (d : Told) (q : ℕ) → given d (length older) ≡ Some q → q ≡ length older
       was_given Given q e = cc e
       was_given _ q e = absurd (cc e)
 
-      read : r.phase ≡ Piece → (s q : ℕ) → still (ReadBytes g at len) s ≡ true → put r.reads b (given told (length older)) s ≡ Some q → IsReadThere p (ask_by a b (ReadBytes g at len) told took ∷ older) q r.upto (len_of (r.first_views s))
+      read : r.part ≡ Piece → (s q : ℕ) → still (ReadBytes g at len) s ≡ true → put r.reads b (given told (length older)) s ≡ Some q → IsReadThere p (ask_by a b (ReadBytes g at len) told took ∷ older) q r.upto (len_of (r.first_views s))
       read piece s q m e = subst (λ (j : ℕ). IsReadThere p (line ∷ older) j r.upto (len_of (r.first_views s))) (sym q_is) (omega arith, shown)
         where
           test : may_heal p.shape.n (kept_by p) r s b (ReadBytes g at len) ≡ true
           test = may_of (ReadBytes g at len) s m
 
           b_is : b ≡ s
-          b_is = here s r.law.kind r.phase bytes piece (turn_in p.shape.n (kept_by p) r s Reads b (bytes_turn p.shape.n (kept_by p) r s b g at len test))
+          b_is = here s r.law.kind r.part bytes piece (turn_in p.shape.n (kept_by p) r s Reads b (bytes_turn p.shape.n (kept_by p) r s b g at len test))
 
           q_is : q ≡ length older
           q_is = was_given told q (there (s == b) refl e)
@@ -223,9 +223,9 @@ module _ (p : Plan) (a b : ℕ) (older : List Line) (r : Exact) (told : Told) (t
 
   -- ---- a pre-op raises dirty numbers alone
   pub pre : (g : ℕ) (kind : Kind) (source : ℕ) (asks : ℕ → Bool) → may_heal p.shape.n (kept_by p) r source b (pre_on g kind) ≡ true
-      → Kept p (ask_by a b (pre_on g kind) told took ∷ older) r.law.object HealPres r.phase asks (still (pre_on g kind)) r.first_views r.reads r.upto
+      → Kept p (ask_by a b (pre_on g kind) told took ∷ older) r.law.object HealPres r.part asks (still (pre_on g kind)) r.first_views r.reads r.upto
   pre g kind source asks may = carry p line older r HealPres asks (still (pre_on g kind)) r.reads k (less (pre_on g kind)) lens (λ low x v e. numbers x v e)
-      (λ s x m sink. early_cut r.step HealPres r.phase r.asked asks x (omega arith) (λ e. cc e)) (λ e. cc e) (λ e. absurd (omega (arith, e)))
+      (λ s x m sink. early_cut r.step HealPres r.part r.asked asks x (omega arith) (λ e. cc e)) (λ e. cc e) (λ e. absurd (omega (arith, e)))
       (λ piece low far s q m e. read_later p line older q r.upto (len_of (r.first_views s)) (k.read piece (omega (arith, under)) (looked s m) s q (less (pre_on g kind) s m) e))
       (λ c s m. elim c [ inl later ↦ k.fit (inl later) s (less (pre_on g kind) s m) | inr far ↦ absurd (omega (arith, far)) ])
     where
@@ -264,7 +264,7 @@ module _ (p : Plan) (a b : ℕ) (older : List Line) (r : Exact) (told : Told) (t
 
   -- ---- a settling comes in the finish alone
   pub settle : (g : ℕ) (kind : Kind) (down : Marks) (source : ℕ) (asks : ℕ → Bool) → may_heal p.shape.n (kept_by p) r source b (settle_on g kind down) ≡ true
-      → Kept p (ask_by a b (settle_on g kind down) told took ∷ older) r.law.object Settles r.phase asks (still (settle_on g kind down)) r.first_views r.reads r.upto
+      → Kept p (ask_by a b (settle_on g kind down) told took ∷ older) r.law.object Settles r.part asks (still (settle_on g kind down)) r.first_views r.reads r.upto
   settle g kind down source asks may = carry p line older r Settles asks (still (settle_on g kind down)) r.reads k (less (settle_on g kind down)) lens (λ low. absurd (let l = low finish in omega (arith, l)))
       (λ s x m sink c. inl (λ e. cc (finish, e))) (λ e. cc e) (λ e. finish) (λ piece low. absurd (omega (arith, low)))
       (λ c s m. k.fit (inl (λ e. cc (finish, e))) s (less (settle_on g kind down) s m))
@@ -272,15 +272,15 @@ module _ (p : Plan) (a b : ℕ) (older : List Line) (r : Exact) (told : Told) (t
       line : Line
       line = ask_by a b (settle_on g kind down) told took
 
-      last : (kind : Kind) (phase : Phase) → kind ≡ Bytes → settles_at r kind phase b ≡ true → phase ≡ Finish
+      last : (kind : Kind) (part : HealPart) → kind ≡ Bytes → settles_at r kind part b ≡ true → part ≡ Finish
       last Bytes Finish e m = refl
       last Bytes Opening e m = absurd (true≢false (sym m))
       last Bytes Piece e m = absurd (true≢false (sym m))
-      last Attrs phase e m = absurd (cc e)
-      last Names phase e m = absurd (cc e)
+      last Attrs part e m = absurd (cc e)
+      last Names part e m = absurd (cc e)
 
-      finish : r.phase ≡ Finish
-      finish = last r.law.kind r.phase bytes (turn_in p.shape.n (kept_by p) r source Settles b (settle_turn p.shape.n (kept_by p) r source b g kind down may))
+      finish : r.part ≡ Finish
+      finish = last r.law.kind r.part bytes (turn_in p.shape.n (kept_by p) r source Settles b (settle_turn p.shape.n (kept_by p) r source b g kind down may))
 
       lens : (x : ℕ) → len_at p (ask_by a b (settle_on g kind down) told took ∷ older) r.law.object x ≡ len_at p older r.law.object x
       lens x = elim (altered (with_numbers kind (taken_back down)) took (b == x) (record { 0 = g }) (record { 0 = r.law.object }) (holds p older x)) [
@@ -290,14 +290,14 @@ module _ (p : Plan) (a b : ℕ) (older : List Line) (r : Exact) (told : Told) (t
 
   -- ---- unlocks
   -- where the Mends are over, each sink is cut
-  cut_over : (s x : ℕ) → mends_over p.shape.n (kept_by p) r s ≡ true → Sink p r.first_views s x → IsCut r.step r.phase r.asked x
-  cut_over s x over sink = elim (opening_or r.phase) [
+  cut_over : (s x : ℕ) → mends_over p.shape.n (kept_by p) r s ≡ true → Sink p r.first_views s x → IsCut r.step r.part r.asked x
+  cut_over s x over sink = elim (opening_or r.part) [
     | inl first ↦ inr (mends_done p r s x bytes (λ f. cc (first, f)) over sink)
     | inr later ↦ inl later
   ]
 
   pub unlock_heal : (area : Area) (source : ℕ) (asks : ℕ → Bool) → may_heal p.shape.n (kept_by p) r source b (Unlock Heal area) ≡ true
-      → Kept p (ask_by a b (Unlock Heal area) told took ∷ older) r.law.object HealUnlocks r.phase asks (still (Unlock Heal area)) r.first_views r.reads r.upto
+      → Kept p (ask_by a b (Unlock Heal area) told took ∷ older) r.law.object HealUnlocks r.part asks (still (Unlock Heal area)) r.first_views r.reads r.upto
   unlock_heal area source asks may = carry p line older r HealUnlocks asks (still (Unlock Heal area)) r.reads k (less (Unlock Heal area)) (lens_same p line older r.law.object same) (numbers_same p line older r HealUnlocks k up same)
       (λ s x m sink c. cut_over s x (settles_mends p.shape.n (kept_by p) r s (heal_unlock_over p.shape.n (kept_by p) r s b area (may_of (Unlock Heal area) s m))) sink) (λ e. cc e) (λ e. absurd (omega (arith, e))) (λ piece low. absurd (omega (arith, low)))
       (λ c s m. good_bytes s (heal_unlock_goes p.shape.n (kept_by p) r s b area (may_of (Unlock Heal area) s m)))
@@ -312,8 +312,8 @@ module _ (p : Plan) (a b : ℕ) (older : List Line) (r : Exact) (told : Told) (t
       same x = ap (copy_at (record { 0 = r.law.object })) (unchanged took (b == x) (holds p older x))
 
   pub unlock_work : (area : Area) (source : ℕ) (asks : ℕ → Bool) → may_heal p.shape.n (kept_by p) r source b (Unlock Work area) ≡ true
-      → Kept p (ask_by a b (Unlock Work area) told took ∷ older) r.law.object Unlocks r.phase asks (still (Unlock Work area)) r.first_views r.reads (if is_piece r.phase && nat_lt (rank r.step) (rank Unlocks) then r.upto + span else r.upto)
-  unlock_work area source asks may = go (is_piece r.phase && nat_lt (rank r.step) 12) refl
+      → Kept p (ask_by a b (Unlock Work area) told took ∷ older) r.law.object Unlocks r.part asks (still (Unlock Work area)) r.first_views r.reads (if is_piece r.part && nat_lt (rank r.step) (rank Unlocks) then r.upto + span else r.upto)
+  unlock_work area source asks may = go (is_piece r.part && nat_lt (rank r.step) 12) refl
     where
       line : Line
       line = ask_by a b (Unlock Work area) told took
@@ -333,7 +333,7 @@ module _ (p : Plan) (a b : ℕ) (older : List Line) (r : Exact) (told : Told) (t
       fit : (s : ℕ) → still (Unlock Work area) s ≡ true → good p.shape.n (kept_by p) Bytes r.first_views s ≡ true
       fit s m = good_bytes s (unlock_goes p.shape.n (kept_by p) r s b area (may_of (Unlock Work area) s m))
 
-      piece_is : (phase : Phase) → is_piece phase ≡ true → phase ≡ Piece
+      piece_is : (part : HealPart) → is_piece part ≡ true → part ≡ Piece
       piece_is Piece e = refl
       piece_is Opening e = absurd (true≢false (sym e))
       piece_is Finish e = absurd (true≢false (sym e))
@@ -341,13 +341,13 @@ module _ (p : Plan) (a b : ℕ) (older : List Line) (r : Exact) (told : Told) (t
       low_is : nat_lt (rank r.step) 12 ≡ true → rank r.step ≤ 11
       low_is e = grind (arith, nat_tests)
 
-      go : (more : Bool) → (is_piece r.phase && nat_lt (rank r.step) 12) ≡ more
-          → Kept p (ask_by a b (Unlock Work area) told took ∷ older) r.law.object Unlocks r.phase asks (still (Unlock Work area)) r.first_views r.reads (if more then r.upto + span else r.upto)
+      go : (more : Bool) → (is_piece r.part && nat_lt (rank r.step) 12) ≡ more
+          → Kept p (ask_by a b (Unlock Work area) told took ∷ older) r.law.object Unlocks r.part asks (still (Unlock Work area)) r.first_views r.reads (if more then r.upto + span else r.upto)
       go false e = carry p line older r Unlocks asks (still (Unlock Work area)) r.reads k (less (Unlock Work area)) lens (numbers_same p line older r Unlocks k up same)
           (λ s x m sink c. cut_over s x (over s m) sink) (λ e. cc e) (λ e. absurd (omega (arith, e))) (λ piece low. absurd (omega (arith, low))) (λ c s m. fit s m)
       go true e = (
-          let piece : r.phase ≡ Piece = piece_is r.phase (and_left (is_piece r.phase) (nat_lt (rank r.step) 12) e) in
-          let low : rank r.step ≤ 11 = low_is (and_right (is_piece r.phase) (nat_lt (rank r.step) 12) e) in
+          let piece : r.part ≡ Piece = piece_is r.part (and_left (is_piece r.part) (nat_lt (rank r.step) 12) e) in
+          let low : rank r.step ≤ 11 = low_is (and_right (is_piece r.part) (nat_lt (rank r.step) 12) e) in
           record {
             numbers = λ f. absurd_or piece f;
             source = λ s v m f. lens s ∙ k.source s v (less (Unlock Work area) s m) f;
@@ -362,10 +362,10 @@ module _ (p : Plan) (a b : ℕ) (older : List Line) (r : Exact) (told : Told) (t
           }
           )
         where
-          absurd_or : r.phase ≡ Piece → (r.phase ≡ Finish → rank Unlocks ≤ 10) → (x : ℕ) (v : View) → r.first_views x ≡ Some v → (o : Object) × (copy_of p (ask_by a b (Unlock Work area) told took ∷ older) r.law.object x ≡ Some o) × (o.marks.bytes.pending ≡ v.marks.bytes.pending)
+          absurd_or : r.part ≡ Piece → (r.part ≡ Finish → rank Unlocks ≤ 10) → (x : ℕ) (v : View) → r.first_views x ≡ Some v → (o : Object) × (copy_of p (ask_by a b (Unlock Work area) told took ∷ older) r.law.object x ≡ Some o) × (o.marks.bytes.pending ≡ v.marks.bytes.pending)
           absurd_or piece f = numbers_same p line older r Unlocks k up same f
 
-          filled_now : r.phase ≡ Piece → rank r.step ≤ 11 → (s x : ℕ) → still (Unlock Work area) s ≡ true → Sink p r.first_views s x → min (r.upto + span) (len_of (r.first_views s)) ≤ len_at p older r.law.object x
+          filled_now : r.part ≡ Piece → rank r.step ≤ 11 → (s x : ℕ) → still (Unlock Work area) s ≡ true → Sink p r.first_views s x → min (r.upto + span) (len_of (r.first_views s)) ≤ len_at p older r.law.object x
           filled_now piece low s x m sink = elim (mends_done p r s x bytes (λ f. cc (piece, f)) (over s m) sink) [
             | inl far ↦ absurd (let at : rank r.step ≡ 11 = omega (arith, far, low) in cc (piece, k.late at))
             | inr w ↦ k.filling piece w.0 s x (less (Unlock Work area) s m) sink w.1
@@ -373,7 +373,7 @@ module _ (p : Plan) (a b : ℕ) (older : List Line) (r : Exact) (told : Told) (t
 
   -- ---- Work locks
   pub lock_work : (area : Area) (source : ℕ) (asks : ℕ → Bool) → may_heal p.shape.n (kept_by p) r source b (Lock Work area) ≡ true
-      → Kept p (ask_by a b (Lock Work area) told took ∷ older) r.law.object WorkLocks (next_phase r area) asks (still (Lock Work area)) r.first_views r.reads r.upto
+      → Kept p (ask_by a b (Lock Work area) told took ∷ older) r.law.object WorkLocks (next_part r area) asks (still (Lock Work area)) r.first_views r.reads r.upto
   lock_work area source asks may = record {
     numbers = λ low x v e. (let w = k.numbers old_low x v e in (w.0, same x ∙ w.1, w.2));
     source = λ s v m e. lens s ∙ k.source s v (less (Lock Work area) s m) e;
@@ -399,35 +399,35 @@ module _ (p : Plan) (a b : ℕ) (older : List Line) (r : Exact) (told : Told) (t
       lens : (x : ℕ) → len_at p (ask_by a b (Lock Work area) told took ∷ older) r.law.object x ≡ len_at p older r.law.object x
       lens = lens_same p (ask_by a b (Lock Work area) told took) older r.law.object same
 
-      no_finish : is_finish r.phase ≡ false → r.phase ≡ Finish → ⊥
+      no_finish : is_finish r.part ≡ false → r.part ≡ Finish → ⊥
       no_finish e f = true≢false (sym (ap is_finish f) ∙ e)
 
-      by_place : WorkPlace p.shape.n (kept_by p) r source b area → ((rank r.step ≤ 6) × (next_phase r area ≡ r.phase)) ⊎ ((rank r.step ≡ 12) × (next_phase r area ≡ (if same_area (whole_area r.law.object Bytes) area then Finish else Piece)) × (is_finish r.phase ≡ false))
+      by_place : WorkPlace p.shape.n (kept_by p) r source b area → ((rank r.step ≤ 6) × (next_part r area ≡ r.part)) ⊎ ((rank r.step ≡ 12) × (next_part r area ≡ (if same_area (whole_area r.law.object Bytes) area then Finish else Piece)) × (is_finish r.part ≡ false))
       by_place (Waits at unmoved own lock fresh) = inl (omega (arith, ap rank at), unmoved)
       by_place (Starts five unmoved lock) = inl (omega (arith, five), unmoved)
       by_place (Resumes twelve unmoved idle kind unfinished lock next) = inr (twelve, unmoved, unfinished)
 
-      old_low : r.phase ≡ Finish → rank r.step ≤ 10
+      old_low : r.part ≡ Finish → rank r.step ≤ 10
       old_low f = elim (by_place place) [ inl w ↦ (let l = w.0 in omega (arith, l)) | inr w ↦ absurd (no_finish w.2 f) ]
 
-      was_far : (next_phase r area ≡ Opening → ⊥) → (r.phase ≡ Opening → ⊥) ⊎ (12 ≤ rank r.step)
+      was_far : (next_part r area ≡ Opening → ⊥) → (r.part ≡ Opening → ⊥) ⊎ (12 ≤ rank r.step)
       was_far later = elim (by_place place) [ inl w ↦ inl (λ e. later (w.1 ∙ e)) | inr w ↦ inr (let l = w.0 in omega (arith, l)) ]
 
-      was_cut : (x : ℕ) → IsCut WorkLocks (next_phase r area) asks x → IsCut r.step r.phase r.asked x
+      was_cut : (x : ℕ) → IsCut WorkLocks (next_part r area) asks x → IsCut r.step r.part r.asked x
       was_cut x (inl later) = elim (was_far later) [ inl old ↦ inl old | inr far ↦ inr (inl (omega (arith, far))) ]
       was_cut x (inr (inl far)) = absurd (omega (arith, far))
       was_cut x (inr (inr w)) = absurd (cc w.0)
 
       filled : (s x : ℕ) → still (Lock Work area) s ≡ true → Sink p r.first_views s x → min r.upto (len_of (r.first_views s)) ≤ len_at p older r.law.object x
-      filled s x m sink = elim (opening_or r.phase) [
+      filled s x m sink = elim (opening_or r.part) [
         | inl first ↦ (let z = k.zero first in omega (arith, z))
         | inr later ↦ k.filled later s x (less (Lock Work area) s m) sink
       ]
 
-      zero : next_phase r area ≡ Opening → r.upto ≡ 0
+      zero : next_part r area ≡ Opening → r.upto ≡ 0
       zero e = elim (by_place place) [ inl w ↦ k.zero (sym w.1 ∙ e) | inr w ↦ absurd (next_not_opening (same_area (whole_area r.law.object Bytes) area) (sym w.1 ∙ e)) ]
 
-      ended : (s : ℕ) → still (Lock Work area) s ≡ true → WorkPlace p.shape.n (kept_by p) r s b area → next_phase r area ≡ Finish → len_of (r.first_views s) ≤ r.upto
+      ended : (s : ℕ) → still (Lock Work area) s ≡ true → WorkPlace p.shape.n (kept_by p) r s b area → next_part r area ≡ Finish → len_of (r.first_views s) ≤ r.upto
       ended s m (Waits at unmoved own lock fresh) e = k.ended (sym unmoved ∙ e) s (less (Lock Work area) s m)
       ended s m (Starts five unmoved lock) e = k.ended (sym unmoved ∙ e) s (less (Lock Work area) s m)
       ended s m (Resumes twelve unmoved idle kind unfinished lock next) e = test (nat_lt r.upto (len_of (r.first_views s))) refl next

@@ -25,12 +25,12 @@ use Rattle.afr_lines.specs.declared.answer.Told.TheVariants.{Done}
 use Rattle.afr_lines.specs.declared.line.Line.{Line}
 use Rattle.afr_lines.specs.declared.request.Request.{Request}
 use Rattle.afr_lines.specs.declared.request.Request.TheVariants.{Mend}
-use Rattle.afr_model.specs.Honest.{IsHonest, Outcome, fault_in, is_live, over_session, requests_to, tells}
+use Rattle.afr_model.specs.Honest.{IsHonest, RequestOutcome, fault_in, is_live, over_session, requests_to, tells}
 use Rattle.afr_model.specs.Tables.{bytes_shown, content_in, held_before, holds, keeps_bytes}
 use Rattle.afr_moves.proofs.Tests.{with_cases}
 use Rattle.afr_moves.specs.Lines.{ask_by}
 use Rattle.afr_moves.specs.Note.{fails, is_done}
-use Rattle.afr_moves.specs.Register.{Exact, Finish, Mends, Opening, Phase, Piece, asked_in, holder, is_opening, len_of, rank, span}
+use Rattle.afr_moves.specs.Register.{Exact, Finish, HealPart, Mends, Opening, Piece, asked_in, holder, is_opening, len_of, rank, span}
 use Rattle.afr_moves.specs.Sets.{with}
 use Rattle.afr_moves.specs.Steps.{may_heal, mends_at, onward, same_read}
 use Rattle.afr_plan.specs.declared.plan.Plan.{Plan}
@@ -46,10 +46,10 @@ use Rattle.afr_quiet_moves.proofs.KeptLines.{less, may_of, source_view, still}
 
 -- what was told Done was carried out
 pub done_took : (live : Bool) (fault : Option Fault) (said told : Told) (took : Bool) → (record { told = told; took = took }) ≡ over_session live fault said → told ≡ Done → took ≡ true
-done_took false fault said told took e d = absurd (cc (ap (λ (q : Outcome). q.told) e, d))
-done_took true (Some Fail) said told took e d = absurd (cc (ap (λ (q : Outcome). q.told) e, d))
-done_took true (Some Lost) said told took e d = absurd (cc (ap (λ (q : Outcome). q.told) e, d))
-done_took true None said told took e d = ap (λ (q : Outcome). q.took) e
+done_took false fault said told took e d = absurd (cc (ap (λ (q : RequestOutcome). q.told) e, d))
+done_took true (Some Fail) said told took e d = absurd (cc (ap (λ (q : RequestOutcome). q.told) e, d))
+done_took true (Some Lost) said told took e d = absurd (cc (ap (λ (q : RequestOutcome). q.told) e, d))
+done_took true None said told took e d = ap (λ (q : RequestOutcome). q.took) e
 
 pub done_is : (p : Plan) (a b : ℕ) (older : List Line) (request : Request) (told : Told) (took : Bool) → IsHonest p (ask_by a b request told took) older → told ≡ Done → took ≡ true
 done_is p a b older request told took honest = done_took (is_live p (record { 0 = a }) b (ask_by a b request told took) older) (fault_in p.faults b (suc (requests_to b older))) (tells (record { 0 = a }) request b (holds p older b) older) told took honest
@@ -92,18 +92,18 @@ mend_asks r told b x fine e = go (is_done told) refl (fails told) fine e
 
 module _ (p : Plan) (a b : ℕ) (older : List Line) (r : Exact) (told : Told) (took : Bool) (bytes : r.law.kind ≡ Bytes) (k : KeptIn p older r) (fine : fails told ≡ false) where
   -- the sinks of each copy that may still be the source have this brick
-  mended_sink : (repair : Repair) (s : ℕ) → b < p.shape.n → (r.phase ≡ Finish → ⊥) → still p a b older r told took bytes k (Mend repair) s ≡ true → Sink p r.first_views s b
-  mended_sink repair s low unfinished m = (low, in_set r.law.kind r.phase bytes unfinished (turn_in p.shape.n (kept_by p) r s Mends b (mend_turn p.shape.n (kept_by p) r s b repair (may_of p a b older r told took bytes k (Mend repair) s m))))
+  mended_sink : (repair : Repair) (s : ℕ) → b < p.shape.n → (r.part ≡ Finish → ⊥) → still p a b older r told took bytes k (Mend repair) s ≡ true → Sink p r.first_views s b
+  mended_sink repair s low unfinished m = (low, in_set r.law.kind r.part bytes unfinished (turn_in p.shape.n (kept_by p) r s Mends b (mend_turn p.shape.n (kept_by p) r s b repair (may_of p a b older r told took bytes k (Mend repair) s m))))
     where
-      in_set : (kind : Kind) (phase : Phase) → kind ≡ Bytes → (phase ≡ Finish → ⊥) → mends_at (kept_by p) r s kind phase b ≡ true → (holder r.first_views b && not (b == s) && kept_by p b Bytes) ≡ true
+      in_set : (kind : Kind) (part : HealPart) → kind ≡ Bytes → (part ≡ Finish → ⊥) → mends_at (kept_by p) r s kind part b ≡ true → (holder r.first_views b && not (b == s) && kept_by p b Bytes) ≡ true
       in_set Bytes Opening e f m = m
       in_set Bytes Piece e f m = m
       in_set Bytes Finish e f m = absurd (f refl)
-      in_set Attrs phase e f m = absurd (cc e)
-      in_set Names phase e f m = absurd (cc e)
+      in_set Attrs part e f m = absurd (cc e)
+      in_set Names part e f m = absurd (cc e)
 
   -- what a repair makes of each copy, by its effect on bytes
-  module _ (repair : Repair) (f : List ℕ → List ℕ) (low : b < p.shape.n) (source : ℕ) (may : may_heal p.shape.n (kept_by p) r source b (Mend repair) ≡ true) (possible : r.possible source ≡ true) (unfinished : r.phase ≡ Finish → ⊥)
+  module _ (repair : Repair) (f : List ℕ → List ℕ) (low : b < p.shape.n) (source : ℕ) (may : may_heal p.shape.n (kept_by p) r source b (Mend repair) ≡ true) (possible : r.possible source ≡ true) (unfinished : r.part ≡ Finish → ⊥)
       (change : (x : ℕ) → (copy_of p (ask_by a b (Mend repair) told took ∷ older) r.law.object x ≡ copy_of p older r.law.object x)
       ⊎ ((took ≡ true) × ((b == x) ≡ true) × (copy_of p (ask_by a b (Mend repair) told took ∷ older) r.law.object x ≡ option_map (with_bytes (keeps_bytes p x) f) (copy_of p older r.law.object x)))) where
     line : Line
@@ -148,7 +148,7 @@ module _ (p : Plan) (a b : ℕ) (older : List Line) (r : Exact) (told : Told) (t
 
   -- ---- a cut, in the opening
   pub cut_to : (g : Gfid) (len source : ℕ) → b < p.shape.n → may_heal p.shape.n (kept_by p) r source b (Mend (CutTo g len)) ≡ true → r.possible source ≡ true → IsHonest p (ask_by a b (Mend (CutTo g len)) told took) older
-      → Kept p (ask_by a b (Mend (CutTo g len)) told took ∷ older) r.law.object Mends r.phase (if not (is_done told || fails told) then asked_in r Mends else with (asked_in r Mends) b) (still p a b older r told took bytes k (Mend (CutTo g len))) r.first_views r.reads r.upto
+      → Kept p (ask_by a b (Mend (CutTo g len)) told took ∷ older) r.law.object Mends r.part (if not (is_done told || fails told) then asked_in r Mends else with (asked_in r Mends) b) (still p a b older r told took bytes k (Mend (CutTo g len))) r.first_views r.reads r.upto
   cut_to g len source low may possible honest = record {
     numbers = λ f. numbers repair f_cut low source may possible unfinished change;
     source = λ s v m e. source_same repair f_cut low source may possible unfinished change s v m e;
@@ -171,23 +171,23 @@ module _ (p : Plan) (a b : ℕ) (older : List Line) (r : Exact) (told : Told) (t
       object : g.0 ≡ r.law.object
       object = eqb-true g.0 r.law.object (onward_object p.shape.n (kept_by p) r source g.0 Bytes (and_left _ _ (and_left _ _ (mend_test p.shape.n (kept_by p) r source b (CutTo g len) may))))
 
-      opening_is : (phase : Phase) → is_opening phase ≡ true → phase ≡ Opening
+      opening_is : (part : HealPart) → is_opening part ≡ true → part ≡ Opening
       opening_is Opening e = refl
       opening_is Piece e = absurd (true≢false (sym e))
       opening_is Finish e = absurd (true≢false (sym e))
 
-      length_test : (s : ℕ) → may_heal p.shape.n (kept_by p) r s b (Mend (CutTo g len)) ≡ true → (is_opening r.phase ≡ true) × (len ≡ len_of (r.first_views s))
+      length_test : (s : ℕ) → may_heal p.shape.n (kept_by p) r s b (Mend (CutTo g len)) ≡ true → (is_opening r.part ≡ true) × (len ≡ len_of (r.first_views s))
       length_test s e = (
-          let test : (onward p.shape.n (kept_by p) r s g.0 Bytes && is_opening r.phase && (len == len_of (r.first_views s))) ≡ true = mend_test p.shape.n (kept_by p) r s b (CutTo g len) e in (
-            and_right (onward p.shape.n (kept_by p) r s g.0 Bytes) (is_opening r.phase) (and_left (onward p.shape.n (kept_by p) r s g.0 Bytes && is_opening r.phase) (len == len_of (r.first_views s)) test),
-            eqb-true len (len_of (r.first_views s)) (and_right (onward p.shape.n (kept_by p) r s g.0 Bytes && is_opening r.phase) (len == len_of (r.first_views s)) test),
+          let test : (onward p.shape.n (kept_by p) r s g.0 Bytes && is_opening r.part && (len == len_of (r.first_views s))) ≡ true = mend_test p.shape.n (kept_by p) r s b (CutTo g len) e in (
+            and_right (onward p.shape.n (kept_by p) r s g.0 Bytes) (is_opening r.part) (and_left (onward p.shape.n (kept_by p) r s g.0 Bytes && is_opening r.part) (len == len_of (r.first_views s)) test),
+            eqb-true len (len_of (r.first_views s)) (and_right (onward p.shape.n (kept_by p) r s g.0 Bytes && is_opening r.part) (len == len_of (r.first_views s)) test),
           )
           )
 
-      first : r.phase ≡ Opening
-      first = opening_is r.phase (length_test source may).0
+      first : r.part ≡ Opening
+      first = opening_is r.part (length_test source may).0
 
-      unfinished : r.phase ≡ Finish → ⊥
+      unfinished : r.part ≡ Finish → ⊥
       unfinished e = cc (first, e)
 
       change : (x : ℕ) → (copy_of p (ask_by a b (Mend (CutTo g len)) told took ∷ older) r.law.object x ≡ copy_of p older r.law.object x)
@@ -207,7 +207,7 @@ module _ (p : Plan) (a b : ℕ) (older : List Line) (r : Exact) (told : Told) (t
           did t = altered_here (with_bytes (keeps_bytes p b) f_cut) took b g (record { 0 = r.law.object }) (holds p older b) t (ap (λ (h : ℕ). record { 0 = h }) object)
 
       cut_now : (s x : ℕ) → still p a b older r told took bytes k (Mend (CutTo g len)) s ≡ true → Sink p r.first_views s x
-          → IsCut Mends r.phase (if not (is_done told || fails told) then asked_in r Mends else with (asked_in r Mends) b) x → len_at p (ask_by a b (Mend (CutTo g len)) told took ∷ older) r.law.object x ≤ len_of (r.first_views s)
+          → IsCut Mends r.part (if not (is_done told || fails told) then asked_in r Mends else with (asked_in r Mends) b) x → len_at p (ask_by a b (Mend (CutTo g len)) told took ∷ older) r.law.object x ≤ len_of (r.first_views s)
       cut_now s x m sink (inl later) = absurd (later first)
       cut_now s x m sink (inr (inl far)) = absurd (omega (arith, far))
       cut_now s x m sink (inr (inr w)) = elim (mend_asks r told b x fine w.1) [
@@ -227,7 +227,7 @@ module _ (p : Plan) (a b : ℕ) (older : List Line) (r : Exact) (told : Told) (t
   -- ---- a copy of a piece
   pub copy_piece : (g : Gfid) (at some read source : ℕ) → b < p.shape.n → may_heal p.shape.n (kept_by p) r source b (Mend (Copy g at some read)) ≡ true → r.possible source ≡ true → IsHonest p (ask_by a b (Mend (Copy g at some read)) told took) older
       → ((x y : ℕ) (o q : Object) → copy_of p older r.law.object x ≡ Some o → copy_of p older r.law.object y ≡ Some q → o.what ≡ q.what)
-      → Kept p (ask_by a b (Mend (Copy g at some read)) told took ∷ older) r.law.object Mends r.phase (if not (is_done told || fails told) then asked_in r Mends else with (asked_in r Mends) b) (still p a b older r told took bytes k (Mend (Copy g at some read))) r.first_views r.reads r.upto
+      → Kept p (ask_by a b (Mend (Copy g at some read)) told took ∷ older) r.law.object Mends r.part (if not (is_done told || fails told) then asked_in r Mends else with (asked_in r Mends) b) (still p a b older r told took bytes k (Mend (Copy g at some read))) r.first_views r.reads r.upto
   copy_piece g at some read source low may possible honest one_kind = record {
     numbers = λ f. numbers repair f_copy low source may possible unfinished change;
     source = λ s v m e. source_same repair f_copy low source may possible unfinished change s v m e;
@@ -254,33 +254,33 @@ module _ (p : Plan) (a b : ℕ) (older : List Line) (r : Exact) (told : Told) (t
       old s m = less p a b older r told took bytes k (Mend (Copy g at some read)) s m
 
       tests : (s : ℕ) → may_heal p.shape.n (kept_by p) r s b (Mend (Copy g at some read)) ≡ true
-          → (onward p.shape.n (kept_by p) r s g.0 Bytes ≡ true) × (is_opening r.phase ≡ false) × (at ≡ r.upto) × (r.reads s ≡ Some read)
-      tests s e = go (onward p.shape.n (kept_by p) r s g.0 Bytes) (is_opening r.phase) refl (mend_test p.shape.n (kept_by p) r s b (Copy g at some read) e)
+          → (onward p.shape.n (kept_by p) r s g.0 Bytes ≡ true) × (is_opening r.part ≡ false) × (at ≡ r.upto) × (r.reads s ≡ Some read)
+      tests s e = go (onward p.shape.n (kept_by p) r s g.0 Bytes) (is_opening r.part) refl (mend_test p.shape.n (kept_by p) r s b (Copy g at some read) e)
         where
           read_is : (q : Option ℕ) → same_read q (Some read) ≡ true → q ≡ Some read
           read_is None f = absurd (true≢false (sym f))
           read_is (Some j) f = ap (λ (n : ℕ). Some n) (eqb-true j read f)
 
-          go : (u v : Bool) → is_opening r.phase ≡ v → (u && not v && (at == r.upto) && (some == span) && same_read (r.reads s) (Some read)) ≡ true → (u ≡ true) × (v ≡ false) × (at ≡ r.upto) × (r.reads s ≡ Some read)
+          go : (u v : Bool) → is_opening r.part ≡ v → (u && not v && (at == r.upto) && (some == span) && same_read (r.reads s) (Some read)) ≡ true → (u ≡ true) × (v ≡ false) × (at ≡ r.upto) × (r.reads s ≡ Some read)
           go u v h f = (let w = five_tests u v (at == r.upto) (some == span) (same_read (r.reads s) (Some read)) f in (w.0, w.1, eqb-true at r.upto w.2, read_is (r.reads s) w.3))
 
       object : g.0 ≡ r.law.object
       object = eqb-true g.0 r.law.object (onward_object p.shape.n (kept_by p) r source g.0 Bytes (tests source may).0)
 
-      in_piece : (kind : Kind) (phase : Phase) → kind ≡ Bytes → is_opening phase ≡ false → mends_at (kept_by p) r source kind phase b ≡ true → phase ≡ Piece
+      in_piece : (kind : Kind) (part : HealPart) → kind ≡ Bytes → is_opening part ≡ false → mends_at (kept_by p) r source kind part b ≡ true → part ≡ Piece
       in_piece Bytes Piece e f m = refl
       in_piece Bytes Opening e f m = absurd (true≢false f)
       in_piece Bytes Finish e f m = absurd (true≢false (sym m))
-      in_piece Attrs phase e f m = absurd (cc e)
-      in_piece Names phase e f m = absurd (cc e)
+      in_piece Attrs part e f m = absurd (cc e)
+      in_piece Names part e f m = absurd (cc e)
 
-      piece : r.phase ≡ Piece
-      piece = in_piece r.law.kind r.phase bytes (tests source may).1 (turn_in p.shape.n (kept_by p) r source Mends b (mend_turn p.shape.n (kept_by p) r source b (Copy g at some read) may))
+      piece : r.part ≡ Piece
+      piece = in_piece r.law.kind r.part bytes (tests source may).1 (turn_in p.shape.n (kept_by p) r source Mends b (mend_turn p.shape.n (kept_by p) r source b (Copy g at some read) may))
 
-      not_first : r.phase ≡ Opening → ⊥
+      not_first : r.part ≡ Opening → ⊥
       not_first e = cc (piece, e)
 
-      unfinished : r.phase ≡ Finish → ⊥
+      unfinished : r.part ≡ Finish → ⊥
       unfinished e = cc (piece, e)
 
       change : (x : ℕ) → (copy_of p (ask_by a b (Mend (Copy g at some read)) told took ∷ older) r.law.object x ≡ copy_of p older r.law.object x)

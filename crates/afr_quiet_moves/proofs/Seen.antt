@@ -23,7 +23,7 @@ use Rattle.afr_model.specs.Moved.{len_in}
 use Rattle.afr_model.specs.Tables.{content_in, holds}
 use Rattle.afr_moves.proofs.Tests.{all_yes, same_self}
 use Rattle.afr_moves.specs.Lines.{ask_by, look_at}
-use Rattle.afr_moves.specs.Register.{Exact, Finish, Opening, Phase, Piece, accuses, good, holder, len_of, rank, unaccused}
+use Rattle.afr_moves.specs.Register.{Exact, Finish, HealPart, Opening, Piece, accuses, good, holder, len_of, rank, unaccused}
 use Rattle.afr_moves.specs.Rules.{is_none}
 use Rattle.afr_moves.specs.Tally.{Tally}
 use Rattle.afr_plan.specs.declared.plan.Plan.{Plan}
@@ -52,7 +52,7 @@ none_against : (k : ℕ) → not (not (k == 0)) ≡ true → k ≡ 0
 none_against k e = grind (arith, nat_tests)
 
 module _ (p : Plan) (a : ℕ) (older : List Line) (r : Exact) (t : Tally) (few : p.shape.n ≤ 5) (bytes : r.law.kind ≡ Bytes) (k : KeptIn p older r) (none : IsAbsent p a older r.law.object r.first_reached r.first_views) (raised : RaisesIn p.shape.n (kept_by p) r r.law t)
-    (f : First) (begun : ℕ) (prepares : List ℕ) (before : Looked) (whole : Bool) (shows : Shows p.shape.n r.step r.phase r.first_views r.law.raised f begun prepares before whole) (later : r.phase ≡ Opening → ⊥) (s : ℕ) (below : s < p.shape.n) (possible : r.possible s ≡ true) where
+    (f : First) (begun : ℕ) (prepares : List ℕ) (before : Looked) (whole : Bool) (shows : Shows p.shape.n r.step r.part r.first_views r.law.raised f begun prepares before whole) (later : r.part ≡ Opening → ⊥) (s : ℕ) (below : s < p.shape.n) (possible : r.possible s ≡ true) where
   source_good : good p.shape.n (kept_by p) Bytes r.first_views s ≡ true
   source_good = k.fit (inl later) s possible
 
@@ -168,7 +168,7 @@ module _ (p : Plan) (a : ℕ) (older : List Line) (r : Exact) (t : Tally) (few :
         go None e = absurd (let w = seen_copy _ _ (copy_of p older r.law.object b) v took (subst (λ (x : Told). IsHonest p (ask_by a b (look_at r.law.object) x took) older) d honest) in cc (none b reached e, w.1))
 
     -- at the finish a copy is as long as the source
-    as_long : r.phase ≡ Finish → is_copy p.shape f.looked Bytes b ≡ true → len_at p older r.law.object b ≡ len_of (r.first_views s)
+    as_long : r.part ≡ Finish → is_copy p.shape f.looked Bytes b ≡ true → len_at p older r.law.object b ≡ len_of (r.first_views s)
     as_long finish copy = go (b == s) refl
       where
         go : (hit : Bool) → (b == s) ≡ hit → len_at p older r.law.object b ≡ len_of (r.first_views s)
@@ -182,7 +182,7 @@ module _ (p : Plan) (a : ℕ) (older : List Line) (r : Exact) (t : Tally) (few :
             )
 
     -- what the look shows
-    shown_length : (view : Option View) → ((told ≡ NoObject) × (view ≡ None)) ⊎ ((v : View) × (told ≡ Seen v) × (view ≡ Some v)) → r.phase ≡ Finish → is_copy p.shape f.looked Bytes b ≡ true → len_in view ≡ len_of (r.first_views s)
+    shown_length : (view : Option View) → ((told ≡ NoObject) × (view ≡ None)) ⊎ ((v : View) × (told ≡ Seen v) × (view ≡ Some v)) → r.part ≡ Finish → is_copy p.shape f.looked Bytes b ≡ true → len_in view ≡ len_of (r.first_views s)
     shown_length view (inl w) finish copy = absurd (
         let v = held_view r.first_views b (copy_holds b copy).1 in
         let q = k.numbers (λ g. unsettled) b v.0 v.1 in
@@ -202,10 +202,10 @@ module _ (p : Plan) (a : ℕ) (older : List Line) (r : Exact) (t : Tally) (few :
       length = λ all copy. shown_length (view_at b looked) shown (finish all) copy ∙ sym length_first ∙ ap (λ (x : ℕ). len_in (view_at x f.looked)) (sym source_is);
     }
       where
-        finish : whole ≡ true → r.phase ≡ Finish
-        finish e = last r.phase later (λ piece. true≢false (sym e ∙ shows.piece piece))
+        finish : whole ≡ true → r.part ≡ Finish
+        finish e = last r.part later (λ piece. true≢false (sym e ∙ shows.piece piece))
           where
-            last : (phase : Phase) → (phase ≡ Opening → ⊥) → (phase ≡ Piece → ⊥) → phase ≡ Finish
+            last : (part : HealPart) → (part ≡ Opening → ⊥) → (part ≡ Piece → ⊥) → part ≡ Finish
             last Opening g h = absurd (g refl)
             last Piece g h = absurd (h refl)
             last Finish g h = refl

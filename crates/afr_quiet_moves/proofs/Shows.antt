@@ -31,7 +31,7 @@ use Rattle.afr_model.specs.Showing.{among, is_fault, look_shows, looked_by, prep
 use Rattle.afr_moves.proofs.Tests.{turned}
 use Rattle.afr_moves.specs.Lines.{ask_by}
 use Rattle.afr_moves.specs.Note.{put, view_of}
-use Rattle.afr_moves.specs.Register.{Looks, Opening, Phase, Piece, Step, WorkLocks, rank}
+use Rattle.afr_moves.specs.Register.{HealPart, Looks, Opening, Piece, Step, WorkLocks, rank}
 use Rattle.afr_plan.specs.declared.plan.Plan.{Plan}
 
 -- ---- the later looks
@@ -57,24 +57,24 @@ UnmovedIn p w object kind =
     Unmoved p.shape object kind (heal_due p w) (pieces (heal_by w)) (first_by (heal_by w)).looked (among prepared (heal_by w)) (looked_by (record { 0 = object }) (heal_by w)) (is_whole_by (whole_of (record { 0 = object }) Bytes) (heal_by w))
 
 -- ---- the first looks, and how far the heal is
-pub record Shows (n : ℕ) (step : Step) (phase : Phase) (views : ℕ → Option View) (raised : ℕ → Bool) (s : First) (begun : ℕ) (prepares : List ℕ) (looked : Looked) (whole : Bool) : Type 0 where
-  pub before : rank step ≤ 6 → phase ≡ Opening → (s.begun ≡ false) × (begun ≡ 0)
-  pub looking : phase ≡ Opening → step ≡ Looks → s.still ≡ true
-  pub after : (phase ≡ Opening → ⊥) ⊎ (7 ≤ rank step) → s.begun ≡ true
-  pub one : phase ≡ Opening → begun ≤ 1
-  pub over : (phase ≡ Opening → ⊥) → s.still ≡ false
+pub record Shows (n : ℕ) (step : Step) (part : HealPart) (views : ℕ → Option View) (raised : ℕ → Bool) (s : First) (begun : ℕ) (prepares : List ℕ) (looked : Looked) (whole : Bool) : Type 0 where
+  pub before : rank step ≤ 6 → part ≡ Opening → (s.begun ≡ false) × (begun ≡ 0)
+  pub looking : part ≡ Opening → step ≡ Looks → s.still ≡ true
+  pub after : (part ≡ Opening → ⊥) ⊎ (7 ≤ rank step) → s.begun ≡ true
+  pub one : part ≡ Opening → begun ≤ 1
+  pub over : (part ≡ Opening → ⊥) → s.still ≡ false
   pub five : length s.looked.views ≡ 5
   pub viewed : (x : ℕ) → x < 5 → view_at x s.looked ≡ views x
   pub seen : (x : ℕ) → x < 5 → is_some (view_at x s.looked) ≡ true → member s.looked.reached x ≡ true
   pub low : (x : ℕ) → member s.looked.reached x ≡ true → x < n
   pub raises : (x : ℕ) → member prepares x ≡ raised x
-  pub empty : step ≡ WorkLocks → (phase ≡ Opening → ⊥) → looked.reached ≡ []
-  pub piece : phase ≡ Piece → whole ≡ false
+  pub empty : step ≡ WorkLocks → (part ≡ Opening → ⊥) → looked.reached ≡ []
+  pub piece : part ≡ Piece → whole ≡ false
 
 -- the same of the lines of a work
-abbrev pub ShowsIn : ℕ → Work → ℕ → Step → Phase → (ℕ → Option View) → (ℕ → Bool) → Type 0
-ShowsIn n w object step phase views raised =
-    Shows n step phase views raised (first_by (heal_by w)) (pieces (heal_by w)) (among prepared (heal_by w)) (looked_by (record { 0 = object }) (heal_by w)) (is_whole_by (whole_of (record { 0 = object }) Bytes) (heal_by w))
+abbrev pub ShowsIn : ℕ → Work → ℕ → Step → HealPart → (ℕ → Option View) → (ℕ → Bool) → Type 0
+ShowsIn n w object step part views raised =
+    Shows n step part views raised (first_by (heal_by w)) (pieces (heal_by w)) (among prepared (heal_by w)) (looked_by (record { 0 = object }) (heal_by w)) (is_whole_by (whole_of (record { 0 = object }) Bytes) (heal_by w))
 
 -- ---- the lines of a work
 -- each line but an Index and the end of a heal leads within
@@ -210,9 +210,9 @@ locked_first a b d area told took s = go s.begun refl
 
 -- ---- the heal's stage, from line to line
 -- a step after the looks
-pub shows_on : (n : ℕ) (step next : Step) (phase : Phase) (views : ℕ → Option View) (raised raises : ℕ → Bool) (s : First) (begun : ℕ) (prepares : List ℕ) (looked : Looked) (whole : Bool) → 7 ≤ rank step → 8 ≤ rank next → raises ≡ raised
-    → Shows n step phase views raised s begun prepares looked whole → Shows n next phase views raises (record s { still = false }) begun prepares looked whole
-shows_on n step next phase views raised raises s begun prepares looked whole far late same k = record {
+pub shows_on : (n : ℕ) (step next : Step) (part : HealPart) (views : ℕ → Option View) (raised raises : ℕ → Bool) (s : First) (begun : ℕ) (prepares : List ℕ) (looked : Looked) (whole : Bool) → 7 ≤ rank step → 8 ≤ rank next → raises ≡ raised
+    → Shows n step part views raised s begun prepares looked whole → Shows n next part views raises (record s { still = false }) begun prepares looked whole
+shows_on n step next part views raised raises s begun prepares looked whole far late same k = record {
   before = λ low. absurd (omega (arith, low, late));
   looking = λ first e. absurd (not_looks (ap rank e));
   after = λ c. k.after (inr far);
@@ -234,11 +234,11 @@ shows_on n step next phase views raised raises s begun prepares looked whole far
     not_locks e = omega (arith, e, late)
 
 -- a lock
-pub shows_locked : (n : ℕ) (step next : Step) (phase now : Phase) (views : ℕ → Option View) (raised raises : ℕ → Bool) (s t : First) (begun : ℕ) (prepares : List ℕ) (looked looks : Looked) (whole wholes : Bool)
-    → t.looked ≡ s.looked → t.begun ≡ s.begun → (s.begun ≡ true → t.still ≡ false) → rank next ≤ 6 → raises ≡ raised → (now ≡ Opening → (phase ≡ Opening) × (rank step ≤ 6)) → ((now ≡ Opening → ⊥) → (phase ≡ Opening → ⊥) ⊎ (7 ≤ rank step))
+pub shows_locked : (n : ℕ) (step next : Step) (part now : HealPart) (views : ℕ → Option View) (raised raises : ℕ → Bool) (s t : First) (begun : ℕ) (prepares : List ℕ) (looked looks : Looked) (whole wholes : Bool)
+    → t.looked ≡ s.looked → t.begun ≡ s.begun → (s.begun ≡ true → t.still ≡ false) → rank next ≤ 6 → raises ≡ raised → (now ≡ Opening → (part ≡ Opening) × (rank step ≤ 6)) → ((now ≡ Opening → ⊥) → (part ≡ Opening → ⊥) ⊎ (7 ≤ rank step))
     → (next ≡ WorkLocks → (now ≡ Opening → ⊥) → looks.reached ≡ []) → (now ≡ Piece → wholes ≡ false)
-    → Shows n step phase views raised s begun prepares looked whole → Shows n next now views raises t begun prepares looks wholes
-shows_locked n step next phase now views raised raises s t begun prepares looked looks whole wholes first starts ends low same early was empty piece k = record {
+    → Shows n step part views raised s begun prepares looked whole → Shows n next now views raises t begun prepares looks wholes
+shows_locked n step next part now views raised raises s t begun prepares looked looks whole wholes first starts ends low same early was empty piece k = record {
   before = λ l e. (starts ∙ (k.before (early e).1 (early e).0).0, (k.before (early e).1 (early e).0).1);
   looking = λ e f. absurd (not_looks (ap rank f));
   after = λ c. starts ∙ k.after (elim c [ inl later ↦ was later | inr far ↦ absurd (omega (arith, far, low)) ]);

@@ -31,9 +31,9 @@ use Rattle.afr_moves.proofs.Tests.{next_not_opening, same_self}
 use Rattle.afr_moves.specs.Discipline.{note}
 use Rattle.afr_moves.specs.Heal.{MayHeal, MayHealBegin}
 use Rattle.afr_moves.specs.Lines.{ask_by, heal_begin_by, look_at}
-use Rattle.afr_moves.specs.Note.{left_in_heal, next_phase, view_of}
+use Rattle.afr_moves.specs.Note.{left_in_heal, next_part, view_of}
 use Rattle.afr_moves.specs.Past.{is_gone}
-use Rattle.afr_moves.specs.Register.{Exact, Finish, HealLocks, HealPres, HealUnlocks, Looks, Mends, Opening, Phase, Piece, Reads, Settles, Step, Unlocks, WorkLocks, is_opening, rank, whole_area}
+use Rattle.afr_moves.specs.Register.{Exact, Finish, HealLocks, HealPart, HealPres, HealUnlocks, Looks, Mends, Opening, Piece, Reads, Settles, Step, Unlocks, WorkLocks, is_opening, rank, whole_area}
 use Rattle.afr_moves.specs.Rules as weak
 use Rattle.afr_moves.specs.Rules.{fresh, heal_area, is_none}
 use Rattle.afr_moves.specs.Steps.{looks_at}
@@ -70,12 +70,12 @@ unlooked x low = none_view (view_at x no_looks) (from_table 5 (λ y. is_none (vi
 
 module _ (p : Plan) (a : ℕ) where
   abbrev pub IsTold : List Line → Exact → Type 0
-  IsTold log r = Follows p log → UnmovedIn p (work a log) r.law.object r.law.kind × (r.broken ≡ false → ShowsIn p.shape.n (work a log) r.law.object r.step r.phase r.first_views r.law.raised)
+  IsTold log r = Follows p log → UnmovedIn p (work a log) r.law.object r.law.kind × (r.broken ≡ false → ShowsIn p.shape.n (work a log) r.law.object r.step r.part r.first_views r.law.raised)
 
   -- ---- the first lock of a heal
   first_told : (older : List Line) (b g : ℕ) (told : Told) (took : Bool) → opens (place_of a older) (ask_by a b (Lock Heal (heal_area g)) told took) ≡ true
       → (let r = opened_by p.shape.n (kept_by p) (length older) a b (heal_area g) told took in let w = (ask_by a b (Lock Heal (heal_area g)) told took, older) ∷ work a older in
-      UnmovedIn p w r.law.object r.law.kind × ShowsIn p.shape.n w r.law.object r.step r.phase r.first_views r.law.raised)
+      UnmovedIn p w r.law.object r.law.kind × ShowsIn p.shape.n w r.law.object r.step r.part r.first_views r.law.raised)
   first_told older b g told took opened = (
     record { is_due = λ some. absurd (omega (arith, some, none)); bytes = λ more. absurd (omega (arith, more, none)); five = rw outside refl; rows = λ more. absurd (omega (arith, more, none)) },
     record {
@@ -105,20 +105,20 @@ module _ (p : Plan) (a : ℕ) where
 
   -- ---- a request of a heal that goes on
   module _ (older : List Line) (b : ℕ) (told : Told) (took : Bool) (below : b < p.shape.n) (few : p.shape.n ≤ 5) (u : UnmovedIn p (work a older) (reg p a older).law.object (reg p a older).law.kind)
-      (s : ShowsIn p.shape.n (work a older) (reg p a older).law.object (reg p a older).step (reg p a older).phase (reg p a older).first_views (reg p a older).law.raised) where
+      (s : ShowsIn p.shape.n (work a older) (reg p a older).law.object (reg p a older).step (reg p a older).part (reg p a older).first_views (reg p a older).law.raised) where
     abbrev After : Request → Type 0
     After request = (let l = left_in_heal p.shape.n (reg p a older) (length older) b request told in let w = (ask_by a b request told took, older) ∷ work a older in
         UnmovedIn p w (reg p a older).law.object (reg p a older).law.kind
-        × ShowsIn p.shape.n w (reg p a older).law.object l.step l.phase l.first_views (weak.dropping (is_gone told) b (weak.note_ask p.shape.n (reg p a older).law b request told)).raised)
+        × ShowsIn p.shape.n w (reg p a older).law.object l.step l.part l.first_views (weak.dropping (is_gone told) b (weak.note_ask p.shape.n (reg p a older).law b request told)).raised)
 
-    lock_heal : (area : Area) → MayHeal p.shape.n (kept_by p) (reg p a older) b (Lock Heal area) → (reg p a older).phase ≡ Opening → After (Lock Heal area)
+    lock_heal : (area : Area) → MayHeal p.shape.n (kept_by p) (reg p a older) b (Lock Heal area) → (reg p a older).part ≡ Opening → After (Lock Heal area)
     lock_heal area m first = (
         let five : rank (reg p a older).step ≡ 5 = heal_lock_step p.shape.n (kept_by p) (reg p a older) m.source b area m.allowed in
         let locked = locked_first a b Heal area told took (first_by (heal_by (work a older))) in
         let before = s.before (omega (arith, five)) first in
         let none = before.1 in (
           record { is_due = u.is_due; bytes = u.bytes; five = u.five; rows = λ more. absurd (omega (arith, more, none)) },
-          shows_locked p.shape.n (reg p a older).step HealLocks (reg p a older).phase (reg p a older).phase (reg p a older).first_views (reg p a older).law.raised _ (first_by (heal_by (work a older))) _ _ _ _ _ _ _ locked.0 locked.1 locked.2 (omega arith)
+          shows_locked p.shape.n (reg p a older).step HealLocks (reg p a older).part (reg p a older).part (reg p a older).first_views (reg p a older).law.raised _ (first_by (heal_by (work a older))) _ _ _ _ _ _ _ locked.0 locked.1 locked.2 (omega arith)
               (raised_after p.shape.n (reg p a older).law b (Lock Heal area) told tt) (λ e. (e, omega (arith, five))) (λ later. inl later) (λ e. absurd (cc e)) (λ e. absurd (cc (first, e))) s,
         )
         )
@@ -127,7 +127,7 @@ module _ (p : Plan) (a : ℕ) where
     lock_work : (area : Area) → AreasIn (reg p a older) (reg p a older).law → StageOf (reg p a older) → MayHeal p.shape.n (kept_by p) (reg p a older) b (Lock WorkDomain area) → After (Lock WorkDomain area)
     lock_work area areas stage m = (
       record { is_due = u.is_due; bytes = u.bytes; five = five ((object_of_area area).0 == r.law.object); rows = λ more x reached. absurd (true≢false (sym reached ∙ ap (λ (l : List ℕ). member l x) (emptied (inl (λ first. (let o = s.one first in omega (arith, more, o))))))) },
-      shows_locked p.shape.n r.step WorkLocks r.phase (next_phase r area) r.first_views r.law.raised _ (first_by (heal_by (work a older))) _ _ _ _ _ _ _ locked.0 locked.1 locked.2 (omega arith)
+      shows_locked p.shape.n r.step WorkLocks r.part (next_part r area) r.first_views r.law.raised _ (first_by (heal_by (work a older))) _ _ _ _ _ _ _ locked.0 locked.1 locked.2 (omega arith)
           (raised_after p.shape.n r.law b (Lock WorkDomain area) told tt) early was (λ e later. emptied (was later)) (λ e. (part_locked p r b area areas stage m (piece_later e)).1 e) s,
     )
       where
@@ -142,21 +142,21 @@ module _ (p : Plan) (a : ℕ) where
         five true = refl
         five false = u.five
 
-        emptied : (r.phase ≡ Opening → ⊥) ⊎ (7 ≤ rank r.step) → (if (object_of_area area).0 == r.law.object then no_looks else looked_by (record { 0 = r.law.object }) (heal_by (work a older))).reached ≡ []
+        emptied : (r.part ≡ Opening → ⊥) ⊎ (7 ≤ rank r.step) → (if (object_of_area area).0 == r.law.object then no_looks else looked_by (record { 0 = r.law.object }) (heal_by (work a older))).reached ≡ []
         emptied later = (let e : ((object_of_area area).0 == r.law.object) ≡ true = eq-eqb (object_of_area area).0 r.law.object (part_locked p r b area areas stage m later).0 in rw e refl)
 
-        by_place : WorkPlace p.shape.n (kept_by p) r m.source b area → ((rank r.step ≤ 6) × (next_phase r area ≡ r.phase)) ⊎ ((rank r.step ≡ 12) × (next_phase r area ≡ Opening → ⊥))
+        by_place : WorkPlace p.shape.n (kept_by p) r m.source b area → ((rank r.step ≤ 6) × (next_part r area ≡ r.part)) ⊎ ((rank r.step ≡ 12) × (next_part r area ≡ Opening → ⊥))
         by_place (Waits at unmoved own lock new) = inl (omega (arith, ap rank at), unmoved)
         by_place (Starts five unmoved lock) = inl (omega (arith, five), unmoved)
         by_place (Resumes twelve unmoved idle kind unfinished lock next) = inr (twelve, λ e. next_not_opening (same_area (whole_area r.law.object Bytes) area) (sym unmoved ∙ e))
 
-        early : next_phase r area ≡ Opening → (r.phase ≡ Opening) × (rank r.step ≤ 6)
+        early : next_part r area ≡ Opening → (r.part ≡ Opening) × (rank r.step ≤ 6)
         early e = elim (by_place (work_place p.shape.n (kept_by p) r m.source b area m.allowed)) [ inl w ↦ (sym w.1 ∙ e, w.0) | inr w ↦ absurd (w.1 e) ]
 
-        was : (next_phase r area ≡ Opening → ⊥) → (r.phase ≡ Opening → ⊥) ⊎ (7 ≤ rank r.step)
+        was : (next_part r area ≡ Opening → ⊥) → (r.part ≡ Opening → ⊥) ⊎ (7 ≤ rank r.step)
         was later = elim (by_place (work_place p.shape.n (kept_by p) r m.source b area m.allowed)) [ inl w ↦ inl (λ e. later (w.1 ∙ e)) | inr w ↦ inr (let t = w.0 in omega (arith, t)) ]
 
-        piece_later : next_phase r area ≡ Piece → (r.phase ≡ Opening → ⊥) ⊎ (7 ≤ rank r.step)
+        piece_later : next_part r area ≡ Piece → (r.part ≡ Opening → ⊥) ⊎ (7 ≤ rank r.step)
         piece_later e = was (λ f. cc (e, f))
 
     -- ---- looks
@@ -167,7 +167,7 @@ module _ (p : Plan) (a : ℕ) where
     small : b < 5
     small = omega (arith, below, few)
 
-    look_first : (g : Gfid) → MayHeal p.shape.n (kept_by p) (reg p a older) b (Look g) → (reg p a older).phase ≡ Opening → After (Look g)
+    look_first : (g : Gfid) → MayHeal p.shape.n (kept_by p) (reg p a older) b (Look g) → (reg p a older).part ≡ Opening → After (Look g)
     look_first g m first = (
       record { is_due = u.is_due; bytes = u.bytes; five = five_looked g (g.0 == r.law.object); rows = λ more. absurd (let o = s.one first in omega (arith, more, o)) },
       rw (s.looking first at, ap is_opening first) (record {
@@ -202,11 +202,11 @@ module _ (p : Plan) (a : ℕ) where
         put_same true x low = refl
         put_same false x low = s.viewed x low
 
-    look_later : (g : Gfid) → MayHeal p.shape.n (kept_by p) (reg p a older) b (Look g) → ((reg p a older).phase ≡ Opening → ⊥) → IsHonest p (ask_by a b (Look g) told took) older → (reg p a older).law.kind ≡ Bytes → KeptIn p older (reg p a older)
+    look_later : (g : Gfid) → MayHeal p.shape.n (kept_by p) (reg p a older) b (Look g) → ((reg p a older).part ≡ Opening → ⊥) → IsHonest p (ask_by a b (Look g) told took) older → (reg p a older).law.kind ≡ Bytes → KeptIn p older (reg p a older)
         → IsAbsent p a older (reg p a older).law.object (reg p a older).first_reached (reg p a older).first_views → (t : Tally) → RaisesIn p.shape.n (kept_by p) (reg p a older) (reg p a older).law t → After (Look g)
     look_later g m later honest bytes k none t raises = (
       rw (s.over later, object_test) (record { is_due = u.is_due; bytes = u.bytes; five = shown_five told b looked ∙ u.five; rows = λ more x e. row more x (shown_reached told b x looked e) }),
-      rw (s.over later, not_opening r.phase later) (record {
+      rw (s.over later, not_opening r.part later) (record {
         before = λ low. absurd (omega (arith, low));
         looking = λ e. absurd (later e);
         after = λ c. s.after (inl later);
@@ -241,9 +241,9 @@ module _ (p : Plan) (a : ℕ) where
         here = subst (λ (h : ℕ). IsHonest p (ask_by a b (look_at h) told took) older) (eqb-true g.0 r.law.object object_test) honest
 
         reached : r.first_reached b ≡ true
-        reached = again r.phase later (turn_in p.shape.n (kept_by p) r m.source Looks b (look_turn p.shape.n (kept_by p) r m.source b g.0 m.allowed))
+        reached = again r.part later (turn_in p.shape.n (kept_by p) r m.source Looks b (look_turn p.shape.n (kept_by p) r m.source b g.0 m.allowed))
           where
-            again : (phase : Phase) → (phase ≡ Opening → ⊥) → looks_at r phase b ≡ true → r.first_reached b ≡ true
+            again : (part : HealPart) → (part ≡ Opening → ⊥) → looks_at r part b ≡ true → r.first_reached b ≡ true
             again Opening l e = absurd (l refl)
             again Piece l e = e
             again Finish l e = e
@@ -277,9 +277,9 @@ module _ (p : Plan) (a : ℕ) where
 
     -- ---- what comes after the looks
     on : (request : Request) (next : Step) → 7 ≤ rank (reg p a older).step → 8 ≤ rank next → IsNoPre request
-        → Shows p.shape.n next (reg p a older).phase (reg p a older).first_views (weak.dropping (is_gone told) b (weak.note_ask p.shape.n (reg p a older).law b request told)).raised (record (first_by (heal_by (work a older))) { still = false })
+        → Shows p.shape.n next (reg p a older).part (reg p a older).first_views (weak.dropping (is_gone told) b (weak.note_ask p.shape.n (reg p a older).law b request told)).raised (record (first_by (heal_by (work a older))) { still = false })
         (pieces (heal_by (work a older))) (among prepared (heal_by (work a older))) (looked_by (record { 0 = (reg p a older).law.object }) (heal_by (work a older))) (is_whole_by (whole_of (record { 0 = (reg p a older).law.object }) Bytes) (heal_by (work a older)))
-    on request next far late plain = shows_on p.shape.n (reg p a older).step next (reg p a older).phase (reg p a older).first_views (reg p a older).law.raised
+    on request next far late plain = shows_on p.shape.n (reg p a older).step next (reg p a older).part (reg p a older).first_views (reg p a older).law.raised
         (weak.dropping (is_gone told) b (weak.note_ask p.shape.n (reg p a older).law b request told)).raised (first_by (heal_by (work a older))) (pieces (heal_by (work a older))) (among prepared (heal_by (work a older)))
         (looked_by (record { 0 = (reg p a older).law.object }) (heal_by (work a older))) (is_whole_by (whole_of (record { 0 = (reg p a older).law.object }) Bytes) (heal_by (work a older))) far late (raised_after p.shape.n (reg p a older).law b request told plain) s
 
@@ -308,8 +308,8 @@ module _ (p : Plan) (a : ℕ) where
         far : 7 ≤ rank r.step
         far = looks_far p.shape.n (kept_by p) r m.source (onward_looks p.shape.n (kept_by p) r m.source g.0 kind (pre_onward p.shape.n (kept_by p) r m.source b g.0 kind m.allowed))
 
-        first : r.phase ≡ Opening
-        first = pres_opening (kept_by p) r m.source r.law.kind r.phase b areas.bytes (turn_in p.shape.n (kept_by p) r m.source HealPres b (pre_turn p.shape.n (kept_by p) r m.source b g.0 kind m.allowed))
+        first : r.part ≡ Opening
+        first = pres_opening (kept_by p) r m.source r.law.kind r.part b areas.bytes (turn_in p.shape.n (kept_by p) r m.source HealPres b (pre_turn p.shape.n (kept_by p) r m.source b g.0 kind m.allowed))
 
     -- each request
     asked_told : (request : Request) → MayHeal p.shape.n (kept_by p) (reg p a older) b request → IsHonest p (ask_by a b request told took) older → AreasIn (reg p a older) (reg p a older).law → StageOf (reg p a older)
@@ -317,7 +317,7 @@ module _ (p : Plan) (a : ℕ) where
         → (t : Tally) × RaisesIn p.shape.n (kept_by p) (reg p a older) (reg p a older).law t → After request
     asked_told (Lock Heal area) m honest areas stage k none raises = (let five : rank (reg p a older).step ≡ 5 = heal_lock_step p.shape.n (kept_by p) (reg p a older) m.source b area m.allowed in lock_heal area m (stage.early m.inside (omega (arith, five))).0)
     asked_told (Lock WorkDomain area) m honest areas stage k none raises = lock_work area areas stage m
-    asked_told (Look g) m honest areas stage k none raises = elim (opening_or (reg p a older).phase) [
+    asked_told (Look g) m honest areas stage k none raises = elim (opening_or (reg p a older).part) [
       | inl first ↦ look_first g m first
       | inr later ↦ (let bytes = areas.bytes later in look_later g m later honest bytes (k bytes) none raises.0 raises.1)
     ]
@@ -349,8 +349,8 @@ module _ (p : Plan) (a : ℕ) where
     subst (λ (w : Work). UnmovedIn p w (weak.dropping (is_gone told) b (weak.note_ask p.shape.n r.law b request told)).object (weak.dropping (is_gone told) b (weak.note_ask p.shape.n r.law b request told)).kind) (sym (own_work older b request told took))
         (subst (λ (g : ℕ). UnmovedIn p ((ask_by a b request told took, older) ∷ work a older) g (weak.dropping (is_gone told) b (weak.note_ask p.shape.n r.law b request told)).kind) (sym heal.0)
         (subst (UnmovedIn p ((ask_by a b request told took, older) ∷ work a older) r.law.object) (sym heal.1) now.0)),
-    λ whole. subst (λ (w : Work). ShowsIn p.shape.n w (weak.dropping (is_gone told) b (weak.note_ask p.shape.n r.law b request told)).object (left_in_heal p.shape.n r (length older) b request told).step (left_in_heal p.shape.n r (length older) b request told).phase (left_in_heal p.shape.n r (length older) b request told).first_views (weak.dropping (is_gone told) b (weak.note_ask p.shape.n r.law b request told)).raised) (sym (own_work older b request told took))
-        (subst (λ (g : ℕ). ShowsIn p.shape.n ((ask_by a b request told took, older) ∷ work a older) g (left_in_heal p.shape.n r (length older) b request told).step (left_in_heal p.shape.n r (length older) b request told).phase (left_in_heal p.shape.n r (length older) b request told).first_views (weak.dropping (is_gone told) b (weak.note_ask p.shape.n r.law b request told)).raised) (sym heal.0) now.1),
+    λ whole. subst (λ (w : Work). ShowsIn p.shape.n w (weak.dropping (is_gone told) b (weak.note_ask p.shape.n r.law b request told)).object (left_in_heal p.shape.n r (length older) b request told).step (left_in_heal p.shape.n r (length older) b request told).part (left_in_heal p.shape.n r (length older) b request told).first_views (weak.dropping (is_gone told) b (weak.note_ask p.shape.n r.law b request told)).raised) (sym (own_work older b request told took))
+        (subst (λ (g : ℕ). ShowsIn p.shape.n ((ask_by a b request told took, older) ∷ work a older) g (left_in_heal p.shape.n r (length older) b request told).step (left_in_heal p.shape.n r (length older) b request told).part (left_in_heal p.shape.n r (length older) b request told).first_views (weak.dropping (is_gone told) b (weak.note_ask p.shape.n r.law b request told)).raised) (sym heal.0) now.1),
   )
     where
       r : Exact
@@ -365,7 +365,7 @@ module _ (p : Plan) (a : ℕ) where
       before : Joined a older
       before = joined.0 (same_self a) refl
 
-      old : UnmovedIn p (work a older) r.law.object r.law.kind × (r.broken ≡ false → ShowsIn p.shape.n (work a older) r.law.object r.step r.phase r.first_views r.law.raised)
+      old : UnmovedIn p (work a older) r.law.object r.law.kind × (r.broken ≡ false → ShowsIn p.shape.n (work a older) r.law.object r.step r.part r.first_views r.law.raised)
       old = was before follows.1
 
       now : After older b told took below premises.five old.0 (old.1 m.whole) request
@@ -392,7 +392,7 @@ module _ (p : Plan) (a : ℕ) where
       heal : Same r.law (weak.dropping (is_gone told) b (weak.note_ask p.shape.n r.law b (Unlock domain area) told))
       heal = unlocks domain
 
-      old : UnmovedIn p (work a older) r.law.object r.law.kind × (r.broken ≡ false → ShowsIn p.shape.n (work a older) r.law.object r.step r.phase r.first_views r.law.raised)
+      old : UnmovedIn p (work a older) r.law.object r.law.kind × (r.broken ≡ false → ShowsIn p.shape.n (work a older) r.law.object r.step r.part r.first_views r.law.raised)
       old = was (joined.0 (same_self a) refl) follows.1
 
   -- a HealBegin line names the heal that is due
@@ -412,7 +412,7 @@ module _ (p : Plan) (a : ℕ) where
       five = old.0.five;
       rows = λ more x e. absurd (true≢false (sym e ∙ ap (λ (l : List ℕ). member l x) (s.empty may.step (later_of more))));
     }),
-    λ whole. subst (λ (w : Work). ShowsIn p.shape.n w r.law.object Looks r.phase r.first_views r.law.raised) (sym own) (record {
+    λ whole. subst (λ (w : Work). ShowsIn p.shape.n w r.law.object Looks r.part r.first_views r.law.raised) (sym own) (record {
       before = λ low. absurd (omega (arith, low));
       looking = λ first e. ap not (s.before (omega (arith, six)) first).0;
       after = λ c. refl;
@@ -434,16 +434,16 @@ module _ (p : Plan) (a : ℕ) where
       own : work a (heal_begin_by a g kind ∷ older) ≡ (heal_begin_by a g kind, older) ∷ work a older
       own = work_more a (heal_begin_by a g kind) older (same_self a) refl
 
-      old : UnmovedIn p (work a older) r.law.object r.law.kind × (r.broken ≡ false → ShowsIn p.shape.n (work a older) r.law.object r.step r.phase r.first_views r.law.raised)
+      old : UnmovedIn p (work a older) r.law.object r.law.kind × (r.broken ≡ false → ShowsIn p.shape.n (work a older) r.law.object r.step r.part r.first_views r.law.raised)
       old = was (joined.0 (same_self a) refl) follows.1
 
-      s : ShowsIn p.shape.n (work a older) r.law.object r.step r.phase r.first_views r.law.raised
+      s : ShowsIn p.shape.n (work a older) r.law.object r.step r.part r.first_views r.law.raised
       s = old.1 may.whole
 
       six : rank r.step ≡ 6
       six = ap rank may.step
 
-      later_of : 1 < pieces (heal_by (work a older)) + 1 → r.phase ≡ Opening → ⊥
+      later_of : 1 < pieces (heal_by (work a older)) + 1 → r.part ≡ Opening → ⊥
       later_of more first = (let none = (s.before (omega (arith, six)) first).1 in omega (arith, more, none))
 
       bytes : 1 < pieces (heal_by (work a older)) + 1 → kind ≡ Bytes
@@ -459,5 +459,5 @@ module _ (p : Plan) (a : ℕ) where
           let r = opened_by p.shape.n (kept_by p) (length older) a b (heal_area g) told took in
           let k = first_told older b g told took opened in
           let own = own_work older b (Lock Heal (heal_area g)) told took in
-          (subst (λ (w : Work). UnmovedIn p w r.law.object r.law.kind) (sym own) k.0, λ whole. subst (λ (w : Work). ShowsIn p.shape.n w r.law.object r.step r.phase r.first_views r.law.raised) (sym own) k.1)
+          (subst (λ (w : Work). UnmovedIn p w r.law.object r.law.kind) (sym own) k.0, λ whole. subst (λ (w : Work). ShowsIn p.shape.n w r.law.object r.step r.part r.first_views r.law.raised) (sym own) k.1)
           )

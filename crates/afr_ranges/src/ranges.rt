@@ -1,6 +1,6 @@
 //! Each number of a line lies in the range of its type: functions that do nothing but walk over a list, and whose contracts say so of each part of a line.
 ghost use Rattle.std.specs.Prelude.{◌<◌, ◌^◌};
-ghost use Rattle.afr_moves.specs.Ranges.{AreaInRange, ChangeInRange, Each, EventInRange, GoodInRange, HealReplyInRange, IfSome, InRange, IsByte, IsGfid, IsShort, IsWord, MarksInRange, RepairInRange, ReplyInRange, RequestInRange, ToldInRange, ViewInRange, ViewsInRange};
+ghost use Rattle.afr_moves.specs.Ranges.{AreaInRange, ChangeInRange, Each, EventInRange, GoodInRange, HealReplyInRange, IfSome, InRange, IsByte, IsGfid, IsTwoBytes, IsWord, MarksInRange, RepairInRange, ReplyInRange, RequestInRange, ToldInRange, ViewInRange, ViewsInRange};
 ghost use Rattle.afr_ranges.specs.Named.{IsNamed};
 
 use afr_base::{ActorId, BrickId, BrickSet, Gfid, Marks, NameId};
@@ -14,7 +14,7 @@ fn byte_fits(n: u8)
 }
 
 fn short_fits(n: u16)
-    ensures { IsShort n }
+    ensures { IsTwoBytes n }
 {
     let _n = n;
 }
@@ -33,7 +33,7 @@ fn gfid_fits(gfid: Gfid)
 
 /// The number of an actor is in its range.
 pub fn actor_fits_its_type(actor: ActorId)
-    ensures { IsShort actor.0 }
+    ensures { IsTwoBytes actor.0 }
 {
     short_fits(actor.0);
 }

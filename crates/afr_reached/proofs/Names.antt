@@ -25,7 +25,7 @@ use Rattle.afr_tables.specs.TableLaws.{copy_stays, stays_applied}
 use Rattle.afr_apart.specs.Apart.{OnlyDirectoriesHaveNames}
 use Rattle.afr_law.specs.ModelKinds.{IsOneKind, Now}
 use Rattle.afr_quiet.specs.Undisturbed.{IsEverywhere}
-use Rattle.afr_converged.specs.Converged.{AreRounds, HasPart, IsClearAlike, IsEverywhereAs, IsUnchanged, part_of}
+use Rattle.afr_converged.specs.Converged.{AreRounds, HasPart, IsClearAlike, IsEverywhereAs, IsUnchanged, contents_in}
 use Rattle.afr_converged.proofs.Spared.{has_some}
 use Rattle.afr_reached.specs.Reached.{IsNamed}
 use Rattle.afr_reached.proofs.Passes.{was_then}
@@ -107,8 +107,8 @@ named_was p start log dir every u b low name g (what, is) = (what, entry ∙ is)
     was : (o : Object) × (copy_at dir (holds p start b) ≡ Some o)
     was = has_some p start b dir (every b low)
 
-    now : HasPart p log b dir Names (was.0.what, part_of Names was.0)
-    now = u.parts b low (was.0.what, part_of Names was.0) (was.0, was.1, refl)
+    now : HasPart p log b dir Names (was.0.what, contents_in Names was.0)
+    now = u.parts b low (was.0.what, contents_in Names was.0) (was.0, was.1, refl)
 
     names : was.0.names ≡ now.0.names
     names = sym (names_same now.0.what was.0.what now.0.names was.0.names now.2)

@@ -19,7 +19,7 @@ use Rattle.afr_discipline.specs.Tests.{ends_low}
 use Rattle.afr_entry_telling.proofs.Changing.{IsLike, like_same}
 use Rattle.afr_entry_telling.proofs.Names.{upto_more}
 use Rattle.afr_entry_telling.proofs.Words.{longer, low_is, path_is, place_upto, small_is, steps_are}
-use Rattle.afr_entry_telling.specs.EntryTelling.{Changes, EntryTells, RemovesChild, TellsIn, command_of}
+use Rattle.afr_entry_telling.specs.EntryTelling.{ChangesName, EntryTells, RemovesChild, TellsIn, command_of}
 use Rattle.afr_lines.specs.Told.{told_by}
 use Rattle.afr_lines.specs.Work.{Work}
 use Rattle.afr_lines.specs.declared.answer.Answer.{Answer}
@@ -54,7 +54,7 @@ use Rattle.afr_removal_telling.specs.RemovalTelling.{RemovalTells}
 use Rattle.afr_rule.specs.declared.candidate.Candidate.{Candidate}
 use Rattle.afr_transaction.specs.Outcome.{reply_of}
 use Rattle.afr_transaction.specs.Progress as transaction
-use Rattle.afr_transaction.specs.Progress.{Progress, answered_by, asks, fed, is_beginning, is_over, left}
+use Rattle.afr_transaction.specs.Progress.{TransactionProgress, answered_by, asks, fed, is_beginning, is_over, left}
 use Rattle.afr_transaction.specs.Sound.{Sound}
 use Rattle.afr_transaction.specs.declared.stage.Stage.{Stage}
 use Rattle.afr_transaction.specs.declared.stage.Stage.TheVariants as stages
@@ -83,7 +83,7 @@ walks_front p job w lines upto = record {
     apart l = grind (arith, nat_tests, l)
 
 -- ---- under the lock of the name
-module _ (p : Plan) (job : EntryJob) (path : List NameId) (dir : Entry) (t : Progress) (lines : Work) (a : ActorId) (b : BrickId) (asked : Request) (told : Told) (took : Bool) (log : List Line) (at : ℕ) where
+module _ (p : Plan) (job : EntryJob) (path : List NameId) (dir : Entry) (t : TransactionProgress) (lines : Work) (a : ActorId) (b : BrickId) (asked : Request) (told : Told) (took : Bool) (log : List Line) (at : ℕ) where
   abbrev c : Command
   c = command_of job path
 
@@ -116,12 +116,12 @@ module _ (p : Plan) (job : EntryJob) (path : List NameId) (dir : Entry) (t : Pro
   -- before that it is asked for at the end of the looks alone
   module _ (copy chosen : BrickId) (like : IsLike t.change (change_of dir.gfid job)) (low : ends_low t.change ≡ true) (sets : HasSets t lines) where
     abbrev There : Stage → BrickId → Request → Type 0
-    There stage y r = Changes p c job dir (fed stage told at t) (Unread chosen) ((Ask a y r told took, log) ∷ lines)
+    There stage y r = ChangesName p c job dir (fed stage told at t) (Unread chosen) ((Ask a y r told took, log) ∷ lines)
 
     locks_ask : offered (fed stages.Locking told at t) ≡ []
     locks_ask = go (is_nothing (left stages.Locking x)) (is_majority x.register.shape.n x.asked.locked_on)
       where
-        x : Progress
+        x : TransactionProgress
         x = answered_by stages.Locking (lowest (left stages.Locking t)) told at t
 
         go : (o m : Bool) → (if is_beginning (if o then (if m then stages.Looking else stages.Closing) else stages.Locking) then candidates_of (fed stages.Locking told at t).register.shape (fed stages.Locking told at t).register.looked Names else []) ≡ []
@@ -172,7 +172,7 @@ module _ (picks : Picks) (p : Plan) (m : Entering) (lines : Work) (a : ActorId) 
   abbrev IsAboutNext : EntryStage → Type 0
   IsAboutNext stage = (y : BrickId) (r : Request) → next_at later (now stage) m.job (walk stage) ≡ next.Ask y r → IsAbout p of (Ask a y r Done true) more
 
-  under : (t : Progress) (found : Found) → IsChanging m.walk m.job t found → Changes p of m.job m.walk.object t found lines → next_under found at m.job m.walk t ≡ next.Ask b asked → TellsIn p of m.job (now (Changing t found)) m.walk more
+  under : (t : TransactionProgress) (found : Found) → IsChanging m.walk m.job t found → ChangesName p of m.job m.walk.object t found lines → next_under found at m.job m.walk t ≡ next.Ask b asked → TellsIn p of m.job (now (Changing t found)) m.walk more
       → IsStage m.walk m.job (now (Changing t found)) → AsksAs p of asked more (choices_under found heard at t)
   under t Fits sound k e tells after = fits_asks p m.job m.walk.path m.walk.object t lines a b asked (told_by heard) took log at t.stage sound.in_turn e
   under t (Refused why) sound k e tells after = go (is_over t.stage t) e

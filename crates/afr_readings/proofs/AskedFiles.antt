@@ -11,8 +11,8 @@ use Rattle.afr_base.specs.declared.ids.Shape.{Shape}
 use Rattle.afr_inode_read.specs.Job.{kind_of, request_of}
 use Rattle.afr_inode_read.specs.Lookup as lookup
 use Rattle.afr_inode_read.specs.Lookup.{IsLookup, Lookup, is_asking}
-use Rattle.afr_inode_read.specs.declared.job.Content.{Content}
-use Rattle.afr_inode_read.specs.declared.job.Content.TheVariants as content
+use Rattle.afr_inode_read.specs.declared.job.Wanted.{Wanted}
+use Rattle.afr_inode_read.specs.declared.job.Wanted.TheVariants as content
 use Rattle.afr_inode_read.specs.declared.job.LookupJob.{LookupJob}
 use Rattle.afr_inode_read.specs.declared.job.LookupJob.TheVariants.{GetAttr, Ls, Read, Stat}
 use Rattle.afr_inode_read.specs.declared.stage.LookupStage.{LookupStage}
@@ -93,7 +93,7 @@ kind_at job path read object e =
     by Ls = rw test refl
     by Stat = (rw test refl) ∙ ap (λ (x : Kind). Some x) (kind_shown path object.what)
 
-no_look : (p : Plan) (c : Command) (g : Gfid) (of : Content) (more : Work) → AsksAs p c (request_of g of) more []
+no_look : (p : Plan) (c : Command) (g : Gfid) (of : Wanted) (more : Work) → AsksAs p c (request_of g of) more []
 no_look p c g (content.Bytes at len) more = refl
 no_look p c g (content.Value key) more = refl
 no_look p c g content.Names more = refl

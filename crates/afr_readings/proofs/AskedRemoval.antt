@@ -48,13 +48,13 @@ use Rattle.afr_readings.proofs.Rule.{candidates_are, numbers_of}
 use Rattle.afr_readings.specs.Readings.{are_over, area_at, asked_at, holds_lock, kind_here, locked_here}
 use Rattle.afr_removal.specs.Removal.{Removing, against, answered, asks, both_held, brick_at, choices_at, has_takers, is_beginning, is_over, left, next_at, offered, or_close, register_after, reply_of, sets_after}
 use Rattle.afr_removal.specs.Sound.{Sound}
-use Rattle.afr_removal.specs.declared.stage.Ending.{Ending}
-use Rattle.afr_removal.specs.declared.stage.Ending.TheVariants as ending
+use Rattle.afr_removal.specs.declared.stage.RemovalEnding.{RemovalEnding}
+use Rattle.afr_removal.specs.declared.stage.RemovalEnding.TheVariants as ending
 use Rattle.afr_removal.specs.declared.stage.RemovalStage.{RemovalStage}
 use Rattle.afr_removal.specs.declared.stage.RemovalStage.TheVariants.{Applying, Beginning, Closing, Listing, Locking, Looking, Posting, Preparing}
 use Rattle.afr_removal_telling.proofs.Notes.{look_holds}
 use Rattle.afr_removal_telling.proofs.Small.{in_common, in_filter}
-use Rattle.afr_removal_telling.specs.RemovalTelling.{AreHeld, During, Goes, OnLooks, RemovalTells, dir_at, held_in}
+use Rattle.afr_removal_telling.specs.RemovalTelling.{AreHeld, During, OnLooks, RemovalGoes, RemovalTells, dir_at, held_in}
 use Rattle.afr_transaction.proofs.Requests.{after_outside, noted_is}
 use Rattle.afr_transaction_tells.proofs.Small.{self}
 use Rattle.afr_walk.specs.Choosing.{candidates_of}
@@ -102,10 +102,10 @@ views_refuse p path w said (Answers e object place ans) h = absurd (no_posts (ha
 views_refuse p path w said (Stats e names is object place stat) h = absurd (cc is)
 
 -- what the looks rule out is told by views
-against_views : (shape : Shape) (looked : Looked) (r : Register) (why : Ending) → against shape looked ≡ Some why → is_by_views (reply_of why r) ≡ true
+against_views : (shape : Shape) (looked : Looked) (r : Register) (why : RemovalEnding) → against shape looked ≡ Some why → is_by_views (reply_of why r) ≡ true
 against_views shape looked r why e = go (is_majority shape.n looked.reached) (is_majority shape.n (holders_of looked)) (is_nothing (good_copies shape looked Names)) e
   where
-    views : Option Ending → Bool
+    views : Option RemovalEnding → Bool
     views None = true
     views (Some why) = is_by_views (reply_of why r)
 
@@ -144,7 +144,7 @@ module _ (p : Plan) (path : List NameId) (m : Removing) (lines : Work) (a : Acto
   abbrev x : Removing
   x = sets_after Looking b.0 told (register_after Looking heard at m) m
 
-  module _ (sound : Sound m) (k : Goes p path m.change m.register child lines) (d : OnLooks p m.change m.register m.child lines) (after : Sound now) (tells : RemovalTells p path now more) (goes_on : now.stage ≡ Listing → refusal p c more ≡ None) where
+  module _ (sound : Sound m) (k : RemovalGoes p path m.change m.register child lines) (d : OnLooks p m.change m.register m.child lines) (after : Sound now) (tells : RemovalTells p path now more) (goes_on : now.stage ≡ Listing → refusal p c more ≡ None) where
     register_is : x.register ≡ after_outside m.register b.0 (request.Look child) told
     register_is = noted_is m.register at b.0 (request.Look child) told sound.base.outside
 
@@ -208,13 +208,13 @@ module _ (p : Plan) (path : List NameId) (m : Removing) (lines : Work) (a : Acto
             ∙ ap (λ (l : Looked). model.candidates_of p.shape Names l) k.2.shows
 
     -- where it is refused
-    closed : (why : Ending) → now.stage ≡ Closing why → is_by_views (reply_of why now.register) ≡ true → not (is_some (refusal p c more)) ≡ false
+    closed : (why : RemovalEnding) → now.stage ≡ Closing why → is_by_views (reply_of why now.register) ≡ true → not (is_some (refusal p c more)) ≡ false
     closed why e h = go (subst (λ (s : RemovalStage). During s p path now more) e tells)
       where
         go : During (Closing why) p path now more → not (is_some (refusal p c more)) ≡ false
         go k = views_refuse p path more (reply_of why now.register) k.answered.caused h
 
-    by_stage : (o : Bool) → is_nothing (left Looking x) ≡ o → (h : Bool) → has_takers x.register ≡ h → (why : Option Ending) → against x.register.shape x.child.looked ≡ why
+    by_stage : (o : Bool) → is_nothing (left Looking x) ≡ o → (h : Bool) → has_takers x.register ≡ h → (why : Option RemovalEnding) → against x.register.shape x.child.looked ≡ why
         → (if o && not (is_some (refusal p c more)) then from else []) ≡ map numbers_of (offered (if o then (if h then or_close why Listing else Closing ending.NoQuorum) else Looking) x.register.shape x.child.looked)
     by_stage false over h has why rules = refl
     by_stage true over false has why rules =

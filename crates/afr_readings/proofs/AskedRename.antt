@@ -15,7 +15,7 @@ use Rattle.afr_entry.specs.declared.refusal.Refusal.{Refusal}
 use Rattle.afr_entry.specs.declared.stage.Found.{Found}
 use Rattle.afr_entry.specs.declared.stage.Found.TheVariants.{Fits, Refused, Unread}
 use Rattle.afr_entry_telling.proofs.Changing.{IsLike}
-use Rattle.afr_entry_telling.specs.EntryTelling.{Changes, OnChange, command_of}
+use Rattle.afr_entry_telling.specs.EntryTelling.{ChangesName, OnChange, command_of}
 use Rattle.afr_inode_telling.specs.Lines.{is_look}
 use Rattle.afr_lines.specs.Told.{told_by}
 use Rattle.afr_lines.specs.Work.{Work}
@@ -52,12 +52,12 @@ use Rattle.afr_rename.specs.declared.stage.RenameStage.TheVariants.{Ending, Find
 use Rattle.afr_rename.proofs.PathLemmas.{front_last}
 use Rattle.afr_rename_telling.proofs.Cut.{line_makes, line_removes, line_walks, not_again}
 use Rattle.afr_rename_telling.proofs.Walks.{finds_again, finds_walk, not_all_asked, walks_again}
-use Rattle.afr_rename_telling.specs.RenameTelling.{Drops, Makes as MakesName, Removes as RemovesName, RenameTells, TellsIn, old_dir, to_of}
+use Rattle.afr_rename_telling.specs.RenameTelling.{DropsOldName, MakesNewName as MakesName, Removes as RemovesName, RenameTells, TellsIn, old_dir, to_of}
 use Rattle.afr_rule.specs.declared.candidate.Candidate.{Candidate}
 use Rattle.afr_transaction.specs.Between.{noted_read}
 use Rattle.afr_transaction.specs.Outcome.{outcome_of}
 use Rattle.afr_transaction.specs.Progress as transaction
-use Rattle.afr_transaction.specs.Progress.{Progress, fed, is_beginning, is_over}
+use Rattle.afr_transaction.specs.Progress.{TransactionProgress, fed, is_beginning, is_over}
 use Rattle.afr_transaction.specs.Sound.{Sound}
 use Rattle.afr_transaction.specs.declared.stage.Stage.TheVariants.{Locking}
 use Rattle.afr_walk.specs.Walk.{choices_of, next_in}
@@ -95,14 +95,14 @@ not_second x w e = go (is_again x.0 w) e
     go false e = refl
 
 -- ---- under the locks of a name
-module _ (p : Plan) (job : EntryJob) (path : List NameId) (dir : Entry) (g : Gfid) (name : NameId) (t : Progress) (w : Work) (a : ActorId) (b : BrickId) (asked : Request) (chosen : BrickId) (told : Told) (took : Bool) (log : List Line) (at : ℕ) where
+module _ (p : Plan) (job : EntryJob) (path : List NameId) (dir : Entry) (g : Gfid) (name : NameId) (t : TransactionProgress) (w : Work) (a : ActorId) (b : BrickId) (asked : Request) (chosen : BrickId) (told : Told) (took : Bool) (log : List Line) (at : ℕ) where
   abbrev c : Command
   c = command_of job path
 
   abbrev put : Work
   put = (Ask a b asked told took, log) ∷ w
 
-  module _ (like : IsLike t.change (change_of dir.gfid job)) (low : ends_low t.change ≡ true) (why : Option Refusal) (T : Progress → Found → Type 0) (shows : (u : Progress) → T u (Unread chosen) → Changes p c job dir u (Unread chosen) put × Sound u) where
+  module _ (like : IsLike t.change (change_of dir.gfid job)) (low : ends_low t.change ≡ true) (why : Option Refusal) (T : TransactionProgress → Found → Type 0) (shows : (u : TransactionProgress) → T u (Unread chosen) → ChangesName p c job dir u (Unread chosen) put × Sound u) where
     pub under_as : (found : Found) → fits_stage found t.stage ≡ true → OnChange found p t w → next_under found at (request.ReadName g name) t ≡ next.Ask b asked → T (progress_after found why (request.ReadName g name) told at t) (found_after chosen found why t.stage)
         → AsksAs p c asked put (choices_under found told at t)
     under_as Fits fits on e tells = fits_asks p job path dir t w a b asked told took log at t.stage fits e
@@ -172,7 +172,7 @@ module _ (picks : Picks) (p : Plan) (m : Renaming) (lines : Work) (a : ActorId) 
       again = walks_again p m.paths lines k sound.paths.second sound.sound.0 a (told_by heard) took
 
   -- the making
-  makes_asks : (t : Progress) (found : Found) → IsRename m.paths (Making t found) → TellsIn p (Making t found) m.paths lines → next_at at (Making t found) m.paths ≡ next.Ask b asked → TellsIn p (now (Making t found)) m.paths here → IsSound m.paths (now (Making t found))
+  makes_asks : (t : TransactionProgress) (found : Found) → IsRename m.paths (Making t found) → TellsIn p (Making t found) m.paths lines → next_at at (Making t found) m.paths ≡ next.Ask b asked → TellsIn p (now (Making t found)) m.paths here → IsSound m.paths (now (Making t found))
       → As (choices_at (Making t found) heard at m.paths) b asked
   makes_asks t found sound k e tells after = go (is_done t) e tells after
     where
@@ -182,9 +182,9 @@ module _ (picks : Picks) (p : Plan) (m : Renaming) (lines : Work) (a : ActorId) 
       low : ends_low t.change ≡ true
       low = subst (λ (change : Change). ends_low change ≡ true) (sym sound.sound.under.of) refl
 
-      shows : (u : Progress) → MakesName p m.paths u (Unread chosen) here × IsMaking m.paths u (Unread chosen) → Changes p (command.Create other) (Create m.paths.new_name) m.paths.second.object u (Unread chosen) ((Ask a b asked (told_by heard) took, log) ∷ the_make own lines) × Sound u
+      shows : (u : TransactionProgress) → MakesName p m.paths u (Unread chosen) here × IsMaking m.paths u (Unread chosen) → ChangesName p (command.Create other) (Create m.paths.new_name) m.paths.second.object u (Unread chosen) ((Ask a b asked (told_by heard) took, log) ∷ the_make own lines) × Sound u
       shows u (tells, after) = (
-        subst (λ (w : Work). Changes p (command.Create other) (Create m.paths.new_name) m.paths.second.object u (Unread chosen) w)
+        subst (λ (w : Work). ChangesName p (command.Create other) (Create m.paths.new_name) m.paths.second.object u (Unread chosen) w)
             (make_grows own (Ask a b asked (told_by heard) took, log) lines k.on.walked.all k.on.first (not_second (Ask a b asked (told_by heard) took, log) lines tells.on.first)) tells.tells,
         after.under.sound,
       )
@@ -205,7 +205,7 @@ module _ (picks : Picks) (p : Plan) (m : Renaming) (lines : Work) (a : ActorId) 
           again h = not_again (Ask a b asked (told_by heard) took) lines k.on.first (look_no_lock a b asked (told_by heard) took h)
 
   -- the removal
-  removes_asks : (t : Progress) (found : Found) → IsRename m.paths (Removing t found) → TellsIn p (Removing t found) m.paths lines → next_at at (Removing t found) m.paths ≡ next.Ask b asked → TellsIn p (now (Removing t found)) m.paths here → IsSound m.paths (now (Removing t found))
+  removes_asks : (t : TransactionProgress) (found : Found) → IsRename m.paths (Removing t found) → TellsIn p (Removing t found) m.paths lines → next_at at (Removing t found) m.paths ≡ next.Ask b asked → TellsIn p (now (Removing t found)) m.paths here → IsSound m.paths (now (Removing t found))
       → As (choices_under found (told_by heard) at t) b asked
   removes_asks t found sound k e tells after = go (is_over t.stage t) e
     where
@@ -221,14 +221,14 @@ module _ (picks : Picks) (p : Plan) (m : Renaming) (lines : Work) (a : ActorId) 
       low : ends_low t.change ≡ true
       low = subst (λ (change : Change). ends_low change ≡ true) (sym sound.sound.under.of) refl
 
-      as_unlink : (u : Progress) (w : Work) → Drops p m.paths u (Unread chosen) w → Changes p (command.Unlink own) (Unlink m.paths.old_name) (old_dir m.paths) u (Unread chosen) w
+      as_unlink : (u : TransactionProgress) (w : Work) → DropsOldName p m.paths u (Unread chosen) w → ChangesName p (command.Unlink own) (Unlink m.paths.old_name) (old_dir m.paths) u (Unread chosen) w
       as_unlink u w d = record { place = d.place; directory = refl; unread = d.unread; name = d.name; on = d.on }
 
-      shows : (u : Progress) → RemovesName p m.paths u (Unread chosen) here × IsRemoving m.paths u (Unread chosen)
-          → Changes p (command.Unlink (front own ++ m.paths.old_name ∷ [])) (Unlink m.paths.old_name) (old_dir m.paths) u (Unread chosen) ((Ask a b asked (told_by heard) took, log) ∷ the_removal own lines) × Sound u
+      shows : (u : TransactionProgress) → RemovesName p m.paths u (Unread chosen) here × IsRemoving m.paths u (Unread chosen)
+          → ChangesName p (command.Unlink (front own ++ m.paths.old_name ∷ [])) (Unlink m.paths.old_name) (old_dir m.paths) u (Unread chosen) ((Ask a b asked (told_by heard) took, log) ∷ the_removal own lines) × Sound u
       shows u (tells, after) = (
-        subst (λ (names : List NameId). Changes p (command.Unlink names) (Unlink m.paths.old_name) (old_dir m.paths) u (Unread chosen) ((Ask a b asked (told_by heard) took, log) ∷ the_removal own lines)) (sym whole)
-            (subst (λ (w : Work). Changes p (command.Unlink own) (Unlink m.paths.old_name) (old_dir m.paths) u (Unread chosen) w) grows (as_unlink u (the_removal own here) tells.tells)),
+        subst (λ (names : List NameId). ChangesName p (command.Unlink names) (Unlink m.paths.old_name) (old_dir m.paths) u (Unread chosen) ((Ask a b asked (told_by heard) took, log) ∷ the_removal own lines)) (sym whole)
+            (subst (λ (w : Work). ChangesName p (command.Unlink own) (Unlink m.paths.old_name) (old_dir m.paths) u (Unread chosen) w) grows (as_unlink u (the_removal own here) tells.tells)),
         after.under.sound,
       )
 

@@ -17,7 +17,7 @@ use Rattle.afr_entry.specs.declared.job.EntryJob.{EntryJob}
 use Rattle.afr_entry.specs.declared.stage.Found.TheVariants.{Unread}
 use Rattle.afr_entry_telling.proofs.Changing.{IsLike}
 use Rattle.afr_entry_telling.proofs.Words.{area_is, longer, path_is, refused_there, steps_are, unread_fits}
-use Rattle.afr_entry_telling.specs.EntryTelling.{Changes, command_of}
+use Rattle.afr_entry_telling.specs.EntryTelling.{ChangesName, command_of}
 use Rattle.afr_inode_telling.proofs.Quiet.{looking_more}
 use Rattle.afr_lines.specs.Areas.{area_for, kind_for}
 use Rattle.afr_lines.specs.Work.{Work}
@@ -43,7 +43,7 @@ use Rattle.afr_readings.proofs.Rule.{candidates_are, numbers_of}
 use Rattle.afr_readings.specs.Readings.{are_over, asked_at, granted, kind_here, locked_here}
 use Rattle.afr_rule.specs.declared.candidate.Candidate.{Candidate}
 use Rattle.afr_transaction.specs.Outcome.{reply_of}
-use Rattle.afr_transaction.specs.Progress.{Progress, answered_by, fed, is_beginning, left, may_start}
+use Rattle.afr_transaction.specs.Progress.{TransactionProgress, answered_by, fed, is_beginning, left, may_start}
 use Rattle.afr_transaction.specs.Sound.{Sound}
 use Rattle.afr_transaction.specs.declared.stage.Stage.{Stage}
 use Rattle.afr_transaction.specs.declared.stage.Stage.TheVariants.{Beginning, Closing, Looking}
@@ -72,7 +72,7 @@ module _ (job : EntryJob) (path : List NameId) where
   not_last = let e = steps_are job path in let f = one_more in grind (arith, nat_tests, e, f)
 
 -- ---- a look at the directory
-module _ (p : Plan) (job : EntryJob) (path : List NameId) (dir : Entry) (t : Progress) (chosen : BrickId) (lines : Work) (a : ActorId) (told : Told) (took : Bool) (log : List Line) (at : ℕ) where
+module _ (p : Plan) (job : EntryJob) (path : List NameId) (dir : Entry) (t : TransactionProgress) (chosen : BrickId) (lines : Work) (a : ActorId) (told : Told) (took : Bool) (log : List Line) (at : ℕ) where
   abbrev c : Command
   c = command_of job path
 
@@ -85,10 +85,10 @@ module _ (p : Plan) (job : EntryJob) (path : List NameId) (dir : Entry) (t : Pro
   abbrev more : Work
   more = (Ask a b (request.Look g) told took, log) ∷ lines
 
-  abbrev now : Progress
+  abbrev now : TransactionProgress
   now = fed Looking told at t
 
-  module _ (like : IsLike t.change (change_of dir.gfid job)) (low : ends_low t.change ≡ true) (sets : HasSets t lines) (d : During Looking p.shape t lines) (tells : Changes p c job dir now (Unread chosen) more) (sound : Sound now) where
+  module _ (like : IsLike t.change (change_of dir.gfid job)) (low : ends_low t.change ≡ true) (sets : HasSets t lines) (d : During Looking p.shape t lines) (tells : ChangesName p c job dir now (Unread chosen) more) (sound : Sound now) where
     area_of : area_on dir.gfid c ≡ Some (area_for t.change)
     area_of = area_is job path dir.gfid ∙ ap (λ (x : Area). Some x) (sym like.area)
 
@@ -148,7 +148,7 @@ module _ (p : Plan) (job : EntryJob) (path : List NameId) (dir : Entry) (t : Pro
         ∙ ap (λ (s : Shape). model.candidates_of s Names now.register.looked) tells.on.0.tells.shape_is
         ∙ ap (λ (l : Looked). model.candidates_of p.shape Names l) (looks_of_lines p more now tells.on.0.tells (ap is_beginning e)))
 
-    abbrev x : Progress
+    abbrev x : TransactionProgress
     x = answered_by Looking b.0 told at t
 
     by_stage : (o : Bool) → is_nothing (left Looking x) ≡ o → (m : Bool) → may_start x.register x.change ≡ m

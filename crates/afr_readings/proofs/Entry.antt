@@ -47,7 +47,7 @@ use Rattle.afr_readings.proofs.Walk.{walk_begins, walk_begun, walk_picked, walk_
 use Rattle.afr_readings.proofs.Write.{change_ends, change_reads}
 use Rattle.afr_readings.specs.Picked.{PickedEnd, PickedEntry, PickedStep, PickedUnder, PickedWalk, PicksOf}
 use Rattle.afr_transaction.specs.Progress as transaction
-use Rattle.afr_transaction.specs.Progress.{Progress, fed, is_beginning, is_over, starting}
+use Rattle.afr_transaction.specs.Progress.{TransactionProgress, fed, is_beginning, is_over, starting}
 use Rattle.afr_transaction.specs.declared.stage.Stage.{Stage}
 use Rattle.afr_transaction_tells.specs.Tells.{During, OnBegin, Tells}
 use Rattle.afr_walk.specs.Choosing.{candidates_of, reader_of}
@@ -57,7 +57,7 @@ use Rattle.afr_walk.specs.declared.walk.WalkStep.{WalkStep}
 use Rattle.afr_walk.specs.declared.walk.WalkStep.TheVariants as walking
 
 -- before the attempt the transaction's looks are those of its lines
-pub looks_of_lines : (p : Plan) (w : Work) (t : Progress) → Tells p w t → is_beginning t.stage ≡ true → t.register.looked ≡ looked_by (object_of t.change) w
+pub looks_of_lines : (p : Plan) (w : Work) (t : TransactionProgress) → Tells p w t → is_beginning t.stage ≡ true → t.register.looked ≡ looked_by (object_of t.change) w
 looks_of_lines p w t tells e = begins (subst (λ (s : Stage). During s p.shape t w) (begins_at t.stage e) tells.during)
   where
     begins : OnBegin p.shape t.change t.register.looked t.asked.looked_at w → t.register.looked ≡ looked_by (object_of t.change) w
@@ -66,7 +66,7 @@ looks_of_lines p w t tells e = begins (subst (λ (s : Stage). During s p.shape t
 module _ (picks : Picks) (p : Plan) where
   -- ---- under the lock of the name
   -- the looks are over: the copy that is asked for it was picked by them
-  pub under_picked : (g : Gfid) (t : Progress) (picked : Option BrickId) (lines : Work) → Tells p lines t → object_of t.change ≡ g → HasReader t (Unread (reader_of picked)) → Picked picks (offered t) picked
+  pub under_picked : (g : Gfid) (t : TransactionProgress) (picked : Option BrickId) (lines : Work) → Tells p lines t → object_of t.change ≡ g → HasReader t (Unread (reader_of picked)) → Picked picks (offered t) picked
       → PickedUnder picks p g t (Unread (reader_of picked)) lines
   under_picked g t picked lines tells object reads k e =
       let k2 : Picked picks (candidates_of t.register.shape t.register.looked Names) picked =
@@ -79,7 +79,7 @@ module _ (picks : Picks) (p : Plan) where
       subst (λ (g : Gfid). PicksOf picks p g Names lines (reader_of picked).0) object d
 
   -- the name was read
-  name_found : (child : Option Gfid) (t : Progress) (why : Option Refusal) (w : Walk) (lines : Work) → PickedEntry picks p (or_removes child t (found_by why)) w lines
+  name_found : (child : Option Gfid) (t : TransactionProgress) (why : Option Refusal) (w : Walk) (lines : Work) → PickedEntry picks p (or_removes child t (found_by why)) w lines
   name_found (Some child) t why w lines = removal_begins picks p t.change t.register child lines
   name_found None t None w lines = tt
   name_found None t (Some why) w lines = tt
@@ -119,7 +119,7 @@ module _ (picks : Picks) (p : Plan) where
     abbrev now : EntryStage → EntryStage
     now stage = stage_after chosen stage heard at m.job (w stage)
 
-    changed : (t : Progress) (found : Found) → TellsIn p c m.job (now (Changing t found)) m.walk more → IsStage m.walk m.job (now (Changing t found)) → Picked picks (choices_under found heard at t) picked
+    changed : (t : TransactionProgress) (found : Found) → TellsIn p c m.job (now (Changing t found)) m.walk more → IsStage m.walk m.job (now (Changing t found)) → Picked picks (choices_under found heard at t) picked
         → PickedEntry picks p (now (Changing t found)) m.walk more
     changed t Fits tells sound k = tt
     changed t (Refused why) tells sound k = tt
@@ -147,7 +147,7 @@ module _ (picks : Picks) (p : Plan) where
         by (Removes r) i k e tells kept answers was = removal_picked picks p (m.walk.path ++ tells.name ∷ []) r b request picked heard at more e answers tells.tells kept.sound
         by (Ending said) i k e tells kept answers was = absurd (cc e)
 
-  under_begun : (g : Gfid) (t : Progress) (found : Found) (lines : Work) (a : ActorId) (change : Change) (log : List Line) (at : ℕ) → PickedUnder picks p g t found lines
+  under_begun : (g : Gfid) (t : TransactionProgress) (found : Found) (lines : Work) (a : ActorId) (change : Change) (log : List Line) (at : ℕ) → PickedUnder picks p g t found lines
       → PickedUnder picks p g (progress_begun found at t) found ((Begin a change, log) ∷ lines)
   under_begun g t (Unread b) lines a change log at was = was
   under_begun g t Fits lines a change log at was = tt
@@ -167,7 +167,7 @@ module _ (picks : Picks) (p : Plan) where
       → PickedEntry picks p m.stage m.walk (work a.0 log) → ReadsPicked picks p (Ask a b request told took) log
   entry_reads m a b request told took log at sound e was = by m.stage sound.ready e was
     where
-      reads : (t : Progress) (found : Found) → next_under found at m.job m.walk t ≡ next.Ask b request → PickedUnder picks p m.walk.object.gfid t found (work a.0 log) → ReadsPicked picks p (Ask a b request told took) log
+      reads : (t : TransactionProgress) (found : Found) → next_under found at m.job m.walk t ≡ next.Ask b request → PickedUnder picks p m.walk.object.gfid t found (work a.0 log) → ReadsPicked picks p (Ask a b request told took) log
       reads t Fits e was = change_reads picks p t t.stage at a b request told took log e
       reads t (Unread copy) e was = go (is_beginning t.stage) e was
         where
@@ -197,7 +197,7 @@ module _ (picks : Picks) (p : Plan) where
   pub entry_ends : (m : Entering) (lines : Work) (said : Reply) (at : ℕ) → next_of at m ≡ next.End said → PickedEntry picks p m.stage m.walk lines → PickedEnd picks p said lines
   entry_ends m lines said at e was = by m.stage e was
     where
-      under_ends : (t : Progress) (found : Found) → next_under found at m.job m.walk t ≡ next.End said → PickedEnd picks p said lines
+      under_ends : (t : TransactionProgress) (found : Found) → next_under found at m.job m.walk t ≡ next.End said → PickedEnd picks p said lines
       under_ends t Fits e = change_ends picks p t t.stage at said lines e
       under_ends t (Unread copy) e = go (is_beginning t.stage) e
         where

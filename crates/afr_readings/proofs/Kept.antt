@@ -19,9 +19,9 @@ use Rattle.afr_plan.specs.declared.plan.Plan.{Plan}
 use Rattle.afr_readings.proofs.Asked.{AsksOf, asked_before}
 use Rattle.afr_readings.proofs.Rule.{Picked, numbers_of}
 use Rattle.afr_readings.proofs.Works.{also, forget, work_asks, work_begins, work_begun, work_ends, work_picked, work_reads}
-use Rattle.afr_readings.specs.Laws.{AnswersOneOf, BeginKeepsPicked, EndReadsPicked, IsOneOf, KeepsPicked, KeptOf, LineAsksRule, LineKeepsPicked, LineKept, LineReadsPicked, ReadingBegins, number_in, picked_then}
+use Rattle.afr_readings.specs.Laws.{AnswersOneOf, BeginKeepsPicked, EndReadsPicked, IsPickedOf, KeepsPicked, KeptOf, LineAsksRule, LineKeepsPicked, LineKept, LineReadsPicked, ReadingBegins, number_in, picked_then}
 use Rattle.afr_readings.specs.Picked.{PickedIn}
-use Rattle.afr_readings.specs.Readings.{Answers, asked_for_command}
+use Rattle.afr_readings.specs.Readings.{PickAnswers, asked_for_command}
 use Rattle.afr_rule.specs.Choosing.{Calls}
 use Rattle.afr_rule.specs.declared.candidate.Candidate.{Candidate}
 use Rattle.afr_sources.specs.Sources.{picks_of}
@@ -31,7 +31,7 @@ use Rattle.afr_transaction_tells.specs.Laws.{IsNextLine}
 use Rattle.afr_works.specs.Begin.{work_from}
 use Rattle.afr_works.specs.Laws.{AsksMore, StaysSound}
 use Rattle.afr_works.specs.Work.{IsWork, choices_heard, heard_by, next_of}
-use Rattle.afr_works.specs.declared.work.Work.{Work}
+use Rattle.afr_works.specs.declared.work.WorkMachine.{WorkMachine}
 use Rattle.afr_works_tell.specs.WorkLaws.{WorkAbout, WorkTellsMore}
 use Rattle.afr_works_tell.specs.WorkTelling.{WorkHears, WorkTells}
 
@@ -40,15 +40,15 @@ none_long : (from : List Candidate) → from ≡ [] → 0 < length from → ⊥
 none_long [] e l = omega (arith, l)
 none_long (x ∷ from) e l = cc e
 
-one_among : (from : List Candidate) (picked : Option BrickId) → IsOneOf from picked → IsAmong from (reader_of picked)
+one_among : (from : List Candidate) (picked : Option BrickId) → IsPickedOf from picked → IsAmong from (reader_of picked)
 one_among from None e = λ l. absurd (none_long from e l)
 one_among from (Some b) e = λ l. e
 
-none_of : (from : List Candidate) (picked : Option BrickId) → from ≡ [] → IsOneOf from picked → picked ≡ None
+none_of : (from : List Candidate) (picked : Option BrickId) → from ≡ [] → IsPickedOf from picked → picked ≡ None
 none_of from None e k = refl
-none_of from (Some b) e k = absurd (never (subst (λ (x : List Candidate). IsOneOf x (Some b)) e k))
+none_of from (Some b) e k = absurd (never (subst (λ (x : List Candidate). IsPickedOf x (Some b)) e k))
   where
-    never : IsOneOf [] (Some b) → ⊥
+    never : IsPickedOf [] (Some b) → ⊥
     never h = cc h
 
 pub one_of : {F : Type 0} (calls : Calls F) (choose : F) → AnswersOneOf calls choose
@@ -56,12 +56,12 @@ one_of calls choose from None e = e
 one_of calls choose from (Some b) w = pick_offers calls choose from b w
 
 -- what the rule answers, it answers for the copies' numbers
-rule_answers : {F : Type 0} (calls : Calls F) (choose : F) (from : List Candidate) (picked : Option BrickId) → RuleAnswers calls choose from picked → Answers (picks_of calls choose) (map numbers_of from) (number_in picked)
+rule_answers : {F : Type 0} (calls : Calls F) (choose : F) (from : List Candidate) (picked : Option BrickId) → RuleAnswers calls choose from picked → PickAnswers (picks_of calls choose) (map numbers_of from) (number_in picked)
 rule_answers calls choose from None e = ap (map numbers_of) e
 rule_answers calls choose from (Some b) w = record { candidates = from; numbers = refl; pick = w }
 
 -- ---- one line
-module _ (stays : StaysSound) (asks_more : AsksMore) (tells_more : WorkTellsMore) (work_about : WorkAbout) (p : Plan) (c : Command) (old : Work) (lines : Lines) (a : ActorId) (b : BrickId) (heard : Answer) (took : Bool) (log : List Line) (sound : IsWork old) (tells : WorkTells p c old lines) where
+module _ (stays : StaysSound) (asks_more : AsksMore) (tells_more : WorkTellsMore) (work_about : WorkAbout) (p : Plan) (c : Command) (old : WorkMachine) (lines : Lines) (a : ActorId) (b : BrickId) (heard : Answer) (took : Bool) (log : List Line) (sound : IsWork old) (tells : WorkTells p c old lines) where
   abbrev at : ℕ
   at = length log
 
@@ -71,7 +71,7 @@ module _ (stays : StaysSound) (asks_more : AsksMore) (tells_more : WorkTellsMore
   abbrev from : List Candidate
   from = choices_heard (heard_of.Answer heard at) old
 
-  abbrev after : BrickId → Work
+  abbrev after : BrickId → WorkMachine
   after chosen = heard_by chosen (heard_of.Answer heard at) old
 
   module _ (asked : Request) (chosen : BrickId) (is : next_of at old ≡ next.Ask b asked) (hears : WorkHears old p b.0 asked log heard) (among : IsAmong from chosen) where
@@ -99,18 +99,18 @@ module _ (stays : StaysSound) (asks_more : AsksMore) (tells_more : WorkTellsMore
         here k = subst (λ (x : BrickId). IsWork (after x)) reads k
 
   -- a brick was picked of what was asked for
-  kept_answers : (picked : Option ℕ) (asks : List (ℕ × ℕ)) (now : Option BrickId) → picked ≡ number_in now → asks ≡ map numbers_of from → IsOneOf from now → Picked (KeptOf picked asks) from now
+  kept_answers : (picked : Option ℕ) (asks : List (ℕ × ℕ)) (now : Option BrickId) → picked ≡ number_in now → asks ≡ map numbers_of from → IsPickedOf from now → Picked (KeptOf picked asks) from now
   kept_answers picked asks None e f k = ap (map numbers_of) k
   kept_answers picked asks (Some brick) e f k = (e, f)
 
-  none_answers : (picks : Picks) (now : Option BrickId) → from ≡ [] → IsOneOf from now → Picked picks from now
+  none_answers : (picks : Picks) (now : Option BrickId) → from ≡ [] → IsPickedOf from now → Picked picks from now
   none_answers picks None e k = ap (map numbers_of) e
   none_answers picks (Some brick) e k = absurd (clash (none_of from (Some brick) e k))
     where
       clash : Some brick ≡ None → ⊥
       clash h = cc h
 
-  pub line_kept : (asked : Request) (now : Option BrickId) (kept : Option ℕ) → next_of at old ≡ next.Ask b asked → WorkHears old p b.0 asked log heard → IsOneOf from now → KeepsPicked p c old lines kept → LineKept p c (after (reader_of now)) (more asked) asked now kept
+  pub line_kept : (asked : Request) (now : Option BrickId) (kept : Option ℕ) → next_of at old ≡ next.Ask b asked → WorkHears old p b.0 asked log heard → IsPickedOf from now → KeepsPicked p c old lines kept → LineKept p c (after (reader_of now)) (more asked) asked now kept
   line_kept (request.Look g) now kept is hears among was = record {
     keeps = picked_as (request.Look g) (reader_of now) is hears (one_among from now among) picks now refl (kept_answers (number_in now) (asked_for_command p c (more (request.Look g))) now refl asks among) (forget (KeptOf kept (asked_for_command p c lines)) picks p lines b g old at sound is was);
     none = λ e. absurd (cc e);
@@ -131,11 +131,11 @@ module _ (stays : StaysSound) (asks_more : AsksMore) (tells_more : WorkTellsMore
       none = asks_as asked (reader_of now) is hears (one_among from now among) (KeptOf kept (asked_for_command p c lines)) was
 
   pub line_asks : {F : Type 0} (calls : Calls F) (choose : F) (asked : Request) (now : Option BrickId) (kept : Option ℕ) → next_of at old ≡ next.Ask b asked → WorkHears old p b.0 asked log heard → KeepsPicked p c old lines kept → RuleAnswers calls choose from now
-      → Answers (picks_of calls choose) (asked_for_command p c lines) kept → Answers (picks_of calls choose) (asked_for_command p c (more asked)) (picked_then asked now kept)
+      → PickAnswers (picks_of calls choose) (asked_for_command p c lines) kept → PickAnswers (picks_of calls choose) (asked_for_command p c (more asked)) (picked_then asked now kept)
   line_asks calls choose (request.Look g) now kept is hears was answers before =
-      subst (λ (x : List (ℕ × ℕ)). Answers (picks_of calls choose) x (number_in now)) (sym (asks_as (request.Look g) (reader_of now) is hears (answers_among calls choose from now answers) (KeptOf kept (asked_for_command p c lines)) was))
+      subst (λ (x : List (ℕ × ℕ)). PickAnswers (picks_of calls choose) x (number_in now)) (sym (asks_as (request.Look g) (reader_of now) is hears (answers_among calls choose from now answers) (KeptOf kept (asked_for_command p c lines)) was))
       (rule_answers calls choose from now answers)
-  line_asks calls choose asked now kept is hears was answers before = subst (λ (x : List (ℕ × ℕ)). Answers (picks_of calls choose) x kept) (sym (asked_before p c (Ask a b asked (told_by heard) took) log lines refl)) before
+  line_asks calls choose asked now kept is hears was answers before = subst (λ (x : List (ℕ × ℕ)). PickAnswers (picks_of calls choose) x kept) (sym (asked_before p c (Ask a b asked (told_by heard) took) log lines refl)) before
 
 -- ---- the laws
 none_asked : (p : Plan) (c : Command) → asked_for_command p c [] ≡ []
@@ -147,7 +147,7 @@ reading_begins p c picked = subst (λ (x : List (ℕ × ℕ)). PickedIn (KeptOf 
 
 pub line_keeps : StaysSound → AsksMore → WorkTellsMore → WorkAbout → LineKeepsPicked
 line_keeps stays asks_more tells_more work_about p c old new lines a b asked heard took log now kept sound tells is hears fed was =
-    subst (λ (w : Work). LineKept p c w ((Ask a b asked (told_by heard) took, log) ∷ lines) asked now kept) (sym fed.value)
+    subst (λ (w : WorkMachine). LineKept p c w ((Ask a b asked (told_by heard) took, log) ∷ lines) asked now kept) (sym fed.value)
     (line_kept stays asks_more tells_more work_about p c old lines a b heard took log sound tells asked now kept is hears fed.among was)
 
 pub begin_keeps : BeginKeepsPicked
@@ -156,8 +156,8 @@ begin_keeps p c old lines a change log chosen kept was =
     (work_begun (KeptOf kept (asked_for_command p c lines)) p old lines a change log chosen (length log) was)
 
 -- what was picked of what was asked for is what a rule answered for it
-of_kept : (picks : Picks) (kept : Option ℕ) (asks : List (ℕ × ℕ)) → Answers picks asks kept → (from : List (ℕ × ℕ)) (b : ℕ) → KeptOf kept asks from b → picks from b
-of_kept picks kept asks answers copies b k = subst (λ (x : List (ℕ × ℕ)). picks x b) k.1 (subst (Answers picks asks) k.0 answers)
+of_kept : (picks : Picks) (kept : Option ℕ) (asks : List (ℕ × ℕ)) → PickAnswers picks asks kept → (from : List (ℕ × ℕ)) (b : ℕ) → KeptOf kept asks from b → picks from b
+of_kept picks kept asks answers copies b k = subst (λ (x : List (ℕ × ℕ)). picks x b) k.1 (subst (PickAnswers picks asks) k.0 answers)
 
 pub line_reads : {F : Type 0} (calls : Calls F) (choose : F) → LineReadsPicked calls choose
 line_reads calls choose p c w a b asked told took log kept sound tells is was answers =

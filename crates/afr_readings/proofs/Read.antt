@@ -14,8 +14,8 @@ use Rattle.afr_choice.specs.declared.verdict.Verdict.{Verdict}
 use Rattle.afr_choice.specs.declared.verdict.Verdict.TheVariants.{Bare, Short, Sources, Split}
 use Rattle.afr_inode_read.specs.Job.{kind_of, reply_to, request_of}
 use Rattle.afr_inode_read.specs.Lookup.{IsLookup, IsStage, Lookup, after_step, after_walk, answered, asked_at, at_object, choices_at, choices_of, from_copy, is_asking, lookup_from, object_judged, object_looked, stage_after, walk_after}
-use Rattle.afr_inode_read.specs.declared.job.Content.{Content}
-use Rattle.afr_inode_read.specs.declared.job.Content.TheVariants as content
+use Rattle.afr_inode_read.specs.declared.job.Wanted.{Wanted}
+use Rattle.afr_inode_read.specs.declared.job.Wanted.TheVariants as content
 use Rattle.afr_inode_read.specs.declared.job.LookupJob.{LookupJob}
 use Rattle.afr_inode_read.specs.declared.job.LookupJob.TheVariants.{GetAttr, Ls, Read, Stat}
 use Rattle.afr_inode_read.specs.declared.stage.LookupStage.{LookupStage}
@@ -171,11 +171,11 @@ module _ (picks : Picks) (p : Plan) where
       by (Ending said) asks i t answers was = absurd (cc asks)
 
   -- ---- whom it asks
-  reads_copy : (job : LookupJob) (of : Content) (object : Entry) (a : ActorId) (b : BrickId) (told : Told) (took : Bool) (log : List Line) → IsNamed job of → PicksOf picks p object.gfid (kind_of job object.what) (work a.0 log) b.0
+  reads_copy : (job : LookupJob) (of : Wanted) (object : Entry) (a : ActorId) (b : BrickId) (told : Told) (took : Bool) (log : List Line) → IsNamed job of → PicksOf picks p object.gfid (kind_of job object.what) (work a.0 log) b.0
       → ReadsPicked picks p (Ask a b (request_of object.gfid of) told took) log
-  reads_copy (Read at len) of object a b told took log n k = subst (λ (x : Content). ReadsPicked picks p (Ask a b (request_of object.gfid x) told took) log) (sym n.0) (λ client. k)
-  reads_copy (GetAttr key) of object a b told took log n k = subst (λ (x : Content). ReadsPicked picks p (Ask a b (request_of object.gfid x) told took) log) (sym n) (λ client. k)
-  reads_copy Ls of object a b told took log n k = subst (λ (x : Content). ReadsPicked picks p (Ask a b (request_of object.gfid x) told took) log) (sym n) (λ client. k)
+  reads_copy (Read at len) of object a b told took log n k = subst (λ (x : Wanted). ReadsPicked picks p (Ask a b (request_of object.gfid x) told took) log) (sym n.0) (λ client. k)
+  reads_copy (GetAttr key) of object a b told took log n k = subst (λ (x : Wanted). ReadsPicked picks p (Ask a b (request_of object.gfid x) told took) log) (sym n) (λ client. k)
+  reads_copy Ls of object a b told took log n k = subst (λ (x : Wanted). ReadsPicked picks p (Ask a b (request_of object.gfid x) told took) log) (sym n) (λ client. k)
   reads_copy Stat of object a b told took log n k = absurd n
 
   pub read_reads : (m : Lookup) (a : ActorId) (told : Told) (took : Bool) (log : List Line) → IsLookup m.walk m.stage → is_asking m.stage ≡ true → ReadTells p m (work a.0 log) → PickedRead picks p m.job m.stage m.walk (work a.0 log)

@@ -34,8 +34,8 @@ use Rattle.afr_readings.specs.Picked.{PickedAt, PickedEnd}
 use Rattle.afr_removal.specs.Removal.{Removing, after, answered, asks, begun, brick_at, choices_at, has_takers, is_beginning, is_over, left, listed, next_at, offered, register_after, reply_of, removing, sets_after, starting}
 use Rattle.afr_removal.specs.Sound.{Sound}
 use Rattle.afr_removal.specs.Sound as sound_of
-use Rattle.afr_removal.specs.declared.stage.Ending.{Ending}
-use Rattle.afr_removal.specs.declared.stage.Ending.TheVariants as ending
+use Rattle.afr_removal.specs.declared.stage.RemovalEnding.{RemovalEnding}
+use Rattle.afr_removal.specs.declared.stage.RemovalEnding.TheVariants as ending
 use Rattle.afr_removal.specs.declared.stage.RemovalStage.{RemovalStage}
 use Rattle.afr_removal.specs.declared.stage.RemovalStage.TheVariants.{Applying, Beginning, Closing, Listing, Locking, Looking, Posting, Preparing}
 use Rattle.afr_removal_telling.specs.RemovalTelling.{During, RemovalTells}
@@ -147,7 +147,7 @@ module _ (picks : Picks) (p : Plan) where
           go true e = absurd (cc e)
           go false e = ask_same (λ x r. ReadsPicked picks p (Ask a x r told took) log) _ b _ request e tt
 
-  reply_ends : (why : Ending) (r : Register) (lines : Work) → PickedEnd picks p (reply_of why r) lines
+  reply_ends : (why : RemovalEnding) (r : Register) (lines : Work) → PickedEnd picks p (reply_of why r) lines
   reply_ends ending.Counted r lines = go (is_majority r.shape.n r.post)
     where
       go : (e : Bool) → PickedEnd picks p (if e then reply.Ok good.Done else reply.Failed) lines

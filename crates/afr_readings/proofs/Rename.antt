@@ -51,7 +51,7 @@ use Rattle.afr_rename.specs.declared.stage.RenameStage.TheVariants.{Ending, Find
 use Rattle.afr_rename_telling.proofs.Walks.{finds_again, not_all_asked, walks_again}
 use Rattle.afr_rename_telling.specs.RenameTelling.{RenameTells, TellsIn}
 use Rattle.afr_transaction.specs.Between.{noted_read}
-use Rattle.afr_transaction.specs.Progress.{Progress, answered_by, fed, is_beginning, left, starting}
+use Rattle.afr_transaction.specs.Progress.{TransactionProgress, answered_by, fed, is_beginning, left, starting}
 use Rattle.afr_transaction.specs.declared.stage.Stage.{Stage}
 use Rattle.afr_transaction.specs.declared.stage.Stage.TheVariants.{Closing, Locking, Looking as LookingAt}
 use Rattle.afr_transaction_tells.specs.Tells.{During, OnBegin, Tells}
@@ -63,7 +63,7 @@ use Rattle.afr_walk.specs.declared.walk.WalkStep.{WalkStep}
 use Rattle.afr_walk.specs.declared.walk.WalkStep.TheVariants as walking
 
 -- a lock's answer doesn't end the looks
-not_begun : (told : Told) (at : ℕ) (t : Progress) → is_beginning (fed Locking told at t).stage ≡ false
+not_begun : (told : Told) (at : ℕ) (t : TransactionProgress) → is_beginning (fed Locking told at t).stage ≡ false
 not_begun told at t = go (is_nothing (left Locking (answered_by Locking (lowest (left Locking t)) told at t))) (is_majority (answered_by Locking (lowest (left Locking t)) told at t).register.shape.n (answered_by Locking (lowest (left Locking t)) told at t).asked.locked_on)
   where
     go : (o m : Bool) → is_beginning (if o then (if m then LookingAt else Closing) else Locking) ≡ false
@@ -72,7 +72,7 @@ not_begun told at t = go (is_nothing (left Locking (answered_by Locking (lowest 
     go false m = refl
 
 -- where an attempt is about to begin its object was locked
-pub locked_there : (p : Plan) (w : Work) (t : Progress) → Tells p w t → is_beginning t.stage ≡ true → has (locks (object_of t.change)) w ≡ true
+pub locked_there : (p : Plan) (w : Work) (t : TransactionProgress) → Tells p w t → is_beginning t.stage ≡ true → has (locks (object_of t.change)) w ≡ true
 locked_there p w t tells e = begins (subst (λ (s : Stage). During s p.shape t w) (begins_at t.stage e) tells.during)
   where
     begins : OnBegin p.shape t.change t.register.looked t.asked.looked_at w → has (locks (object_of t.change)) w ≡ true
@@ -111,11 +111,11 @@ module _ (picks : Picks) (p : Plan) where
       go (walking.Stopped why) e k = stop_ends picks p why lines
 
   -- ---- under the locks of a name
-  found_picked : (g : Gfid) (t : Progress) (why : Option Refusal) (w : Work) → PickedUnder picks p g t (found_by why) w
+  found_picked : (g : Gfid) (t : TransactionProgress) (why : Option Refusal) (w : Work) → PickedUnder picks p g t (found_by why) w
   found_picked g t None w = tt
   found_picked g t (Some why) w = tt
 
-  under_more : (change : Change) (found : Found) (why : Option Refusal) (asked : Request) (told : Told) (at : ℕ) (t : Progress) (w : Work) (picked : Option BrickId)
+  under_more : (change : Change) (found : Found) (why : Option Refusal) (asked : Request) (told : Told) (at : ℕ) (t : TransactionProgress) (w : Work) (picked : Option BrickId)
       → OnChange (found_after (reader_of picked) found why t.stage) p (progress_after found why asked told at t) w → IsUnder change (progress_after found why asked told at t) (found_after (reader_of picked) found why t.stage) → Picked picks (choices_under found told at t) picked
       → PickedUnder picks p (object_of change) (progress_after found why asked told at t) (found_after (reader_of picked) found why t.stage) w
   under_more change Fits why asked told at t w picked on sound k = tt
@@ -174,7 +174,7 @@ module _ (picks : Picks) (p : Plan) where
         grows : the_make own ((Ask a (next_in m.paths.second).0 (next_in m.paths.second).1 (told_by heard) took, log) ∷ lines) ≡ (Ask a (next_in m.paths.second).0 (next_in m.paths.second).1 (told_by heard) took, log) ∷ the_make own lines
         grows = make_grows own (Ask a (next_in m.paths.second).0 (next_in m.paths.second).1 (told_by heard) took, log) lines k.on.walked.all k.on.first (walks_again p m.paths lines k sound.paths.second sound.sound.0 a (told_by heard) took)
 
-    making : (t : Progress) (found : Found) → TellsIn p (now (Making t found)) m.paths more → IsSound m.paths (now (Making t found)) → Picked picks (choices_at (Making t found) heard at m.paths) picked → PickedRename picks p (now (Making t found)) m.paths more
+    making : (t : TransactionProgress) (found : Found) → TellsIn p (now (Making t found)) m.paths more → IsSound m.paths (now (Making t found)) → Picked picks (choices_at (Making t found) heard at m.paths) picked → PickedRename picks p (now (Making t found)) m.paths more
     making t found tells sound answers = go (is_done t) tells sound answers
       where
         go : (done : Bool) → TellsIn p (if done then second_begun (told_by heard) at m.paths t else making_after chosen found heard at m.paths t) m.paths more
@@ -199,7 +199,7 @@ module _ (picks : Picks) (p : Plan) where
   pub looks_same : (g : Gfid) (v w : Work) (b : ℕ) → looked_by g v ≡ looked_by g w → PicksOf picks p g Names v b → PicksOf picks p g Names w b
   looks_same g v w b e was = subst (λ (l : Looked). picks (model.candidates_of p.shape Names l) b) e was
 
-  under_begun : (g : Gfid) (t : Progress) (found : Found) (v w : Work) (at : ℕ) → looked_by g v ≡ looked_by g w → PickedUnder picks p g t found v → PickedUnder picks p g (progress_begun found at t) found w
+  under_begun : (g : Gfid) (t : TransactionProgress) (found : Found) (v w : Work) (at : ℕ) → looked_by g v ≡ looked_by g w → PickedUnder picks p g t found v → PickedUnder picks p g (progress_begun found at t) found w
   under_begun g t (Unread b) v w at e was = λ h. looks_same g v w b.0 e (was h)
   under_begun g t Fits v w at e was = tt
   under_begun g t (Refused why) v w at e was = tt

@@ -42,7 +42,7 @@ use Rattle.afr_rename_telling.proofs.Looks.{make_looks, removal_looks, walk_look
 use Rattle.afr_rename_telling.specs.RenameTelling.{RenameTells, TellsIn}
 use Rattle.afr_transaction.specs.Outcome.{outcome_of}
 use Rattle.afr_transaction.specs.Progress as transaction
-use Rattle.afr_transaction.specs.Progress.{Progress, is_beginning, is_over}
+use Rattle.afr_transaction.specs.Progress.{TransactionProgress, is_beginning, is_over}
 use Rattle.afr_transaction.specs.declared.stage.Stage.TheVariants.{Locking}
 use Rattle.afr_walk.specs.Walk.{is_walking, next_in}
 use Rattle.afr_walk.specs.Walk as walks
@@ -73,7 +73,7 @@ module _ (picks : Picks) (p : Plan) (m : Renaming) (a : ActorId) (log : List Lin
         by (walking.Stopped why) h t was = absurd (cc h)
 
     -- under the locks of a name: before the attempt it is read
-    under_reads : (found : Found) (asked : Request) (t : Progress) (at : ℕ) → ((copy : BrickId) → found ≡ Unread copy → is_beginning t.stage ≡ true → Reads copy asked) → next_under found at asked t ≡ next.Ask b request → Reads b request
+    under_reads : (found : Found) (asked : Request) (t : TransactionProgress) (at : ℕ) → ((copy : BrickId) → found ≡ Unread copy → is_beginning t.stage ≡ true → Reads copy asked) → next_under found at asked t ≡ next.Ask b request → Reads b request
     under_reads Fits asked t at reads e = change_reads picks p t t.stage at a b request told took log e
     under_reads (Unread copy) asked t at reads e = go (is_beginning t.stage) (λ f. reads copy refl f) e
       where
@@ -87,7 +87,7 @@ module _ (picks : Picks) (p : Plan) (m : Renaming) (a : ActorId) (log : List Lin
         go false e = change_reads picks p t t.stage at a b request told took log e
 
     -- before it begins, the directory was locked in the part
-    make_same : (t : Progress) (found : Found) → TellsIn p (Making t found) m.paths lines → IsRename m.paths (Making t found) → (copy : BrickId) → found ≡ Unread copy → is_beginning t.stage ≡ true → looked_by m.paths.second.object.gfid (the_make own lines) ≡ looked_by m.paths.second.object.gfid lines
+    make_same : (t : TransactionProgress) (found : Found) → TellsIn p (Making t found) m.paths lines → IsRename m.paths (Making t found) → (copy : BrickId) → found ≡ Unread copy → is_beginning t.stage ≡ true → looked_by m.paths.second.object.gfid (the_make own lines) ≡ looked_by m.paths.second.object.gfid lines
     make_same t found k sound copy unread e = sym (make_looks own lines m.paths.second.object.gfid k.on.first (subst (λ (c : Change). has (locks (object_of c)) (the_make own lines) ≡ true) sound.sound.under.of (on found k.tells.on unread)))
       where
         on : (f : Found) → OnChange f p t (the_make own lines) → f ≡ Unread copy → has (locks (object_of t.change)) (the_make own lines) ≡ true
@@ -95,7 +95,7 @@ module _ (picks : Picks) (p : Plan) (m : Renaming) (a : ActorId) (log : List Lin
         on Fits h f = absurd (cc f)
         on (Refused why) h f = absurd (cc f)
 
-    removal_same : (t : Progress) (found : Found) → TellsIn p (Removing t found) m.paths lines → IsRename m.paths (Removing t found) → (copy : BrickId) → found ≡ Unread copy → is_beginning t.stage ≡ true → looked_by m.paths.dir (the_removal own lines) ≡ looked_by m.paths.dir lines
+    removal_same : (t : TransactionProgress) (found : Found) → TellsIn p (Removing t found) m.paths lines → IsRename m.paths (Removing t found) → (copy : BrickId) → found ≡ Unread copy → is_beginning t.stage ≡ true → looked_by m.paths.dir (the_removal own lines) ≡ looked_by m.paths.dir lines
     removal_same t found k sound copy unread e = sym (removal_looks own lines m.paths.dir k.walked.unlocked (subst (λ (c : Change). has (locks (object_of c)) (the_removal own lines) ≡ true) sound.sound.under.of (on found k.tells.on unread)))
       where
         on : (f : Found) → OnChange f p t (the_removal own lines) → f ≡ Unread copy → has (locks (object_of t.change)) (the_removal own lines) ≡ true
@@ -103,7 +103,7 @@ module _ (picks : Picks) (p : Plan) (m : Renaming) (a : ActorId) (log : List Lin
         on Fits h f = absurd (cc f)
         on (Refused why) h f = absurd (cc f)
 
-    makes_reads : (t : Progress) (found : Found) (at : ℕ) → TellsIn p (Making t found) m.paths lines → IsRename m.paths (Making t found) → next_at at (Making t found) m.paths ≡ next.Ask b request → PickedRename picks p (Making t found) m.paths lines → Reads b request
+    makes_reads : (t : TransactionProgress) (found : Found) (at : ℕ) → TellsIn p (Making t found) m.paths lines → IsRename m.paths (Making t found) → next_at at (Making t found) m.paths ≡ next.Ask b request → PickedRename picks p (Making t found) m.paths lines → Reads b request
     makes_reads t found at k sound e was = go (is_done t) e
       where
         go : (done : Bool) → (if done then transaction.next_at Locking at (turned m.paths t) else next_under found at (reads_new m.paths) t) ≡ next.Ask b request → Reads b request
@@ -112,7 +112,7 @@ module _ (picks : Picks) (p : Plan) (m : Renaming) (a : ActorId) (log : List Lin
             under_reads found (reads_new m.paths) t at
             (λ copy f g client. looks_same picks p m.paths.second.object.gfid (the_make own lines) lines copy.0 (make_same t found k sound copy f g) (subst (λ (x : Found). PickedUnder picks p m.paths.second.object.gfid t x (the_make own lines)) f was g)) e
 
-    removes_reads : (t : Progress) (found : Found) (at : ℕ) → TellsIn p (Removing t found) m.paths lines → IsRename m.paths (Removing t found) → next_at at (Removing t found) m.paths ≡ next.Ask b request → PickedRename picks p (Removing t found) m.paths lines → Reads b request
+    removes_reads : (t : TransactionProgress) (found : Found) (at : ℕ) → TellsIn p (Removing t found) m.paths lines → IsRename m.paths (Removing t found) → next_at at (Removing t found) m.paths ≡ next.Ask b request → PickedRename picks p (Removing t found) m.paths lines → Reads b request
     removes_reads t found at k sound e was = go (is_over t.stage t) e
       where
         go : (over : Bool) → (if over then next.End (half_reply (outcome_of t.change t.register)) else next_under found at (reads_old m.paths) t) ≡ next.Ask b request → Reads b request
@@ -136,7 +136,7 @@ module _ (picks : Picks) (p : Plan) (m : Renaming) (a : ActorId) (log : List Lin
 
 -- ---- what it ends with
 module _ (picks : Picks) (p : Plan) (m : Renaming) (lines : Work) (said : Reply) (at : ℕ) where
-  under_ends : (found : Found) (asked : Request) (t : Progress) → next_under found at asked t ≡ next.End said → PickedEnd picks p said lines
+  under_ends : (found : Found) (asked : Request) (t : TransactionProgress) → next_under found at asked t ≡ next.End said → PickedEnd picks p said lines
   under_ends Fits asked t e = change_ends picks p t t.stage at said lines e
   under_ends (Unread copy) asked t e = go (is_beginning t.stage) e
     where
@@ -156,11 +156,11 @@ module _ (picks : Picks) (p : Plan) (m : Renaming) (lines : Work) (said : Reply)
   pub rename_ends : next_of at m ≡ next.End said → PickedRename picks p m.stage m.paths lines → PickedEnd picks p said lines
   rename_ends e was = by m.stage e was
     where
-      making : (t : Progress) (found : Found) (done : Bool) → (if done then transaction.next_at Locking at (turned m.paths t) else next_under found at (reads_new m.paths) t) ≡ next.End said → PickedEnd picks p said lines
+      making : (t : TransactionProgress) (found : Found) (done : Bool) → (if done then transaction.next_at Locking at (turned m.paths t) else next_under found at (reads_new m.paths) t) ≡ next.End said → PickedEnd picks p said lines
       making t found true e = change_ends picks p (turned m.paths t) Locking at said lines e
       making t found false e = under_ends found (reads_new m.paths) t e
 
-      removing : (t : Progress) (found : Found) (over : Bool) → (if over then next.End (half_reply (outcome_of t.change t.register)) else next_under found at (reads_old m.paths) t) ≡ next.End said → PickedEnd picks p said lines
+      removing : (t : TransactionProgress) (found : Found) (over : Bool) → (if over then next.End (half_reply (outcome_of t.change t.register)) else next_under found at (reads_old m.paths) t) ≡ next.End said → PickedEnd picks p said lines
       removing t found true e = end_same (λ x. PickedEnd picks p x lines) (half_reply (outcome_of t.change t.register)) said e (half_ends (is_acknowledged (outcome_of t.change t.register)))
       removing t found false e = under_ends found (reads_old m.paths) t e
 

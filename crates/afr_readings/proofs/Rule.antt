@@ -10,7 +10,7 @@ use Rattle.afr_choice.specs.declared.looked.Looked.{Looked}
 use Rattle.afr_choice.specs.declared.verdict.Verdict.TheVariants.{Sources}
 use Rattle.afr_model.specs.Chosen as model
 use Rattle.afr_model.specs.Chosen.{Picks}
-use Rattle.afr_readings.specs.Readings.{Answers}
+use Rattle.afr_readings.specs.Readings.{PickAnswers}
 use Rattle.afr_rule.specs.declared.candidate.Candidate.{Candidate}
 use Rattle.afr_walk.proofs.ChoosingLemmas.{some_listed, sources_some}
 use Rattle.afr_walk.specs.Choosing.{candidates_of, choices, has_sources, reader_of}
@@ -26,7 +26,7 @@ number_of b = b.0
 
 -- what was picked of these copies, as the model sees it
 abbrev pub Picked : Picks → List Candidate → Option BrickId → Type 0
-Picked picks from picked = Answers picks (map numbers_of from) (option_map number_of picked)
+Picked picks from picked = PickAnswers picks (map numbers_of from) (option_map number_of picked)
 
 numbers_in : (looked : Looked) (xs : List ℕ) → map numbers_of (map (copy_in looked) xs) ≡ map (λ b. (b, len_in (view_at b looked))) xs
 numbers_in looked [] = refl

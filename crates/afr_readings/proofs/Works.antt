@@ -14,8 +14,8 @@ use Rattle.afr_entry_telling.specs.EntryTelling.{EntryTells, command_of}
 use Rattle.afr_inode_read.specs.Job.{request_of}
 use Rattle.afr_inode_read.specs.Lookup as lookup
 use Rattle.afr_inode_read.specs.declared.job.LookupJob.{LookupJob}
-use Rattle.afr_inode_read.specs.declared.job.Content.{Content}
-use Rattle.afr_inode_read.specs.declared.job.Content.TheVariants as content
+use Rattle.afr_inode_read.specs.declared.job.Wanted.{Wanted}
+use Rattle.afr_inode_read.specs.declared.job.Wanted.TheVariants as content
 use Rattle.afr_inode_read.specs.declared.stage.LookupStage.{LookupStage}
 use Rattle.afr_inode_read.specs.declared.stage.LookupStage.TheVariants as reading
 use Rattle.afr_inode_telling.specs.ReadTelling as reads
@@ -61,7 +61,7 @@ use Rattle.afr_removal.specs.declared.stage.RemovalStage.{RemovalStage}
 use Rattle.afr_removal.specs.declared.stage.RemovalStage.TheVariants as removing
 use Rattle.afr_transaction.specs.Outcome.{outcome_of}
 use Rattle.afr_transaction.specs.Progress as transaction
-use Rattle.afr_transaction.specs.Progress.{Progress}
+use Rattle.afr_transaction.specs.Progress.{TransactionProgress}
 use Rattle.afr_transaction.specs.declared.stage.Stage.TheVariants.{Locking}
 use Rattle.afr_walk.specs.Choosing.{reader_of}
 use Rattle.afr_walk.specs.Walk.{is_walking, next_in, next_at}
@@ -76,8 +76,8 @@ use Rattle.afr_rename.specs.declared.stage.RenameStage.{RenameStage}
 use Rattle.afr_rename.specs.declared.stage.RenameStage.TheVariants as naming
 use Rattle.afr_works.specs.Begin.{work_from}
 use Rattle.afr_works.specs.Work.{IsWork, choices_of, heard_by, next_of}
-use Rattle.afr_works.specs.declared.work.Work.{Work}
-use Rattle.afr_works.specs.declared.work.Work.TheVariants.{Entry, Idle, Lookup, Rename, Write}
+use Rattle.afr_works.specs.declared.work.WorkMachine.{WorkMachine}
+use Rattle.afr_works.specs.declared.work.WorkMachine.TheVariants.{Entry, Idle, Lookup, Rename, Write}
 use Rattle.afr_works_tell.specs.WorkTelling.{WorkTells}
 use Rattle.afr_plan.specs.declared.command.Command.TheVariants as command
 use Rattle.afr_entry.specs.declared.job.EntryJob.TheVariants as name
@@ -111,7 +111,7 @@ module _ (picks : Picks) (p : Plan) where
   work_begins (command.Rename from to) = rename_begins picks p from to
 
   -- ---- a line
-  pub work_picked : (c : Command) (w : Work) (lines : Lines) (a : ActorId) (b : BrickId) (asked : Request) (picked : Option BrickId) (heard : Answer) (took : Bool) (log : List Line) (at : ℕ) → IsWork w → WorkTells p c w lines
+  pub work_picked : (c : Command) (w : WorkMachine) (lines : Lines) (a : ActorId) (b : BrickId) (asked : Request) (picked : Option BrickId) (heard : Answer) (took : Bool) (log : List Line) (at : ℕ) → IsWork w → WorkTells p c w lines
       → next_of at w ≡ next.Ask b asked → WorkTells p c (heard_by (reader_of picked) (heard_of.Answer heard at) w) ((Ask a b asked (told_by heard) took, log) ∷ lines) → IsWork (heard_by (reader_of picked) (heard_of.Answer heard at) w)
       → Picked picks (choices_of heard at w) picked → PickedIn picks p w lines → PickedIn picks p (heard_by (reader_of picked) (heard_of.Answer heard at) w) ((Ask a b asked (told_by heard) took, log) ∷ lines)
   work_picked c Idle lines a b asked picked heard took log at sound k e tells after answers was = absurd (cc e)
@@ -122,7 +122,7 @@ module _ (picks : Picks) (p : Plan) where
   work_picked c (Entry m) lines a b asked picked heard took log at sound k e tells after answers was = entry_picked picks p c m lines a b asked picked heard took log at sound k e tells after answers was
   work_picked c (Rename m) lines a b asked picked heard took log at sound k e tells after answers was = rename_picked picks p c m lines a b asked picked heard took log at sound k e tells after answers was
 
-  pub work_begun : (w : Work) (lines : Lines) (a : ActorId) (change : Change) (log : List Line) (chosen : BrickId) (at : ℕ) → PickedIn picks p w lines → PickedIn picks p (heard_by chosen (heard_of.Begun at) w) ((Begin a change, log) ∷ lines)
+  pub work_begun : (w : WorkMachine) (lines : Lines) (a : ActorId) (change : Change) (log : List Line) (chosen : BrickId) (at : ℕ) → PickedIn picks p w lines → PickedIn picks p (heard_by chosen (heard_of.Begun at) w) ((Begin a change, log) ∷ lines)
   work_begun Idle lines a change log chosen at was = tt
   work_begun (Lookup m) lines a change log chosen at was = read_begun picks p m lines a change log was
   work_begun (Write m) lines a change log chosen at was = write_begun picks p m lines a change log at was
@@ -130,7 +130,7 @@ module _ (picks : Picks) (p : Plan) where
   work_begun (Rename m) lines a change log chosen at was = rename_begun picks p m lines a change log at was
 
   -- ---- whom it asks, and what it ends with
-  pub work_reads : (c : Command) (w : Work) (a : ActorId) (b : BrickId) (asked : Request) (told : Told) (took : Bool) (log : List Line) (at : ℕ) → IsWork w → WorkTells p c w (work a.0 log) → next_of at w ≡ next.Ask b asked
+  pub work_reads : (c : Command) (w : WorkMachine) (a : ActorId) (b : BrickId) (asked : Request) (told : Told) (took : Bool) (log : List Line) (at : ℕ) → IsWork w → WorkTells p c w (work a.0 log) → next_of at w ≡ next.Ask b asked
       → PickedIn picks p w (work a.0 log) → ReadsPicked picks p (Ask a b asked told took) log
   work_reads c Idle a b asked told took log at sound k e was = absurd (cc e)
   work_reads c (Lookup m) a b asked told took log at sound k e was =
@@ -149,7 +149,7 @@ module _ (picks : Picks) (p : Plan) where
       by (reading.Reading b of) e was = absurd (cc e)
       by (reading.Ending saying) e was = end_same (λ y. PickedEnd picks p y lines) saying said e was
 
-  pub work_ends : (c : Command) (w : Work) (a : ActorId) (said : Reply) (log : List Line) (at : ℕ) → WorkTells p c w (work a.0 log) → next_of at w ≡ next.End said → PickedIn picks p w (work a.0 log) → ReadsPicked picks p (End a said) log
+  pub work_ends : (c : Command) (w : WorkMachine) (a : ActorId) (said : Reply) (log : List Line) (at : ℕ) → WorkTells p c w (work a.0 log) → next_of at w ≡ next.End said → PickedIn picks p w (work a.0 log) → ReadsPicked picks p (End a said) log
   work_ends c Idle a said log at k e was = absurd k
   work_ends c (Lookup m) a said log at k e was = end_reads picks p a said log (read_ends m (work a.0 log) said e was)
   work_ends c (Write m) a said log at k e was = end_reads picks p a said log (write_ends picks p m (work a.0 log) said at e was)
@@ -183,11 +183,11 @@ module _ (picks : Picks) (p : Plan) (c : Command) (lines : Lines) (a : ActorId) 
   abbrev more : Lines
   more = (Ask a b asked (told_by heard) took, log) ∷ lines
 
-  abbrev now : Work → Work
+  abbrev now : WorkMachine → WorkMachine
   now w = heard_by chosen (heard_of.Answer heard at) w
 
   -- the next request of a work is of its command
-  abbrev pub IsOfNext : Work → Lines → Type 0
+  abbrev pub IsOfNext : WorkMachine → Lines → Type 0
   IsOfNext w lines = (y : BrickId) (r : Request) → next_of later w ≡ next.Ask y r → IsOf p c (Ask a y r Done true) lines
 
   lookup_asks : (m : lookup.Lookup) → IsWork (Lookup m) → WorkTells p c (Lookup m) lines → next_of at (Lookup m) ≡ next.Ask b asked → PickedIn picks p (Lookup m) lines → AsksOf p c asked more (lookup.choices_of heard m)
@@ -209,7 +209,7 @@ module _ (picks : Picks) (p : Plan) (c : Command) (lines : Lines) (a : ActorId) 
       one : HasOnePath c
       one = subst HasOnePath (sym k.named) (one_entry m.job m.walk.path)
 
-  pub work_asks : (w : Work) → IsWork w → WorkTells p c w lines → next_of at w ≡ next.Ask b asked → WorkTells p c (now w) more → IsWork (now w) → IsOfNext (now w) more → PickedIn picks p w lines → AsksOf p c asked more (choices_of heard at w)
+  pub work_asks : (w : WorkMachine) → IsWork w → WorkTells p c w lines → next_of at w ≡ next.Ask b asked → WorkTells p c (now w) more → IsWork (now w) → IsOfNext (now w) more → PickedIn picks p w lines → AsksOf p c asked more (choices_of heard at w)
   work_asks Idle sound k e tells after about was = absurd (cc e)
   work_asks (Lookup m) sound k e tells after about was = lookup_asks m sound k e was
   work_asks (Write m) sound k e tells after about was =
@@ -228,7 +228,7 @@ module _ (picks other : Picks) (p : Plan) (lines : Lines) (b : BrickId) (g : Gfi
       by Arrived h e was = absurd (cc h)
       by (Stopped why) h e was = absurd (cc h)
 
-  no_look : (h : Gfid) (copy : BrickId) (of : Content) → next.Ask copy (request_of h of) ≡ next.Ask b (request.Look g) → ⊥
+  no_look : (h : Gfid) (copy : BrickId) (of : Wanted) → next.Ask copy (request_of h of) ≡ next.Ask b (request.Look g) → ⊥
   no_look h copy (content.Bytes at len) e = cc e
   no_look h copy (content.Value key) e = cc e
   no_look h copy content.Names e = cc e
@@ -263,7 +263,7 @@ module _ (picks other : Picks) (p : Plan) (lines : Lines) (b : BrickId) (g : Gfi
   forget_entry : (m : entry.Entering) (at : ℕ) → entry.IsEntry m.walk m.job m.stage → entry.next_of at m ≡ next.Ask b (request.Look g) → PickedIn picks p (Entry m) lines → PickedIn other p (Entry m) lines
   forget_entry m at sound e was = by m.stage sound.ready e was
     where
-      under : (t : Progress) (found : Found) → entry.next_under found at m.job m.walk t ≡ next.Ask b (request.Look g) → PickedUnder picks p m.walk.object.gfid t found lines → PickedUnder other p m.walk.object.gfid t found lines
+      under : (t : TransactionProgress) (found : Found) → entry.next_under found at m.job m.walk t ≡ next.Ask b (request.Look g) → PickedUnder picks p m.walk.object.gfid t found lines → PickedUnder other p m.walk.object.gfid t found lines
       under t (Unread copy) e was = λ h. absurd (named (subst (λ (x : Bool). (if x then next.Ask copy (entry.reads_name m.job m.walk) else transaction.next_at t.stage at t) ≡ next.Ask b (request.Look g)) h e))
         where
           named : next.Ask copy (entry.reads_name m.job m.walk) ≡ next.Ask b (request.Look g) → ⊥
@@ -279,7 +279,7 @@ module _ (picks other : Picks) (p : Plan) (lines : Lines) (b : BrickId) (g : Gfi
 
 -- of a rename
 module _ (picks other : Picks) (p : Plan) (lines : Lines) (b : BrickId) (g : Gfid) where
-  forget_under : (found : Found) (h : Gfid) (name : NameId) (t : Progress) (at : ℕ) (v : Lines) → renaming.next_under found at (request.ReadName h name) t ≡ next.Ask b (request.Look g) → PickedUnder picks p h t found v → PickedUnder other p h t found v
+  forget_under : (found : Found) (h : Gfid) (name : NameId) (t : TransactionProgress) (at : ℕ) (v : Lines) → renaming.next_under found at (request.ReadName h name) t ≡ next.Ask b (request.Look g) → PickedUnder picks p h t found v → PickedUnder other p h t found v
   forget_under Fits h name t at v e was = tt
   forget_under (Refused why) h name t at v e was = tt
   forget_under (Unread copy) h name t at v e was = λ f. absurd (named (subst (λ (x : Bool). (if x then next.Ask copy (request.ReadName h name) else transaction.next_at t.stage at t) ≡ next.Ask b (request.Look g)) f e))
@@ -290,12 +290,12 @@ module _ (picks other : Picks) (p : Plan) (lines : Lines) (b : BrickId) (g : Gfi
   forget_rename : (m : rename.Renaming) (at : ℕ) → rename.IsRename m.paths m.stage → rename.next_of at m ≡ next.Ask b (request.Look g) → PickedIn picks p (Rename m) lines → PickedIn other p (Rename m) lines
   forget_rename m at sound e was = by m.stage sound.sound e was
     where
-      makes : (t : Progress) (found : Found) (done : Bool) → (if done then transaction.next_at Locking at (rename.turned m.paths t) else renaming.next_under found at (reads_new m.paths) t) ≡ next.Ask b (request.Look g)
+      makes : (t : TransactionProgress) (found : Found) (done : Bool) → (if done then transaction.next_at Locking at (rename.turned m.paths t) else renaming.next_under found at (reads_new m.paths) t) ≡ next.Ask b (request.Look g)
           → PickedUnder picks p m.paths.second.object.gfid t found (the_make m.paths.first.path lines) → PickedUnder other p m.paths.second.object.gfid t found (the_make m.paths.first.path lines)
       makes t found true e was = absurd (cc e)
       makes t found false e was = forget_under found m.paths.second.object.gfid m.paths.new_name t at (the_make m.paths.first.path lines) e was
 
-      removes : (t : Progress) (found : Found) (over : Bool) → (if over then next.End (half_reply (outcome_of t.change t.register)) else renaming.next_under found at (reads_old m.paths) t) ≡ next.Ask b (request.Look g)
+      removes : (t : TransactionProgress) (found : Found) (over : Bool) → (if over then next.End (half_reply (outcome_of t.change t.register)) else renaming.next_under found at (reads_old m.paths) t) ≡ next.Ask b (request.Look g)
           → PickedUnder picks p m.paths.dir t found (the_removal m.paths.first.path lines) → PickedUnder other p m.paths.dir t found (the_removal m.paths.first.path lines)
       removes t found true e was = absurd (cc e)
       removes t found false e was = forget_under found m.paths.dir m.paths.old_name t at (the_removal m.paths.first.path lines) e was
@@ -308,7 +308,7 @@ module _ (picks other : Picks) (p : Plan) (lines : Lines) (b : BrickId) (g : Gfi
       by (naming.Ending said) i e was = absurd (cc e)
 
 module _ (picks other : Picks) (p : Plan) (lines : Lines) (b : BrickId) (g : Gfid) where
-  pub forget : (w : Work) (at : ℕ) → IsWork w → next_of at w ≡ next.Ask b (request.Look g) → PickedIn picks p w lines → PickedIn other p w lines
+  pub forget : (w : WorkMachine) (at : ℕ) → IsWork w → next_of at w ≡ next.Ask b (request.Look g) → PickedIn picks p w lines → PickedIn other p w lines
   forget Idle at sound e was = tt
   forget (Lookup m) at sound e was = forget_read picks other p lines b g m sound e was
   forget (Write m) at sound e was = forget_write picks other p lines b g m at sound e was
@@ -351,7 +351,7 @@ module _ (picks other : Picks) (p : Plan) (lines : Lines) (weaker : (from : List
   also_entry : (m : entry.Entering) → PickedIn picks p (Entry m) lines → PickedIn other p (Entry m) lines
   also_entry m was = by m.stage was
     where
-      under : (t : Progress) (found : Found) → PickedUnder picks p m.walk.object.gfid t found lines → PickedUnder other p m.walk.object.gfid t found lines
+      under : (t : TransactionProgress) (found : Found) → PickedUnder picks p m.walk.object.gfid t found lines → PickedUnder other p m.walk.object.gfid t found lines
       under t (Unread copy) was = λ h. weaker _ _ (was h)
       under t Fits was = tt
       under t (Refused why) was = tt
@@ -364,7 +364,7 @@ module _ (picks other : Picks) (p : Plan) (lines : Lines) (weaker : (from : List
 
 -- of a rename
 module _ (picks other : Picks) (p : Plan) (lines : Lines) (weaker : (from : List (ℕ × ℕ)) (b : ℕ) → picks from b → other from b) where
-  also_under : (g : Gfid) (t : Progress) (found : Found) (v : Lines) → PickedUnder picks p g t found v → PickedUnder other p g t found v
+  also_under : (g : Gfid) (t : TransactionProgress) (found : Found) (v : Lines) → PickedUnder picks p g t found v → PickedUnder other p g t found v
   also_under g t (Unread copy) v was = λ h. weaker _ _ (was h)
   also_under g t Fits v was = tt
   also_under g t (Refused why) v was = tt
@@ -380,7 +380,7 @@ module _ (picks other : Picks) (p : Plan) (lines : Lines) (weaker : (from : List
       by (naming.Ending said) was = also_end picks other p lines weaker said was
 
 module _ (picks other : Picks) (p : Plan) (lines : Lines) (weaker : (from : List (ℕ × ℕ)) (b : ℕ) → picks from b → other from b) where
-  pub also : (w : Work) → PickedIn picks p w lines → PickedIn other p w lines
+  pub also : (w : WorkMachine) → PickedIn picks p w lines → PickedIn other p w lines
   also Idle was = tt
   also (Lookup m) was = also_read picks other p lines weaker m was
   also (Write m) was = also_write picks other p lines weaker m was

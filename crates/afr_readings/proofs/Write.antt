@@ -32,9 +32,9 @@ use Rattle.afr_readings.proofs.Walk.{walk_begins, walk_begun, walk_picked, walk_
 use Rattle.afr_readings.specs.Picked.{PickedEnd, PickedStep, PickedWalk, PickedWrite}
 use Rattle.afr_transaction.specs.Outcome as outcome
 use Rattle.afr_transaction.specs.Progress as transaction
-use Rattle.afr_transaction.specs.Progress.{Progress, asks, starting}
-use Rattle.afr_transaction.specs.declared.reply.Outcome.{Outcome}
-use Rattle.afr_transaction.specs.declared.reply.Outcome.TheVariants as outcome_of
+use Rattle.afr_transaction.specs.Progress.{TransactionProgress, asks, starting}
+use Rattle.afr_transaction.specs.declared.reply.TransactionOutcome.{TransactionOutcome}
+use Rattle.afr_transaction.specs.declared.reply.TransactionOutcome.TheVariants as outcome_of
 use Rattle.afr_transaction.specs.declared.stage.Stage.{Stage}
 use Rattle.afr_transaction.specs.declared.stage.Stage.TheVariants as stages
 use Rattle.afr_walk.specs.Choosing.{reader_of}
@@ -46,7 +46,7 @@ use Rattle.afr_write_telling.specs.WriteTelling.{TellsIn, WriteTells}
 
 module _ (picks : Picks) (p : Plan) where
   -- ---- a transaction reads nothing
-  pub change_reads : (t : Progress) (stage : Stage) (at : ℕ) (a : ActorId) (b : BrickId) (request : Request) (told : Told) (took : Bool) (log : List Line) → transaction.next_at stage at t ≡ next.Ask b request
+  pub change_reads : (t : TransactionProgress) (stage : Stage) (at : ℕ) (a : ActorId) (b : BrickId) (request : Request) (told : Told) (took : Bool) (log : List Line) → transaction.next_at stage at t ≡ next.Ask b request
       → ReadsPicked picks p (Ask a b request told took) log
   change_reads t stages.Beginning at a b request told took log e = absurd (cc e)
   change_reads t stages.Locking at a b request told took log e = ask_same (λ x r. ReadsPicked picks p (Ask a x r told took) log) _ b _ request e tt
@@ -61,14 +61,14 @@ module _ (picks : Picks) (p : Plan) where
       go false e = ask_same (λ x r. ReadsPicked picks p (Ask a x r told took) log) _ b _ request e tt
 
   -- and no reply of one is a stat's
-  outcome_ends : (made : Outcome) (lines : Work) → PickedEnd picks p (outcome.reply_for made) lines
+  outcome_ends : (made : TransactionOutcome) (lines : Work) → PickedEnd picks p (outcome.reply_for made) lines
   outcome_ends outcome_of.Acknowledged lines = tt
   outcome_ends outcome_of.NoQuorum lines = tt
   outcome_ends outcome_of.FewCopies lines = tt
   outcome_ends (outcome_of.SplitBrain views) lines = tt
   outcome_ends outcome_of.Failed lines = tt
 
-  pub change_ends : (t : Progress) (stage : Stage) (at : ℕ) (said : Reply) (lines : Work) → transaction.next_at stage at t ≡ next.End said → PickedEnd picks p said lines
+  pub change_ends : (t : TransactionProgress) (stage : Stage) (at : ℕ) (said : Reply) (lines : Work) → transaction.next_at stage at t ≡ next.End said → PickedEnd picks p said lines
   change_ends t stages.Closing at said lines e = go (is_nothing t.register.held) e
     where
       go : (none : Bool) → (if none then next.End (outcome.reply_of t.change t.register) else asks stages.Closing t) ≡ next.End said → PickedEnd picks p said lines

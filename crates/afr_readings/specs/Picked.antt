@@ -28,16 +28,16 @@ use Rattle.afr_readings.specs.Readings.{looked_here}
 use Rattle.afr_removal.specs.Removal.{Removing}
 use Rattle.afr_removal.specs.declared.stage.RemovalStage.{RemovalStage}
 use Rattle.afr_removal.specs.declared.stage.RemovalStage.TheVariants.{Listing}
-use Rattle.afr_transaction.specs.Progress.{Progress, is_beginning}
+use Rattle.afr_transaction.specs.Progress.{TransactionProgress, is_beginning}
 use Rattle.afr_walk.specs.declared.walk.Walk.{Walk}
 use Rattle.afr_walk.specs.declared.walk.WalkStep.{WalkStep}
 use Rattle.afr_walk.specs.declared.walk.WalkStep.TheVariants.{Arrived, Looking, Naming, Stopped}
-use Rattle.afr_works.specs.declared.work.Work.{Work}
+use Rattle.afr_works.specs.declared.work.WorkMachine.{WorkMachine}
 use Rattle.afr_model.specs.Parts.{the_make, the_removal}
 use Rattle.afr_rename.specs.declared.paths.Paths.{Paths}
 use Rattle.afr_rename.specs.declared.stage.RenameStage.{RenameStage}
 use Rattle.afr_rename.specs.declared.stage.RenameStage.TheVariants as renaming
-use Rattle.afr_works.specs.declared.work.Work.TheVariants.{Idle, Lookup, Write, Entry, Rename}
+use Rattle.afr_works.specs.declared.work.WorkMachine.TheVariants.{Idle, Lookup, Write, Entry, Rename}
 
 -- the rule picked this brick by the last looks at an object
 abbrev pub PicksOf : Picks → Plan → Gfid → Kind → Lines → ℕ → Type 0
@@ -72,7 +72,7 @@ PickedWrite picks p (writing.Changing t) w lines = Unit {0}
 PickedWrite picks p (writing.Ending said) w lines = PickedEnd picks p said lines
 
 -- under the lock of a name it is read before the attempt
-abbrev pub PickedUnder : Picks → Plan → Gfid → Progress → Found → Lines → Type 0
+abbrev pub PickedUnder : Picks → Plan → Gfid → TransactionProgress → Found → Lines → Type 0
 PickedUnder picks p g t (Unread b) lines = is_beginning t.stage ≡ true → PicksOf picks p g Names lines b.0
 PickedUnder picks p g t found lines = Unit {0}
 
@@ -97,7 +97,7 @@ PickedRename picks p (renaming.Removing t found) x lines = PickedUnder picks p x
 PickedRename picks p (renaming.Ending said) x lines = PickedEnd picks p said lines
 
 -- a client's present work
-abbrev pub PickedIn : Picks → Plan → Work → Lines → Type 0
+abbrev pub PickedIn : Picks → Plan → WorkMachine → Lines → Type 0
 PickedIn picks p Idle lines = Unit {0}
 PickedIn picks p (Lookup m) lines = PickedRead picks p m.job m.stage m.walk lines
 PickedIn picks p (Write m) lines = PickedWrite picks p m.stage m.walk lines

@@ -116,6 +116,6 @@ asked_of p a log = asked_in p (command_by p a (latest a log)) (latest a log)
 
 -- ---- what it answered
 -- one of these, and none exactly where it was asked for nothing
-abbrev pub Answers : Picks → List (ℕ × ℕ) → Option ℕ → Type 0
-Answers picks from None = from ≡ []
-Answers picks from (Some b) = picks from b
+abbrev pub PickAnswers : Picks → List (ℕ × ℕ) → Option ℕ → Type 0
+PickAnswers picks from None = from ≡ []
+PickAnswers picks from (Some b) = picks from b

@@ -23,7 +23,7 @@ use Rattle.afr_moves.specs.Sets.{any}
 use Rattle.afr_moves.proofs.AreaLemmas.{same_area_self}
 use Rattle.afr_discipline.specs.Notes.{asked_at}
 use Rattle.afr_discipline.specs.Stands.{number_of, seen_as, views_of}
-use Rattle.afr_discipline.specs.Tests.{carried, is_open, last_posted, may_end, one_of, plane_in}
+use Rattle.afr_discipline.specs.Tests.{is_open, last_posted, may_end, one_of, plane_in, suffices_by}
 use Rattle.afr_discipline.specs.declared.register.Move.{Move}
 use Rattle.afr_discipline.specs.declared.register.Move.TheVariants as move
 use Rattle.afr_discipline.specs.declared.register.Register.{Register}
@@ -37,8 +37,8 @@ use Rattle.afr_walk.specs.Free.{Allows}
 use Rattle.afr_removal.specs.Laws.{AllowedMoves}
 use Rattle.afr_removal.specs.Removal.{Removing, asks, brick_at, is_beginning, is_over, left, next_at, reply_of, request_at, sources, whole}
 use Rattle.afr_removal.specs.Sound.{During, Ready, Sound}
-use Rattle.afr_removal.specs.declared.stage.Ending.{Ending}
-use Rattle.afr_removal.specs.declared.stage.Ending.TheVariants.{Counted, NoQuorum, FewCopies, SplitBrain, NotEmpty, Failed}
+use Rattle.afr_removal.specs.declared.stage.RemovalEnding.{RemovalEnding}
+use Rattle.afr_removal.specs.declared.stage.RemovalEnding.TheVariants.{Counted, NoQuorum, FewCopies, SplitBrain, NotEmpty, Failed}
 use Rattle.afr_removal.specs.declared.stage.RemovalStage.{RemovalStage}
 use Rattle.afr_removal.specs.declared.stage.RemovalStage.TheVariants.{Locking, Looking, Listing, Beginning, Preparing, Applying, Posting, Closing}
 use Rattle.afr_removal.proofs.Facts.{is_busy, list_asked, lock_asked, look_asked, of_names, suits}
@@ -95,10 +95,10 @@ module _ (m : Removing) (s : Sound m) where
       pair _ _ (lt_test _ _ (s.base.shown.reached _ shows.1))
       (pair _ _ (pair _ _ (pair _ _ (some_number d.0.number r.begun d.0.is_begun).0 plane) shows.0) (once_is 2 m.change r step.Pres _ d.0 refl asked.0))
 
-  kind_named : (t : List ℕ) → enough r Names t ≡ true → carried n (keeps_in r.shape) (kind_in r.area) (views_of r.looked) (member t) ≡ true
+  kind_named : (t : List ℕ) → enough r Names t ≡ true → suffices_by n (keeps_in r.shape) (kind_in r.area) (views_of r.looked) (member t) ≡ true
   kind_named t h =
       let kind : kind_in r.area ≡ Names = ap kind_in s.areas.named ∙ (suits m.change s.removes).kind ∙ of_names m.change s.removes in
-      subst (λ (k : Kind). carried n (keeps_in r.shape) k (views_of r.looked) (member t) ≡ true) (sym kind) h
+      subst (λ (k : Kind). suffices_by n (keeps_in r.shape) k (views_of r.looked) (member t) ≡ true) (sym kind) h
 
   apply_allowed : During Applying m → Ready Applying m → allowed r (asks Applying m) ≡ true
   apply_allowed d ready =
@@ -114,7 +114,7 @@ module _ (m : Removing) (s : Sound m) where
       (others_missed n r.done s.base.few))
 
   -- nothing is held at the end, and an ok is one of a majority
-  end_allowed : (why : Ending) → is_nothing (left (Closing why) m) ≡ true → may_end n (seen_as r) (is_ok (reply_of why r)) ≡ true
+  end_allowed : (why : RemovalEnding) → is_nothing (left (Closing why) m) ≡ true → may_end n (seen_as r) (is_ok (reply_of why r)) ≡ true
   end_allowed why h = pair _ _ (pair _ _ (deny _ free) (deny _ (subst (λ (t : List ℕ). any n (member t) ≡ false) (sym s.base.none_healing) (any_nothing n)))) (acknowledged why)
     where
       none : (is_nothing r.second_held ≡ true) × (is_nothing r.held ≡ true)
@@ -132,7 +132,7 @@ module _ (m : Removing) (s : Sound m) where
       by_count true false = refl
       by_count false first = refl
 
-      acknowledged : (why : Ending) → (not (is_ok (reply_of why r)) || last_posted n (seen_as r).law) ≡ true
+      acknowledged : (why : RemovalEnding) → (not (is_ok (reply_of why r)) || last_posted n (seen_as r).law) ≡ true
       acknowledged Counted = by_count (is_majority n r.post) (number_of r.begun == 0)
       acknowledged NoQuorum = refl
       acknowledged FewCopies = refl
@@ -144,7 +144,7 @@ module _ (m : Removing) (s : Sound m) where
   unlock_small [] h one two e = two _ (lowest_in h e)
   unlock_small (x ∷ xs) h one two e = one _ (lowest_in (x ∷ xs) refl)
 
-  close_allowed : (why : Ending) → allowed r (next_at (Closing why) m) ≡ true
+  close_allowed : (why : RemovalEnding) → allowed r (next_at (Closing why) m) ≡ true
   close_allowed why = go (is_nothing (left (Closing why) m)) refl
     where
       go : (x : Bool) → is_nothing (left (Closing why) m) ≡ x → allowed r (if x then next.End (reply_of why r) else asks (Closing why) m) ≡ true

@@ -6,8 +6,8 @@ use Rattle.afr_moves.specs.Honest.{plane_kind}
 use Rattle.afr_moves.specs.Keeps.{keeps_in}
 use Rattle.afr_moves.specs.Register.{holder}
 use Rattle.afr_discipline.specs.Stands.{number_of, views_of}
-use Rattle.afr_discipline.specs.Tests.{carried}
-use Rattle.afr_transaction.specs.Progress.{Progress, is_beginning}
+use Rattle.afr_discipline.specs.Tests.{suffices_by}
+use Rattle.afr_transaction.specs.Progress.{TransactionProgress, is_beginning}
 use Rattle.afr_transaction.specs.Sound.{During, Sound}
 use Rattle.afr_transaction.specs.declared.stage.Stage.{Stage}
 use Rattle.afr_transaction.specs.declared.stage.Stage.TheVariants.{Beginning}
@@ -15,7 +15,7 @@ use Rattle.afr_transaction.proofs.Parts.{both, denied}
 use Rattle.afr_transaction.proofs.ReadLemmas.{begins_at}
 use Rattle.afr_removal.specs.Sound.{IsBase, IsUnbegun}
 
-pub base_of : (t : Progress) → Sound t → IsBase t.change t.register
+pub base_of : (t : TransactionProgress) → Sound t → IsBase t.change t.register
 base_of t s = record {
   few = s.base.few;
   outside = s.base.outside;
@@ -30,14 +30,14 @@ base_of t s = record {
   of_held = s.base.of_held;
 }
 
-pub named_of : (t : Progress) → Sound t → is_beginning t.stage ≡ true → t.register.area ≡ Some (area_for t.change)
+pub named_of : (t : TransactionProgress) → Sound t → is_beginning t.stage ≡ true → t.register.area ≡ Some (area_for t.change)
 named_of t s is = go t.stage (begins_at t.stage is) s.during
   where
     go : (stage : Stage) → stage ≡ Beginning → During stage t → t.register.area ≡ Some (area_for t.change)
     go Beginning e d = d.0
     go stage e d = absurd (cc e)
 
-pub unbegun_of : (t : Progress) → Sound t → is_beginning t.stage ≡ true → IsUnbegun t.register
+pub unbegun_of : (t : TransactionProgress) → Sound t → is_beginning t.stage ≡ true → IsUnbegun t.register
 unbegun_of t s is = go t.stage (begins_at t.stage is) s.during
   where
     none_begun : (o : Option ℕ) → (number_of o == 0) ≡ true → o ≡ None
@@ -47,7 +47,7 @@ unbegun_of t s is = go t.stage (begins_at t.stage is) s.during
     go : (stage : Stage) → stage ≡ Beginning → During stage t → IsUnbegun t.register
     go Beginning e d =
         let r = t.register in
-        let split = both _ (carried r.shape.n (keeps_in r.shape) (plane_kind t.change) (views_of r.looked) (holder (views_of r.looked))) d.1 in
+        let split = both _ (suffices_by r.shape.n (keeps_in r.shape) (plane_kind t.change) (views_of r.looked) (holder (views_of r.looked))) d.1 in
         let first = both _ _ (both _ _ (both _ _ (both _ _ (both _ _ split.0).0).0).0).0 in
         record { first = none_begun r.begun first.0; open_still = denied r.unlocked first.1 }
     go stage e d = absurd (cc e)

@@ -24,7 +24,7 @@ use Rattle.afr_moves.specs.Honest.{plane_kind}
 use Rattle.afr_moves.specs.Register.{holder}
 use Rattle.afr_discipline.specs.Notes.{asked_at, noted_ask}
 use Rattle.afr_discipline.specs.Stands.{views_of}
-use Rattle.afr_discipline.specs.Tests.{carried}
+use Rattle.afr_discipline.specs.Tests.{suffices_by}
 use Rattle.afr_discipline.specs.declared.register.Register.{Register}
 use Rattle.afr_discipline.specs.declared.register.Step.TheVariants as step
 use Rattle.afr_transaction.specs.Progress.{enough, may_start, number_in}
@@ -40,8 +40,8 @@ use Rattle.afr_removal.specs.Laws.{BeginsSound, StaysSound}
 use Rattle.afr_removal.specs.Removal.{Removing, after, against, answered, begun, both_held, brick_at, child_after, child_reads, choices_at, choices_in, gone_on, has_takers, is_beginning, is_over, left, listed, moved, offered, offered_after, on_stage, or_close, reads_at, register_after, removing, request_at, sets_after, stage_after, takers_of, unlocks, untouched, whole}
 use Rattle.afr_removal.specs.Sound.{During, HasAreas, HasTakers, IsAsking, IsBase, IsRemoval, IsUnbegun, Ready, Sound}
 use Rattle.afr_removal.specs.declared.child.Child.{Child}
-use Rattle.afr_removal.specs.declared.stage.Ending.{Ending}
-use Rattle.afr_removal.specs.declared.stage.Ending.TheVariants.{Counted, NoQuorum, FewCopies, SplitBrain, NotEmpty, Failed}
+use Rattle.afr_removal.specs.declared.stage.RemovalEnding.{RemovalEnding}
+use Rattle.afr_removal.specs.declared.stage.RemovalEnding.TheVariants.{Counted, NoQuorum, FewCopies, SplitBrain, NotEmpty, Failed}
 use Rattle.afr_removal.specs.declared.stage.RemovalStage.{RemovalStage}
 use Rattle.afr_removal.specs.declared.stage.RemovalStage.TheVariants.{Locking, Looking, Listing, Beginning, Preparing, Applying, Posting, Closing}
 use Rattle.afr_removal.proofs.AfterLemmas.{apply_areas, apply_base, apply_begun, apply_enough, child_shown, list_areas, list_base, lock_areas, lock_base, lock_unbegun, locked_is, look_areas, look_base, look_unbegun, post_areas, post_base, post_begun, post_enough, pre_areas, pre_base, pre_begun, unlock_areas, unlock_base}
@@ -62,7 +62,7 @@ some_good shape looked e = clean (is_majority shape.n looked.reached) (is_majori
 pub listed_good : (x : Removing) → after Looking x ≡ Listing → is_nothing (good_copies x.register.shape x.child.looked Names) ≡ false
 listed_good x h = go (is_nothing (left Looking x)) h
   where
-    judged : (why : Option Ending) → against x.register.shape x.child.looked ≡ why → or_close why Listing ≡ Listing → is_nothing (good_copies x.register.shape x.child.looked Names) ≡ false
+    judged : (why : Option RemovalEnding) → against x.register.shape x.child.looked ≡ why → or_close why Listing ≡ Listing → is_nothing (good_copies x.register.shape x.child.looked Names) ≡ false
     judged None e h = some_good x.register.shape x.child.looked e
     judged (Some why) e h = absurd (cc h)
 
@@ -111,7 +111,7 @@ module _ (x : Removing) (removes : IsRemoval x.change) (base : IsBase x.change x
             some = rw t (some_member (takers_of x.register) one.0 one.1);
           }
 
-      judged : (why : Option Ending) → against x.register.shape x.child.looked ≡ why → has_takers x.register ≡ true → IsAmong (offered (or_close why Listing) x.register.shape x.child.looked) x.child.reader → Sound (on_stage (or_close why Listing) x)
+      judged : (why : Option RemovalEnding) → against x.register.shape x.child.looked ≡ why → has_takers x.register ≡ true → IsAmong (offered (or_close why Listing) x.register.shape x.child.looked) x.child.reader → Sound (on_stage (or_close why Listing) x)
       judged None e f h = stands Listing (d, takers f, among_good x.register.shape x.child.looked Names x.child.reader (some_good x.register.shape x.child.looked e) h) tt
       judged (Some why) e f h = stands (Closing why) tt tt
 
@@ -167,7 +167,7 @@ module _ (x : Removing) (removes : IsRemoval x.change) (base : IsBase x.change x
       go true e = stands (Closing Counted) tt tt
       go false e = stands Posting d e
 
-  pub after_unlock : (why : Ending) → Sound (on_stage (after (Closing why) x) x)
+  pub after_unlock : (why : RemovalEnding) → Sound (on_stage (after (Closing why) x) x)
   after_unlock why = go (is_nothing (left (Closing why) x))
     where
       go : (e : Bool) → Sound (on_stage (if e then Closing why else Closing why) x)
@@ -257,7 +257,7 @@ module _ (chosen : BrickId) (m : Removing) (s : Sound m) (a : Answer) (at : ℕ)
       (post_areas m.change c r b small s.base s.areas q g Names missed told) s.child
       (post_begun m.change c r b small s.base s.areas q g Names missed told d.0, post_enough m.change c r b small s.base s.areas q g Names missed told Names d.1))
 
-  kept_unlock : (why : Ending) → IsAsking (Closing why) m → Sound (answered chosen (Closing why) a at m)
+  kept_unlock : (why : RemovalEnding) → IsAsking (Closing why) m → Sound (answered chosen (Closing why) a at m)
   kept_unlock why e =
       let b = brick_at (Closing why) m in
       let small : b < r.shape.n = unlock_small r.second_held r.held s.areas.within s.base.held_within e in
@@ -305,7 +305,7 @@ begins_sound m s is at = go m.stage is s.during
     go : (stage : RemovalStage) → is_beginning stage ≡ true → During stage m → Sound (begun at m)
     go Beginning e d =
         let r = m.register in
-        let split = both _ (carried r.shape.n (keeps_in r.shape) (plane_kind m.change) (views_of r.looked) (holder (views_of r.looked))) d.0 in
+        let split = both _ (suffices_by r.shape.n (keeps_in r.shape) (plane_kind m.change) (views_of r.looked) (holder (views_of r.looked))) d.0 in
         let first = both _ _ (both _ _ (both _ _ (both _ _ (both _ _ split.0).0).0).0).0 in
         record {
           removes = s.removes;

@@ -37,8 +37,8 @@ use Rattle.afr_walk.specs.Choosing.{candidates_of}
 use Rattle.afr_walk.specs.Looks.{noted_look}
 use Rattle.afr_transaction.specs.Progress.{enough, may_start, number_in}
 use Rattle.afr_removal.specs.declared.child.Child.{Child}
-use Rattle.afr_removal.specs.declared.stage.Ending.{Ending}
-use Rattle.afr_removal.specs.declared.stage.Ending.TheVariants.{Counted, NoQuorum, FewCopies, SplitBrain, NotEmpty, Failed}
+use Rattle.afr_removal.specs.declared.stage.RemovalEnding.{RemovalEnding}
+use Rattle.afr_removal.specs.declared.stage.RemovalEnding.TheVariants.{Counted, NoQuorum, FewCopies, SplitBrain, NotEmpty, Failed}
 use Rattle.afr_removal.specs.declared.stage.RemovalStage.{RemovalStage}
 use Rattle.afr_removal.specs.declared.stage.RemovalStage.TheVariants.{Locking, Looking, Listing, Beginning, Preparing, Applying, Posting, Closing}
 
@@ -119,7 +119,7 @@ abbrev pub asks : RemovalStage → Removing → Next
 asks stage m = next.Ask (record { 0 = brick_at stage m }) (request_at stage m)
 
 -- the reply: a change that was begun is acknowledged where a majority has done post-op
-abbrev pub reply_of : Ending → Register → Reply
+abbrev pub reply_of : RemovalEnding → Register → Reply
 reply_of Counted r = if is_majority r.shape.n r.post then reply.Ok good.Done else reply.Failed
 reply_of NoQuorum r = reply.NoQuorum
 reply_of FewCopies r = reply.FewCopies
@@ -152,14 +152,14 @@ CarriesAt stage other change = ⊥
 
 -- ---- what follows
 -- what the looks at the child rule out: too few of them, too few copies, or no good one
-abbrev pub against : Shape → Looked → Option Ending
+abbrev pub against : Shape → Looked → Option RemovalEnding
 against shape looked =
     if not (is_majority shape.n looked.reached) then Some NoQuorum
     else (if not (is_majority shape.n (holders_of looked)) then Some FewCopies
     else (if is_nothing (good_copies shape looked Names) then Some (SplitBrain looked.views) else None))
 
 -- a stage, or the end
-abbrev pub or_close : Option Ending → RemovalStage → RemovalStage
+abbrev pub or_close : Option RemovalEnding → RemovalStage → RemovalStage
 or_close None stage = stage
 or_close (Some why) stage = Closing why
 

@@ -43,13 +43,13 @@ abbrev pub IsUnbegun : Register → Type 0
 IsUnbegun r = Unbegun r.begun r.unlocked
 
 -- holders of the directory take part in the attempt, and some do
-pub record Takes (takers holders : List ℕ) : Type 0 where
+pub record AreTakers (takers holders : List ℕ) : Type 0 where
   pub among : IsIn takers holders
   pub some : is_nothing takers ≡ false
 
 -- the same of a whole removal
 abbrev pub HasTakers : Removing → Type 0
-HasTakers m = Takes m.child.takers (holders_of m.register.looked)
+HasTakers m = AreTakers m.child.takers (holders_of m.register.looked)
 
 -- what is known at each stage
 abbrev pub During : RemovalStage → Removing → Type 0

@@ -9,4 +9,4 @@ mod stage;
 pub use child::Child;
 pub use laws::a_removal_stays_sound;
 pub use machine::Removal;
-pub use stage::{Ending, RemovalStage};
+pub use stage::{RemovalEnding, RemovalStage};

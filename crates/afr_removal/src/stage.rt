@@ -14,7 +14,7 @@ ghost use Rattle.afr_walk.specs.Choosing.{RuleAnswers, reader_of};
 use crate::child::{Child, both_held, takers_of};
 use afr_base::{BrickId, BrickSet, Kind, NoMemory, Shape};
 use afr_choice::{Looked, good, holders};
-use afr_discipline::{Move, Register, Step, asked_at, begun, is_carried, may};
+use afr_discipline::{Move, Register, Step, asked_at, begun, may, suffices};
 use afr_lines::{Answer, Area, Domain, Good, Reply, Request, Told};
 use afr_object::{Change, View, Views};
 use afr_rule::{Candidate, ReadRule};
@@ -24,7 +24,7 @@ use std::alloc::Global;
 
 /// Why a removal releases its locks.
 #[derive(Clone, Copy, Debug)]
-pub enum Ending {
+pub enum RemovalEnding {
     /// The attempt is past, and the bricks that have done post-op are counted.
     Counted,
     /// Fewer than a majority, or none with a good copy, hold both locks or have answered the looks at the child.
@@ -57,7 +57,7 @@ pub enum RemovalStage {
     /// Post-op.
     Posting,
     /// The locks are released, those of the child first.
-    Closing(Ending),
+    Closing(RemovalEnding),
 }
 
 /// Who is still to be asked.
@@ -188,10 +188,10 @@ fn is_enough(r: &Register, set: BrickSet) -> bool
     requires { r.now.shape.n ≤ 5 }
     ensures { result ≡ enough r.now Names set }
 {
-    is_carried(r.shape, &r.looked, Kind::Names, set)
+    suffices(r.shape, &r.looked, Kind::Names, set)
 }
 
-fn choose(enough: bool, stage: RemovalStage, why: Ending) -> RemovalStage
+fn choose(enough: bool, stage: RemovalStage, why: RemovalEnding) -> RemovalStage
     ensures { result ≡ (if enough then stage else RemovalStage.Closing why) }
 {
     if enough {
@@ -207,11 +207,11 @@ fn judged(shape: &Shape, looked: &Looked) -> RemovalStage
     ensures { result ≡ or_close (against shape.now looked.now) RemovalStage.Listing }
 {
     if !looked.reached.has_quorum(shape.n) {
-        RemovalStage::Closing(Ending::NoQuorum)
+        RemovalStage::Closing(RemovalEnding::NoQuorum)
     } else if !holders(looked).has_quorum(shape.n) {
-        RemovalStage::Closing(Ending::FewCopies)
+        RemovalStage::Closing(RemovalEnding::FewCopies)
     } else if good(shape, looked, Kind::Names).is_empty() {
-        RemovalStage::Closing(Ending::SplitBrain(looked.views))
+        RemovalStage::Closing(RemovalEnding::SplitBrain(looked.views))
     } else {
         RemovalStage::Listing
     }
@@ -224,7 +224,7 @@ fn after_looks(r: &Register, child: &Child) -> RemovalStage
     if has_takers(r) {
         judged(&r.shape, &child.looked)
     } else {
-        RemovalStage::Closing(Ending::NoQuorum)
+        RemovalStage::Closing(RemovalEnding::NoQuorum)
     }
 }
 
@@ -234,15 +234,27 @@ fn go_on(stage: RemovalStage, r: &Register, child: &Child) -> RemovalStage
     ensures { result ≡ gone_on stage r.now child.now }
 {
     match stage {
-        RemovalStage::Locking => choose(has_takers(r), RemovalStage::Looking, Ending::NoQuorum),
+        RemovalStage::Locking => choose(
+            has_takers(r),
+            RemovalStage::Looking,
+            RemovalEnding::NoQuorum,
+        ),
         RemovalStage::Looking => after_looks(r, child),
         RemovalStage::Preparing => {
-            choose(is_enough(r, r.pre), RemovalStage::Applying, Ending::Counted)
+            choose(
+                is_enough(r, r.pre),
+                RemovalStage::Applying,
+                RemovalEnding::Counted,
+            )
         }
         RemovalStage::Applying => {
-            choose(is_enough(r, r.done), RemovalStage::Posting, Ending::Counted)
+            choose(
+                is_enough(r, r.done),
+                RemovalStage::Posting,
+                RemovalEnding::Counted,
+            )
         }
-        RemovalStage::Posting => RemovalStage::Closing(Ending::Counted),
+        RemovalStage::Posting => RemovalStage::Closing(RemovalEnding::Counted),
         RemovalStage::Listing => stage,
         RemovalStage::Beginning => stage,
         RemovalStage::Closing(_) => stage,
@@ -312,34 +324,34 @@ pub(crate) fn listed(answer: &Answer, change: &Change, r: &Register) -> RemovalS
                 choose(
                     may(r, &Move::Begin(change)),
                     RemovalStage::Beginning,
-                    Ending::Failed,
+                    RemovalEnding::Failed,
                 )
             } else {
-                RemovalStage::Closing(Ending::NotEmpty)
+                RemovalStage::Closing(RemovalEnding::NotEmpty)
             }
         }
-        _ => RemovalStage::Closing(Ending::Failed),
+        _ => RemovalStage::Closing(RemovalEnding::Failed),
     }
 }
 
 /// The reply: a change that was begun is acknowledged where a majority has done post-op.
-pub(crate) fn reply_of(alloc: Global, why: &Ending, r: &Register) -> Result<Reply, NoMemory>
+pub(crate) fn reply_of(alloc: Global, why: &RemovalEnding, r: &Register) -> Result<Reply, NoMemory>
     requires { r.now.shape.n ≤ 5 }
     ensures { IfOk result (λ reply. reply ≡ reply_of why.now r.now) }
 {
     match why {
-        Ending::Counted => Ok(counted(r)),
-        Ending::NoQuorum => Ok(Reply::NoQuorum),
-        Ending::FewCopies => Ok(Reply::FewCopies),
-        Ending::SplitBrain(views) => Ok(Reply::SplitBrain(Views::new(alloc, views)?)),
-        Ending::NotEmpty => Ok(Reply::NotEmpty),
-        Ending::Failed => Ok(Reply::Failed),
+        RemovalEnding::Counted => Ok(counted(r)),
+        RemovalEnding::NoQuorum => Ok(Reply::NoQuorum),
+        RemovalEnding::FewCopies => Ok(Reply::FewCopies),
+        RemovalEnding::SplitBrain(views) => Ok(Reply::SplitBrain(Views::new(alloc, views)?)),
+        RemovalEnding::NotEmpty => Ok(Reply::NotEmpty),
+        RemovalEnding::Failed => Ok(Reply::Failed),
     }
 }
 
 fn counted(r: &Register) -> Reply
     requires { r.now.shape.n ≤ 5 }
-    ensures { result ≡ reply_of Ending.Counted r.now }
+    ensures { result ≡ reply_of RemovalEnding.Counted r.now }
 {
     if r.post.has_quorum(r.shape.n) {
         Reply::Ok(Good::Done)

@@ -20,8 +20,8 @@ use Rattle.afr_removal.proofs.AfterLemmas.{locked_is}
 use Rattle.afr_removal.proofs.Facts.{apart, is_busy}
 use Rattle.afr_removal.specs.Removal.{Removing, against, answered, brick_at, has_takers, left, moved, or_close, register_after, removing, request_at, sets_after, stage_after, whole}
 use Rattle.afr_removal.specs.Sound.{IsAsking, Sound}
-use Rattle.afr_removal.specs.declared.stage.Ending.{Ending}
-use Rattle.afr_removal.specs.declared.stage.Ending.TheVariants.{Counted, Failed, NoQuorum}
+use Rattle.afr_removal.specs.declared.stage.RemovalEnding.{RemovalEnding}
+use Rattle.afr_removal.specs.declared.stage.RemovalEnding.TheVariants.{Counted, Failed, NoQuorum}
 use Rattle.afr_removal.specs.declared.stage.RemovalStage.TheVariants.{Applying, Beginning, Closing, Listing, Locking, Looking, Posting, Preparing}
 use Rattle.afr_removal.specs.declared.stage.RemovalStage.{RemovalStage}
 use Rattle.afr_removal_order.proofs.Rows.{removed_rises}
@@ -105,7 +105,7 @@ away : (stage : RemovalStage) (a : Answer) (x : Removing) → (stage ≡ Locking
 away Locking a x other is = other refl
 away Looking a x other is = go (is_nothing (left Looking x)) (has_takers x.register) (against x.register.shape x.child.looked) is
   where
-    go : (e f : Bool) (o : Option Ending) → (if e then (if f then or_close o Listing else Closing NoQuorum) else Looking) ≡ Locking → ⊥
+    go : (e f : Bool) (o : Option RemovalEnding) → (if e then (if f then or_close o Listing else Closing NoQuorum) else Looking) ≡ Locking → ⊥
     go true true None h = cc h
     go true true (Some why) h = cc h
     go true false o h = cc h

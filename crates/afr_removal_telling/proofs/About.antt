@@ -15,7 +15,7 @@ use Rattle.afr_discipline.specs.Notes.{asked_at}
 use Rattle.afr_discipline.specs.declared.register.Step.TheVariants as step
 use Rattle.afr_lines.specs.Work.{Work}
 use Rattle.afr_lines.specs.declared.answer.Told.{Told}
-use Rattle.afr_lines.specs.declared.answer.Told.TheVariants as told_of
+use Rattle.afr_lines.specs.declared.answer.Told.TheVariants as as_told
 use Rattle.afr_lines.specs.declared.line.Line.{Line}
 use Rattle.afr_lines.specs.declared.line.Next.TheVariants as next
 use Rattle.afr_lines.specs.declared.reply.Reply.{Reply}
@@ -34,7 +34,7 @@ use Rattle.afr_model.specs.Standing.{area_here, getting, looks_here}
 use Rattle.afr_removal.specs.Removal.{Removing, asks, both_held, brick_at, is_over, left, next_at, reply_of}
 use Rattle.afr_removal.specs.Sound as sound
 use Rattle.afr_removal.specs.Sound.{Ready, Sound}
-use Rattle.afr_removal.specs.declared.stage.Ending.{Ending}
+use Rattle.afr_removal.specs.declared.stage.RemovalEnding.{RemovalEnding}
 use Rattle.afr_removal.specs.declared.stage.RemovalStage.{RemovalStage}
 use Rattle.afr_removal.specs.declared.stage.RemovalStage.TheVariants.{Locking, Looking, Listing, Beginning, Preparing, Applying, Posting, Closing}
 use Rattle.afr_removal.proofs.Facts.{common_right, of_names}
@@ -44,7 +44,7 @@ use Rattle.afr_transaction_tells.specs.Fits.{missed_by}
 use Rattle.afr_transaction_tells.specs.Laws.{IsNextLine}
 use Rattle.afr_transaction_tells.proofs.Small.{self}
 use Rattle.afr_removal_telling.specs.RemovalLaws.{RemovalAbout, RemovalBlames, RemovalEnds}
-use Rattle.afr_removal_telling.specs.RemovalTelling.{During, Goes, IsBegun, IsJudged, OnPost, Tries, dir_at}
+use Rattle.afr_removal_telling.specs.RemovalTelling.{During, IsBegun, IsJudged, OnPost, RemovalGoes, Tries, dir_at}
 use Rattle.afr_removal_telling.proofs.Lost.{held_granted}
 use Rattle.afr_removal_telling.proofs.Refused.{looks_refuse}
 
@@ -62,7 +62,7 @@ reached_of : (x y z : Bool) (views : List _) → (if not x then Some reply.NoQuo
 reached_of true y z views e = refl
 reached_of false y z views e = absurd (cc e)
 
-module _ (p : Plan) (path : List NameId) (m : Removing) (w : Work) (s : Sound m) (k : Goes p path m.change m.register m.child.gfid w) where
+module _ (p : Plan) (path : List NameId) (m : Removing) (w : Work) (s : Sound m) (k : RemovalGoes p path m.change m.register m.child.gfid w) where
   abbrev cmd : Command
   cmd = command.Rmdir path
 
@@ -196,12 +196,12 @@ pub about : RemovalAbout
 about p path m w a told line log s t is = about_at p path m w s a told log m.stage line t s.during s.ready is
 
 pub blames : RemovalBlames
-blames p path m w s t = blames_at p path m w s (record { 0 = 0 }) told_of.Done [] m.stage t s.ready
+blames p path m w s t = blames_at p path m w s (record { 0 = 0 }) as_told.Done [] m.stage t s.ready
 
 pub ends : RemovalEnds
 ends p path m w said t e = go m.stage t e
   where
-    over : (why : Ending) (x : Bool) → IsAnswered p (command.Rmdir path) w (reply_of why m.register) → (if x then next.End (reply_of why m.register) else asks (Closing why) m) ≡ next.End said → IsAnswered p (command.Rmdir path) w said
+    over : (why : RemovalEnding) (x : Bool) → IsAnswered p (command.Rmdir path) w (reply_of why m.register) → (if x then next.End (reply_of why m.register) else asks (Closing why) m) ≡ next.End said → IsAnswered p (command.Rmdir path) w said
     over why true k e = let same : reply_of why m.register ≡ said = cc e in subst (λ (y : Reply). IsAnswered p (command.Rmdir path) w y) same k
     over why false k e = absurd (cc e)
 

@@ -27,11 +27,11 @@ use Rattle.afr_model.specs.Skipped.{IsChildLocked, IsLooked}
 use Rattle.afr_model.specs.Standing.{asking, getting, holding, locks_area, up_to}
 use Rattle.afr_removal.specs.Removal.{Removing, both_held, gone_on, has_takers, left, on_stage, removing, starting}
 use Rattle.afr_removal.specs.Sound.{IsRemoval, IsUnbegun}
-use Rattle.afr_removal.specs.declared.stage.Ending.TheVariants.{NoQuorum}
+use Rattle.afr_removal.specs.declared.stage.RemovalEnding.TheVariants.{NoQuorum}
 use Rattle.afr_removal.specs.declared.stage.RemovalStage.TheVariants.{Locking, Looking, Closing}
 use Rattle.afr_removal.proofs.Facts.{common_right, some_takers}
 use Rattle.afr_removal.proofs.FirstLemmas.{named_of, unbegun_of}
-use Rattle.afr_transaction.specs.Progress.{Progress, is_beginning}
+use Rattle.afr_transaction.specs.Progress.{TransactionProgress, is_beginning}
 use Rattle.afr_transaction.specs.Sound as changing
 use Rattle.afr_transaction.specs.Sound.{Sound}
 use Rattle.afr_transaction.specs.declared.stage.Stage.{Stage}
@@ -41,7 +41,7 @@ use Rattle.afr_transaction_tells.specs.Tells as telling
 use Rattle.afr_transaction_tells.specs.Tells.{lookups_allow}
 use Rattle.afr_transaction_tells.proofs.Small.{same_gfid}
 use Rattle.afr_removal_telling.specs.RemovalLaws.{IsFound, RemovalBegins}
-use Rattle.afr_removal_telling.specs.RemovalTelling.{Goes, OnLocks, RemovalTells, held_in}
+use Rattle.afr_removal_telling.specs.RemovalTelling.{OnLocks, RemovalGoes, RemovalTells, held_in}
 use Rattle.afr_removal_telling.proofs.Listing.{start_is}
 use Rattle.afr_removal_telling.proofs.Lost.{held_granted}
 use Rattle.afr_removal_telling.proofs.Refused.{answered_before, none_refuse}
@@ -87,7 +87,7 @@ outside s b none = go (member s b) refl
     go true e = absurd (none e)
     go false e = refl
 
-module _ (p : Plan) (path : List NameId) (child : Gfid) (t : Progress) (w : Work) (s : Sound t) (k : IsFound p path child t w) where
+module _ (p : Plan) (path : List NameId) (child : Gfid) (t : TransactionProgress) (w : Work) (s : Sound t) (k : IsFound p path child t w) where
   abbrev r : Register
   r = t.register
 
@@ -122,7 +122,7 @@ module _ (p : Plan) (path : List NameId) (child : Gfid) (t : Progress) (w : Work
       go true e = let here : has (locks h) w ≡ true = subst (λ (x : Gfid). has (locks x) w ≡ true) (same_gfid (object_of t.change) h e) d.allows.locked.locked in absurd (cc (here, free))
       go false e = k.tells.alone.looked h e seen b l
 
-  goes : Goes p path t.change r child w
+  goes : RemovalGoes p path t.change r child w
   goes = record {
     shape = k.tells.shape_is;
     words = k.words;

@@ -32,7 +32,7 @@ use Rattle.afr_transaction_tells.specs.Fits.{AreExcused, IsCalm}
 use Rattle.afr_transaction_tells.specs.Tells.{lookups_allow}
 use Rattle.afr_transaction_tells.proofs.Leaves.{Leaves, LeavesAll}
 use Rattle.afr_transaction_tells.proofs.Small.{same_gfid, self}
-use Rattle.afr_removal_telling.specs.RemovalTelling.{AreSets, Goes, HasLed, dir_at}
+use Rattle.afr_removal_telling.specs.RemovalTelling.{AreSets, HasLed, RemovalGoes, dir_at}
 
 -- ---- the path
 -- where it has led to the directory, it stays
@@ -83,9 +83,9 @@ IsPlain (request.Apply attempt) = Unit {0}
 IsPlain (request.Post attempt h kind missed) = Unit {0}
 IsPlain asked = ⊥
 
-module _ (p : Plan) (path : List NameId) (change : Change) (r q : Register) (g : Gfid) (a : ActorId) (b : BrickId) (told : Told) (took : Bool) (older : List Line) (w : Work) (k : Goes p path change r g w) where
+module _ (p : Plan) (path : List NameId) (change : Change) (r q : Register) (g : Gfid) (a : ActorId) (b : BrickId) (told : Told) (took : Bool) (older : List Line) (w : Work) (k : RemovalGoes p path change r g w) where
   pub goes_lock : IsRemoval change → LeavesAll q r → AreExcused ((Ask a b (request.Lock WorkDomain (Name g None)) told took, older) ∷ w) → IsCalm ((Ask a b (request.Lock WorkDomain (Name g None)) told took, older) ∷ w)
-      → Goes p path change q g ((Ask a b (request.Lock WorkDomain (Name g None)) told took, older) ∷ w)
+      → RemovalGoes p path change q g ((Ask a b (request.Lock WorkDomain (Name g None)) told took, older) ∷ w)
   goes_lock removes left excused calm = record {
     shape = left.shape_is ∙ k.shape;
     words = k.words;
@@ -108,7 +108,7 @@ module _ (p : Plan) (path : List NameId) (change : Change) (r q : Register) (g :
       sep : same_area (area_for change) (Name g None) ≡ false
       sep = apart change removes (Some (area_for change)) g refl
 
-  pub goes_look : LeavesAll q r → has (locks g) w ≡ true → AreExcused ((Ask a b (request.Look g) told took, older) ∷ w) → IsCalm ((Ask a b (request.Look g) told took, older) ∷ w) → Goes p path change q g ((Ask a b (request.Look g) told took, older) ∷ w)
+  pub goes_look : LeavesAll q r → has (locks g) w ≡ true → AreExcused ((Ask a b (request.Look g) told took, older) ∷ w) → IsCalm ((Ask a b (request.Look g) told took, older) ∷ w) → RemovalGoes p path change q g ((Ask a b (request.Look g) told took, older) ∷ w)
   goes_look left locked excused calm = record {
     shape = left.shape_is ∙ k.shape;
     words = k.words;
@@ -130,7 +130,7 @@ module _ (p : Plan) (path : List NameId) (change : Change) (r q : Register) (g :
 
   module _ (begun : Option ℕ) (pre done post : List ℕ) (left : Leaves q r.shape r.looked begun pre done post) where
     pub goes_plain : (asked : Request) → IsPlain asked → AreSets q ((Ask a b asked told took, older) ∷ w) → AreExcused ((Ask a b asked told took, older) ∷ w) → IsCalm ((Ask a b asked told took, older) ∷ w)
-        → Goes p path change q g ((Ask a b asked told took, older) ∷ w)
+        → RemovalGoes p path change q g ((Ask a b asked told took, older) ∷ w)
     goes_plain (request.List h) is sets excused calm = record {
       shape = left.shape_is ∙ k.shape;
       words = k.words;
@@ -185,7 +185,7 @@ module _ (p : Plan) (path : List NameId) (change : Change) (r q : Register) (g :
     }
     goes_plain asked is sets excused calm = absurd is
 
-    pub goes_begin : (c : Change) → AreSets q ((Begin a c, older) ∷ w) → AreExcused ((Begin a c, older) ∷ w) → IsCalm ((Begin a c, older) ∷ w) → Goes p path change q g ((Begin a c, older) ∷ w)
+    pub goes_begin : (c : Change) → AreSets q ((Begin a c, older) ∷ w) → AreExcused ((Begin a c, older) ∷ w) → IsCalm ((Begin a c, older) ∷ w) → RemovalGoes p path change q g ((Begin a c, older) ∷ w)
     goes_begin c sets excused calm = record {
       shape = left.shape_is ∙ k.shape;
       words = k.words;

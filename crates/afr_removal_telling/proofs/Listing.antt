@@ -12,7 +12,7 @@ use Rattle.afr_lines.specs.Work.{Work}
 use Rattle.afr_lines.specs.declared.answer.Answer.{Answer}
 use Rattle.afr_lines.specs.declared.answer.Answer.TheVariants as answer
 use Rattle.afr_lines.specs.declared.answer.Told.{Told}
-use Rattle.afr_lines.specs.declared.answer.Told.TheVariants as told_of
+use Rattle.afr_lines.specs.declared.answer.Told.TheVariants as as_told
 use Rattle.afr_lines.specs.declared.line.Line.{Line}
 use Rattle.afr_lines.specs.declared.line.Line.TheVariants.{Ask, Begin}
 use Rattle.afr_lines.specs.declared.reply.Good.TheVariants as good
@@ -34,7 +34,7 @@ use Rattle.afr_removal.specs.Sound as sound
 use Rattle.afr_removal.specs.Sound.{Sound}
 use Rattle.afr_removal.specs.declared.child.Child.{Child}
 use Rattle.afr_removal.specs.declared.stage.RemovalStage.TheVariants.{Listing, Beginning, Closing}
-use Rattle.afr_removal.specs.declared.stage.Ending.TheVariants.{Failed}
+use Rattle.afr_removal.specs.declared.stage.RemovalEnding.TheVariants.{Failed}
 use Rattle.afr_removal.proofs.Facts.{list_asked}
 use Rattle.afr_transaction.specs.Progress.{may_start}
 use Rattle.afr_transaction.proofs.Requests.{after_outside, noted_is}
@@ -42,7 +42,7 @@ use Rattle.afr_transaction_tells.specs.Tells.{AreIdle, lookups_allow}
 use Rattle.afr_transaction_tells.proofs.Calm.{calm_ask}
 use Rattle.afr_transaction_tells.proofs.Excused.{ask_excused, begin_excused}
 use Rattle.afr_transaction_tells.proofs.Leaves.{LeavesAll}
-use Rattle.afr_removal_telling.specs.RemovalTelling.{Goes, IsEmpty, IsJudged, IsOpen, RemovalTells}
+use Rattle.afr_removal_telling.specs.RemovalTelling.{IsEmpty, IsJudged, IsOpen, RemovalGoes, RemovalTells}
 use Rattle.afr_removal_telling.proofs.Lines.{IsPlain, goes_begin, goes_plain}
 use Rattle.afr_removal_telling.proofs.Notes.{begin_leaves, list_leaves}
 use Rattle.afr_removal_telling.proofs.Refused.{answered_before, looks_refuse, refusal_is}
@@ -124,14 +124,14 @@ module _ (p : Plan) (b : ℕ) (g : Gfid) (log : List Line) where
   reading_is names None e = absurd (cc e)
   reading_is names (Some o) e = let same : names ≡ o.names = cc e in rw same refl
 
-  given_names : (heard : Answer) (o : Option Object) → heard ≡ copy_answer names_of o → told_by heard ≡ told_of.Given → are_names heard ≡ true
+  given_names : (heard : Answer) (o : Option Object) → heard ≡ copy_answer names_of o → told_by heard ≡ as_told.Given → are_names heard ≡ true
   given_names heard None e t = absurd (clash (sym (ap told_by e) ∙ t))
     where
-      clash : told_of.NoObject ≡ told_of.Given → ⊥
+      clash : as_told.NoObject ≡ as_told.Given → ⊥
       clash h = cc h
   given_names heard (Some o) e t = ap are_names e
 
-  not_given : (heard : Answer) → CanAnswer p b (request.List g) log heard → told_by heard ≡ told_of.Given → are_names heard ≡ false → ⊥
+  not_given : (heard : Answer) → CanAnswer p b (request.List g) log heard → told_by heard ≡ as_told.Given → are_names heard ≡ false → ⊥
   not_given heard can t e = let f : are_names heard ≡ true = given_names heard (copy_at g (holds p log b)) (can.given t) t in cc (e, f)
 
   pub list_told : (heard : Answer) → CanAnswer p b (request.List g) log heard → ListTold p b g log heard
@@ -155,15 +155,15 @@ start_is change r first still named = rw (first, still, named) refl
 
 module _ (r : Register) (b : ℕ) (g : Gfid) where
   list_still : (told : Told) → (after_outside r b (request.List g) told).unlocked ≡ r.unlocked
-  list_still told_of.NotConnected = refl
+  list_still as_told.NotConnected = refl
   list_still told = refl
 
   list_area : (told : Told) → (after_outside r b (request.List g) told).area ≡ r.area
-  list_area told_of.NotConnected = refl
+  list_area as_told.NotConnected = refl
   list_area told = refl
 
 -- ---- after the list
-module _ (p : Plan) (path : List NameId) (m : Removing) (w : Work) (a : ActorId) (took : Bool) (log : List Line) (s : Sound m) (k : Goes p path m.change m.register m.child.gfid w) (opened : IsOpen p w) (j : IsJudged p m.change m.child w) (ds : sound.During Listing m) where
+module _ (p : Plan) (path : List NameId) (m : Removing) (w : Work) (a : ActorId) (took : Bool) (log : List Line) (s : Sound m) (k : RemovalGoes p path m.change m.register m.child.gfid w) (opened : IsOpen p w) (j : IsJudged p m.change m.child w) (ds : sound.During Listing m) where
   abbrev b : BrickId
   b = record { 0 = brick_at Listing m }
 
@@ -185,7 +185,7 @@ module _ (p : Plan) (path : List NameId) (m : Removing) (w : Work) (a : ActorId)
   left : (told : Told) → LeavesAll (q told) m.register
   left told = list_leaves m.register b g told
 
-  goes_on : (told : Told) → Goes p path m.change (q told) g (more told)
+  goes_on : (told : Told) → RemovalGoes p path m.change (q told) g (more told)
   goes_on told =
       goes_plain p path m.change m.register (q told) g a b told took log w k m.register.begun m.register.pre m.register.done m.register.post (left told) (request.List g) tt
       (record { prepared = (left told).pre_is ∙ k.sets.prepared; applied = (left told).done_is ∙ k.sets.applied; posted = (left told).post_is ∙ k.sets.posted; number = (left told).begun_is ∙ k.sets.number })
@@ -201,19 +201,19 @@ module _ (p : Plan) (path : List NameId) (m : Removing) (w : Work) (a : ActorId)
       ∙ subst (λ (shape : Shape). lookups_allow shape m.change (q told).looked ≡ true) (sym (goes_on told).shape) (goes_on told).allows
 
   -- the list was given
-  by_names : (names : List _) → given_by (request.List g) (copy_at g (holds p log b.0)) ≡ Gave (good.Names names) → RemovalTells p path (on_stage (listed (answer.Names names) m.change (q told_of.Given)) (now told_of.Given)) (more told_of.Given)
-  by_names [] e = go (may_start (q told_of.Given) m.change) (starts told_of.Given)
+  by_names : (names : List _) → given_by (request.List g) (copy_at g (holds p log b.0)) ≡ Gave (good.Names names) → RemovalTells p path (on_stage (listed (answer.Names names) m.change (q as_told.Given)) (now as_told.Given)) (more as_told.Given)
+  by_names [] e = go (may_start (q as_told.Given) m.change) (starts as_told.Given)
     where
-      go : (f : Bool) → f ≡ true → RemovalTells p path (on_stage (if f then Beginning else Closing Failed) (now told_of.Given)) (more told_of.Given)
-      go true h = (goes_on told_of.Given, opened.idle, record { empty = e; unrefused = opened.unrefused }, judged_now told_of.Given)
+      go : (f : Bool) → f ≡ true → RemovalTells p path (on_stage (if f then Beginning else Closing Failed) (now as_told.Given)) (more as_told.Given)
+      go true h = (goes_on as_told.Given, opened.idle, record { empty = e; unrefused = opened.unrefused }, judged_now as_told.Given)
       go false h = absurd (cc h)
   by_names (x ∷ names) e = record {
-    led = (goes_on told_of.Given).led;
-    answered = answered_before p path m.change (q told_of.Given) m.child (more told_of.Given) s.removes (goes_on told_of.Given) reply.NotEmpty opened.idle.unbegun
-        (looks_refuse p path m.change (q told_of.Given) m.child (more told_of.Given) s.removes (goes_on told_of.Given) opened.unrefused j.majority j.enough
-        ∙ ap (λ (o : Option Reply). or_else o (by_list (reading_by p (more told_of.Given)))) j.passes
+    led = (goes_on as_told.Given).led;
+    answered = answered_before p path m.change (q as_told.Given) m.child (more as_told.Given) s.removes (goes_on as_told.Given) reply.NotEmpty opened.idle.unbegun
+        (looks_refuse p path m.change (q as_told.Given) m.child (more as_told.Given) s.removes (goes_on as_told.Given) opened.unrefused j.majority j.enough
+        ∙ ap (λ (o : Option Reply). or_else o (by_list (reading_by p (more as_told.Given)))) j.passes
         ∙ ap (λ (o : Reading). by_list o) e)
-        (λ f. absurd (cc f)) (judged_now told_of.Given).child;
+        (λ f. absurd (cc f)) (judged_now as_told.Given).child;
   }
 
   -- or refused
@@ -234,14 +234,14 @@ module _ (p : Plan) (path : List NameId) (m : Removing) (w : Work) (a : ActorId)
     where
       by : ListTold p b.0 g log heard → After heard
       by (Shown names e f) = subst After (sym e) (by_names names f)
-      by (Lost e) = subst After (sym e) (by_fault told_of.NotConnected refl)
-      by (Fails e) = subst After (sym e) (by_fault told_of.Failed refl)
+      by (Lost e) = subst After (sym e) (by_fault as_told.NotConnected refl)
+      by (Fails e) = subst After (sym e) (by_fault as_told.Failed refl)
 
 -- ---- after the Begin line
-module _ (p : Plan) (path : List NameId) (m : Removing) (w : Work) (a : ActorId) (log : List Line) (k : Goes p path m.change m.register m.child.gfid w) (idle : AreIdle w) (empty : IsEmpty p w) (j : IsJudged p m.change m.child w) where
+module _ (p : Plan) (path : List NameId) (m : Removing) (w : Work) (a : ActorId) (log : List Line) (k : RemovalGoes p path m.change m.register m.child.gfid w) (idle : AreIdle w) (empty : IsEmpty p w) (j : IsJudged p m.change m.child w) where
   pub told_begin : RemovalTells p path (begun (length log) m) ((Begin a m.change, log) ∷ w)
   told_begin = let left = begin_leaves m.register (length log) in (
-    goes_begin p path m.change m.register (begun (length log) m).register m.child.gfid a (record { 0 = 0 }) told_of.Done true log w k (Some (length log)) m.register.pre m.register.done m.register.post left m.change
+    goes_begin p path m.change m.register (begun (length log) m).register m.child.gfid a (record { 0 = 0 }) as_told.Done true log w k (Some (length log)) m.register.pre m.register.done m.register.post left m.change
         (record { prepared = left.pre_is ∙ k.sets.prepared ∙ idle.no_pre_did; applied = left.done_is ∙ k.sets.applied ∙ idle.no_apply_did; posted = left.post_is ∙ k.sets.posted ∙ idle.no_post_did; number = left.begun_is })
         (begin_excused a m.change log w k.excused) (λ none. record { pre_is = refl; apply_is = refl; post_is = refl }),
     record {

@@ -18,7 +18,7 @@ use Rattle.afr_lines.specs.Told.{told_by}
 use Rattle.afr_lines.specs.Work.{Work}
 use Rattle.afr_lines.specs.declared.answer.Answer.{Answer}
 use Rattle.afr_lines.specs.declared.answer.Told.{Told}
-use Rattle.afr_lines.specs.declared.answer.Told.TheVariants as told_of
+use Rattle.afr_lines.specs.declared.answer.Told.TheVariants as as_told
 use Rattle.afr_lines.specs.declared.line.Line.{Line}
 use Rattle.afr_lines.specs.declared.line.Line.TheVariants.{Ask}
 use Rattle.afr_lines.specs.declared.reply.Reply.TheVariants as reply
@@ -35,7 +35,7 @@ use Rattle.afr_model.specs.Standing.{asking, asks_name, getting, holding, locks_
 use Rattle.afr_removal.specs.Removal.{Removing, after, answered, both_held, brick_at, gone_on, has_takers, left, moved, on_stage, request_at, sets_after, takers_of}
 use Rattle.afr_removal.specs.Sound as sound
 use Rattle.afr_removal.specs.Sound.{IsAsking, IsBase, IsRemoval, Sound}
-use Rattle.afr_removal.specs.declared.stage.Ending.TheVariants.{NoQuorum}
+use Rattle.afr_removal.specs.declared.stage.RemovalEnding.TheVariants.{NoQuorum}
 use Rattle.afr_removal.specs.declared.stage.RemovalStage.TheVariants.{Locking, Looking, Closing}
 use Rattle.afr_removal.proofs.AfterLemmas.{lock_base, locked_is}
 use Rattle.afr_removal.proofs.Facts.{apart, common_right, is_busy, lock_asked}
@@ -45,7 +45,7 @@ use Rattle.afr_transaction.proofs.Requests.{locked_w, noted_is}
 use Rattle.afr_transaction_tells.proofs.Calm.{calm_ask}
 use Rattle.afr_transaction_tells.proofs.Excused.{ask_excused}
 use Rattle.afr_transaction_tells.proofs.Small.{area_self, held_told, marked_new, self}
-use Rattle.afr_removal_telling.specs.RemovalTelling.{CanTell, Goes, OnLocks, OnLooks, RemovalTells, held_in, takers_by}
+use Rattle.afr_removal_telling.specs.RemovalTelling.{CanTell, OnLocks, OnLooks, RemovalGoes, RemovalTells, held_in, takers_by}
 use Rattle.afr_removal_telling.proofs.Lines.{goes_lock}
 use Rattle.afr_removal_telling.proofs.Lost.{held_granted}
 use Rattle.afr_removal_telling.proofs.Notes.{fewer_lock, lock_holds, lock_leaves, others_lock}
@@ -70,7 +70,7 @@ fresh_lock g a b told took older w = record {
 }
 
 -- ---- where nobody is left to ask
-module _ (p : Plan) (path : List NameId) (x : Removing) (w : Work) (removes : IsRemoval x.change) (base : IsBase x.change x.register) (k : Goes p path x.change x.register x.child.gfid w) (d : OnLocks p x.change x.register x.child w) (f : IsFresh x.child.gfid w) (unlooked : x.child.look_asked ≡ []) where
+module _ (p : Plan) (path : List NameId) (x : Removing) (w : Work) (removes : IsRemoval x.change) (base : IsBase x.change x.register) (k : RemovalGoes p path x.change x.register x.child.gfid w) (d : OnLocks p x.change x.register x.child w) (f : IsFresh x.child.gfid w) (unlooked : x.child.look_asked ≡ []) where
   abbrev area : Area
   area = area_for x.change
 
@@ -140,10 +140,10 @@ module _ (p : Plan) (path : List NameId) (x : Removing) (w : Work) (removes : Is
 -- ---- a lock
 -- a brick where another actor holds a lock keeps the name's
 same_held : (name : Area) (a : ActorId) (b : BrickId) (other : Area) (took : Bool) (s : List ℕ) → same_area name other ≡ false → (told : Told) → is_held told ≡ true → (c : ℕ) → member s c ≡ true → member (holding name (Ask a b (request.Lock WorkDomain other) told took) s) c ≡ true
-same_held name a b other took s apart (told_of.Held owner) h c m = m
+same_held name a b other took s apart (as_told.Held owner) h c m = m
 same_held name a b other took s apart told h c m = absurd (cc h)
 
-module _ (p : Plan) (path : List NameId) (m : Removing) (w : Work) (a : ActorId) (chosen : BrickId) (heard : Answer) (took : Bool) (log : List Line) (s : Sound m) (k : Goes p path m.change m.register m.child.gfid w) (d : OnLocks p m.change m.register m.child w) (ds : sound.During Locking m) (e : IsAsking Locking m) (can : CanTell (request_at Locking m) heard) where
+module _ (p : Plan) (path : List NameId) (m : Removing) (w : Work) (a : ActorId) (chosen : BrickId) (heard : Answer) (took : Bool) (log : List Line) (s : Sound m) (k : RemovalGoes p path m.change m.register m.child.gfid w) (d : OnLocks p m.change m.register m.child w) (ds : sound.During Locking m) (e : IsAsking Locking m) (can : CanTell (request_at Locking m) heard) where
   abbrev r : Register
   r = m.register
 
@@ -180,7 +180,7 @@ module _ (p : Plan) (path : List NameId) (m : Removing) (w : Work) (a : ActorId)
   sep : same_area name also ≡ false
   sep = apart m.change s.removes (Some name) m.child.gfid refl
 
-  goes_on : Goes p path m.change q m.child.gfid more
+  goes_on : RemovalGoes p path m.change q m.child.gfid more
   goes_on =
       goes_lock p path m.change r q m.child.gfid a b told took log w k s.removes (lock_leaves r b also told)
       (ask_excused a b (request.Lock WorkDomain also) told took log w can.fits can.phase tt (omega (arith, small, s.base.few)) k.excused)

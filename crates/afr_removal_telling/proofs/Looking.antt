@@ -19,7 +19,7 @@ use Rattle.afr_lines.specs.Told.{told_by}
 use Rattle.afr_lines.specs.Work.{Work}
 use Rattle.afr_lines.specs.declared.answer.Answer.{Answer}
 use Rattle.afr_lines.specs.declared.answer.Told.{Told}
-use Rattle.afr_lines.specs.declared.answer.Told.TheVariants as told_of
+use Rattle.afr_lines.specs.declared.answer.Told.TheVariants as as_told
 use Rattle.afr_lines.specs.declared.line.Line.{Line}
 use Rattle.afr_lines.specs.declared.line.Line.TheVariants.{Ask}
 use Rattle.afr_lines.specs.declared.reply.Reply.{Reply}
@@ -36,8 +36,8 @@ use Rattle.afr_model.specs.Standing.{asking, getting, holding, locks_area, suffi
 use Rattle.afr_walk.specs.Looks.{noted_look}
 use Rattle.afr_removal.specs.Removal.{Removing, after, against, answered, both_held, brick_at, gone_on, has_takers, left, moved, on_stage, or_close, reads_at, reply_of, request_at, sets_after, takers_of}
 use Rattle.afr_removal.specs.Sound.{IsAsking, IsBase, IsRemoval, Sound}
-use Rattle.afr_removal.specs.declared.stage.Ending.{Ending}
-use Rattle.afr_removal.specs.declared.stage.Ending.TheVariants.{NoQuorum, FewCopies, SplitBrain}
+use Rattle.afr_removal.specs.declared.stage.RemovalEnding.{RemovalEnding}
+use Rattle.afr_removal.specs.declared.stage.RemovalEnding.TheVariants.{NoQuorum, FewCopies, SplitBrain}
 use Rattle.afr_removal.specs.declared.stage.RemovalStage.TheVariants.{Looking, Listing, Closing}
 use Rattle.afr_removal.proofs.AfterLemmas.{look_base}
 use Rattle.afr_removal.proofs.Facts.{look_asked}
@@ -47,7 +47,7 @@ use Rattle.afr_transaction_tells.specs.Fits.{missed_by}
 use Rattle.afr_transaction_tells.proofs.Calm.{calm_ask}
 use Rattle.afr_transaction_tells.proofs.Excused.{ask_excused}
 use Rattle.afr_transaction_tells.proofs.Small.{self}
-use Rattle.afr_removal_telling.specs.RemovalTelling.{CanTell, Goes, IsJudged, OnLooks, RemovalTells, held_in, takers_by}
+use Rattle.afr_removal_telling.specs.RemovalTelling.{CanTell, IsJudged, OnLooks, RemovalGoes, RemovalTells, held_in, takers_by}
 use Rattle.afr_removal_telling.proofs.Lines.{goes_look}
 use Rattle.afr_removal_telling.proofs.Lost.{lost_missed}
 use Rattle.afr_removal_telling.proofs.Notes.{counts_not, fewer_look, look_holds, look_leaves, others_look}
@@ -57,18 +57,18 @@ use Rattle.afr_removal_telling.proofs.Takers.{in_takers, takers_in, takers_suffi
 
 -- ---- what the looks rule out
 -- the machine's causes are those of the lines
-views_say : (shape : Shape) (looked : Looked) (r : Register) → by_views shape Names looked ≡ option_map (λ (why : Ending). reply_of why r) (against shape looked)
+views_say : (shape : Shape) (looked : Looked) (r : Register) → by_views shape Names looked ≡ option_map (λ (why : RemovalEnding). reply_of why r) (against shape looked)
 views_say shape looked r = go (is_majority shape.n looked.reached) (is_majority shape.n (holders_of looked)) (is_nothing (good_copies shape looked Names))
   where
     go : (x y z : Bool) → (if not x then Some reply.NoQuorum else (if not y then Some reply.FewCopies else (if z then Some (reply.SplitBrain looked.views) else None)))
-        ≡ option_map (λ (why : Ending). reply_of why r) (if not x then Some NoQuorum else (if not y then Some FewCopies else (if z then Some (SplitBrain looked.views) else None)))
+        ≡ option_map (λ (why : RemovalEnding). reply_of why r) (if not x then Some NoQuorum else (if not y then Some FewCopies else (if z then Some (SplitBrain looked.views) else None)))
     go false y z = refl
     go true false z = refl
     go true true true = refl
     go true true false = refl
 
 -- and none of them is a failure
-never_fails : (shape : Shape) (looked : Looked) (r : Register) (why : Ending) → by_views shape Names looked ≡ Some (reply_of why r) → reply_of why r ≡ reply.Failed → ⊥
+never_fails : (shape : Shape) (looked : Looked) (r : Register) (why : RemovalEnding) → by_views shape Names looked ≡ Some (reply_of why r) → reply_of why r ≡ reply.Failed → ⊥
 never_fails shape looked r why e f = go (is_majority shape.n looked.reached) (is_majority shape.n (holders_of looked)) (is_nothing (good_copies shape looked Names)) (e ∙ ap (λ (x : Reply). Some x) f)
   where
     go : (x y z : Bool) → (if not x then Some reply.NoQuorum else (if not y then Some reply.FewCopies else (if z then Some (reply.SplitBrain looked.views) else None))) ≡ Some reply.Failed → ⊥
@@ -77,7 +77,7 @@ never_fails shape looked r why e f = go (is_majority shape.n looked.reached) (is
     go true true true h = cc h
     go true true false h = cc h
 
-module _ (p : Plan) (path : List NameId) (x : Removing) (w : Work) (removes : IsRemoval x.change) (base : IsBase x.change x.register) (k : Goes p path x.change x.register x.child.gfid w) (d : OnLooks p x.change x.register x.child w) (head : up_to (meets x.child.gfid) w ≡ w) (takers_are : x.child.takers ≡ takers_of x.register) where
+module _ (p : Plan) (path : List NameId) (x : Removing) (w : Work) (removes : IsRemoval x.change) (base : IsBase x.change x.register) (k : RemovalGoes p path x.change x.register x.child.gfid w) (d : OnLooks p x.change x.register x.child w) (head : up_to (meets x.child.gfid) w ≡ w) (takers_are : x.child.takers ≡ takers_of x.register) where
   abbrev r : Register
   r = x.register
 
@@ -170,17 +170,17 @@ module _ (p : Plan) (path : List NameId) (x : Removing) (w : Work) (removes : Is
     taken = λ b m. takers_in p path x.change r child w base k d.holds head b (subst (λ (s : List ℕ). member s b ≡ true) takers_are m);
     enough = enough_is true h;
     shows = d.shows;
-    passes = views_say p.shape (looked_by child w) r ∙ ap (λ (o : Option Ending). option_map (λ (why : Ending). reply_of why r) o) (sym views_are ∙ none);
+    passes = views_say p.shape (looked_by child w) r ∙ ap (λ (o : Option RemovalEnding). option_map (λ (why : RemovalEnding). reply_of why r) o) (sym views_are ∙ none);
     others = others;
   }
 
   pub looks_gone : RemovalTells p path (on_stage (after Looking x) x) w
   looks_gone = go (is_nothing (left Looking x)) refl
     where
-      rules_out : is_nothing (left Looking x) ≡ true → has_takers r ≡ true → (why : Option Ending) → against r.shape x.child.looked ≡ why → RemovalTells p path (on_stage (or_close why Listing) x) w
+      rules_out : is_nothing (left Looking x) ≡ true → has_takers r ≡ true → (why : Option RemovalEnding) → against r.shape x.child.looked ≡ why → RemovalTells p path (on_stage (or_close why Listing) x) w
       rules_out e h None i = (k, d.opened, judged e h i)
       rules_out e h (Some why) i =
-          let seen : by_views p.shape Names (looked_by child w) ≡ Some (reply_of why r) = views_say p.shape (looked_by child w) r ∙ ap (λ (o : Option Ending). option_map (λ (why : Ending). reply_of why r) o) (sym views_are ∙ i) in
+          let seen : by_views p.shape Names (looked_by child w) ≡ Some (reply_of why r) = views_say p.shape (looked_by child w) r ∙ ap (λ (o : Option RemovalEnding). option_map (λ (why : RemovalEnding). reply_of why r) o) (sym views_are ∙ i) in
           record {
             led = k.led;
             answered = answered_before p path x.change r x.child w removes k (reply_of why r) d.opened.idle.unbegun
@@ -201,11 +201,11 @@ module _ (p : Plan) (path : List NameId) (x : Removing) (w : Work) (removes : Is
 
 -- ---- a look
 look_same : (b : ℕ) (told : Told) (looked : Looked) → noted_look b told looked ≡ look_shows b told looked
-look_same b (told_of.Seen view) looked = refl
-look_same b told_of.NoObject looked = refl
+look_same b (as_told.Seen view) looked = refl
+look_same b as_told.NoObject looked = refl
 look_same b told looked = refl
 
-module _ (p : Plan) (path : List NameId) (m : Removing) (w : Work) (a : ActorId) (chosen : BrickId) (heard : Answer) (took : Bool) (log : List Line) (s : Sound m) (k : Goes p path m.change m.register m.child.gfid w) (d : OnLooks p m.change m.register m.child w) (e : IsAsking Looking m) (can : CanTell (request_at Looking m) heard) where
+module _ (p : Plan) (path : List NameId) (m : Removing) (w : Work) (a : ActorId) (chosen : BrickId) (heard : Answer) (took : Bool) (log : List Line) (s : Sound m) (k : RemovalGoes p path m.change m.register m.child.gfid w) (d : OnLooks p m.change m.register m.child w) (e : IsAsking Looking m) (can : CanTell (request_at Looking m) heard) where
   abbrev told : Told
   told = told_by heard
 
@@ -231,7 +231,7 @@ module _ (p : Plan) (path : List NameId) (m : Removing) (w : Work) (a : ActorId)
   small : b.0 < m.register.shape.n
   small = s.base.held_within b.0 (look_asked m e)
 
-  goes_on : Goes p path m.change q m.child.gfid more
+  goes_on : RemovalGoes p path m.change q m.child.gfid more
   goes_on =
       goes_look p path m.change m.register q m.child.gfid a b told took log w k
       (look_leaves m.register b m.child.gfid told (counts_not m.register b m.change m.child.gfid s.areas.named k.words.apart)) d.locked

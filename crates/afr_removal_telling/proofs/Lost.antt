@@ -9,7 +9,7 @@ use Rattle.afr_base.specs.declared.ids.Gfid.{Gfid}
 use Rattle.afr_lines.specs.Overlap.{same_area}
 use Rattle.afr_lines.specs.Work.{Work}
 use Rattle.afr_lines.specs.declared.answer.Told.{Told}
-use Rattle.afr_lines.specs.declared.answer.Told.TheVariants as told_of
+use Rattle.afr_lines.specs.declared.answer.Told.TheVariants as as_told
 use Rattle.afr_lines.specs.declared.line.Line.{Line}
 use Rattle.afr_lines.specs.declared.line.Line.TheVariants.{Ask}
 use Rattle.afr_lines.specs.declared.request.Area.{Area}
@@ -55,33 +55,33 @@ module _ (g : Gfid) (area : Area) (b : ℕ) (older : List Line) (w : Work) (befo
   grown : (line : Line) → Lost b got held (member (missed_by g ((line, older) ∷ w)) b) got held
   grown line m n = missed_grows g line older w b (before m n)
 
-  misses : (a : ActorId) (c : BrickId) (r : Request) (took : Bool) → c.0 ≡ b → member got b ≡ true → member (missed_by g ((Ask a c r told_of.NotConnected took, older) ∷ w)) b ≡ true
+  misses : (a : ActorId) (c : BrickId) (r : Request) (took : Bool) → c.0 ≡ b → member got b ≡ true → member (missed_by g ((Ask a c r as_told.NotConnected took, older) ∷ w)) b ≡ true
   misses a c r took e m =
-      subst (λ (x : ℕ). member (missed_by g ((Ask a c r told_of.NotConnected took, older) ∷ w)) x ≡ true) e
-      (missed_now g a c r told_of.NotConnected took older w (λ none. let some = any_granted area w b m in absurd (cc (some, none))) (fault_misses g r told_of.NotConnected refl))
+      subst (λ (x : ℕ). member (missed_by g ((Ask a c r as_told.NotConnected took, older) ∷ w)) x ≡ true) e
+      (missed_now g a c r as_told.NotConnected took older w (λ none. let some = any_granted area w b m in absurd (cc (some, none))) (fault_misses g r as_told.NotConnected refl))
 
   by_lock : (a : ActorId) (c : BrickId) (other : Area) (took : Bool) (told : Told)
       → Lost b got held (member (missed_by g ((Ask a c (request.Lock WorkDomain other) told took, older) ∷ w)) b) (getting area (Ask a c (request.Lock WorkDomain other) told took) got) (holding area (Ask a c (request.Lock WorkDomain other) told took) held)
-  by_lock a c other took told_of.Granted = go (same_area area other)
+  by_lock a c other took as_told.Granted = go (same_area area other)
     where
       line : Line
-      line = Ask a c (request.Lock WorkDomain other) told_of.Granted took
+      line = Ask a c (request.Lock WorkDomain other) as_told.Granted took
 
       go : (x : Bool) → Lost b got held (member (missed_by g ((line, older) ∷ w)) b) (if x && true then added c.0 got else got) (if x then added c.0 held else held)
       go true = joins b got held (member (missed_by g ((line, older) ∷ w)) b) c.0 (grown line)
       go false = grown line
-  by_lock a c other took told_of.NotConnected = subst (λ (x : Bool). Lost b got held (member (missed_by g ((line, older) ∷ w)) b) (if x then added c.0 got else got) (removed c.0 held)) (sym (no_and (same_area area other)))
+  by_lock a c other took as_told.NotConnected = subst (λ (x : Bool). Lost b got held (member (missed_by g ((line, older) ∷ w)) b) (if x then added c.0 got else got) (removed c.0 held)) (sym (no_and (same_area area other)))
       (leaves b got held (member (missed_by g ((line, older) ∷ w)) b) c.0 (misses a c (request.Lock WorkDomain other) took) (grown line))
     where
       line : Line
-      line = Ask a c (request.Lock WorkDomain other) told_of.NotConnected took
+      line = Ask a c (request.Lock WorkDomain other) as_told.NotConnected took
   by_lock a c other took told = subst (λ (x : Bool). Lost b got held (member (missed_by g ((Ask a c (request.Lock WorkDomain other) told took, older) ∷ w)) b) (if x then added c.0 got else got) held) (sym (no_and (same_area area other)))
       (grown (Ask a c (request.Lock WorkDomain other) told took))
 
   by_line : (line : Line) → releases line ≡ false → Lost b got held (member (missed_by g ((line, older) ∷ w)) b) (getting area line got) (holding area line held)
   by_line (Ask a c (request.Lock WorkDomain other) told took) free = by_lock a c other took told
   by_line (Ask a c (request.Unlock WorkDomain other) told took) free = absurd (cc free)
-  by_line (Ask a c r told_of.NotConnected took) free = leaves b got held (member (missed_by g ((Ask a c r told_of.NotConnected took, older) ∷ w)) b) c.0 (misses a c r took) (grown (Ask a c r told_of.NotConnected took))
+  by_line (Ask a c r as_told.NotConnected took) free = leaves b got held (member (missed_by g ((Ask a c r as_told.NotConnected took, older) ∷ w)) b) c.0 (misses a c r took) (grown (Ask a c r as_told.NotConnected took))
   by_line line free = grown line
 
 pub lost_missed : (g : Gfid) (area : Area) (b : ℕ) (w : Work) → has releases w ≡ false → member (among (getting area) w) b ≡ true → member (among (holding area) w) b ≡ false → member (missed_by g w) b ≡ true
@@ -109,22 +109,22 @@ module _ (got held : List ℕ) (k : IsIn held got) where
 module _ (area : Area) where
   held_lock : (other : Area) (c : ℕ) (told : Told) (got held : List ℕ) (a : ActorId) (brick : BrickId) (took : Bool) → IsIn held got
       → IsIn (holding area (Ask a brick (request.Lock WorkDomain other) told took) held) (getting area (Ask a brick (request.Lock WorkDomain other) told took) got)
-  held_lock other c told_of.Granted got held a brick took k = go (same_area area other)
+  held_lock other c as_told.Granted got held a brick took k = go (same_area area other)
     where
       go : (x : Bool) → IsIn (if x then added brick.0 held else held) (if x && true then added brick.0 got else got)
       go true = held_joins got held k brick.0
       go false = k
-  held_lock other c told_of.NotConnected got held a brick took k = subst (λ (x : Bool). IsIn (removed brick.0 held) (if x then added brick.0 got else got)) (sym (no_and (same_area area other))) (held_leaves got held k brick.0)
+  held_lock other c as_told.NotConnected got held a brick took k = subst (λ (x : Bool). IsIn (removed brick.0 held) (if x then added brick.0 got else got)) (sym (no_and (same_area area other))) (held_leaves got held k brick.0)
   held_lock other c told got held a brick took k = subst (λ (x : Bool). IsIn held (if x then added brick.0 got else got)) (sym (no_and (same_area area other))) k
 
   held_line : (line : Line) (granted still : List ℕ) → IsIn still granted → IsIn (holding area line still) (getting area line granted)
   held_line (Ask a b (request.Lock WorkDomain other) told took) granted still k = held_lock other b.0 told granted still a b took k
-  held_line (Ask a b (request.Unlock WorkDomain other) told_of.Done took) granted still k = go (same_area area other)
+  held_line (Ask a b (request.Unlock WorkDomain other) as_told.Done took) granted still k = go (same_area area other)
     where
       go : (x : Bool) → IsIn (if x then removed b.0 still else still) granted
       go true = held_leaves granted still k b.0
       go false = k
-  held_line (Ask a b r told_of.NotConnected took) granted still k = held_leaves granted still k b.0
+  held_line (Ask a b r as_told.NotConnected took) granted still k = held_leaves granted still k b.0
   held_line line granted still k = k
 
   pub held_granted : (w : Work) → IsIn (among (holding area) w) (among (getting area) w)

@@ -16,7 +16,7 @@ use Rattle.afr_inode_telling.proofs.ReadsMore.{asks_same}
 use Rattle.afr_removal.specs.Removal.{Removing, answered, asks, begun, brick_at, is_over, next_at, reply_of, request_at}
 use Rattle.afr_removal.specs.Sound as sound
 use Rattle.afr_removal.specs.Sound.{Ready, Sound}
-use Rattle.afr_removal.specs.declared.stage.Ending.{Ending}
+use Rattle.afr_removal.specs.declared.stage.RemovalEnding.{RemovalEnding}
 use Rattle.afr_removal.specs.declared.stage.RemovalStage.{RemovalStage}
 use Rattle.afr_removal.specs.declared.stage.RemovalStage.TheVariants.{Locking, Looking, Listing, Beginning, Preparing, Applying, Posting, Closing}
 use Rattle.afr_removal_telling.specs.RemovalLaws.{RemovalBegun, RemovalTellsMore}
@@ -39,7 +39,7 @@ module _ (p : Plan) (path : List NameId) (m : Removing) (w : Work) (a : ActorId)
   asked : (stage : RemovalStage) (b : BrickId) (request : Request) → asks stage m ≡ next.Ask b request → Own stage → After stage b request
   asked stage b request e k = asks_same (After stage) (record { 0 = brick_at stage m }) b (request_at stage m) request e k
 
-  over_asks : (x : Bool) (why : Ending) (b : BrickId) (request : Request) → (if x then next.End (reply_of why m.register) else asks (Closing why) m) ≡ next.Ask b request → asks (Closing why) m ≡ next.Ask b request
+  over_asks : (x : Bool) (why : RemovalEnding) (b : BrickId) (request : Request) → (if x then next.End (reply_of why m.register) else asks (Closing why) m) ≡ next.Ask b request → asks (Closing why) m ≡ next.Ask b request
   over_asks true why b request e = absurd (cc e)
   over_asks false why b request e = e
 
@@ -59,7 +59,7 @@ more p path m w a b request chosen heard took log s t e can = more_at p path m w
 pub begun_on : RemovalBegun
 begun_on p path m w a change log s t e = go m.stage t e
   where
-    over : (why : Ending) (x : Bool) → (if x then next.End (reply_of why m.register) else asks (Closing why) m) ≡ next.Begin change → ⊥
+    over : (why : RemovalEnding) (x : Bool) → (if x then next.End (reply_of why m.register) else asks (Closing why) m) ≡ next.Begin change → ⊥
     over why true e = cc e
     over why false e = cc e
 

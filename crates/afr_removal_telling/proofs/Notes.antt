@@ -12,7 +12,7 @@ use Rattle.afr_lines.specs.Areas.{area_for}
 use Rattle.afr_lines.specs.Overlap.{same_area}
 use Rattle.afr_lines.specs.Work.{Work}
 use Rattle.afr_lines.specs.declared.answer.Told.{Told}
-use Rattle.afr_lines.specs.declared.answer.Told.TheVariants as told_of
+use Rattle.afr_lines.specs.declared.answer.Told.TheVariants as as_told
 use Rattle.afr_lines.specs.declared.line.Line.{Line}
 use Rattle.afr_lines.specs.declared.line.Line.TheVariants.{Ask}
 use Rattle.afr_lines.specs.declared.request.Area.{Area}
@@ -31,8 +31,8 @@ use Rattle.afr_removal_telling.specs.RemovalTelling.{AreHeld}
 module _ (r : Register) (b : BrickId) where
   -- ---- a lock of the child, while the name is locked
   pub lock_leaves : (child : Area) (told : Told) → LeavesAll (locked_w true false r child b.0 told) r
-  lock_leaves child told_of.Granted = record { shape_is = refl; looked_is = refl; begun_is = refl; pre_is = refl; done_is = refl; post_is = refl }
-  lock_leaves child told_of.NotConnected = record { shape_is = refl; looked_is = refl; begun_is = refl; pre_is = refl; done_is = refl; post_is = refl }
+  lock_leaves child as_told.Granted = record { shape_is = refl; looked_is = refl; begun_is = refl; pre_is = refl; done_is = refl; post_is = refl }
+  lock_leaves child as_told.NotConnected = record { shape_is = refl; looked_is = refl; begun_is = refl; pre_is = refl; done_is = refl; post_is = refl }
   lock_leaves child told = record { shape_is = refl; looked_is = refl; begun_is = refl; pre_is = refl; done_is = refl; post_is = refl }
 
   pub same_added : (x y : List ℕ) → ((c : ℕ) → member x c ≡ member y c) → (c : ℕ) → member (added b.0 x) c ≡ member (added b.0 y) c
@@ -44,15 +44,15 @@ module _ (r : Register) (b : BrickId) where
   -- the name's locks go on as the lines say
   lock_name : (name child : Area) (a : ActorId) (took : Bool) (s : List ℕ) → same_area name child ≡ false → ((c : ℕ) → member r.held c ≡ member s c) → (told : Told) (c : ℕ)
       → member (locked_w true false r child b.0 told).held c ≡ member (holding name (Ask a b (request.Lock WorkDomain child) told took) s) c
-  lock_name name child a took s apart h told_of.Granted c = rw apart (h c)
-  lock_name name child a took s apart h told_of.NotConnected c = same_removed r.held s h c
+  lock_name name child a took s apart h as_told.Granted c = rw apart (h c)
+  lock_name name child a took s apart h as_told.NotConnected c = same_removed r.held s h c
   lock_name name child a took s apart h told c = h c
 
   -- and the child's
   lock_child : (child : Area) (a : ActorId) (took : Bool) (s : List ℕ) → ((c : ℕ) → member r.second_held c ≡ member s c) → (told : Told) (c : ℕ)
       → member (locked_w true false r child b.0 told).second_held c ≡ member (holding child (Ask a b (request.Lock WorkDomain child) told took) s) c
-  lock_child child a took s h told_of.Granted c = rw (area_self child) (same_added r.second_held s h c)
-  lock_child child a took s h told_of.NotConnected c = same_removed r.second_held s h c
+  lock_child child a took s h as_told.Granted c = rw (area_self child) (same_added r.second_held s h c)
+  lock_child child a took s h as_told.NotConnected c = same_removed r.second_held s h c
   lock_child child a took s h told c = h c
 
   pub lock_holds : (name child : Area) (a : ActorId) (told : Told) (took : Bool) (older : List Line) (w : Work) → same_area name child ≡ false → AreHeld name child r w
@@ -74,7 +74,7 @@ module _ (r : Register) (b : BrickId) where
 
   look_by : (x : Bool) → x ≡ false → (told : Told) → LeavesAll (after_by (record (stayed r) { looked = shown_if x r.looked b.0 told }) r b.0 told) r
   look_by true e told = absurd (cc e)
-  look_by false e told_of.NotConnected = record { shape_is = refl; looked_is = refl; begun_is = refl; pre_is = refl; done_is = refl; post_is = refl }
+  look_by false e as_told.NotConnected = record { shape_is = refl; looked_is = refl; begun_is = refl; pre_is = refl; done_is = refl; post_is = refl }
   look_by false e told = record { shape_is = refl; looked_is = refl; begun_is = refl; pre_is = refl; done_is = refl; post_is = refl }
 
   pub look_leaves : (g : Gfid) (told : Told) → counts r b.0 g.0 ≡ false → LeavesAll (after_outside r b.0 (request.Look g) told) r
@@ -82,12 +82,12 @@ module _ (r : Register) (b : BrickId) where
 
   pub look_held : (area : Area) (g : Gfid) (a : ActorId) (took : Bool) (s : List ℕ) → ((c : ℕ) → member r.held c ≡ member s c) → (told : Told) (c : ℕ)
       → member (after_outside r b.0 (request.Look g) told).held c ≡ member (holding area (Ask a b (request.Look g) told took) s) c
-  look_held area g a took s h told_of.NotConnected c = same_removed r.held s h c
+  look_held area g a took s h as_told.NotConnected c = same_removed r.held s h c
   look_held area g a took s h told c = h c
 
   look_second : (area : Area) (g : Gfid) (a : ActorId) (took : Bool) (s : List ℕ) → ((c : ℕ) → member r.second_held c ≡ member s c) → (told : Told) (c : ℕ)
       → member (after_outside r b.0 (request.Look g) told).second_held c ≡ member (holding area (Ask a b (request.Look g) told took) s) c
-  look_second area g a took s h told_of.NotConnected c = same_removed r.second_held s h c
+  look_second area g a took s h as_told.NotConnected c = same_removed r.second_held s h c
   look_second area g a took s h told c = h c
 
   pub look_holds : (name child : Area) (g : Gfid) (a : ActorId) (told : Told) (took : Bool) (older : List Line) (w : Work) → AreHeld name child r w
@@ -100,7 +100,7 @@ module _ (r : Register) (b : BrickId) where
 
   -- ---- a list
   pub list_leaves : (g : Gfid) (told : Told) → LeavesAll (after_outside r b.0 (request.List g) told) r
-  list_leaves g told_of.NotConnected = record { shape_is = refl; looked_is = refl; begun_is = refl; pre_is = refl; done_is = refl; post_is = refl }
+  list_leaves g as_told.NotConnected = record { shape_is = refl; looked_is = refl; begun_is = refl; pre_is = refl; done_is = refl; post_is = refl }
   list_leaves g told = record { shape_is = refl; looked_is = refl; begun_is = refl; pre_is = refl; done_is = refl; post_is = refl }
 
 -- ---- the Begin line
@@ -113,8 +113,8 @@ begin_asks r at = refl
 -- ---- who loses a lock
 -- a line that locks nothing of an area adds nobody
 pub fewer_lock : (name child : Area) (a : ActorId) (b : BrickId) (told : Told) (took : Bool) (s : List ℕ) → same_area name child ≡ false → (c : ℕ) → member (holding name (Ask a b (request.Lock WorkDomain child) told took) s) c ≡ true → member s c ≡ true
-fewer_lock name child a b told_of.Granted took s apart c m = rw apart at m
-fewer_lock name child a b told_of.NotConnected took s apart c m = within (not (b.0 == c)) (sym (member_removed b.0 s c) ∙ m)
+fewer_lock name child a b as_told.Granted took s apart c m = rw apart at m
+fewer_lock name child a b as_told.NotConnected took s apart c m = within (not (b.0 == c)) (sym (member_removed b.0 s c) ∙ m)
   where
     within : (x : Bool) → (x && member s c) ≡ true → member s c ≡ true
     within true h = h
@@ -122,7 +122,7 @@ fewer_lock name child a b told_of.NotConnected took s apart c m = within (not (b
 fewer_lock name child a b told took s apart c m = m
 
 pub fewer_look : (area : Area) (g : Gfid) (a : ActorId) (b : BrickId) (told : Told) (took : Bool) (s : List ℕ) (c : ℕ) → member (holding area (Ask a b (request.Look g) told took) s) c ≡ true → member s c ≡ true
-fewer_look area g a b told_of.NotConnected took s c m = within (not (b.0 == c)) (sym (member_removed b.0 s c) ∙ m)
+fewer_look area g a b as_told.NotConnected took s c m = within (not (b.0 == c)) (sym (member_removed b.0 s c) ∙ m)
   where
     within : (x : Bool) → (x && member s c) ≡ true → member s c ≡ true
     within true h = h
@@ -131,10 +131,10 @@ fewer_look area g a b told took s c m = m
 
 -- and takes away at most the brick that was asked
 pub others_lock : (name child : Area) (a : ActorId) (b : BrickId) (told : Told) (took : Bool) (s : List ℕ) → same_area name child ≡ false → (c : ℕ) → (b.0 == c) ≡ false → member s c ≡ true → member (holding name (Ask a b (request.Lock WorkDomain child) told took) s) c ≡ true
-others_lock name child a b told_of.Granted took s apart c other m = rw apart m
-others_lock name child a b told_of.NotConnected took s apart c other m = member_removed b.0 s c ∙ rw (other, m) refl
+others_lock name child a b as_told.Granted took s apart c other m = rw apart m
+others_lock name child a b as_told.NotConnected took s apart c other m = member_removed b.0 s c ∙ rw (other, m) refl
 others_lock name child a b told took s apart c other m = m
 
 pub others_look : (area : Area) (g : Gfid) (a : ActorId) (b : BrickId) (told : Told) (took : Bool) (s : List ℕ) (c : ℕ) → (b.0 == c) ≡ false → member s c ≡ true → member (holding area (Ask a b (request.Look g) told took) s) c ≡ true
-others_look area g a b told_of.NotConnected took s c other m = member_removed b.0 s c ∙ rw (other, m) refl
+others_look area g a b as_told.NotConnected took s c other m = member_removed b.0 s c ∙ rw (other, m) refl
 others_look area g a b told took s c other m = m

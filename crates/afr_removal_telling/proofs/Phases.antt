@@ -29,7 +29,7 @@ use Rattle.afr_model.specs.Standing.{locks_any, suffices}
 use Rattle.afr_removal.specs.Removal.{Removing, after, answered, brick_at, gone_on, left, moved, on_stage, request_at, sets_after}
 use Rattle.afr_removal.specs.Sound as sound
 use Rattle.afr_removal.specs.Sound.{IsAsking, IsBase, IsRemoval, Sound}
-use Rattle.afr_removal.specs.declared.stage.Ending.TheVariants.{Counted}
+use Rattle.afr_removal.specs.declared.stage.RemovalEnding.TheVariants.{Counted}
 use Rattle.afr_removal.specs.declared.stage.RemovalStage.TheVariants.{Preparing, Applying, Posting, Closing}
 use Rattle.afr_removal.proofs.AfterLemmas.{apply_base, post_base, pre_base}
 use Rattle.afr_transaction.specs.Progress.{enough, number_in}
@@ -40,14 +40,14 @@ use Rattle.afr_transaction_tells.proofs.Calm.{calm_ask}
 use Rattle.afr_transaction_tells.proofs.Excused.{any_lock, ask_excused}
 use Rattle.afr_transaction_tells.proofs.Leaves.{Leaves, apply_asks, apply_before, apply_leaves, post_asks, post_leaves, pre_asks, pre_before, pre_leaves}
 use Rattle.afr_transaction_tells.proofs.Small.{done_told}
-use Rattle.afr_removal_telling.specs.RemovalTelling.{CanTell, Goes, OnApply, OnPost, RemovalTells, Tries}
+use Rattle.afr_removal_telling.specs.RemovalTelling.{CanTell, OnApply, OnPost, RemovalGoes, RemovalTells, Tries}
 use Rattle.afr_removal_telling.proofs.Lines.{goes_plain}
 use Rattle.afr_removal_telling.proofs.Listing.{judged_ask}
 use Rattle.afr_removal_telling.proofs.Refused.{answered_after}
 use Rattle.afr_removal_telling.proofs.Takers.{enough_is}
 
 -- ---- where nobody is left to ask
-module _ (p : Plan) (path : List NameId) (x : Removing) (w : Work) (removes : IsRemoval x.change) (base : IsBase x.change x.register) (k : Goes p path x.change x.register x.child.gfid w) (t : Tries p x.change x.child w) where
+module _ (p : Plan) (path : List NameId) (x : Removing) (w : Work) (removes : IsRemoval x.change) (base : IsBase x.change x.register) (k : RemovalGoes p path x.change x.register x.child.gfid w) (t : Tries p x.change x.child w) where
   abbrev Suffices : List ℕ → Bool
   Suffices s = suffices p.shape Names (looked_by (object_of x.change) w) s
 
@@ -104,7 +104,7 @@ module _ (p : Plan) (path : List NameId) (x : Removing) (w : Work) (removes : Is
       go false e = (k, t, d)
 
 -- ---- a line of a phase
-module _ (p : Plan) (path : List NameId) (m : Removing) (w : Work) (a : ActorId) (chosen : BrickId) (heard : Answer) (took : Bool) (log : List Line) (s : Sound m) (k : Goes p path m.change m.register m.child.gfid w) (t : Tries p m.change m.child w) where
+module _ (p : Plan) (path : List NameId) (m : Removing) (w : Work) (a : ActorId) (chosen : BrickId) (heard : Answer) (took : Bool) (log : List Line) (s : Sound m) (k : RemovalGoes p path m.change m.register m.child.gfid w) (t : Tries p m.change m.child w) where
   abbrev r : Register
   r = m.register
 
@@ -150,7 +150,7 @@ module _ (p : Plan) (path : List NameId) (m : Removing) (w : Work) (a : ActorId)
       left_by : Leaves q r.shape r.looked r.begun (added_if (note.is_done told) b.0 r.pre) r.done r.post
       left_by = pre_leaves r b.0 g Names told
 
-      goes_on : Goes p path m.change q m.child.gfid more
+      goes_on : RemovalGoes p path m.change q m.child.gfid more
       goes_on =
           goes_plain p path m.change r q m.child.gfid a b told took log w k r.begun (added_if (note.is_done told) b.0 r.pre) r.done r.post left_by (request.Pre g Names) tt
           (record { prepared = left_by.pre_is ∙ rw (done_told told, k.sets.prepared) refl; applied = left_by.done_is ∙ k.sets.applied; posted = left_by.post_is ∙ k.sets.posted; number = left_by.begun_is ∙ k.sets.number })
@@ -194,7 +194,7 @@ module _ (p : Plan) (path : List NameId) (m : Removing) (w : Work) (a : ActorId)
       left_by : Leaves q r.shape r.looked r.begun r.pre (added_if (note.is_done told) b.0 r.done) r.post
       left_by = apply_leaves r b.0 n told
 
-      goes_on : Goes p path m.change q m.child.gfid more
+      goes_on : RemovalGoes p path m.change q m.child.gfid more
       goes_on =
           goes_plain p path m.change r q m.child.gfid a b told took log w k r.begun r.pre (added_if (note.is_done told) b.0 r.done) r.post left_by (request.Apply n) tt
           (record { prepared = left_by.pre_is ∙ k.sets.prepared; applied = left_by.done_is ∙ rw (done_told told, k.sets.applied) refl; posted = left_by.post_is ∙ k.sets.posted; number = left_by.begun_is ∙ k.sets.number })
@@ -240,7 +240,7 @@ module _ (p : Plan) (path : List NameId) (m : Removing) (w : Work) (a : ActorId)
       left_by : Leaves q r.shape r.looked r.begun r.pre r.done (added_if (note.is_done told) b.0 r.post)
       left_by = post_leaves r b.0 n g Names missed told
 
-      goes_on : Goes p path m.change q m.child.gfid more
+      goes_on : RemovalGoes p path m.change q m.child.gfid more
       goes_on =
           goes_plain p path m.change r q m.child.gfid a b told took log w k r.begun r.pre r.done (added_if (note.is_done told) b.0 r.post) left_by (request.Post n g Names missed) tt
           (record { prepared = left_by.pre_is ∙ k.sets.prepared; applied = left_by.done_is ∙ k.sets.applied; posted = left_by.post_is ∙ rw (done_told told, k.sets.posted) refl; number = left_by.begun_is ∙ k.sets.number })

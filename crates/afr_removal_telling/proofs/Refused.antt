@@ -27,18 +27,18 @@ use Rattle.afr_plan.specs.declared.plan.Plan.{Plan}
 use Rattle.afr_model.specs.Answered.{Answers, IsAnswered, IsCaused, Refuses}
 use Rattle.afr_model.specs.Commands.{area_on}
 use Rattle.afr_model.specs.Refusals.{both_locked, by_area, by_child, by_list, by_locks, by_name, by_path, by_views, or_else, read_refused, refusal}
-use Rattle.afr_model.specs.Showing.{Path, At, NoName, Untold, among, applied_at, applying, begins_attempt, has, is_faulted, looked_by, looking, path_by, posted, posting, prepared, preparing, reading_by, refuses_read}
-use Rattle.afr_model.specs.Skipped.{AsksAll, IsCarried, IsChildLocked, IsLocked, SkipsNothing, takers}
+use Rattle.afr_model.specs.Showing.{At, NoName, Path, Untold, among, applied_at, applying, begins_attempt, has, is_faulted, looked_by, looking, path_by, posted, posting, prepared, preparing, reading_by, refuses_read}
+use Rattle.afr_model.specs.Skipped.{AsksAll, IsChildLocked, IsLocked, SkipsNothing, WentThroughPhases, takers}
 use Rattle.afr_model.specs.Standing.{area_here, change_by, getting, locks_area, looks_here, suffices}
 use Rattle.afr_removal.specs.Removal.{reply_of}
 use Rattle.afr_removal.specs.Sound.{IsRemoval}
 use Rattle.afr_removal.specs.declared.child.Child.{Child}
-use Rattle.afr_removal.specs.declared.stage.Ending.TheVariants.{Counted}
+use Rattle.afr_removal.specs.declared.stage.RemovalEnding.TheVariants.{Counted}
 use Rattle.afr_removal.proofs.Facts.{of_names}
 use Rattle.afr_transaction.proofs.Parts.{both}
 use Rattle.afr_transaction_tells.proofs.Small.{area_is, no_change, object_named, self}
 use Rattle.afr_transaction_tells.proofs.Views.{suffices_grows}
-use Rattle.afr_removal_telling.specs.RemovalTelling.{Goes, Tries, dir_at, takers_by}
+use Rattle.afr_removal_telling.specs.RemovalTelling.{RemovalGoes, Tries, dir_at, takers_by}
 
 not_less : (n : ℕ) → nat_lt n n ≡ false
 not_less n = grind (arith, nat_tests)
@@ -65,7 +65,7 @@ none_of a b x e = rw e refl
 go_on : (a b : Bool) (x : Option Reply) → a ≡ true → b ≡ true → first_of a b x ≡ x
 go_on a b x e f = rw (e, f) refl
 
-module _ (p : Plan) (path : List NameId) (change : Change) (r : Register) (c : Child) (w : Work) (removes : IsRemoval change) (k : Goes p path change r c.gfid w) where
+module _ (p : Plan) (path : List NameId) (change : Change) (r : Register) (c : Child) (w : Work) (removes : IsRemoval change) (k : RemovalGoes p path change r c.gfid w) where
   abbrev cmd : Command
   cmd = command.Rmdir path
 
@@ -145,7 +145,7 @@ module _ (p : Plan) (path : List NameId) (change : Change) (r : Register) (c : C
       by_dir : area_on g cmd ≡ Some name → IsChildLocked p d.gfid c.gfid name w
       by_dir f = subst (λ (x : Entry). IsChildLocked p x.gfid c.gfid name w) same (subst (λ (x : Area). IsChildLocked p g c.gfid x w) (just (area_for change) name (sym k.words.area ∙ f)) h)
 
-  pub skips : IsChildLocked p g c.gfid (area_for change) w → ((changed : Change) → change_by w ≡ Some changed → IsCarried p cmd changed w) → SkipsNothing p cmd w
+  pub skips : IsChildLocked p g c.gfid (area_for change) w → ((changed : Change) → change_by w ≡ Some changed → WentThroughPhases p cmd changed w) → SkipsNothing p cmd w
   skips h carried = record {
     looked = k.looked;
     locked = λ area part asked. locked_is area asked (same_area area (area_for change)) refl (λ e. k.alone area part e);
@@ -222,8 +222,8 @@ module _ (p : Plan) (path : List NameId) (change : Change) (r : Register) (c : C
         go true e = refl
         go false e = let done = undisturbed e in absurd (cc (done, f))
 
-    carried : (changed : Change) → change_by w ≡ Some changed → IsCarried p cmd changed w
-    carried changed e = subst (λ (x : Change). IsCarried p cmd x w) (just change changed (sym t.begun.is_change ∙ e)) (record {
+    carried : (changed : Change) → change_by w ≡ Some changed → WentThroughPhases p cmd changed w
+    carried changed e = subst (λ (x : Change). WentThroughPhases p cmd x w) (just change changed (sym t.begun.is_change ∙ e)) (record {
       prepared_all = λ b m. pre_all b (t.judged.take b (subst (λ (x : List ℕ). member x b ≡ true) takers_are m));
       applied_all = rw (of_names change removes) apply_all;
       posted_all = rw (of_names change removes) post_all;

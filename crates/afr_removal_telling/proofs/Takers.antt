@@ -21,10 +21,10 @@ use Rattle.afr_removal.specs.Removal.{both_held, has_takers, takers_of}
 use Rattle.afr_removal.specs.Sound.{IsBase}
 use Rattle.afr_transaction.specs.Progress.{enough}
 use Rattle.afr_transaction_tells.proofs.Views.{same_enough}
-use Rattle.afr_removal_telling.specs.RemovalTelling.{AreHeld, Goes, held_in, takers_by}
+use Rattle.afr_removal_telling.specs.RemovalTelling.{AreHeld, RemovalGoes, held_in, takers_by}
 use Rattle.afr_removal_telling.proofs.Small.{both_are, in_common, suffices_same}
 
-module _ (p : Plan) (path : List NameId) (change : Change) (r : Register) (child : Gfid) (w : Work) (base : IsBase change r) (k : Goes p path change r child w) where
+module _ (p : Plan) (path : List NameId) (change : Change) (r : Register) (child : Gfid) (w : Work) (base : IsBase change r) (k : RemovalGoes p path change r child w) where
   abbrev g : Gfid
   g = object_of change
 

@@ -32,12 +32,12 @@ use Rattle.afr_model.specs.Skipped.{AsksAll, SkipsNothing, takers}
 use Rattle.afr_model.specs.Standing.{area_here, getting, looks_here, place_by, suffices}
 use Rattle.afr_removal.specs.Removal.{Removing, answered, brick_at, left, moved, on_stage, reply_of, request_at, sets_after, unlocks}
 use Rattle.afr_removal.specs.Sound.{Sound}
-use Rattle.afr_removal.specs.declared.stage.Ending.{Ending}
-use Rattle.afr_removal.specs.declared.stage.Ending.TheVariants.{Counted, NoQuorum, FewCopies, SplitBrain, NotEmpty, Failed}
+use Rattle.afr_removal.specs.declared.stage.RemovalEnding.{RemovalEnding}
+use Rattle.afr_removal.specs.declared.stage.RemovalEnding.TheVariants.{Counted, NoQuorum, FewCopies, SplitBrain, NotEmpty, Failed}
 use Rattle.afr_removal.specs.declared.stage.RemovalStage.TheVariants.{Closing}
 use Rattle.afr_transaction.proofs.Requests.{after_outside, noted_is}
 use Rattle.afr_transaction_tells.proofs.Leaves.{LeavesAll, unlock_leaves}
-use Rattle.afr_removal_telling.specs.RemovalTelling.{HasLed, IsOver, RemovalTells, dir_at}
+use Rattle.afr_removal_telling.specs.RemovalTelling.{HasLed, OnlyUnlocksLeft, RemovalTells, dir_at}
 use Rattle.afr_removal_telling.proofs.Lines.{led_ask}
 use Rattle.afr_removal_telling.proofs.Refused.{first_of}
 use Rattle.afr_removal_telling.proofs.Small.{no_and}
@@ -131,7 +131,7 @@ module _ (p : Plan) (path : List NameId) (g child : Gfid) (a : ActorId) (b : Bri
   }
 
 -- ---- an unlock of a removal
-module _ (p : Plan) (path : List NameId) (m : Removing) (w : Work) (a : ActorId) (chosen : BrickId) (heard : Answer) (took : Bool) (log : List Line) (s : Sound m) (why : Ending) (k : IsOver p path (object_of m.change) m.child.gfid m.register why w) where
+module _ (p : Plan) (path : List NameId) (m : Removing) (w : Work) (a : ActorId) (chosen : BrickId) (heard : Answer) (took : Bool) (log : List Line) (s : Sound m) (why : RemovalEnding) (k : OnlyUnlocksLeft p path (object_of m.change) m.child.gfid m.register why w) where
   abbrev b : BrickId
   b = record { 0 = brick_at (Closing why) m }
 
@@ -150,7 +150,7 @@ module _ (p : Plan) (path : List NameId) (m : Removing) (w : Work) (a : ActorId)
   left_by : LeavesAll q m.register
   left_by = unlock_leaves m.register b.0 area (told_by heard)
 
-  said_same : (end : Ending) → reply_of end m.register ≡ reply_of end q
+  said_same : (end : RemovalEnding) → reply_of end m.register ≡ reply_of end q
   said_same Counted = rw (left_by.shape_is, left_by.post_is) refl
   said_same NoQuorum = refl
   said_same FewCopies = refl
@@ -158,7 +158,7 @@ module _ (p : Plan) (path : List NameId) (m : Removing) (w : Work) (a : ActorId)
   said_same NotEmpty = refl
   said_same Failed = refl
 
-  over : IsOver p path (object_of m.change) m.child.gfid q why later
+  over : OnlyUnlocksLeft p path (object_of m.change) m.child.gfid q why later
   over = record {
     led = led p path (object_of m.change) m.child.gfid a b area (told_by heard) took log w k.led;
     answered = subst (λ (x : Reply). IsAnswered p (command.Rmdir path) later x) (said_same why) (answered_same p path (object_of m.change) m.child.gfid a b area (told_by heard) took log w k.led (reply_of why m.register) k.answered);

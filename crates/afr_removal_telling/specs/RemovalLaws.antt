@@ -25,7 +25,7 @@ use Rattle.afr_model.specs.Showing.{NotAsked, among, has, reading_by, refuses_re
 use Rattle.afr_model.specs.Standing.{asks_name, holding, up_to}
 use Rattle.afr_removal.specs.Removal.{Removing, answered, begun, next_at, removing}
 use Rattle.afr_removal.specs.Sound.{Sound, IsRemoval}
-use Rattle.afr_transaction.specs.Progress.{Progress}
+use Rattle.afr_transaction.specs.Progress.{TransactionProgress}
 use Rattle.afr_transaction.specs.Sound as changing
 use Rattle.afr_transaction.specs.declared.stage.Stage.TheVariants.{Beginning}
 use Rattle.afr_transaction_tells.specs.About.{BlamesNext}
@@ -35,7 +35,7 @@ use Rattle.afr_transaction_tells.specs.Tells.{Tells}
 use Rattle.afr_removal_telling.specs.RemovalTelling.{CanHear, HasLed, IsOfPath, RemovalTells, releases}
 
 -- a transaction stands before its Begin line, and the last line has read its name, which leads to a directory
-pub record IsFound (p : Plan) (path : List NameId) (child : Gfid) (t : Progress) (w : Work) : Type 0 where
+pub record IsFound (p : Plan) (path : List NameId) (child : Gfid) (t : TransactionProgress) (w : Work) : Type 0 where
   pub stage : t.stage ≡ Beginning
   pub removes : IsRemoval t.change
   pub tells : Tells p w t
@@ -51,7 +51,7 @@ pub record IsFound (p : Plan) (path : List NameId) (child : Gfid) (t : Progress)
 
 -- so its removal begins
 abbrev pub RemovalBegins : Type 0
-RemovalBegins = (p : Plan) (path : List NameId) (child : Gfid) (t : Progress) (w : Work) → changing.Sound t → IsFound p path child t w → RemovalTells p path (removing t.change t.register child) w
+RemovalBegins = (p : Plan) (path : List NameId) (child : Gfid) (t : TransactionProgress) (w : Work) → changing.Sound t → IsFound p path child t w → RemovalTells p path (removing t.change t.register child) w
 
 -- after one line more, whatever was told, and whichever copy of the child is listed then, the lines show where the removal stands then
 abbrev pub RemovalTellsMore : Type 0

@@ -36,7 +36,7 @@ use Rattle.afr_model.specs.Standing.{asking, asks_name, change_by, getting, hold
 use Rattle.afr_inode_telling.specs.Lines.{CanAnswer}
 use Rattle.afr_removal.specs.Removal.{Removing, reply_of, whole}
 use Rattle.afr_removal.specs.declared.child.Child.{Child}
-use Rattle.afr_removal.specs.declared.stage.Ending.{Ending}
+use Rattle.afr_removal.specs.declared.stage.RemovalEnding.{RemovalEnding}
 use Rattle.afr_removal.specs.declared.stage.RemovalStage.{RemovalStage}
 use Rattle.afr_removal.specs.declared.stage.RemovalStage.TheVariants.{Locking, Looking, Listing, Beginning, Preparing, Applying, Posting, Closing}
 use Rattle.afr_transaction_tells.specs.Fits.{AreExcused, Fits, FitsPhase, IsCalm, missed_by}
@@ -77,7 +77,7 @@ pub record HasLed (p : Plan) (path : List NameId) (dir child : Gfid) (w : Work) 
   pub leads : path_by p w ≡ At (length path) (dir_at child)
 
 -- what the lines show from the read of the name to the first unlock: the name leads to the child, it is locked, and its directory was looked at
-pub record Goes (p : Plan) (path : List NameId) (change : Change) (r : Register) (child : Gfid) (w : Work) : Type 0 where
+pub record RemovalGoes (p : Plan) (path : List NameId) (change : Change) (r : Register) (child : Gfid) (w : Work) : Type 0 where
   pub shape : r.shape ≡ p.shape
   pub words : IsOfPath path change child
   pub led : HasLed p path (object_of change) child w
@@ -170,20 +170,20 @@ pub record Tries (p : Plan) (change : Change) (c : Child) (w : Work) : Type 0 wh
   pub begun : IsBegun change w
 
 -- only unlocks are left: the work is answered as it must be
-pub record IsOver (p : Plan) (path : List NameId) (dir child : Gfid) (r : Register) (why : Ending) (w : Work) : Type 0 where
+pub record OnlyUnlocksLeft (p : Plan) (path : List NameId) (dir child : Gfid) (r : Register) (why : RemovalEnding) (w : Work) : Type 0 where
   pub led : HasLed p path dir child w
   pub answered : IsAnswered p (command.Rmdir path) w (reply_of why r)
 
 -- what the lines show at each stage
 abbrev pub During : RemovalStage → Plan → List NameId → Removing → Work → Type 0
-During Locking p path m w = Goes p path m.change m.register m.child.gfid w × OnLocks p m.change m.register m.child w
-During Looking p path m w = Goes p path m.change m.register m.child.gfid w × OnLooks p m.change m.register m.child w
-During Listing p path m w = Goes p path m.change m.register m.child.gfid w × IsOpen p w × IsJudged p m.change m.child w
-During Beginning p path m w = Goes p path m.change m.register m.child.gfid w × AreIdle w × IsEmpty p w × IsJudged p m.change m.child w
-During Preparing p path m w = Goes p path m.change m.register m.child.gfid w × Tries p m.change m.child w × OnPre (asked_at m.register Pres) w
-During Applying p path m w = Goes p path m.change m.register m.child.gfid w × Tries p m.change m.child w × OnApply m.child.takers (asked_at m.register Applies) w
-During Posting p path m w = Goes p path m.change m.register m.child.gfid w × Tries p m.change m.child w × OnPost p m.change m.child.takers (asked_at m.register Posts) w
-During (Closing why) p path m w = IsOver p path (object_of m.change) m.child.gfid m.register why w
+During Locking p path m w = RemovalGoes p path m.change m.register m.child.gfid w × OnLocks p m.change m.register m.child w
+During Looking p path m w = RemovalGoes p path m.change m.register m.child.gfid w × OnLooks p m.change m.register m.child w
+During Listing p path m w = RemovalGoes p path m.change m.register m.child.gfid w × IsOpen p w × IsJudged p m.change m.child w
+During Beginning p path m w = RemovalGoes p path m.change m.register m.child.gfid w × AreIdle w × IsEmpty p w × IsJudged p m.change m.child w
+During Preparing p path m w = RemovalGoes p path m.change m.register m.child.gfid w × Tries p m.change m.child w × OnPre (asked_at m.register Pres) w
+During Applying p path m w = RemovalGoes p path m.change m.register m.child.gfid w × Tries p m.change m.child w × OnApply m.child.takers (asked_at m.register Applies) w
+During Posting p path m w = RemovalGoes p path m.change m.register m.child.gfid w × Tries p m.change m.child w × OnPost p m.change m.child.takers (asked_at m.register Posts) w
+During (Closing why) p path m w = OnlyUnlocksLeft p path (object_of m.change) m.child.gfid m.register why w
 
 -- the lines of a work show where its removal stands
 abbrev pub RemovalTells : Plan → List NameId → Removing → Work → Type 0

@@ -22,7 +22,7 @@ use Rattle.afr_walk.proofs.ChoosingLemmas.{answers_among}
 use Rattle.afr_transaction.specs.Between.{is_read, noted_read}
 use Rattle.afr_transaction.specs.Outcome.{outcome_of}
 use Rattle.afr_transaction.specs.Progress as progress
-use Rattle.afr_transaction.specs.Progress.{Progress, fed, is_beginning, told_to}
+use Rattle.afr_transaction.specs.Progress.{TransactionProgress, fed, is_beginning, told_to}
 use Rattle.afr_transaction.specs.declared.stage.Stage.{Stage}
 use Rattle.afr_transaction.specs.declared.stage.Stage.TheVariants.{Locking}
 use Rattle.afr_transaction.proofs.NoteLemmas.{fed_change}
@@ -42,14 +42,14 @@ use Rattle.afr_rename.specs.declared.stage.RenameStage.{RenameStage}
 use Rattle.afr_rename.specs.declared.stage.RenameStage.TheVariants.{Finding, Walking, Making, Removing, Ending}
 
 -- ---- while the name isn't asked for
-pub unread_asks : (asked : Request) (t : Progress) (reader b : BrickId) (q : Request) (at : ℕ) → is_beginning t.stage ≡ false → next_under (Unread reader) at asked t ≡ next.Ask b q → progress.next_at t.stage at t ≡ next.Ask b q
+pub unread_asks : (asked : Request) (t : TransactionProgress) (reader b : BrickId) (q : Request) (at : ℕ) → is_beginning t.stage ≡ false → next_under (Unread reader) at asked t ≡ next.Ask b q → progress.next_at t.stage at t ≡ next.Ask b q
 unread_asks asked t reader b q at f e = go (is_beginning t.stage) f e
   where
     go : (x : Bool) → x ≡ false → (if x then next.Ask reader asked else progress.next_at t.stage at t) ≡ next.Ask b q → progress.next_at t.stage at t ≡ next.Ask b q
     go true f e = absurd (cc f)
     go false f e = e
 
-pub progress_fed : (why : Option Refusal) (asked : Request) (t x : Progress) (reader : BrickId) (at : ℕ) (told : Told) → is_beginning t.stage ≡ false → x ≡ fed t.stage told at t → x ≡ progress_after (Unread reader) why asked told at t
+pub progress_fed : (why : Option Refusal) (asked : Request) (t x : TransactionProgress) (reader : BrickId) (at : ℕ) (told : Told) → is_beginning t.stage ≡ false → x ≡ fed t.stage told at t → x ≡ progress_after (Unread reader) why asked told at t
 progress_fed why asked t x reader at told f ex = go (is_beginning t.stage) f
   where
     go : (s : Bool) → s ≡ false → x ≡ (if s then settled why (noted_read reader.0 asked told at t) else fed t.stage told at t)
@@ -57,7 +57,7 @@ progress_fed why asked t x reader at told f ex = go (is_beginning t.stage) f
     go false f = ex
 
 -- the rule is asked for what the answer has left
-pub offered_fed : (t x : Progress) (reader : BrickId) (at : ℕ) (told : Told) → is_beginning t.stage ≡ false → x ≡ fed t.stage told at t → offered x ≡ choices_under (Unread reader) told at t
+pub offered_fed : (t x : TransactionProgress) (reader : BrickId) (at : ℕ) (told : Told) → is_beginning t.stage ≡ false → x ≡ fed t.stage told at t → offered x ≡ choices_under (Unread reader) told at t
 offered_fed t x reader at told f ex = go (is_beginning t.stage) f
   where
     go : (s : Bool) → s ≡ false → offered x ≡ (if s then [] else offered (fed t.stage told at t))
@@ -72,31 +72,31 @@ found_unread chosen x reader why stage f ex = go (is_beginning stage) f
     go false f = ap Unread ex
 
 -- the change stays that of a name
-pub names_fed : (t x : Progress) (at : ℕ) (told : Told) → kind_for t.change ≡ Names → x ≡ fed t.stage told at t → kind_for x.change ≡ Names
-names_fed t x at told names ex = ap (λ (p : Progress). kind_for p.change) ex ∙ ap kind_for (fed_change t.stage told at t) ∙ names
+pub names_fed : (t x : TransactionProgress) (at : ℕ) (told : Told) → kind_for t.change ≡ Names → x ≡ fed t.stage told at t → kind_for x.change ≡ Names
+names_fed t x at told names ex = ap (λ (p : TransactionProgress). kind_for p.change) ex ∙ ap kind_for (fed_change t.stage told at t) ∙ names
 
 -- ---- where the name is asked for
-pub name_brick : (asked : Request) (t : Progress) (reader b : BrickId) (q : Request) (at : ℕ) → is_beginning t.stage ≡ true → next_under (Unread reader) at asked t ≡ next.Ask b q → reader ≡ b
+pub name_brick : (asked : Request) (t : TransactionProgress) (reader b : BrickId) (q : Request) (at : ℕ) → is_beginning t.stage ≡ true → next_under (Unread reader) at asked t ≡ next.Ask b q → reader ≡ b
 name_brick asked t reader b q at f e = go (is_beginning t.stage) f e
   where
     go : (x : Bool) → x ≡ true → (if x then next.Ask reader asked else progress.next_at t.stage at t) ≡ next.Ask b q → reader ≡ b
     go true f e = cc e
     go false f e = absurd (cc f)
 
-pub name_request : (asked : Request) (t : Progress) (reader b : BrickId) (q : Request) (at : ℕ) → is_beginning t.stage ≡ true → next_under (Unread reader) at asked t ≡ next.Ask b q → asked ≡ q
+pub name_request : (asked : Request) (t : TransactionProgress) (reader b : BrickId) (q : Request) (at : ℕ) → is_beginning t.stage ≡ true → next_under (Unread reader) at asked t ≡ next.Ask b q → asked ≡ q
 name_request asked t reader b q at f e = go (is_beginning t.stage) f e
   where
     go : (x : Bool) → x ≡ true → (if x then next.Ask reader asked else progress.next_at t.stage at t) ≡ next.Ask b q → asked ≡ q
     go true f e = cc e
     go false f e = absurd (cc f)
 
-pub name_small : (c : Change) (asked : Request) (t : Progress) (reader b : BrickId) (q : Request) (at : ℕ) → IsUnder c t (Unread reader) → is_beginning t.stage ≡ true → next_under (Unread reader) at asked t ≡ next.Ask b q → b.0 < 5
+pub name_small : (c : Change) (asked : Request) (t : TransactionProgress) (reader b : BrickId) (q : Request) (at : ℕ) → IsUnder c t (Unread reader) → is_beginning t.stage ≡ true → next_under (Unread reader) at asked t ≡ next.Ask b q → b.0 < 5
 name_small c asked t reader b q at k f e = subst (λ (x : BrickId). x.0 < 5) (name_brick asked t reader b q at f e) (good_below t.register.shape t.register.looked Names reader.0 (k.reads f))
 
-pub name_reads : (asked : Request) (t : Progress) (reader b : BrickId) (q : Request) (at : ℕ) → is_read asked ≡ true → is_beginning t.stage ≡ true → next_under (Unread reader) at asked t ≡ next.Ask b q → is_read q ≡ true
+pub name_reads : (asked : Request) (t : TransactionProgress) (reader b : BrickId) (q : Request) (at : ℕ) → is_read asked ≡ true → is_beginning t.stage ≡ true → next_under (Unread reader) at asked t ≡ next.Ask b q → is_read q ≡ true
 name_reads asked t reader b q at reads f e = subst (λ (x : Request). is_read x ≡ true) (name_request asked t reader b q at f e) reads
 
-pub name_heard : (why : Option Refusal) (asked : Request) (t x y : Progress) (reader b : BrickId) (q : Request) (at : ℕ) (told : Told) → is_beginning t.stage ≡ true → next_under (Unread reader) at asked t ≡ next.Ask b q
+pub name_heard : (why : Option Refusal) (asked : Request) (t x y : TransactionProgress) (reader b : BrickId) (q : Request) (at : ℕ) (told : Told) → is_beginning t.stage ≡ true → next_under (Unread reader) at asked t ≡ next.Ask b q
     → x ≡ noted_read b.0 q told at t → y ≡ settled why x → y ≡ progress_after (Unread reader) why asked told at t
 name_heard why asked t x y reader b q at told f e ex ey = go (is_beginning t.stage) f
   where
@@ -104,11 +104,11 @@ name_heard why asked t x y reader b q at told f e ex ey = go (is_beginning t.sta
     same = ex ∙ ap (λ (c : BrickId). noted_read c.0 q told at t) (sym (name_brick asked t reader b q at f e)) ∙ ap (λ (r : Request). noted_read reader.0 r told at t) (sym (name_request asked t reader b q at f e))
 
     go : (s : Bool) → s ≡ true → y ≡ (if s then settled why (noted_read reader.0 asked told at t) else fed t.stage told at t)
-    go true f = ey ∙ ap (λ (p : Progress). settled why p) same
+    go true f = ey ∙ ap (λ (p : TransactionProgress). settled why p) same
     go false f = absurd (cc f)
 
 -- what the name says leaves nothing to choose from
-pub nothing_offered : (t : Progress) (reader : BrickId) (at : ℕ) (told : Told) → is_beginning t.stage ≡ true → [] ≡ choices_under (Unread reader) told at t
+pub nothing_offered : (t : TransactionProgress) (reader : BrickId) (at : ℕ) (told : Told) → is_beginning t.stage ≡ true → [] ≡ choices_under (Unread reader) told at t
 nothing_offered t reader at told f = go (is_beginning t.stage) f
   where
     go : (s : Bool) → s ≡ true → [] ≡ (if s then [] else offered (fed t.stage told at t))
@@ -123,7 +123,7 @@ found_named chosen reader found why stage f e = go (is_beginning stage) f
     go false f = absurd (cc f)
 
 -- ---- once the name is read
-pub found_asks : (asked : Request) (t : Progress) (found : Found) (b : BrickId) (q : Request) (at : ℕ) → is_unread found ≡ false → next_under found at asked t ≡ next.Ask b q → progress.next_at t.stage at t ≡ next.Ask b q
+pub found_asks : (asked : Request) (t : TransactionProgress) (found : Found) (b : BrickId) (q : Request) (at : ℕ) → is_unread found ≡ false → next_under found at asked t ≡ next.Ask b q → progress.next_at t.stage at t ≡ next.Ask b q
 found_asks asked t (Unread reader) b q at u e = absurd (cc u)
 found_asks asked t Fits b q at u e = e
 found_asks asked t (Refused why) b q at u e = go (progress.is_over t.stage t) e
@@ -133,14 +133,14 @@ found_asks asked t (Refused why) b q at u e = go (progress.is_over t.stage t) e
     go false e = e
 
 -- a transaction that has asked is told
-told_fed : (t x : Progress) (at : ℕ) (told : Told) → is_beginning t.stage ≡ false → x ≡ fed t.stage told at t → x ≡ told_to told at t
+told_fed : (t x : TransactionProgress) (at : ℕ) (told : Told) → is_beginning t.stage ≡ false → x ≡ fed t.stage told at t → x ≡ told_to told at t
 told_fed t x at told f ex = go (is_beginning t.stage) f
   where
     go : (s : Bool) → s ≡ false → x ≡ (if s then t else fed t.stage told at t)
     go true f = absurd (cc f)
     go false f = ex
 
-pub found_told : (why : Option Refusal) (asked : Request) (t x : Progress) (found : Found) (at : ℕ) (told : Told) → is_unread found ≡ false → is_beginning t.stage ≡ false → x ≡ fed t.stage told at t → x ≡ progress_after found why asked told at t
+pub found_told : (why : Option Refusal) (asked : Request) (t x : TransactionProgress) (found : Found) (at : ℕ) (told : Told) → is_unread found ≡ false → is_beginning t.stage ≡ false → x ≡ fed t.stage told at t → x ≡ progress_after found why asked told at t
 found_told why asked t x (Unread reader) at told u f ex = absurd (cc u)
 found_told why asked t x Fits at told u f ex = told_fed t x at told f ex
 found_told why asked t x (Refused r) at told u f ex = told_fed t x at told f ex
@@ -150,14 +150,14 @@ found_same chosen (Unread reader) why stage u = absurd (cc u)
 found_same chosen Fits why stage u = refl
 found_same chosen (Refused r) why stage u = refl
 
-pub found_offers : (found : Found) (t : Progress) (at : ℕ) (told : Told) → is_unread found ≡ false → [] ≡ choices_under found told at t
+pub found_offers : (found : Found) (t : TransactionProgress) (at : ℕ) (told : Told) → is_unread found ≡ false → [] ≡ choices_under found told at t
 found_offers (Unread reader) t at told u = absurd (cc u)
 found_offers Fits t at told u = refl
 found_offers (Refused why) t at told u = refl
 
 -- ---- where nobody is asked
 -- there an answer changes nothing
-untold : (told : Told) (at : ℕ) (t : Progress) → is_beginning t.stage ≡ true → t ≡ told_to told at t
+untold : (told : Told) (at : ℕ) (t : TransactionProgress) → is_beginning t.stage ≡ true → t ≡ told_to told at t
 untold told at t f = go (is_beginning t.stage) f
   where
     go : (s : Bool) → s ≡ true → t ≡ (if s then t else fed t.stage told at t)
@@ -165,7 +165,7 @@ untold told at t f = go (is_beginning t.stage) f
     go false f = absurd (cc f)
 
 -- under the locks of a name: nothing to choose from, and all stays
-pub unheard_under : (why : Option Refusal) (asked : Request) (chosen : BrickId) (found : Found) (told : Told) (at : ℕ) (t : Progress) → is_ask (next_under found at asked t) ≡ false → progress.is_over t.stage t ≡ false
+pub unheard_under : (why : Option Refusal) (asked : Request) (chosen : BrickId) (found : Found) (told : Told) (at : ℕ) (t : TransactionProgress) → is_ask (next_under found at asked t) ≡ false → progress.is_over t.stage t ≡ false
     → (choices_under found told at t ≡ []) × (t ≡ progress_after found why asked told at t) × (found ≡ found_after chosen found why t.stage)
 unheard_under why asked chosen (Unread reader) told at t none more = absurd (go (is_beginning t.stage) refl none)
   where
@@ -187,7 +187,7 @@ at_stage x stage = record { paths = x; stage = stage }
 pub unheard : {F : Type 0} (calls : Calls F) (choose : F) (m : Renaming) (a : Answer) (at : ℕ) → is_ask (next_of at m) ≡ false → is_over m.stage ≡ false → IsFed calls choose (heard.Answer a at) m m
 unheard calls choose m a at none more = go m.stage none more
   where
-    making : (t : Progress) (found : Found) → (d : Bool) → is_done t ≡ d → is_over (Making t found) ≡ false
+    making : (t : TransactionProgress) (found : Found) → (d : Bool) → is_done t ≡ d → is_over (Making t found) ≡ false
         → is_ask (if d then progress.next_at Locking at (turned m.paths t) else next_under found at (reads_new m.paths) t) ≡ false
         → IsFed calls choose (heard.Answer a at) (at_stage m.paths (Making t found)) (at_stage m.paths (Making t found))
     making t found true e more none = absurd (cc none)
@@ -198,7 +198,7 @@ unheard calls choose m a at none more = go m.stage none more
           answers = subst (λ (d : Bool). (if d then [] else choices_under found (told_by a) at t) ≡ []) (sym e) u.0;
           value =
               subst (λ (d : Bool). at_stage m.paths (Making t found) ≡ at_stage m.paths (if d then second_begun (told_by a) at m.paths t else making_after (reader_of None) found a at m.paths t)) (sym e)
-              (ap (λ (x : Progress). at_stage m.paths (Making x found)) u.1
+              (ap (λ (x : TransactionProgress). at_stage m.paths (Making x found)) u.1
               ∙ ap (λ (f : Found). at_stage m.paths (Making (progress_after found (against_new a) (reads_new m.paths) (told_by a) at t) f)) u.2);
         }
 
@@ -212,7 +212,7 @@ unheard calls choose m a at none more = go m.stage none more
           picked = None;
           answers = u.0;
           value =
-              ap (λ (x : Progress). at_stage m.paths (Removing x found)) u.1
+              ap (λ (x : TransactionProgress). at_stage m.paths (Removing x found)) u.1
               ∙ ap (λ (f : Found). at_stage m.paths (Removing (progress_after found (against_old m.paths.first.object.gfid a) (reads_old m.paths) (told_by a) at t) f)) u.2;
         }
       where
@@ -242,12 +242,12 @@ pub second_leaves : (x : Paths) (stage : RenameStage) → IsPaths x → found_in
 second_leaves x stage k found e = subst (λ (s : RenameStage). IsRename x s) (sym e) (record { paths = k; sound = is_after_second x k found })
 
 -- under the locks, by what the answer says
-told_same : (found : Found) (t p : Progress) (at : ℕ) (why w : Option Refusal) (asked q : Request) (told h : Told) → why ≡ w → asked ≡ q → told ≡ h → p ≡ progress_after found why asked told at t → p ≡ progress_after found w q h at t
+told_same : (found : Found) (t p : TransactionProgress) (at : ℕ) (why w : Option Refusal) (asked q : Request) (told h : Told) → why ≡ w → asked ≡ q → told ≡ h → p ≡ progress_after found why asked told at t → p ≡ progress_after found w q h at t
 told_same found t p at why w asked q told h ew eq eh e =
     e ∙ ap (λ (y : Option Refusal). progress_after found y asked told at t) ew ∙ ap (λ (y : Request). progress_after found w y told at t) eq ∙ ap (λ (y : Told). progress_after found w q y at t) eh
 
 -- the first transaction's, as long as it isn't done
-pub making_kept : {F : Type 0} (calls : Calls F) (choose : F) (x : Paths) (t p : Progress) (found f : Found) (picked : Option BrickId) (why : Option Refusal) (asked : Request) (told : Told) (a : Answer) (at : ℕ) → IsRename x (Making t found)
+pub making_kept : {F : Type 0} (calls : Calls F) (choose : F) (x : Paths) (t p : TransactionProgress) (found f : Found) (picked : Option BrickId) (why : Option Refusal) (asked : Request) (told : Told) (a : Answer) (at : ℕ) → IsRename x (Making t found)
     → is_over (Making t found) ≡ false → is_done t ≡ false → why ≡ against_new a → asked ≡ reads_new x → told ≡ told_by a → p ≡ progress_after found why asked told at t → f ≡ found_after (reader_of picked) found why t.stage
     → RuleAnswers calls choose (choices_under found told at t) picked → IsRename x (Making p f)
 making_kept calls choose x t p found f picked why asked told a at k more e ew eq eh ep ef answers =
@@ -262,7 +262,7 @@ making_kept calls choose x t p found f picked why asked told a at k more e ew eq
     same : Making p f ≡ stage_after (reader_of picked) (Making t found) a at x
     same =
         ends (is_done t) e
-        (ap (λ (q : Progress). Making q f) (told_same found t p at why (against_new a) asked (reads_new x) told (told_by a) ew eq eh ep)
+        (ap (λ (q : TransactionProgress). Making q f) (told_same found t p at why (against_new a) asked (reads_new x) told (told_by a) ew eq eh ep)
         ∙ ap (λ (g : Found). Making (progress_after found (against_new a) (reads_new x) (told_by a) at t) g) (ef ∙ ap (λ (y : Option Refusal). found_after (reader_of picked) found y t.stage) ew))
 
     chooses : choices_under found told at t ≡ choices_at (Making t found) a at x
@@ -273,7 +273,7 @@ making_kept calls choose x t p found f picked why asked told a at k more e ew eq
         go false e = refl
 
 -- once it is done
-pub turn_heard : (chosen : BrickId) (x : Paths) (t : Progress) (found : Found) (stage after : RenameStage) (told : Told) (a : Answer) (at : ℕ) → stage ≡ Making t found → is_done t ≡ true → told ≡ told_by a → after ≡ second_begun told at x t
+pub turn_heard : (chosen : BrickId) (x : Paths) (t : TransactionProgress) (found : Found) (stage after : RenameStage) (told : Told) (a : Answer) (at : ℕ) → stage ≡ Making t found → is_done t ≡ true → told ≡ told_by a → after ≡ second_begun told at x t
     → after ≡ stage_after chosen stage a at (paths_after chosen stage a at x)
 turn_heard chosen x t found stage after told a at is e eh ea =
     subst (λ (s : RenameStage). after ≡ stage_after chosen s a at (paths_after chosen s a at x)) (sym is) (ea ∙ ap (λ (h : Told). second_begun h at x t) eh ∙ go (is_done t) e)
@@ -282,11 +282,11 @@ turn_heard chosen x t found stage after told a at is e eh ea =
     go true e = refl
     go false e = absurd (cc e)
 
-pub turn_kept : (x : Paths) (t : Progress) (found : Found) (stage : RenameStage) (told : Told) (at : ℕ) → IsRename x (Making t found) → is_done t ≡ true → stage ≡ second_begun told at x t → IsRename x stage
+pub turn_kept : (x : Paths) (t : TransactionProgress) (found : Found) (stage : RenameStage) (told : Told) (at : ℕ) → IsRename x (Making t found) → is_done t ≡ true → stage ≡ second_begun told at x t → IsRename x stage
 turn_kept x t found stage told at k e is = subst (λ (s : RenameStage). IsRename x s) (sym is) (record { paths = k.paths; sound = is_turned told at x t found k.sound e })
 
 -- there it asks for what a transaction of a new work asks for
-pub turn_asks : (x : Paths) (t : Progress) (found : Found) (at : ℕ) → is_done t ≡ true → making_next found at x t ≡ progress.next_at Locking at (turned_anew x t)
+pub turn_asks : (x : Paths) (t : TransactionProgress) (found : Found) (at : ℕ) → is_done t ≡ true → making_next found at x t ≡ progress.next_at Locking at (turned_anew x t)
 turn_asks x t found at e = go (is_done t) e
   where
     go : (d : Bool) → d ≡ true → (if d then progress.next_at Locking at (turned x t) else next_under found at (reads_new x) t) ≡ progress.next_at Locking at (turned_anew x t)
@@ -294,7 +294,7 @@ turn_asks x t found at e = go (is_done t) e
     go false e = absurd (cc e)
 
 -- the second transaction's
-pub removing_kept : {F : Type 0} (calls : Calls F) (choose : F) (x : Paths) (t p : Progress) (found f : Found) (picked : Option BrickId) (why : Option Refusal) (asked : Request) (told : Told) (a : Answer) (at : ℕ) → IsRename x (Removing t found)
+pub removing_kept : {F : Type 0} (calls : Calls F) (choose : F) (x : Paths) (t p : TransactionProgress) (found f : Found) (picked : Option BrickId) (why : Option Refusal) (asked : Request) (told : Told) (a : Answer) (at : ℕ) → IsRename x (Removing t found)
     → is_over (Removing t found) ≡ false → why ≡ against_old x.first.object.gfid a → asked ≡ reads_old x → told ≡ told_by a → p ≡ progress_after found why asked told at t → f ≡ found_after (reader_of picked) found why t.stage
     → RuleAnswers calls choose (choices_under found told at t) picked → IsRename x (Removing p f)
 removing_kept calls choose x t p found f picked why asked told a at k more ew eq eh ep ef answers =
@@ -304,5 +304,5 @@ removing_kept calls choose x t p found f picked why asked told a at k more ew eq
   where
     same : Removing p f ≡ stage_after (reader_of picked) (Removing t found) a at x
     same =
-        ap (λ (q : Progress). Removing q f) (told_same found t p at why (against_old x.first.object.gfid a) asked (reads_old x) told (told_by a) ew eq eh ep)
+        ap (λ (q : TransactionProgress). Removing q f) (told_same found t p at why (against_old x.first.object.gfid a) asked (reads_old x) told (told_by a) ew eq eh ep)
         ∙ ap (λ (g : Found). Removing (progress_after found (against_old x.first.object.gfid a) (reads_old x) (told_by a) at t) g) (ef ∙ ap (λ (y : Option Refusal). found_after (reader_of picked) found y t.stage) ew)

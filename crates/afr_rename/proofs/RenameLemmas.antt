@@ -38,10 +38,10 @@ use Rattle.afr_walk.proofs.WalkLemmas.{asks_allowed, is_walked, walked_notes}
 use Rattle.afr_transaction.specs.Laws as transaction
 use Rattle.afr_transaction.specs.Outcome.{outcome_of, reply_for, reply_of}
 use Rattle.afr_transaction.specs.Progress as progress
-use Rattle.afr_transaction.specs.Progress.{Progress, after, answered_by, fed, is_beginning, left, starting}
+use Rattle.afr_transaction.specs.Progress.{TransactionProgress, after, answered_by, fed, is_beginning, left, starting}
 use Rattle.afr_transaction.specs.Sound.{IsUnused, Sound, Suits}
-use Rattle.afr_transaction.specs.declared.reply.Outcome.{Outcome}
-use Rattle.afr_transaction.specs.declared.reply.Outcome.TheVariants as outcome
+use Rattle.afr_transaction.specs.declared.reply.TransactionOutcome.{TransactionOutcome}
+use Rattle.afr_transaction.specs.declared.reply.TransactionOutcome.TheVariants as outcome
 use Rattle.afr_transaction.specs.declared.stage.Stage.{Stage}
 use Rattle.afr_transaction.specs.declared.stage.Stage.TheVariants.{Locking, Looking, Closing}
 use Rattle.afr_transaction.proofs.Acknowledged.{acknowledged_exactly}
@@ -184,7 +184,7 @@ over_not_done true true e f = absurd (cc f)
 over_not_done true false e f = absurd (cc e)
 over_not_done false d e f = refl
 
-pub acknowledged_is : (o : Outcome) → is_acknowledged o ≡ true → o ≡ outcome.Acknowledged
+pub acknowledged_is : (o : TransactionOutcome) → is_acknowledged o ≡ true → o ≡ outcome.Acknowledged
 acknowledged_is outcome.Acknowledged e = refl
 acknowledged_is outcome.NoQuorum e = absurd (cc e)
 acknowledged_is outcome.FewCopies e = absurd (cc e)
@@ -196,13 +196,13 @@ some_bricks zero s e = absurd (cc e)
 some_bricks (suc n) s e = omega arith
 
 -- it is over, acknowledged, and of some bricks
-pub done_is : (t : Progress) → Sound t → is_done t ≡ true → (progress.is_over t.stage t ≡ true) × (outcome_of t.change t.register ≡ outcome.Acknowledged) × (0 < t.register.shape.n)
+pub done_is : (t : TransactionProgress) → Sound t → is_done t ≡ true → (progress.is_over t.stage t ≡ true) × (outcome_of t.change t.register ≡ outcome.Acknowledged) × (0 < t.register.shape.n)
 done_is t s e =
     let b = both_true (progress.is_over t.stage t) (is_acknowledged (outcome_of t.change t.register)) e in
     let o = acknowledged_is (outcome_of t.change t.register) b.1 in
     (b.0, o, some_bricks t.register.shape.n t.register.post ((acknowledged_exactly t s).1 o))
 
-locked_waits : (y : Progress) → is_beginning (after Locking y) ≡ false
+locked_waits : (y : TransactionProgress) → is_beginning (after Locking y) ≡ false
 locked_waits y = go (is_nothing (left Locking y)) (is_majority y.register.shape.n y.asked.locked_on)
   where
     go : (over most : Bool) → is_beginning (if over then (if most then Looking else Closing) else Locking) ≡ false
@@ -210,11 +210,11 @@ locked_waits y = go (is_nothing (left Locking y)) (is_majority y.register.shape.
     go true false = refl
     go false most = refl
 
-after_lock : (told : Told) (at : ℕ) (t : Progress) → is_beginning (fed Locking told at t).stage ≡ false
+after_lock : (told : Told) (at : ℕ) (t : TransactionProgress) → is_beginning (fed Locking told at t).stage ≡ false
 after_lock told at t = locked_waits (answered_by Locking (lowest (left Locking t)) told at t)
 
 -- with its first lock the second transaction is as sound as a first one
-pub is_turned : (told : Told) (at : ℕ) (x : Paths) (t : Progress) (found : Found) → IsMaking x t found → is_done t ≡ true → IsSound x (second_begun told at x t)
+pub is_turned : (told : Told) (at : ℕ) (x : Paths) (t : TransactionProgress) (found : Found) → IsMaking x t found → is_done t ≡ true → IsSound x (second_begun told at x t)
 is_turned told at x t found k e =
     let d = done_is t k.under.sound e in
     let f = again_sound rests transaction_stays t (removal_of x) told at k.under.sound k.plain d.2 d.0 (removal_suits x) in
@@ -341,7 +341,7 @@ pub notes_begin : NotesBegin
 notes_begin m at change e chosen = begins_notes m.stage m.paths at change e
 
 -- ---- what is allowed
-half_ok : (o : Outcome) → is_ok (half_reply o) ≡ is_ok (reply_for o)
+half_ok : (o : TransactionOutcome) → is_ok (half_reply o) ≡ is_ok (reply_for o)
 half_ok outcome.Acknowledged = refl
 half_ok outcome.NoQuorum = refl
 half_ok outcome.FewCopies = refl
@@ -349,21 +349,21 @@ half_ok (outcome.SplitBrain views) = refl
 half_ok outcome.Failed = refl
 
 -- where a transaction is over its next line is the end
-over_ends : (t : Progress) (at : ℕ) → progress.is_over t.stage t ≡ true → progress.next_at t.stage at t ≡ next.End (reply_of t.change t.register)
+over_ends : (t : TransactionProgress) (at : ℕ) → progress.is_over t.stage t ≡ true → progress.next_at t.stage at t ≡ next.End (reply_of t.change t.register)
 over_ends t at e = go t.stage e
   where
     go : (stage : Stage) → progress.is_over stage t ≡ true → progress.next_at stage at t ≡ next.End (reply_of t.change t.register)
     go Closing e = rw e refl
     go stage e = absurd (cc e)
 
-half_allowed : (t : Progress) → Sound t → progress.is_over t.stage t ≡ true → (at : ℕ) → Allows t.register (next.End (half_reply (outcome_of t.change t.register)))
+half_allowed : (t : TransactionProgress) → Sound t → progress.is_over t.stage t ≡ true → (at : ℕ) → Allows t.register (next.End (half_reply (outcome_of t.change t.register)))
 half_allowed t s over at = λ of is. allowed_moves t s at of (subst (λ (line : Next). transaction.IsMoveOf line of) (sym (over_ends t at over)) (as_reply of (moves (next.End (half_reply (outcome_of t.change t.register))) of is)))
   where
     as_reply : (of : Move) → transaction.IsMoveOf (next.End (half_reply (outcome_of t.change t.register))) of → transaction.IsMoveOf (next.End (reply_of t.change t.register)) of
     as_reply (move.End ok) is = is ∙ half_ok (outcome_of t.change t.register)
     as_reply of is = absurd is
 
-turn_allowed : (x : Paths) (t : Progress) (found : Found) → IsMaking x t found → is_done t ≡ true → (at : ℕ) → Allows t.register (progress.next_at Locking at (turned x t))
+turn_allowed : (x : Paths) (t : TransactionProgress) (found : Found) → IsMaking x t found → is_done t ≡ true → (at : ℕ) → Allows t.register (progress.next_at Locking at (turned x t))
 turn_allowed x t found k e at =
     let d = done_is t k.under.sound e in
     λ of is. moves_of t.register (progress.next_at Locking at (turned x t)) of k.under.sound.base.outside

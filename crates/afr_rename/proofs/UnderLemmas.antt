@@ -13,7 +13,7 @@ use Rattle.afr_walk.specs.Choosing.{IsAmong}
 use Rattle.afr_walk.specs.Free.{Allows}
 use Rattle.afr_transaction.specs.Between.{is_read, noted_read}
 use Rattle.afr_transaction.specs.Progress as progress
-use Rattle.afr_transaction.specs.Progress.{Progress, begun, fed, is_beginning, told_to}
+use Rattle.afr_transaction.specs.Progress.{TransactionProgress, begun, fed, is_beginning, told_to}
 use Rattle.afr_transaction.specs.declared.stage.Stage.{Stage}
 use Rattle.afr_transaction.specs.declared.stage.Stage.TheVariants.{Locking, Looking, Beginning, Preparing, Applying, Posting, Closing}
 use Rattle.afr_transaction.proofs.Allowed.{allowed_moves}
@@ -31,7 +31,7 @@ use Rattle.afr_entry.proofs.EntryLemmas.{begun_notes, fed_fits, reader_chosen, s
 use Rattle.afr_rename.specs.Under.{IsUnder, choices_under, found_after, next_under, progress_after}
 
 -- ---- what is heard
-fed_kept : (c : Change) (t : Progress) (found : Found) (told : Told) (at : ℕ) → IsUnder c t found → HasReader (fed t.stage told at t) found → progress.is_over t.stage t ≡ false → is_beginning t.stage ≡ false → IsUnder c (fed t.stage told at t) found
+fed_kept : (c : Change) (t : TransactionProgress) (found : Found) (told : Told) (at : ℕ) → IsUnder c t found → HasReader (fed t.stage told at t) found → progress.is_over t.stage t ≡ false → is_beginning t.stage ≡ false → IsUnder c (fed t.stage told at t) found
 fed_kept c t found told at k reads more e = record {
   sound = transaction_stays t k.sound more told at;
   of = fed_change t.stage told at t ∙ k.of;
@@ -40,7 +40,7 @@ fed_kept c t found told at k reads more e = record {
 }
 
 -- once the name is read, nobody is asked for it
-told_kept : (c : Change) (t : Progress) (found : Found) (told : Told) (at : ℕ) → ((x : Progress) → HasReader x found) → IsUnder c t found → progress.is_over t.stage t ≡ false → IsUnder c (told_to told at t) found
+told_kept : (c : Change) (t : TransactionProgress) (found : Found) (told : Told) (at : ℕ) → ((x : TransactionProgress) → HasReader x found) → IsUnder c t found → progress.is_over t.stage t ≡ false → IsUnder c (told_to told at t) found
 told_kept c t found told at free k more = go (is_beginning t.stage) refl
   where
     go : (e : Bool) → is_beginning t.stage ≡ e → IsUnder c (if e then t else fed t.stage told at t) found
@@ -48,7 +48,7 @@ told_kept c t found told at free k more = go (is_beginning t.stage) refl
     go false e = fed_kept c t found told at k (free (fed t.stage told at t)) more e
 
 -- the copy to ask may be another, as long as the looks aren't over
-other_reader : (c : Change) (t : Progress) (b chosen : BrickId) → is_beginning t.stage ≡ false → IsUnder c t (Unread b) → IsUnder c t (Unread chosen)
+other_reader : (c : Change) (t : TransactionProgress) (b chosen : BrickId) → is_beginning t.stage ≡ false → IsUnder c t (Unread b) → IsUnder c t (Unread chosen)
 other_reader c t b chosen e k = record { sound = k.sound; of = k.of; in_turn = same t.stage k.in_turn; reads = λ h. absurd (cc (e, h)) }
   where
     same : (stage : Stage) → fits_stage (Unread b) stage ≡ true → fits_stage (Unread chosen) stage ≡ true
@@ -61,7 +61,7 @@ other_reader c t b chosen e k = record { sound = k.sound; of = k.of; in_turn = s
     same Posting h = absurd (cc h)
 
 -- the name was told
-name_kept : (c : Change) (t : Progress) (told : Told) (at : ℕ) (why : Option Refusal) (asked : Request) (b : BrickId) → is_read asked ≡ true → IsUnder c t (Unread b) → is_beginning t.stage ≡ true
+name_kept : (c : Change) (t : TransactionProgress) (told : Told) (at : ℕ) (why : Option Refusal) (asked : Request) (b : BrickId) → is_read asked ≡ true → IsUnder c t (Unread b) → is_beginning t.stage ≡ true
     → IsUnder c (settled why (noted_read b.0 asked told at t)) (found_by why)
 name_kept c t told at None asked b reads k e = record {
   sound = kept_read t k.sound e b.0 asked reads told at;
@@ -77,7 +77,7 @@ name_kept c t told at (Some why) asked b reads k e = record {
 }
 
 -- whatever is told, and whichever good copy is read then
-pub progress_kept : (chosen : BrickId) (found : Found) (why : Option Refusal) (asked : Request) (told : Told) (at : ℕ) (c : Change) (t : Progress) → kind_for c ≡ Names → is_read asked ≡ true → IsUnder c t found → progress.is_over t.stage t ≡ false
+pub progress_kept : (chosen : BrickId) (found : Found) (why : Option Refusal) (asked : Request) (told : Told) (at : ℕ) (c : Change) (t : TransactionProgress) → kind_for c ≡ Names → is_read asked ≡ true → IsUnder c t found → progress.is_over t.stage t ≡ false
     → IsAmong (choices_under found told at t) chosen → IsUnder c (progress_after found why asked told at t) (found_after chosen found why t.stage)
 progress_kept chosen (Unread b) why asked told at c t names reads k more among = go (is_beginning t.stage) refl among
   where
@@ -91,7 +91,7 @@ progress_kept chosen Fits why asked told at c t names reads k more among = told_
 progress_kept chosen (Refused r) why asked told at c t names reads k more among = told_kept c t (Refused r) told at (λ x. tt) k more
 
 -- and after a Begin line
-pub begun_kept : (found : Found) (at : ℕ) (c : Change) (t : Progress) → IsUnder c t found → IsUnder c (progress_begun found at t) found
+pub begun_kept : (found : Found) (at : ℕ) (c : Change) (t : TransactionProgress) → IsUnder c t found → IsUnder c (progress_begun found at t) found
 begun_kept (Unread b) at c t k = k
 begun_kept Fits at c t k = go (is_beginning t.stage) refl
   where
@@ -118,7 +118,7 @@ not_beginning : (stage : Stage) → is_beginning stage ≡ false → stage ≡ B
 not_beginning stage e is = cc (e, ap is_beginning is)
 
 -- whatever is told
-pub plain_after : PlainKept → PlainRead → (found : Found) (why : Option Refusal) (asked : Request) (told : Told) (at : ℕ) (c : Change) (t : Progress) → is_read asked ≡ true → IsUnder c t found → IsPlain t.register
+pub plain_after : PlainKept → PlainRead → (found : Found) (why : Option Refusal) (asked : Request) (told : Told) (at : ℕ) (c : Change) (t : TransactionProgress) → is_read asked ≡ true → IsUnder c t found → IsPlain t.register
     → IsPlain (progress_after found why asked told at t).register
 plain_after kept read (Unread b) why asked told at c t reads k plain = go (is_beginning t.stage) refl
   where
@@ -137,7 +137,7 @@ plain_after kept read (Refused r) why asked told at c t reads k plain = go (is_b
     go false e = kept t k.sound plain (not_beginning t.stage e) told at
 
 -- and after a Begin line
-pub plain_begun_after : PlainBegun → (found : Found) (at : ℕ) (t : Progress) → IsPlain t.register → IsPlain (progress_begun found at t).register
+pub plain_begun_after : PlainBegun → (found : Found) (at : ℕ) (t : TransactionProgress) → IsPlain t.register → IsPlain (progress_begun found at t).register
 plain_begun_after begins (Unread b) at t plain = plain
 plain_begun_after begins Fits at t plain = go (is_beginning t.stage)
   where
@@ -151,7 +151,7 @@ plain_begun_after begins (Refused why) at t plain = go (is_beginning t.stage)
     go false = plain
 
 -- ---- the register
-pub under_notes : (found : Found) (why : Option Refusal) (asked : Request) (t : Progress) (at : ℕ) (brick : BrickId) (request : Request) → next_under found at asked t ≡ next.Ask brick request → (told : Told)
+pub under_notes : (found : Found) (why : Option Refusal) (asked : Request) (t : TransactionProgress) (at : ℕ) (brick : BrickId) (request : Request) → next_under found at asked t ≡ next.Ask brick request → (told : Told)
     → (progress_after found why asked told at t).register ≡ noted_ask t.register at brick.0 request told
 under_notes (Unread b) why asked t at brick request e told = go (is_beginning t.stage) e
   where
@@ -166,7 +166,7 @@ under_notes (Refused r) why asked t at brick request e told = go (progress.is_ov
     go true e = absurd (cc e)
     go false e = told_notes t at brick request told e
 
-pub under_begins : (found : Found) (asked : Request) (t : Progress) (at : ℕ) (change : Change) → next_under found at asked t ≡ next.Begin change → (progress_begun found at t).register ≡ noted_begin t.register at
+pub under_begins : (found : Found) (asked : Request) (t : TransactionProgress) (at : ℕ) (change : Change) → next_under found at asked t ≡ next.Begin change → (progress_begun found at t).register ≡ noted_begin t.register at
 under_begins (Unread b) asked t at change e = go (is_beginning t.stage) refl e
   where
     go : (x : Bool) → is_beginning t.stage ≡ x → (if x then next.Ask b asked else progress.next_at t.stage at t) ≡ next.Begin change → t.register ≡ noted_begin t.register at
@@ -180,11 +180,11 @@ under_begins (Refused r) asked t at change e = go (progress.is_over t.stage t) e
     go false e = begun_notes t at change e
 
 -- ---- what it asks
-reader_inside : (c : Change) (t : Progress) (b : BrickId) → IsUnder c t (Unread b) → is_beginning t.stage ≡ true → b.0 < t.register.shape.n
+reader_inside : (c : Change) (t : TransactionProgress) (b : BrickId) → IsUnder c t (Unread b) → is_beginning t.stage ≡ true → b.0 < t.register.shape.n
 reader_inside c t b k e = k.sound.base.shown.reached b.0 (holders_are_reached t.register.looked b.0 (good_are_holders t.register.shape t.register.looked Names b.0 (k.reads e)))
 
 -- the discipline allows the next line
-pub allowed_under : (found : Found) (asked : Request) (c : Change) (t : Progress) → is_read asked ≡ true → IsUnder c t found → (at : ℕ) → Allows t.register (next_under found at asked t)
+pub allowed_under : (found : Found) (asked : Request) (c : Change) (t : TransactionProgress) → is_read asked ≡ true → IsUnder c t found → (at : ℕ) → Allows t.register (next_under found at asked t)
 allowed_under (Unread b) asked c t reads k at = go (is_beginning t.stage) refl
   where
     go : (e : Bool) → is_beginning t.stage ≡ e → Allows t.register (if e then next.Ask b asked else progress.next_at t.stage at t)

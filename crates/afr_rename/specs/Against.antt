@@ -10,8 +10,8 @@ use Rattle.afr_lines.specs.declared.reply.Reply.{Reply}
 use Rattle.afr_lines.specs.declared.reply.Reply.TheVariants as reply
 use Rattle.afr_entry.specs.declared.refusal.Refusal.{Refusal}
 use Rattle.afr_entry.specs.declared.refusal.Refusal.TheVariants.{Failed, Exists, NoEntry}
-use Rattle.afr_transaction.specs.declared.reply.Outcome.{Outcome}
-use Rattle.afr_transaction.specs.declared.reply.Outcome.TheVariants.{Acknowledged}
+use Rattle.afr_transaction.specs.declared.reply.TransactionOutcome.{TransactionOutcome}
+use Rattle.afr_transaction.specs.declared.reply.TransactionOutcome.TheVariants.{Acknowledged}
 
 -- the new name is made where there is none; a refused read isn't tried again
 abbrev pub against_new : Answer → Option Refusal
@@ -30,10 +30,10 @@ against_old file (answer.Entry None) = Some NoEntry
 against_old file other = Some Failed
 
 -- a majority has done post-op
-abbrev pub is_acknowledged : Outcome → Bool
+abbrev pub is_acknowledged : TransactionOutcome → Bool
 is_acknowledged Acknowledged = true
 is_acknowledged other = false
 
 -- once the new name stands: the rename is carried out where the removal is acknowledged
-abbrev pub half_reply : Outcome → Reply
+abbrev pub half_reply : TransactionOutcome → Reply
 half_reply ended = if is_acknowledged ended then reply.Ok good.Done else reply.Half

@@ -27,7 +27,7 @@ use Rattle.afr_walk.specs.declared.walk.WalkStep.TheVariants as walking
 use Rattle.afr_transaction.specs.Made.{attempted}
 use Rattle.afr_transaction.specs.Outcome.{outcome_of}
 use Rattle.afr_transaction.specs.Progress as transaction
-use Rattle.afr_transaction.specs.Progress.{Progress, CarriesAt, fed, starting}
+use Rattle.afr_transaction.specs.Progress.{TransactionProgress, CarriesAt, fed, starting}
 use Rattle.afr_transaction.specs.declared.stage.Stage.TheVariants.{Locking}
 use Rattle.afr_again.specs.Again.{IsPlain}
 use Rattle.afr_entry.specs.Entry.{progress_begun}
@@ -82,28 +82,28 @@ after_first x = first_left x.first.step x
 
 -- ---- the turn from one transaction to the other
 -- the new name stands and its locks are released
-abbrev pub is_done : Progress → Bool
+abbrev pub is_done : TransactionProgress → Bool
 is_done t = transaction.is_over t.stage t && is_acknowledged (outcome_of t.change t.register)
 
 -- the second transaction before its first lock goes on with the register that the first one has left
-abbrev pub turned : Paths → Progress → Progress
+abbrev pub turned : Paths → TransactionProgress → TransactionProgress
 turned x t = starting (removal_of x) t.register
 
 -- it asks for this lock as a transaction of a new work does
-abbrev pub turned_anew : Paths → Progress → Progress
+abbrev pub turned_anew : Paths → TransactionProgress → TransactionProgress
 turned_anew x t = starting (removal_of x) (no_lines t.register.shape)
 
 -- the lock was told this
-abbrev pub second_begun : Told → ℕ → Paths → Progress → RenameStage
+abbrev pub second_begun : Told → ℕ → Paths → TransactionProgress → RenameStage
 second_begun told at x t = Removing (fed Locking told at (turned x t)) unread
 
 -- ---- what it asks
 -- the next line of the first transaction, or the lock with which the second one begins
-abbrev pub making_next : Found → ℕ → Paths → Progress → Next
+abbrev pub making_next : Found → ℕ → Paths → TransactionProgress → Next
 making_next found at x t = if is_done t then transaction.next_at Locking at (turned x t) else next_under found at (reads_new x) t
 
 -- the next line of the second one; where it isn't acknowledged the rename stays half
-abbrev pub removing_next : Found → ℕ → Paths → Progress → Next
+abbrev pub removing_next : Found → ℕ → Paths → TransactionProgress → Next
 removing_next found at x t = if transaction.is_over t.stage t then next.End (half_reply (outcome_of t.change t.register)) else next_under found at (reads_old x) t
 
 -- the next line, if it is written at this position
@@ -159,11 +159,11 @@ paths_after chosen Walking a at x = second_walked chosen a at x
 paths_after chosen stage a at x = x
 
 -- the first transaction after an answer
-abbrev pub making_after : BrickId → Found → Answer → ℕ → Paths → Progress → RenameStage
+abbrev pub making_after : BrickId → Found → Answer → ℕ → Paths → TransactionProgress → RenameStage
 making_after chosen found a at x t = Making (progress_after found (against_new a) (reads_new x) (told_by a) at t) (found_after chosen found (against_new a) t.stage)
 
 -- the second one
-abbrev pub removing_after : BrickId → Found → Answer → ℕ → Paths → Progress → RenameStage
+abbrev pub removing_after : BrickId → Found → Answer → ℕ → Paths → TransactionProgress → RenameStage
 removing_after chosen found a at x t =
     Removing (progress_after found (against_old x.first.object.gfid a) (reads_old x) (told_by a) at t) (found_after chosen found (against_old x.first.object.gfid a) t.stage)
 
@@ -209,13 +209,13 @@ pub record IsAnswered (of : Heard) (old new : Renaming) : Type 0 where
 
 -- ---- what it keeps
 -- the making of the new name, of which nothing was ever noted of a heal
-pub record IsMaking (x : Paths) (t : Progress) (found : Found) : Type 0 where
+pub record IsMaking (x : Paths) (t : TransactionProgress) (found : Found) : Type 0 where
   pub found_file : found_in x ≡ true
   pub under : IsUnder (making_of x x.second.object.gfid) t found
   pub plain : IsPlain t.register
 
 -- the removal of the old name
-pub record IsRemoving (x : Paths) (t : Progress) (found : Found) : Type 0 where
+pub record IsRemoving (x : Paths) (t : TransactionProgress) (found : Found) : Type 0 where
   pub found_file : found_in x ≡ true
   pub under : IsUnder (removal_of x) t found
 

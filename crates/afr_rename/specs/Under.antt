@@ -9,7 +9,7 @@ use Rattle.afr_lines.specs.declared.request.Request.{Request}
 use Rattle.afr_rule.specs.declared.candidate.Candidate.{Candidate}
 use Rattle.afr_transaction.specs.Between.{noted_read}
 use Rattle.afr_transaction.specs.Progress as transaction
-use Rattle.afr_transaction.specs.Progress.{Progress, fed, is_beginning, told_to}
+use Rattle.afr_transaction.specs.Progress.{TransactionProgress, fed, is_beginning, told_to}
 use Rattle.afr_transaction.specs.Sound.{Sound}
 use Rattle.afr_transaction.specs.declared.stage.Stage.{Stage}
 use Rattle.afr_entry.specs.Entry.{HasReader, fits_stage, found_by, offered, settled}
@@ -20,14 +20,14 @@ use Rattle.afr_entry.specs.declared.stage.Found.TheVariants.{Unread, Fits, Refus
 
 -- ---- what it asks
 -- the next line: the name is read before the attempt, at the copy that was chosen, and a refusal is said once no lock is left
-abbrev pub next_under : Found → ℕ → Request → Progress → Next
+abbrev pub next_under : Found → ℕ → Request → TransactionProgress → Next
 next_under (Unread b) at asked t = if is_beginning t.stage then next.Ask b asked else transaction.next_at t.stage at t
 next_under Fits at asked t = transaction.next_at t.stage at t
 next_under (Refused why) at asked t = if transaction.is_over t.stage t then next.End (reply_to why) else transaction.next_at t.stage at t
 
 -- ---- what it makes of an answer
 -- the transaction after an answer, of which the name's says this against the change
-abbrev pub progress_after : Found → Option Refusal → Request → Told → ℕ → Progress → Progress
+abbrev pub progress_after : Found → Option Refusal → Request → Told → ℕ → TransactionProgress → TransactionProgress
 progress_after (Unread b) why asked told at t = if is_beginning t.stage then settled why (noted_read b.0 asked told at t) else fed t.stage told at t
 progress_after found why asked told at t = told_to told at t
 
@@ -38,13 +38,13 @@ found_after chosen found why stage = found
 
 -- ---- what the rule is asked for
 -- the good copies of the directory by the answer that ends the looks at it, before the name is read
-abbrev pub choices_under : Found → Told → ℕ → Progress → List Candidate
+abbrev pub choices_under : Found → Told → ℕ → TransactionProgress → List Candidate
 choices_under (Unread b) told at t = if is_beginning t.stage then [] else offered (fed t.stage told at t)
 choices_under found told at t = []
 
 -- ---- what it keeps
 -- a sound transaction of this change
-pub record IsUnder (change : Change) (t : Progress) (found : Found) : Type 0 where
+pub record IsUnder (change : Change) (t : TransactionProgress) (found : Found) : Type 0 where
   pub sound : Sound t
   pub of : t.change ≡ change
   pub in_turn : fits_stage found t.stage ≡ true

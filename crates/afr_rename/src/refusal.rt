@@ -6,7 +6,7 @@ use afr_base::{Gfid, What};
 use afr_entry::Refusal;
 use afr_lines::{Answer, Good, Reply};
 use afr_object::Entry;
-use afr_transaction::Outcome;
+use afr_transaction::TransactionOutcome;
 
 /// What the answer for the new name says against its making.
 pub(crate) fn against_new(answer: &Answer) -> Option<Refusal>
@@ -46,14 +46,14 @@ fn is_same(file: Gfid, entry: Entry) -> bool
     }
 }
 
-pub(crate) fn is_acknowledged(outcome: &Outcome) -> bool
+pub(crate) fn is_acknowledged(outcome: &TransactionOutcome) -> bool
     ensures { result ≡ is_acknowledged outcome.now }
 {
-    matches!(outcome, Outcome::Acknowledged)
+    matches!(outcome, TransactionOutcome::Acknowledged)
 }
 
 /// The reply of a rename whose new name stands, by what its removal has ended with.
-pub(crate) fn half_reply(outcome: &Outcome) -> Reply
+pub(crate) fn half_reply(outcome: &TransactionOutcome) -> Reply
     ensures { result ≡ half_reply outcome.now }
 {
     if is_acknowledged(outcome) {

@@ -28,7 +28,7 @@ use Rattle.afr_walk.specs.Walk.{next_in}
 use Rattle.afr_walk.specs.declared.walk.Walk.{Walk}
 use Rattle.afr_transaction.specs.Made.{attempted}
 use Rattle.afr_transaction.specs.Outcome.{outcome_of}
-use Rattle.afr_transaction.specs.Progress.{CarriesAt, Progress, gfid_at, is_over, next_at as next_change, numbered}
+use Rattle.afr_transaction.specs.Progress.{CarriesAt, TransactionProgress, gfid_at, is_over, next_at as next_change, numbered}
 use Rattle.afr_transaction.specs.declared.stage.Stage.TheVariants.{Locking}
 use Rattle.afr_entry.specs.Job.{reply_to}
 use Rattle.afr_entry.specs.declared.stage.Found.{Found}
@@ -57,14 +57,14 @@ module _ (p : Plan) (log : List Line) (b : BrickId) (request : Request) (past : 
       let here : Brings request load.Nothing log past = asks_same (λ (y : BrickId) (r : Request). Brings r load.Nothing log past) (next_in w).0 b (next_in w).1 request e (step_brings log past w w.step) in
       subst (λ (y : Load). Brings request y log past) (sym none) here
 
-  under_brings : (lines : Work) → AreIn log lines → (dir : Gfid) (name : NameId) (change : Change) (t : Progress) (found : Found) → IsUnder change t found → OnChange found p t lines → CarriesAt t.stage carried (attempted t)
+  under_brings : (lines : Work) → AreIn log lines → (dir : Gfid) (name : NameId) (change : Change) (t : TransactionProgress) (found : Found) → IsUnder change t found → OnChange found p t lines → CarriesAt t.stage carried (attempted t)
       → next_under found (length log) (ReadName dir name) t ≡ next.Ask b request → Brings request carried log past
   under_brings lines is dir name change t (Unread copy) u on brought e = unread_brings p log lines is b request past t carried brought on.0.tells copy dir name e
   under_brings lines is dir name change t Fits u on brought e = goes_brings p log lines is b request past t carried brought on.tells e
   under_brings lines is dir name change t (Refused why) u on brought e = refused_brings p log lines is b request past t carried brought why u.in_turn (reply_to why) e
 
   -- nothing has to go with the lock of the old name
-  turn_brings : (x : Paths) (t : Progress) → next_change Locking (length log) (turned x t) ≡ next.Ask b request → Brings request carried log past
+  turn_brings : (x : Paths) (t : TransactionProgress) → next_change Locking (length log) (turned x t) ≡ next.Ask b request → Brings request carried log past
   turn_brings x t e = subst (λ (r : Request). Brings r carried log past) (asked_stage Locking (length log) (turned x t) b request e).1 tt
 
 pub rename_brings : RenameBrings
@@ -94,7 +94,7 @@ rename_brings p c m log a b request carried sound k e brought = go m.stage sound
     go (Ending said) ready told e h = absurd (cc e)
 
 -- ---- the Begin lines
-under_begins : (P : Change → Type 0) (at : ℕ) (t : Progress) (change : Change) → P (numbered at t.change) → (found : Found) (asked : Request) → next_under found at asked t ≡ next.Begin change → P change
+under_begins : (P : Change → Type 0) (at : ℕ) (t : TransactionProgress) (change : Change) → P (numbered at t.change) → (found : Found) (asked : Request) → next_under found at asked t ≡ next.Begin change → P change
 under_begins P at t change of (Unread copy) asked e = unread_begins P at t change of copy asked e
 under_begins P at t change of Fits asked e = fits_begins P at t change of e
 under_begins P at t change of (Refused why) asked e = refused_begins P at t change of (reply_to why) e

@@ -30,7 +30,7 @@ use Rattle.afr_walk.specs.declared.walk.Walk.{Walk}
 use Rattle.afr_walk.specs.declared.walk.WalkStep.{WalkStep}
 use Rattle.afr_walk.specs.declared.walk.WalkStep.TheVariants as walking
 use Rattle.afr_transaction.specs.Outcome.{outcome_of}
-use Rattle.afr_transaction.specs.Progress.{Progress, is_over, next_at as next_change}
+use Rattle.afr_transaction.specs.Progress.{TransactionProgress, is_over, next_at as next_change}
 use Rattle.afr_transaction.specs.declared.stage.Stage.TheVariants.{Locking}
 use Rattle.afr_entry.specs.Job.{reply_to}
 use Rattle.afr_entry.specs.declared.job.EntryJob.{EntryJob}
@@ -52,7 +52,7 @@ use Rattle.afr_rename.specs.Under.{IsUnder, next_under}
 use Rattle.afr_rename.specs.declared.paths.Paths.{Paths}
 use Rattle.afr_rename.specs.declared.stage.RenameStage.{RenameStage}
 use Rattle.afr_rename.specs.declared.stage.RenameStage.TheVariants.{Finding, Walking, Making, Removing, Ending}
-use Rattle.afr_rename_telling.specs.RenameTelling.{CanFind, CanHear, CanHearMaking, Makes, OldTells, Removes, TellsIn, old_dir, to_of}
+use Rattle.afr_rename_telling.specs.RenameTelling.{CanFind, CanHear, CanHearMaking, MakesNewName, OldTells, Removes, TellsIn, old_dir, to_of}
 use Rattle.afr_hears.specs.Hears.{IsHeard}
 use Rattle.afr_hears.proofs.Hearing.{step_there}
 use Rattle.afr_hears.proofs.SomeLines.{AreIn, work_in}
@@ -107,17 +107,17 @@ module _ (p : Plan) (log : List Line) (a : ActorId) (b : BrickId) (request : Req
     }
 
   -- ---- under the locks
-  under : Follows p log → (lines : Work) → AreIn log lines → (dir : Entry) (name : NameId) (change : Change) → object_of change ≡ dir.gfid → (t : Progress) (found : Found) → IsUnder change t found → OnChange found p t lines → IsLedTo found p dir lines
+  under : Follows p log → (lines : Work) → AreIn log lines → (dir : Entry) (name : NameId) (change : Change) → object_of change ≡ dir.gfid → (t : TransactionProgress) (found : Found) → IsUnder change t found → OnChange found p t lines → IsLedTo found p dir lines
       → next_under found (length log) (ReadName dir.gfid name) t ≡ next.Ask b request → CanHearUnder found t.stage p dir b.0 request log heard
   under follows lines is dir name change of t (Unread copy) u on led e = unread_hears p log a b request heard took h follows lines is dir name t (ap object_of u.of ∙ of) on.0.tells led.0 led.1 copy u.reads e
   under follows lines is dir name change of t Fits u on led e = fits_hears p log a b request heard took h dir t u.in_turn e
   under follows lines is dir name change of t (Refused why) u on led e = refused_hears p log a b request heard took h dir t why u.in_turn (reply_to why) e
 
   -- a lock of the old name shows nothing
-  can_turn : (x : Paths) (t : Progress) → next_change Locking (length log) (turned x t) ≡ next.Ask b request → CanTell (old_dir x) request (told_by heard)
+  can_turn : (x : Paths) (t : TransactionProgress) → next_change Locking (length log) (turned x t) ≡ next.Ask b request → CanTell (old_dir x) request (told_by heard)
   can_turn x t e = told_without p log a b request heard took h (old_dir x) (subst (λ (r : Request). is_look r ≡ false) (asked_stage Locking (length log) (turned x t) b request e).1 refl)
 
-  making : Follows p log → (x : Paths) (t : Progress) (found : Found) → IsMaking x t found → Makes p x t found (work a.0 log) → next_at (length log) (Making t found) x ≡ next.Ask b request → CanHear (Making t found) p x b.0 request log heard
+  making : Follows p log → (x : Paths) (t : TransactionProgress) (found : Found) → IsMaking x t found → MakesNewName p x t found (work a.0 log) → next_at (length log) (Making t found) x ≡ next.Ask b request → CanHear (Making t found) p x b.0 request log heard
   making follows x t found sound k e = go (is_done t) e
     where
       go : (done : Bool) → (if done then next_change Locking (length log) (turned x t) else next_under found (length log) (reads_new x) t) ≡ next.Ask b request
@@ -127,7 +127,7 @@ module _ (p : Plan) (log : List Line) (a : ActorId) (b : BrickId) (request : Req
           under follows (the_make x.first.path (work a.0 log)) (make_in log x.first.path (work a.0 log) (work_in a.0 log)) x.second.object x.new_name (making_of x x.second.object.gfid) refl t found sound.under k.tells.on
           (led_new found p (command.Create (to_of x)) (Create x.new_name) x.second.object (the_make x.first.path (work a.0 log)) k.tells.name) e
 
-  removing : Follows p log → (x : Paths) (t : Progress) (found : Found) → IsRemoving x t found → Removes p x t found (work a.0 log) → next_at (length log) (Removing t found) x ≡ next.Ask b request → CanHear (Removing t found) p x b.0 request log heard
+  removing : Follows p log → (x : Paths) (t : TransactionProgress) (found : Found) → IsRemoving x t found → Removes p x t found (work a.0 log) → next_at (length log) (Removing t found) x ≡ next.Ask b request → CanHear (Removing t found) p x b.0 request log heard
   removing follows x t found sound k e = go (is_over t.stage t) e
     where
       go : (over : Bool) → (if over then next.End (half_reply (outcome_of t.change t.register)) else next_under found (length log) (reads_old x) t) ≡ next.Ask b request → CanHearUnder found t.stage p (old_dir x) b.0 request log heard

@@ -30,7 +30,7 @@ use Rattle.afr_entry_pace.specs.Entries.{AsksUnder, BeginsUnder}
 use Rattle.afr_transaction.proofs.Kept.{sound_first}
 use Rattle.afr_transaction.specs.Between.{noted_read}
 use Rattle.afr_transaction.specs.Progress as transaction
-use Rattle.afr_transaction.specs.Progress.{Progress, begun, fed, is_beginning, left, request_at, starting}
+use Rattle.afr_transaction.specs.Progress.{TransactionProgress, begun, fed, is_beginning, left, request_at, starting}
 use Rattle.afr_transaction.specs.Sound.{During, IsAsking, Sound}
 use Rattle.afr_transaction.specs.declared.stage.Stage.TheVariants.{Applying, Beginning, Closing, Locking, Looking, Posting, Preparing}
 use Rattle.afr_transaction.specs.declared.stage.Stage.{Stage}
@@ -39,7 +39,7 @@ use Rattle.afr_transaction.specs.declared.stage.Stage.{Stage}
 asked_shape : ShapesKept → (r : Register) (at b : ℕ) (asked : Request) (told : Told) → (noted_ask r at b asked told).shape ≡ r.shape
 asked_shape shapes r at b asked told = shapes r (move.Ask (record { 0 = b }) (record { ref_ptr = (0, 0); now = asked })) told at
 
-module _ (shapes : ShapesKept) (t : Progress) (why : Option Refusal) (asked : Request) (told : Told) (at : ℕ) where
+module _ (shapes : ShapesKept) (t : TransactionProgress) (why : Option Refusal) (asked : Request) (told : Told) (at : ℕ) where
   -- the name is noted, and the change goes on or not
   named_shape : (b : BrickId) → (settled why (noted_read b.0 asked told at t)).register.shape ≡ t.register.shape
   named_shape b = go why
@@ -52,7 +52,7 @@ module _ (shapes : ShapesKept) (t : Progress) (why : Option Refusal) (asked : Re
   answered_shape stage = asked_shape shapes t.register at (lowest (left stage t)) (request_at stage t) told
 
   told_shape : (stage : Stage) → IsAsking stage t → (if is_beginning stage then t else fed stage told at t).register.shape ≡ t.register.shape
-  told_shape stage e = ap (λ (q : Progress). q.register.shape) (told_is told at t stage e) ∙ answered_shape stage
+  told_shape stage e = ap (λ (q : TransactionProgress). q.register.shape) (told_is told at t stage e) ∙ answered_shape stage
 
   -- an answer keeps the bricks
   pub part_shape : (found : Found) → AsksUnder found t.stage t → (progress_after found why asked told at t).register.shape ≡ t.register.shape
@@ -80,7 +80,7 @@ module _ (shapes : ShapesKept) (t : Progress) (why : Option Refusal) (asked : Re
         + (if asks_again stage told then 0 else 1) ≤ left_at stage t + 1
 
     -- the transaction goes on
-    goes : (stage : Stage) → During stage t → IsAsking stage t → pace.Fits stage told → lines_left (transaction.answered stage told at t) + 1 + step_of (asks_again stage told) ≤ left_at stage t + 1
+    goes : (stage : Stage) → During stage t → IsAsking stage t → pace.FitsAnUnlock stage told → lines_left (transaction.answered stage told at t) + 1 + step_of (asks_again stage told) ≤ left_at stage t + 1
     goes stage d e fits = sum (lines_left (transaction.answered stage told at t)) (step_of (asks_again stage told)) (left_at stage t) (by_stage t sound told at stage d e fits)
       where
         sum : (l c m : ℕ) → l + c ≤ m → l + 1 + c ≤ m + 1
@@ -90,7 +90,7 @@ module _ (shapes : ShapesKept) (t : Progress) (why : Option Refusal) (asked : Re
     reads : (b : BrickId) → t.stage ≡ Beginning → UnreadNearer b Beginning
     reads b first = go why
       where
-        u : Progress
+        u : TransactionProgress
         u = noted_read b.0 asked told at t
 
         same : u.register.shape.n ≡ n
@@ -103,7 +103,7 @@ module _ (shapes : ShapesKept) (t : Progress) (why : Option Refusal) (asked : Re
         go None = fitting u.stage first
         go (Some r) = (let k = most u.register.shape.n (left Closing u) in omega (arith, k, same))
 
-    unread : (b : BrickId) (stage : Stage) → t.stage ≡ stage → During stage t → AsksUnder (Unread b) stage t → pace.Fits stage told → UnreadNearer b stage
+    unread : (b : BrickId) (stage : Stage) → t.stage ≡ stage → During stage t → AsksUnder (Unread b) stage t → pace.FitsAnUnlock stage told → UnreadNearer b stage
     unread b Beginning is d e fits = reads b is
     unread b Locking is d e fits = goes Locking d e fits
     unread b Looking is d e fits = goes Looking d e fits
@@ -113,29 +113,29 @@ module _ (shapes : ShapesKept) (t : Progress) (why : Option Refusal) (asked : Re
     unread b Closing is d e fits = goes Closing d e fits
 
     -- the name was read
-    read : IsAsking t.stage t → pace.Fits t.stage told → lines_left (if is_beginning t.stage then t else fed t.stage told at t) + 0 + step_of (asks_again t.stage told) ≤ lines_left t + 0
-    read e fits = subst (λ (q : Progress). lines_left q + 0 + step_of (asks_again t.stage told) ≤ lines_left t + 0) (sym (told_is told at t t.stage e)) (let h = nearer t sound e told at fits in omega (arith, h))
+    read : IsAsking t.stage t → pace.FitsAnUnlock t.stage told → lines_left (if is_beginning t.stage then t else fed t.stage told at t) + 0 + step_of (asks_again t.stage told) ≤ lines_left t + 0
+    read e fits = subst (λ (q : TransactionProgress). lines_left q + 0 + step_of (asks_again t.stage told) ≤ lines_left t + 0) (sym (told_is told at t t.stage e)) (let h = nearer t sound e told at fits in omega (arith, h))
 
-    pub part_nearer : (found : Found) → AsksUnder found t.stage t → pace.Fits t.stage told
+    pub part_nearer : (found : Found) → AsksUnder found t.stage t → pace.FitsAnUnlock t.stage told
         → lines_left (progress_after found why asked told at t) + for_read (found_after chosen found why t.stage) + step_of (asks_again t.stage told) ≤ lines_left t + for_read found
     part_nearer (Unread b) e fits = unread b t.stage refl sound.during e fits
     part_nearer Fits e fits = read e fits
     part_nearer (Refused r) e fits = read e fits
 
 -- ---- a Begin line
-pub begins_there : (found : Found) (t : Progress) → BeginsUnder found t.stage → t.stage ≡ Beginning
+pub begins_there : (found : Found) (t : TransactionProgress) → BeginsUnder found t.stage → t.stage ≡ Beginning
 begins_there (Unread b) t is = absurd is
 begins_there Fits t is = is
 begins_there (Refused why) t is = is
 
-pub begun_is : (found : Found) (t : Progress) (at : ℕ) → BeginsUnder found t.stage → progress_begun found at t ≡ begun at t
+pub begun_is : (found : Found) (t : TransactionProgress) (at : ℕ) → BeginsUnder found t.stage → progress_begun found at t ≡ begun at t
 begun_is (Unread b) t at is = absurd is
 begun_is Fits t at is = subst (λ (s : Stage). (if is_beginning s then begun at t else t) ≡ begun at t) (sym is) refl
 begun_is (Refused why) t at is = subst (λ (s : Stage). (if is_beginning s then begun at t else t) ≡ begun at t) (sym is) refl
 
 -- ---- the turn
 -- the second transaction's first lock: before it the first one had its end left, and the second one was counted whole
-pub turn_nearer : (x : Paths) (t : Progress) (found : Found) → IsMaking x t found → is_done t ≡ true → (told : Told) (at : ℕ) → pace.Fits Locking told
+pub turn_nearer : (x : Paths) (t : TransactionProgress) (found : Found) → IsMaking x t found → is_done t ≡ true → (told : Told) (at : ℕ) → pace.FitsAnUnlock Locking told
     → lines_left (fed Locking told at (turned x t)) + 1 + step_of (asks_again Locking told) ≤ lines_left t + for_read found + whole_part t.register.shape.n
 turn_nearer x t found k done told at fits =
     let d = done_is t k.under.sound done in

@@ -26,7 +26,7 @@ use Rattle.afr_rename.specs.declared.stage.RenameStage.TheVariants.{Ending, Find
 use Rattle.afr_rename.specs.declared.stage.RenameStage.{RenameStage}
 use Rattle.afr_rename_pace.proofs.Parts.{begins_there, begun_is, part_nearer, part_shape, turn_nearer}
 use Rattle.afr_rename_pace.specs.Renames.{AsksMaking, AsksRename, BeginsRename, FitsRename, RenameBeginsNearer, RenameComesNearer, RenameKeepsEnd, RenameStartsWithin, for_read, rename_again, rename_left, rename_left_at, whole_part}
-use Rattle.afr_transaction.specs.Progress.{Progress, begun, starting}
+use Rattle.afr_transaction.specs.Progress.{TransactionProgress, begun, starting}
 use Rattle.afr_transaction.specs.declared.stage.Stage.TheVariants.{Locking}
 use Rattle.afr_walk.proofs.FreeLemmas.{shape_is}
 use Rattle.afr_walk.specs.Choosing.{IsAmong}
@@ -149,19 +149,19 @@ module _ (x : Paths) (p : IsPaths x) (chosen : BrickId) (a : Answer) (at : ℕ) 
       sum l r k n o h e f = omega (arith, h, e, f)
 
 -- ---- the transactions
-module _ (shapes : ShapesKept) (x : Paths) (chosen : BrickId) (a : Answer) (at : ℕ) (t : Progress) (found : Found) where
+module _ (shapes : ShapesKept) (x : Paths) (chosen : BrickId) (a : Answer) (at : ℕ) (t : TransactionProgress) (found : Found) where
   -- the first transaction after an answer, before it is done
-  abbrev after : Progress
+  abbrev after : TransactionProgress
   after = progress_after found (against_new a) (reads_new x) (told_by a) at t
 
-  by_making : IsMaking x t found → AsksMaking (is_done t) found t → pace.Fits (if is_done t then Locking else t.stage) (told_by a)
+  by_making : IsMaking x t found → AsksMaking (is_done t) found t → pace.FitsAnUnlock (if is_done t then Locking else t.stage) (told_by a)
       → rename_left_at (if is_done t then second_begun (told_by a) at x t else making_after chosen found a at x t) x + step_of (asks_again (if is_done t then Locking else t.stage) (told_by a)) ≤ rename_left_at (Making t found) x
   by_making k asks fits = go (is_done t) refl asks fits
     where
       sum : (l r s e f n o : ℕ) → l + r + s ≤ e + f → n ≡ o → l + r + (6 * n + 2) + s ≤ e + f + (6 * o + 2)
       sum l r s e f n o h same = omega (arith, h, same)
 
-      go : (d : Bool) → is_done t ≡ d → AsksMaking d found t → pace.Fits (if d then Locking else t.stage) (told_by a)
+      go : (d : Bool) → is_done t ≡ d → AsksMaking d found t → pace.FitsAnUnlock (if d then Locking else t.stage) (told_by a)
           → rename_left_at (if d then second_begun (told_by a) at x t else making_after chosen found a at x t) x + step_of (asks_again (if d then Locking else t.stage) (told_by a)) ≤ lines_left t + for_read found + whole_part t.register.shape.n
       go true done asks fits = turn_nearer x t found k done (told_by a) at fits
       go false done asks fits =
@@ -193,10 +193,10 @@ rename_begins m first chosen at = go m.stage first
     go Finding is = absurd is
     go Walking is = absurd is
     go (Making t found) is =
-        subst (λ (q : Progress). lines_left q + for_read found + whole_part q.register.shape.n + 1 ≤ lines_left t + for_read found + whole_part t.register.shape.n) (sym (begun_is found t at is))
+        subst (λ (q : TransactionProgress). lines_left q + for_read found + whole_part q.register.shape.n + 1 ≤ lines_left t + for_read found + whole_part t.register.shape.n) (sym (begun_is found t at is))
         (sum (lines_left (begun at t)) (lines_left t) (for_read found) (whole_part t.register.shape.n) (begins t (begins_there found t is) at))
     go (Removing t found) is =
-        subst (λ (q : Progress). lines_left q + for_read found + 1 ≤ lines_left t + for_read found) (sym (begun_is found t at is))
+        subst (λ (q : TransactionProgress). lines_left q + for_read found + 1 ≤ lines_left t + for_read found) (sym (begun_is found t at is))
         (sum_last (lines_left (begun at t)) (lines_left t) (for_read found) (begins t (begins_there found t is) at))
     go (Ending said) is = absurd is
 

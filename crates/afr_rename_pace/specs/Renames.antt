@@ -8,7 +8,7 @@ use Rattle.afr_lines.specs.Told.{told_by}
 use Rattle.afr_lines.specs.declared.answer.Answer.{Answer}
 use Rattle.afr_lines.specs.declared.answer.Told.{Told}
 use Rattle.afr_lines.specs.declared.line.Heard.TheVariants as heard
-use Rattle.afr_pace.specs.Left.{Fits, asks_again, lines_left}
+use Rattle.afr_pace.specs.Left.{FitsAnUnlock, asks_again, lines_left}
 use Rattle.afr_pace.specs.Walks.{walk_left}
 use Rattle.afr_rename.specs.Rename.{IsRename, Renaming, choices_heard, heard_by, is_done, rename_from}
 use Rattle.afr_rename.specs.declared.paths.Paths.{Paths}
@@ -16,7 +16,7 @@ use Rattle.afr_entry.specs.declared.stage.Found.TheVariants.{Unread}
 use Rattle.afr_entry.specs.declared.stage.Found.{Found}
 use Rattle.afr_rename.specs.declared.stage.RenameStage.TheVariants.{Ending, Finding, Making, Removing, Walking}
 use Rattle.afr_rename.specs.declared.stage.RenameStage.{RenameStage}
-use Rattle.afr_transaction.specs.Progress.{Progress}
+use Rattle.afr_transaction.specs.Progress.{TransactionProgress}
 use Rattle.afr_transaction.specs.declared.stage.Stage.TheVariants.{Locking}
 use Rattle.afr_transaction.specs.declared.stage.Stage.{Stage}
 use Rattle.afr_walk.specs.Choosing.{IsAmong}
@@ -43,7 +43,7 @@ abbrev pub rename_left : Renaming → ℕ
 rename_left m = rename_left_at m.stage m.paths
 
 -- where the first transaction is done, the second one's first lock
-abbrev pub AsksMaking : Bool → Found → Progress → Type 0
+abbrev pub AsksMaking : Bool → Found → TransactionProgress → Type 0
 AsksMaking false found t = AsksUnder found t.stage t
 AsksMaking done found t = Unit {0}
 
@@ -55,13 +55,13 @@ AsksRename (Ending said) = ⊥
 AsksRename stage = Unit {0}
 
 -- where a making stands for its next request: the second transaction's first lock, once it is done
-abbrev pub making_stage : Progress → Stage
+abbrev pub making_stage : TransactionProgress → Stage
 making_stage t = if is_done t then Locking else t.stage
 
 -- and this is an answer that it may get
 abbrev pub FitsRename : RenameStage → Told → Type 0
-FitsRename (Making t found) told = Fits (making_stage t) told
-FitsRename (Removing t found) told = Fits t.stage told
+FitsRename (Making t found) told = FitsAnUnlock (making_stage t) told
+FitsRename (Removing t found) told = FitsAnUnlock t.stage told
 FitsRename stage told = Unit {0}
 
 -- it is asked again

@@ -21,7 +21,7 @@ use Rattle.afr_model.specs.Renamed.{IsRenamed}
 use Rattle.afr_model.specs.Replied.{IsOf}
 use Rattle.afr_model.specs.Showing.{begins_attempt, has, locks}
 use Rattle.afr_transaction.specs.Outcome.{outcome_of}
-use Rattle.afr_transaction.specs.Progress.{Progress, is_over, next_at as next_change, numbered}
+use Rattle.afr_transaction.specs.Progress.{TransactionProgress, is_over, next_at as next_change, numbered}
 use Rattle.afr_transaction.specs.declared.stage.Stage.TheVariants.{Locking}
 use Rattle.afr_transaction_tells.specs.About.{BlamesNext}
 use Rattle.afr_transaction_tells.specs.Laws.{IsNextLine}
@@ -37,7 +37,7 @@ use Rattle.afr_rename.specs.declared.paths.Paths.{Paths}
 use Rattle.afr_rename.specs.declared.stage.RenameStage.{RenameStage}
 use Rattle.afr_rename.specs.declared.stage.RenameStage.TheVariants.{Finding, Walking, Making, Removing, Ending}
 use Rattle.afr_rename_telling.specs.RenameLaws.{RenameAbout, RenameBegun, RenameBlames, RenameEnds, RenameKeepsName, RenameTellsMore}
-use Rattle.afr_rename_telling.specs.RenameTelling.{CanHear, CanHearMaking, Makes, RenameTells, TellsIn, command_of, to_of}
+use Rattle.afr_rename_telling.specs.RenameTelling.{CanHear, CanHearMaking, MakesNewName, RenameTells, TellsIn, command_of, to_of}
 use Rattle.afr_rename_telling.proofs.Begins.{about_walks, blames_walks, ends_walks, more_walks}
 use Rattle.afr_rename_telling.proofs.EndsMaking.{making_ends}
 use Rattle.afr_rename_telling.proofs.EndsRemoving.{removing_ends}
@@ -53,14 +53,14 @@ use Rattle.afr_rename_telling.proofs.RemovingWhole.{begun_is, removing_blames, r
 
 -- ---- the second transaction's next line
 -- while it isn't over it is that under its locks
-goes_asks : (found : Found) (at : ℕ) (x : Paths) (t : Progress) (b : BrickId) (request : Request) → removing_next found at x t ≡ next.Ask b request → next_under found at (reads_old x) t ≡ next.Ask b request
+goes_asks : (found : Found) (at : ℕ) (x : Paths) (t : TransactionProgress) (b : BrickId) (request : Request) → removing_next found at x t ≡ next.Ask b request → next_under found at (reads_old x) t ≡ next.Ask b request
 goes_asks found at x t b request e = go (is_over t.stage t) e
   where
     go : (o : Bool) → (if o then next.End (half_reply (outcome_of t.change t.register)) else next_under found at (reads_old x) t) ≡ next.Ask b request → next_under found at (reads_old x) t ≡ next.Ask b request
     go true f = absurd (cc f)
     go false f = f
 
-goes_begins : (found : Found) (at : ℕ) (x : Paths) (t : Progress) (change : Change) → removing_next found at x t ≡ next.Begin change → next_under found at (reads_old x) t ≡ next.Begin change
+goes_begins : (found : Found) (at : ℕ) (x : Paths) (t : TransactionProgress) (change : Change) → removing_next found at x t ≡ next.Begin change → next_under found at (reads_old x) t ≡ next.Begin change
 goes_begins found at x t change e = go (is_over t.stage t) e
   where
     go : (o : Bool) → (if o then next.End (half_reply (outcome_of t.change t.register)) else next_under found at (reads_old x) t) ≡ next.Begin change → next_under found at (reads_old x) t ≡ next.Begin change
@@ -68,13 +68,13 @@ goes_begins found at x t change e = go (is_over t.stage t) e
     go false f = f
 
 -- the register is of the plan's bricks
-shape_of : (found : Found) (p : Plan) (t : Progress) (w : Work) → OnChange found p t w → t.register.shape ≡ p.shape
+shape_of : (found : Found) (p : Plan) (t : TransactionProgress) (w : Work) → OnChange found p t w → t.register.shape ≡ p.shape
 shape_of (Unread copy) p t w k = k.0.tells.shape_is
 shape_of Fits p t w k = k.tells.shape_is
 shape_of (Refused why) p t w k = k.before.shape_is
 
 -- ---- the making
-module _ (p : Plan) (x : Paths) (t : Progress) (found : Found) (lines : Work) (k : Makes p x t found lines) (sound : IsMaking x t found) where
+module _ (p : Plan) (x : Paths) (t : TransactionProgress) (found : Found) (lines : Work) (k : MakesNewName p x t found lines) (sound : IsMaking x t found) where
   making_over : (attempt : ℕ) (kind : Kind) (missed : List ℕ) (b : ℕ) → has begins_attempt (the_make x.first.path lines) ≡ true → has (locks (object_of t.change)) (the_make x.first.path lines) ≡ true
       → IsBlaming p attempt (object_of t.change) kind missed b (the_make x.first.path lines) → IsBlaming p attempt (object_of t.change) kind missed b lines
   making_over attempt kind missed b begins locked blamed =
@@ -88,7 +88,7 @@ module _ (p : Plan) (x : Paths) (t : Progress) (found : Found) (lines : Work) (k
       go true = tt
       go false = under_blames p (the_make x.first.path lines) lines t at (reads_new x) found making_over sound.under.sound (λ b. tt) k.tells.on
 
-making_keeps : (p : Plan) (x : Paths) (t : Progress) (found : Found) (log : List Line) (a : ActorId) (change : Change) → Makes p x t found (work a.0 log) → IsMaking x t found → next_at (length log) (Making t found) x ≡ next.Begin change → IsKept p (Begin a change) log
+making_keeps : (p : Plan) (x : Paths) (t : TransactionProgress) (found : Found) (log : List Line) (a : ActorId) (change : Change) → MakesNewName p x t found (work a.0 log) → IsMaking x t found → next_at (length log) (Making t found) x ≡ next.Begin change → IsKept p (Begin a change) log
 making_keeps p x t found log a change k sound e = go (is_done t) e
   where
     go : (d : Bool) → (if d then next_change Locking (length log) (turned x t) else next_under found (length log) (reads_new x) t) ≡ next.Begin change → IsKept p (Begin a change) log

@@ -28,9 +28,9 @@ use Rattle.afr_model.specs.Skipped.{AsksAll}
 use Rattle.afr_model.specs.Standing.{asking, looks_here, place_by}
 use Rattle.afr_cut.proofs.Cut.{first_all}
 use Rattle.afr_transaction.specs.Outcome.{outcome_of, reply_for, reply_of}
-use Rattle.afr_transaction.specs.Progress.{Progress, asks, is_beginning, is_over, next_at as next_change}
-use Rattle.afr_transaction.specs.declared.reply.Outcome.{Outcome}
-use Rattle.afr_transaction.specs.declared.reply.Outcome.TheVariants as outcome
+use Rattle.afr_transaction.specs.Progress.{TransactionProgress, asks, is_beginning, is_over, next_at as next_change}
+use Rattle.afr_transaction.specs.declared.reply.TransactionOutcome.{TransactionOutcome}
+use Rattle.afr_transaction.specs.declared.reply.TransactionOutcome.TheVariants as outcome
 use Rattle.afr_transaction.specs.declared.stage.Stage.{Stage}
 use Rattle.afr_transaction.specs.declared.stage.Stage.TheVariants.{Locking, Looking, Beginning, Preparing, Applying, Posting, Closing}
 use Rattle.afr_transaction.proofs.Acknowledged.{acknowledged_exactly}
@@ -47,7 +47,7 @@ use Rattle.afr_entry.specs.declared.refusal.Refusal.TheVariants as refusal_of
 use Rattle.afr_entry.specs.declared.stage.Found.{Found}
 use Rattle.afr_entry.specs.declared.stage.Found.TheVariants.{Unread, Fits, Refused}
 use Rattle.afr_write_telling.proofs.Goes.{ended_stage}
-use Rattle.afr_entry_telling.specs.EntryTelling.{Goes, RulesOut}
+use Rattle.afr_entry_telling.specs.EntryTelling.{RulesOut, TransactionGoes}
 use Rattle.afr_entry_telling.proofs.Changing.{passed_like, unrefused_fits, unrefused_unread}
 use Rattle.afr_entry_telling.proofs.Ended.{by_read, no_views, refused, was_locked}
 use Rattle.afr_entry_telling.proofs.Under.{area_there, refused_by_locks}
@@ -56,7 +56,7 @@ use Rattle.afr_rename.specs.Paths.{reads_new}
 use Rattle.afr_rename.specs.Rename.{IsMaking, is_done}
 use Rattle.afr_rename.specs.Under.{next_under}
 use Rattle.afr_rename.specs.declared.paths.Paths.{Paths}
-use Rattle.afr_rename_telling.specs.RenameTelling.{HasWalked, Makes, to_of}
+use Rattle.afr_rename_telling.specs.RenameTelling.{HasWalked, MakesNewName, to_of}
 use Rattle.afr_rename_telling.proofs.MakingMore.{making_like}
 use Rattle.afr_rename_telling.proofs.MakingParts.{fault_more, has_append, or_left}
 use Rattle.afr_rename_telling.proofs.MakingWalked.{begun_only, whole}
@@ -64,7 +64,7 @@ use Rattle.afr_rename_telling.proofs.WalkEnds.{file_asks, file_lines, file_refus
 
 -- ---- replies
 -- a transaction's own reply is never that a rename stays half
-not_half : (o : Outcome) → reply_for o ≡ reply.Half → ⊥
+not_half : (o : TransactionOutcome) → reply_for o ≡ reply.Half → ⊥
 not_half outcome.Acknowledged e = cc e
 not_half outcome.NoQuorum e = cc e
 not_half outcome.FewCopies e = cc e
@@ -80,7 +80,7 @@ refusal_whole refusal_of.IsDir e = cc e
 refusal_whole refusal_of.NotDir e = cc e
 
 -- ---- the end of a transaction
-pub ends_over : (stage : Stage) (at : ℕ) (t : Progress) (said : Reply) → next_change stage at t ≡ next.End said → is_over stage t ≡ true
+pub ends_over : (stage : Stage) (at : ℕ) (t : TransactionProgress) (said : Reply) → next_change stage at t ≡ next.End said → is_over stage t ≡ true
 ends_over Locking at t said e = absurd (cc e)
 ends_over Looking at t said e = absurd (cc e)
 ends_over Beginning at t said e = absurd (cc e)
@@ -119,7 +119,7 @@ halves_failed p from lines none = rw none (go (has begins_attempt (the_make from
     go true = refl
     go false = refl
 
-module _ (p : Plan) (x : Paths) (t : Progress) (found : Found) (lines : Work) (k : Makes p x t found lines) (sound : IsMaking x t found) where
+module _ (p : Plan) (x : Paths) (t : TransactionProgress) (found : Found) (lines : Work) (k : MakesNewName p x t found lines) (sound : IsMaking x t found) where
   abbrev from : List NameId
   from = x.first.path
 
@@ -161,7 +161,7 @@ module _ (p : Plan) (x : Paths) (t : Progress) (found : Found) (lines : Work) (k
       go false e = refl
 
   -- ---- its transaction has gone as far as it could
-  module _ (goes : Goes p t make) (closing : t.stage ≡ Closing) (refuses : refusal p c make ≡ by_locks p.shape (kind_for change) (area_for change) make) (unmade : is_acknowledged (outcome_of t.change t.register) ≡ false) where
+  module _ (goes : TransactionGoes p t make) (closing : t.stage ≡ Closing) (refuses : refusal p c make ≡ by_locks p.shape (kind_for change) (area_for change) make) (unmade : is_acknowledged (outcome_of t.change t.register) ≡ false) where
     fitting : IsFitting p.shape.n t.change (looked_by (object_of t.change) make)
     fitting = record {
       low = subst (λ (y : Change). ends_low y ≡ true) (sym sound.under.of) refl;
@@ -234,7 +234,7 @@ not_both : (o a : Bool) → o ≡ true → (o && a) ≡ false → a ≡ false
 not_both true a e f = f
 not_both false a e f = absurd (cc e)
 
-own_end : (p : Plan) (x : Paths) (t : Progress) (found : Found) (lines : Work) (at : ℕ) (said : Reply) → (k : Makes p x t found lines) → IsMaking x t found → is_done t ≡ false → Goes p t (the_make x.first.path lines)
+own_end : (p : Plan) (x : Paths) (t : TransactionProgress) (found : Found) (lines : Work) (at : ℕ) (said : Reply) → (k : MakesNewName p x t found lines) → IsMaking x t found → is_done t ≡ false → TransactionGoes p t (the_make x.first.path lines)
     → refusal p (command.Create (to_of x)) (the_make x.first.path lines) ≡ by_locks p.shape (kind_for (change_of x.second.object.gfid (Create x.new_name))) (area_for (change_of x.second.object.gfid (Create x.new_name))) (the_make x.first.path lines)
     → next_change t.stage at t ≡ next.End said → IsRenamed p x.first.path (to_of x) lines said
 own_end p x t found lines at said k sound undone goes refuses e =
@@ -242,7 +242,7 @@ own_end p x t found lines at said k sound undone goes refuses e =
     subst (λ (y : Reply). IsRenamed p x.first.path (to_of x) lines y) over.1
     (tried_end p x t found lines k sound goes over.0 refuses (not_both (is_over t.stage t) (is_acknowledged (outcome_of t.change t.register)) (ends_over t.stage at t said e) undone))
 
-pub making_ends : (p : Plan) (x : Paths) (t : Progress) (found : Found) (lines : Work) (at : ℕ) (said : Reply) → Makes p x t found lines → IsMaking x t found → is_done t ≡ false → next_under found at (reads_new x) t ≡ next.End said → IsRenamed p x.first.path (to_of x) lines said
+pub making_ends : (p : Plan) (x : Paths) (t : TransactionProgress) (found : Found) (lines : Work) (at : ℕ) (said : Reply) → MakesNewName p x t found lines → IsMaking x t found → is_done t ≡ false → next_under found at (reads_new x) t ≡ next.End said → IsRenamed p x.first.path (to_of x) lines said
 making_ends p x t (Unread copy) lines at said k sound undone e = go (is_beginning t.stage) e
   where
     free : refusal p (command.Create (to_of x)) (the_make x.first.path lines) ≡ by_locks p.shape (kind_for (change_of x.second.object.gfid (Create x.new_name))) (area_for (change_of x.second.object.gfid (Create x.new_name))) (the_make x.first.path lines)

@@ -32,9 +32,9 @@ use Rattle.afr_model.specs.Showing.{Path, At, among, begins_attempt, has, is_fau
 use Rattle.afr_model.specs.Skipped.{SkipsNothing}
 use Rattle.afr_model.specs.Standing.{area_here, asking, change_by}
 use Rattle.afr_transaction.specs.Outcome.{outcome_of, reply_for, reply_of}
-use Rattle.afr_transaction.specs.Progress.{Progress, is_beginning, is_over, next_at as next_change}
-use Rattle.afr_transaction.specs.declared.reply.Outcome.{Outcome}
-use Rattle.afr_transaction.specs.declared.reply.Outcome.TheVariants as outcome
+use Rattle.afr_transaction.specs.Progress.{TransactionProgress, is_beginning, is_over, next_at as next_change}
+use Rattle.afr_transaction.specs.declared.reply.TransactionOutcome.{TransactionOutcome}
+use Rattle.afr_transaction.specs.declared.reply.TransactionOutcome.TheVariants as outcome
 use Rattle.afr_transaction.specs.declared.stage.Stage.{Stage}
 use Rattle.afr_transaction.specs.declared.stage.Stage.TheVariants.{Closing}
 use Rattle.afr_transaction.proofs.Acknowledged.{acknowledged_exactly}
@@ -46,7 +46,7 @@ use Rattle.afr_transaction_tells.proofs.Small.{no_change, self}
 use Rattle.afr_entry.specs.Job.{reply_to}
 use Rattle.afr_entry.specs.declared.stage.Found.{Found}
 use Rattle.afr_entry.specs.declared.stage.Found.TheVariants.{Unread, Fits, Refused}
-use Rattle.afr_entry_telling.specs.EntryTelling.{Goes, OnChange}
+use Rattle.afr_entry_telling.specs.EntryTelling.{OnChange, TransactionGoes}
 use Rattle.afr_entry_telling.proofs.Ended.{was_locked}
 use Rattle.afr_rename.specs.Against.{half_reply, is_acknowledged, is_same}
 use Rattle.afr_rename.specs.Paths.{IsPaths, making_of, reads_old, removal_of}
@@ -63,21 +63,21 @@ use Rattle.afr_rename_telling.proofs.RemovingTurn.{over_closing}
 use Rattle.afr_rename_telling.proofs.RemovingWhole.{second_begins}
 
 -- ---- replies
-half_not_failed : (o : Outcome) → half_reply o ≡ reply.Failed → ⊥
+half_not_failed : (o : TransactionOutcome) → half_reply o ≡ reply.Failed → ⊥
 half_not_failed o e = go (is_acknowledged o) e
   where
     go : (b : Bool) → (if b then reply.Ok good.Done else reply.Half) ≡ reply.Failed → ⊥
     go true f = cc f
     go false f = cc f
 
-half_unacknowledged : (o : Outcome) → half_reply o ≡ reply.Half → is_acknowledged o ≡ false
+half_unacknowledged : (o : TransactionOutcome) → half_reply o ≡ reply.Half → is_acknowledged o ≡ false
 half_unacknowledged o e = go (is_acknowledged o) refl e
   where
     go : (b : Bool) → is_acknowledged o ≡ b → (if b then reply.Ok good.Done else reply.Half) ≡ reply.Half → b ≡ false
     go true f h = absurd (cc h)
     go false f h = refl
 
-done_acknowledged : (o : Outcome) → reply_for o ≡ reply.Ok good.Done → is_acknowledged o ≡ true
+done_acknowledged : (o : TransactionOutcome) → reply_for o ≡ reply.Ok good.Done → is_acknowledged o ≡ true
 done_acknowledged outcome.Acknowledged e = refl
 done_acknowledged outcome.NoQuorum e = absurd (cc e)
 done_acknowledged outcome.FewCopies e = absurd (cc e)
@@ -114,7 +114,7 @@ abbrev object_in : Path → Entry
 object_in (At read object) = object
 object_in other = root_entry
 
-module _ (p : Plan) (x : Paths) (paths : IsPaths x) (t : Progress) (found : Found) (lines : Work) (k : Removes p x t found lines) (sound : IsRemoving x t found) (over : is_over t.stage t ≡ true) where
+module _ (p : Plan) (x : Paths) (paths : IsPaths x) (t : TransactionProgress) (found : Found) (lines : Work) (k : Removes p x t found lines) (sound : IsRemoving x t found) (over : is_over t.stage t ≡ true) where
   abbrev from : List NameId
   from = x.first.path
 
@@ -130,7 +130,7 @@ module _ (p : Plan) (x : Paths) (paths : IsPaths x) (t : Progress) (found : Foun
   abbrev before : Work
   before = upto_names (length from - 1) lines
 
-  abbrev ended : Outcome
+  abbrev ended : TransactionOutcome
   ended = outcome_of t.change t.register
 
   closing : t.stage ≡ Closing
@@ -196,7 +196,7 @@ module _ (p : Plan) (x : Paths) (paths : IsPaths x) (t : Progress) (found : Foun
       (subst (λ (o : Option Area). is_some_reply (by_area p.shape Names o removal) ≡ true) (sym area)
       (subst (λ (c : Change). is_some_reply (by_locks p.shape (kind_for c) (area_for c) removal) ≡ true) sound.under.of e))
 
-  tried_half : Goes p t removal → is_acknowledged ended ≡ false → IsHalved p from lines
+  tried_half : TransactionGoes p t removal → is_acknowledged ended ≡ false → IsHalved p from lines
   tried_half goes none = go (by_locks p.shape (kind_for t.change) (area_for t.change) removal) refl (replies_exactly p removal t sound.under.sound goes.tells closing fitting)
     where
       fitting : IsFitting p.shape.n t.change (looked_by (object_of t.change) removal)
@@ -281,7 +281,7 @@ module _ (p : Plan) (x : Paths) (paths : IsPaths x) (t : Progress) (found : Foun
 
 -- ---- the end
 -- where it isn't over its next line is no end
-not_over : (p : Plan) (t : Progress) (found : Found) (at : ℕ) (asked : Request) (said : Reply) → is_over t.stage t ≡ false → next_under found at asked t ≡ next.End said → ⊥
+not_over : (p : Plan) (t : TransactionProgress) (found : Found) (at : ℕ) (asked : Request) (said : Reply) → is_over t.stage t ≡ false → next_under found at asked t ≡ next.End said → ⊥
 not_over p t (Unread copy) at asked said f e = go (is_beginning t.stage) e
   where
     go : (b : Bool) → (if b then next.Ask copy asked else next_change t.stage at t) ≡ next.End said → ⊥
@@ -294,7 +294,7 @@ not_over p t (Refused why) at asked said f e = go (is_over t.stage t) f e
     go true f e = cc f
     go false g e = let h = ends_over t.stage at t said e in cc (f, h)
 
-pub removing_ends : (p : Plan) (x : Paths) (t : Progress) (found : Found) (lines : Work) (at : ℕ) (said : Reply) → IsPaths x → Removes p x t found lines → IsRemoving x t found → removing_next found at x t ≡ next.End said → IsRenamed p x.first.path (to_of x) lines said
+pub removing_ends : (p : Plan) (x : Paths) (t : TransactionProgress) (found : Found) (lines : Work) (at : ℕ) (said : Reply) → IsPaths x → Removes p x t found lines → IsRemoving x t found → removing_next found at x t ≡ next.End said → IsRenamed p x.first.path (to_of x) lines said
 removing_ends p x t found lines at said paths k sound e = go (is_over t.stage t) refl e
   where
     go : (b : Bool) → is_over t.stage t ≡ b → (if b then next.End (half_reply (outcome_of t.change t.register)) else next_under found at (reads_old x) t) ≡ next.End said → IsRenamed p x.first.path (to_of x) lines said

@@ -24,7 +24,7 @@ use Rattle.afr_model.specs.Keeping.{KeepsTo}
 use Rattle.afr_model.specs.Parts.{Part, is_again, the_make}
 use Rattle.afr_model.specs.Renamed.{IsOfPart, IsOfRename, KeepsToPart, KeepsToRename, MakesLink}
 use Rattle.afr_model.specs.Showing.{begins_attempt, has}
-use Rattle.afr_transaction.specs.Progress.{Progress, gfid_at, is_beginning, is_over, next_at as next_change, numbered, request_at}
+use Rattle.afr_transaction.specs.Progress.{TransactionProgress, gfid_at, is_beginning, is_over, next_at as next_change, numbered, request_at}
 use Rattle.afr_transaction.specs.declared.stage.Stage.{Stage}
 use Rattle.afr_transaction.specs.declared.stage.Stage.TheVariants.{Beginning}
 use Rattle.afr_transaction_tells.specs.About.{Led}
@@ -36,14 +36,14 @@ use Rattle.afr_entry.specs.declared.job.EntryJob.{EntryJob}
 use Rattle.afr_entry.specs.declared.job.EntryJob.TheVariants.{Create}
 use Rattle.afr_entry.specs.declared.stage.Found.{Found}
 use Rattle.afr_entry.specs.declared.stage.Found.TheVariants.{Unread, Fits, Refused}
-use Rattle.afr_entry_telling.specs.EntryTelling.{Goes}
+use Rattle.afr_entry_telling.specs.EntryTelling.{TransactionGoes}
 use Rattle.afr_entry_telling.proofs.Changing.{each_line, keeps_request, led_fits, led_unread, line_about, name_line}
 use Rattle.afr_entry_telling.proofs.Words.{named_is}
 use Rattle.afr_rename.specs.Paths.{reads_new}
 use Rattle.afr_rename.specs.Rename.{IsMaking}
 use Rattle.afr_rename.specs.Under.{next_under}
 use Rattle.afr_rename.specs.declared.paths.Paths.{Paths}
-use Rattle.afr_rename_telling.specs.RenameTelling.{Makes, to_of}
+use Rattle.afr_rename_telling.specs.RenameTelling.{MakesNewName, to_of}
 use Rattle.afr_rename_telling.proofs.Cut.{line_makes}
 use Rattle.afr_rename_telling.proofs.MakingMore.{like, stage_waits}
 use Rattle.afr_rename_telling.proofs.MakingWalked.{waits_unlocked}
@@ -61,7 +61,7 @@ last_new x = named_alike (record { 0 = 0 }) (record { 0 = 2 }) x.new_name (last_
 pub keeps_number : (at : ℕ) (g : Gfid) → (g.0 == 0) ≡ false → gfid_at at g ≡ g
 keeps_number at g e = rw e refl
 
-module _ (p : Plan) (x : Paths) (t : Progress) (found : Found) (lines : Work) (a : ActorId) (log : List Line) (k : Makes p x t found lines) (sound : IsMaking x t found) where
+module _ (p : Plan) (x : Paths) (t : TransactionProgress) (found : Found) (lines : Work) (a : ActorId) (log : List Line) (k : MakesNewName p x t found lines) (sound : IsMaking x t found) where
   abbrev from : List NameId
   from = x.first.path
 
@@ -112,13 +112,13 @@ module _ (p : Plan) (x : Paths) (t : Progress) (found : Found) (lines : Work) (a
       (λ now about. begin_about about (unbegun now))
       told line is about
 
-  goes_line : Goes p t make → Led t.stage p c (change_for dir.gfid job) make → (told : Told) (line : Line) → IsNextLine a (next_change t.stage (length log) t) told line → About line
+  goes_line : TransactionGoes p t make → Led t.stage p c (change_for dir.gfid job) make → (told : Told) (line : Line) → IsNextLine a (next_change t.stage (length log) t) told line → About line
   goes_line g led told line is =
       own_line told line (λ now. (subst (λ (stage : Stage). During stage p.shape t make) now g.tells.during).idle.unbegun) is
       (line_about p job x.second make t k.tells.place k.tells.directory k.tells.unread a log sound.under.sound g (like p x t found lines a log k sound) told line led is)
 
 -- ---- each line under the locks
-pub making_line : (p : Plan) (x : Paths) (t : Progress) (found : Found) (lines : Work) (a : ActorId) (log : List Line) (told : Told) (line : Line) → Makes p x t found lines → IsMaking x t found → IsNextLine a (next_under found (length log) (reads_new x) t) told line
+pub making_line : (p : Plan) (x : Paths) (t : TransactionProgress) (found : Found) (lines : Work) (a : ActorId) (log : List Line) (told : Told) (line : Line) → MakesNewName p x t found lines → IsMaking x t found → IsNextLine a (next_under found (length log) (reads_new x) t) told line
     → IsOfRename p x.first.path (to_of x) line lines × KeepsToRename p x.first.path (to_of x) line (length log) lines
 making_line p x t (Unread copy) lines a log told line k sound is = go (is_beginning t.stage) refl is
   where

@@ -16,7 +16,7 @@ use Rattle.afr_model.specs.Blamed.{IsBlaming, missing}
 use Rattle.afr_model.specs.Showing.{among, applied_at, begins_attempt, begun_after, begun_by, has, locks, looked_by, posting}
 use Rattle.afr_model.specs.Standing.{locks_any, since, suffices}
 use Rattle.afr_transaction.specs.Outcome.{reply_of}
-use Rattle.afr_transaction.specs.Progress.{Progress, asks, is_beginning, is_over, next_at as next_change}
+use Rattle.afr_transaction.specs.Progress.{TransactionProgress, asks, is_beginning, is_over, next_at as next_change}
 use Rattle.afr_transaction.specs.Sound.{Sound}
 use Rattle.afr_transaction.specs.declared.stage.Stage.{Stage}
 use Rattle.afr_transaction.specs.declared.stage.Stage.TheVariants.{Locking, Looking, Beginning, Preparing, Applying, Posting, Closing}
@@ -67,7 +67,7 @@ blamed_front p attempt g kind missed b s u free locked k =
 
 -- ---- the next line of a transaction
 -- what goes over from a part to the whole at a post-op goes over at each line
-pub blames_over : (p : Plan) (part whole : Work) (t : Progress) (at : ℕ)
+pub blames_over : (p : Plan) (part whole : Work) (t : TransactionProgress) (at : ℕ)
     → ((attempt : ℕ) (kind : Kind) (missed : List ℕ) (b : ℕ) → has begins_attempt part ≡ true → has (locks (object_of t.change)) part ≡ true → IsBlaming p attempt (object_of t.change) kind missed b part → IsBlaming p attempt (object_of t.change) kind missed b whole)
     → Tells p part t → BlamesNext p part (next_change t.stage at t) → BlamesNext p whole (next_change t.stage at t)
 blames_over p part whole t at over tells k = go t.stage tells.during k
@@ -86,7 +86,7 @@ blames_over p part whole t at over tells k = go t.stage tells.during k
     go Closing d k = closing (is_nothing t.register.held)
 
 -- so it is under the locks of a name
-pub under_blames : (p : Plan) (part whole : Work) (t : Progress) (at : ℕ) (asked : Request) (found : Found)
+pub under_blames : (p : Plan) (part whole : Work) (t : TransactionProgress) (at : ℕ) (asked : Request) (found : Found)
     → ((attempt : ℕ) (kind : Kind) (missed : List ℕ) (b : ℕ) → has begins_attempt part ≡ true → has (locks (object_of t.change)) part ≡ true → IsBlaming p attempt (object_of t.change) kind missed b part → IsBlaming p attempt (object_of t.change) kind missed b whole)
     → Sound t → ((b : BrickId) → BlamesNext p whole (next.Ask b asked)) → OnChange found p t part → BlamesNext p whole (next_under found at asked t)
 under_blames p part whole t at asked (Unread copy) over sound read k = go (is_beginning t.stage)

@@ -15,7 +15,7 @@ use Rattle.afr_lines.specs.declared.lock.Domain.TheVariants.{Work as WorkDomain}
 use Rattle.afr_object.specs.Tables.{object_of}
 use Rattle.afr_model.specs.Showing.{among, has, locks, looking, looks_at}
 use Rattle.afr_model.specs.Skipped.{IsLooked}
-use Rattle.afr_transaction.specs.Progress.{Progress, request_at}
+use Rattle.afr_transaction.specs.Progress.{TransactionProgress, request_at}
 use Rattle.afr_transaction.specs.declared.stage.Stage.{Stage}
 use Rattle.afr_transaction.specs.declared.stage.Stage.TheVariants.{Locking, Looking, Beginning, Preparing, Applying, Posting, Closing}
 use Rattle.afr_transaction_tells.proofs.Small.{same_gfid}
@@ -38,7 +38,7 @@ module _ (n : ℕ) (a : ActorId) (b : BrickId) (told : Told) (took : Bool) (log 
       go false e m = k g m unlocked c l
 
 -- a line of a transaction, whose looks are under its locks
-pub leg_more : (n : ℕ) (stage : Stage) (t : Progress) (a : ActorId) (b : BrickId) (told : Told) (took : Bool) (log : List Line) (s : Work) → IsLooked n s → ((stage ≡ Looking) → has (locks (object_of t.change)) s ≡ true) → (stage ≡ Beginning → ⊥)
+pub leg_more : (n : ℕ) (stage : Stage) (t : TransactionProgress) (a : ActorId) (b : BrickId) (told : Told) (took : Bool) (log : List Line) (s : Work) → IsLooked n s → ((stage ≡ Looking) → has (locks (object_of t.change)) s ≡ true) → (stage ≡ Beginning → ⊥)
     → IsLooked n ((Ask a b (request_at stage t) told took, log) ∷ s)
 leg_more n Locking t a b told took log s k under never = leg_lock n a b told took log s k (area_for t.change)
 leg_more n Looking t a b told took log s k under never = leg_look n a b told took log s k (object_of t.change) (under refl)

@@ -10,7 +10,7 @@ use Rattle.afr_lines.specs.Work.{Work}
 use Rattle.afr_lines.specs.declared.answer.Answer.{Answer}
 use Rattle.afr_lines.specs.declared.answer.Answer.TheVariants as answer
 use Rattle.afr_lines.specs.declared.answer.Told.{Told}
-use Rattle.afr_lines.specs.declared.answer.Told.TheVariants as told_of
+use Rattle.afr_lines.specs.declared.answer.Told.TheVariants as as_told
 use Rattle.afr_lines.specs.declared.line.Line.{Line}
 use Rattle.afr_lines.specs.declared.line.Line.TheVariants.{Ask}
 use Rattle.afr_lines.specs.declared.line.Next.TheVariants as next
@@ -28,7 +28,7 @@ use Rattle.afr_model.specs.Showing.{has, locks}
 use Rattle.afr_model.specs.Skipped.{IsLooked}
 use Rattle.afr_model.specs.Standing.{asks_name}
 use Rattle.afr_cut.proofs.Cut.{first_all}
-use Rattle.afr_transaction.specs.Progress.{Progress, is_beginning, next_at as next_change, request_at}
+use Rattle.afr_transaction.specs.Progress.{TransactionProgress, is_beginning, next_at as next_change, request_at}
 use Rattle.afr_transaction.specs.declared.stage.Stage.{Stage}
 use Rattle.afr_transaction.specs.declared.stage.Stage.TheVariants.{Locking, Looking, Beginning, Preparing, Applying, Posting, Closing}
 use Rattle.afr_transaction_tells.specs.Tells.{During, Tells}
@@ -42,7 +42,7 @@ use Rattle.afr_entry.specs.declared.stage.Found.{Found}
 use Rattle.afr_entry.specs.declared.stage.Found.TheVariants.{Unread, Fits, Refused}
 use Rattle.afr_write_telling.specs.WriteTelling.{CanTell}
 use Rattle.afr_write_telling.proofs.Goes.{asked_stage}
-use Rattle.afr_entry_telling.specs.EntryTelling.{Changes, NameTells, OnChange}
+use Rattle.afr_entry_telling.specs.EntryTelling.{ChangesName, NameTells, OnChange}
 use Rattle.afr_entry_telling.proofs.Changing.{IsLike}
 use Rattle.afr_entry_telling.proofs.Names.{Quiet, quiet}
 use Rattle.afr_entry_telling.proofs.Under.{name_more, place_more}
@@ -53,7 +53,7 @@ use Rattle.afr_rename.specs.Rename.{IsMaking}
 use Rattle.afr_rename.specs.Under.{found_after, progress_after}
 use Rattle.afr_rename.specs.declared.paths.Paths.{Paths}
 use Rattle.afr_second.specs.Held.{Holds}
-use Rattle.afr_rename_telling.specs.RenameTelling.{LocksLeg, Makes, to_of}
+use Rattle.afr_rename_telling.specs.RenameTelling.{LocksLeg, MakesNewName, to_of}
 use Rattle.afr_rename_telling.proofs.MakingLegs.{leg_more}
 use Rattle.afr_rename_telling.proofs.MakingLocks.{asked_on, held_on, kept_locking, of_change, unnamed}
 use Rattle.afr_rename_telling.proofs.MakingWalked.{all_first, first_more_on, grows, waits_kept, waits_unlocked}
@@ -81,13 +81,13 @@ ruled_new x answer.NotConnected = refl
 ruled_new x answer.Failed = refl
 
 -- nothing is said against it by a brick that can't be reached
-pub given_new : (heard : Answer) → against_new heard ≡ None → told_by heard ≡ told_of.Given
+pub given_new : (heard : Answer) → against_new heard ≡ None → told_by heard ≡ as_told.Given
 given_new (answer.Entry None) e = refl
 given_new (answer.Entry (Some entry)) e = absurd (cc e)
 given_new heard e = absurd (cc e)
 
 -- what is known of the making, and of one line more
-module _ (p : Plan) (x : Paths) (t : Progress) (found : Found) (lines : Work) (a : ActorId) (log : List Line) (k : Makes p x t found lines) (sound : IsMaking x t found) where
+module _ (p : Plan) (x : Paths) (t : TransactionProgress) (found : Found) (lines : Work) (a : ActorId) (log : List Line) (k : MakesNewName p x t found lines) (sound : IsMaking x t found) where
   abbrev from : List NameId
   from = x.first.path
 
@@ -133,9 +133,9 @@ module _ (p : Plan) (x : Paths) (t : Progress) (found : Found) (lines : Work) (a
   stage_waits Closing b told took f = waits_unlocked p x lines k.on (Ask a b (request_at Closing t) told took) refl
 
   -- ---- a line that goes to the making
-  module _ (line : Line) (waits : is_again line lines ≡ false) (after : Progress) (left : Found) where
-    pub goes_to : AreLegs p.shape.n ((line, log) ∷ lines) → IsLooked p.shape.n (since_name ((line, log) ∷ lines)) → LocksLeg left dir.gfid ((line, log) ∷ make) ((line, log) ∷ lines) → Changes p c job dir after left ((line, log) ∷ make)
-        → Holds after ((line, log) ∷ make) → Makes p x after left ((line, log) ∷ lines)
+  module _ (line : Line) (waits : is_again line lines ≡ false) (after : TransactionProgress) (left : Found) where
+    pub goes_to : AreLegs p.shape.n ((line, log) ∷ lines) → IsLooked p.shape.n (since_name ((line, log) ∷ lines)) → LocksLeg left dir.gfid ((line, log) ∷ make) ((line, log) ∷ lines) → ChangesName p c job dir after left ((line, log) ∷ make)
+        → Holds after ((line, log) ∷ make) → MakesNewName p x after left ((line, log) ∷ lines)
     goes_to legs last leg tells holds =
         let grown = sym (grows p x lines k.on line log waits) in
         let first = sym (all_first p x lines k.on line log waits) in
@@ -143,7 +143,7 @@ module _ (p : Plan) (x : Paths) (t : Progress) (found : Found) (lines : Work) (a
           on = first_more_on p x lines k.on line log waits legs;
           last_leg = subst (λ (w : Work). IsLooked p.shape.n (since_name w)) first last;
           leg = subst (λ (w : Work). LocksLeg left dir.gfid w (first_part ((line, log) ∷ lines))) grown (subst (λ (w : Work). LocksLeg left dir.gfid ((line, log) ∷ make) w) first leg);
-          tells = subst (λ (w : Work). Changes p c job dir after left w) grown tells;
+          tells = subst (λ (w : Work). ChangesName p c job dir after left w) grown tells;
           holds = subst (λ (w : Work). Holds after w) grown holds;
         }
 
@@ -208,7 +208,7 @@ module _ (p : Plan) (x : Paths) (t : Progress) (found : Found) (lines : Work) (a
     asks_leg Fits was = tt
     asks_leg (Refused why) was = tt
 
-    pub asked_makes : (chosen : BrickId) (why : Option Refusal) → CanTell dir request told → Makes p x (progress_after found why (reads_new x) told (length log) t) (found_after chosen found why t.stage) ((asks, log) ∷ lines)
+    pub asked_makes : (chosen : BrickId) (why : Option Refusal) → CanTell dir request told → MakesNewName p x (progress_after found why (reads_new x) told (length log) t) (found_after chosen found why t.stage) ((asks, log) ∷ lines)
     asked_makes chosen why can = goes_to asks asks_waits (progress_after found why (reads_new x) told (length log) t) (found_after chosen found why t.stage) asks_legs asks_last
         (asks_leg (found_after chosen found why t.stage) was)
         (record {

@@ -18,7 +18,7 @@ use Rattle.afr_plan.specs.declared.command.Command.TheVariants as command
 use Rattle.afr_plan.specs.declared.plan.Plan.{Plan}
 use Rattle.afr_model.specs.Parts.{the_make}
 use Rattle.afr_transaction.specs.Between.{noted_read}
-use Rattle.afr_transaction.specs.Progress.{Progress, is_beginning, next_at as next_change}
+use Rattle.afr_transaction.specs.Progress.{TransactionProgress, is_beginning, next_at as next_change}
 use Rattle.afr_entry.specs.Entry.{found_by, progress_begun, settled}
 use Rattle.afr_entry.specs.declared.job.EntryJob.{EntryJob}
 use Rattle.afr_entry.specs.declared.job.EntryJob.TheVariants.{Create}
@@ -26,7 +26,7 @@ use Rattle.afr_entry.specs.declared.refusal.Refusal.{Refusal}
 use Rattle.afr_entry.specs.declared.stage.Found.{Found}
 use Rattle.afr_entry.specs.declared.stage.Found.TheVariants.{Unread, Fits, Refused}
 use Rattle.afr_inode_telling.proofs.ReadsMore.{asks_same}
-use Rattle.afr_entry_telling.specs.EntryTelling.{CanHearUnder, CanName, Changes}
+use Rattle.afr_entry_telling.specs.EntryTelling.{CanHearUnder, CanName, ChangesName}
 use Rattle.afr_entry_telling.proofs.Changing.{begins_at, name_goes, name_read}
 use Rattle.afr_entry_telling.proofs.Heard.{hears_name}
 use Rattle.afr_entry_telling.proofs.Names.{name_told, quiet}
@@ -39,12 +39,12 @@ use Rattle.afr_rename.specs.Under.{found_after, next_under, progress_after}
 use Rattle.afr_rename.specs.declared.paths.Paths.{Paths}
 use Rattle.afr_second.specs.Held.{Holds}
 use Rattle.afr_second.proofs.HeldLemmas.{held_given_up, held_read}
-use Rattle.afr_rename_telling.specs.RenameTelling.{LocksLeg, Makes, to_of}
+use Rattle.afr_rename_telling.specs.RenameTelling.{LocksLeg, MakesNewName, to_of}
 use Rattle.afr_rename_telling.proofs.MakingLocks.{asks_own, begins_own, begun_held, begun_on}
 use Rattle.afr_rename_telling.proofs.MakingMore.{asked_makes, given_new, goes_to, last_now, legs_now, like, ruled_new}
 use Rattle.afr_rename_telling.proofs.MakingWalked.{waits_unlocked}
 
-module _ (p : Plan) (x : Paths) (t : Progress) (lines : Work) (a : ActorId) (log : List Line) where
+module _ (p : Plan) (x : Paths) (t : TransactionProgress) (lines : Work) (a : ActorId) (log : List Line) where
   abbrev from : List NameId
   from = x.first.path
 
@@ -61,15 +61,15 @@ module _ (p : Plan) (x : Paths) (t : Progress) (lines : Work) (a : ActorId) (log
   c = command.Create (to_of x)
 
   -- ---- the read of the name
-  module _ (copy : BrickId) (k : Makes p x t (Unread copy) lines) (sound : IsMaking x t (Unread copy)) (at_begin : is_beginning t.stage ≡ true) (heard : Answer) (took : Bool) where
+  module _ (copy : BrickId) (k : MakesNewName p x t (Unread copy) lines) (sound : IsMaking x t (Unread copy)) (at_begin : is_beginning t.stage ≡ true) (heard : Answer) (took : Bool) where
     abbrev reads : Line
     reads = Ask a copy (reads_new x) (told_by heard) took
 
-    abbrev noted : Progress
+    abbrev noted : TransactionProgress
     noted = noted_read copy.0 (reads_new x) (told_by heard) (length log) t
 
     abbrev Left : Option Refusal → Type 0
-    Left why = Changes p c job dir (settled why noted) (found_by why) ((reads, log) ∷ make)
+    Left why = ChangesName p c job dir (settled why noted) (found_by why) ((reads, log) ∷ make)
 
     told_name : CanName p dir copy.0 (reads_new x) log heard → Left (against_new heard)
     told_name can = subst Left (ruled_new x heard)
@@ -86,7 +86,7 @@ module _ (p : Plan) (x : Paths) (t : Progress) (lines : Work) (a : ActorId) (log
     settled_leg None = tt
     settled_leg (Some why) = tt
 
-    read_makes : CanName p dir copy.0 (reads_new x) log heard → Makes p x (settled (against_new heard) noted) (found_by (against_new heard)) ((reads, log) ∷ lines)
+    read_makes : CanName p dir copy.0 (reads_new x) log heard → MakesNewName p x (settled (against_new heard) noted) (found_by (against_new heard)) ((reads, log) ∷ lines)
     read_makes can =
         goes_to p x t (Unread copy) lines a log k sound reads (waits_unlocked p x lines k.on reads refl) (settled (against_new heard) noted) (found_by (against_new heard))
         (last_now p x t (Unread copy) lines a log k sound, legs_now p x t (Unread copy) lines a log k sound)
@@ -96,16 +96,16 @@ module _ (p : Plan) (x : Paths) (t : Progress) (lines : Work) (a : ActorId) (log
         (held_name (against_new heard) refl)
 
   -- ---- any line that is told
-  pub making_more : (found : Found) → Makes p x t found lines → IsMaking x t found → (b : BrickId) (request : Request) (chosen : BrickId) (heard : Answer) (took : Bool) → next_under found (length log) (reads_new x) t ≡ next.Ask b request
+  pub making_more : (found : Found) → MakesNewName p x t found lines → IsMaking x t found → (b : BrickId) (request : Request) (chosen : BrickId) (heard : Answer) (took : Bool) → next_under found (length log) (reads_new x) t ≡ next.Ask b request
       → CanHearUnder found t.stage p dir b.0 request log heard
-      → Makes p x (progress_after found (against_new heard) (reads_new x) (told_by heard) (length log) t) (found_after chosen found (against_new heard) t.stage) ((Ask a b request (told_by heard) took, log) ∷ lines)
+      → MakesNewName p x (progress_after found (against_new heard) (reads_new x) (told_by heard) (length log) t) (found_after chosen found (against_new heard) t.stage) ((Ask a b request (told_by heard) took, log) ∷ lines)
   making_more (Unread copy) k sound b request chosen heard took e can = go (is_beginning t.stage) refl e
     where
       go : (y : Bool) → is_beginning t.stage ≡ y → (if y then next.Ask copy (reads_new x) else next_change t.stage (length log) t) ≡ next.Ask b request
-          → Makes p x (progress_after (Unread copy) (against_new heard) (reads_new x) (told_by heard) (length log) t) (found_after chosen (Unread copy) (against_new heard) t.stage) ((Ask a b request (told_by heard) took, log) ∷ lines)
+          → MakesNewName p x (progress_after (Unread copy) (against_new heard) (reads_new x) (told_by heard) (length log) t) (found_after chosen (Unread copy) (against_new heard) t.stage) ((Ask a b request (told_by heard) took, log) ∷ lines)
       go true f e =
           asks_same (λ (d : BrickId) (r : Request). CanName p dir d.0 r log heard
-          → Makes p x (progress_after (Unread copy) (against_new heard) (reads_new x) (told_by heard) (length log) t) (found_after chosen (Unread copy) (against_new heard) t.stage) ((Ask a d r (told_by heard) took, log) ∷ lines))
+          → MakesNewName p x (progress_after (Unread copy) (against_new heard) (reads_new x) (told_by heard) (length log) t) (found_after chosen (Unread copy) (against_new heard) t.stage) ((Ask a d r (told_by heard) took, log) ∷ lines))
           copy b (reads_new x) request e (λ can. rw f (read_makes copy k sound f heard took can)) (hears_name copy t.stage p dir b.0 request log heard f can)
       go false f e = asked_makes p x t (Unread copy) lines a log k sound b request (told_by heard) took e chosen (against_new heard) (hears_told copy t.stage p dir b.0 request log heard f can)
   making_more Fits k sound b request chosen heard took e can = asked_makes p x t Fits lines a log k sound b request (told_by heard) took (asks_own Fits (length log) (reads_new x) t b request (λ z is. absurd (cc is)) e) chosen (against_new heard) can
@@ -113,7 +113,7 @@ module _ (p : Plan) (x : Paths) (t : Progress) (lines : Work) (a : ActorId) (log
       asked_makes p x t (Refused why) lines a log k sound b request (told_by heard) took (asks_own (Refused why) (length log) (reads_new x) t b request (λ z is. absurd (cc is)) e) chosen (against_new heard) can
 
   -- ---- the Begin line
-  begun_fits : Makes p x t Fits lines → IsMaking x t Fits → (change : Change) → next_change t.stage (length log) t ≡ next.Begin change → Makes p x (progress_begun Fits (length log) t) Fits ((Begin a change, log) ∷ lines)
+  begun_fits : MakesNewName p x t Fits lines → IsMaking x t Fits → (change : Change) → next_change t.stage (length log) t ≡ next.Begin change → MakesNewName p x (progress_begun Fits (length log) t) Fits ((Begin a change, log) ∷ lines)
   begun_fits k sound change e =
       let q = quiet p (Begin a change) log make refl in
       goes_to p x t Fits lines a log k sound (Begin a change) (waits_unlocked p x lines k.on (Begin a change) refl) (progress_begun Fits (length log) t) Fits
@@ -129,14 +129,14 @@ module _ (p : Plan) (x : Paths) (t : Progress) (lines : Work) (a : ActorId) (log
       })
       (begun_held p make a log t sound.under.sound change e k.tells.on k.holds)
 
-  pub making_begun : (found : Found) → Makes p x t found lines → IsMaking x t found → (change : Change) → next_under found (length log) (reads_new x) t ≡ next.Begin change
-      → Makes p x (progress_begun found (length log) t) found ((Begin a change, log) ∷ lines)
+  pub making_begun : (found : Found) → MakesNewName p x t found lines → IsMaking x t found → (change : Change) → next_under found (length log) (reads_new x) t ≡ next.Begin change
+      → MakesNewName p x (progress_begun found (length log) t) found ((Begin a change, log) ∷ lines)
   making_begun found k sound change e = let own = begins_own found p (length log) (reads_new x) t make change k.tells.on e in go found own.0 k sound
     where
       own_begin : next_change t.stage (length log) t ≡ next.Begin change
       own_begin = (begins_own found p (length log) (reads_new x) t make change k.tells.on e).1
 
-      go : (y : Found) → y ≡ Fits → Makes p x t y lines → IsMaking x t y → Makes p x (progress_begun y (length log) t) y ((Begin a change, log) ∷ lines)
+      go : (y : Found) → y ≡ Fits → MakesNewName p x t y lines → IsMaking x t y → MakesNewName p x (progress_begun y (length log) t) y ((Begin a change, log) ∷ lines)
       go (Unread copy) is k sound = absurd (cc is)
       go Fits is k sound = begun_fits k sound change own_begin
       go (Refused why) is k sound = absurd (cc is)

@@ -21,7 +21,7 @@ use Rattle.afr_model.specs.Parts.{Part, Removes as RemovesPart, is_again, part_a
 use Rattle.afr_model.specs.Renamed.{HasFound, IsMade, IsOfPart, IsOfRename, KeepsToPart, KeepsToRename, StillLeads}
 use Rattle.afr_model.specs.Showing.{At, begins_attempt, has, path_by}
 use Rattle.afr_model.specs.Standing.{area_here, place_by}
-use Rattle.afr_transaction.specs.Progress.{Progress, is_beginning, is_over, next_at as next_change, numbered, request_at}
+use Rattle.afr_transaction.specs.Progress.{TransactionProgress, is_beginning, is_over, next_at as next_change, numbered, request_at}
 use Rattle.afr_transaction.specs.declared.stage.Stage.TheVariants.{Beginning, Locking}
 use Rattle.afr_transaction_tells.specs.Laws.{IsNextLine}
 use Rattle.afr_transaction_tells.proofs.GivenUpLemmas.{given_up_about}
@@ -38,7 +38,7 @@ use Rattle.afr_rename.specs.Paths.{IsPaths, front, reads_old, removal_of}
 use Rattle.afr_rename.specs.Rename.{IsMaking, IsRemoving, is_done, turned}
 use Rattle.afr_rename.specs.Under.{next_under}
 use Rattle.afr_rename.specs.declared.paths.Paths.{Paths}
-use Rattle.afr_rename_telling.specs.RenameTelling.{Drops, LedToFile, Makes, Removes, old_dir, to_of}
+use Rattle.afr_rename_telling.specs.RenameTelling.{DropsOldName, LedToFile, MakesNewName, Removes, old_dir, to_of}
 use Rattle.afr_rename_telling.proofs.RemovingBegins.{is_second, own, prefix, prefix_untouched}
 use Rattle.afr_rename_telling.proofs.RemovingTurn.{made_done}
 
@@ -70,7 +70,7 @@ ask_about p x lines at a b request told took again made about keeps =
     subst (λ (part : Part). IsOfPart part p x.first.path (to_of x) (Ask a b request told took) lines × KeepsToPart part p x.first.path (to_of x) (Ask a b request told took) at lines)
     (sym (removes_part x.first.path (Ask a b request told took) lines again)) ((made, tt, about), keeps)
 
-module _ (p : Plan) (x : Paths) (paths : IsPaths x) (t : Progress) (lines : Work) (a : ActorId) (log : List Line) where
+module _ (p : Plan) (x : Paths) (paths : IsPaths x) (t : TransactionProgress) (lines : Work) (a : ActorId) (log : List Line) where
   abbrev from : List NameId
   from = x.first.path
 
@@ -90,7 +90,7 @@ module _ (p : Plan) (x : Paths) (paths : IsPaths x) (t : Progress) (lines : Work
   same : c ≡ command.Unlink from
   same = ap (λ (path : List NameId). command.Unlink path) (ends_in from x.old_name paths.old)
 
-  place : (found : Found) → Drops p x t found removal → place_by p c removal ≡ At (steps_of c) (old_dir x)
+  place : (found : Found) → DropsOldName p x t found removal → place_by p c removal ≡ At (steps_of c) (old_dir x)
   place found k = subst (λ (q : Command). place_by p q removal ≡ At (steps_of q) (old_dir x)) (sym same) k.place
 
   not_read : IsUnread p (command.Unlink from) (old_dir x) removal → IsUnread p c (old_dir x) removal
@@ -124,7 +124,7 @@ module _ (p : Plan) (x : Paths) (paths : IsPaths x) (t : Progress) (lines : Work
         told line is keeps
 
 -- ---- each line under the locks
-pub removing_line : (p : Plan) (x : Paths) (paths : IsPaths x) (t : Progress) (found : Found) (lines : Work) (a : ActorId) (log : List Line) (told : Told) (line : Line) → Removes p x t found lines → IsRemoving x t found → IsNextLine a (next_under found (length log) (reads_old x) t) told line
+pub removing_line : (p : Plan) (x : Paths) (paths : IsPaths x) (t : TransactionProgress) (found : Found) (lines : Work) (a : ActorId) (log : List Line) (told : Told) (line : Line) → Removes p x t found lines → IsRemoving x t found → IsNextLine a (next_under found (length log) (reads_old x) t) told line
     → About p x (length log) lines line
 removing_line p x paths t (Unread copy) lines a log told line k sound is = go (is_beginning t.stage) refl is
   where
@@ -160,7 +160,7 @@ removing_line p x paths t (Refused why) lines a log told line k sound is = go (i
         )
 
 -- ---- the first lock
-pub turn_line : (p : Plan) (x : Paths) (paths : IsPaths x) (t : Progress) (found : Found) (lines : Work) (a : ActorId) (log : List Line) (told : Told) (line : Line) → Makes p x t found lines → IsMaking x t found → is_done t ≡ true
+pub turn_line : (p : Plan) (x : Paths) (paths : IsPaths x) (t : TransactionProgress) (found : Found) (lines : Work) (a : ActorId) (log : List Line) (told : Told) (line : Line) → MakesNewName p x t found lines → IsMaking x t found → is_done t ≡ true
     → IsNextLine a (next_change Locking (length log) (turned x t)) told line → About p x (length log) lines line
 turn_line p x paths t found lines a log told line k sound done (took, e) =
     subst (λ (y : Line). About p x (length log) lines y) (sym e)

@@ -20,7 +20,7 @@ use Rattle.afr_model.specs.Renamed.{AreLegs}
 use Rattle.afr_model.specs.Showing.{NotAsked, has, reading_by, refuses_read}
 use Rattle.afr_model.specs.Standing.{locks_any}
 use Rattle.afr_cut.proofs.Cut.{asked_before, first_all}
-use Rattle.afr_transaction.specs.Progress.{Progress, fed, left, next_at as next_change, request_at, starting}
+use Rattle.afr_transaction.specs.Progress.{TransactionProgress, fed, left, next_at as next_change, request_at, starting}
 use Rattle.afr_transaction.specs.Sound.{Sound, Suits}
 use Rattle.afr_transaction.specs.declared.stage.Stage.TheVariants.{Locking}
 use Rattle.afr_transaction.proofs.Kept.{sound_first, stays_sound}
@@ -38,7 +38,7 @@ use Rattle.afr_inode_telling.specs.WalkLaws.{IsUntouched}
 use Rattle.afr_inode_telling.proofs.ReadsMore.{asks_same}
 use Rattle.afr_inode_telling.proofs.Untouched.{touches_nothing}
 use Rattle.afr_write_telling.specs.WriteTelling.{CanTell}
-use Rattle.afr_entry_telling.specs.EntryTelling.{Goes, OnChange}
+use Rattle.afr_entry_telling.specs.EntryTelling.{OnChange, TransactionGoes}
 use Rattle.afr_entry_telling.proofs.Held.{holds_first}
 use Rattle.afr_entry_telling.proofs.Names.{upto_stays}
 use Rattle.afr_entry_telling.proofs.Words.{suits_view}
@@ -47,7 +47,7 @@ use Rattle.afr_rename.specs.Rename.{IsMaking, is_done, turned, unread}
 use Rattle.afr_rename.specs.declared.paths.Paths.{Paths}
 use Rattle.afr_rename.proofs.RenameLemmas.{done_is}
 use Rattle.afr_second.proofs.HeldLemmas.{acknowledged_unlocks}
-use Rattle.afr_rename_telling.specs.RenameTelling.{Drops, HasWalked, Makes, Removes, old_dir}
+use Rattle.afr_rename_telling.specs.RenameTelling.{DropsOldName, HasWalked, MakesNewName, Removes, old_dir}
 use Rattle.afr_rename_telling.proofs.MakingLocks.{asked_on}
 use Rattle.afr_rename_telling.proofs.MakingParts.{again_by, has_append, one_less, or_left, tail_upto, upto_twice}
 use Rattle.afr_rename_telling.proofs.MakingWalked.{unlocks_only, whole}
@@ -90,11 +90,11 @@ module _ (p : Plan) (x : Paths) (lines : Work) (k : HasWalked p x lines) where
   }
 
 -- ---- the first lock
-module _ (p : Plan) (x : Paths) (t : Progress) (found : Found) (lines : Work) (a : ActorId) (log : List Line) (k : Makes p x t found lines) (sound : IsMaking x t found) (done : is_done t ≡ true) where
+module _ (p : Plan) (x : Paths) (t : TransactionProgress) (found : Found) (lines : Work) (a : ActorId) (log : List Line) (k : MakesNewName p x t found lines) (sound : IsMaking x t found) (done : is_done t ≡ true) where
   abbrev change : Change
   change = removal_of x
 
-  abbrev start : Progress
+  abbrev start : TransactionProgress
   start = starting change (opened t.register.shape)
 
   walked : HasWalked p x lines
@@ -115,7 +115,7 @@ module _ (p : Plan) (x : Paths) (t : Progress) (found : Found) (lines : Work) (a
   before = prefix p x lines walked
 
   -- it finds a work that has only walked to the directory
-  start_goes : t.register.shape ≡ p.shape → Goes p start before
+  start_goes : t.register.shape ≡ p.shape → TransactionGoes p start before
   start_goes shape = let free = prefix_untouched p x lines walked in let idle = prefix_idle p x lines walked in record {
     tells = tells_first p before start (record {
       shape_is = shape;
@@ -151,7 +151,7 @@ module _ (p : Plan) (x : Paths) (t : Progress) (found : Found) (lines : Work) (a
     abbrev more : Work
     more = (line, log) ∷ lines
 
-    abbrev after : Progress
+    abbrev after : TransactionProgress
     after = fed Locking told (length log) (turned x t)
 
     -- the first transaction has given its locks back
@@ -177,11 +177,11 @@ module _ (p : Plan) (x : Paths) (t : Progress) (found : Found) (lines : Work) (a
     shows_view view e = suits_view x.dir (Unlink x.old_name) (old_dir x) view refl e
 
     on_lock : t.register.shape ≡ p.shape → CanTell (old_dir x) asked told → OnChange unread p after ((line, log) ∷ before)
-    on_lock shape can = subst (λ (y : Progress). OnChange unread p y ((line, log) ∷ before)) (sym (follows told).alike)
+    on_lock shape can = subst (λ (y : TransactionProgress). OnChange unread p y ((line, log) ∷ before)) (sym (follows told).alike)
         (asked_on p before a log start start_sound (old_dir x) shows_view own asked told took refl unread (record { 0 = 0 }) None asked refl
         (start_goes shape, holds_first change t.register.shape (opened t.register.shape) p.shape.n before (inr refl) (prefix_untouched p x lines walked).none_locked (prefix_only p x lines walked)) can)
 
-    drops : t.register.shape ≡ p.shape → CanTell (old_dir x) asked told → Drops p x after unread ((line, log) ∷ before)
+    drops : t.register.shape ≡ p.shape → CanTell (old_dir x) asked told → DropsOldName p x after unread ((line, log) ∷ before)
     drops shape can = record {
       place = upto_stays (length x.first.path - 1) p before line log (old_dir x) (upto_whole p (length x.first.path - 1) before (few_upto (length x.first.path - 1) lines) ∙ walked.in_dir);
       unread = prefix_unread p x lines walked;
@@ -192,7 +192,7 @@ module _ (p : Plan) (x : Paths) (t : Progress) (found : Found) (lines : Work) (a
     pub turns : t.register.shape ≡ p.shape → CanTell (old_dir x) asked told → Removes p x after unread more
     turns shape can =
         removes_more p x lines line log after unread is_second stands tt
-        (subst (λ (w : Work). Drops p x after unread ((line, log) ∷ (w ++ before))) (sym k.on.first) (drops shape can))
+        (subst (λ (w : Work). DropsOldName p x after unread ((line, log) ∷ (w ++ before))) (sym k.on.first) (drops shape can))
 
   -- whatever it is told
   pub turn_more : t.register.shape ≡ p.shape → (b : BrickId) (request : Request) (told : Told) (took : Bool) → next_change Locking (length log) (turned x t) ≡ next.Ask b request → CanTell (old_dir x) request told

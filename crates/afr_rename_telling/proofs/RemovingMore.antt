@@ -12,7 +12,7 @@ use Rattle.afr_lines.specs.Told.{told_by}
 use Rattle.afr_lines.specs.Work.{Work}
 use Rattle.afr_lines.specs.declared.answer.Answer.{Answer}
 use Rattle.afr_lines.specs.declared.answer.Told.{Told}
-use Rattle.afr_lines.specs.declared.answer.Told.TheVariants as told_of
+use Rattle.afr_lines.specs.declared.answer.Told.TheVariants as as_told
 use Rattle.afr_lines.specs.declared.line.Line.{Line}
 use Rattle.afr_lines.specs.declared.line.Line.TheVariants.{Ask, Begin}
 use Rattle.afr_lines.specs.declared.line.Next.TheVariants as next
@@ -30,7 +30,7 @@ use Rattle.afr_model.specs.Showing.{At, begins_attempt}
 use Rattle.afr_model.specs.Standing.{place_by}
 use Rattle.afr_model.specs.Tables.{entry_at, holds}
 use Rattle.afr_transaction.specs.Between.{noted_read}
-use Rattle.afr_transaction.specs.Progress.{Progress, is_beginning, next_at as next_change, request_at}
+use Rattle.afr_transaction.specs.Progress.{TransactionProgress, is_beginning, next_at as next_change, request_at}
 use Rattle.afr_transaction.specs.Sound.{Sound}
 use Rattle.afr_transaction.specs.declared.stage.Stage.{Stage}
 use Rattle.afr_transaction.specs.declared.stage.Stage.TheVariants.{Locking, Looking, Beginning, Preparing, Applying, Posting, Closing}
@@ -45,7 +45,7 @@ use Rattle.afr_entry.specs.declared.stage.Found.TheVariants.{Unread, Fits, Refus
 use Rattle.afr_inode_telling.proofs.ReadsMore.{asks_same}
 use Rattle.afr_write_telling.specs.WriteTelling.{CanTell}
 use Rattle.afr_write_telling.proofs.Goes.{asked_stage}
-use Rattle.afr_entry_telling.specs.EntryTelling.{CanHearUnder, CanName, Goes, WasGiven}
+use Rattle.afr_entry_telling.specs.EntryTelling.{CanHearUnder, CanName, TransactionGoes, WasGiven}
 use Rattle.afr_entry_telling.proofs.Changing.{begins_at}
 use Rattle.afr_entry_telling.proofs.Heard.{hears_name}
 use Rattle.afr_entry_telling.proofs.Names as name_told
@@ -58,7 +58,7 @@ use Rattle.afr_rename.specs.Paths.{reads_old}
 use Rattle.afr_rename.specs.Rename.{IsRemoving}
 use Rattle.afr_rename.specs.Under.{found_after, next_under, progress_after}
 use Rattle.afr_rename.specs.declared.paths.Paths.{Paths}
-use Rattle.afr_rename_telling.specs.RenameTelling.{ByFault, ByNothing, ByOther, Drops, LastFits, OldTells, Removes, old_dir}
+use Rattle.afr_rename_telling.specs.RenameTelling.{ByFault, ByNothing, ByOther, DropsOldName, LastFits, OldTells, Removes, old_dir}
 use Rattle.afr_rename_telling.proofs.MakingLocks.{asked_on, asks_own, begins_own, begun_on, of_change, settled_on}
 use Rattle.afr_rename_telling.proofs.RemovingTurn.{has_made, removes_more}
 
@@ -71,7 +71,7 @@ old_more (Refused why) p x line log w q calm (ByNothing k) = ByNothing (given_mo
 old_more (Refused why) p x line log w q calm (ByOther entry e k) = ByOther entry e (given_more p (command.Unlink x.first.path) (old_dir x) (Some entry) line log w q k)
 
 -- the entry that was read last stays it
-last_request : (p : Plan) (stage : Stage) (t : Progress) (a : ActorId) (b : BrickId) (told : Told) (took : Bool) (log : List Line) (was : Option Entry) → entry_after p (Ask a b (request_at stage t) told took) log was ≡ was
+last_request : (p : Plan) (stage : Stage) (t : TransactionProgress) (a : ActorId) (b : BrickId) (told : Told) (took : Bool) (log : List Line) (was : Option Entry) → entry_after p (Ask a b (request_at stage t) told took) log was ≡ was
 last_request p Locking t a b told took log was = refl
 last_request p Looking t a b told took log was = refl
 last_request p Beginning t a b told took log was = refl
@@ -95,7 +95,7 @@ same_entry file entry e = go (is_file entry.what) refl e
         rebuilt g w = ap (λ (y : What). let z : Entry = record { gfid = entry.gfid; what = y } in z) w ∙ ap (λ (y : Gfid). let z : Entry = record { gfid = y; what = File } in z) g
     go false f h = absurd (cc h)
 
-module _ (p : Plan) (x : Paths) (t : Progress) (lines : Work) (a : ActorId) (log : List Line) where
+module _ (p : Plan) (x : Paths) (t : TransactionProgress) (lines : Work) (a : ActorId) (log : List Line) where
   abbrev removal : Work
   removal = the_removal x.first.path lines
 
@@ -108,7 +108,7 @@ module _ (p : Plan) (x : Paths) (t : Progress) (lines : Work) (a : ActorId) (log
   abbrev file : Gfid
   file = x.first.object.gfid
 
-  place_stays : (line : Line) (found : Found) → Drops p x t found removal → place_by p c ((line, log) ∷ removal) ≡ At (length x.first.path - 1) dir
+  place_stays : (line : Line) (found : Found) → DropsOldName p x t found removal → place_by p c ((line, log) ∷ removal) ≡ At (length x.first.path - 1) dir
   place_stays line found k = upto_stays (length x.first.path - 1) p removal line log dir k.place
 
   -- ---- a request of the transaction
@@ -157,13 +157,13 @@ module _ (p : Plan) (x : Paths) (t : Progress) (lines : Work) (a : ActorId) (log
     abbrev reads : Told → Line
     reads told = Ask a copy (reads_old x) told took
 
-    abbrev noted : Told → Progress
+    abbrev noted : Told → TransactionProgress
     noted told = noted_read copy.0 (reads_old x) told (length log) t
 
     small : copy.0 < 5
     small = good_below t.register.shape t.register.looked Names copy.0 (sound.under.reads at_begin)
 
-    goes : (told : Told) → Goes p (noted told) ((reads told, log) ∷ removal) × Sound (noted told)
+    goes : (told : Told) → TransactionGoes p (noted told) ((reads told, log) ∷ removal) × Sound (noted told)
     goes told = let h = reads_kept p removal t a copy (reads_old x) told took log small tt (begins_at t.stage at_begin) sound.under.sound k.tells.on.0.tells in (
       record { tells = h.tells; excused = h.excused k.tells.on.0.excused; calm = h.calm k.tells.on.0.calm; fitting = k.tells.on.0.fitting },
       h.sound,
@@ -180,25 +180,25 @@ module _ (p : Plan) (x : Paths) (t : Progress) (lines : Work) (a : ActorId) (log
           on = settled_on p ((reads told, log) ∷ removal) a log (noted told) (goes told).1 why (begins_at t.stage at_begin) (goes told).0;
         })
 
-    given : (entry : Option Entry) → entry_at x.dir x.old_name (holds p log copy.0) ≡ entry → WasGiven p c dir entry ((reads told_of.Given, log) ∷ removal)
+    given : (entry : Option Entry) → entry_at x.dir x.old_name (holds p log copy.0) ≡ entry → WasGiven p c dir entry ((reads as_told.Given, log) ∷ removal)
     given entry e = record { path = rw (e, k.tells.name.path) refl; unrefused = k.tells.name.unrefused }
 
     by_same : (entry : Entry) → entry_at x.dir x.old_name (holds p log copy.0) ≡ Some entry → (same : Bool) → is_same file entry ≡ same
-        → Removes p x (settled (if same then None else Some refusal_of.NoEntry) (noted told_of.Given)) (found_by (if same then None else Some refusal_of.NoEntry)) ((reads told_of.Given, log) ∷ lines)
+        → Removes p x (settled (if same then None else Some refusal_of.NoEntry) (noted as_told.Given)) (found_by (if same then None else Some refusal_of.NoEntry)) ((reads as_told.Given, log) ∷ lines)
     by_same entry e true f =
-        settles told_of.Given None
-        (subst (λ (y : Entry). WasGiven p c dir (Some y) ((reads told_of.Given, log) ∷ removal)) (same_entry file entry f) (given (Some entry) e))
+        settles as_told.Given None
+        (subst (λ (y : Entry). WasGiven p c dir (Some y) ((reads as_told.Given, log) ∷ removal)) (same_entry file entry f) (given (Some entry) e))
         (e ∙ ap (λ (y : Entry). Some y) (same_entry file entry f))
-    by_same entry e false f = settles told_of.Given (Some refusal_of.NoEntry) (ByOther entry f (given (Some entry) e)) tt
+    by_same entry e false f = settles as_told.Given (Some refusal_of.NoEntry) (ByOther entry f (given (Some entry) e)) tt
 
     abbrev Left : Answer → Type 0
     Left heard = Removes p x (settled (against_old file heard) (noted (told_by heard))) (found_by (against_old file heard)) ((reads (told_by heard), log) ∷ lines)
 
     read_removes : (heard : Answer) → NameTold p copy.0 x.dir x.old_name log heard → Left heard
-    read_removes heard (name_told.Found None e f) = subst Left (sym e) (settles told_of.Given (Some refusal_of.NoEntry) (ByNothing (given None f)) tt)
+    read_removes heard (name_told.Found None e f) = subst Left (sym e) (settles as_told.Given (Some refusal_of.NoEntry) (ByNothing (given None f)) tt)
     read_removes heard (name_told.Found (Some entry) e f) = subst Left (sym e) (by_same entry f (is_same file entry) refl)
-    read_removes heard (name_told.Lost e) = subst Left (sym e) (settles told_of.NotConnected (Some refusal_of.Failed) (ByFault refl refl) tt)
-    read_removes heard (name_told.Fails e) = subst Left (sym e) (settles told_of.Failed (Some refusal_of.Failed) (ByFault refl refl) tt)
+    read_removes heard (name_told.Lost e) = subst Left (sym e) (settles as_told.NotConnected (Some refusal_of.Failed) (ByFault refl refl) tt)
+    read_removes heard (name_told.Fails e) = subst Left (sym e) (settles as_told.Failed (Some refusal_of.Failed) (ByFault refl refl) tt)
 
   -- ---- any line that is told
   pub removing_more : (found : Found) → Removes p x t found lines → IsRemoving x t found → (b : BrickId) (request : Request) (chosen : BrickId) (heard : Answer) (took : Bool) → next_under found (length log) (reads_old x) t ≡ next.Ask b request

@@ -6,7 +6,7 @@ use Rattle.afr_base.specs.SetLemmas.{member_added}
 use Rattle.afr_base.specs.declared.ids.Gfid.{Gfid}
 use Rattle.afr_lines.specs.Work.{Work}
 use Rattle.afr_lines.specs.declared.answer.Told.{Told}
-use Rattle.afr_lines.specs.declared.answer.Told.TheVariants as told_of
+use Rattle.afr_lines.specs.declared.answer.Told.TheVariants as as_told
 use Rattle.afr_lines.specs.declared.line.Line.{Line}
 use Rattle.afr_lines.specs.declared.line.Line.TheVariants.{Ask}
 use Rattle.afr_lines.specs.declared.request.Request.{Request}
@@ -48,7 +48,7 @@ read_asked p (x ∷ w) read object e = go (λ r o f. read_asked p w r o f) x.0 e
     named rest Untold f (Some found) h = absurd (cc h)
 
     go : ((r : ℕ) (o : Entry) → path_by p w ≡ At r o → r ≤ names_asked w) → (line : Line) → path_after p line x.1 (path_by p w) ≡ At read object → read ≤ (if asks_name line then names_asked w + 1 else names_asked w)
-    go rest (Ask a b (request.ReadName g name) told_of.Given took) f = named rest (path_by p w) refl (entry_at g name (holds p x.1 b.0)) f
+    go rest (Ask a b (request.ReadName g name) as_told.Given took) f = named rest (path_by p w) refl (entry_at g name (holds p x.1 b.0)) f
     go rest (Ask a b (request.ReadName g name) told took) f = absurd (cc f)
     go rest line f = rest read object f
 
@@ -223,7 +223,7 @@ all_before n k w legs free all g seen b l = go (legs_look n (upto_names k w) leg
 -- ---- what was read on it
 -- a read shows something
 some_read : (asked : Request) (g : Gfid) (told : Told) (t : Table) → reading_told asked g told t ≡ NotAsked → ⊥
-some_read asked g told_of.Given t e = go (copy_at g t) e
+some_read asked g as_told.Given t e = go (copy_at g t) e
   where
     go : (o : Option Object) → given_by asked o ≡ NotAsked → ⊥
     go None f = cc f

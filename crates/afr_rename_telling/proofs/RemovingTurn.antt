@@ -18,7 +18,7 @@ use Rattle.afr_model.specs.Showing.{among, has, posted}
 use Rattle.afr_model.specs.Skipped.{IsLooked, SkipsNothing}
 use Rattle.afr_model.specs.Standing.{change_by, locks_any}
 use Rattle.afr_cut.proofs.Cut.{first_stays, make_stays, removal_grows}
-use Rattle.afr_transaction.specs.Progress.{Progress, is_over, numbered}
+use Rattle.afr_transaction.specs.Progress.{TransactionProgress, is_over, numbered}
 use Rattle.afr_transaction.specs.declared.stage.Stage.{Stage}
 use Rattle.afr_transaction.specs.declared.stage.Stage.TheVariants.{Locking, Looking, Beginning, Preparing, Applying, Posting, Closing}
 use Rattle.afr_transaction.proofs.Acknowledged.{acknowledged_exactly}
@@ -29,21 +29,21 @@ use Rattle.afr_transaction_tells.proofs.Over.{skips_none}
 use Rattle.afr_entry.specs.declared.job.EntryJob.TheVariants.{Create}
 use Rattle.afr_entry.specs.declared.stage.Found.{Found}
 use Rattle.afr_entry.specs.declared.stage.Found.TheVariants.{Unread, Fits, Refused}
-use Rattle.afr_entry_telling.specs.EntryTelling.{FitsName, Goes, NameTells, OnChange}
+use Rattle.afr_entry_telling.specs.EntryTelling.{FitsName, NameTells, OnChange, TransactionGoes}
 use Rattle.afr_entry_telling.proofs.Changing.{passed_like, unrefused_fits}
 use Rattle.afr_entry_telling.proofs.Under.{refused_by_locks}
 use Rattle.afr_rename.specs.Paths.{making_of}
 use Rattle.afr_rename.specs.Rename.{IsMaking, is_done}
 use Rattle.afr_rename.specs.declared.paths.Paths.{Paths}
 use Rattle.afr_rename.proofs.RenameLemmas.{done_is}
-use Rattle.afr_rename_telling.specs.RenameTelling.{Drops, HasWalked, LastFits, Makes, Removes, to_of}
+use Rattle.afr_rename_telling.specs.RenameTelling.{DropsOldName, HasWalked, LastFits, MakesNewName, Removes, to_of}
 use Rattle.afr_rename_telling.proofs.MakingMore.{making_like}
 use Rattle.afr_rename_telling.proofs.MakingAbout.{keeps_number}
 use Rattle.afr_rename_telling.proofs.MakingParts.{again_stays}
 use Rattle.afr_rename_telling.proofs.MakingWalked.{walked_more}
 use Rattle.afr_rename_telling.proofs.WalkEnds.{no_majority}
 
-pub over_closing : (stage : Stage) (t : Progress) → is_over stage t ≡ true → stage ≡ Closing
+pub over_closing : (stage : Stage) (t : TransactionProgress) → is_over stage t ≡ true → stage ≡ Closing
 over_closing Closing t e = refl
 over_closing Locking t e = absurd (cc e)
 over_closing Looking t e = absurd (cc e)
@@ -53,7 +53,7 @@ over_closing Applying t e = absurd (cc e)
 over_closing Posting t e = absurd (cc e)
 
 -- an attempt that was closed at a majority went through its phases
-pub tried : (p : Plan) (t : Progress) (w : Work) → is_majority p.shape.n (among posted w) ≡ true → OnUnlocks p.shape t.change t.register.looked t.asked.looked_at w → IsUnder p.shape t.change t.register.looked t.asked.looked_at w
+pub tried : (p : Plan) (t : TransactionProgress) (w : Work) → is_majority p.shape.n (among posted w) ≡ true → OnUnlocks p.shape t.change t.register.looked t.asked.looked_at w → IsUnder p.shape t.change t.register.looked t.asked.looked_at w
 tried p t w most (TooFew idle locked looks few none) = absurd (no_majority p.shape.n (subst (λ (s : List ℕ). is_majority p.shape.n s ≡ true) idle.no_post_did most))
 tried p t w most (Unfit idle locked looks some all unfit) = absurd (no_majority p.shape.n (subst (λ (s : List ℕ). is_majority p.shape.n s ≡ true) idle.no_post_did most))
 tried p t w most (Tried under whole) = under
@@ -66,7 +66,7 @@ pub record IsDone (p : Plan) (x : Paths) (make : Work) : Type 0 where
   pub passed : refusal p (command.Create (to_of x)) make ≡ None
   pub whole : SkipsNothing p (command.Create (to_of x)) make
 
-module _ (p : Plan) (x : Paths) (t : Progress) (found : Found) (lines : Work) (k : Makes p x t found lines) (sound : IsMaking x t found) where
+module _ (p : Plan) (x : Paths) (t : TransactionProgress) (found : Found) (lines : Work) (k : MakesNewName p x t found lines) (sound : IsMaking x t found) where
   abbrev make : Work
   make = the_make x.first.path lines
 
@@ -81,7 +81,7 @@ module _ (p : Plan) (x : Paths) (t : Progress) (found : Found) (lines : Work) (k
       ∙ ap (λ (c : Change). Some (numbered under.attempt.attempt c)) sound.under.of
       ∙ ap (λ (g : Gfid). Some (change_named.Make x.second.object.gfid x.new_name g File)) (keeps_number under.attempt.attempt x.first.object.gfid k.on.walked.numbered)
 
-  passes_all : IsUnder p.shape t.change t.register.looked t.asked.looked_at make → Goes p t make → FitsName p (command.Create (to_of x)) (Create x.new_name) x.second.object make → refusal p (command.Create (to_of x)) make ≡ None
+  passes_all : IsUnder p.shape t.change t.register.looked t.asked.looked_at make → TransactionGoes p t make → FitsName p (command.Create (to_of x)) (Create x.new_name) x.second.object make → refusal p (command.Create (to_of x)) make ≡ None
   passes_all under goes name =
       let free = unrefused_fits p (Create x.new_name) x.second make t refl name in
       refused_by_locks p (Create x.new_name) x.second.path x.second.object make k.tells.place k.tells.directory free.1 free.0
@@ -133,8 +133,8 @@ made_stays p x lines line log again k =
     }
 
 -- with it a line goes to the removal
-pub removes_more : (p : Plan) (x : Paths) (lines : Work) (line : Line) (log : List Line) (after : Progress) (left : Found) → is_again line lines ≡ true → HasMade p x lines → LastFits left p x ((line, log) ∷ lines)
-    → Drops p x after left ((line, log) ∷ the_removal x.first.path lines) → Removes p x after left ((line, log) ∷ lines)
+pub removes_more : (p : Plan) (x : Paths) (lines : Work) (line : Line) (log : List Line) (after : TransactionProgress) (left : Found) → is_again line lines ≡ true → HasMade p x lines → LastFits left p x ((line, log) ∷ lines)
+    → DropsOldName p x after left ((line, log) ∷ the_removal x.first.path lines) → Removes p x after left ((line, log) ∷ lines)
 removes_more p x lines line log after left again k last tells =
     let m = made_stays p x lines line log again k in
     record {
@@ -147,8 +147,8 @@ removes_more p x lines line log after left again k last tells =
       passed = m.done.passed;
       whole = m.done.whole;
       last = last;
-      tells = subst (λ (w : Work). Drops p x after left w) (sym (removal_grows x.first.path (line, log) lines k.walked.all again)) tells;
+      tells = subst (λ (w : Work). DropsOldName p x after left w) (sym (removal_grows x.first.path (line, log) lines k.walked.all again)) tells;
     }
 
-pub has_made : (p : Plan) (x : Paths) (t : Progress) (found : Found) (lines : Work) → Removes p x t found lines → HasMade p x lines
+pub has_made : (p : Plan) (x : Paths) (t : TransactionProgress) (found : Found) (lines : Work) → Removes p x t found lines → HasMade p x lines
 has_made p x t found lines k = record { walked = k.walked; locked = k.locked; last_leg = k.last_leg; done = record { made = k.made; change = k.change; passed = k.passed; whole = k.whole } }

@@ -25,7 +25,7 @@ use Rattle.afr_model.specs.Parts.{first_part, names_asked, second_part, the_make
 use Rattle.afr_model.specs.Showing.{among, begins_attempt, has, locks, posted, posting}
 use Rattle.afr_model.specs.Standing.{change_after, change_by}
 use Rattle.afr_transaction.specs.Outcome.{reply_of}
-use Rattle.afr_transaction.specs.Progress.{Progress, asks, next_at as next_change, numbered}
+use Rattle.afr_transaction.specs.Progress.{TransactionProgress, asks, next_at as next_change, numbered}
 use Rattle.afr_transaction.specs.declared.stage.Stage.{Stage}
 use Rattle.afr_transaction.specs.declared.stage.Stage.TheVariants.{Locking, Looking, Beginning, Preparing, Applying, Posting, Closing}
 use Rattle.afr_transaction_tells.specs.About.{BlamesNext}
@@ -79,7 +79,7 @@ posted_behind (x ∷ s) u v e f =
     let none = no_post x.0 (among posting (s ++ u)) both.0 f in
     none.1 (among posted (s ++ v)) ∙ posted_behind s u v both.1 none.0
 
-module _ (p : Plan) (x : Paths) (t : Progress) (found : Found) (lines : Work) (k : Removes p x t found lines) where
+module _ (p : Plan) (x : Paths) (t : TransactionProgress) (found : Found) (lines : Work) (k : Removes p x t found lines) where
   abbrev from : List NameId
   from = x.first.path
 
@@ -138,7 +138,7 @@ module _ (p : Plan) (x : Paths) (t : Progress) (found : Found) (lines : Work) (k
 
 -- ---- the old name is given up once the new one stands
 -- the change of a Begin line
-pub begun_is : (stage : Stage) (at : ℕ) (t : Progress) (change : Change) → next_change stage at t ≡ next.Begin change → numbered at t.change ≡ change
+pub begun_is : (stage : Stage) (at : ℕ) (t : TransactionProgress) (change : Change) → next_change stage at t ≡ next.Begin change → numbered at t.change ≡ change
 begun_is Locking at t change e = absurd (cc e)
 begun_is Looking at t change e = absurd (cc e)
 begun_is Beginning at t change e = cc e
@@ -155,7 +155,7 @@ begun_is Closing at t change e = absurd (go (is_nothing t.register.held) e)
 made_file : (d e g h : Gfid) (n m : NameId) (made : What) → Some (Make d n g made) ≡ Some (Make e m h File) → g ≡ h
 made_file d e g h n m made same = cc same
 
-keeps_fits : (p : Plan) (x : Paths) (t : Progress) (lines : Work) → Removes p x t Fits lines → t.stage ≡ Beginning → (d : Gfid) (n : NameId) (g : Gfid) (made : What) → change_by lines ≡ Some (Make d n g made) → KeepsName p g lines
+keeps_fits : (p : Plan) (x : Paths) (t : TransactionProgress) (lines : Work) → Removes p x t Fits lines → t.stage ≡ Beginning → (d : Gfid) (n : NameId) (g : Gfid) (made : What) → change_by lines ≡ Some (Make d n g made) → KeepsName p g lines
 keeps_fits p x t lines k begins d n g made changed =
     let idle = (subst (λ (stage : Stage). During stage p.shape t (the_removal x.first.path lines)) begins k.tells.on.tells.during).idle in
     record {
@@ -165,7 +165,7 @@ keeps_fits p x t lines k begins d n g made changed =
       same = sym (made_file d x.second.object.gfid g x.first.object.gfid n x.new_name made (sym changed ∙ changed_all p x t Fits lines k idle));
     }
 
-pub removing_keeps : (p : Plan) (x : Paths) (t : Progress) (found : Found) (log : List Line) (a : ActorId) (change : Change) → Removes p x t found (work a.0 log) → IsRemoving x t found → next_under found (length log) (reads_old x) t ≡ next.Begin change → IsKept p (Begin a change) log
+pub removing_keeps : (p : Plan) (x : Paths) (t : TransactionProgress) (found : Found) (log : List Line) (a : ActorId) (change : Change) → Removes p x t found (work a.0 log) → IsRemoving x t found → next_under found (length log) (reads_old x) t ≡ next.Begin change → IsKept p (Begin a change) log
 removing_keeps p x t found log a change k sound e =
     let own = begins_own found p (length log) (reads_old x) t (the_removal x.first.path (work a.0 log)) change k.tells.on e in
     let begins = begun_stage t.stage (length log) t change own.1 in

@@ -51,7 +51,7 @@ use Rattle.afr_inode_telling.proofs.WalksEnd as walk_ends
 use Rattle.afr_transaction_tells.specs.About.{BlamesNext}
 use Rattle.afr_entry_telling.proofs.Begins.{about_walk}
 use Rattle.afr_rename.specs.declared.paths.Paths.{Paths}
-use Rattle.afr_rename_telling.specs.RenameTelling.{Finds, IsLeg, LegGoes, WalksOn, command_of, to_of}
+use Rattle.afr_rename_telling.specs.RenameTelling.{IsLeg, LegGoes, WalksOn, WalksToFile, command_of, to_of}
 use Rattle.afr_rename_telling.proofs.Cut.{line_makes, line_walks, none_again, not_again}
 
 -- ---- what a step of a walk leaves
@@ -171,7 +171,7 @@ legs_more shape w lines a chosen heard took log at e few walks leg legs =
     e (leg_more w lines a chosen heard took log at few walks) leg legs
 
 -- ---- a line of the first walk
-module _ (p : Plan) (x : Paths) (lines : Work) (k : Finds p x lines) (sound : IsWalk x.first) (walks : is_walking x.first.step ≡ true) where
+module _ (p : Plan) (x : Paths) (lines : Work) (k : WalksToFile p x lines) (sound : IsWalk x.first) (walks : is_walking x.first.step ≡ true) where
   pub not_all_asked : nat_le (length x.first.path) (names_asked lines) ≡ false
   not_all_asked =
       let low : x.first.read < length x.first.path = name_left x.first.shape.n (length x.first.path) x.first.read x.first.step walks sound.step in

@@ -31,14 +31,14 @@ use Rattle.afr_rename.specs.Paths.{IsPaths, first_walked, second_walked}
 use Rattle.afr_rename.specs.Rename.{after_first, after_second}
 use Rattle.afr_rename.specs.declared.paths.Paths.{Paths}
 use Rattle.afr_rename.proofs.RenameLemmas.{first_paths}
-use Rattle.afr_rename_telling.specs.RenameTelling.{CanFind, Finds, IsLeg, OnFirst, RenameTells, WalksOn, command_of, to_of}
+use Rattle.afr_rename_telling.specs.RenameTelling.{CanFind, IsLeg, OnFirst, RenameTells, WalksOn, WalksToFile, command_of, to_of}
 use Rattle.afr_rename_telling.proofs.MakingWalked.{first_more_on}
 use Rattle.afr_rename_telling.proofs.Walks.{finds_again, finds_walk, legs_more, not_all_asked, only_of, walks_again}
 use Rattle.afr_rename_telling.proofs.WalksLeave.{AsCreate, first_moved, second_moved}
 use Rattle.afr_rename_telling.proofs.WalksMore.{Stands, asked_more, led_more, on_way_more}
 
 -- ---- a line of the first walk
-module _ (p : Plan) (c : Command) (x : Paths) (lines : Work) (a : ActorId) (chosen : BrickId) (heard : Answer) (took : Bool) (log : List Line) (paths : IsPaths x) (walks : is_walking x.first.step ≡ true) (shape : x.first.shape ≡ p.shape) (named : c ≡ command_of x) (k : Finds p x lines) where
+module _ (p : Plan) (c : Command) (x : Paths) (lines : Work) (a : ActorId) (chosen : BrickId) (heard : Answer) (took : Bool) (log : List Line) (paths : IsPaths x) (walks : is_walking x.first.step ≡ true) (shape : x.first.shape ≡ p.shape) (named : c ≡ command_of x) (k : WalksToFile p x lines) where
   abbrev at : ℕ
   at = length log
 

@@ -37,7 +37,7 @@ use Rattle.afr_inode_telling.proofs.Walking.{walk_tells_first}
 use Rattle.afr_inode_telling.proofs.WalksEnd.{arrives}
 use Rattle.afr_inode_telling.proofs.Ended.{skips_nothing}
 use Rattle.afr_entry_telling.specs.EntryTelling as entry
-use Rattle.afr_entry_telling.specs.EntryTelling.{Goes, HoldsName}
+use Rattle.afr_entry_telling.specs.EntryTelling.{HoldsName, TransactionGoes}
 use Rattle.afr_entry_telling.proofs.Begins.{moved}
 use Rattle.afr_rename.specs.Paths.{IsPaths, making_of}
 use Rattle.afr_rename.specs.Rename.{after_first, after_second, first_left, second_left, unread}
@@ -78,7 +78,7 @@ module _ (p : Plan) (x : Paths) (lines : Work) (on : OnFirst p x lines) (only : 
   linked = making_of x dir
 
   -- the making of a name for a new object and of one for a file lock the same, and look at the same
-  goes : Goes p (starting created x.second.register) make → Goes p (starting linked x.second.register) make
+  goes : TransactionGoes p (starting created x.second.register) make → TransactionGoes p (starting linked x.second.register) make
   goes k = record {
     tells = record { shape_is = k.tells.shape_is; sets = k.tells.sets; alone = k.tells.alone; during = k.tells.during };
     excused = k.excused;

@@ -28,14 +28,14 @@ use Rattle.afr_walk.specs.declared.looks.Looks.{Looks}
 use Rattle.afr_walk.specs.declared.walk.Walk.{Walk}
 use Rattle.afr_walk.specs.declared.walk.WalkStep.{WalkStep}
 use Rattle.afr_walk.specs.declared.walk.WalkStep.TheVariants as walking
-use Rattle.afr_transaction.specs.Progress.{Progress}
+use Rattle.afr_transaction.specs.Progress.{TransactionProgress}
 use Rattle.afr_transaction.specs.declared.stage.Stage.{Stage}
 use Rattle.afr_entry.specs.declared.job.EntryJob.TheVariants.{Create}
 use Rattle.afr_entry.specs.declared.stage.Found.{Found}
 use Rattle.afr_entry.specs.declared.stage.Found.TheVariants.{Unread, Fits, Refused}
 use Rattle.afr_inode_telling.specs.Lines.{CanAnswer, LookedAll, LookedBut}
 use Rattle.afr_inode_telling.specs.WalkTelling.{GoesOn, WalkTells}
-use Rattle.afr_entry_telling.specs.EntryTelling.{CanHearUnder, Changes, IsUnread, OnChange, Walks, WasGiven}
+use Rattle.afr_entry_telling.specs.EntryTelling.{CanHearUnder, ChangesName, IsUnread, OnChange, Walks, WasGiven}
 use Rattle.afr_rename.specs.Against.{is_same}
 use Rattle.afr_rename.specs.Paths.{making_of}
 use Rattle.afr_rename.specs.Rename.{Renaming, is_done}
@@ -74,7 +74,7 @@ abbrev pub waiting : Shape → List NameId → Register → Walk
 waiting shape path r = record (walk_from shape path) { register = r }
 
 -- the first path is walked, and no other line was written: not all of its names were asked
-pub record Finds (p : Plan) (x : Paths) (lines : Work) : Type 0 where
+pub record WalksToFile (p : Plan) (x : Paths) (lines : Work) : Type 0 where
   pub tells : WalkTells p (command.Stat x.first.path) x.first lines
   pub asked : names_asked lines ≡ x.first.read
   pub legs : AreLegs p.shape.n lines
@@ -110,11 +110,11 @@ LocksLeg (Unread b) g make lines = has (locks g) make ≡ true → has (locks g)
 LocksLeg found g make lines = Unit {0}
 
 -- the new name is locked, read and made, by the same lines, as a create's
-pub record Makes (p : Plan) (x : Paths) (t : Progress) (found : Found) (lines : Work) : Type 0 where
+pub record MakesNewName (p : Plan) (x : Paths) (t : TransactionProgress) (found : Found) (lines : Work) : Type 0 where
   pub on : OnFirst p x lines
   pub last_leg : IsLooked p.shape.n (since_name (first_part lines))
   pub leg : LocksLeg found x.second.object.gfid (the_make x.first.path lines) (first_part lines)
-  pub tells : Changes p (command.Create (to_of x)) (Create x.new_name) x.second.object t found (the_make x.first.path lines)
+  pub tells : ChangesName p (command.Create (to_of x)) (Create x.new_name) x.second.object t found (the_make x.first.path lines)
   pub holds : Holds t (the_make x.first.path lines)
 
 -- ---- the removal
@@ -140,14 +140,14 @@ LastFits Fits p x lines = entry_by p lines ≡ Some (record { gfid = x.first.obj
 LastFits found p x lines = Unit {0}
 
 -- the old name is locked, read and removed
-pub record Drops (p : Plan) (x : Paths) (t : Progress) (found : Found) (w : Work) : Type 0 where
+pub record DropsOldName (p : Plan) (x : Paths) (t : TransactionProgress) (found : Found) (w : Work) : Type 0 where
   pub place : place_by p (command.Unlink x.first.path) w ≡ At (length x.first.path - 1) (old_dir x)
   pub unread : reading_by p w ≡ NotAsked
   pub name : OldTells found p x w
   pub on : OnChange found p t w
 
 -- so it is by the lines of the second transaction, put on the walk to the directory; the first one's are over: under its locks it has made the name, and nothing refuses it
-pub record Removes (p : Plan) (x : Paths) (t : Progress) (found : Found) (lines : Work) : Type 0 where
+pub record Removes (p : Plan) (x : Paths) (t : TransactionProgress) (found : Found) (lines : Work) : Type 0 where
   pub walked : HasWalked p x lines
   pub again : (line : Line) → is_again line lines ≡ true
   pub locked : has locks_any (first_part lines) ≡ true
@@ -157,14 +157,14 @@ pub record Removes (p : Plan) (x : Paths) (t : Progress) (found : Found) (lines 
   pub passed : refusal p (command.Create (to_of x)) (the_make x.first.path lines) ≡ None
   pub whole : SkipsNothing p (command.Create (to_of x)) (the_make x.first.path lines)
   pub last : LastFits found p x lines
-  pub tells : Drops p x t found (the_removal x.first.path lines)
+  pub tells : DropsOldName p x t found (the_removal x.first.path lines)
 
 -- ---- all of it
 -- by the stage of the rename
 abbrev pub TellsIn : Plan → RenameStage → Paths → Work → Type 0
-TellsIn p Finding x lines = Finds p x lines
+TellsIn p Finding x lines = WalksToFile p x lines
 TellsIn p Walking x lines = WalksOn p x lines
-TellsIn p (Making t found) x lines = Makes p x t found lines
+TellsIn p (Making t found) x lines = MakesNewName p x t found lines
 TellsIn p (Removing t found) x lines = Removes p x t found lines
 TellsIn p (Ending said) x lines = IsRenamed p x.first.path (to_of x) lines said
 

@@ -12,10 +12,10 @@ use Rattle.afr_lines.specs.declared.request.Request.TheVariants.{Pre, Post, Sett
 use Rattle.afr_plan.specs.declared.plan.Plan.{Plan}
 use Rattle.afr_model.specs.Sums.{has_object}
 use Rattle.afr_replay.specs.Parts.{counted_in, number_if, part_of}
-use Rattle.afr_replay.specs.declared.sums.Part.{Part}
-use Rattle.afr_replay.specs.declared.sums.Part.TheVariants.{Opened, Closed, Blamed, SettledDirty, SettledPending}
+use Rattle.afr_replay.specs.declared.sums.SumPart.{SumPart}
+use Rattle.afr_replay.specs.declared.sums.SumPart.TheVariants.{Opened, Closed, Blamed, SettledDirty, SettledPending}
 
-pub part_counts : (part : Part) (p : Plan) (x : ℕ) (g : Gfid) (kind : Kind) (a : ActorId) (y : BrickId) (request : Request) (told : Told) (took : Bool) (older : List Line)
+pub part_counts : (part : SumPart) (p : Plan) (x : ℕ) (g : Gfid) (kind : Kind) (a : ActorId) (y : BrickId) (request : Request) (told : Told) (took : Bool) (older : List Line)
     → number_if (took && (y.0 == x)) (counted_in part request) g kind (has_object p older g x) ≡ part_of part p x g kind (Ask a y request told took) older
 part_counts Opened p x g kind a y (Pre h k) told true older = refl
 part_counts Opened p x g kind a y (Pre h k) told false older = refl

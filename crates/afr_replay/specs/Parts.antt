@@ -10,17 +10,17 @@ use Rattle.afr_plan.specs.declared.plan.Plan.{Plan}
 use Rattle.afr_model.specs.Sums.{blames, closes_op, opens_op, settles_dirty, settles_pending}
 use Rattle.afr_base.specs.Kinds.{same_kind}
 use Rattle.afr_replay.specs.declared.sums.Counted.{Counted}
-use Rattle.afr_replay.specs.declared.sums.Part.{Part}
-use Rattle.afr_replay.specs.declared.sums.Part.TheVariants.{Opened, Closed, Blamed, SettledDirty, SettledPending}
+use Rattle.afr_replay.specs.declared.sums.SumPart.{SumPart}
+use Rattle.afr_replay.specs.declared.sums.SumPart.TheVariants.{Opened, Closed, Blamed, SettledDirty, SettledPending}
 
 -- a part that names a brick names one of five
-abbrev pub NamesBrick : Part → Type 0
+abbrev pub NamesBrick : SumPart → Type 0
 NamesBrick (Blamed c) = c.0 < 5
 NamesBrick (SettledPending c) = c.0 < 5
 NamesBrick part = Unit {0}
 
 -- what each line adds
-abbrev pub part_of : Part → Plan → ℕ → Gfid → Kind → Line → List Line → ℕ
+abbrev pub part_of : SumPart → Plan → ℕ → Gfid → Kind → Line → List Line → ℕ
 part_of Opened p x g kind line older = opens_op p x g kind line older
 part_of Closed p x g kind line older = closes_op p x g kind line older
 part_of (Blamed c) p x g kind line older = blames p x c.0 g kind line older
@@ -28,7 +28,7 @@ part_of SettledDirty p x g kind line older = settles_dirty p x g kind line older
 part_of (SettledPending c) p x g kind line older = settles_pending p x c.0 g kind line older
 
 -- what a request counts, and in which numbers of which object
-abbrev pub counted_in : Part → Request → Option Counted
+abbrev pub counted_in : SumPart → Request → Option Counted
 counted_in Opened (Pre g kind) = Some (record { gfid = g; kind = kind; n = 1 })
 counted_in Closed (Post attempt g kind missed) = Some (record { gfid = g; kind = kind; n = 1 })
 counted_in (Blamed c) (Post attempt g kind missed) = Some (record { gfid = g; kind = kind; n = if member missed c.0 then 1 else 0 })

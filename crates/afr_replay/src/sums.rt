@@ -18,7 +18,7 @@ use std::alloc::Global;
 
 /// What is summed up of the lines.
 #[derive(Clone, Copy)]
-pub(crate) enum Part {
+pub(crate) enum SumPart {
     Opened,
     Closed,
     Blamed(BrickId),
@@ -46,9 +46,9 @@ pub fn dirty(
     ensures ok { IfOk result (λ n. n ≡ dirty_of plan.now (reverse log.now) x.0 g kind) }
     ensures too_much { result ≡ Err Unfit.TooMuch → Fits plan.now (reverse log.now) x.0 → ⊥ }
 {
-    let opened = sum(alloc, plan, log, x, g, kind, Part::Opened)?;
-    let closed = sum(alloc, plan, log, x, g, kind, Part::Closed)?;
-    let settled = sum(alloc, plan, log, x, g, kind, Part::SettledDirty)?;
+    let opened = sum(alloc, plan, log, x, g, kind, SumPart::Opened)?;
+    let closed = sum(alloc, plan, log, x, g, kind, SumPart::Closed)?;
+    let settled = sum(alloc, plan, log, x, g, kind, SumPart::SettledDirty)?;
     Ok(opened.saturating_sub(closed + settled))
 }
 
@@ -66,8 +66,8 @@ pub fn pending(
     ensures ok { IfOk result (λ n. n ≡ pending_of plan.now (reverse log.now) x.0 c.0 g kind) }
     ensures too_much { result ≡ Err Unfit.TooMuch → Fits plan.now (reverse log.now) x.0 → ⊥ }
 {
-    let blamed = sum(alloc, plan, log, x, g, kind, Part::Blamed(c))?;
-    let settled = sum(alloc, plan, log, x, g, kind, Part::SettledPending(c))?;
+    let blamed = sum(alloc, plan, log, x, g, kind, SumPart::Blamed(c))?;
+    let settled = sum(alloc, plan, log, x, g, kind, SumPart::SettledPending(c))?;
     Ok(blamed.saturating_sub(settled))
 }
 
@@ -78,7 +78,7 @@ fn sum(
     x: BrickId,
     g: Gfid,
     kind: Kind,
-    part: Part,
+    part: SumPart,
 ) -> Result<u128, Unfit>
     requires { NamesBrick part }
     ensures ok { IfOk result (λ n. n ≡ sum_over (part_of part plan.now x.0 g kind) (reverse log.now)) }
@@ -112,7 +112,7 @@ pub fn has_copy(brick: &Brick, g: Gfid) -> bool
 
 /// What a line adds to the sum, by whether the brick has the object before it.
 #[tactic(auto, using(crate::proofs::PartLemmas::part_counts))]
-fn added(line: &Line, x: BrickId, g: Gfid, kind: Kind, part: Part, there: bool) -> u32
+fn added(line: &Line, x: BrickId, g: Gfid, kind: Kind, part: SumPart, there: bool) -> u32
     requires { NamesBrick part }
     ensures { (p : Plan) (older : List Line) → there ≡ has_object p older g x.0 → result ≡ part_of part p x.0 g kind line.now older }
 {
@@ -159,21 +159,21 @@ fn same_kind(one: Kind, other: Kind) -> bool
     }
 }
 
-fn counted_in(part: Part, request: &Request) -> Option<Counted>
+fn counted_in(part: SumPart, request: &Request) -> Option<Counted>
     requires { NamesBrick part }
     ensures { result ≡ counted_in part request.now }
 {
     match part {
-        Part::Opened => opened_in(request),
-        Part::Closed => closed_in(request),
-        Part::Blamed(c) => blamed_in(request, c),
-        Part::SettledDirty => settled_dirty_in(request),
-        Part::SettledPending(c) => settled_pending_in(request, c),
+        SumPart::Opened => opened_in(request),
+        SumPart::Closed => closed_in(request),
+        SumPart::Blamed(c) => blamed_in(request, c),
+        SumPart::SettledDirty => settled_dirty_in(request),
+        SumPart::SettledPending(c) => settled_pending_in(request, c),
     }
 }
 
 fn opened_in(request: &Request) -> Option<Counted>
-    ensures { result ≡ counted_in Part.Opened request.now }
+    ensures { result ≡ counted_in SumPart.Opened request.now }
 {
     match request {
         Request::Pre { gfid, kind } => Some(Counted {
@@ -186,7 +186,7 @@ fn opened_in(request: &Request) -> Option<Counted>
 }
 
 fn closed_in(request: &Request) -> Option<Counted>
-    ensures { result ≡ counted_in Part.Closed request.now }
+    ensures { result ≡ counted_in SumPart.Closed request.now }
 {
     match request {
         Request::Post { gfid, kind, .. } => Some(Counted {
@@ -200,7 +200,7 @@ fn closed_in(request: &Request) -> Option<Counted>
 
 fn blamed_in(request: &Request, c: BrickId) -> Option<Counted>
     requires { c.0 < 5 }
-    ensures { result ≡ counted_in (Part.Blamed c) request.now }
+    ensures { result ≡ counted_in (SumPart.Blamed c) request.now }
 {
     match request {
         Request::Post {
@@ -218,7 +218,7 @@ fn blamed_in(request: &Request, c: BrickId) -> Option<Counted>
 }
 
 fn settled_dirty_in(request: &Request) -> Option<Counted>
-    ensures { result ≡ counted_in Part.SettledDirty request.now }
+    ensures { result ≡ counted_in SumPart.SettledDirty request.now }
 {
     match request {
         Request::Settle { gfid, kind, less } => Some(Counted {
@@ -232,7 +232,7 @@ fn settled_dirty_in(request: &Request) -> Option<Counted>
 
 fn settled_pending_in(request: &Request, c: BrickId) -> Option<Counted>
     requires { c.0 < 5 }
-    ensures { result ≡ counted_in (Part.SettledPending c) request.now }
+    ensures { result ≡ counted_in (SumPart.SettledPending c) request.now }
 {
     match request {
         Request::Settle { gfid, kind, less } => Some(Counted {

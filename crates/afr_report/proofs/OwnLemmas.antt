@@ -12,7 +12,7 @@ use Rattle.afr_model.specs.Report.{client_head, command_line, ended_lines, clien
 use Rattle.afr_model.specs.ReportHealers.{heal_line, heal_lines, round_lines, rounds_lines, healer_text}
 use Rattle.afr_model.specs.ReportReplies.{reply_text}
 use Rattle.afr_base.specs.declared.ids.BrickId.{BrickId}
-use Rattle.afr_report.specs.Own.{told_of, is_one, own_lines}
+use Rattle.afr_report.specs.Own.{subject_of, is_one, own_lines}
 use Rattle.afr_report.proofs.CommandLemmas.{no_reply}
 
 not_if : {A : Type 0} (t : Bool) (x y : A) → t ≡ false → (if t then x else y) ≡ y
@@ -23,15 +23,15 @@ not_or t r h = rw h refl
 
 -- what the lines that tell of an actor keep, and the others leave alone, is the same of its own lines
 of_own : {A : Type 0} (f : List Line → A) (a : ℕ) → ((line : Line) (older : List Line) → f (own_lines a older) ≡ f older → f (line ∷ own_lines a older) ≡ f (line ∷ older))
-    → ((line : Line) (older : List Line) → is_one a (told_of line) ≡ false → f (line ∷ older) ≡ f older) → (log : List Line) → f (own_lines a log) ≡ f log
+    → ((line : Line) (older : List Line) → is_one a (subject_of line) ≡ false → f (line ∷ older) ≡ f older) → (log : List Line) → f (own_lines a log) ≡ f log
 of_own f a keep skip [] = refl
-of_own f a keep skip (line ∷ older) = go (is_one a (told_of line)) refl (of_own f a keep skip older)
+of_own f a keep skip (line ∷ older) = go (is_one a (subject_of line)) refl (of_own f a keep skip older)
   where
-    go : (t : Bool) → is_one a (told_of line) ≡ t → f (own_lines a older) ≡ f older → f (if t then line ∷ own_lines a older else own_lines a older) ≡ f (line ∷ older)
+    go : (t : Bool) → is_one a (subject_of line) ≡ t → f (own_lines a older) ≡ f older → f (if t then line ∷ own_lines a older else own_lines a older) ≡ f (line ∷ older)
     go true e h = keep line older h
     go false e h = h ∙ sym (skip line older e)
 
-no_end : (a : ℕ) (line : Line) (older : List Line) → is_one a (told_of line) ≡ false → ended a (line ∷ older) ≡ ended a older
+no_end : (a : ℕ) (line : Line) (older : List Line) → is_one a (subject_of line) ≡ false → ended a (line ∷ older) ≡ ended a older
 no_end a (Ask x b request told took) older h = refl
 no_end a (Begin x change) older h = refl
 no_end a (HealBegin x g kind) older h = refl
@@ -42,7 +42,7 @@ no_end a (Event event) older h = refl
 pub ended_own : (a : ℕ) (log : List Line) → ended a (own_lines a log) ≡ ended a log
 ended_own a log = of_own (ended a) a (λ line older h. ap (λ (n : ℕ). if ends_work a line then n + 1 else n) h) (no_end a) log
 
-no_kill : (a : ℕ) (line : Line) (older : List Line) → is_one a (told_of line) ≡ false → is_killed a (line ∷ older) ≡ is_killed a older
+no_kill : (a : ℕ) (line : Line) (older : List Line) → is_one a (subject_of line) ≡ false → is_killed a (line ∷ older) ≡ is_killed a older
 no_kill a (Ask x b request told took) older h = refl
 no_kill a (Begin x change) older h = refl
 no_kill a (HealBegin x g kind) older h = refl
@@ -57,7 +57,7 @@ no_kill a (Event (Kill x)) older h = not_or (x.0 == a) (is_killed a older) h
 pub killed_own : (a : ℕ) (log : List Line) → is_killed a (own_lines a log) ≡ is_killed a log
 killed_own a log = of_own (is_killed a) a (λ line older h. ap (λ (k : Bool). kills a line || k) h) (no_kill a) log
 
-no_answer : (a : ℕ) (line : Line) → is_one a (told_of line) ≡ false → reply_by a line ≡ None
+no_answer : (a : ℕ) (line : Line) → is_one a (subject_of line) ≡ false → reply_by a line ≡ None
 no_answer a (Ask x b request told took) h = refl
 no_answer a (Begin x change) h = refl
 no_answer a (HealBegin x g kind) h = refl
@@ -74,7 +74,7 @@ lines_own words a commands log = of_own (ended_lines words a commands) a keep sk
         ap (λ (t : List ℕ). t ++ command_line words (ended a (own_lines a older)) (slice_get commands (ended a (own_lines a older))) (reply_by a line)) h
         ∙ ap (λ (n : ℕ). ended_lines words a commands older ++ command_line words n (slice_get commands n) (reply_by a line)) (ended_own a older)
 
-    skip : (line : Line) (older : List Line) → is_one a (told_of line) ≡ false → ended_lines words a commands (line ∷ older) ≡ ended_lines words a commands older
+    skip : (line : Line) (older : List Line) → is_one a (subject_of line) ≡ false → ended_lines words a commands (line ∷ older) ≡ ended_lines words a commands older
     skip line older h =
         ap (λ (r : Option Reply). ended_lines words a commands older ++ command_line words (ended a older) (slice_get commands (ended a older)) r) (no_answer a line h)
         ∙ ap (λ (t : List ℕ). ended_lines words a commands older ++ t) (no_reply words (ended a older) (slice_get commands (ended a older)))
@@ -87,7 +87,7 @@ quiet : (t : Bool) (line : Line) (older : List Line) (w : Work) → heal_line li
 quiet true line older w e = ap (λ (t : List ℕ). heal_lines w ++ t) e ∙ append-nil (heal_lines w)
 quiet false line older w e = refl
 
-no_heal : (a : ℕ) (line : Line) (older : List Line) → is_one a (told_of line) ≡ false → heal_lines (work a (line ∷ older)) ≡ heal_lines (work a older)
+no_heal : (a : ℕ) (line : Line) (older : List Line) → is_one a (subject_of line) ≡ false → heal_lines (work a (line ∷ older)) ≡ heal_lines (work a older)
 no_heal a (Ask x b request told took) older h = quiet (x.0 == a) (Ask x b request told took) older (work a older) refl
 no_heal a (Begin x change) older h = quiet (x.0 == a) (Begin x change) older (work a older) refl
 no_heal a (HealBegin x g kind) older h = quiet (x.0 == a) (HealBegin x g kind) older (work a older) refl
@@ -123,7 +123,7 @@ rounds_own words a log = of_own (rounds_lines words a) a keep skip log
         ∙ ap (λ (n : ℕ). rounds_lines words a older ++ round_lines words n (reply_by a line) (work a (own_lines a older))) (ended_own a older)
         ∙ ap (λ (t : List ℕ). rounds_lines words a older ++ t) (same_round words (ended a older) (reply_by a line) (work a (own_lines a older)) (work a older) (heals_own a older))
 
-    skip : (line : Line) (older : List Line) → is_one a (told_of line) ≡ false → rounds_lines words a (line ∷ older) ≡ rounds_lines words a older
+    skip : (line : Line) (older : List Line) → is_one a (subject_of line) ≡ false → rounds_lines words a (line ∷ older) ≡ rounds_lines words a older
     skip line older h =
         ap (λ (r : Option Reply). rounds_lines words a older ++ round_lines words (ended a older) r (work a older)) (no_answer a line h)
         ∙ append-nil (rounds_lines words a older)

@@ -9,7 +9,7 @@ use Rattle.afr_plan.specs.declared.command.Command.{Command}
 use Rattle.afr_plan.specs.declared.plan.Words.{Words}
 use Rattle.afr_model.specs.Report.{client_text}
 use Rattle.afr_model.specs.ReportHealers.{healer_text}
-use Rattle.afr_report.specs.Own.{told_of, is_one, in_front, lines_at, own_lines, placed, places}
+use Rattle.afr_report.specs.Own.{subject_of, is_one, in_front, lines_at, own_lines, placed, places}
 use Rattle.afr_report.proofs.OwnLemmas.{client_own, healer_own}
 use Rattle.afr_report.proofs.ToldLemmas.{one_unasked}
 
@@ -19,7 +19,7 @@ length_placed (Some x) at lists = length-set lists x (get_or lists x [] ++ at �
 
 length_places : (seen : List Line) → length (places seen) ≡ 20
 length_places [] = length-replicate {A = List ℕ} 20 []
-length_places (line ∷ older) = length_placed (told_of line) (length older) (places older) ∙ length_places older
+length_places (line ∷ older) = length_placed (subject_of line) (length older) (places older) ∙ length_places older
 
 -- an actor's list, after a position was added to one
 place_in : (a : ℕ) (o : Option ℕ) (at : ℕ) (lists : List (List ℕ)) → a < length lists → get_or (placed o at lists) a [] ≡ (if is_one a o then get_or lists a [] ++ at ∷ [] else get_or lists a [])
@@ -40,8 +40,8 @@ behind (y ∷ xs) x more n e = rw e (behind xs x more (length xs) refl)
 pub found : (a : ℕ) → a < 20 → (log seen newer : List Line) → log ≡ reverse seen ++ newer → lines_at log (reverse (get_or (places seen) a [])) ≡ own_lines a seen
 found a small log [] newer e = ap (λ (own : List ℕ). lines_at log (reverse own)) (get_or-replicate {A = List ℕ} 20 a [] [] small)
 found a small log (line ∷ older) newer e =
-    ap (λ (own : List ℕ). lines_at log (reverse own)) (place_in a (told_of line) (length older) (places older) (omega (arith, length_places older, small)))
-    ∙ go (is_one a (told_of line)) refl (found a small log older (line ∷ newer) split)
+    ap (λ (own : List ℕ). lines_at log (reverse own)) (place_in a (subject_of line) (length older) (places older) (omega (arith, length_places older, small)))
+    ∙ go (is_one a (subject_of line)) refl (found a small log older (line ∷ newer) split)
   where
     split : log ≡ reverse older ++ line ∷ newer
     split = e ∙ ap (λ (t : List Line). t ++ newer) (reverse-append (line ∷ []) older) ∙ append_assoc (reverse older) (line ∷ []) newer
@@ -49,7 +49,7 @@ found a small log (line ∷ older) newer e =
     there : slice_get log (length older) ≡ Some line
     there = ap (λ (t : List Line). slice_get t (length older)) split ∙ behind (reverse older) line newer (length older) (sym (length-reverse older))
 
-    go : (t : Bool) → is_one a (told_of line) ≡ t → lines_at log (reverse (get_or (places older) a [])) ≡ own_lines a older
+    go : (t : Bool) → is_one a (subject_of line) ≡ t → lines_at log (reverse (get_or (places older) a [])) ≡ own_lines a older
         → lines_at log (reverse (if t then get_or (places older) a [] ++ length older ∷ [] else get_or (places older) a [])) ≡ (if t then line ∷ own_lines a older else own_lines a older)
     go true e h =
         ap (λ (t : List ℕ). lines_at log t) (reverse-append (get_or (places older) a []) (length older ∷ []))

@@ -8,7 +8,7 @@ use Rattle.afr_lines.specs.declared.line.Line.TheVariants.{Ask, Begin, HealBegin
 use Rattle.afr_log.specs.Log.{unasked, unasked_line}
 use Rattle.afr_model.specs.Report.{started_bricks, started_by}
 use Rattle.afr_report.specs.BrickLines.{AreBrickLines, IsBrickLine}
-use Rattle.afr_report.specs.Own.{is_one, placed, places, told_of}
+use Rattle.afr_report.specs.Own.{is_one, placed, places, subject_of}
 use Rattle.afr_report.proofs.BrickLinesLemmas.{brick_line_at}
 
 -- of the lines up to a position the one that stands there
@@ -42,7 +42,7 @@ shown (Some (HealEnd actor g kind reply)) line e = sym e
 shown (Some (Event event)) line e = sym e
 
 -- ---- actors
-told_unasked : (line : Line) → option_and_then told_of (unasked_line line) ≡ told_of line
+told_unasked : (line : Line) → option_and_then subject_of (unasked_line line) ≡ subject_of line
 told_unasked (Ask actor brick request told took) = refl
 told_unasked (Begin actor change) = refl
 told_unasked (HealBegin actor g kind) = refl
@@ -51,7 +51,7 @@ told_unasked (HealEnd actor g kind reply) = refl
 told_unasked (Event event) = refl
 
 -- a line that tells of an actor is no request
-pub one_unasked : (a : ℕ) (line : Line) → is_one a (told_of line) ≡ true → unasked_line line ≡ Some line
+pub one_unasked : (a : ℕ) (line : Line) → is_one a (subject_of line) ≡ true → unasked_line line ≡ Some line
 one_unasked a (Ask actor brick request told took) h = absurd (grind (arith, h))
 one_unasked a (Begin actor change) h = refl
 one_unasked a (HealBegin actor g kind) h = refl
@@ -61,12 +61,12 @@ one_unasked a (Event event) h = refl
 
 -- the positions with that of one line more
 pub placed_next : (log : List Line) (at : ℕ) → at < length log
-    → placed (option_and_then told_of (unasked (slice_get log at))) at (places (reverse (take at log))) ≡ places (reverse (take (at + 1) log))
+    → placed (option_and_then subject_of (unasked (slice_get log at))) at (places (reverse (take at log))) ≡ places (reverse (take (at + 1) log))
 placed_next log at small =
     let e = line_there log at small in
-    ap (λ (o : Option Line). placed (option_and_then told_of (unasked o)) at (places (reverse (take at log)))) e.1
+    ap (λ (o : Option Line). placed (option_and_then subject_of (unasked o)) at (places (reverse (take at log)))) e.1
     ∙ ap (λ (o : Option ℕ). placed o at (places (reverse (take at log)))) (told_unasked e.0)
-    ∙ ap (λ (n : ℕ). placed (told_of e.0) n (places (reverse (take at log)))) (sym (before log at small))
+    ∙ ap (λ (n : ℕ). placed (subject_of e.0) n (places (reverse (take at log)))) (sym (before log at small))
     ∙ ap (λ (lines : List Line). places lines) (sym (newest log at e.0 e.1))
 
 -- ---- bricks

@@ -6,11 +6,11 @@ use Rattle.afr_lines.specs.declared.line.Line.TheVariants.{End, HealEnd, Event}
 use Rattle.afr_log.specs.Log.{unasked}
 
 -- the actor of whom a line tells how far it has come: its work or its heal ends, or it is killed
-abbrev pub told_of : Line → Option ℕ
-told_of (End x reply) = Some x.0
-told_of (HealEnd x g kind reply) = Some x.0
-told_of (Event (Kill x)) = Some x.0
-told_of line = None
+abbrev pub subject_of : Line → Option ℕ
+subject_of (End x reply) = Some x.0
+subject_of (HealEnd x g kind reply) = Some x.0
+subject_of (Event (Kill x)) = Some x.0
+subject_of line = None
 
 -- whether it is this one
 abbrev pub is_one : ℕ → Option ℕ → Bool
@@ -30,7 +30,7 @@ lines_at log (at ∷ earlier) = in_front (unasked (slice_get log at)) (lines_at 
 -- the lines that tell of an actor
 abbrev pub own_lines : ℕ → List Line → List Line
 own_lines a [] = []
-own_lines a (line ∷ older) = if is_one a (told_of line) then line ∷ own_lines a older else own_lines a older
+own_lines a (line ∷ older) = if is_one a (subject_of line) then line ∷ own_lines a older else own_lines a older
 
 -- a position at the end of an actor's list
 abbrev pub placed : Option ℕ → ℕ → List (List ℕ) → List (List ℕ)
@@ -40,4 +40,4 @@ placed (Some x) at lists = slice_set lists x (slice_index_or lists x [] ++ at �
 -- for each actor of a plan, by its number, the positions of the lines that tell of it, the oldest first
 abbrev pub places : List Line → List (List ℕ)
 places [] = replicate 20 []
-places (line ∷ older) = placed (told_of line) (length older) (places older)
+places (line ∷ older) = placed (subject_of line) (length older) (places older)

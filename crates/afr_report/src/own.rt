@@ -2,7 +2,7 @@
 ghost use Rattle.std.specs.Prelude.{◌≡◌, IfOk, OnOk, [], length, replicate, reverse, slice_get, slice_index_or};
 ghost use Rattle.std.specs.Option.{option_and_then, option_copied, option_map};
 ghost use Rattle.afr_log.specs.Log.{unasked};
-ghost use Rattle.afr_report.specs.Own.{placed, places, told_of};
+ghost use Rattle.afr_report.specs.Own.{placed, places, subject_of};
 
 use afr_base::{ACTORS, ActorId, NoMemory};
 use afr_lines::{Event, Line};
@@ -36,12 +36,12 @@ fn no_places(alloc: Global) -> Result<Vec<List<u32>>, NoMemory>
 
 /// Notes the position of a line, if there is one and it tells of an actor.
 fn note(lists: &mut Vec<List<u32>>, line: Option<&Line>, at: usize) -> Result<(), NoMemory>
-    ensures ok { OnOk result (lists.new.items ≡ placed (option_and_then told_of (option_copied line.entry)) at lists.old.items) }
+    ensures ok { OnOk result (lists.new.items ≡ placed (option_and_then subject_of (option_copied line.entry)) at lists.old.items) }
 {
     let Some(line) = line else {
         return Ok(());
     };
-    match told_of(line) {
+    match subject_of(line) {
         Some(actor) => place(lists, actor.0 as usize, at),
         None => Ok(()),
     }
@@ -60,8 +60,8 @@ fn place(lists: &mut Vec<List<u32>>, actor: usize, at: usize) -> Result<(), NoMe
 }
 
 /// The actor of whom the line tells how far it has come.
-fn told_of(line: &Line) -> Option<ActorId>
-    ensures { option_map (λ actor. actor.0) result ≡ told_of line.now }
+fn subject_of(line: &Line) -> Option<ActorId>
+    ensures { option_map (λ actor. actor.0) result ≡ subject_of line.now }
 {
     match line {
         Line::End { actor, .. } => Some(*actor),
@@ -74,7 +74,7 @@ fn told_of(line: &Line) -> Option<ActorId>
 }
 
 fn killed(event: Event) -> Option<ActorId>
-    ensures { option_map (λ actor. actor.0) result ≡ told_of (Line.Event event) }
+    ensures { option_map (λ actor. actor.0) result ≡ subject_of (Line.Event event) }
 {
     match event {
         Event::Kill(actor) => Some(actor),

@@ -1,7 +1,7 @@
 -- A healer is within its costs at first and as a round begins, and a line beside it changes nothing.
 use Rattle.std.proofs.Common.{◌≡◌, ℕ, [], ◌∷◌, Option, None, Some, refl, sym, ap, arith, subst}
 use Rattle.afr_bound.specs.Cost.{objects_of, spent}
-use Rattle.afr_daemon.specs.Round.{Progress}
+use Rattle.afr_daemon.specs.Round.{RoundProgress}
 use Rattle.afr_healer.specs.Rounding.{Rounding, made_ready, ready_at}
 use Rattle.afr_healer.specs.declared.stage.RoundStage.{RoundStage}
 use Rattle.afr_healer.specs.declared.stage.RoundStage.TheVariants.{Asking, Healing, Over}
@@ -20,7 +20,7 @@ pub paced_at_first : RoundPacedAtFirst
 paced_at_first p a x new = subst (IsPacedRound p a []) (sym new.idle) (record { within = λ cost e. omega arith; rooted = tt })
 
 -- ---- the merge of names takes no line
-ready_left : (n objects : ℕ) (r : Progress) (stage : RoundStage) → left_in_stage n objects r (ready_at stage) ≡ left_in_stage n objects r stage
+ready_left : (n objects : ℕ) (r : RoundProgress) (stage : RoundStage) → left_in_stage n objects r (ready_at stage) ≡ left_in_stage n objects r stage
 ready_left n objects r Asking = refl
 ready_left n objects r (Healing h) = refl
 ready_left n objects r (Over refused) = refl

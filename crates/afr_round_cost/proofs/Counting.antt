@@ -6,7 +6,7 @@ use Rattle.afr_base.specs.declared.ids.ActorId.{ActorId}
 use Rattle.afr_base.specs.declared.ids.BrickId.{BrickId}
 use Rattle.afr_bound.specs.Cost.{costs_of, counted, round_cost}
 use Rattle.afr_heal_pace.specs.Left.{taken}
-use Rattle.afr_lines.specs.declared.answer.Told.TheVariants as told_of
+use Rattle.afr_lines.specs.declared.answer.Told.TheVariants as as_told
 use Rattle.afr_lines.specs.declared.answer.Told.{Told}
 use Rattle.afr_lines.specs.declared.line.Line.TheVariants.{Ask}
 use Rattle.afr_lines.specs.declared.request.Request.TheVariants as request
@@ -17,10 +17,10 @@ use Rattle.afr_lines.specs.declared.lock.Domain.TheVariants.{Heal, Work}
 
 -- a line that answers a request counts what it takes from the lines left
 pub counted_ask : (a : ActorId) (b : BrickId) (asked : Request) (told : Told) (took : Bool) → counted (Ask a b asked told took) ≡ taken asked told
-counted_ask a b (request.Lock Work area) (told_of.Held owner) took = refl
+counted_ask a b (request.Lock Work area) (as_told.Held owner) took = refl
 counted_ask a b (request.Lock Work area) told took = refl
 counted_ask a b (request.Lock Heal area) told took = refl
-counted_ask a b (request.Unlock domain area) told_of.Failed took = refl
+counted_ask a b (request.Unlock domain area) as_told.Failed took = refl
 counted_ask a b (request.Unlock domain area) told took = refl
 counted_ask a b asked told took = refl
 

@@ -6,15 +6,15 @@ use Rattle.afr_base.specs.declared.ids.Kind.{Kind}
 use Rattle.afr_base.specs.declared.ids.Kind.TheVariants.{Attrs, Bytes, Names}
 use Rattle.afr_base.specs.declared.ids.Shape.{Shape}
 use Rattle.afr_discipline.specs.Laws.{NotesStand, ShapesKept}
-use Rattle.afr_discipline.specs.Stands.{Stands, phase_of, seen_as, step_of}
+use Rattle.afr_discipline.specs.Stands.{Stands, heal_part_of, seen_as, step_of}
 use Rattle.afr_discipline.specs.Turns.{candidate}
 use Rattle.afr_discipline.specs.declared.register.Move.{Move}
 use Rattle.afr_discipline.specs.declared.register.Move.TheVariants as move
 use Rattle.afr_discipline.specs.declared.register.Register.{Register}
 use Rattle.afr_heal.proofs.Carried.{restyled, restyled_is, self_stands}
 use Rattle.afr_heal.proofs.Parts.{both, not_both, pair}
-use Rattle.afr_heal.specs.Answers.{Picks, asked_for, begun_at, source_after}
-use Rattle.afr_heal.specs.Engine.{Ask, Next}
+use Rattle.afr_heal.specs.Answers.{PicksOne, asked_for, begun_at, source_after}
+use Rattle.afr_heal.specs.Engine.{Ask, NextOfHeal}
 use Rattle.afr_heal_pace.specs.Laws.{HealComesNearer, HealKeepsEnd, Nearer, StaysRooted}
 use Rattle.afr_heal_pace.specs.Left.{Rooted, giving, heal_cost, left_at, left_in, lines_left, looking, onward, rest_of, taken}
 use Rattle.afr_lines.specs.Told.{told_by}
@@ -23,7 +23,7 @@ use Rattle.afr_lines.specs.declared.answer.Told.{Told}
 use Rattle.afr_lines.specs.declared.answer.Told.TheVariants.{Done}
 use Rattle.afr_lines.specs.declared.request.Request.{Request}
 use Rattle.afr_moves.specs.Keeps.{keeps_in}
-use Rattle.afr_moves.specs.Register.{Exact, Looks, Opening, Phase, is_opening, over, same_step}
+use Rattle.afr_moves.specs.Register.{Exact, HealPart, Looks, Opening, is_opening, over, same_step}
 use Rattle.afr_moves.specs.Steps.{goes_on, looks_at}
 use Rattle.afr_self_heal.proofs.FoundLemmas.{found_parts, looks_is, opening_is, pick_for, pick_is, picks_for}
 use Rattle.afr_round_pace.specs.Laws.{HealAsksNearer, HealAsksRooted, HealBeginsNearer, HealCosts, HealEndLeft}
@@ -34,15 +34,15 @@ use Rattle.afr_self_heal.specs.Source.{IsCandidate, is_found}
 
 -- ---- while the first looks are not over, the source doesn't matter
 module _ (n : ℕ) (keeps : ℕ → Kind → Bool) (r : Exact) (s c : ℕ) (kind : Kind) where
-  onward_any : (part : Phase) → part ≡ Opening → onward n r s kind (is_opening part) ≡ onward n r c kind (is_opening part)
+  onward_any : (part : HealPart) → part ≡ Opening → onward n r s kind (is_opening part) ≡ onward n r c kind (is_opening part)
   onward_any Opening e = refl
   onward_any _ e = absurd (cc e)
 
-  looking_any : r.phase ≡ Opening → (f : Bool) → f ≡ false → looking n keeps r s kind f ≡ looking n keeps r c kind f
+  looking_any : r.part ≡ Opening → (f : Bool) → f ≡ false → looking n keeps r s kind f ≡ looking n keeps r c kind f
   looking_any part true e = absurd (not_both true refl e)
-  looking_any part false e = ap (λ (a : ℕ). left_in n (looks_at r r.phase) r.asked + a) (onward_any r.phase part)
+  looking_any part false e = ap (λ (a : ℕ). left_in n (looks_at r r.part) r.asked + a) (onward_any r.part part)
 
-  over_here : (part : Phase) → part ≡ Opening → over n r.law.held r.asked ≡ false → over n (looks_at r part) r.asked ≡ false
+  over_here : (part : HealPart) → part ≡ Opening → over n r.law.held r.asked ≡ false → over n (looks_at r part) r.asked ≡ false
   over_here Opening e h = h
   over_here _ e h = absurd (cc e)
 
@@ -53,17 +53,17 @@ module _ (n : ℕ) (keeps : ℕ → Kind → Bool) (r : Exact) (s c : ℕ) (kind
   past_by true false part past h a b c = absurd (not_both false b refl)
   past_by true true false past h a b c = absurd (not_both false c refl)
 
-  lines_any : is_found n r ≡ false → r.step ≡ Looks → r.phase ≡ Opening → lines_left n keeps r s kind ≡ lines_left n keeps r c kind
+  lines_any : is_found n r ≡ false → r.step ≡ Looks → r.part ≡ Opening → lines_left n keeps r s kind ≡ lines_left n keeps r c kind
   lines_any unfound at part = go r.broken refl
     where
       go : (f : Bool) → r.broken ≡ f → (if f then giving n r else left_at n keeps r s kind r.step) ≡ (if f then giving n r else left_at n keeps r c kind r.step)
       go true e = refl
       go false e =
           let at_looks : same_step r.step Looks ≡ true = rw at refl in
-          let at_part : is_opening r.phase ≡ true = rw part refl in
+          let at_part : is_opening r.part ≡ true = rw part refl in
           let whole : not r.broken ≡ true = rw e refl in
-          let past = past_by (not r.broken) (same_step r.step Looks) (is_opening r.phase) (over n r.law.held r.asked) unfound whole at_looks at_part in
-          ap (left_at n keeps r s kind) at ∙ looking_any part (over n (looks_at r r.phase) r.asked) (over_here r.phase part past) ∙ sym (ap (left_at n keeps r c kind) at)
+          let past = past_by (not r.broken) (same_step r.step Looks) (is_opening r.part) (over n r.law.held r.asked) unfound whole at_looks at_part in
+          ap (left_at n keeps r s kind) at ∙ looking_any part (over n (looks_at r r.part) r.asked) (over_here r.part part past) ∙ sym (ap (left_at n keeps r c kind) at)
 
 -- ---- after an answer
 -- a request as a move
@@ -101,17 +101,17 @@ module _ (notes : NotesStand) (shapes : ShapesKept) (lows : HealAsksLow) (m : He
   lines_carried c = (let e = restyled_is q r there in ap (λ (r2 : Exact). lines_left p.shape.n (keeps_in p.shape) r2 c m.kind) e)
 
   module _ (nearer : HealComesNearer) (rooted : Rooted (seen_as p)) where
-    near_by : (pick : (ℕ → Bool) → ℕ) → Picks p.shape.n pick → lines_left p.shape.n (keeps_in p.shape) r (source_after p.shape.n (keeps_in p.shape) pick r m.source.0) m.kind + taken request told ≤ heal_left m
+    near_by : (pick : (ℕ → Bool) → ℕ) → PicksOne p.shape.n pick → lines_left p.shape.n (keeps_in p.shape) r (source_after p.shape.n (keeps_in p.shape) pick r m.source.0) m.kind + taken request told ≤ heal_left m
     near_by pick picks =
-        subst (λ (next : Next). Nearer p.shape.n (keeps_in p.shape) pick (seen_as p) m.source.0 m.gfid m.kind next) next
+        subst (λ (next : NextOfHeal). Nearer p.shape.n (keeps_in p.shape) pick (seen_as p) m.source.0 m.gfid m.kind next) next
         (nearer p.shape.n (keeps_in p.shape) pick (seen_as p) m.source.0 m.gfid m.kind k.heals.some k.heals.few picks k.heals.standing rooted k.short) t told can.0
 
     -- whether the line was a look of the first part
     abbrev looked : Bool
-    looked = same_step r.step Looks && is_opening r.phase
+    looked = same_step r.step Looks && is_opening r.part
 
-    looked_is : looked ≡ (same_step (step_of q.step) Looks && is_opening (phase_of q.phase))
-    looked_is = let e = there.step in let f = there.phase in λ i. same_step (e i) Looks && is_opening (f i)
+    looked_is : looked ≡ (same_step (step_of q.step) Looks && is_opening (heal_part_of q.part))
+    looked_is = let e = there.step in let f = there.part in λ i. same_step (e i) Looks && is_opening (f i)
 
     not_looked : looked ≡ false → is_found p.shape.n (seen_as q) ≡ false
     not_looked h = go (is_found p.shape.n (seen_as q)) refl
@@ -120,13 +120,13 @@ module _ (notes : NotesStand) (shapes : ShapesKept) (lows : HealAsksLow) (m : He
         go false e = refl
         go true e =
             let f = found_parts p.shape.n (seen_as q) e in
-            let both_are : (same_step (step_of q.step) Looks && is_opening (phase_of q.phase)) ≡ true = rw (f.at, f.part) refl in
+            let both_are : (same_step (step_of q.step) Looks && is_opening (heal_part_of q.part)) ≡ true = rw (f.at, f.part) refl in
             absurd (not_both looked (looked_is ∙ both_are) h)
 
-    looked_parts : looked ≡ true → (step_of q.step ≡ Looks) × (phase_of q.phase ≡ Opening)
+    looked_parts : looked ≡ true → (step_of q.step ≡ Looks) × (heal_part_of q.part ≡ Opening)
     looked_parts h =
-        let parts = both (same_step (step_of q.step) Looks) (is_opening (phase_of q.phase)) (sym looked_is ∙ h) in
-        (looks_is (step_of q.step) parts.0, opening_is (phase_of q.phase) parts.1)
+        let parts = both (same_step (step_of q.step) Looks) (is_opening (heal_part_of q.part)) (sym looked_is ∙ h) in
+        (looks_is (step_of q.step) parts.0, opening_is (heal_part_of q.part) parts.1)
 
     -- a copy that may be the source by the program's register may be by the exact one
     candidate_back : (c : ℕ) → IsCandidate q c → (c < p.shape.n) × (candidate p.shape.n (keeps_in p.shape) r c ≡ true)
@@ -137,7 +137,7 @@ module _ (notes : NotesStand) (shapes : ShapesKept) (lows : HealAsksLow) (m : He
         (subst (λ (shape : Shape). c < shape.n) same w.below, pair (r.possible c) (goes_on p.shape.n (keeps_in p.shape) r c) (there.possible c w.below ∙ parts.0) parts.1)
 
     -- with this source by the exact register
-    near_with : (c : ℕ) (pick : (ℕ → Bool) → ℕ) → Picks p.shape.n pick → source_after p.shape.n (keeps_in p.shape) pick r m.source.0 ≡ c → lines_left p.shape.n (keeps_in p.shape) (seen_as q) c m.kind + taken request told ≤ heal_left m
+    near_with : (c : ℕ) (pick : (ℕ → Bool) → ℕ) → PicksOne p.shape.n pick → source_after p.shape.n (keeps_in p.shape) pick r m.source.0 ≡ c → lines_left p.shape.n (keeps_in p.shape) (seen_as q) c m.kind + taken request told ≤ heal_left m
     near_with c pick picks e =
         let h = near_by pick picks in
         let i = ap (λ (s : ℕ). lines_left p.shape.n (keeps_in p.shape) r s m.kind) e in
@@ -197,7 +197,7 @@ module _ (notes : NotesStand) (m : Healing) (t : ℕ) (k : IsHealing m) where
 
 pub heal_begins_nearer : NotesStand → HealComesNearer → HealBeginsNearer
 heal_begins_nearer notes nearer m t k rooted next = (
-  begun_near notes m t k (subst (λ (next : Next). Nearer m.register.shape.n (keeps_in m.register.shape) (pick_for m.register.shape.n 0) (seen_as m.register) m.source.0 m.gfid m.kind next) next
+  begun_near notes m t k (subst (λ (next : NextOfHeal). Nearer m.register.shape.n (keeps_in m.register.shape) (pick_for m.register.shape.n 0) (seen_as m.register) m.source.0 m.gfid m.kind next) next
       (nearer m.register.shape.n (keeps_in m.register.shape) (pick_for m.register.shape.n 0) (seen_as m.register) m.source.0 m.gfid m.kind k.heals.some k.heals.few (picks_for m.register.shape.n 0) k.heals.standing rooted k.short) t),
   rooted,
 )

@@ -8,7 +8,7 @@ use Rattle.afr_base.specs.declared.ids.Kind.TheVariants.{Attrs}
 use Rattle.afr_base.specs.declared.ids.Shape.{Shape}
 use Rattle.afr_base.specs.declared.ids.What.{What}
 use Rattle.afr_base.specs.declared.ids.What.TheVariants.{Dir, File}
-use Rattle.afr_daemon.specs.Round.{Progress, heals_in, next_due, with_list}
+use Rattle.afr_daemon.specs.Round.{RoundProgress, heals_in, next_due, with_list}
 use Rattle.afr_heal_pace.specs.Left.{heal_cost}
 use Rattle.afr_healer.specs.Rounding.{going_on, healed, indexed, stage_due}
 use Rattle.afr_healer.specs.declared.stage.RoundStage.{RoundStage}
@@ -46,7 +46,7 @@ due_next n (y ∷ xs) zero x e = (let is : y ≡ x = cc e in ap (λ (z : Gfid ×
 due_next n (y ∷ xs) (suc k) x e = due_next n xs k x e
 
 -- ---- the heal that is due, or the end
-due_most : HealCosts → (objects : ℕ) (shape : Shape) (r : Progress) → (round_left objects (going_on shape r) ≤ due_left shape.n r + 1) × AreRooted (going_on shape r).stage
+due_most : HealCosts → (objects : ℕ) (shape : Shape) (r : RoundProgress) → (round_left objects (going_on shape r) ≤ due_left shape.n r + 1) × AreRooted (going_on shape r).stage
 due_most costs objects shape r = go (next_due r) refl
   where
     go : (o : Option (Gfid × Kind)) → next_due r ≡ o

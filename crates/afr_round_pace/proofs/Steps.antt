@@ -1,7 +1,7 @@
 -- Each line of a round's machine comes nearer to its end.
 use Rattle.std.proofs.Common.{◌≡◌, ◌≤◌, ◌+◌, ℕ, ap, arith, false, refl, subst, sym, true}
 use Rattle.afr_heal.proofs.Parts.{not_both}
-use Rattle.afr_heal.specs.Engine.{Ask, Begins, Ends, Next}
+use Rattle.afr_heal.specs.Engine.{Ask, Begins, Ends, NextOfHeal}
 use Rattle.afr_heal_pace.specs.Left.{taken}
 use Rattle.afr_healer.specs.Rounding as round
 use Rattle.afr_healer.specs.Rounding.{IsStaged, Rounding, healed}
@@ -21,12 +21,12 @@ module _ (asks : HealAsksNearer) (roots : HealAsksRooted) (costs : HealCosts) wh
   -- the heal that it is at
   heal_near : (m after : Healing) (answer : Answer) (at : ℕ) → IsHealing m → IsRooted m → CanHear (coming m) answer → IsAnswered answer at m after → (heal_left after + taken_by (heal.next_of m) answer ≤ heal_left m) × IsRooted after
   heal_near m after answer at k rooted can w =
-      let hears : CanHear (Ask w.brick w.request) answer = subst (λ (next : Next). CanHear next answer) w.asked can in
+      let hears : CanHear (Ask w.brick w.request) answer = subst (λ (next : NextOfHeal). CanHear next answer) w.asked can in
       let value = w.value in
       let picks : is_found m.register.shape.n (seen_as (register_after m w.brick w.request answer at)) ≡ true → IsCandidate (register_after m w.brick w.request answer at) w.chosen.0 = subst (λ (new : Healing). is_found m.register.shape.n (seen_as new.register) ≡ true → IsCandidate new.register w.chosen.0) value w.picked in
       let h = asks m w.brick w.request answer at w.chosen k rooted w.asked hears picks in
       let r = roots m w.brick w.request answer at w.chosen k rooted w.asked hears in
-      let t : taken_by (heal.next_of m) answer ≡ taken w.request (told_by answer) = ap (λ (next : Next). taken_by (heal.line_of m next) answer) w.asked in
+      let t : taken_by (heal.next_of m) answer ≡ taken w.request (told_by answer) = ap (λ (next : NextOfHeal). taken_by (heal.line_of m next) answer) w.asked in
       let e : heal_left after ≡ heal_left (answered m w.brick w.request answer at w.chosen) = ap heal_left w.value in
       let v = w.value in
       (omega (arith, h, t, e), subst IsRooted (sym v) r)
@@ -52,7 +52,7 @@ module _ (asks : HealAsksNearer) (roots : HealAsksRooted) (costs : HealCosts) wh
 pub round_begins_nearer : HealBeginsNearer → RoundBeginsNearer
 round_begins_nearer begins objects old at k rooted next = go old.stage refl k.staged rooted next
   where
-    next_begins : (m : Healing) (next : Next) → coming m ≡ next → round.is_beginning (heal.line_of m next) ≡ true → coming m ≡ Begins
+    next_begins : (m : Healing) (next : NextOfHeal) → coming m ≡ next → round.is_beginning (heal.line_of m next) ≡ true → coming m ≡ Begins
     next_begins m (Ask b request) e h = absurd (not_both false h refl)
     next_begins m Begins e h = e
     next_begins m Ends e h = absurd (not_both false h refl)

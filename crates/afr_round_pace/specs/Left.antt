@@ -2,7 +2,7 @@
 use Rattle.std.specs.Prelude.{ℕ, ◌+◌, ◌*◌, ◌≤◌, List, [], ◌∷◌, drop, length}
 use Rattle.afr_base.specs.declared.ids.Gfid.{Gfid}
 use Rattle.afr_base.specs.declared.ids.Kind.{Kind}
-use Rattle.afr_daemon.specs.Round.{Progress, heals_in}
+use Rattle.afr_daemon.specs.Round.{RoundProgress, heals_in}
 use Rattle.afr_discipline.specs.Stands.{seen_as}
 use Rattle.afr_heal_pace.specs.Left.{Rooted, heal_cost, lines_left, taken}
 use Rattle.afr_healer.specs.Rounding.{Rounding}
@@ -30,7 +30,7 @@ heals_cost n [] = 0
 heals_cost n (heal ∷ heals) = heal_cost n heal.1 + heals_cost n heals
 
 -- what the heals cost that were not given yet
-abbrev pub due_left : ℕ → Progress → ℕ
+abbrev pub due_left : ℕ → RoundProgress → ℕ
 due_left n p = heals_cost n (drop p.given (heals_in p.list))
 
 -- the most lines of a round over so many objects: the index, two heals of each object, and the end
@@ -41,7 +41,7 @@ abbrev pub objects_cost : ℕ → ℕ → ℕ
 objects_cost n objects = objects * object_cost n
 
 -- the lines that a round in this stage has left, where its index lists at most so many objects
-abbrev pub left_in_stage : ℕ → ℕ → Progress → RoundStage → ℕ
+abbrev pub left_in_stage : ℕ → ℕ → RoundProgress → RoundStage → ℕ
 left_in_stage n objects p Asking = objects_cost n objects + 2
 left_in_stage n objects p (At m) = heal_left m + due_left n p + 1
 left_in_stage n objects p (Over refused) = 1

@@ -12,7 +12,7 @@ use Rattle.afr_discipline.specs.Notes as notes
 use Rattle.afr_base.specs.Bricks.{added}
 use Rattle.afr_discipline.specs.Turns.{find, turn_of}
 use Rattle.afr_discipline.specs.declared.register.Register.{Register}
-use Rattle.afr_heal.specs.Engine.{Ask as Asks, Begins, Ends, Next, after_looks, broken_next, has_part, lock_next, next_of, or_else, part_or_end, step_or, whole_next}
+use Rattle.afr_heal.specs.Engine.{Ask as Asks, Begins, Ends, NextOfHeal, after_looks, broken_next, has_part, lock_next, next_of, or_else, part_or_end, step_or, whole_next}
 use Rattle.afr_heal.specs.Requests.{area_now, area_or, read_in, repair_in, request_in}
 use Rattle.afr_heal_telling.specs.HealLaws.{SettlesSeen}
 use Rattle.afr_lines.specs.Areas.{object_of_area}
@@ -29,7 +29,7 @@ use Rattle.afr_model.specs.Healing.{heal_by, is_border}
 use Rattle.afr_model.specs.Rounds.{IsOfHeal, KeepsToRound, listed_after, object_healed}
 use Rattle.afr_moves.specs.Note.{is_done, is_granted}
 use Rattle.afr_moves.specs.Past.{is_gone}
-use Rattle.afr_moves.specs.Register.{Exact, Finish, HealLocks, HealPres, HealUnlocks, Looks, Mends, Opening, Phase, Piece, Reads, Settles, Step, Unlocks, Untouched, WorkLocks, len_of, piece_area, whole_area}
+use Rattle.afr_moves.specs.Register.{Exact, Finish, HealLocks, HealPart, HealPres, HealUnlocks, Looks, Mends, Opening, Piece, Reads, Settles, Step, Unlocks, Untouched, WorkLocks, len_of, piece_area, whole_area}
 use Rattle.afr_moves.specs.Register as step_of
 use Rattle.afr_moves.specs.Rules.{heal_area, is_area}
 use Rattle.afr_moves.specs.Steps.{is_lowest}
@@ -53,14 +53,14 @@ AsksAbout g kind (request.Settle h what less) = (h ≡ g) × (what ≡ kind)
 AsksAbout g kind other = ⊥
 
 -- ---- what the engine asks
-pub record About (g : Gfid) (kind : Kind) (line : Next) : Type 0 where
+pub record About (g : Gfid) (kind : Kind) (line : NextOfHeal) : Type 0 where
   pub asks : (b : ℕ) (asked : Request) → line ≡ Asks b asked → AsksAbout g kind asked
 
 -- the area that is there is on the object
 abbrev pub IsOn : Gfid → Option Area → Type 0
 IsOn g there = (area : Area) → there ≡ Some area → object_of_area area ≡ g
 
-or_about : (g : Gfid) (kind : Kind) (request : ℕ → Request) (at : Option ℕ) (rest : Next) → ((b : ℕ) → AsksAbout g kind (request b)) → About g kind rest → About g kind (or_else request at rest)
+or_about : (g : Gfid) (kind : Kind) (request : ℕ → Request) (at : Option ℕ) (rest : NextOfHeal) → ((b : ℕ) → AsksAbout g kind (request b)) → About g kind rest → About g kind (or_else request at rest)
 or_about g kind request None rest k more = more
 or_about g kind request (Some b) rest k more = record { asks = λ c asked e. subst (AsksAbout g kind) (same e) (k b) }
   where
@@ -91,7 +91,7 @@ reads_on r g kind Bytes = refl
 reads_on r g kind Attrs = refl
 reads_on r g kind Names = refl
 
-repairs_on : (r : Exact) (s : ℕ) (g : Gfid) (kind : Kind) (part : Phase) → repaired (repair_in r s g kind part) ≡ g
+repairs_on : (r : Exact) (s : ℕ) (g : Gfid) (kind : Kind) (part : HealPart) → repaired (repair_in r s g kind part) ≡ g
 repairs_on r s g Bytes Opening = refl
 repairs_on r s g Bytes Piece = refl
 repairs_on r s g Bytes Finish = refl
@@ -99,7 +99,7 @@ repairs_on r s g Attrs part = refl
 repairs_on r s g Names part = refl
 
 module _ (n : ℕ) (keeps : ℕ → Kind → Bool) (r : Exact) (s : ℕ) (g : Gfid) (kind : Kind) (on : IsOn g r.law.area) where
-  at_step : (step : Step) (rest : Next) → ((b : ℕ) → AsksAbout g kind (request_in n keeps r s g kind step b)) → About g kind rest → About g kind (step_or n keeps r s g kind step rest)
+  at_step : (step : Step) (rest : NextOfHeal) → ((b : ℕ) → AsksAbout g kind (request_in n keeps r s g kind step b)) → About g kind rest → About g kind (step_or n keeps r s g kind step rest)
   at_step step rest k more = or_about g kind (request_in n keeps r s g kind step) (turn_of n keeps r s step) rest k more
 
   area_on : object_of_area (area_now r g kind) ≡ g
@@ -111,9 +111,9 @@ module _ (n : ℕ) (keeps : ℕ → Kind → Bool) (r : Exact) (s : ℕ) (g : Gf
 
   after : About g kind (after_looks n keeps r s g kind)
   after =
-      let unlocks = at_step Unlocks _ (λ b. area_on) (part_end (has_part kind r.phase)) in
+      let unlocks = at_step Unlocks _ (λ b. area_on) (part_end (has_part kind r.part)) in
       let settles = at_step Settles _ (λ b. (refl, refl)) unlocks in
-      let mends = at_step Mends _ (λ b. repairs_on r s g kind r.phase) settles in
+      let mends = at_step Mends _ (λ b. repairs_on r s g kind r.part) settles in
       let pres = at_step HealPres _ (λ b. refl) mends in
       at_step Reads _ (λ b. reads_on r g kind kind) pres
 

@@ -5,8 +5,8 @@ use Rattle.afr_base.specs.declared.ids.BrickId.{BrickId}
 use Rattle.afr_base.specs.declared.ids.Shape.{Shape}
 use Rattle.afr_discipline.specs.Stands.{seen_as}
 use Rattle.afr_discipline.specs.declared.register.Register.{Register}
-use Rattle.afr_heal.specs.Engine.{Ask as Asks, Next as HealNext}
-use Rattle.afr_heal_hears.specs.Hears.{IsTold}
+use Rattle.afr_heal.specs.Engine.{Ask as Asks, NextOfHeal as HealNext}
+use Rattle.afr_heal_hears.specs.Hears.{IsHeardInHeal}
 use Rattle.afr_heal_telling.specs.HealLaws.{IsWholeTold, SettlesSeen}
 use Rattle.afr_healer.specs.Rounding.{CarriesAt, IsAnswered, IsAnsweredAt, Rounding, made_ready, next_at, next_of}
 use Rattle.afr_healer.specs.declared.stage.RoundStage.{RoundStage}
@@ -23,7 +23,7 @@ use Rattle.afr_lines.specs.declared.request.Request.{Request}
 use Rattle.afr_model.specs.Following.{ToRound}
 use Rattle.afr_model.specs.HealReplies.{refuses_index}
 use Rattle.afr_model.specs.Healing.{heal_by}
-use Rattle.afr_model.specs.Rounds.{IsOfHeal, heal_due, healed, listed_by}
+use Rattle.afr_model.specs.Rounds.{IsOfHeal, heal_due, heals_ended, listed_by}
 use Rattle.afr_model.specs.Showing.{has}
 use Rattle.afr_plan.specs.declared.plan.Plan.{Plan}
 use Rattle.afr_moves.specs.Keeps.{keeps_in}
@@ -83,7 +83,7 @@ module _ (laws : RoundLaws) (p : Plan) (a : ActorId) (log : List Line) (servers 
     so : IsAskedSo p a log servers new s.epochs b asked h.register s.given
     so = asked_so (ask_laws laws) p a log servers (before_ask laws p a log servers before) x.visit.met x.visit.epochs (CarriesAt (Healing h)) b asked h.register n s.fits s.load new s.epochs s.given carries s.served
 
-    told_so : IsTold p log a b asked s.given.answer s.given.took
+    told_so : IsHeardInHeal p log a b asked s.given.answer s.given.took
     told_so = is_told laws p a log servers before new s.epochs b asked h.register s.given so
 
     about : AsksAbout h.gfid h.kind asked
@@ -128,7 +128,7 @@ module _ (laws : RoundLaws) (p : Plan) (a : ActorId) (log : List Line) (servers 
     listed : listed_by p (work a.0 (line ∷ log)) ≡ listed_by p (work a.0 log)
     listed = rw (self a.0) (line_is.listed (listed_by p (work a.0 log)))
 
-    healed_is : healed (work a.0 (line ∷ log)) ≡ healed (work a.0 log)
+    healed_is : heals_ended (work a.0 (line ∷ log)) ≡ heals_ended (work a.0 log)
     healed_is = rw (self a.0) refl
 
     due : heal_due p (work a.0 (line ∷ log)) ≡ Some (h.gfid, h.kind)

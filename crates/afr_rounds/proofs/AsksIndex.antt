@@ -20,14 +20,14 @@ use Rattle.afr_lines.specs.Work.{work}
 use Rattle.afr_lines.specs.declared.answer.Answer.{Answer}
 use Rattle.afr_lines.specs.declared.answer.Answer.TheVariants as answer_of
 use Rattle.afr_lines.specs.declared.answer.Told.{Told}
-use Rattle.afr_lines.specs.declared.answer.Told.TheVariants as told_of
+use Rattle.afr_lines.specs.declared.answer.Told.TheVariants as as_told
 use Rattle.afr_lines.specs.declared.line.Line.{Line}
 use Rattle.afr_lines.specs.declared.line.Line.TheVariants.{Ask}
 use Rattle.afr_lines.specs.declared.request.Request.TheVariants.{Index}
 use Rattle.afr_model.specs.Following.{ToRound}
 use Rattle.afr_model.specs.HealReplies.{refuses_index}
 use Rattle.afr_model.specs.Healing.{heal_by}
-use Rattle.afr_model.specs.Rounds.{heal_due, healed, listed_after, listed_by}
+use Rattle.afr_model.specs.Rounds.{heal_due, heals_ended, listed_after, listed_by}
 use Rattle.afr_model.specs.Showing.{has, is_fault}
 use Rattle.afr_plan.specs.declared.plan.Plan.{Plan}
 use Rattle.afr_rounds.specs.Acting.{IsAsked}
@@ -44,18 +44,18 @@ use Rattle.afr_rounds.proofs.Gathered.{RoundLaws}
 
 -- ---- what the answer leaves of the register and of the list
 noted_index : (shape : Shape) (at b : ℕ) (told : Told) → noted_ask (no_lines shape) at b Index told ≡ record (no_lines shape) { step = step.Open }
-noted_index shape at b told_of.NotConnected = refl
+noted_index shape at b as_told.NotConnected = refl
 noted_index shape at b told = refl
 
 unlisted : (p : Plan) (a : ActorId) (b : BrickId) (told : Told) (took : Bool) (log : List Line) (was : List (Gfid × What)) → is_fault told ≡ true → listed_after p (Ask a b Index told took) log was ≡ was
-unlisted p a b told_of.Failed took log was e = refl
-unlisted p a b told_of.NotConnected took log was e = refl
-unlisted p a b told_of.Granted took log was e = absurd (cc e)
-unlisted p a b (told_of.Held owner) took log was e = absurd (cc e)
-unlisted p a b (told_of.Seen view) took log was e = absurd (cc e)
-unlisted p a b told_of.Done took log was e = absurd (cc e)
-unlisted p a b told_of.Given took log was e = absurd (cc e)
-unlisted p a b told_of.NoObject took log was e = absurd (cc e)
+unlisted p a b as_told.Failed took log was e = refl
+unlisted p a b as_told.NotConnected took log was e = refl
+unlisted p a b as_told.Granted took log was e = absurd (cc e)
+unlisted p a b (as_told.Held owner) took log was e = absurd (cc e)
+unlisted p a b (as_told.Seen view) took log was e = absurd (cc e)
+unlisted p a b as_told.Done took log was e = absurd (cc e)
+unlisted p a b as_told.Given took log was e = absurd (cc e)
+unlisted p a b as_told.NoObject took log was e = absurd (cc e)
 
 over_refused : (answer : Answer) (m : Rounding) → is_fault (told_by answer) ≡ true → indexed answer m ≡ record m { stage = Over true }
 over_refused answer_of.NotConnected m e = refl
@@ -108,7 +108,7 @@ module _ (laws : RoundLaws) (p : Plan) (a : ActorId) (log : List Line) (servers 
     none_yet : heal_by (work a.0 now) ≡ []
     none_yet = rw work_is refl
 
-    healed_is : healed (work a.0 now) ≡ 0
+    healed_is : heals_ended (work a.0 now) ≡ 0
     healed_is = rw work_is refl
 
     refused_is : has refuses_index (work a.0 now) ≡ (is_fault told || false)

@@ -12,7 +12,7 @@ use Rattle.afr_discipline.specs.Stands.{Stands, seen_as}
 use Rattle.afr_discipline.specs.Turns.{candidate}
 use Rattle.afr_discipline.specs.declared.register.Move.TheVariants as move
 use Rattle.afr_discipline.specs.declared.register.Register.{Register}
-use Rattle.afr_heal.specs.Answers.{Picks, asked_for}
+use Rattle.afr_heal.specs.Answers.{PicksOne, asked_for}
 use Rattle.afr_heal.specs.Engine.{Ask as Asks}
 use Rattle.afr_heal.proofs.Carried.{self_stands}
 use Rattle.afr_heal_telling.specs.HealLaws.{IsWholeTold, source_next}
@@ -25,12 +25,12 @@ use Rattle.afr_lines.specs.declared.line.Line.{Line}
 use Rattle.afr_lines.specs.declared.line.Line.TheVariants.{Ask}
 use Rattle.afr_lines.specs.declared.request.Request.{Request}
 use Rattle.afr_moves.specs.Keeps.{keeps_in}
-use Rattle.afr_moves.specs.Register.{Exact, Looks, Phase, Step, is_opening, same_step}
+use Rattle.afr_moves.specs.Register.{Exact, HealPart, Looks, Step, is_opening, same_step}
 use Rattle.afr_moves.specs.Register as exact
 use Rattle.afr_self_heal.specs.Healing.{Healing as Heal, IsHealing, answered, coming}
 use Rattle.afr_self_heal.specs.Healing as heal
 use Rattle.afr_self_heal.specs.Source.{is_found}
-use Rattle.afr_self_heal.specs.declared.outcome.Outcome.{Outcome}
+use Rattle.afr_self_heal.specs.declared.outcome.HealOutcome.{HealOutcome}
 use Rattle.afr_rounds.proofs.Gathered.{RoundLaws}
 
 -- ---- a rule that picks
@@ -50,15 +50,15 @@ highest_more n test x small e more = by (test n) refl (eqb_tells x n)
         let rest = more (omega (arith, small, apart)) in
         (omega (arith, rest.0), rest.1)
 
-picks : (n : ℕ) → Picks n (highest n)
+picks : (n : ℕ) → PicksOne n (highest n)
 picks zero test x small e = absurd (omega (arith, small))
 picks (suc n) test x small e = highest_more n test x small e (λ below. picks n test x below e)
 
 -- ---- while the first looks are asked no source is chosen
-abbrev is_looking : Step → Phase → Bool
+abbrev is_looking : Step → HealPart → Bool
 is_looking step part = same_step step Looks && is_opening part
 
-at_any : (broken : Bool) (step : Step) (part : Phase) (shape : Shape) (r : Exact) (seen looked : Looked) (s t : ℕ) (g : Gfid) (kind : Kind) (o : Outcome) (w : Work) → is_looking step part ≡ true
+at_any : (broken : Bool) (step : Step) (part : HealPart) (shape : Shape) (r : Exact) (seen looked : Looked) (s t : ℕ) (g : Gfid) (kind : Kind) (o : HealOutcome) (w : Work) → is_looking step part ≡ true
     → TellsAt broken step part shape r seen looked s g kind o w → TellsAt broken step part shape r seen looked t g kind o w
 at_any true step part shape r seen looked s t g kind o w e k = k
 at_any false Looks exact.Opening shape r seen looked s t g kind o w e k = k
@@ -78,8 +78,8 @@ at_any false exact.Settles part shape r seen looked s t g kind o w e k = absurd 
 at_any false exact.Unlocks part shape r seen looked s t g kind o w e k = absurd (cc e)
 at_any false exact.HealUnlocks part shape r seen looked s t g kind o w e k = absurd (cc e)
 
-tells_any : (q : Register) (s t : ℕ) (g : Gfid) (kind : Kind) (o : Outcome) (w : Work) → is_looking (seen_as q).step (seen_as q).phase ≡ true → HealTells q s g kind o w → HealTells q t g kind o w
-tells_any q s t g kind o w e k = record { at = at_any (seen_as q).broken (seen_as q).step (seen_as q).phase q.shape (seen_as q) q.seen q.looked s t g kind o w e k.at; will = k.will }
+tells_any : (q : Register) (s t : ℕ) (g : Gfid) (kind : Kind) (o : HealOutcome) (w : Work) → is_looking (seen_as q).step (seen_as q).part ≡ true → HealTells q s g kind o w → HealTells q t g kind o w
+tells_any q s t g kind o w e k = record { at = at_any (seen_as q).broken (seen_as q).step (seen_as q).part q.shape (seen_as q) q.seen q.looked s t g kind o w e k.at; will = k.will }
 
 none_found : (broken at opening all : Bool) → (at && opening) ≡ false → (broken && at && opening && all) ≡ false
 none_found false at opening all e = refl
@@ -106,17 +106,17 @@ module _ (laws : RoundLaws) (h : Heal) (sound : IsHealing h) (b : ℕ) (asked : 
       laws.notes_stand h.register (seen_as h.register) (move.Ask (record { 0 = b }) (record { ref_ptr = (0, 0); now = asked })) told t (laws.heal.low h sound b asked e).1 sound.heals.five small
       (self_stands h.register sound.heals.published)
 
-  same_looking : is_looking exactly.step exactly.phase ≡ is_looking (seen_as after).step (seen_as after).phase
-  same_looking = rw (stands.step, stands.phase) refl
+  same_looking : is_looking exactly.step exactly.part ≡ is_looking (seen_as after).step (seen_as after).part
+  same_looking = rw (stands.step, stands.part) refl
 
   abbrev source_by_rule : ℕ
   source_by_rule = source_next (highest h.register.shape.n) h.register t b asked told h.source.0
 
   -- what is told of the source by some rule is told of the heal's source
-  told_of_source : (g : Gfid) (kind : Kind) (o : Outcome) (w : Work) → HealTells after source_by_rule g kind o w → HealTells after (answered h b asked answer t chosen).source.0 g kind o w
-  told_of_source g kind o w k = by (is_looking (seen_as after).step (seen_as after).phase) refl
+  told_of_source : (g : Gfid) (kind : Kind) (o : HealOutcome) (w : Work) → HealTells after source_by_rule g kind o w → HealTells after (answered h b asked answer t chosen).source.0 g kind o w
+  told_of_source g kind o w k = by (is_looking (seen_as after).step (seen_as after).part) refl
     where
-      by : (c : Bool) → is_looking (seen_as after).step (seen_as after).phase ≡ c → HealTells after (answered h b asked answer t chosen).source.0 g kind o w
+      by : (c : Bool) → is_looking (seen_as after).step (seen_as after).part ≡ c → HealTells after (answered h b asked answer t chosen).source.0 g kind o w
       by true is = tells_any after source_by_rule _ g kind o w is k
       by false is =
           let stays : source_by_rule ≡ h.source.0 =

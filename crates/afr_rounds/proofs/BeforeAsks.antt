@@ -13,7 +13,7 @@ use Rattle.afr_law.specs.ModelNext as law_next
 use Rattle.afr_lines.specs.Places.{opens, place_of}
 use Rattle.afr_lines.specs.Told.{told_by}
 use Rattle.afr_lines.specs.declared.answer.Told.{Told}
-use Rattle.afr_lines.specs.declared.answer.Told.TheVariants as told_of
+use Rattle.afr_lines.specs.declared.answer.Told.TheVariants as as_told
 use Rattle.afr_lines.specs.declared.line.Line.{Line}
 use Rattle.afr_lines.specs.declared.line.Line.TheVariants.{Ask}
 use Rattle.afr_lines.specs.declared.request.Request.{Request}
@@ -30,9 +30,9 @@ use Rattle.afr_object.specs.declared.change.Load.{Load}
 use Rattle.afr_plan.specs.declared.plan.Plan.{Plan}
 use Rattle.afr_server.specs.Carried.{Brings, CanLock}
 use Rattle.afr_server.specs.NextLine.{told_line}
-use Rattle.afr_server.specs.Outcome.{is_carried}
+use Rattle.afr_server.specs.Outcome.{is_carried_out}
 use Rattle.afr_server.specs.Serving.{Serving}
-use Rattle.afr_server.specs.declared.server.Asked.{Asked}
+use Rattle.afr_server.specs.declared.server.Served.{Served}
 use Rattle.afr_servers.specs.Log.{AreServed}
 use Rattle.afr_servers.specs.Needs.{AnswersAreRead, NeedsAreMet}
 use Rattle.afr_servers.specs.Needs as needs
@@ -73,11 +73,11 @@ pub record AsksNext (p : Plan) (a : ActorId) (log : List Line) (met : Bool) (epo
   pub brings : (load : Load) → Carries load → Brings asked load log (held_before p log)
 
 -- what holds of a line that was asked so: it is honest and lawful, and the servers are those of the log with it; what was given is what the log has for it; and the register that notes the answer stands, as all others do
-pub record IsAskedSo (p : Plan) (a : ActorId) (log : List Line) (servers new : List Serving) (after : Epochs) (b : BrickId) (asked : Request) (register : Register) (given : Asked) : Type 0 where
+pub record IsAskedSo (p : Plan) (a : ActorId) (log : List Line) (servers new : List Serving) (after : Epochs) (b : BrickId) (asked : Request) (register : Register) (given : Served) : Type 0 where
   pub may : MayAskNext p a b asked log
   pub go_on : GoOnHonestly p log a (told_line a b asked given) after servers new
   pub lawful : IsLawfulExactly p (told_line a b asked given ∷ log)
-  pub full : told_by given.answer ≡ told_of.Given → given.answer ≡ answer_by None asked (holds p log b.0) log
+  pub full : told_by given.answer ≡ as_told.Given → given.answer ≡ answer_by None asked (holds p log b.0) log
   pub stand : AllStand p.shape a (told_line a b asked given) log (noted_ask register (length log) b.0 asked (told_by given.answer))
 
 module _ (laws : AskLaws) (p : Plan) (a : ActorId) (log : List Line) (servers : List Serving) (before : IsBeforeAsk p a log servers)
@@ -121,11 +121,11 @@ module _ (laws : AskLaws) (p : Plan) (a : ActorId) (log : List Line) (servers : 
   change_same (request.Mend repair) = refl
   change_same (request.Settle g kind less) = refl
 
-  locked : law_next.is_carried p a b asked log ≡ true → HasItsLocks (locks_held b.0 log) a asked (needs.change_for asked log)
+  locked : law_next.is_carried_out p a b asked log ≡ true → HasItsLocks (locks_held b.0 log) a asked (needs.change_for asked log)
   locked k = subst (HasItsLocks (locks_held b.0 log) a asked) (change_same asked) (ready.covered k)
 
   -- where its server would carry the request out, so would the log
-  taken : (s : Serving) → slice_get servers b.0 ≡ Some s → is_carried (has_live met a epochs b.0 s) (next_fault s.faults) ≡ true → law_next.is_carried p a b asked log ≡ true
+  taken : (s : Serving) → slice_get servers b.0 ≡ Some s → is_carried_out (has_live met a epochs b.0 s) (next_fault s.faults) ≡ true → law_next.is_carried_out p a b asked log ≡ true
   taken s is took = sym (laws.needs.carries p log a met epochs b asked servers before.known before.served n.sessions (n.opened _ _) s is) ∙ took
 
   -- what the bricks need for it is there
@@ -139,7 +139,7 @@ module _ (laws : AskLaws) (p : Plan) (a : ActorId) (log : List Line) (servers : 
   }
 
   -- ---- what was asked
-  module _ (load : Load) (new : List Serving) (after : Epochs) (given : Asked) (carries : Carries load) (serves : ServesNext met a b asked load epochs servers new after given) where
+  module _ (load : Load) (new : List Serving) (after : Epochs) (given : Served) (carries : Carries load) (serves : ServesNext met a b asked load epochs servers new after given) where
     go_on : GoOnHonestly p log a (told_line a b asked given) after servers new
     go_on = laws.asked p log a met epochs after b asked load servers new given before.few before.known before.served n.sessions (n.opened (told_by given.answer) given.took) (λ s is carried. n.brings load carries) serves
 

@@ -10,8 +10,8 @@ use Rattle.afr_discipline.specs.declared.register.Move.{Move}
 use Rattle.afr_discipline.specs.declared.register.Move.TheVariants as move
 use Rattle.afr_discipline.specs.declared.register.Register.{Register}
 use Rattle.afr_heal.specs.Carried.{MovesOf}
-use Rattle.afr_heal.specs.Engine.{Ask as Asks, Begins, Ends, Next as HealNext}
-use Rattle.afr_heal_hears.specs.Hears.{IsTold}
+use Rattle.afr_heal.specs.Engine.{Ask as Asks, Begins, Ends, NextOfHeal as HealNext}
+use Rattle.afr_heal_hears.specs.Hears.{IsHeardInHeal}
 use Rattle.afr_healer.specs.Rounding.{CanHear, CanHearAt, CarriesAt, Rounding, made_ready, next_at, next_of, ready_at}
 use Rattle.afr_healer.specs.declared.stage.RoundStage.{RoundStage}
 use Rattle.afr_healer.specs.declared.stage.RoundStage.TheVariants.{Asking, Healing, Over}
@@ -33,9 +33,9 @@ use Rattle.afr_rounds.specs.Keeping.{CarriesIts, CarriesRound, IsBetweenHeals, I
 use Rattle.afr_rounds.specs.Laws.{CanStepNext, IsBeforeRound}
 use Rattle.afr_self_heal.specs.Contents.{load_in, readied}
 use Rattle.afr_self_heal.specs.Healing.{Healing as Heal, coming, line_of}
-use Rattle.afr_self_heal.specs.declared.contents.Contents.{Contents}
+use Rattle.afr_self_heal.specs.declared.contents.ReadSoFar.{ReadSoFar}
 use Rattle.afr_server.specs.Serving.{Serving}
-use Rattle.afr_server.specs.declared.server.Asked.{Asked}
+use Rattle.afr_server.specs.declared.server.Served.{Served}
 use Rattle.afr_servers.specs.declared.epochs.Epochs.{Epochs}
 use Rattle.afr_transaction.specs.Turn.{InForce}
 use Rattle.afr_walk.specs.Free.{AllowsAsk}
@@ -85,7 +85,7 @@ heal_allowed r h b asked may (move.End ok) is = absurd is
 pub ready_contents : (h : Heal) → Healing h ≡ ready_at (Healing h) → h.contents ≡ readied h.contents
 ready_contents h e = ap contents_at e
   where
-    contents_at : RoundStage → Contents
+    contents_at : RoundStage → ReadSoFar
     contents_at (Healing h) = h.contents
     contents_at other = h.contents
 
@@ -106,7 +106,7 @@ module _ (laws : RoundLaws) (p : Plan) (a : ActorId) (log : List Line) (servers 
   before_ask = record { few = before.few; known = before.known; short = before.short; served = before.served; honest = before.honest; lawful = before.lawful }
 
   -- the answer of a request that was asked so is an honest one
-  pub is_told : (new : List Serving) (after : Epochs) (b : BrickId) (asked : Request) (register : Register) (given : Asked) → IsAskedSo p a log servers new after b asked register given → IsTold p log a b asked given.answer given.took
+  pub is_told : (new : List Serving) (after : Epochs) (b : BrickId) (asked : Request) (register : Register) (given : Served) → IsAskedSo p a log servers new after b asked register given → IsHeardInHeal p log a b asked given.answer given.took
   is_told new after b asked register given so = record { honest = before.honest; lawful = before.lawful; short = before.short; few = before.few; may = so.may; said = so.go_on.0; full = so.full }
 
   -- ---- the index
@@ -138,7 +138,7 @@ module _ (laws : RoundLaws) (p : Plan) (a : ActorId) (log : List Line) (servers 
       allows = heal_allowed h.register h b asked (λ step of. laws.heal.allowed h k.sound step (subst (λ (n : HealNext). MovesOf h.gfid h.kind n step) (sym e) of));
       low = omega (arith, before.few, subst (λ (shape : Shape). b.0 < shape.n) k.shape (laws.heal.low h k.sound b.0 asked e).0);
       sessions = k.sessions;
-      brings = λ load carries. laws.hearing.brings p h log b.0 asked load k.sound k.holds e (subst (λ (of : Contents). load_in of load) merged carries);
+      brings = λ load carries. laws.hearing.brings p h log b.0 asked load k.sound k.holds e (subst (λ (of : ReadSoFar). load_in of load) merged carries);
     }
       where
         by_place : h.register ≡ no_lines p.shape → (told : Told) (took : Bool) → IsBetweenHeals (place_of a.0 log)
@@ -169,8 +169,8 @@ module _ (laws : RoundLaws) (p : Plan) (a : ActorId) (log : List Line) (servers 
       by (Over refused) k ready e = absurd (cc e)
 
   -- what a round hears
-  hears : (met : Bool) (epochs : Epochs) (m : Rounding) (c : CarriesRound p a.0 log met epochs servers m) (b : BrickId) (asked : Request) → next_of m ≡ next.Ask b asked → (given : Asked)
-      → IsTold p log a b asked given.answer given.took → CanHear m given.answer
+  hears : (met : Bool) (epochs : Epochs) (m : Rounding) (c : CarriesRound p a.0 log met epochs servers m) (b : BrickId) (asked : Request) → next_of m ≡ next.Ask b asked → (given : Served)
+      → IsHeardInHeal p log a b asked given.answer given.took → CanHear m given.answer
   hears met epochs m c b asked e given told = by m.stage c.stage e
     where
       by : (stage : RoundStage) → StageStands p a.0 log met epochs servers m.round stage → next_at m.round.brick stage ≡ next.Ask b asked → CanHearAt stage given.answer

@@ -4,7 +4,7 @@ use Rattle.std.proofs.lemmas.Option.{slice_get_within}
 use Rattle.afr_base.specs.declared.ids.BrickId.{BrickId}
 use Rattle.afr_base.specs.declared.ids.NameId.{NameId}
 use Rattle.afr_base.specs.declared.ids.Shape.{Shape}
-use Rattle.afr_daemon.specs.Round.{Progress}
+use Rattle.afr_daemon.specs.Round.{RoundProgress}
 use Rattle.afr_heal_hears.specs.Holds.{HoldsReady}
 use Rattle.afr_healer.specs.Rounding.{IsStaged, Rounding, made_ready, ready_at, round_from}
 use Rattle.afr_healer.specs.declared.stage.RoundStage.{RoundStage}
@@ -21,8 +21,8 @@ use Rattle.afr_rounds.specs.declared.healer.Healer.{Healer}
 use Rattle.afr_self_heal.specs.Contents.{AreMerged, IsMerged, merge_in, readied}
 use Rattle.afr_self_heal.specs.Healing.{Healing as Heal, IsHealing}
 use Rattle.afr_self_heal.specs.Healing as heal
-use Rattle.afr_self_heal.specs.declared.contents.Contents.{Contents}
-use Rattle.afr_self_heal.specs.declared.contents.Contents.TheVariants.{Attrs, Bytes, Names, Nothing}
+use Rattle.afr_self_heal.specs.declared.contents.ReadSoFar.{ReadSoFar}
+use Rattle.afr_self_heal.specs.declared.contents.ReadSoFar.TheVariants.{Attrs, Bytes, Names, Nothing}
 use Rattle.afr_self_heal.specs.declared.contents.NamesRead.{NamesRead}
 use Rattle.afr_server.specs.Serving.{Serving}
 use Rattle.afr_servers.specs.declared.epochs.Epochs.{Epochs}
@@ -35,13 +35,13 @@ merge_is : (read : NamesRead) (was : Option (List (NameId × Entry))) → read.m
 merge_is read None e k = record { merge = λ names is. sym (some_same _ names is) }
 merge_is read (Some made) e k = record { merge = λ names is. sym (some_same made names is) ∙ k.merge made e }
 
-readied_merged : (contents : Contents) → AreMerged contents → AreMerged (readied contents)
+readied_merged : (contents : ReadSoFar) → AreMerged contents → AreMerged (readied contents)
 readied_merged Nothing k = tt
 readied_merged (Bytes bytes) k = tt
 readied_merged (Attrs attrs) k = tt
 readied_merged (Names read) k = merge_is read read.merged refl k
 
-readied_twice : (contents : Contents) → readied contents ≡ readied (readied contents)
+readied_twice : (contents : ReadSoFar) → readied contents ≡ readied (readied contents)
 readied_twice Nothing = refl
 readied_twice (Bytes bytes) = refl
 readied_twice (Attrs attrs) = refl
@@ -52,7 +52,7 @@ ready_sound h k = let merged : AreMerged (readied h.contents) = readied_merged h
 
 ready_twice : (stage : RoundStage) → ready_at stage ≡ ready_at (ready_at stage)
 ready_twice Asking = refl
-ready_twice (Healing h) = ap (λ (contents : Contents). Healing (record h { contents = contents })) (readied_twice h.contents)
+ready_twice (Healing h) = ap (λ (contents : ReadSoFar). Healing (record h { contents = contents })) (readied_twice h.contents)
 ready_twice (Over refused) = refl
 
 -- what is made ready is ready
@@ -77,7 +77,7 @@ module _ (ready : HoldsReady) (p : Plan) (a : ℕ) (log : List Line) (servers : 
     unrefused = k.unrefused;
   }
 
-  stage_ready : (met : Bool) (epochs : Epochs) (r : Progress) (stage : RoundStage) → StageStands p a log met epochs servers r stage → StageStands p a log met epochs servers r (ready_at stage)
+  stage_ready : (met : Bool) (epochs : Epochs) (r : RoundProgress) (stage : RoundStage) → StageStands p a log met epochs servers r stage → StageStands p a log met epochs servers r (ready_at stage)
   stage_ready met epochs r Asking k = k
   stage_ready met epochs r (Healing h) k = (heal_ready met epochs h k.0, k.1, k.2)
   stage_ready met epochs r (Over refused) k = k

@@ -1,6 +1,6 @@
 -- A line of anybody else, or an event, leaves a healer's round as it was.
 use Rattle.std.proofs.Common.{◌≡◌, ◌∙◌, ℕ, ◌+◌, Bool, true, false, List, ◌∷◌, Option, None, Some, refl, sym, ap, subst}
-use Rattle.afr_daemon.specs.Round.{Progress}
+use Rattle.afr_daemon.specs.Round.{RoundProgress}
 use Rattle.afr_discipline.specs.declared.register.Register.{Register}
 use Rattle.afr_heal_hears.specs.Holds.{HoldsOther}
 use Rattle.afr_heal_telling.specs.HealTelling.{HealTells}
@@ -11,7 +11,7 @@ use Rattle.afr_lines.specs.Work.{Work}
 use Rattle.afr_lines.specs.declared.line.Line.{Line}
 use Rattle.afr_model.specs.HealReplies.{refuses_index}
 use Rattle.afr_model.specs.Healing.{heal_by}
-use Rattle.afr_model.specs.Rounds.{heal_due, healed}
+use Rattle.afr_model.specs.Rounds.{heal_due, heals_ended}
 use Rattle.afr_model.specs.Showing.{has}
 use Rattle.afr_plan.specs.declared.plan.Plan.{Plan}
 use Rattle.afr_rounds.specs.Keeping.{CarriesIts, CarriesRound, HasBegun, IsBetweenHeals, IsBetweenRounds, IsHealer, IsListed, IsNotedHeal, IsRoundOver, RunsHeal, StageStands}
@@ -54,10 +54,10 @@ module _ (other : HoldsOther) (p : Plan) (c : ℕ) (line : Line) (log : List Lin
     said = ap (has refuses_index) beside.same_work ∙ k.said;
   }
 
-  stage_on : (met : Bool) (epochs : Epochs) (r : Progress) (stage : RoundStage) → StageStands p c log met epochs old r stage → StageStands p c (line ∷ log) met epochs new r stage
+  stage_on : (met : Bool) (epochs : Epochs) (r : RoundProgress) (stage : RoundStage) → StageStands p c log met epochs old r stage → StageStands p c (line ∷ log) met epochs new r stage
   stage_on met epochs r Asking k = (between_on met k.0, k.1)
   stage_on met epochs r (Healing h) k =
-      (heal_on met epochs h k.0, subst (λ (w : Work). IsListed p w r.list) (sym beside.same_work) k.1, subst (λ (w : Work). r.given ≡ healed w + 1) (sym beside.same_work) k.2)
+      (heal_on met epochs h k.0, subst (λ (w : Work). IsListed p w r.list) (sym beside.same_work) k.1, subst (λ (w : Work). r.given ≡ heals_ended w + 1) (sym beside.same_work) k.2)
   stage_on met epochs r (Over refused) k = over_on met refused k
 
   round_on : (met : Bool) (epochs : Epochs) (m : Rounding) → CarriesRound p c log met epochs old m → CarriesRound p c (line ∷ log) met epochs new m

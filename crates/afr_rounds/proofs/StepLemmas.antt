@@ -1,7 +1,7 @@
 -- A line of a healer, put together from its parts.
 use Rattle.std.proofs.Common.{◌≡◌, ℕ, List, Some, sym, subst}
 use Rattle.afr_base.specs.declared.ids.ActorId.{ActorId}
-use Rattle.afr_heal.specs.Engine.{Ask, Begins, Ends, Next as Coming}
+use Rattle.afr_heal.specs.Engine.{Ask, Begins, Ends, NextOfHeal as Coming}
 use Rattle.afr_healer.specs.Rounding.{Rounding, next_at, next_of}
 use Rattle.afr_healer.specs.declared.stage.RoundStage.{RoundStage}
 use Rattle.afr_healer.specs.declared.stage.RoundStage.TheVariants.{Asking, Healing, Over}

@@ -11,7 +11,7 @@ use Rattle.afr_discipline.specs.Stands.{no_lines}
 use Rattle.afr_discipline.specs.declared.register.Move.TheVariants as move
 use Rattle.afr_discipline.specs.declared.register.Register.{Register}
 use Rattle.afr_heal.specs.Carried.{MovesOf}
-use Rattle.afr_heal.specs.Engine.{Begins, Ends, Next}
+use Rattle.afr_heal.specs.Engine.{Begins, Ends, NextOfHeal}
 use Rattle.afr_healer.specs.Rounding.{Rounding, going_on}
 use Rattle.afr_healer.specs.Rounding as rounding
 use Rattle.afr_healer.specs.declared.stage.RoundStage.{RoundStage}
@@ -103,7 +103,7 @@ module _ (laws : RoundLaws) (p : Plan) (a : ActorId) (log : List Line) (servers 
       begin_inside = or_right (λ k. grind (arith, e, k)) (laws.heal.inside h runs.sound)
 
       begin_allowed : AllowsMove h.register (move.HealBegin h.gfid h.kind)
-      begin_allowed = laws.heal.allowed h runs.sound (move.HealBegin h.gfid h.kind) (subst (λ (n : Next). MovesOf h.gfid h.kind n (move.HealBegin h.gfid h.kind)) (sym e) (refl, refl))
+      begin_allowed = laws.heal.allowed h runs.sound (move.HealBegin h.gfid h.kind) (subst (λ (n : NextOfHeal). MovesOf h.gfid h.kind n (move.HealBegin h.gfid h.kind)) (sym e) (refl, refl))
 
       comes : ComesNext p a begin_line log (noted_part h.register (length log) h.kind)
       comes = laws.next.heal_begins p log a h.gfid h.kind h.register before.few (laws.heal.five h runs.sound) (in_force begin_inside begin_line) begin_allowed (subst InRange s.is_line s.fits)
@@ -153,7 +153,7 @@ module _ (laws : RoundLaws) (p : Plan) (a : ActorId) (log : List Line) (servers 
       end_inside = or_right (λ k. grind (arith, e, k)) (laws.heal.inside h runs.sound)
 
       end_allowed : AllowsMove h.register (move.End true)
-      end_allowed = laws.heal.allowed h runs.sound (move.End true) (subst (λ (n : Next). MovesOf h.gfid h.kind n (move.End true)) (sym e) tt)
+      end_allowed = laws.heal.allowed h runs.sound (move.End true) (subst (λ (n : NextOfHeal). MovesOf h.gfid h.kind n (move.End true)) (sym e) tt)
 
       ends : ComesNext p a end_line log (no_lines h.register.shape) × (place_of a.0 (end_line ∷ log) ≡ Between)
       ends = laws.next.heal_ends p log a h.gfid h.kind (reply_of h.outcome h.register.seen) h.register before.few (laws.heal.five h runs.sound) (in_force end_inside end_line) end_inside end_allowed (subst InRange s.is_line s.fits)

@@ -2,7 +2,7 @@
 use Rattle.std.proofs.Common.{◌≡◌, ◌∙◌, List, refl, ap, subst, length}
 use Rattle.afr_base.specs.declared.ids.ActorId.{ActorId}
 use Rattle.afr_base.specs.declared.ids.BrickId.{BrickId}
-use Rattle.afr_heal.specs.Engine.{Ask, Begins, Ends, Next as Coming}
+use Rattle.afr_heal.specs.Engine.{Ask, Begins, Ends, NextOfHeal as Coming}
 use Rattle.afr_healer.specs.Rounding.{IsAnswered, Rounding, next_at, next_of}
 use Rattle.afr_healer.specs.declared.stage.RoundStage.{RoundStage}
 use Rattle.afr_healer.specs.declared.stage.RoundStage.TheVariants.{Asking, Healing, Over}

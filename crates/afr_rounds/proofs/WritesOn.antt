@@ -4,7 +4,7 @@ use Rattle.afr_base.specs.declared.ids.BrickId.{BrickId}
 use Rattle.afr_base.specs.declared.ids.Gfid.{Gfid}
 use Rattle.afr_base.specs.declared.ids.Kind.{Kind}
 use Rattle.afr_base.specs.declared.ids.What.{What}
-use Rattle.afr_daemon.specs.Round.{Progress, heals_in, next_due}
+use Rattle.afr_daemon.specs.Round.{RoundProgress, heals_in, next_due}
 use Rattle.afr_discipline.specs.Stands.{no_lines}
 use Rattle.afr_healer.specs.Rounding.{IsStaged, going_on, stage_due}
 use Rattle.afr_lines.specs.Places.{place_of}
@@ -13,7 +13,7 @@ use Rattle.afr_lines.specs.declared.line.Line.{Line}
 use Rattle.afr_model.specs.Actors.{rounds_of}
 use Rattle.afr_model.specs.HealReplies.{refuses_index}
 use Rattle.afr_model.specs.Healing.{heal_by}
-use Rattle.afr_model.specs.Rounds.{heal_due, healed, heals_of, listed_by}
+use Rattle.afr_model.specs.Rounds.{heal_due, heals_ended, heals_of, listed_by}
 use Rattle.afr_model.specs.Showing.{has}
 use Rattle.afr_plan.specs.declared.plan.Plan.{Plan}
 use Rattle.afr_rounds.specs.Keeping.{CarriesRound, HasBegun, IsBetweenHeals, IsListed, IsRoundOver, RunsHeal, StageStands}
@@ -24,7 +24,7 @@ use Rattle.afr_servers.specs.declared.epochs.Epochs.{Epochs}
 use Rattle.afr_transaction.specs.Turn.{Stood}
 
 -- the last line gave the list or ended a heal: no line of a next heal was written
-pub record IsAtBorder (p : Plan) (a : ℕ) (log : List Line) (brick : BrickId) (r : Progress) : Type 0 where
+pub record IsAtBorder (p : Plan) (a : ℕ) (log : List Line) (brick : BrickId) (r : RoundProgress) : Type 0 where
   pub brick_is : r.brick ≡ brick
   pub present : slice_get (rounds_of p a) (ended a log) ≡ Some brick
   pub within : brick.0 < p.shape.n
@@ -35,22 +35,22 @@ pub record IsAtBorder (p : Plan) (a : ℕ) (log : List Line) (brick : BrickId) (
   pub stood : Stood p.shape a log (no_lines p.shape)
   pub no_heal : heal_by (work a log) ≡ []
   pub listed : IsListed p (work a log) r.list
-  pub given : r.given ≡ healed (work a log)
+  pub given : r.given ≡ heals_ended (work a log)
   pub unrefused : has refuses_index (work a log) ≡ false
 
 -- ---- one more heal was given
-abbrev more : Bool → Progress → Progress
+abbrev more : Bool → RoundProgress → RoundProgress
 more flag r = if flag then record r { given = r.given + 1 } else r
 
-more_brick : (flag : Bool) (r : Progress) → (more flag r).brick ≡ r.brick
+more_brick : (flag : Bool) (r : RoundProgress) → (more flag r).brick ≡ r.brick
 more_brick true r = refl
 more_brick false r = refl
 
-more_list : (flag : Bool) (r : Progress) → (more flag r).list ≡ r.list
+more_list : (flag : Bool) (r : RoundProgress) → (more flag r).list ≡ r.list
 more_list true r = refl
 more_list false r = refl
 
-more_given : (flag : Bool) (r : Progress) → flag ≡ true → (more flag r).given ≡ r.given + 1
+more_given : (flag : Bool) (r : RoundProgress) → flag ≡ true → (more flag r).given ≡ r.given + 1
 more_given true r e = refl
 more_given false r e = absurd (cc e)
 
@@ -59,10 +59,10 @@ heals_are : (p : Plan) (w : Work) (list : Option (List (Gfid × What))) → IsLi
 heals_are p w None k = ap heals_of k
 heals_are p w (Some list) k = ap heals_of k
 
-due_is : (p : Plan) (w : Work) (r : Progress) → IsListed p w r.list → r.given ≡ healed w → heal_due p w ≡ next_due r
-due_is p w r listed given = ap (λ (heals : List (Gfid × Kind)). slice_get heals (healed w)) (heals_are p w r.list listed) ∙ ap (slice_get (heals_in r.list)) (sym given)
+due_is : (p : Plan) (w : Work) (r : RoundProgress) → IsListed p w r.list → r.given ≡ heals_ended w → heal_due p w ≡ next_due r
+due_is p w r listed given = ap (λ (heals : List (Gfid × Kind)). slice_get heals (heals_ended w)) (heals_are p w r.list listed) ∙ ap (slice_get (heals_in r.list)) (sym given)
 
-module _ (laws : RoundLaws) (p : Plan) (a : ℕ) (log : List Line) (epochs : Epochs) (servers : List Serving) (few : p.shape.n ≤ 5) (some : 0 < p.shape.n) (brick : BrickId) (r : Progress) (border : IsAtBorder p a log brick r) where
+module _ (laws : RoundLaws) (p : Plan) (a : ℕ) (log : List Line) (epochs : Epochs) (servers : List Serving) (few : p.shape.n ≤ 5) (some : 0 < p.shape.n) (brick : BrickId) (r : RoundProgress) (border : IsAtBorder p a log brick r) where
   begins : (g : Gfid) (kind : Kind) → heal_due p (work a log) ≡ Some (g, kind) → RunsHeal p a log false epochs servers (heal_from p.shape g kind)
   begins g kind due = record {
     sound = laws.heal.begins p.shape g kind some few;

@@ -21,7 +21,7 @@ use Rattle.afr_object.specs.declared.change.Load.{Load}
 use Rattle.afr_rounds.specs.declared.healer.Healer.{Healer}
 use Rattle.afr_server.specs.NextLine.{told_line}
 use Rattle.afr_server.specs.Serving.{HasEpoch, Serving}
-use Rattle.afr_server.specs.declared.server.Asked.{Asked}
+use Rattle.afr_server.specs.declared.server.Served.{Served}
 use Rattle.afr_servers.specs.Calls.{At}
 use Rattle.afr_servers.specs.Visiting.{CanAsk, ServesNext}
 use Rattle.afr_servers.specs.declared.epochs.Epochs.{Epochs}
@@ -57,7 +57,7 @@ pub record CanStepWith (a : ActorId) (v : Visit) (m : Rounding) (servers : List 
   pub room : (b : ℕ) → At b servers (HasEpoch a)
   pub asks : (b : BrickId) (request : Request) (load : Load) → next_of m ≡ next.Ask b request → RequestInRange request → CarriesNext m load → CanAsk a v b request load servers
   pub hears :
-      (b : BrickId) (request : Request) (load : Load) (new : List Serving) (epochs : Epochs) (given : Asked) → next_of m ≡ next.Ask b request → RequestInRange request → CarriesNext m load
+      (b : BrickId) (request : Request) (load : Load) (new : List Serving) (epochs : Epochs) (given : Served) → next_of m ≡ next.Ask b request → RequestInRange request → CarriesNext m load
       → ServesNext v.met a b request load v.epochs servers new epochs given → CanHear m given.answer
 
 abbrev pub CanStep : ActorId → ℕ → Healer → List Serving → Type 0
@@ -79,7 +79,7 @@ Hearing = Answer → ℕ → Rounding → Rounding → Type 0
 
 -- a request was asked, with the contents that the round brings, and its answer heard
 pub record IsAsked (Hears : Hearing) (a : ActorId) (at : ℕ) (b : BrickId) (request : Request) (x y : Healer) (m : Rounding) (old new : List Serving) (written : Line) : Type 0 where
-  pub given : Asked
+  pub given : Served
   pub epochs : Epochs
   pub after : Rounding
   pub load : Load

@@ -3,7 +3,7 @@ use Rattle.std.specs.Prelude.{◌≡◌, ℕ, ◌+◌, Bool, true, false, List, 
 use Rattle.afr_base.specs.declared.ids.Gfid.{Gfid}
 use Rattle.afr_base.specs.declared.ids.Shape.{Shape}
 use Rattle.afr_base.specs.declared.ids.What.{What}
-use Rattle.afr_daemon.specs.Round.{Progress}
+use Rattle.afr_daemon.specs.Round.{RoundProgress}
 use Rattle.afr_discipline.specs.Stands.{no_lines}
 use Rattle.afr_discipline.specs.declared.register.Register.{Register}
 use Rattle.afr_heal_hears.specs.Holds.{HoldsRead}
@@ -19,7 +19,7 @@ use Rattle.afr_lines.specs.declared.request.Area.{Area}
 use Rattle.afr_model.specs.Actors.{rounds_of}
 use Rattle.afr_model.specs.HealReplies.{refuses_index}
 use Rattle.afr_model.specs.Healing.{heal_by}
-use Rattle.afr_model.specs.Rounds.{heal_due, healed, listed_by}
+use Rattle.afr_model.specs.Rounds.{heal_due, heals_ended, listed_by}
 use Rattle.afr_model.specs.Showing.{has}
 use Rattle.afr_plan.specs.declared.plan.Plan.{Plan}
 use Rattle.afr_rounds.specs.declared.healer.Healer.{Healer}
@@ -79,9 +79,9 @@ IsListed p w None = listed_by p w ≡ []
 IsListed p w (Some list) = listed_by p w ≡ list
 
 -- where a round stands, and how many of its heals were given
-abbrev pub StageStands : Plan → ℕ → List Line → Bool → Epochs → List Serving → Progress → RoundStage → Type 0
+abbrev pub StageStands : Plan → ℕ → List Line → Bool → Epochs → List Serving → RoundProgress → RoundStage → Type 0
 StageStands p a log met epochs servers r Asking = IsBetweenRounds a log met × (r.list ≡ None)
-StageStands p a log met epochs servers r (Healing h) = RunsHeal p a log met epochs servers h × IsListed p (work a log) r.list × (r.given ≡ healed (work a log) + 1)
+StageStands p a log met epochs servers r (Healing h) = RunsHeal p a log met epochs servers h × IsListed p (work a log) r.list × (r.given ≡ heals_ended (work a log) + 1)
 StageStands p a log met epochs servers r (Over refused) = IsRoundOver p a log met refused
 
 -- a round that has its index has written a line

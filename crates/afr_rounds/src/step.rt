@@ -14,7 +14,7 @@ use afr_lines::{HealReply, Line, Next, Reply, Request};
 use afr_log::Log;
 use afr_ranges::{fits_its_types, request_fits_its_types};
 use afr_rule::{Candidate, SourceRule};
-use afr_server::Asked;
+use afr_server::Served;
 use afr_servers::{Servers, Visit};
 use std::alloc::Global;
 
@@ -127,7 +127,7 @@ fn tells<F: Fn(&[Candidate]) -> usize>(
     a: ActorId,
     brick: BrickId,
     request: &Request,
-    given: &mut Asked,
+    given: &mut Served,
     position: u32,
     log: &mut Log,
     rule: &SourceRule<F>,

@@ -27,7 +27,7 @@ use Rattle.afr_plan.specs.Rules.{word_of, is_one_of, may_stand, is_over, is_beyo
 use Rattle.afr_plan.specs.Said.{Said, IsSaid, IsShape, Afr, Volume, Files, Turns, Client, Command, Healer, Round, At, Go, End}
 use Rattle.afr_plan.specs.Spelling.{IsNamedPath}
 use Rattle.afr_plan.specs.Spells.{IsLine, AreLines, Spells}
-use Rattle.afr_plan.specs.Work.{Work, IsCommand, Write, Create, Mkdir, Unlink, Rmdir, SetAttr, GetAttr, Rename}
+use Rattle.afr_plan.specs.Action.{Action, IsCommand, Write, Create, Mkdir, Unlink, Rmdir, SetAttr, GetAttr, Rename}
 use Rattle.afr_runnable.specs.Runnable.{AreRunnableRounds, IsAboutVolume, IsOneOf, IsRunnable, IsRunnableScript, IsRunnableShape, has_its_name}
 use Rattle.afr_plan.specs.OnNames.{has_name}
 
@@ -139,7 +139,7 @@ names_grow : (path names : List (List ℕ)) → length names ≤ length (with_na
 names_grow [] names = omega arith
 names_grow (name ∷ path) names = omega (arith, name_grows names name, names_grow path (with_name names name))
 
-words_grow : (words : Words) (path : List (List ℕ)) (w : Work) → length words.names ≤ length (words_with words path w).names
+words_grow : (words : Words) (path : List (List ℕ)) (w : Action) → length words.names ≤ length (words_with words path w).names
 words_grow words path (SetAttr key value) = names_grow path words.names
 words_grow words path (GetAttr key) = names_grow path words.names
 words_grow words path (Rename to) = omega (arith, names_grow path words.names, names_grow to (with_names words.names path))
@@ -218,7 +218,7 @@ named_path w path names h =
     let P : List (List ℕ) → Type 0 = λ t. has_names t ≡ true in
     path_named names path (subst P (ap names_in h.1.0 ∙ h.2) some)
 
-command_named : (line : List ℕ) (words : Words) (path : List (List ℕ)) (w : Work) → IsCommand line path w → has_its_name (command_of words path w) ≡ true
+command_named : (line : List ℕ) (words : Words) (path : List (List ℕ)) (w : Action) → IsCommand line path w → has_its_name (command_of words path w) ≡ true
 command_named line words path Create h = named_path h.0 path words.names h.1
 command_named line words path Mkdir h = named_path h.0 path words.names h.1
 command_named line words path Unlink h = named_path h.0 path words.names h.1

@@ -13,7 +13,7 @@ use Rattle.afr_choice.specs.declared.looked.Looked.{Looked}
 use Rattle.afr_lines.specs.Areas.{area_for, kind_for}
 use Rattle.afr_lines.specs.Work.{Work}
 use Rattle.afr_lines.specs.declared.answer.Told.{Told}
-use Rattle.afr_lines.specs.declared.answer.Told.TheVariants as told_of
+use Rattle.afr_lines.specs.declared.answer.Told.TheVariants as as_told
 use Rattle.afr_lines.specs.declared.line.Line.{Line}
 use Rattle.afr_lines.specs.declared.line.Line.TheVariants.{Ask}
 use Rattle.afr_lines.specs.declared.line.Next.TheVariants as next
@@ -31,7 +31,7 @@ use Rattle.afr_model.specs.Parts.{after_names, first_part, is_again, names_asked
 use Rattle.afr_model.specs.Showing.{has}
 use Rattle.afr_transaction.specs.Between.{is_read, noted_read}
 use Rattle.afr_transaction.specs.Outcome.{reply_of}
-use Rattle.afr_transaction.specs.Progress.{Progress, after, answered, answered_by, asks, begun, enough, fed, gone_on, is_over, left, may_start, next_at, number_in, on_stage, request_at}
+use Rattle.afr_transaction.specs.Progress.{TransactionProgress, after, answered, answered_by, asks, begun, enough, fed, gone_on, is_over, left, may_start, next_at, number_in, on_stage, request_at}
 use Rattle.afr_transaction.specs.Sound as sound
 use Rattle.afr_transaction.specs.Sound.{IsAsking, Posted, Ready, Sound}
 use Rattle.afr_transaction.specs.declared.stage.Stage.{Stage}
@@ -48,32 +48,32 @@ use Rattle.afr_second.proofs.HeldSets.{asked_more, done_one, held_after, looked_
 -- ---- what an answer leaves of the locks that are held
 module _ (r : Register) (b : ℕ) where
   look_held : (g : Gfid) (told : Told) → (after_outside r b (request.Look g) told).held ≡ held_after (is_gone told) b r.held
-  look_held g told_of.NotConnected = refl
+  look_held g as_told.NotConnected = refl
   look_held g told = refl
 
   pre_held : (g : Gfid) (kind : Kind) (told : Told) → (after_outside r b (request.Pre g kind) told).held ≡ held_after (is_gone told) b r.held
-  pre_held g kind told_of.NotConnected = refl
+  pre_held g kind as_told.NotConnected = refl
   pre_held g kind told = refl
 
   apply_held : (q : ℕ) (told : Told) → (after_outside r b (request.Apply q) told).held ≡ held_after (is_gone told) b r.held
-  apply_held q told_of.NotConnected = refl
+  apply_held q as_told.NotConnected = refl
   apply_held q told = refl
 
   post_held : (q : ℕ) (g : Gfid) (kind : Kind) (missed : List ℕ) (told : Told) → (after_outside r b (request.Post q g kind missed) told).held ≡ held_after (is_gone told) b r.held
-  post_held q g kind missed told_of.NotConnected = refl
+  post_held q g kind missed as_told.NotConnected = refl
   post_held q g kind missed told = refl
 
 -- who carried it out, or answered the look, is there
 done_there : (told : Told) → is_done told ≡ true → is_gone told ≡ false
-done_there told_of.NotConnected e = absurd (cc e)
+done_there as_told.NotConnected e = absurd (cc e)
 done_there told e = refl
 
 answers_there : (told : Told) → answers told ≡ true → is_gone told ≡ false
-answers_there told_of.NotConnected e = absurd (cc e)
+answers_there as_told.NotConnected e = absurd (cc e)
 answers_there told e = refl
 
 -- ---- one line more
-module _ (p : Plan) (w : Work) (m : Progress) (a : ActorId) (told : Told) (older : List Line) (s : Sound m) (t : Tells p w m) where
+module _ (p : Plan) (w : Work) (m : TransactionProgress) (a : ActorId) (told : Told) (older : List Line) (s : Sound m) (t : Tells p w m) where
   abbrev r : Register
   r = m.register
 
@@ -83,7 +83,7 @@ module _ (p : Plan) (w : Work) (m : Progress) (a : ActorId) (told : Told) (older
   abbrev noted_at : Stage → Register
   noted_at stage = noted_ask r (length older) (brick stage) (request_at stage m) told
 
-  abbrev told_at : Stage → Progress
+  abbrev told_at : Stage → TransactionProgress
   told_at stage = answered_by stage (brick stage) told (length older) m
 
   -- what it has come to, on these lines
@@ -228,7 +228,7 @@ module _ (p : Plan) (w : Work) (m : Progress) (a : ActorId) (told : Told) (older
         go false = post_more
 
 -- ---- an unlock
-unlocked_by : (m : Progress) (a : ActorId) (told : Told) (took : Bool) (older : List Line) (w : Work)
+unlocked_by : (m : TransactionProgress) (a : ActorId) (told : Told) (took : Bool) (older : List Line) (w : Work)
     → HoldsIn (after Closing (answered_by Closing (lowest (left Closing m)) told (length older) m)) (answered Closing told (length older) m) ((Ask a (record { 0 = lowest (left Closing m) }) (request_at Closing m) told took, older) ∷ w)
 unlocked_by m a told took older w = go (is_nothing (left Closing (answered_by Closing (lowest (left Closing m)) told (length older) m)))
   where
@@ -236,7 +236,7 @@ unlocked_by m a told took older w = go (is_nothing (left Closing (answered_by Cl
     go true = λ none. absurd (cc none)
     go false = λ none. absurd (cc none)
 
-module _ (w : Work) (m : Progress) (a : ActorId) (told : Told) (older : List Line) where
+module _ (w : Work) (m : TransactionProgress) (a : ActorId) (told : Told) (older : List Line) where
   abbrev Later : Stage → Line → Type 0
   Later stage line = Holds (fed stage told (length older) m) ((line, older) ∷ w)
 
@@ -286,7 +286,7 @@ read_held r b asked told is there = subst (λ (q : Register). (q.looked ≡ r.lo
     same asked e = absurd (cc e)
 
     by : (told : Told) → is_gone told ≡ false → ((after_by (stayed r) r b told).looked ≡ r.looked) × ((after_by (stayed r) r b told).held ≡ r.held)
-    by told_of.NotConnected e = absurd (cc e)
+    by as_told.NotConnected e = absurd (cc e)
     by told e = (refl, refl)
 
 -- the same copies are held where the same locks are

@@ -18,9 +18,9 @@ use Rattle.afr_model.specs.Showing.{has}
 use Rattle.afr_object.specs.declared.change.Change.{Change}
 use Rattle.afr_transaction.specs.Between.{given_up, is_read, noted_read}
 use Rattle.afr_transaction.specs.Outcome.{outcome_of}
-use Rattle.afr_transaction.specs.Progress.{Progress, fed, is_over, left, next_at, starting}
+use Rattle.afr_transaction.specs.Progress.{TransactionProgress, fed, is_over, left, next_at, starting}
 use Rattle.afr_transaction.specs.Sound.{Sound}
-use Rattle.afr_transaction.specs.declared.reply.Outcome.TheVariants.{Acknowledged}
+use Rattle.afr_transaction.specs.declared.reply.TransactionOutcome.TheVariants.{Acknowledged}
 use Rattle.afr_transaction.specs.declared.stage.Stage.{Stage}
 use Rattle.afr_transaction.specs.declared.stage.Stage.TheVariants.{Locking, Looking, Beginning, Preparing, Applying, Posting, Closing}
 use Rattle.afr_transaction_tells.specs.Laws.{IsNextLine}
@@ -43,13 +43,13 @@ pub record AreHeld (left did held : List ℕ) : Type 0 where
   pub did_held : IsIn did held
 
 -- what is held at each stage; at the end the locks of those that did post-op, until the first unlock is asked
-abbrev pub HoldsIn : Stage → Progress → Work → Type 0
+abbrev pub HoldsIn : Stage → TransactionProgress → Work → Type 0
 HoldsIn Locking m w = Unit {0}
 HoldsIn Closing m w = has unlocks_any w ≡ false → IsIn m.register.post m.register.held
 HoldsIn stage m w = AreHeld (left stage m) (did_in stage m.register) m.register.held
 
 -- the same of a transaction and the lines of its work
-abbrev pub Holds : Progress → Work → Type 0
+abbrev pub Holds : TransactionProgress → Work → Type 0
 Holds m w = HoldsIn m.stage m w
 
 -- so it is of a transaction that begins
@@ -59,28 +59,28 @@ HeldFirst = (change : Change) (r : Register) (w : Work) → Holds (starting chan
 -- whatever is told at its next line, its Begin line among them
 abbrev pub HeldKept : Type 0
 HeldKept =
-    (p : Plan) (w : Work) (m : Progress) (a : ActorId) (told : Told) (line : Line) (older : List Line) → Sound m → Tells p w m → Holds m w
+    (p : Plan) (w : Work) (m : TransactionProgress) (a : ActorId) (told : Told) (line : Line) (older : List Line) → Sound m → Tells p w m → Holds m w
     → IsNextLine a (next_at m.stage (length older) m) told line → Holds (fed m.stage told (length older) m) ((line, older) ∷ w)
 
 -- and after a read before the Begin line, unless its brick can't be reached
 abbrev pub HeldRead : Type 0
 HeldRead =
-    (w : Work) (m : Progress) (a : ActorId) (b : BrickId) (asked : Request) (told : Told) (took : Bool) (older : List Line) → m.stage ≡ Beginning → Sound m → is_read asked ≡ true → is_gone told ≡ false → Holds m w
+    (w : Work) (m : TransactionProgress) (a : ActorId) (b : BrickId) (asked : Request) (told : Told) (took : Bool) (older : List Line) → m.stage ≡ Beginning → Sound m → is_read asked ≡ true → is_gone told ≡ false → Holds m w
     → Holds (noted_read b.0 asked told (length older) m) ((Ask a b asked told took, older) ∷ w)
 
 -- and once it is given up there
 abbrev pub HeldGivenUp : Type 0
-HeldGivenUp = (w : Work) (m : Progress) → m.stage ≡ Beginning → Sound m → Holds (given_up m) w
+HeldGivenUp = (w : Work) (m : TransactionProgress) → m.stage ≡ Beginning → Sound m → Holds (given_up m) w
 
 -- and after each unlock, also of one that was given up
 abbrev pub HeldUnlocked : Type 0
 HeldUnlocked =
-    (w : Work) (m : Progress) (a : ActorId) (told : Told) (line : Line) (older : List Line) → m.stage ≡ Closing
+    (w : Work) (m : TransactionProgress) (a : ActorId) (told : Told) (line : Line) (older : List Line) → m.stage ≡ Closing
     → IsNextLine a (next_at m.stage (length older) m) told line → Holds (fed m.stage told (length older) m) ((line, older) ∷ w)
 
 -- a transaction that is over and acknowledged has asked for an unlock
 abbrev pub AcknowledgedUnlocks : Type 0
-AcknowledgedUnlocks = (w : Work) (m : Progress) → Sound m → Holds m w → is_over m.stage m ≡ true → outcome_of m.change m.register ≡ Acknowledged → has unlocks_any w ≡ true
+AcknowledgedUnlocks = (w : Work) (m : TransactionProgress) → Sound m → Holds m w → is_over m.stage m ≡ true → outcome_of m.change m.register ≡ Acknowledged → has unlocks_any w ≡ true
 
 -- where a line of the making does, a line of the work does
 abbrev pub PartUnlocks : Type 0

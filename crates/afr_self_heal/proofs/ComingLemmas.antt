@@ -2,7 +2,7 @@
 use Rattle.std.proofs.Common.{◌≡◌, ◌∙◌, ℕ, Bool, ap, false, if◌then◌else◌, refl, subst, sym, true}
 use Rattle.afr_base.specs.declared.ids.BrickId.{BrickId}
 use Rattle.afr_heal.specs.Coming.{coming_of}
-use Rattle.afr_heal.specs.Engine.{Next, Ask, Begins, Ends}
+use Rattle.afr_heal.specs.Engine.{NextOfHeal, Ask, Begins, Ends}
 use Rattle.afr_heal.specs.declared.coming.Coming.{Coming}
 use Rattle.afr_heal.specs.declared.coming.Coming.TheVariants as coming_line
 use Rattle.afr_lines.specs.declared.line.Next.TheVariants as line
@@ -16,12 +16,12 @@ use Rattle.afr_discipline.specs.declared.register.Register.{Register}
 use Rattle.afr_self_heal.specs.Contents.{kept}
 use Rattle.afr_self_heal.specs.Laws.{HealHasSource}
 use Rattle.afr_self_heal.specs.Source.{HasSource, is_found}
-use Rattle.afr_self_heal.specs.declared.contents.Contents.{Contents}
-use Rattle.afr_self_heal.specs.declared.outcome.Outcome.{Outcome}
+use Rattle.afr_self_heal.specs.declared.contents.ReadSoFar.{ReadSoFar}
+use Rattle.afr_self_heal.specs.declared.outcome.HealOutcome.{HealOutcome}
 use Rattle.afr_self_heal.specs.Healing.{CanHear, Healing, IsHealing, answered, coming, line_of, next_of, register_after}
 use Rattle.afr_self_heal.specs.Outcome.{outcome_by, reply_of}
 
-pub asks : (next : Next) (b : BrickId) (request : Request) → coming_of next ≡ coming_line.Ask b request → next ≡ Ask b.0 request
+pub asks : (next : NextOfHeal) (b : BrickId) (request : Request) → coming_of next ≡ coming_line.Ask b request → next ≡ Ask b.0 request
 asks (Ask x other) b request e =
     let first : x ≡ b.0 = cc e in
     let second : other ≡ request = cc e in
@@ -29,12 +29,12 @@ asks (Ask x other) b request e =
 asks Begins b request e = absurd (cc e)
 asks Ends b request e = absurd (cc e)
 
-pub begins : (next : Next) → coming_of next ≡ coming_line.Begin → next ≡ Begins
+pub begins : (next : NextOfHeal) → coming_of next ≡ coming_line.Begin → next ≡ Begins
 begins (Ask x other) e = absurd (cc e)
 begins Begins e = refl
 begins Ends e = absurd (cc e)
 
-pub ends : (next : Next) → coming_of next ≡ coming_line.End → next ≡ Ends
+pub ends : (next : NextOfHeal) → coming_of next ≡ coming_line.End → next ≡ Ends
 ends (Ask x other) e = absurd (cc e)
 ends Begins e = absurd (cc e)
 ends Ends e = refl
@@ -53,7 +53,7 @@ next_ends m reply said e f g = ap (λ (r : HealReply). line.HealEnd m.gfid m.kin
 pub line_asks : (m : Healing) (b : BrickId) (request : Request) → next_of m ≡ line.Ask b request → coming m ≡ Ask b.0 request
 line_asks m b request e = by (coming m) refl e
   where
-    by : (next : Next) → coming m ≡ next → line_of m next ≡ line.Ask b request → coming m ≡ Ask b.0 request
+    by : (next : NextOfHeal) → coming m ≡ next → line_of m next ≡ line.Ask b request → coming m ≡ Ask b.0 request
     by (Ask x other) is e =
         let first : record { 0 = x } ≡ b = cc e in
         let second : other ≡ request = cc e in
@@ -75,7 +75,7 @@ heard_source law m b request answer at k next can q e same found =
     subst (λ (q : Register). HasSource m.kind q) (sym e) (law m b request answer at k next can found_before)
 
 -- the heal with the new register, source, outcome and contents
-pub heard_is : (m : Healing) (b : ℕ) (request : Request) (answer : Answer) (at : ℕ) (q : Register) (source : BrickId) (outcome : Outcome) (contents : Contents)
+pub heard_is : (m : Healing) (b : ℕ) (request : Request) (answer : Answer) (at : ℕ) (q : Register) (source : BrickId) (outcome : HealOutcome) (contents : ReadSoFar)
     → q ≡ register_after m b request answer at → q.shape ≡ m.register.shape → (is_found q.shape.n (seen_as q) ≡ false → source ≡ m.source) → outcome ≡ outcome_by m.register q m.source.0 m.kind request (told_by answer) m.outcome
     → contents ≡ kept b answer m.contents → record { gfid = m.gfid; kind = m.kind; register = q; source = source; outcome = outcome; contents = contents } ≡ answered m b request answer at source
 heard_is m b request answer at q source outcome contents e same stays o c =

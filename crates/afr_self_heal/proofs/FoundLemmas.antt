@@ -8,15 +8,15 @@ use Rattle.afr_discipline.specs.Turns.{find}
 use Rattle.afr_heal.proofs.Finding.{find_none, find_some, passed_off}
 use Rattle.afr_heal.proofs.Parts.{both, denied, not_both, pair}
 use Rattle.afr_heal.proofs.StagesWalk.{first_elim}
-use Rattle.afr_heal.specs.Answers.{Picks, asked_for}
-use Rattle.afr_heal.specs.Engine.{Ask, Next, next_of}
+use Rattle.afr_heal.specs.Answers.{PicksOne, asked_for}
+use Rattle.afr_heal.specs.Engine.{Ask, NextOfHeal, next_of}
 use Rattle.afr_heal.specs.Laws.{asks_well}
 use Rattle.afr_heal.specs.Standing.{AfterLooks, Ending, First, Going, Healing, Looking, Parting, Standing, Viewing, Working}
 use Rattle.afr_lines.specs.declared.answer.Told.{Told}
 use Rattle.afr_lines.specs.declared.request.Request.{Request}
 use Rattle.afr_lines.specs.declared.request.Request.TheVariants.{List, Lock, Look, Mend, Pre, ReadAttrs, ReadBytes, Settle, Unlock}
 use Rattle.afr_moves.proofs.Tests.{four_parts, some_yes, three_parts}
-use Rattle.afr_moves.specs.Register.{Exact, Looks, Opening, Phase, Step, is_opening, over, same_step}
+use Rattle.afr_moves.specs.Register.{Exact, HealPart, Looks, Opening, Step, is_opening, over, same_step}
 use Rattle.afr_moves.specs.Rules.{heal_area}
 use Rattle.afr_moves.specs.Sets.{any}
 use Rattle.afr_moves.specs.Steps.{may_heal, passed, turn}
@@ -28,28 +28,28 @@ pub looks_is : (step : Step) → same_step step Looks ≡ true → step ≡ Look
 looks_is Looks h = refl
 looks_is _ h = absurd (cc h)
 
-pub opening_is : (part : Phase) → is_opening part ≡ true → part ≡ Opening
+pub opening_is : (part : HealPart) → is_opening part ≡ true → part ≡ Opening
 opening_is Opening h = refl
 opening_is _ h = absurd (cc h)
 
 pub record Found (n : ℕ) (r : Exact) : Type 0 where
   pub whole : r.broken ≡ false
   pub at : r.step ≡ Looks
-  pub part : r.phase ≡ Opening
+  pub part : r.part ≡ Opening
   pub past : over n r.law.held r.asked ≡ true
 
 pub found_parts : (n : ℕ) (r : Exact) → is_found n r ≡ true → Found n r
 found_parts n r h =
-    let parts = four_parts (not r.broken) (same_step r.step Looks) (is_opening r.phase) (over n r.law.held r.asked) h in
-    record { whole = denied r.broken parts.0; at = looks_is r.step parts.1; part = opening_is r.phase parts.2; past = parts.3 }
+    let parts = four_parts (not r.broken) (same_step r.step Looks) (is_opening r.part) (over n r.law.held r.asked) h in
+    record { whole = denied r.broken parts.0; at = looks_is r.step parts.1; part = opening_is r.part parts.2; past = parts.3 }
 
-pub found_is : (n : ℕ) (r : Exact) → r.broken ≡ false → r.step ≡ Looks → r.phase ≡ Opening → over n r.law.held r.asked ≡ true → is_found n r ≡ true
+pub found_is : (n : ℕ) (r : Exact) → r.broken ≡ false → r.step ≡ Looks → r.part ≡ Opening → over n r.law.held r.asked ≡ true → is_found n r ≡ true
 found_is n r whole at part past = rw (whole, at, part, past) refl
 
 -- ---- by the case
 module _ (n : ℕ) (keeps : ℕ → Kind → Bool) (r : Exact) (s : ℕ) (g : Gfid) (kind : Kind) where
   -- the looks of a heal in its first part are over where it goes on from them
-  pub looked_over : AfterLooks n keeps r s g kind → r.step ≡ Looks → r.phase ≡ Opening → over n r.law.held r.asked ≡ true
+  pub looked_over : AfterLooks n keeps r s g kind → r.step ≡ Looks → r.part ≡ Opening → over n r.law.held r.asked ≡ true
   looked_over k at part = rw (at, part) at (both _ (passed n keeps r s Looks) k.looked).1
 
   pub found_going : Standing n keeps r s g kind → Found n r → AfterLooks n keeps r s g kind
@@ -58,35 +58,35 @@ module _ (n : ℕ) (keeps : ℕ → Kind → Bool) (r : Exact) (s : ℕ) (g : Gf
   found_going (Working k) f = absurd (cc (sym k.step ∙ f.at))
   found_going (Looking k) f = absurd (not_both (over n r.law.held r.asked) f.past k.more)
   found_going (Parting k) f = absurd (cc (sym k.step ∙ f.at))
-  found_going (Viewing k) f = absurd (not_both (is_opening r.phase) (rw f.part refl) k.part)
+  found_going (Viewing k) f = absurd (not_both (is_opening r.part) (rw f.part refl) k.part)
   found_going (Going k) f = k
   found_going (Ending k) f = absurd (not_both r.broken k.broken f.whole)
 
   -- until they are over, no copy is named
-  pub unfound : (c : ℕ) → Standing n keeps r s g kind → is_found n r ≡ false → r.step ≡ Looks → r.phase ≡ Opening → Standing n keeps r c g kind
+  pub unfound : (c : ℕ) → Standing n keeps r s g kind → is_found n r ≡ false → r.step ≡ Looks → r.part ≡ Opening → Standing n keeps r c g kind
   unfound c (First k) f at part = absurd (cc (sym k.step ∙ at))
   unfound c (Healing k) f at part = absurd (cc (sym k.step ∙ at))
   unfound c (Working k) f at part = absurd (cc (sym k.step ∙ at))
   unfound c (Looking k) f at part = Looking k
   unfound c (Parting k) f at part = absurd (cc (sym k.step ∙ at))
-  unfound c (Viewing k) f at part = absurd (not_both (is_opening r.phase) (rw part refl) k.part)
+  unfound c (Viewing k) f at part = absurd (not_both (is_opening r.part) (rw part refl) k.part)
   unfound c (Going k) f at part = absurd (not_both (is_found n r) (found_is n r k.whole at part (looked_over k at part)) f)
   unfound c (Ending k) f at part = Ending k
 
   -- at a look of the first part every copy may be the source
-  pub every : Standing n keeps r s g kind → r.broken ≡ false → r.step ≡ Looks → r.phase ≡ Opening → (b : ℕ) → b < n → turn n keeps r s Looks b ≡ true → (x : ℕ) → x < n → r.possible x ≡ true
+  pub every : Standing n keeps r s g kind → r.broken ≡ false → r.step ≡ Looks → r.part ≡ Opening → (b : ℕ) → b < n → turn n keeps r s Looks b ≡ true → (x : ℕ) → x < n → r.possible x ≡ true
   every (First k) whole at part b low t = absurd (cc (sym k.step ∙ at))
   every (Healing k) whole at part b low t = absurd (cc (sym k.step ∙ at))
   every (Working k) whole at part b low t = absurd (cc (sym k.step ∙ at))
   every (Looking k) whole at part b low t = k.every
   every (Parting k) whole at part b low t = absurd (cc (sym k.step ∙ at))
-  every (Viewing k) whole at part b low t = absurd (not_both (is_opening r.phase) (rw part refl) k.part)
+  every (Viewing k) whole at part b low t = absurd (not_both (is_opening r.part) (rw part refl) k.part)
   every (Going k) whole at part b low t = absurd (passed_off n keeps r s Looks (both _ (passed n keeps r s Looks) k.looked).1 b low t)
   every (Ending k) whole at part b low t = absurd (not_both r.broken k.broken whole)
 
   -- before its first line a heal asks for the Heal lock at brick 0; then its register is that of a heal
   pub inside_or_first : Standing n keeps r s g kind → (r.law.heal ≡ true → ⊥) → next_of n keeps r s g kind ≡ Ask 0 (Lock Heal (heal_area g.0))
-  inside_or_first (First k) never = first_elim n keeps r s g kind k (λ (next : Next). next ≡ Ask 0 (Lock Heal (heal_area g.0))) refl
+  inside_or_first (First k) never = first_elim n keeps r s g kind k (λ (next : NextOfHeal). next ≡ Ask 0 (Lock Heal (heal_area g.0))) refl
   inside_or_first (Healing k) never = absurd (never k.base.inside)
   inside_or_first (Working k) never = absurd (never k.base.inside)
   inside_or_first (Looking k) never = absurd (never k.base.inside)
@@ -103,7 +103,7 @@ lowest_or (Some b) = b
 abbrev pub pick_for : ℕ → ℕ → (ℕ → Bool) → ℕ
 pick_for n c p = if nat_lt c n && p c then c else lowest_or (find n p)
 
-pub picks_for : (n c : ℕ) → Picks n (pick_for n c)
+pub picks_for : (n c : ℕ) → PicksOne n (pick_for n c)
 picks_for n c p x low h = go (nat_lt c n && p c) refl
   where
     found : (o : Option ℕ) → find n p ≡ o → (lowest_or o < n) × (p (lowest_or o) ≡ true)

@@ -3,12 +3,12 @@ use Rattle.std.proofs.Common.{Bool, ◌≡◌, ◌∙◌, ◌<◌, ℕ, ap, arit
 use Rattle.afr_base.specs.declared.ids.BrickId.{BrickId}
 use Rattle.afr_base.specs.declared.ids.Kind.{Kind}
 use Rattle.afr_base.specs.declared.ids.Shape.{Shape}
-use Rattle.afr_discipline.specs.Stands.{phase_of, seen_as}
-use Rattle.afr_discipline.specs.declared.register.Phase.{Phase}
+use Rattle.afr_discipline.specs.Stands.{heal_part_of, seen_as}
+use Rattle.afr_discipline.specs.declared.register.HealPart.{HealPart}
 use Rattle.afr_discipline.specs.declared.register.Register.{Register}
 use Rattle.afr_heal.specs.Answers.{fits}
 use Rattle.afr_heal.specs.Coming.{coming_of}
-use Rattle.afr_heal.specs.Engine.{Ask, Next}
+use Rattle.afr_heal.specs.Engine.{Ask, NextOfHeal}
 use Rattle.afr_heal.specs.declared.coming.Coming.{Coming}
 use Rattle.afr_heal.specs.declared.coming.Coming.TheVariants as coming_line
 use Rattle.afr_lines.specs.Told.{told_by}
@@ -23,31 +23,31 @@ use Rattle.afr_self_heal.specs.Healing.{CanHear, Healing, IsChosen, IsFed, IsHea
 use Rattle.afr_self_heal.specs.Laws.{HealAsksLow, HealStays}
 use Rattle.afr_self_heal.specs.Outcome.{cause, outcome_after, outcome_by}
 use Rattle.afr_self_heal.specs.Source.{IsCandidate, is_found}
-use Rattle.afr_self_heal.specs.declared.contents.Contents.{Contents}
-use Rattle.afr_self_heal.specs.declared.outcome.Outcome.{Outcome}
+use Rattle.afr_self_heal.specs.declared.contents.ReadSoFar.{ReadSoFar}
+use Rattle.afr_self_heal.specs.declared.outcome.HealOutcome.{HealOutcome}
 
 -- the answer comes to this request
 pub heard_can : (m seen : Healing) → m ≡ seen → (answer : Answer) → CanHear (coming seen) answer → (b : ℕ) (request : Request) → coming m ≡ Ask b request → CanHear (Ask b request) answer
-heard_can m seen e answer can b request next = subst (λ (next : Next). CanHear next answer) next (subst (λ (m : Healing). CanHear (coming m) answer) (sym e) can)
+heard_can m seen e answer can b request next = subst (λ (next : NextOfHeal). CanHear next answer) next (subst (λ (m : Healing). CanHear (coming m) answer) (sym e) can)
 
 -- an answer that fits can be heard
 pub hearable : (m : Healing) (b : BrickId) (request : Request) (said : Coming) (answer : Answer) (told : Told) (fit : Bool) → said ≡ coming_of (coming m) → said ≡ coming_line.Ask b request → told ≡ told_by answer
     → fit ≡ fits request told → fit ≡ true → IsTellable told → CanHear (coming m) answer
 hearable m b request said answer told fit e f is by fitting tells =
-    subst (λ (next : Next). CanHear next answer) (sym (asks (coming m) b request (sym e ∙ f))) (subst (λ (told : Told). fits request told ≡ true) is (sym by ∙ fitting), subst IsTellable is tells)
+    subst (λ (next : NextOfHeal). CanHear next answer) (sym (asks (coming m) b request (sym e ∙ f))) (subst (λ (told : Told). fits request told ≡ true) is (sym by ∙ fitting), subst IsTellable is tells)
 
 -- the request goes to one of five bricks
 pub heard_small : HealAsksLow → (m : Healing) → IsHealing m → (b : ℕ) (request : Request) → coming m ≡ Ask b request → b < 5
 heard_small law m k b request next = let w = law m k b request next in omega (arith, w.0, w.1)
 
 -- how the heal ends after the answer
-pub heard_outcome : (p q : Register) (s : ℕ) (kind : Kind) (request : Request) (told said : Told) (before outcome caused : Outcome) (part : Phase)
-    → q.shape ≡ p.shape → part ≡ p.phase → said ≡ told → caused ≡ cause q.shape kind (phase_of part) (phase_of q.phase) s q.seen q.looked request said
+pub heard_outcome : (p q : Register) (s : ℕ) (kind : Kind) (request : Request) (told said : Told) (before outcome caused : HealOutcome) (part : HealPart)
+    → q.shape ≡ p.shape → part ≡ p.part → said ≡ told → caused ≡ cause q.shape kind (heal_part_of part) (heal_part_of q.part) s q.seen q.looked request said
     → outcome ≡ outcome_after p.broken q.broken before caused → outcome ≡ outcome_by p q s kind request told before
 heard_outcome p q s kind request told said before outcome caused part same was is by after =
-    after ∙ ap (λ (caused : Outcome). outcome_after p.broken q.broken before caused) (by ∙ (λ i. cause (same i) kind (phase_of (was i)) (phase_of q.phase) s q.seen q.looked request (is i)))
+    after ∙ ap (λ (caused : HealOutcome). outcome_after p.broken q.broken before caused) (by ∙ (λ i. cause (same i) kind (heal_part_of (was i)) (heal_part_of q.part) s q.seen q.looked request (is i)))
 
-module _ {F : Type 0} (calls : Calls F) (choose : F) (m : Healing) (b : ℕ) (request : Request) (answer : Answer) (at : ℕ) (q : Register) (source : BrickId) (outcome : Outcome) (contents : Contents) (e : q ≡ register_after m b request answer at) (same : q.shape ≡ m.register.shape)
+module _ {F : Type 0} (calls : Calls F) (choose : F) (m : Healing) (b : ℕ) (request : Request) (answer : Answer) (at : ℕ) (q : Register) (source : BrickId) (outcome : HealOutcome) (contents : ReadSoFar) (e : q ≡ register_after m b request answer at) (same : q.shape ≡ m.register.shape)
     (chosen : is_found q.shape.n (seen_as q) ≡ true → IsChosen calls choose m.kind q source) (stays : is_found q.shape.n (seen_as q) ≡ false → source ≡ m.source) (ends : outcome ≡ outcome_by m.register q m.source.0 m.kind request (told_by answer) m.outcome) (keeps : contents ≡ kept b answer m.contents) where
   abbrev new : Healing
   new = record { gfid = m.gfid; kind = m.kind; register = q; source = source; outcome = outcome; contents = contents }

@@ -8,7 +8,7 @@ use Rattle.afr_choice.specs.Looks.{no_looks, with_look, without_look}
 use Rattle.afr_choice.specs.LooksLemmas.{length_after_look, length_after_loss, view_after_look, view_after_loss, view_after_other_look, view_after_other_loss}
 use Rattle.afr_choice.specs.declared.looked.Looked.{Looked}
 use Rattle.afr_discipline.specs.Notes.{broken_by, counts, is_working, noted_ask, noted_inside, noted_outside, shown, shown_if, stayed, still_possible}
-use Rattle.afr_discipline.specs.Stands.{HasFive, phase_of, views_of}
+use Rattle.afr_discipline.specs.Stands.{HasFive, heal_part_of, views_of}
 use Rattle.afr_discipline.specs.Turns.{marks_in}
 use Rattle.afr_discipline.specs.declared.register.Register.{Register}
 use Rattle.afr_discipline.specs.declared.register.Step.TheVariants.{Open}
@@ -29,7 +29,7 @@ module _ (p : Register) (t b : ℕ) (told : Told) (P : Looked → Type 0) where
   if_shown false looked now after = now
 
   pub seen_inside : (request : Request) → P p.seen → P (shown p.seen b told) → P (noted_inside p t b request told).seen
-  seen_inside (Look g) now after = if_shown (is_opening (phase_of p.phase)) p.seen now after
+  seen_inside (Look g) now after = if_shown (is_opening (heal_part_of p.part)) p.seen now after
   seen_inside (Lock Heal area) now after = now
   seen_inside (Lock Work area) now after = now
   seen_inside (Unlock Heal area) now after = now

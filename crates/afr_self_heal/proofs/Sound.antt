@@ -8,16 +8,16 @@ use Rattle.afr_base.specs.declared.ids.Kind.TheVariants as kind_of
 use Rattle.afr_base.specs.declared.ids.Shape.{Shape}
 use Rattle.afr_choice.specs.Looks.{no_looks}
 use Rattle.afr_discipline.specs.Laws.{NotesStand, ShapesKept}
-use Rattle.afr_discipline.specs.Stands.{Stands, phase_of, seen_as, step_of, views_of}
+use Rattle.afr_discipline.specs.Stands.{Stands, heal_part_of, seen_as, step_of, views_of}
 use Rattle.afr_discipline.specs.Turns.{candidate, marks_in}
 use Rattle.afr_discipline.specs.declared.register.Move.{Move}
 use Rattle.afr_discipline.specs.declared.register.Move.TheVariants as move
 use Rattle.afr_discipline.specs.declared.register.Register.{Register}
 use Rattle.afr_heal.proofs.Carried.{restyled, restyled_is, self_stands}
 use Rattle.afr_heal.proofs.Parts.{both, not_both, pair}
-use Rattle.afr_heal.specs.Answers.{Picks, asked_for, in_range, source_after}
+use Rattle.afr_heal.specs.Answers.{PicksOne, asked_for, in_range, source_after}
 use Rattle.afr_heal.specs.Carried.{Heals, source_by}
-use Rattle.afr_heal.specs.Engine.{Ask, Next}
+use Rattle.afr_heal.specs.Engine.{Ask, NextOfHeal}
 use Rattle.afr_heal.specs.Laws.{allows_next, asks_well}
 use Rattle.afr_heal.specs.Moves.{HealsAllowed, HealsBegun, HealsKept, HealsMove, HealsNew}
 use Rattle.afr_heal.specs.Spare.{IsSpare, SpareNext, StaysSpare}
@@ -32,7 +32,7 @@ use Rattle.afr_lines.specs.declared.request.Request.TheVariants.{Lock}
 use Rattle.afr_moves.specs.Rules.{heal_area}
 use Rattle.afr_lines.specs.declared.lock.Domain.TheVariants.{Heal}
 use Rattle.afr_moves.specs.Keeps.{keeps_in}
-use Rattle.afr_moves.specs.Register.{Exact, Looks, Opening, Phase, good, is_opening, len_of, same_step, span}
+use Rattle.afr_moves.specs.Register.{Exact, HealPart, Looks, Opening, good, is_opening, len_of, same_step, span}
 use Rattle.afr_moves.specs.Steps.{goes_on, goes_on_at}
 use Rattle.afr_self_heal.proofs.FoundLemmas.{Found, found_every, found_going, found_parts, inside_or_first, looks_is, opening_is, pick_for, pick_is, picks_for, unfound}
 use Rattle.afr_self_heal.proofs.NotedLemmas.{five_after, seen_views, told_room, told_short}
@@ -40,8 +40,8 @@ use Rattle.afr_self_heal.specs.Contents.{AreMerged, kept, none_in}
 use Rattle.afr_self_heal.specs.Healing.{CanHear, Healing, IsHealing, IsTellable, answered, coming, register_after}
 use Rattle.afr_self_heal.specs.Laws.{HealAllowed, HealAsksLow, HealBegins, HealBegunStays, HealEndNamed, HealHasRoom, HealHasSource, HealIsInside, HealKeepsFive, HealStays}
 use Rattle.afr_self_heal.specs.Source.{HasSource, IsCandidate, is_found}
-use Rattle.afr_self_heal.specs.declared.contents.Contents.{Contents}
-use Rattle.afr_self_heal.specs.declared.contents.Contents.TheVariants as contents_are
+use Rattle.afr_self_heal.specs.declared.contents.ReadSoFar.{ReadSoFar}
+use Rattle.afr_self_heal.specs.declared.contents.ReadSoFar.TheVariants as contents_are
 
 -- ---- what was read
 merged_none : (kind : Kind) → AreMerged (none_in kind)
@@ -49,13 +49,13 @@ merged_none kind_of.Names = record { merge = λ names e. absurd (cc e) }
 merged_none kind_of.Bytes = tt
 merged_none kind_of.Attrs = tt
 
-merged_list : (b : ℕ) (names : _) (was : Contents) → AreMerged was → AreMerged (kept b (answer_of.Names names) was)
+merged_list : (b : ℕ) (names : _) (was : ReadSoFar) → AreMerged was → AreMerged (kept b (answer_of.Names names) was)
 merged_list b names (contents_are.Names read) k = record { merge = λ list e. absurd (cc e) }
 merged_list b names contents_are.Nothing k = k
 merged_list b names (contents_are.Bytes bytes) k = k
 merged_list b names (contents_are.Attrs attrs) k = k
 
-merged_kept : (b : ℕ) (answer : Answer) (was : Contents) → AreMerged was → AreMerged (kept b answer was)
+merged_kept : (b : ℕ) (answer : Answer) (was : ReadSoFar) → AreMerged was → AreMerged (kept b answer was)
 merged_kept b (answer_of.Bytes bytes) was k = tt
 merged_kept b (answer_of.Attrs attrs) was k = tt
 merged_kept b (answer_of.Names names) was k = merged_list b names was k
@@ -73,7 +73,7 @@ move_of b request = move.Ask (record { 0 = b }) (record { ref_ptr = (0, 0); now 
 pub asks_low : HealsAllowed → HealAsksLow
 asks_low allowed m k b request next =
     let well : asks_well m.register.shape.n (keeps_in m.register.shape) (seen_as m.register) b request ≡ true =
-    subst (λ (next : Next). allows_next m.register.shape.n (keeps_in m.register.shape) (seen_as m.register) m.gfid m.kind next ≡ true) next (allowed m.register m.source.0 m.gfid m.kind k.heals).0 in
+    subst (λ (next : NextOfHeal). allows_next m.register.shape.n (keeps_in m.register.shape) (seen_as m.register) m.gfid m.kind next ≡ true) next (allowed m.register m.source.0 m.gfid m.kind k.heals).0 in
     let l = (both (nat_lt b m.register.shape.n) _ well).0 in
     (grind (arith, nat_tests, l), k.heals.few)
 
@@ -102,13 +102,13 @@ module _ (notes : NotesStand) (shapes : ShapesKept) (allowed : HealsAllowed) (ke
   there = notes p (seen_as p) (move_of b request) told t k.heals.few k.heals.five small (self_stands p k.heals.published)
 
   well : asks_well p.shape.n (keeps_in p.shape) (seen_as p) b request ≡ true
-  well = subst (λ (next : Next). allows_next p.shape.n (keeps_in p.shape) (seen_as p) m.gfid m.kind next ≡ true) next (allowed p m.source.0 m.gfid m.kind k.heals).0
+  well = subst (λ (next : NextOfHeal). allows_next p.shape.n (keeps_in p.shape) (seen_as p) m.gfid m.kind next ≡ true) next (allowed p m.source.0 m.gfid m.kind k.heals).0
 
-  heals_by : (pick : (ℕ → Bool) → ℕ) → Picks p.shape.n pick → Heals q (source_by pick p q t b request told m.source.0) m.gfid m.kind
+  heals_by : (pick : (ℕ → Bool) → ℕ) → PicksOne p.shape.n pick → Heals q (source_by pick p q t b request told m.source.0) m.gfid m.kind
   heals_by pick picks = keeps_all pick p m.source.0 m.gfid m.kind picks k.heals (move_of b request) told t b request (refl, refl) next can.0 (tellable_range told can.1) (five_after p t b request told k.heals.five)
 
   -- the case that it is in, over the shape before
-  standing_by : (pick : (ℕ → Bool) → ℕ) → Picks p.shape.n pick → Standing p.shape.n (keeps_in p.shape) (seen_as q) (source_by pick p q t b request told m.source.0) m.gfid m.kind
+  standing_by : (pick : (ℕ → Bool) → ℕ) → PicksOne p.shape.n pick → Standing p.shape.n (keeps_in p.shape) (seen_as q) (source_by pick p q t b request told m.source.0) m.gfid m.kind
   standing_by pick picks = subst (λ (shape : Shape). Standing shape.n (keeps_in shape) (seen_as q) (source_by pick p q t b request told m.source.0) m.gfid m.kind) same (heals_by pick picks).standing
 
   with_source : (c : ℕ) → Standing p.shape.n (keeps_in p.shape) (seen_as q) c m.gfid m.kind → Heals q c m.gfid m.kind
@@ -125,10 +125,10 @@ module _ (notes : NotesStand) (shapes : ShapesKept) (allowed : HealsAllowed) (ke
 
   -- whether the line was a look of the first part
   abbrev looking : Bool
-  looking = same_step r.step Looks && is_opening r.phase
+  looking = same_step r.step Looks && is_opening r.part
 
-  looking_is : looking ≡ (same_step (step_of q.step) Looks && is_opening (phase_of q.phase))
-  looking_is = let e = there.step in let f = there.phase in λ i. same_step (e i) Looks && is_opening (f i)
+  looking_is : looking ≡ (same_step (step_of q.step) Looks && is_opening (heal_part_of q.part))
+  looking_is = let e = there.step in let f = there.part in λ i. same_step (e i) Looks && is_opening (f i)
 
   not_looking : looking ≡ false → is_found p.shape.n (seen_as q) ≡ false
   not_looking h = go (is_found p.shape.n (seen_as q)) refl
@@ -137,13 +137,13 @@ module _ (notes : NotesStand) (shapes : ShapesKept) (allowed : HealsAllowed) (ke
       go false e = refl
       go true e =
           let f = found_parts p.shape.n (seen_as q) e in
-          let both_are : (same_step (step_of q.step) Looks && is_opening (phase_of q.phase)) ≡ true = rw (f.at, f.part) refl in
+          let both_are : (same_step (step_of q.step) Looks && is_opening (heal_part_of q.part)) ≡ true = rw (f.at, f.part) refl in
           absurd (not_both looking (looking_is ∙ both_are) h)
 
-  looking_parts : looking ≡ true → (step_of q.step ≡ Looks) × (phase_of q.phase ≡ Opening)
+  looking_parts : looking ≡ true → (step_of q.step ≡ Looks) × (heal_part_of q.part ≡ Opening)
   looking_parts h =
-      let parts = both (same_step (step_of q.step) Looks) (is_opening (phase_of q.phase)) (sym looking_is ∙ h) in
-      (looks_is (step_of q.step) parts.0, opening_is (phase_of q.phase) parts.1)
+      let parts = both (same_step (step_of q.step) Looks) (is_opening (heal_part_of q.part)) (sym looking_is ∙ h) in
+      (looks_is (step_of q.step) parts.0, opening_is (heal_part_of q.part) parts.1)
 
   -- a copy that may be the source by the program's register may be by the exact one
   candidate_back : (c : ℕ) → IsCandidate q c → (c < p.shape.n) × (candidate p.shape.n (keeps_in p.shape) r c ≡ true)
@@ -174,14 +174,14 @@ module _ (notes : NotesStand) (shapes : ShapesKept) (allowed : HealsAllowed) (ke
   module _ (spares : StaysSpare) where
     spare_exact : IsSpare r (source_after p.shape.n (keeps_in p.shape) (pick_for p.shape.n 0) r m.source.0)
     spare_exact =
-        subst (λ (next : Next). SpareNext p.shape.n (keeps_in p.shape) (pick_for p.shape.n 0) (seen_as p) m.source.0 m.gfid m.kind next) next
+        subst (λ (next : NextOfHeal). SpareNext p.shape.n (keeps_in p.shape) (pick_for p.shape.n 0) (seen_as p) m.source.0 m.gfid m.kind next) next
         (spares p.shape.n (keeps_in p.shape) (pick_for p.shape.n 0) (seen_as p) m.source.0 m.gfid m.kind k.heals.some k.heals.few k.heals.standing k.heals.named k.spare) t told
 
     spare_as : (s : ℕ) → IsSpare r s → IsSpare (seen_as q) s
     spare_as s h = subst (λ (r2 : Exact). IsSpare r2 s) (restyled_is q r there) (record { zero_first = h.zero_first; low = h.low; piece = h.piece })
 
     -- in the first part any source will do
-    spare_any : (s c : ℕ) → IsSpare (seen_as q) s → phase_of q.phase ≡ Opening → IsSpare (seen_as q) c
+    spare_any : (s c : ℕ) → IsSpare (seen_as q) s → heal_part_of q.part ≡ Opening → IsSpare (seen_as q) c
     spare_any s c h part = record {
       zero_first = h.zero_first;
       low = let none : q.upto ≡ 0 = h.zero_first (rw part refl) in rw none (under (len_of (views_of q.seen c)));
@@ -231,7 +231,7 @@ module _ (notes : NotesStand) (shapes : ShapesKept) (allowed : HealsAllowed) (ke
       a = found_going p.shape.n (keeps_in p.shape) (seen_as q) s m.gfid m.kind (standing_by (pick_for p.shape.n 0) (picks_for p.shape.n 0)) f
 
       -- what lets the heal go on is the same for each copy
-      onwards : (part : Phase) → part ≡ Opening → (x : ℕ) → goes_on_at p.shape.n (keeps_in p.shape) (seen_as q) s part ≡ true → goes_on_at p.shape.n (keeps_in p.shape) (seen_as q) x part ≡ true
+      onwards : (part : HealPart) → part ≡ Opening → (x : ℕ) → goes_on_at p.shape.n (keeps_in p.shape) (seen_as q) s part ≡ true → goes_on_at p.shape.n (keeps_in p.shape) (seen_as q) x part ≡ true
       onwards Opening e2 x h = h
       onwards _ e2 x h = absurd (cc e2)
 
@@ -243,8 +243,8 @@ module _ (notes : NotesStand) (shapes : ShapesKept) (allowed : HealsAllowed) (ke
 
       copies_before : (x : ℕ) → x < p.shape.n → candidate p.shape.n (keeps_in p.shape) (seen_as q) x ≡ good p.shape.n (keeps_in p.shape) m.kind (views_of q.seen) x
       copies_before x low =
-          all_true (member q.possible x) (good p.shape.n (keeps_in p.shape) q.kind (views_of q.seen) x) (goes_on_at p.shape.n (keeps_in p.shape) (seen_as q) x (phase_of q.phase))
-          (possible_each f x low) (onwards (phase_of q.phase) f.part x (both (good p.shape.n (keeps_in p.shape) q.kind (views_of q.seen) s) (goes_on_at p.shape.n (keeps_in p.shape) (seen_as q) s (phase_of q.phase)) a.onwards).1)
+          all_true (member q.possible x) (good p.shape.n (keeps_in p.shape) q.kind (views_of q.seen) x) (goes_on_at p.shape.n (keeps_in p.shape) (seen_as q) x (heal_part_of q.part))
+          (possible_each f x low) (onwards (heal_part_of q.part) f.part x (both (good p.shape.n (keeps_in p.shape) q.kind (views_of q.seen) s) (goes_on_at p.shape.n (keeps_in p.shape) (seen_as q) s (heal_part_of q.part)) a.onwards).1)
           ∙ ap (λ (kind : Kind). good p.shape.n (keeps_in p.shape) kind (views_of q.seen) x) a.is_kind
 
       copies : (x : ℕ) → x < q.shape.n → candidate q.shape.n (keeps_in q.shape) (seen_as q) x ≡ good q.shape.n (keeps_in q.shape) m.kind (views_of q.seen) x
@@ -266,7 +266,7 @@ heal_begun_stays begun_all spares m t k next = record {
   room = k.room;
   short = k.short;
   spare =
-      (let h = subst (λ (next : Next). SpareNext m.register.shape.n (keeps_in m.register.shape) (pick_for m.register.shape.n 0) (seen_as m.register) m.source.0 m.gfid m.kind next) next
+      (let h = subst (λ (next : NextOfHeal). SpareNext m.register.shape.n (keeps_in m.register.shape) (pick_for m.register.shape.n 0) (seen_as m.register) m.source.0 m.gfid m.kind next) next
       (spares m.register.shape.n (keeps_in m.register.shape) (pick_for m.register.shape.n 0) (seen_as m.register) m.source.0 m.gfid m.kind k.heals.some k.heals.few k.heals.standing k.heals.named k.spare) t in
       record { zero_first = h.zero_first; low = h.low; piece = h.piece });
   merged = k.merged;

@@ -11,22 +11,22 @@ use Rattle.afr_object.specs.Repairs.{Contents as Carried, merged}
 use Rattle.afr_object.specs.Repairs as carried
 use Rattle.afr_object.specs.declared.change.Load.{Load}
 use Rattle.afr_object.specs.declared.entry.Entry.{Entry}
-use Rattle.afr_self_heal.specs.declared.contents.Contents.{Contents}
-use Rattle.afr_self_heal.specs.declared.contents.Contents.TheVariants.{Nothing, Bytes, Attrs, Names}
+use Rattle.afr_self_heal.specs.declared.contents.ReadSoFar.{ReadSoFar}
+use Rattle.afr_self_heal.specs.declared.contents.ReadSoFar.TheVariants.{Nothing, Bytes, Attrs, Names}
 use Rattle.afr_self_heal.specs.declared.contents.NamesRead.{NamesRead}
 
 -- before any read
-abbrev pub none_in : Kind → Contents
+abbrev pub none_in : Kind → ReadSoFar
 none_in kind_of.Names = Names (record { lists = None ∷ None ∷ None ∷ None ∷ None ∷ []; merged = None })
 none_in kind = Nothing
 
 -- one more list of names, whose merge isn't made yet
-abbrev pub with_list : ℕ → List (NameId × Entry) → Contents → Contents
+abbrev pub with_list : ℕ → List (NameId × Entry) → ReadSoFar → ReadSoFar
 with_list b names (Names read) = Names (record { lists = slice_set read.lists b (Some names); merged = None })
 with_list b names was = was
 
 -- after brick b's answer to a read
-abbrev pub kept : ℕ → Answer → Contents → Contents
+abbrev pub kept : ℕ → Answer → ReadSoFar → ReadSoFar
 kept b (answer.Bytes bytes) was = Bytes bytes
 kept b (answer.Attrs attrs) was = Attrs attrs
 kept b (answer.Names names) was = with_list b names was
@@ -38,7 +38,7 @@ merge_in read (Some names) = names
 merge_in read None = merged (present read.lists)
 
 -- with the merge
-abbrev pub readied : Contents → Contents
+abbrev pub readied : ReadSoFar → ReadSoFar
 readied (Names read) = Names (record read { merged = Some (merge_in read read.merged) })
 readied contents = contents
 
@@ -48,20 +48,20 @@ names_in (Some names) = carried.Names names
 names_in None = carried.Nothing
 
 -- what goes with a repair
-abbrev pub carried_in : Contents → Carried
+abbrev pub carried_in : ReadSoFar → Carried
 carried_in Nothing = carried.Nothing
 carried_in (Bytes bytes) = carried.Bytes bytes
 carried_in (Attrs attrs) = carried.Attrs attrs
 carried_in (Names read) = names_in read.merged
 
 -- the load is that
-abbrev pub load_in : Contents → Load → Type 0
+abbrev pub load_in : ReadSoFar → Load → Type 0
 load_in contents load = contents_of load ≡ carried_in contents
 
 -- a merge that is made is that of the lists
 pub record IsMerged (read : NamesRead) : Type 0 where
   pub merge : (names : List (NameId × Entry)) → read.merged ≡ Some names → names ≡ merged (present read.lists)
 
-abbrev pub AreMerged : Contents → Type 0
+abbrev pub AreMerged : ReadSoFar → Type 0
 AreMerged (Names read) = IsMerged read
 AreMerged contents = Unit {0}

@@ -11,7 +11,7 @@ use Rattle.afr_discipline.specs.declared.register.Register.{Register}
 use Rattle.afr_heal.specs.Answers.{fits}
 use Rattle.afr_heal.specs.Carried.{Heals, next_by}
 use Rattle.afr_heal.specs.Coming.{RoomEach}
-use Rattle.afr_heal.specs.Engine.{Next, Ask, Begins, Ends}
+use Rattle.afr_heal.specs.Engine.{NextOfHeal, Ask, Begins, Ends}
 use Rattle.afr_heal.specs.Spare.{IsSpare}
 use Rattle.afr_lines.specs.Told.{told_by}
 use Rattle.afr_lines.specs.declared.answer.Answer.{Answer}
@@ -26,9 +26,9 @@ use Rattle.afr_rule.specs.Choosing.{Calls, IsPick}
 use Rattle.afr_self_heal.specs.Contents.{AreMerged, kept, none_in, readied}
 use Rattle.afr_self_heal.specs.Outcome.{outcome_by, reply_of}
 use Rattle.afr_self_heal.specs.Source.{IsCandidate, IsLowest, candidates_of, is_found}
-use Rattle.afr_self_heal.specs.declared.contents.Contents.{Contents}
-use Rattle.afr_self_heal.specs.declared.outcome.Outcome.{Outcome}
-use Rattle.afr_self_heal.specs.declared.outcome.Outcome.TheVariants.{Settled}
+use Rattle.afr_self_heal.specs.declared.contents.ReadSoFar.{ReadSoFar}
+use Rattle.afr_self_heal.specs.declared.outcome.HealOutcome.{HealOutcome}
+use Rattle.afr_self_heal.specs.declared.outcome.HealOutcome.TheVariants.{Settled}
 
 -- a heal: its object and kind, the register of its lines, its source, how it ends, and what it read
 pub record Healing : Type 0 where
@@ -36,19 +36,19 @@ pub record Healing : Type 0 where
   pub kind : Kind
   pub register : Register
   pub source : BrickId
-  pub outcome : Outcome
-  pub contents : Contents
+  pub outcome : HealOutcome
+  pub contents : ReadSoFar
 
 -- a heal that begins
 abbrev pub heal_from : Shape → Gfid → Kind → Healing
 heal_from shape g kind = record { gfid = g; kind = kind; register = no_lines shape; source = record { 0 = 0 }; outcome = Settled; contents = none_in kind }
 
 -- the next line of the engine
-abbrev pub coming : Healing → Next
+abbrev pub coming : Healing → NextOfHeal
 coming m = next_by m.register m.source.0 m.gfid m.kind
 
 -- the same as a line
-abbrev pub line_of : Healing → Next → Line
+abbrev pub line_of : Healing → NextOfHeal → Line
 line_of m (Ask b request) = line.Ask (record { 0 = b }) request
 line_of m Begins = line.HealBegin m.gfid m.kind
 line_of m Ends = line.HealEnd m.gfid m.kind (reply_of m.outcome m.register.seen)
@@ -82,7 +82,7 @@ IsTellable (Seen view) = IsShowable view
 IsTellable told = Unit {0}
 
 -- an answer that bricks give to this line
-abbrev pub CanHear : Next → Answer → Type 0
+abbrev pub CanHear : NextOfHeal → Answer → Type 0
 CanHear (Ask b request) answer = (fits request (told_by answer) ≡ true) × IsTellable (told_by answer)
 CanHear other answer = ⊥
 

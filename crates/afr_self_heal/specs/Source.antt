@@ -12,7 +12,7 @@ use Rattle.afr_rule.specs.declared.candidate.Candidate.{Candidate}
 
 -- the first looks are over, and let the heal go on
 abbrev pub is_found : ℕ → Exact → Bool
-is_found n r = not r.broken && same_step r.step Looks && is_opening r.phase && over n r.law.held r.asked
+is_found n r = not r.broken && same_step r.step Looks && is_opening r.part && over n r.law.held r.asked
 
 -- the copies that may be the source, in rising order, each with the length that its view showed
 abbrev pub candidates : ℕ → (ℕ → Kind → Bool) → Exact → List Candidate

@@ -1,16 +1,16 @@
 //! What ends a heal.
 ghost use Rattle.std.specs.Prelude.{◌≡◌, ℕ, ◌<◌, ◌≤◌};
-ghost use Rattle.afr_discipline.specs.Stands.{phase_of};
+ghost use Rattle.afr_discipline.specs.Stands.{heal_part_of};
 ghost use Rattle.afr_heal.specs.Engine.{has_part};
 ghost use Rattle.afr_moves.specs.Note.{fails};
 ghost use Rattle.afr_self_heal.specs.Outcome.{by_looks, cause, locks_cause, looks_cause, outcome_after};
 
 use crate::copies::is_clean;
 use crate::moving::by_mover;
-use crate::outcome::Outcome;
+use crate::outcome::HealOutcome;
 use afr_base::{BrickId, Kind, Shape};
 use afr_choice::{Looked, holders};
-use afr_discipline::{Phase, Register, present_part};
+use afr_discipline::{HealPart, Register, present_part};
 use afr_lines::{Domain, Request, Told};
 
 fn fails(told: &Told) -> bool
@@ -23,54 +23,54 @@ fn fails(told: &Told) -> bool
 }
 
 /// Whether another part of the heal comes: only one of bytes has more than the first.
-fn is_part_left(kind: Kind, part: Phase) -> bool
-    ensures { result ≡ has_part kind (phase_of part) }
+fn is_part_left(kind: Kind, part: HealPart) -> bool
+    ensures { result ≡ has_part kind (heal_part_of part) }
 {
     match (kind, part) {
-        (Kind::Bytes, Phase::Finish) => false,
+        (Kind::Bytes, HealPart::Finish) => false,
         (Kind::Bytes, _) => true,
         (_, _) => false,
     }
 }
 
 /// A Heal lock that another actor has; else too few locks, or one that was lost later.
-fn by_lock(register: &Register, domain: Domain, told: &Told) -> Outcome
-    ensures { result ≡ locks_cause (phase_of register.now.phase) domain told.now }
+fn by_lock(register: &Register, domain: Domain, told: &Told) -> HealOutcome
+    ensures { result ≡ locks_cause (heal_part_of register.now.part) domain told.now }
 {
     match (domain, told) {
-        (Domain::Heal, Told::Held(owner)) => Outcome::Busy(*owner),
+        (Domain::Heal, Told::Held(owner)) => HealOutcome::Busy(*owner),
         (_, _) => match present_part(register) {
-            Phase::Opening => Outcome::Short,
-            Phase::Piece | Phase::Finish => Outcome::Failed,
+            HealPart::Opening => HealOutcome::Short,
+            HealPart::Piece | HealPart::Finish => HealOutcome::Failed,
         },
     }
 }
 
 /// What the first looks say of a heal that they end.
-fn by_looks(shape: Shape, kind: Kind, seen: &Looked) -> Outcome
+fn by_looks(shape: Shape, kind: Kind, seen: &Looked) -> HealOutcome
     requires { shape.n ≤ 5 }
     ensures { result ≡ by_looks shape kind seen.now }
 {
     if !(seen.reached.has_quorum(shape.n) && holders(seen).has_quorum(shape.n)) {
-        return Outcome::Short;
+        return HealOutcome::Short;
     }
     if is_clean(kind, seen) {
-        Outcome::Nothing
+        HealOutcome::Nothing
     } else {
-        Outcome::Split
+        HealOutcome::Split
     }
 }
 
-fn by_look(register: &Register, kind: Kind, source: BrickId, told: &Told) -> Outcome
+fn by_look(register: &Register, kind: Kind, source: BrickId, told: &Told) -> HealOutcome
     requires few { register.now.shape.n ≤ 5 }
     requires small { source.0 < 5 }
-    ensures { result ≡ looks_cause register.now.shape kind (phase_of register.now.phase) source.0 register.now.seen register.now.looked told.now }
+    ensures { result ≡ looks_cause register.now.shape kind (heal_part_of register.now.part) source.0 register.now.seen register.now.looked told.now }
 {
     match present_part(register) {
-        Phase::Opening => by_looks(register.shape, kind, &register.seen),
-        Phase::Piece | Phase::Finish => {
+        HealPart::Opening => by_looks(register.shape, kind, &register.seen),
+        HealPart::Piece | HealPart::Finish => {
             if fails(told) {
-                Outcome::Failed
+                HealOutcome::Failed
             } else {
                 by_mover(register, kind, source)
             }
@@ -84,26 +84,26 @@ fn by_look(register: &Register, kind: Kind, source: BrickId, told: &Told) -> Out
 fn cause(
     register: &Register,
     kind: Kind,
-    part: Phase,
+    part: HealPart,
     source: BrickId,
     request: &Request,
     told: &Told,
-) -> Outcome
+) -> HealOutcome
     requires few { register.now.shape.n ≤ 5 }
     requires small { source.0 < 5 }
-    ensures { result ≡ cause register.now.shape kind (phase_of part) (phase_of register.now.phase) source.0 register.now.seen register.now.looked request.now told.now }
+    ensures { result ≡ cause register.now.shape kind (heal_part_of part) (heal_part_of register.now.part) source.0 register.now.seen register.now.looked request.now told.now }
 {
     match request {
         Request::Lock { domain, .. } => by_lock(register, *domain, told),
         Request::Look { .. } => by_look(register, kind, source, told),
         Request::Unlock { .. } => {
             if is_part_left(kind, part) {
-                Outcome::Failed
+                HealOutcome::Failed
             } else {
-                Outcome::Settled
+                HealOutcome::Settled
             }
         }
-        _ => Outcome::Failed,
+        _ => HealOutcome::Failed,
     }
 }
 
@@ -111,16 +111,16 @@ fn cause(
 pub(crate) fn outcome_after(
     register: &Register,
     kind: Kind,
-    part: Phase,
+    part: HealPart,
     source: BrickId,
     request: &Request,
     told: &Told,
     was: bool,
-    before: Outcome,
-) -> Outcome
+    before: HealOutcome,
+) -> HealOutcome
     requires few { register.now.shape.n ≤ 5 }
     requires small { source.0 < 5 }
-    ensures { result ≡ outcome_after was register.now.broken before (cause register.now.shape kind (phase_of part) (phase_of register.now.phase) source.0 register.now.seen register.now.looked request.now told.now) }
+    ensures { result ≡ outcome_after was register.now.broken before (cause register.now.shape kind (heal_part_of part) (heal_part_of register.now.part) source.0 register.now.seen register.now.looked request.now told.now) }
 {
     if !was && register.broken {
         cause(register, kind, part, source, request, told)

@@ -18,7 +18,7 @@ pub struct NamesRead {
 
 /// What was read: the bytes of the present piece, the source's attributes, or the names of each good copy.
 #[derive(Drop)]
-pub enum Contents {
+pub enum ReadSoFar {
     Nothing,
     Bytes(Chunk),
     Attrs(AttrList),
@@ -26,28 +26,28 @@ pub enum Contents {
 }
 
 /// Nothing was read yet.
-pub(crate) fn nothing(kind: Kind) -> Contents
+pub(crate) fn nothing(kind: Kind) -> ReadSoFar
     ensures { result ≡ none_in kind }
 {
     match kind {
-        Kind::Names => Contents::Names(NamesRead {
+        Kind::Names => ReadSoFar::Names(NamesRead {
             lists: [None, None, None, None, None],
             merged: None,
         }),
-        _ => Contents::Nothing,
+        _ => ReadSoFar::Nothing,
     }
 }
 
 /// What a read gave is taken out of the answer, and not copied.
-pub(crate) fn keep(contents: &mut Contents, b: BrickId, answer: &mut Answer)
+pub(crate) fn keep(contents: &mut ReadSoFar, b: BrickId, answer: &mut Answer)
     requires { b.0 < 5 }
     ensures { contents.new ≡ kept b.0 answer.old contents.old }
 {
     match mem::replace(answer, Answer::Done) {
-        Answer::Bytes(bytes) => *contents = Contents::Bytes(bytes),
-        Answer::Attrs(attrs) => *contents = Contents::Attrs(attrs),
+        Answer::Bytes(bytes) => *contents = ReadSoFar::Bytes(bytes),
+        Answer::Attrs(attrs) => *contents = ReadSoFar::Attrs(attrs),
         Answer::Names(names) => {
-            if let Contents::Names(read) = contents {
+            if let ReadSoFar::Names(read) = contents {
                 read.lists[b.0 as usize] = Some(names);
                 read.merged = None;
             }
@@ -57,11 +57,11 @@ pub(crate) fn keep(contents: &mut Contents, b: BrickId, answer: &mut Answer)
 }
 
 /// Makes the merge of what was read so far, in O(k log k) for k names.
-pub(crate) fn ready(contents: &mut Contents, alloc: Global) -> Result<(), NoMemory>
+pub(crate) fn ready(contents: &mut ReadSoFar, alloc: Global) -> Result<(), NoMemory>
     ensures ok { OnOk result (contents.new ≡ readied contents.old) }
     ensures err { OnErr result (contents.new ≡ contents.old) }
 {
-    if let Contents::Names(read) = contents {
+    if let ReadSoFar::Names(read) = contents {
         if read.merged.is_none() {
             let merged = merged_names(alloc, &read.lists)?;
             read.merged = Some(merged);
@@ -71,14 +71,14 @@ pub(crate) fn ready(contents: &mut Contents, alloc: Global) -> Result<(), NoMemo
 }
 
 /// What goes with a repair.
-pub(crate) fn load(contents: &Contents) -> Load<'_>
+pub(crate) fn load(contents: &ReadSoFar) -> Load<'_>
     ensures { load_in contents.now result }
 {
     match contents {
-        Contents::Nothing => Load::Nothing,
-        Contents::Bytes(bytes) => Load::Bytes(bytes.as_slice()),
-        Contents::Attrs(attrs) => Load::Attrs(attrs),
-        Contents::Names(read) => match &read.merged {
+        ReadSoFar::Nothing => Load::Nothing,
+        ReadSoFar::Bytes(bytes) => Load::Bytes(bytes.as_slice()),
+        ReadSoFar::Attrs(attrs) => Load::Attrs(attrs),
+        ReadSoFar::Names(read) => match &read.merged {
             Some(names) => Load::Names(names),
             None => Load::Nothing,
         },

@@ -2,7 +2,7 @@
 ghost use Rattle.std.specs.Prelude.{◌≡◌, ◌+◌, ◌^◌, ◌<◌, ◌≤◌, ◌||◌, false, nat_le, not, true};
 ghost use Rattle.afr_base.specs.Bricks.{member};
 ghost use Rattle.afr_discipline.specs.Notes.{noted_ask};
-ghost use Rattle.afr_discipline.specs.Stands.{phase_of, seen_as, step_of};
+ghost use Rattle.afr_discipline.specs.Stands.{heal_part_of, seen_as, step_of};
 ghost use Rattle.afr_moves.specs.Keeps.{keeps_in};
 ghost use Rattle.afr_moves.specs.Register.{is_opening, over, rank, span};
 ghost use Rattle.afr_moves.specs.Steps.{looks_over};
@@ -13,7 +13,7 @@ ghost use Rattle.afr_self_heal.specs.Source.{HasSource, is_found};
 use crate::choosing::source_found;
 use afr_base::{BrickId, BrickSet, Kind};
 use afr_discipline::{
-    Move, Phase, Register, Step, all_of, asked_at, note, present_part, present_step,
+    HealPart, Move, Register, Step, all_of, asked_at, note, present_part, present_step,
 };
 use afr_lines::{Request, Told};
 use afr_rule::{Candidate, SourceRule};
@@ -66,7 +66,7 @@ fn is_found(register: &Register) -> bool
         return false;
     }
     match (present_step(register), present_part(register)) {
-        (Step::Looks, Phase::Opening) => is_over(
+        (Step::Looks, HealPart::Opening) => is_over(
             register.shape.n,
             register.held,
             asked_at(register, Step::Looks),
@@ -89,16 +89,16 @@ fn is_past_locks(step: Step) -> bool
 /// Whether the first looks are over.
 pub(crate) fn has_looked(register: &Register) -> bool
     requires { register.now.shape.n ≤ 5 }
-    ensures { result ≡ (not (is_opening (phase_of register.now.phase)) || looks_over register.now.shape.n (keeps_in register.now.shape) (seen_as register.now) 0) }
+    ensures { result ≡ (not (is_opening (heal_part_of register.now.part)) || looks_over register.now.shape.n (keeps_in register.now.shape) (seen_as register.now) 0) }
 {
     match (present_part(register), present_step(register)) {
-        (Phase::Opening, Step::Looks) => is_over(
+        (HealPart::Opening, Step::Looks) => is_over(
             register.shape.n,
             register.held,
             asked_at(register, Step::Looks),
         ),
-        (Phase::Opening, step) => is_past_locks(step),
-        (Phase::Piece | Phase::Finish, _) => true,
+        (HealPart::Opening, step) => is_past_locks(step),
+        (HealPart::Piece | HealPart::Finish, _) => true,
     }
 }
 

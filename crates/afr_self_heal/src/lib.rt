@@ -13,7 +13,7 @@ mod machine;
 mod moving;
 mod outcome;
 
-pub use contents::{Contents, NamesRead};
+pub use contents::{NamesRead, ReadSoFar};
 pub use laws::a_heal_stays_sound;
 pub use machine::HealMachine;
-pub use outcome::Outcome;
+pub use outcome::HealOutcome;

@@ -1,6 +1,6 @@
 //! The machine of a heal: what it asks next, and what it makes of the answers.
 ghost use Rattle.std.specs.Prelude.{◌≡◌, ◌<◌, ◌≤◌, ◌||◌, IfOk, None, OnOk, OnErr, Some, not, true};
-ghost use Rattle.afr_discipline.specs.Stands.{phase_of, seen_as};
+ghost use Rattle.afr_discipline.specs.Stands.{heal_part_of, seen_as};
 ghost use Rattle.afr_heal.specs.Engine.{Begins};
 ghost use Rattle.afr_moves.specs.Keeps.{keeps_in};
 ghost use Rattle.afr_moves.specs.Register.{is_opening};
@@ -11,11 +11,11 @@ ghost use Rattle.afr_self_heal.specs.Healing.{CanHear, IsFed, IsHealing, begun, 
 
 use crate::answers::{fits, is_tellable};
 use crate::causes::outcome_after;
-use crate::contents::{Contents, keep, load, nothing, ready};
+use crate::contents::{ReadSoFar, keep, load, nothing, ready};
 use crate::ending::ending;
 use crate::hearing::{has_looked, note_answer, source_after};
 use crate::laws::a_heal_stays_sound;
-use crate::outcome::Outcome;
+use crate::outcome::HealOutcome;
 use afr_base::{BrickId, Gfid, Kind, NoMemory, Shape};
 use afr_discipline::{Move, Register, fresh, note, present_part};
 use afr_heal::{Coming, heal_next};
@@ -34,8 +34,8 @@ pub struct HealMachine {
     kind: Kind,
     register: Register,
     source: BrickId,
-    outcome: Outcome,
-    contents: Contents,
+    outcome: HealOutcome,
+    contents: ReadSoFar,
 }
 
 impl Model for HealMachine {
@@ -62,7 +62,7 @@ impl HealMachine {
             kind,
             register: fresh(shape),
             source: BrickId(0),
-            outcome: Outcome::Settled,
+            outcome: HealOutcome::Settled,
             contents: nothing(kind),
         }
     }
@@ -197,7 +197,7 @@ impl HealMachine {
     }
 
     /// How the heal ends, as far as its lines tell.
-    pub fn outcome(&self) -> Outcome
+    pub fn outcome(&self) -> HealOutcome
         ensures { result ≡ self.now.outcome }
     {
         self.outcome
@@ -205,7 +205,7 @@ impl HealMachine {
 
     /// Whether its first looks are over.
     pub fn has_looked(&self) -> bool
-        ensures { result ≡ (not (is_opening (phase_of self.now.register.phase)) || looks_over self.now.register.shape.n (keeps_in self.now.register.shape) (seen_as self.now.register) 0) }
+        ensures { result ≡ (not (is_opening (heal_part_of self.now.register.part)) || looks_over self.now.register.shape.n (keeps_in self.now.register.shape) (seen_as self.now.register) 0) }
     {
         has_looked(&self.register)
     }

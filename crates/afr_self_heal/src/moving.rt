@@ -3,16 +3,16 @@ ghost use Rattle.std.specs.Prelude.{◌≡◌, ℕ, Option, [], ◌∷◌, ◌<�
 ghost use Rattle.afr_base.specs.Bricks.{minus};
 ghost use Rattle.afr_choice.specs.Looks.{view_at};
 ghost use Rattle.afr_choice.specs.Verdict.{accuses_at, copies_of, is_copy, shown_missed};
-ghost use Rattle.afr_discipline.specs.Stands.{phase_of};
+ghost use Rattle.afr_discipline.specs.Stands.{heal_part_of};
 ghost use Rattle.afr_discipline.specs.Turns.{brick_of};
 ghost use Rattle.afr_model.specs.Moved.{accuser, len_in, or_brick, unlike};
 ghost use Rattle.afr_self_heal.specs.Outcome.{by_mover, mover, unlike_in};
 
 use crate::copies::has_copy;
-use crate::outcome::Outcome;
+use crate::outcome::HealOutcome;
 use afr_base::{BrickId, Kind};
 use afr_choice::Looked;
-use afr_discipline::{Phase, Register, lowest_of, present_part};
+use afr_discipline::{HealPart, Register, lowest_of, present_part};
 use afr_object::View;
 use afr_rule::len_at;
 
@@ -79,8 +79,8 @@ fn unlike_at_finish(register: &Register, kind: Kind, source: BrickId) -> Option<
     ensures { result ≡ brick_of (unlike_in register.now kind source.0) }
 {
     match present_part(register) {
-        Phase::Finish => lowest_unlike(register, kind, source),
-        Phase::Opening | Phase::Piece => None,
+        HealPart::Finish => lowest_unlike(register, kind, source),
+        HealPart::Opening | HealPart::Piece => None,
     }
 }
 
@@ -96,7 +96,7 @@ fn or_brick(first: Option<BrickId>, second: Option<BrickId>) -> Option<BrickId>
 /// The brick that shows that the source moved: one that accuses it, or at the finish a sink of another length.
 fn mover(register: &Register, kind: Kind, source: BrickId) -> Option<BrickId>
     requires { source.0 < 5 }
-    ensures { result ≡ brick_of (mover register.now.shape kind (phase_of register.now.phase) source.0 register.now.seen register.now.looked) }
+    ensures { result ≡ brick_of (mover register.now.shape kind (heal_part_of register.now.part) source.0 register.now.seen register.now.looked) }
 {
     or_brick(
         lowest_accuser(kind, source, &register.looked),
@@ -105,12 +105,12 @@ fn mover(register: &Register, kind: Kind, source: BrickId) -> Option<BrickId>
 }
 
 /// A later look that ends the heal and was answered: the source moved.
-pub(crate) fn by_mover(register: &Register, kind: Kind, source: BrickId) -> Outcome
+pub(crate) fn by_mover(register: &Register, kind: Kind, source: BrickId) -> HealOutcome
     requires { source.0 < 5 }
-    ensures { result ≡ by_mover (mover register.now.shape kind (phase_of register.now.phase) source.0 register.now.seen register.now.looked) }
+    ensures { result ≡ by_mover (mover register.now.shape kind (heal_part_of register.now.part) source.0 register.now.seen register.now.looked) }
 {
     match mover(register, kind, source) {
-        Some(x) => Outcome::Moved(x),
-        None => Outcome::Failed,
+        Some(x) => HealOutcome::Moved(x),
+        None => HealOutcome::Failed,
     }
 }

@@ -5,7 +5,7 @@ use afr_base::{ActorId, BrickId};
 /// How a heal will end: `Settled`, until an answer has ended it otherwise. The views of a split are
 /// those of the heal's first looks.
 #[derive(Clone, Copy, Debug)]
-pub enum Outcome {
+pub enum HealOutcome {
     Settled,
     /// Another actor has the Heal lock.
     Busy(ActorId),

@@ -6,7 +6,7 @@ use crate::lines::{
 use afr_base::{ActorId, BrickId, Gfid, Kind, NameId, NoMemory, What};
 use afr_lines::{Answer, HealReply, Request};
 use afr_object::{Entry, List, NameList, Repair};
-use afr_self_heal::{HealMachine, Outcome};
+use afr_self_heal::{HealMachine, HealOutcome};
 use std::alloc::Global;
 
 #[test]
@@ -16,7 +16,7 @@ fn attributes_are_read_at_the_source_and_put_at_the_others(rt: HostRuntime) {
     assert!(rt; !machine.has_looked());
     sees_behind(&mut machine, What::File, Kind::Attrs);
     assert!(rt; machine.has_looked() && machine.source() == BrickId(0));
-    assert!(rt; matches!(machine.outcome(), Outcome::Settled));
+    assert!(rt; matches!(machine.outcome(), HealOutcome::Settled));
     assert!(rt; matches!(asks(&machine, 0), Some(Request::ReadAttrs { .. })));
     hears(&mut machine, Answer::Attrs(List::new(rt.alloc())), 11);
     assert!(rt; matches!(asks(&machine, 1), Some(Request::Pre { .. })));

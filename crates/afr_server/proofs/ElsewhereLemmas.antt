@@ -5,7 +5,7 @@ use Rattle.afr_base.specs.declared.ids.ActorId.{ActorId}
 use Rattle.afr_base.specs.declared.ids.BrickId.{BrickId}
 use Rattle.afr_lines.specs.Work.{is_of}
 use Rattle.afr_lines.specs.declared.answer.Told.{Told}
-use Rattle.afr_lines.specs.declared.answer.Told.TheVariants as told_of
+use Rattle.afr_lines.specs.declared.answer.Told.TheVariants as as_told
 use Rattle.afr_lines.specs.declared.line.Line.{Line}
 use Rattle.afr_lines.specs.declared.line.Line.TheVariants.{Ask, Begin, HealBegin, End, HealEnd}
 use Rattle.afr_lines.specs.declared.line.Line.TheVariants as line_of
@@ -62,24 +62,24 @@ releases_other a y r told took b lock h =
     unreleased false same = refl
 
 ends_other : (x : ℕ) (a : ActorId) (y : BrickId) (r : Request) (told : Told) (took : Bool) (b : ℕ) → (y.0 == b) ≡ false → ends_session x b (Ask a y r told took) ≡ false
-ends_other x a y r told_of.Granted took b h = refl
-ends_other x a y r (told_of.Held owner) took b h = refl
-ends_other x a y r (told_of.Seen view) took b h = refl
-ends_other x a y r told_of.Done took b h = refl
-ends_other x a y r told_of.Given took b h = refl
-ends_other x a y r told_of.NoObject took b h = refl
-ends_other x a y r told_of.NotConnected took b h = rw h (none (a.0 == x) took)
-ends_other x a y r told_of.Failed took b h = refl
+ends_other x a y r as_told.Granted took b h = refl
+ends_other x a y r (as_told.Held owner) took b h = refl
+ends_other x a y r (as_told.Seen view) took b h = refl
+ends_other x a y r as_told.Done took b h = refl
+ends_other x a y r as_told.Given took b h = refl
+ends_other x a y r as_told.NoObject took b h = refl
+ends_other x a y r as_told.NotConnected took b h = rw h (none (a.0 == x) took)
+ends_other x a y r as_told.Failed took b h = refl
 
 grants_lock : (a : ActorId) (y : BrickId) (d : Domain) (area : Area) (told : Told) (took : Bool) (b : ℕ) → (y.0 == b) ≡ false → granted_by_line b (Ask a y (Lock d area) told took) ≡ []
-grants_lock a y d area told_of.Granted took b h = rw h refl
-grants_lock a y d area (told_of.Held owner) took b h = refl
-grants_lock a y d area (told_of.Seen view) took b h = refl
-grants_lock a y d area told_of.Done took b h = refl
-grants_lock a y d area told_of.Given took b h = refl
-grants_lock a y d area told_of.NoObject took b h = refl
-grants_lock a y d area told_of.NotConnected took b h = refl
-grants_lock a y d area told_of.Failed took b h = refl
+grants_lock a y d area as_told.Granted took b h = rw h refl
+grants_lock a y d area (as_told.Held owner) took b h = refl
+grants_lock a y d area (as_told.Seen view) took b h = refl
+grants_lock a y d area as_told.Done took b h = refl
+grants_lock a y d area as_told.Given took b h = refl
+grants_lock a y d area as_told.NoObject took b h = refl
+grants_lock a y d area as_told.NotConnected took b h = refl
+grants_lock a y d area as_told.Failed took b h = refl
 
 grants_other : (a : ActorId) (y : BrickId) (r : Request) (told : Told) (took : Bool) (b : ℕ) → (y.0 == b) ≡ false → granted_by_line b (Ask a y r told took) ≡ []
 grants_other a y r told took b h = by_locks (λ r. granted_by_line b (Ask a y r told took) ≡ []) (λ d area. grants_lock a y d area told took b h) (λ d area. refl) (λ r plain. plain.grants a y told took b) r

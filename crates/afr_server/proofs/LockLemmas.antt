@@ -21,7 +21,7 @@ use Rattle.afr_lines.specs.declared.fault.Fault.{Fault}
 use Rattle.afr_lines.specs.declared.fault.Fault.TheVariants.{Fail, Lost}
 use Rattle.afr_lines.specs.Told.{told_by}
 use Rattle.afr_lines.specs.declared.answer.Told.{Told}
-use Rattle.afr_lines.specs.declared.answer.Told.TheVariants as told_of
+use Rattle.afr_lines.specs.declared.answer.Told.TheVariants as as_told
 use Rattle.afr_lines.specs.declared.line.Line.{Line}
 use Rattle.afr_lines.specs.declared.line.Line.TheVariants.{Ask}
 use Rattle.afr_lines.specs.declared.request.Area.{Area}
@@ -44,7 +44,7 @@ use Rattle.afr_server.proofs.ListLemmas.{filter_and, filter_true, never}
 use Rattle.afr_server.proofs.RequestLemmas.{by_locks}
 use Rattle.afr_server.specs.Carried.{joined_by, names_after, ranges_after}
 use Rattle.afr_server.specs.Log.{name_before, names_in, range_before, ranges_in}
-use Rattle.afr_server.specs.Outcome.{is_carried, is_lost, locks_served}
+use Rattle.afr_server.specs.Outcome.{is_carried_out, is_lost, locks_served}
 use Rattle.afr_moves.proofs.Tests.{same_self}
 
 -- ---- ranges
@@ -124,11 +124,11 @@ names-conflict a domain g name (lock ∷ more) = step lock.area (names-conflict 
 -- ---- what a line does to the locks
 -- an answer that says that there is no session, or that was lost
 abbrev pub is_unheard : Told → Bool
-is_unheard told_of.NotConnected = true
+is_unheard as_told.NotConnected = true
 is_unheard told = false
 
 abbrev pub is_granted : Told → Bool
-is_granted told_of.Granted = true
+is_granted as_told.Granted = true
 is_granted told = false
 
 heard_lock : (way : Option ActorId) → is_unheard (told_by (lock_answer way)) ≡ false
@@ -157,27 +157,27 @@ answers_heard way (Mend rep) t older = heard_copy (λ o. answer.Done) (copy_at (
 answers_heard way (Settle g k less) t older = heard_copy (λ o. answer.Done) (copy_at g t) (λ o. refl)
 
 pub ends_heard : (x y : ℕ) (a : ActorId) (b : BrickId) (r : Request) (told : Told) (took : Bool) → is_unheard told ≡ false → ends_session x y (Ask a b r told took) ≡ false
-ends_heard x y a b r told_of.Granted took h = refl
-ends_heard x y a b r (told_of.Held owner) took h = refl
-ends_heard x y a b r (told_of.Seen view) took h = refl
-ends_heard x y a b r told_of.Done took h = refl
-ends_heard x y a b r told_of.Given took h = refl
-ends_heard x y a b r told_of.NoObject took h = refl
-ends_heard x y a b r told_of.NotConnected took h = absurd (cc)
-ends_heard x y a b r told_of.Failed took h = refl
+ends_heard x y a b r as_told.Granted took h = refl
+ends_heard x y a b r (as_told.Held owner) took h = refl
+ends_heard x y a b r (as_told.Seen view) took h = refl
+ends_heard x y a b r as_told.Done took h = refl
+ends_heard x y a b r as_told.Given took h = refl
+ends_heard x y a b r as_told.NoObject took h = refl
+ends_heard x y a b r as_told.NotConnected took h = absurd (cc)
+ends_heard x y a b r as_told.Failed took h = refl
 
 pub releases_refused : (a : ActorId) (b : BrickId) (r : Request) (told : Told) (y : ℕ) (lock : HeldLock Area) → releases (Ask a b r told false) y lock ≡ false
 releases_refused a b r told y lock = by_locks (λ r. releases (Ask a b r told false) y lock ≡ false) (λ d area. refl) (λ d area. refl) (λ r plain. plain.releases a b told false y lock) r
 
 granted_none_lock : (a : ActorId) (b : BrickId) (d : Domain) (area : Area) (told : Told) (took : Bool) (y : ℕ) → is_granted told ≡ false → granted_by_line y (Ask a b (Lock d area) told took) ≡ []
-granted_none_lock a b d area told_of.Granted took y h = absurd (cc)
-granted_none_lock a b d area (told_of.Held owner) took y h = refl
-granted_none_lock a b d area (told_of.Seen view) took y h = refl
-granted_none_lock a b d area told_of.Done took y h = refl
-granted_none_lock a b d area told_of.Given took y h = refl
-granted_none_lock a b d area told_of.NoObject took y h = refl
-granted_none_lock a b d area told_of.NotConnected took y h = refl
-granted_none_lock a b d area told_of.Failed took y h = refl
+granted_none_lock a b d area as_told.Granted took y h = absurd (cc)
+granted_none_lock a b d area (as_told.Held owner) took y h = refl
+granted_none_lock a b d area (as_told.Seen view) took y h = refl
+granted_none_lock a b d area as_told.Done took y h = refl
+granted_none_lock a b d area as_told.Given took y h = refl
+granted_none_lock a b d area as_told.NoObject took y h = refl
+granted_none_lock a b d area as_told.NotConnected took y h = refl
+granted_none_lock a b d area as_told.Failed took y h = refl
 
 pub granted_none : (a : ActorId) (b : BrickId) (r : Request) (told : Told) (took : Bool) (y : ℕ) → is_granted told ≡ false → granted_by_line y (Ask a b r told took) ≡ []
 granted_none a b r told took y h = by_locks (λ r. granted_by_line y (Ask a b r told took) ≡ []) (λ d area. granted_none_lock a b d area told took y h) (λ d area. refl) (λ r plain. plain.grants a b told took y) r
@@ -190,7 +190,7 @@ locks_next line y held = filter (outlives line y) held ++ granted_by_line y line
 pub same_locks : (line : Line) (y : ℕ) (held : List (HeldLock Area)) → ((lock : HeldLock Area) → releases line y lock ≡ false) → ((x : ℕ) → ends_session x y line ≡ false) → granted_by_line y line ≡ [] → locks_next line y held ≡ held
 same_locks line y held r e g = rw g (append-nil (filter (outlives line y) held) ∙ filter_true (outlives line y) held (λ lock. rw (r lock, e lock.owner.0) refl))
 
-refused_ends : (x y : ℕ) (a : ActorId) (b : BrickId) (r : Request) → ends_session x y (Ask a b r told_of.NotConnected false) ≡ false
+refused_ends : (x y : ℕ) (a : ActorId) (b : BrickId) (r : Request) → ends_session x y (Ask a b r as_told.NotConnected false) ≡ false
 refused_ends x y a b r = never (a.0 == x) (b.0 == y)
 
 -- the lock's owner is gone, or not
@@ -202,85 +202,85 @@ both_gone a o b true = grind (arith, nat_tests)
 both_gone a o b false = grind (arith, nat_tests)
 
 -- ---- ranges after a request whose answer was lost
-ranges_lost_plain : (a : ActorId) (b : BrickId) (r : Request) (held : List (HeldLock Area)) → ((lock : HeldLock Area) → releases (Ask a b r told_of.NotConnected true) b.0 lock ≡ false) → ranges_in (locks_next (Ask a b r told_of.NotConnected true) b.0 held) ≡ without_owner a (ranges_in held)
+ranges_lost_plain : (a : ActorId) (b : BrickId) (r : Request) (held : List (HeldLock Area)) → ((lock : HeldLock Area) → releases (Ask a b r as_told.NotConnected true) b.0 lock ≡ false) → ranges_in (locks_next (Ask a b r as_told.NotConnected true) b.0 held) ≡ without_owner a (ranges_in held)
 ranges_lost_plain a b r held kept =
-    rw (granted_none a b r told_of.NotConnected true b.0 refl, append-nil (filter (outlives (Ask a b r told_of.NotConnected true) b.0) held))
-    (ranges-filter (outlives (Ask a b r told_of.NotConnected true) b.0) (λ lock. not (lock.owner.0 == a.0)) (λ o d g from to. rw (kept (record { owner = o; domain = d; area = Range g from to })) (gone a.0 o.0 b.0)) held)
+    rw (granted_none a b r as_told.NotConnected true b.0 refl, append-nil (filter (outlives (Ask a b r as_told.NotConnected true) b.0) held))
+    (ranges-filter (outlives (Ask a b r as_told.NotConnected true) b.0) (λ lock. not (lock.owner.0 == a.0)) (λ o d g from to. rw (kept (record { owner = o; domain = d; area = Range g from to })) (gone a.0 o.0 b.0)) held)
 
 ranges_without_joined : (a : ActorId) (domain : Domain) (g : Gfid) (from to : ℕ) (way : Option ActorId) (held : List (HeldLock ObjectRange)) → without_owner a (joined_by way (range_lock a domain g from to) held) ≡ without_owner a held
 ranges_without_joined a domain g from to None held = filter-append (λ lock. not (lock.owner.0 == a.0)) held (range_lock a domain g from to ∷ []) ∙ rw (same_self a.0) (append-nil (without_owner a held))
 ranges_without_joined a domain g from to (Some owner) held = refl
 
-ranges_lost_lock : (a : ActorId) (b : BrickId) (domain : Domain) (area : Area) (way : Option ActorId) (held : List (HeldLock Area)) → ranges_in (locks_next (Ask a b (Lock domain area) told_of.NotConnected true) b.0 held) ≡ without_owner a (ranges_after a (Lock domain area) way (ranges_in held))
+ranges_lost_lock : (a : ActorId) (b : BrickId) (domain : Domain) (area : Area) (way : Option ActorId) (held : List (HeldLock Area)) → ranges_in (locks_next (Ask a b (Lock domain area) as_told.NotConnected true) b.0 held) ≡ without_owner a (ranges_after a (Lock domain area) way (ranges_in held))
 ranges_lost_lock a b domain (Range g from to) way held = ranges_lost_plain a b (Lock domain (Range g from to)) held (λ lock. refl) ∙ sym (ranges_without_joined a domain g from to way (ranges_in held))
 ranges_lost_lock a b domain (Name g name) way held = ranges_lost_plain a b (Lock domain (Name g name)) held (λ lock. refl)
 
-ranges_lost_unlock : (a : ActorId) (b : BrickId) (domain : Domain) (area : Area) (way : Option ActorId) (held : List (HeldLock Area)) → ranges_in (locks_next (Ask a b (Unlock domain area) told_of.NotConnected true) b.0 held) ≡ without_owner a (ranges_after a (Unlock domain area) way (ranges_in held))
+ranges_lost_unlock : (a : ActorId) (b : BrickId) (domain : Domain) (area : Area) (way : Option ActorId) (held : List (HeldLock Area)) → ranges_in (locks_next (Ask a b (Unlock domain area) as_told.NotConnected true) b.0 held) ≡ without_owner a (ranges_after a (Unlock domain area) way (ranges_in held))
 ranges_lost_unlock a b domain (Range g from to) way held =
-    end_in ∙ ranges-filter (outlives (Ask a b (Unlock domain (Range g from to)) told_of.NotConnected true) b.0) both each held
+    end_in ∙ ranges-filter (outlives (Ask a b (Unlock domain (Range g from to)) as_told.NotConnected true) b.0) both each held
     ∙ filter_and (λ lock. not (is_lock same_range (range_lock a domain g from to) lock)) (λ lock. not (lock.owner.0 == a.0)) both (ranges_in held) (λ lock. refl)
   where
     both : HeldLock ObjectRange → Bool
     both lock = not (is_lock same_range (range_lock a domain g from to) lock) && not (lock.owner.0 == a.0)
 
-    end_in : ranges_in (filter (outlives (Ask a b (Unlock domain (Range g from to)) told_of.NotConnected true) b.0) held ++ []) ≡ ranges_in (filter (outlives (Ask a b (Unlock domain (Range g from to)) told_of.NotConnected true) b.0) held)
-    end_in = ap ranges_in (append-nil (filter (outlives (Ask a b (Unlock domain (Range g from to)) told_of.NotConnected true) b.0) held))
+    end_in : ranges_in (filter (outlives (Ask a b (Unlock domain (Range g from to)) as_told.NotConnected true) b.0) held ++ []) ≡ ranges_in (filter (outlives (Ask a b (Unlock domain (Range g from to)) as_told.NotConnected true) b.0) held)
+    end_in = ap ranges_in (append-nil (filter (outlives (Ask a b (Unlock domain (Range g from to)) as_told.NotConnected true) b.0) held))
 
-    each : (o : ActorId) (d : Domain) (g' : Gfid) (from' to' : ℕ) → outlives (Ask a b (Unlock domain (Range g from to)) told_of.NotConnected true) b.0 (record { owner = o; domain = d; area = Range g' from' to' }) ≡ both (range_lock o d g' from' to')
+    each : (o : ActorId) (d : Domain) (g' : Gfid) (from' to' : ℕ) → outlives (Ask a b (Unlock domain (Range g from to)) as_told.NotConnected true) b.0 (record { owner = o; domain = d; area = Range g' from' to' }) ≡ both (range_lock o d g' from' to')
     each o d g' from' to' = both_gone a.0 o.0 b.0 (is_lock same_range (range_lock a domain g from to) (range_lock o d g' from' to'))
 ranges_lost_unlock a b domain (Name g name) way held =
-    ap ranges_in (append-nil (filter (outlives (Ask a b (Unlock domain (Name g name)) told_of.NotConnected true) b.0) held))
-    ∙ ranges-filter (outlives (Ask a b (Unlock domain (Name g name)) told_of.NotConnected true) b.0) (λ lock. not (lock.owner.0 == a.0)) (λ o d g' from' to'. both_gone a.0 o.0 b.0 ((a.0 == o.0) && same_domain domain d && false) ∙ rw (never (a.0 == o.0) (same_domain domain d)) refl) held
+    ap ranges_in (append-nil (filter (outlives (Ask a b (Unlock domain (Name g name)) as_told.NotConnected true) b.0) held))
+    ∙ ranges-filter (outlives (Ask a b (Unlock domain (Name g name)) as_told.NotConnected true) b.0) (λ lock. not (lock.owner.0 == a.0)) (λ o d g' from' to'. both_gone a.0 o.0 b.0 ((a.0 == o.0) && same_domain domain d && false) ∙ rw (never (a.0 == o.0) (same_domain domain d)) refl) held
 
-ranges_lost : (a : ActorId) (b : BrickId) (r : Request) (way : Option ActorId) (held : List (HeldLock Area)) → ranges_in (locks_next (Ask a b r told_of.NotConnected true) b.0 held) ≡ without_owner a (ranges_after a r way (ranges_in held))
+ranges_lost : (a : ActorId) (b : BrickId) (r : Request) (way : Option ActorId) (held : List (HeldLock Area)) → ranges_in (locks_next (Ask a b r as_told.NotConnected true) b.0 held) ≡ without_owner a (ranges_after a r way (ranges_in held))
 ranges_lost a b r way held =
-    by_locks (λ r. ranges_in (locks_next (Ask a b r told_of.NotConnected true) b.0 held) ≡ without_owner a (ranges_after a r way (ranges_in held)))
+    by_locks (λ r. ranges_in (locks_next (Ask a b r as_told.NotConnected true) b.0 held) ≡ without_owner a (ranges_after a r way (ranges_in held)))
     (λ domain area. ranges_lost_lock a b domain area way held) (λ domain area. ranges_lost_unlock a b domain area way held)
-    (λ r plain. ranges_lost_plain a b r held (λ lock. plain.releases a b told_of.NotConnected true b.0 lock) ∙ ap (without_owner a) (sym (plain.ranges a way (ranges_in held)))) r
+    (λ r plain. ranges_lost_plain a b r held (λ lock. plain.releases a b as_told.NotConnected true b.0 lock) ∙ ap (without_owner a) (sym (plain.ranges a way (ranges_in held)))) r
 
 -- ---- names after a request whose answer was lost
-names_lost_plain : (a : ActorId) (b : BrickId) (r : Request) (held : List (HeldLock Area)) → ((lock : HeldLock Area) → releases (Ask a b r told_of.NotConnected true) b.0 lock ≡ false) → names_in (locks_next (Ask a b r told_of.NotConnected true) b.0 held) ≡ without_owner a (names_in held)
+names_lost_plain : (a : ActorId) (b : BrickId) (r : Request) (held : List (HeldLock Area)) → ((lock : HeldLock Area) → releases (Ask a b r as_told.NotConnected true) b.0 lock ≡ false) → names_in (locks_next (Ask a b r as_told.NotConnected true) b.0 held) ≡ without_owner a (names_in held)
 names_lost_plain a b r held kept =
-    rw (granted_none a b r told_of.NotConnected true b.0 refl, append-nil (filter (outlives (Ask a b r told_of.NotConnected true) b.0) held))
-    (names-filter (outlives (Ask a b r told_of.NotConnected true) b.0) (λ lock. not (lock.owner.0 == a.0)) (λ o d g name. rw (kept (record { owner = o; domain = d; area = Name g name })) (gone a.0 o.0 b.0)) held)
+    rw (granted_none a b r as_told.NotConnected true b.0 refl, append-nil (filter (outlives (Ask a b r as_told.NotConnected true) b.0) held))
+    (names-filter (outlives (Ask a b r as_told.NotConnected true) b.0) (λ lock. not (lock.owner.0 == a.0)) (λ o d g name. rw (kept (record { owner = o; domain = d; area = Name g name })) (gone a.0 o.0 b.0)) held)
 
 names_without_joined : (a : ActorId) (domain : Domain) (g : Gfid) (name : Option NameId) (way : Option ActorId) (held : List (HeldLock DirName)) → without_owner a (joined_by way (name_lock a domain g name) held) ≡ without_owner a held
 names_without_joined a domain g name None held = filter-append (λ lock. not (lock.owner.0 == a.0)) held (name_lock a domain g name ∷ []) ∙ rw (same_self a.0) (append-nil (without_owner a held))
 names_without_joined a domain g name (Some owner) held = refl
 
-names_lost_lock : (a : ActorId) (b : BrickId) (domain : Domain) (area : Area) (way : Option ActorId) (held : List (HeldLock Area)) → names_in (locks_next (Ask a b (Lock domain area) told_of.NotConnected true) b.0 held) ≡ without_owner a (names_after a (Lock domain area) way (names_in held))
+names_lost_lock : (a : ActorId) (b : BrickId) (domain : Domain) (area : Area) (way : Option ActorId) (held : List (HeldLock Area)) → names_in (locks_next (Ask a b (Lock domain area) as_told.NotConnected true) b.0 held) ≡ without_owner a (names_after a (Lock domain area) way (names_in held))
 names_lost_lock a b domain (Name g name) way held = names_lost_plain a b (Lock domain (Name g name)) held (λ lock. refl) ∙ sym (names_without_joined a domain g name way (names_in held))
 names_lost_lock a b domain (Range g from to) way held = names_lost_plain a b (Lock domain (Range g from to)) held (λ lock. refl)
 
-names_lost_unlock : (a : ActorId) (b : BrickId) (domain : Domain) (area : Area) (way : Option ActorId) (held : List (HeldLock Area)) → names_in (locks_next (Ask a b (Unlock domain area) told_of.NotConnected true) b.0 held) ≡ without_owner a (names_after a (Unlock domain area) way (names_in held))
+names_lost_unlock : (a : ActorId) (b : BrickId) (domain : Domain) (area : Area) (way : Option ActorId) (held : List (HeldLock Area)) → names_in (locks_next (Ask a b (Unlock domain area) as_told.NotConnected true) b.0 held) ≡ without_owner a (names_after a (Unlock domain area) way (names_in held))
 names_lost_unlock a b domain (Name g name) way held =
-    end_in ∙ names-filter (outlives (Ask a b (Unlock domain (Name g name)) told_of.NotConnected true) b.0) both each held
+    end_in ∙ names-filter (outlives (Ask a b (Unlock domain (Name g name)) as_told.NotConnected true) b.0) both each held
     ∙ filter_and (λ lock. not (is_lock same_dir_name (name_lock a domain g name) lock)) (λ lock. not (lock.owner.0 == a.0)) both (names_in held) (λ lock. refl)
   where
     both : HeldLock DirName → Bool
     both lock = not (is_lock same_dir_name (name_lock a domain g name) lock) && not (lock.owner.0 == a.0)
 
-    end_in : names_in (filter (outlives (Ask a b (Unlock domain (Name g name)) told_of.NotConnected true) b.0) held ++ []) ≡ names_in (filter (outlives (Ask a b (Unlock domain (Name g name)) told_of.NotConnected true) b.0) held)
-    end_in = ap names_in (append-nil (filter (outlives (Ask a b (Unlock domain (Name g name)) told_of.NotConnected true) b.0) held))
+    end_in : names_in (filter (outlives (Ask a b (Unlock domain (Name g name)) as_told.NotConnected true) b.0) held ++ []) ≡ names_in (filter (outlives (Ask a b (Unlock domain (Name g name)) as_told.NotConnected true) b.0) held)
+    end_in = ap names_in (append-nil (filter (outlives (Ask a b (Unlock domain (Name g name)) as_told.NotConnected true) b.0) held))
 
-    each : (o : ActorId) (d : Domain) (g' : Gfid) (name' : Option NameId) → outlives (Ask a b (Unlock domain (Name g name)) told_of.NotConnected true) b.0 (record { owner = o; domain = d; area = Name g' name' }) ≡ both (name_lock o d g' name')
+    each : (o : ActorId) (d : Domain) (g' : Gfid) (name' : Option NameId) → outlives (Ask a b (Unlock domain (Name g name)) as_told.NotConnected true) b.0 (record { owner = o; domain = d; area = Name g' name' }) ≡ both (name_lock o d g' name')
     each o d g' name' = both_gone a.0 o.0 b.0 (is_lock same_dir_name (name_lock a domain g name) (name_lock o d g' name'))
 names_lost_unlock a b domain (Range g from to) way held =
-    ap names_in (append-nil (filter (outlives (Ask a b (Unlock domain (Range g from to)) told_of.NotConnected true) b.0) held))
-    ∙ names-filter (outlives (Ask a b (Unlock domain (Range g from to)) told_of.NotConnected true) b.0) (λ lock. not (lock.owner.0 == a.0)) (λ o d g' name'. both_gone a.0 o.0 b.0 ((a.0 == o.0) && same_domain domain d && false) ∙ rw (never (a.0 == o.0) (same_domain domain d)) refl) held
+    ap names_in (append-nil (filter (outlives (Ask a b (Unlock domain (Range g from to)) as_told.NotConnected true) b.0) held))
+    ∙ names-filter (outlives (Ask a b (Unlock domain (Range g from to)) as_told.NotConnected true) b.0) (λ lock. not (lock.owner.0 == a.0)) (λ o d g' name'. both_gone a.0 o.0 b.0 ((a.0 == o.0) && same_domain domain d && false) ∙ rw (never (a.0 == o.0) (same_domain domain d)) refl) held
 
-names_lost : (a : ActorId) (b : BrickId) (r : Request) (way : Option ActorId) (held : List (HeldLock Area)) → names_in (locks_next (Ask a b r told_of.NotConnected true) b.0 held) ≡ without_owner a (names_after a r way (names_in held))
+names_lost : (a : ActorId) (b : BrickId) (r : Request) (way : Option ActorId) (held : List (HeldLock Area)) → names_in (locks_next (Ask a b r as_told.NotConnected true) b.0 held) ≡ without_owner a (names_after a r way (names_in held))
 names_lost a b r way held =
-    by_locks (λ r. names_in (locks_next (Ask a b r told_of.NotConnected true) b.0 held) ≡ without_owner a (names_after a r way (names_in held)))
+    by_locks (λ r. names_in (locks_next (Ask a b r as_told.NotConnected true) b.0 held) ≡ without_owner a (names_after a r way (names_in held)))
     (λ domain area. names_lost_lock a b domain area way held) (λ domain area. names_lost_unlock a b domain area way held)
-    (λ r plain. names_lost_plain a b r held (λ lock. plain.releases a b told_of.NotConnected true b.0 lock) ∙ ap (without_owner a) (sym (plain.names a way (names_in held)))) r
+    (λ r plain. names_lost_plain a b r held (λ lock. plain.releases a b as_told.NotConnected true b.0 lock) ∙ ap (without_owner a) (sym (plain.names a way (names_in held)))) r
 
 -- ---- after a request that was answered
 told_same : (a : ActorId) (b : BrickId) (r : Request) (told : Told) (held : List (HeldLock Area)) → ((lock : HeldLock Area) → releases (Ask a b r told true) b.0 lock ≡ false) → granted_by_line b.0 (Ask a b r told true) ≡ [] → is_unheard told ≡ false → locks_next (Ask a b r told true) b.0 held ≡ held
 told_same a b r told held kept none heard = same_locks (Ask a b r told true) b.0 held kept (λ x. ends_heard x b.0 a b r told true heard) none
 
-told_granted : (a : ActorId) (b : BrickId) (domain : Domain) (area : Area) (held : List (HeldLock Area)) → locks_next (Ask a b (Lock domain area) told_of.Granted true) b.0 held ≡ held ++ (record { owner = a; domain = domain; area = area }) ∷ []
-told_granted a b domain area held = rw (same_self b.0, filter_true (outlives (Ask a b (Lock domain area) told_of.Granted true) b.0) held (λ lock. refl)) refl
+told_granted : (a : ActorId) (b : BrickId) (domain : Domain) (area : Area) (held : List (HeldLock Area)) → locks_next (Ask a b (Lock domain area) as_told.Granted true) b.0 held ≡ held ++ (record { owner = a; domain = domain; area = area }) ∷ []
+told_granted a b domain area held = rw (same_self b.0, filter_true (outlives (Ask a b (Lock domain area) as_told.Granted true) b.0) held (λ lock. refl)) refl
 
 released : (o : ℕ) (x : Bool) (b : ℕ) → (not (true && (b == b) && x) && true) ≡ not x
 released o true b = grind (arith, nat_tests)
@@ -288,17 +288,17 @@ released o false b = grind (arith, nat_tests)
 
 ranges_told_lock : (a : ActorId) (b : BrickId) (domain : Domain) (area : Area) (way : Option ActorId) (t : Table) (older : List Line) (held : List (HeldLock Area)) → ranges_in (locks_next (Ask a b (Lock domain area) (told_by (answer_by way (Lock domain area) t older)) true) b.0 held) ≡ ranges_after a (Lock domain area) way (ranges_in held)
 ranges_told_lock a b domain (Range g from to) None t older held = ap ranges_in (told_granted a b domain (Range g from to) held) ∙ ranges-append held ((record { owner = a; domain = domain; area = Range g from to }) ∷ [])
-ranges_told_lock a b domain (Range g from to) (Some owner) t older held = ap ranges_in (told_same a b (Lock domain (Range g from to)) (told_of.Held owner) held (λ lock. refl) refl refl)
+ranges_told_lock a b domain (Range g from to) (Some owner) t older held = ap ranges_in (told_same a b (Lock domain (Range g from to)) (as_told.Held owner) held (λ lock. refl) refl refl)
 ranges_told_lock a b domain (Name g name) None t older held = ap ranges_in (told_granted a b domain (Name g name) held) ∙ ranges-append held ((record { owner = a; domain = domain; area = Name g name }) ∷ []) ∙ append-nil (ranges_in held)
-ranges_told_lock a b domain (Name g name) (Some owner) t older held = ap ranges_in (told_same a b (Lock domain (Name g name)) (told_of.Held owner) held (λ lock. refl) refl refl)
+ranges_told_lock a b domain (Name g name) (Some owner) t older held = ap ranges_in (told_same a b (Lock domain (Name g name)) (as_told.Held owner) held (λ lock. refl) refl refl)
 
 ranges_told_unlock : (a : ActorId) (b : BrickId) (domain : Domain) (area : Area) (way : Option ActorId) (t : Table) (older : List Line) (held : List (HeldLock Area)) → ranges_in (locks_next (Ask a b (Unlock domain area) (told_by (answer_by way (Unlock domain area) t older)) true) b.0 held) ≡ ranges_after a (Unlock domain area) way (ranges_in held)
 ranges_told_unlock a b domain (Range g from to) way t older held =
-    ap ranges_in (append-nil (filter (outlives (Ask a b (Unlock domain (Range g from to)) told_of.Done true) b.0) held))
-    ∙ ranges-filter (outlives (Ask a b (Unlock domain (Range g from to)) told_of.Done true) b.0) (λ lock. not (is_lock same_range (range_lock a domain g from to) lock)) (λ o d g' from' to'. released o.0 (is_lock same_range (range_lock a domain g from to) (range_lock o d g' from' to')) b.0) held
+    ap ranges_in (append-nil (filter (outlives (Ask a b (Unlock domain (Range g from to)) as_told.Done true) b.0) held))
+    ∙ ranges-filter (outlives (Ask a b (Unlock domain (Range g from to)) as_told.Done true) b.0) (λ lock. not (is_lock same_range (range_lock a domain g from to) lock)) (λ o d g' from' to'. released o.0 (is_lock same_range (range_lock a domain g from to) (range_lock o d g' from' to')) b.0) held
 ranges_told_unlock a b domain (Name g name) way t older held =
-    ap ranges_in (append-nil (filter (outlives (Ask a b (Unlock domain (Name g name)) told_of.Done true) b.0) held))
-    ∙ ranges-filter (outlives (Ask a b (Unlock domain (Name g name)) told_of.Done true) b.0) (λ lock. true) (λ o d g' from' to'. released o.0 ((a.0 == o.0) && same_domain domain d && false) b.0 ∙ rw (never (a.0 == o.0) (same_domain domain d)) refl) held
+    ap ranges_in (append-nil (filter (outlives (Ask a b (Unlock domain (Name g name)) as_told.Done true) b.0) held))
+    ∙ ranges-filter (outlives (Ask a b (Unlock domain (Name g name)) as_told.Done true) b.0) (λ lock. true) (λ o d g' from' to'. released o.0 ((a.0 == o.0) && same_domain domain d && false) b.0 ∙ rw (never (a.0 == o.0) (same_domain domain d)) refl) held
     ∙ filter_true (λ lock. true) (ranges_in held) (λ lock. refl)
 
 ranges_told : (a : ActorId) (b : BrickId) (r : Request) (way : Option ActorId) (t : Table) (older : List Line) (held : List (HeldLock Area)) → ranges_in (locks_next (Ask a b r (told_by (answer_by way r t older)) true) b.0 held) ≡ ranges_after a r way (ranges_in held)
@@ -310,25 +310,25 @@ ranges_told a b r way t older held =
 -- the table after a request is what the log then says
 pub ranges_served : (live : Bool) (fault : Option Fault) (a : ActorId) (b : BrickId) (r : Request) (way : Option ActorId) (t : Table) (older : List Line) (held : List (HeldLock Area))
     → ranges_in (locks_next (Ask a b r (over_session live fault (told_by (answer_by way r t older))).told (over_session live fault (told_by (answer_by way r t older))).took) b.0 held)
-    ≡ locks_served (is_carried live fault) (is_lost live fault) a (ranges_after a r way (ranges_in held)) (ranges_in held)
-ranges_served false fault a b r way t older held = ap ranges_in (same_locks (Ask a b r told_of.NotConnected false) b.0 held (λ lock. releases_refused a b r told_of.NotConnected b.0 lock) (λ x. refused_ends x b.0 a b r) (granted_none a b r told_of.NotConnected false b.0 refl))
-ranges_served true (Some Fail) a b r way t older held = ap ranges_in (same_locks (Ask a b r told_of.Failed false) b.0 held (λ lock. releases_refused a b r told_of.Failed b.0 lock) (λ x. refl) (granted_none a b r told_of.Failed false b.0 refl))
+    ≡ locks_served (is_carried_out live fault) (is_lost live fault) a (ranges_after a r way (ranges_in held)) (ranges_in held)
+ranges_served false fault a b r way t older held = ap ranges_in (same_locks (Ask a b r as_told.NotConnected false) b.0 held (λ lock. releases_refused a b r as_told.NotConnected b.0 lock) (λ x. refused_ends x b.0 a b r) (granted_none a b r as_told.NotConnected false b.0 refl))
+ranges_served true (Some Fail) a b r way t older held = ap ranges_in (same_locks (Ask a b r as_told.Failed false) b.0 held (λ lock. releases_refused a b r as_told.Failed b.0 lock) (λ x. refl) (granted_none a b r as_told.Failed false b.0 refl))
 ranges_served true (Some Lost) a b r way t older held = ranges_lost a b r way held
 ranges_served true None a b r way t older held = ranges_told a b r way t older held
 
 names_told_lock : (a : ActorId) (b : BrickId) (domain : Domain) (area : Area) (way : Option ActorId) (t : Table) (older : List Line) (held : List (HeldLock Area)) → names_in (locks_next (Ask a b (Lock domain area) (told_by (answer_by way (Lock domain area) t older)) true) b.0 held) ≡ names_after a (Lock domain area) way (names_in held)
 names_told_lock a b domain (Name g name) None t older held = ap names_in (told_granted a b domain (Name g name) held) ∙ names-append held ((record { owner = a; domain = domain; area = Name g name }) ∷ [])
-names_told_lock a b domain (Name g name) (Some owner) t older held = ap names_in (told_same a b (Lock domain (Name g name)) (told_of.Held owner) held (λ lock. refl) refl refl)
+names_told_lock a b domain (Name g name) (Some owner) t older held = ap names_in (told_same a b (Lock domain (Name g name)) (as_told.Held owner) held (λ lock. refl) refl refl)
 names_told_lock a b domain (Range g from to) None t older held = ap names_in (told_granted a b domain (Range g from to) held) ∙ names-append held ((record { owner = a; domain = domain; area = Range g from to }) ∷ []) ∙ append-nil (names_in held)
-names_told_lock a b domain (Range g from to) (Some owner) t older held = ap names_in (told_same a b (Lock domain (Range g from to)) (told_of.Held owner) held (λ lock. refl) refl refl)
+names_told_lock a b domain (Range g from to) (Some owner) t older held = ap names_in (told_same a b (Lock domain (Range g from to)) (as_told.Held owner) held (λ lock. refl) refl refl)
 
 names_told_unlock : (a : ActorId) (b : BrickId) (domain : Domain) (area : Area) (way : Option ActorId) (t : Table) (older : List Line) (held : List (HeldLock Area)) → names_in (locks_next (Ask a b (Unlock domain area) (told_by (answer_by way (Unlock domain area) t older)) true) b.0 held) ≡ names_after a (Unlock domain area) way (names_in held)
 names_told_unlock a b domain (Name g name) way t older held =
-    ap names_in (append-nil (filter (outlives (Ask a b (Unlock domain (Name g name)) told_of.Done true) b.0) held))
-    ∙ names-filter (outlives (Ask a b (Unlock domain (Name g name)) told_of.Done true) b.0) (λ lock. not (is_lock same_dir_name (name_lock a domain g name) lock)) (λ o d g' name'. released o.0 (is_lock same_dir_name (name_lock a domain g name) (name_lock o d g' name')) b.0) held
+    ap names_in (append-nil (filter (outlives (Ask a b (Unlock domain (Name g name)) as_told.Done true) b.0) held))
+    ∙ names-filter (outlives (Ask a b (Unlock domain (Name g name)) as_told.Done true) b.0) (λ lock. not (is_lock same_dir_name (name_lock a domain g name) lock)) (λ o d g' name'. released o.0 (is_lock same_dir_name (name_lock a domain g name) (name_lock o d g' name')) b.0) held
 names_told_unlock a b domain (Range g from to) way t older held =
-    ap names_in (append-nil (filter (outlives (Ask a b (Unlock domain (Range g from to)) told_of.Done true) b.0) held))
-    ∙ names-filter (outlives (Ask a b (Unlock domain (Range g from to)) told_of.Done true) b.0) (λ lock. true) (λ o d g' name'. released o.0 ((a.0 == o.0) && same_domain domain d && false) b.0 ∙ rw (never (a.0 == o.0) (same_domain domain d)) refl) held
+    ap names_in (append-nil (filter (outlives (Ask a b (Unlock domain (Range g from to)) as_told.Done true) b.0) held))
+    ∙ names-filter (outlives (Ask a b (Unlock domain (Range g from to)) as_told.Done true) b.0) (λ lock. true) (λ o d g' name'. released o.0 ((a.0 == o.0) && same_domain domain d && false) b.0 ∙ rw (never (a.0 == o.0) (same_domain domain d)) refl) held
     ∙ filter_true (λ lock. true) (names_in held) (λ lock. refl)
 
 names_told : (a : ActorId) (b : BrickId) (r : Request) (way : Option ActorId) (t : Table) (older : List Line) (held : List (HeldLock Area)) → names_in (locks_next (Ask a b r (told_by (answer_by way r t older)) true) b.0 held) ≡ names_after a r way (names_in held)
@@ -340,8 +340,8 @@ names_told a b r way t older held =
 -- the table after a request is what the log then says
 pub names_served : (live : Bool) (fault : Option Fault) (a : ActorId) (b : BrickId) (r : Request) (way : Option ActorId) (t : Table) (older : List Line) (held : List (HeldLock Area))
     → names_in (locks_next (Ask a b r (over_session live fault (told_by (answer_by way r t older))).told (over_session live fault (told_by (answer_by way r t older))).took) b.0 held)
-    ≡ locks_served (is_carried live fault) (is_lost live fault) a (names_after a r way (names_in held)) (names_in held)
-names_served false fault a b r way t older held = ap names_in (same_locks (Ask a b r told_of.NotConnected false) b.0 held (λ lock. releases_refused a b r told_of.NotConnected b.0 lock) (λ x. refused_ends x b.0 a b r) (granted_none a b r told_of.NotConnected false b.0 refl))
-names_served true (Some Fail) a b r way t older held = ap names_in (same_locks (Ask a b r told_of.Failed false) b.0 held (λ lock. releases_refused a b r told_of.Failed b.0 lock) (λ x. refl) (granted_none a b r told_of.Failed false b.0 refl))
+    ≡ locks_served (is_carried_out live fault) (is_lost live fault) a (names_after a r way (names_in held)) (names_in held)
+names_served false fault a b r way t older held = ap names_in (same_locks (Ask a b r as_told.NotConnected false) b.0 held (λ lock. releases_refused a b r as_told.NotConnected b.0 lock) (λ x. refused_ends x b.0 a b r) (granted_none a b r as_told.NotConnected false b.0 refl))
+names_served true (Some Fail) a b r way t older held = ap names_in (same_locks (Ask a b r as_told.Failed false) b.0 held (λ lock. releases_refused a b r as_told.Failed b.0 lock) (λ x. refl) (granted_none a b r as_told.Failed false b.0 refl))
 names_served true (Some Lost) a b r way t older held = names_lost a b r way held
 names_served true None a b r way t older held = names_told a b r way t older held

@@ -18,7 +18,7 @@ use Rattle.afr_lines.specs.declared.request.Area.{Area}
 use Rattle.afr_lines.specs.declared.request.Request.TheVariants.{Lock}
 use Rattle.afr_lines.specs.declared.lock.Domain.{Domain}
 use Rattle.afr_server.proofs.RequestLemmas.{by_locks}
-use Rattle.afr_model.specs.Honest.{IsHonest, Outcome, answer_by, fault_in, in_the_way, is_live, over_session, requests_to, tells}
+use Rattle.afr_model.specs.Honest.{IsHonest, RequestOutcome, answer_by, fault_in, in_the_way, is_live, over_session, requests_to, tells}
 use Rattle.afr_model.specs.Locks.{locks_held}
 use Rattle.afr_model.specs.Report.{started_bricks}
 use Rattle.afr_lines.specs.Places.{opens, place_of}
@@ -31,13 +31,13 @@ use Rattle.afr_name_locks.specs.declared.names.DirName.{DirName}
 use Rattle.afr_lines.specs.declared.lock.HeldLock.{HeldLock}
 use Rattle.afr_range_locks.specs.declared.ranges.ObjectRange.{ObjectRange}
 use Rattle.afr_session.specs.Links.{is_reached, link_of}
-use Rattle.afr_server.specs.declared.server.Asked.{Asked}
+use Rattle.afr_server.specs.declared.server.Served.{Served}
 use Rattle.afr_server.specs.Carried.{Brings, names_after, ranges_after}
 use Rattle.afr_server.proofs.LinkLemmas.{joined_reached, link_line}
 use Rattle.afr_server.proofs.LockLemmas.{answers_heard, ends_heard, is_unheard, names-conflict, names_served, ranges-conflict, ranges_served}
 use Rattle.afr_server.proofs.ListLemmas.{never}
 use Rattle.afr_server.specs.Log.{Finds, IsServed}
-use Rattle.afr_server.specs.Outcome.{Serves, is_carried, is_lost, locks_served}
+use Rattle.afr_server.specs.Outcome.{Serves, is_carried_out, is_lost, locks_served}
 use Rattle.afr_server.specs.Serving.{Serving, in_way, is_epoch}
 use Rattle.afr_moves.proofs.Tests.{same_self}
 
@@ -89,20 +89,20 @@ keeps_line true o old new e = ap (λ (c : Copies). c.keeps) e
 keeps_line false o old new e = ap (λ (c : Copies). c.keeps) e
 
 -- the server after the line, told by the outcome
-after_line : (p : Plan) (log : List Line) (a : ActorId) (b : BrickId) (r : Request) (load : Load) (first live : Bool) (s s' : Serving) (given : Asked) (o : Outcome)
+after_line : (p : Plan) (log : List Line) (a : ActorId) (b : BrickId) (r : Request) (load : Load) (first live : Bool) (s s' : Serving) (given : Served) (o : RequestOutcome)
     → IsServed p log b.0 s
     → o ≡ over_session live (next_fault s.faults) (told_by (answer_by (in_way a r s) r s.copies.objects log))
     → given.took ≡ o.took
     → opens (place_of a.0 log) (Ask a b r o.told o.took) ≡ first
-    → (is_carried live (next_fault s.faults) ≡ true → Brings r load log (held_before p log))
+    → (is_carried_out live (next_fault s.faults) ≡ true → Brings r load log (held_before p log))
     → Serves first live (next_fault s.faults) a r load s s' given
     → IsServed p (Ask a b r o.told o.took ∷ log) b.0 s'
 after_line p log a b r load first live s s' given o v is took opened brings c =
     record {
       keeps = keeps_line given.took _ s.copies s'.copies (c.copies log (held_before p log) brings) ∙ v.keeps;
       objects = tables_line s.copies.keeps (keeps_bytes p b.0) b.0 o.took r log (held_before p log) s.copies s'.copies (holds p log b.0) v.keeps v.objects (rw (← took) (c.copies log (held_before p log) brings));
-      ranges = c.ranges ∙ ap (λ (held : List (HeldLock ObjectRange)). locks_served (is_carried live (next_fault s.faults)) (is_lost live (next_fault s.faults)) a (ranges_after a r (in_way a r s) held) held) v.ranges ∙ rw is (sym (ranges_served live (next_fault s.faults) a b r (in_way a r s) s.copies.objects log (locks_held b.0 log)));
-      names = c.names ∙ ap (λ (held : List (HeldLock DirName)). locks_served (is_carried live (next_fault s.faults)) (is_lost live (next_fault s.faults)) a (names_after a r (in_way a r s) held) held) v.names ∙ rw is (sym (names_served live (next_fault s.faults) a b r (in_way a r s) s.copies.objects log (locks_held b.0 log)));
+      ranges = c.ranges ∙ ap (λ (held : List (HeldLock ObjectRange)). locks_served (is_carried_out live (next_fault s.faults)) (is_lost live (next_fault s.faults)) a (ranges_after a r (in_way a r s) held) held) v.ranges ∙ rw is (sym (ranges_served live (next_fault s.faults) a b r (in_way a r s) s.copies.objects log (locks_held b.0 log)));
+      names = c.names ∙ ap (λ (held : List (HeldLock DirName)). locks_served (is_carried_out live (next_fault s.faults)) (is_lost live (next_fault s.faults)) a (names_after a r (in_way a r s) held) held) v.names ∙ rw is (sym (names_served live (next_fault s.faults) a b r (in_way a r s) s.copies.objects log (locks_held b.0 log)));
       started = c.started ∙ v.started;
       links = λ x small. rw (c.links x) (link_line p log (Ask a b r o.told o.took) a.0 b.0 x first (is_lost live (next_fault s.faults)) s.links.started (link_of x s.links) (λ x. refl) opened
           (λ x. rw is (ends_here x a b r live (next_fault s.faults) (told_by (answer_by (in_way a r s) r s.copies.objects log)) (answers_heard (in_way a r s) r s.copies.objects log))) (λ x. refl) v.started (v.links x small));
@@ -111,11 +111,11 @@ after_line p log a b r load first live s s' given o v is took opened brings c =
     }
 
 -- a request over a session that is live as the log says: its line is honest, and the server is that of the log with the line
-pub served : (p : Plan) (log : List Line) (a : ActorId) (b : BrickId) (r : Request) (load : Load) (first live : Bool) (s s' : Serving) (given : Asked)
+pub served : (p : Plan) (log : List Line) (a : ActorId) (b : BrickId) (r : Request) (load : Load) (first live : Bool) (s s' : Serving) (given : Served)
     → IsServed p log b.0 s
     → is_live p a b.0 (Ask a b r (told_by given.answer) given.took) log ≡ live
     → opens (place_of a.0 log) (Ask a b r (told_by given.answer) given.took) ≡ first
-    → (is_carried live (next_fault s.faults) ≡ true → Brings r load log (held_before p log))
+    → (is_carried_out live (next_fault s.faults) ≡ true → Brings r load log (held_before p log))
     → Serves first live (next_fault s.faults) a r load s s' given
     → IsHonest p (Ask a b r (told_by given.answer) given.took) log × IsServed p (Ask a b r (told_by given.answer) given.took ∷ log) b.0 s'
 served p log a b r load first live s s' given v joined opened brings c =
@@ -141,10 +141,10 @@ opens_now true m l h = sym (h refl)
 opens_now false m l h = refl
 
 -- a line within a work, over the epoch that the actor found
-pub served_within : (p : Plan) (log : List Line) (a : ActorId) (b : BrickId) (epoch : Option ℕ) (r : Request) (load : Load) (s s' : Serving) (given : Asked)
+pub served_within : (p : Plan) (log : List Line) (a : ActorId) (b : BrickId) (epoch : Option ℕ) (r : Request) (load : Load) (s s' : Serving) (given : Served)
     → a.0 < 20 → IsServed p log b.0 s → Finds epoch (link_of a.0 s.links)
     → opens (place_of a.0 log) (Ask a b r (told_by given.answer) given.took) ≡ false
-    → (is_carried (is_epoch epoch (link_of a.0 s.links)) (next_fault s.faults) ≡ true → Brings r load log (held_before p log))
+    → (is_carried_out (is_epoch epoch (link_of a.0 s.links)) (next_fault s.faults) ≡ true → Brings r load log (held_before p log))
     → Serves false (is_epoch epoch (link_of a.0 s.links)) (next_fault s.faults) a r load s s' given
     → IsHonest p (Ask a b r (told_by given.answer) given.took) log × IsServed p (Ask a b r (told_by given.answer) given.took ∷ log) b.0 s'
 served_within p log a b epoch r load s s' given small v found opened brings c = served p log a b r load false (is_epoch epoch (link_of a.0 s.links)) s s' given v live opened brings c
@@ -154,10 +154,10 @@ served_within p log a b epoch r load s s' given small v found opened brings c = 
         ∙ sym (epoch_live epoch (link_of a.0 s.links).up (link_of a.0 s.links).live (link_of a.0 s.links).opened found ∙ (v.links a.0 small).live)
 
 -- the first line of a work or of a heal, which meets the brick
-pub served_first : (p : Plan) (log : List Line) (a : ActorId) (b : BrickId) (r : Request) (load : Load) (s s' : Serving) (given : Asked)
+pub served_first : (p : Plan) (log : List Line) (a : ActorId) (b : BrickId) (r : Request) (load : Load) (s s' : Serving) (given : Served)
     → a.0 < 20 → IsServed p log b.0 s
     → opens (place_of a.0 log) (Ask a b r (told_by given.answer) given.took) ≡ true
-    → (is_carried (is_reached s.links.started (link_of a.0 s.links)) (next_fault s.faults) ≡ true → Brings r load log (held_before p log))
+    → (is_carried_out (is_reached s.links.started (link_of a.0 s.links)) (next_fault s.faults) ≡ true → Brings r load log (held_before p log))
     → Serves true (is_reached s.links.started (link_of a.0 s.links)) (next_fault s.faults) a r load s s' given
     → IsHonest p (Ask a b r (told_by given.answer) given.took) log × IsServed p (Ask a b r (told_by given.answer) given.took ∷ log) b.0 s'
 served_first p log a b r load s s' given small v opened brings c = served p log a b r load true (is_reached s.links.started (link_of a.0 s.links)) s s' given v live opened brings c

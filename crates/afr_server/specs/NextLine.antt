@@ -19,15 +19,15 @@ use Rattle.afr_plan.specs.declared.plan.Plan.{Plan}
 use Rattle.afr_session.specs.Calls.{Does}
 use Rattle.afr_session.specs.Calls.{Meet}
 use Rattle.afr_session.specs.Links.{fresh_link, link_of}
-use Rattle.afr_server.specs.declared.server.Asked.{Asked}
+use Rattle.afr_server.specs.declared.server.Served.{Served}
 use Rattle.afr_server.specs.Carried.{Brings}
 use Rattle.afr_server.specs.Happening.{Meets}
 use Rattle.afr_server.specs.Log.{Finds, IsServed}
-use Rattle.afr_server.specs.Outcome.{Serves, is_carried}
+use Rattle.afr_server.specs.Outcome.{Serves, is_carried_out}
 use Rattle.afr_server.specs.Serving.{Serving, has_session, is_met, link_for}
 
 -- the line of a request that was given this
-abbrev pub told_line : ActorId → BrickId → Request → Asked → Line
+abbrev pub told_line : ActorId → BrickId → Request → Served → Line
 told_line a b request given = Ask a b request (told_by given.answer) given.took
 
 -- the line is honest, and the server is that of the log with it
@@ -36,19 +36,19 @@ IsServedLine p log b line s = IsHonest p line log × IsServed p (line ∷ log) b
 
 -- a request within a work, over the epoch that its actor found
 abbrev pub LineIsServed : Type 0
-LineIsServed = (p : Plan) (log : List Line) (a : ActorId) (b : BrickId) (epoch : Option ℕ) (request : Request) (load : Load) (old new : Serving) (given : Asked)
+LineIsServed = (p : Plan) (log : List Line) (a : ActorId) (b : BrickId) (epoch : Option ℕ) (request : Request) (load : Load) (old new : Serving) (given : Served)
     → a.0 < 20 → IsServed p log b.0 old → Finds epoch (link_for a old)
     → opens (place_of a.0 log) (told_line a b request given) ≡ false
-    → (is_carried (has_session epoch a old) (next_fault old.faults) ≡ true → Brings request load log (held_before p log))
+    → (is_carried_out (has_session epoch a old) (next_fault old.faults) ≡ true → Brings request load log (held_before p log))
     → Serves false (has_session epoch a old) (next_fault old.faults) a request load old new given
     → IsServedLine p log b.0 (told_line a b request given) new
 
 -- the first line of a work or of a heal, which meets the brick
 abbrev pub FirstLineIsServed : Type 0
-FirstLineIsServed = (p : Plan) (log : List Line) (a : ActorId) (b : BrickId) (request : Request) (load : Load) (old new : Serving) (given : Asked)
+FirstLineIsServed = (p : Plan) (log : List Line) (a : ActorId) (b : BrickId) (request : Request) (load : Load) (old new : Serving) (given : Served)
     → a.0 < 20 → IsServed p log b.0 old
     → opens (place_of a.0 log) (told_line a b request given) ≡ true
-    → (is_carried (is_met a old) (next_fault old.faults) ≡ true → Brings request load log (held_before p log))
+    → (is_carried_out (is_met a old) (next_fault old.faults) ≡ true → Brings request load log (held_before p log))
     → Serves true (is_met a old) (next_fault old.faults) a request load old new given
     → IsServedLine p log b.0 (told_line a b request given) new
 

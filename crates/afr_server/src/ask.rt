@@ -3,13 +3,13 @@ ghost use Rattle.std.specs.Prelude.{◌≡◌, ℕ, ◌<◌, ◌-◌, ◌^◌, t
 ghost use Rattle.afr_faults.specs.Planned.{next_fault};
 ghost use Rattle.afr_server.specs.Carried.{CanCarryOut, CanLock};
 ghost use Rattle.afr_server.specs.Covered.{IsUnderLocks};
-ghost use Rattle.afr_server.specs.Outcome.{Serves, counted, is_carried, link_served};
+ghost use Rattle.afr_server.specs.Outcome.{Serves, counted, is_carried_out, link_served};
 ghost use Rattle.afr_server.specs.Serving.{HasEpoch, epoch_of, has_session, is_met, link_for};
 ghost use Rattle.afr_session.specs.Calls.{only};
 ghost use Rattle.afr_session.specs.Links.{link_of, opens};
 
 use crate::carry_out::carry_out;
-use crate::server::{Asked, Server};
+use crate::server::{Served, Server};
 use afr_base::{ActorId, NoMemory};
 use afr_faults::FaultPlan;
 use afr_lines::{Answer, Fault, Request};
@@ -28,12 +28,12 @@ impl Server {
         epoch: Option<u32>,
         request: &Request,
         load: Load<'_>,
-    ) -> Result<Asked, NoMemory>
+    ) -> Result<Served, NoMemory>
         requires known { actor.0 < 20 }
         requires count { self.old.faults.requests < 2 ^ 32 - 1 }
         requires lock { CanLock request.now }
-        requires can { is_carried (has_session epoch actor self.old) (next_fault self.old.faults) ≡ true → CanCarryOut request.now load self.old.copies.objects }
-        requires covered { is_carried (has_session epoch actor self.old) (next_fault self.old.faults) ≡ true → IsUnderLocks actor request.now load self.old }
+        requires can { is_carried_out (has_session epoch actor self.old) (next_fault self.old.faults) ≡ true → CanCarryOut request.now load self.old.copies.objects }
+        requires covered { is_carried_out (has_session epoch actor self.old) (next_fault self.old.faults) ≡ true → IsUnderLocks actor request.now load self.old }
         ensures ok { IfOk result (λ given. Serves false (has_session epoch actor self.old) (next_fault self.old.faults) actor request.now load.entry self.old self.new given) }
         ensures err { OnErr result (self.new ≡ self.old) }
     {
@@ -49,13 +49,13 @@ impl Server {
         actor: ActorId,
         request: &Request,
         load: Load<'_>,
-    ) -> Result<(Option<u32>, Asked), NoMemory>
+    ) -> Result<(Option<u32>, Served), NoMemory>
         requires known { actor.0 < 20 }
         requires count { self.old.faults.requests < 2 ^ 32 - 1 }
         requires room { HasEpoch actor self.old }
         requires lock { CanLock request.now }
-        requires can { is_carried (is_met actor self.old) (next_fault self.old.faults) ≡ true → CanCarryOut request.now load self.old.copies.objects }
-        requires covered { is_carried (is_met actor self.old) (next_fault self.old.faults) ≡ true → IsUnderLocks actor request.now load self.old }
+        requires can { is_carried_out (is_met actor self.old) (next_fault self.old.faults) ≡ true → CanCarryOut request.now load self.old.copies.objects }
+        requires covered { is_carried_out (is_met actor self.old) (next_fault self.old.faults) ≡ true → IsUnderLocks actor request.now load self.old }
         ensures epoch { IfOk result (λ given. given.0 ≡ epoch_of actor self.old) }
         ensures ok { IfOk result (λ given. Serves true (is_met actor self.old) (next_fault self.old.faults) actor request.now load.entry self.old self.new given.1) }
         ensures err { OnErr result (self.new ≡ self.old) }
@@ -72,13 +72,13 @@ impl Server {
         first: bool,
         request: &Request,
         load: Load<'_>,
-    ) -> Result<Asked, NoMemory>
+    ) -> Result<Served, NoMemory>
         requires known { actor.0 < 20 }
         requires count { self.old.faults.requests < 2 ^ 32 - 1 }
         requires room { first ≡ true → HasEpoch actor self.old }
         requires reach { live ≡ true → (link_served first false self.old.links.started (link_for actor self.old)).live ≡ true }
         requires lock { CanLock request.now }
-        requires can { is_carried live (next_fault self.old.faults) ≡ true → CanCarryOut request.now load self.old.copies.objects }
+        requires can { is_carried_out live (next_fault self.old.faults) ≡ true → CanCarryOut request.now load self.old.copies.objects }
         ensures ok { IfOk result (λ given. Serves first live (next_fault self.old.faults) actor request.now load.entry self.old self.new given) }
         ensures err { OnErr result (self.new ≡ self.old) }
     {
@@ -93,7 +93,7 @@ impl Server {
     }
 
     /// The request isn't carried out.
-    fn refuse(&mut self, actor: ActorId, first: bool, answer: Answer) -> Asked
+    fn refuse(&mut self, actor: ActorId, first: bool, answer: Answer) -> Served
         requires known { actor.0 < 20 }
         requires count { self.old.faults.requests < 2 ^ 32 - 1 }
         requires room { first ≡ true → HasEpoch actor self.old }
@@ -103,7 +103,7 @@ impl Server {
         ensures links { (x : ℕ) → link_of x self.new.links ≡ only actor.0 x (link_served first false self.old.links.started) (link_of x self.old.links) }
     {
         count(&mut self.sessions, &mut self.faults, actor, first);
-        Asked {
+        Served {
             answer,
             took: false,
         }
@@ -116,7 +116,7 @@ impl Server {
         first: bool,
         request: &Request,
         load: Load<'_>,
-    ) -> Result<Asked, NoMemory>
+    ) -> Result<Served, NoMemory>
         requires known { actor.0 < 20 }
         requires count { self.old.faults.requests < 2 ^ 32 - 1 }
         requires room { first ≡ true → HasEpoch actor self.old }
@@ -135,7 +135,7 @@ impl Server {
             load,
         )?;
         count(&mut self.sessions, &mut self.faults, actor, first);
-        Ok(Asked { answer, took: true })
+        Ok(Served { answer, took: true })
     }
 
     /// The request is carried out, its answer is lost, and the session ends.
@@ -146,7 +146,7 @@ impl Server {
         first: bool,
         request: &Request,
         load: Load<'_>,
-    ) -> Result<Asked, NoMemory>
+    ) -> Result<Served, NoMemory>
         requires known { actor.0 < 20 }
         requires count { self.old.faults.requests < 2 ^ 32 - 1 }
         requires room { first ≡ true → HasEpoch actor self.old }
@@ -168,7 +168,7 @@ impl Server {
         self.sessions.end(actor);
         self.ranges.drop_owner(actor);
         self.names.drop_owner(actor);
-        Ok(Asked {
+        Ok(Served {
             answer: Answer::NotConnected,
             took: true,
         })

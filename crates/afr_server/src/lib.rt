@@ -13,4 +13,4 @@ mod server;
 
 pub use laws::a_server_follows_its_log;
 pub use planned::planned_faults;
-pub use server::{Asked, Server};
+pub use server::{Served, Server};

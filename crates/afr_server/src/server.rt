@@ -17,7 +17,7 @@ use std::marker::Model;
 
 /// An answer, and whether the brick carried the request out.
 #[derive(Debug, Drop)]
-pub struct Asked {
+pub struct Served {
     pub answer: Answer,
     pub took: bool,
 }

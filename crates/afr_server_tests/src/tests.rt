@@ -7,7 +7,7 @@ use afr_brick::Brick;
 use afr_lines::{Answer, Area, Domain, Event, Fault, Request};
 use afr_object::Load;
 use afr_plan::PlannedFault;
-use afr_server::{Asked, Server, planned_faults};
+use afr_server::{Served, Server, planned_faults};
 use std::alloc::Global;
 
 const ROOT: Gfid = Gfid(1);
@@ -58,7 +58,7 @@ fn of_first(fault: Fault) -> PlannedFault {
     }
 }
 
-fn is_refused(asked: &Asked) -> bool {
+fn is_refused(asked: &Served) -> bool {
     !asked.took && matches!(asked.answer, Answer::NotConnected)
 }
 

@@ -6,7 +6,7 @@ use Rattle.afr_base.specs.declared.ids.ActorId.{ActorId}
 use Rattle.afr_faults.specs.Planned.{next_fault}
 use Rattle.afr_lines.specs.declared.request.Request.{Request}
 use Rattle.afr_object.specs.declared.change.Load.{Load}
-use Rattle.afr_server.specs.declared.server.Asked.{Asked}
+use Rattle.afr_server.specs.declared.server.Served.{Served}
 use Rattle.afr_server.specs.Outcome.{Serves}
 use Rattle.afr_server.specs.Serving.{Serving, epoch_of, is_met}
 use Rattle.afr_servers.proofs.PlaceLemmas.{got_other, got_same, one_there}
@@ -79,7 +79,7 @@ met_all a n old new before after whole so = record {
 }
 
 -- one brick serves the first line of a work; then the bricks before it are met, and those after it
-pub met_others : (a : ActorId) (b n : ℕ) (request : Request) (load : Load) (old asked between new : List Serving) (none first half last : Epochs) (s s' : Serving) (epoch : Option ℕ) (given : Asked)
+pub met_others : (a : ActorId) (b n : ℕ) (request : Request) (load : Load) (old asked between new : List Serving) (none first half last : Epochs) (s s' : Serving) (epoch : Option ℕ) (given : Served)
     → b < length old → b < length none.of → slice_get old b ≡ Some s → asked ≡ set old b s' → first.of ≡ set none.of b epoch → epoch ≡ epoch_of a s
     → Serves true (is_met a s) (next_fault s.faults) a request load s s' given
     → MeetsBetween a 0 b asked between first half → n ≡ length old → MeetsBetween a (b + 1) n between new half last

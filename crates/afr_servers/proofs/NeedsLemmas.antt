@@ -17,7 +17,7 @@ use Rattle.afr_lines.specs.declared.request.Area.TheVariants.{Range, Name}
 use Rattle.afr_lines.specs.declared.request.Request.{Request}
 use Rattle.afr_lines.specs.declared.request.Request.TheVariants.{Lock, Unlock, Look, ReadBytes, ReadName, ReadAttr, ReadAttrs, Index, Pre, Apply, Post, Mend, Settle}
 use Rattle.afr_lines.specs.declared.request.Request.TheVariants as request
-use Rattle.afr_model.specs.Honest.{Outcome, is_live, one_more, over_session, requests_to, asking}
+use Rattle.afr_model.specs.Honest.{RequestOutcome, is_live, one_more, over_session, requests_to, asking}
 use Rattle.afr_model.specs.Report.{started_bricks}
 use Rattle.afr_model.specs.Sessions.{is_joined, is_linked}
 use Rattle.afr_model.specs.Tables.{Past, held_before}
@@ -28,20 +28,20 @@ use Rattle.afr_server.proofs.CoveredLemmas.{same_change, under_locks}
 use Rattle.afr_server.proofs.LinkLemmas.{joined_reached}
 use Rattle.afr_server.proofs.OpeningLemmas.{can_serve, carried_took}
 use Rattle.afr_server.proofs.ServedLemmas.{same_outcome}
-use Rattle.afr_server.specs.declared.server.Asked.{Asked}
+use Rattle.afr_server.specs.declared.server.Served.{Served}
 use Rattle.afr_server.specs.Carried.{Brings}
 use Rattle.afr_server.specs.Covered.{change_with}
 use Rattle.afr_server.specs.Log.{Finds, IsServed}
-use Rattle.afr_server.specs.Outcome.{Serves, is_carried}
+use Rattle.afr_server.specs.Outcome.{Serves, is_carried_out}
 use Rattle.afr_server.specs.Serving.{HasEpoch, Serving, has_session, in_way, is_epoch, is_met}
 use Rattle.afr_session.specs.Links.{is_reached, link_of}
 use Rattle.afr_servers.proofs.PlaceLemmas.{stands}
 use Rattle.afr_servers.specs.Found.{epoch_at}
-use Rattle.afr_servers.specs.Needs.{CanCount, CanServe, CarriesByTheLog, HasRoom, IsCoveredThere, IsRead, NeedsAreMet, RangesCanBeLocked, AnswersAreRead, asking, change_for, is_read, would_carry}
+use Rattle.afr_servers.specs.Needs.{CanCount, CanServe, CarriesByTheLog, HasRoom, IsCoveredThere, IsReadOfTables, NeedsAreMet, RangesCanBeLocked, AnswersAreRead, asking, change_for, is_read, would_carry}
 
 -- ---- whether a request is carried out
-carried_by : (p : Plan) (log : List Line) (a : ActorId) (b : BrickId) (r : Request) (live : Bool) (s : Serving) → IsServed p log b.0 s → is_live p a b.0 (asking a b r) log ≡ live → is_carried live (next_fault s.faults) ≡ would_carry p a b r log
-carried_by p log a b r live s v e = carried_took live (next_fault s.faults) _ ∙ ap (λ (o : Outcome). o.took) (sym (same_outcome p log a b r (asking a b r) live s v e))
+carried_by : (p : Plan) (log : List Line) (a : ActorId) (b : BrickId) (r : Request) (live : Bool) (s : Serving) → IsServed p log b.0 s → is_live p a b.0 (asking a b r) log ≡ live → is_carried_out live (next_fault s.faults) ≡ would_carry p a b r log
+carried_by p log a b r live s v e = carried_took live (next_fault s.faults) _ ∙ ap (λ (o : RequestOutcome). o.took) (sym (same_outcome p log a b r (asking a b r) live s v e))
 
 epoch_live : (epoch : Option ℕ) (up live : Bool) (opened : ℕ) → Finds epoch (record { up = up; live = live; opened = opened }) → is_epoch epoch (record { up = up; live = live; opened = opened }) ≡ live
 epoch_live None up true opened found = let e = found refl in absurd (cc)
@@ -136,9 +136,9 @@ needs_met = record { carries = carries; can = can; covered = covered; room = roo
 
 -- ---- what a read is given
 given_live : (live : Bool) (fault : Option Fault) (said told : Told) (took : Bool) → (record { told = told; took = took }) ≡ over_session live fault said → told ≡ Given → (live ≡ true) × (fault ≡ None)
-given_live false fault said told took e h = let t = ap (λ (o : Outcome). o.told) e in absurd (cc)
-given_live true (Some Fail) said told took e h = let t = ap (λ (o : Outcome). o.told) e in absurd (cc)
-given_live true (Some Lost) said told took e h = let t = ap (λ (o : Outcome). o.told) e in absurd (cc)
+given_live false fault said told took e h = let t = ap (λ (o : RequestOutcome). o.told) e in absurd (cc)
+given_live true (Some Fail) said told took e h = let t = ap (λ (o : RequestOutcome). o.told) e in absurd (cc)
+given_live true (Some Lost) said told took e h = let t = ap (λ (o : RequestOutcome). o.told) e in absurd (cc)
 given_live true None said told took e h = (refl, refl)
 
 -- nobody is in the way of a read, and it brings nothing
@@ -162,8 +162,8 @@ plain (Post n g k m) h = absurd (cc)
 plain (Mend rep) h = absurd (cc)
 plain (Settle g k less) h = absurd (cc)
 
-read_by : (p : Plan) (log : List Line) (a : ActorId) (b : BrickId) (r : Request) (load : Load) (first live : Bool) (s s' : Serving) (given : Asked) → IsServed p log b.0 s
-    → Serves first live (next_fault s.faults) a r load s s' given → IsRead p log b r given
+read_by : (p : Plan) (log : List Line) (a : ActorId) (b : BrickId) (r : Request) (load : Load) (first live : Bool) (s s' : Serving) (given : Served) → IsServed p log b.0 s
+    → Serves first live (next_fault s.faults) a r load s s' given → IsReadOfTables p log b r given
 read_by p log a b r load first live s s' given v c reads told = c.full log (held_before p log) fine.0 fine.1 (one.brings load log (held_before p log)) ∙ rw (one.free a s, v.objects) refl
   where
     one : IsPlain r

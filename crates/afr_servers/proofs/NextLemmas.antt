@@ -12,7 +12,7 @@ use Rattle.afr_lines.specs.declared.request.Request.{Request}
 use Rattle.afr_model.specs.Tables.{held_before}
 use Rattle.afr_object.specs.declared.change.Load.{Load}
 use Rattle.afr_plan.specs.declared.plan.Plan.{Plan}
-use Rattle.afr_server.specs.declared.server.Asked.{Asked}
+use Rattle.afr_server.specs.declared.server.Served.{Served}
 use Rattle.afr_server.specs.Carried.{Brings}
 use Rattle.afr_server.proofs.ElsewhereLemmas.{served_elsewhere, served_met}
 use Rattle.afr_server.proofs.EventLemmas.{served_event}
@@ -21,7 +21,7 @@ use Rattle.afr_server.proofs.OpeningLemmas.{served_new}
 use Rattle.afr_server.proofs.ServedLemmas.{served_first, served_within}
 use Rattle.afr_server.specs.Log.{Finds, IsServed}
 use Rattle.afr_server.specs.NextLine.{IsServedLine, told_line}
-use Rattle.afr_server.specs.Outcome.{is_carried}
+use Rattle.afr_server.specs.Outcome.{is_carried_out}
 use Rattle.afr_server.specs.Serving.{Serving, has_session, is_met}
 use Rattle.afr_session.specs.Links.{link_of}
 use Rattle.afr_servers.proofs.FoundLemmas.{finds_first, finds_met, finds_other, finds_within}
@@ -38,10 +38,10 @@ new_served p servers few n = record { few = n.few; each = λ b s h. let one = n.
 -- ---- a request within a work
 abbrev AskedWithin : Type 0
 AskedWithin =
-    (p : Plan) (log : List Line) (a : ActorId) (epochs : Epochs) (b : BrickId) (request : Request) (load : Load) (old new : List Serving) (given : Asked)
+    (p : Plan) (log : List Line) (a : ActorId) (epochs : Epochs) (b : BrickId) (request : Request) (load : Load) (old new : List Serving) (given : Served)
     → p.shape.n ≤ 5 → a.0 < 20 → AreServed p log old → AreFound a.0 epochs old
     → opens (place_of a.0 log) (told_line a b request given) ≡ false
-    → At b.0 old (λ s. is_carried (has_session (epoch_at b.0 epochs) a s) (next_fault s.faults) ≡ true → Brings request load log (held_before p log))
+    → At b.0 old (λ s. is_carried_out (has_session (epoch_at b.0 epochs) a s) (next_fault s.faults) ≡ true → Brings request load log (held_before p log))
     → AsksOne a epochs b.0 request load old new given
     → GoOnHonestly p log a (told_line a b request given) epochs old new
 
@@ -72,10 +72,10 @@ served_again p log a epochs b r load old new given few small v found opened brin
 -- ---- one that is the first line of a work or of a heal: one brick serves it, the others are met
 abbrev AskedFirst : Type 0
 AskedFirst =
-    (p : Plan) (log : List Line) (a : ActorId) (epochs : Epochs) (b : BrickId) (request : Request) (load : Load) (old new : List Serving) (given : Asked)
+    (p : Plan) (log : List Line) (a : ActorId) (epochs : Epochs) (b : BrickId) (request : Request) (load : Load) (old new : List Serving) (given : Served)
     → p.shape.n ≤ 5 → a.0 < 20 → AreServed p log old
     → opens (place_of a.0 log) (told_line a b request given) ≡ true
-    → At b.0 old (λ s. is_carried (is_met a s) (next_fault s.faults) ≡ true → Brings request load log (held_before p log))
+    → At b.0 old (λ s. is_carried_out (is_met a s) (next_fault s.faults) ≡ true → Brings request load log (held_before p log))
     → AsksFirst a b.0 request load old new epochs given
     → GoOnHonestly p log a (told_line a b request given) epochs old new
 

@@ -5,7 +5,7 @@ use Rattle.afr_faults.specs.Planned.{next_fault}
 use Rattle.afr_lines.specs.declared.line.Event.{Event}
 use Rattle.afr_lines.specs.declared.request.Request.{Request}
 use Rattle.afr_object.specs.declared.change.Load.{Load}
-use Rattle.afr_server.specs.declared.server.Asked.{Asked}
+use Rattle.afr_server.specs.declared.server.Served.{Served}
 use Rattle.afr_server.specs.Happening.{IsAlready, Meets}
 use Rattle.afr_server.specs.Outcome.{Serves}
 use Rattle.afr_server.specs.Serving.{Serving, epoch_of, has_session, is_met}
@@ -19,7 +19,7 @@ abbrev pub At : ℕ → List Serving → (Serving → Type 0) → Type 0
 At b servers P = (s : Serving) → slice_get servers b ≡ Some s → P s
 
 -- brick b served a request over the epoch that its actor found there, and the others are as they were
-pub record AsksOne (a : ActorId) (epochs : Epochs) (b : ℕ) (request : Request) (load : Load) (old new : List Serving) (given : Asked) : Type 0 where
+pub record AsksOne (a : ActorId) (epochs : Epochs) (b : ℕ) (request : Request) (load : Load) (old new : List Serving) (given : Served) : Type 0 where
   pub was : Serving
   pub now : Serving
   pub there : slice_get old b ≡ Some was
@@ -36,7 +36,7 @@ abbrev pub AreEpochs : ActorId → List Serving → Epochs → Type 0
 AreEpochs a old epochs = (b : ℕ) (s : Serving) → slice_get old b ≡ Some s → epoch_at b epochs ≡ epoch_of a s
 
 -- the first line of a work: brick b met the actor and served its request, each other brick met it
-pub record AsksFirst (a : ActorId) (b : ℕ) (request : Request) (load : Load) (old new : List Serving) (epochs : Epochs) (given : Asked) : Type 0 where
+pub record AsksFirst (a : ActorId) (b : ℕ) (request : Request) (load : Load) (old new : List Serving) (epochs : Epochs) (given : Served) : Type 0 where
   pub count : length new ≡ length old
   pub there : b < length old
   pub serves : (s s' : Serving) → slice_get old b ≡ Some s → slice_get new b ≡ Some s' → Serves true (is_met a s) (next_fault s.faults) a request load s s' given

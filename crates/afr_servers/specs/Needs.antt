@@ -21,10 +21,10 @@ use Rattle.afr_object.specs.declared.change.Change.{Change}
 use Rattle.afr_object.specs.declared.change.Load.{Load}
 use Rattle.afr_plan.specs.declared.plan.Plan.{Plan}
 use Rattle.afr_lines.specs.declared.lock.Domain.{Domain}
-use Rattle.afr_server.specs.declared.server.Asked.{Asked}
+use Rattle.afr_server.specs.declared.server.Served.{Served}
 use Rattle.afr_server.specs.Carried.{Brings, CanCarryOut, CanLock}
 use Rattle.afr_server.specs.Covered.{IsUnderLocks}
-use Rattle.afr_server.specs.Outcome.{is_carried}
+use Rattle.afr_server.specs.Outcome.{is_carried_out}
 use Rattle.afr_server.specs.Serving.{HasEpoch, Serving}
 use Rattle.afr_tables.specs.Carrying.{CanCarry}
 use Rattle.afr_servers.specs.Calls.{At}
@@ -47,7 +47,7 @@ abbrev pub CarriesByTheLog : Type 0
 CarriesByTheLog =
     (p : Plan) (log : List Line) (a : ActorId) (met : Bool) (epochs : Epochs) (b : BrickId) (request : Request) (servers : List Serving)
     → a.0 < 20 → AreServed p log servers → AreInSession met a.0 epochs servers → opens (place_of a.0 log) (asking a b request) ≡ not met
-    → At b.0 servers (λ s. is_carried (has_live met a epochs b.0 s) (next_fault s.faults) ≡ would_carry p a b request log)
+    → At b.0 servers (λ s. is_carried_out (has_live met a epochs b.0 s) (next_fault s.faults) ≡ would_carry p a b request log)
 
 -- what the log's tables can carry out with what the load brings, the server's can
 abbrev pub CanServe : Type 0
@@ -96,14 +96,14 @@ is_read request.Index = true
 is_read other = false
 
 -- what was read on brick b is what the log's tables have there
-abbrev pub IsRead : Plan → List Line → BrickId → Request → Asked → Type 0
-IsRead p log b request given = is_read request ≡ true → told_by given.answer ≡ Given → given.answer ≡ answer_by None request (holds p log b.0) log
+abbrev pub IsReadOfTables : Plan → List Line → BrickId → Request → Served → Type 0
+IsReadOfTables p log b request given = is_read request ≡ true → told_by given.answer ≡ Given → given.answer ≡ answer_by None request (holds p log b.0) log
 
 -- what a read of a visit is given is what its brick's tables have after the log
 abbrev pub AnswersAreRead : Type 0
 AnswersAreRead =
-    (p : Plan) (log : List Line) (a : ActorId) (met : Bool) (epochs after : Epochs) (b : BrickId) (request : Request) (load : Load) (old new : List Serving) (given : Asked)
-    → AreServed p log old → ServesNext met a b request load epochs old new after given → IsRead p log b request given
+    (p : Plan) (log : List Line) (a : ActorId) (met : Bool) (epochs after : Epochs) (b : BrickId) (request : Request) (load : Load) (old new : List Serving) (given : Served)
+    → AreServed p log old → ServesNext met a b request load epochs old new after given → IsReadOfTables p log b request given
 
 -- a server is started where the log says so; where events name bricks of the volume alone, the started servers are the started bricks
 pub record StartedAreKnown : Type 0 where

@@ -13,10 +13,10 @@ use Rattle.afr_model.specs.Honest.{IsHonest}
 use Rattle.afr_model.specs.Tables.{held_before}
 use Rattle.afr_object.specs.declared.change.Load.{Load}
 use Rattle.afr_plan.specs.declared.plan.Plan.{Plan}
-use Rattle.afr_server.specs.declared.server.Asked.{Asked}
+use Rattle.afr_server.specs.declared.server.Served.{Served}
 use Rattle.afr_server.specs.Carried.{Brings}
 use Rattle.afr_server.specs.NextLine.{is_elsewhere, told_line}
-use Rattle.afr_server.specs.Outcome.{is_carried}
+use Rattle.afr_server.specs.Outcome.{is_carried_out}
 use Rattle.afr_server.specs.Serving.{Serving}
 use Rattle.afr_servers.specs.Calls.{At, MeetsAll, MeetsEach}
 use Rattle.afr_servers.specs.Log.{AreFound, AreServed}
@@ -41,10 +41,10 @@ GoOnHonestly p log a line epochs old new = IsHonest p line log × GoOn p log a l
 -- a request of a visit: within a work, or as the first line of a work or of a heal
 abbrev pub AskedAreServed : Type 0
 AskedAreServed =
-    (p : Plan) (log : List Line) (a : ActorId) (met : Bool) (epochs after : Epochs) (b : BrickId) (request : Request) (load : Load) (old new : List Serving) (given : Asked)
+    (p : Plan) (log : List Line) (a : ActorId) (met : Bool) (epochs after : Epochs) (b : BrickId) (request : Request) (load : Load) (old new : List Serving) (given : Served)
     → p.shape.n ≤ 5 → a.0 < 20 → AreServed p log old → AreInSession met a.0 epochs old
     → opens (place_of a.0 log) (told_line a b request given) ≡ not met
-    → At b.0 old (λ s. is_carried (has_live met a epochs b.0 s) (next_fault s.faults) ≡ true → Brings request load log (held_before p log))
+    → At b.0 old (λ s. is_carried_out (has_live met a epochs b.0 s) (next_fault s.faults) ≡ true → Brings request load log (held_before p log))
     → ServesNext met a b request load epochs old new after given
     → GoOnHonestly p log a (told_line a b request given) after old new
 

@@ -7,9 +7,9 @@ use Rattle.afr_lines.specs.declared.request.Request.{Request}
 use Rattle.afr_object.specs.declared.change.Load.{Load}
 use Rattle.afr_server.specs.Carried.{CanCarryOut, CanLock}
 use Rattle.afr_server.specs.Covered.{IsUnderLocks}
-use Rattle.afr_server.specs.Outcome.{is_carried}
+use Rattle.afr_server.specs.Outcome.{is_carried_out}
 use Rattle.afr_server.specs.Serving.{Serving, has_session, is_met}
-use Rattle.afr_server.specs.declared.server.Asked.{Asked}
+use Rattle.afr_server.specs.declared.server.Served.{Served}
 use Rattle.afr_servers.specs.Calls.{AsksFirst, AsksOne, At, MeetsAll}
 use Rattle.afr_servers.specs.Found.{epoch_at}
 use Rattle.afr_servers.specs.Log.{AreFound}
@@ -35,16 +35,16 @@ pub record CanAsk (a : ActorId) (v : Visit) (b : BrickId) (request : Request) (l
   pub there : b.0 < length servers
   pub count : At b.0 servers (λ s. s.faults.requests < 2 ^ 32 - 1)
   pub lock : CanLock request
-  pub can : At b.0 servers (λ s. is_carried (has_live v.met a v.epochs b.0 s) (next_fault s.faults) ≡ true → CanCarryOut request load s.copies.objects)
-  pub covered : At b.0 servers (λ s. is_carried (has_live v.met a v.epochs b.0 s) (next_fault s.faults) ≡ true → IsUnderLocks a request load s)
+  pub can : At b.0 servers (λ s. is_carried_out (has_live v.met a v.epochs b.0 s) (next_fault s.faults) ≡ true → CanCarryOut request load s.copies.objects)
+  pub covered : At b.0 servers (λ s. is_carried_out (has_live v.met a v.epochs b.0 s) (next_fault s.faults) ≡ true → IsUnderLocks a request load s)
 
 -- the brick served the request over a session that the visit has met, or this line met all bricks
-abbrev pub ServesNext : Bool → ActorId → BrickId → Request → Load → Epochs → List Serving → List Serving → Epochs → Asked → Type 0
+abbrev pub ServesNext : Bool → ActorId → BrickId → Request → Load → Epochs → List Serving → List Serving → Epochs → Served → Type 0
 ServesNext true a b request load old bricks after new given = (new ≡ old) × AsksOne a old b.0 request load bricks after given
 ServesNext false a b request load old bricks after new given = AsksFirst a b.0 request load bricks after new given
 
 -- so the request was served, and the visit has met the bricks
-pub record IsServed (a : ActorId) (v w : Visit) (b : BrickId) (request : Request) (load : Load) (bricks after : List Serving) (given : Asked) : Type 0 where
+pub record IsServed (a : ActorId) (v w : Visit) (b : BrickId) (request : Request) (load : Load) (bricks after : List Serving) (given : Served) : Type 0 where
   pub met : w ≡ visiting w.epochs
   pub served : ServesNext v.met a b request load v.epochs bricks after w.epochs given
 

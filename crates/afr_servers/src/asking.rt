@@ -3,7 +3,7 @@ ghost use Rattle.std.specs.Prelude.{◌≡◌, ℕ, ◌-◌, ◌^◌, ◌<◌, �
 ghost use Rattle.afr_faults.specs.Planned.{next_fault};
 ghost use Rattle.afr_server.specs.Carried.{CanCarryOut, CanLock};
 ghost use Rattle.afr_server.specs.Covered.{IsUnderLocks};
-ghost use Rattle.afr_server.specs.Outcome.{is_carried};
+ghost use Rattle.afr_server.specs.Outcome.{is_carried_out};
 ghost use Rattle.afr_server.specs.Serving.{HasEpoch, has_session, is_met};
 ghost use Rattle.afr_servers.specs.Calls.{AsksFirst, AsksOne, At};
 ghost use Rattle.afr_servers.specs.Found.{epoch_at};
@@ -13,7 +13,7 @@ use crate::meeting::meet_between;
 use afr_base::{ActorId, BrickId, NoMemory};
 use afr_lines::Request;
 use afr_object::Load;
-use afr_server::{Asked, Server};
+use afr_server::{Served, Server};
 
 /// A request within a work, over the epoch that its actor found at the brick.
 pub(crate) fn ask_one(
@@ -23,14 +23,14 @@ pub(crate) fn ask_one(
     brick: BrickId,
     request: &Request,
     load: Load<'_>,
-) -> Result<Asked, NoMemory>
+) -> Result<Served, NoMemory>
     requires known { actor.0 < 20 }
     requires few { length servers.old.items ≤ 5 }
     requires there { brick.0 < length servers.old.items }
     requires count { At brick.0 servers.old.items (λ s. s.faults.requests < 2 ^ 32 - 1) }
     requires lock { CanLock request.now }
-    requires can { At brick.0 servers.old.items (λ s. is_carried (has_session (epoch_at brick.0 epochs.now) actor s) (next_fault s.faults) ≡ true → CanCarryOut request.now load s.copies.objects) }
-    requires covered { At brick.0 servers.old.items (λ s. is_carried (has_session (epoch_at brick.0 epochs.now) actor s) (next_fault s.faults) ≡ true → IsUnderLocks actor request.now load s) }
+    requires can { At brick.0 servers.old.items (λ s. is_carried_out (has_session (epoch_at brick.0 epochs.now) actor s) (next_fault s.faults) ≡ true → CanCarryOut request.now load s.copies.objects) }
+    requires covered { At brick.0 servers.old.items (λ s. is_carried_out (has_session (epoch_at brick.0 epochs.now) actor s) (next_fault s.faults) ≡ true → IsUnderLocks actor request.now load s) }
     ensures ok { IfOk result (λ given. AsksOne actor epochs.now brick.0 request.now load.entry servers.old.items servers.new.items given) }
     ensures err { OnErr result (servers.new.items ≡ servers.old.items) }
 {
@@ -46,15 +46,15 @@ pub(crate) fn ask_one_first(
     brick: BrickId,
     request: &Request,
     load: Load<'_>,
-) -> Result<(Epochs, Asked), NoMemory>
+) -> Result<(Epochs, Served), NoMemory>
     requires known { actor.0 < 20 }
     requires few { length servers.old.items ≤ 5 }
     requires there { brick.0 < length servers.old.items }
     requires count { At brick.0 servers.old.items (λ s. s.faults.requests < 2 ^ 32 - 1) }
     requires room { (y : ℕ) → At y servers.old.items (HasEpoch actor) }
     requires lock { CanLock request.now }
-    requires can { At brick.0 servers.old.items (λ s. is_carried (is_met actor s) (next_fault s.faults) ≡ true → CanCarryOut request.now load s.copies.objects) }
-    requires covered { At brick.0 servers.old.items (λ s. is_carried (is_met actor s) (next_fault s.faults) ≡ true → IsUnderLocks actor request.now load s) }
+    requires can { At brick.0 servers.old.items (λ s. is_carried_out (is_met actor s) (next_fault s.faults) ≡ true → CanCarryOut request.now load s.copies.objects) }
+    requires covered { At brick.0 servers.old.items (λ s. is_carried_out (is_met actor s) (next_fault s.faults) ≡ true → IsUnderLocks actor request.now load s) }
     ensures ok { IfOk result (λ given. AsksFirst actor brick.0 request.now load.entry servers.old.items servers.new.items given.0 given.1) }
     ensures err { OnErr result (servers.new.items ≡ servers.old.items) }
 {

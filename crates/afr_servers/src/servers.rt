@@ -4,7 +4,7 @@ ghost use Rattle.afr_faults.specs.Planned.{next_fault};
 ghost use Rattle.afr_server.specs.Carried.{CanCarryOut, CanLock};
 ghost use Rattle.afr_server.specs.Covered.{IsUnderLocks};
 ghost use Rattle.afr_server.specs.Happening.{HasLink};
-ghost use Rattle.afr_server.specs.Outcome.{is_carried};
+ghost use Rattle.afr_server.specs.Outcome.{is_carried_out};
 ghost use Rattle.afr_server.specs.Serving.{HasEpoch, has_session, is_met};
 ghost use Rattle.afr_servers.specs.Calls.{AsksFirst, AsksOne, At, MeetsAll, MeetsEach};
 ghost use Rattle.afr_servers.specs.Found.{epoch_at};
@@ -21,7 +21,7 @@ use afr_base::{ActorId, BrickId, BrickSet, NoMemory};
 use afr_lines::{Event, Request};
 use afr_object::Load;
 use afr_plan::Plan;
-use afr_server::{Asked, Server};
+use afr_server::{Served, Server};
 use std::alloc::Global;
 use std::marker::Model;
 
@@ -74,13 +74,13 @@ impl Servers {
         brick: BrickId,
         request: &Request,
         load: Load<'_>,
-    ) -> Result<Asked, NoMemory>
+    ) -> Result<Served, NoMemory>
         requires known { actor.0 < 20 }
         requires there { brick.0 < length self.old }
         requires count { At brick.0 self.old (λ s. s.faults.requests < 2 ^ 32 - 1) }
         requires lock { CanLock request.now }
-        requires can { At brick.0 self.old (λ s. is_carried (has_session (epoch_at brick.0 epochs.now) actor s) (next_fault s.faults) ≡ true → CanCarryOut request.now load s.copies.objects) }
-        requires covered { At brick.0 self.old (λ s. is_carried (has_session (epoch_at brick.0 epochs.now) actor s) (next_fault s.faults) ≡ true → IsUnderLocks actor request.now load s) }
+        requires can { At brick.0 self.old (λ s. is_carried_out (has_session (epoch_at brick.0 epochs.now) actor s) (next_fault s.faults) ≡ true → CanCarryOut request.now load s.copies.objects) }
+        requires covered { At brick.0 self.old (λ s. is_carried_out (has_session (epoch_at brick.0 epochs.now) actor s) (next_fault s.faults) ≡ true → IsUnderLocks actor request.now load s) }
         ensures ok { IfOk result (λ given. AsksOne actor epochs.now brick.0 request.now load.entry self.old self.new given) }
         ensures err { OnErr result (self.new ≡ self.old) }
     {
@@ -96,14 +96,14 @@ impl Servers {
         brick: BrickId,
         request: &Request,
         load: Load<'_>,
-    ) -> Result<(Epochs, Asked), NoMemory>
+    ) -> Result<(Epochs, Served), NoMemory>
         requires known { actor.0 < 20 }
         requires there { brick.0 < length self.old }
         requires count { At brick.0 self.old (λ s. s.faults.requests < 2 ^ 32 - 1) }
         requires room { (y : ℕ) → At y self.old (HasEpoch actor) }
         requires lock { CanLock request.now }
-        requires can { At brick.0 self.old (λ s. is_carried (is_met actor s) (next_fault s.faults) ≡ true → CanCarryOut request.now load s.copies.objects) }
-        requires covered { At brick.0 self.old (λ s. is_carried (is_met actor s) (next_fault s.faults) ≡ true → IsUnderLocks actor request.now load s) }
+        requires can { At brick.0 self.old (λ s. is_carried_out (is_met actor s) (next_fault s.faults) ≡ true → CanCarryOut request.now load s.copies.objects) }
+        requires covered { At brick.0 self.old (λ s. is_carried_out (is_met actor s) (next_fault s.faults) ≡ true → IsUnderLocks actor request.now load s) }
         ensures ok { IfOk result (λ given. AsksFirst actor brick.0 request.now load.entry self.old self.new given.0 given.1) }
         ensures err { OnErr result (self.new ≡ self.old) }
     {

@@ -9,7 +9,7 @@ use crate::servers::Servers;
 use afr_base::{ActorId, BrickId, NoMemory};
 use afr_lines::Request;
 use afr_object::Load;
-use afr_server::Asked;
+use afr_server::Served;
 
 /// The first line of a work, or of a heal, meets every brick. Each later one goes over the sessions that the first one met.
 #[derive(Clone, Copy)]
@@ -39,7 +39,7 @@ impl Visit {
         request: &Request,
         load: Load<'_>,
         servers: &mut Servers,
-    ) -> Result<Asked, NoMemory>
+    ) -> Result<Served, NoMemory>
         requires known { actor.0 < 20 }
         requires room { (y : ℕ) → At y servers.old (HasEpoch actor) }
         requires can { CanAsk actor self.old brick request.now load servers.old }
@@ -61,7 +61,7 @@ impl Visit {
         request: &Request,
         load: Load<'_>,
         servers: &mut Servers,
-    ) -> Result<Asked, NoMemory>
+    ) -> Result<Served, NoMemory>
         requires first { self.old.met ≡ false }
         requires known { actor.0 < 20 }
         requires room { (y : ℕ) → At y servers.old (HasEpoch actor) }

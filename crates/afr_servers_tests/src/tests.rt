@@ -6,7 +6,7 @@ use afr_base::{ActorId, BrickId, Gfid, Shape};
 use afr_lines::{Answer, Event, Fault, Request};
 use afr_object::{List, Load};
 use afr_plan::{Plan, PlannedFault, Words};
-use afr_server::Asked;
+use afr_server::Served;
 use afr_servers::{Epochs, Servers};
 use std::alloc::Global;
 
@@ -66,11 +66,11 @@ fn servers_of(alloc: Global) -> Option<Servers>
     }
 }
 
-fn saw(asked: &Asked) -> bool {
+fn saw(asked: &Served) -> bool {
     asked.took && matches!(asked.answer, Answer::Seen(_))
 }
 
-fn failed(asked: &Asked) -> bool {
+fn failed(asked: &Served) -> bool {
     !asked.took && matches!(asked.answer, Answer::Failed)
 }
 

@@ -14,7 +14,7 @@ use Rattle.afr_discipline.specs.declared.register.Register.{Register}
 use Rattle.afr_heal.proofs.Parts.{both, pair}
 use Rattle.afr_heal_telling.proofs.GoingLooks.{good_there, iff, in_five}
 use Rattle.afr_heal_telling.proofs.OpeningVerdict.{good_seen}
-use Rattle.afr_heal_telling.specs.Stages.{AreWhole, IsReached}
+use Rattle.afr_heal_telling.specs.Stages.{IsReached, ViewsAreWhole}
 use Rattle.afr_model.specs.Chosen as model
 use Rattle.afr_model.specs.Moved.{len_in}
 use Rattle.afr_moves.specs.Keeps.{keeps_in}
@@ -72,7 +72,7 @@ numbers_in seen (x ∷ xs) =
     let rest = numbers_in seen xs in
     λ i. (x, here i) ∷ rest i
 
-module _ (shape : Shape) (kind : Kind) (seen : Looked) (few : shape.n ≤ 5) (low : (x : ℕ) → member seen.reached x ≡ true → x < shape.n) (shown : IsReached seen) (numbers : AreWhole seen) where
+module _ (shape : Shape) (kind : Kind) (seen : Looked) (few : shape.n ≤ 5) (low : (x : ℕ) → member seen.reached x ≡ true → x < shape.n) (shown : IsReached seen) (numbers : ViewsAreWhole seen) where
   abbrev is_source : ℕ → Bool
   is_source x = good shape.n (keeps_in shape) kind (λ x. view_at x seen) x
 
@@ -100,7 +100,7 @@ module _ (shape : Shape) (kind : Kind) (seen : Looked) (few : shape.n ≤ 5) (lo
       ∙ choose_same shape.n is_source q same all_five ∙ ap (filter q) (below_is shape.n)
 
 -- what the rule chose from is what the model lets it choose from
-pub candidates_are : (p : Register) (kind : Kind) → p.shape.n ≤ 5 → ((x : ℕ) → member p.seen.reached x ≡ true → x < p.shape.n) → IsReached p.seen → AreWhole p.seen → HasSource kind p
+pub candidates_are : (p : Register) (kind : Kind) → p.shape.n ≤ 5 → ((x : ℕ) → member p.seen.reached x ≡ true → x < p.shape.n) → IsReached p.seen → ViewsAreWhole p.seen → HasSource kind p
     → map numbers_of (candidates_of p) ≡ model.candidates_of p.shape kind p.seen
 candidates_are p kind few low shown numbers has =
     numbers_in p.seen (filter (candidate p.shape.n (keeps_in p.shape) (seen_as p)) (below p.shape.n))

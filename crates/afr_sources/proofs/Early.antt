@@ -16,7 +16,7 @@ use Rattle.afr_lines.specs.declared.request.Request.TheVariants as request
 use Rattle.afr_model.specs.Chosen.{KeepsSource, goes_on}
 use Rattle.afr_model.specs.Healing.{First, first_after}
 use Rattle.afr_moves.specs.Register as exact
-use Rattle.afr_moves.specs.Register.{Exact, Phase, is_opening, over, same_step}
+use Rattle.afr_moves.specs.Register.{Exact, HealPart, is_opening, over, same_step}
 use Rattle.afr_lines.specs.declared.lock.Domain.TheVariants as domain
 use Rattle.afr_self_heal.proofs.FoundLemmas.{opening_is}
 use Rattle.afr_self_heal.specs.Outcome.{cause}
@@ -30,8 +30,8 @@ module _ (a : ActorId) (p : Register) (t b : ℕ) (told : Told) (took : Bool) wh
   -- a lock or a look of the first part: it isn't onward, and if it ends the heal it does so early
   pub record IsEarly (asked : Request) : Type 0 where
     pub quiet : goes_on (Ask a (record { 0 = b }) asked told took) ≡ false
-    pub part : (noted_ask p t b asked told).phase ≡ p.phase
-    pub ends : (shape : Shape) (kind : Kind) (part next : Phase) (s : ℕ) (seen looked : Looked) → is_opening next ≡ true → is_later (cause shape kind part next s seen looked asked told) ≡ false
+    pub part : (noted_ask p t b asked told).part ≡ p.part
+    pub ends : (shape : Shape) (kind : Kind) (part next : HealPart) (s : ℕ) (seen looked : Looked) → is_opening next ≡ true → is_later (cause shape kind part next s seen looked asked told) ≡ false
 
   pub early_by_lock : (asked : Request) (begins : Bool) → same_step (step_of p.step) exact.Unlocks ≡ false → LocksNext begins (Asks b asked) → IsEarly asked
   early_by_lock (request.Lock domain.Heal area) begins e k = record {
@@ -76,15 +76,15 @@ module _ (a : ActorId) (b : ℕ) (told : Told) (took : Bool) where
 
 -- ---- the end of the first looks
 module _ (n : ℕ) (r : Exact) where
-  pub past_over : (keeps : ℕ → Kind → Bool) → r.step ≡ exact.Looks → is_opening r.phase ≡ true → is_past n keeps r ≡ true → over n r.law.held r.asked ≡ true
-  past_over keeps at opening h = (let part = opening_is r.phase opening in rw (at, part) at h)
+  pub past_over : (keeps : ℕ → Kind → Bool) → r.step ≡ exact.Looks → is_opening r.part ≡ true → is_past n keeps r ≡ true → over n r.law.held r.asked ≡ true
+  past_over keeps at opening h = (let part = opening_is r.part opening in rw (at, part) at h)
 
-  pub found_is : r.broken ≡ false → r.step ≡ exact.Looks → is_opening r.phase ≡ true → over n r.law.held r.asked ≡ true → is_found n r ≡ true
+  pub found_is : r.broken ≡ false → r.step ≡ exact.Looks → is_opening r.part ≡ true → over n r.law.held r.asked ≡ true → is_found n r ≡ true
   found_is whole at opening past = rw (whole, at, opening, past) refl
 
   -- a heal that is broken, or past its first looks and on its way, hasn't just ended them
-  pub unfound : (r.broken ≡ false → same_step r.step exact.Looks ≡ true → is_opening r.phase ≡ true → ⊥) → is_found n r ≡ false
-  unfound never = go r.broken (same_step r.step exact.Looks) (is_opening r.phase) (over n r.law.held r.asked) never
+  pub unfound : (r.broken ≡ false → same_step r.step exact.Looks ≡ true → is_opening r.part ≡ true → ⊥) → is_found n r ≡ false
+  unfound never = go r.broken (same_step r.step exact.Looks) (is_opening r.part) (over n r.law.held r.asked) never
     where
       go : (x y z u : Bool) → (x ≡ false → y ≡ true → z ≡ true → ⊥) → (not x && y && z && u) ≡ false
       go true y z u h = refl

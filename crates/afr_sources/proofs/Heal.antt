@@ -7,8 +7,8 @@ use Rattle.afr_base.specs.declared.ids.Kind.{Kind}
 use Rattle.afr_base.specs.declared.ids.Kind.TheVariants.{Attrs, Bytes, Names}
 use Rattle.afr_base.specs.declared.ids.Shape.{Shape}
 use Rattle.afr_choice.specs.declared.looked.Looked.{Looked}
-use Rattle.afr_discipline.specs.Stands.{phase_of, seen_as, step_of}
-use Rattle.afr_discipline.specs.declared.register.Phase.{Phase as Part}
+use Rattle.afr_discipline.specs.Stands.{heal_part_of, seen_as, step_of}
+use Rattle.afr_discipline.specs.declared.register.HealPart.{HealPart as Part}
 use Rattle.afr_heal.proofs.Parts.{not_both}
 use Rattle.afr_heal.specs.Engine.{Ask as Asks, Begins}
 use Rattle.afr_heal_telling.specs.HealTelling.{HealTells}
@@ -31,8 +31,8 @@ use Rattle.afr_moves.specs.Register.{is_opening, over}
 use Rattle.afr_self_heal.specs.Healing.{Healing as Heal, IsHealing, answered, begun, coming}
 use Rattle.afr_self_heal.specs.Outcome.{cause, outcome_after, reply_of}
 use Rattle.afr_self_heal.specs.Source.{is_found}
-use Rattle.afr_self_heal.specs.declared.outcome.Outcome.{Outcome}
-use Rattle.afr_self_heal.specs.declared.outcome.Outcome.TheVariants.{Busy, Nothing, Short, Split}
+use Rattle.afr_self_heal.specs.declared.outcome.HealOutcome.{HealOutcome}
+use Rattle.afr_self_heal.specs.declared.outcome.HealOutcome.TheVariants.{Busy, Nothing, Short, Split}
 use Rattle.afr_sources.proofs.Coming.{IsOnward, LocksNext, LooksNext, OnwardNext, UnlocksNext, lock_lists, look_lists, unlock_lists}
 use Rattle.afr_sources.proofs.Early.{IsEarly, IsEarlyLook, IsQuiet, early_by_lock, early_by_look, found_is, past_over, quiet_by_unlock, unfound}
 use Rattle.afr_sources.proofs.Register.{stays_broken}
@@ -79,7 +79,7 @@ module _ (picks : Picks) (shape : Shape) (kind : Kind) (s : ℕ) (w : Work) wher
   kept_some false e k = absurd (cc e)
 
 -- ---- a heal that its first looks didn't end has no such reply
-ends_later : (busy : Option ActorId) (first : Option HealReply) (settled : Bool) (m : Option ℕ) (o : Outcome) (seen : Looked) → busy ≡ None → first ≡ None
+ends_later : (busy : Option ActorId) (first : Option HealReply) (settled : Bool) (m : Option ℕ) (o : HealOutcome) (seen : Looked) → busy ≡ None → first ≡ None
     → or_else (by_owner busy) (or_else first (Some (if settled then healed.Settled else by_moved m))) ≡ Some (reply_of o seen) → is_later o ≡ true
 ends_later (Some x) first settled m o seen e f h = absurd (cc e)
 ends_later None (Some r) settled m o seen e f h = absurd (cc f)
@@ -97,16 +97,16 @@ ends_later None None false (Some x) Nothing seen e f h = absurd (cc h)
 ends_later None None false (Some x) Split seen e f h = absurd (cc h)
 ends_later None None settled m o seen e f h = refl
 
-ended_by : (was now : Bool) (before caused : Outcome) → was ≡ false → now ≡ true → outcome_after was now before caused ≡ caused
+ended_by : (was now : Bool) (before caused : HealOutcome) → was ≡ false → now ≡ true → outcome_after was now before caused ≡ caused
 ended_by false true before caused e f = refl
 ended_by false false before caused e f = absurd (cc f)
 ended_by true now before caused e f = absurd (cc e)
 
-ended_before : (was now : Bool) (before caused : Outcome) → was ≡ true → outcome_after was now before caused ≡ before
+ended_before : (was now : Bool) (before caused : HealOutcome) → was ≡ true → outcome_after was now before caused ≡ before
 ended_before true now before caused e = refl
 ended_before false now before caused e = absurd (cc e)
 
-onward_lists : (s : ℕ) (kind : Kind) (part : exact.Phase) (b : ℕ) (asked : Request) → IsOnward s kind part b asked → is_index asked ≡ false
+onward_lists : (s : ℕ) (kind : Kind) (part : exact.HealPart) (b : ℕ) (asked : Request) → IsOnward s kind part b asked → is_index asked ≡ false
 onward_lists s kind part b asked on = on.lists
 
 -- ---- where a heal stands
@@ -125,7 +125,7 @@ stage_heal h w sound tells =
 pub asks_no_list : (h : Heal) (w : Work) (b : ℕ) (asked : Request) → StageOf h w → coming h ≡ Asks b asked → is_index asked ≡ false
 asks_no_list h w b asked (AtLocks k) e = lock_lists k.begins b asked (subst (LocksNext k.begins) e k.next)
 asks_no_list h w b asked (AtFirstLooks k) e = look_lists b asked (subst LooksNext e k.next)
-asks_no_list h w b asked (Past k) e = onward_lists h.source.0 h.kind (seen_as h.register).phase b asked (subst (OnwardNext h.source.0 h.kind (seen_as h.register).phase k.begins) e k.next)
+asks_no_list h w b asked (Past k) e = onward_lists h.source.0 h.kind (seen_as h.register).part b asked (subst (OnwardNext h.source.0 h.kind (seen_as h.register).part k.begins) e k.next)
 asks_no_list h w b asked (Lost k) e = unlock_lists b asked (subst UnlocksNext e k.next)
 
 whole_chosen : (h : Heal) (c : Bool) → h.register.broken ≡ false → has_looked h.register ≡ c → has_chosen h ≡ c
@@ -154,7 +154,7 @@ module _ (picks : Picks) (shape : Shape) (h : Heal) (w : Work) (never : h.kind �
       Kept = KeptBy picks shape h.kind (has_chosen new) new.source.0 more
 
       -- what the register is while the heal isn't broken, and how it ends
-      ended_is : h.register.broken ≡ false → new.register.broken ≡ true → new.outcome ≡ cause h.register.shape h.kind (phase_of h.register.phase) (phase_of new.register.phase) h.source.0 new.register.seen new.register.looked asked told
+      ended_is : h.register.broken ≡ false → new.register.broken ≡ true → new.outcome ≡ cause h.register.shape h.kind (heal_part_of h.register.part) (heal_part_of new.register.part) h.source.0 new.register.seen new.register.looked asked told
       ended_is whole lost = ended_by h.register.broken new.register.broken h.outcome _ whole lost
 
       lost_same : h.register.broken ≡ true → new.outcome ≡ h.outcome
@@ -164,12 +164,12 @@ module _ (picks : Picks) (shape : Shape) (h : Heal) (w : Work) (never : h.kind �
       same_source none = ap (λ (c : Bool). if c then chosen else h.source) none
 
       -- ---- before there is a source
-      module _ (whole : h.register.broken ≡ false) (opening : is_opening (phase_of h.register.phase) ≡ true) (early : IsEarly a h.register t b told took asked) where
-        opening_still : is_opening (phase_of new.register.phase) ≡ true
-        opening_still = ap (λ (part : Part). is_opening (phase_of part)) early.part ∙ opening
+      module _ (whole : h.register.broken ≡ false) (opening : is_opening (heal_part_of h.register.part) ≡ true) (early : IsEarly a h.register t b told took asked) where
+        opening_still : is_opening (heal_part_of new.register.part) ≡ true
+        opening_still = ap (λ (part : Part). is_opening (heal_part_of part)) early.part ∙ opening
 
         lost_early : new.register.broken ≡ true → has_chosen new ≡ false
-        lost_early lost = lost_chosen new false lost (ap is_later (ended_is whole lost) ∙ early.ends h.register.shape h.kind (phase_of h.register.phase) (phase_of new.register.phase) h.source.0 new.register.seen new.register.looked opening_still)
+        lost_early lost = lost_chosen new false lost (ap is_later (ended_is whole lost) ∙ early.ends h.register.shape h.kind (heal_part_of h.register.part) (heal_part_of new.register.part) h.source.0 new.register.seen new.register.looked opening_still)
 
         kept_early : has_chosen h ≡ false → has_chosen new ≡ false → Kept
         kept_early none still = kept_none picks shape h.kind new.source.0 more (has_chosen new) still (not_on a (record { 0 = b }) asked told took log w early.quiet (none_kept picks shape h.kind h.source.0 w (has_chosen h) none kept))
@@ -201,7 +201,7 @@ module _ (picks : Picks) (shape : Shape) (h : Heal) (w : Work) (never : h.kind �
           step : (seen_as new.register).step ≡ exact.Looks
           step = ap step_of is_look.step
 
-          opening : is_opening (seen_as new.register).phase ≡ true
+          opening : is_opening (seen_as new.register).part ≡ true
           opening = opening_still k.whole k.opening is_look.early
 
           by : StageOf new more → Kept
@@ -229,8 +229,8 @@ module _ (picks : Picks) (shape : Shape) (h : Heal) (w : Work) (never : h.kind �
       by_past : IsPast h.register.shape (seen_as h.register) h.register.seen h.register.looked h.source.0 h.gfid h.kind h.outcome w → Kept
       by_past k = by after
         where
-          on : IsOnward h.source.0 h.kind (seen_as h.register).phase b asked
-          on = subst (OnwardNext h.source.0 h.kind (seen_as h.register).phase k.begins) e k.next
+          on : IsOnward h.source.0 h.kind (seen_as h.register).part b asked
+          on = subst (OnwardNext h.source.0 h.kind (seen_as h.register).part k.begins) e k.next
 
           first : first_by more ≡ record (first_by w) { still = false }
           first = first_same (first_by w) a (record { 0 = b }) asked told took k.after.begun (λ look. k.after.still (on.looks look))
@@ -310,6 +310,6 @@ module _ (picks : Picks) (shape : Shape) (h : Heal) (w : Work) (never : h.kind �
         by (AtFirstLooks k) = absurd (subst LooksNext e k.next)
         by (Past k) =
             let was = some_kept picks shape h.kind h.source.0 w (has_chosen h) (whole_chosen h true k.whole k.past) kept in
-            let later = k.parted (subst (OnwardNext h.source.0 h.kind (seen_as h.register).phase k.begins) e k.next) in
+            let later = k.parted (subst (OnwardNext h.source.0 h.kind (seen_as h.register).part k.begins) e k.next) in
             kept_some picks shape h.kind h.source.0 longer (has_chosen parted) (whole_chosen parted true k.whole (rw later refl)) (was.0, (tt, was.1))
         by (Lost k) = absurd (subst UnlocksNext e k.next)

@@ -22,7 +22,7 @@ use Rattle.afr_server.specs.Serving.{Serving}
 use Rattle.afr_sources.proofs.Turns.{healer_keeps, set_source}
 use Rattle.afr_sources.specs.Chosen.{AreChosen, HealsFrom, RunsFrom, went_on}
 use Rattle.afr_sources.specs.Laws.{LineKeepsSource, SourceKept}
-use Rattle.afr_sources.specs.Sources.{picks_of, source_of, sources_of}
+use Rattle.afr_sources.specs.Sources.{picked_source, picks_of, sources_of}
 
 -- a line that an actor wrote is its own alone
 pub written_of : (a : ActorId) (line : Line) → IsWritten a line → (c : ℕ) → is_of c line ≡ (a.0 == c)
@@ -32,10 +32,10 @@ written_of a line (Heals g kind said) c = refl
 written_of a line (Ends said) c = refl
 
 -- the healer's running heal has the source beside it
-own_source : (picks : Picks) (p : Plan) (a : ActorId) (log : List Line) (healers : List Healer) (x : Healer) → 17 ≤ a.0 → slice_get healers (a.0 - 17) ≡ Some x → AreChosen picks p log (sources_of healers) → RunsFrom picks p a.0 log (source_of x)
+own_source : (picks : Picks) (p : Plan) (a : ActorId) (log : List Line) (healers : List Healer) (x : Healer) → 17 ≤ a.0 → slice_get healers (a.0 - 17) ≡ Some x → AreChosen picks p log (sources_of healers) → RunsFrom picks p a.0 log (picked_source x)
 own_source picks p a log healers x healer is k =
     let at : 17 + (a.0 - 17) ≡ a.0 = omega (arith, healer) in
-    subst (λ (c : ℕ). RunsFrom picks p c log (source_of x)) at (k.present (a.0 - 17) (source_of x) (slice_get-map source_of healers (a.0 - 17) ∙ ap (option_map source_of) is))
+    subst (λ (c : ℕ). RunsFrom picks p c log (picked_source x)) at (k.present (a.0 - 17) (picked_source x) (slice_get-map picked_source healers (a.0 - 17) ∙ ap (option_map picked_source) is))
 
 -- one line of one healer, whose round has begun, and asks this rule
 pub healer_turn : {F : Type 0} (calls : Calls F) (choose : F) → LineKeepsSource calls choose → (p : Plan) (a : ActorId) (log : List Line) (servers after : List Serving) (old new : List Healer) (x y : Healer) (line : Line)
@@ -44,7 +44,7 @@ pub healer_turn : {F : Type 0} (calls : Calls F) (choose : F) → LineKeepsSourc
 healer_turn calls choose law p a log servers after old new x y line before is acting ready steps written set_is k =
     let kept : SourceKept calls choose p a log line y = law p a log servers after x y line before acting ready steps (own_source (picks_of calls choose) p a log old x before.healer is k) in
     subst (AreChosen (picks_of calls choose) p (line ∷ log)) (sym (set_source old (a.0 - 17) y) ∙ ap sources_of (sym set_is))
-    (healer_keeps (picks_of calls choose) p log (sources_of old) a (source_of y) line before.healer (written_of a line written) kept.picked kept.runs k)
+    (healer_keeps (picks_of calls choose) p log (sources_of old) a (picked_source y) line before.healer (written_of a line written) kept.picked kept.runs k)
 
 -- ---- what follows of a heal that still runs
 heals_source : (picks : Picks) (shape : Shape) (kind : Kind) (source : Option ℕ) (w : Work) → (kind ≡ Names → ⊥) → went_on w ≡ true → HealsFrom picks shape kind source w → HasSource picks shape kind w

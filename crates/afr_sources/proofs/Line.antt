@@ -10,7 +10,7 @@ use Rattle.afr_base.specs.declared.ids.Shape.{Shape}
 use Rattle.afr_daemon.specs.Round.{next_due}
 use Rattle.afr_discipline.specs.Stands.{seen_as}
 use Rattle.afr_discipline.specs.declared.register.Register.{Register}
-use Rattle.afr_heal.specs.Engine.{Ask as Asks, Begins, Ends, Next as HealNext}
+use Rattle.afr_heal.specs.Engine.{Ask as Asks, Begins, Ends, NextOfHeal as HealNext}
 use Rattle.afr_healer.specs.Rounding as rounding
 use Rattle.afr_healer.specs.Rounding.{CanHearAt, IsFed, IsFedAt, Rounding, indexed, next_at, next_of, stage_due}
 use Rattle.afr_healer.specs.declared.stage.RoundStage.{RoundStage}
@@ -48,7 +48,7 @@ use Rattle.afr_sources.proofs.Heal.{KeptBy, PastOf, StageOf, asks_keep, asks_no_
 use Rattle.afr_sources.proofs.Work.{no_border}
 use Rattle.afr_sources.specs.Chosen.{HealsFrom, RunsFrom}
 use Rattle.afr_sources.specs.Laws.{LineKeepsSource, SourceKept}
-use Rattle.afr_sources.specs.Sources.{has_chosen, picked_by, picks_of, source_at, source_in, source_of}
+use Rattle.afr_sources.specs.Sources.{has_chosen, picked_by, picked_source, picks_of, source_at, source_in}
 
 self : (n : ℕ) → (n == n) ≡ true
 self n = grind (arith, nat_tests)
@@ -98,7 +98,7 @@ same_kind : (due : Option (Gfid × Kind)) (g h : Gfid) (kind of : Kind) → due 
 same_kind due g h kind of e f = ap (kind_of kind) (sym e ∙ f)
 
 module _ {F : Type 0} (calls : Calls F) (choose : F) (can : CanStepNext) (rounds : LineKeepsRound) (has_source : HealHasSource) (p : Plan) (a : ActorId) (log : List Line) (servers new : List Serving) (x y : Healer) (line : Line)
-    (before : IsBeforeRound p a log servers) (acting : IsHealer p log a.0 servers x) (ready : IsMadeReady x) (after : IsHealer p (line ∷ log) a.0 new y) (runs : RunsFrom (picks_of calls choose) p a.0 log (source_of x)) where
+    (before : IsBeforeRound p a log servers) (acting : IsHealer p log a.0 servers x) (ready : IsMadeReady x) (after : IsHealer p (line ∷ log) a.0 new y) (runs : RunsFrom (picks_of calls choose) p a.0 log (picked_source x)) where
   abbrev picks : Picks
   picks = picks_of calls choose
 
@@ -116,7 +116,7 @@ module _ {F : Type 0} (calls : Calls F) (choose : F) (can : CanStepNext) (rounds
     abbrev w : Work
     w = heal_by (work a.0 log)
 
-    source_is : source_of x ≡ picked_by h.kind (has_chosen h) h.source.0
+    source_is : picked_source x ≡ picked_by h.kind (has_chosen h) h.source.0
     source_is = ap source_at present ∙ ap source_in stage_is
 
     from : HealsFrom picks p.shape h.kind (picked_by h.kind (has_chosen h) h.source.0) w
@@ -135,11 +135,11 @@ module _ {F : Type 0} (calls : Calls F) (choose : F) (can : CanStepNext) (rounds
       stage_after : StageOf z ((line, log) ∷ w)
       stage_after = subst (StageOf z) border (stage_heal z (heal_by (work a.0 (line ∷ log))) there.sound there.tells)
 
-      goes_on : ((z.kind ≡ Names → ⊥) → KeptBy picks p.shape z.kind (has_chosen z) z.source.0 ((line, log) ∷ w)) → RunsFrom picks p a.0 (line ∷ log) (source_of y)
+      goes_on : ((z.kind ≡ Names → ⊥) → KeptBy picks p.shape z.kind (has_chosen z) z.source.0 ((line, log) ∷ w)) → RunsFrom picks p a.0 (line ∷ log) (picked_source y)
       goes_on kept g kind due =
-          let source : source_of y ≡ picked_by z.kind (has_chosen z) z.source.0 = ap source_at now_is ∙ ap source_in now_at in
+          let source : picked_source y ≡ picked_by z.kind (has_chosen z) z.source.0 = ap source_at now_is ∙ ap source_in now_at in
           let kinds : z.kind ≡ kind = same_kind (heal_due p (work a.0 (line ∷ log))) g z.gfid kind z.kind there.due due in
-          subst (λ (kind : Kind). HealsFrom picks p.shape kind (source_of y) (heal_by (work a.0 (line ∷ log)))) kinds
+          subst (λ (kind : Kind). HealsFrom picks p.shape kind (picked_source y) (heal_by (work a.0 (line ∷ log)))) kinds
           (subst (λ (source : Option ℕ). HealsFrom picks p.shape z.kind source (heal_by (work a.0 (line ∷ log)))) (sym source)
           (subst (HealsFrom picks p.shape z.kind (picked_by z.kind (has_chosen z) z.source.0)) (sym border) (kept_source picks p.shape z.kind (has_chosen z) z.source.0 ((line, log) ∷ w) kept)))
 
@@ -239,8 +239,8 @@ module _ {F : Type 0} (calls : Calls F) (choose : F) (can : CanStepNext) (rounds
     -- the heal ends
     pub end_keeps : (said : HealReply) → IsHealed a h.gfid h.kind said x y m servers new line → Kept
     end_keeps said s = record {
-      picked = subst (λ (l : Line). SourcePicked picks p l log) (sym s.is_line) (ended_picked picks p a h.gfid h.kind said log (source_of x) (runs h.gfid h.kind here.due));
-      runs = none_runs picks p a.0 (line ∷ log) (source_of y) (ap source_of s.becomes ∙ due_none m.shape (next_due m.round)) (subst (λ (l : Line). heal_by (work a.0 (l ∷ log)) ≡ []) (sym s.is_line) (rw (self a.0) refl));
+      picked = subst (λ (l : Line). SourcePicked picks p l log) (sym s.is_line) (ended_picked picks p a h.gfid h.kind said log (picked_source x) (runs h.gfid h.kind here.due));
+      runs = none_runs picks p a.0 (line ∷ log) (picked_source y) (ap picked_source s.becomes ∙ due_none m.shape (next_due m.round)) (subst (λ (l : Line). heal_by (work a.0 (l ∷ log)) ≡ []) (sym s.is_line) (rw (self a.0) refl));
     }
 
     pub heal_keeps : (line_next : HealNext) → coming h ≡ line_next → SteppedBy (IsFed calls choose) a (length log) x y m servers new line (line_of h line_next) → Kept
@@ -254,14 +254,14 @@ module _ {F : Type 0} (calls : Calls F) (choose : F) (can : CanStepNext) (rounds
       let fed : s.after ≡ indexed s.given.answer m = subst (λ (stage : RoundStage). IsFedAt calls choose s.given.answer (length log) stage m s.after) stage_is s.fed in
       record {
         picked = subst (λ (l : Line). SourcePicked picks p l log) (sym s.is_line) tt;
-        runs = none_runs picks p a.0 (line ∷ log) (source_of y) (ap source_of s.becomes ∙ ap (λ (m : Rounding). source_in m.stage) fed ∙ indexed_none s.given.answer m)
+        runs = none_runs picks p a.0 (line ∷ log) (picked_source y) (ap picked_source s.becomes ∙ ap (λ (m : Rounding). source_in m.stage) fed ∙ indexed_none s.given.answer m)
             (subst (λ (l : Line). heal_by (work a.0 (l ∷ log)) ≡ []) (sym s.is_line) (rw (self a.0) refl));
       }
 
   round_ends : (said : Reply) → IsEnded a said x y servers new line → Kept
   round_ends said s = record {
     picked = subst (λ (l : Line). SourcePicked picks p l log) (sym s.is_line) tt;
-    runs = none_runs picks p a.0 (line ∷ log) (source_of y) (ap source_of s.becomes) (subst (λ (l : Line). heal_by (work a.0 (l ∷ log)) ≡ []) (sym s.is_line) (rw (self a.0) refl));
+    runs = none_runs picks p a.0 (line ∷ log) (picked_source y) (ap picked_source s.becomes) (subst (λ (l : Line). heal_by (work a.0 (l ∷ log)) ≡ []) (sym s.is_line) (rw (self a.0) refl));
   }
 
   pub round_keeps : (m : Rounding) → x.round ≡ Some m → SteppedBy (IsFed calls choose) a (length log) x y m servers new line (next_of m) → Kept

@@ -14,11 +14,11 @@ use Rattle.afr_lines.specs.declared.request.Area.{Area}
 use Rattle.afr_lines.specs.declared.request.Request.{Request}
 use Rattle.afr_lines.specs.declared.request.Request.TheVariants.{Lock, Look}
 use Rattle.afr_moves.specs.Register as exact
-use Rattle.afr_moves.specs.Register.{Finish, Opening, Phase, Piece, is_opening, same_step}
+use Rattle.afr_moves.specs.Register.{Finish, HealPart, Opening, Piece, is_opening, same_step}
 use Rattle.afr_lines.specs.declared.lock.Domain.{Domain}
 use Rattle.afr_lines.specs.declared.lock.Domain.TheVariants.{Heal, Work}
 use Rattle.afr_self_heal.specs.Outcome.{by_looks, cause, locks_cause, looks_cause}
-use Rattle.afr_self_heal.specs.declared.outcome.Outcome.TheVariants.{Nothing, Short, Split}
+use Rattle.afr_self_heal.specs.declared.outcome.HealOutcome.TheVariants.{Nothing, Short, Split}
 use Rattle.afr_sources.specs.Sources.{is_later}
 
 -- ---- the register
@@ -43,27 +43,27 @@ module _ (p : Register) (t b : ℕ) (told : Told) where
   stays_broken asked inside broken = or_left (noted_steps p t b asked told).broken _ (within (λ (q : Register). q.broken ≡ true) p.inside (inner asked) (noted_outside p b asked told) inside (or_left p.broken (broken_by p asked told) broken))
 
   -- a lock leaves the part, but after the unlocks of one
-  pub heal_lock_part : (area : Area) → (noted_ask p t b (Lock Heal area) told).phase ≡ p.phase
-  heal_lock_part area = wherever (λ (q : Register). q.phase ≡ p.phase) p.inside (inner (Lock Heal area)) (noted_outside p b (Lock Heal area) told) refl refl
+  pub heal_lock_part : (area : Area) → (noted_ask p t b (Lock Heal area) told).part ≡ p.part
+  heal_lock_part area = wherever (λ (q : Register). q.part ≡ p.part) p.inside (inner (Lock Heal area)) (noted_outside p b (Lock Heal area) told) refl refl
 
-  pub work_lock_part : (area : Area) → same_step (step_of p.step) exact.Unlocks ≡ false → (noted_ask p t b (Lock Work area) told).phase ≡ p.phase
-  work_lock_part area e = wherever (λ (q : Register). q.phase ≡ p.phase) p.inside (inner (Lock Work area)) (noted_outside p b (Lock Work area) told) inside outside
+  pub work_lock_part : (area : Area) → same_step (step_of p.step) exact.Unlocks ≡ false → (noted_ask p t b (Lock Work area) told).part ≡ p.part
+  work_lock_part area e = wherever (λ (q : Register). q.part ≡ p.part) p.inside (inner (Lock Work area)) (noted_outside p b (Lock Work area) told) inside outside
     where
-      inside : part_after p area ≡ p.phase
+      inside : part_after p area ≡ p.part
       inside = rw e refl
 
-      outside : (locked_outside p).phase ≡ p.phase
-      outside = wherever (λ (q : Register). q.phase ≡ p.phase) (is_working p) (stayed p) _ refl refl
+      outside : (locked_outside p).part ≡ p.part
+      outside = wherever (λ (q : Register). q.part ≡ p.part) (is_working p) (stayed p) _ refl refl
 
   -- a look leaves the part, and is a step of it
-  pub look_part : (g : Gfid) → p.inside ≡ true → (noted_ask p t b (Look g) told).phase ≡ p.phase
-  look_part g inside = within (λ (q : Register). q.phase ≡ p.phase) p.inside (inner (Look g)) (noted_outside p b (Look g) told) inside refl
+  pub look_part : (g : Gfid) → p.inside ≡ true → (noted_ask p t b (Look g) told).part ≡ p.part
+  look_part g inside = within (λ (q : Register). q.part ≡ p.part) p.inside (inner (Look g)) (noted_outside p b (Look g) told) inside refl
 
   pub look_step : (g : Gfid) → p.inside ≡ true → (noted_ask p t b (Look g) told).step ≡ Looks
   look_step g inside = within (λ (q : Register). q.step ≡ Looks) p.inside (inner (Look g)) (noted_outside p b (Look g) told) inside refl
 
 -- ---- how a heal ends that its first locks or looks end
-locks_early : (next : Phase) (domain : Domain) (told : Told) → is_opening next ≡ true → is_later (locks_cause next domain told) ≡ false
+locks_early : (next : HealPart) (domain : Domain) (told : Told) → is_opening next ≡ true → is_later (locks_cause next domain told) ≡ false
 locks_early Opening Heal (Held owner) e = refl
 locks_early Opening domain told e = refl
 locks_early Piece domain told e = absurd (cc e)
@@ -77,14 +77,14 @@ looks_early shape kind seen = go _ _
     go false true = refl
     go false false = refl
 
-module _ (shape : Shape) (kind : Kind) (part next : Phase) (s : ℕ) (seen looked : Looked) (told : Told) (opening : is_opening next ≡ true) where
+module _ (shape : Shape) (kind : Kind) (part next : HealPart) (s : ℕ) (seen looked : Looked) (told : Told) (opening : is_opening next ≡ true) where
   pub early_lock : (domain : Domain) (area : Area) → is_later (cause shape kind part next s seen looked (Lock domain area) told) ≡ false
   early_lock domain area = locks_early next domain told opening
 
   pub early_look : (g : Gfid) → is_later (cause shape kind part next s seen looked (Look g) told) ≡ false
   early_look g = go next opening
     where
-      go : (next : Phase) → is_opening next ≡ true → is_later (looks_cause shape kind next s seen looked told) ≡ false
+      go : (next : HealPart) → is_opening next ≡ true → is_later (looks_cause shape kind next s seen looked told) ≡ false
       go Opening e = looks_early shape kind seen
       go Piece e = absurd (cc e)
       go Finish e = absurd (cc e)

@@ -20,7 +20,7 @@ use Rattle.afr_plan.specs.declared.plan.Plan.{Plan}
 use Rattle.afr_rounds.specs.Acting.{Readies, round_or}
 use Rattle.afr_rounds.specs.declared.healer.Healer.{Healer}
 use Rattle.afr_sources.specs.Chosen.{AreChosen, HealsFrom, RunsFrom}
-use Rattle.afr_sources.specs.Sources.{source_at, source_in, source_of, sources_of}
+use Rattle.afr_sources.specs.Sources.{picked_source, source_at, source_in, sources_of}
 
 -- ---- lists
 set_here : {A : Type 0} (l : List A) (i : ℕ) (x y : A) → slice_get (slice_set l i x) i ≡ Some y → x ≡ y
@@ -100,20 +100,20 @@ pub none_chosen : (picks : Picks) (p : Plan) (sources : List (Option ℕ)) → A
 none_chosen picks p sources = record { past = tt; present = λ i source is g kind due. absurd (cc due) }
 
 -- ---- the list of the sources
-pub set_source : (healers : List Healer) (i : ℕ) (y : Healer) → sources_of (slice_set healers i y) ≡ slice_set (sources_of healers) i (source_of y)
+pub set_source : (healers : List Healer) (i : ℕ) (y : Healer) → sources_of (slice_set healers i y) ≡ slice_set (sources_of healers) i (picked_source y)
 set_source [] i y = refl
 set_source (x ∷ healers) zero y = refl
-set_source (x ∷ healers) (suc i) y = ap (λ (rest : List (Option ℕ)). source_of x ∷ rest) (set_source healers i y)
+set_source (x ∷ healers) (suc i) y = ap (λ (rest : List (Option ℕ)). picked_source x ∷ rest) (set_source healers i y)
 
 -- a healer that is put in another's place with the same source changes none
-pub set_same : (healers : List Healer) (i : ℕ) (x y : Healer) → slice_get healers i ≡ Some x → source_of y ≡ source_of x → sources_of (slice_set healers i y) ≡ sources_of healers
+pub set_same : (healers : List Healer) (i : ℕ) (x y : Healer) → slice_get healers i ≡ Some x → picked_source y ≡ picked_source x → sources_of (slice_set healers i y) ≡ sources_of healers
 set_same [] zero x y is e = refl
 set_same [] (suc i) x y is e = refl
-set_same (z ∷ healers) zero x y is e = let here : z ≡ x = cc is in ap (λ (source : Option ℕ). source ∷ sources_of healers) (e ∙ ap source_of (sym here))
-set_same (z ∷ healers) (suc i) x y is e = ap (λ (rest : List (Option ℕ)). source_of z ∷ rest) (set_same healers i x y is e)
+set_same (z ∷ healers) zero x y is e = let here : z ≡ x = cc is in ap (λ (source : Option ℕ). source ∷ sources_of healers) (e ∙ ap picked_source (sym here))
+set_same (z ∷ healers) (suc i) x y is e = ap (λ (rest : List (Option ℕ)). picked_source z ∷ rest) (set_same healers i x y is e)
 
 -- healers that all have the same source as before
-pub each_same : (old new : List Healer) → length new ≡ length old → ((i : ℕ) (x y : Healer) → slice_get old i ≡ Some x → slice_get new i ≡ Some y → source_of y ≡ source_of x) → sources_of new ≡ sources_of old
+pub each_same : (old new : List Healer) → length new ≡ length old → ((i : ℕ) (x y : Healer) → slice_get old i ≡ Some x → slice_get new i ≡ Some y → picked_source y ≡ picked_source x) → sources_of new ≡ sources_of old
 each_same [] [] many k = refl
 each_same [] (y ∷ new) many k = absurd (cc many)
 each_same (x ∷ old) [] many k = absurd (cc many)
@@ -128,8 +128,8 @@ ready_in Asking = refl
 ready_in (Healing h) = refl
 ready_in (Over refused) = refl
 
-pub ready_same : (shape : Shape) (b : BrickId) (x z : Healer) → Readies shape b x z → source_of z ≡ source_of x
-ready_same shape b x z k = ap source_of k ∙ by x.round
+pub ready_same : (shape : Shape) (b : BrickId) (x z : Healer) → Readies shape b x z → picked_source z ≡ picked_source x
+ready_same shape b x z k = ap picked_source k ∙ by x.round
   where
     by : (round : Option Rounding) → source_at (Some (made_ready (round_or shape b round))) ≡ source_at round
     by None = refl

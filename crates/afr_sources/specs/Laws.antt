@@ -12,16 +12,16 @@ use Rattle.afr_rounds.specs.declared.healer.Healer.{Healer}
 use Rattle.afr_rule.specs.Choosing.{Calls}
 use Rattle.afr_server.specs.Serving.{Serving}
 use Rattle.afr_sources.specs.Chosen.{RunsFrom}
-use Rattle.afr_sources.specs.Sources.{picks_of, source_of}
+use Rattle.afr_sources.specs.Sources.{picked_source, picks_of}
 
 -- a line of a healer keeps its running heal to its source, and a heal that it ends had one
 pub record SourceKept {F : Type 0} (calls : Calls F) (choose : F) (p : Plan) (a : ActorId) (log : List Line) (line : Line) (y : Healer) : Type 0 where
   pub picked : SourcePicked (picks_of calls choose) p line log
-  pub runs : RunsFrom (picks_of calls choose) p a.0 (line ∷ log) (source_of y)
+  pub runs : RunsFrom (picks_of calls choose) p a.0 (line ∷ log) (picked_source y)
 
 -- so it is with each line that asks this rule
 abbrev pub LineKeepsSource : {F : Type 0} → Calls F → F → Type 0
 LineKeepsSource calls choose =
     (p : Plan) (a : ActorId) (log : List Line) (servers new : List Serving) (x y : Healer) (line : Line)
     → IsBeforeRound p a log servers → IsHealer p log a.0 servers x → IsMadeReady x → Stepped (IsFed calls choose) a (length log) x y servers new line
-    → RunsFrom (picks_of calls choose) p a.0 log (source_of x) → SourceKept calls choose p a log line y
+    → RunsFrom (picks_of calls choose) p a.0 log (picked_source x) → SourceKept calls choose p a log line y

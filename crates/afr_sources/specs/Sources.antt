@@ -2,7 +2,7 @@
 use Rattle.std.specs.Prelude.{◌≡◌, ℕ, ◌||◌, not, Bool, true, false, List, Option, None, Some, map, if◌then◌else◌}
 use Rattle.afr_base.specs.declared.ids.Kind.{Kind}
 use Rattle.afr_base.specs.declared.ids.Kind.TheVariants.{Names}
-use Rattle.afr_discipline.specs.Stands.{phase_of, seen_as}
+use Rattle.afr_discipline.specs.Stands.{heal_part_of, seen_as}
 use Rattle.afr_discipline.specs.declared.register.Register.{Register}
 use Rattle.afr_healer.specs.Rounding.{Rounding}
 use Rattle.afr_healer.specs.declared.stage.RoundStage.{RoundStage}
@@ -15,16 +15,16 @@ use Rattle.afr_rounds.specs.declared.healer.Healer.{Healer}
 use Rattle.afr_rule.specs.Choosing.{Calls, IsPick}
 use Rattle.afr_rule.specs.declared.candidate.Candidate.{Candidate}
 use Rattle.afr_self_heal.specs.Healing.{Healing as Heal}
-use Rattle.afr_self_heal.specs.declared.outcome.Outcome.{Outcome}
-use Rattle.afr_self_heal.specs.declared.outcome.Outcome.TheVariants.{Busy, Short, Nothing, Split}
+use Rattle.afr_self_heal.specs.declared.outcome.HealOutcome.{HealOutcome}
+use Rattle.afr_self_heal.specs.declared.outcome.HealOutcome.TheVariants.{Busy, Short, Nothing, Split}
 
 -- ---- the source of a healer
 -- the first looks of a heal are over
 abbrev pub has_looked : Register → Bool
-has_looked p = not (is_opening (phase_of p.phase)) || looks_over p.shape.n (keeps_in p.shape) (seen_as p) 0
+has_looked p = not (is_opening (heal_part_of p.part)) || looks_over p.shape.n (keeps_in p.shape) (seen_as p) 0
 
 -- its first locks and looks don't end a heal so
-abbrev pub is_later : Outcome → Bool
+abbrev pub is_later : HealOutcome → Bool
 is_later (Busy owner) = false
 is_later Short = false
 is_later Nothing = false
@@ -49,12 +49,12 @@ source_at None = None
 source_at (Some m) = source_in m.stage
 
 -- what the rule picked for the running heal of a healer; none before it was asked
-abbrev pub source_of : Healer → Option ℕ
-source_of x = source_at x.round
+abbrev pub picked_source : Healer → Option ℕ
+picked_source x = source_at x.round
 
 -- the same of each
 abbrev pub sources_of : List Healer → List (Option ℕ)
-sources_of healers = map source_of healers
+sources_of healers = map picked_source healers
 
 -- ---- what a stored rule picks
 -- a candidate by its numbers

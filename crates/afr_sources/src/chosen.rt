@@ -1,18 +1,19 @@
 //! The source of a healer's present heal, as code reads it.
 ghost use Rattle.std.specs.Prelude.{◌≡◌, option_map};
-ghost use Rattle.afr_sources.specs.Sources.{has_chosen, is_later, picked_by, source_of};
+ghost use Rattle.afr_sources.specs.Sources.{has_chosen, is_later, picked_by, picked_source};
 
 use afr_base::{BrickId, Kind};
 use afr_rounds::Healer;
-use afr_self_heal::{HealMachine, Outcome};
+use afr_self_heal::{HealMachine, HealOutcome};
 
 /// The first locks and looks don't end a heal so.
-fn is_later(outcome: Outcome) -> bool
+fn is_later(outcome: HealOutcome) -> bool
     ensures { result ≡ is_later outcome }
 {
     match outcome {
-        Outcome::Busy(_) | Outcome::Short | Outcome::Nothing | Outcome::Split => false,
-        Outcome::Settled | Outcome::Moved(_) | Outcome::Failed => true,
+        HealOutcome::Busy(_) | HealOutcome::Short | HealOutcome::Nothing | HealOutcome::Split =>
+            false,
+        HealOutcome::Settled | HealOutcome::Moved(_) | HealOutcome::Failed => true,
     }
 }
 
@@ -44,7 +45,7 @@ fn picked_in(heal: &HealMachine) -> Option<BrickId>
 
 /// What the rule picked for the healer's present heal; none before it was asked, and for names.
 pub fn chosen_source(healer: &Healer) -> Option<BrickId>
-    ensures { option_map (λ b. b.0) result ≡ source_of healer.now }
+    ensures { option_map (λ b. b.0) result ≡ picked_source healer.now }
 {
     match &healer.round {
         Some(round) => match round.heal() {

@@ -18,11 +18,11 @@ use Rattle.afr_moves.specs.Followed.{register_by}
 use Rattle.afr_moves.specs.Past.{opens}
 use Rattle.afr_moves.specs.Positions.{by_position}
 use Rattle.afr_plan.specs.declared.plan.Plan.{Plan}
-use Rattle.afr_standstill.specs.Law.{IsKept}
+use Rattle.afr_standstill.specs.Law.{IsPresumed}
 use Rattle.afr_tables.specs.Codes.{kept_by}
 use Rattle.afr_waits.specs.Law.{IsFair}
 
-pub fair : (p : Plan) (log : List Line) → IsKept p log → IsFair p.shape.n (start_of p (name_bound p)) (fault_in p.faults) (by_position log)
+pub fair : (p : Plan) (log : List Line) → IsPresumed p log → IsFair p.shape.n (start_of p (name_bound p)) (fault_in p.faults) (by_position log)
 fair p log k =
     let below : LawfulBelow p (name_bound p) log = exactly_below p log k.few k.short k.honest k.lawful in
     record {

@@ -30,7 +30,7 @@ use Rattle.afr_lines.specs.declared.lock.Domain.TheVariants.{Work}
 use Rattle.afr_law.proofs.Model.Alive.{joined_alive}
 use Rattle.afr_standstill.proofs.Positions.{fair, older_register, present_register, register_at}
 use Rattle.afr_law.proofs.Model.Tasks.{task_of}
-use Rattle.afr_standstill.specs.Law.{HeldWaits, IsKept, NotAllWait, WaitsOn}
+use Rattle.afr_standstill.specs.Law.{HeldWaits, IsPresumed, NotAllWait, WaitsOn}
 use Rattle.afr_standstill.specs.Order.{IsStillLine, IsWaiting, locks_by}
 use Rattle.afr_tables.specs.Codes.{kept_by}
 use Rattle.afr_waits.proofs.Kept.{has_busy, kept}
@@ -88,7 +88,7 @@ within Within h = refl
 not_yet : (p : Plan) (a : ℕ) (log : List Line) → is_killed a log ≡ false → ended a log < works_of p a → is_done p a log ≡ false
 not_yet p a log alive left = (let more : nat_le (works_of p a) (ended a log) ≡ false = grind (arith, nat_tests, left) in rw (alive, more) refl)
 
-pub undone : (p : Plan) (log : List Line) → IsKept p log → (x b : ℕ) (area : Area) → b < p.shape.n → Holds (locks_by p x log) b area → is_killed x log ≡ false → IsActor p x × (is_done p x log ≡ false)
+pub undone : (p : Plan) (log : List Line) → IsPresumed p log → (x b : ℕ) (area : Area) → b < p.shape.n → Holds (locks_by p x log) b area → is_killed x log ≡ false → IsActor p x × (is_done p x log ≡ false)
 undone p log k x b area low h alive =
     let f = fair p log k in
     let held : Holds (exact p.shape.n (kept_by p) (by_position log) (length log) x).law b area = subst (λ (r : Exact). Holds r.law b area) (sym (register_at p x log)) h in
@@ -128,7 +128,7 @@ still_alive p (End a said) older x h actor left alive = alive
 still_alive p (HealEnd a g kind said) older x h actor left alive = alive
 
 -- what is presumed of a log is so before its last line
-pub kept_before : (p : Plan) (line : Line) (older : List Line) → IsKept p (line ∷ older) → IsKept p older
+pub kept_before : (p : Plan) (line : Line) (older : List Line) → IsPresumed p (line ∷ older) → IsPresumed p older
 kept_before p line older k = record {
   few = k.few;
   clients = k.clients;

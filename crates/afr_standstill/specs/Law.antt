@@ -17,7 +17,7 @@ use Rattle.afr_lines.specs.declared.lock.Domain.TheVariants.{Work}
 use Rattle.afr_standstill.specs.Order.{AreRising, IsStillLine, IsWaiting}
 
 -- what is presumed of a log
-pub record IsKept (p : Plan) (log : List Line) : Type 0 where
+pub record IsPresumed (p : Plan) (log : List Line) : Type 0 where
   pub few : p.shape.n ≤ 5
   pub clients : length p.clients ≤ 16
   pub healers : length p.healers ≤ 3
@@ -29,12 +29,12 @@ pub record IsKept (p : Plan) (log : List Line) : Type 0 where
 
 -- who is told that another holds its lock waits
 abbrev pub HeldWaits : Type 0
-HeldWaits = (p : Plan) (older : List Line) (a : ActorId) (b : BrickId) (area : Area) (owner : ActorId) (took : Bool) → IsKept p (Ask a b (Lock Work area) (Held owner) took ∷ older) → IsWaiting p (Ask a b (Lock Work area) (Held owner) took ∷ older) a.0
+HeldWaits = (p : Plan) (older : List Line) (a : ActorId) (b : BrickId) (area : Area) (owner : ActorId) (took : Bool) → IsPresumed p (Ask a b (Lock Work area) (Held owner) took ∷ older) → IsWaiting p (Ask a b (Lock Work area) (Held owner) took ∷ older) a.0
 
 -- and waits on, as long as the lines of others tell of nothing done and kill nobody who has something left to do
 abbrev pub WaitsOn : Type 0
-WaitsOn = (p : Plan) (line : Line) (older : List Line) → IsKept p (line ∷ older) → IsStillLine p line older → (a : ℕ) → is_of a line ≡ false → IsWaiting p older a → IsWaiting p (line ∷ older) a
+WaitsOn = (p : Plan) (line : Line) (older : List Line) → IsPresumed p (line ∷ older) → IsStillLine p line older → (a : ℕ) → is_of a line ≡ false → IsWaiting p older a → IsWaiting p (line ∷ older) a
 
 -- where each actor that has something left to do waits, no actor has
 abbrev pub NotAllWait : Type 0
-NotAllWait = (p : Plan) (log : List Line) → IsKept p log → ((a : ℕ) → IsActor p a → is_done p a log ≡ false → IsWaiting p log a) → (a : ℕ) → IsActor p a → is_done p a log ≡ true
+NotAllWait = (p : Plan) (log : List Line) → IsPresumed p log → ((a : ℕ) → IsActor p a → is_done p a log ≡ false → IsWaiting p log a) → (a : ℕ) → IsActor p a → is_done p a log ≡ true

@@ -8,7 +8,7 @@ use afr_log::Log;
 
 /// How often each end comes in a log.
 #[derive(Clone, Copy)]
-pub struct Ends {
+pub struct EndCounts {
     /// The commands of clients that were carried out.
     pub ok: usize,
     /// Their other commands that ended.
@@ -18,7 +18,7 @@ pub struct Ends {
 }
 
 /// Counts the ends in one walk over the log, by its lines that are no requests.
-pub fn count_ends(log: &Log) -> Ends
+pub fn count_ends(log: &Log) -> EndCounts
     ensures ok { result.ok ≡ count_by specs.ends_ok log.now.items }
     ensures refused { result.refused ≡ count_by specs.ends_refused log.now.items }
     ensures settled { result.settled ≡ count_by specs.ends_settled log.now.items }
@@ -33,7 +33,7 @@ pub fn count_ends(log: &Log) -> Ends
             settled += one_if(ends_settled(line));
         }
     }
-    Ends {
+    EndCounts {
         ok,
         refused,
         settled,

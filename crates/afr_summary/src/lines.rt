@@ -2,7 +2,7 @@
 ghost use Rattle.std.specs.Prelude.{◌≡◌, ◌++◌, OnOk, codes, string_bytes};
 ghost use Rattle.afr_summary.specs.Summary.{count_line};
 
-use crate::ends::Ends;
+use crate::ends::EndCounts;
 use afr_base::NoMemory;
 use afr_info::ObjectCounts;
 
@@ -24,7 +24,7 @@ pub fn push_size(out: &mut String, n: u32, lines: usize) -> Result<(), NoMemory>
 }
 
 /// Adds how the commands and heals ended.
-pub fn push_ends(out: &mut String, ends: Ends) -> Result<(), NoMemory>
+pub fn push_ends(out: &mut String, ends: EndCounts) -> Result<(), NoMemory>
     ensures ok { OnOk result (string_bytes out.new ≡ string_bytes out.old ++ (count_line (codes "ok") ends.ok ++ count_line (codes "refused") ends.refused ++ count_line (codes "settled") ends.settled)) }
 {
     push_count(out, "ok", ends.ok)?;

@@ -92,7 +92,7 @@ each_linked P dir name g what new named t all = go (copy_at dir t) refl
 
 -- ---- the numbers
 -- a fact of numbers after so many lines that holds at the start, and that each line keeps
-pub record AreKept (R : ℕ → Marks → Type 0) : Type 0 where
+pub record IsKeptByLines (R : ℕ → Marks → Type 0) : Type 0 where
   pub zeros : (n : ℕ) → R n zero_marks
   pub later : (n : ℕ) (m : Marks) → R n m → R (suc n) m
   pub dirty : (n : ℕ) (m : Marks) → R n m → R (suc n) (dirtied m)
@@ -161,7 +161,7 @@ pub each_opening : (P : Object → Type 0) → P (new_object Dir) → P (new_obj
 each_opening P dir file named zero = each_root P dir
 each_opening P dir file named (suc i) = each_linked P root (record { 0 = i }) (opening_gfid (suc i)) File file (named i) (opening i) (each_opening P dir file named i)
 
-module _ (R : ℕ → Marks → Type 0) (laws : AreKept R) where
+module _ (R : ℕ → Marks → Type 0) (laws : IsKeptByLines R) where
   later_each : (n : ℕ) (t : Table) → EachCopy (HasEach (R n)) t → EachCopy (HasEach (R (suc n))) t
   later_each n t all g o h kind = laws.later n (marks_of kind o.marks) (all g o h kind)
 
@@ -221,7 +221,7 @@ plus_at_most k missed (n ∷ ns) zero = go (member missed k)
     go false = omega arith
 plus_at_most k missed (n ∷ ns) (suc c) = plus_at_most (suc k) missed ns c
 
-at_most : AreKept AreAtMost
+at_most : IsKeptByLines AreAtMost
 at_most = record {
   zeros = λ n. (omega arith, λ c. omega (arith, zeros c));
   later = λ n m h. (omega (arith, h.0), λ c. omega (arith, h.1 c));
@@ -236,7 +236,7 @@ pub numbers_below : (p : Plan) (log : List Line) (b : ℕ) (g : Gfid) (kind : Ki
 numbers_below p log b g kind o h = all_kept AreAtMost at_most p log b g o h kind
 
 -- a number against each of five bricks
-five : AreKept (λ n m. length m.pending ≡ 5)
+five : IsKeptByLines (λ n m. length m.pending ≡ 5)
 five = record {
   zeros = λ n. refl;
   later = λ n m h. h;

@@ -16,8 +16,8 @@ abbrev pub next_call : Schedule → ℕ
 next_call schedule = min (schedule.calls + 1) (2 ^ 32 - 1)
 
 -- the next call is to fail
-abbrev pub IsPlanned : Schedule → Type 0
-IsPlanned schedule = Contains schedule.fails (next_call schedule)
+abbrev pub IsToFail : Schedule → Type 0
+IsToFail schedule = Contains schedule.fails (next_call schedule)
 
 -- the schedule after one more call, which failed if its result is an error
 abbrev pub after_call : {T E : Type 0} → Result T E → Schedule → Schedule

@@ -3,7 +3,7 @@ ghost use Rattle.std.specs.Prelude.{Some, None, Ok, [], drop, take, min, ◌++�
 ghost use Rattle.std.specs.Io.{ReadsAtMost, WritesAtMost};
 ghost use Rattle.std.specs.Io.KnownBytes.{ReadConsumes, WriteAppends};
 ghost use Rattle.afr_text.specs.Causes.{HasCause};
-ghost use Rattle.afr_text.specs.Memory.{scheduled, IsPlanned, after_call};
+ghost use Rattle.afr_text.specs.Memory.{scheduled, IsToFail, after_call};
 
 use crate::outside::{Failed, Sink, Source};
 use std::alloc::Global;
@@ -38,7 +38,7 @@ impl Faults {
 
     /// Begins a call, which fails where that is planned.
     fn begin(&mut self) -> Result<(), Failed>
-        ensures planned { IsErr result ↔ IsPlanned self.old }
+        ensures planned { IsErr result ↔ IsToFail self.old }
         ensures value { self.new ≡ after_call result self.old }
         ensures cause { HasCause self.old.faults self.new.faults result }
     {
@@ -104,7 +104,7 @@ impl Source for MemSource {
         ensures len { ReadsAtMost result into.new }
         ensures value { ReadConsumes (Some self.old.left) (Some self.new.left) result into.new }
         ensures cause { HasCause self.old.schedule.faults self.new.schedule.faults result }
-        ensures planned { IsErr result ↔ IsPlanned self.old.schedule }
+        ensures planned { IsErr result ↔ IsToFail self.old.schedule }
         ensures schedule { self.new.schedule ≡ after_call result self.old.schedule }
         ensures most { self.new.most ≡ self.old.most }
         ensures ok { IfOk result (λ count. count ≡ min (min (length into.new) self.old.most) (length self.old.left)) }
@@ -167,7 +167,7 @@ impl Sink for MemSink {
         ensures ok { 0 < length from.now → IfOk result (λ count. 0 < count) }
         ensures value { WriteAppends (Some self.old.taken) (Some self.new.taken) result from.now }
         ensures cause { HasCause self.old.schedule.faults self.new.schedule.faults result }
-        ensures planned { IsPlanned self.old.schedule → IsErr result }
+        ensures planned { IsToFail self.old.schedule → IsErr result }
         ensures schedule { self.new.schedule ≡ after_call result self.old.schedule }
         ensures most { self.new.most ≡ self.old.most }
         ensures count { IfOk result (λ count. count ≡ min (length from.now) self.old.most) }

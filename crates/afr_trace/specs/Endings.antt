@@ -1,11 +1,11 @@
 -- The ends of the lines of requests, from the space before the answer.
 use Rattle.std.specs.Prelude.{ℕ, List, ◌++◌, codes}
 use Rattle.afr_model.specs.ReportReplies.{actor_text}
-use Rattle.afr_trace.specs.declared.endings.Ending.{Ending}
-use Rattle.afr_trace.specs.declared.endings.Ending.TheVariants as ending
+use Rattle.afr_trace.specs.declared.endings.LineEnding.{LineEnding}
+use Rattle.afr_trace.specs.declared.endings.LineEnding.TheVariants as ending
 
 -- an end of a line
-abbrev pub ending_text : Ending → List ℕ
+abbrev pub ending_text : LineEnding → List ℕ
 ending_text ending.Granted = codes " granted\n"
 ending_text (ending.Held owner) = codes " held " ++ actor_text owner ++ codes "\n"
 ending_text ending.Seen = codes " seen\n"

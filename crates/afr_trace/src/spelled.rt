@@ -3,7 +3,7 @@ ghost use Rattle.std.specs.Prelude.{◌≡◌, ◌++◌, All, IfOk, OnOk, string
 ghost use Rattle.afr_trace.specs.Endings.{ending_text};
 ghost use Rattle.afr_trace.specs.Requests.{request_text};
 
-use crate::endings::{Ending, push_ending};
+use crate::endings::{LineEnding, push_ending};
 use crate::repeats::{is_asked_of_all, is_repeated};
 use crate::requests::push_request;
 use afr_base::{ACTORS, ActorId, NoMemory};
@@ -15,7 +15,7 @@ use std::alloc::Global;
 #[derive(Drop)]
 pub(crate) struct Spelled {
     pub(crate) request: Request,
-    pub(crate) ending: Ending,
+    pub(crate) ending: LineEnding,
     pub(crate) words: String,
 }
 
@@ -24,7 +24,7 @@ impl Spelled {
         ensures { IfOk result (λ last. string_bytes last.words ≡ request_text plan.now last.request ++ ending_text last.ending) }
     {
         let request = Request::Index;
-        let ending = Ending::Given;
+        let ending = LineEnding::Given;
         let mut words = String::new(alloc);
         push_request(&mut words, plan, &request)?;
         push_ending(&mut words, ending)?;
@@ -36,7 +36,7 @@ impl Spelled {
     }
 
     /// Takes a request and its answer in place of the last.
-    fn take(&mut self, plan: &Plan, request: &Request, ending: Ending) -> Result<(), NoMemory>
+    fn take(&mut self, plan: &Plan, request: &Request, ending: LineEnding) -> Result<(), NoMemory>
         ensures request { OnOk result (self.new.request ≡ request.now) }
         ensures ending { OnOk result (self.new.ending ≡ ending) }
         ensures words { OnOk result (string_bytes self.new.words ≡ request_text plan.now request.now ++ ending_text ending) }
@@ -68,7 +68,7 @@ pub(crate) fn push_ended(
     places: &mut [Spelled],
     actor: ActorId,
     request: &Request,
-    ending: Ending,
+    ending: LineEnding,
 ) -> Result<(), NoMemory>
     requires { All (λ last. string_bytes last.words ≡ request_text plan.now last.request ++ ending_text last.ending) places.old }
     ensures ok { OnOk result (string_bytes out.new ≡ string_bytes out.old ++ (request_text plan.now request.now ++ ending_text ending)) }
@@ -86,7 +86,7 @@ fn push_again(
     plan: &Plan,
     last: &mut Spelled,
     request: &Request,
-    ending: Ending,
+    ending: LineEnding,
 ) -> Result<(), NoMemory>
     requires { string_bytes last.old.words ≡ request_text plan.now last.old.request ++ ending_text last.old.ending }
     ensures ok { OnOk result (string_bytes out.new ≡ string_bytes out.old ++ (request_text plan.now request.now ++ ending_text ending)) }
@@ -108,7 +108,7 @@ fn push_once(
     out: &mut String,
     plan: &Plan,
     request: &Request,
-    ending: Ending,
+    ending: LineEnding,
 ) -> Result<(), NoMemory>
     ensures ok { OnOk result (string_bytes out.new ≡ string_bytes out.old ++ (request_text plan.now request.now ++ ending_text ending)) }
 {

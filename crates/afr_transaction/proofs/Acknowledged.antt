@@ -9,9 +9,9 @@ use Rattle.afr_lines.specs.Areas.{kind_for}
 use Rattle.afr_discipline.specs.declared.register.Register.{Register}
 use Rattle.afr_transaction.specs.Laws.{AcknowledgedExactly}
 use Rattle.afr_transaction.specs.Outcome.{outcome_of}
-use Rattle.afr_transaction.specs.Progress.{Progress}
+use Rattle.afr_transaction.specs.Progress.{TransactionProgress}
 use Rattle.afr_transaction.specs.Sound.{HasQuorum, Posted}
-use Rattle.afr_transaction.specs.declared.reply.Outcome.TheVariants.{Acknowledged, Failed, FewCopies, NoQuorum, SplitBrain}
+use Rattle.afr_transaction.specs.declared.reply.TransactionOutcome.TheVariants.{Acknowledged, Failed, FewCopies, NoQuorum, SplitBrain}
 use Rattle.afr_transaction.specs.declared.stage.Stage.{Stage}
 use Rattle.afr_transaction.specs.declared.stage.Stage.TheVariants.{Applying, Beginning, Closing, Locking, Looking, Posting, Preparing}
 use Rattle.afr_transaction.proofs.Parts.{some_of_most}
@@ -23,7 +23,7 @@ none_posted n s e h = let one = some_of_most n (member []) (subst (λ (s : List 
 with_quorum : (c : Change) (r : Register) → HasQuorum c r.shape r.looked → is_majority r.shape.n r.post ≡ true → outcome_of c r ≡ Acknowledged
 with_quorum c r q h = rw (q.reached, q.copies, q.clean, h) refl
 
-posted_is : (stage : Stage) (m : Progress) → Posted stage m → is_majority m.register.shape.n m.register.post ≡ true → outcome_of m.change m.register ≡ Acknowledged
+posted_is : (stage : Stage) (m : TransactionProgress) → Posted stage m → is_majority m.register.shape.n m.register.post ≡ true → outcome_of m.change m.register ≡ Acknowledged
 posted_is Locking m p h = absurd (none_posted m.register.shape.n m.register.post p h)
 posted_is Looking m p h = absurd (none_posted m.register.shape.n m.register.post p h)
 posted_is Beginning m p h = absurd (none_posted m.register.shape.n m.register.post p h)

@@ -32,12 +32,12 @@ use Rattle.afr_moves.specs.Keeps.{keeps_in}
 use Rattle.afr_moves.proofs.AreaLemmas.{own_area}
 use Rattle.afr_moves.proofs.Tests.{same_self, same_kind_self}
 use Rattle.afr_discipline.specs.Stands.{number_of, seen_as, step_of, views_of}
-use Rattle.afr_discipline.specs.Tests.{carried, fits_view, lies_in, last_posted, may_end, misses, once, one_of, plane_in, same_flag}
+use Rattle.afr_discipline.specs.Tests.{suffices_by, fits_view, lies_in, last_posted, may_end, misses, once, one_of, plane_in, same_flag}
 use Rattle.afr_transaction.specs.declared.stage.Stage.{Stage}
 use Rattle.afr_transaction.specs.declared.stage.Stage.TheVariants.{Locking, Looking, Beginning, Preparing, Applying, Posting, Closing}
-use Rattle.afr_transaction.specs.Progress.{Progress, left, next_at, allowed, gfid_at, number_in, numbered, enough, may_start, asks}
+use Rattle.afr_transaction.specs.Progress.{TransactionProgress, left, next_at, allowed, gfid_at, number_in, numbered, enough, may_start, asks}
 use Rattle.afr_transaction.specs.Outcome.{reply_for, reply_of}
-use Rattle.afr_transaction.specs.declared.reply.Outcome.TheVariants.{Acknowledged, NoQuorum, FewCopies, SplitBrain, Failed}
+use Rattle.afr_transaction.specs.declared.reply.TransactionOutcome.TheVariants.{Acknowledged, NoQuorum, FewCopies, SplitBrain, Failed}
 use Rattle.afr_discipline.specs.Inside.{may_move, may_move_inside}
 use Rattle.afr_discipline.specs.Tests.{may_move_outside}
 use Rattle.afr_discipline.specs.declared.register.Move.{Move}
@@ -148,7 +148,7 @@ module _ (dir : Gfid) (name : NameId) (one other : Gfid) (what : What) where
       whole : Bool → Bool → Bool
       whole x y =
           ((seen_as r).law.number == 0) && not (seen_as r).unlocked && x && true && y && is_most r.shape.n (seen_as r).reached
-          && carried r.shape.n (keeps_in r.shape) (plane_kind (change.Make dir name other what)) (seen_as r).views (holder (seen_as r).views)
+          && suffices_by r.shape.n (keeps_in r.shape) (plane_kind (change.Make dir name other what)) (seen_as r).views (holder (seen_as r).views)
 
 numbered_may : (at : ℕ) (r : Register) (c : Change) → may_start r c ≡ true → may_start r (numbered at c) ≡ true
 numbered_may at r (change.Write g start bytes) h = h
@@ -158,7 +158,7 @@ numbered_may at r (change.Make dir name g what) h = same_start dir name (gfid_at
 numbered_may at r (change.Remove dir name what) h = h
 
 -- ---- each stage
-module _ (m : Progress) (suits : Suits m.change) (base : IsBase m.change m.register) (at : ℕ) where
+module _ (m : TransactionProgress) (suits : Suits m.change) (base : IsBase m.change m.register) (at : ℕ) where
   abbrev r : Register
   r = m.register
 
@@ -196,10 +196,10 @@ module _ (m : Progress) (suits : Suits m.change) (base : IsBase m.change m.regis
       pair _ _ (lt_test _ _ (base.shown.reached _ shows.1))
       (pair _ _ (pair _ _ (pair _ _ (some_number k.number r.begun k.is_begun).0 (on_plane m.change r.area suits k.named)) shows.0) (once_is 2 m.change r step.Pres _ k refl asked.0))
 
-  kind_named : r.area ≡ Some (area_for m.change) → (s : List ℕ) → enough r (kind_for m.change) s ≡ true → carried n (keeps_in r.shape) (kind_in r.area) (views_of r.looked) (member s) ≡ true
+  kind_named : r.area ≡ Some (area_for m.change) → (s : List ℕ) → enough r (kind_for m.change) s ≡ true → suffices_by n (keeps_in r.shape) (kind_in r.area) (views_of r.looked) (member s) ≡ true
   kind_named e s h =
       let kind : kind_in r.area ≡ kind_for m.change = ap kind_in e ∙ suits.kind in
-      subst (λ (k : Kind). carried n (keeps_in r.shape) k (views_of r.looked) (member s) ≡ true) (sym kind) h
+      subst (λ (k : Kind). suffices_by n (keeps_in r.shape) k (views_of r.looked) (member s) ≡ true) (sym kind) h
 
   apply_allowed : During Applying m → Ready Applying m → allowed r (next_at Applying at m) ≡ true
   apply_allowed k ready =

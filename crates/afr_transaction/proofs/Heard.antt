@@ -11,9 +11,9 @@ use Rattle.afr_lines.specs.declared.line.Next.TheVariants as next
 use Rattle.afr_lines.specs.declared.request.Request.{Request}
 use Rattle.afr_object.specs.declared.change.Change.{Change}
 use Rattle.afr_transaction.specs.Made.{IsTransaction}
-use Rattle.afr_transaction.specs.Progress.{Progress, after, allowed, answered, asked_by, left, next_at, request_at}
+use Rattle.afr_transaction.specs.Progress.{TransactionProgress, after, allowed, answered, asked_by, left, next_at, request_at}
 use Rattle.afr_transaction.specs.Sound.{IsAsking, Sound}
-use Rattle.afr_transaction.specs.declared.stage.Asked.{Asked}
+use Rattle.afr_transaction.specs.declared.stage.LocksAndLooks.{LocksAndLooks}
 use Rattle.afr_transaction.specs.declared.stage.Stage.{Stage}
 use Rattle.afr_transaction.proofs.Allowed.{allowed_next}
 use Rattle.afr_transaction.proofs.Kept.{asked_of, fed_is, kept, same_asked, some_left}
@@ -24,7 +24,7 @@ below_five : (b n : ℕ) → nat_lt b n ≡ true → n ≤ 5 → b < 5
 below_five b n l few = grind (arith, nat_tests, l, few)
 
 -- what is asked of the lowest brick that is left is allowed
-pub allowed_asked : (m : Progress) → Sound m → (stage : Stage) (b c : BrickId) (q : Request) → m.stage ≡ stage → b.0 ≡ lowest (left stage m) → q ≡ request_at stage m → is_nothing (left stage m) ≡ false → Some b ≡ Some c
+pub allowed_asked : (m : TransactionProgress) → Sound m → (stage : Stage) (b c : BrickId) (q : Request) → m.stage ≡ stage → b.0 ≡ lowest (left stage m) → q ≡ request_at stage m → is_nothing (left stage m) ≡ false → Some b ≡ Some c
     → allowed m.register (next.Ask c q) ≡ true
 allowed_asked m s stage b c q es eb eq some ec =
     subst (λ (x : BrickId). allowed m.register (next.Ask x q) ≡ true) (ap (λ (x : ℕ). record { 0 = x }) (sym eb) ∙ brick_of b c ec)
@@ -34,7 +34,7 @@ allowed_asked m s stage b c q es eb eq some ec =
     brick_of : (b c : BrickId) → Some b ≡ Some c → b ≡ c
     brick_of b c e = cc e
 
-module _ (m : Progress) (at : ℕ) (b : BrickId) (q : Request) (e : next_at m.stage at m ≡ next.Ask b q) where
+module _ (m : TransactionProgress) (at : ℕ) (b : BrickId) (q : Request) (e : next_at m.stage at m ≡ next.Ask b q) where
   -- a brick of the volume is asked
   pub heard_small : Sound m → b.0 < 5
   heard_small s = below_five b.0 m.register.shape.n (both _ _ (subst (λ (line : Next). allowed m.register line ≡ true) e (allowed_next m s at))).0 s.base.few
@@ -51,9 +51,9 @@ module _ (m : Progress) (at : ℕ) (b : BrickId) (q : Request) (e : next_at m.st
   pub heard_outside : Sound m → (told : Told) (x : Register) → x ≡ noted_ask m.register at b.0 q told → x.inside ≡ false
   heard_outside s told x ex = rw (ex, request_is s, brick_is s) (kept m s told at (heard_asking s)).base.outside
 
-  pub heard_is : Sound m → (told : Told) (x : Register) (stage : Stage) (s : Asked) → x ≡ noted_ask m.register at b.0 q told → s ≡ asked_by m.stage b.0 told m.asked
+  pub heard_is : Sound m → (told : Told) (x : Register) (stage : Stage) (s : LocksAndLooks) → x ≡ noted_ask m.register at b.0 q told → s ≡ asked_by m.stage b.0 told m.asked
       → stage ≡ after m.stage (record { change = m.change; register = x; stage = m.stage; asked = s }) → (record { change = m.change; register = x; stage = stage; asked = s }) ≡ answered m.stage told at m
   heard_is sound told x stage s ex es est = fed_is m told at b.0 q x stage s (brick_is sound) (request_is sound) ex es est
 
-  pub heard_made : (made : Option Change) → IsTransaction made m → (told : Told) (x : Progress) → x ≡ answered m.stage told at m → IsTransaction made x
+  pub heard_made : (made : Option Change) → IsTransaction made m → (told : Told) (x : TransactionProgress) → x ≡ answered m.stage told at m → IsTransaction made x
   heard_made made k told x ex = subst (IsTransaction made) (sym ex) (kept_answer made m k told at (heard_asking k.sound))

@@ -22,16 +22,16 @@ use Rattle.afr_moves.specs.Register.{holder, rank, same_step}
 use Rattle.afr_discipline.specs.declared.register.Register.{Register}
 use Rattle.afr_discipline.specs.declared.register.Step.{Step}
 use Rattle.afr_discipline.specs.declared.register.Step.TheVariants as step
-use Rattle.afr_discipline.specs.Tests.{carried}
+use Rattle.afr_discipline.specs.Tests.{suffices_by}
 use Rattle.afr_discipline.specs.Notes.{asked_at, noted_ask}
 use Rattle.afr_moves.specs.Keeps.{keeps_in}
 use Rattle.afr_discipline.specs.Stands.{no_lines, step_of, views_of}
 use Rattle.afr_transaction.specs.declared.stage.Stage.{Stage}
 use Rattle.afr_transaction.specs.declared.stage.Stage.TheVariants.{Locking, Looking, Beginning, Preparing, Applying, Posting, Closing}
 use Rattle.afr_transaction.specs.Outcome.{reply_of}
-use Rattle.afr_transaction.specs.Progress.{Progress, left, request_at, gone_on, after, answered, asked_by, asks, next_at, sets_after, on_stage, starting, begun, enough, fed, is_beginning, is_over, may_start, number_in, numbered}
+use Rattle.afr_transaction.specs.Progress.{TransactionProgress, left, request_at, gone_on, after, answered, asked_by, asks, next_at, sets_after, on_stage, starting, begun, enough, fed, is_beginning, is_over, may_start, number_in, numbered}
 use Rattle.afr_transaction.specs.Laws.{StaysSound}
-use Rattle.afr_transaction.specs.declared.stage.Asked.{Asked}
+use Rattle.afr_transaction.specs.declared.stage.LocksAndLooks.{LocksAndLooks}
 use Rattle.afr_transaction.specs.Sound.{Posted, IsBase, IsUnused, Suits, HasBegun, During, IsAsking, Ready, Sound}
 use Rattle.afr_transaction.proofs.Parts.{both, denied, holder_is, holder_shows, shown_none, some_of_most}
 use Rattle.afr_transaction.proofs.Quorum.{quorum_there}
@@ -58,7 +58,7 @@ later change r low high l k = let o = k.order in record { number = k.number; is_
 pub most_of : (r : Register) (kind : Kind) (s : List ℕ) → enough r kind s ≡ true → is_majority r.shape.n s ≡ true
 most_of r kind s h = (both (is_most r.shape.n (member s)) _ h).0
 
-module _ (x : Progress) (suits : Suits x.change) (base : IsBase x.change x.register) where
+module _ (x : TransactionProgress) (suits : Suits x.change) (base : IsBase x.change x.register) where
   stands : (stage : Stage) → During stage x → Posted stage x → Ready stage x → Sound (on_stage stage x)
   stands Locking d p e = record { suits = suits; base = base; during = d; posted = p; ready = e }
   stands Looking d p e = record { suits = suits; base = base; during = d; posted = p; ready = e }
@@ -134,7 +134,7 @@ module _ (x : Progress) (suits : Suits x.change) (base : IsBase x.change x.regis
       go false = stands Closing tt p tt
 
 -- ---- an answer
-module _ (m : Progress) (s : Sound m) (told : Told) (at : ℕ) where
+module _ (m : TransactionProgress) (s : Sound m) (told : Told) (at : ℕ) where
   abbrev r : Register
   r = m.register
 
@@ -182,11 +182,11 @@ module _ (m : Progress) (s : Sound m) (told : Told) (at : ℕ) where
       seen Closing (after_unlock (sets_after Closing b told (register_by Closing) m) s.suits (unlock_base m.change r b (s.base.held_within _ (lowest_in r.held e)) s.base told e) (posted_unlock m.change r b (area_for m.change) told p))
 
 -- whatever a brick answers, the machine stays sound
-pub kept : (m : Progress) → Sound m → (told : Told) (at : ℕ) → IsAsking m.stage m → Sound (answered m.stage told at m)
+pub kept : (m : TransactionProgress) → Sound m → (told : Told) (at : ℕ) → IsAsking m.stage m → Sound (answered m.stage told at m)
 kept m s told at e = kept_by m s told at m.stage s.during s.posted e
 
 -- the attempt has its number
-pub kept_begin : (m : Progress) → Sound m → m.stage ≡ Beginning → (at : ℕ) → Sound (begun at m)
+pub kept_begin : (m : TransactionProgress) → Sound m → m.stage ≡ Beginning → (at : ℕ) → Sound (begun at m)
 kept_begin m s is at = go m.stage is s.during
   where
     low : 1 ≤ 2
@@ -195,7 +195,7 @@ kept_begin m s is at = go m.stage is s.during
     go : (stage : Stage) → stage ≡ Beginning → During stage m → Sound (begun at m)
     go Beginning e d =
         let r = m.register in
-        let split = both _ (carried r.shape.n (keeps_in r.shape) (plane_kind m.change) (views_of r.looked) (holder (views_of r.looked))) d.1 in
+        let split = both _ (suffices_by r.shape.n (keeps_in r.shape) (plane_kind m.change) (views_of r.looked) (holder (views_of r.looked))) d.1 in
         let one = some_of_most r.shape.n (holder (views_of r.looked)) (both (is_most r.shape.n (holder (views_of r.looked))) _ split.1).0 in
         let first = both _ _ (both _ _ (both _ _ (both _ _ (both _ _ split.0).0).0).0).0 in
         record {
@@ -242,14 +242,14 @@ sound_first r change unused few some suits = by unused
     by (inr e) = subst (λ (q : Register). Sound (starting change q)) (sym e) (among step.Open r.shape few some)
 
 -- what the code makes is what the answer makes
-pub fed_is : (m : Progress) (told : Told) (at b : ℕ) (q : Request) (x : Register) (stage : Stage) (s : Asked) → b ≡ lowest (left m.stage m) → q ≡ request_at m.stage m → x ≡ noted_ask m.register at b q told
+pub fed_is : (m : TransactionProgress) (told : Told) (at b : ℕ) (q : Request) (x : Register) (stage : Stage) (s : LocksAndLooks) → b ≡ lowest (left m.stage m) → q ≡ request_at m.stage m → x ≡ noted_ask m.register at b q told
     → s ≡ asked_by m.stage b told m.asked
     → stage ≡ after m.stage (record { change = m.change; register = x; stage = m.stage; asked = s })
     → (record { change = m.change; register = x; stage = stage; asked = s }) ≡ answered m.stage told at m
 fed_is m told at b q x stage s eb eq ex es est = rw (est, es, ex, eq, eb) refl
 
 -- where the next line is a request
-pub asks_next : (stage : Stage) (at : ℕ) (m : Progress) → (stage ≡ Beginning → ⊥) → (stage ≡ Closing → ⊥) → asks stage m ≡ next_at stage at m
+pub asks_next : (stage : Stage) (at : ℕ) (m : TransactionProgress) → (stage ≡ Beginning → ⊥) → (stage ≡ Closing → ⊥) → asks stage m ≡ next_at stage at m
 asks_next Locking at m away end = refl
 asks_next Looking at m away end = refl
 asks_next Beginning at m away end = absurd (away refl)
@@ -259,7 +259,7 @@ asks_next Posting at m away end = refl
 asks_next Closing at m away end = absurd (end refl)
 
 -- so is it wherever somebody is left to ask
-pub some_left : (stage : Stage) (at : ℕ) (m : Progress) → is_nothing (left stage m) ≡ false → asks stage m ≡ next_at stage at m
+pub some_left : (stage : Stage) (at : ℕ) (m : TransactionProgress) → is_nothing (left stage m) ≡ false → asks stage m ≡ next_at stage at m
 some_left Locking at m some = refl
 some_left Looking at m some = refl
 some_left Beginning at m some = absurd (cc some)
@@ -269,7 +269,7 @@ some_left Posting at m some = refl
 some_left Closing at m some = rw some refl
 
 -- where nobody is left, the next line is a Begin or an End line
-pub none_left : (stage : Stage) (m : Progress) → Ready stage m → is_nothing (left stage m) ≡ true → (is_beginning stage || is_over stage m) ≡ true
+pub none_left : (stage : Stage) (m : TransactionProgress) → Ready stage m → is_nothing (left stage m) ≡ true → (is_beginning stage || is_over stage m) ≡ true
 none_left Locking m ready none = absurd (cc (ready, none))
 none_left Looking m ready none = absurd (cc (ready, none))
 none_left Beginning m ready none = refl
@@ -279,7 +279,7 @@ none_left Posting m ready none = absurd (cc (ready, none))
 none_left Closing m ready none = none
 
 -- what holds of each Begin and of each End line holds of such a line
-pub no_request : (P : Next → Type 0) → ((change : Change) → P (next.Begin change)) → ((said : Reply) → P (next.End said)) → (stage : Stage) (at : ℕ) (m : Progress) → (is_beginning stage || is_over stage m) ≡ true
+pub no_request : (P : Next → Type 0) → ((change : Change) → P (next.Begin change)) → ((said : Reply) → P (next.End said)) → (stage : Stage) (at : ℕ) (m : TransactionProgress) → (is_beginning stage || is_over stage m) ≡ true
     → P (next_at stage at m)
 no_request P begins ends Locking at m h = absurd (cc h)
 no_request P begins ends Looking at m h = absurd (cc h)
@@ -290,7 +290,7 @@ no_request P begins ends Posting at m h = absurd (cc h)
 no_request P begins ends Closing at m h = subst (λ (over : Bool). P (if over then next.End (reply_of m.change m.register) else asks Closing m)) (sym h) (ends (reply_of m.change m.register))
 
 -- a next line that is a request is the one that the transaction asks
-pub asked_of : (stage : Stage) (at : ℕ) (m : Progress) (b : BrickId) (q : Request) → Ready stage m → next_at stage at m ≡ next.Ask b q → IsAsking stage m × (asks stage m ≡ next.Ask b q)
+pub asked_of : (stage : Stage) (at : ℕ) (m : TransactionProgress) (b : BrickId) (q : Request) → Ready stage m → next_at stage at m ≡ next.Ask b q → IsAsking stage m × (asks stage m ≡ next.Ask b q)
 asked_of Locking at m b q ready e = (ready, e)
 asked_of Looking at m b q ready e = (ready, e)
 asked_of Beginning at m b q ready e = absurd (cc e)
@@ -308,7 +308,7 @@ pub same_asked : (b c : BrickId) (q r : Request) → next.Ask b q ≡ next.Ask c
 same_asked b c q r e = (cc e, cc e)
 
 -- a transaction that isn't over asks, but for its Begin line
-pub asking_of : (stage : Stage) (m : Progress) → Ready stage m → is_over stage m ≡ false → (stage ≡ Beginning → ⊥) → IsAsking stage m
+pub asking_of : (stage : Stage) (m : TransactionProgress) → Ready stage m → is_over stage m ≡ false → (stage ≡ Beginning → ⊥) → IsAsking stage m
 asking_of Locking m ready more away = ready
 asking_of Looking m ready more away = ready
 asking_of Beginning m ready more away = absurd (away refl)
@@ -317,7 +317,7 @@ asking_of Applying m ready more away = ready
 asking_of Posting m ready more away = ready
 asking_of Closing m ready more away = more
 
-pub answers_line : (stage : Stage) (told : Told) (at : ℕ) (m : Progress) → (stage ≡ Beginning → ⊥) → answered stage told at m ≡ fed stage told at m
+pub answers_line : (stage : Stage) (told : Told) (at : ℕ) (m : TransactionProgress) → (stage ≡ Beginning → ⊥) → answered stage told at m ≡ fed stage told at m
 answers_line Locking told at m away = refl
 answers_line Looking told at m away = refl
 answers_line Beginning told at m away = absurd (away refl)

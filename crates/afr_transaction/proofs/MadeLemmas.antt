@@ -6,14 +6,14 @@ use Rattle.afr_object.specs.Tables.{object_of}
 use Rattle.afr_object.specs.declared.change.Change.{Change}
 use Rattle.afr_object.specs.declared.change.Change.TheVariants.{Write, Cut, SetAttr, Make, Remove}
 use Rattle.afr_lines.specs.declared.answer.Told.{Told}
-use Rattle.afr_lines.specs.declared.answer.Told.TheVariants as told_of
+use Rattle.afr_lines.specs.declared.answer.Told.TheVariants as as_told
 use Rattle.afr_lines.specs.declared.request.Request.TheVariants as request
 use Rattle.afr_base.specs.Bricks.{is_nothing, lowest}
 use Rattle.afr_base.specs.Majority.{is_majority}
 use Rattle.afr_lines.specs.Areas.{kind_for}
 use Rattle.afr_discipline.specs.declared.register.Register.{Register}
 use Rattle.afr_transaction.specs.Made.{IsMade, IsTransaction, attempted, made_by}
-use Rattle.afr_transaction.specs.Progress.{Progress, answered, answered_by, enough, is_beginning, left, may_start, number_in, numbered, on_stage, request_at}
+use Rattle.afr_transaction.specs.Progress.{TransactionProgress, answered, answered_by, enough, is_beginning, left, may_start, number_in, numbered, on_stage, request_at}
 use Rattle.afr_transaction.specs.Sound.{During, IsAsking, Sound}
 use Rattle.afr_transaction.specs.declared.stage.Stage.{Stage}
 use Rattle.afr_transaction.specs.declared.stage.Stage.TheVariants.{Locking, Looking, Beginning, Preparing, Applying, Posting, Closing}
@@ -22,19 +22,19 @@ use Rattle.afr_transaction.proofs.Requests.{after_outside, noted_is}
 
 -- ---- the number of an attempt stays
 pre_same : (r : Register) (b : ℕ) (g : Gfid) (kind : Kind) (told : Told) → (after_outside r b (request.Pre g kind) told).begun ≡ r.begun
-pre_same r b g kind told_of.NotConnected = refl
+pre_same r b g kind as_told.NotConnected = refl
 pre_same r b g kind told = refl
 
 apply_same : (r : Register) (b q : ℕ) (told : Told) → (after_outside r b (request.Apply q) told).begun ≡ r.begun
-apply_same r b q told_of.NotConnected = refl
+apply_same r b q as_told.NotConnected = refl
 apply_same r b q told = refl
 
-module _ (m : Progress) (s : Sound m) (told : Told) (at : ℕ) where
+module _ (m : TransactionProgress) (s : Sound m) (told : Told) (at : ℕ) where
   same_begun : (stage : Stage) → (after_outside m.register (lowest (left stage m)) (request_at stage m) told).begun ≡ m.register.begun → (answered_by stage (lowest (left stage m)) told at m).register.begun ≡ m.register.begun
   same_begun stage same = ap (λ (r : Register). r.begun) (noted_is m.register at (lowest (left stage m)) (request_at stage m) told s.base.outside) ∙ same
 
   module _ (made : Option Change) (stage : Stage) where
-    abbrev x : Progress
+    abbrev x : TransactionProgress
     x = answered_by stage (lowest (left stage m)) told at m
 
     kept_made : x.register.begun ≡ m.register.begun → made ≡ made_by m.register.begun m.change → made ≡ made_by x.register.begun m.change
@@ -84,23 +84,23 @@ module _ (m : Progress) (s : Sound m) (told : Told) (at : ℕ) where
       by false = tt
 
 -- whatever a brick answers, what was made stays
-pub kept_answer : (made : Option Change) (m : Progress) → IsTransaction made m → (told : Told) (at : ℕ) → IsAsking m.stage m → IsTransaction made (answered m.stage told at m)
+pub kept_answer : (made : Option Change) (m : TransactionProgress) → IsTransaction made m → (told : Told) (at : ℕ) → IsAsking m.stage m → IsTransaction made (answered m.stage told at m)
 kept_answer made m k told at e = record { sound = kept m k.sound told at e; kept = answer_makes m k.sound told at made m.stage k.kept e }
 
 -- ---- what is carried
 -- while the bricks are asked for the operation, the attempt has its number
-number_there : (m : Progress) → Sound m → m.stage ≡ Applying → (q : ℕ) × (m.register.begun ≡ Some q)
+number_there : (m : TransactionProgress) → Sound m → m.stage ≡ Applying → (q : ℕ) × (m.register.begun ≡ Some q)
 number_there m s e = go m.stage e s.during
   where
     go : (stage : Stage) → stage ≡ Applying → During stage m → (q : ℕ) × (m.register.begun ≡ Some q)
     go Applying e d = (d.0.number, d.0.is_begun)
     go stage e d = absurd (cc e)
 
-made_there : (made : Option Change) (m : Progress) → IsTransaction made m → m.stage ≡ Applying → made ≡ made_by m.register.begun m.change
+made_there : (made : Option Change) (m : TransactionProgress) → IsTransaction made m → m.stage ≡ Applying → made ≡ made_by m.register.begun m.change
 made_there made m k e = subst (λ (stage : Stage). IsMade stage made m) e k.kept
 
 -- a change that makes an object is carried with its number
-pub carries_made : (made : Option Change) (m : Progress) → IsTransaction made m → m.stage ≡ Applying → (change : Change) → made ≡ Some change → change ≡ attempted m
+pub carries_made : (made : Option Change) (m : TransactionProgress) → IsTransaction made m → m.stage ≡ Applying → (change : Change) → made ≡ Some change → change ≡ attempted m
 carries_made made m k e change is = go m.register.begun (number_there m k.sound e).1 m.change (sym is ∙ made_there made m k e)
   where
     go : (number : Option ℕ) → number ≡ Some (number_there m k.sound e).0 → (of : Change) → Some change ≡ made_by number of → change ≡ numbered (number_in number) of
@@ -112,7 +112,7 @@ carries_made made m k e change is = go m.register.begun (number_there m k.sound 
     go (Some q) some (Remove dir name what) h = absurd (cc h)
 
 -- any other is carried as it is
-pub carries_other : (made : Option Change) (m : Progress) → IsTransaction made m → m.stage ≡ Applying → made ≡ None → m.change ≡ attempted m
+pub carries_other : (made : Option Change) (m : TransactionProgress) → IsTransaction made m → m.stage ≡ Applying → made ≡ None → m.change ≡ attempted m
 carries_other made m k e is = go m.register.begun (number_there m k.sound e).1 m.change (sym is ∙ made_there made m k e)
   where
     go : (number : Option ℕ) → number ≡ Some (number_there m k.sound e).0 → (of : Change) → None ≡ made_by number of → of ≡ numbered (number_in number) of
@@ -125,6 +125,6 @@ carries_other made m k e is = go m.register.begun (number_there m k.sound e).1 m
 
 -- ---- before an attempt
 -- before the Begin line nothing was made
-pub at_beginning : (stage : Stage) (made : Option Change) (m : Progress) → is_beginning stage ≡ true → IsMade stage made m
+pub at_beginning : (stage : Stage) (made : Option Change) (m : TransactionProgress) → is_beginning stage ≡ true → IsMade stage made m
 at_beginning Beginning made m e = tt
 at_beginning stage made m e = absurd (cc e)

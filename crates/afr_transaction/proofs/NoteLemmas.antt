@@ -10,7 +10,7 @@ use Rattle.afr_lines.specs.declared.request.Request.{Request}
 use Rattle.afr_discipline.specs.Notes.{noted_ask}
 use Rattle.afr_discipline.specs.declared.register.Register.{Register}
 use Rattle.afr_transaction.specs.Outcome.{reply_of}
-use Rattle.afr_transaction.specs.Progress.{Progress, asks, fed, is_beginning, left, next_at, request_at}
+use Rattle.afr_transaction.specs.Progress.{TransactionProgress, asks, fed, is_beginning, left, next_at, request_at}
 use Rattle.afr_transaction.specs.declared.stage.Stage.{Stage}
 use Rattle.afr_transaction.specs.declared.stage.Stage.TheVariants.{Locking, Looking, Beginning, Preparing, Applying, Posting, Closing}
 
@@ -28,7 +28,7 @@ noted_as r at b c asked request told e =
     ap (λ (x : BrickId). noted_ask r at x.0 asked told) (ap (brick_in b) e) ∙ ap (λ (x : Request). noted_ask r at c.0 x told) (ap (request_in asked) e)
 
 -- a transaction that asks notes what it was told
-pub fed_notes : (stage : Stage) (t : Progress) (at : ℕ) (brick : BrickId) (request : Request) (told : Told) → next_at stage at t ≡ next.Ask brick request
+pub fed_notes : (stage : Stage) (t : TransactionProgress) (at : ℕ) (brick : BrickId) (request : Request) (told : Told) → next_at stage at t ≡ next.Ask brick request
     → (fed stage told at t).register ≡ noted_ask t.register at brick.0 request told
 fed_notes Locking t at brick request told e = noted_as t.register at (record { 0 = lowest (left Locking t) }) brick (request_at Locking t) request told e
 fed_notes Looking t at brick request told e = noted_as t.register at (record { 0 = lowest (left Looking t) }) brick (request_at Looking t) request told e
@@ -43,7 +43,7 @@ fed_notes Closing t at brick request told e = go (is_nothing t.register.held) e
     go false e = noted_as t.register at (record { 0 = lowest (left Closing t) }) brick (request_at Closing t) request told e
 
 -- where it asks it doesn't begin, and where its next line is a Begin it does
-pub asks_elsewhere : (stage : Stage) (t : Progress) (at : ℕ) (brick : BrickId) (request : Request) → next_at stage at t ≡ next.Ask brick request → is_beginning stage ≡ false
+pub asks_elsewhere : (stage : Stage) (t : TransactionProgress) (at : ℕ) (brick : BrickId) (request : Request) → next_at stage at t ≡ next.Ask brick request → is_beginning stage ≡ false
 asks_elsewhere Beginning t at brick request e = absurd (cc e)
 asks_elsewhere Locking t at brick request e = refl
 asks_elsewhere Looking t at brick request e = refl
@@ -52,7 +52,7 @@ asks_elsewhere Applying t at brick request e = refl
 asks_elsewhere Posting t at brick request e = refl
 asks_elsewhere Closing t at brick request e = refl
 
-pub begins_there : (stage : Stage) (t : Progress) (at : ℕ) (change : Change) → next_at stage at t ≡ next.Begin change → is_beginning stage ≡ true
+pub begins_there : (stage : Stage) (t : TransactionProgress) (at : ℕ) (change : Change) → next_at stage at t ≡ next.Begin change → is_beginning stage ≡ true
 begins_there Beginning t at change e = refl
 begins_there Closing t at change e = go (is_nothing t.register.held) e
   where
@@ -66,7 +66,7 @@ begins_there Applying t at change e = absurd (cc e)
 begins_there Posting t at change e = absurd (cc e)
 
 -- the change stays the same
-pub fed_change : (stage : Stage) (told : Told) (at : ℕ) (t : Progress) → (fed stage told at t).change ≡ t.change
+pub fed_change : (stage : Stage) (told : Told) (at : ℕ) (t : TransactionProgress) → (fed stage told at t).change ≡ t.change
 fed_change Locking told at t = refl
 fed_change Looking told at t = refl
 fed_change Beginning told at t = refl

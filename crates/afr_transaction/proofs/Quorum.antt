@@ -22,7 +22,7 @@ use Rattle.afr_moves.specs.Keeps.{keeps_in}
 use Rattle.afr_moves.specs.Register.{accuses, all, good, holder, unaccused}
 use Rattle.afr_moves.specs.Sets.{any}
 use Rattle.afr_discipline.specs.Stands.{views_of}
-use Rattle.afr_discipline.specs.Tests.{carried}
+use Rattle.afr_discipline.specs.Tests.{suffices_by}
 use Rattle.afr_transaction.specs.Sound.{HasQuorum, Shown}
 use Rattle.afr_transaction.proofs.Parts.{both, deny, holder_is, holder_shows, pair, some_of}
 
@@ -88,7 +88,7 @@ module _ (shape : Shape) (looked : Looked) (kind : Kind) (few : shape.n ≤ 5) (
 
 -- the views of an attempt that may begin
 pub quorum_there : (c : Change) (shape : Shape) (looked : Looked) → shape.n ≤ 5 → Shown shape.n looked → is_majority shape.n looked.reached ≡ true
-    → carried shape.n (keeps_in shape) (plane_kind c) (views_of looked) (holder (views_of looked)) ≡ true → HasQuorum c shape looked
+    → suffices_by shape.n (keeps_in shape) (plane_kind c) (views_of looked) (holder (views_of looked)) ≡ true → HasQuorum c shape looked
 quorum_there c shape looked few shown reached h =
-    let two = both (is_most shape.n (holder (views_of looked))) _ (subst (λ (kind : Kind). carried shape.n (keeps_in shape) kind (views_of looked) (holder (views_of looked)) ≡ true) (counted_as c) h) in
+    let two = both (is_most shape.n (holder (views_of looked))) _ (subst (λ (kind : Kind). suffices_by shape.n (keeps_in shape) kind (views_of looked) (holder (views_of looked)) ≡ true) (counted_as c) h) in
     record { reached = reached; copies = copies_there shape looked (kind_for c) few shown two.0; clean = clean_there shape looked (kind_for c) few shown two.1 }

@@ -9,7 +9,7 @@ use Rattle.afr_choice.specs.Looks.{no_looks}
 use Rattle.afr_lines.specs.declared.lock.Domain.TheVariants.{Work}
 use Rattle.afr_lines.specs.Areas.{area_for}
 use Rattle.afr_lines.specs.declared.answer.Told.{Told}
-use Rattle.afr_lines.specs.declared.answer.Told.TheVariants as told_of
+use Rattle.afr_lines.specs.declared.answer.Told.TheVariants as as_told
 use Rattle.afr_lines.specs.declared.request.Area.{Area}
 use Rattle.afr_lines.specs.declared.request.Request.{Request}
 use Rattle.afr_lines.specs.declared.request.Request.TheVariants as request
@@ -120,7 +120,7 @@ module _ (change : Change) (r : Register) (b : ℕ) (locked granted : List ℕ) 
   lock_by : (w s : Bool) → (w ≡ true → (s ≡ true) × (r.area ≡ Some (area_for change))) → (w ≡ false → (c : ℕ) → member r.held c ≡ false) → (told : Told)
       → LockKept change (locked_w w s r (area_for change) b told) (added_if (not (is_held told)) b locked) (added_if (is_granted told) b granted)
   lock_by true false own none told = absurd (cc (own refl).0)
-  lock_by true true own none told_of.Granted = record {
+  lock_by true true own none as_told.Granted = record {
     base = record {
       few = base.few;
       outside = base.outside;
@@ -136,7 +136,7 @@ module _ (change : Change) (r : Register) (b : ℕ) (locked granted : List ℕ) 
     };
     locks = rw (k.first, k.open_still) (with_grant (added b r.held) (grant_same r.held k.same));
   }
-  lock_by true true own none told_of.NotConnected = record {
+  lock_by true true own none as_told.NotConnected = record {
     base = record {
       few = base.few;
       outside = base.outside;
@@ -168,7 +168,7 @@ module _ (change : Change) (r : Register) (b : ℕ) (locked granted : List ℕ) 
     };
     locks = rw (k.first, k.open_still) (with_locks r.held (not (is_held told)) k.same);
   }
-  lock_by false s own none told_of.Granted = record {
+  lock_by false s own none as_told.Granted = record {
     base = record {
       few = base.few;
       outside = base.outside;
@@ -184,7 +184,7 @@ module _ (change : Change) (r : Register) (b : ℕ) (locked granted : List ℕ) 
     };
     locks = with_grant (added b []) (grant_same [] (λ c. sym (sym (k.same c) ∙ none refl c)));
   }
-  lock_by false s own none told_of.NotConnected = record {
+  lock_by false s own none as_told.NotConnected = record {
     base = record {
       few = base.few;
       outside = base.outside;
@@ -241,51 +241,51 @@ module _ (change : Change) (r : Register) (b : ℕ) (small : b < r.shape.n) (bas
   -- a look, whether it counts or not
   look_shown : (c : Bool) (told : Told) → Shown r.shape.n (shown_if c r.looked b told)
   look_shown false told = base.shown
-  look_shown true (told_of.Seen view) = shown_look r.shape.n b (Some view) r.looked small base.shown
-  look_shown true told_of.NoObject = shown_look r.shape.n b None r.looked small base.shown
+  look_shown true (as_told.Seen view) = shown_look r.shape.n b (Some view) r.looked small base.shown
+  look_shown true as_told.NoObject = shown_look r.shape.n b None r.looked small base.shown
   look_shown true told = shown_loss r.shape.n b r.looked base.few small base.shown
 
   pub look_base : (g : Gfid) (told : Told) → IsBase change (after_outside r b (request.Look g) told)
-  look_base g told_of.NotConnected = base_shown _ _ _ _ _ _ _ _ _ _ _ _ (base_gone _ _ _ _ _ _ _ _ _ _ _ _ base b) _ (look_shown (counts r b g.0) told_of.NotConnected)
+  look_base g as_told.NotConnected = base_shown _ _ _ _ _ _ _ _ _ _ _ _ (base_gone _ _ _ _ _ _ _ _ _ _ _ _ base b) _ (look_shown (counts r b g.0) as_told.NotConnected)
   look_base g told = base_shown _ _ _ _ _ _ _ _ _ _ _ _ base _ (look_shown (counts r b g.0) told)
 
   pub look_area : (g : Gfid) (told : Told) → (after_outside r b (request.Look g) told).area ≡ r.area
-  look_area g told_of.NotConnected = refl
+  look_area g as_told.NotConnected = refl
   look_area g told = refl
 
   pub pre_base : (g : Gfid) (kind : Kind) (told : Told) → IsBase change (after_outside r b (request.Pre g kind) told)
-  pre_base g kind told_of.Done = base_pre _ _ _ _ _ _ _ _ _ _ _ _ base b true small
-  pre_base g kind told_of.NotConnected = base_gone _ _ _ _ _ _ _ _ _ _ _ _ base b
+  pre_base g kind as_told.Done = base_pre _ _ _ _ _ _ _ _ _ _ _ _ base b true small
+  pre_base g kind as_told.NotConnected = base_gone _ _ _ _ _ _ _ _ _ _ _ _ base b
   pre_base g kind told = base
 
   pub pre_begun : (g : Gfid) (kind : Kind) (told : Told) → HasBegun 2 change r → HasBegun 2 change (after_outside r b (request.Pre g kind) told)
-  pre_begun g kind told_of.NotConnected k = record { number = k.number; is_begun = k.is_begun; open_still = k.open_still; named = k.named; order = omega arith }
+  pre_begun g kind as_told.NotConnected k = record { number = k.number; is_begun = k.is_begun; open_still = k.open_still; named = k.named; order = omega arith }
   pre_begun g kind told k = record { number = k.number; is_begun = k.is_begun; open_still = k.open_still; named = k.named; order = omega arith }
 
   pub apply_base : (q : ℕ) (told : Told) → IsBase change (after_outside r b (request.Apply q) told)
-  apply_base q told_of.Done = base_done _ _ _ _ _ _ _ _ _ _ _ _ base b true small
-  apply_base q told_of.NotConnected = base_gone _ _ _ _ _ _ _ _ _ _ _ _ base b
+  apply_base q as_told.Done = base_done _ _ _ _ _ _ _ _ _ _ _ _ base b true small
+  apply_base q as_told.NotConnected = base_gone _ _ _ _ _ _ _ _ _ _ _ _ base b
   apply_base q told = base
 
   pub apply_begun : (q : ℕ) (told : Told) → HasBegun 3 change r → HasBegun 3 change (after_outside r b (request.Apply q) told)
-  apply_begun q told_of.NotConnected k = record { number = k.number; is_begun = k.is_begun; open_still = k.open_still; named = k.named; order = omega arith }
+  apply_begun q as_told.NotConnected k = record { number = k.number; is_begun = k.is_begun; open_still = k.open_still; named = k.named; order = omega arith }
   apply_begun q told k = record { number = k.number; is_begun = k.is_begun; open_still = k.open_still; named = k.named; order = omega arith }
 
   pub apply_enough : (q : ℕ) (told : Told) (kind : Kind) → enough r kind r.pre ≡ true → enough (after_outside r b (request.Apply q) told) kind (after_outside r b (request.Apply q) told).pre ≡ true
-  apply_enough q told_of.NotConnected kind h = h
+  apply_enough q as_told.NotConnected kind h = h
   apply_enough q told kind h = h
 
   pub post_base : (q : ℕ) (g : Gfid) (kind : Kind) (missed : List ℕ) (told : Told) → IsBase change (after_outside r b (request.Post q g kind missed) told)
-  post_base q g kind missed told_of.NotConnected = base_gone _ _ _ _ _ _ _ _ _ _ _ _ base b
+  post_base q g kind missed as_told.NotConnected = base_gone _ _ _ _ _ _ _ _ _ _ _ _ base b
   post_base q g kind missed told = base
 
   pub post_begun : (q : ℕ) (g : Gfid) (kind : Kind) (missed : List ℕ) (told : Told) → HasBegun 4 change r → HasBegun 4 change (after_outside r b (request.Post q g kind missed) told)
-  post_begun q g kind missed told_of.NotConnected k = record { number = k.number; is_begun = k.is_begun; open_still = k.open_still; named = k.named; order = omega arith }
+  post_begun q g kind missed as_told.NotConnected k = record { number = k.number; is_begun = k.is_begun; open_still = k.open_still; named = k.named; order = omega arith }
   post_begun q g kind missed told k = record { number = k.number; is_begun = k.is_begun; open_still = k.open_still; named = k.named; order = omega arith }
 
   pub post_enough : (q : ℕ) (g : Gfid) (kind : Kind) (missed : List ℕ) (told : Told) (of : Kind) → enough r of r.done ≡ true
       → enough (after_outside r b (request.Post q g kind missed) told) of (after_outside r b (request.Post q g kind missed) told).done ≡ true
-  post_enough q g kind missed told_of.NotConnected of h = h
+  post_enough q g kind missed as_told.NotConnected of h = h
   post_enough q g kind missed told of h = h
 
   abbrev unlocked_w : Bool → Area → Told → Register
@@ -293,8 +293,8 @@ module _ (change : Change) (r : Register) (b : ℕ) (small : b < r.shape.n) (bas
 
   unlock_by : (area : Area) (s : Bool) → s ≡ true → (told : Told) → IsBase change (unlocked_w s area told)
   unlock_by area false e told = absurd (cc e)
-  unlock_by area true e told_of.Done = base_left _ _ _ _ _ _ _ _ _ _ _ _ base b
-  unlock_by area true e told_of.NotConnected = base_gone _ _ _ _ _ _ _ _ _ _ _ _ base b
+  unlock_by area true e as_told.Done = base_left _ _ _ _ _ _ _ _ _ _ _ _ base b
+  unlock_by area true e as_told.NotConnected = base_gone _ _ _ _ _ _ _ _ _ _ _ _ base b
   unlock_by area true e told = base
 
   pub unlock_base : (told : Told) → is_nothing r.held ≡ false → IsBase change (after_outside r b (request.Unlock Work (area_for change)) told)
@@ -303,45 +303,45 @@ module _ (change : Change) (r : Register) (b : ℕ) (small : b < r.shape.n) (bas
 -- ---- what each request leaves of post-op, and of the views
 module _ (change : Change) (r : Register) (b : ℕ) where
   posts_lock_by : (area : Area) (w s : Bool) (told : Told) → r.post ≡ [] → (locked_w w s r area b told).post ≡ []
-  posts_lock_by area true true told_of.Granted e = e
-  posts_lock_by area true true told_of.NotConnected e = e
+  posts_lock_by area true true as_told.Granted e = e
+  posts_lock_by area true true as_told.NotConnected e = e
   posts_lock_by area true true told e = e
-  posts_lock_by area true false told_of.Granted e = e
-  posts_lock_by area true false told_of.NotConnected e = e
+  posts_lock_by area true false as_told.Granted e = e
+  posts_lock_by area true false as_told.NotConnected e = e
   posts_lock_by area true false told e = e
-  posts_lock_by area false s told_of.Granted e = refl
-  posts_lock_by area false s told_of.NotConnected e = refl
+  posts_lock_by area false s as_told.Granted e = refl
+  posts_lock_by area false s as_told.NotConnected e = refl
   posts_lock_by area false s told e = refl
 
   pub posts_lock : (area : Area) (told : Told) → r.post ≡ [] → (after_outside r b (request.Lock Work area) told).post ≡ []
   posts_lock area told e = posts_lock_by area (busy r.shape.n (seen_as r).law) (is_area r.area area) told e
 
   pub posts_look : (g : Gfid) (told : Told) → r.post ≡ [] → (after_outside r b (request.Look g) told).post ≡ []
-  posts_look g told_of.NotConnected e = e
+  posts_look g as_told.NotConnected e = e
   posts_look g told e = e
 
   abbrev pub Quorum : Register → Type 0
   Quorum q = HasQuorum change q.shape q.looked
 
   pub quorum_pre : (g : Gfid) (kind : Kind) (told : Told) → Quorum r → Quorum (after_outside r b (request.Pre g kind) told)
-  quorum_pre g kind told_of.NotConnected h = h
+  quorum_pre g kind as_told.NotConnected h = h
   quorum_pre g kind told h = h
 
   pub quorum_apply : (q : ℕ) (told : Told) → Quorum r → Quorum (after_outside r b (request.Apply q) told)
-  quorum_apply q told_of.NotConnected h = h
+  quorum_apply q as_told.NotConnected h = h
   quorum_apply q told h = h
 
   pub quorum_post : (q : ℕ) (g : Gfid) (kind : Kind) (missed : List ℕ) (told : Told) → Quorum r → Quorum (after_outside r b (request.Post q g kind missed) told)
-  quorum_post q g kind missed told_of.NotConnected h = h
+  quorum_post q g kind missed as_told.NotConnected h = h
   quorum_post q g kind missed told h = h
 
   abbrev released_w : Bool → Area → Told → Register
   released_w s area told = after_by (noted_outside r b (request.Unlock Work area) told) (if is_done told then (if s then record r { held = removed b r.held } else record r { second_held = second_left r area b }) else r) b told
 
   posted_unlock_by : (area : Area) (s : Bool) (told : Told) → (r.post ≡ []) ⊎ Quorum r → ((released_w s area told).post ≡ []) ⊎ Quorum (released_w s area told)
-  posted_unlock_by area true told_of.Done h = h
-  posted_unlock_by area false told_of.Done h = h
-  posted_unlock_by area s told_of.NotConnected h = h
+  posted_unlock_by area true as_told.Done h = h
+  posted_unlock_by area false as_told.Done h = h
+  posted_unlock_by area s as_told.NotConnected h = h
   posted_unlock_by area s told h = h
 
   pub posted_unlock : (area : Area) (told : Told) → (r.post ≡ []) ⊎ Quorum r → ((after_outside r b (request.Unlock Work area) told).post ≡ []) ⊎ Quorum (after_outside r b (request.Unlock Work area) told)

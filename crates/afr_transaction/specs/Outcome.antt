@@ -9,12 +9,12 @@ use Rattle.afr_lines.specs.declared.reply.Good.TheVariants as good
 use Rattle.afr_lines.specs.declared.reply.Reply.{Reply}
 use Rattle.afr_lines.specs.declared.reply.Reply.TheVariants as reply
 use Rattle.afr_discipline.specs.declared.register.Register.{Register}
-use Rattle.afr_transaction.specs.declared.reply.Outcome.{Outcome}
-use Rattle.afr_transaction.specs.declared.reply.Outcome.TheVariants.{Acknowledged, NoQuorum, FewCopies, SplitBrain, Failed}
+use Rattle.afr_transaction.specs.declared.reply.TransactionOutcome.{TransactionOutcome}
+use Rattle.afr_transaction.specs.declared.reply.TransactionOutcome.TheVariants.{Acknowledged, NoQuorum, FewCopies, SplitBrain, Failed}
 
 -- fewer than a majority were locked and answered the lookup; fewer than a majority have a copy; no copy is good; a
 -- majority has done post-op; or too few bricks have done a phase
-abbrev pub outcome_of : Change → Register → Outcome
+abbrev pub outcome_of : Change → Register → TransactionOutcome
 outcome_of change r =
     if not (is_majority r.shape.n r.looked.reached) then NoQuorum
     else (if not (is_majority r.shape.n (holders_of r.looked)) then FewCopies
@@ -22,7 +22,7 @@ outcome_of change r =
     else (if is_majority r.shape.n r.post then Acknowledged else Failed)))
 
 -- the reply of a work that is one transaction
-abbrev pub reply_for : Outcome → Reply
+abbrev pub reply_for : TransactionOutcome → Reply
 reply_for Acknowledged = reply.Ok good.Done
 reply_for NoQuorum = reply.NoQuorum
 reply_for FewCopies = reply.FewCopies

@@ -17,7 +17,7 @@ use Rattle.afr_discipline.specs.declared.register.Step.{Step}
 use Rattle.afr_discipline.specs.declared.register.Step.TheVariants as step
 use Rattle.afr_transaction.specs.declared.stage.Stage.{Stage}
 use Rattle.afr_transaction.specs.declared.stage.Stage.TheVariants.{Locking, Looking, Beginning, Preparing, Applying, Posting, Closing}
-use Rattle.afr_transaction.specs.Progress.{Progress, left, enough, may_start}
+use Rattle.afr_transaction.specs.Progress.{TransactionProgress, left, enough, may_start}
 
 -- a change whose area is one, of its kind
 pub record Suits (change : Change) : Type 0 where
@@ -78,7 +78,7 @@ abbrev pub HasBegun : ℕ → Change → Register → Type 0
 HasBegun most change r = OnAttempt most change r.begun r.unlocked r.area r.step
 
 -- what is known at each stage
-abbrev pub During : Stage → Progress → Type 0
+abbrev pub During : Stage → TransactionProgress → Type 0
 During Locking m = OnLocks m.register.shape.n m.register.begun m.register.unlocked m.register.held m.asked.lock_asked m.asked.locked_on × (m.asked.looked_at ≡ [])
 During Looking m = OnLooks m.register.shape.n m.register.area m.change m.asked.locked_on
 During Beginning m = (m.register.area ≡ Some (area_for m.change)) × (may_start m.register m.change ≡ true)
@@ -94,7 +94,7 @@ pub record HasQuorum (change : Change) (shape : Shape) (looked : Looked) : Type 
   pub clean : is_nothing (good_copies shape looked (kind_for change)) ≡ false
 
 -- post-op was done nowhere before a Begin, and an attempt begins only where the views allow it
-abbrev pub Posted : Stage → Progress → Type 0
+abbrev pub Posted : Stage → TransactionProgress → Type 0
 Posted Preparing m = HasQuorum m.change m.register.shape m.register.looked
 Posted Applying m = HasQuorum m.change m.register.shape m.register.looked
 Posted Posting m = HasQuorum m.change m.register.shape m.register.looked
@@ -102,18 +102,18 @@ Posted Closing m = (m.register.post ≡ []) ⊎ HasQuorum m.change m.register.sh
 Posted stage m = m.register.post ≡ []
 
 -- somebody is left to ask
-abbrev pub Ready : Stage → Progress → Type 0
+abbrev pub Ready : Stage → TransactionProgress → Type 0
 Ready Beginning m = Unit {0}
 Ready Closing m = Unit {0}
 Ready stage m = is_nothing (left stage m) ≡ false
 
 -- the next line is a request
-abbrev pub IsAsking : Stage → Progress → Type 0
+abbrev pub IsAsking : Stage → TransactionProgress → Type 0
 IsAsking Beginning m = ⊥
 IsAsking stage m = is_nothing (left stage m) ≡ false
 
 -- what a transaction keeps at every moment
-pub record Sound (m : Progress) : Type 0 where
+pub record Sound (m : TransactionProgress) : Type 0 where
   pub suits : Suits m.change
   pub base : IsBase m.change m.register
   pub during : During m.stage m

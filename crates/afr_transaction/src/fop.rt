@@ -7,7 +7,7 @@ ghost use Rattle.afr_transaction.specs.Progress.{enough, number_in};
 
 use crate::change::kind_of;
 use afr_base::BrickSet;
-use afr_discipline::{Register, Step, asked_at, begun, is_carried};
+use afr_discipline::{Register, Step, asked_at, begun, suffices};
 use afr_lines::Request;
 use afr_object::Change;
 
@@ -41,5 +41,5 @@ pub(crate) fn is_fop_done(change: &Change, r: &Register) -> bool
     requires { r.now.shape.n ≤ 5 }
     ensures { result ≡ enough r.now (kind_for change.now) r.now.done }
 {
-    is_carried(r.shape, &r.looked, kind_of(change), r.done)
+    suffices(r.shape, &r.looked, kind_of(change), r.done)
 }

@@ -16,5 +16,5 @@ mod unlock;
 pub use change::{area_of, has_area, object_of};
 pub use laws::{a_transaction_stays_sound, a_turn_keeps_the_discipline};
 pub use machine::Transaction;
-pub use reply::Outcome;
-pub use stage::{Asked, Stage};
+pub use reply::TransactionOutcome;
+pub use stage::{LocksAndLooks, Stage};

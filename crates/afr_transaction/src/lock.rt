@@ -7,13 +7,13 @@ ghost use Rattle.afr_transaction.specs.Progress.{asked_by};
 ghost use Rattle.afr_transaction.specs.declared.stage.Stage.{Stage};
 
 use crate::change::area_of;
-use crate::stage::Asked;
+use crate::stage::LocksAndLooks;
 use afr_base::{BrickId, BrickSet};
 use afr_lines::{Domain, Request, Told};
 use afr_object::Change;
 
 /// The bricks whose lock is still to be asked for.
-pub(crate) fn to_lock(n: u8, asked: &Asked) -> BrickSet
+pub(crate) fn to_lock(n: u8, asked: &LocksAndLooks) -> BrickSet
     requires { n ≤ 5 }
     ensures { result ≡ minus (below n) asked.now.lock_asked }
 {
@@ -30,11 +30,11 @@ pub(crate) fn lock_request(change: &Change) -> Request
 }
 
 /// A brick has answered its lock.
-pub(crate) fn lock_told(b: BrickId, told: &Told, asked: &Asked) -> Asked
+pub(crate) fn lock_told(b: BrickId, told: &Told, asked: &LocksAndLooks) -> LocksAndLooks
     requires { b.0 < 5 }
     ensures { result ≡ asked_by Stage.Locking b.0 told.now asked.now }
 {
-    Asked {
+    LocksAndLooks {
         lock_asked: asked.lock_asked.with_if(!is_held(told), b),
         locked_on: asked.locked_on.with_if(is_granted(told), b),
         looked_at: asked.looked_at,

@@ -8,12 +8,12 @@ ghost use Rattle.afr_moves.specs.Register.{span};
 ghost use Rattle.afr_transaction.specs.Between.{given_up, is_read, noted_read};
 ghost use Rattle.afr_transaction.specs.Made.{attempted};
 ghost use Rattle.afr_transaction.specs.Outcome.{outcome_of};
-ghost use Rattle.afr_transaction.specs.Progress.{CarriesAt, Progress, allowed, answered, asks, begun, fed, is_beginning, is_over, left, next_at, request_at, starting};
+ghost use Rattle.afr_transaction.specs.Progress.{CarriesAt, TransactionProgress, allowed, answered, asks, begun, fed, is_beginning, is_over, left, next_at, request_at, starting};
 ghost use Rattle.afr_transaction.specs.Sound.{IsAsking, IsUnused, Sound, Suits};
 
 use crate::change::{made_by, numbered};
-use crate::reply::{Outcome, outcome_of, reply_for};
-use crate::stage::{Asked, Stage, after, asked_after, left_of, request_of};
+use crate::reply::{TransactionOutcome, outcome_of, reply_for};
+use crate::stage::{LocksAndLooks, Stage, after, asked_after, left_of, request_of};
 use afr_base::{BrickId, BrickSet, NoMemory, Shape};
 use afr_discipline::{Move, Register, fresh, note};
 use afr_lines::{Next, Request, Told};
@@ -29,14 +29,14 @@ pub struct Transaction {
     made: Option<Change>,
     register: Register,
     stage: Stage,
-    asked: Asked,
+    asked: LocksAndLooks,
 }
 
 impl Model for Transaction {
-    ghost use Rattle.afr_transaction.specs.Progress.{Progress};
+    ghost use Rattle.afr_transaction.specs.Progress.{TransactionProgress};
     ghost use Rattle.afr_transaction.specs.Made.{IsTransaction};
 
-    ghost Value = { Progress };
+    ghost Value = { TransactionProgress };
 
     ghost view = { λ m. record { change = m.change; register = m.register; stage = m.stage; asked = m.asked } };
 
@@ -67,7 +67,7 @@ impl Transaction {
             made: None,
             register,
             stage: Stage::Locking,
-            asked: Asked {
+            asked: LocksAndLooks {
                 lock_asked: BrickSet::none(),
                 locked_on: BrickSet::none(),
                 looked_at: BrickSet::none(),
@@ -180,7 +180,7 @@ impl Transaction {
     }
 
     /// What the bricks have done so far comes to; where the transaction is over, what it ends with.
-    pub fn outcome(&self) -> Outcome
+    pub fn outcome(&self) -> TransactionOutcome
         ensures { result ≡ outcome_of self.now.change self.now.register }
     {
         outcome_of(&self.change, &self.register)

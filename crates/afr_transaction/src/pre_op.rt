@@ -10,7 +10,7 @@ ghost use Rattle.afr_transaction.specs.Progress.{enough};
 use crate::change::{kind_of, object_of};
 use afr_base::BrickSet;
 use afr_choice::holders;
-use afr_discipline::{Register, Step, asked_at, is_carried};
+use afr_discipline::{Register, Step, asked_at, suffices};
 use afr_lines::Request;
 use afr_object::Change;
 
@@ -35,5 +35,5 @@ pub(crate) fn is_pre_op_done(change: &Change, r: &Register) -> bool
     requires { r.now.shape.n ≤ 5 }
     ensures { result ≡ enough r.now (kind_for change.now) r.now.pre }
 {
-    is_carried(r.shape, &r.looked, kind_of(change), r.pre)
+    suffices(r.shape, &r.looked, kind_of(change), r.pre)
 }

@@ -12,7 +12,7 @@ use std::alloc::Global;
 
 /// How a transaction ends.
 #[derive(Clone, Copy, Debug)]
-pub enum Outcome {
+pub enum TransactionOutcome {
     /// A majority has done post-op.
     Acknowledged,
     /// Fewer than a majority answered the locks and the lookup.
@@ -26,33 +26,33 @@ pub enum Outcome {
 }
 
 /// The outcome, by the sets of the register, in the order of the table of replies.
-pub(crate) fn outcome_of(change: &Change, r: &Register) -> Outcome
+pub(crate) fn outcome_of(change: &Change, r: &Register) -> TransactionOutcome
     requires { r.now.shape.n ≤ 5 }
     ensures { result ≡ outcome_of change.now r.now }
 {
     let n = r.shape.n;
     if !r.looked.reached.has_quorum(n) {
-        Outcome::NoQuorum
+        TransactionOutcome::NoQuorum
     } else if !holders(&r.looked).has_quorum(n) {
-        Outcome::FewCopies
+        TransactionOutcome::FewCopies
     } else if good(&r.shape, &r.looked, kind_of(change)).is_empty() {
-        Outcome::SplitBrain(r.looked.views)
+        TransactionOutcome::SplitBrain(r.looked.views)
     } else if r.post.has_quorum(n) {
-        Outcome::Acknowledged
+        TransactionOutcome::Acknowledged
     } else {
-        Outcome::Failed
+        TransactionOutcome::Failed
     }
 }
 
 /// The reply of a work that is one transaction.
-pub(crate) fn reply_for(alloc: Global, outcome: &Outcome) -> Result<Reply, NoMemory>
+pub(crate) fn reply_for(alloc: Global, outcome: &TransactionOutcome) -> Result<Reply, NoMemory>
     ensures { IfOk result (λ reply. reply ≡ reply_for outcome.now) }
 {
     match outcome {
-        Outcome::Acknowledged => Ok(Reply::Ok(Good::Done)),
-        Outcome::NoQuorum => Ok(Reply::NoQuorum),
-        Outcome::FewCopies => Ok(Reply::FewCopies),
-        Outcome::SplitBrain(views) => Ok(Reply::SplitBrain(Views::new(alloc, views)?)),
-        Outcome::Failed => Ok(Reply::Failed),
+        TransactionOutcome::Acknowledged => Ok(Reply::Ok(Good::Done)),
+        TransactionOutcome::NoQuorum => Ok(Reply::NoQuorum),
+        TransactionOutcome::FewCopies => Ok(Reply::FewCopies),
+        TransactionOutcome::SplitBrain(views) => Ok(Reply::SplitBrain(Views::new(alloc, views)?)),
+        TransactionOutcome::Failed => Ok(Reply::Failed),
     }
 }

@@ -35,7 +35,7 @@ pub enum Stage {
 
 /// The bricks that were asked for locks and lookups; of the later phases the register knows.
 #[derive(Clone, Copy)]
-pub struct Asked {
+pub struct LocksAndLooks {
     /// Asked for the lock, and not told that another actor holds it.
     pub lock_asked: BrickSet,
     /// Where the lock was granted.
@@ -45,7 +45,7 @@ pub struct Asked {
 }
 
 /// Who is still to be asked.
-pub(crate) fn left_of(stage: Stage, r: &Register, asked: &Asked) -> BrickSet
+pub(crate) fn left_of(stage: Stage, r: &Register, asked: &LocksAndLooks) -> BrickSet
     requires { r.now.shape.n ≤ 5 }
     ensures { result ≡ left_in stage r.now asked.now }
 {
@@ -77,7 +77,12 @@ pub(crate) fn request_of(stage: Stage, change: &Change, r: &Register) -> Request
 }
 
 /// Who was asked, with the brick that has answered now.
-pub(crate) fn asked_after(stage: Stage, b: BrickId, told: &Told, asked: &Asked) -> Asked
+pub(crate) fn asked_after(
+    stage: Stage,
+    b: BrickId,
+    told: &Told,
+    asked: &LocksAndLooks,
+) -> LocksAndLooks
     requires { b.0 < 5 }
     ensures { result ≡ asked_by stage b.0 told.now asked.now }
 {
@@ -99,7 +104,7 @@ fn choose(enough: bool, stage: Stage) -> Stage
 }
 
 /// The next stage, where nobody is left to ask.
-fn go_on(stage: Stage, change: &Change, r: &Register, asked: &Asked) -> Stage
+fn go_on(stage: Stage, change: &Change, r: &Register, asked: &LocksAndLooks) -> Stage
     requires few { r.now.shape.n ≤ 5 }
     requires outside { r.now.inside ≡ false }
     ensures { result ≡ gone_on stage change.now r.now asked.now }
@@ -116,7 +121,7 @@ fn go_on(stage: Stage, change: &Change, r: &Register, asked: &Asked) -> Stage
 }
 
 /// The stage after an answer.
-pub(crate) fn after(stage: Stage, change: &Change, r: &Register, asked: &Asked) -> Stage
+pub(crate) fn after(stage: Stage, change: &Change, r: &Register, asked: &LocksAndLooks) -> Stage
     requires few { r.now.shape.n ≤ 5 }
     requires outside { r.now.inside ≡ false }
     ensures { result ≡ after stage (record { change = change.now; register = r.now; stage = stage; asked = asked.now }) }

@@ -21,7 +21,7 @@ use Rattle.afr_discipline.specs.declared.register.Step.TheVariants.{Posts}
 use Rattle.afr_plan.specs.declared.command.Command.{Command}
 use Rattle.afr_plan.specs.declared.plan.Plan.{Plan}
 use Rattle.afr_transaction.specs.Outcome.{reply_of}
-use Rattle.afr_transaction.specs.Progress.{Progress, allowed, asks, left, next_at, number_in, numbered}
+use Rattle.afr_transaction.specs.Progress.{TransactionProgress, allowed, asks, left, next_at, number_in, numbered}
 use Rattle.afr_transaction.specs.Sound.{Ready, Sound}
 use Rattle.afr_transaction.specs.declared.stage.Stage.{Stage}
 use Rattle.afr_transaction.specs.declared.stage.Stage.TheVariants.{Locking, Looking, Beginning, Preparing, Applying, Posting, Closing}
@@ -41,7 +41,7 @@ use Rattle.afr_transaction_tells.proofs.Small.{object_named, numbered_kind, numb
 just : {A : Type 0} → (x y : A) → Some x ≡ Some y → x ≡ y
 just x y e = cc e
 
-module _ (p : Plan) (w : Work) (m : Progress) (s : Sound m) (t : Tells p w m) where
+module _ (p : Plan) (w : Work) (m : TransactionProgress) (s : Sound m) (t : Tells p w m) where
   -- what the locks and looks allow, nothing of theirs refuses
   pub passes : AreAllowed p.shape m.change w → by_locks p.shape (kind_for m.change) (area_for m.change) w ≡ None
   passes k = rw (object_named m.change, k.majority, k.quorum.reached, k.quorum.copies, k.quorum.clean) refl

@@ -18,7 +18,7 @@ use Rattle.afr_moves.specs.Register.{is_on}
 use Rattle.afr_discipline.specs.Notes.{asked_at, counts, noted_ask, shown}
 use Rattle.afr_discipline.specs.declared.register.Register.{Register}
 use Rattle.afr_discipline.specs.declared.register.Step.TheVariants as step
-use Rattle.afr_transaction.specs.Progress.{Progress, answered, answered_by, begun, left, number_in, numbered, request_at}
+use Rattle.afr_transaction.specs.Progress.{TransactionProgress, answered, answered_by, begun, left, number_in, numbered, request_at}
 use Rattle.afr_transaction.specs.Sound as sound
 use Rattle.afr_transaction.specs.Sound.{IsAsking, IsBase, Posted, Sound}
 use Rattle.afr_transaction.specs.declared.stage.Stage.{Stage}
@@ -33,7 +33,7 @@ use Rattle.afr_transaction_tells.proofs.GoneOn.{gone_locks, gone_looks, gone_pre
 use Rattle.afr_transaction_tells.proofs.Leaves.{Leaves, LeavesAll, lock_leaves, look_counts, look_leaves, look_holds, look_still, pre_leaves, pre_asks, pre_before, apply_leaves, apply_asks, apply_before, post_leaves, post_asks, unlock_leaves}
 use Rattle.afr_transaction_tells.proofs.Small.{area_self, done_told, granted_told, held_told, marked_new, no_number, number_named, object_named, self, shown_told}
 
-module _ (p : Plan) (w : Work) (m : Progress) (a : ActorId) (told : Told) (took : Bool) (older : List Line) (s : Sound m) (t : Tells p w m) where
+module _ (p : Plan) (w : Work) (m : TransactionProgress) (a : ActorId) (told : Told) (took : Bool) (older : List Line) (s : Sound m) (t : Tells p w m) where
   abbrev r : Register
   r = m.register
 
@@ -43,7 +43,7 @@ module _ (p : Plan) (w : Work) (m : Progress) (a : ActorId) (told : Told) (took 
   abbrev noted_at : Stage → Register
   noted_at stage = noted_ask r (length older) (brick stage) (request_at stage m) told
 
-  abbrev told_at : Stage → Progress
+  abbrev told_at : Stage → TransactionProgress
   told_at stage = answered_by stage (brick stage) told (length older) m
 
   abbrev more : Stage → Work

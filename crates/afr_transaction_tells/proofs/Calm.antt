@@ -13,7 +13,7 @@ use Rattle.afr_lines.specs.declared.line.Next.TheVariants as next
 use Rattle.afr_lines.specs.declared.request.Request.{Request}
 use Rattle.afr_lines.specs.declared.request.Request.TheVariants as request
 use Rattle.afr_transaction.specs.Outcome.{reply_of}
-use Rattle.afr_transaction.specs.Progress.{Progress, asks, next_at}
+use Rattle.afr_transaction.specs.Progress.{TransactionProgress, asks, next_at}
 use Rattle.afr_transaction.specs.declared.stage.Stage.{Stage}
 use Rattle.afr_transaction.specs.declared.stage.Stage.TheVariants.{Locking, Looking, Beginning, Preparing, Applying, Posting, Closing}
 use Rattle.afr_transaction.proofs.Parts.{no_or}
@@ -66,7 +66,7 @@ abbrev NextBegun : Work → Next → Type 0
 NextBegun w (next.Ask b asked) = ComesBegun asked w
 NextBegun w line = Unit {0}
 
-module _ (p : Plan) (w : Work) (m : Progress) (t : Tells p w m) where
+module _ (p : Plan) (w : Work) (m : TransactionProgress) (t : Tells p w m) where
   begun_end : (e : Bool) → NextBegun w (if e then next.End (reply_of m.change m.register) else asks Closing m)
   begun_end true = tt
   begun_end false = tt

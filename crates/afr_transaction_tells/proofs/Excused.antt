@@ -15,7 +15,7 @@ use Rattle.afr_lines.specs.Areas.{object_of_area}
 use Rattle.afr_lines.specs.Overlap.{same_area}
 use Rattle.afr_lines.specs.Work.{Work}
 use Rattle.afr_lines.specs.declared.answer.Told.{Told}
-use Rattle.afr_lines.specs.declared.answer.Told.TheVariants as told_of
+use Rattle.afr_lines.specs.declared.answer.Told.TheVariants as as_told
 use Rattle.afr_lines.specs.declared.line.Line.{Line}
 use Rattle.afr_lines.specs.declared.line.Line.TheVariants.{Ask, Begin}
 use Rattle.afr_lines.specs.declared.request.Area.{Area}
@@ -52,12 +52,12 @@ missing_grows g line s c m = m
 
 -- a fault is missed whatever it was asked for, and that the object isn't there where it was looked at
 pub fault_misses : (g : Gfid) (r : Request) (told : Told) → is_fault told ≡ true → misses g r told ≡ true
-fault_misses g (request.Look h) told_of.NoObject e = absurd (cc e)
+fault_misses g (request.Look h) as_told.NoObject e = absurd (cc e)
 fault_misses g (request.Look h) told e = e
 fault_misses g r told e = e
 
 look_misses : (g h : Gfid) (told : Told) → (h.0 == g.0) ≡ true → is_miss told ≡ true → misses g (request.Look h) told ≡ true
-look_misses g h told_of.NoObject same e = same
+look_misses g h as_told.NoObject same e = same
 look_misses g h told same e = e
 
 -- the lines since the first lock, with one more
@@ -137,18 +137,18 @@ lock_excused area a b r told took asked got was now fits grows new k = λ c m n.
 
 -- what a look shows of the brick, and of the others
 look_shows_it : (b : ℕ) (told : Told) (looked : Looked) → b < length looked.views → is_holder (look_shows b told looked) b ≡ is_seen told
-look_shows_it b (told_of.Seen view) looked small = holder_after_look b (Some view) looked small
-look_shows_it b told_of.NoObject looked small = holder_after_look b None looked small
+look_shows_it b (as_told.Seen view) looked small = holder_after_look b (Some view) looked small
+look_shows_it b as_told.NoObject looked small = holder_after_look b None looked small
 look_shows_it b told looked small = holder_after_loss b looked
 
 look_shows_others : (b c : ℕ) (told : Told) (looked : Looked) → c ≢ b → is_holder (look_shows b told looked) c ≡ is_holder looked c
-look_shows_others b c (told_of.Seen view) looked other = holder_after_other_look b c (Some view) looked other
-look_shows_others b c told_of.NoObject looked other = holder_after_other_look b c None looked other
+look_shows_others b c (as_told.Seen view) looked other = holder_after_other_look b c (Some view) looked other
+look_shows_others b c as_told.NoObject looked other = holder_after_other_look b c None looked other
 look_shows_others b c told looked other = holder_after_other_loss b c looked other
 
 look_shows_five : (b : ℕ) (told : Told) (looked : Looked) → length (look_shows b told looked).views ≡ length looked.views
-look_shows_five b (told_of.Seen view) looked = length_after_look b (Some view) looked
-look_shows_five b told_of.NoObject looked = length_after_look b None looked
+look_shows_five b (as_told.Seen view) looked = length_after_look b (Some view) looked
+look_shows_five b as_told.NoObject looked = length_after_look b None looked
 look_shows_five b told looked = length_after_loss b looked
 
 -- there are five places for views

@@ -7,7 +7,7 @@ use Rattle.afr_lines.specs.declared.line.Line.TheVariants.{Ask}
 use Rattle.afr_lines.specs.declared.request.Area.{Area}
 use Rattle.afr_lines.specs.declared.request.Request.TheVariants as request
 use Rattle.afr_lines.specs.declared.lock.Domain.TheVariants.{Work as WorkDomain}
-use Rattle.afr_transaction.specs.declared.stage.Asked.{Asked}
+use Rattle.afr_transaction.specs.declared.stage.LocksAndLooks.{LocksAndLooks}
 use Rattle.afr_transaction.specs.declared.stage.Stage.{Stage}
 use Rattle.afr_transaction.proofs.Parts.{no_or}
 use Rattle.afr_model.specs.Showing.{among, has}
@@ -45,8 +45,8 @@ pub tells_first : TellsFirst
 tells_first p w m k = record {
   shape_is = k.shape_is;
   sets = record {
-    asked = of_nobody (λ (asked : Asked). asked.lock_asked ≡ []) refl ∙ sym (none_asked (area_for m.change) w k.unlocked);
-    granted = of_nobody (λ (asked : Asked). asked.locked_on ≡ []) refl ∙ sym (none_granted (area_for m.change) w k.unlocked);
+    asked = of_nobody (λ (asked : LocksAndLooks). asked.lock_asked ≡ []) refl ∙ sym (none_asked (area_for m.change) w k.unlocked);
+    granted = of_nobody (λ (asked : LocksAndLooks). asked.locked_on ≡ []) refl ∙ sym (none_granted (area_for m.change) w k.unlocked);
     prepared = k.no_pre ∙ sym k.idle.no_pre_did;
     applied = k.no_apply ∙ sym k.idle.no_apply_did;
     posted = k.no_post ∙ sym k.idle.no_post_did;
@@ -56,10 +56,10 @@ tells_first p w m k = record {
   during = subst (λ (stage : Stage). During stage p.shape m w) (sym k.stage_is) (record {
     idle = k.idle;
     shows = k.unseen;
-    at = of_nobody (λ (asked : Asked). asked.looked_at ≡ []) refl;
+    at = of_nobody (λ (asked : LocksAndLooks). asked.looked_at ≡ []) refl;
     unseen = λ any. absurd (cc (any, k.unlocked));
   });
 }
   where
-    of_nobody : (P : Asked → Type 0) → P (record { lock_asked = []; locked_on = []; looked_at = [] }) → P m.asked
+    of_nobody : (P : LocksAndLooks → Type 0) → P (record { lock_asked = []; locked_on = []; looked_at = [] }) → P m.asked
     of_nobody P h = subst P (sym k.nobody) h

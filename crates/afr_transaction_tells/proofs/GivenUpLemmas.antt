@@ -17,7 +17,7 @@ use Rattle.afr_discipline.specs.declared.register.Register.{Register}
 use Rattle.afr_plan.specs.declared.command.Command.{Command}
 use Rattle.afr_plan.specs.declared.plan.Plan.{Plan}
 use Rattle.afr_transaction.specs.Outcome.{reply_of}
-use Rattle.afr_transaction.specs.Progress.{Progress, answered_by, asks, fed, is_beginning, left, next_at, on_stage, request_at}
+use Rattle.afr_transaction.specs.Progress.{TransactionProgress, answered_by, asks, fed, is_beginning, left, next_at, on_stage, request_at}
 use Rattle.afr_transaction.specs.Sound.{Sound}
 use Rattle.afr_transaction.specs.declared.stage.Stage.{Stage}
 use Rattle.afr_transaction.specs.declared.stage.Stage.TheVariants.{Beginning, Closing}
@@ -43,11 +43,11 @@ gives_up p w m at s t = (
 )
 
 -- ---- its unlocks
-module _ (p : Plan) (w : Work) (m : Progress) (a : ActorId) (told : Told) (older : List Line) (s : Sound m) (k : GaveUp p w m) where
+module _ (p : Plan) (w : Work) (m : TransactionProgress) (a : ActorId) (told : Told) (older : List Line) (s : Sound m) (k : GaveUp p w m) where
   abbrev brick : ℕ
   brick = lowest (left Closing m)
 
-  abbrev x : Progress
+  abbrev x : TransactionProgress
   x = answered_by Closing brick told (length older) m
 
   abbrev more : Bool → Work
@@ -104,7 +104,7 @@ given_up_about p c w m a told line older k is = go m.stage k.closing is
     go stage e is = absurd (cc e)
 
 -- ---- its end
-module _ (p : Plan) (w : Work) (m : Progress) (t : Tells p w (on_stage Beginning m)) where
+module _ (p : Plan) (w : Work) (m : TransactionProgress) (t : Tells p w (on_stage Beginning m)) where
   -- what the locks and looks allow, nothing of theirs refuses
   passes : by_locks p.shape (kind_for m.change) (area_for m.change) w ≡ None
   passes = let k = t.during.allows in rw (object_named m.change, k.majority, k.quorum.reached, k.quorum.copies, k.quorum.clean) refl

@@ -14,9 +14,9 @@ use Rattle.afr_moves.specs.Keeps.{keeps_in}
 use Rattle.afr_moves.specs.Register.{holder}
 use Rattle.afr_discipline.specs.Notes.{asked_at}
 use Rattle.afr_discipline.specs.Stands.{views_of}
-use Rattle.afr_discipline.specs.Tests.{carried}
+use Rattle.afr_discipline.specs.Tests.{suffices_by}
 use Rattle.afr_discipline.specs.declared.register.Step.TheVariants.{Pres, Applies, Posts}
-use Rattle.afr_transaction.specs.Progress.{Progress, left, gone_on, after, on_stage, enough, may_start}
+use Rattle.afr_transaction.specs.Progress.{TransactionProgress, left, gone_on, after, on_stage, enough, may_start}
 use Rattle.afr_transaction.specs.Sound as sound
 use Rattle.afr_transaction.specs.Sound.{HasQuorum, IsBase}
 use Rattle.afr_transaction.specs.declared.stage.Stage.{Stage}
@@ -30,7 +30,7 @@ use Rattle.afr_transaction_tells.specs.Tells.{During, HasSets, IsAlone, IsUnder,
 use Rattle.afr_transaction_tells.proofs.Small.{no_number}
 use Rattle.afr_transaction_tells.proofs.Views.{same_enough}
 
-module _ (p : Plan) (w : Work) (x : Progress) (shape_is : x.register.shape ≡ p.shape) (sets : HasSets x w) (alone : IsAlone p.shape.n (object_of x.change) (area_for x.change) w) (base : IsBase x.change x.register) where
+module _ (p : Plan) (w : Work) (x : TransactionProgress) (shape_is : x.register.shape ≡ p.shape) (sets : HasSets x w) (alone : IsAlone p.shape.n (object_of x.change) (area_for x.change) w) (base : IsBase x.change x.register) where
   few : p.shape.n ≤ 5
   few = subst (λ (shape : Shape). shape.n ≤ 5) shape_is base.few
 
@@ -85,7 +85,7 @@ module _ (p : Plan) (w : Work) (x : Progress) (shape_is : x.register.shape ≡ p
 
       quorum : may_start x.register x.change ≡ true → HasQuorum x.change x.register.shape x.register.looked
       quorum f =
-          let split = both _ (carried x.register.shape.n (keeps_in x.register.shape) (plane_kind x.change) (views_of x.register.looked) (holder (views_of x.register.looked))) f in
+          let split = both _ (suffices_by x.register.shape.n (keeps_in x.register.shape) (plane_kind x.change) (views_of x.register.looked) (holder (views_of x.register.looked))) f in
           quorum_there x.change x.register.shape x.register.looked base.few base.shown (both _ (is_majority x.register.shape.n x.register.looked.reached) split.0).1 split.1
 
       start : is_nothing (left Looking x) ≡ true → (f : Bool) → may_start x.register x.change ≡ f → Tells p w (on_stage (if f then Beginning else Closing) x)

@@ -9,27 +9,27 @@ use Rattle.afr_object.specs.Object.{Object}
 use Rattle.afr_lines.specs.Log.{change_at}
 use Rattle.afr_lines.specs.Told.{told_by}
 use Rattle.afr_lines.specs.declared.answer.Told.{Told}
-use Rattle.afr_lines.specs.declared.answer.Told.TheVariants as told_of
+use Rattle.afr_lines.specs.declared.answer.Told.TheVariants as as_told
 use Rattle.afr_lines.specs.declared.line.Line.{Line}
 use Rattle.afr_lines.specs.declared.line.Line.TheVariants.{Ask}
 use Rattle.afr_lines.specs.declared.request.Request.{Request}
 use Rattle.afr_lines.specs.declared.request.Request.TheVariants as request
 use Rattle.afr_plan.specs.declared.plan.Plan.{Plan}
-use Rattle.afr_model.specs.Honest.{Outcome, answer_by, copy_for, fault_in, faulted, in_the_way, is_live, over_session, requests_to, tells, IsHonest}
+use Rattle.afr_model.specs.Honest.{RequestOutcome, answer_by, copy_for, fault_in, faulted, in_the_way, is_live, over_session, requests_to, tells, IsHonest}
 use Rattle.afr_model.specs.Tables.{holds}
 use Rattle.afr_transaction_tells.specs.Fits.{Fits, FitsPhase}
 use Rattle.afr_transaction_tells.specs.Laws.{HonestFits, HonestPhases}
 
 -- a phase was done or failed, or the brick lacks the object
 abbrev FitsOrLacks : Request → Told → Type 0
-FitsOrLacks asked told = (told ≡ told_of.NoObject) ⊎ FitsPhase asked told
+FitsOrLacks asked told = (told ≡ as_told.NoObject) ⊎ FitsPhase asked told
 
 -- both facts of an answer
 record Both (asked : Request) (told : Told) : Type 0 where
   fits : Fits asked told
   phase : FitsOrLacks asked told
 
-failed_fits : (asked : Request) → Both asked told_of.Failed
+failed_fits : (asked : Request) → Both asked as_told.Failed
 failed_fits (request.Lock domain area) = record { fits = λ granted held. refl; phase = inr tt }
 failed_fits (request.Look g) = record { fits = λ seen. refl; phase = inr tt }
 failed_fits (request.Pre g kind) = record { fits = λ done. refl; phase = inr (λ done. refl) }
@@ -37,7 +37,7 @@ failed_fits (request.Apply attempt) = record { fits = λ done. refl; phase = inr
 failed_fits (request.Post attempt g kind missed) = record { fits = tt; phase = inr (λ done. refl) }
 failed_fits asked = record { fits = tt; phase = inr tt }
 
-unreached_fits : (asked : Request) → Both asked told_of.NotConnected
+unreached_fits : (asked : Request) → Both asked as_told.NotConnected
 unreached_fits (request.Lock domain area) = record { fits = λ granted held. refl; phase = inr tt }
 unreached_fits (request.Look g) = record { fits = λ seen. refl; phase = inr tt }
 unreached_fits (request.Pre g kind) = record { fits = λ done. refl; phase = inr (λ done. refl) }
@@ -76,7 +76,7 @@ tells_fits a asked b t older = record { fits = tt; phase = inr tt }
 
 -- an honest line
 honest_both : (p : Plan) (a : ActorId) (b : BrickId) (asked : Request) (told : Told) (took : Bool) (older : List Line) → IsHonest p (Ask a b asked told took) older → Both asked told
-honest_both p a b asked told took older honest = subst (λ (x : Told). Both asked x) (sym (ap (λ (o : Outcome). o.told) honest)) (over (is_live p a b.0 (Ask a b asked told took) older))
+honest_both p a b asked told took older honest = subst (λ (x : Told). Both asked x) (sym (ap (λ (o : RequestOutcome). o.told) honest)) (over (is_live p a b.0 (Ask a b asked told took) older))
   where
     said : Told
     said = tells a asked b.0 (holds p older b.0) older

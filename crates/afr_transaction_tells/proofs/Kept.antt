@@ -7,7 +7,7 @@ use Rattle.afr_lines.specs.declared.answer.Told.{Told}
 use Rattle.afr_lines.specs.declared.line.Line.{Line}
 use Rattle.afr_lines.specs.declared.line.Next.TheVariants as next
 use Rattle.afr_transaction.specs.Outcome.{reply_of}
-use Rattle.afr_transaction.specs.Progress.{Progress, asks, fed, next_at}
+use Rattle.afr_transaction.specs.Progress.{TransactionProgress, asks, fed, next_at}
 use Rattle.afr_transaction.specs.Sound as sound
 use Rattle.afr_transaction.specs.Sound.{Posted, Ready, Sound}
 use Rattle.afr_transaction.specs.declared.stage.Stage.{Stage}
@@ -17,7 +17,7 @@ use Rattle.afr_transaction_tells.specs.Laws.{IsNextLine, TellsKept}
 use Rattle.afr_transaction_tells.specs.Tells.{During, Tells}
 use Rattle.afr_transaction_tells.proofs.Answered.{told_lock, told_look, told_begin, told_pre, told_apply, told_post, told_unlock}
 
-module _ (p : Plan) (w : Work) (m : Progress) (a : ActorId) (told : Told) (older : List Line) (s : Sound m) (t : Tells p w m) where
+module _ (p : Plan) (w : Work) (m : TransactionProgress) (a : ActorId) (told : Told) (older : List Line) (s : Sound m) (t : Tells p w m) where
   -- the lines show the transaction after this one
   abbrev After : Stage → Line → Type 0
   After stage line = Tells p ((line, older) ∷ w) (fed stage told (length older) m)

@@ -8,7 +8,7 @@ use Rattle.afr_choice.specs.Looks.{no_looks}
 use Rattle.afr_choice.specs.declared.looked.Looked.{Looked}
 use Rattle.afr_lines.specs.declared.lock.Domain.TheVariants.{Work}
 use Rattle.afr_lines.specs.declared.answer.Told.{Told}
-use Rattle.afr_lines.specs.declared.answer.Told.TheVariants as told_of
+use Rattle.afr_lines.specs.declared.answer.Told.TheVariants as as_told
 use Rattle.afr_lines.specs.declared.request.Area.{Area}
 use Rattle.afr_lines.specs.declared.request.Request.TheVariants as request
 use Rattle.afr_moves.specs.Rules.{busy, is_area}
@@ -54,14 +54,14 @@ module _ (r : Register) (b : ℕ) (area : Area) (unseen : r.looked ≡ no_looks)
   Locked q = Leaves q r.shape no_looks None [] [] []
 
   lock_by : (w s : Bool) (told : Told) → Locked (locked_w w s r area b told)
-  lock_by true true told_of.Granted = record { shape_is = refl; looked_is = unseen; begun_is = unbegun; pre_is = pre; done_is = done; post_is = post }
-  lock_by true true told_of.NotConnected = record { shape_is = refl; looked_is = unseen; begun_is = unbegun; pre_is = pre; done_is = done; post_is = post }
+  lock_by true true as_told.Granted = record { shape_is = refl; looked_is = unseen; begun_is = unbegun; pre_is = pre; done_is = done; post_is = post }
+  lock_by true true as_told.NotConnected = record { shape_is = refl; looked_is = unseen; begun_is = unbegun; pre_is = pre; done_is = done; post_is = post }
   lock_by true true told = record { shape_is = refl; looked_is = unseen; begun_is = unbegun; pre_is = pre; done_is = done; post_is = post }
-  lock_by true false told_of.Granted = record { shape_is = refl; looked_is = unseen; begun_is = unbegun; pre_is = pre; done_is = done; post_is = post }
-  lock_by true false told_of.NotConnected = record { shape_is = refl; looked_is = unseen; begun_is = unbegun; pre_is = pre; done_is = done; post_is = post }
+  lock_by true false as_told.Granted = record { shape_is = refl; looked_is = unseen; begun_is = unbegun; pre_is = pre; done_is = done; post_is = post }
+  lock_by true false as_told.NotConnected = record { shape_is = refl; looked_is = unseen; begun_is = unbegun; pre_is = pre; done_is = done; post_is = post }
   lock_by true false told = record { shape_is = refl; looked_is = unseen; begun_is = unbegun; pre_is = pre; done_is = done; post_is = post }
-  lock_by false s told_of.Granted = record { shape_is = refl; looked_is = refl; begun_is = refl; pre_is = refl; done_is = refl; post_is = refl }
-  lock_by false s told_of.NotConnected = record { shape_is = refl; looked_is = refl; begun_is = refl; pre_is = refl; done_is = refl; post_is = refl }
+  lock_by false s as_told.Granted = record { shape_is = refl; looked_is = refl; begun_is = refl; pre_is = refl; done_is = refl; post_is = refl }
+  lock_by false s as_told.NotConnected = record { shape_is = refl; looked_is = refl; begun_is = refl; pre_is = refl; done_is = refl; post_is = refl }
   lock_by false s told = record { shape_is = refl; looked_is = refl; begun_is = refl; pre_is = refl; done_is = refl; post_is = refl }
 
   -- nothing was looked at or begun before the locks, and so it stays
@@ -76,7 +76,7 @@ module _ (r : Register) (b : ℕ) (g : Gfid) where
 
   look_by : (c : Bool) → c ≡ true → (told : Told) → Leaves (after_by (record (stayed r) { looked = shown_if c r.looked b told }) r b told) r.shape (shown r.looked b told) r.begun r.pre r.done r.post
   look_by false e told = absurd (cc e)
-  look_by true e told_of.NotConnected = record { shape_is = refl; looked_is = refl; begun_is = refl; pre_is = refl; done_is = refl; post_is = refl }
+  look_by true e as_told.NotConnected = record { shape_is = refl; looked_is = refl; begun_is = refl; pre_is = refl; done_is = refl; post_is = refl }
   look_by true e told = record { shape_is = refl; looked_is = refl; begun_is = refl; pre_is = refl; done_is = refl; post_is = refl }
 
   -- it is noted where it counts
@@ -85,51 +85,51 @@ module _ (r : Register) (b : ℕ) (g : Gfid) where
 
   -- the locks of the other bricks are held still, and the area isn't unlocked
   pub look_holds : (told : Told) (c : ℕ) → member (removed b r.held) c ≡ true → member r.held c ≡ true → member (after_outside r b (request.Look g) told).held c ≡ true
-  look_holds told_of.NotConnected c out m = out
+  look_holds as_told.NotConnected c out m = out
   look_holds told c out m = m
 
   pub look_still : (told : Told) → (after_outside r b (request.Look g) told).unlocked ≡ r.unlocked
-  look_still told_of.NotConnected = refl
+  look_still as_told.NotConnected = refl
   look_still told = refl
 
 -- ---- the phases
 module _ (r : Register) (b : ℕ) where
   pub pre_leaves : (g : Gfid) (kind : Kind) (told : Told) → Leaves (after_outside r b (request.Pre g kind) told) r.shape r.looked r.begun (added_if (is_done told) b r.pre) r.done r.post
-  pre_leaves g kind told_of.Done = record { shape_is = refl; looked_is = refl; begun_is = refl; pre_is = refl; done_is = refl; post_is = refl }
-  pre_leaves g kind told_of.NotConnected = record { shape_is = refl; looked_is = refl; begun_is = refl; pre_is = refl; done_is = refl; post_is = refl }
+  pre_leaves g kind as_told.Done = record { shape_is = refl; looked_is = refl; begun_is = refl; pre_is = refl; done_is = refl; post_is = refl }
+  pre_leaves g kind as_told.NotConnected = record { shape_is = refl; looked_is = refl; begun_is = refl; pre_is = refl; done_is = refl; post_is = refl }
   pre_leaves g kind told = record { shape_is = refl; looked_is = refl; begun_is = refl; pre_is = refl; done_is = refl; post_is = refl }
 
   pub pre_asks : (g : Gfid) (kind : Kind) (told : Told) → asked_at (after_outside r b (request.Pre g kind) told) step.Pres ≡ added b (asked_at r step.Pres)
-  pre_asks g kind told_of.NotConnected = refl
+  pre_asks g kind as_told.NotConnected = refl
   pre_asks g kind told = refl
 
   -- nobody was asked for the operation yet
   pub pre_before : (g : Gfid) (kind : Kind) (told : Told) → asked_at (after_outside r b (request.Pre g kind) told) step.Applies ≡ []
-  pre_before g kind told_of.NotConnected = refl
+  pre_before g kind as_told.NotConnected = refl
   pre_before g kind told = refl
 
   pub apply_leaves : (q : ℕ) (told : Told) → Leaves (after_outside r b (request.Apply q) told) r.shape r.looked r.begun r.pre (added_if (is_done told) b r.done) r.post
-  apply_leaves q told_of.Done = record { shape_is = refl; looked_is = refl; begun_is = refl; pre_is = refl; done_is = refl; post_is = refl }
-  apply_leaves q told_of.NotConnected = record { shape_is = refl; looked_is = refl; begun_is = refl; pre_is = refl; done_is = refl; post_is = refl }
+  apply_leaves q as_told.Done = record { shape_is = refl; looked_is = refl; begun_is = refl; pre_is = refl; done_is = refl; post_is = refl }
+  apply_leaves q as_told.NotConnected = record { shape_is = refl; looked_is = refl; begun_is = refl; pre_is = refl; done_is = refl; post_is = refl }
   apply_leaves q told = record { shape_is = refl; looked_is = refl; begun_is = refl; pre_is = refl; done_is = refl; post_is = refl }
 
   pub apply_asks : (q : ℕ) (told : Told) → asked_at (after_outside r b (request.Apply q) told) step.Applies ≡ added b (asked_at r step.Applies)
-  apply_asks q told_of.NotConnected = refl
+  apply_asks q as_told.NotConnected = refl
   apply_asks q told = refl
 
   -- nobody was asked for the post-op yet
   pub apply_before : (q : ℕ) (told : Told) → asked_at (after_outside r b (request.Apply q) told) step.Posts ≡ []
-  apply_before q told_of.NotConnected = refl
+  apply_before q as_told.NotConnected = refl
   apply_before q told = refl
 
   pub post_leaves : (q : ℕ) (g : Gfid) (kind : Kind) (missed : List ℕ) (told : Told)
       → Leaves (after_outside r b (request.Post q g kind missed) told) r.shape r.looked r.begun r.pre r.done (added_if (is_done told) b r.post)
-  post_leaves q g kind missed told_of.Done = record { shape_is = refl; looked_is = refl; begun_is = refl; pre_is = refl; done_is = refl; post_is = refl }
-  post_leaves q g kind missed told_of.NotConnected = record { shape_is = refl; looked_is = refl; begun_is = refl; pre_is = refl; done_is = refl; post_is = refl }
+  post_leaves q g kind missed as_told.Done = record { shape_is = refl; looked_is = refl; begun_is = refl; pre_is = refl; done_is = refl; post_is = refl }
+  post_leaves q g kind missed as_told.NotConnected = record { shape_is = refl; looked_is = refl; begun_is = refl; pre_is = refl; done_is = refl; post_is = refl }
   post_leaves q g kind missed told = record { shape_is = refl; looked_is = refl; begun_is = refl; pre_is = refl; done_is = refl; post_is = refl }
 
   pub post_asks : (q : ℕ) (g : Gfid) (kind : Kind) (missed : List ℕ) (told : Told) → asked_at (after_outside r b (request.Post q g kind missed) told) step.Posts ≡ added b (asked_at r step.Posts)
-  post_asks q g kind missed told_of.NotConnected = refl
+  post_asks q g kind missed as_told.NotConnected = refl
   post_asks q g kind missed told = refl
 
   -- ---- an unlock
@@ -137,9 +137,9 @@ module _ (r : Register) (b : ℕ) where
   unlocked_w s area told = after_by (noted_outside r b (request.Unlock Work area) told) (if is_done told then (if s then record r { held = removed b r.held } else record r { second_held = second_left r area b }) else r) b told
 
   unlock_by : (area : Area) (s : Bool) (told : Told) → LeavesAll (unlocked_w s area told) r
-  unlock_by area true told_of.Done = record { shape_is = refl; looked_is = refl; begun_is = refl; pre_is = refl; done_is = refl; post_is = refl }
-  unlock_by area false told_of.Done = record { shape_is = refl; looked_is = refl; begun_is = refl; pre_is = refl; done_is = refl; post_is = refl }
-  unlock_by area s told_of.NotConnected = record { shape_is = refl; looked_is = refl; begun_is = refl; pre_is = refl; done_is = refl; post_is = refl }
+  unlock_by area true as_told.Done = record { shape_is = refl; looked_is = refl; begun_is = refl; pre_is = refl; done_is = refl; post_is = refl }
+  unlock_by area false as_told.Done = record { shape_is = refl; looked_is = refl; begun_is = refl; pre_is = refl; done_is = refl; post_is = refl }
+  unlock_by area s as_told.NotConnected = record { shape_is = refl; looked_is = refl; begun_is = refl; pre_is = refl; done_is = refl; post_is = refl }
   unlock_by area s told = record { shape_is = refl; looked_is = refl; begun_is = refl; pre_is = refl; done_is = refl; post_is = refl }
 
   pub unlock_leaves : (area : Area) (told : Told) → LeavesAll (after_outside r b (request.Unlock Work area) told) r

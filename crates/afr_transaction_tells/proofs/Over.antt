@@ -23,13 +23,13 @@ use Rattle.afr_lines.specs.declared.request.Area.{Area}
 use Rattle.afr_moves.specs.Keeps.{keeps_in}
 use Rattle.afr_moves.specs.Register.{holder}
 use Rattle.afr_discipline.specs.Stands.{views_of}
-use Rattle.afr_discipline.specs.Tests.{carried, ends_low, fits_view, lies_in}
+use Rattle.afr_discipline.specs.Tests.{ends_low, fits_view, lies_in, suffices_by}
 use Rattle.afr_plan.specs.declared.command.Command.{Command}
 use Rattle.afr_plan.specs.declared.plan.Plan.{Plan}
 use Rattle.afr_transaction.specs.Outcome.{reply_for, reply_of}
-use Rattle.afr_transaction.specs.Progress.{Progress, numbered}
+use Rattle.afr_transaction.specs.Progress.{TransactionProgress, numbered}
 use Rattle.afr_transaction.specs.Sound.{Shown, Sound}
-use Rattle.afr_transaction.specs.declared.reply.Outcome.TheVariants.{Acknowledged, NoQuorum, FewCopies, SplitBrain, Failed}
+use Rattle.afr_transaction.specs.declared.reply.TransactionOutcome.TheVariants.{Acknowledged, NoQuorum, FewCopies, SplitBrain, Failed}
 use Rattle.afr_transaction.specs.declared.stage.Stage.{Stage}
 use Rattle.afr_transaction.specs.declared.stage.Stage.TheVariants.{Closing}
 use Rattle.afr_transaction.proofs.Parts.{both, pair}
@@ -37,12 +37,12 @@ use Rattle.afr_model.specs.Answered.{by_posts, Answers, IsCaused, Refuses}
 use Rattle.afr_model.specs.Commands.{is_rmdir}
 use Rattle.afr_model.specs.Refusals.{by_locks, by_views, or_else}
 use Rattle.afr_model.specs.Showing.{Path, At, NoName, Untold, path_by, looked_by, among, looking, prepared, applied_at, posted, has, looks_at, locks, begins_attempt, is_faulted}
-use Rattle.afr_model.specs.Skipped.{takers, AsksAll, IsCarried, IsLocked, SkipsNothing}
+use Rattle.afr_model.specs.Skipped.{takers, AsksAll, WentThroughPhases, IsLocked, SkipsNothing}
 use Rattle.afr_model.specs.Standing.{looks_here, place_by, change_by, getting, locks_area, suffices}
 use Rattle.afr_transaction_tells.specs.About.{IsFitting, LedToEnd}
 use Rattle.afr_transaction_tells.specs.Fits.{IsCalm}
 use Rattle.afr_transaction_tells.specs.Laws.{AsksAllForLocks, EndsAnswered, FailedByBrick, RepliesExactly, SkipsNone, UndisturbedIsDone}
-use Rattle.afr_transaction_tells.specs.Tells.{AreLocked, AreWhole, During, IsUnder, OnUnlocks, TooFew, Tried, Unfit, Tells, lookups_allow}
+use Rattle.afr_transaction_tells.specs.Tells.{AreLocked, LinesGoThroughPhases, During, IsUnder, OnUnlocks, TooFew, Tried, Unfit, Tells, lookups_allow}
 use Rattle.afr_transaction_tells.proofs.About.{passes}
 use Rattle.afr_transaction_tells.proofs.Small.{area_is, counted_as, no_change, numbered_kind, numbered_object, object_named, same_gfid, self}
 use Rattle.afr_transaction_tells.proofs.Views.{all_of, carried_there, holders_suffice, suffices_grows}
@@ -81,7 +81,7 @@ not_failed true true false split views h = cc h
 not_failed true true true true views h = cc h
 not_failed true true true false views h = cc h
 
-module _ (p : Plan) (w : Work) (m : Progress) (s : Sound m) (t : Tells p w m) where
+module _ (p : Plan) (w : Work) (m : TransactionProgress) (s : Sound m) (t : Tells p w m) where
   abbrev g : Gfid
   g = object_of m.change
 
@@ -127,7 +127,7 @@ module _ (p : Plan) (w : Work) (m : Progress) (s : Sound m) (t : Tells p w m) wh
       allowed : is_majority p.shape.n looked.reached ≡ true → is_majority p.shape.n (holders_of looked) ≡ true → is_nothing (good_copies p.shape looked kind) ≡ false → lookups_allow p.shape m.change looked ≡ true
       allowed q h n =
           pair _ _ (pair _ _ (pair _ _ (pair _ _ (lies m.change k.low) k.low) (all_of p.shape.n (λ x. fits_view (views_of looked x) m.change) k.fits)) q)
-          (subst (λ (of : Kind). carried p.shape.n (keeps_in p.shape) of (views_of looked) (holder (views_of looked)) ≡ true) (sym (counted_as m.change)) (carried_there p.shape looked kind few (shown e) h n))
+          (subst (λ (of : Kind). suffices_by p.shape.n (keeps_in p.shape) of (views_of looked) (holder (views_of looked)) ≡ true) (sym (counted_as m.change)) (carried_there p.shape looked kind few (shown e) h n))
 
       go : (q : Bool) → is_majority p.shape.n looked.reached ≡ q → (h : Bool) → is_majority p.shape.n (holders_of looked) ≡ h → (n : Bool) → is_nothing (good_copies p.shape looked kind) ≡ n
           → by_views p.shape kind looked ≡ Some (reply_from looked (among posted w))
@@ -161,7 +161,7 @@ module _ (p : Plan) (w : Work) (m : Progress) (s : Sound m) (t : Tells p w m) wh
 
   -- ---- nothing has failed
   -- all that were asked did it, so a majority has done post-op
-  calm_done : (u : Under) → AreWhole p.shape m.change w → IsCalm w → is_faulted w ≡ false → is_majority p.shape.n (among posted w) ≡ true
+  calm_done : (u : Under) → LinesGoThroughPhases p.shape m.change w → IsCalm w → is_faulted w ≡ false → is_majority p.shape.n (among posted w) ≡ true
   calm_done u whole calm none = majority_grows p.shape.n (among applied_at w) (among posted w) post_all (both (is_majority p.shape.n (among applied_at w)) _ applies).0
     where
       pre_all : IsIn (holders_of looked) (among prepared w)
@@ -202,7 +202,7 @@ module _ (p : Plan) (w : Work) (m : Progress) (s : Sound m) (t : Tells p w m) wh
       go false e = let done = undisturbed (Tried u whole) calm u.attempt.began e in absurd (cc (done, f))
 
 -- ---- nothing is skipped
-module _ (p : Plan) (w : Work) (m : Progress) (t : Tells p w m) where
+module _ (p : Plan) (w : Work) (m : TransactionProgress) (t : Tells p w m) where
   abbrev on : Type 0
   on = OnUnlocks p.shape m.change m.register.looked m.asked.looked_at w
 
@@ -242,15 +242,15 @@ module _ (p : Plan) (w : Work) (m : Progress) (t : Tells p w m) where
   unbegun : {A : Type 0} → has begins_attempt w ≡ false → (change : Change) → change_by w ≡ Some change → A
   unbegun none change is = let no = no_change w none in absurd (cc (no, is))
 
-  carried_is : (c : Command) → is_rmdir c ≡ false → on → (change : Change) → change_by w ≡ Some change → IsCarried p c change w
+  carried_is : (c : Command) → is_rmdir c ≡ false → on → (change : Change) → change_by w ≡ Some change → WentThroughPhases p c change w
   carried_is c plain (TooFew idle locked looks unseen lacking) change is = unbegun idle.unbegun change is
   carried_is c plain (Unfit idle locked looks majority looked_all unfit) change is = unbegun idle.unbegun change is
   carried_is c plain (Tried u whole) change is =
-      subst (λ (change : Change). IsCarried p c change w) (just (numbered u.attempt.attempt m.change) change (sym u.attempt.is_change ∙ is))
+      subst (λ (change : Change). WentThroughPhases p c change w) (just (numbered u.attempt.attempt m.change) change (sym u.attempt.is_change ∙ is))
       (carried_of (object_of (numbered u.attempt.attempt m.change)) (kind_for (numbered u.attempt.attempt m.change)) (numbered_object u.attempt.attempt m.change) (numbered_kind u.attempt.attempt m.change) refl refl)
     where
       carried_of : (h : Gfid) (kind : Kind) → h ≡ object_of m.change → kind ≡ kind_for m.change → object_of (numbered u.attempt.attempt m.change) ≡ h → kind_for (numbered u.attempt.attempt m.change) ≡ kind
-          → IsCarried p c (numbered u.attempt.attempt m.change) w
+          → WentThroughPhases p c (numbered u.attempt.attempt m.change) w
       carried_of h kind e f eh ef = record {
         prepared_all = rw (numbered_object u.attempt.attempt m.change, takers_are c plain (object_of m.change) (path_by p w)) whole.pre_all;
         applied_all = rw (numbered_object u.attempt.attempt m.change, numbered_kind u.attempt.attempt m.change) whole.apply_all;
@@ -262,11 +262,11 @@ module _ (p : Plan) (w : Work) (m : Progress) (t : Tells p w m) where
     looked = λ h seen free. looked_is d h seen free ((object_of m.change).0 == h.0) refl;
     locked = λ area whole asked. locked_is d area asked (same_area area (area_for m.change)) refl;
     child = λ rmdir. absurd (cc (rmdir, plain));
-    carried = carried_is c plain d;
+    suffices_by = carried_is c plain d;
   }
 
 -- ---- the laws
-closing : (p : Plan) (w : Work) (m : Progress) → Tells p w m → m.stage ≡ Closing → OnUnlocks p.shape m.change m.register.looked m.asked.looked_at w
+closing : (p : Plan) (w : Work) (m : TransactionProgress) → Tells p w m → m.stage ≡ Closing → OnUnlocks p.shape m.change m.register.looked m.asked.looked_at w
 closing p w m t e = subst (λ (stage : Stage). During stage p.shape m w) e t.during
 
 pub replies_exactly : RepliesExactly

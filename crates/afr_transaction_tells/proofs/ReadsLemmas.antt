@@ -5,7 +5,7 @@ use Rattle.afr_base.specs.declared.ids.BrickId.{BrickId}
 use Rattle.afr_object.specs.declared.change.Change.{Change}
 use Rattle.afr_lines.specs.Work.{Work}
 use Rattle.afr_lines.specs.declared.answer.Told.{Told}
-use Rattle.afr_lines.specs.declared.answer.Told.TheVariants as told_of
+use Rattle.afr_lines.specs.declared.answer.Told.TheVariants as as_told
 use Rattle.afr_lines.specs.declared.line.Line.{Line}
 use Rattle.afr_lines.specs.declared.line.Line.TheVariants.{Ask}
 use Rattle.afr_lines.specs.declared.request.Request.{Request}
@@ -13,7 +13,7 @@ use Rattle.afr_lines.specs.declared.request.Request.TheVariants as request
 use Rattle.afr_discipline.specs.Notes.{noted_ask, stayed}
 use Rattle.afr_discipline.specs.declared.register.Register.{Register}
 use Rattle.afr_plan.specs.declared.plan.Plan.{Plan}
-use Rattle.afr_transaction.specs.Progress.{Progress, may_start}
+use Rattle.afr_transaction.specs.Progress.{TransactionProgress, may_start}
 use Rattle.afr_transaction.specs.Sound as sound
 use Rattle.afr_transaction.specs.Sound.{IsBase, Posted, Sound}
 use Rattle.afr_transaction.specs.declared.stage.Stage.{Stage}
@@ -38,7 +38,7 @@ abbrev read_outside : Register → ℕ → Told → Register
 read_outside r b told = after_by (stayed r) r b told
 
 stays : (change : Change) (r : Register) (b : ℕ) (told : Told) → IsBase change r → Stays change r (read_outside r b told)
-stays change r b told_of.NotConnected base = record {
+stays change r b as_told.NotConnected base = record {
   leaves = record { shape_is = refl; looked_is = refl; begun_is = refl; pre_is = refl; done_is = refl; post_is = refl };
   base = base_gone _ _ _ _ _ _ _ _ _ _ _ _ base b;
   area_is = refl;
@@ -58,7 +58,7 @@ read_same r b (request.ReadBytes g from len) told is = refl
 read_same r b (request.ReadAttr g key) told is = refl
 read_same r b asked told is = absurd is
 
-module _ (p : Plan) (w : Work) (m : Progress) (a : ActorId) (b : BrickId) (told : Told) (took : Bool) (older : List Line) (small : b.0 < 5) (at_begin : m.stage ≡ Beginning) (s : Sound m) (t : Tells p w m) where
+module _ (p : Plan) (w : Work) (m : TransactionProgress) (a : ActorId) (b : BrickId) (told : Told) (took : Bool) (older : List Line) (small : b.0 < 5) (at_begin : m.stage ≡ Beginning) (s : Sound m) (t : Tells p w m) where
   -- the register's part of a read
   stays_at : (asked : Request) → IsRead asked → Stays m.change m.register (noted_ask m.register (length older) b.0 asked told)
   stays_at asked is =
@@ -74,7 +74,7 @@ module _ (p : Plan) (w : Work) (m : Progress) (a : ActorId) (b : BrickId) (told 
     ready = subst (λ (stage : Stage). sound.Ready stage x) (sym at_begin) tt;
   }
     where
-      x : Progress
+      x : TransactionProgress
       x = noted_in (length older) b asked told m
 
       d : sound.During Beginning m

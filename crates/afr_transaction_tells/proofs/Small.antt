@@ -14,7 +14,7 @@ use Rattle.afr_lines.specs.Log.{change_of}
 use Rattle.afr_lines.specs.Overlap.{same_area}
 use Rattle.afr_lines.specs.Work.{Work}
 use Rattle.afr_lines.specs.declared.answer.Told.{Told}
-use Rattle.afr_lines.specs.declared.answer.Told.TheVariants as told_of
+use Rattle.afr_lines.specs.declared.answer.Told.TheVariants as as_told
 use Rattle.afr_lines.specs.declared.line.Line.{Line}
 use Rattle.afr_lines.specs.declared.line.Line.TheVariants.{Begin}
 use Rattle.afr_lines.specs.declared.request.Area.{Area}
@@ -106,20 +106,20 @@ counted_as (change.Remove dir name what) = refl
 
 -- ---- answers: the lines show of one what the register notes of it
 pub held_told : (told : Told) → note.is_held told ≡ show.is_held told
-held_told (told_of.Held owner) = refl
+held_told (as_told.Held owner) = refl
 held_told other = refl
 
 pub granted_told : (told : Told) → note.is_granted told ≡ show.is_granted told
-granted_told told_of.Granted = refl
+granted_told as_told.Granted = refl
 granted_told other = refl
 
 pub done_told : (told : Told) → note.is_done told ≡ show.is_done told
-done_told told_of.Done = refl
+done_told as_told.Done = refl
 done_told other = refl
 
 pub shown_told : (b : ℕ) (told : Told) (looked : Looked) → shown looked b told ≡ look_shows b told looked
-shown_told b (told_of.Seen view) looked = refl
-shown_told b told_of.NoObject looked = refl
+shown_told b (as_told.Seen view) looked = refl
+shown_told b as_told.NoObject looked = refl
 shown_told b other looked = refl
 
 -- ---- sets

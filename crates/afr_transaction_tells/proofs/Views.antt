@@ -18,7 +18,7 @@ use Rattle.afr_moves.specs.Keeps.{keeps_in}
 use Rattle.afr_moves.specs.Register.{accuses, all, good, holder, unaccused}
 use Rattle.afr_moves.specs.Sets.{any}
 use Rattle.afr_discipline.specs.Stands.{views_of}
-use Rattle.afr_discipline.specs.Tests.{carried}
+use Rattle.afr_discipline.specs.Tests.{suffices_by}
 use Rattle.afr_transaction.specs.Sound.{Shown}
 use Rattle.afr_transaction.proofs.Parts.{both, deny, holder_is, holder_shows, pair, some_of}
 use Rattle.afr_model.specs.Standing.{suffices}
@@ -126,7 +126,7 @@ module _ (shape : Shape) (looked : Looked) (kind : Kind) (few : shape.n ≤ 5) (
   same_good s l = iff _ _ (good_is s l) (is_good s)
 
   -- a set has a good copy by the one test where it has one by the other
-  pub same_enough : (s : List ℕ) → carried shape.n (keeps_in shape) kind (views_of looked) (member s) ≡ suffices shape kind looked s
+  pub same_enough : (s : List ℕ) → suffices_by shape.n (keeps_in shape) kind (views_of looked) (member s) ≡ suffices shape kind looked s
   same_enough s = ap (λ (x : Bool). is_majority shape.n s && x) (iff _ _ there back)
     where
       copies : List ℕ
@@ -158,7 +158,7 @@ module _ (shape : Shape) (looked : Looked) (kind : Kind) (few : shape.n ≤ 5) (
               pick false h = absurd (cc h)
 
   -- views with a quorum carry an attempt at all holders
-  pub carried_there : is_majority shape.n (holders_of looked) ≡ true → is_nothing (good_copies shape looked kind) ≡ false → carried shape.n (keeps_in shape) kind (views_of looked) (holder (views_of looked)) ≡ true
+  pub carried_there : is_majority shape.n (holders_of looked) ≡ true → is_nothing (good_copies shape looked kind) ≡ false → suffices_by shape.n (keeps_in shape) kind (views_of looked) (holder (views_of looked)) ≡ true
   carried_there most clean =
       let s = lowest_in (good_copies shape looked kind) clean in
       let l = good_within _ s in

@@ -5,7 +5,7 @@ use Rattle.afr_base.specs.declared.ids.Gfid.{Gfid}
 use Rattle.afr_choice.specs.Verdict.{is_holder}
 use Rattle.afr_lines.specs.Work.{Work}
 use Rattle.afr_lines.specs.declared.answer.Told.{Told}
-use Rattle.afr_lines.specs.declared.answer.Told.TheVariants as told_of
+use Rattle.afr_lines.specs.declared.answer.Told.TheVariants as as_told
 use Rattle.afr_lines.specs.declared.line.Line.{Line}
 use Rattle.afr_lines.specs.declared.line.Line.TheVariants.{Ask}
 use Rattle.afr_lines.specs.declared.request.Area.{Area}
@@ -18,12 +18,12 @@ use Rattle.afr_model.specs.Standing.{since, locks_any, asking, getting}
 -- ---- answers
 -- the brick showed its copy
 abbrev pub is_seen : Told → Bool
-is_seen (told_of.Seen view) = true
+is_seen (as_told.Seen view) = true
 is_seen told = false
 
 -- the brick refused, couldn't be reached, or lacks the object
 abbrev pub is_miss : Told → Bool
-is_miss told_of.NoObject = true
+is_miss as_told.NoObject = true
 is_miss told = is_fault told
 
 -- a brick did what it was asked, or missed it; a lock needs no object, and of it the brick may also say who is in the way

@@ -10,7 +10,7 @@ use Rattle.afr_lines.specs.declared.request.Request.{Request}
 use Rattle.afr_lines.specs.declared.request.Request.TheVariants as request
 use Rattle.afr_discipline.specs.Notes.{noted_ask}
 use Rattle.afr_plan.specs.declared.plan.Plan.{Plan}
-use Rattle.afr_transaction.specs.Progress.{Progress}
+use Rattle.afr_transaction.specs.Progress.{TransactionProgress}
 use Rattle.afr_transaction.specs.Sound.{Sound}
 use Rattle.afr_transaction.specs.declared.stage.Stage.TheVariants.{Beginning}
 use Rattle.afr_transaction_tells.specs.Fits.{AreExcused, IsCalm}
@@ -25,11 +25,11 @@ IsRead (request.ReadAttr g key) = Unit {0}
 IsRead asked = ⊥
 
 -- the transaction whose register has noted a request and its answer
-abbrev pub noted_in : ℕ → BrickId → Request → Told → Progress → Progress
+abbrev pub noted_in : ℕ → BrickId → Request → Told → TransactionProgress → TransactionProgress
 noted_in at b asked told m = record { change = m.change; register = noted_ask m.register at b.0 asked told; stage = m.stage; asked = m.asked }
 
 -- what holds of a transaction and its lines goes on to hold
-pub record HoldsStill (p : Plan) (w more : Work) (after : Progress) : Type 0 where
+pub record HoldsStill (p : Plan) (w more : Work) (after : TransactionProgress) : Type 0 where
   pub sound : Sound after
   pub tells : Tells p more after
   pub excused : AreExcused w → AreExcused more
@@ -38,5 +38,5 @@ pub record HoldsStill (p : Plan) (w more : Work) (after : Progress) : Type 0 whe
 -- whatever is told at such a read
 abbrev pub ReadsKept : Type 0
 ReadsKept =
-    (p : Plan) (w : Work) (m : Progress) (a : ActorId) (b : BrickId) (asked : Request) (told : Told) (took : Bool) (older : List Line) → b.0 < 5 → IsRead asked → m.stage ≡ Beginning → Sound m → Tells p w m
+    (p : Plan) (w : Work) (m : TransactionProgress) (a : ActorId) (b : BrickId) (asked : Request) (told : Told) (took : Bool) (older : List Line) → b.0 < 5 → IsRead asked → m.stage ≡ Beginning → Sound m → Tells p w m
     → HoldsStill p w ((Ask a b asked told took, older) ∷ w) (noted_in (length older) b asked told m)

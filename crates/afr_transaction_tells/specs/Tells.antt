@@ -18,9 +18,9 @@ use Rattle.afr_moves.specs.Keeps.{keeps_in}
 use Rattle.afr_moves.specs.Register.{all, holder}
 use Rattle.afr_discipline.specs.Notes.{asked_at}
 use Rattle.afr_discipline.specs.Stands.{views_of}
-use Rattle.afr_discipline.specs.Tests.{carried, ends_low, fits_view, lies_in}
+use Rattle.afr_discipline.specs.Tests.{ends_low, fits_view, lies_in, suffices_by}
 use Rattle.afr_discipline.specs.declared.register.Step.TheVariants.{Pres, Applies, Posts}
-use Rattle.afr_transaction.specs.Progress.{Progress, numbered}
+use Rattle.afr_transaction.specs.Progress.{TransactionProgress, numbered}
 use Rattle.afr_transaction.specs.Sound.{HasQuorum}
 use Rattle.afr_transaction.specs.declared.stage.Stage.{Stage}
 use Rattle.afr_transaction.specs.declared.stage.Stage.TheVariants.{Locking, Looking, Beginning, Preparing, Applying, Posting, Closing}
@@ -48,7 +48,7 @@ pub record AreLooks (g : Gfid) (shown : Looked) (looked_at : List ℕ) (w : Work
   pub at : looked_at ≡ among (looking g) w
 
 -- no attempt was begun, and no phase was asked
-pub record IsIdle (begun : Bool) (pre pre_did apply apply_did post post_did : List ℕ) : Type 0 where
+pub record IsBeforeBegin (begun : Bool) (pre pre_did apply apply_did post post_did : List ℕ) : Type 0 where
   pub unbegun : begun ≡ false
   pub no_pre : pre ≡ []
   pub no_pre_did : pre_did ≡ []
@@ -59,7 +59,7 @@ pub record IsIdle (begun : Bool) (pre pre_did apply apply_did post post_did : Li
 
 -- the same of lines
 abbrev pub AreIdle : Work → Type 0
-AreIdle w = IsIdle (has begins_attempt w) (among preparing w) (among prepared w) (among applying w) (among applied_at w) (among posting w) (among posted w)
+AreIdle w = IsBeforeBegin (has begins_attempt w) (among preparing w) (among prepared w) (among applying w) (among applied_at w) (among posting w) (among posted w)
 
 -- a lock was asked, and nothing was looked at after it
 pub record IsUnseen (is_locked : Bool) (shown : Looked) (looked_at : List ℕ) : Type 0 where
@@ -150,21 +150,21 @@ pub record OnPost (shape : Shape) (change : Change) (asked : List ℕ) (w : Work
   pub post : asked ≡ among posting w
 
 -- each phase was asked of every brick that did the one before, as long as they suffice
-pub record IsWhole (suffices_for : List ℕ → Bool) (holders pre pre_did apply apply_did post : List ℕ) : Type 0 where
+pub record GoesThroughPhases (suffices_for : List ℕ → Bool) (holders pre pre_did apply apply_did post : List ℕ) : Type 0 where
   pub pre_all : IsIn holders pre
   pub apply_all : suffices_for pre_did ≡ true → IsIn pre_did apply
   pub post_all : suffices_for pre_did ≡ true → suffices_for apply_did ≡ true → IsIn apply_did post
 
 -- the same of lines
-abbrev pub AreWhole : Shape → Change → Work → Type 0
-AreWhole shape change w =
-    IsWhole (suffices shape (kind_for change) (looked_by (object_of change) w)) (holders_of (looked_by (object_of change) w)) (among preparing w) (among prepared w) (among applying w) (among applied_at w) (among posting w)
+abbrev pub LinesGoThroughPhases : Shape → Change → Work → Type 0
+LinesGoThroughPhases shape change w =
+    GoesThroughPhases (suffices shape (kind_for change) (looked_by (object_of change) w)) (holders_of (looked_by (object_of change) w)) (among preparing w) (among prepared w) (among applying w) (among applied_at w) (among posting w)
 
 -- what the lookups let begin: a change in its area, of such objects as they show, where a majority answered and a majority has a copy, one of them good
 abbrev pub lookups_allow : Shape → Change → Looked → Bool
 lookups_allow shape change looked =
     lies_in (Some (area_for change)) change && ends_low change && all shape.n (λ x. fits_view (views_of looked x) change) && is_most shape.n (member looked.reached)
-    && carried shape.n (keeps_in shape) (plane_kind change) (views_of looked) (holder (views_of looked))
+    && suffices_by shape.n (keeps_in shape) (plane_kind change) (views_of looked) (holder (views_of looked))
 
 -- why only unlocks are left: too few locks, lookups that don't allow the change, or an attempt that has gone as far as it could
 pub data OnUnlocks (shape : Shape) (change : Change) (shown : Looked) (looked_at : List ℕ) (w : Work) : Type 0 where
@@ -173,10 +173,10 @@ pub data OnUnlocks (shape : Shape) (change : Change) (shown : Looked) (looked_at
   Unfit : AreIdle w → AreLocked shape.n (object_of change) (area_for change) w → AreLooks (object_of change) shown looked_at w
       → is_majority shape.n (among (getting (area_for change)) w) ≡ true → IsIn (among (getting (area_for change)) w) (among (looking (object_of change)) w)
       → lookups_allow shape change shown ≡ false → OnUnlocks shape change shown looked_at w
-  Tried : IsUnder shape change shown looked_at w → AreWhole shape change w → OnUnlocks shape change shown looked_at w
+  Tried : IsUnder shape change shown looked_at w → LinesGoThroughPhases shape change w → OnUnlocks shape change shown looked_at w
 
 -- what the lines show at each stage
-abbrev pub During : Stage → Shape → Progress → Work → Type 0
+abbrev pub During : Stage → Shape → TransactionProgress → Work → Type 0
 During Locking shape m w = OnLocks (object_of m.change) m.register.looked m.asked.looked_at w
 During Looking shape m w = OnLooks shape.n (object_of m.change) (area_for m.change) m.register.unlocked m.register.held m.register.looked m.asked.looked_at w
 During Beginning shape m w = OnBegin shape m.change m.register.looked m.asked.looked_at w
@@ -186,11 +186,11 @@ During Posting shape m w = IsUnder shape m.change m.register.looked m.asked.look
 During Closing shape m w = OnUnlocks shape m.change m.register.looked m.asked.looked_at w
 
 -- the sets over the change, the register and who was asked
-abbrev pub HasSets : Progress → Work → Type 0
+abbrev pub HasSets : TransactionProgress → Work → Type 0
 HasSets m w = AreSets (area_for m.change) m.asked.lock_asked m.asked.locked_on m.register.pre m.register.done m.register.post m.register.begun w
 
 -- the lines of a work, the walk's among them, show how far its transaction is
-pub record Tells (p : Plan) (w : Work) (m : Progress) : Type 0 where
+pub record Tells (p : Plan) (w : Work) (m : TransactionProgress) : Type 0 where
   pub shape_is : m.register.shape ≡ p.shape
   pub sets : HasSets m w
   pub alone : IsAlone p.shape.n (object_of m.change) (area_for m.change) w

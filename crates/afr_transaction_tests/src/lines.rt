@@ -2,7 +2,7 @@
 use afr_base::{AllMarks, Gfid, Shape, What};
 use afr_lines::{Next, Request, Told};
 use afr_object::{Change, View};
-use afr_transaction::{Outcome, Transaction};
+use afr_transaction::{Transaction, TransactionOutcome};
 use std::alloc::Global;
 
 pub(crate) const FILE: Gfid = Gfid(2);
@@ -75,5 +75,5 @@ pub(crate) fn asks(alloc: Global, transaction: &Transaction, b: u8) -> Option<Re
 }
 
 pub(crate) fn is_acknowledged(transaction: &Transaction) -> bool {
-    matches!(transaction.outcome(), Outcome::Acknowledged)
+    matches!(transaction.outcome(), TransactionOutcome::Acknowledged)
 }

@@ -1,7 +1,7 @@
 //! What a transaction ends with.
 use crate::lines::{accusing, begins, clean, cuts, tells_three};
 use afr_lines::{Next, Reply, Told};
-use afr_transaction::Outcome;
+use afr_transaction::TransactionOutcome;
 
 #[test]
 fn two_locks_that_fail_are_no_quorum(rt: HostRuntime) {
@@ -10,7 +10,7 @@ fn two_locks_that_fail_are_no_quorum(rt: HostRuntime) {
         &mut transaction,
         [Told::NotConnected, Told::Failed, Told::Granted],
     );
-    assert!(rt; matches!(transaction.outcome(), Outcome::NoQuorum));
+    assert!(rt; matches!(transaction.outcome(), TransactionOutcome::NoQuorum));
 }
 
 #[test]
@@ -18,7 +18,7 @@ fn one_copy_of_three_is_too_few(rt: HostRuntime) {
     let mut transaction = cuts();
     tells_three(&mut transaction, [Told::Granted; 3]);
     tells_three(&mut transaction, [clean(), Told::NoObject, Told::NoObject]);
-    assert!(rt; matches!(transaction.outcome(), Outcome::FewCopies));
+    assert!(rt; matches!(transaction.outcome(), TransactionOutcome::FewCopies));
 }
 
 #[test]
@@ -26,7 +26,7 @@ fn copies_that_are_all_accused_are_a_split_brain(rt: HostRuntime) {
     let mut transaction = cuts();
     tells_three(&mut transaction, [Told::Granted; 3]);
     tells_three(&mut transaction, [accusing(); 3]);
-    assert!(rt; matches!(transaction.outcome(), Outcome::SplitBrain(_)));
+    assert!(rt; matches!(transaction.outcome(), TransactionOutcome::SplitBrain(_)));
 }
 
 #[test]

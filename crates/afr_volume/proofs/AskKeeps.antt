@@ -30,11 +30,11 @@ use Rattle.afr_readings.specs.Readings.{asked_in}
 use Rattle.afr_walk.specs.Choosing.{IsAmong, reader_of}
 use Rattle.afr_transaction_tells.specs.Laws.{IsNextLine}
 use Rattle.afr_works.specs.Work.{CarriesNext, IsWork, choices_heard, heard_by, next_of, register_of}
-use Rattle.afr_works.specs.declared.work.Work.{Work}
-use Rattle.afr_works.specs.declared.work.Work.TheVariants.{Entry, Idle, Lookup, Rename, Write}
+use Rattle.afr_works.specs.declared.work.WorkMachine.{WorkMachine}
+use Rattle.afr_works.specs.declared.work.WorkMachine.TheVariants.{Entry, Idle, Lookup, Rename, Write}
 use Rattle.afr_works_tell.specs.WorkTelling.{WorkHears, WorkTells}
 use Rattle.afr_volume.specs.Acting.{HearsAny, IsAsked, picked_after, still_picked}
-use Rattle.afr_volume.specs.Keeping.{Carries, CarriesOut, IsActing, IsNoted, IsReading}
+use Rattle.afr_volume.specs.Keeping.{Carries, CarriesOutCommand, IsActing, IsNoted, IsReading}
 use Rattle.afr_volume.specs.declared.actor.Actor.{Actor}
 use Rattle.afr_volume.proofs.Before.{IsBefore, ask_laws, asks_next, before_ask}
 use Rattle.afr_volume.proofs.Before as known
@@ -64,7 +64,7 @@ within : (met : Bool) (p : Plan) (c : Command) (a : ActorId) (b : BrickId) (aske
 within true p c a b asked told took log r k about = rw k.0 refl
 within false p c a b asked told took log r k about = rw k.0 (within_fresh p c a b asked told took (work a.0 log) about)
 
-module _ (laws : Laws) (p : Plan) (a : ActorId) (log : List Line) (servers : List Serving) (before : IsBefore p a log servers) (x y : Actor) (new : List Serving) (written : Line) (c : CarriesOut p a.0 log x.visit.met x.visit.epochs servers x.work) where
+module _ (laws : Laws) (p : Plan) (a : ActorId) (log : List Line) (servers : List Serving) (before : IsBefore p a log servers) (x y : Actor) (new : List Serving) (written : Line) (c : CarriesOutCommand p a.0 log x.visit.met x.visit.epochs servers x.work) where
   module _ (b : BrickId) (asked : Request) (e : next_of (length log) x.work ≡ next.Ask b asked) (s : IsAsked HearsAny a (length log) b asked x y servers new written) where
     abbrev line : Line
     line = told_line a b asked s.given
@@ -79,7 +79,7 @@ module _ (laws : Laws) (p : Plan) (a : ActorId) (log : List Line) (servers : Lis
     heard : IsHeard p log a b asked s.given.answer s.given.took
     heard = record { honest = before.honest; lawful = before.lawful; short = known.short laws p a log servers before; few = before.runnable.few; may = so.may; said = so.go_on.0; full = λ given free. so.full given }
 
-    hears : (w : Work) → IsWork w → WorkTells p c.command w (work a.0 log) → next_of (length log) w ≡ next.Ask b asked → WorkHears w p b.0 asked log s.given.answer
+    hears : (w : WorkMachine) → IsWork w → WorkTells p c.command w (work a.0 log) → next_of (length log) w ≡ next.Ask b asked → WorkHears w p b.0 asked log s.given.answer
     hears Idle sound tells e = absurd tells
     hears (Lookup m) sound tells e = laws.telling.lookup_hears p m log a b asked s.given.answer s.given.took sound tells.1 e heard
     hears (Write m) sound tells e = laws.telling.write_hears p c.command m log a b asked s.given.answer s.given.took sound tells.1 e heard
@@ -95,7 +95,7 @@ module _ (laws : Laws) (p : Plan) (a : ActorId) (log : List Line) (servers : Lis
     pub hears_next : WorkHears x.work p b.0 asked log s.given.answer
     hears_next = hears x.work c.sound c.tells e
 
-    abbrev after : Work
+    abbrev after : WorkMachine
     after = heard_by (reader_of s.heard.picked) (heard_of.Answer s.given.answer (length log)) x.work
 
     is_next : IsNextLine a (next_of (length log) x.work) told line
@@ -110,7 +110,7 @@ module _ (laws : Laws) (p : Plan) (a : ActorId) (log : List Line) (servers : Lis
     own : Stood p.shape a.0 (line ∷ log) (register_of after)
     own = rw noted_is so.stand.own
 
-    carries : CarriesOut p a.0 (line ∷ log) true s.epochs new after
+    carries : CarriesOutCommand p a.0 (line ∷ log) true s.epochs new after
     carries = record {
       command = c.command;
       present = c.present;
@@ -140,7 +140,7 @@ module _ (laws : Laws) (p : Plan) (a : ActorId) (log : List Line) (servers : Lis
         added : work a.0 (line ∷ log) ≡ (line, log) ∷ work a.0 log
         added = rw (self a.0) refl
 
-    as_carries : (z : Work) → CarriesOut p a.0 (line ∷ log) true s.epochs new z → Carries p a.0 (line ∷ log) true s.epochs new z
+    as_carries : (z : WorkMachine) → CarriesOutCommand p a.0 (line ∷ log) true s.epochs new z → Carries p a.0 (line ∷ log) true s.epochs new z
     as_carries Idle k = absurd k.tells
     as_carries (Lookup m) k = k
     as_carries (Write m) k = k
@@ -160,7 +160,7 @@ module _ (laws : Laws) (p : Plan) (a : ActorId) (log : List Line) (servers : Lis
       acting = subst (λ (z : Actor). IsActing p (line ∷ log) a.0 new z) (sym s.heard.becomes) (record {
         ended_is = acting.ended_is;
         killed_is = acting.killed_is;
-        carries = subst (λ (w : Work). Carries p a.0 (line ∷ log) true s.epochs new w) (sym s.heard.hears.value) (as_carries after carries);
+        carries = subst (λ (w : WorkMachine). Carries p a.0 (line ∷ log) true s.epochs new w) (sym s.heard.hears.value) (as_carries after carries);
         unpicked = λ none. absurd (cc none);
         reads = reads_on acting.reads;
       });

@@ -23,9 +23,9 @@ use Rattle.afr_servers.specs.Log.{AreServed}
 use Rattle.afr_servers.specs.declared.epochs.Epochs.{Epochs}
 use Rattle.afr_transaction.specs.Turn.{InForce}
 use Rattle.afr_works.specs.Work.{CarriesNext, next_of, register_of}
-use Rattle.afr_works.specs.declared.work.Work.{Work}
-use Rattle.afr_works.specs.declared.work.Work.TheVariants.{Entry, Idle, Lookup, Rename, Write}
-use Rattle.afr_volume.specs.Keeping.{CanRun, CarriesOut, IsNoted}
+use Rattle.afr_works.specs.declared.work.WorkMachine.{WorkMachine}
+use Rattle.afr_works.specs.declared.work.WorkMachine.TheVariants.{Entry, Idle, Lookup, Rename, Write}
+use Rattle.afr_volume.specs.Keeping.{CanRun, CarriesOutCommand, IsNoted}
 use Rattle.afr_volume.specs.Laws.{Laws}
 
 -- what holds before any line of a client
@@ -80,7 +80,7 @@ module _ (laws : Laws) (p : Plan) (a : ActorId) (log : List Line) (servers : Lis
   before_ask = record { few = before.runnable.few; known = known; short = short; served = before.served; honest = before.honest; lawful = before.lawful }
 
   -- what goes with a request is what the log gives it
-  pub brings : (w : Work) (met : Bool) (epochs : Epochs) (c : CarriesOut p a.0 log met epochs servers w) (b : BrickId) (asked : Request) (carried : Load) → next_of (length log) w ≡ next.Ask b asked → CarriesNext w carried
+  pub brings : (w : WorkMachine) (met : Bool) (epochs : Epochs) (c : CarriesOutCommand p a.0 log met epochs servers w) (b : BrickId) (asked : Request) (carried : Load) → next_of (length log) w ≡ next.Ask b asked → CarriesNext w carried
       → Brings asked carried log (held_before p log)
   brings Idle met epochs c b asked carried e k = absurd c.tells
   brings (Lookup m) met epochs c b asked carried e k = subst (λ (l : Load). Brings asked l log (held_before p log)) (sym k) (laws.telling.lookup_brings m log (held_before p log) b asked e)
@@ -89,7 +89,7 @@ module _ (laws : Laws) (p : Plan) (a : ActorId) (log : List Line) (servers : Lis
   brings (Rename m) met epochs c b asked carried e k = laws.telling.rename_brings p c.command m log a b asked carried c.sound c.tells e k
 
   -- its register allows what it asks
-  pub asks_next : (w : Work) (met : Bool) (epochs : Epochs) (c : CarriesOut p a.0 log met epochs servers w) (b : BrickId) (asked : Request) → next_of (length log) w ≡ next.Ask b asked
+  pub asks_next : (w : WorkMachine) (met : Bool) (epochs : Epochs) (c : CarriesOutCommand p a.0 log met epochs servers w) (b : BrickId) (asked : Request) → next_of (length log) w ≡ next.Ask b asked
       → AsksNext p a log met epochs servers (CarriesNext w) b asked (register_of w)
   asks_next w met epochs c b asked e = record {
     five = c.five;

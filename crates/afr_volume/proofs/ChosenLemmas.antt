@@ -20,7 +20,7 @@ use Rattle.afr_model.specs.HealReplies.{refuses_index}
 use Rattle.afr_model.specs.Replied.{IsReplied, Replied}
 use Rattle.afr_model.specs.Showing.{has}
 use Rattle.afr_plan.specs.declared.plan.Plan.{Plan}
-use Rattle.afr_readings.specs.Readings.{Answers}
+use Rattle.afr_readings.specs.Readings.{PickAnswers}
 use Rattle.afr_sources.proofs.Turns.{event_keeps}
 use Rattle.afr_sources.proofs.Turns as sources
 use Rattle.afr_volume.specs.State.{AreRead, HealsChosen, IsChosen, ReadsChosen, State, no_volume, opened}
@@ -68,7 +68,7 @@ others_read : (reads : Picks) (p : Plan) (log : List Line) (line : Line) (old ne
     → AreRead reads p log old → AreRead reads p (line ∷ log) new
 others_read reads p log line old new picked other same k = record {
   past = (picked, k.past);
-  present = λ i brick small is. subst (λ (from : List (ℕ × ℕ)). Answers reads from brick) (sym (other_asked p (1 + i) line log (other i small))) (k.present i brick small (sym (same i small) ∙ is));
+  present = λ i brick small is. subst (λ (from : List (ℕ × ℕ)). PickAnswers reads from brick) (sym (other_asked p (1 + i) line log (other i small))) (k.present i brick small (sym (same i small) ∙ is));
 }
 
 healer_adds : (reads : Picks) (a : ActorId) (old new : State) (waits : Option ActorId) → 17 ≤ a.0 → AddsLine a old waits new → Follows new.plan new.log → Replied new.plan new.log → length new.plan.clients ≤ 16 → ReadsChosen reads old → ReadsChosen reads new
@@ -115,7 +115,7 @@ none_at zero i brick e = absurd (cc e)
 none_at (suc n) zero brick e = sym (cc e)
 none_at (suc n) (suc i) brick e = none_at n i brick e
 
-answers_none : (reads : Picks) (brick : Option ℕ) → brick ≡ None → Answers reads [] brick
+answers_none : (reads : Picks) (brick : Option ℕ) → brick ≡ None → PickAnswers reads [] brick
 answers_none reads brick e = rw e refl
 
 pub opened_chosen : (reads heals : Picks) (p : Plan) → IsChosen reads heals (opened p)

@@ -34,10 +34,10 @@ use Rattle.afr_servers.specs.Log.{AreFound, AreServed}
 use Rattle.afr_servers.specs.declared.epochs.Epochs.{Epochs}
 use Rattle.afr_transaction.specs.Turn.{Stood}
 use Rattle.afr_works.specs.Work.{register_of}
-use Rattle.afr_works.specs.declared.work.Work.{Work}
-use Rattle.afr_works.specs.declared.work.Work.TheVariants.{Entry, Idle, Lookup, Rename, Write}
+use Rattle.afr_works.specs.declared.work.WorkMachine.{WorkMachine}
+use Rattle.afr_works.specs.declared.work.WorkMachine.TheVariants.{Entry, Idle, Lookup, Rename, Write}
 use Rattle.afr_works_tell.specs.WorkTelling.{WorkTells}
-use Rattle.afr_volume.specs.Keeping.{Carries, CarriesOut, IsActing, IsNoted}
+use Rattle.afr_volume.specs.Keeping.{Carries, CarriesOutCommand, IsActing, IsNoted}
 use Rattle.afr_volume.specs.declared.actor.Actor.{Actor}
 use Rattle.afr_volume.proofs.ReadingLemmas.{reading_stays}
 
@@ -117,7 +117,7 @@ module _ (p : Plan) (c : ℕ) (line : Line) (log : List Line) (old new : List Se
   noted_on true r k = (same_place ∙ k.0, stands r k.1)
   noted_on false r k = (same_place ∙ k.0, k.1)
 
-  carries_on : (met : Bool) (epochs : Epochs) (w : Work) → CarriesOut p c log met epochs old w → CarriesOut p c (line ∷ log) met epochs new w
+  carries_on : (met : Bool) (epochs : Epochs) (w : WorkMachine) → CarriesOutCommand p c log met epochs old w → CarriesOutCommand p c (line ∷ log) met epochs new w
   carries_on met epochs w k = record {
     command = k.command;
     present = rw same_ended k.present;
@@ -129,7 +129,7 @@ module _ (p : Plan) (c : ℕ) (line : Line) (log : List Line) (old new : List Se
     tells = subst (WorkTells p k.command w) (sym same_work) k.tells;
   }
 
-  pub stays : (met : Bool) (epochs : Epochs) (w : Work) → Carries p c log met epochs old w → Carries p c (line ∷ log) met epochs new w
+  pub stays : (met : Bool) (epochs : Epochs) (w : WorkMachine) → Carries p c log met epochs old w → Carries p c (line ∷ log) met epochs new w
   stays met epochs Idle k = record { unmet = k.unmet; fresh = same_place ∙ k.fresh; none = same_work ∙ k.none }
   stays met epochs (Lookup m) k = carries_on met epochs (Lookup m) k
   stays met epochs (Write m) k = carries_on met epochs (Write m) k

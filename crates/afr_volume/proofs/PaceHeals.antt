@@ -4,7 +4,7 @@ use Rattle.afr_base.specs.declared.ids.ActorId.{ActorId}
 use Rattle.afr_base.specs.declared.ids.BrickId.{BrickId}
 use Rattle.afr_descent.specs.Descent.{IsOfPlan}
 use Rattle.afr_discipline.specs.declared.register.Register.{Register}
-use Rattle.afr_heal.specs.Engine.{Ask as Asks, Next as Coming}
+use Rattle.afr_heal.specs.Engine.{Ask as Asks, NextOfHeal as Coming}
 use Rattle.afr_heal_order.specs.Heals.{RisesInHeal}
 use Rattle.afr_healer.specs.Rounding.{IsAnswered, next_at, next_of}
 use Rattle.afr_healer.specs.declared.stage.RoundStage.{RoundStage}

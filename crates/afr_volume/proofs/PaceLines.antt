@@ -15,7 +15,7 @@ use Rattle.afr_lines.specs.declared.line.Line.{Line}
 use Rattle.afr_lines.specs.declared.line.Line.TheVariants as line_of
 use Rattle.afr_lines.specs.declared.request.Request.{Request}
 use Rattle.afr_lines.specs.declared.request.Request.TheVariants as request
-use Rattle.afr_model.specs.Honest.{IsHonest, Outcome, over_session}
+use Rattle.afr_model.specs.Honest.{IsHonest, RequestOutcome, over_session}
 use Rattle.afr_plan.specs.declared.plan.Plan.{Plan}
 use Rattle.afr_work_pace.specs.Left.{FitsUnlock}
 use Rattle.afr_volume.specs.Pacing.{HasLeft}
@@ -23,10 +23,10 @@ use Rattle.afr_volume.proofs.SourceLemmas.{own_of}
 
 -- ---- what an unlock may be told
 unlock_told : (live : Bool) (fault : Option Fault) (told : Told) (took : Bool) → (record { told = told; took = took }) ≡ over_session live fault Done → (told ≡ Done) ⊎ (told ≡ NotConnected) ⊎ (told ≡ Failed)
-unlock_told false fault told took e = inr (inl (ap (λ (o : Outcome). o.told) e))
-unlock_told true (Some Fail) told took e = inr (inr (ap (λ (o : Outcome). o.told) e))
-unlock_told true (Some Lost) told took e = inr (inl (ap (λ (o : Outcome). o.told) e))
-unlock_told true None told took e = inl (ap (λ (o : Outcome). o.told) e)
+unlock_told false fault told took e = inr (inl (ap (λ (o : RequestOutcome). o.told) e))
+unlock_told true (Some Fail) told took e = inr (inr (ap (λ (o : RequestOutcome). o.told) e))
+unlock_told true (Some Lost) told took e = inr (inl (ap (λ (o : RequestOutcome). o.told) e))
+unlock_told true None told took e = inl (ap (λ (o : RequestOutcome). o.told) e)
 
 pub unlock_fits : (p : Plan) (a : ActorId) (b : BrickId) (asked : Request) (told : Told) (took : Bool) (log : List Line) → IsHonest p (line_of.Ask a b asked told took) log → FitsUnlock asked told
 unlock_fits p a b (request.Lock domain area) told took log honest = tt

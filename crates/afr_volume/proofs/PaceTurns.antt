@@ -9,9 +9,9 @@ use Rattle.afr_model.specs.Actors.{IsActor}
 use Rattle.afr_plan.specs.declared.plan.Plan.{Plan}
 use Rattle.afr_rounds.specs.declared.healer.Healer.{Healer}
 use Rattle.afr_server.specs.Serving.{Serving}
-use Rattle.afr_works.specs.declared.work.Work.{Work}
+use Rattle.afr_works.specs.declared.work.WorkMachine.{WorkMachine}
 use Rattle.afr_volume.specs.Acting.{HearsAny, Stepped}
-use Rattle.afr_volume.specs.Keeping.{CarriesOut, IsActing, IsVolume}
+use Rattle.afr_volume.specs.Keeping.{CarriesOutCommand, IsActing, IsVolume}
 use Rattle.afr_volume.specs.Laws.{BeginLaws, Laws, PaceLaws}
 use Rattle.afr_volume.specs.Pacing.{ArePaced, IsPaced}
 use Rattle.afr_volume.specs.Turning.{ReadiedAt, StepsAt}
@@ -27,11 +27,11 @@ use Rattle.afr_volume.proofs.WholeTurn.{before, busy, mine, one}
 
 -- ---- beside a line
 -- a client is as it was, where a line changes neither its work nor the count of those that it ended
-pub paced_on : (p : Plan) (c : ℕ) (line : Line) (log : List Line) (w : Work) → work c (line ∷ log) ≡ work c log → ended c (line ∷ log) ≡ ended c log → IsPaced p c log w → IsPaced p c (line ∷ log) w
+pub paced_on : (p : Plan) (c : ℕ) (line : Line) (log : List Line) (w : WorkMachine) → work c (line ∷ log) ≡ work c log → ended c (line ∷ log) ≡ ended c log → IsPaced p c log w → IsPaced p c (line ∷ log) w
 paced_on p c line log w same_work same_ended k = record { within = left_on p c line log _ same_work same_ended k.within; queued = k.queued }
 
 -- so it is after a line of another actor
-pub other_paced : (p : Plan) (a : ActorId) (c : ℕ) (line : Line) (log : List Line) (w : Work) → Wrote a line → (a.0 ≡ c → ⊥) → IsPaced p c log w → IsPaced p c (line ∷ log) w
+pub other_paced : (p : Plan) (a : ActorId) (c : ℕ) (line : Line) (log : List Line) (w : WorkMachine) → Wrote a line → (a.0 ≡ c → ⊥) → IsPaced p c log w → IsPaced p c (line ∷ log) w
 other_paced p a c line log w wrote apart k = let e = differ a.0 c apart in paced_on p c line log w (other_work a c line log wrote e) (other_ended a c line log wrote e) k
 
 -- what is presumed of a log is kept
@@ -47,7 +47,7 @@ module _ (paces : PaceLaws) (laws : Laws) (starts : BeginLaws) (p : Plan) (a : A
   again : (a.0 - 1) + 1 ≡ a.0
   again = omega (arith, low)
 
-  at_own : (log : List Line) (w : Work) → IsPaced p a.0 log w → IsPaced p ((a.0 - 1) + 1) log w
+  at_own : (log : List Line) (w : WorkMachine) → IsPaced p a.0 log w → IsPaced p ((a.0 - 1) + 1) log w
   at_own log w k = subst (λ (c : ℕ). IsPaced p c log w) (sym again) k
 
   -- it is made ready
@@ -72,7 +72,7 @@ module _ (paces : PaceLaws) (laws : Laws) (starts : BeginLaws) (p : Plan) (a : A
     keeps : LineKeeps p a (reverse items) line s.after servers new_servers
     keeps = line_keeps laws p a (reverse items) servers (before laws starts p a items actors readied servers made v client actor room r) s.before s.after new_servers line (busy laws starts p a items actors readied servers made v client actor room r s.before s.was).0 acting stepped
 
-    carries : CarriesOut p a.0 (reverse items) s.before.visit.met s.before.visit.epochs servers s.before.work
+    carries : CarriesOutCommand p a.0 (reverse items) s.before.visit.met s.before.visit.epochs servers s.before.work
     carries = carried laws p a (reverse items) servers (before laws starts p a items actors readied servers made v client actor room r) s.before.visit.met s.before.visit.epochs s.before.work (busy laws starts p a items actors readied servers made v client actor room r s.before s.was).0 acting.carries
 
     own : LinePaced p a.0 (reverse items) line s.after.work

@@ -32,10 +32,10 @@ use Rattle.afr_walk.specs.Choosing.{IsAmong, reader_of}
 use Rattle.afr_work_order.specs.Logs.{IsNotedAt}
 use Rattle.afr_work_pace.specs.Left.{work_left}
 use Rattle.afr_works.specs.Work.{IsBusy, choices_of, heard_by, next_of, register_of}
-use Rattle.afr_works.specs.declared.work.Work.{Work}
-use Rattle.afr_works.specs.declared.work.Work.TheVariants.{Entry, Idle, Lookup, Rename, Write}
+use Rattle.afr_works.specs.declared.work.WorkMachine.{WorkMachine}
+use Rattle.afr_works.specs.declared.work.WorkMachine.TheVariants.{Entry, Idle, Lookup, Rename, Write}
 use Rattle.afr_volume.specs.Acting.{HearsAny, IsAsked, IsBegun, IsEnded, Stepped, SteppedBy}
-use Rattle.afr_volume.specs.Keeping.{CarriesOut, IsActing, IsNoted}
+use Rattle.afr_volume.specs.Keeping.{CarriesOutCommand, IsActing, IsNoted}
 use Rattle.afr_volume.specs.Laws.{PaceLaws}
 use Rattle.afr_volume.specs.Pacing.{HasLeft, IsPaced}
 use Rattle.afr_volume.specs.Turning.{Readies}
@@ -46,12 +46,12 @@ use Rattle.afr_volume.proofs.ReadingLemmas.{one_among}
 use Rattle.afr_volume.proofs.TurnKeeps.{between}
 
 -- what a client's line keeps of its pace
-pub record LinePaced (p : Plan) (a : ℕ) (log : List Line) (line : Line) (after : Work) : Type 0 where
+pub record LinePaced (p : Plan) (a : ℕ) (log : List Line) (line : Line) (after : WorkMachine) : Type 0 where
   pub rising : IsRisingLine p line log
   pub within : IsWithinCost p line log
   pub paced : IsPaced p a (line ∷ log) after
 
-still_busy : (chosen : BrickId) (of : Heard) (w : Work) → IsBusy w → IsBusy (heard_by chosen of w)
+still_busy : (chosen : BrickId) (of : Heard) (w : WorkMachine) → IsBusy w → IsBusy (heard_by chosen of w)
 still_busy chosen of Idle busy = busy
 still_busy chosen of (Lookup m) busy = busy
 still_busy chosen of (Write m) busy = busy
@@ -63,9 +63,9 @@ noted_at : (met : Bool) (p : Plan) (a : ℕ) (log : List Line) (r : Register) �
 noted_at true p a log r k = inl k
 noted_at false p a log r k = inr k
 
-module _ (paces : PaceLaws) (p : Plan) (a : ActorId) (log : List Line) (servers new : List Serving) (x y : Actor) (written : Line) (of : IsOfPlan p log) (client : a.0 ≤ 16) (c : CarriesOut p a.0 log x.visit.met x.visit.epochs servers x.work) (busy : IsBusy x.work) (k : IsPaced p a.0 log x.work) where
+module _ (paces : PaceLaws) (p : Plan) (a : ActorId) (log : List Line) (servers new : List Serving) (x y : Actor) (written : Line) (of : IsOfPlan p log) (client : a.0 ≤ 16) (c : CarriesOutCommand p a.0 log x.visit.met x.visit.epochs servers x.work) (busy : IsBusy x.work) (k : IsPaced p a.0 log x.work) where
   -- a line that isn't the last leaves so many lines less
-  goes_on : (line : Line) (after : Work) → is_of a.0 line ≡ true → is_end line ≡ false → IsBusy after → work_left after + counted line ≤ work_left x.work → IsWithinCost p line log × HasLeft p a.0 (line ∷ log) (work_left after)
+  goes_on : (line : Line) (after : WorkMachine) → is_of a.0 line ≡ true → is_end line ≡ false → IsBusy after → work_left after + counted line ≤ work_left x.work → IsWithinCost p line log × HasLeft p a.0 (line ∷ log) (work_left after)
   goes_on line after own more still nearer = (
     is_within p a.0 line log (work_left x.work) own k.within (rw more (let some = paces.ends after still in omega (arith, some, nearer))),
     has_left p a.0 line log (work_left x.work) own k.within more (work_left after) nearer,
@@ -79,7 +79,7 @@ module _ (paces : PaceLaws) (p : Plan) (a : ActorId) (log : List Line) (servers 
     abbrev chosen : BrickId
     chosen = reader_of s.heard.picked
 
-    abbrev after : Work
+    abbrev after : WorkMachine
     after = heard_by chosen (heard_of.Answer s.given.answer (length log)) x.work
 
     among : IsAmong (choices_of s.given.answer (length log) x.work) chosen
@@ -120,7 +120,7 @@ module _ (paces : PaceLaws) (p : Plan) (a : ActorId) (log : List Line) (servers 
 
   -- ---- an attempt begins
   module _ (change : Change) (e : next_of (length log) x.work ≡ next.Begin change) (s : IsBegun a (length log) change x y servers new written) where
-    abbrev begun : Work
+    abbrev begun : WorkMachine
     begun = heard_by (reader_of None) (heard_of.Begun (length log)) x.work
 
     begin_paced : LinePaced p a.0 log (Begin a change) begun

@@ -12,7 +12,7 @@ use Rattle.afr_rule.specs.Choosing.{Calls}
 use Rattle.afr_server.specs.Serving.{Serving}
 use Rattle.afr_walk.specs.Choosing.{RuleAnswers, reader_of}
 use Rattle.afr_works.specs.Work.{choices_of, heard_by}
-use Rattle.afr_works.specs.declared.work.Work.{Work}
+use Rattle.afr_works.specs.declared.work.WorkMachine.{WorkMachine}
 use Rattle.afr_volume.specs.Acting.{HasHeard, Hearing, HearsBy, picked_after, picked_by, picked_of}
 use Rattle.afr_volume.specs.Keeping.{IsActing}
 use Rattle.afr_volume.specs.Starting.{AreNewActors}
@@ -21,7 +21,7 @@ use Rattle.afr_volume.specs.Turning.{KillsIn, ReadiedAt, Readies, StepsAt}
 use Rattle.afr_volume.specs.declared.actor.Actor.{Actor}
 
 -- ---- what was picked is kept beside the work that has heard it
-pub heard_so : {F : Type 0} (calls : Calls F) (choose : F) (answer : Answer) (at : ℕ) (met : Bool) (request : Request) (x : Actor) (after : Work) (now kept : Option BrickId) → RuleAnswers calls choose (choices_of answer at x.work) now → after ≡ heard_by (reader_of now) (heard.Answer answer at) x.work
+pub heard_so : {F : Type 0} (calls : Calls F) (choose : F) (answer : Answer) (at : ℕ) (met : Bool) (request : Request) (x : Actor) (after : WorkMachine) (now kept : Option BrickId) → RuleAnswers calls choose (choices_of answer at x.work) now → after ≡ heard_by (reader_of now) (heard.Answer answer at) x.work
     → kept ≡ picked_after met request now x.picked → HasHeard (HearsBy calls choose) answer at met request x (record { ended = x.ended; killed = x.killed; visit = x.visit; picked = kept; work = after })
 heard_so calls choose answer at met request x after now kept answers value keeps = record {
   after = after;

@@ -9,11 +9,11 @@ use Rattle.afr_model.specs.Actors.{script_of}
 use Rattle.afr_plan.specs.declared.command.Command.{Command}
 use Rattle.afr_plan.specs.declared.command.Command.TheVariants as command
 use Rattle.afr_plan.specs.declared.plan.Plan.{Plan}
-use Rattle.afr_readings.specs.Laws.{IsOneOf, KeepsPicked, number_in, picked_then}
+use Rattle.afr_readings.specs.Laws.{IsPickedOf, KeepsPicked, number_in, picked_then}
 use Rattle.afr_readings.specs.Readings.{asked_for_command, asked_in, asked_of, command_by, latest}
 use Rattle.afr_rule.specs.declared.candidate.Candidate.{Candidate}
 use Rattle.afr_walk.specs.Choosing.{IsAmong, reader_of}
-use Rattle.afr_works.specs.declared.work.Work.{Work}
+use Rattle.afr_works.specs.declared.work.WorkMachine.{WorkMachine}
 use Rattle.afr_volume.specs.Acting.{picked_after, still_picked}
 use Rattle.afr_volume.specs.Keeping.{IsReading}
 
@@ -35,7 +35,7 @@ nobody : (from : List Candidate) → from ≡ [] → 0 < length from → ⊥
 nobody [] e l = omega (arith, l)
 nobody (x ∷ from) e l = cc e
 
-pub one_among : (from : List Candidate) (picked : Option BrickId) → IsOneOf from picked → IsAmong from (reader_of picked)
+pub one_among : (from : List Candidate) (picked : Option BrickId) → IsPickedOf from picked → IsAmong from (reader_of picked)
 one_among from None e = λ l. absurd (nobody from e l)
 one_among from (Some b) o = λ l. o
 
@@ -73,7 +73,7 @@ asked_first p (command.GetAttr path key) = refl
 asked_first p (command.Rename from to) = refl
 
 -- ---- a client whose line it isn't reads as it did
-pub reading_stays : (p : Plan) (c : ℕ) (line : Line) (log : List Line) (met : Bool) (picked : Option BrickId) (w : Work) → is_of c line ≡ false → work c (line ∷ log) ≡ work c log → ended c (line ∷ log) ≡ ended c log
+pub reading_stays : (p : Plan) (c : ℕ) (line : Line) (log : List Line) (met : Bool) (picked : Option BrickId) (w : WorkMachine) → is_of c line ≡ false → work c (line ∷ log) ≡ work c log → ended c (line ∷ log) ≡ ended c log
     → IsReading p c log met picked w → IsReading p c (line ∷ log) met picked w
 reading_stays p c line log met picked w other same_work same_ended k = record {
   keeps = λ command is. subst (λ (lines : Lines). KeepsPicked p command w lines (number_in (still_picked met picked))) (sym same_work) (k.keeps command (ap (slice_get (script_of p c)) (sym same_ended) ∙ is));

@@ -18,14 +18,14 @@ use Rattle.afr_object.specs.declared.change.Change.{Change}
 use Rattle.afr_plan.specs.declared.plan.Plan.{Plan}
 use Rattle.afr_readings.proofs.Asked.{asked_before, is_look_line}
 use Rattle.afr_readings.specs.Laws.{number_in}
-use Rattle.afr_readings.specs.Readings.{Answers, asked_for_command, asked_of}
+use Rattle.afr_readings.specs.Readings.{PickAnswers, asked_for_command, asked_of}
 use Rattle.afr_rule.specs.Choosing.{Calls}
 use Rattle.afr_server.specs.Serving.{Serving}
 use Rattle.afr_sources.specs.Sources.{picks_of}
 use Rattle.afr_works.specs.Work as works
 use Rattle.afr_works.specs.Work.{IsBusy, choices_heard, next_of}
 use Rattle.afr_volume.specs.Acting.{HearsAny, HearsBy, IsAsked, IsBegun, IsEnded, Stepped, SteppedBy, picked_after, picked_by, picked_of, still_picked}
-use Rattle.afr_volume.specs.Keeping.{CarriesOut, IsActing}
+use Rattle.afr_volume.specs.Keeping.{CarriesOutCommand, IsActing}
 use Rattle.afr_volume.specs.Laws.{Laws, RuleLaws}
 use Rattle.afr_volume.specs.State.{AreRead}
 use Rattle.afr_volume.specs.Turning.{ReadiedAt, StepsAt}
@@ -77,34 +77,34 @@ module _ {G : Type 0} (calls : Calls G) (choose : G) (rules : RuleLaws calls cho
 -- a line keeps to what the rule picked, and what it leaves beside the log the rule answered
 pub record ReadsOn (picks : Picks) (p : Plan) (a : ℕ) (log : List Line) (line : Line) (y : Actor) : Type 0 where
   pub picked : ReadsPicked picks p line log
-  pub answers : Answers picks (asked_of p a (line ∷ log)) (picked_by y)
+  pub answers : PickAnswers picks (asked_of p a (line ∷ log)) (picked_by y)
 
 module _ {G : Type 0} (calls : Calls G) (choose : G) (rules : RuleLaws calls choose) (laws : Laws) (p : Plan) (a : ActorId) (log : List Line) (servers : List Serving) (before : IsBefore p a log servers) (x y : Actor) (new : List Serving) (written : Line)
-    (acting : IsActing p log a.0 servers x) (c : CarriesOut p a.0 log x.visit.met x.visit.epochs servers x.work) (was : Answers (picks_of calls choose) (asked_of p a.0 log) (picked_by x)) where
+    (acting : IsActing p log a.0 servers x) (c : CarriesOutCommand p a.0 log x.visit.met x.visit.epochs servers x.work) (was : PickAnswers (picks_of calls choose) (asked_of p a.0 log) (picked_by x)) where
   abbrev kept : Option ℕ
   kept = number_in (still_picked x.visit.met x.picked)
 
   -- before the line the rule has answered for the looks of the present work
-  answered : Answers (picks_of calls choose) (asked_for_command p c.command (work a.0 log)) kept
+  answered : PickAnswers (picks_of calls choose) (asked_for_command p c.command (work a.0 log)) kept
   answered = by_met x.visit.met refl
     where
-      by_met : (met : Bool) → x.visit.met ≡ met → Answers (picks_of calls choose) (asked_for_command p c.command (work a.0 log)) (number_in (still_picked met x.picked))
-      by_met true e = subst (λ (from : List (ℕ × ℕ)). Answers (picks_of calls choose) from (picked_by x)) (acting.reads.within e ∙ rw c.present refl) was
+      by_met : (met : Bool) → x.visit.met ≡ met → PickAnswers (picks_of calls choose) (asked_for_command p c.command (work a.0 log)) (number_in (still_picked met x.picked))
+      by_met true e = subst (λ (from : List (ℕ × ℕ)). PickAnswers (picks_of calls choose) from (picked_by x)) (acting.reads.within e ∙ rw c.present refl) was
       by_met false e = rw (acting.reads.fresh e) (asked_first p c.command)
 
   -- a line that doesn't look asks it for nothing new
-  still_answered : (line : Line) → is_look_line line ≡ false → Answers (picks_of calls choose) (asked_for_command p c.command ((line, log) ∷ work a.0 log)) kept
-  still_answered line e = subst (λ (from : List (ℕ × ℕ)). Answers (picks_of calls choose) from kept) (sym (asked_before p c.command line log (work a.0 log) e)) answered
+  still_answered : (line : Line) → is_look_line line ≡ false → PickAnswers (picks_of calls choose) (asked_for_command p c.command ((line, log) ∷ work a.0 log)) kept
+  still_answered line e = subst (λ (from : List (ℕ × ℕ)). PickAnswers (picks_of calls choose) from kept) (sym (asked_before p c.command line log (work a.0 log) e)) answered
 
-  own_line : (line : Line) (y : Actor) (picked : Option BrickId) → is_of a.0 line ≡ true → y.picked ≡ picked → Answers (picks_of calls choose) (asked_for_command p c.command ((line, log) ∷ work a.0 log)) (number_in picked)
-      → Answers (picks_of calls choose) (asked_of p a.0 (line ∷ log)) (picked_by y)
+  own_line : (line : Line) (y : Actor) (picked : Option BrickId) → is_of a.0 line ≡ true → y.picked ≡ picked → PickAnswers (picks_of calls choose) (asked_for_command p c.command ((line, log) ∷ work a.0 log)) (number_in picked)
+      → PickAnswers (picks_of calls choose) (asked_of p a.0 (line ∷ log)) (picked_by y)
   own_line line y picked own is k = rw (asked_is p a.0 line log c.command own c.present, is) k
 
   asks : (b : BrickId) (asked : Request) → next_of (length log) x.work ≡ next.Ask b asked → IsAsked (HearsBy calls choose) a (length log) b asked x y servers new written → ReadsOn (picks_of calls choose) p a.0 log written y
   asks b asked e s = subst (λ (l : Line). ReadsOn (picks_of calls choose) p a.0 log l y) (sym s.is_line) (record {
     picked = rules.reads p c.command x.work a b asked (told_by s.given.answer) s.given.took log kept c.sound c.tells e (acting.reads.keeps c.command c.present) answered;
     answers = own_line (Ask a b asked (told_by s.given.answer) s.given.took) y (picked_after x.visit.met asked s.heard.picked x.picked) (self a.0) (ap (λ (z : Actor). z.picked) s.heard.becomes)
-        (subst (Answers (picks_of calls choose) (asked_for_command p c.command ((Ask a b asked (told_by s.given.answer) s.given.took, log) ∷ work a.0 log)))
+        (subst (PickAnswers (picks_of calls choose) (asked_for_command p c.command ((Ask a b asked (told_by s.given.answer) s.given.took, log) ∷ work a.0 log)))
         (picked_same x.visit.met asked s.heard.picked x.picked (kept_picked laws p a log servers before x y new written c b asked e any acting.reads).none)
         (rules.asks p c.command x.work (work a.0 log) a b asked s.given.answer s.given.took log s.heard.picked kept c.sound c.tells e (hears_next laws p a log servers before x y new written c b asked e any) (acting.reads.keeps c.command c.present)
         s.heard.hears.answers answered));
@@ -142,16 +142,16 @@ all_read picks p a log line y picked low own k before = record {
   present = λ i brick small is. by i brick small is (eqb_tells a (1 + i));
 }
   where
-    by : (i : ℕ) (brick : Option ℕ) → i < length p.clients → slice_get (slice_set picked (a - 1) (picked_by y)) i ≡ Some brick → ((a == 1 + i) ≡ true) × (a ≡ 1 + i) ⊎ ((a == 1 + i) ≡ false) × (a ≢ 1 + i) → Answers picks (asked_of p (1 + i) (line ∷ log)) brick
+    by : (i : ℕ) (brick : Option ℕ) → i < length p.clients → slice_get (slice_set picked (a - 1) (picked_by y)) i ≡ Some brick → ((a == 1 + i) ≡ true) × (a ≡ 1 + i) ⊎ ((a == 1 + i) ≡ false) × (a ≢ 1 + i) → PickAnswers picks (asked_of p (1 + i) (line ∷ log)) brick
     by i brick small is (inl e) =
         let same = e.1 in
         let at : a - 1 ≡ i = omega (arith, same) in
         let it : picked_by y ≡ brick = here_set picked (a - 1) (picked_by y) brick (subst (λ (j : ℕ). slice_get (slice_set picked (a - 1) (picked_by y)) j ≡ Some brick) (sym at) is) in
-        subst (Answers picks (asked_of p (1 + i) (line ∷ log))) it (subst (λ (c : ℕ). Answers picks (asked_of p c (line ∷ log)) (picked_by y)) same k.answers)
+        subst (PickAnswers picks (asked_of p (1 + i) (line ∷ log))) it (subst (λ (c : ℕ). PickAnswers picks (asked_of p c (line ∷ log)) (picked_by y)) same k.answers)
     by i brick small is (inr e) =
         let apart = e.1 in
         let differs : (i ≡ a - 1 → ⊥) = λ at. apart (omega (arith, low, at)) in
-        subst (λ (from : List (ℕ × ℕ)). Answers picks from brick) (sym (other_asked p (1 + i) line log (own (1 + i) ∙ e.0))) (before.present i brick small (sym (other_set picked i (a - 1) (picked_by y) differs) ∙ is))
+        subst (λ (from : List (ℕ × ℕ)). PickAnswers picks from brick) (sym (other_asked p (1 + i) line log (own (1 + i) ∙ e.0))) (before.present i brick small (sym (other_set picked i (a - 1) (picked_by y) differs) ∙ is))
 
 module _ {G : Type 0} (calls : Calls G) (choose : G) (rules : RuleLaws calls choose) (laws : Laws) (p : Plan) (a : ActorId) (items : List Line) (actors readied : List Actor) (servers : List Serving) (before : IsBefore p a (reverse items) servers) (r : ReadiedAt p a.0 actors readied)
     (mine : (x : Actor) → slice_get readied (a.0 - 1) ≡ Some x → IsActing p (reverse items) a.0 servers x) (busy : (x : Actor) → slice_get readied (a.0 - 1) ≡ Some x → IsBusy x.work) where
@@ -172,8 +172,8 @@ module _ {G : Type 0} (calls : Calls G) (choose : G) (rules : RuleLaws calls cho
       again : 1 + (a.0 - 1) ≡ a.0
       again = let low = before.one in omega (arith, low)
 
-      was : Answers (picks_of calls choose) (asked_of p a.0 (reverse items)) (picked_by s.before)
-      was = subst (λ (c : ℕ). Answers (picks_of calls choose) (asked_of p c (reverse items)) (picked_by s.before)) again (kept.present (a.0 - 1) (picked_by s.before) there (picked_at readied (a.0 - 1) s.before s.was))
+      was : PickAnswers (picks_of calls choose) (asked_of p a.0 (reverse items)) (picked_by s.before)
+      was = subst (λ (c : ℕ). PickAnswers (picks_of calls choose) (asked_of p c (reverse items)) (picked_by s.before)) again (kept.present (a.0 - 1) (picked_by s.before) there (picked_at readied (a.0 - 1) s.before s.was))
 
       stepped : Stepped (HearsBy calls choose) a (length (reverse items)) s.before s.after servers new_servers line
       stepped = subst (λ (at : ℕ). Stepped (HearsBy calls choose) a at s.before s.after servers new_servers line) (position ∙ sym (length-reverse items)) s.steps

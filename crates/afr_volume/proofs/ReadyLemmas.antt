@@ -7,20 +7,20 @@ use Rattle.afr_plan.specs.declared.plan.Plan.{Plan}
 use Rattle.afr_model.specs.Actors.{script_of}
 use Rattle.afr_works.specs.Begin.{has_machine, work_from}
 use Rattle.afr_works.specs.Work.{IsBusy, IsWork, is_idle}
-use Rattle.afr_works.specs.declared.work.Work.{Work}
-use Rattle.afr_works.specs.declared.work.Work.TheVariants.{Entry, Idle, Lookup, Rename, Write}
+use Rattle.afr_works.specs.declared.work.WorkMachine.{WorkMachine}
+use Rattle.afr_works.specs.declared.work.WorkMachine.TheVariants.{Entry, Idle, Lookup, Rename, Write}
 use Rattle.afr_volume.specs.Turning.{ReadiedAt}
 use Rattle.afr_volume.specs.declared.actor.Actor.{Actor}
 
 -- ---- works
-busy_is : (w : Work) → is_idle w ≡ false → IsBusy w
+busy_is : (w : WorkMachine) → is_idle w ≡ false → IsBusy w
 busy_is Idle e = absurd (cc e)
 busy_is (Lookup m) e = tt
 busy_is (Write m) e = tt
 busy_is (Entry m) e = tt
 busy_is (Rename m) e = tt
 
-idle_is : (w : Work) → is_idle w ≡ true → w ≡ Idle
+idle_is : (w : WorkMachine) → is_idle w ≡ true → w ≡ Idle
 idle_is Idle e = refl
 idle_is (Lookup m) e = absurd (cc e)
 idle_is (Write m) e = absurd (cc e)
@@ -70,7 +70,7 @@ pub script_is : (p : Plan) (a : ℕ) (script : List Command) → slice_get p.cli
 script_is p a script h = get_or_from_slice_get p.clients (a - 1) script [] h
 
 -- an idle actor has the work of its next command
-pub begins_next : (p : Plan) (a : ℕ) (l : List Actor) (seen counted x : Actor) (script : List Command) (c : Command) (w : Work) → a - 1 < length l → seen ≡ get_or l (a - 1) seen → counted ≡ get_or l (a - 1) counted → x ≡ get_or l (a - 1) x → is_idle seen.work ≡ true
+pub begins_next : (p : Plan) (a : ℕ) (l : List Actor) (seen counted x : Actor) (script : List Command) (c : Command) (w : WorkMachine) → a - 1 < length l → seen ≡ get_or l (a - 1) seen → counted ≡ get_or l (a - 1) counted → x ≡ get_or l (a - 1) x → is_idle seen.work ≡ true
     → slice_get p.clients (a - 1) ≡ Some script → slice_get script counted.ended ≡ Some c → has_machine c ≡ true → w ≡ work_from p.shape c → IsWork w
     → ReadiedAt p a l (set l (a - 1) (record { ended = x.ended; killed = x.killed; visit = x.visit; picked = x.picked; work = w }))
 begins_next p a l seen counted x script c w small e g f idle own present has is sound = record {
@@ -81,7 +81,7 @@ begins_next p a l seen counted x script c w small e g f idle own present has is 
     subst (λ (y : Actor). y.work ≡ Idle) (same_at l (a - 1) seen x small e f) (idle_is seen.work idle),
     c,
     subst (λ (commands : List Command). slice_get commands x.ended ≡ Some c) (sym (script_is p a script own)) (subst (λ (y : Actor). slice_get script y.ended ≡ Some c) (same_at l (a - 1) counted x small g f) present),
-    ap (λ (w : Work). record { ended = x.ended; killed = x.killed; visit = x.visit; picked = x.picked; work = w }) is,
+    ap (λ (w : WorkMachine). record { ended = x.ended; killed = x.killed; visit = x.visit; picked = x.picked; work = w }) is,
   );
   busy = subst IsBusy (sym is) (busy_from p c has);
   sound = sound;

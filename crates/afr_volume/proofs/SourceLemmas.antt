@@ -22,7 +22,7 @@ use Rattle.afr_server.specs.Serving.{Serving}
 use Rattle.afr_servers.specs.declared.epochs.Epochs.{Epochs}
 use Rattle.afr_sources.proofs.Turns.{client_keeps, each_same, ends_heal, ready_same, set_same, set_source}
 use Rattle.afr_sources.specs.Chosen.{AreChosen}
-use Rattle.afr_sources.specs.Sources.{source_at, source_in, source_of, sources_of}
+use Rattle.afr_sources.specs.Sources.{picked_source, source_at, source_in, sources_of}
 use Rattle.afr_volume.specs.Acting.{picked_of}
 use Rattle.afr_volume.specs.Starting.{AreNewActors, AreNewHealers}
 use Rattle.afr_volume.specs.State.{HealsChosen, State, opened}
@@ -57,7 +57,7 @@ rests : (p : Plan) (a : ℕ) (met : Bool) (epochs : Epochs) (servers : List Serv
 rests p a met epochs servers None k = refl
 rests p a met epochs servers (Some m) k = asks_first m.stage k.begun
 
-all_none : (l : List Healer) → ((i : ℕ) (x : Healer) → slice_get l i ≡ Some x → source_of x ≡ None) → sources_of l ≡ replicate (length l) None
+all_none : (l : List Healer) → ((i : ℕ) (x : Healer) → slice_get l i ≡ Some x → picked_source x ≡ None) → sources_of l ≡ replicate (length l) None
 all_none [] each = refl
 all_none (x ∷ l) each = rw (each 0 x refl) (ap (λ (rest : List (Option ℕ)). None ∷ rest) (all_none l (λ i y h. each (suc i) y h)))
 
@@ -69,7 +69,7 @@ pub rested_state : (p : Plan) (log : List Line) (sources picked : List (Option �
     → record { plan = p; log = log; sources = sources; picked = picked } ≡ opened p
 rested_state p log sources picked none resting unpicked = rw (none, resting, unpicked) refl
 
-fresh_source : (x : Healer) → IsNewHealer x → source_of x ≡ None
+fresh_source : (x : Healer) → IsNewHealer x → picked_source x ≡ None
 fresh_source x k = rw k.idle refl
 
 pub new_state : (p : Plan) (log : List Line) (healers : List Healer) (actors : List Actor) → log ≡ [] → AreNewHealers (length p.healers) healers → AreNewActors (length p.clients) actors
@@ -129,13 +129,13 @@ other_set (x ∷ l) (suc i) (suc j) y other = other_set l i j y (λ same. other 
 pub healer_others : (Hears : Hearing) (p : Plan) (a : ActorId) (at : ℕ) (healers readied new : List Healer) (bricks after : List Serving) (line : Line) → 17 ≤ a.0 → ReadiedHealerAt p a.0 healers readied → StepsHealerAt Hears a at readied new bricks after line
     → (i : ℕ) → (17 + i ≡ a.0 → ⊥) → slice_get (sources_of new) i ≡ slice_get (sources_of healers) i
 healer_others Hears p a at healers readied new bricks after line low r s i other =
-    let set_is : sources_of new ≡ slice_set (sources_of readied) (a.0 - 17) (source_of s.after) = ap sources_of s.set_is ∙ set_source readied (a.0 - 17) s.after in
+    let set_is : sources_of new ≡ slice_set (sources_of readied) (a.0 - 17) (picked_source s.after) = ap sources_of s.set_is ∙ set_source readied (a.0 - 17) s.after in
     let apart : (i ≡ a.0 - 17 → ⊥) = λ same. other (omega (arith, low, same)) in
-    ap (λ (l : List (Option ℕ)). slice_get l i) set_is ∙ other_set (sources_of readied) i (a.0 - 17) (source_of s.after) apart ∙ ap (λ (l : List (Option ℕ)). slice_get l i) (readied_sources p a.0 healers readied r)
+    ap (λ (l : List (Option ℕ)). slice_get l i) set_is ∙ other_set (sources_of readied) i (a.0 - 17) (picked_source s.after) apart ∙ ap (λ (l : List (Option ℕ)). slice_get l i) (readied_sources p a.0 healers readied r)
 
 -- ---- an event leaves them all
 killed_sources : (event : Event) (old new : List Healer) → KillsHealersIn event old new → sources_of new ≡ sources_of old
-killed_sources event old new k = each_same old new k.count (λ i x y is at. ap source_of (k.each i x y is at))
+killed_sources event old new k = each_same old new k.count (λ i x y is at. ap picked_source (k.each i x y is at))
 
 pub comes : (p : Plan) (items added : List Line) (healers after : List Healer) (actors actors_after : List Actor) (event : Event) → due_at p (reverse items) ≡ Some event → added ≡ items ++ line_of.Event event ∷ [] → KillsHealersIn event healers after → KillsIn event actors actors_after
     → Comes (record { plan = p; log = reverse items; sources = sources_of healers; picked = picked_of actors }) (record { plan = p; log = reverse added; sources = sources_of after; picked = picked_of actors_after })

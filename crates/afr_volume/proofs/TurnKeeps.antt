@@ -17,10 +17,10 @@ use Rattle.afr_server.specs.Serving.{Serving}
 use Rattle.afr_servers.specs.declared.epochs.Epochs.{Epochs}
 use Rattle.afr_works.specs.Begin.{has_machine, work_from}
 use Rattle.afr_works.specs.Work.{CarriesNext, IsBusy, IsWork, next_of, register_of}
-use Rattle.afr_works.specs.declared.work.Work.{Work}
-use Rattle.afr_works.specs.declared.work.Work.TheVariants.{Entry, Idle, Lookup, Rename, Write}
+use Rattle.afr_works.specs.declared.work.WorkMachine.{WorkMachine}
+use Rattle.afr_works.specs.declared.work.WorkMachine.TheVariants.{Entry, Idle, Lookup, Rename, Write}
 use Rattle.afr_volume.specs.Acting.{CanStep, HearsAny, Stepped, SteppedBy, still_picked}
-use Rattle.afr_volume.specs.Keeping.{CanRun, Carries, CarriesOut, IsActing, IsBetween, IsVolume}
+use Rattle.afr_volume.specs.Keeping.{CanRun, Carries, CarriesOutCommand, IsActing, IsBetween, IsVolume}
 use Rattle.afr_volume.specs.Turning.{ReadiedAt, Readies}
 use Rattle.afr_volume.specs.declared.actor.Actor.{Actor}
 use Rattle.afr_volume.proofs.AskKeeps.{ask_keeps}
@@ -45,7 +45,7 @@ got_other (x ∷ l) (suc i) (suc j) y z apart e = got_other l i j y z (λ same. 
 
 module _ (laws : Laws) (p : Plan) (a : ActorId) (log : List Line) (servers : List Serving) (before : IsBefore p a log servers) where
   -- a work that has begun carries out its command
-  pub carried : (met : Bool) (epochs : Epochs) (w : Work) → IsBusy w → Carries p a.0 log met epochs servers w → CarriesOut p a.0 log met epochs servers w
+  pub carried : (met : Bool) (epochs : Epochs) (w : WorkMachine) → IsBusy w → Carries p a.0 log met epochs servers w → CarriesOutCommand p a.0 log met epochs servers w
   carried met epochs Idle busy k = absurd busy
   carried met epochs (Lookup m) busy k = k
   carried met epochs (Write m) busy k = k
@@ -66,7 +66,7 @@ module _ (laws : Laws) (p : Plan) (a : ActorId) (log : List Line) (servers : Lis
   pub line_keeps : (x y : Actor) (new : List Serving) (line : Line) → IsBusy x.work → IsActing p log a.0 servers x → Stepped HearsAny a (length log) x y servers new line → LineKeeps p a log line y servers new
   line_keeps x y new line busy acting s = by_next (next_of (length log) x.work) refl s
     where
-      c : CarriesOut p a.0 log x.visit.met x.visit.epochs servers x.work
+      c : CarriesOutCommand p a.0 log x.visit.met x.visit.epochs servers x.work
       c = carried x.visit.met x.visit.epochs x.work busy acting.carries
 
       by_next : (n : Next) → next_of (length log) x.work ≡ n → SteppedBy HearsAny a (length log) x y servers new line n → LineKeeps p a log line y servers new
@@ -130,7 +130,7 @@ kept_turn laws p a log x y servers new actors made line v client actor is busy a
         others_stay p a (i + 1) line log servers new z keeps.wrote e.0 (λ r. keeps.stands (i + 1) r other) (λ epochs. keeps.found (i + 1) epochs (λ f. other (sym f))) (v.each i z (got_other actors (a.0 - 1) i y z apart h))
 
 -- ---- a command begins
-as_carries : (p : Plan) (a : ℕ) (log : List Line) (met : Bool) (epochs : Epochs) (servers : List Serving) (w : Work) → CarriesOut p a log met epochs servers w → Carries p a log met epochs servers w
+as_carries : (p : Plan) (a : ℕ) (log : List Line) (met : Bool) (epochs : Epochs) (servers : List Serving) (w : WorkMachine) → CarriesOutCommand p a log met epochs servers w → Carries p a log met epochs servers w
 as_carries p a log met epochs servers Idle k = absurd k.tells
 as_carries p a log met epochs servers (Lookup m) k = k
 as_carries p a log met epochs servers (Write m) k = k
@@ -139,10 +139,10 @@ as_carries p a log met epochs servers (Rename m) k = k
 
 -- an idle actor has written no line of its next work
 pub between : (p : Plan) (log : List Line) (a : ℕ) (servers : List Serving) (x : Actor) → IsActing p log a servers x → x.work ≡ Idle → IsBetween a log x.visit.met
-between p log a servers x k idle = subst (λ (w : Work). Carries p a log x.visit.met x.visit.epochs servers w) idle k.carries
+between p log a servers x k idle = subst (λ (w : WorkMachine). Carries p a log x.visit.met x.visit.epochs servers w) idle k.carries
 
 starts : (laws : BeginLaws) (p : Plan) (log : List Line) (a : ℕ) (servers : List Serving) (met : Bool) (epochs : Epochs) (command : Command) → CanRun p → 0 < p.shape.n → IsBetween a log met → slice_get (script_of p a) (ended a log) ≡ Some command
-    → IsWork (work_from p.shape command) → CarriesOut p a log met epochs servers (work_from p.shape command)
+    → IsWork (work_from p.shape command) → CarriesOutCommand p a log met epochs servers (work_from p.shape command)
 starts laws p log a servers met epochs command run some k present sound = rw k.unmet (record {
   command = command;
   present = present;

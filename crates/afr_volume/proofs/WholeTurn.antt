@@ -13,8 +13,8 @@ use Rattle.afr_servers.specs.Log.{AreFound}
 use Rattle.afr_transaction.specs.Turn.{Stood}
 use Rattle.afr_servers.specs.declared.epochs.Epochs.{Epochs}
 use Rattle.afr_works.specs.Work.{IsBusy}
-use Rattle.afr_works.specs.declared.work.Work.{Work}
-use Rattle.afr_works.specs.declared.work.Work.TheVariants.{Entry, Idle, Lookup, Rename, Write}
+use Rattle.afr_works.specs.declared.work.WorkMachine.{WorkMachine}
+use Rattle.afr_works.specs.declared.work.WorkMachine.TheVariants.{Entry, Idle, Lookup, Rename, Write}
 use Rattle.afr_plan.specs.declared.command.Command.{Command}
 use Rattle.afr_plan.specs.declared.plan.Plan.{Plan}
 use Rattle.afr_model.specs.Actors.{IsActor, is_done, works_of, script_of}
@@ -209,7 +209,7 @@ turned p a items added was is picked_before picked_now line waits answer own gro
     go None w some none = subst (λ (t : Turned). Turns a old t new) (sym (none refl)) (adds None w)
 
 -- ---- an actor that has ended all its works has no present one
-with_command : (p : Plan) (a : ℕ) (log : List Line) (met : Bool) (epochs : Epochs) (servers : List Serving) (w : Work) → length (script_of p a) ≤ ended a log → Carries p a log met epochs servers w → work a log ≡ []
+with_command : (p : Plan) (a : ℕ) (log : List Line) (met : Bool) (epochs : Epochs) (servers : List Serving) (w : WorkMachine) → length (script_of p a) ≤ ended a log → Carries p a log met epochs servers w → work a log ≡ []
 with_command p a log met epochs servers Idle few k = k.none
 with_command p a log met epochs servers (Write m) few k = absurd (omega (arith, few, slice_get_within (script_of p a) (ended a log) k.command k.present))
 with_command p a log met epochs servers (Entry m) few k = absurd (omega (arith, few, slice_get_within (script_of p a) (ended a log) k.command k.present))

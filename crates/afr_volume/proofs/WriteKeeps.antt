@@ -9,7 +9,7 @@ use Rattle.afr_inode_read.specs.declared.stage.LookupStage.{LookupStage}
 use Rattle.afr_inode_read.specs.declared.stage.LookupStage.TheVariants.{Ending, Looking, Reading, Walking}
 use Rattle.afr_lines.specs.Places.{Fresh, Within, next_place, place_of}
 use Rattle.afr_lines.specs.Work.{ended, is_of, work}
-use Rattle.afr_lines.specs.declared.answer.Told.TheVariants as told_of
+use Rattle.afr_lines.specs.declared.answer.Told.TheVariants as as_told
 use Rattle.afr_lines.specs.declared.line.Heard.TheVariants as heard_of
 use Rattle.afr_lines.specs.declared.line.Line.{Line}
 use Rattle.afr_lines.specs.declared.line.Line.TheVariants.{Begin, End}
@@ -44,11 +44,11 @@ use Rattle.afr_readings.specs.Readings.{asked_in}
 use Rattle.afr_walk.specs.Choosing.{IsAmong, reader_of}
 use Rattle.afr_walk.specs.Free.{Allows}
 use Rattle.afr_works.specs.Work.{IsWork, choices_heard, heard_by, next_of, register_of}
-use Rattle.afr_works.specs.declared.work.Work.{Work}
-use Rattle.afr_works.specs.declared.work.Work.TheVariants.{Entry, Idle, Lookup, Rename, Write}
+use Rattle.afr_works.specs.declared.work.WorkMachine.{WorkMachine}
+use Rattle.afr_works.specs.declared.work.WorkMachine.TheVariants.{Entry, Idle, Lookup, Rename, Write}
 use Rattle.afr_works_tell.specs.WorkTelling.{WorkTells}
 use Rattle.afr_volume.specs.Acting.{IsBegun, IsEnded, still_picked}
-use Rattle.afr_volume.specs.Keeping.{Carries, CarriesOut, IsActing, IsNoted, IsReading}
+use Rattle.afr_volume.specs.Keeping.{Carries, CarriesOutCommand, IsActing, IsNoted, IsReading}
 use Rattle.afr_volume.specs.declared.actor.Actor.{Actor}
 use Rattle.afr_volume.proofs.Before.{IsBefore, in_force, opened}
 use Rattle.afr_volume.proofs.Before as known
@@ -57,7 +57,7 @@ use Rattle.afr_volume.proofs.LineKeeps.{Begins, Ends, LineKeeps, of_client, self
 use Rattle.afr_volume.proofs.ReadingLemmas.{own_asked}
 
 -- ---- a place within the work
-within : (met : Bool) (p : Plan) (a : ActorId) (change : Change) (log : List Line) (w : Work) → IsNoted met p.shape a.0 log (register_of w) → next_place (place_of a.0 log) (Begin a change) ≡ Within
+within : (met : Bool) (p : Plan) (a : ActorId) (change : Change) (log : List Line) (w : WorkMachine) → IsNoted met p.shape a.0 log (register_of w) → next_place (place_of a.0 log) (Begin a change) ≡ Within
 within true p a change log w k = rw k.0 refl
 within false p a change log w k = rw k.0 refl
 
@@ -70,7 +70,7 @@ new_gfid at (change_of.Make dir name g what) k = absurd k
 new_gfid at (change_of.Remove dir name what) k = absurd k
 
 -- a Begin line asks no rule
-none_among : (w : Work) (at : ℕ) (b : BrickId) → IsAmong (choices_heard (heard_of.Begun at) w) b
+none_among : (w : WorkMachine) (at : ℕ) (b : BrickId) → IsAmong (choices_heard (heard_of.Begun at) w) b
 none_among Idle at b = λ l. absurd (omega (arith, l))
 none_among (Lookup m) at b = λ l. absurd (omega (arith, l))
 none_among (Write m) at b = λ l. absurd (omega (arith, l))
@@ -87,7 +87,7 @@ no_begin m change e = by_stage m.stage e
     by_stage (Reading b of) e = absurd (cc e)
     by_stage (Ending said) e = absurd (cc e)
 
-module _ (laws : Laws) (p : Plan) (a : ActorId) (log : List Line) (servers : List Serving) (before : IsBefore p a log servers) (x y : Actor) (new : List Serving) (written : Line) (c : CarriesOut p a.0 log x.visit.met x.visit.epochs servers x.work) where
+module _ (laws : Laws) (p : Plan) (a : ActorId) (log : List Line) (servers : List Serving) (before : IsBefore p a log servers) (x y : Actor) (new : List Serving) (written : Line) (c : CarriesOutCommand p a.0 log x.visit.met x.visit.epochs servers x.work) where
   -- the servers at a line that is no request
   goes_on : (line : Line) (epochs : Epochs) → ((b : ℕ) → is_elsewhere b line ≡ true) → ((z : ℕ) → is_of z line ≡ (a.0 == z)) → MeetsNext x.visit.met a x.visit.epochs servers new epochs → GoOn p log a line epochs servers new
   goes_on line epochs elsewhere own met = by_met x.visit.met refl met
@@ -112,7 +112,7 @@ module _ (laws : Laws) (p : Plan) (a : ActorId) (log : List Line) (servers : Lis
     abbrev begin_line : Line
     begin_line = Begin a change
 
-    made_known : (z : Work) → IsWork z → WorkTells p c.command z (work a.0 log) → next_of (length log) z ≡ next.Begin change → BeginsKnown (start_of p (name_bound p)) (by_position log) (length log) (Some begin_line)
+    made_known : (z : WorkMachine) → IsWork z → WorkTells p c.command z (work a.0 log) → next_of (length log) z ≡ next.Begin change → BeginsKnown (start_of p (name_bound p)) (by_position log) (length log) (Some begin_line)
     made_known Idle sound tells e = absurd tells
     made_known (Lookup m) sound tells e = absurd (no_begin m change e)
     made_known (Write m) sound tells e = new_known p log a change (new_gfid (length log) change (laws.telling.makes_nothing p c.command m (work a.0 log) (length log) change sound tells.1 e))
@@ -126,19 +126,19 @@ module _ (laws : Laws) (p : Plan) (a : ActorId) (log : List Line) (servers : Lis
     begin_goes : GoOn p log a begin_line s.epochs servers new
     begin_goes = goes_on begin_line s.epochs (λ b. refl) (λ z. refl) s.met
 
-    is_next : IsNextLine a (next_of (length log) x.work) told_of.Done begin_line
-    is_next = subst (λ (n : Next). IsNextLine a n told_of.Done begin_line) (sym e) refl
+    is_next : IsNextLine a (next_of (length log) x.work) as_told.Done begin_line
+    is_next = subst (λ (n : Next). IsNextLine a n as_told.Done begin_line) (sym e) refl
 
     about : IsOf p c.command begin_line (work a.0 log) × KeepsToCommand p c.command begin_line (length log) (work a.0 log)
-    about = laws.telling.about p c.command x.work (work a.0 log) a told_of.Done begin_line log c.sound c.tells is_next
+    about = laws.telling.about p c.command x.work (work a.0 log) a as_told.Done begin_line log c.sound c.tells is_next
 
-    abbrev after : Work
+    abbrev after : WorkMachine
     after = heard_by (reader_of None) (heard_of.Begun (length log)) x.work
 
     own : Stood p.shape a.0 (begin_line ∷ log) (register_of after)
     own = rw (laws.work.notes_begin x.work (length log) change e (reader_of None)) comes.stand.own
 
-    carries : CarriesOut p a.0 (begin_line ∷ log) true s.epochs new after
+    carries : CarriesOutCommand p a.0 (begin_line ∷ log) true s.epochs new after
     carries = record {
       command = c.command;
       present = c.present;
@@ -162,7 +162,7 @@ module _ (laws : Laws) (p : Plan) (a : ActorId) (log : List Line) (servers : Lis
         added : work a.0 (begin_line ∷ log) ≡ (begin_line, log) ∷ work a.0 log
         added = rw (self a.0) refl
 
-    as_carries : (z : Work) → CarriesOut p a.0 (begin_line ∷ log) true s.epochs new z → Carries p a.0 (begin_line ∷ log) true s.epochs new z
+    as_carries : (z : WorkMachine) → CarriesOutCommand p a.0 (begin_line ∷ log) true s.epochs new z → Carries p a.0 (begin_line ∷ log) true s.epochs new z
     as_carries Idle k = absurd k.tells
     as_carries (Lookup m) k = k
     as_carries (Write m) k = k

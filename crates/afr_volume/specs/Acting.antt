@@ -16,7 +16,7 @@ use Rattle.afr_lines.specs.declared.reply.Reply.{Reply}
 use Rattle.afr_rule.specs.Choosing.{Calls}
 use Rattle.afr_server.specs.NextLine.{told_line}
 use Rattle.afr_server.specs.Serving.{HasEpoch, Serving}
-use Rattle.afr_server.specs.declared.server.Asked.{Asked}
+use Rattle.afr_server.specs.declared.server.Served.{Served}
 use Rattle.afr_servers.specs.Calls.{At}
 use Rattle.afr_servers.specs.Visiting.{CanAsk, MeetsNext, ServesNext, visiting}
 use Rattle.afr_servers.specs.declared.epochs.Epochs.{Epochs}
@@ -24,8 +24,8 @@ use Rattle.afr_readings.specs.Laws.{HearsPick, number_in}
 use Rattle.afr_inode_telling.specs.Lines.{is_look}
 use Rattle.afr_walk.specs.Choosing.{RuleAnswers, reader_of}
 use Rattle.afr_works.specs.Work.{CarriesNext, choices_of, heard_by, next_of}
-use Rattle.afr_works.specs.declared.work.Work.{Work}
-use Rattle.afr_works.specs.declared.work.Work.TheVariants.{Idle}
+use Rattle.afr_works.specs.declared.work.WorkMachine.{WorkMachine}
+use Rattle.afr_works.specs.declared.work.WorkMachine.TheVariants.{Idle}
 use Rattle.afr_volume.specs.declared.actor.Actor.{Actor}
 
 -- what the bricks need for the actor's next line
@@ -57,27 +57,27 @@ still_picked met kept = if met then kept else None
 -- ---- one line
 -- what an answer leaves of a work, and what the read rule answered then
 abbrev pub Hearing : Type 1
-Hearing = Answer → ℕ → Work → Work → Option BrickId → Type 0
+Hearing = Answer → ℕ → WorkMachine → WorkMachine → Option BrickId → Type 0
 
 -- the rule was asked where there was anything to choose from, and its copy is the one that is read
-pub record HearsBy {F : Type 0} (calls : Calls F) (choose : F) (answer : Answer) (at : ℕ) (old new : Work) (picked : Option BrickId) : Type 0 where
+pub record HearsBy {F : Type 0} (calls : Calls F) (choose : F) (answer : Answer) (at : ℕ) (old new : WorkMachine) (picked : Option BrickId) : Type 0 where
   pub answers : RuleAnswers calls choose (choices_of answer at old) picked
   pub value : new ≡ heard_by (reader_of picked) (heard.Answer answer at) old
 
 -- the same, whatever rule it was
-abbrev pub HearsAny : Answer → ℕ → Work → Work → Option BrickId → Type 0
+abbrev pub HearsAny : Answer → ℕ → WorkMachine → WorkMachine → Option BrickId → Type 0
 HearsAny answer at old new picked = HearsPick (heard.Answer answer at) old new picked
 
 -- an actor has heard the answer to its request, which was its work's first line or another
 pub record HasHeard (Hears : Hearing) (answer : Answer) (at : ℕ) (met : Bool) (request : Request) (x y : Actor) : Type 0 where
-  pub after : Work
+  pub after : WorkMachine
   pub picked : Option BrickId
   pub hears : Hears answer at x.work after picked
   pub becomes : y ≡ record { ended = x.ended; killed = x.killed; visit = x.visit; picked = picked_after met request picked x.picked; work = after }
 
 -- a request was asked, with the contents that the work brings, and its answer heard
 pub record IsAsked (Hears : Hearing) (a : ActorId) (at : ℕ) (b : BrickId) (request : Request) (x y : Actor) (old new : List Serving) (written : Line) : Type 0 where
-  pub given : Asked
+  pub given : Served
   pub epochs : Epochs
   pub load : Load
   pub carries : CarriesNext x.work load

@@ -31,8 +31,8 @@ use Rattle.afr_servers.specs.declared.epochs.Epochs.{Epochs}
 use Rattle.afr_transaction.specs.Turn.{Stood}
 use Rattle.afr_works.specs.Begin.{has_machine}
 use Rattle.afr_works.specs.Work.{IsWork, register_of}
-use Rattle.afr_works.specs.declared.work.Work.{Work}
-use Rattle.afr_works.specs.declared.work.Work.TheVariants.{Idle}
+use Rattle.afr_works.specs.declared.work.WorkMachine.{WorkMachine}
+use Rattle.afr_works.specs.declared.work.WorkMachine.TheVariants.{Idle}
 use Rattle.afr_works_tell.specs.WorkTelling.{WorkTells}
 use Rattle.afr_volume.specs.Acting.{still_picked}
 use Rattle.afr_volume.specs.Pacing.{ArePaced}
@@ -64,7 +64,7 @@ IsNoted true shape a log r = (place_of a log ≡ Within) × Stood shape a log r
 IsNoted false shape a log r = (place_of a log ≡ Fresh) × (r ≡ no_lines shape)
 
 -- a work carries out the actor's present command: it is sound, its register and its sessions stand for its lines, and they tell where it stands
-pub record CarriesOut (p : Plan) (a : ℕ) (log : List Line) (met : Bool) (epochs : Epochs) (servers : List Serving) (w : Work) : Type 0 where
+pub record CarriesOutCommand (p : Plan) (a : ℕ) (log : List Line) (met : Bool) (epochs : Epochs) (servers : List Serving) (w : WorkMachine) : Type 0 where
   pub command : Command
   pub present : slice_get (script_of p a) (ended a log) ≡ Some command
   pub sound : IsWork w
@@ -81,12 +81,12 @@ pub record IsBetween (a : ℕ) (log : List Line) (met : Bool) : Type 0 where
   pub none : work a log ≡ []
 
 -- what an actor is at stands for the lines of its present work
-abbrev pub Carries : Plan → ℕ → List Line → Bool → Epochs → List Serving → Work → Type 0
+abbrev pub Carries : Plan → ℕ → List Line → Bool → Epochs → List Serving → WorkMachine → Type 0
 Carries p a log met epochs servers Idle = IsBetween a log met
-Carries p a log met epochs servers w = CarriesOut p a log met epochs servers w
+Carries p a log met epochs servers w = CarriesOutCommand p a log met epochs servers w
 
 -- by which copy a client reads: the one that was picked by the looks of its present work, whose lines are its latest ones; before their first there are none
-pub record IsReading (p : Plan) (a : ℕ) (log : List Line) (met : Bool) (picked : Option BrickId) (w : Work) : Type 0 where
+pub record IsReading (p : Plan) (a : ℕ) (log : List Line) (met : Bool) (picked : Option BrickId) (w : WorkMachine) : Type 0 where
   pub keeps : (command : Command) → slice_get (script_of p a) (ended a log) ≡ Some command → KeepsPicked p command w (work a log) (number_in (still_picked met picked))
   pub fresh : met ≡ false → work a log ≡ []
   pub within : met ≡ true → asked_of p a log ≡ asked_in p (slice_get (script_of p a) (ended a log)) (work a log)

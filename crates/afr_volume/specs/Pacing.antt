@@ -9,7 +9,7 @@ use Rattle.afr_rounds.specs.declared.healer.Healer.{Healer}
 use Rattle.afr_standstill.specs.Order.{AreRising}
 use Rattle.afr_work_order.specs.Queue.{IsQueued}
 use Rattle.afr_work_pace.specs.Left.{work_left}
-use Rattle.afr_works.specs.declared.work.Work.{Work}
+use Rattle.afr_works.specs.declared.work.WorkMachine.{WorkMachine}
 use Rattle.afr_volume.specs.declared.actor.Actor.{Actor}
 
 -- what the lines of an actor's present work took, and so many more, are within its cost
@@ -17,7 +17,7 @@ abbrev pub HasLeft : Plan → ℕ → List Line → ℕ → Type 0
 HasLeft p a log left = (cost : ℕ) → slice_get (costs_of p a) (ended a log) ≡ Some cost → spent (work a log) + left ≤ cost
 
 -- a client's work has what its cost leaves for all lines that it may still write, and asked for its locks in order
-pub record IsPaced (p : Plan) (a : ℕ) (log : List Line) (w : Work) : Type 0 where
+pub record IsPaced (p : Plan) (a : ℕ) (log : List Line) (w : WorkMachine) : Type 0 where
   pub within : HasLeft p a log (work_left w)
   pub queued : IsQueued w
 

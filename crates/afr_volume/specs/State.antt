@@ -5,7 +5,7 @@ use Rattle.afr_lines.specs.Log.{EachLine}
 use Rattle.afr_model.specs.Chosen.{Picks, ReadsPicked}
 use Rattle.afr_model.specs.State.{no_plan}
 use Rattle.afr_plan.specs.declared.plan.Plan.{Plan}
-use Rattle.afr_readings.specs.Readings.{Answers, asked_of}
+use Rattle.afr_readings.specs.Readings.{PickAnswers, asked_of}
 use Rattle.afr_sources.specs.Chosen.{AreChosen}
 
 -- the sources are those of the healers in their order, and the picked copies those of the clients
@@ -26,7 +26,7 @@ opened p = record { plan = p; log = []; sources = replicate (length p.healers) N
 -- each read of a client went to a copy that the rule picked, and what is beside the log for each client is what the rule answered at its last look
 pub record AreRead (reads : Picks) (p : Plan) (log : List Line) (picked : List (Option ℕ)) : Type 0 where
   pub past : EachLine (ReadsPicked reads p) log
-  pub present : (i : ℕ) (brick : Option ℕ) → i < length p.clients → slice_get picked i ≡ Some brick → Answers reads (asked_of p (1 + i) log) brick
+  pub present : (i : ℕ) (brick : Option ℕ) → i < length p.clients → slice_get picked i ≡ Some brick → PickAnswers reads (asked_of p (1 + i) log) brick
 
 -- every read is one that this rule picked
 abbrev pub ReadsChosen : Picks → State → Type 0

@@ -18,7 +18,7 @@ use Rattle.afr_rounds.specs.Acting as rounds
 use Rattle.afr_rounds.specs.declared.healer.Healer.{Healer}
 use Rattle.afr_works.specs.Begin.{work_from}
 use Rattle.afr_works.specs.Work.{IsBusy, IsWork}
-use Rattle.afr_works.specs.declared.work.Work.TheVariants.{Idle}
+use Rattle.afr_works.specs.declared.work.WorkMachine.TheVariants.{Idle}
 use Rattle.afr_volume.specs.Acting.{Hearing, Stepped}
 use Rattle.afr_volume.specs.declared.actor.Actor.{Actor}
 use Rattle.afr_volume.specs.declared.turned.Turned.{Turned}

@@ -16,9 +16,9 @@ use afr_log::Log;
 use afr_object::Change;
 use afr_ranges::{fits_its_types, request_fits_its_types};
 use afr_rule::{Candidate, ReadRule};
-use afr_server::Asked;
+use afr_server::Served;
 use afr_servers::{Servers, Visit};
-use afr_works::{Work, a_work_stays_sound};
+use afr_works::{WorkMachine, a_work_stays_sound};
 
 #[derive(Drop)]
 pub(crate) struct Actor {
@@ -29,7 +29,7 @@ pub(crate) struct Actor {
     pub visit: Visit,
     /// What the read rule answered at the last look of the latest work.
     pub picked: Option<BrickId>,
-    pub work: Work,
+    pub work: WorkMachine,
 }
 
 /// One line of an actor whose work has begun, at the end of a log that has room for it. Its memory is taken before anything
@@ -126,7 +126,7 @@ fn tells<G: Fn(&[Candidate]) -> usize>(
     a: ActorId,
     brick: BrickId,
     request: &Request,
-    given: &mut Asked,
+    given: &mut Served,
     position: u32,
     log: &mut Log,
     rule: &ReadRule<G>,
@@ -230,7 +230,7 @@ fn ends(actor: &mut Actor, a: ActorId, reply: Reply, servers: &mut Servers, log:
     meets(actor, a, servers);
     actor.ended += 1;
     actor.visit.met = false;
-    actor.work = Work::Idle;
+    actor.work = WorkMachine::Idle;
     let line = Line::End { actor: a, reply };
     fits_its_types(&line);
     log.add(line);

@@ -5,7 +5,7 @@ ghost use Rattle.afr_volume.specs.Starting.{AreNewActors};
 use crate::actor::Actor;
 use afr_base::NoMemory;
 use afr_servers::Visit;
-use afr_works::Work;
+use afr_works::WorkMachine;
 use std::alloc::Global;
 
 /// An actor for each client, none of which has begun.
@@ -19,7 +19,7 @@ pub(crate) fn all_actors(alloc: Global, clients: usize) -> Result<Vec<Actor>, No
             killed: false,
             visit: Visit::new(),
             picked: None,
-            work: Work::Idle,
+            work: WorkMachine::Idle,
         })?;
     }
     Ok(actors)

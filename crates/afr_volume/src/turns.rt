@@ -18,7 +18,7 @@ use afr_log::Log;
 use afr_plan::{Command, Plan};
 use afr_rule::{Candidate, ReadRule};
 use afr_servers::Servers;
-use afr_works::{Work, work_for};
+use afr_works::{WorkMachine, work_for};
 use std::alloc::Global;
 
 /// An actor that has work left has the machine of its present command.
@@ -55,7 +55,7 @@ fn begin_work(
     alloc: Global,
     shape: Shape,
     command: &Command,
-    work: &mut Work,
+    work: &mut WorkMachine,
 ) -> Result<(), NoMemory>
     requires few { shape.n ≤ 5 }
     requires some { 0 < shape.n }

@@ -34,7 +34,7 @@ use afr_law::{
     reads_are_fresh,
 };
 use afr_lines::{Event, Line};
-use afr_log::{Log, Shown};
+use afr_log::{Log, ShownLine};
 use afr_missed::split_copies_missed;
 use afr_object::List;
 use afr_plan::{Plan, Words};
@@ -323,7 +323,7 @@ impl Volume {
     }
 
     /// The line at a position, counted from the oldest.
-    pub fn line(&self, i: u32) -> Shown<'_>
+    pub fn line(&self, i: u32) -> ShownLine<'_>
         requires { i < length self.now.log }
         ensures { from_oldest i self.now.log ≡ Some (shown_line result) }
     {

@@ -17,11 +17,11 @@ use Rattle.afr_moves.proofs.AreaLemmas.{is_area_is}
 use Rattle.afr_moves.proofs.Tests.{three_cases, with_cases, with_more, with_self, without_in, work_locks}
 use Rattle.afr_moves.specs.Discipline.{MayAskExactly, MayExactly, MovesExactly, note, present}
 use Rattle.afr_moves.specs.Heal.{Gives, Goes, InHeal}
-use Rattle.afr_moves.specs.Note.{breaks, fails, is_granted, left_by, left_in_heal, left_outside, next_phase, stay}
+use Rattle.afr_moves.specs.Note.{breaks, fails, is_granted, left_by, left_in_heal, left_outside, next_part, stay}
 use Rattle.afr_moves.specs.Past.{Log, is_gone, is_of}
-use Rattle.afr_moves.specs.Register.{Applies, Exact, Finish, HealLocks, HealPres, HealUnlocks, Looks, Mends, Open, Opening, Phase, Piece, Posts, Pres, Reads, Settles, Step, Unlocks, Untouched, WorkLocks, asked_in, is_finish, over, rank, same_step, whole_area}
+use Rattle.afr_moves.specs.Register.{Applies, Exact, Finish, HealLocks, HealPart, HealPres, HealUnlocks, Looks, Mends, Open, Opening, Piece, Posts, Pres, Reads, Settles, Step, Unlocks, Untouched, WorkLocks, asked_in, is_finish, over, rank, same_step, whole_area}
 use Rattle.afr_moves.specs.Rules as weak
-use Rattle.afr_moves.specs.Rules.{Register, begun, busy, is_area, no_views, area_object}
+use Rattle.afr_moves.specs.Rules.{Register, area_object, begun, busy, is_area, no_views}
 use Rattle.afr_moves.specs.Sets.{empty, with}
 use Rattle.afr_moves.specs.Steps.{after_unlocks, is_lowest, is_next, locks_at, may_heal, may_heal_work}
 use Rattle.afr_moves.specs.Transaction.{Outside}
@@ -35,23 +35,23 @@ use Rattle.afr_law.proofs.Heals.Conditions.{over_at}
 use Rattle.afr_waits.specs.Waiting.{First, IsBelow, RisesTo, Second}
 
 -- where a part of a heal locks: the Heal locks, or later the bricks of the first looks
-abbrev pub set_at : Phase → (ℕ → Bool) → (ℕ → Bool) → ℕ → Bool
+abbrev pub set_at : HealPart → (ℕ → Bool) → (ℕ → Bool) → ℕ → Bool
 set_at Opening healing reached = healing
-set_at phase healing reached = reached
+set_at heal_part healing reached = reached
 
-set_is : (r : Exact) (p : Phase) → locks_at r p ≡ set_at p r.law.healing r.first_reached
+set_is : (r : Exact) (p : HealPart) → locks_at r p ≡ set_at p r.law.healing r.first_reached
 set_is r Opening = refl
 set_is r Piece = refl
 set_is r Finish = refl
 
 -- while Work locks are asked: who is held was asked, and of two bricks the lower one first
-pub record Queue (n : ℕ) (step : Step) (phase : Phase) (asked reached : ℕ → Bool) (w : Register) : Type 0 where
+pub record Queue (n : ℕ) (step : Step) (heal_part : HealPart) (asked reached : ℕ → Bool) (w : Register) : Type 0 where
   pub inside : step ≡ WorkLocks → w.heal ≡ true
   pub held : step ≡ WorkLocks → (c : ℕ) → c < n → w.held c ≡ true → asked c ≡ true
-  pub down : step ≡ WorkLocks → (c x : ℕ) → asked c ≡ true → x < c → set_at phase w.healing reached x ≡ true → asked x ≡ true
+  pub down : step ≡ WorkLocks → (c x : ℕ) → asked c ≡ true → x < c → set_at heal_part w.healing reached x ≡ true → asked x ≡ true
 
-elsewhere : (n : ℕ) (step : Step) (phase : Phase) (asked reached : ℕ → Bool) (w : Register) → (step ≡ WorkLocks → ⊥) → Queue n step phase asked reached w
-elsewhere n step phase asked reached w nope = record { inside = λ e. absurd (nope e); held = λ e. absurd (nope e); down = λ e. absurd (nope e) }
+elsewhere : (n : ℕ) (step : Step) (heal_part : HealPart) (asked reached : ℕ → Bool) (w : Register) → (step ≡ WorkLocks → ⊥) → Queue n step heal_part asked reached w
+elsewhere n step heal_part asked reached w nope = record { inside = λ e. absurd (nope e); held = λ e. absurd (nope e); down = λ e. absurd (nope e) }
 
 -- ---- what a Work Lock line leaves
 healing_locking : (n : ℕ) (w : Register) (area : Area) → (weak.locking n w area).healing ≡ w.healing
@@ -118,7 +118,7 @@ then_self : (again : Bool) (asked : ℕ → Bool) (b x : ℕ) → again ≡ fals
 then_self true asked b x e same = absurd (true≢false e)
 then_self false asked b x e same = rw same (with_self asked b)
 
-module _ (n : ℕ) (keeps : ℕ → Kind → Bool) (r : Exact) (t b : ℕ) (told : Told) (begun : IsBegun n keeps r) (q : Queue n r.step r.phase r.asked r.first_reached r.law) where
+module _ (n : ℕ) (keeps : ℕ → Kind → Bool) (r : Exact) (t b : ℕ) (told : Told) (begun : IsBegun n keeps r) (q : Queue n r.step r.part r.asked r.first_reached r.law) where
   abbrev Now : Request → Register
   Now request = weak.dropping (is_gone told) b (weak.note_ask n r.law b request told)
 
@@ -126,26 +126,26 @@ module _ (n : ℕ) (keeps : ℕ → Kind → Bool) (r : Exact) (t b : ℕ) (told
   again = not (is_granted told || fails told)
 
   -- a Work Lock line at the lowest brick of the set that wasn't asked
-  queued : (area : Area) (phase : Phase) (asked : ℕ → Bool) → r.law.heal ≡ true → ((c : ℕ) → c < n → r.law.held c ≡ true → asked c ≡ true)
-      → ((c x : ℕ) → asked c ≡ true → x < c → set_at phase r.law.healing r.first_reached x ≡ true → asked x ≡ true)
-      → ((x : ℕ) → x < b → set_at phase r.law.healing r.first_reached x ≡ true → asked x ≡ true)
-      → Queue n WorkLocks phase (asked_then again asked b) r.first_reached (Now (Lock Work area))
-  queued area phase asked inside held down below = record {
+  queued : (area : Area) (heal_part : HealPart) (asked : ℕ → Bool) → r.law.heal ≡ true → ((c : ℕ) → c < n → r.law.held c ≡ true → asked c ≡ true)
+      → ((c x : ℕ) → asked c ≡ true → x < c → set_at heal_part r.law.healing r.first_reached x ≡ true → asked x ≡ true)
+      → ((x : ℕ) → x < b → set_at heal_part r.law.healing r.first_reached x ≡ true → asked x ≡ true)
+      → Queue n WorkLocks heal_part (asked_then again asked b) r.first_reached (Now (Lock Work area))
+  queued area heal_part asked inside held down below = record {
     inside = λ e. heal_dropped (is_gone told) b (weak.note_ask n r.law b (Lock Work area) told) ∙ heal_kept n r.law b (Lock Work area) told (λ k. k) ∙ inside;
     held = λ e c low m. elim (held_locked n r.law b area told c (dropped_held (is_gone told) b (weak.note_ask n r.law b (Lock Work area) told) c m)) [
       | inl old ↦ then_more again asked b c (held c low old)
       | inr new ↦ then_self again asked b c (granted (is_granted told) (fails told) new.1) new.0
     ];
     down = λ e c x m low s. elim (then_cases again asked b c m) [
-      | inl same ↦ then_more again asked b x (below x (subst (λ (k : ℕ). x < k) same low) (was phase x s))
-      | inr old ↦ then_more again asked b x (down c x old low (was phase x s))
+      | inl same ↦ then_more again asked b x (below x (subst (λ (k : ℕ). x < k) same low) (was heal_part x s))
+      | inr old ↦ then_more again asked b x (down c x old low (was heal_part x s))
     ];
   }
     where
       granted : (g f : Bool) → g ≡ true → not (g || f) ≡ false
       granted g f e = grind arith
 
-      was : (p : Phase) (x : ℕ) → set_at p (Now (Lock Work area)).healing r.first_reached x ≡ true → set_at p r.law.healing r.first_reached x ≡ true
+      was : (p : HealPart) (x : ℕ) → set_at p (Now (Lock Work area)).healing r.first_reached x ≡ true → set_at p r.law.healing r.first_reached x ≡ true
       was Opening x s = ap (λ (f : ℕ → Bool). f x) (sym (healing_locked n r.law b area told)) ∙ dropped_healing (is_gone told) b (weak.note_ask n r.law b (Lock Work area) told) x s
       was Piece x s = s
       was Finish x s = s
@@ -157,11 +157,11 @@ module _ (n : ℕ) (keeps : ℕ → Kind → Bool) (r : Exact) (t b : ℕ) (told
   none_below set e x low s = over_at b set empty (low_over set empty b e) x low s
 
   work : (source : ℕ) (area : Area) → r.law.heal ≡ true → may_heal_work n keeps r source b area ≡ true
-      → Queue n WorkLocks (next_phase r area) (asked_then again (asked_in r WorkLocks) b) r.first_reached (Now (Lock Work area))
+      → Queue n WorkLocks (next_part r area) (asked_then again (asked_in r WorkLocks) b) r.first_reached (Now (Lock Work area))
   work source area inside may = go (same_step r.step WorkLocks) refl (same_step r.step HealLocks) refl may
     where
-      phase_same : (same_step r.step Unlocks ≡ false) → next_phase r area ≡ r.phase
-      phase_same e = rw e refl
+      part_same : (same_step r.step Unlocks ≡ false) → next_part r area ≡ r.part
+      part_same e = rw e refl
 
       rank_no : (k : ℕ) → rank r.step ≡ k → (k ≡ 12 → ⊥) → same_step r.step Unlocks ≡ false
       rank_no k e nope = go (same_step r.step Unlocks) refl
@@ -171,19 +171,19 @@ module _ (n : ℕ) (keeps : ℕ → Kind → Bool) (r : Exact) (t b : ℕ) (told
           go false f = f
 
       go : (wait : Bool) → same_step r.step WorkLocks ≡ wait → (heal : Bool) → same_step r.step HealLocks ≡ heal
-          → (if wait then is_area r.law.area area && is_lowest (locks_at r r.phase) r.asked b else if heal then is_next n r source area && is_lowest r.law.healing empty b
-          else after_unlocks n r area source && not (is_finish r.phase) && is_lowest r.first_reached empty b) ≡ true
-          → Queue n WorkLocks (next_phase r area) (asked_then again (if wait then r.asked else empty) b) r.first_reached (Now (Lock Work area))
+          → (if wait then is_area r.law.area area && is_lowest (locks_at r r.part) r.asked b else if heal then is_next n r source area && is_lowest r.law.healing empty b
+          else after_unlocks n r area source && not (is_finish r.part) && is_lowest r.first_reached empty b) ≡ true
+          → Queue n WorkLocks (next_part r area) (asked_then again (if wait then r.asked else empty) b) r.first_reached (Now (Lock Work area))
       go true e heal f m =
           let at = work_locks r.step e in
-          let same : next_phase r area ≡ r.phase = phase_same (rank_no 6 (eqb-true (rank r.step) 6 e) (λ k. cc k)) in
-          let low : is_lowest (set_at r.phase r.law.healing r.first_reached) r.asked b ≡ true = subst (λ (s : ℕ → Bool). is_lowest s r.asked b ≡ true) (set_is r r.phase) (and_right _ _ m) in
-          subst (λ (p : Phase). Queue n WorkLocks p (asked_then again r.asked b) r.first_reached (Now (Lock Work area))) (sym same)
-          (queued area r.phase r.asked inside (q.held at) (q.down at) (λ x less s. over_at b (set_at r.phase r.law.healing r.first_reached) r.asked (low_over (set_at r.phase r.law.healing r.first_reached) r.asked b low) x less s))
+          let same : next_part r area ≡ r.part = part_same (rank_no 6 (eqb-true (rank r.step) 6 e) (λ k. cc k)) in
+          let low : is_lowest (set_at r.part r.law.healing r.first_reached) r.asked b ≡ true = subst (λ (s : ℕ → Bool). is_lowest s r.asked b ≡ true) (set_is r r.part) (and_right _ _ m) in
+          subst (λ (p : HealPart). Queue n WorkLocks p (asked_then again r.asked b) r.first_reached (Now (Lock Work area))) (sym same)
+          (queued area r.part r.asked inside (q.held at) (q.down at) (λ x less s. over_at b (set_at r.part r.law.healing r.first_reached) r.asked (low_over (set_at r.part r.law.healing r.first_reached) r.asked b low) x less s))
       go false e true f m =
           let at = begun.locks (heal_locks r.step f) in
-          let same : next_phase r area ≡ Opening = phase_same (rank_no 5 (eqb-true (rank r.step) 5 f) (λ k. cc k)) ∙ at.1 in
-          subst (λ (p : Phase). Queue n WorkLocks p (asked_then again empty b) r.first_reached (Now (Lock Work area))) (sym same)
+          let same : next_part r area ≡ Opening = part_same (rank_no 5 (eqb-true (rank r.step) 5 f) (λ k. cc k)) ∙ at.1 in
+          subst (λ (p : HealPart). Queue n WorkLocks p (asked_then again empty b) r.first_reached (Now (Lock Work area))) (sym same)
           (queued area Opening empty inside (λ c low h. absurd (idle_held at.0 c low h)) (λ c x h. absurd (true≢false (sym h))) (λ x less s. none_below r.law.healing (and_right _ _ m) x less s))
       go false e false f m =
           let idle : busy n r.law ≡ false = not-true (busy n r.law) (and_right _ _ (and_left _ _ (and_left _ _ (and_left _ _ (and_left _ _ m))))) in
@@ -197,7 +197,7 @@ module _ (n : ℕ) (keeps : ℕ → Kind → Bool) (r : Exact) (t b : ℕ) (told
 
   -- ---- a request
   abbrev After : Request → Type 0
-  After request = Queue n (left_in_heal n r t b request told).step (left_in_heal n r t b request told).phase (left_in_heal n r t b request told).asked (left_in_heal n r t b request told).first_reached (Now request)
+  After request = Queue n (left_in_heal n r t b request told).step (left_in_heal n r t b request told).part (left_in_heal n r t b request told).asked (left_in_heal n r t b request told).first_reached (Now request)
 
   goes : (request : Request) (source : ℕ) → r.law.heal ≡ true → may_heal n keeps r source b request ≡ true → After request
   goes (Lock Work area) source inside may = work source area inside may
@@ -224,7 +224,7 @@ module _ (n : ℕ) (keeps : ℕ → Kind → Bool) (r : Exact) (t b : ℕ) (told
   healing request inside (Gives in_it broken free) = absurd free
 
   abbrev Aside : Request → Type 0
-  Aside request = Queue n (left_outside n r b request told).step (left_outside n r b request told).phase (left_outside n r b request told).asked (left_outside n r b request told).first_reached (Now request)
+  Aside request = Queue n (left_outside n r b request told).step (left_outside n r b request told).part (left_outside n r b request told).asked (left_outside n r b request told).first_reached (Now request)
 
   stayed : (s : Step) → (s ≡ WorkLocks → ⊥) → (if same_step s Untouched then Open else s) ≡ WorkLocks → ⊥
   stayed Untouched k e = cc e
@@ -238,7 +238,7 @@ module _ (n : ℕ) (keeps : ℕ → Kind → Bool) (r : Exact) (t b : ℕ) (told
     outer : (request : Request) → Outside n keeps r b request → Aside request
     outer (Lock Work area) may = go (busy n r.law)
       where
-        go : (some : Bool) → Queue n (if some then stay r else record r { step = Open; asked = empty; unlocked = false; reached = empty; views = no_views }).step (if some then stay r else record r { step = Open; asked = empty; unlocked = false; reached = empty; views = no_views }).phase
+        go : (some : Bool) → Queue n (if some then stay r else record r { step = Open; asked = empty; unlocked = false; reached = empty; views = no_views }).step (if some then stay r else record r { step = Open; asked = empty; unlocked = false; reached = empty; views = no_views }).part
             (if some then stay r else record r { step = Open; asked = empty; unlocked = false; reached = empty; views = no_views }).asked (if some then stay r else record r { step = Open; asked = empty; unlocked = false; reached = empty; views = no_views }).first_reached (Now (Lock Work area))
         go true = elsewhere n (stay r).step _ _ _ _ (stayed r.step no_locks)
         go false = elsewhere n Open _ _ _ _ (λ e. cc e)
@@ -254,7 +254,7 @@ module _ (n : ℕ) (keeps : ℕ → Kind → Bool) (r : Exact) (t b : ℕ) (told
     outer request may = elsewhere n (stay r).step _ _ _ _ (stayed r.step no_locks)
 
   abbrev Left : Request → Exact → Type 0
-  Left request l = Queue n l.step l.phase l.asked l.first_reached (Now request)
+  Left request l = Queue n l.step l.part l.asked l.first_reached (Now request)
 
   pub asked : (request : Request) → MayAskExactly n keeps r b request → Left request (left_by n keeps r t b request told)
   asked request may = go r.law.heal refl may
@@ -273,21 +273,21 @@ module _ (n : ℕ) (keeps : ℕ → Kind → Bool) (r : Exact) (t b : ℕ) (told
   rises source area inside may c mine low (First is m) = go (same_step r.step WorkLocks) refl (same_step r.step HealLocks) refl may
     where
       go : (wait : Bool) → same_step r.step WorkLocks ≡ wait → (heal : Bool) → same_step r.step HealLocks ≡ heal
-          → (if wait then is_area r.law.area area && is_lowest (locks_at r r.phase) r.asked b else if heal then is_next n r source area && is_lowest r.law.healing empty b
-          else after_unlocks n r area source && not (is_finish r.phase) && is_lowest r.first_reached empty b) ≡ true → IsBelow (area_object mine) c (area_object area) b
+          → (if wait then is_area r.law.area area && is_lowest (locks_at r r.part) r.asked b else if heal then is_next n r source area && is_lowest r.law.healing empty b
+          else after_unlocks n r area source && not (is_finish r.part) && is_lowest r.first_reached empty b) ≡ true → IsBelow (area_object mine) c (area_object area) b
       go true e heal f k =
           let at = work_locks r.step e in
           let own : r.law.area ≡ Some area = is_area_is r.law.area area (and_left _ _ k) in
           let same : mine ≡ area = (let s : Some mine ≡ Some area = sym is ∙ own in cc s) in
           let was = q.held at c low m in
-          let lowest : is_lowest (set_at r.phase r.law.healing r.first_reached) r.asked b ≡ true = subst (λ (s : ℕ → Bool). is_lowest s r.asked b ≡ true) (set_is r r.phase) (and_right _ _ k) in
-          let new = low_new (set_at r.phase r.law.healing r.first_reached) r.asked b lowest in
+          let lowest : is_lowest (set_at r.part r.law.healing r.first_reached) r.asked b ≡ true = subst (λ (s : ℕ → Bool). is_lowest s r.asked b ≡ true) (set_is r r.part) (and_right _ _ k) in
+          let new = low_new (set_at r.part r.law.healing r.first_reached) r.asked b lowest in
           inr (
             ap area_object same,
             elim (three_cases c b) [
               | inl less ↦ less
               | inr (inl equal) ↦ absurd (true≢false (sym (subst (λ (x : ℕ). r.asked x ≡ true) equal was) ∙ new))
-              | inr (inr more) ↦ absurd (true≢false (sym (q.down at c b was more (low_in (set_at r.phase r.law.healing r.first_reached) r.asked b lowest)) ∙ new))
+              | inr (inr more) ↦ absurd (true≢false (sym (q.down at c b was more (low_in (set_at r.part r.law.healing r.first_reached) r.asked b lowest)) ∙ new))
             ],
           )
       go false e true f k = absurd (idle_held (begun.locks (heal_locks r.step f)).0 c low m)
@@ -296,7 +296,7 @@ module _ (n : ℕ) (keeps : ℕ → Kind → Bool) (r : Exact) (t b : ℕ) (told
 module _ (n : ℕ) (keeps : ℕ → Kind → Bool) where
   -- the same of a register
   abbrev pub IsQueue : Exact → Type 0
-  IsQueue r = Queue n r.step r.phase r.asked r.first_reached r.law
+  IsQueue r = Queue n r.step r.part r.asked r.first_reached r.law
 
   own : (t a : ℕ) (r : Exact) (line : Option Line) → is_of a line ≡ true → MayExactly n keeps (λ x. r) line → IsBegun n keeps r → IsQueue r → IsQueue (note n keeps r t line)
   own t a r None mine may h q = absurd (true≢false (sym mine))

@@ -5,7 +5,7 @@ use Rattle.afr_base.specs.Bricks.{member}
 use Rattle.afr_base.specs.declared.ids.BrickId.{BrickId}
 use Rattle.afr_base.specs.declared.ids.Shape.{Shape}
 use Rattle.afr_lines.specs.declared.answer.Told.{Told}
-use Rattle.afr_lines.specs.declared.answer.Told.TheVariants as told_of
+use Rattle.afr_lines.specs.declared.answer.Told.TheVariants as as_told
 use Rattle.afr_lines.specs.declared.line.Next.TheVariants as next
 use Rattle.afr_lines.specs.declared.reply.Reply.{Reply}
 use Rattle.afr_lines.specs.declared.request.Request.{Request}
@@ -34,28 +34,28 @@ upto_is shape r (inr e) = ap (λ (x : Register). x.upto) e
 -- ---- a line more
 -- what a request and its answer leave of the register before any line
 noted_first : (shape : Shape) (at b : ℕ) (request : Request) (told : Told) → is_free request ≡ true → noted_ask (no_lines shape) at b request told ≡ opened shape
-noted_first shape at b (Look g) told_of.NotConnected h = refl
+noted_first shape at b (Look g) as_told.NotConnected h = refl
 noted_first shape at b (Look g) told h = refl
-noted_first shape at b (ReadName g name) told_of.NotConnected h = refl
+noted_first shape at b (ReadName g name) as_told.NotConnected h = refl
 noted_first shape at b (ReadName g name) told h = refl
-noted_first shape at b (ReadBytes g from len) told_of.NotConnected h = refl
+noted_first shape at b (ReadBytes g from len) as_told.NotConnected h = refl
 noted_first shape at b (ReadBytes g from len) told h = refl
-noted_first shape at b (ReadAttr g key) told_of.NotConnected h = refl
+noted_first shape at b (ReadAttr g key) as_told.NotConnected h = refl
 noted_first shape at b (ReadAttr g key) told h = refl
-noted_first shape at b (ListNames g) told_of.NotConnected h = refl
+noted_first shape at b (ListNames g) as_told.NotConnected h = refl
 noted_first shape at b (ListNames g) told h = refl
 noted_first shape at b request told h = absurd (cc h)
 
 noted_later : (shape : Shape) (at b : ℕ) (request : Request) (told : Told) → is_free request ≡ true → noted_ask (opened shape) at b request told ≡ opened shape
-noted_later shape at b (Look g) told_of.NotConnected h = refl
+noted_later shape at b (Look g) as_told.NotConnected h = refl
 noted_later shape at b (Look g) told h = refl
-noted_later shape at b (ReadName g name) told_of.NotConnected h = refl
+noted_later shape at b (ReadName g name) as_told.NotConnected h = refl
 noted_later shape at b (ReadName g name) told h = refl
-noted_later shape at b (ReadBytes g from len) told_of.NotConnected h = refl
+noted_later shape at b (ReadBytes g from len) as_told.NotConnected h = refl
 noted_later shape at b (ReadBytes g from len) told h = refl
-noted_later shape at b (ReadAttr g key) told_of.NotConnected h = refl
+noted_later shape at b (ReadAttr g key) as_told.NotConnected h = refl
 noted_later shape at b (ReadAttr g key) told h = refl
-noted_later shape at b (ListNames g) told_of.NotConnected h = refl
+noted_later shape at b (ListNames g) as_told.NotConnected h = refl
 noted_later shape at b (ListNames g) told h = refl
 noted_later shape at b request told h = absurd (cc h)
 

@@ -20,7 +20,7 @@ use Rattle.afr_lines.specs.Told.{told_by}
 use Rattle.afr_lines.specs.declared.answer.Answer.{Answer}
 use Rattle.afr_lines.specs.declared.answer.Answer.TheVariants as answer
 use Rattle.afr_lines.specs.declared.answer.Told.{Told}
-use Rattle.afr_lines.specs.declared.answer.Told.TheVariants as told_of
+use Rattle.afr_lines.specs.declared.answer.Told.TheVariants as as_told
 use Rattle.afr_lines.specs.declared.request.Request.{Request}
 use Rattle.afr_base.specs.declared.ids.BrickId.{BrickId}
 use Rattle.afr_rule.specs.Choosing.{Calls}
@@ -48,8 +48,8 @@ pub asked_below : (n : ℕ) (s : Looks) → is_nothing (left_to_look n s) ≡ fa
 asked_below n s left = within_below n _ (lowest_left (below n) s.asked left).1
 
 reached_more : (n b : ℕ) (told : Told) (looked : Looked) → b < n → IsWithin n looked.reached → IsWithin n (noted_look b told looked).reached
-reached_more n b (told_of.Seen view) looked l h = within_added_if n b looked.reached true l h
-reached_more n b told_of.NoObject looked l h = within_added_if n b looked.reached true l h
+reached_more n b (as_told.Seen view) looked l h = within_added_if n b looked.reached true l h
+reached_more n b as_told.NoObject looked l h = within_added_if n b looked.reached true l h
 reached_more n b told looked l h = within_removed_if n b looked.reached true h
 
 -- those that answered are bricks of the volume

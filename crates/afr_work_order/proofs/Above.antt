@@ -13,8 +13,8 @@ use Rattle.afr_entry.specs.declared.stage.Found.TheVariants as found_of
 use Rattle.afr_entry.specs.declared.stage.Found.{Found}
 use Rattle.afr_inode_read.specs.Job.{request_of}
 use Rattle.afr_inode_read.specs.Lookup as lookup
-use Rattle.afr_inode_read.specs.declared.job.Content.TheVariants as content
-use Rattle.afr_inode_read.specs.declared.job.Content.{Content}
+use Rattle.afr_inode_read.specs.declared.job.Wanted.TheVariants as content
+use Rattle.afr_inode_read.specs.declared.job.Wanted.{Wanted}
 use Rattle.afr_inode_read.specs.declared.stage.LookupStage.TheVariants as looking
 use Rattle.afr_inode_read.specs.declared.stage.LookupStage.{LookupStage}
 use Rattle.afr_inode_write.specs.Write as write
@@ -51,7 +51,7 @@ use Rattle.afr_rename.specs.declared.stage.RenameStage.{RenameStage}
 use Rattle.afr_transaction.proofs.Kept.{asked_of, same_asked}
 use Rattle.afr_transaction.specs.Outcome.{outcome_of}
 use Rattle.afr_transaction.specs.Progress as transaction
-use Rattle.afr_transaction.specs.Progress.{Progress, asks, is_beginning, left}
+use Rattle.afr_transaction.specs.Progress.{TransactionProgress, asks, is_beginning, left}
 use Rattle.afr_transaction.specs.Sound.{IsAsking, Sound}
 use Rattle.afr_transaction.specs.declared.stage.Stage.TheVariants.{Applying, Beginning, Closing, Locking, Looking, Posting, Preparing}
 use Rattle.afr_transaction.specs.declared.stage.Stage.{Stage}
@@ -63,7 +63,7 @@ use Rattle.afr_walk.specs.declared.walk.WalkStep.{WalkStep}
 use Rattle.afr_work_order.specs.Queue.{IsQueuedEntry, IsQueuedRename, IsQueuedWrite}
 use Rattle.afr_work_order.specs.Rising.{First, LeadsDownAt, Locks, Second, WorkAsksAbove}
 use Rattle.afr_works.proofs.WorkLemmas.{same_under}
-use Rattle.afr_works.specs.declared.work.Work.TheVariants.{Entry, Idle, Lookup, Rename, Write}
+use Rattle.afr_works.specs.declared.work.WorkMachine.TheVariants.{Entry, Idle, Lookup, Rename, Write}
 
 -- ---- the next line is a Work lock
 module _ (b : BrickId) (area : Area) where
@@ -71,12 +71,12 @@ module _ (b : BrickId) (area : Area) where
   IsLock line = line ≡ next.Ask b (Lock WorkDomain area)
 
   -- a transaction's is of its area, on the lowest brick that it hasn't asked
-  record LocksNext (stage : Stage) (t : Progress) : Type 0 where
+  record LocksNext (stage : Stage) (t : TransactionProgress) : Type 0 where
     pub first : stage ≡ Locking
     pub same : area_for t.change ≡ area
     pub lowest_is : lowest (left Locking t) ≡ b.0
 
-  locks_next : (stage : Stage) (t : Progress) → IsLock (asks stage t) → LocksNext stage t
+  locks_next : (stage : Stage) (t : TransactionProgress) → IsLock (asks stage t) → LocksNext stage t
   locks_next Locking t e = record { first = refl; same = cc e; lowest_is = ap (λ (x : BrickId). x.0) (same_asked b (record { 0 = lowest (left Locking t) }) (Lock WorkDomain area) (Lock WorkDomain (area_for t.change)) (sym e)).0 }
   locks_next Looking t e = absurd (cc e)
   locks_next Beginning t e = absurd (cc e)
@@ -124,13 +124,13 @@ module _ (b : BrickId) (area : Area) where
   read_asks (looking.Looking s) w e = cc e
   read_asks (looking.Reading c of) w e = contents of e
     where
-      contents : (of : Content) → IsLock (next.Ask c (request_of w.object.gfid of)) → ⊥
+      contents : (of : Wanted) → IsLock (next.Ask c (request_of w.object.gfid of)) → ⊥
       contents (content.Bytes from len) k = cc k
       contents (content.Value key) k = cc k
       contents content.Names k = cc k
 
   -- ---- it is above each that is held
-  above : (t : Progress) → Sound t → Queued t.stage t → (at : ℕ) → IsLock (transaction.next_at t.stage at t) → (c : ℕ) (mine : Area) → Locks t.register c mine → IsBelow (area_object mine) c (area_object area) b.0
+  above : (t : TransactionProgress) → Sound t → Queued t.stage t → (at : ℕ) → IsLock (transaction.next_at t.stage at t) → (c : ℕ) (mine : Area) → Locks t.register c mine → IsBelow (area_object mine) c (area_object area) b.0
   above t s q at e c mine locks = go locks
     where
       asked : IsAsking t.stage t × IsLock (asks t.stage t)
@@ -192,7 +192,7 @@ module _ (b : BrickId) (area : Area) where
     write_above m (writing.Ending said) k q e locks = absurd (cc e)
 
     -- under the name's lock it is the transaction that asks
-    under : (read : Request) → ((x : BrickId) → IsLock (next.Ask x read) → ⊥) → (found : Found) (t : Progress) → IsLock (next_under found at read t) → IsLock (transaction.next_at t.stage at t)
+    under : (read : Request) → ((x : BrickId) → IsLock (next.Ask x read) → ⊥) → (found : Found) (t : TransactionProgress) → IsLock (next_under found at read t) → IsLock (transaction.next_at t.stage at t)
     under read never (found_of.Unread x) t e = go (is_beginning t.stage) e
       where
         go : (first : Bool) → IsLock (if first then next.Ask x read else transaction.next_at t.stage at t) → IsLock (transaction.next_at t.stage at t)
@@ -212,7 +212,7 @@ module _ (b : BrickId) (area : Area) where
     entry_above m (entering.Ending said) k q down e locks = absurd (cc e)
 
     -- at the turn to its second transaction a rename holds no lock
-    none_at_turn : (t : Progress) → Sound t → transaction.is_over t.stage t ≡ true → Locks t.register c mine → IsUnder
+    none_at_turn : (t : TransactionProgress) → Sound t → transaction.is_over t.stage t ≡ true → Locks t.register c mine → IsUnder
     none_at_turn t s over (First is held) = absurd (true≢false (sym (subst (λ (z : List ℕ). member z c ≡ true) (rests t s over).held held)))
     none_at_turn t s over (Second is held) = absurd (true≢false (sym (subst (λ (z : List ℕ). member z c ≡ true) (rests t s over).second_held held)))
 

@@ -40,7 +40,7 @@ use Rattle.afr_work_order.specs.Logs.{ClientRises, IsNotedAt, TellsLeadDown}
 use Rattle.afr_work_order.specs.Rising.{First, LeadsDownAt, Locks, Second}
 use Rattle.afr_works.specs.Work.{register_of}
 use Rattle.afr_works_tell.proofs.WorkTold.{entry_one, one_of}
-use Rattle.afr_works.specs.declared.work.Work.TheVariants.{Entry as EntryWork, Idle, Lookup, Rename, Write}
+use Rattle.afr_works.specs.declared.work.WorkMachine.TheVariants.{Entry as EntryWork, Idle, Lookup, Rename, Write}
 
 -- ---- a removal's two locks
 -- what the whole path has led to after no more than k names, its first k names have led to

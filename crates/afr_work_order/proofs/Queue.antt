@@ -56,7 +56,7 @@ use Rattle.afr_transaction.proofs.Kept.{answers_line, asking_of, sound_first, st
 use Rattle.afr_transaction.proofs.ReadLemmas.{kept_read}
 use Rattle.afr_transaction.specs.Between.{noted_read}
 use Rattle.afr_transaction.specs.Progress as transaction
-use Rattle.afr_transaction.specs.Progress.{Progress, answered, begun, fed, is_beginning, left, request_at, starting}
+use Rattle.afr_transaction.specs.Progress.{TransactionProgress, answered, begun, fed, is_beginning, left, request_at, starting}
 use Rattle.afr_transaction.specs.Sound.{IsAsking, Sound}
 use Rattle.afr_transaction.specs.declared.stage.Stage.TheVariants.{Applying, Beginning, Closing, Locking, Looking, Posting, Preparing}
 use Rattle.afr_transaction.specs.declared.stage.Stage.{Stage}
@@ -69,7 +69,7 @@ use Rattle.afr_walk.specs.declared.walk.WalkStep.TheVariants as walking
 use Rattle.afr_walk.specs.declared.walk.WalkStep.{WalkStep}
 use Rattle.afr_work_order.specs.Queue.{IsQueuedEntry, IsQueuedRename, IsQueuedWrite, WorkBeginsQueued, WorkBegunQueued, WorkStaysQueued}
 use Rattle.afr_works.proofs.WorkLemmas.{asks_more}
-use Rattle.afr_works.specs.declared.work.Work.TheVariants.{Entry, Idle, Lookup, Rename, Write}
+use Rattle.afr_works.specs.declared.work.WorkMachine.TheVariants.{Entry, Idle, Lookup, Rename, Write}
 
 -- ---- the path has led somewhere
 -- no lock is held on the way
@@ -156,26 +156,26 @@ work_begins shape (command.Rmdir path) = entry_led (name.Rmdir (last path)) (wal
 work_begins shape (command.Rename from to) = tt
 
 -- ---- a transaction
-abbrev IsNow : Progress → Type 0
+abbrev IsNow : TransactionProgress → Type 0
 IsNow t = Queued t.stage t
 
-abbrev HasRow : Progress → Type 0
+abbrev HasRow : TransactionProgress → Type 0
 HasRow t = Rises t.register.held
 
 -- what each answer to a transaction keeps is kept by what it hears
-told_keeps : (P : Progress → Type 0) (t : Progress) → Sound t → transaction.is_over t.stage t ≡ false → (told : Told) (at : ℕ) → (IsAsking t.stage t → P (answered t.stage told at t)) → is_beginning t.stage ≡ false → P (fed t.stage told at t)
+told_keeps : (P : TransactionProgress → Type 0) (t : TransactionProgress) → Sound t → transaction.is_over t.stage t ≡ false → (told : Told) (at : ℕ) → (IsAsking t.stage t → P (answered t.stage told at t)) → is_beginning t.stage ≡ false → P (fed t.stage told at t)
 told_keeps P t s more told at h e =
     let away : t.stage ≡ Beginning → ⊥ = λ k. true≢false (sym (ap (λ (x : Stage). is_beginning x) k) ∙ e) in
     subst P (answers_line t.stage told at t away) (h (asking_of t.stage t s.ready more away))
 
-told_now : (t : Progress) → Sound t → IsNow t → transaction.is_over t.stage t ≡ false → (told : Told) (at : ℕ) → is_beginning t.stage ≡ false → IsNow (fed t.stage told at t)
+told_now : (t : TransactionProgress) → Sound t → IsNow t → transaction.is_over t.stage t ≡ false → (told : Told) (at : ℕ) → is_beginning t.stage ≡ false → IsNow (fed t.stage told at t)
 told_now t s q more told at = told_keeps IsNow t s more told at (λ asks. stays_queued t s asks q told at)
 
-told_row : (t : Progress) → Sound t → HasRow t → transaction.is_over t.stage t ≡ false → (told : Told) (at : ℕ) → is_beginning t.stage ≡ false → HasRow (fed t.stage told at t)
+told_row : (t : TransactionProgress) → Sound t → HasRow t → transaction.is_over t.stage t ≡ false → (told : Told) (at : ℕ) → is_beginning t.stage ≡ false → HasRow (fed t.stage told at t)
 told_row t s row more told at = told_keeps HasRow t s more told at (λ asks. keeps_row t.register at (lowest (left t.stage t)) (request_at t.stage t) told row)
 
 -- where it has no lock to ask for, it is in order
-begins_now : (stage : Stage) (t : Progress) → is_beginning stage ≡ true → Queued stage t
+begins_now : (stage : Stage) (t : TransactionProgress) → is_beginning stage ≡ true → Queued stage t
 begins_now Beginning t e = tt
 begins_now Locking t e = absurd (cc e)
 begins_now Looking t e = absurd (cc e)
@@ -207,9 +207,9 @@ write_begun (writing.Changing t) q at = go (is_beginning t.stage)
 write_begun (writing.Ending said) q at = tt
 
 -- ---- a command on a name
-module _ (w : Walk) (job : EntryJob) (t : Progress) (sound : Sound t) (row : HasRow t) (a : Answer) (at : ℕ) where
+module _ (w : Walk) (job : EntryJob) (t : TransactionProgress) (sound : Sound t) (row : HasRow t) (a : Answer) (at : ℕ) where
   -- the name was told
-  abbrev noted : BrickId → Progress
+  abbrev noted : BrickId → TransactionProgress
   noted b = entry.name_noted b job w (told_by a) at t
 
   noted_row : (b : BrickId) → HasRow (noted b)
@@ -278,7 +278,7 @@ entry_begun (entering.Ending said) q at = tt
 
 -- ---- a rename
 -- the second transaction begins as one of a new work
-turned_now : (x : Paths) (t : Progress) (found : Found) → IsMaking x t found → is_done t ≡ true → (told : Told) (at : ℕ) → IsNow (fed Locking told at (turned x t))
+turned_now : (x : Paths) (t : TransactionProgress) (found : Found) → IsMaking x t found → is_done t ≡ true → (told : Told) (at : ℕ) → IsNow (fed Locking told at (turned x t))
 turned_now x t found k e told at =
     let d = done_is t k.under.sound e in
     let first = starting (removal_of x) (opened t.register.shape) in
@@ -287,7 +287,7 @@ turned_now x t found k e told at =
     (told_now first (sound_first (opened t.register.shape) (removal_of x) (inr refl) k.under.sound.base.few d.2 (record { valid = refl; kind = refl })) (starts_queued (removal_of x) (opened t.register.shape)) refl told at refl)
 
 -- one of its transactions, with the read of its name
-under_now : (found : Found) (why : Option Refusal) (asked : Request) (told : Told) (at : ℕ) (t : Progress) → Sound t → IsNow t → transaction.is_over t.stage t ≡ false → IsNow (progress_after found why asked told at t)
+under_now : (found : Found) (why : Option Refusal) (asked : Request) (told : Told) (at : ℕ) (t : TransactionProgress) → Sound t → IsNow t → transaction.is_over t.stage t ≡ false → IsNow (progress_after found why asked told at t)
 under_now found why asked told at t s q more = go found
   where
     read : (b : BrickId) (why : Option Refusal) → is_beginning t.stage ≡ true → IsNow (entry.settled why (noted_read b.0 asked told at t))
@@ -310,7 +310,7 @@ under_now found why asked told at t s q more = go found
 rename_told : (m : Renaming) → rename.IsRename m.paths m.stage → IsQueuedRename m.stage → rename.is_over m.stage ≡ false → (chosen : BrickId) (a : Answer) (at : ℕ) → IsQueuedRename (rename.answered chosen a at m).stage
 rename_told m k q more chosen a at = go m.stage k.sound q more
   where
-    making : (t : Progress) (found : Found) → IsMaking m.paths t found → IsNow t → rename.is_over (renaming.Making t found) ≡ false → (d : Bool) → is_done t ≡ d
+    making : (t : TransactionProgress) (found : Found) → IsMaking m.paths t found → IsNow t → rename.is_over (renaming.Making t found) ≡ false → (d : Bool) → is_done t ≡ d
         → IsQueuedRename (if d then rename.second_begun (told_by a) at m.paths t else rename.making_after chosen found a at m.paths t)
     making t found i q more true e = turned_now m.paths t found i e (told_by a) at
     making t found i q more false e = under_now found (against_new a) (reads_new m.paths) (told_by a) at t i.under.sound q (over_not_done (transaction.is_over t.stage t) (is_done t) more e)
@@ -323,7 +323,7 @@ rename_told m k q more chosen a at = go m.stage k.sound q more
     go (renaming.Ending said) i q more = tt
 
 -- the attempt of one of its transactions
-under_begun : (found : Found) (t : Progress) → IsNow t → (at : ℕ) → IsNow (entry.progress_begun found at t)
+under_begun : (found : Found) (t : TransactionProgress) → IsNow t → (at : ℕ) → IsNow (entry.progress_begun found at t)
 under_begun found t q at = by_name found
   where
     go : (e : Bool) → IsNow (if e then begun at t else t)

@@ -23,12 +23,12 @@ use Rattle.afr_waits.specs.Waiting.{RisesTo}
 use Rattle.afr_work_order.specs.Queue.{IsQueued}
 use Rattle.afr_work_order.specs.Rising.{LeadsDown}
 use Rattle.afr_works.specs.Work.{IsWork, next_of, register_of}
-use Rattle.afr_works.specs.declared.work.Work.{Work}
+use Rattle.afr_works.specs.declared.work.WorkMachine.{WorkMachine}
 use Rattle.afr_works_tell.specs.WorkTelling.{WorkTells}
 
 -- in a work of the present command that the log shows, the directory of a removed name has a lesser number than the one that is removed with it
 abbrev pub TellsLeadDown : Type 0
-TellsLeadDown = (p : Plan) (log : List Line) (command : Command) (w : Work) (a : ℕ) → IsOfPlan p log → a ≤ 16 → slice_get (script_of p a) (ended a log) ≡ Some command → WorkTells p command w (work a log) → LeadsDown w
+TellsLeadDown = (p : Plan) (log : List Line) (command : Command) (w : WorkMachine) (a : ℕ) → IsOfPlan p log → a ≤ 16 → slice_get (script_of p a) (ended a log) ≡ Some command → WorkTells p command w (work a log) → LeadsDown w
 
 -- a register stands for the lines of its actor's present work, or is that of no lines before the first of them
 abbrev pub IsNotedAt : Plan → ℕ → List Line → Register → Type 0
@@ -37,5 +37,5 @@ IsNotedAt p a log r = ((place_of a log ≡ Within) × Stood p.shape a log r) ⊎
 -- whatever is told of it, a client's next Work lock is above each that it holds by its lines
 abbrev pub ClientRises : Type 0
 ClientRises =
-    (p : Plan) (log : List Line) (command : Command) (w : Work) (a : ActorId) (b : BrickId) (area : Area) (at : ℕ) → IsOfPlan p log → a.0 ≤ 16 → slice_get (script_of p a.0) (ended a.0 log) ≡ Some command → IsWork w → WorkTells p command w (work a.0 log) → IsNotedAt p a.0 log (register_of w) → IsQueued w
+    (p : Plan) (log : List Line) (command : Command) (w : WorkMachine) (a : ActorId) (b : BrickId) (area : Area) (at : ℕ) → IsOfPlan p log → a.0 ≤ 16 → slice_get (script_of p a.0) (ended a.0 log) ≡ Some command → IsWork w → WorkTells p command w (work a.0 log) → IsNotedAt p a.0 log (register_of w) → IsQueued w
     → next_of at w ≡ next.Ask b (Lock WorkDomain area) → (told : Told) (took : Bool) → RisesTo p.shape.n (locks_at p a.0 (Ask a b (Lock WorkDomain area) told took) log) b.0 area

@@ -20,8 +20,8 @@ use Rattle.afr_rename.specs.declared.stage.RenameStage.{RenameStage}
 use Rattle.afr_walk.specs.Choosing.{IsAmong}
 use Rattle.afr_works.specs.Begin.{work_from}
 use Rattle.afr_works.specs.Work.{IsWork, choices_of, heard_by, next_of}
-use Rattle.afr_works.specs.declared.work.Work.TheVariants.{Entry, Idle, Lookup, Rename, Write}
-use Rattle.afr_works.specs.declared.work.Work.{Work}
+use Rattle.afr_works.specs.declared.work.WorkMachine.TheVariants.{Entry, Idle, Lookup, Rename, Write}
+use Rattle.afr_works.specs.declared.work.WorkMachine.{WorkMachine}
 
 -- a write: of two bricks its transaction asked the lower one first
 abbrev pub IsQueuedWrite : WriteStage → Type 0
@@ -41,7 +41,7 @@ IsQueuedRename (renaming.Removing t found) = transaction.IsQueued t.stage t
 IsQueuedRename stage = Unit {0}
 
 -- of two bricks a work asked the lower one first, for each lock that it takes
-abbrev pub IsQueued : Work → Type 0
+abbrev pub IsQueued : WorkMachine → Type 0
 IsQueued Idle = Unit {0}
 IsQueued (Lookup m) = Unit {0}
 IsQueued (Write m) = IsQueuedWrite m.stage
@@ -55,9 +55,9 @@ WorkBeginsQueued = (shape : Shape) (c : Command) → IsQueued (work_from shape c
 -- and each answer keeps it so
 abbrev pub WorkStaysQueued : Type 0
 WorkStaysQueued =
-    (w : Work) → IsWork w → IsQueued w → (at : ℕ) (b : BrickId) (request : Request) → next_of at w ≡ next.Ask b request → (chosen : BrickId) (a : Answer) → IsAmong (choices_of a at w) chosen
+    (w : WorkMachine) → IsWork w → IsQueued w → (at : ℕ) (b : BrickId) (request : Request) → next_of at w ≡ next.Ask b request → (chosen : BrickId) (a : Answer) → IsAmong (choices_of a at w) chosen
     → IsQueued (heard_by chosen (heard.Answer a at) w)
 
 -- and the Begin line
 abbrev pub WorkBegunQueued : Type 0
-WorkBegunQueued = (w : Work) → IsWork w → IsQueued w → (at : ℕ) (change : Change) → next_of at w ≡ next.Begin change → (chosen : BrickId) → IsQueued (heard_by chosen (heard.Begun at) w)
+WorkBegunQueued = (w : WorkMachine) → IsWork w → IsQueued w → (at : ℕ) (change : Change) → next_of at w ≡ next.Begin change → (chosen : BrickId) → IsQueued (heard_by chosen (heard.Begun at) w)

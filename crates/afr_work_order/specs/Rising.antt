@@ -14,8 +14,8 @@ use Rattle.afr_lines.specs.declared.lock.Domain.TheVariants.{Work as WorkDomain}
 use Rattle.afr_waits.specs.Waiting.{IsBelow}
 use Rattle.afr_work_order.specs.Queue.{IsQueued}
 use Rattle.afr_works.specs.Work.{IsWork, next_of, register_of}
-use Rattle.afr_works.specs.declared.work.Work.TheVariants.{Entry}
-use Rattle.afr_works.specs.declared.work.Work.{Work}
+use Rattle.afr_works.specs.declared.work.WorkMachine.TheVariants.{Entry}
+use Rattle.afr_works.specs.declared.work.WorkMachine.{WorkMachine}
 
 -- by the discipline's register a Work lock of this area is held at a brick
 pub data Locks (r : Register) (c : ℕ) (area : Area) : Type 0 where
@@ -28,12 +28,12 @@ LeadsDownAt (entering.Removes m) = (object_of m.change).0 < m.child.gfid.0
 LeadsDownAt stage = Unit {0}
 
 -- the same of any work
-abbrev pub LeadsDown : Work → Type 0
+abbrev pub LeadsDown : WorkMachine → Type 0
 LeadsDown (Entry m) = LeadsDownAt m.stage
 LeadsDown work = Unit {0}
 
 -- a Work lock is asked above each that the work holds
 abbrev pub WorkAsksAbove : Type 0
 WorkAsksAbove =
-    (w : Work) → IsWork w → IsQueued w → LeadsDown w → (at : ℕ) (b : BrickId) (area : Area) → next_of at w ≡ next.Ask b (Lock WorkDomain area)
+    (w : WorkMachine) → IsWork w → IsQueued w → LeadsDown w → (at : ℕ) (b : BrickId) (area : Area) → next_of at w ≡ next.Ask b (Lock WorkDomain area)
     → (c : ℕ) (mine : Area) → Locks (register_of w) c mine → IsBelow (area_object mine) c (area_object area) b.0

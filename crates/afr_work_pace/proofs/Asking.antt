@@ -6,7 +6,7 @@ use Rattle.afr_base.specs.declared.ids.ActorId.{ActorId}
 use Rattle.afr_base.specs.declared.ids.BrickId.{BrickId}
 use Rattle.afr_bound.specs.Cost.{counted, is_failed_unlock, is_held_back}
 use Rattle.afr_entry_pace.specs.Removals.{FitsRemoval, removal_again}
-use Rattle.afr_lines.specs.declared.answer.Told.TheVariants as told_of
+use Rattle.afr_lines.specs.declared.answer.Told.TheVariants as as_told
 use Rattle.afr_lines.specs.declared.answer.Told.{Told}
 use Rattle.afr_lines.specs.declared.line.Line.TheVariants.{Ask}
 use Rattle.afr_lines.specs.declared.line.Line.{Line}
@@ -16,7 +16,7 @@ use Rattle.afr_lines.specs.declared.request.Request.TheVariants as request
 use Rattle.afr_lines.specs.declared.request.Request.{Request}
 use Rattle.afr_moves.specs.Note.{is_failed, is_held}
 use Rattle.afr_pace.proofs.Nearer.{step_of}
-use Rattle.afr_pace.specs.Left.{Fits, asks_again}
+use Rattle.afr_pace.specs.Left.{FitsAnUnlock, asks_again}
 use Rattle.afr_lines.specs.declared.lock.Domain.TheVariants.{Work}
 use Rattle.afr_removal.specs.Removal as removal
 use Rattle.afr_removal.specs.Removal.{Removing}
@@ -25,7 +25,7 @@ use Rattle.afr_removal.specs.declared.stage.RemovalStage.TheVariants as removes
 use Rattle.afr_removal.specs.declared.stage.RemovalStage.{RemovalStage}
 use Rattle.afr_lines.specs.Areas.{area_for}
 use Rattle.afr_transaction.specs.Outcome.{reply_of}
-use Rattle.afr_transaction.specs.Progress.{Progress, asks, next_at}
+use Rattle.afr_transaction.specs.Progress.{TransactionProgress, asks, next_at}
 use Rattle.afr_transaction.specs.Sound.{IsAsking, Ready, Sound}
 use Rattle.afr_transaction.specs.declared.stage.Stage.TheVariants.{Applying, Beginning, Closing, Locking, Looking, Posting, Preparing}
 use Rattle.afr_transaction.specs.declared.stage.Stage.{Stage}
@@ -47,24 +47,24 @@ module _ (x : ActorId) (b : BrickId) (told : Told) (took : Bool) where
   lock_counts area = go told
     where
       go : (d : Told) → counted (Ask x b (request.Lock Work area) d took) ≤ step_of (is_held d)
-      go (told_of.Held owner) = omega arith
+      go (as_told.Held owner) = omega arith
       go d = omega arith
 
   unlock_counts : (area : Area) → counts (request.Unlock Work area) ≤ step_of (is_failed told)
   unlock_counts area = go told
     where
       go : (d : Told) → counted (Ask x b (request.Unlock Work area) d took) ≤ step_of (is_failed d)
-      go told_of.Failed = omega arith
+      go as_told.Failed = omega arith
       go d = omega arith
 
   -- ---- a transaction
   -- its next line is a request that may be told this, and what it counts
-  pub record AskedAt (stage : Stage) (t : Progress) (asked : Request) : Type 0 where
+  pub record AskedAt (stage : Stage) (t : TransactionProgress) (asked : Request) : Type 0 where
     pub asking : IsAsking stage t
-    pub fits : Fits stage told
+    pub fits : FitsAnUnlock stage told
     pub counts_at : counts asked ≤ step_of (asks_again stage told)
 
-  pub by_stage : (stage : Stage) (t : Progress) (at : ℕ) (asked : Request) → Ready stage t → next_at stage at t ≡ next.Ask b asked → FitsUnlock asked told → AskedAt stage t asked
+  pub by_stage : (stage : Stage) (t : TransactionProgress) (at : ℕ) (asked : Request) → Ready stage t → next_at stage at t ≡ next.Ask b asked → FitsUnlock asked told → AskedAt stage t asked
   by_stage Locking t at asked ready is fits = (let k : request.Lock Work (area_for t.change) ≡ asked = cc is in record { asking = ready; fits = tt; counts_at = subst (λ (q : Request). counts q ≤ step_of (is_held told)) k (lock_counts (area_for t.change)) })
   by_stage Looking t at asked ready is fits = record { asking = ready; fits = tt; counts_at = counts_one (Ask x b asked told took) }
   by_stage Beginning t at asked ready is fits = absurd (cc is)
@@ -81,7 +81,7 @@ module _ (x : ActorId) (b : BrickId) (told : Told) (took : Bool) where
         counts_at = subst (λ (q : Request). counts q ≤ step_of (is_failed told)) j (unlock_counts (area_for t.change));
       })
 
-  pub asked_at : (t : Progress) → Sound t → (at : ℕ) (asked : Request) → next_at t.stage at t ≡ next.Ask b asked → FitsUnlock asked told → AskedAt t.stage t asked
+  pub asked_at : (t : TransactionProgress) → Sound t → (at : ℕ) (asked : Request) → next_at t.stage at t ≡ next.Ask b asked → FitsUnlock asked told → AskedAt t.stage t asked
   asked_at t sound at asked is fits = by_stage t.stage t at asked sound.ready is fits
 
   -- ---- a removal

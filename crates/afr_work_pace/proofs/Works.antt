@@ -40,7 +40,7 @@ use Rattle.afr_object.specs.declared.change.Change.{Change}
 use Rattle.afr_pace.proofs.Lookups.{read_end, read_nearer, read_starts}
 use Rattle.afr_pace.proofs.Nearer.{step_of}
 use Rattle.afr_pace.proofs.Writes.{write_begins, write_end, write_nearer, write_starts}
-use Rattle.afr_pace.specs.Left.{Fits, asks_again}
+use Rattle.afr_pace.specs.Left.{FitsAnUnlock, asks_again}
 use Rattle.afr_pace.specs.Lookups.{read_left}
 use Rattle.afr_pace.specs.Writes.{Asks, FitsWrite, again_at, whole_change, write_left}
 use Rattle.afr_plan.specs.declared.command.Command.TheVariants as command
@@ -51,7 +51,7 @@ use Rattle.afr_removal.specs.declared.stage.RemovalStage.TheVariants as removes
 use Rattle.afr_removal.specs.declared.stage.RemovalStage.{RemovalStage}
 use Rattle.afr_transaction.specs.Outcome.{outcome_of, reply_of}
 use Rattle.afr_transaction.specs.Progress as transaction
-use Rattle.afr_transaction.specs.Progress.{Progress}
+use Rattle.afr_transaction.specs.Progress.{TransactionProgress}
 use Rattle.afr_transaction.specs.Sound.{Ready, Sound}
 use Rattle.afr_transaction.specs.declared.stage.Stage.TheVariants.{Applying, Beginning, Closing, Locking, Looking, Posting, Preparing}
 use Rattle.afr_transaction.specs.declared.stage.Stage.{Stage}
@@ -69,7 +69,7 @@ use Rattle.afr_rename.specs.declared.stage.RenameStage.{RenameStage}
 use Rattle.afr_rename_pace.specs.Renames.{AsksMaking, AsksRename, BeginsRename, FitsRename, RenameBeginsNearer, RenameComesNearer, RenameKeepsEnd, RenameStartsWithin, rename_again, rename_left}
 use Rattle.afr_works.proofs.WorkLemmas.{same_under}
 use Rattle.afr_works.specs.Begin.{work_from}
-use Rattle.afr_works.specs.declared.work.Work.TheVariants.{Entry, Idle, Lookup, Rename, Write}
+use Rattle.afr_works.specs.declared.work.WorkMachine.TheVariants.{Entry, Idle, Lookup, Rename, Write}
 
 -- what a line takes and what it counts
 within : (l t c m : ℕ) → l + t ≤ m → c ≤ t → l + c ≤ m
@@ -107,15 +107,15 @@ module _ (b : BrickId) (asked : Request) (chosen : BrickId) (a : Answer) (at : �
       go (writing.Ending said) i e = absurd (cc e)
 
   -- under the locks of a name it is read, or the transaction asks
-  record UnderAsked (found : Found) (stage : Stage) (t : Progress) : Type 0 where
+  record UnderAsked (found : Found) (stage : Stage) (t : TransactionProgress) : Type 0 where
     pub asks : AsksUnder found stage t
-    pub fitting : Fits stage (told_by a)
+    pub fitting : FitsAnUnlock stage (told_by a)
     pub counts : count_of ≤ step_of (asks_again stage (told_by a))
 
-  from : (found : Found) (stage : Stage) (t : Progress) → AsksUnder found stage t → AskedAt x b (told_by a) took stage t asked → UnderAsked found stage t
+  from : (found : Found) (stage : Stage) (t : TransactionProgress) → AsksUnder found stage t → AskedAt x b (told_by a) took stage t asked → UnderAsked found stage t
   from found stage t asks w = record { asks = asks; fitting = w.fits; counts = w.counts_at }
 
-  unread : (read : Request) (c : BrickId) (t : Progress) (stage : Stage) → Ready stage t → (if transaction.is_beginning stage then next.Ask c read else transaction.next_at stage at t) ≡ next.Ask b asked → UnderAsked (found_of.Unread c) stage t
+  unread : (read : Request) (c : BrickId) (t : TransactionProgress) (stage : Stage) → Ready stage t → (if transaction.is_beginning stage then next.Ask c read else transaction.next_at stage at t) ≡ next.Ask b asked → UnderAsked (found_of.Unread c) stage t
   unread read c t Beginning ready e = record { asks = tt; fitting = tt; counts = counts_one (Ask x b asked (told_by a) took) }
   unread read c t Locking ready e = (let w = by_stage x b (told_by a) took Locking t at asked ready e fits in from (found_of.Unread c) Locking t w.asking w)
   unread read c t Looking ready e = (let w = by_stage x b (told_by a) took Looking t at asked ready e fits in from (found_of.Unread c) Looking t w.asking w)
@@ -124,11 +124,11 @@ module _ (b : BrickId) (asked : Request) (chosen : BrickId) (a : Answer) (at : �
   unread read c t Posting ready e = (let w = by_stage x b (told_by a) took Posting t at asked ready e fits in from (found_of.Unread c) Posting t w.asking w)
   unread read c t Closing ready e = (let w = by_stage x b (told_by a) took Closing t at asked ready e fits in from (found_of.Unread c) Closing t w.asking w)
 
-  refused : (o : Bool) (why : Refusal) (t : Progress) → Sound t → (if o then next.End (reply_to why) else transaction.next_at t.stage at t) ≡ next.Ask b asked → UnderAsked (found_of.Refused why) t.stage t
+  refused : (o : Bool) (why : Refusal) (t : TransactionProgress) → Sound t → (if o then next.End (reply_to why) else transaction.next_at t.stage at t) ≡ next.Ask b asked → UnderAsked (found_of.Refused why) t.stage t
   refused true why t sound e = absurd (cc e)
   refused false why t sound e = (let w = asked_at x b (told_by a) took t sound at asked e fits in from (found_of.Refused why) t.stage t w.asking w)
 
-  under : (read : Request) (found : Found) (t : Progress) → Sound t → next_under found at read t ≡ next.Ask b asked → UnderAsked found t.stage t
+  under : (read : Request) (found : Found) (t : TransactionProgress) → Sound t → next_under found at read t ≡ next.Ask b asked → UnderAsked found t.stage t
   under read (found_of.Unread c) t sound e = unread read c t t.stage sound.ready e
   under read found_of.Fits t sound e = (let w = asked_at x b (told_by a) took t sound at asked e fits in from found_of.Fits t.stage t w.asking w)
   under read (found_of.Refused why) t sound e = refused (transaction.is_over t.stage t) why t sound e
@@ -157,12 +157,12 @@ module _ (b : BrickId) (asked : Request) (chosen : BrickId) (a : Answer) (at : �
     pub counts : count_of ≤ step_of (rename_again stage (told_by a))
 
   -- its making, by whether it is done
-  record MakingAsked (done : Bool) (found : Found) (t : Progress) : Type 0 where
+  record MakingAsked (done : Bool) (found : Found) (t : TransactionProgress) : Type 0 where
     pub asks : AsksMaking done found t
-    pub fitting : Fits (if done then Locking else t.stage) (told_by a)
+    pub fitting : FitsAnUnlock (if done then Locking else t.stage) (told_by a)
     pub counts : count_of ≤ step_of (asks_again (if done then Locking else t.stage) (told_by a))
 
-  making : (y : Paths) (done : Bool) (found : Found) (t : Progress) → Sound t → (if done then transaction.next_at Locking at (turned y t) else next_under found at (reads_new y) t) ≡ next.Ask b asked → MakingAsked done found t
+  making : (y : Paths) (done : Bool) (found : Found) (t : TransactionProgress) → Sound t → (if done then transaction.next_at Locking at (turned y t) else next_under found at (reads_new y) t) ≡ next.Ask b asked → MakingAsked done found t
   making y true found t sound e = (let k : request.Lock Work (area_for (removal_of y)) ≡ asked = cc e in record {
     asks = tt;
     fitting = tt;
@@ -170,7 +170,7 @@ module _ (b : BrickId) (asked : Request) (chosen : BrickId) (a : Answer) (at : �
   })
   making y false found t sound e = (let w = under (reads_new y) found t sound e in record { asks = w.asks; fitting = w.fitting; counts = w.counts })
 
-  removing : (y : Paths) (over : Bool) (found : Found) (t : Progress) → Sound t → (if over then next.End (half_reply (outcome_of t.change t.register)) else next_under found at (reads_old y) t) ≡ next.Ask b asked → UnderAsked found t.stage t
+  removing : (y : Paths) (over : Bool) (found : Found) (t : TransactionProgress) → Sound t → (if over then next.End (half_reply (outcome_of t.change t.register)) else next_under found at (reads_old y) t) ≡ next.Ask b asked → UnderAsked found t.stage t
   removing y true found t sound e = absurd (cc e)
   removing y false found t sound e = under (reads_old y) found t sound e
 
@@ -194,7 +194,7 @@ work_nearer nearer comes (Entry m) k at b asked is chosen a choice fits x took =
 work_nearer nearer comes (Rename m) k at b asked is chosen a choice fits x took = by_rename b asked chosen a at fits x took comes m k is choice
 
 -- ---- a Begin line
-begins_at : (stage : Stage) (t : Progress) (at : ℕ) (change : Change) → transaction.next_at stage at t ≡ next.Begin change → stage ≡ Beginning
+begins_at : (stage : Stage) (t : TransactionProgress) (at : ℕ) (change : Change) → transaction.next_at stage at t ≡ next.Begin change → stage ≡ Beginning
 begins_at Locking t at change e = absurd (cc e)
 begins_at Looking t at change e = absurd (cc e)
 begins_at Beginning t at change e = refl
@@ -239,7 +239,7 @@ module _ (at : ℕ) (change : Change) (chosen : BrickId) where
       go (writing.Changing t) same e = write_begins m t same (begins_at t.stage t at change e) chosen at
       go (writing.Ending said) same e = absurd (cc e)
 
-  unread_begin : (read : Request) (c : BrickId) (t : Progress) (stage : Stage) → (if transaction.is_beginning stage then next.Ask c read else transaction.next_at stage at t) ≡ next.Begin change → ⊥
+  unread_begin : (read : Request) (c : BrickId) (t : TransactionProgress) (stage : Stage) → (if transaction.is_beginning stage then next.Ask c read else transaction.next_at stage at t) ≡ next.Begin change → ⊥
   unread_begin read c t Beginning e = cc e
   unread_begin read c t Locking e = cc e
   unread_begin read c t Looking e = cc e
@@ -248,11 +248,11 @@ module _ (at : ℕ) (change : Change) (chosen : BrickId) where
   unread_begin read c t Posting e = cc e
   unread_begin read c t Closing e = (let k = begins_at Closing t at change e in cc k)
 
-  refused_begin : (o : Bool) (why : Refusal) (t : Progress) → (if o then next.End (reply_to why) else transaction.next_at t.stage at t) ≡ next.Begin change → t.stage ≡ Beginning
+  refused_begin : (o : Bool) (why : Refusal) (t : TransactionProgress) → (if o then next.End (reply_to why) else transaction.next_at t.stage at t) ≡ next.Begin change → t.stage ≡ Beginning
   refused_begin true why t e = absurd (cc e)
   refused_begin false why t e = begins_at t.stage t at change e
 
-  under_begin : (read : Request) (found : Found) (t : Progress) → next_under found at read t ≡ next.Begin change → BeginsUnder found t.stage
+  under_begin : (read : Request) (found : Found) (t : TransactionProgress) → next_under found at read t ≡ next.Begin change → BeginsUnder found t.stage
   under_begin read (found_of.Unread c) t e = unread_begin read c t t.stage e
   under_begin read found_of.Fits t e = begins_at t.stage t at change e
   under_begin read (found_of.Refused why) t e = refused_begin (transaction.is_over t.stage t) why t e
@@ -266,11 +266,11 @@ module _ (at : ℕ) (change : Change) (chosen : BrickId) where
       go (entering.Removes y) e = removal_begins_at y.stage y change e
       go (entering.Ending said) e = cc e
 
-  making_begin : (y : Paths) (done : Bool) (found : Found) (t : Progress) → (if done then transaction.next_at Locking at (turned y t) else next_under found at (reads_new y) t) ≡ next.Begin change → BeginsUnder found t.stage
+  making_begin : (y : Paths) (done : Bool) (found : Found) (t : TransactionProgress) → (if done then transaction.next_at Locking at (turned y t) else next_under found at (reads_new y) t) ≡ next.Begin change → BeginsUnder found t.stage
   making_begin y true found t e = absurd (cc e)
   making_begin y false found t e = under_begin (reads_new y) found t e
 
-  removing_begin : (y : Paths) (over : Bool) (found : Found) (t : Progress) → (if over then next.End (half_reply (outcome_of t.change t.register)) else next_under found at (reads_old y) t) ≡ next.Begin change → BeginsUnder found t.stage
+  removing_begin : (y : Paths) (over : Bool) (found : Found) (t : TransactionProgress) → (if over then next.End (half_reply (outcome_of t.change t.register)) else next_under found at (reads_old y) t) ≡ next.Begin change → BeginsUnder found t.stage
   removing_begin y true found t e = absurd (cc e)
   removing_begin y false found t e = under_begin (reads_old y) found t e
 

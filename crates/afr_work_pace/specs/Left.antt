@@ -22,11 +22,11 @@ use Rattle.afr_walk.specs.Choosing.{IsAmong}
 use Rattle.afr_works.specs.Begin.{work_from}
 use Rattle.afr_works.specs.Work.{IsBusy, IsWork, choices_of, heard_by, next_of}
 use Rattle.afr_rename_pace.specs.Renames.{rename_left}
-use Rattle.afr_works.specs.declared.work.Work.TheVariants.{Entry, Idle, Lookup, Rename, Write}
-use Rattle.afr_works.specs.declared.work.Work.{Work}
+use Rattle.afr_works.specs.declared.work.WorkMachine.TheVariants.{Entry, Idle, Lookup, Rename, Write}
+use Rattle.afr_works.specs.declared.work.WorkMachine.{WorkMachine}
 
 -- the lines that a work has left, its end among them
-abbrev pub work_left : Work → ℕ
+abbrev pub work_left : WorkMachine → ℕ
 work_left Idle = 0
 work_left (Lookup m) = read_left m
 work_left (Write m) = write_left m
@@ -41,16 +41,16 @@ FitsUnlock request told = Unit {0}
 -- a request that is answered takes what its line counts
 abbrev pub WorkComesNearer : Type 0
 WorkComesNearer =
-    (w : Work) → IsWork w → (at : ℕ) (b : BrickId) (request : Request) → next_of at w ≡ next.Ask b request → (chosen : BrickId) (a : Answer) → IsAmong (choices_of a at w) chosen → FitsUnlock request (told_by a)
+    (w : WorkMachine) → IsWork w → (at : ℕ) (b : BrickId) (request : Request) → next_of at w ≡ next.Ask b request → (chosen : BrickId) (a : Answer) → IsAmong (choices_of a at w) chosen → FitsUnlock request (told_by a)
     → (x : ActorId) (took : Bool) → work_left (heard_by chosen (heard.Answer a at) w) + counted (Ask x b request (told_by a) took) ≤ work_left w
 
 -- and so does a Begin line
 abbrev pub WorkBeginsNearer : Type 0
-WorkBeginsNearer = (w : Work) (at : ℕ) (change : Change) → next_of at w ≡ next.Begin change → (chosen : BrickId) (x : ActorId) → work_left (heard_by chosen (heard.Begun at) w) + counted (Begin x change) ≤ work_left w
+WorkBeginsNearer = (w : WorkMachine) (at : ℕ) (change : Change) → next_of at w ≡ next.Begin change → (chosen : BrickId) (x : ActorId) → work_left (heard_by chosen (heard.Begun at) w) + counted (Begin x change) ≤ work_left w
 
 -- the end is left, and at the beginning no more than the cost of the command
 abbrev pub WorkKeepsEnd : Type 0
-WorkKeepsEnd = (w : Work) → IsBusy w → 1 ≤ work_left w
+WorkKeepsEnd = (w : WorkMachine) → IsBusy w → 1 ≤ work_left w
 
 abbrev pub WorkStartsWithin : Type 0
 WorkStartsWithin = (shape : Shape) (c : Command) → work_left (work_from shape c) ≤ cost_of shape.n c

@@ -8,7 +8,7 @@ use Rattle.afr_lines.specs.declared.request.Request.{Request}
 use Rattle.afr_object.specs.declared.change.Change.{Change}
 use Rattle.afr_walk.specs.Free.{is_ask}
 use Rattle.afr_transaction.specs.Progress as progress
-use Rattle.afr_transaction.specs.Progress.{Progress, asks}
+use Rattle.afr_transaction.specs.Progress.{TransactionProgress, asks}
 use Rattle.afr_transaction.specs.declared.stage.Stage.{Stage}
 use Rattle.afr_transaction.specs.declared.stage.Stage.TheVariants.{Closing, Locking}
 use Rattle.afr_removal.specs.Removal as removal
@@ -38,8 +38,8 @@ use Rattle.afr_rename.specs.declared.stage.RenameStage.{RenameStage}
 use Rattle.afr_rename.specs.declared.stage.RenameStage.TheVariants as renaming
 use Rattle.afr_works.proofs.WorkLemmas.{same_under}
 use Rattle.afr_works.specs.Work.{next_of}
-use Rattle.afr_works.specs.declared.work.Work.{Work}
-use Rattle.afr_works.specs.declared.work.Work.TheVariants.{Idle, Lookup, Write, Entry, Rename}
+use Rattle.afr_works.specs.declared.work.WorkMachine.{WorkMachine}
+use Rattle.afr_works.specs.declared.work.WorkMachine.TheVariants.{Idle, Lookup, Write, Entry, Rename}
 
 -- whether a line is of a heal
 abbrev heals : Next → Bool
@@ -51,11 +51,11 @@ either : (test : Bool) (one other : Next) → heals one ≡ false → heals othe
 either true one other e f = e
 either false one other e f = f
 
-of_transaction : (stage : Stage) (at : ℕ) (t : Progress) → heals (progress.next_at stage at t) ≡ false
+of_transaction : (stage : Stage) (at : ℕ) (t : TransactionProgress) → heals (progress.next_at stage at t) ≡ false
 of_transaction Closing at t = either (is_nothing t.register.held) _ _ refl refl
 of_transaction stage at t = refl
 
-under : (of : Found) (at : ℕ) (asked : Request) (t : Progress) → heals (next_under of at asked t) ≡ false
+under : (of : Found) (at : ℕ) (asked : Request) (t : TransactionProgress) → heals (next_under of at asked t) ≡ false
 under (found.Unread b) at asked t = either (progress.is_beginning t.stage) _ _ refl (of_transaction t.stage at t)
 under found.Fits at asked t = of_transaction t.stage at t
 under (found.Refused why) at asked t = either (progress.is_over t.stage t) _ _ refl (of_transaction t.stage at t)
@@ -88,7 +88,7 @@ of_rename (renaming.Making t of) at x = either (is_done t) _ _ (of_transaction L
 of_rename (renaming.Removing t of) at x = either (progress.is_over t.stage t) _ _ refl (under of at (reads_old x) t)
 of_rename (renaming.Ending said) at x = refl
 
-heals_no : (w : Work) (at : ℕ) → heals (next_of at w) ≡ false
+heals_no : (w : WorkMachine) (at : ℕ) → heals (next_of at w) ≡ false
 heals_no Idle at = refl
 heals_no (Lookup m) at = of_read m.stage m
 heals_no (Write m) at = of_write m.stage at m
@@ -96,7 +96,7 @@ heals_no (Entry m) at = of_entry m.stage at m
 heals_no (Rename m) at = of_rename m.stage at m.paths
 
 -- so a line that is no request is a Begin or an End
-pub begins_or_ends : (w : Work) (at : ℕ) (n : Next) → n ≡ next_of at w → is_ask (next_of at w) ≡ false → ((x : Change) → n ≡ next.Begin x → ⊥) → ((x : Reply) → n ≡ next.End x → ⊥) → ⊥
+pub begins_or_ends : (w : WorkMachine) (at : ℕ) (n : Next) → n ≡ next_of at w → is_ask (next_of at w) ≡ false → ((x : Change) → n ≡ next.Begin x → ⊥) → ((x : Reply) → n ≡ next.End x → ⊥) → ⊥
 begins_or_ends w at n is asks begins ends = by n is (ap is_ask is ∙ asks) begins ends
   where
     by : (n : Next) → n ≡ next_of at w → is_ask n ≡ false → ((x : Change) → n ≡ next.Begin x → ⊥) → ((x : Reply) → n ≡ next.End x → ⊥) → ⊥

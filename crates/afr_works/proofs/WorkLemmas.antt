@@ -34,7 +34,7 @@ use Rattle.afr_walk.proofs.ChoosingLemmas.{answers_among}
 use Rattle.afr_walk.proofs.FreeLemmas.{allows_end, shape_is}
 use Rattle.afr_transaction.specs.Outcome.{outcome_of, reply_of}
 use Rattle.afr_transaction.specs.Progress as progress
-use Rattle.afr_transaction.specs.Progress.{Progress, asks}
+use Rattle.afr_transaction.specs.Progress.{TransactionProgress, asks}
 use Rattle.afr_transaction.specs.declared.stage.Stage.{Stage}
 use Rattle.afr_transaction.specs.declared.stage.Stage.TheVariants.{Closing, Locking}
 use Rattle.afr_transaction.proofs.Parts.{both}
@@ -76,7 +76,7 @@ use Rattle.afr_rename.specs.declared.stage.RenameStage.{RenameStage}
 use Rattle.afr_rename.specs.declared.stage.RenameStage.TheVariants as renaming
 use Rattle.afr_rename.proofs.RenameLemmas as rename_lemmas
 use Rattle.afr_works.specs.Work.{choices_heard, idle_register, register_of}
-use Rattle.afr_works.specs.declared.work.Work.TheVariants.{Idle, Lookup, Write, Entry, Rename}
+use Rattle.afr_works.specs.declared.work.WorkMachine.TheVariants.{Idle, Lookup, Write, Entry, Rename}
 
 -- ---- the first register
 after_first : (b : Bool) (j : WriteJob) (w : Walk) → register_at (after_step (if b then walking.Arrived else walking.Looking no_look) j (record w { object = root_entry })) w ≡ w.register
@@ -154,7 +154,7 @@ never_begins (reading.Reading x of) w change e = cc e
 never_begins (reading.Ending said) w change e = cc e
 
 -- ---- more is left
-transaction_asks : (stage : Stage) (t : Progress) (at : ℕ) (b : BrickId) (request : Request) → progress.next_at stage at t ≡ next.Ask b request → progress.is_over stage t ≡ false
+transaction_asks : (stage : Stage) (t : TransactionProgress) (at : ℕ) (b : BrickId) (request : Request) → progress.next_at stage at t ≡ next.Ask b request → progress.is_over stage t ≡ false
 transaction_asks Closing t at b request e = go (is_nothing t.register.held) e
   where
     go : (none : Bool) → (if none then next.End (reply_of t.change t.register) else asks Closing t) ≡ next.Ask b request → none ≡ false
@@ -162,7 +162,7 @@ transaction_asks Closing t at b request e = go (is_nothing t.register.held) e
     go false e = refl
 transaction_asks stage t at b request e = refl
 
-transaction_begins : (stage : Stage) (t : Progress) (at : ℕ) (change : Change) → progress.next_at stage at t ≡ next.Begin change → progress.is_over stage t ≡ false
+transaction_begins : (stage : Stage) (t : TransactionProgress) (at : ℕ) (change : Change) → progress.next_at stage at t ≡ next.Begin change → progress.is_over stage t ≡ false
 transaction_begins Closing t at change e = go (is_nothing t.register.held) e
   where
     go : (none : Bool) → (if none then next.End (reply_of t.change t.register) else asks Closing t) ≡ next.Begin change → none ≡ false
@@ -181,11 +181,11 @@ write_begins (writing.Changing t) w at change e = transaction_begins t.stage t a
 write_begins (writing.Ending said) w at change e = absurd (cc e)
 
 -- under the locks of a name, where a transaction is to begin its attempt, more is left
-beginning_more : (stage : Stage) (t : Progress) → progress.is_beginning stage ≡ true → progress.is_over stage t ≡ false
+beginning_more : (stage : Stage) (t : TransactionProgress) → progress.is_beginning stage ≡ true → progress.is_over stage t ≡ false
 beginning_more Closing t e = absurd (cc e)
 beginning_more stage t e = refl
 
-under_asks : (of : Found) (asked : Request) (t : Progress) (at : ℕ) (b : BrickId) (request : Request) → next_under of at asked t ≡ next.Ask b request → progress.is_over t.stage t ≡ false
+under_asks : (of : Found) (asked : Request) (t : TransactionProgress) (at : ℕ) (b : BrickId) (request : Request) → next_under of at asked t ≡ next.Ask b request → progress.is_over t.stage t ≡ false
 under_asks (found.Unread c) asked t at b request e = go (progress.is_beginning t.stage) refl e
   where
     go : (begins : Bool) → progress.is_beginning t.stage ≡ begins → (if begins then next.Ask c asked else progress.next_at t.stage at t) ≡ next.Ask b request → progress.is_over t.stage t ≡ false
@@ -198,7 +198,7 @@ under_asks (found.Refused why) asked t at b request e = go (progress.is_over t.s
     go true e = absurd (cc e)
     go false e = refl
 
-under_begins : (of : Found) (asked : Request) (t : Progress) (at : ℕ) (change : Change) → next_under of at asked t ≡ next.Begin change → progress.is_over t.stage t ≡ false
+under_begins : (of : Found) (asked : Request) (t : TransactionProgress) (at : ℕ) (change : Change) → next_under of at asked t ≡ next.Begin change → progress.is_over t.stage t ≡ false
 under_begins (found.Unread c) asked t at change e = go (progress.is_beginning t.stage) e
   where
     go : (begins : Bool) → (if begins then next.Ask c asked else progress.next_at t.stage at t) ≡ next.Begin change → progress.is_over t.stage t ≡ false
@@ -228,7 +228,7 @@ removal_begins (removing.Closing why) m change e = go (is_nothing (removal.left 
 removal_begins stage m change e = refl
 
 -- under the locks of its name a command asks as a rename does
-pub same_under : (of : Found) (j : EntryJob) (w : Walk) (t : Progress) (at : ℕ) → next_under of at (reads_name j w) t ≡ entry.next_under of at j w t
+pub same_under : (of : Found) (j : EntryJob) (w : Walk) (t : TransactionProgress) (at : ℕ) → next_under of at (reads_name j w) t ≡ entry.next_under of at j w t
 same_under (found.Unread c) j w t at = refl
 same_under found.Fits j w t at = refl
 same_under (found.Refused why) j w t at = refl

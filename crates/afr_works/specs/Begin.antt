@@ -12,8 +12,8 @@ use Rattle.afr_inode_write.specs.Write.{write_from}
 use Rattle.afr_inode_write.specs.declared.job.WriteJob.TheVariants as job
 use Rattle.afr_rename.specs.Paths.{front, last}
 use Rattle.afr_rename.specs.Rename.{rename_from}
-use Rattle.afr_works.specs.declared.work.Work.{Work}
-use Rattle.afr_works.specs.declared.work.Work.TheVariants.{Lookup, Write, Entry, Rename}
+use Rattle.afr_works.specs.declared.work.WorkMachine.{WorkMachine}
+use Rattle.afr_works.specs.declared.work.WorkMachine.TheVariants.{Lookup, Write, Entry, Rename}
 
 -- a machine carries out each command; one on the last name of a path needs that name, and a rename both of its last names
 abbrev pub has_machine : Command → Bool
@@ -25,7 +25,7 @@ has_machine (command.Rename from to) = has_name from && has_name to
 has_machine other = true
 
 -- the work of a command that begins
-abbrev pub work_from : Shape → Command → Work
+abbrev pub work_from : Shape → Command → WorkMachine
 work_from shape (command.Write path at bytes) = Write (write_from shape path (job.Write at bytes))
 work_from shape (command.Cut path len) = Write (write_from shape path (job.Cut len))
 work_from shape (command.SetAttr path key value) = Write (write_from shape path (job.SetAttr key value))

@@ -10,7 +10,7 @@ ghost use Rattle.afr_plan.specs.OnNames.{has_name, is_on_name};
 ghost use Rattle.afr_works.specs.Work.{IsWork};
 
 use crate::on_heap::OnHeap;
-use crate::work::Work;
+use crate::work::WorkMachine;
 use afr_base::{NameId, NoMemory, Shape};
 use afr_entry::{EntryJob, EntryMachine};
 use afr_inode_read::{LookupJob, LookupMachine};
@@ -42,7 +42,7 @@ fn has_name(path: &NamePath) -> bool
 }
 
 /// The machine of a command, before its first line.
-pub fn work_for(alloc: Global, shape: Shape, command: &Command) -> Result<Work, NoMemory>
+pub fn work_for(alloc: Global, shape: Shape, command: &Command) -> Result<WorkMachine, NoMemory>
     requires few { shape.n ≤ 5 }
     requires some { 0 < shape.n }
     requires has { has_machine command.now ≡ true }
@@ -75,7 +75,7 @@ pub fn work_for(alloc: Global, shape: Shape, command: &Command) -> Result<Work, 
 }
 
 /// The machine of a command on the last name of its path.
-fn on_name(alloc: Global, shape: Shape, command: &Command) -> Result<Work, NoMemory>
+fn on_name(alloc: Global, shape: Shape, command: &Command) -> Result<WorkMachine, NoMemory>
     requires few { shape.n ≤ 5 }
     requires some { 0 < shape.n }
     requires has { has_machine command.now ≡ true }
@@ -110,20 +110,25 @@ fn writes_bytes(
     path: &NamePath,
     at: u32,
     bytes: &Chunk,
-) -> Result<Work, NoMemory>
+) -> Result<WorkMachine, NoMemory>
     requires few { shape.n ≤ 5 }
     requires some { 0 < shape.n }
-    ensures ok { IfOk result (λ work. work ≡ Work.Write (write_from shape path.now (WriteJob.Write at bytes.now))) }
+    ensures ok { IfOk result (λ work. work ≡ WorkMachine.Write (write_from shape path.now (WriteJob.Write at bytes.now))) }
     ensures sound { IfOk result (λ work. IsWork work) }
 {
     let bytes = bytes.copy()?;
     writes(alloc, shape, path, WriteJob::Write { at, bytes })
 }
 
-fn writes(alloc: Global, shape: Shape, path: &NamePath, job: WriteJob) -> Result<Work, NoMemory>
+fn writes(
+    alloc: Global,
+    shape: Shape,
+    path: &NamePath,
+    job: WriteJob,
+) -> Result<WorkMachine, NoMemory>
     requires few { shape.n ≤ 5 }
     requires some { 0 < shape.n }
-    ensures ok { IfOk result (λ work. work ≡ Work.Write (write_from shape path.now job)) }
+    ensures ok { IfOk result (λ work. work ≡ WorkMachine.Write (write_from shape path.now job)) }
     ensures sound { IfOk result (λ work. IsWork work) }
 {
     // The results are matched: `?` would move the machine, which is large, once more each time.
@@ -131,7 +136,7 @@ fn writes(alloc: Global, shape: Shape, path: &NamePath, job: WriteJob) -> Result
         Ok(machine) => {
             machine.stays_sound();
             match OnHeap::new(alloc, machine) {
-                Ok(machine) => Ok(Work::Write(machine)),
+                Ok(machine) => Ok(WorkMachine::Write(machine)),
                 Err(_) => Err(NoMemory),
             }
         }
@@ -139,17 +144,22 @@ fn writes(alloc: Global, shape: Shape, path: &NamePath, job: WriteJob) -> Result
     }
 }
 
-fn reads(alloc: Global, shape: Shape, path: &NamePath, job: LookupJob) -> Result<Work, NoMemory>
+fn reads(
+    alloc: Global,
+    shape: Shape,
+    path: &NamePath,
+    job: LookupJob,
+) -> Result<WorkMachine, NoMemory>
     requires few { shape.n ≤ 5 }
     requires some { 0 < shape.n }
-    ensures ok { IfOk result (λ work. work ≡ Work.Lookup (lookup_from shape path.now job)) }
+    ensures ok { IfOk result (λ work. work ≡ WorkMachine.Lookup (lookup_from shape path.now job)) }
     ensures sound { IfOk result (λ work. IsWork work) }
 {
     match LookupMachine::new(alloc, shape, path.as_slice(), job) {
         Ok(machine) => {
             machine.stays_sound();
             match OnHeap::new(alloc, machine) {
-                Ok(machine) => Ok(Work::Lookup(machine)),
+                Ok(machine) => Ok(WorkMachine::Lookup(machine)),
                 Err(_) => Err(NoMemory),
             }
         }
@@ -158,18 +168,23 @@ fn reads(alloc: Global, shape: Shape, path: &NamePath, job: LookupJob) -> Result
 }
 
 /// The path is that of the name; the names before it lead to the directory.
-fn enters(alloc: Global, shape: Shape, path: &NamePath, job: EntryJob) -> Result<Work, NoMemory>
+fn enters(
+    alloc: Global,
+    shape: Shape,
+    path: &NamePath,
+    job: EntryJob,
+) -> Result<WorkMachine, NoMemory>
     requires few { shape.n ≤ 5 }
     requires some { 0 < shape.n }
     requires has { has_name path.now ≡ true }
-    ensures ok { IfOk result (λ work. work ≡ Work.Entry (entry_from shape (front path.now) job)) }
+    ensures ok { IfOk result (λ work. work ≡ WorkMachine.Entry (entry_from shape (front path.now) job)) }
     ensures sound { IfOk result (λ work. IsWork work) }
 {
     match EntryMachine::new(alloc, shape, front(path), job) {
         Ok(machine) => {
             machine.stays_sound();
             match OnHeap::new(alloc, machine) {
-                Ok(machine) => Ok(Work::Entry(machine)),
+                Ok(machine) => Ok(WorkMachine::Entry(machine)),
                 Err(_) => Err(NoMemory),
             }
         }
@@ -178,19 +193,24 @@ fn enters(alloc: Global, shape: Shape, path: &NamePath, job: EntryJob) -> Result
 }
 
 /// Each path has a name.
-fn renames(alloc: Global, shape: Shape, from: &NamePath, to: &NamePath) -> Result<Work, NoMemory>
+fn renames(
+    alloc: Global,
+    shape: Shape,
+    from: &NamePath,
+    to: &NamePath,
+) -> Result<WorkMachine, NoMemory>
     requires few { shape.n ≤ 5 }
     requires some { 0 < shape.n }
     requires old { has_name from.now ≡ true }
     requires new { has_name to.now ≡ true }
-    ensures ok { IfOk result (λ work. work ≡ Work.Rename (rename_from shape from.now to.now)) }
+    ensures ok { IfOk result (λ work. work ≡ WorkMachine.Rename (rename_from shape from.now to.now)) }
     ensures sound { IfOk result (λ work. IsWork work) }
 {
     match RenameMachine::new(alloc, shape, from.as_slice(), to.as_slice()) {
         Ok(machine) => {
             machine.stays_sound();
             match OnHeap::new(alloc, machine) {
-                Ok(machine) => Ok(Work::Rename(machine)),
+                Ok(machine) => Ok(WorkMachine::Rename(machine)),
                 Err(_) => Err(NoMemory),
             }
         }

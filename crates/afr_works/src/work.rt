@@ -21,7 +21,7 @@ use afr_rule::{Candidate, ReadRule};
 /// The machine of a client's present command, if it has begun. It is on the heap: a work is moved often, and most machines
 /// are large.
 #[derive(Drop)]
-pub enum Work {
+pub enum WorkMachine {
     Idle,
     Lookup(OnHeap<LookupMachine>),
     Write(OnHeap<WriteMachine>),
@@ -29,12 +29,12 @@ pub enum Work {
     Rename(OnHeap<RenameMachine>),
 }
 
-impl Work {
+impl WorkMachine {
     /// Whether no command has begun.
     pub fn is_idle(&self) -> bool
         ensures { result ≡ is_idle self.now }
     {
-        matches!(self, Work::Idle)
+        matches!(self, WorkMachine::Idle)
     }
 
     /// Whether nothing is left but the End line, or no command has begun.
@@ -42,11 +42,11 @@ impl Work {
         ensures { result ≡ is_over self.now }
     {
         match self {
-            Work::Idle => true,
-            Work::Lookup(machine) => machine.value.is_over(),
-            Work::Write(machine) => machine.value.is_over(),
-            Work::Entry(machine) => machine.value.is_over(),
-            Work::Rename(machine) => machine.value.is_over(),
+            WorkMachine::Idle => true,
+            WorkMachine::Lookup(machine) => machine.value.is_over(),
+            WorkMachine::Write(machine) => machine.value.is_over(),
+            WorkMachine::Entry(machine) => machine.value.is_over(),
+            WorkMachine::Rename(machine) => machine.value.is_over(),
         }
     }
 
@@ -57,11 +57,11 @@ impl Work {
         ensures allowed { IfOk result (λ next. Allows (register_of self.now) next) }
     {
         match self {
-            Work::Idle => unreachable!(),
-            Work::Lookup(machine) => machine.value.next(at),
-            Work::Write(machine) => machine.value.next(at),
-            Work::Entry(machine) => machine.value.next(at),
-            Work::Rename(machine) => machine.value.next(at),
+            WorkMachine::Idle => unreachable!(),
+            WorkMachine::Lookup(machine) => machine.value.next(at),
+            WorkMachine::Write(machine) => machine.value.next(at),
+            WorkMachine::Entry(machine) => machine.value.next(at),
+            WorkMachine::Rename(machine) => machine.value.next(at),
         }
     }
 
@@ -73,11 +73,11 @@ impl Work {
         ensures allowed { (b : BrickId) → result ≡ Some b → Allows (register_of self.now) (Next.Ask b request.new) }
     {
         match self {
-            Work::Idle => unreachable!(),
-            Work::Lookup(machine) => machine.value.asks(at, request),
-            Work::Write(machine) => machine.value.asks(at, request),
-            Work::Entry(machine) => machine.value.asks(at, request),
-            Work::Rename(machine) => machine.value.asks(at, request),
+            WorkMachine::Idle => unreachable!(),
+            WorkMachine::Lookup(machine) => machine.value.asks(at, request),
+            WorkMachine::Write(machine) => machine.value.asks(at, request),
+            WorkMachine::Entry(machine) => machine.value.asks(at, request),
+            WorkMachine::Rename(machine) => machine.value.asks(at, request),
         }
     }
 
@@ -86,11 +86,11 @@ impl Work {
         ensures { CarriesNext self.now result }
     {
         match self {
-            Work::Idle => Load::Nothing,
-            Work::Lookup(machine) => machine.value.load(),
-            Work::Write(machine) => machine.value.load(),
-            Work::Entry(machine) => machine.value.load(),
-            Work::Rename(machine) => machine.value.load(),
+            WorkMachine::Idle => Load::Nothing,
+            WorkMachine::Lookup(machine) => machine.value.load(),
+            WorkMachine::Write(machine) => machine.value.load(),
+            WorkMachine::Entry(machine) => machine.value.load(),
+            WorkMachine::Rename(machine) => machine.value.load(),
         }
     }
 
@@ -112,11 +112,11 @@ impl Work {
         ensures kept { IsWork self.new }
     {
         let picked = match self {
-            Work::Idle => unreachable!(),
-            Work::Lookup(machine) => machine.value.hear(brick, request, answer, at, rule),
-            Work::Write(machine) => machine.value.hear(brick, request, answer, at, rule),
-            Work::Entry(machine) => machine.value.hear(brick, request, answer, at, rule),
-            Work::Rename(machine) => machine.value.hear(brick, request, answer, at, rule),
+            WorkMachine::Idle => unreachable!(),
+            WorkMachine::Lookup(machine) => machine.value.hear(brick, request, answer, at, rule),
+            WorkMachine::Write(machine) => machine.value.hear(brick, request, answer, at, rule),
+            WorkMachine::Entry(machine) => machine.value.hear(brick, request, answer, at, rule),
+            WorkMachine::Rename(machine) => machine.value.hear(brick, request, answer, at, rule),
         };
         self.stays_sound();
         picked
@@ -130,11 +130,11 @@ impl Work {
     {
         let rule = ReadRule::new(first);
         match self {
-            Work::Idle => unreachable!(),
-            Work::Lookup(machine) => machine.value.feed(Heard::Begun(at), &rule),
-            Work::Write(machine) => machine.value.feed(Heard::Begun(at), &rule),
-            Work::Entry(machine) => machine.value.feed(Heard::Begun(at), &rule),
-            Work::Rename(machine) => machine.value.feed(Heard::Begun(at), &rule),
+            WorkMachine::Idle => unreachable!(),
+            WorkMachine::Lookup(machine) => machine.value.feed(Heard::Begun(at), &rule),
+            WorkMachine::Write(machine) => machine.value.feed(Heard::Begun(at), &rule),
+            WorkMachine::Entry(machine) => machine.value.feed(Heard::Begun(at), &rule),
+            WorkMachine::Rename(machine) => machine.value.feed(Heard::Begun(at), &rule),
         }
         self.stays_sound();
     }
@@ -145,11 +145,11 @@ impl Work {
         ensures { result.now ≡ register_of self.now }
     {
         match self {
-            Work::Idle => unreachable!(),
-            Work::Lookup(machine) => machine.value.register(),
-            Work::Write(machine) => machine.value.register(),
-            Work::Entry(machine) => machine.value.register(),
-            Work::Rename(machine) => machine.value.register(),
+            WorkMachine::Idle => unreachable!(),
+            WorkMachine::Lookup(machine) => machine.value.register(),
+            WorkMachine::Write(machine) => machine.value.register(),
+            WorkMachine::Entry(machine) => machine.value.register(),
+            WorkMachine::Rename(machine) => machine.value.register(),
         }
     }
 
@@ -159,20 +159,20 @@ impl Work {
         ensures five { HasFive (register_of self.now) }
     {
         match self {
-            Work::Idle => {}
-            Work::Lookup(machine) => {
+            WorkMachine::Idle => {}
+            WorkMachine::Lookup(machine) => {
                 machine.value.stays_sound();
                 has_five(machine.value.register());
             }
-            Work::Write(machine) => {
+            WorkMachine::Write(machine) => {
                 machine.value.stays_sound();
                 has_five(machine.value.register());
             }
-            Work::Entry(machine) => {
+            WorkMachine::Entry(machine) => {
                 machine.value.stays_sound();
                 has_five(machine.value.register());
             }
-            Work::Rename(machine) => {
+            WorkMachine::Rename(machine) => {
                 machine.value.stays_sound();
                 has_five(machine.value.register());
             }

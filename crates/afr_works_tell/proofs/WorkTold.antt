@@ -36,7 +36,7 @@ use Rattle.afr_walk.specs.declared.walk.Walk.{Walk}
 use Rattle.afr_walk.specs.declared.walk.WalkStep.{WalkStep}
 use Rattle.afr_walk.specs.declared.walk.WalkStep.TheVariants as walking
 use Rattle.afr_inode_read.specs.Lookup.{Lookup as LookupValue, IsLookup, asked_at, next_at, next_of, walk_after}
-use Rattle.afr_inode_read.specs.declared.job.Content.TheVariants as content
+use Rattle.afr_inode_read.specs.declared.job.Wanted.TheVariants as content
 use Rattle.afr_inode_read.specs.declared.job.LookupJob.{LookupJob}
 use Rattle.afr_inode_read.specs.declared.job.LookupJob.TheVariants as read_job
 use Rattle.afr_inode_read.specs.declared.stage.LookupStage.{LookupStage}
@@ -65,7 +65,7 @@ use Rattle.afr_rename_telling.specs.RenameTelling.{to_of}
 use Rattle.afr_rename_telling.specs.RenameLaws.{RenameAbout, RenameBegins, RenameBegun, RenameBlames, RenameEnds, RenameKeepsName, RenameTellsMore}
 use Rattle.afr_plan.specs.OnNames.{has_name}
 use Rattle.afr_works.specs.Work as work
-use Rattle.afr_works.specs.declared.work.Work.TheVariants.{Idle, Lookup, Write, Entry, Rename}
+use Rattle.afr_works.specs.declared.work.WorkMachine.TheVariants.{Idle, Lookup, Write, Entry, Rename}
 use Rattle.afr_works_tell.specs.WorkLaws.{BlamedLines, WorkAbout, WorkBegins, WorkBegun, WorkBlames, WorkEnds, WorkKeepsName, WorkTellsMore}
 
 -- ---- the first line

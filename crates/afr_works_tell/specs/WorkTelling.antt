@@ -14,11 +14,11 @@ use Rattle.afr_entry_telling.specs.EntryTelling as entry
 use Rattle.afr_entry_telling.specs.EntryTelling.{EntryTells}
 use Rattle.afr_rename_telling.specs.RenameTelling as rename
 use Rattle.afr_rename_telling.specs.RenameTelling.{RenameTells}
-use Rattle.afr_works.specs.declared.work.Work.{Work}
-use Rattle.afr_works.specs.declared.work.Work.TheVariants.{Idle, Lookup, Write, Entry, Rename}
+use Rattle.afr_works.specs.declared.work.WorkMachine.{WorkMachine}
+use Rattle.afr_works.specs.declared.work.WorkMachine.TheVariants.{Idle, Lookup, Write, Entry, Rename}
 
 -- the lines of a work show where the machine of its command stands; a client that has no work has no command
-abbrev pub WorkTells : Plan → Command → Work → Lines → Type 0
+abbrev pub WorkTells : Plan → Command → WorkMachine → Lines → Type 0
 WorkTells p c Idle lines = ⊥
 WorkTells p c (Lookup m) lines = (c ≡ command_of m.job m.walk.path) × ReadTells p m lines
 WorkTells p c (Write m) lines = (has_one_path c ≡ true) × WriteTells p c m lines
@@ -26,7 +26,7 @@ WorkTells p c (Entry m) lines = EntryTells p c m lines
 WorkTells p c (Rename m) lines = RenameTells p c m lines
 
 -- what a brick may answer to the next request
-abbrev pub WorkHears : Work → Plan → ℕ → Request → List Line → Answer → Type 0
+abbrev pub WorkHears : WorkMachine → Plan → ℕ → Request → List Line → Answer → Type 0
 WorkHears Idle p b request log heard = ⊥
 WorkHears (Lookup m) p b request log heard = CanAnswer p b request log heard
 WorkHears (Write m) p b request log heard = CanHear m.stage p m.walk.object b request log heard

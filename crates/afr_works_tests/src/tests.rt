@@ -9,7 +9,7 @@ use afr_object::{Change, Entry, List, Load, View};
 use afr_plan::Command;
 use afr_rule::shipped::first;
 use afr_rule::{Candidate, ReadRule};
-use afr_works::{Work, has_machine, work_for};
+use afr_works::{WorkMachine, has_machine, work_for};
 use std::alloc::Global;
 
 const ROOT: Gfid = Gfid(1);
@@ -24,7 +24,7 @@ fn seen() -> Answer {
     })
 }
 
-fn on_three(alloc: Global, command: &Command) -> Option<Work> {
+fn on_three(alloc: Global, command: &Command) -> Option<WorkMachine> {
     let shape = Shape {
         n: 3,
         arbiter: false,
@@ -36,15 +36,15 @@ fn on_three(alloc: Global, command: &Command) -> Option<Work> {
     }
 }
 
-fn line_of(work: &Work) -> Option<Next> {
+fn line_of(work: &WorkMachine) -> Option<Next> {
     match work {
-        Work::Idle => None,
+        WorkMachine::Idle => None,
         _ => work.next(9).ok(),
     }
 }
 
 /// Whom a work asks at line 3, where it has more left than the end.
-fn asks_of(work: &Work, request: &mut Request) -> Option<BrickId>
+fn asks_of(work: &WorkMachine, request: &mut Request) -> Option<BrickId>
     ensures more { (b : BrickId) → result ≡ Some b → is_over work.now ≡ false }
     ensures asked { (b : BrickId) → result ≡ Some b → next_of 3 work.now ≡ Next.Ask b request.new }
 {
@@ -52,43 +52,43 @@ fn asks_of(work: &Work, request: &mut Request) -> Option<BrickId>
         return None;
     }
     match work {
-        Work::Idle => None,
+        WorkMachine::Idle => None,
         _ => work.asks(3, request),
     }
 }
 
-fn hears_one(work: &mut Work, mut answer: Answer) {
+fn hears_one(work: &mut WorkMachine, mut answer: Answer) {
     let mut request = Request::Index;
     if let Some(brick) = asks_of(work, &mut request) {
         work.hear(brick, &request, &mut answer, 3, &ReadRule::new(first));
     }
 }
 
-fn all_done(work: &mut Work) {
+fn all_done(work: &mut WorkMachine) {
     hears_one(work, Answer::Done);
     hears_one(work, Answer::Done);
     hears_one(work, Answer::Done);
 }
 
-fn all_seen(work: &mut Work) {
+fn all_seen(work: &mut WorkMachine) {
     hears_one(work, seen());
     hears_one(work, seen());
     hears_one(work, seen());
 }
 
-fn all_granted(work: &mut Work) {
+fn all_granted(work: &mut WorkMachine) {
     hears_one(work, Answer::Granted);
     hears_one(work, Answer::Granted);
     hears_one(work, Answer::Granted);
 }
 
-fn begins(work: &mut Work) {
+fn begins(work: &mut WorkMachine) {
     if !work.is_over() {
         work.begun(10);
     }
 }
 
-fn carries_the_attribute(work: &Work) -> bool {
+fn carries_the_attribute(work: &WorkMachine) -> bool {
     matches!(
         work.load(),
         Load::Change(Change::SetAttr { gfid: ROOT, .. })
@@ -97,7 +97,7 @@ fn carries_the_attribute(work: &Work) -> bool {
 
 #[test]
 fn a_client_is_idle_at_first(rt: HostRuntime) {
-    let work = Work::Idle;
+    let work = WorkMachine::Idle;
     assert!(rt; work.is_idle());
     assert!(rt; work.is_over());
 }
@@ -140,7 +140,7 @@ fn last(from: &[Candidate]) -> usize
 }
 
 /// What the rule picks at a look.
-fn look<G: Fn(&[Candidate]) -> usize>(work: &mut Work, rule: &ReadRule<G>) -> Option<BrickId>
+fn look<G: Fn(&[Candidate]) -> usize>(work: &mut WorkMachine, rule: &ReadRule<G>) -> Option<BrickId>
     requires { IsRule G.Fn rule.now }
 {
     let mut request = Request::Index;
@@ -176,7 +176,7 @@ fn the_rule_is_asked_once_all_bricks_have_answered(rt: HostRuntime) {
 }
 
 /// An attribute of the root on its way to every brick.
-fn attribute_of_the_root(alloc: Global) -> Option<Work> {
+fn attribute_of_the_root(alloc: Global) -> Option<WorkMachine> {
     let command = Command::SetAttr {
         path: List::new(alloc),
         key: KeyId(1),
@@ -186,7 +186,7 @@ fn attribute_of_the_root(alloc: Global) -> Option<Work> {
 }
 
 /// What is answered once the operation, post-op and the unlocks were done everywhere.
-fn finished(work: &mut Work) -> Option<Next> {
+fn finished(work: &mut WorkMachine) -> Option<Next> {
     all_done(work);
     all_done(work);
     all_done(work);
@@ -216,14 +216,14 @@ fn an_attribute_is_carried_to_every_brick(rt: HostRuntime) {
 }
 
 /// A directory in the root, on its way to every brick.
-fn directory_in_the_root(alloc: Global) -> Option<Work> {
+fn directory_in_the_root(alloc: Global) -> Option<WorkMachine> {
     let mut path = List::new(alloc);
     path.push(NameId(7)).ok()?;
     on_three(alloc, &Command::Mkdir { path })
 }
 
 /// The attempt began at line 10, which numbers the directory.
-fn carries_the_directory(work: &Work) -> bool {
+fn carries_the_directory(work: &WorkMachine) -> bool {
     matches!(
         work.load(),
         Load::Change(Change::Make {
@@ -266,7 +266,7 @@ fn the_file() -> Answer {
 }
 
 /// A file of the root, on its way to another name there.
-fn rename_in_the_root(alloc: Global) -> Option<Work> {
+fn rename_in_the_root(alloc: Global) -> Option<WorkMachine> {
     let mut from = List::new(alloc);
     from.push(NameId(7)).ok()?;
     let mut to = List::new(alloc);
@@ -275,7 +275,7 @@ fn rename_in_the_root(alloc: Global) -> Option<Work> {
 }
 
 /// A name is locked, read and attempted, and pre-op is done.
-fn attempted(work: &mut Work, told: Answer) {
+fn attempted(work: &mut WorkMachine, told: Answer) {
     all_granted(work);
     all_seen(work);
     hears_one(work, told);
@@ -283,7 +283,7 @@ fn attempted(work: &mut Work, told: Answer) {
     all_done(work);
 }
 
-fn makes_the_new_name(work: &Work) -> bool {
+fn makes_the_new_name(work: &WorkMachine) -> bool {
     matches!(
         work.load(),
         Load::Change(Change::Make {
@@ -295,7 +295,7 @@ fn makes_the_new_name(work: &Work) -> bool {
     )
 }
 
-fn removes_the_old_name(work: &Work) -> bool {
+fn removes_the_old_name(work: &WorkMachine) -> bool {
     matches!(
         work.load(),
         Load::Change(Change::Remove {
@@ -330,10 +330,10 @@ fn a_file_gets_another_name(rt: HostRuntime) {
     );
 }
 
-fn bricks_of(work: &Work) -> u8 {
+fn bricks_of(work: &WorkMachine) -> u8 {
     work.stays_sound();
     match work {
-        Work::Idle => 0,
+        WorkMachine::Idle => 0,
         _ => work.register().shape.n,
     }
 }

@@ -41,7 +41,7 @@ use Rattle.afr_transaction_tells.proofs.Calm.{calm_first}
 use Rattle.afr_transaction_tells.proofs.Excused.{excused_first}
 use Rattle.afr_transaction_tells.proofs.First.{tells_first}
 use Rattle.afr_write_telling.specs.WriteLaws.{WriteBegins}
-use Rattle.afr_write_telling.specs.WriteTelling.{Changes, TellsIn, command_of}
+use Rattle.afr_write_telling.specs.WriteTelling.{ChangesObject, TellsIn, command_of}
 
 -- ---- the command of a change
 pub path_is : (job : WriteJob) (path : List NameId) → path_of (command_of job path) ≡ path
@@ -117,7 +117,7 @@ module _ (p : Plan) (c : Command) (w : Walk) (lines : Work) (sound : IsWalk w) (
   }
 
   -- its first line finds a work that has touched nothing
-  pub changes : (change : Change) → IsChangeOf c w.object change → Changes p c w.object (starting change w.register) lines
+  pub changes : (change : Change) → IsChangeOf c w.object change → ChangesObject p c w.object (starting change w.register) lines
   changes change words = record {
     words = words;
     led = record { led = k.goes.path ∙ ap (λ (n : ℕ). At n w.object) k.whole; unrefused = k.goes.unrefused };

@@ -14,7 +14,7 @@ use Rattle.afr_discipline.specs.Tests.{ends_low, fits_view}
 use Rattle.afr_lines.specs.Areas.{area_for}
 use Rattle.afr_lines.specs.Work.{Work}
 use Rattle.afr_lines.specs.declared.answer.Told.{Told}
-use Rattle.afr_lines.specs.declared.answer.Told.TheVariants as told_of
+use Rattle.afr_lines.specs.declared.answer.Told.TheVariants as as_told
 use Rattle.afr_lines.specs.declared.line.Line.{Line}
 use Rattle.afr_lines.specs.declared.line.Line.TheVariants.{Ask, Begin}
 use Rattle.afr_lines.specs.declared.line.Next.{Next}
@@ -36,7 +36,7 @@ use Rattle.afr_model.specs.Keeping.{KeepsTo, Names}
 use Rattle.afr_model.specs.Showing.{Path, has, locks, look_shows, looked_by}
 use Rattle.afr_model.specs.Standing.{area_here}
 use Rattle.afr_transaction.specs.Outcome.{reply_of}
-use Rattle.afr_transaction.specs.Progress.{Progress, asks, begun, fed, is_beginning, next_at as next_change, numbered, request_at, told_to}
+use Rattle.afr_transaction.specs.Progress.{TransactionProgress, asks, begun, fed, is_beginning, next_at as next_change, numbered, request_at, told_to}
 use Rattle.afr_transaction.specs.Sound.{Sound}
 use Rattle.afr_transaction.specs.declared.stage.Stage.{Stage}
 use Rattle.afr_transaction.specs.declared.stage.Stage.TheVariants.{Locking, Looking, Beginning, Preparing, Applying, Posting, Closing}
@@ -54,7 +54,7 @@ use Rattle.afr_transaction_tells.proofs.Calm.{calm_kept}
 use Rattle.afr_transaction_tells.proofs.Kept.{tells_kept}
 use Rattle.afr_transaction_tells.proofs.Over.{ends_answered}
 use Rattle.afr_transaction_tells.proofs.Small.{object_named, self}
-use Rattle.afr_write_telling.specs.WriteTelling.{AreFitting, CanTell, Changes}
+use Rattle.afr_write_telling.specs.WriteTelling.{AreFitting, CanTell, ChangesObject}
 
 just : {A : Type 0} → (x y : A) → Some x ≡ Some y → x ≡ y
 just x y e = cc e
@@ -119,15 +119,15 @@ fits_set change (x ∷ xs) zero (suc c) v h k = k
 fits_set change (x ∷ xs) (suc b) zero v h k = k
 fits_set change (x ∷ xs) (suc b) (suc c) v h k = fits_set change xs b c v h k
 
-fits_shown : (change : Change) (b c : ℕ) (told : Told) (looked : Looked) → ((view : View) → told ≡ told_of.Seen view → fits_view (Some view) change ≡ true) → fits_view (view_at c looked) change ≡ true
+fits_shown : (change : Change) (b c : ℕ) (told : Told) (looked : Looked) → ((view : View) → told ≡ as_told.Seen view → fits_view (Some view) change ≡ true) → fits_view (view_at c looked) change ≡ true
     → fits_view (view_at c (look_shows b told looked)) change ≡ true
-fits_shown change b c (told_of.Seen view) looked h k = fits_set change looked.views b c (Some view) (h view refl) k
-fits_shown change b c told_of.NoObject looked h k = fits_set change looked.views b c None refl k
+fits_shown change b c (as_told.Seen view) looked h k = fits_set change looked.views b c (Some view) (h view refl) k
+fits_shown change b c as_told.NoObject looked h k = fits_set change looked.views b c None refl k
 fits_shown change b c told looked h k = fits_set change looked.views b c None refl k
 
 -- the looks still suit after one line more
-pub fitting_more : (n : ℕ) (stage : Stage) (t : Progress) (a : ActorId) (b : BrickId) (told : Told) (took : Bool) (log : List Line) (lines : Work)
-    → ((view : View) → told ≡ told_of.Seen view → is_look (request_at stage t) ≡ true → fits_view (Some view) t.change ≡ true) → AreFitting n t.change lines
+pub fitting_more : (n : ℕ) (stage : Stage) (t : TransactionProgress) (a : ActorId) (b : BrickId) (told : Told) (took : Bool) (log : List Line) (lines : Work)
+    → ((view : View) → told ≡ as_told.Seen view → is_look (request_at stage t) ≡ true → fits_view (Some view) t.change ≡ true) → AreFitting n t.change lines
     → AreFitting n t.change ((Ask a b (request_at stage t) told took, log) ∷ lines)
 fitting_more n Locking t a b told took log lines h k = λ locked c l. subst (λ (x : Looked). fits_view (view_at c x) t.change ≡ true) (sym void) (subst (λ (v : Option View). fits_view v t.change ≡ true) (sym (nothing_shown c)) refl)
   where
@@ -152,7 +152,7 @@ request_in (next.Ask b request) = request
 request_in other = request_of.Index
 
 -- a request is that of its stage, which isn't the Begin line's
-pub asked_stage : (stage : Stage) (at : ℕ) (t : Progress) (b : BrickId) (request : Request) → next_change stage at t ≡ next.Ask b request → (is_beginning stage ≡ false) × (request_at stage t ≡ request)
+pub asked_stage : (stage : Stage) (at : ℕ) (t : TransactionProgress) (b : BrickId) (request : Request) → next_change stage at t ≡ next.Ask b request → (is_beginning stage ≡ false) × (request_at stage t ≡ request)
 asked_stage Locking at t b request e = (refl, ap request_in e)
 asked_stage Looking at t b request e = (refl, ap request_in e)
 asked_stage Beginning at t b request e = absurd (cc e)
@@ -165,7 +165,7 @@ asked_stage Closing at t b request e = (refl, go (is_nothing t.register.held) e)
     go true e = absurd (cc e)
     go false e = ap request_in e
 
-pub begun_stage : (stage : Stage) (at : ℕ) (t : Progress) (change : Change) → next_change stage at t ≡ next.Begin change → stage ≡ Beginning
+pub begun_stage : (stage : Stage) (at : ℕ) (t : TransactionProgress) (change : Change) → next_change stage at t ≡ next.Begin change → stage ≡ Beginning
 begun_stage Locking at t change e = absurd (cc e)
 begun_stage Looking at t change e = absurd (cc e)
 begun_stage Beginning at t change e = refl
@@ -178,7 +178,7 @@ begun_stage Closing at t change e = absurd (go (is_nothing t.register.held) e)
     go true e = cc e
     go false e = cc e
 
-pub ended_stage : (stage : Stage) (at : ℕ) (t : Progress) (said : Reply) → next_change stage at t ≡ next.End said → (stage ≡ Closing) × (reply_of t.change t.register ≡ said)
+pub ended_stage : (stage : Stage) (at : ℕ) (t : TransactionProgress) (said : Reply) → next_change stage at t ≡ next.End said → (stage ≡ Closing) × (reply_of t.change t.register ≡ said)
 ended_stage Locking at t said e = absurd (cc e)
 ended_stage Looking at t said e = absurd (cc e)
 ended_stage Beginning at t said e = absurd (cc e)
@@ -191,7 +191,7 @@ ended_stage Closing at t said e = (refl, go (is_nothing t.register.held) e)
     go true e = cc e
     go false e = absurd (cc e)
 
-pub of_stage : (stage : Stage) (t : Progress) (a : ActorId) (b : BrickId) (told : Told) (took : Bool) → is_of_change (Ask a b (request_at stage t) told took) ≡ true
+pub of_stage : (stage : Stage) (t : TransactionProgress) (a : ActorId) (b : BrickId) (told : Told) (took : Bool) → is_of_change (Ask a b (request_at stage t) told took) ≡ true
 of_stage Locking t a b told took = refl
 of_stage Looking t a b told took = refl
 of_stage Beginning t a b told took = refl
@@ -200,7 +200,7 @@ of_stage Applying t a b told took = refl
 of_stage Posting t a b told took = refl
 of_stage Closing t a b told took = refl
 
-pub fed_same : (stage : Stage) (told : Told) (at : ℕ) (t : Progress) → (fed stage told at t).change ≡ t.change
+pub fed_same : (stage : Stage) (told : Told) (at : ℕ) (t : TransactionProgress) → (fed stage told at t).change ≡ t.change
 fed_same Locking told at t = refl
 fed_same Looking told at t = refl
 fed_same Beginning told at t = refl
@@ -209,7 +209,7 @@ fed_same Applying told at t = refl
 fed_same Posting told at t = refl
 fed_same Closing told at t = refl
 
-pub begun_fed : (stage : Stage) (at : ℕ) (t : Progress) → stage ≡ Beginning → (if is_beginning stage then begun at t else t) ≡ fed stage told_of.Done at t
+pub begun_fed : (stage : Stage) (at : ℕ) (t : TransactionProgress) → stage ≡ Beginning → (if is_beginning stage then begun at t else t) ≡ fed stage as_told.Done at t
 begun_fed Beginning at t e = refl
 begun_fed Locking at t e = absurd (cc e)
 begun_fed Looking at t e = absurd (cc e)
@@ -219,10 +219,10 @@ begun_fed Posting at t e = absurd (cc e)
 begun_fed Closing at t e = absurd (cc e)
 
 -- ---- a line of the transaction
-module _ (p : Plan) (c : Command) (object : Entry) (lines : Work) (a : ActorId) (log : List Line) (t : Progress) (sound : Sound t) (k : Changes p c object t lines) where
+module _ (p : Plan) (c : Command) (object : Entry) (lines : Work) (a : ActorId) (log : List Line) (t : TransactionProgress) (sound : Sound t) (k : ChangesObject p c object t lines) where
   -- after a line that is told
   after_line : (told : Told) (line : Line) → IsNextLine a (next_change t.stage (length log) t) told line → is_of_change line ≡ true → LineFits line → LineFitsPhase line → AreFitting p.shape.n t.change ((line, log) ∷ lines)
-      → Changes p c object (fed t.stage told (length log) t) ((line, log) ∷ lines)
+      → ChangesObject p c object (fed t.stage told (length log) t) ((line, log) ∷ lines)
   after_line told line is of fits phase fitting = record {
     words = subst (λ (x : Change). IsChangeOf c object x) (sym (fed_same t.stage told (length log) t)) k.words;
     led = (keeps_path p c object line log lines of k.led).0;
@@ -234,11 +234,11 @@ module _ (p : Plan) (c : Command) (object : Entry) (lines : Work) (a : ActorId) 
   }
 
   pub asked_more : (b : BrickId) (request : Request) (told : Told) (took : Bool) → next_change t.stage (length log) t ≡ next.Ask b request → CanTell object request told
-      → Changes p c object (told_to told (length log) t) ((Ask a b request told took, log) ∷ lines)
+      → ChangesObject p c object (told_to told (length log) t) ((Ask a b request told took, log) ∷ lines)
   asked_more b request told took e can =
       let at_stage = asked_stage t.stage (length log) t b request e in
       let told_is : told_to told (length log) t ≡ fed t.stage told (length log) t = pick (is_beginning t.stage) at_stage.0 in
-      subst (λ (x : Progress). Changes p c object x ((Ask a b request told took, log) ∷ lines)) (sym told_is)
+      subst (λ (x : TransactionProgress). ChangesObject p c object x ((Ask a b request told took, log) ∷ lines)) (sym told_is)
       (after_line told (Ask a b request told took) (subst (λ (n : Next). IsNextLine a n told (Ask a b request told took)) (sym e) (took, refl))
       (subst (λ (r : Request). is_of_change (Ask a b r told took) ≡ true) at_stage.1 (of_stage t.stage t a b told took)) can.fits can.phase
       (subst (λ (r : Request). AreFitting p.shape.n t.change ((Ask a b r told took, log) ∷ lines)) at_stage.1
@@ -248,10 +248,10 @@ module _ (p : Plan) (c : Command) (object : Entry) (lines : Work) (a : ActorId) 
       pick true h = absurd (cc h)
       pick false h = refl
 
-  pub begun_more : (change : Change) → next_change t.stage (length log) t ≡ next.Begin change → Changes p c object (begun_in (length log) t) ((Begin a change, log) ∷ lines)
+  pub begun_more : (change : Change) → next_change t.stage (length log) t ≡ next.Begin change → ChangesObject p c object (begun_in (length log) t) ((Begin a change, log) ∷ lines)
   begun_more change e =
-      subst (λ (x : Progress). Changes p c object x ((Begin a change, log) ∷ lines)) (sym (begun_fed t.stage (length log) t (begun_stage t.stage (length log) t change e)))
-      (after_line told_of.Done (Begin a change) (subst (λ (n : Next). IsNextLine a n told_of.Done (Begin a change)) (sym e) refl) refl tt tt k.fitting)
+      subst (λ (x : TransactionProgress). ChangesObject p c object x ((Begin a change, log) ∷ lines)) (sym (begun_fed t.stage (length log) t (begun_stage t.stage (length log) t change e)))
+      (after_line as_told.Done (Begin a change) (subst (λ (n : Next). IsNextLine a n as_told.Done (Begin a change)) (sym e) refl) refl tt tt k.fitting)
 
   abbrev stood : ChangeStands p c object t.change lines
   stood = stands p c object t.change lines k.words k.led

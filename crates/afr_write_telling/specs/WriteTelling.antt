@@ -20,7 +20,7 @@ use Rattle.afr_plan.specs.declared.plan.Plan.{Plan}
 use Rattle.afr_model.specs.Answered.{IsAnswered}
 use Rattle.afr_model.specs.Refusals.{too_large}
 use Rattle.afr_model.specs.Showing.{NotAsked, has, locks, looked_by, reading_by}
-use Rattle.afr_transaction.specs.Progress.{Progress}
+use Rattle.afr_transaction.specs.Progress.{TransactionProgress}
 use Rattle.afr_walk.specs.declared.walk.Walk.{Walk}
 use Rattle.afr_inode_write.specs.Write.{Write as WriteMachine}
 use Rattle.afr_inode_write.specs.declared.job.WriteJob.{WriteJob}
@@ -44,7 +44,7 @@ abbrev pub AreFitting : ℕ → Change → Work → Type 0
 AreFitting n change w = has (locks (object_of change)) w ≡ true → (b : ℕ) → b < n → fits_view (view_at b (looked_by (object_of change) w)) change ≡ true
 
 -- the path has led to the object, and the lines show how far its transaction is
-pub record Changes (p : Plan) (c : Command) (object : Entry) (m : Progress) (w : Work) : Type 0 where
+pub record ChangesObject (p : Plan) (c : Command) (object : Entry) (m : TransactionProgress) (w : Work) : Type 0 where
   pub words : IsChangeOf c object m.change
   pub led : IsAtEnd p c object w
   pub unread : reading_by p w ≡ NotAsked
@@ -62,7 +62,7 @@ pub record Walks (p : Plan) (c : Command) (job : WriteJob) (w : Walk) (lines : W
 -- by the stage of the change
 abbrev pub TellsIn : Plan → Command → WriteStage → Walk → Work → Type 0
 TellsIn p c (Walking job) w lines = Walks p c job w lines
-TellsIn p c (Changing m) w lines = Changes p c w.object m lines
+TellsIn p c (Changing m) w lines = ChangesObject p c w.object m lines
 TellsIn p c (Ending said) w lines = IsAnswered p c lines said
 
 -- the lines of a work show where its change stands

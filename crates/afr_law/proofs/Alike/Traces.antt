@@ -13,7 +13,7 @@ use Rattle.afr_lines.specs.declared.line.Line.TheVariants.{Begin, HealBegin}
 use Rattle.afr_moves.specs.Cells.{Cell, object_of, kind_of, touches, leaves}
 use Rattle.afr_moves.specs.Past.{Beginning, Log, before, last, changes, mends, touch, stamp, most, brick_of, left_by, leaves_of, choose, values, value}
 use Rattle.afr_moves.specs.Honest.{Honest}
-use Rattle.afr_moves.specs.Rules.{Register, PlaneIs, MayMend, ReadOf, Contents, EachRead, Lawful, present}
+use Rattle.afr_moves.specs.Rules.{Register, PlaneIs, MayMend, ReadOf, BringsSeen, EachRead, Lawful, present}
 use Rattle.afr_moves.specs.Lines.{ask_by, begin_by, heal_begin_by}
 use Rattle.afr_law.proofs.Safety.Locks.{before_is}
 use Rattle.afr_law.proofs.Safety.Acts.{Act, act_later, may_ask, apply_acts}
@@ -63,7 +63,7 @@ module _ (n : ℕ) (files : Beginning) (faults : ℕ → ℕ → Option Fault) (
   shown : (t read : ℕ) → read < t → values files log t read (brick_of (before log t read)) cell ≡ value files log read (brick_of (log read)) cell
   shown t read less = values_at files log t read (brick_of (before log t read)) cell (omega (arith, less)) ∙ ap (λ l. value files log read (brick_of l) cell) (before_is log t read less)
 
-  pub brought_is : (t a b : ℕ) (r : Register) (repair : Repair) (told : Told) → Contents n files.keeps log t a r repair → left_by (before log t) (values files log t) (Some (ask_by a b (Mend repair) told true)) cell ≡ brought_by repair
+  pub brought_is : (t a b : ℕ) (r : Register) (repair : Repair) (told : Told) → BringsSeen n files.keeps log t a r repair → left_by (before log t) (values files log t) (Some (ask_by a b (Mend repair) told true)) cell ≡ brought_by repair
   brought_is t a b r (CutTo h len) told w = refl
   brought_is t a b r (Copy h at span read) told w = shown t read w.past
   brought_is t a b r (PutAttrs h read) told w = shown t read w.past

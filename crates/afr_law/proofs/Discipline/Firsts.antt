@@ -3,8 +3,8 @@ use Rattle.afr_base.specs.declared.ids.Kind.{Kind}
 use Rattle.afr_base.specs.declared.ids.Kind.TheVariants.{Bytes}
 use Rattle.afr_law.proofs.Discipline.Asks.{IsHealLock, Kept, kept, kept_dropped}
 use Rattle.afr_moves.specs.Heal.{Gives, Goes, InHeal, MayHealBegin}
-use Rattle.afr_moves.specs.Note.{answers, breaks, left_in_heal, left_outside, next_phase, put, stay, view_of}
-use Rattle.afr_moves.specs.Register.{Exact, Finish, HealLocks, HealPres, Looks, Open, Opening, Phase, Piece, Step, Unlocks, WorkLocks, holder, is_finish, is_opening, rank, same_step, untouched, whole_area}
+use Rattle.afr_moves.specs.Note.{answers, breaks, left_in_heal, left_outside, next_part, put, stay, view_of}
+use Rattle.afr_moves.specs.Register.{Exact, Finish, HealLocks, HealPart, HealPres, Looks, Open, Opening, Piece, Step, Unlocks, WorkLocks, holder, is_finish, is_opening, rank, same_step, untouched, whole_area}
 use Rattle.afr_moves.specs.Steps.{after_unlocks, is_lowest, is_next, locks_at, may_heal, may_heal_work}
 use Rattle.afr_moves.specs.Transaction.{Outside}
 use Rattle.afr_law.proofs.Discipline.Inner.{Inner, inner_asked, inner_begin, lock_held}
@@ -28,23 +28,23 @@ use Rattle.std.proofs.Common.{Bool, ap, arith, false, inl, inr, not, refl, subst
 use Rattle.std.specs.Prelude.{None, Option, Some, if◌then◌else◌, ◌==◌}
 use Rattle.afr_moves.specs.Rules as weak
 use Rattle.afr_moves.specs.Rules.{Register, is_area, is_none}
-use Rattle.afr_moves.specs.Discipline.{note, present, MayExactly, MayAskExactly, MovesExactly}
+use Rattle.afr_moves.specs.Discipline.{MayAskExactly, MayExactly, MovesExactly, note, present}
 use Rattle.std.proofs.lemmas.Bool.{or_parts, eqb-true}
 use Rattle.afr_base.specs.Bricks.{and_left}
 
 -- nothing was looked at before the first looks, and a first view is of a brick that answered
-pub record Firsts (heal : Bool) (step : Step) (phase : Phase) (first_reached : ℕ → Bool) (first_views : ℕ → Option View) : Type 0 where
+pub record Firsts (heal : Bool) (step : Step) (heal_part : HealPart) (first_reached : ℕ → Bool) (first_views : ℕ → Option View) : Type 0 where
   pub out : heal ≡ false → (x : ℕ) → first_reached x ≡ false
-  pub early : heal ≡ true → rank step ≤ 6 → phase ≡ Opening → (x : ℕ) → first_reached x ≡ false
+  pub early : heal ≡ true → rank step ≤ 6 → heal_part ≡ Opening → (x : ℕ) → first_reached x ≡ false
   pub reached : (x : ℕ) → holder first_views x ≡ true → first_reached x ≡ true
 
 -- the same of a register
 abbrev pub FirstsOf : Exact → Type 0
-FirstsOf r = Firsts r.law.heal r.step r.phase r.first_reached r.first_views
+FirstsOf r = Firsts r.law.heal r.step r.part r.first_reached r.first_views
 
 -- in a heal that goes on the looks are locked
 abbrev pub Whole : ℕ → Exact → Type 0
-Whole n r = r.law.heal ≡ true → r.broken ≡ false → Inner n r.step r.phase r.asked r.first_reached r.law.number r.law.held r.law.seen r.law.closed
+Whole n r = r.law.heal ≡ true → r.broken ≡ false → Inner n r.step r.part r.asked r.first_reached r.law.number r.law.held r.law.seen r.law.closed
 
 pub firsts_fresh : FirstsOf untouched
 firsts_fresh = record { out = λ e x. refl; early = λ e. absurd (cc e); reached = λ x h. h }
@@ -52,9 +52,9 @@ firsts_fresh = record { out = λ e x. refl; early = λ e. absurd (cc e); reached
 -- a line of a heal
 module _ (n : ℕ) (keeps : ℕ → Kind → Bool) (r : Exact) (t b : ℕ) (told : Told) (inside : r.law.heal ≡ true) (f : FirstsOf r) where
   abbrev pub In : Request → Type 0
-  In request = Firsts true (left_in_heal n r t b request told).step (left_in_heal n r t b request told).phase (left_in_heal n r t b request told).first_reached (left_in_heal n r t b request told).first_views
+  In request = Firsts true (left_in_heal n r t b request told).step (left_in_heal n r t b request told).part (left_in_heal n r t b request told).first_reached (left_in_heal n r t b request told).first_views
 
-  far : (next : Step) → 7 ≤ rank next → Firsts true next r.phase r.first_reached r.first_views
+  far : (next : Step) → 7 ≤ rank next → Firsts true next r.part r.first_reached r.first_views
   far next k = record { out = λ e. absurd (true≢false e); early = λ e low. absurd (omega (arith, low, k)); reached = f.reached }
 
   seen_here : (opening : Bool) (x : ℕ) → holder (if opening then put r.first_views b (view_of told) else r.first_views) x ≡ true → (if opening then put r.first_reached b (answers told) else r.first_reached) x ≡ true
@@ -69,13 +69,13 @@ module _ (n : ℕ) (keeps : ℕ → Kind → Bool) (r : Exact) (t b : ℕ) (told
       go true k = shown told k
       go false k = f.reached x k
 
-  work : (source : ℕ) (area : Area) → may_heal_work n keeps r source b area ≡ true → next_phase r area ≡ Opening → (x : ℕ) → r.first_reached x ≡ false
+  work : (source : ℕ) (area : Area) → may_heal_work n keeps r source b area ≡ true → next_part r area ≡ Opening → (x : ℕ) → r.first_reached x ≡ false
   work source area e first x = go (same_step r.step WorkLocks) refl (same_step r.step HealLocks) refl (same_step r.step Unlocks) refl (same_area (whole_area r.law.object Bytes) area) e first
     where
       go : (wait : Bool) → same_step r.step WorkLocks ≡ wait → (heal : Bool) → same_step r.step HealLocks ≡ heal → (freeing : Bool) → same_step r.step Unlocks ≡ freeing → (last : Bool)
-          → (if wait then is_area r.law.area area && is_lowest (locks_at r r.phase) r.asked b else if heal then is_next n r source area && is_lowest r.law.healing empty b
-          else after_unlocks n r area source && not (is_finish r.phase) && is_lowest r.first_reached empty b) ≡ true
-          → (if freeing then (if last then Finish else Piece) else r.phase) ≡ Opening → r.first_reached x ≡ false
+          → (if wait then is_area r.law.area area && is_lowest (locks_at r r.part) r.asked b else if heal then is_next n r source area && is_lowest r.law.healing empty b
+          else after_unlocks n r area source && not (is_finish r.part) && is_lowest r.first_reached empty b) ≡ true
+          → (if freeing then (if last then Finish else Piece) else r.part) ≡ Opening → r.first_reached x ≡ false
       go wait p heal q true v true e first = absurd (cc first)
       go wait p heal q true v false e first = absurd (cc first)
       go true p heal q false v last e first = (let k : rank r.step ≡ 6 = eqb-true (rank r.step) 6 p in f.early inside (omega (arith, k)) first x)
@@ -89,7 +89,7 @@ module _ (n : ℕ) (keeps : ℕ → Kind → Bool) (r : Exact) (t b : ℕ) (told
     reached = f.reached;
   }
   firsts_in (Lock Work area) (Goes m) = record { out = λ e. absurd (true≢false e); early = λ e low first x. work m.source area m.allowed first x; reached = f.reached }
-  firsts_in (Look g) k = record { out = λ e. absurd (true≢false e); early = λ e low. absurd (omega (arith, low)); reached = λ x h. seen_here (is_opening r.phase) x h }
+  firsts_in (Look g) k = record { out = λ e. absurd (true≢false e); early = λ e low. absurd (omega (arith, low)); reached = λ x h. seen_here (is_opening r.part) x h }
   firsts_in (Unlock Work area) k = far Unlocks (omega arith)
   firsts_in (Unlock Heal area) k = far (left_in_heal n r t b (Unlock Heal area) told).step (omega arith)
   firsts_in (ReadBytes g at len) k = far (left_in_heal n r t b (ReadBytes g at len) told).step (omega arith)
@@ -129,14 +129,14 @@ asked_firsts n keeps r t a b request told took f may = go r.law.heal refl may
     go : (heal : Bool) → r.law.heal ≡ heal → ((r.law.heal ≡ false) × Outside n keeps r b request) ⊎ InHeal n keeps r b request
         → Firsts (weak.dropping (is_gone told) b (weak.note_ask n r.law b request told)).heal
         (if heal then record (left_in_heal n r t b request told) { possible = λ s. r.possible s && may_heal n keeps r s b request; broken = r.broken || breaks r request told } else left_outside n r b request told).step
-        (if heal then record (left_in_heal n r t b request told) { possible = λ s. r.possible s && may_heal n keeps r s b request; broken = r.broken || breaks r request told } else left_outside n r b request told).phase
+        (if heal then record (left_in_heal n r t b request told) { possible = λ s. r.possible s && may_heal n keeps r s b request; broken = r.broken || breaks r request told } else left_outside n r b request told).part
         (if heal then record (left_in_heal n r t b request told) { possible = λ s. r.possible s && may_heal n keeps r s b request; broken = r.broken || breaks r request told } else left_outside n r b request told).first_reached
         (if heal then record (left_in_heal n r t b request told) { possible = λ s. r.possible s && may_heal n keeps r s b request; broken = r.broken || breaks r request told } else left_outside n r b request told).first_views
     go true e (inl m) = absurd (true≢false (sym e ∙ m.0))
     go true e (inr m) = (
         let l = left_in_heal n r t b request told in
         let on : (weak.dropping (is_gone told) b (weak.note_ask n r.law b request told)).heal ≡ true = elim k.heal [ inl q ↦ q ∙ e | inr q ↦ q.0 ] in
-        subst (λ h. Firsts h l.step l.phase l.first_reached l.first_views) (sym on) (firsts_in n keeps r t b told e f request m)
+        subst (λ h. Firsts h l.step l.part l.first_reached l.first_views) (sym on) (firsts_in n keeps r t b told e f request m)
         )
     go false e m = (
         let same = outside_first n r b request told in
@@ -148,7 +148,7 @@ asked_firsts n keeps r t a b request told took f may = go r.law.heal refl may
         )
 
 in_heal_inner : (n : ℕ) (keeps : ℕ → Kind → Bool) (r : Exact) (t b : ℕ) (request : Request) (told : Told) → StageOf r → Whole n r → r.law.heal ≡ true → InHeal n keeps r b request → (r.broken || breaks r request told) ≡ false
-    → Inner n (left_in_heal n r t b request told).step (left_in_heal n r t b request told).phase (left_in_heal n r t b request told).asked (left_in_heal n r t b request told).first_reached
+    → Inner n (left_in_heal n r t b request told).step (left_in_heal n r t b request told).part (left_in_heal n r t b request told).asked (left_in_heal n r t b request told).first_reached
     (weak.dropping (is_gone told) b (weak.note_ask n r.law b request told)).number (weak.dropping (is_gone told) b (weak.note_ask n r.law b request told)).held
     (weak.dropping (is_gone told) b (weak.note_ask n r.law b request told)).seen (weak.dropping (is_gone told) b (weak.note_ask n r.law b request told)).closed
 in_heal_inner n keeps r t b request told s whole inside (Gives i broken free) un = absurd (true≢false (sym broken ∙ (or_parts r.broken (breaks r request told) un).0))
@@ -171,7 +171,7 @@ asked_inner n keeps r t a b request told took s whole may on un = go r.law.heal 
     k : Kept request r.law (weak.dropping (is_gone told) b (weak.note_ask n r.law b request told))
     k = kept_dropped request r.law (weak.note_ask n r.law b request told) (is_gone told) b (kept n r.law b request told)
 
-    opens_one : (q : Request) → IsHealLock q → (number : ℕ) (held seen closed : ℕ → Bool) → Inner n (left_outside n r b q told).step (left_outside n r b q told).phase (left_outside n r b q told).asked (left_outside n r b q told).first_reached number held seen closed
+    opens_one : (q : Request) → IsHealLock q → (number : ℕ) (held seen closed : ℕ → Bool) → Inner n (left_outside n r b q told).step (left_outside n r b q told).part (left_outside n r b q told).asked (left_outside n r b q told).first_reached number held seen closed
     opens_one (Lock Heal area) h number held seen closed = record {
       numbers = λ far. absurd (omega (arith, far));
       open_still = λ far. absurd (omega (arith, far));
@@ -185,7 +185,7 @@ asked_inner n keeps r t a b request told took s whole may on un = go r.law.heal 
         → (if heal then record (left_in_heal n r t b request told) { possible = λ s. r.possible s && may_heal n keeps r s b request; broken = r.broken || breaks r request told } else left_outside n r b request told).broken ≡ false
         → Inner n
         (if heal then record (left_in_heal n r t b request told) { possible = λ s. r.possible s && may_heal n keeps r s b request; broken = r.broken || breaks r request told } else left_outside n r b request told).step
-        (if heal then record (left_in_heal n r t b request told) { possible = λ s. r.possible s && may_heal n keeps r s b request; broken = r.broken || breaks r request told } else left_outside n r b request told).phase
+        (if heal then record (left_in_heal n r t b request told) { possible = λ s. r.possible s && may_heal n keeps r s b request; broken = r.broken || breaks r request told } else left_outside n r b request told).part
         (if heal then record (left_in_heal n r t b request told) { possible = λ s. r.possible s && may_heal n keeps r s b request; broken = r.broken || breaks r request told } else left_outside n r b request told).asked
         (if heal then record (left_in_heal n r t b request told) { possible = λ s. r.possible s && may_heal n keeps r s b request; broken = r.broken || breaks r request told } else left_outside n r b request told).first_reached
         (weak.dropping (is_gone told) b (weak.note_ask n r.law b request told)).number (weak.dropping (is_gone told) b (weak.note_ask n r.law b request told)).held
@@ -197,11 +197,11 @@ asked_inner n keeps r t a b request told took s whole may on un = go r.law.heal 
       | inr q ↦ opens_one request q.1 (weak.dropping (is_gone told) b (weak.note_ask n r.law b request told)).number (weak.dropping (is_gone told) b (weak.note_ask n r.law b request told)).held (weak.dropping (is_gone told) b (weak.note_ask n r.law b request told)).seen (weak.dropping (is_gone told) b (weak.note_ask n r.law b request told)).closed
     ]
 
-begin_inner : (n : ℕ) (r : Exact) (t g : ℕ) (kind : Kind) → FirstsOf r → Whole n r → MayHealBegin n r g kind → Inner n Looks r.phase empty r.first_reached (suc t) r.law.held r.law.held empty
-begin_inner n r t g kind f whole may = inner_begin n r.step Looks r.phase r.asked (locks_at r r.phase) r.first_reached r.law.number t r.law.held r.law.seen r.law.closed refl may.step may.over
-    (part r.phase) (λ first x. f.early may.inside (let k : rank r.step ≡ 6 = ap rank may.step in omega (arith, k)) first x) (whole may.inside may.whole)
+begin_inner : (n : ℕ) (r : Exact) (t g : ℕ) (kind : Kind) → FirstsOf r → Whole n r → MayHealBegin n r g kind → Inner n Looks r.part empty r.first_reached (suc t) r.law.held r.law.held empty
+begin_inner n r t g kind f whole may = inner_begin n r.step Looks r.part r.asked (locks_at r r.part) r.first_reached r.law.number t r.law.held r.law.seen r.law.closed refl may.step may.over
+    (part r.part) (λ first x. f.early may.inside (let k : rank r.step ≡ 6 = ap rank may.step in omega (arith, k)) first x) (whole may.inside may.whole)
   where
-    part : (p : Phase) → (p ≡ Opening) ⊎ ((p ≡ Opening → ⊥) × ((x : ℕ) → r.first_reached x ≡ true → locks_at r p x ≡ true))
+    part : (p : HealPart) → (p ≡ Opening) ⊎ ((p ≡ Opening → ⊥) × ((x : ℕ) → r.first_reached x ≡ true → locks_at r p x ≡ true))
     part Opening = inl refl
     part Piece = inr (λ e. cc e, λ x h. h)
     part Finish = inr (λ e. cc e, λ x h. h)

@@ -86,8 +86,8 @@ module _ (n : ℕ) (keeps : ℕ → Kind → Bool) (log : Log) (honest : Honestl
         inside = may.inside;
         same = may.object;
         first = s.waiting may.inside may.step;
-        kind_same = elim (opening_or r.phase) [ inl e ↦ inl (s.opening may.inside may.step e) | inr e ↦ inr (may.later e) ];
-        whole = λ z. elim (opening_or r.phase) [ inl e ↦ subst (λ area. CoversAll area g kind) (sym (may.opening e)) (whole_covers g kind) | inr e ↦ absurd (s.later e z) ];
+        kind_same = elim (opening_or r.part) [ inl e ↦ inl (s.opening may.inside may.step e) | inr e ↦ inr (may.later e) ];
+        whole = λ z. elim (opening_or r.part) [ inl e ↦ subst (λ area. CoversAll area g kind) (sym (may.opening e)) (whole_covers g kind) | inr e ↦ absurd (s.later e z) ];
       }
       )
 

@@ -26,7 +26,7 @@ use Rattle.afr_law.proofs.Discipline.Inner.{turn_low}
 use Rattle.afr_moves.specs.Rules.{EachRead}
 use Rattle.afr_moves.specs.Lines.{ask_by}
 use Rattle.afr_tables.specs.Ends.{EndsInTime}
-use Rattle.afr_law.specs.ModelLaw.{IsKnown, IsRead, MakesKnown, NamesReads, WasShown}
+use Rattle.afr_law.specs.ModelLaw.{IsKnown, IsReadAt, MakesKnown, NamesReads, WasShown}
 use Rattle.afr_tables.proofs.Entries.{entry_same, entry_some}
 use Rattle.afr_moves.specs.Past.{Log}
 use Rattle.afr_moves.specs.Positions.{by_position}
@@ -118,7 +118,7 @@ module _ (n : ℕ) (keeps : ℕ → Kind → Bool) (log : Log) (moves : MovesExa
     low : rank now.step ≤ 11
     low = (let ten : rank now.step ≤ 10 = turn_low n keeps now m.source Mends b (mend_turn n keeps now m.source b repair m.allowed) in omega (arith, ten))
 
-    read_named : (x p : ℕ) (asked : Request) → now.reads x ≡ Some p → read_for now.law.object now.law.kind now.upto ≡ asked → IsRead older asked p
+    read_named : (x p : ℕ) (asked : Request) → now.reads x ≡ Some p → read_for now.law.object now.law.kind now.upto ≡ asked → IsReadAt older asked p
     read_named x p asked e same = (
         let w = wanted_now n keeps log moves t a m.inside m.whole far low x p e in
         let before : p < t = (readings_now n keeps log moves t a m.inside m.whole far x p e).1.past in
@@ -130,7 +130,7 @@ module _ (n : ℕ) (keeps : ℕ → Kind → Bool) (log : Log) (moves : MovesExa
         }
         )
 
-    each_named : (g : Gfid) → read_for now.law.object now.law.kind now.upto ≡ List g → (k : ℕ) (from : Seq (Option ℕ)) → same_reads now.reads k from ≡ true → EachRead (IsRead older (List g)) from
+    each_named : (g : Gfid) → read_for now.law.object now.law.kind now.upto ≡ List g → (k : ℕ) (from : Seq (Option ℕ)) → same_reads now.reads k from ≡ true → EachRead (IsReadAt older (List g)) from
     each_named g same k [] e = tt
     each_named g same k (None ∷ from) e = each_named g same (suc k) from (and_right _ _ e)
     each_named g same k (Some p ∷ from) e = (read_named k p (List g) (read_is (now.reads k) (Some p) (and_left _ _ e)) same, each_named g same (suc k) from (and_right _ _ e))

@@ -140,9 +140,9 @@ module _ (n : ℕ) (keeps : ℕ → Kind → Bool) (r : Exact) (b : ℕ) (h : Ar
       part true k = same_has (piece_area r.law.object r.upto) area k (piece_has r.law.object r.upto)
       part false k = same_has (whole_area r.law.object Bytes) area k (whole_has r.law.object Bytes)
 
-      go : (wait heal : Bool) → (if wait then is_area r.law.area area && is_lowest (locks_at r r.phase) r.asked b
+      go : (wait heal : Bool) → (if wait then is_area r.law.area area && is_lowest (locks_at r r.part) r.asked b
           else if heal then is_next n r source area && is_lowest r.law.healing empty b
-          else after_unlocks n r area source && not (is_finish r.phase) && is_lowest r.first_reached empty b) ≡ true → HasNumber area
+          else after_unlocks n r area source && not (is_finish r.part) && is_lowest r.first_reached empty b) ≡ true → HasNumber area
       go true heal m = h area (is_area_is r.law.area area (and_left _ _ m))
       go false true m = is_whole_has area r.law.object (and_right _ _ (and_left _ _ m))
       go false false m = part (nat_lt r.upto (len_of (r.first_views source))) (and_right _ _ (and_left _ _ (and_left _ _ m)))

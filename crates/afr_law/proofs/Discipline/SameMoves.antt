@@ -2,7 +2,7 @@
 use Rattle.afr_base.specs.declared.ids.Kind.{Kind}
 use Rattle.afr_law.proofs.Safety.Agree.{place_same, register_same, tally_same}
 use Rattle.afr_law.specs.Law.{MayNext}
-use Rattle.afr_moves.specs.Rules.{Contents, EachRead, FitAt, Full, May, MayAsk, MayRaise, PlaneIs, ReadOf, Register, Sink, Views, in_force, opened, present, register}
+use Rattle.afr_moves.specs.Rules.{BringsSeen, EachRead, FitAt, Full, May, MayAsk, MayRaise, PlaneIs, ReadOf, Register, Sink, UnaccusedViews, in_force, opened, present, register}
 use Rattle.afr_moves.specs.Past.{Log, opens, place}
 use Rattle.afr_moves.specs.Tally.{Tally, tally}
 use Rattle.afr_lines.specs.declared.line.Line.{Line}
@@ -20,7 +20,7 @@ module _ (n : ℕ) (keeps : ℕ → Kind → Bool) (log other : Log) (t : ℕ) (
   tally_as : (a : ℕ) → tally log t a ≡ tally other t a
   tally_as a = tally_same log other t agree a t (omega arith)
 
-  views_as : (a : ℕ) (r : Register) (s : ℕ) → Views n keeps log t a r s → Views n keeps other t a r s
+  views_as : (a : ℕ) (r : Register) (s : ℕ) → UnaccusedViews n keeps log t a r s → UnaccusedViews n keeps other t a r s
   views_as a r s w = record {
     among = w.among;
     majority = w.majority;
@@ -56,7 +56,7 @@ module _ (n : ℕ) (keeps : ℕ → Kind → Bool) (log other : Log) (t : ℕ) (
   reads_as a r (None ∷ reads) h = reads_as a r reads h
   reads_as a r (Some read ∷ reads) h = (read_as a r read h.0, reads_as a r reads h.1)
 
-  contents_as : (a : ℕ) (r : Register) (repair : Repair) → Contents n keeps log t a r repair → Contents n keeps other t a r repair
+  contents_as : (a : ℕ) (r : Register) (repair : Repair) → BringsSeen n keeps log t a r repair → BringsSeen n keeps other t a r repair
   contents_as a r (CutTo g len) h = record { s = h.s; view = h.view; seen = h.seen; length = h.length; source = views_as a r h.s h.source }
   contents_as a r (Copy g at span read) h = read_as a r read h
   contents_as a r (PutAttrs g read) h = read_as a r read h

@@ -3,7 +3,7 @@ use Rattle.afr_base.specs.declared.ids.Kind.{Kind}
 use Rattle.afr_base.specs.declared.ids.Kind.TheVariants.{Attrs, Bytes, Names}
 use Rattle.afr_law.proofs.Discipline.Asks.{Kept, kept, kept_dropped, lock_number}
 use Rattle.afr_moves.specs.Heal.{Gives, Goes, InHeal}
-use Rattle.afr_moves.specs.Note.{left_in_heal, next_phase}
+use Rattle.afr_moves.specs.Note.{left_in_heal, next_part}
 use Rattle.afr_moves.specs.Steps.{goes_on, is_lowest, is_next, locks_at, may_heal_work, may_mend, onward, passed, settles_over}
 use Rattle.afr_moves.specs.Past.{is_gone, last}
 use Rattle.afr_moves.specs.Sets.{empty}
@@ -21,19 +21,19 @@ use Rattle.std.proofs.lemmas.Bool.Decides.{nat_tests}
 use Rattle.std.specs.Prelude.{if◌then◌else◌, nat_le, nat_lt, ◌==◌}
 use Rattle.afr_moves.specs.Rules as weak
 use Rattle.afr_moves.specs.Rules.{Register, busy, is_area}
-use Rattle.afr_moves.specs.Register.{Exact, Step, Phase, Untouched, HealLocks, WorkLocks, Looks, Reads, HealPres, Mends, Settles, Unlocks, HealUnlocks, Opening, Piece, Finish, rank, same_step, is_finish, len_of, piece_area, whole_area}
+use Rattle.afr_moves.specs.Register.{Exact, Finish, HealLocks, HealPart, HealPres, HealUnlocks, Looks, Mends, Opening, Piece, Reads, Settles, Step, Unlocks, Untouched, WorkLocks, is_finish, len_of, piece_area, rank, same_step, whole_area}
 use Rattle.std.proofs.lemmas.Bool.{or_parts, eqb-true, not-true, leb-true}
 use Rattle.afr_base.specs.Bricks.{and_left, and_right}
 use Rattle.afr_moves.proofs.Tests.{work_locks, next_not_opening}
 
 -- number and start by the step: no start outside a heal and before its first HealBegin, no number while Work locks are asked
-pub record Stage (heal : Bool) (step : Step) (phase : Phase) (broken : Bool) (start number : ℕ) : Type 0 where
-  pub outside : heal ≡ false → (start ≡ 0) × (phase ≡ Opening)
+pub record Stage (heal : Bool) (step : Step) (part : HealPart) (broken : Bool) (start number : ℕ) : Type 0 where
+  pub outside : heal ≡ false → (start ≡ 0) × (part ≡ Opening)
   pub still : step ≡ Untouched → number ≡ 0
-  pub early : heal ≡ true → rank step ≤ 5 → (phase ≡ Opening) × (start ≡ 0) × (number ≡ 0)
+  pub early : heal ≡ true → rank step ≤ 5 → (part ≡ Opening) × (start ≡ 0) × (number ≡ 0)
   pub waiting : heal ≡ true → step ≡ WorkLocks → number ≡ 0
-  pub opening : heal ≡ true → step ≡ WorkLocks → phase ≡ Opening → start ≡ 0
-  pub later : (phase ≡ Opening → ⊥) → start ≡ 0 → ⊥
+  pub opening : heal ≡ true → step ≡ WorkLocks → part ≡ Opening → start ≡ 0
+  pub later : (part ≡ Opening → ⊥) → start ≡ 0 → ⊥
   pub numbered : heal ≡ true → broken ≡ false → 7 ≤ rank step → start ≡ 0 → ⊥
 
 pub stage_fresh : Stage false Untouched Opening false 0 0
@@ -47,8 +47,8 @@ stage_fresh = record {
   numbered = λ e. absurd (cc e);
 }
 
-pub stage_more : (heal : Bool) (step : Step) (phase : Phase) (broken more : Bool) (start number : ℕ) → Stage heal step phase broken start number → Stage heal step phase (broken || more) start number
-stage_more heal step phase broken more start number s = record {
+pub stage_more : (heal : Bool) (step : Step) (part : HealPart) (broken more : Bool) (start number : ℕ) → Stage heal step part broken start number → Stage heal step part (broken || more) start number
+stage_more heal step part broken more start number s = record {
   outside = s.outside;
   still = s.still;
   early = s.early;
@@ -59,8 +59,8 @@ stage_more heal step phase broken more start number s = record {
 }
 
 -- a step after the first looks, with the same number
-pub stage_on : (step next : Step) (phase : Phase) (broken : Bool) (start number : ℕ) → 7 ≤ rank next → (broken ≡ false → 7 ≤ rank step) → Stage true step phase broken start number → Stage true next phase broken start number
-stage_on step next phase broken start number far was s = record {
+pub stage_on : (step next : Step) (part : HealPart) (broken : Bool) (start number : ℕ) → 7 ≤ rank next → (broken ≡ false → 7 ≤ rank step) → Stage true step part broken start number → Stage true next part broken start number
+stage_on step next part broken start number far was s = record {
   outside = λ e. absurd (true≢false e);
   still = λ e. absurd (low next far (ap rank e));
   early = λ e k. absurd (omega (arith, far, k));
@@ -76,8 +76,8 @@ stage_on step next phase broken start number far was s = record {
     six : (next : Step) → 7 ≤ rank next → rank next ≡ 6 → ⊥
     six next far e = omega (arith, far, e)
 
-pub stage_kept : (step : Step) (phase : Phase) (broken : Bool) (start number now count : ℕ) → now ≡ start → (count ≡ number) ⊎ (count ≡ 0) → Stage true step phase broken start number → Stage true step phase broken now count
-stage_kept step phase broken start number now count e f s = record {
+pub stage_kept : (step : Step) (part : HealPart) (broken : Bool) (start number now count : ℕ) → now ≡ start → (count ≡ number) ⊎ (count ≡ 0) → Stage true step part broken start number → Stage true step part broken now count
+stage_kept step part broken start number now count e f s = record {
   outside = λ k. absurd (true≢false k);
   still = λ k. zero_now (s.still k);
   early = λ k low. (let w = s.early k low in (w.0, e ∙ w.1, zero_now w.2));
@@ -109,27 +109,27 @@ mend_far n keeps r source (PutAttrs g read) e = onward_far n keeps r source g.0 
 mend_far n keeps r source (PutNames g reads) e = onward_far n keeps r source g.0 Names (and_left _ _ (and_left _ _ e))
 
 -- the weak register and the step after a request in a heal
-module _ (n : ℕ) (keeps : ℕ → Kind → Bool) (r : Exact) (t b : ℕ) (told : Told) (inside : r.law.heal ≡ true) (s : Stage true r.step r.phase r.broken r.law.start r.law.number) where
+module _ (n : ℕ) (keeps : ℕ → Kind → Bool) (r : Exact) (t b : ℕ) (told : Told) (inside : r.law.heal ≡ true) (s : Stage true r.step r.part r.broken r.law.start r.law.number) where
   abbrev pub After : Request → Register
   After request = weak.dropping (is_gone told) b (weak.note_ask n r.law b request told)
 
   abbrev pub Staged : Request → Type 0
-  Staged request = Stage true (left_in_heal n r t b request told).step (left_in_heal n r t b request told).phase r.broken (After request).start (After request).number
+  Staged request = Stage true (left_in_heal n r t b request told).step (left_in_heal n r t b request told).part r.broken (After request).start (After request).number
 
   keep : (request : Request) → Kept request r.law (After request)
   keep request = kept_dropped request r.law (weak.note_ask n r.law b request told) (is_gone told) b (kept n r.law b request told)
 
-  on : (request : Request) (next : Step) → 7 ≤ rank next → (r.broken ≡ false → 7 ≤ rank r.step) → Stage true next r.phase r.broken (After request).start (After request).number
+  on : (request : Request) (next : Step) → 7 ≤ rank next → (r.broken ≡ false → 7 ≤ rank r.step) → Stage true next r.part r.broken (After request).start (After request).number
   on request next far was = (
       let k = keep request in
-      stage_kept next r.phase r.broken r.law.start r.law.number (After request).start (After request).number k.start k.number (stage_on r.step next r.phase r.broken r.law.start r.law.number far was s)
+      stage_kept next r.part r.broken r.law.start r.law.number (After request).start (After request).number k.start k.number (stage_on r.step next r.part r.broken r.law.start r.law.number far was s)
       )
 
-  heal_lock : (request : Request) → rank r.step ≡ 5 → Stage true HealLocks r.phase r.broken (After request).start (After request).number
+  heal_lock : (request : Request) → rank r.step ≡ 5 → Stage true HealLocks r.part r.broken (After request).start (After request).number
   heal_lock request at = (
       let k = keep request in
       let w = s.early refl (omega (arith, at)) in
-      stage_kept HealLocks r.phase r.broken r.law.start r.law.number (After request).start (After request).number k.start k.number
+      stage_kept HealLocks r.part r.broken r.law.start r.law.number (After request).start (After request).number k.start k.number
       (record {
         outside = λ e. absurd (true≢false e);
         still = λ e. absurd (cc e);
@@ -148,9 +148,9 @@ module _ (n : ℕ) (keeps : ℕ → Kind → Bool) (r : Exact) (t b : ℕ) (told
   free_number : (area : Area) → busy n r.law ≡ false → (After (Lock Work area)).number ≡ 0
   free_number area e = number_dropped (is_gone told) (weak.note_ask n r.law b (Lock Work area) told) ∙ lock_number n r.law b area told e
 
-  wait_stage : (area : Area) (phase : Phase) → ((phase ≡ Opening) → r.law.start ≡ 0) → ((phase ≡ Opening → ⊥) → r.law.start ≡ 0 → ⊥) → (After (Lock Work area)).number ≡ 0
-      → Stage true WorkLocks phase r.broken (After (Lock Work area)).start (After (Lock Work area)).number
-  wait_stage area phase opened_first later_one none = (
+  wait_stage : (area : Area) (part : HealPart) → ((part ≡ Opening) → r.law.start ≡ 0) → ((part ≡ Opening → ⊥) → r.law.start ≡ 0 → ⊥) → (After (Lock Work area)).number ≡ 0
+      → Stage true WorkLocks part r.broken (After (Lock Work area)).start (After (Lock Work area)).number
+  wait_stage area part opened_first later_one none = (
       let k = keep (Lock Work area) in
       record {
         outside = λ e. absurd (true≢false e);
@@ -166,20 +166,20 @@ module _ (n : ℕ) (keeps : ℕ → Kind → Bool) (r : Exact) (t b : ℕ) (told
   was_zero : (area : Area) → r.law.number ≡ 0 → (After (Lock Work area)).number ≡ 0
   was_zero area z = elim (keep (Lock Work area)).number [ inl e ↦ e ∙ z | inr e ↦ e ]
 
-  work_lock : (source : ℕ) (area : Area) → r.broken ≡ false → may_heal_work n keeps r source b area ≡ true → Stage true WorkLocks (next_phase r area) r.broken (After (Lock Work area)).start (After (Lock Work area)).number
+  work_lock : (source : ℕ) (area : Area) → r.broken ≡ false → may_heal_work n keeps r source b area ≡ true → Stage true WorkLocks (next_part r area) r.broken (After (Lock Work area)).start (After (Lock Work area)).number
   work_lock source area whole e = go (same_step r.step WorkLocks) refl (same_step r.step HealLocks) refl (same_step r.step Unlocks) refl (same_area (whole_area r.law.object Bytes) area) e
     where
       apart : (m : ℕ) → (m == 12) ≡ true → (m == 6) ≡ true → ⊥
       apart m e f = grind (arith, nat_tests)
 
       go : (wait : Bool) → same_step r.step WorkLocks ≡ wait → (heal : Bool) → same_step r.step HealLocks ≡ heal → (freeing : Bool) → same_step r.step Unlocks ≡ freeing → (last : Bool)
-          → (if wait then is_area r.law.area area && is_lowest (locks_at r r.phase) r.asked b else if heal then is_next n r source area && is_lowest r.law.healing empty b
-          else (freeing && not (busy n r.law) && same_kind r.law.kind Bytes && (if nat_lt r.upto (len_of (r.first_views source)) then same_area (piece_area r.law.object r.upto) area else last)) && not (is_finish r.phase) && is_lowest r.first_reached empty b) ≡ true
-          → Stage true WorkLocks (if freeing then (if last then Finish else Piece) else r.phase) r.broken (After (Lock Work area)).start (After (Lock Work area)).number
+          → (if wait then is_area r.law.area area && is_lowest (locks_at r r.part) r.asked b else if heal then is_next n r source area && is_lowest r.law.healing empty b
+          else (freeing && not (busy n r.law) && same_kind r.law.kind Bytes && (if nat_lt r.upto (len_of (r.first_views source)) then same_area (piece_area r.law.object r.upto) area else last)) && not (is_finish r.part) && is_lowest r.first_reached empty b) ≡ true
+          → Stage true WorkLocks (if freeing then (if last then Finish else Piece) else r.part) r.broken (After (Lock Work area)).start (After (Lock Work area)).number
       go true p heal q true v last e = absurd (apart (rank r.step) v p)
       go true p heal q false v last e = (
           let at : r.step ≡ WorkLocks = work_locks r.step p in
-          wait_stage area r.phase (λ first. s.opening refl at first) s.later (was_zero area (s.waiting refl at))
+          wait_stage area r.part (λ first. s.opening refl at first) s.later (was_zero area (s.waiting refl at))
           )
       go false p true q true v last e = absurd (five (rank r.step) v q)
         where
@@ -187,14 +187,14 @@ module _ (n : ℕ) (keeps : ℕ → Kind → Bool) (r : Exact) (t b : ℕ) (told
           five m e f = grind (arith, nat_tests)
       go false p true q false v last e = (
           let w = s.early refl (let k : rank r.step ≡ 5 = eqb-true (rank r.step) 5 q in omega (arith, k)) in
-          wait_stage area r.phase (λ first. w.1) s.later (was_zero area w.2)
+          wait_stage area r.part (λ first. w.1) s.later (was_zero area w.2)
           )
-      go false p false q false v last e = absurd (none (not (busy n r.law)) (same_kind r.law.kind Bytes) (if nat_lt r.upto (len_of (r.first_views source)) then same_area (piece_area r.law.object r.upto) area else last) (not (is_finish r.phase)) (is_lowest r.first_reached empty b) e)
+      go false p false q false v last e = absurd (none (not (busy n r.law)) (same_kind r.law.kind Bytes) (if nat_lt r.upto (len_of (r.first_views source)) then same_area (piece_area r.law.object r.upto) area else last) (not (is_finish r.part)) (is_lowest r.first_reached empty b) e)
         where
           none : (x y z u v : Bool) → ((false && x && y && z) && u && v) ≡ true → ⊥
           none x y z u v e = true≢false (sym e)
       go false p false q true v last e = (
-          let idle : busy n r.law ≡ false = not-true (busy n r.law) (free (not (busy n r.law)) (same_kind r.law.kind Bytes) (if nat_lt r.upto (len_of (r.first_views source)) then same_area (piece_area r.law.object r.upto) area else last) (not (is_finish r.phase)) (is_lowest r.first_reached empty b) e) in
+          let idle : busy n r.law ≡ false = not-true (busy n r.law) (free (not (busy n r.law)) (same_kind r.law.kind Bytes) (if nat_lt r.upto (len_of (r.first_views source)) then same_area (piece_area r.law.object r.upto) area else last) (not (is_finish r.part)) (is_lowest r.first_reached empty b) e) in
           let begun_once : r.law.start ≡ 0 → ⊥ = s.numbered refl whole (let k : rank r.step ≡ 12 = eqb-true (rank r.step) 12 v in omega (arith, k)) in
           wait_stage area (if last then Finish else Piece) (λ first. absurd (next_not_opening last first)) (λ f z. begun_once z) (free_number area idle)
           )

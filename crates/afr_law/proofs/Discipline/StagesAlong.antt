@@ -24,21 +24,21 @@ use Rattle.std.specs.Prelude.{None, Option, Some, if◌then◌else◌, ◌==◌}
 use Rattle.afr_moves.specs.Rules as weak
 use Rattle.afr_moves.specs.Rules.{Register, busy, is_area}
 use Rattle.afr_moves.specs.Transaction.{Outside, MayBegin}
-use Rattle.afr_moves.specs.Register.{Exact, Step, Phase, Untouched, Open, Pres, Applies, Posts, HealLocks, Looks}
+use Rattle.afr_moves.specs.Register.{Exact, Step, HealPart, Untouched, Open, Pres, Applies, Posts, HealLocks, Looks}
 use Rattle.afr_moves.specs.Discipline.{note, present, MayExactly, MayAskExactly, MovesExactly}
 use Rattle.afr_law.proofs.Discipline.Untouched.{some_step}
 
 -- the same of a register
 abbrev pub StageOf : Exact → Type 0
-StageOf r = Stage r.law.heal r.step r.phase r.broken r.law.start r.law.number
+StageOf r = Stage r.law.heal r.step r.part r.broken r.law.start r.law.number
 
 -- a request outside a heal: no heal, or the first lock of one
 module _ (n : ℕ) (keeps : ℕ → Kind → Bool) (r : Exact) (t b : ℕ) (told : Told) (out : r.law.heal ≡ false) (s : StageOf r) where
   abbrev pub gone_after : Request → Register
   gone_after request = weak.dropping (is_gone told) b (weak.note_ask n r.law b request told)
 
-  went_on : (request : Request) (w : Register) (step : Step) (phase : Phase) → Kept request r.law w → (IsHealLock request → ⊥) → phase ≡ r.phase → (step ≡ Untouched → ⊥) → Stage w.heal step phase r.broken w.start w.number
-  went_on request w step phase k other same some = (let off : w.heal ≡ false = elim k.heal [ inl e ↦ e ∙ out | inr e ↦ absurd (other e.1) ] in record {
+  went_on : (request : Request) (w : Register) (step : Step) (part : HealPart) → Kept request r.law w → (IsHealLock request → ⊥) → part ≡ r.part → (step ≡ Untouched → ⊥) → Stage w.heal step part r.broken w.start w.number
+  went_on request w step part k other same some = (let off : w.heal ≡ false = elim k.heal [ inl e ↦ e ∙ out | inr e ↦ absurd (other e.1) ] in record {
     outside = λ f. (k.start ∙ (s.outside out).0, same ∙ (s.outside out).1);
     still = λ f. absurd (some f);
     early = λ f low. absurd (true≢false (sym f ∙ off));
@@ -52,10 +52,10 @@ module _ (n : ℕ) (keeps : ℕ → Kind → Bool) (r : Exact) (t b : ℕ) (told
   now request = kept_dropped request r.law (weak.note_ask n r.law b request told) (is_gone told) b (kept n r.law b request told)
 
   abbrev pub Left : Request → Type 0
-  Left request = Stage (gone_after request).heal (left_outside n r b request told).step (left_outside n r b request told).phase r.broken (gone_after request).start (gone_after request).number
+  Left request = Stage (gone_after request).heal (left_outside n r b request told).step (left_outside n r b request told).part r.broken (gone_after request).start (gone_after request).number
 
   -- the first lock of a heal comes where no line was
-  opening_lock : (area : Area) → r.step ≡ Untouched → Stage (gone_after (Lock Heal area)).heal HealLocks r.phase r.broken (gone_after (Lock Heal area)).start (gone_after (Lock Heal area)).number
+  opening_lock : (area : Area) → r.step ≡ Untouched → Stage (gone_after (Lock Heal area)).heal HealLocks r.part r.broken (gone_after (Lock Heal area)).start (gone_after (Lock Heal area)).number
   opening_lock area first = (
       let k = now (Lock Heal area) in
       let start : (gone_after (Lock Heal area)).start ≡ 0 = k.start ∙ (s.outside out).0 in
@@ -72,25 +72,25 @@ module _ (n : ℕ) (keeps : ℕ → Kind → Bool) (r : Exact) (t b : ℕ) (told
       )
 
   work_left : (area : Area) (some : Bool) → Stage (gone_after (Lock Work area)).heal (if some then stay r else record r { step = Open; asked = empty; unlocked = false; reached = empty; views = no_views }).step
-      (if some then stay r else record r { step = Open; asked = empty; unlocked = false; reached = empty; views = no_views }).phase r.broken (gone_after (Lock Work area)).start (gone_after (Lock Work area)).number
-  work_left area true = went_on (Lock Work area) (gone_after (Lock Work area)) (stay r).step r.phase (now (Lock Work area)) (λ x. x) refl (some_step r.step)
-  work_left area false = went_on (Lock Work area) (gone_after (Lock Work area)) Open r.phase (now (Lock Work area)) (λ x. x) refl (λ e. cc e)
+      (if some then stay r else record r { step = Open; asked = empty; unlocked = false; reached = empty; views = no_views }).part r.broken (gone_after (Lock Work area)).start (gone_after (Lock Work area)).number
+  work_left area true = went_on (Lock Work area) (gone_after (Lock Work area)) (stay r).step r.part (now (Lock Work area)) (λ x. x) refl (some_step r.step)
+  work_left area false = went_on (Lock Work area) (gone_after (Lock Work area)) Open r.part (now (Lock Work area)) (λ x. x) refl (λ e. cc e)
 
   pub left_staged : (request : Request) → Outside n keeps r b request → Left request
   left_staged (Lock Work area) may = work_left area (busy n r.law)
   left_staged (Lock Heal area) may = opening_lock area may.first
-  left_staged (Unlock Work area) may = went_on (Unlock Work area) (gone_after (Unlock Work area)) (stay r).step r.phase (now (Unlock Work area)) (λ x. x) refl (some_step r.step)
-  left_staged (Unlock Heal area) may = went_on (Unlock Heal area) (gone_after (Unlock Heal area)) (stay r).step r.phase (now (Unlock Heal area)) (λ x. x) refl (some_step r.step)
-  left_staged (Pre g kind) may = went_on (Pre g kind) (gone_after (Pre g kind)) Pres r.phase (now (Pre g kind)) (λ x. x) refl (λ e. cc e)
-  left_staged (Apply q) may = went_on (Apply q) (gone_after (Apply q)) Applies r.phase (now (Apply q)) (λ x. x) refl (λ e. cc e)
-  left_staged (Post q g kind missed) may = went_on (Post q g kind missed) (gone_after (Post q g kind missed)) Posts r.phase (now (Post q g kind missed)) (λ x. x) refl (λ e. cc e)
-  left_staged (Look g) may = went_on (Look g) (gone_after (Look g)) (stay r).step r.phase (now (Look g)) (λ x. x) refl (some_step r.step)
-  left_staged (ReadBytes g at len) may = went_on (ReadBytes g at len) (gone_after (ReadBytes g at len)) (stay r).step r.phase (now (ReadBytes g at len)) (λ x. x) refl (some_step r.step)
-  left_staged (ReadName g name) may = went_on (ReadName g name) (gone_after (ReadName g name)) (stay r).step r.phase (now (ReadName g name)) (λ x. x) refl (some_step r.step)
-  left_staged (List g) may = went_on (List g) (gone_after (List g)) (stay r).step r.phase (now (List g)) (λ x. x) refl (some_step r.step)
-  left_staged (ReadAttr g key) may = went_on (ReadAttr g key) (gone_after (ReadAttr g key)) (stay r).step r.phase (now (ReadAttr g key)) (λ x. x) refl (some_step r.step)
-  left_staged (ReadAttrs g) may = went_on (ReadAttrs g) (gone_after (ReadAttrs g)) (stay r).step r.phase (now (ReadAttrs g)) (λ x. x) refl (some_step r.step)
-  left_staged Index may = went_on Index (gone_after Index) (stay r).step r.phase (now Index) (λ x. x) refl (some_step r.step)
+  left_staged (Unlock Work area) may = went_on (Unlock Work area) (gone_after (Unlock Work area)) (stay r).step r.part (now (Unlock Work area)) (λ x. x) refl (some_step r.step)
+  left_staged (Unlock Heal area) may = went_on (Unlock Heal area) (gone_after (Unlock Heal area)) (stay r).step r.part (now (Unlock Heal area)) (λ x. x) refl (some_step r.step)
+  left_staged (Pre g kind) may = went_on (Pre g kind) (gone_after (Pre g kind)) Pres r.part (now (Pre g kind)) (λ x. x) refl (λ e. cc e)
+  left_staged (Apply q) may = went_on (Apply q) (gone_after (Apply q)) Applies r.part (now (Apply q)) (λ x. x) refl (λ e. cc e)
+  left_staged (Post q g kind missed) may = went_on (Post q g kind missed) (gone_after (Post q g kind missed)) Posts r.part (now (Post q g kind missed)) (λ x. x) refl (λ e. cc e)
+  left_staged (Look g) may = went_on (Look g) (gone_after (Look g)) (stay r).step r.part (now (Look g)) (λ x. x) refl (some_step r.step)
+  left_staged (ReadBytes g at len) may = went_on (ReadBytes g at len) (gone_after (ReadBytes g at len)) (stay r).step r.part (now (ReadBytes g at len)) (λ x. x) refl (some_step r.step)
+  left_staged (ReadName g name) may = went_on (ReadName g name) (gone_after (ReadName g name)) (stay r).step r.part (now (ReadName g name)) (λ x. x) refl (some_step r.step)
+  left_staged (List g) may = went_on (List g) (gone_after (List g)) (stay r).step r.part (now (List g)) (λ x. x) refl (some_step r.step)
+  left_staged (ReadAttr g key) may = went_on (ReadAttr g key) (gone_after (ReadAttr g key)) (stay r).step r.part (now (ReadAttr g key)) (λ x. x) refl (some_step r.step)
+  left_staged (ReadAttrs g) may = went_on (ReadAttrs g) (gone_after (ReadAttrs g)) (stay r).step r.part (now (ReadAttrs g)) (λ x. x) refl (some_step r.step)
+  left_staged Index may = went_on Index (gone_after Index) (stay r).step r.part (now Index) (λ x. x) refl (some_step r.step)
   left_staged (Mend repair) may = absurd may
   left_staged (Settle g kind less) may = absurd may
 
@@ -98,13 +98,13 @@ asked_stage : (n : ℕ) (keeps : ℕ → Kind → Bool) (r : Exact) (t a b : ℕ
 asked_stage n keeps r t a b request told took s may = (
     let w = weak.dropping (is_gone told) b (weak.note_ask n r.law b request told) in
     let l = left_by n keeps r t b request told in
-    stage_more w.heal l.step l.phase l.broken (stops_at n keeps (record l { law = w }) l.step) w.start w.number (go r.law.heal refl may)
+    stage_more w.heal l.step l.part l.broken (stops_at n keeps (record l { law = w }) l.step) w.start w.number (go r.law.heal refl may)
     )
   where
     go : (heal : Bool) → r.law.heal ≡ heal → ((r.law.heal ≡ false) × Outside n keeps r b request) ⊎ InHeal n keeps r b request
         → Stage (weak.dropping (is_gone told) b (weak.note_ask n r.law b request told)).heal
         (if heal then record (left_in_heal n r t b request told) { possible = λ s. r.possible s && may_heal n keeps r s b request; broken = r.broken || breaks r request told } else left_outside n r b request told).step
-        (if heal then record (left_in_heal n r t b request told) { possible = λ s. r.possible s && may_heal n keeps r s b request; broken = r.broken || breaks r request told } else left_outside n r b request told).phase
+        (if heal then record (left_in_heal n r t b request told) { possible = λ s. r.possible s && may_heal n keeps r s b request; broken = r.broken || breaks r request told } else left_outside n r b request told).part
         (if heal then record (left_in_heal n r t b request told) { possible = λ s. r.possible s && may_heal n keeps r s b request; broken = r.broken || breaks r request told } else left_outside n r b request told).broken
         (weak.dropping (is_gone told) b (weak.note_ask n r.law b request told)).start (weak.dropping (is_gone told) b (weak.note_ask n r.law b request told)).number
     go true e (inl k) = absurd (true≢false (sym e ∙ k.0))
@@ -113,15 +113,15 @@ asked_stage n keeps r t a b request told took s may = (
         let l = left_in_heal n r t b request told in
         let kept_now : Kept request r.law w = kept_dropped request r.law (weak.note_ask n r.law b request told) (is_gone told) b (kept n r.law b request told) in
         let on : w.heal ≡ true = elim kept_now.heal [ inl q ↦ q ∙ e | inr q ↦ q.0 ] in
-        subst (λ h. Stage h l.step l.phase (r.broken || breaks r request told) w.start w.number) (sym on)
-        (stage_more true l.step l.phase r.broken (breaks r request told) w.start w.number
-        (staged n keeps r t b told e (subst (λ h. Stage h r.step r.phase r.broken r.law.start r.law.number) e s) request k))
+        subst (λ h. Stage h l.step l.part (r.broken || breaks r request told) w.start w.number) (sym on)
+        (stage_more true l.step l.part r.broken (breaks r request told) w.start w.number
+        (staged n keeps r t b told e (subst (λ h. Stage h r.step r.part r.broken r.law.start r.law.number) e s) request k))
         )
     go false e (inl k) = (
         let w = weak.dropping (is_gone told) b (weak.note_ask n r.law b request told) in
         let l = left_outside n r b request told in
         let more = left_broken request told in
-        subst (λ h. Stage w.heal l.step l.phase h w.start w.number) (sym more.1) (stage_more w.heal l.step l.phase r.broken more.0 w.start w.number (left_staged n keeps r t b told e s request k.1))
+        subst (λ h. Stage w.heal l.step l.part h w.start w.number) (sym more.1) (stage_more w.heal l.step l.part r.broken more.0 w.start w.number (left_staged n keeps r t b told e s request k.1))
         )
       where
         none : (x : Bool) → x ≡ (x || false)
@@ -140,7 +140,7 @@ asked_stage n keeps r t a b request told took s may = (
     go false e (inr (Goes m)) = absurd (true≢false (sym m.inside ∙ e))
     go false e (inr (Gives i broken k)) = absurd (true≢false (sym i ∙ e))
 
-begun_stage : (n : ℕ) (keeps : ℕ → Kind → Bool) (r : Exact) (t : ℕ) (change : Change) → StageOf r → MayBegin n keeps r change → Stage r.law.heal Open r.phase r.broken r.law.start (suc t)
+begun_stage : (n : ℕ) (keeps : ℕ → Kind → Bool) (r : Exact) (t : ℕ) (change : Change) → StageOf r → MayBegin n keeps r change → Stage r.law.heal Open r.part r.broken r.law.start (suc t)
 begun_stage n keeps r t change s may = record {
   outside = s.outside;
   still = λ e. absurd (cc e);
@@ -151,7 +151,7 @@ begun_stage n keeps r t change s may = record {
   numbered = λ e. absurd (true≢false (sym e ∙ may.outside));
 }
 
-piece_stage : (n : ℕ) (r : Exact) (t g : ℕ) (kind : Kind) → StageOf r → MayHealBegin n r g kind → Stage r.law.heal Looks r.phase r.broken (if r.law.start == 0 then suc t else r.law.start) (suc t)
+piece_stage : (n : ℕ) (r : Exact) (t g : ℕ) (kind : Kind) → StageOf r → MayHealBegin n r g kind → Stage r.law.heal Looks r.part r.broken (if r.law.start == 0 then suc t else r.law.start) (suc t)
 piece_stage n r t g kind s may = record {
   outside = λ e. absurd (true≢false (sym may.inside ∙ e));
   still = λ e. absurd (cc e);

@@ -4,8 +4,8 @@ use Rattle.afr_base.specs.declared.ids.Kind.TheVariants.{Attrs, Bytes, Names}
 use Rattle.afr_law.proofs.Discipline.AskFields.{WorkLocked, frees_heal, frees_work, sees, work_locked}
 use Rattle.afr_moves.specs.Discipline.{MovesExactly, note, present}
 use Rattle.afr_moves.specs.Heal.{MayHealBegin}
-use Rattle.afr_moves.specs.Note.{left_in_heal, next_phase}
-use Rattle.afr_moves.specs.Register.{Exact, Finish, HealPres, HealUnlocks, Looks, Mends, Opening, Phase, Piece, Reads, Settles, Step, Unlocks, WorkLocks, len_of, piece_area, rank, whole_area}
+use Rattle.afr_moves.specs.Note.{left_in_heal, next_part}
+use Rattle.afr_moves.specs.Register.{Exact, Finish, HealPart, HealPres, HealUnlocks, Looks, Mends, Opening, Piece, Reads, Settles, Step, Unlocks, WorkLocks, len_of, piece_area, rank, whole_area}
 use Rattle.afr_moves.specs.Steps.{may_heal}
 use Rattle.afr_law.proofs.Heals.Along.{healing_now, opened_by}
 use Rattle.afr_law.proofs.Heals.Conditions.{Resumes, Starts, Waits, WorkPlace, attrs_onward, attrs_turn, bytes_onward, bytes_turn, heal_lock_step, list_onward, list_turn, look_step, mend_test, mend_turn, pre_onward, pre_turn, settle_onward, settle_turn, work_place}
@@ -27,29 +27,29 @@ use Rattle.std.proofs.Common.{Bool, ap, arith, false, inl, inr, refl, subst, sym
 use Rattle.std.proofs.lemmas.Bool.Decides.{nat_tests}
 use Rattle.std.specs.Prelude.{Option, Some, if◌then◌else◌, nat_lt}
 use Rattle.afr_moves.specs.Rules as weak
-use Rattle.afr_moves.specs.Rules.{Register, is_area, heal_area, busy}
+use Rattle.afr_moves.specs.Rules.{Register, busy, heal_area, is_area}
 use Rattle.afr_moves.specs.Past.{Log, is_gone}
 use Rattle.afr_moves.proofs.Tests.{same_kind_yes}
 
 -- the whole of a kind at first and at last, and a piece between
-abbrev pub part_area : ℕ → Kind → ℕ → Phase → Area
+abbrev pub part_area : ℕ → Kind → ℕ → HealPart → Area
 part_area g kind upto Piece = piece_area g upto
-part_area g kind upto phase = whole_area g kind
+part_area g kind upto heal_part = whole_area g kind
 
 -- later parts are of bytes, and each part has its area
-pub record Areas (step : Step) (phase : Phase) (kind : Kind) (object upto : ℕ) (area : Option Area) : Type 0 where
-  pub bytes : (phase ≡ Opening → ⊥) → kind ≡ Bytes
-  pub here : (phase ≡ Opening → ⊥) ⊎ (7 ≤ rank step) → rank step ≤ 11 → area ≡ Some (part_area object kind upto phase)
+pub record Areas (step : Step) (heal_part : HealPart) (kind : Kind) (object upto : ℕ) (area : Option Area) : Type 0 where
+  pub bytes : (heal_part ≡ Opening → ⊥) → kind ≡ Bytes
+  pub here : (heal_part ≡ Opening → ⊥) ⊎ (7 ≤ rank step) → rank step ≤ 11 → area ≡ Some (part_area object kind upto heal_part)
 
 -- the same of a register
 abbrev pub AreasIn : Exact → Register → Type 0
-AreasIn r w = Areas r.step r.phase w.kind w.object r.upto w.area
+AreasIn r w = Areas r.step r.part w.kind w.object r.upto w.area
 
 -- a piece is not the whole
 pub piece_apart : (g upto : ℕ) → same_area (whole_area g Bytes) (piece_area g upto) ≡ false
 piece_apart g upto = grind (arith, nat_tests)
 
-pub opening_or : (p : Phase) → (p ≡ Opening) ⊎ (p ≡ Opening → ⊥)
+pub opening_or : (p : HealPart) → (p ≡ Opening) ⊎ (p ≡ Opening → ⊥)
 opening_or Opening = inl refl
 opening_or Piece = inr (λ e. cc e)
 opening_or Finish = inr (λ e. cc e)
@@ -59,17 +59,17 @@ module _ (n : ℕ) (keeps : ℕ → Kind → Bool) (r : Exact) (t b : ℕ) (insi
   AreasAfter request told = AreasIn (left_in_heal n r t b request told) (weak.dropping (is_gone told) b (weak.note_ask n r.law b request told))
 
   -- a later step of the part
-  on : (next : Step) (w : Register) → 7 ≤ rank r.step → rank r.step ≤ 11 → w.kind ≡ r.law.kind → w.object ≡ r.law.object → w.area ≡ r.law.area → Areas next r.phase w.kind w.object r.upto w.area
+  on : (next : Step) (w : Register) → 7 ≤ rank r.step → rank r.step ≤ 11 → w.kind ≡ r.law.kind → w.object ≡ r.law.object → w.area ≡ r.law.area → Areas next r.part w.kind w.object r.upto w.area
   on next w far low k o a = record {
     bytes = λ e. k ∙ h.bytes e;
-    here = λ e low_now. a ∙ h.here (inr far) low ∙ (λ i. Some (part_area (sym o i) (sym k i) r.upto r.phase));
+    here = λ e low_now. a ∙ h.here (inr far) low ∙ (λ i. Some (part_area (sym o i) (sym k i) r.upto r.part));
   }
 
   gone_fields : (gone : Bool) (w : Register) → ((weak.dropping gone b w).kind ≡ w.kind) × ((weak.dropping gone b w).object ≡ w.object) × ((weak.dropping gone b w).area ≡ w.area)
   gone_fields true w = (refl, refl, refl)
   gone_fields false w = (refl, refl, refl)
 
-  plain : (next : Step) → 7 ≤ rank r.step → rank r.step ≤ 11 → (told : Told) → Areas next r.phase (weak.dropping (is_gone told) b r.law).kind (weak.dropping (is_gone told) b r.law).object r.upto (weak.dropping (is_gone told) b r.law).area
+  plain : (next : Step) → 7 ≤ rank r.step → rank r.step ≤ 11 → (told : Told) → Areas next r.part (weak.dropping (is_gone told) b r.law).kind (weak.dropping (is_gone told) b r.law).object r.upto (weak.dropping (is_gone told) b r.law).area
   plain next far low told = (let g = gone_fields (is_gone told) r.law in on next (weak.dropping (is_gone told) b r.law) far low g.0 g.1 g.2)
 
   lock : (area : Area) (told : Told) (source : ℕ) → may_heal n keeps r source b (Lock Work area) ≡ true → AreasAfter (Lock Work area) told
@@ -88,17 +88,17 @@ module _ (n : ℕ) (keeps : ℕ → Kind → Bool) (r : Exact) (t b : ℕ) (insi
       new : busy n r.law ≡ false → next.area ≡ Some area
       new idle = elim w.area_now [ inl now ↦ now | inr old ↦ absurd (true≢false (sym old.0 ∙ idle)) ]
 
-      part : (phase : Phase) → (phase ≡ Opening → ⊥) → r.law.kind ≡ Bytes → next.area ≡ Some (part_area r.law.object Bytes r.upto phase) → Areas WorkLocks phase next.kind next.object r.upto next.area
-      part phase some bytes k = record {
+      part : (heal_part : HealPart) → (heal_part ≡ Opening → ⊥) → r.law.kind ≡ Bytes → next.area ≡ Some (part_area r.law.object Bytes r.upto heal_part) → Areas WorkLocks heal_part next.kind next.object r.upto next.area
+      part heal_part some bytes k = record {
         bytes = λ e. w.rest.kind ∙ bytes;
-        here = λ e low. k ∙ (λ i. Some (part_area (sym w.object i) (sym (w.rest.kind ∙ bytes) i) r.upto phase));
+        here = λ e low. k ∙ (λ i. Some (part_area (sym w.object i) (sym (w.rest.kind ∙ bytes) i) r.upto heal_part));
       }
 
-      stays : rank r.step ≤ 6 → ((r.phase ≡ Opening → ⊥) → r.law.area ≡ Some area) → next_phase r area ≡ r.phase → AreasAfter (Lock Work area) told
+      stays : rank r.step ≤ 6 → ((r.part ≡ Opening → ⊥) → r.law.area ≡ Some area) → next_part r area ≡ r.part → AreasAfter (Lock Work area) told
       stays low own same_phase = subst (λ p. Areas WorkLocks p next.kind next.object r.upto next.area) (sym same_phase) (record {
         bytes = λ e. w.rest.kind ∙ h.bytes e;
         here = λ e low_now. elim e [
-          | inl later ↦ same (own later) ∙ sym (own later) ∙ h.here (inl later) (omega (arith, low)) ∙ (λ i. Some (part_area (sym w.object i) (sym w.rest.kind i) r.upto r.phase))
+          | inl later ↦ same (own later) ∙ sym (own later) ∙ h.here (inl later) (omega (arith, low)) ∙ (λ i. Some (part_area (sym w.object i) (sym w.rest.kind i) r.upto r.part))
           | inr far ↦ absurd (omega (arith, far))
         ];
       })
@@ -114,16 +114,16 @@ module _ (n : ℕ) (keeps : ℕ → Kind → Bool) (r : Exact) (t b : ℕ) (insi
           pick : (more : Bool) → (if more then same_area (piece_area r.law.object r.upto) area else same_area (whole_area r.law.object Bytes) area) ≡ true → AreasAfter (Lock Work area) told
           pick true k = (
               let is : piece_area r.law.object r.upto ≡ area = same_area_is (piece_area r.law.object r.upto) area k in
-              let phase : next_phase r area ≡ Piece = same_phase ∙ ap (λ (x : Area). if same_area (whole_area r.law.object Bytes) x then Finish else Piece) (sym is) ∙ ap (λ (x : Bool). if x then Finish else Piece) (piece_apart r.law.object r.upto) in
-              subst (λ p. Areas WorkLocks p next.kind next.object r.upto next.area) (sym phase) (part Piece (λ e. cc e) is_bytes (new idle ∙ ap Some (sym is)))
+              let heal_part : next_part r area ≡ Piece = same_phase ∙ ap (λ (x : Area). if same_area (whole_area r.law.object Bytes) x then Finish else Piece) (sym is) ∙ ap (λ (x : Bool). if x then Finish else Piece) (piece_apart r.law.object r.upto) in
+              subst (λ p. Areas WorkLocks p next.kind next.object r.upto next.area) (sym heal_part) (part Piece (λ e. cc e) is_bytes (new idle ∙ ap Some (sym is)))
               )
           pick false k = (
               let is : whole_area r.law.object Bytes ≡ area = same_area_is (whole_area r.law.object Bytes) area k in
-              let phase : next_phase r area ≡ Finish = same_phase ∙ ap (λ (x : Bool). if x then Finish else Piece) k in
-              subst (λ p. Areas WorkLocks p next.kind next.object r.upto next.area) (sym phase) (part Finish (λ e. cc e) is_bytes (new idle ∙ ap Some (sym is)))
+              let heal_part : next_part r area ≡ Finish = same_phase ∙ ap (λ (x : Bool). if x then Finish else Piece) k in
+              subst (λ p. Areas WorkLocks p next.kind next.object r.upto next.area) (sym heal_part) (part Finish (λ e. cc e) is_bytes (new idle ∙ ap Some (sym is)))
               )
 
-  freed : (next : Step) (upto : ℕ) (w : Register) → 12 ≤ rank next → w.kind ≡ r.law.kind → Areas next r.phase w.kind w.object upto w.area
+  freed : (next : Step) (upto : ℕ) (w : Register) → 12 ≤ rank next → w.kind ≡ r.law.kind → Areas next r.part w.kind w.object upto w.area
   freed next upto w far k = record { bytes = λ e. k ∙ h.bytes e; here = λ e low. absurd (omega (arith, far, low)) }
 
   pub areas_asked : (request : Request) (told : Told) (source : ℕ) → may_heal n keeps r source b request ≡ true → AreasAfter request told
@@ -176,13 +176,13 @@ module _ (n : ℕ) (keeps : ℕ → Kind → Bool) (log : Log) (moves : MovesExa
   begins : (r : Exact) (t a g : ℕ) (kind : Kind) → MayHealBegin n r g kind → AreasIn r r.law → AreasIn (note n keeps r t (Some (heal_begin_by a g kind))) (note n keeps r t (Some (heal_begin_by a g kind))).law
   begins r t a g kind may h = record {
     bytes = λ e. may.later e ∙ h.bytes e;
-    here = λ e low. elim (opening_or r.phase) [
-      | inl first ↦ may.opening first ∙ (λ i. Some (whole_area (may.object i) kind)) ∙ whole r.phase first
-      | inr later ↦ h.here (inl later) (let six : rank r.step ≡ 6 = ap rank may.step in omega (arith, six)) ∙ (λ i. Some (part_area r.law.object (sym (may.later later) i) r.upto r.phase))
+    here = λ e low. elim (opening_or r.part) [
+      | inl first ↦ may.opening first ∙ (λ i. Some (whole_area (may.object i) kind)) ∙ whole r.part first
+      | inr later ↦ h.here (inl later) (let six : rank r.step ≡ 6 = ap rank may.step in omega (arith, six)) ∙ (λ i. Some (part_area r.law.object (sym (may.later later) i) r.upto r.part))
     ];
   }
     where
-      whole : (p : Phase) → p ≡ Opening → Some (whole_area r.law.object kind) ≡ Some (part_area r.law.object kind r.upto p)
+      whole : (p : HealPart) → p ≡ Opening → Some (whole_area r.law.object kind) ≡ Some (part_area r.law.object kind r.upto p)
       whole p e = λ i. Some (part_area r.law.object kind r.upto (sym e i))
 
   pub areas_now : (t a : ℕ) → (present n keeps log t a).law.heal ≡ true → (present n keeps log t a).broken ≡ false → AreasIn (present n keeps log t a) (present n keeps log t a).law

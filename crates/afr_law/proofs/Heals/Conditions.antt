@@ -4,8 +4,8 @@ use Rattle.afr_base.specs.declared.ids.Gfid.{Gfid}
 use Rattle.afr_base.specs.declared.ids.Kind.{Kind}
 use Rattle.afr_base.specs.declared.ids.Kind.TheVariants.{Attrs, Bytes, Names}
 use Rattle.afr_base.specs.declared.marks.Marks.{Marks}
-use Rattle.afr_moves.specs.Note.{next_phase}
-use Rattle.afr_moves.specs.Register.{Applies, Exact, Finish, HealLocks, HealPres, HealUnlocks, Looks, Mends, Open, Opening, Phase, Piece, Posts, Pres, Reads, Settles, Step, Unlocks, Untouched, WorkLocks, asked_in, good, holder, is_finish, len_of, over, piece_area, rank, same_step, unaccused, whole_area}
+use Rattle.afr_moves.specs.Note.{next_part}
+use Rattle.afr_moves.specs.Register.{Applies, Exact, Finish, HealLocks, HealPart, HealPres, HealUnlocks, Looks, Mends, Open, Opening, Piece, Posts, Pres, Reads, Settles, Step, Unlocks, Untouched, WorkLocks, asked_in, good, holder, is_finish, len_of, over, piece_area, rank, same_step, unaccused, whole_area}
 use Rattle.afr_moves.specs.Steps.{after_unlocks, goes_on, goes_on_at, is_lowest, is_next, locks_at, looks_over, may_heal, may_mend, mends_over, onward, passed, pres_over, set_of, settles_over, takes, turn}
 use Rattle.afr_moves.specs.Honest.{asked}
 use Rattle.afr_moves.specs.Lines.{look_at, pre_on, settle_on}
@@ -20,7 +20,7 @@ use Rattle.afr_object.specs.declared.change.Repair.TheVariants.{Copy, CutTo, Put
 use Rattle.afr_lines.specs.declared.lock.Domain.TheVariants.{Heal, Work}
 use Rattle.std.proofs.Common.{Bool, ap, arith, false, not, refl, sym, true, true≢false, ℕ, ◌&&◌, ◌<◌, ◌||◌, ◌∙◌, ◌≡◌, ◌≤◌}
 use Rattle.std.specs.Prelude.{if◌then◌else◌, nat_lt, ◌==◌}
-use Rattle.afr_moves.specs.Rules.{busy, is_area, heal_area}
+use Rattle.afr_moves.specs.Rules.{busy, heal_area, is_area}
 use Rattle.afr_moves.proofs.Tests.{same_self, all_yes, work_locks}
 use Rattle.std.proofs.lemmas.Bool.{not-true, le-ltb, eqb-true, leb-true}
 use Rattle.afr_base.specs.Bricks.{and_left, and_right}
@@ -89,19 +89,19 @@ asked_is r step x e = go (same_step r.step step) refl e
 pub goes_good : (n : ℕ) (keeps : ℕ → Kind → Bool) (r : Exact) (s : ℕ) → goes_on n keeps r s ≡ true → good n keeps r.law.kind r.first_views s ≡ true
 goes_good n keeps r s e = and_left _ _ e
 
-pub goes_enough : (n : ℕ) (keeps : ℕ → Kind → Bool) (r : Exact) (s : ℕ) → goes_on n keeps r s ≡ true → r.phase ≡ Opening → is_most n (holder r.first_views) ≡ true
-goes_enough n keeps r s e first = go r.phase first (and_right _ _ e)
+pub goes_enough : (n : ℕ) (keeps : ℕ → Kind → Bool) (r : Exact) (s : ℕ) → goes_on n keeps r s ≡ true → r.part ≡ Opening → is_most n (holder r.first_views) ≡ true
+goes_enough n keeps r s e first = go r.part first (and_right _ _ e)
   where
-    go : (p : Phase) → p ≡ Opening → goes_on_at n keeps r s p ≡ true → is_most n (holder r.first_views) ≡ true
+    go : (p : HealPart) → p ≡ Opening → goes_on_at n keeps r s p ≡ true → is_most n (holder r.first_views) ≡ true
     go Opening k m = and_right _ _ (and_left _ _ m)
     go Piece k m = absurd (cc k)
     go Finish k m = absurd (cc k)
 
 -- and later no present view accuses it
-pub goes_unaccused : (n : ℕ) (keeps : ℕ → Kind → Bool) (r : Exact) (s : ℕ) → goes_on n keeps r s ≡ true → (r.phase ≡ Opening → ⊥) → unaccused n r.law.kind r.views s ≡ true
-goes_unaccused n keeps r s e later = go r.phase later (and_right _ _ e)
+pub goes_unaccused : (n : ℕ) (keeps : ℕ → Kind → Bool) (r : Exact) (s : ℕ) → goes_on n keeps r s ≡ true → (r.part ≡ Opening → ⊥) → unaccused n r.law.kind r.views s ≡ true
+goes_unaccused n keeps r s e later = go r.part later (and_right _ _ e)
   where
-    go : (p : Phase) → (p ≡ Opening → ⊥) → goes_on_at n keeps r s p ≡ true → unaccused n r.law.kind r.views s ≡ true
+    go : (p : HealPart) → (p ≡ Opening → ⊥) → goes_on_at n keeps r s p ≡ true → unaccused n r.law.kind r.views s ≡ true
     go Opening k m = absurd (k refl)
     go Piece k m = m
     go Finish k m = and_left _ _ m
@@ -231,18 +231,18 @@ module _ (n : ℕ) (keeps : ℕ → Kind → Bool) (r : Exact) (s b : ℕ) where
 
   -- where Work locks may be asked: in their step, after the Heal locks, or after the unlocks of a part of a data heal
   pub data WorkPlace (area : Area) : Type 0 where
-    Waits : r.step ≡ WorkLocks → next_phase r area ≡ r.phase → is_area r.law.area area ≡ true → locks_at r r.phase b ≡ true → asked_in r WorkLocks b ≡ false → WorkPlace area
-    Starts : rank r.step ≡ 5 → next_phase r area ≡ r.phase → r.law.healing b ≡ true → WorkPlace area
-    Resumes : rank r.step ≡ 12 → next_phase r area ≡ (if same_area (whole_area r.law.object Bytes) area then Finish else Piece) → busy n r.law ≡ false → same_kind r.law.kind Bytes ≡ true → is_finish r.phase ≡ false → r.first_reached b ≡ true
+    Waits : r.step ≡ WorkLocks → next_part r area ≡ r.part → is_area r.law.area area ≡ true → locks_at r r.part b ≡ true → asked_in r WorkLocks b ≡ false → WorkPlace area
+    Starts : rank r.step ≡ 5 → next_part r area ≡ r.part → r.law.healing b ≡ true → WorkPlace area
+    Resumes : rank r.step ≡ 12 → next_part r area ≡ (if same_area (whole_area r.law.object Bytes) area then Finish else Piece) → busy n r.law ≡ false → same_kind r.law.kind Bytes ≡ true → is_finish r.part ≡ false → r.first_reached b ≡ true
         → (if nat_lt r.upto (len_of (r.first_views s)) then same_area (piece_area r.law.object r.upto) area else same_area (whole_area r.law.object Bytes) area) ≡ true → WorkPlace area
 
   pub work_place : (area : Area) → May (Lock Work area) → WorkPlace area
   work_place area e = go (same_step r.step WorkLocks) refl (same_step r.step HealLocks) refl (same_step r.step Unlocks) refl e
     where
       go : (wait : Bool) → same_step r.step WorkLocks ≡ wait → (heal : Bool) → same_step r.step HealLocks ≡ heal → (freeing : Bool) → same_step r.step Unlocks ≡ freeing
-          → (if wait then is_area r.law.area area && is_lowest (locks_at r r.phase) r.asked b
+          → (if wait then is_area r.law.area area && is_lowest (locks_at r r.part) r.asked b
           else if heal then is_next n r s area && is_lowest r.law.healing empty b
-          else after_unlocks n r area s && not (is_finish r.phase) && is_lowest r.first_reached empty b) ≡ true → WorkPlace area
+          else after_unlocks n r area s && not (is_finish r.part) && is_lowest r.first_reached empty b) ≡ true → WorkPlace area
       go true p heal q true v m = (let six : rank r.step ≡ 6 = eqb-true (rank r.step) 6 p in let twelve : rank r.step ≡ 12 = eqb-true (rank r.step) 12 v in absurd (omega (arith, six, twelve)))
       go true p heal q false v m = Waits (work_locks r.step p) (rw v refl) (and_left _ _ m) (and_left _ _ (and_left _ _ (and_right _ _ m))) (rw p (not-true _ (and_right _ _ (and_left _ _ (and_right _ _ m)))))
       go false p true q true v m = (let five : rank r.step ≡ 5 = eqb-true (rank r.step) 5 q in let twelve : rank r.step ≡ 12 = eqb-true (rank r.step) 12 v in absurd (omega (arith, five, twelve)))

@@ -5,8 +5,8 @@ use Rattle.afr_base.specs.declared.marks.Marks.{Marks}
 use Rattle.afr_law.proofs.Discipline.AskFields.{frees_heal, frees_work, sees, work_locked}
 use Rattle.afr_moves.specs.Discipline.{MovesExactly, note, present}
 use Rattle.afr_moves.specs.Heal.{MayHealBegin}
-use Rattle.afr_moves.specs.Note.{breaks, fails, is_given, left_in_heal, next_phase, put}
-use Rattle.afr_moves.specs.Register.{Exact, Finish, HealLocks, HealPres, Looks, Mends, Opening, Phase, Piece, Reads, Settles, Step, Unlocks, asked_in, is_finish, is_opening, rank, whole_area}
+use Rattle.afr_moves.specs.Note.{breaks, fails, is_given, left_in_heal, next_part, put}
+use Rattle.afr_moves.specs.Register.{Exact, Finish, HealLocks, HealPart, HealPres, Looks, Mends, Opening, Piece, Reads, Settles, Step, Unlocks, asked_in, is_finish, is_opening, rank, whole_area}
 use Rattle.afr_moves.specs.Steps.{locks_at, looks_at, may_heal, settles_at, turn}
 use Rattle.afr_law.proofs.Discipline.Firsts.{FirstsOf, firsts_now}
 use Rattle.afr_law.proofs.Heals.Along.{healing_now, opened_by}
@@ -35,34 +35,34 @@ use Rattle.afr_moves.specs.Past.{Log, is_gone}
 use Rattle.afr_moves.proofs.Tests.{with_more, with_self, with_cases, without_in, next_not_opening}
 
 -- the last part of a heal, which settles
-abbrev pub is_last : Kind → Phase → Bool
+abbrev pub is_last : Kind → HealPart → Bool
 is_last Bytes Finish = true
-is_last Bytes phase = false
-is_last kind phase = true
+is_last Bytes part = false
+is_last kind part = true
 
 -- the Heal lock is held where the area is, and settled is only the last part
-pub record Holds (n : ℕ) (step : Step) (phase : Phase) (kind : Kind) (asked held healing settles first_reached : ℕ → Bool) : Type 0 where
+pub record Holds (n : ℕ) (step : Step) (part : HealPart) (kind : Kind) (asked held healing settles first_reached : ℕ → Bool) : Type 0 where
   pub within : rank step ≤ 12 → (x : ℕ) → x < n → held x ≡ true → healing x ≡ true
   pub reached : rank step ≤ 12 → (x : ℕ) → x < n → first_reached x ≡ true → healing x ≡ true
-  pub settled : (x : ℕ) → settles x ≡ true → (is_last kind phase ≡ true) × (11 ≤ rank step) × (step ≡ Settles → asked x ≡ true)
+  pub settled : (x : ℕ) → settles x ≡ true → (is_last kind part ≡ true) × (11 ≤ rank step) × (step ≡ Settles → asked x ≡ true)
 
 -- the same of a register
 abbrev pub HoldsIn : ℕ → Exact → Register → Type 0
-HoldsIn n r w = Holds n r.step r.phase w.kind r.asked w.held w.healing w.settled r.first_reached
+HoldsIn n r w = Holds n r.step r.part w.kind r.asked w.held w.healing w.settled r.first_reached
 
-pub settles_last : (r : Exact) (kind : Kind) (phase : Phase) (b : ℕ) → settles_at r kind phase b ≡ true → is_last kind phase ≡ true
+pub settles_last : (r : Exact) (kind : Kind) (part : HealPart) (b : ℕ) → settles_at r kind part b ≡ true → is_last kind part ≡ true
 settles_last r Bytes Finish b e = refl
-settles_last r Attrs phase b e = refl
-settles_last r Names phase b e = refl
+settles_last r Attrs part b e = refl
+settles_last r Names part b e = refl
 settles_last r Bytes Opening b e = absurd (true≢false (sym e))
 settles_last r Bytes Piece b e = absurd (true≢false (sym e))
 
-not_last : (kind : Kind) (phase : Phase) → same_kind kind Bytes ≡ true → not (is_finish phase) ≡ true → is_last kind phase ≡ true → ⊥
+not_last : (kind : Kind) (part : HealPart) → same_kind kind Bytes ≡ true → not (is_finish part) ≡ true → is_last kind part ≡ true → ⊥
 not_last Bytes Opening e f k = true≢false (sym k)
 not_last Bytes Piece e f k = true≢false (sym k)
 not_last Bytes Finish e f k = true≢false (sym f)
-not_last Attrs phase e f k = true≢false (sym e)
-not_last Names phase e f k = true≢false (sym e)
+not_last Attrs part e f k = true≢false (sym e)
+not_last Names part e f k = true≢false (sym e)
 
 pub fails_gone : (told : Told) → fails told ≡ false → is_gone told ≡ false
 fails_gone NotConnected e = absurd (true≢false e)
@@ -83,11 +83,11 @@ module _ (n : ℕ) (keeps : ℕ → Kind → Bool) (r : Exact) (t a b : ℕ) (be
   abbrev HoldsAfter : Request → Told → Type 0
   HoldsAfter request told = HoldsIn n (left_in_heal n r t b request told) (LawAfter request told)
 
-  early_reached : rank r.step ≤ 6 → r.phase ≡ Opening → (x : ℕ) → r.first_reached x ≡ true → ⊥
+  early_reached : rank r.step ≤ 6 → r.part ≡ Opening → (x : ℕ) → r.first_reached x ≡ true → ⊥
   early_reached low first x e = true≢false (sym e ∙ f.early inside low first x)
 
   -- a step between the looks and the settling
-  before_settles : (next : Step) (asks : ℕ → Bool) → rank r.step ≤ 10 → rank next ≤ 10 → Holds n next r.phase r.law.kind asks r.law.held r.law.healing r.law.settled r.first_reached
+  before_settles : (next : Step) (asks : ℕ → Bool) → rank r.step ≤ 10 → rank next ≤ 10 → Holds n next r.part r.law.kind asks r.law.held r.law.healing r.law.settled r.first_reached
   before_settles next asks low up = record {
     within = λ k. h.within (omega (arith, low));
     reached = λ k. h.reached (omega (arith, low));
@@ -97,7 +97,7 @@ module _ (n : ℕ) (keeps : ℕ → Kind → Bool) (r : Exact) (t a b : ℕ) (be
   heal_lock : (area : Area) (told : Told) → rank r.step ≡ 5 → HoldsAfter (Lock Heal area) told
   heal_lock area told at = go told
     where
-      first : r.phase ≡ Opening
+      first : r.part ≡ Opening
       first = (s.early inside (omega (arith, at))).0
 
       none : (x : ℕ) → r.law.settled x ≡ true → ⊥
@@ -106,7 +106,7 @@ module _ (n : ℕ) (keeps : ℕ → Kind → Bool) (r : Exact) (t a b : ℕ) (be
       no_reach : (x : ℕ) → r.first_reached x ≡ true → ⊥
       no_reach x e = early_reached (omega (arith, at)) first x e
 
-      same : (asks : ℕ → Bool) → Holds n HealLocks r.phase r.law.kind asks r.law.held r.law.healing r.law.settled r.first_reached
+      same : (asks : ℕ → Bool) → Holds n HealLocks r.part r.law.kind asks r.law.held r.law.healing r.law.settled r.first_reached
       same asks = record { within = λ k. h.within (omega (arith, at)); reached = λ k x low e. absurd (no_reach x e); settled = λ x e. absurd (none x e) }
 
       go : (d : Told) → HoldsAfter (Lock Heal area) d
@@ -138,7 +138,7 @@ module _ (n : ℕ) (keeps : ℕ → Kind → Bool) (r : Exact) (t a b : ℕ) (be
       }
       )
 
-  locks_healing : (phase : Phase) → rank r.step ≤ 12 → locks_at r phase b ≡ true → r.law.healing b ≡ true
+  locks_healing : (part : HealPart) → rank r.step ≤ 12 → locks_at r part b ≡ true → r.law.healing b ≡ true
   locks_healing Opening low e = e
   locks_healing Piece low e = h.reached low b below e
   locks_healing Finish low e = h.reached low b below e
@@ -150,7 +150,7 @@ module _ (n : ℕ) (keeps : ℕ → Kind → Bool) (r : Exact) (t a b : ℕ) (be
       gone_fails NotConnected k = refl
       gone_fails _ k = absurd (true≢false (sym k))
 
-      opening : (p : Phase) → not (is_opening p) ≡ false → p ≡ Opening
+      opening : (p : HealPart) → not (is_opening p) ≡ false → p ≡ Opening
       opening Opening k = refl
       opening Piece k = absurd (true≢false k)
       opening Finish k = absurd (true≢false k)
@@ -158,16 +158,16 @@ module _ (n : ℕ) (keeps : ℕ → Kind → Bool) (r : Exact) (t a b : ℕ) (be
       both : (x y : Bool) → x ≡ true → (x && y) ≡ false → y ≡ false
       both x y k l = grind arith
 
-      first : is_gone told ≡ true → next_phase r area ≡ Opening
-      first gone = opening (next_phase r area) (both (fails told) (not (is_opening (next_phase r area))) (gone_fails told gone) un)
+      first : is_gone told ≡ true → next_part r area ≡ Opening
+      first gone = opening (next_part r area) (both (fails told) (not (is_opening (next_part r area))) (gone_fails told gone) un)
 
-      waits : rank r.step ≤ 6 → r.law.healing b ≡ true → next_phase r area ≡ r.phase → HoldsAfter (Lock Work area) told
+      waits : rank r.step ≤ 6 → r.law.healing b ≡ true → next_part r area ≡ r.part → HoldsAfter (Lock Work area) told
       waits low heals same = work_lock area told (omega (arith, low)) heals (λ x m. (let far : 11 ≤ rank r.step = (h.settled x m).1 in absurd (omega (arith, far, low)))) (λ gone x m. early_reached low (sym same ∙ first gone) x m)
 
       go : WorkPlace n keeps r source b area → HoldsAfter (Lock Work area) told
-      go (Waits at same own lock fresh) = (let six : rank r.step ≡ 6 = ap rank at in waits (omega (arith, six)) (locks_healing r.phase (omega (arith, six)) lock) same)
+      go (Waits at same own lock fresh) = (let six : rank r.step ≡ 6 = ap rank at in waits (omega (arith, six)) (locks_healing r.part (omega (arith, six)) lock) same)
       go (Starts five same lock) = waits (omega (arith, five)) lock same
-      go (Resumes twelve same idle bytes unfinished lock next) = work_lock area told (omega (arith, twelve)) (h.reached (omega (arith, twelve)) b below lock) (λ x m. not_last r.law.kind r.phase bytes (rw unfinished refl) (h.settled x m).0)
+      go (Resumes twelve same idle bytes unfinished lock next) = work_lock area told (omega (arith, twelve)) (h.reached (omega (arith, twelve)) b below lock) (λ x m. not_last r.law.kind r.part bytes (rw unfinished refl) (h.settled x m).0)
           (λ gone x m. next_not_opening (same_area (whole_area r.law.object Bytes) area) (sym same ∙ first gone))
 
   -- a look
@@ -180,16 +180,16 @@ module _ (n : ℕ) (keeps : ℕ → Kind → Bool) (r : Exact) (t a b : ℕ) (be
       none : (x : ℕ) → r.law.settled x ≡ true → ⊥
       none x k = (let far : 11 ≤ rank r.step = (h.settled x k).1 in absurd (omega (arith, far, at)))
 
-      held_here : (p : Phase) → is_opening p ≡ true → looks_at r p b ≡ true → r.law.held b ≡ true
+      held_here : (p : HealPart) → is_opening p ≡ true → looks_at r p b ≡ true → r.law.held b ≡ true
       held_here Opening k m = m
       held_here Piece k m = absurd (true≢false (sym k))
       held_here Finish k m = absurd (true≢false (sym k))
 
-      heals : is_opening r.phase ≡ true → r.law.healing b ≡ true
-      heals k = h.within (omega (arith, at)) b below (held_here r.phase k (turn_in n keeps r source Looks b (look_turn n keeps r source b g e)))
+      heals : is_opening r.part ≡ true → r.law.healing b ≡ true
+      heals k = h.within (omega (arith, at)) b below (held_here r.part k (turn_in n keeps r source Looks b (look_turn n keeps r source b g e)))
 
       -- the bricks that answered the first looks
-      more : (opening : Bool) → is_opening r.phase ≡ opening → (answer : Bool) → (x : ℕ) → x < n → (if opening then put r.first_reached b answer else r.first_reached) x ≡ true → r.law.healing x ≡ true
+      more : (opening : Bool) → is_opening r.part ≡ opening → (answer : Bool) → (x : ℕ) → x < n → (if opening then put r.first_reached b answer else r.first_reached) x ≡ true → r.law.healing x ≡ true
       more false k answer x low m = h.reached (omega (arith, at)) x low m
       more true k answer x low m = here (x == b) refl m
         where
@@ -197,11 +197,11 @@ module _ (n : ℕ) (keeps : ℕ → Kind → Bool) (r : Exact) (t a b : ℕ) (be
           here true l m = (let same : x ≡ b = grind (arith, nat_tests) in subst (λ y. r.law.healing y ≡ true) (sym same) (heals k))
           here false l m = h.reached (omega (arith, at)) x low m
 
-      plain : (asks reach : ℕ → Bool) → ((x : ℕ) → x < n → reach x ≡ true → r.law.healing x ≡ true) → Holds n Looks r.phase r.law.kind asks r.law.held r.law.healing r.law.settled reach
+      plain : (asks reach : ℕ → Bool) → ((x : ℕ) → x < n → reach x ≡ true → r.law.healing x ≡ true) → Holds n Looks r.part r.law.kind asks r.law.held r.law.healing r.law.settled reach
       plain asks reach k = record { within = λ l. h.within (omega (arith, at)); reached = λ l x low m. k x low m; settled = λ x m. absurd (none x m) }
 
       -- a lost answer to a first look
-      lost : (opening : Bool) → is_opening r.phase ≡ opening → not opening ≡ false → (x : ℕ) → x < n → (if opening then put r.first_reached b false else r.first_reached) x ≡ true → without r.law.healing b x ≡ true
+      lost : (opening : Bool) → is_opening r.part ≡ opening → not opening ≡ false → (x : ℕ) → x < n → (if opening then put r.first_reached b false else r.first_reached) x ≡ true → without r.law.healing b x ≡ true
       lost false k un x low m = absurd (true≢false un)
       lost true k un x low m = here (x == b) refl m
         where
@@ -215,24 +215,24 @@ module _ (n : ℕ) (keeps : ℕ → Kind → Bool) (r : Exact) (t a b : ℕ) (be
           let l = left_in_heal n r t b (look_at g) (Seen view) in
           record {
             within = λ m x low e. ap (λ (f : ℕ → Bool). f x) k.healing ∙ h.within (omega (arith, at)) x low (ap (λ (f : ℕ → Bool). f x) (sym k.held) ∙ e);
-            reached = λ m x low e. ap (λ (f : ℕ → Bool). f x) k.healing ∙ more (is_opening r.phase) refl true x low e;
+            reached = λ m x low e. ap (λ (f : ℕ → Bool). f x) k.healing ∙ more (is_opening r.part) refl true x low e;
             settled = λ x e. absurd (none x (ap (λ (f : ℕ → Bool). f x) (sym k.settled) ∙ e));
           }
           )
 
       go : (d : Told) → breaks r (look_at g) d ≡ false → HoldsAfter (look_at g) d
       go (Seen view) k = seen view
-      go NoObject k = plain (left_in_heal n r t b (look_at g) NoObject).asked (left_in_heal n r t b (look_at g) NoObject).first_reached (more (is_opening r.phase) refl true)
+      go NoObject k = plain (left_in_heal n r t b (look_at g) NoObject).asked (left_in_heal n r t b (look_at g) NoObject).first_reached (more (is_opening r.part) refl true)
       go NotConnected k = record {
         within = λ m x low e. without_other r.law.healing b x (without_not r.law.held b x e) (h.within (omega (arith, at)) x low (without_in r.law.held b x e));
-        reached = λ m x low e. lost (is_opening r.phase) refl k x low e;
+        reached = λ m x low e. lost (is_opening r.part) refl k x low e;
         settled = λ x e. absurd (none x e);
       }
-      go Granted k = plain (asked_in r Looks) (if is_opening r.phase then put r.first_reached b false else r.first_reached) (more (is_opening r.phase) refl false)
-      go (Held owner) k = plain (asked_in r Looks) (if is_opening r.phase then put r.first_reached b false else r.first_reached) (more (is_opening r.phase) refl false)
-      go Done k = plain (asked_in r Looks) (if is_opening r.phase then put r.first_reached b false else r.first_reached) (more (is_opening r.phase) refl false)
-      go Given k = plain (asked_in r Looks) (if is_opening r.phase then put r.first_reached b false else r.first_reached) (more (is_opening r.phase) refl false)
-      go Failed k = plain (with (asked_in r Looks) b) (if is_opening r.phase then put r.first_reached b false else r.first_reached) (more (is_opening r.phase) refl false)
+      go Granted k = plain (asked_in r Looks) (if is_opening r.part then put r.first_reached b false else r.first_reached) (more (is_opening r.part) refl false)
+      go (Held owner) k = plain (asked_in r Looks) (if is_opening r.part then put r.first_reached b false else r.first_reached) (more (is_opening r.part) refl false)
+      go Done k = plain (asked_in r Looks) (if is_opening r.part then put r.first_reached b false else r.first_reached) (more (is_opening r.part) refl false)
+      go Given k = plain (asked_in r Looks) (if is_opening r.part then put r.first_reached b false else r.first_reached) (more (is_opening r.part) refl false)
+      go Failed k = plain (with (asked_in r Looks) b) (if is_opening r.part then put r.first_reached b false else r.first_reached) (more (is_opening r.part) refl false)
 
   settle : (g : ℕ) (kind : Kind) (less : Marks) (told : Told) (source : ℕ) → may_heal n keeps r source b (settle_on g kind less) ≡ true → fails told ≡ false → HoldsAfter (settle_on g kind less) told
   settle g kind less told source e un = go told un
@@ -243,8 +243,8 @@ module _ (n : ℕ) (keeps : ℕ → Kind → Bool) (r : Exact) (t a b : ℕ) (be
       low : rank r.step ≤ 11
       low = turn_low n keeps r source Settles b turns
 
-      last : is_last r.law.kind r.phase ≡ true
-      last = settles_last r r.law.kind r.phase b (turn_in n keeps r source Settles b turns)
+      last : is_last r.law.kind r.part ≡ true
+      last = settles_last r r.law.kind r.part b (turn_in n keeps r source Settles b turns)
 
       -- a brick that is settled was asked in this step
       old : (x : ℕ) → r.law.settled x ≡ true → asked_in r Settles x ≡ true
@@ -255,7 +255,7 @@ module _ (n : ℕ) (keeps : ℕ → Kind → Bool) (r : Exact) (t a b : ℕ) (be
           rw (ap rank (settles_is r.step at)) (w.2 (settles_is r.step at))
           )
 
-      plain : (asks : ℕ → Bool) → ((x : ℕ) → asked_in r Settles x ≡ true → asks x ≡ true) → Holds n Settles r.phase r.law.kind asks r.law.held r.law.healing r.law.settled r.first_reached
+      plain : (asks : ℕ → Bool) → ((x : ℕ) → asked_in r Settles x ≡ true → asks x ≡ true) → Holds n Settles r.part r.law.kind asks r.law.held r.law.healing r.law.settled r.first_reached
       plain asks k = record { within = λ m. h.within (omega (arith, low)); reached = λ m. h.reached (omega (arith, low)); settled = λ x m. (last, omega arith, λ z. k x (old x m)) }
 
       go : (d : Told) → fails d ≡ false → HoldsAfter (settle_on g kind less) d
@@ -269,7 +269,7 @@ module _ (n : ℕ) (keeps : ℕ → Kind → Bool) (r : Exact) (t a b : ℕ) (be
       go _ k = plain (asked_in r Settles) (λ x m. m)
 
   -- unlocks of the area: nothing is granted
-  unlock : (area : Area) (told : Told) → rank r.step ≤ 12 → is_gone told ≡ false → ((x : ℕ) → r.law.settled x ≡ true → (is_last r.law.kind r.phase ≡ true)) → HoldsAfter (Unlock Work area) told
+  unlock : (area : Area) (told : Told) → rank r.step ≤ 12 → is_gone told ≡ false → ((x : ℕ) → r.law.settled x ≡ true → (is_last r.law.kind r.part ≡ true)) → HoldsAfter (Unlock Work area) told
   unlock area told low ok last = (
       let k = frees_work n r.law b area told in
       let s = weak.note_ask n r.law b (Unlock Work area) told in
@@ -277,7 +277,7 @@ module _ (n : ℕ) (keeps : ℕ → Kind → Bool) (r : Exact) (t a b : ℕ) (be
       (record {
         within = λ m x below e. ap (λ (f : ℕ → Bool). f x) k.1 ∙ h.within low x below (k.0.held x e);
         reached = λ m x below e. ap (λ (f : ℕ → Bool). f x) k.1 ∙ h.reached low x below e;
-        settled = λ x e. (ap (λ z. is_last z r.phase) k.0.rest.kind ∙ last x (ap (λ (f : ℕ → Bool). f x) (sym k.0.rest.settled) ∙ e), omega arith, λ z. absurd (cc z));
+        settled = λ x e. (ap (λ z. is_last z r.part) k.0.rest.kind ∙ last x (ap (λ (f : ℕ → Bool). f x) (sym k.0.rest.settled) ∙ e), omega arith, λ z. absurd (cc z));
       })
       )
 
@@ -289,14 +289,14 @@ module _ (n : ℕ) (keeps : ℕ → Kind → Bool) (r : Exact) (t a b : ℕ) (be
       (record {
         within = λ m. absurd (omega (arith, m));
         reached = λ m. absurd (omega (arith, m));
-        settled = λ x e. (ap (λ z. is_last z r.phase) k.rest.kind ∙ (h.settled x (ap (λ (f : ℕ → Bool). f x) (sym k.rest.settled) ∙ e)).0, omega arith, λ z. absurd (cc z));
+        settled = λ x e. (ap (λ z. is_last z r.part) k.rest.kind ∙ (h.settled x (ap (λ (f : ℕ → Bool). f x) (sym k.rest.settled) ∙ e)).0, omega arith, λ z. absurd (cc z));
       })
       )
 
-  reading : (request : Request) (told : Told) → rank r.step ≤ 8 → fails told ≡ false → Holds n Reads r.phase (weak.dropping (is_gone told) b r.law).kind (if not (is_given told || fails told) then asked_in r Reads else with (asked_in r Reads) b) (weak.dropping (is_gone told) b r.law).held (weak.dropping (is_gone told) b r.law).healing (weak.dropping (is_gone told) b r.law).settled r.first_reached
+  reading : (request : Request) (told : Told) → rank r.step ≤ 8 → fails told ≡ false → Holds n Reads r.part (weak.dropping (is_gone told) b r.law).kind (if not (is_given told || fails told) then asked_in r Reads else with (asked_in r Reads) b) (weak.dropping (is_gone told) b r.law).held (weak.dropping (is_gone told) b r.law).healing (weak.dropping (is_gone told) b r.law).settled r.first_reached
   reading request told low ok = (
       let asks = if not (is_given told || fails told) then asked_in r Reads else with (asked_in r Reads) b in
-      subst (λ (w : Register). Holds n Reads r.phase w.kind asks w.held w.healing w.settled r.first_reached) (sym (kept_law (is_gone told) b r.law (fails_gone told ok))) (before_settles Reads asks (omega (arith, low)) (omega arith))
+      subst (λ (w : Register). Holds n Reads r.part w.kind asks w.held w.healing w.settled r.first_reached) (sym (kept_law (is_gone told) b r.law (fails_gone told ok))) (before_settles Reads asks (omega (arith, low)) (omega arith))
       )
 
   pub holds_asked : (request : Request) (told : Told) (source : ℕ) → may_heal n keeps r source b request ≡ true → breaks r request told ≡ false → HoldsAfter request told

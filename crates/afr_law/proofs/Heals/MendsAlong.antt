@@ -46,16 +46,16 @@ module _ (n : ℕ) (keeps : ℕ → Kind → Bool) (t b : ℕ) (r : Exact) (k : 
     low : rank r.step ≤ 10
     low = turn_low n keeps r source Mends b (mend_turn n keeps r source b repair e)
 
-    fits_at : (s : ℕ) → (r.possible s && may_heal n keeps r s b (Mend repair)) ≡ true → Fits r.law.object r.law.kind r.phase r.upto r.first_views r.reads s repair
+    fits_at : (s : ℕ) → (r.possible s && may_heal n keeps r s b (Mend repair)) ≡ true → Fits r.law.object r.law.kind r.part r.upto r.first_views r.reads s repair
     fits_at s p = mend_fits n keeps r s repair (mend_test n keeps r s b repair (and_right (r.possible s) (may_heal n keeps r s b (Mend repair)) p)) wide
 
     same_repair : (rep : Repair) → k.repair ≡ Some rep → rep ≡ repair
-    same_repair rep m = fits_one r.law.object r.law.kind r.phase r.upto r.first_views r.reads source rep repair ((h.repaired_so far low rep m).1 source possible) (mend_fits n keeps r source repair (mend_test n keeps r source b repair e) wide)
+    same_repair rep m = fits_one r.law.object r.law.kind r.part r.upto r.first_views r.reads source rep repair ((h.repaired_so far low rep m).1 source possible) (mend_fits n keeps r source repair (mend_test n keeps r source b repair e) wide)
 
-    unfinished : r.phase ≡ Finish → r.law.kind ≡ Bytes → ⊥
-    unfinished = mends_finish keeps r source r.law.kind r.phase b (turn_in n keeps r source Mends b (mend_turn n keeps r source b repair e))
+    unfinished : r.part ≡ Finish → r.law.kind ≡ Bytes → ⊥
+    unfinished = mends_finish keeps r source r.law.kind r.part b (turn_in n keeps r source Mends b (mend_turn n keeps r source b repair e))
 
-    not_finish : r.phase ≡ Finish → ⊥
+    not_finish : r.part ≡ Finish → ⊥
     not_finish m = unfinished m (areas.bytes (λ f. cc (sym m ∙ f)))
 
     abbrev pub mend_tally : Tally
@@ -63,12 +63,12 @@ module _ (n : ℕ) (keeps : ℕ → Kind → Bool) (t b : ℕ) (r : Exact) (k : 
 
     mended_with : (asks : ℕ → Bool) (mended : ℕ → Cell → ℕ) → ((x : ℕ) (cell : Cell) → (mended x cell ≡ r.law.mended x cell) ⊎ ((mended x cell ≡ r.law.number) × (mends repair cell ≡ true)))
         → ((x : ℕ) → asks x ≡ true → ((cell : Cell) → mends repair cell ≡ true → mended x cell ≡ r.law.number) ⊎ (asked_in r Mends x ≡ true))
-        → Mended n keeps Mends r.phase r.law.kind asks (λ s. r.possible s && may_heal n keeps r s b (Mend repair)) r.first_views r.reads r.upto r.law.object r.law.number mended mend_tally
+        → Mended n keeps Mends r.part r.law.kind asks (λ s. r.possible s && may_heal n keeps r s b (Mend repair)) r.first_views r.reads r.upto r.law.object r.law.number mended mend_tally
     mended_with asks mended grows new = record {
       mending = λ m first. omega arith;
       no_bytes = h.no_bytes;
       unmended = λ first up. absurd (omega (arith, up));
-      repaired_so = λ f l rep m. (omega arith, λ s p. subst (λ x. Fits r.law.object r.law.kind r.phase r.upto r.first_views r.reads s x) (rep_is repair rep m) (fits_at s p));
+      repaired_so = λ f l rep m. (omega arith, λ s p. subst (λ x. Fits r.law.object r.law.kind r.part r.upto r.first_views r.reads s x) (rep_is repair rep m) (fits_at s p));
       finish_none = λ f m. absurd (not_finish m);
       asked_mended = λ at x m. record { rep = repair; is = refl; brings = brought x m };
       covered = λ s x p below q cell real o c m z. h.covered s x (and_left _ _ p) below q cell real o c (before (len_of (r.first_views s)) cell m) (was_zero x cell z);
@@ -94,7 +94,7 @@ module _ (n : ℕ) (keeps : ℕ → Kind → Bool) (t b : ℕ) (r : Exact) (k : 
         was_zero : (x : ℕ) (cell : Cell) → mended x cell ≡ 0 → r.law.mended x cell ≡ 0
         was_zero x cell z = elim (grows x cell) [ inl same ↦ sym same ∙ z | inr now ↦ absurd (some_number far (sym now.0 ∙ z)) ]
 
-        before : (len : ℕ) (cell : Cell) → Brought Mends r.phase r.upto len cell → Brought r.step r.phase r.upto len cell
+        before : (len : ℕ) (cell : Cell) → Brought Mends r.part r.upto len cell → Brought r.step r.part r.upto len cell
         before len (Byte g i) (inl w) = elim w.0 [ inl later ↦ inl (inl later, w.1) | inr m ↦ absurd (omega (arith, m)) ]
         before len (Byte g i) (inr l) = inr l
         before len (Attr g i) m = absurd (omega (arith, m))

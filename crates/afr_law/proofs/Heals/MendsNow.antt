@@ -5,8 +5,8 @@ use Rattle.afr_base.specs.declared.marks.Marks.{Marks}
 use Rattle.afr_law.proofs.Discipline.AskFields.{WorkLocked, frees_heal, frees_work, sees, work_locked}
 use Rattle.afr_moves.specs.Discipline.{MovesExactly, note, present}
 use Rattle.afr_moves.specs.Heal.{MayHealBegin}
-use Rattle.afr_moves.specs.Note.{breaks, fails, left_in_heal, next_phase, put, view_of}
-use Rattle.afr_moves.specs.Register.{Exact, Finish, HealLocks, HealPres, HealUnlocks, Looks, Opening, Phase, Piece, Reads, Settles, Step, Unlocks, WorkLocks, asked_in, everywhere, is_piece, len_of, no_reads, piece_area, rank, span, whole_area}
+use Rattle.afr_moves.specs.Note.{breaks, fails, left_in_heal, next_part, put, view_of}
+use Rattle.afr_moves.specs.Register.{Exact, Finish, HealLocks, HealPart, HealPres, HealUnlocks, Looks, Opening, Piece, Reads, Settles, Step, Unlocks, WorkLocks, asked_in, everywhere, is_piece, len_of, no_reads, piece_area, rank, span, whole_area}
 use Rattle.afr_moves.specs.Steps.{may_heal, mends_over, settles_at}
 use Rattle.afr_law.proofs.Discipline.Firsts.{firsts_now}
 use Rattle.afr_law.proofs.Heals.Along.{healed_by, healing_now, opened_by}
@@ -41,7 +41,7 @@ use Rattle.std.specs.Prelude.{None, Option, Some, if◌then◌else◌, nat_lt}
 use Rattle.afr_moves.specs.Past.{Log, is_gone, last}
 use Rattle.afr_moves.specs.Rules as weak
 use Rattle.afr_moves.specs.Rules.{Register, heal_area}
-use Rattle.afr_moves.specs.Cells.{Cell, Byte, Attr, Entry}
+use Rattle.afr_moves.specs.Cells.{Attr, Byte, Cell, Entry}
 use Rattle.afr_law.proofs.Heals.Mended.{Mended, Brought, MendedIn, IsWide, unmended_yet}
 use Rattle.afr_law.proofs.Heals.MendsAlong.{Wide, MendAfter, mend_told}
 use Rattle.afr_moves.proofs.Tests.{same_kind_yes, next_not_opening}
@@ -58,17 +58,17 @@ module _ (n : ℕ) (keeps : ℕ → Kind → Bool) (t b : ℕ) (r : Exact) (k : 
   allows : (request : Request) (s : ℕ) → (r.possible s && may_heal n keeps r s b request) ≡ true → may_heal n keeps r s b request ≡ true
   allows request s p = and_right _ _ p
 
-  bytes_later : (r.phase ≡ Opening → ⊥) → r.law.kind ≡ Bytes
+  bytes_later : (r.part ≡ Opening → ⊥) → r.law.kind ≡ Bytes
   bytes_later = areas.bytes
 
   -- looks and reads
   quiet : (next : Step) (asks possible : ℕ → Bool) (first_views : ℕ → Option View) (reads : ℕ → Option ℕ) (w : Register) → 7 ≤ rank r.step → rank r.step ≤ 8 → rank next ≤ 8 → ((s : ℕ) → possible s ≡ true → r.possible s ≡ true)
-      → ((r.phase ≡ Opening → ⊥) → r.first_views ≡ first_views) → w.kind ≡ r.law.kind → w.object ≡ r.law.object → w.mended ≡ r.law.mended
-      → Mended n keeps next r.phase w.kind asks possible first_views reads r.upto w.object w.number w.mended k
-  quiet next asks possible first_views reads w far low up shrinks views kind_same object_same mended_same = elim (opening_or r.phase) [
-    | inl first ↦ first_part n keeps t 0 b r k number number_is some_number areas h next r.phase w.kind asks possible first_views reads w.object w.number w.mended k.raises first refl (omega (arith, low)) (omega (arith, up)) (λ f. far)
-    | inr later ↦ subst (λ (v : ℕ → Option View). Mended n keeps next r.phase w.kind asks possible v reads r.upto w.object w.number w.mended k) (views later)
-        (later_part n keeps t 0 b r k number number_is some_number areas h next r.phase w.kind asks possible reads w.object w.number w.mended k.raises (inl later) later (bytes_later later) kind_same object_same mended_same (λ at. omega (arith, at, low)) (omega (arith, up)) (λ f. (far, omega (arith, low))) (λ f. h.finish_none far) shrinks
+      → ((r.part ≡ Opening → ⊥) → r.first_views ≡ first_views) → w.kind ≡ r.law.kind → w.object ≡ r.law.object → w.mended ≡ r.law.mended
+      → Mended n keeps next r.part w.kind asks possible first_views reads r.upto w.object w.number w.mended k
+  quiet next asks possible first_views reads w far low up shrinks views kind_same object_same mended_same = elim (opening_or r.part) [
+    | inl first ↦ first_part n keeps t 0 b r k number number_is some_number areas h next r.part w.kind asks possible first_views reads w.object w.number w.mended k.raises first refl (omega (arith, low)) (omega (arith, up)) (λ f. far)
+    | inr later ↦ subst (λ (v : ℕ → Option View). Mended n keeps next r.part w.kind asks possible v reads r.upto w.object w.number w.mended k) (views later)
+        (later_part n keeps t 0 b r k number number_is some_number areas h next r.part w.kind asks possible reads w.object w.number w.mended k.raises (inl later) later (bytes_later later) kind_same object_same mended_same (λ at. omega (arith, at, low)) (omega (arith, up)) (λ f. (far, omega (arith, low))) (λ f. h.finish_none far) shrinks
         (λ e s p. h.finished e s (shrinks s p)))
   ]
 
@@ -78,26 +78,26 @@ module _ (n : ℕ) (keeps : ℕ → Kind → Bool) (t b : ℕ) (r : Exact) (k : 
       w : WorkLocked n r.law (weak.dropping (is_gone told) b (weak.note_ask n r.law b (Lock Work area) told)) b area (is_gone told)
       w = work_locked n r.law b area told
 
-      stays : rank r.step ≤ 6 → next_phase r area ≡ r.phase → Then (Lock Work area) told
+      stays : rank r.step ≤ 6 → next_part r area ≡ r.part → Then (Lock Work area) told
       stays low same = (
           let next = weak.dropping (is_gone told) b (weak.note_ask n r.law b (Lock Work area) told) in
           let l = left_in_heal n r t b (Lock Work area) told in
-          elim (opening_or r.phase) [
-            | inl first ↦ first_part n keeps t 0 b r k number number_is some_number areas h WorkLocks (next_phase r area) next.kind l.asked (λ s. r.possible s && may_heal n keeps r s b (Lock Work area)) r.first_views r.reads next.object next.number next.mended k.raises first same (omega (arith, low)) (omega arith) (λ f. absurd (omega (arith, f)))
-            | inr later ↦ later_part n keeps t 0 b r k number number_is some_number areas h WorkLocks (next_phase r area) next.kind l.asked (λ s. r.possible s && may_heal n keeps r s b (Lock Work area)) r.reads next.object next.number next.mended k.raises (inl later) (λ m. later (sym same ∙ m)) (bytes_later later) w.rest.kind w.object w.rest.mended (λ at. omega (arith, at, low)) (omega arith)
+          elim (opening_or r.part) [
+            | inl first ↦ first_part n keeps t 0 b r k number number_is some_number areas h WorkLocks (next_part r area) next.kind l.asked (λ s. r.possible s && may_heal n keeps r s b (Lock Work area)) r.first_views r.reads next.object next.number next.mended k.raises first same (omega (arith, low)) (omega arith) (λ f. absurd (omega (arith, f)))
+            | inr later ↦ later_part n keeps t 0 b r k number number_is some_number areas h WorkLocks (next_part r area) next.kind l.asked (λ s. r.possible s && may_heal n keeps r s b (Lock Work area)) r.reads next.object next.number next.mended k.raises (inl later) (λ m. later (sym same ∙ m)) (bytes_later later) w.rest.kind w.object w.rest.mended (λ at. omega (arith, at, low)) (omega arith)
                 (λ f. absurd (omega (arith, f))) (λ f. absurd (omega (arith, f))) (less (Lock Work area)) (λ m s p. h.finished (sym same ∙ m) s (less (Lock Work area) s p))
           ]
           )
 
-      finishes : next_phase r area ≡ Finish → (s : ℕ) → (r.possible s && may_heal n keeps r s b (Lock Work area)) ≡ true → rank r.step ≡ 12 → len_of (r.first_views s) ≤ r.upto
+      finishes : next_part r area ≡ Finish → (s : ℕ) → (r.possible s && may_heal n keeps r s b (Lock Work area)) ≡ true → rank r.step ≡ 12 → len_of (r.first_views s) ≤ r.upto
       finishes m s p twelve = chosen (work_place n keeps r s b area (allows (Lock Work area) s p))
         where
           pick : (more : Bool) → nat_lt r.upto (len_of (r.first_views s)) ≡ more → (if more then same_area (piece_area r.law.object r.upto) area else same_area (whole_area r.law.object Bytes) area) ≡ true
-              → next_phase r area ≡ (if same_area (whole_area r.law.object Bytes) area then Finish else Piece) → len_of (r.first_views s) ≤ r.upto
+              → next_part r area ≡ (if same_area (whole_area r.law.object Bytes) area then Finish else Piece) → len_of (r.first_views s) ≤ r.upto
           pick false q c same = ltb-false r.upto (len_of (r.first_views s)) q
           pick true q c same = (
               let is : piece_area r.law.object r.upto ≡ area = same_area_is (piece_area r.law.object r.upto) area c in
-              let piece : next_phase r area ≡ Piece = same ∙ ap (λ (x : Area). if same_area (whole_area r.law.object Bytes) x then Finish else Piece) (sym is) ∙ ap (λ (x : Bool). if x then Finish else Piece) (piece_apart r.law.object r.upto) in
+              let piece : next_part r area ≡ Piece = same ∙ ap (λ (x : Area). if same_area (whole_area r.law.object Bytes) x then Finish else Piece) (sym is) ∙ ap (λ (x : Bool). if x then Finish else Piece) (piece_apart r.law.object r.upto) in
               absurd (cc (sym m ∙ piece))
               )
 
@@ -112,7 +112,7 @@ module _ (n : ℕ) (keeps : ℕ → Kind → Bool) (t b : ℕ) (r : Exact) (k : 
       go (Resumes twelve same idle bytes unfinished lock choice) = (
           let next = weak.dropping (is_gone told) b (weak.note_ask n r.law b (Lock Work area) told) in
           let l = left_in_heal n r t b (Lock Work area) told in
-          later_part n keeps t 0 b r k number number_is some_number areas h WorkLocks (next_phase r area) next.kind l.asked (λ s. r.possible s && may_heal n keeps r s b (Lock Work area)) r.reads next.object next.number next.mended k.raises (inr (omega (arith, twelve))) (λ m. next_not_opening (same_area (whole_area r.law.object Bytes) area) (sym same ∙ m))
+          later_part n keeps t 0 b r k number number_is some_number areas h WorkLocks (next_part r area) next.kind l.asked (λ s. r.possible s && may_heal n keeps r s b (Lock Work area)) r.reads next.object next.number next.mended k.raises (inr (omega (arith, twelve))) (λ m. next_not_opening (same_area (whole_area r.law.object Bytes) area) (sym same ∙ m))
           (same_kind_yes r.law.kind Bytes bytes) w.rest.kind w.object w.rest.mended (λ at. omega (arith, at, twelve)) (omega arith) (λ f. absurd (omega (arith, f))) (λ f. absurd (omega (arith, f))) (less (Lock Work area)) (λ m s p. finishes m s p twelve)
           )
 
@@ -120,7 +120,7 @@ module _ (n : ℕ) (keeps : ℕ → Kind → Bool) (t b : ℕ) (r : Exact) (k : 
   lock area told source e = (
       let five : rank r.step ≡ 5 = heal_lock_step n keeps r source b area e in
       let next = weak.dropping (is_gone told) b (weak.note_ask n r.law b (Lock Heal area) told) in
-      first_part n keeps t 0 b r k number number_is some_number areas h HealLocks r.phase next.kind (with (asked_in r HealLocks) b) (λ s. r.possible s && may_heal n keeps r s b (Lock Heal area)) r.first_views r.reads next.object next.number next.mended k.raises
+      first_part n keeps t 0 b r k number number_is some_number areas h HealLocks r.part next.kind (with (asked_in r HealLocks) b) (λ s. r.possible s && may_heal n keeps r s b (Lock Heal area)) r.first_views r.reads next.object next.number next.mended k.raises
       (s.early inside (omega (arith, five))).0 refl (omega (arith, five)) (omega arith) (λ f. absurd (omega (arith, f)))
       )
 
@@ -131,7 +131,7 @@ module _ (n : ℕ) (keeps : ℕ → Kind → Bool) (t b : ℕ) (r : Exact) (k : 
       let next = weak.dropping (is_gone told) b (weak.note_ask n r.law b (look_at g) told) in
       let same = fields told in
       quiet Looks l.asked (λ s. r.possible s && may_heal n keeps r s b (look_at g)) l.first_views r.reads next (omega (arith, seven)) (omega (arith, seven)) (omega arith) (less (look_at g))
-      (λ later. sym (ap (λ (c : Bool). if c then put r.first_views b (view_of told) else r.first_views) (not_opening r.phase later))) same.0 same.1 same.2
+      (λ later. sym (ap (λ (c : Bool). if c then put r.first_views b (view_of told) else r.first_views) (not_opening r.part later))) same.0 same.1 same.2
       )
     where
       fields : (d : Told) → ((weak.dropping (is_gone d) b (weak.note_ask n r.law b (look_at g) d)).kind ≡ r.law.kind) × ((weak.dropping (is_gone d) b (weak.note_ask n r.law b (look_at g) d)).object ≡ r.law.object) × ((weak.dropping (is_gone d) b (weak.note_ask n r.law b (look_at g) d)).mended ≡ r.law.mended)
@@ -140,18 +140,18 @@ module _ (n : ℕ) (keeps : ℕ → Kind → Bool) (t b : ℕ) (r : Exact) (k : 
       fields _ = (refl, refl, refl)
 
   read : (request : Request) (asks : ℕ → Bool) (reads : ℕ → Option ℕ) (told : Told) → 7 ≤ rank r.step → rank r.step ≤ 8
-      → Mended n keeps Reads r.phase (weak.dropping (is_gone told) b r.law).kind asks (λ s. r.possible s && may_heal n keeps r s b request) r.first_views reads r.upto (weak.dropping (is_gone told) b r.law).object (weak.dropping (is_gone told) b r.law).number (weak.dropping (is_gone told) b r.law).mended k
+      → Mended n keeps Reads r.part (weak.dropping (is_gone told) b r.law).kind asks (λ s. r.possible s && may_heal n keeps r s b request) r.first_views reads r.upto (weak.dropping (is_gone told) b r.law).object (weak.dropping (is_gone told) b r.law).number (weak.dropping (is_gone told) b r.law).mended k
   read request asks reads told far low = go (is_gone told)
     where
-      go : (gone : Bool) → Mended n keeps Reads r.phase (weak.dropping gone b r.law).kind asks (λ s. r.possible s && may_heal n keeps r s b request) r.first_views reads r.upto (weak.dropping gone b r.law).object (weak.dropping gone b r.law).number (weak.dropping gone b r.law).mended k
+      go : (gone : Bool) → Mended n keeps Reads r.part (weak.dropping gone b r.law).kind asks (λ s. r.possible s && may_heal n keeps r s b request) r.first_views reads r.upto (weak.dropping gone b r.law).object (weak.dropping gone b r.law).number (weak.dropping gone b r.law).mended k
       go true = quiet Reads asks (λ s. r.possible s && may_heal n keeps r s b request) r.first_views reads (weak.dropping true b r.law) far low (omega arith) (less request) (λ later. refl) refl refl refl
       go false = quiet Reads asks (λ s. r.possible s && may_heal n keeps r s b request) r.first_views reads r.law far low (omega arith) (less request) (λ later. refl) refl refl refl
 
   pre : (g : ℕ) (kind : Kind) (told : Told) (source : ℕ) → may_heal n keeps r source b (pre_on g kind) ≡ true → fails told ≡ false → Then (pre_on g kind) told
   pre g kind told source e ok = go told ok
     where
-      first : r.phase ≡ Opening
-      first = pres_opening keeps r source r.law.kind r.phase b areas.bytes (turn_in n keeps r source HealPres b (pre_turn n keeps r source b g kind e))
+      first : r.part ≡ Opening
+      first = pres_opening keeps r source r.law.kind r.part b areas.bytes (turn_in n keeps r source HealPres b (pre_turn n keeps r source b g kind e))
 
       low : rank r.step ≤ 9
       low = turn_low n keeps r source HealPres b (pre_turn n keeps r source b g kind e)
@@ -159,8 +159,8 @@ module _ (n : ℕ) (keeps : ℕ → Kind → Bool) (t b : ℕ) (r : Exact) (k : 
       far : 7 ≤ rank r.step
       far = onward_far n keeps r source g kind (pre_onward n keeps r source b g kind e)
 
-      plain : (asks : ℕ → Bool) → Mended n keeps HealPres r.phase r.law.kind asks (λ s. r.possible s && may_heal n keeps r s b (pre_on g kind)) r.first_views r.reads r.upto r.law.object r.law.number r.law.mended (record k { raises = with k.raises b })
-      plain asks = first_part n keeps t 0 b r k number number_is some_number areas h HealPres r.phase r.law.kind asks (λ s. r.possible s && may_heal n keeps r s b (pre_on g kind)) r.first_views r.reads r.law.object r.law.number r.law.mended (with k.raises b) first refl low (omega arith) (λ f. far)
+      plain : (asks : ℕ → Bool) → Mended n keeps HealPres r.part r.law.kind asks (λ s. r.possible s && may_heal n keeps r s b (pre_on g kind)) r.first_views r.reads r.upto r.law.object r.law.number r.law.mended (record k { raises = with k.raises b })
+      plain asks = first_part n keeps t 0 b r k number number_is some_number areas h HealPres r.part r.law.kind asks (λ s. r.possible s && may_heal n keeps r s b (pre_on g kind)) r.first_views r.reads r.law.object r.law.number r.law.mended (with k.raises b) first refl low (omega arith) (λ f. far)
 
       go : (d : Told) → fails d ≡ false → Then (pre_on g kind) d
       go Done m = plain (with (asked_in r HealPres) b)
@@ -170,9 +170,9 @@ module _ (n : ℕ) (keeps : ℕ → Kind → Bool) (t b : ℕ) (r : Exact) (k : 
 
   -- what comes after the Mends
   finished : (request : Request) (next : Step) (asks : ℕ → Bool) (upto : ℕ) (w : Register) → 11 ≤ rank next → w.kind ≡ r.law.kind → w.object ≡ r.law.object → w.mended ≡ r.law.mended → 7 ≤ rank r.step
-      → ((s : ℕ) → may_heal n keeps r s b request ≡ true → mends_over n keeps r s ≡ true) → (r.phase ≡ Opening → upto ≡ 0) → (r.phase ≡ Finish → upto ≡ r.upto)
-      → ((i : ℕ) → i < upto → (i < r.upto) ⊎ ((r.phase ≡ Piece) × (rank r.step ≤ 11) × (r.upto ≤ i) × (i < r.upto + span))) → (r.phase ≡ Piece → rank next ≡ 11 → ⊥)
-      → Mended n keeps next r.phase w.kind asks (λ s. r.possible s && may_heal n keeps r s b request) r.first_views r.reads upto w.object w.number w.mended k
+      → ((s : ℕ) → may_heal n keeps r s b request ≡ true → mends_over n keeps r s ≡ true) → (r.part ≡ Opening → upto ≡ 0) → (r.part ≡ Finish → upto ≡ r.upto)
+      → ((i : ℕ) → i < upto → (i < r.upto) ⊎ ((r.part ≡ Piece) × (rank r.step ≤ 11) × (r.upto ≤ i) × (i < r.upto + span))) → (r.part ≡ Piece → rank next ≡ 11 → ⊥)
+      → Mended n keeps next r.part w.kind asks (λ s. r.possible s && may_heal n keeps r s b request) r.first_views r.reads upto w.object w.number w.mended k
   finished request next asks upto w late kind_same object_same mended_same far over_now start last bytes settling = after_mends n keeps t 0 b r k number number_is some_number areas h next asks (λ s. r.possible s && may_heal n keeps r s b request) upto w.number w.mended w.kind w.object late kind_same object_same mended_same far
       (λ s p. (less request s p, over_now s (allows request s p))) start last bytes settling
 
@@ -182,16 +182,16 @@ module _ (n : ℕ) (keeps : ℕ → Kind → Bool) (t b : ℕ) (r : Exact) (k : 
       far : 7 ≤ rank r.step
       far = onward_far n keeps r source g kind (settle_onward n keeps r source b g kind taken e)
 
-      no_piece : (kind : Kind) (phase : Phase) → ((phase ≡ Opening → ⊥) → kind ≡ Bytes) → settles_at r kind phase b ≡ true → phase ≡ Piece → ⊥
+      no_piece : (kind : Kind) (part : HealPart) → ((part ≡ Opening → ⊥) → kind ≡ Bytes) → settles_at r kind part b ≡ true → part ≡ Piece → ⊥
       no_piece Bytes Piece bytes m p = true≢false (sym m)
       no_piece Attrs Piece bytes m p = cc (bytes (λ q. cc q))
       no_piece Names Piece bytes m p = cc (bytes (λ q. cc q))
       no_piece kind Opening bytes m p = cc p
       no_piece kind Finish bytes m p = cc p
 
-      plain : (asks : ℕ → Bool) (w : Register) → w.kind ≡ r.law.kind → w.object ≡ r.law.object → w.mended ≡ r.law.mended → Mended n keeps Settles r.phase w.kind asks (λ s. r.possible s && may_heal n keeps r s b (settle_on g kind taken)) r.first_views r.reads r.upto w.object w.number w.mended k
+      plain : (asks : ℕ → Bool) (w : Register) → w.kind ≡ r.law.kind → w.object ≡ r.law.object → w.mended ≡ r.law.mended → Mended n keeps Settles r.part w.kind asks (λ s. r.possible s && may_heal n keeps r s b (settle_on g kind taken)) r.first_views r.reads r.upto w.object w.number w.mended k
       plain asks w c o m = finished (settle_on g kind taken) Settles asks r.upto w (omega arith) c o m far (λ s p. settle_mends n keeps r s b g kind taken p) h.no_bytes (λ q. refl) (λ i l. inl l)
-          (λ p at. no_piece r.law.kind r.phase areas.bytes (turn_in n keeps r source Settles b (settle_turn n keeps r source b g kind taken e)) p)
+          (λ p at. no_piece r.law.kind r.part areas.bytes (turn_in n keeps r source Settles b (settle_turn n keeps r source b g kind taken e)) p)
 
       go : (d : Told) → fails d ≡ false → Then (settle_on g kind taken) d
       go Done m = plain (with (asked_in r Settles) b) (record r.law { settled = with r.law.settled b }) refl refl refl
@@ -204,13 +204,13 @@ module _ (n : ℕ) (keeps : ℕ → Kind → Bool) (t b : ℕ) (r : Exact) (k : 
       let f = (frees_work n r.law b area told).0 in
       let w = weak.note_ask n r.law b (Unlock Work area) told in
       let l = left_in_heal n r t b (Unlock Work area) told in
-      subst (λ (w : Register). Mended n keeps Unlocks r.phase w.kind l.asked (λ s. r.possible s && may_heal n keeps r s b (Unlock Work area)) r.first_views r.reads l.upto w.object w.number w.mended k) (sym (kept_law (is_gone told) b w ok))
+      subst (λ (w : Register). Mended n keeps Unlocks r.part w.kind l.asked (λ s. r.possible s && may_heal n keeps r s b (Unlock Work area)) r.first_views r.reads l.upto w.object w.number w.mended k) (sym (kept_law (is_gone told) b w ok))
       (finished (Unlock Work area) Unlocks l.asked l.upto w (omega arith) f.rest.kind f.object f.rest.mended (settles_far n keeps r source (unlock_over n keeps r source b area e)) (λ s p. settles_mends n keeps r s (unlock_over n keeps r s b area p))
       (λ first. ap (λ p. if is_piece p && nat_lt (rank r.step) (rank Unlocks) then r.upto + span else r.upto) first ∙ h.no_bytes first)
       (λ last. ap (λ p. if is_piece p && nat_lt (rank r.step) (rank Unlocks) then r.upto + span else r.upto) last) (λ i l. bytes i l) (λ p at. omega (arith, at)))
       )
     where
-      piece_is : (p : Phase) → is_piece p ≡ true → p ≡ Piece
+      piece_is : (p : HealPart) → is_piece p ≡ true → p ≡ Piece
       piece_is Piece m = refl
       piece_is Opening m = absurd (true≢false (sym m))
       piece_is Finish m = absurd (true≢false (sym m))
@@ -225,11 +225,11 @@ module _ (n : ℕ) (keeps : ℕ → Kind → Bool) (t b : ℕ) (r : Exact) (k : 
           go true q = inl (grind (arith, nat_tests))
           go false q = inr (grind (arith, nat_tests))
 
-      bytes : (i : ℕ) → i < (if is_piece r.phase && nat_lt (rank r.step) (rank Unlocks) then r.upto + span else r.upto) → (i < r.upto) ⊎ ((r.phase ≡ Piece) × (rank r.step ≤ 11) × (r.upto ≤ i) × (i < r.upto + span))
-      bytes i l = go (is_piece r.phase) refl (nat_lt (rank r.step) 12) refl l
+      bytes : (i : ℕ) → i < (if is_piece r.part && nat_lt (rank r.step) (rank Unlocks) then r.upto + span else r.upto) → (i < r.upto) ⊎ ((r.part ≡ Piece) × (rank r.step ≤ 11) × (r.upto ≤ i) × (i < r.upto + span))
+      bytes i l = go (is_piece r.part) refl (nat_lt (rank r.step) 12) refl l
         where
-          go : (piece : Bool) → is_piece r.phase ≡ piece → (early : Bool) → nat_lt (rank r.step) 12 ≡ early → i < (if piece && early then r.upto + span else r.upto) → (i < r.upto) ⊎ ((r.phase ≡ Piece) × (rank r.step ≤ 11) × (r.upto ≤ i) × (i < r.upto + span))
-          go true p true q m = elim (split i r.upto) [ inl low ↦ inl low | inr high ↦ inr (piece_is r.phase p, eleven (rank r.step) q, high, m) ]
+          go : (piece : Bool) → is_piece r.part ≡ piece → (early : Bool) → nat_lt (rank r.step) 12 ≡ early → i < (if piece && early then r.upto + span else r.upto) → (i < r.upto) ⊎ ((r.part ≡ Piece) × (rank r.step ≤ 11) × (r.upto ≤ i) × (i < r.upto + span))
+          go true p true q m = elim (split i r.upto) [ inl low ↦ inl low | inr high ↦ inr (piece_is r.part p, eleven (rank r.step) q, high, m) ]
           go true p false q m = inl m
           go false p early q m = inl m
 
@@ -238,7 +238,7 @@ module _ (n : ℕ) (keeps : ℕ → Kind → Bool) (t b : ℕ) (r : Exact) (k : 
       let f = frees_heal n r.law b area told in
       let w = weak.note_ask n r.law b (Unlock Heal area) told in
       let l = left_in_heal n r t b (Unlock Heal area) told in
-      subst (λ (w : Register). Mended n keeps HealUnlocks r.phase w.kind l.asked (λ s. r.possible s && may_heal n keeps r s b (Unlock Heal area)) r.first_views r.reads r.upto w.object w.number w.mended k) (sym (kept_law (is_gone told) b w ok))
+      subst (λ (w : Register). Mended n keeps HealUnlocks r.part w.kind l.asked (λ s. r.possible s && may_heal n keeps r s b (Unlock Heal area)) r.first_views r.reads r.upto w.object w.number w.mended k) (sym (kept_law (is_gone told) b w ok))
       (finished (Unlock Heal area) HealUnlocks l.asked r.upto w (omega arith) f.rest.kind f.object f.rest.mended (settles_far n keeps r source (heal_unlock_over n keeps r source b area e)) (λ s p. settles_mends n keeps r s (heal_unlock_over n keeps r s b area p))
       h.no_bytes (λ q. refl) (λ i l. inl l) (λ p at. omega (arith, at)))
       )
@@ -282,8 +282,8 @@ ask_mended n keeps t a b r k newest same some s inside areas h Index told took s
 
 begins_mended : (n : ℕ) (keeps : ℕ → Kind → Bool) (r : Exact) (k : Tally) (newest t a g : ℕ) (kind : Kind) → AreasIn r r.law → MayHealBegin n r g kind → MendedIn n keeps r r.law k
     → MendedIn n keeps (note n keeps r t (Some (heal_begin_by a g kind))) (note n keeps r t (Some (heal_begin_by a g kind))).law (note_tally newest k (Some (heal_begin_by a g kind)))
-begins_mended n keeps r k newest t a g kind areas may h = elim (opening_or r.phase) [
-  | inl first ↦ unmended_yet n keeps Looks r.phase kind empty r.possible r.first_views no_reads r.upto r.law.object (suc t) r.law.mended (record k { repair = None }) first (omega arith) (h.no_bytes first)
+begins_mended n keeps r k newest t a g kind areas may h = elim (opening_or r.part) [
+  | inl first ↦ unmended_yet n keeps Looks r.part kind empty r.possible r.first_views no_reads r.upto r.law.object (suc t) r.law.mended (record k { repair = None }) first (omega arith) (h.no_bytes first)
       (λ m. (let late : 10 ≤ rank r.step = h.mending m first in absurd (omega (arith, late, six)))) (h.unmended first (omega (arith, six))) (λ f rep e. cc e)
   | inr later ↦ record {
     mending = λ m e. absurd (later e);
@@ -302,7 +302,7 @@ begins_mended n keeps r k newest t a g kind areas may h = elim (opening_or r.pha
     six : rank r.step ≡ 6
     six = ap rank may.step
 
-    still : (r.phase ≡ Opening → ⊥) → (len : ℕ) (cell : Cell) → Brought Looks r.phase r.upto len cell → Brought r.step r.phase r.upto len cell
+    still : (r.part ≡ Opening → ⊥) → (len : ℕ) (cell : Cell) → Brought Looks r.part r.upto len cell → Brought r.step r.part r.upto len cell
     still later len (Byte g i) (inl w) = inl (inl later, w.1)
     still later len (Byte g i) (inr l) = inr l
     still later len (Attr g i) m = absurd (omega (arith, m))

@@ -3,7 +3,7 @@ use Rattle.afr_base.specs.Majority.{is_most}
 use Rattle.afr_base.specs.declared.ids.Kind.{Kind}
 use Rattle.afr_base.specs.declared.ids.Kind.TheVariants.{Attrs, Bytes, Names}
 use Rattle.afr_moves.specs.Discipline.{MovesExactly, present}
-use Rattle.afr_moves.specs.Register.{Exact, Finish, Opening, Phase, Piece, accuses, good, holder, rank, unaccused, whole_area}
+use Rattle.afr_moves.specs.Register.{Exact, Finish, HealPart, Opening, Piece, accuses, good, holder, rank, unaccused, whole_area}
 use Rattle.afr_moves.specs.Steps.{other, same_reads}
 use Rattle.afr_law.proofs.Heals.Answers.{Honestly}
 use Rattle.afr_law.proofs.Heals.Areas.{opening_or, part_area}
@@ -26,9 +26,9 @@ use Rattle.std.proofs.Common.{Bool, [], ap, arith, false, inl, inr, not, refl, s
 use Rattle.std.proofs.lemmas.Bool.Decides.{nat_tests}
 use Rattle.std.specs.Prelude.{None, Option, Some, nat_lt, slice_index, ◌==◌, ◌^◌}
 use Rattle.afr_moves.specs.Rules as weak
-use Rattle.afr_moves.specs.Rules.{Register, CoversAll}
+use Rattle.afr_moves.specs.Rules.{CoversAll, Register}
 use Rattle.std.specs.Prelude.{List as Seq}
-use Rattle.afr_moves.specs.Cells.{Byte, Attr, Entry, covers}
+use Rattle.afr_moves.specs.Cells.{Attr, Byte, Entry, covers}
 use Rattle.afr_law.proofs.Heals.MendsAlong.{Wide}
 use Rattle.afr_law.proofs.Heals.Mended.{Fits, read_is}
 use Rattle.afr_moves.proofs.Tests.{all_yes, most_yes}
@@ -48,8 +48,8 @@ whole_covers g Names (Byte o i) real same k = cc k
 whole_covers g Names (Attr o i) real same k = cc k
 
 -- the area of a part covers what its repair brings
-pub fits_covers : (object : ℕ) (kind : Kind) (phase : Phase) (upto : ℕ) (views : ℕ → Option View) (reads : ℕ → Option ℕ) (s : ℕ) (repair : Repair) → ((phase ≡ Opening → ⊥) → kind ≡ Bytes) → (phase ≡ Finish → kind ≡ Bytes → ⊥)
-    → Fits object kind phase upto views reads s repair → weak.CoversMend (Some (part_area object kind upto phase)) repair
+pub fits_covers : (object : ℕ) (kind : Kind) (part : HealPart) (upto : ℕ) (views : ℕ → Option View) (reads : ℕ → Option ℕ) (s : ℕ) (repair : Repair) → ((part ≡ Opening → ⊥) → kind ≡ Bytes) → (part ≡ Finish → kind ≡ Bytes → ⊥)
+    → Fits object kind part upto views reads s repair → weak.CoversMend (Some (part_area object kind upto part)) repair
 unfolding covers
 fits_covers object kind Opening upto views reads s (CutTo g len) bytes unfinished f (Byte h i) m = (let p = f.0 in rw f.1 (grind (arith, nat_tests)))
 fits_covers object kind Piece upto views reads s (CutTo g len) bytes unfinished f cell m = absurd (cc (f.2))
@@ -63,14 +63,14 @@ fits_covers object kind Finish upto views reads s (PutAttrs g read) bytes unfini
 fits_covers object kind Opening upto views reads s (PutNames g from) bytes unfinished f (Entry h i) m = (let p = f.0 in rw f.1 (grind (arith, nat_tests)))
 fits_covers object kind Piece upto views reads s (PutNames g from) bytes unfinished f cell m = absurd (cc (sym f.1 ∙ bytes (λ e. cc e)))
 fits_covers object kind Finish upto views reads s (PutNames g from) bytes unfinished f cell m = absurd (cc (sym f.1 ∙ bytes (λ e. cc e)))
-fits_covers object kind phase upto views reads s (CutTo g len) bytes unfinished f (Attr h i) m = cc m
-fits_covers object kind phase upto views reads s (CutTo g len) bytes unfinished f (Entry h i) m = cc m
-fits_covers object kind phase upto views reads s (Copy g at some read) bytes unfinished f (Attr h i) m = cc m
-fits_covers object kind phase upto views reads s (Copy g at some read) bytes unfinished f (Entry h i) m = cc m
-fits_covers object kind phase upto views reads s (PutAttrs g read) bytes unfinished f (Byte h i) m = cc m
-fits_covers object kind phase upto views reads s (PutAttrs g read) bytes unfinished f (Entry h i) m = cc m
-fits_covers object kind phase upto views reads s (PutNames g from) bytes unfinished f (Byte h i) m = cc m
-fits_covers object kind phase upto views reads s (PutNames g from) bytes unfinished f (Attr h i) m = cc m
+fits_covers object kind part upto views reads s (CutTo g len) bytes unfinished f (Attr h i) m = cc m
+fits_covers object kind part upto views reads s (CutTo g len) bytes unfinished f (Entry h i) m = cc m
+fits_covers object kind part upto views reads s (Copy g at some read) bytes unfinished f (Attr h i) m = cc m
+fits_covers object kind part upto views reads s (Copy g at some read) bytes unfinished f (Entry h i) m = cc m
+fits_covers object kind part upto views reads s (PutAttrs g read) bytes unfinished f (Byte h i) m = cc m
+fits_covers object kind part upto views reads s (PutAttrs g read) bytes unfinished f (Entry h i) m = cc m
+fits_covers object kind part upto views reads s (PutNames g from) bytes unfinished f (Byte h i) m = cc m
+fits_covers object kind part upto views reads s (PutNames g from) bytes unfinished f (Attr h i) m = cc m
 
 -- what a good copy is
 good_holds : (n : ℕ) (keeps : ℕ → Kind → Bool) (kind : Kind) (views : ℕ → Option View) (s : ℕ) → good n keeps kind views s ≡ true → (holder views s ≡ true) × (keeps s kind ≡ true) × (unaccused n kind views s ≡ true)
@@ -117,8 +117,8 @@ module _ (n : ℕ) (keeps : ℕ → Kind → Bool) (log : Log) (honest : Honestl
     first_view x e = (let w = held_view at.first_views x e in (w.0, sights.first x w.0 w.1, w.1))
 
     -- a majority of present views, none of which accuses s
-    pub views_of : (s : ℕ) → s < n → rank at.step ≤ 11 → is_most n (holder at.first_views) ≡ true → good n keeps at.law.kind at.first_views s ≡ true → ((at.phase ≡ Opening → ⊥) → (unaccused n at.law.kind at.views s ≡ true) × (8 ≤ rank at.step))
-        → ((at.law.kind ≡ Names → ⊥) → at.possible s ≡ true) → weak.Views n keeps log t a at.law s
+    pub views_of : (s : ℕ) → s < n → rank at.step ≤ 11 → is_most n (holder at.first_views) ≡ true → good n keeps at.law.kind at.first_views s ≡ true → ((at.part ≡ Opening → ⊥) → (unaccused n at.law.kind at.views s ≡ true) × (8 ≤ rank at.step))
+        → ((at.law.kind ≡ Names → ⊥) → at.possible s ≡ true) → weak.UnaccusedViews n keeps log t a at.law s
     views_of s below low most is_good later possible = record {
       among = holder at.first_views;
       majority = most_yes n (holder at.first_views) most;
@@ -126,14 +126,14 @@ module _ (n : ℕ) (keeps : ℕ → Kind → Bool) (log : Log) (honest : Honestl
       below = below;
       copy = (good_holds n keeps at.law.kind at.first_views s is_good).1;
       aside = elim (names_or at.law.kind) [ inl e ↦ inl e | inr other ↦ inr (aside other (bool_or ((tally log t a).raises s))) ];
-      good = λ x low_x holds. here x low_x holds (opening_or at.phase);
+      good = λ x low_x holds. here x low_x holds (opening_or at.part);
     }
       where
         aside : (at.law.kind ≡ Names → ⊥) → ((tally log t a).raises s ≡ true) ⊎ ((tally log t a).raises s ≡ false) → (tally log t a).raises s ≡ false
         aside other (inl e) = absurd (not_self keeps at.first_views s at.law.kind other (raises.aside s s e (possible other)))
         aside other (inr e) = e
 
-        here : (x : ℕ) → x < n → holder at.first_views x ≡ true → (at.phase ≡ Opening) ⊎ (at.phase ≡ Opening → ⊥) → (view : View) × (at.law.view x ≡ Some view) × (slice_index (view_marks view at.law.kind).pending s ≡ 0)
+        here : (x : ℕ) → x < n → holder at.first_views x ≡ true → (at.part ≡ Opening) ⊎ (at.part ≡ Opening → ⊥) → (view : View) × (at.law.view x ≡ Some view) × (slice_index (view_marks view at.law.kind).pending s ≡ 0)
         here x low_x holds (inl first) = (
             let v = held_view at.first_views x holds in
             (v.0, sights.view far low x v.0 (sym (sights.same first far low x) ∙ v.1), not_accused n at.law.kind at.first_views s x v.0 (good_holds n keeps at.law.kind at.first_views s is_good).2 low_x v.1)
@@ -144,7 +144,7 @@ module _ (n : ℕ) (keeps : ℕ → Kind → Bool) (log : Log) (honest : Honestl
             )
 
     -- a read of this part at a good copy
-    pub read_of : (s p : ℕ) → rank at.step ≤ 11 → at.reads s ≡ Some p → weak.Views n keeps log t a at.law s → weak.ReadOf n keeps log t a at.law p
+    pub read_of : (s p : ℕ) → rank at.step ≤ 11 → at.reads s ≡ Some p → weak.UnaccusedViews n keeps log t a at.law s → weak.ReadOf n keeps log t a at.law p
     read_of s p low is source = (
         let w = (readings_now n keeps log moves t a inside whole far s p is).1 in
         record {
@@ -157,7 +157,7 @@ module _ (n : ℕ) (keeps : ℕ → Kind → Bool) (log : Log) (honest : Honestl
         }
         )
 
-    pub each_read : (k : ℕ) (from : Seq (Option ℕ)) → rank at.step ≤ 11 → at.law.kind ≡ Names → at.phase ≡ Opening → is_most n (holder at.first_views) ≡ true → same_reads at.reads k from ≡ true → weak.EachRead (weak.ReadOf n keeps log t a at.law) from
+    pub each_read : (k : ℕ) (from : Seq (Option ℕ)) → rank at.step ≤ 11 → at.law.kind ≡ Names → at.part ≡ Opening → is_most n (holder at.first_views) ≡ true → same_reads at.reads k from ≡ true → weak.EachRead (weak.ReadOf n keeps log t a at.law) from
     each_read k [] low names first most e = tt
     each_read k (None ∷ from) low names first most e = each_read (suc k) from low names first most (and_right _ _ e)
     each_read k (Some p ∷ from) low names first most e = (

@@ -13,8 +13,8 @@ use Rattle.afr_lines.specs.Overlap.{same_area}
 use Rattle.afr_object.specs.declared.entry.View.{View}
 use Rattle.afr_lines.specs.declared.lock.Domain.TheVariants.{Heal, Work}
 use Rattle.afr_moves.specs.Discipline.{MovesExactly, present}
-use Rattle.afr_moves.specs.Note.{left_in_heal, next_phase, put, view_of}
-use Rattle.afr_moves.specs.Register.{Exact, Finish, HealPres, Mends, Phase, Piece, Reads, Settles, Step, Unlocks, is_opening, len_of, piece_area, rank, span, whole_area}
+use Rattle.afr_moves.specs.Note.{left_in_heal, next_part, put, view_of}
+use Rattle.afr_moves.specs.Register.{Exact, Finish, HealPart, HealPres, Mends, Piece, Reads, Settles, Step, Unlocks, is_opening, len_of, piece_area, rank, span, whole_area}
 use Rattle.afr_moves.specs.Steps.{may_heal}
 use Rattle.afr_law.proofs.Heals.Along.{healing_now}
 use Rattle.afr_law.proofs.Heals.Conditions.{Resumes, Starts, Waits, WorkPlace, attrs_turn, bytes_turn, heal_lock_step, list_turn, look_step, mend_turn, pre_turn, settle_turn, work_place}
@@ -24,15 +24,15 @@ use Rattle.afr_moves.specs.Past.{Log}
 use Rattle.std.proofs.lemmas.Bool.{ltb-true}
 
 -- no view shows more than the longest file, pieces begin at multiples of their length, and the present one fits
-pub record Pieces (step : Step) (phase : Phase) (upto : ℕ) (first_views : ℕ → Option View) : Type 0 where
+pub record Pieces (step : Step) (part : HealPart) (upto : ℕ) (first_views : ℕ → Option View) : Type 0 where
   pub count : ℕ
   pub even : upto ≡ count * 131072
   pub short : (x : ℕ) → len_of (first_views x) ≤ 1048576
-  pub room : phase ≡ Piece → rank step ≤ 11 → upto + 131072 ≤ 1048576
+  pub room : part ≡ Piece → rank step ≤ 11 → upto + 131072 ≤ 1048576
 
 -- the same of a register
 abbrev pub PiecesIn : Exact → Type 0
-PiecesIn r = Pieces r.step r.phase r.upto r.first_views
+PiecesIn r = Pieces r.step r.part r.upto r.first_views
 
 -- each look shows a length of at most the longest file's
 abbrev pub ShortLooks : Log → Type 0
@@ -43,35 +43,35 @@ module _ (n : ℕ) (keeps : ℕ → Kind → Bool) (r : Exact) (t b : ℕ) (h : 
   PiecesAfter request told = PiecesIn (left_in_heal n r t b request told)
 
   -- a step before the unlocks of the part
-  on : (next : Step) → rank r.step ≤ 11 → Pieces next r.phase r.upto r.first_views
+  on : (next : Step) → rank r.step ≤ 11 → Pieces next r.part r.upto r.first_views
   on next low = record { count = h.count; even = h.even; short = h.short; room = λ e far. h.room e low }
 
   lock : (area : Area) (told : Told) (source : ℕ) → may_heal n keeps r source b (Lock Work area) ≡ true → PiecesAfter (Lock Work area) told
   lock area told source e = go (work_place n keeps r source b area e)
     where
-      to : (phase : Phase) → next_phase r area ≡ phase → (phase ≡ Piece → r.upto + 131072 ≤ 1048576) → PiecesAfter (Lock Work area) told
-      to phase is room = record { count = h.count; even = h.even; short = h.short; room = λ k low. room (sym is ∙ k) }
+      to : (part : HealPart) → next_part r area ≡ part → (part ≡ Piece → r.upto + 131072 ≤ 1048576) → PiecesAfter (Lock Work area) told
+      to part is room = record { count = h.count; even = h.even; short = h.short; room = λ k low. room (sym is ∙ k) }
 
       -- eight pieces are as long as the longest file
       last : (at k len : ℕ) → at ≡ k * 131072 → at < len → len ≤ 1048576 → at + 131072 ≤ 1048576
       last at k len even less short = omega (arith, even, less, short)
 
       go : WorkPlace n keeps r source b area → PiecesAfter (Lock Work area) told
-      go (Waits at same own lock fresh) = (let six : rank r.step ≡ 6 = ap rank at in to r.phase same (λ k. h.room k (omega (arith, six))))
-      go (Starts five same lock) = to r.phase same (λ k. h.room k (omega (arith, five)))
+      go (Waits at same own lock fresh) = (let six : rank r.step ≡ 6 = ap rank at in to r.part same (λ k. h.room k (omega (arith, six))))
+      go (Starts five same lock) = to r.part same (λ k. h.room k (omega (arith, five)))
       go (Resumes twelve same idle bytes unfinished lock chosen) = pick (nat_lt r.upto (len_of (r.first_views source))) refl chosen
         where
           pick : (more : Bool) → nat_lt r.upto (len_of (r.first_views source)) ≡ more → (if more then same_area (piece_area r.law.object r.upto) area else same_area (whole_area r.law.object Bytes) area) ≡ true → PiecesAfter (Lock Work area) told
-          pick true is k = to (next_phase r area) refl (λ e. last r.upto h.count (len_of (r.first_views source)) h.even (ltb-true r.upto (len_of (r.first_views source)) is) (h.short source))
+          pick true is k = to (next_part r area) refl (λ e. last r.upto h.count (len_of (r.first_views source)) h.even (ltb-true r.upto (len_of (r.first_views source)) is) (h.short source))
           pick false is k = to Finish (same ∙ ap (λ (x : Bool). if x then Finish else Piece) k) (λ e. absurd (cc e))
 
-  freed : (flag : Bool) → Pieces Unlocks r.phase (if flag then r.upto + span else r.upto) r.first_views
+  freed : (flag : Bool) → Pieces Unlocks r.part (if flag then r.upto + span else r.upto) r.first_views
   freed true = record { count = suc h.count; even = (let e = h.even in omega (arith, e)); short = h.short; room = λ e low. absurd (omega (arith, low)) }
   freed false = record { count = h.count; even = h.even; short = h.short; room = λ e low. absurd (omega (arith, low)) }
 
   -- a look of the first part
-  seen : (told : Told) → ((view : View) → told ≡ Seen view → view.len ≤ 1048576) → (x : ℕ) → len_of ((if is_opening r.phase then put r.first_views b (view_of told) else r.first_views) x) ≤ 1048576
-  seen told low x = first (is_opening r.phase)
+  seen : (told : Told) → ((view : View) → told ≡ Seen view → view.len ≤ 1048576) → (x : ℕ) → len_of ((if is_opening r.part then put r.first_views b (view_of told) else r.first_views) x) ≤ 1048576
+  seen told low x = first (is_opening r.part)
     where
       new : (d : Told) → ((view : View) → d ≡ Seen view → view.len ≤ 1048576) → len_of (view_of d) ≤ 1048576
       new (Seen view) f = f view refl

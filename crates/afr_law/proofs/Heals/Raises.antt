@@ -4,8 +4,8 @@ use Rattle.afr_base.specs.declared.ids.Kind.TheVariants.{Attrs, Bytes, Names}
 use Rattle.afr_law.proofs.Discipline.AskFields.{WorkLocked, frees_heal, frees_work, heal_locked, sees, work_locked}
 use Rattle.afr_moves.specs.Discipline.{MovesExactly, note, present}
 use Rattle.afr_moves.specs.Heal.{MayHeal, MayHealBegin}
-use Rattle.afr_moves.specs.Note.{breaks, fails, left_in_heal, next_phase, put, view_of}
-use Rattle.afr_moves.specs.Register.{Applies, Exact, Finish, HealLocks, HealPres, HealUnlocks, Looks, Mends, Open, Opening, Phase, Piece, Posts, Pres, Reads, Settles, Step, Unlocks, Untouched, WorkLocks, asked_in, holder, over, rank, untouched, whole_area}
+use Rattle.afr_moves.specs.Note.{breaks, fails, left_in_heal, next_part, put, view_of}
+use Rattle.afr_moves.specs.Register.{Applies, Exact, Finish, HealLocks, HealPart, HealPres, HealUnlocks, Looks, Mends, Open, Opening, Piece, Posts, Pres, Reads, Settles, Step, Unlocks, Untouched, WorkLocks, asked_in, holder, over, rank, untouched, whole_area}
 use Rattle.afr_moves.specs.Steps.{may_heal, other, pres_at, pres_over, raised}
 use Rattle.afr_law.proofs.Heals.Along.{healed_by, healing_now, opened_by}
 use Rattle.afr_law.proofs.Heals.Answers.{Honestly}
@@ -46,15 +46,15 @@ raise_set keeps views s Bytes x = holder views x && not (x == s) && keeps x Byte
 raise_set keeps views s Attrs x = holder views x && not (x == s)
 raise_set keeps views s Names x = holder views x
 
-pub pres_set : (keeps : ℕ → Kind → Bool) (r : Exact) (s : ℕ) (kind : Kind) (phase : Phase) (x : ℕ) → phase ≡ Opening → pres_at keeps r s kind phase x ≡ raise_set keeps r.first_views s kind x
+pub pres_set : (keeps : ℕ → Kind → Bool) (r : Exact) (s : ℕ) (kind : Kind) (part : HealPart) (x : ℕ) → part ≡ Opening → pres_at keeps r s kind part x ≡ raise_set keeps r.first_views s kind x
 pres_set keeps r s Bytes Opening x e = refl
-pres_set keeps r s Attrs phase x e = refl
-pres_set keeps r s Names phase x e = refl
+pres_set keeps r s Attrs part x e = refl
+pres_set keeps r s Names part x e = refl
 pres_set keeps r s Bytes Piece x e = absurd (cc e)
 pres_set keeps r s Bytes Finish x e = absurd (cc e)
 
 -- only the first part raises
-pub pres_opening : (keeps : ℕ → Kind → Bool) (r : Exact) (s : ℕ) (kind : Kind) (phase : Phase) (x : ℕ) → ((phase ≡ Opening → ⊥) → kind ≡ Bytes) → pres_at keeps r s kind phase x ≡ true → phase ≡ Opening
+pub pres_opening : (keeps : ℕ → Kind → Bool) (r : Exact) (s : ℕ) (kind : Kind) (part : HealPart) (x : ℕ) → ((part ≡ Opening → ⊥) → kind ≡ Bytes) → pres_at keeps r s kind part x ≡ true → part ≡ Opening
 pres_opening keeps r s kind Opening x bytes e = refl
 pres_opening keeps r s Bytes Piece x bytes e = absurd (true≢false (sym e))
 pres_opening keeps r s Bytes Finish x bytes e = absurd (true≢false (sym e))
@@ -64,16 +64,16 @@ pres_opening keeps r s Names Piece x bytes e = absurd (cc (bytes (λ k. cc k)))
 pres_opening keeps r s Names Finish x bytes e = absurd (cc (bytes (λ k. cc k)))
 
 -- raised are exactly the bricks that the heal will change, each once
-pub record Raises (n : ℕ) (keeps : ℕ → Kind → Bool) (step : Step) (phase : Phase) (kind : Kind) (asks possible : ℕ → Bool) (first_views : ℕ → Option View) (raised raises : ℕ → Bool) : Type 0 where
+pub record Raises (n : ℕ) (keeps : ℕ → Kind → Bool) (step : Step) (part : HealPart) (kind : Kind) (asks possible : ℕ → Bool) (first_views : ℕ → Option View) (raised raises : ℕ → Bool) : Type 0 where
   pub asked_raised : step ≡ HealPres → (x : ℕ) → asks x ≡ true → raised x ≡ true
-  pub all_raised : (phase ≡ Opening → ⊥) ⊎ (10 ≤ rank step) → (s x : ℕ) → possible s ≡ true → x < n → raise_set keeps first_views s kind x ≡ true → raised x ≡ true
+  pub all_raised : (part ≡ Opening → ⊥) ⊎ (10 ≤ rank step) → (s x : ℕ) → possible s ≡ true → x < n → raise_set keeps first_views s kind x ≡ true → raised x ≡ true
   pub aside : (s x : ℕ) → raises x ≡ true → possible s ≡ true → raise_set keeps first_views s kind x ≡ true
   pub counted : (x : ℕ) → raised x ≡ true → raises x ≡ true
-  pub once : phase ≡ Opening → rank step ≤ 9 → (x : ℕ) → raises x ≡ true → (step ≡ HealPres) × (asks x ≡ true)
+  pub once : part ≡ Opening → rank step ≤ 9 → (x : ℕ) → raises x ≡ true → (step ≡ HealPres) × (asks x ≡ true)
 
 -- the same of a register and its tally
 abbrev pub RaisesIn : ℕ → (ℕ → Kind → Bool) → Exact → Register → Tally → Type 0
-RaisesIn n keeps r w k = Raises n keeps r.step r.phase w.kind r.asked r.possible r.first_views w.raised k.raises
+RaisesIn n keeps r w k = Raises n keeps r.step r.part w.kind r.asked r.possible r.first_views w.raised k.raises
 
 -- what the tally has of bricks that a Pre asked
 abbrev pub tally_raises : Tally → ℕ → Request → ℕ → Bool
@@ -109,16 +109,16 @@ module _ (n : ℕ) (keeps : ℕ → Kind → Bool) (log : Log) (honest : Honestl
   still_possible request s = r.possible s && may_heal n keeps r s b request
 
   abbrev pub RaisesAfter : Request → Told → (ℕ → Bool) → Type 0
-  RaisesAfter request told raises = Raises n keeps (left_in_heal n r t b request told).step (left_in_heal n r t b request told).phase (weak.dropping (is_gone told) b (weak.note_ask n r.law b request told)).kind (left_in_heal n r t b request told).asked
+  RaisesAfter request told raises = Raises n keeps (left_in_heal n r t b request told).step (left_in_heal n r t b request told).part (weak.dropping (is_gone told) b (weak.note_ask n r.law b request told)).kind (left_in_heal n r t b request told).asked
       (still_possible request) (left_in_heal n r t b request told).first_views (weak.dropping (is_gone told) b (weak.note_ask n r.law b request told)).raised raises
 
   -- nothing is raised before the first Pre
-  none_yet : r.phase ≡ Opening → rank r.step ≤ 8 → (x : ℕ) → k.raises x ≡ true → ⊥
+  none_yet : r.part ≡ Opening → rank r.step ≤ 8 → (x : ℕ) → k.raises x ≡ true → ⊥
   none_yet e low x m = (let at : rank r.step ≡ 9 = ap rank (h.once e (omega (arith, low)) x m).0 in absurd (omega (arith, low, at)))
 
-  unraised : (next : Step) (phase : Phase) (kind : Kind) (asks possible raised : ℕ → Bool) (first_views : ℕ → Option View) → phase ≡ Opening → rank next ≤ 8 → ((x : ℕ) → k.raises x ≡ true → ⊥) → ((x : ℕ) → raised x ≡ true → r.law.raised x ≡ true)
-      → Raises n keeps next phase kind asks possible first_views raised k.raises
-  unraised next phase kind asks possible raised first_views e low none less = record {
+  unraised : (next : Step) (part : HealPart) (kind : Kind) (asks possible raised : ℕ → Bool) (first_views : ℕ → Option View) → part ≡ Opening → rank next ≤ 8 → ((x : ℕ) → k.raises x ≡ true → ⊥) → ((x : ℕ) → raised x ≡ true → r.law.raised x ≡ true)
+      → Raises n keeps next part kind asks possible first_views raised k.raises
+  unraised next part kind asks possible raised first_views e low none less = record {
     asked_raised = λ at. absurd (not_pres (ap rank at));
     all_raised = λ m. elim m [ inl later ↦ absurd (later e) | inr far ↦ absurd (omega (arith, far, low)) ];
     aside = λ s x m. absurd (none x m);
@@ -130,9 +130,9 @@ module _ (n : ℕ) (keeps : ℕ → Kind → Bool) (log : Log) (honest : Honestl
       not_pres e = omega (arith, e, low)
 
   -- a step of a later part
-  in_later : (next : Step) (phase : Phase) (kind : Kind) (asks possible raised : ℕ → Bool) → (r.phase ≡ Opening → ⊥) ⊎ (10 ≤ rank r.step) → (phase ≡ Opening → ⊥) → (rank next ≡ 9 → ⊥) → kind ≡ r.law.kind → raised ≡ r.law.raised → ((s : ℕ) → possible s ≡ true → r.possible s ≡ true)
-      → Raises n keeps next phase kind asks possible r.first_views raised k.raises
-  in_later next phase kind asks possible raised was later other same_kind_now same_raised less = record {
+  in_later : (next : Step) (part : HealPart) (kind : Kind) (asks possible raised : ℕ → Bool) → (r.part ≡ Opening → ⊥) ⊎ (10 ≤ rank r.step) → (part ≡ Opening → ⊥) → (rank next ≡ 9 → ⊥) → kind ≡ r.law.kind → raised ≡ r.law.raised → ((s : ℕ) → possible s ≡ true → r.possible s ≡ true)
+      → Raises n keeps next part kind asks possible r.first_views raised k.raises
+  in_later next part kind asks possible raised was later other same_kind_now same_raised less = record {
     asked_raised = λ at. absurd (other (ap rank at));
     all_raised = λ m s x p low q. ap (λ (c : ℕ → Bool). c x) same_raised ∙ h.all_raised was s x (less s p) low (ap (λ c. raise_set keeps r.first_views s c x) (sym same_kind_now) ∙ q);
     aside = λ s x m p. ap (λ c. raise_set keeps r.first_views s c x) same_kind_now ∙ h.aside s x m (less s p);
@@ -141,8 +141,8 @@ module _ (n : ℕ) (keeps : ℕ → Kind → Bool) (log : Log) (honest : Honestl
   }
 
   -- a step after the Pres of the first part, which are over
-  after_pres : (next : Step) (kind : Kind) (asks possible raised : ℕ → Bool) → r.phase ≡ Opening → 10 ≤ rank next → kind ≡ r.law.kind → raised ≡ r.law.raised → ((s : ℕ) → possible s ≡ true → (r.possible s ≡ true) × (pres_over n keeps r s ≡ true))
-      → Raises n keeps next r.phase kind asks possible r.first_views raised k.raises
+  after_pres : (next : Step) (kind : Kind) (asks possible raised : ℕ → Bool) → r.part ≡ Opening → 10 ≤ rank next → kind ≡ r.law.kind → raised ≡ r.law.raised → ((s : ℕ) → possible s ≡ true → (r.possible s ≡ true) × (pres_over n keeps r s ≡ true))
+      → Raises n keeps next r.part kind asks possible r.first_views raised k.raises
   after_pres next kind asks possible raised first late same_kind_now same_raised less = record {
     asked_raised = λ at. absurd (not_pres (ap rank at));
     all_raised = λ m s x p low q. ap (λ (c : ℕ → Bool). c x) same_raised ∙ each s x (less s p).0 (less s p).1 low (ap (λ c. raise_set keeps r.first_views s c x) (sym same_kind_now) ∙ q);
@@ -157,7 +157,7 @@ module _ (n : ℕ) (keeps : ℕ → Kind → Bool) (log : Log) (honest : Honestl
       each : (s x : ℕ) → r.possible s ≡ true → pres_over n keeps r s ≡ true → x < n → raise_set keeps r.first_views s r.law.kind x ≡ true → r.law.raised x ≡ true
       each s x p over low q = elim (ten_or (rank r.step)) [
         | inl early ↦ (
-            let asked = over_at n (pres_at keeps r s r.law.kind r.phase) (asked_in r HealPres) (passed_over n keeps r s HealPres (pres_passed n keeps r s over) early) x low (pres_set keeps r s r.law.kind r.phase x first ∙ q) in
+            let asked = over_at n (pres_at keeps r s r.law.kind r.part) (asked_in r HealPres) (passed_over n keeps r s HealPres (pres_passed n keeps r s over) early) x low (pres_set keeps r s r.law.kind r.part x first ∙ q) in
             let at = asked_is r HealPres x asked in
             h.asked_raised (pres_is r.step at.0) x at.1
             )
@@ -175,7 +175,7 @@ module _ (n : ℕ) (keeps : ℕ → Kind → Bool) (log : Log) (honest : Honestl
     ];
     all_raised = λ m. elim m [ inl later ↦ absurd (later first) | inr far ↦ absurd (omega (arith, far)) ];
     aside = λ s x m p. elim (with_cases k.raises b x m) [
-      | inl here ↦ subst (λ y. raise_set keeps r.first_views s r.law.kind y ≡ true) (sym here) (sym (pres_set keeps r s r.law.kind r.phase b first) ∙ turn_in n keeps r s HealPres b (pre_turn n keeps r s b g kind (and_right _ _ p)))
+      | inl here ↦ subst (λ y. raise_set keeps r.first_views s r.law.kind y ≡ true) (sym here) (sym (pres_set keeps r s r.law.kind r.part b first) ∙ turn_in n keeps r s HealPres b (pre_turn n keeps r s b g kind (and_right _ _ p)))
       | inr was ↦ h.aside s x was (less_possible (pre_on g kind) s p)
     ];
     counted = λ x m. elim (with_cases r.law.raised b x m) [
@@ -191,11 +191,11 @@ module _ (n : ℕ) (keeps : ℕ → Kind → Bool) (log : Log) (honest : Honestl
     );
   })
     where
-      set : pres_at keeps r source r.law.kind r.phase b ≡ true
+      set : pres_at keeps r source r.law.kind r.part b ≡ true
       set = turn_in n keeps r source HealPres b (pre_turn n keeps r source b g kind e)
 
-      first : r.phase ≡ Opening
-      first = pres_opening keeps r source r.law.kind r.phase b areas.bytes set
+      first : r.part ≡ Opening
+      first = pres_opening keeps r source r.law.kind r.part b areas.bytes set
 
       under : rank r.step ≤ 9
       under = turn_low n keeps r source HealPres b (pre_turn n keeps r source b g kind e)
@@ -210,25 +210,25 @@ module _ (n : ℕ) (keeps : ℕ → Kind → Bool) (log : Log) (honest : Honestl
 
       done : told ≡ Done
       done = (
-          let v = held_view r.first_views b (holds r.law.kind (sym (pres_set keeps r source r.law.kind r.phase b first) ∙ set)) in
+          let v = held_view r.first_views b (holds r.law.kind (sym (pres_set keeps r source r.law.kind r.part b first) ∙ set)) in
           let o = sights.origin b v.0 v.1 in
           honest.carried o.l t a b r.law.object o.view kind told took o.past o.is (is ∙ (λ j. Some (ask_by a b (pre_on (object_same j) kind) told took))) ok
           )
 
   -- locks, looks and reads raise nothing
   quiet_raises : (next : Step) (kind : Kind) (asks possible raised : ℕ → Bool) → rank r.step ≤ 8 → rank next ≤ 8 → kind ≡ r.law.kind → raised ≡ r.law.raised → ((s : ℕ) → possible s ≡ true → r.possible s ≡ true)
-      → Raises n keeps next r.phase kind asks possible r.first_views raised k.raises
-  quiet_raises next kind asks possible raised low up same_kind_now same_raised less = elim (opening_or r.phase) [
-    | inl e ↦ unraised next r.phase kind asks possible raised r.first_views e up (none_yet e low) (λ x m. ap (λ (c : ℕ → Bool). c x) (sym same_raised) ∙ m)
-    | inr later ↦ in_later next r.phase kind asks possible raised (inl later) later (λ at. omega (arith, at, up)) same_kind_now same_raised less
+      → Raises n keeps next r.part kind asks possible r.first_views raised k.raises
+  quiet_raises next kind asks possible raised low up same_kind_now same_raised less = elim (opening_or r.part) [
+    | inl e ↦ unraised next r.part kind asks possible raised r.first_views e up (none_yet e low) (λ x m. ap (λ (c : ℕ → Bool). c x) (sym same_raised) ∙ m)
+    | inr later ↦ in_later next r.part kind asks possible raised (inl later) later (λ at. omega (arith, at, up)) same_kind_now same_raised less
   ]
 
   -- Mends, Settles and unlocks come after the Pres
   pub late_raises : (next : Step) (kind : Kind) (asks possible raised : ℕ → Bool) → 10 ≤ rank next → kind ≡ r.law.kind → raised ≡ r.law.raised → ((s : ℕ) → possible s ≡ true → (r.possible s ≡ true) × (pres_over n keeps r s ≡ true))
-      → Raises n keeps next r.phase kind asks possible r.first_views raised k.raises
-  late_raises next kind asks possible raised late same_kind_now same_raised less = elim (opening_or r.phase) [
+      → Raises n keeps next r.part kind asks possible r.first_views raised k.raises
+  late_raises next kind asks possible raised late same_kind_now same_raised less = elim (opening_or r.part) [
     | inl e ↦ after_pres next kind asks possible raised e late same_kind_now same_raised less
-    | inr later ↦ in_later next r.phase kind asks possible raised (inl later) later (λ at. omega (arith, at, late)) same_kind_now same_raised (λ s p. (less s p).0)
+    | inr later ↦ in_later next r.part kind asks possible raised (inl later) later (λ at. omega (arith, at, late)) same_kind_now same_raised (λ s p. (less s p).0)
   ]
 
   work_raises : (area : Area) (told : Told) (source : ℕ) → may_heal n keeps r source b (Lock Work area) ≡ true → RaisesAfter (Lock Work area) told k.raises
@@ -237,7 +237,7 @@ module _ (n : ℕ) (keeps : ℕ → Kind → Bool) (log : Log) (honest : Honestl
       w : WorkLocked n r.law (weak.dropping (is_gone told) b (weak.note_ask n r.law b (Lock Work area) told)) b area (is_gone told)
       w = work_locked n r.law b area told
 
-      stays : rank r.step ≤ 6 → next_phase r area ≡ r.phase → RaisesAfter (Lock Work area) told k.raises
+      stays : rank r.step ≤ 6 → next_part r area ≡ r.part → RaisesAfter (Lock Work area) told k.raises
       stays low same = (
           let next = weak.dropping (is_gone told) b (weak.note_ask n r.law b (Lock Work area) told) in
           let l = left_in_heal n r t b (Lock Work area) told in
@@ -248,14 +248,14 @@ module _ (n : ℕ) (keeps : ℕ → Kind → Bool) (log : Log) (honest : Honestl
       go : WorkPlace n keeps r source b area → RaisesAfter (Lock Work area) told k.raises
       go (Waits at same own lock fresh) = (let six : rank r.step ≡ 6 = ap rank at in stays (omega (arith, six)) same)
       go (Starts five same lock) = stays (omega (arith, five)) same
-      go (Resumes twelve same idle bytes unfinished lock chosen) = in_later WorkLocks (next_phase r area) (weak.dropping (is_gone told) b (weak.note_ask n r.law b (Lock Work area) told)).kind (left_in_heal n r t b (Lock Work area) told).asked (still_possible (Lock Work area)) (weak.dropping (is_gone told) b (weak.note_ask n r.law b (Lock Work area) told)).raised
+      go (Resumes twelve same idle bytes unfinished lock chosen) = in_later WorkLocks (next_part r area) (weak.dropping (is_gone told) b (weak.note_ask n r.law b (Lock Work area) told)).kind (left_in_heal n r t b (Lock Work area) told).asked (still_possible (Lock Work area)) (weak.dropping (is_gone told) b (weak.note_ask n r.law b (Lock Work area) told)).raised
           (inr (omega (arith, twelve))) (λ k. next_not_opening (same_area (whole_area r.law.object Bytes) area) (sym same ∙ k)) (λ at. omega (arith, at)) w.rest.kind w.rest.raised (less_possible (Lock Work area))
 
   look_raises : (g : ℕ) (told : Told) (source : ℕ) → may_heal n keeps r source b (look_at g) ≡ true → RaisesAfter (look_at g) told k.raises
-  look_raises g told source e = elim (opening_or r.phase) [
-    | inl first ↦ unraised Looks r.phase (weak.dropping (is_gone told) b (weak.note_ask n r.law b (look_at g) told)).kind (left_in_heal n r t b (look_at g) told).asked (still_possible (look_at g)) (weak.dropping (is_gone told) b (weak.note_ask n r.law b (look_at g) told)).raised (left_in_heal n r t b (look_at g) told).first_views first (omega arith) (none_yet first (omega (arith, seven))) (λ x m. ap (λ (c : ℕ → Bool). c x) (sym (same told).1) ∙ m)
-    | inr later ↦ subst (λ (v : ℕ → Option View). Raises n keeps Looks r.phase (weak.dropping (is_gone told) b (weak.note_ask n r.law b (look_at g) told)).kind (left_in_heal n r t b (look_at g) told).asked (still_possible (look_at g)) v (weak.dropping (is_gone told) b (weak.note_ask n r.law b (look_at g) told)).raised k.raises) (sym (ap (λ (c : Bool). if c then put r.first_views b (view_of told) else r.first_views) (not_opening r.phase later)))
-        (in_later Looks r.phase (weak.dropping (is_gone told) b (weak.note_ask n r.law b (look_at g) told)).kind (left_in_heal n r t b (look_at g) told).asked (still_possible (look_at g)) (weak.dropping (is_gone told) b (weak.note_ask n r.law b (look_at g) told)).raised (inl later) later (λ at. omega (arith, at)) (same told).0 (same told).1 (less_possible (look_at g)))
+  look_raises g told source e = elim (opening_or r.part) [
+    | inl first ↦ unraised Looks r.part (weak.dropping (is_gone told) b (weak.note_ask n r.law b (look_at g) told)).kind (left_in_heal n r t b (look_at g) told).asked (still_possible (look_at g)) (weak.dropping (is_gone told) b (weak.note_ask n r.law b (look_at g) told)).raised (left_in_heal n r t b (look_at g) told).first_views first (omega arith) (none_yet first (omega (arith, seven))) (λ x m. ap (λ (c : ℕ → Bool). c x) (sym (same told).1) ∙ m)
+    | inr later ↦ subst (λ (v : ℕ → Option View). Raises n keeps Looks r.part (weak.dropping (is_gone told) b (weak.note_ask n r.law b (look_at g) told)).kind (left_in_heal n r t b (look_at g) told).asked (still_possible (look_at g)) v (weak.dropping (is_gone told) b (weak.note_ask n r.law b (look_at g) told)).raised k.raises) (sym (ap (λ (c : Bool). if c then put r.first_views b (view_of told) else r.first_views) (not_opening r.part later)))
+        (in_later Looks r.part (weak.dropping (is_gone told) b (weak.note_ask n r.law b (look_at g) told)).kind (left_in_heal n r t b (look_at g) told).asked (still_possible (look_at g)) (weak.dropping (is_gone told) b (weak.note_ask n r.law b (look_at g) told)).raised (inl later) later (λ at. omega (arith, at)) (same told).0 (same told).1 (less_possible (look_at g)))
   ]
     where
       seven : rank r.step ≡ 7
@@ -266,10 +266,10 @@ module _ (n : ℕ) (keeps : ℕ → Kind → Bool) (log : Log) (honest : Honestl
       same NotConnected = (refl, refl)
       same _ = (refl, refl)
 
-  reading_raises : (request : Request) (asks : ℕ → Bool) (told : Told) → rank r.step ≤ 8 → Raises n keeps Reads r.phase (weak.dropping (is_gone told) b r.law).kind asks (still_possible request) r.first_views (weak.dropping (is_gone told) b r.law).raised k.raises
+  reading_raises : (request : Request) (asks : ℕ → Bool) (told : Told) → rank r.step ≤ 8 → Raises n keeps Reads r.part (weak.dropping (is_gone told) b r.law).kind asks (still_possible request) r.first_views (weak.dropping (is_gone told) b r.law).raised k.raises
   reading_raises request asks told low = go (is_gone told)
     where
-      go : (gone : Bool) → Raises n keeps Reads r.phase (weak.dropping gone b r.law).kind asks (still_possible request) r.first_views (weak.dropping gone b r.law).raised k.raises
+      go : (gone : Bool) → Raises n keeps Reads r.part (weak.dropping gone b r.law).kind asks (still_possible request) r.first_views (weak.dropping gone b r.law).raised k.raises
       go true = quiet_raises Reads r.law.kind asks (still_possible request) r.law.raised low (omega arith) refl refl (less_possible request)
       go false = quiet_raises Reads r.law.kind asks (still_possible request) r.law.raised low (omega arith) refl refl (less_possible request)
 
@@ -309,7 +309,7 @@ module _ (n : ℕ) (keeps : ℕ → Kind → Bool) (log : Log) (honest : Honestl
       let f = (frees_work n r.law b area told).0 in
       let w = weak.note_ask n r.law b (Unlock Work area) told in
       let l = left_in_heal n r t b (Unlock Work area) told in
-      subst (λ (w : Register). Raises n keeps Unlocks r.phase w.kind l.asked (still_possible (Unlock Work area)) r.first_views w.raised k.raises) (sym (kept_law (is_gone told) b w un))
+      subst (λ (w : Register). Raises n keeps Unlocks r.part w.kind l.asked (still_possible (Unlock Work area)) r.first_views w.raised k.raises) (sym (kept_law (is_gone told) b w un))
       (late_raises Unlocks w.kind l.asked (still_possible (Unlock Work area)) w.raised (omega arith) f.rest.kind f.rest.raised
       (λ s p. (less_possible (Unlock Work area) s p, mends_pres n keeps r s (settles_mends n keeps r s (unlock_over n keeps r s b area (and_right (r.possible s) (may_heal n keeps r s b (Unlock Work area)) p))))))
       )
@@ -317,7 +317,7 @@ module _ (n : ℕ) (keeps : ℕ → Kind → Bool) (log : Log) (honest : Honestl
       let f = frees_heal n r.law b area told in
       let w = weak.note_ask n r.law b (Unlock Heal area) told in
       let l = left_in_heal n r t b (Unlock Heal area) told in
-      subst (λ (w : Register). Raises n keeps HealUnlocks r.phase w.kind l.asked (still_possible (Unlock Heal area)) r.first_views w.raised k.raises) (sym (kept_law (is_gone told) b w un))
+      subst (λ (w : Register). Raises n keeps HealUnlocks r.part w.kind l.asked (still_possible (Unlock Heal area)) r.first_views w.raised k.raises) (sym (kept_law (is_gone told) b w un))
       (late_raises HealUnlocks w.kind l.asked (still_possible (Unlock Heal area)) w.raised (omega arith) f.rest.kind f.rest.raised
       (λ s p. (less_possible (Unlock Heal area) s p, mends_pres n keeps r s (settles_mends n keeps r s (heal_unlock_over n keeps r s b area (and_right (r.possible s) (may_heal n keeps r s b (Unlock Heal area)) p))))))
       )
@@ -344,12 +344,12 @@ module _ (n : ℕ) (keeps : ℕ → Kind → Bool) (log : Log) (honest : Honestl
   begins r k t a g kind may h = record {
     asked_raised = λ at. absurd (cc at);
     all_raised = λ m s x p low q. elim m [ inl later ↦ h.all_raised (inl later) s x p low (ap (λ c. raise_set keeps r.first_views s c x) (sym (may.later later)) ∙ q) | inr far ↦ absurd (omega (arith, far)) ];
-    aside = λ s x m p. elim (opening_or r.phase) [ inl e ↦ absurd (none e x m) | inr later ↦ ap (λ c. raise_set keeps r.first_views s c x) (may.later later) ∙ h.aside s x m p ];
+    aside = λ s x m p. elim (opening_or r.part) [ inl e ↦ absurd (none e x m) | inr later ↦ ap (λ c. raise_set keeps r.first_views s c x) (may.later later) ∙ h.aside s x m p ];
     counted = h.counted;
     once = λ e low x m. absurd (none e x m);
   }
     where
-      none : r.phase ≡ Opening → (x : ℕ) → k.raises x ≡ true → ⊥
+      none : r.part ≡ Opening → (x : ℕ) → k.raises x ≡ true → ⊥
       none e x m = (let six : rank r.step ≡ 6 = ap rank may.step in let nine : rank r.step ≡ 9 = ap rank (h.once e (omega (arith, six)) x m).0 in omega (arith, six, nine))
 
   pub raises_now : (t a : ℕ) → (present n keeps log t a).law.heal ≡ true → (present n keeps log t a).broken ≡ false → RaisesIn n keeps (present n keeps log t a) (present n keeps log t a).law (tally_at log t a)
@@ -358,7 +358,7 @@ module _ (n : ℕ) (keeps : ℕ → Kind → Bool) (log : Log) (honest : Honestl
       (λ t a g kind is may h. begins (present n keeps log t a) (tally_at log t a) t a g kind may h)
     where
       step : (t a b : ℕ) (request : Request) (told : Told) (took : Bool) → MayHeal n keeps (present n keeps log t a) b request
-          → Raises n keeps (left_in_heal n (present n keeps log t a) t b request told).step (left_in_heal n (present n keeps log t a) t b request told).phase (weak.dropping (is_gone told) b (weak.note_ask n (present n keeps log t a).law b request told)).kind (left_in_heal n (present n keeps log t a) t b request told).asked
+          → Raises n keeps (left_in_heal n (present n keeps log t a) t b request told).step (left_in_heal n (present n keeps log t a) t b request told).part (weak.dropping (is_gone told) b (weak.note_ask n (present n keeps log t a).law b request told)).kind (left_in_heal n (present n keeps log t a) t b request told).asked
           (λ s. (present n keeps log t a).possible s && may_heal n keeps (present n keeps log t a) s b request) (left_in_heal n (present n keeps log t a) t b request told).first_views (weak.dropping (is_gone told) b (weak.note_ask n (present n keeps log t a).law b request told)).raised (tally_raises (tally_at log t a) b request)
           → RaisesIn n keeps (healed_by n keeps (present n keeps log t a) t a b request told took) (healed_by n keeps (present n keeps log t a) t a b request told took).law (note_tally (last log t a) (tally_at log t a) (Some (ask_by a b request told took)))
       step t a b (Pre g kind) told took m w = w

@@ -4,7 +4,7 @@ use Rattle.afr_base.specs.declared.ids.Kind.TheVariants.{Attrs, Bytes, Names}
 use Rattle.afr_law.proofs.Discipline.AskFields.{frees_heal, frees_work}
 use Rattle.afr_moves.specs.Discipline.{MovesExactly, present}
 use Rattle.afr_moves.specs.Note.{breaks, fails, left_in_heal, put}
-use Rattle.afr_moves.specs.Register.{Exact, HealPres, HealUnlocks, Mends, Phase, Reads, Settles, Step, Unlocks, good, rank}
+use Rattle.afr_moves.specs.Register.{Exact, HealPart, HealPres, HealUnlocks, Mends, Reads, Settles, Step, Unlocks, good, rank}
 use Rattle.afr_moves.specs.Steps.{may_heal, reads_at}
 use Rattle.afr_law.proofs.Heals.Along.{healing_now}
 use Rattle.afr_law.proofs.Heals.Holds.{fails_gone, kept_law}
@@ -73,18 +73,18 @@ module _ (n : ℕ) (keeps : ℕ → Kind → Bool) (log : Log) (t a b : ℕ) (r 
       )
       noted _ at k x p e = (omega arith, elim (put_read r.reads b x p None e) [ inl w ↦ absurd (cc (w.1)) | inr old ↦ read_next n keeps log t a r.law.kind r.law.number r.first_views x p (h far x p old).1 ])
 
-  good_here : (source : ℕ) (kind : Kind) (phase : Phase) → reads_at n keeps r source kind phase b ≡ true → kind ≡ Names → good n keeps Names r.first_views b ≡ true
-  good_here source Names phase e k = e
-  good_here source Bytes phase e k = absurd (cc k)
-  good_here source Attrs phase e k = absurd (cc k)
+  good_here : (source : ℕ) (kind : Kind) (part : HealPart) → reads_at n keeps r source kind part b ≡ true → kind ≡ Names → good n keeps Names r.first_views b ≡ true
+  good_here source Names part e k = e
+  good_here source Bytes part e k = absurd (cc k)
+  good_here source Attrs part e k = absurd (cc k)
 
   pub readings_asked : (request : Request) (told : Told) (took : Bool) (source : ℕ) → log t ≡ Some (ask_by a b request told took) → may_heal n keeps r source b request ≡ true → breaks r request told ≡ false → ReadingsAfter request told
   readings_asked (Lock Heal area) told took source is e un = λ far. absurd (omega (arith, far))
   readings_asked (Lock Work area) told took source is e un = λ far. absurd (omega (arith, far))
   readings_asked (Look g) told took source is e un = λ far x p m. (let seven : rank r.step ≡ 7 = look_step n keeps r source b g.0 e in let late : 8 ≤ rank r.step = (h (omega (arith, seven)) x p m).0 in absurd (omega (arith, seven, late)))
-  readings_asked (ReadBytes g at len) told took source is e un = reads (ReadBytes g at len) told took is (onward_far n keeps r source g.0 Bytes (bytes_onward n keeps r source b g at len e)) un (good_here source r.law.kind r.phase (turn_in n keeps r source Reads b (bytes_turn n keeps r source b g at len e)))
-  readings_asked (ReadAttrs g) told took source is e un = reads (ReadAttrs g) told took is (onward_far n keeps r source g.0 Attrs (attrs_onward n keeps r source b g e)) un (good_here source r.law.kind r.phase (turn_in n keeps r source Reads b (attrs_turn n keeps r source b g e)))
-  readings_asked (List g) told took source is e un = reads (List g) told took is (onward_far n keeps r source g.0 Names (list_onward n keeps r source b g e)) un (good_here source r.law.kind r.phase (turn_in n keeps r source Reads b (list_turn n keeps r source b g e)))
+  readings_asked (ReadBytes g at len) told took source is e un = reads (ReadBytes g at len) told took is (onward_far n keeps r source g.0 Bytes (bytes_onward n keeps r source b g at len e)) un (good_here source r.law.kind r.part (turn_in n keeps r source Reads b (bytes_turn n keeps r source b g at len e)))
+  readings_asked (ReadAttrs g) told took source is e un = reads (ReadAttrs g) told took is (onward_far n keeps r source g.0 Attrs (attrs_onward n keeps r source b g e)) un (good_here source r.law.kind r.part (turn_in n keeps r source Reads b (attrs_turn n keeps r source b g e)))
+  readings_asked (List g) told took source is e un = reads (List g) told took is (onward_far n keeps r source g.0 Names (list_onward n keeps r source b g e)) un (good_here source r.law.kind r.part (turn_in n keeps r source Reads b (list_turn n keeps r source b g e)))
   readings_asked (Pre g kind) told took source is e un = pre told un (onward_far n keeps r source g.0 kind (pre_onward n keeps r source b g.0 kind e))
     where
       pre : (d : Told) → fails d ≡ false → 7 ≤ rank r.step → ReadingsAfter (Pre g kind) d

@@ -4,7 +4,7 @@ use Rattle.afr_base.specs.declared.ids.Kind.TheVariants.{Attrs, Bytes, Names}
 use Rattle.afr_base.specs.declared.marks.Marks.{Marks}
 use Rattle.afr_moves.specs.Discipline.{MovesExactly, present}
 use Rattle.afr_moves.specs.Heal.{MayHeal}
-use Rattle.afr_moves.specs.Register.{Exact, Finish, Opening, Phase, Piece, Settles, all, asked_in, holder, len_of, rank, whole_area}
+use Rattle.afr_moves.specs.Register.{Exact, Finish, HealPart, Opening, Piece, Settles, all, asked_in, holder, len_of, rank, whole_area}
 use Rattle.afr_moves.specs.Steps.{changed, may_heal, onward, raised, settles_at, takes, turn}
 use Rattle.afr_law.proofs.Discipline.Firsts.{firsts_now}
 use Rattle.afr_law.proofs.Heals.Answers.{Honestly}
@@ -32,8 +32,8 @@ use Rattle.afr_object.specs.declared.entry.View.{View}
 use Rattle.std.proofs.Common.{Bool, ap, arith, false, inl, inr, length, refl, subst, sym, true, true≢false, ℕ, ◌&&◌, ◌+◌, ◌<◌, ◌∙◌, ◌≡◌, ◌≤◌, ◌⊎◌}
 use Rattle.std.specs.Prelude.{Option, Some, if◌then◌else◌, nat_lt, slice_index, ◌==◌}
 use Rattle.afr_moves.specs.Rules as weak
-use Rattle.afr_moves.specs.Rules.{Register, CoversAll, some_read}
-use Rattle.afr_moves.specs.Cells.{Cell, Byte, Attr, Entry, is_cell, object_of, kind_of}
+use Rattle.afr_moves.specs.Rules.{CoversAll, Register, some_read}
+use Rattle.afr_moves.specs.Cells.{Attr, Byte, Cell, Entry, is_cell, kind_of, object_of}
 use Rattle.afr_law.proofs.Heals.MendsAlong.{Wide}
 use Rattle.afr_law.proofs.Heals.Mended.{Mended, Brought}
 use Rattle.afr_law.proofs.Heals.Moves.{tally_here, first_view, whole_covers}
@@ -65,27 +65,27 @@ one_of : (x : Bool) → (if x then 1 else 0) ≡ weak.one_if x
 one_of true = refl
 one_of false = refl
 
-holds_settle : (r : Exact) (b : ℕ) (kind : Kind) (phase : Phase) → settles_at r kind phase b ≡ true → holder r.first_views b ≡ true
+holds_settle : (r : Exact) (b : ℕ) (kind : Kind) (part : HealPart) → settles_at r kind part b ≡ true → holder r.first_views b ≡ true
 holds_settle r b Bytes Finish e = e
-holds_settle r b Attrs phase e = e
-holds_settle r b Names phase e = e
+holds_settle r b Attrs part e = e
+holds_settle r b Names part e = e
 holds_settle r b Bytes Opening e = absurd (true≢false (sym e))
 holds_settle r b Bytes Piece e = absurd (true≢false (sym e))
 
 -- the last part is of the whole
-last_area : (g : ℕ) (kind : Kind) (upto : ℕ) (phase : Phase) → ((phase ≡ Opening → ⊥) → kind ≡ Bytes) → is_last kind phase ≡ true → part_area g kind upto phase ≡ whole_area g kind
+last_area : (g : ℕ) (kind : Kind) (upto : ℕ) (part : HealPart) → ((part ≡ Opening → ⊥) → kind ≡ Bytes) → is_last kind part ≡ true → part_area g kind upto part ≡ whole_area g kind
 last_area g kind upto Opening bytes e = refl
 last_area g kind upto Finish bytes e = refl
 last_area g Bytes upto Piece bytes e = absurd (true≢false (sym e))
 last_area g Attrs upto Piece bytes e = absurd (cc (bytes (λ k. cc k)))
 last_area g Names upto Piece bytes e = absurd (cc (bytes (λ k. cc k)))
 
-last_finish : (kind : Kind) (phase : Phase) → is_last kind phase ≡ true → Bytes ≡ kind → phase ≡ Finish
+last_finish : (kind : Kind) (part : HealPart) → is_last kind part ≡ true → Bytes ≡ kind → part ≡ Finish
 last_finish Bytes Finish e c = refl
 last_finish Bytes Opening e c = absurd (true≢false (sym e))
 last_finish Bytes Piece e c = absurd (true≢false (sym e))
-last_finish Attrs phase e c = absurd (cc c)
-last_finish Names phase e c = absurd (cc c)
+last_finish Attrs part e c = absurd (cc c)
+last_finish Names part e c = absurd (cc c)
 
 module _ (n : ℕ) (keeps : ℕ → Kind → Bool) (log : Log) (honest : Honestly log) (wide : Wide log) (moves : MovesExactly n keeps log) (t a b : ℕ) (below : b < n) where
   abbrev pub here : Exact
@@ -104,14 +104,14 @@ module _ (n : ℕ) (keeps : ℕ → Kind → Bool) (log : Log) (honest : Honestl
     far : 7 ≤ rank here.step
     far = onward_far n keeps here m.source g here.law.kind onwards
 
-    set : settles_at here here.law.kind here.phase b ≡ true
+    set : settles_at here here.law.kind here.part b ≡ true
     set = turn_in n keeps here m.source Settles b turns
 
     holds : holder here.first_views b ≡ true
-    holds = holds_settle here b here.law.kind here.phase set
+    holds = holds_settle here b here.law.kind here.part set
 
-    last : is_last here.law.kind here.phase ≡ true
-    last = settles_last here here.law.kind here.phase b set
+    last : is_last here.law.kind here.part ≡ true
+    last = settles_last here here.law.kind here.part b set
 
     areas : AreasIn here here.law
     areas = areas_now n keeps log moves t a m.inside m.whole
@@ -123,7 +123,7 @@ module _ (n : ℕ) (keeps : ℕ → Kind → Bool) (log : Log) (honest : Honestl
     source_holds = and_from _ _ m.possible m.allowed
 
     -- what is mended where the settling begins
-    done : Mended n keeps Settles here.phase here.law.kind (asked_in here Settles) (λ s. here.possible s && may_heal n keeps here s b (settle_on g here.law.kind less)) here.first_views here.reads here.upto here.law.object here.law.number here.law.mended (tally_at log t a)
+    done : Mended n keeps Settles here.part here.law.kind (asked_in here Settles) (λ s. here.possible s && may_heal n keeps here s b (settle_on g here.law.kind less)) here.first_views here.reads here.upto here.law.object here.law.number here.law.mended (tally_at log t a)
     done = mended_asked n keeps t b here (tally_at log t a) here.law.number refl (λ f. numbers_now n keeps log wide moves t a m.inside m.whole f) (stage_now n keeps log moves t a) m.inside areas (mended_now n keeps log wide moves t a m.inside m.whole)
         (settle_on g here.law.kind less) Granted m.source m.allowed m.possible refl (λ rep e. absurd (cc e))
 
@@ -136,10 +136,10 @@ module _ (n : ℕ) (keeps : ℕ → Kind → Bool) (log : Log) (honest : Honestl
         (λ s p. (and_left _ _ p, mends_pres n keeps here s (settle_mends n keeps here s b g here.law.kind less (and_right (here.possible s) (may_heal n keeps here s b (settle_on g here.law.kind less)) p))))).all_raised
         (inr (omega arith)) m.source x source_holds low_x q
 
-    all_brought : (cell : Cell) → kind_of cell ≡ here.law.kind → Brought Settles here.phase here.upto (len_of (here.first_views m.source)) cell
+    all_brought : (cell : Cell) → kind_of cell ≡ here.law.kind → Brought Settles here.part here.upto (len_of (here.first_views m.source)) cell
     all_brought (Byte o i) c = elim (cases_lt i (len_of (here.first_views m.source))) [
       | inr high ↦ inl (inr (omega arith), high)
-      | inl under ↦ inr (let up = done.finished (last_finish here.law.kind here.phase last c) m.source source_holds in omega (arith, up, under))
+      | inl under ↦ inr (let up = done.finished (last_finish here.law.kind here.part last c) m.source source_holds in omega (arith, up, under))
     ]
     all_brought (Attr o i) c = omega arith
     all_brought (Entry o i) c = omega arith
@@ -196,7 +196,7 @@ module _ (n : ℕ) (keeps : ℕ → Kind → Bool) (log : Log) (honest : Honestl
           open_still = i.open_still far low b;
           object_same = object;
           kind_same = refl;
-          whole = subst (λ (area : Option Area). CoversAll area g here.law.kind) (sym (areas.here (inr far) low ∙ ap Some (last_area here.law.object here.law.kind here.upto here.phase areas.bytes last)))
+          whole = subst (λ (area : Option Area). CoversAll area g here.law.kind) (sym (areas.here (inr far) low ∙ ap Some (last_area here.law.object here.law.kind here.upto here.part areas.bytes last)))
               (subst (λ o. CoversAll (Some (whole_area o here.law.kind)) g here.law.kind) object (whole_covers g here.law.kind));
           healing = k.reached (omega (arith, low)) b below (f.0.reached b holds);
           once = unsettled (bool_or (here.law.settled b));

@@ -5,8 +5,8 @@ use Rattle.afr_base.specs.declared.ids.Kind.TheVariants.{Attrs, Bytes, Names}
 use Rattle.afr_law.proofs.Discipline.AskFields.{WorkLocked, frees_heal, frees_work, heal_locked, work_locked}
 use Rattle.afr_moves.specs.Discipline.{MovesExactly, note, present}
 use Rattle.afr_moves.specs.Heal.{MayHealBegin}
-use Rattle.afr_moves.specs.Note.{breaks, fails, left_in_heal, next_phase, put}
-use Rattle.afr_moves.specs.Register.{Exact, Finish, HealLocks, HealPres, HealUnlocks, Looks, Mends, Opening, Phase, Piece, Reads, Settles, Step, Unlocks, WorkLocks, asked_in, holder, is_opening, rank, untouched, whole_area}
+use Rattle.afr_moves.specs.Note.{breaks, fails, left_in_heal, next_part, put}
+use Rattle.afr_moves.specs.Register.{Exact, Finish, HealLocks, HealPart, HealPres, HealUnlocks, Looks, Mends, Opening, Piece, Reads, Settles, Step, Unlocks, WorkLocks, asked_in, holder, is_opening, rank, untouched, whole_area}
 use Rattle.afr_moves.specs.Steps.{goes_on, looks_at, looks_over, may_heal, onward}
 use Rattle.afr_law.proofs.Discipline.Firsts.{FirstsOf, firsts_now}
 use Rattle.afr_law.proofs.Heals.Along.{healing_now, opened_by}
@@ -34,7 +34,7 @@ use Rattle.afr_lines.specs.declared.lock.Domain.TheVariants.{Heal, Work}
 use Rattle.std.proofs.Common.{Bool, ap, arith, false, inl, inr, not, refl, subst, suc, sym, true, true≢false, ℕ, ◌&&◌, ◌<◌, ◌∙◌, ◌≡◌, ◌≤◌, ◌⊎◌}
 use Rattle.std.specs.Prelude.{None, Option, Some, if◌then◌else◌, ◌==◌}
 use Rattle.afr_moves.specs.Rules as weak
-use Rattle.afr_moves.specs.Rules.{Register, is_none, heal_area}
+use Rattle.afr_moves.specs.Rules.{Register, heal_area, is_none}
 use Rattle.std.proofs.lemmas.Bool.{eqb-true, eq-eqb, and_from}
 use Rattle.afr_moves.proofs.Tests.{with_false, some_number, with_cases, next_not_opening}
 use Rattle.afr_base.specs.Bricks.{and_right}
@@ -42,13 +42,13 @@ use Rattle.afr_base.specs.Bricks.{and_right}
 six_true : (u v w x y z : Bool) → u ≡ true → v ≡ true → w ≡ true → x ≡ true → y ≡ true → z ≡ true → (u && v && w && x && y && z) ≡ true
 six_true u v w x y z a b c d e f = grind arith
 
-pub not_opening : (p : Phase) → (p ≡ Opening → ⊥) → is_opening p ≡ false
+pub not_opening : (p : HealPart) → (p ≡ Opening → ⊥) → is_opening p ≡ false
 not_opening Opening k = absurd (k refl)
 not_opening Piece k = refl
 not_opening Finish k = refl
 
 module _ (n : ℕ) (keeps : ℕ → Kind → Bool) (log : Log) (honest : Honestly log) (t a b : ℕ) (r : Exact) (below : b < n) (inside : r.law.heal ≡ true)
-    (s : StageOf r) (f : FirstsOf r) (i : Inner n r.step r.phase r.asked r.first_reached r.law.number r.law.held r.law.seen r.law.closed) (k : HoldsIn n r r.law) (h : SightsIn n log t a r r.law) where
+    (s : StageOf r) (f : FirstsOf r) (i : Inner n r.step r.part r.asked r.first_reached r.law.number r.law.held r.law.seen r.law.closed) (k : HoldsIn n r r.law) (h : SightsIn n log t a r r.law) where
   abbrev pub SightsAfter : Request → Told → Type 0
   SightsAfter request told = SightsIn n log (suc t) a (left_in_heal n r t b request told) (weak.dropping (is_gone told) b (weak.note_ask n r.law b request told))
 
@@ -57,16 +57,16 @@ module _ (n : ℕ) (keeps : ℕ → Kind → Bool) (log : Log) (honest : Honestl
     seven : rank r.step ≡ 7
     seven = look_step n keeps r source b g may
 
-    looks : looks_at r r.phase b ≡ true
+    looks : looks_at r r.part b ≡ true
     looks = turn_in n keeps r source Looks b (look_turn n keeps r source b g may)
 
     is_locked : (r.law.seen b ≡ true) × (r.law.healing b ≡ true)
-    is_locked = go r.phase looks
+    is_locked = go r.part looks
       where
         reached : r.first_reached b ≡ true → (r.law.seen b ≡ true) × (r.law.healing b ≡ true)
         reached e = (i.under (omega (arith, seven)) (omega (arith, seven)) b below e, k.reached (omega (arith, seven)) b below e)
 
-        go : (p : Phase) → looks_at r p b ≡ true → (r.law.seen b ≡ true) × (r.law.healing b ≡ true)
+        go : (p : HealPart) → looks_at r p b ≡ true → (r.law.seen b ≡ true) × (r.law.healing b ≡ true)
         go Opening e = (i.within (omega (arith, seven)) (omega (arith, seven)) b e, k.within (omega (arith, seven)) b below e)
         go Piece e = reached e
         go Finish e = reached e
@@ -102,7 +102,7 @@ module _ (n : ℕ) (keeps : ℕ → Kind → Bool) (log : Log) (honest : Honestl
     saw_first view = if (r.law.number == r.law.start) && is_none (r.law.first b) then put r.law.first b (Some view) else r.law.first
 
     abbrev pub ShownAs : View → (ℕ → Bool) → (ℕ → Option View) → (ℕ → Option View) → Type 0
-    ShownAs view asks first_views first = Sights n log (suc t) a Looks r.phase asks r.law.object r.law.number r.law.start (put r.views b (Some view)) first_views (put r.law.view b (Some view)) first
+    ShownAs view asks first_views first = Sights n log (suc t) a Looks r.part asks r.law.object r.law.number r.law.start (put r.views b (Some view)) first_views (put r.law.view b (Some view)) first
 
     kept : (view : View) (x : ℕ) (v : View) → r.law.first x ≡ Some v → saw_first view x ≡ Some v
     kept view x v e = go ((r.law.number == r.law.start) && is_none (r.law.first b)) refl
@@ -114,36 +114,36 @@ module _ (n : ℕ) (keeps : ℕ → Kind → Bool) (log : Log) (honest : Honestl
           | inr other ↦ put_other r.law.first b x (Some view) other ∙ e
         ]
 
-    shown_as : (view : View) (took : Bool) → log t ≡ Some (ask_by a b (look_at g) (Seen view) took) → (r.phase ≡ Opening) ⊎ (r.phase ≡ Opening → ⊥)
-        → ShownAs view (with (asked_in r Looks) b) (if is_opening r.phase then put r.first_views b (Some view) else r.first_views) (saw_first view)
+    shown_as : (view : View) (took : Bool) → log t ≡ Some (ask_by a b (look_at g) (Seen view) took) → (r.part ≡ Opening) ⊎ (r.part ≡ Opening → ⊥)
+        → ShownAs view (with (asked_in r Looks) b) (if is_opening r.part then put r.first_views b (Some view) else r.first_views) (saw_first view)
     shown_as view took is (inl e) = (
         let fresh : ((r.law.number == r.law.start) && is_none (r.law.first b)) ≡ true = and_from _ _ (eq-eqb r.law.number r.law.start (h.started e (omega (arith, seven)))) (ap is_none (h.untaken e at b unasked)) in
-        subst (λ (x : ℕ → Bool). ShownAs view (with x b) (if is_opening r.phase then put r.first_views b (Some view) else r.first_views) (saw_first view)) (sym (asked_now r Looks at))
-        (subst (λ (p : Phase). ShownAs view (with r.asked b) (if is_opening p then put r.first_views b (Some view) else r.first_views) (saw_first view)) (sym e)
+        subst (λ (x : ℕ → Bool). ShownAs view (with x b) (if is_opening r.part then put r.first_views b (Some view) else r.first_views) (saw_first view)) (sym (asked_now r Looks at))
+        (subst (λ (p : HealPart). ShownAs view (with r.asked b) (if is_opening p then put r.first_views b (Some view) else r.first_views) (saw_first view)) (sym e)
         (subst (λ (x : Bool). ShownAs view (with r.asked b) (put r.first_views b (Some view)) (if x then put r.law.first b (Some view) else r.law.first)) (sym fresh) (opening_seen n keeps log t a b r at h e view (line_seen view took is))))
         )
     shown_as view took is (inr later) =
-        subst (λ (x : ℕ → Bool). ShownAs view (with x b) (if is_opening r.phase then put r.first_views b (Some view) else r.first_views) (saw_first view)) (sym (asked_now r Looks at))
-        (subst (λ (c : Bool). ShownAs view (with r.asked b) (if c then put r.first_views b (Some view) else r.first_views) (saw_first view)) (sym (not_opening r.phase later)) (later_seen n keeps log t a b r at h later view (saw_first view) (kept view)))
+        subst (λ (x : ℕ → Bool). ShownAs view (with x b) (if is_opening r.part then put r.first_views b (Some view) else r.first_views) (saw_first view)) (sym (asked_now r Looks at))
+        (subst (λ (c : Bool). ShownAs view (with r.asked b) (if c then put r.first_views b (Some view) else r.first_views) (saw_first view)) (sym (not_opening r.part later)) (later_seen n keeps log t a b r at h later view (saw_first view) (kept view)))
 
     seen : (view : View) (took : Bool) → log t ≡ Some (ask_by a b (look_at g) (Seen view) took) → SightsAfter (look_at g) (Seen view)
-    seen view took is = subst (λ (w : Register). Sights n log (suc t) a Looks r.phase (with (asked_in r Looks) b) w.object w.number w.start (put r.views b (Some view)) (if is_opening r.phase then put r.first_views b (Some view) else r.first_views) w.view w.first)
-        (sym (views_law view)) (shown_as view took is (opening_or r.phase))
+    seen view took is = subst (λ (w : Register). Sights n log (suc t) a Looks r.part (with (asked_in r Looks) b) w.object w.number w.start (put r.views b (Some view)) (if is_opening r.part then put r.first_views b (Some view) else r.first_views) w.view w.first)
+        (sym (views_law view)) (shown_as view took is (opening_or r.part))
 
     abbrev pub NotShown : (ℕ → Bool) → (ℕ → Option View) → Type 0
-    NotShown asks first_views = Sights n log (suc t) a Looks r.phase asks r.law.object r.law.number r.law.start (put r.views b None) first_views r.law.view r.law.first
+    NotShown asks first_views = Sights n log (suc t) a Looks r.part asks r.law.object r.law.number r.law.start (put r.views b None) first_views r.law.view r.law.first
 
     -- a look that showed none
     unseen : (told : Told) (took : Bool) (asks : ℕ → Bool) → log t ≡ Some (ask_by a b (look_at g) told took) → breaks r (look_at g) told ≡ false → ((view : View) → told ≡ Seen view → ⊥)
         → ((x : ℕ) → asks x ≡ false → r.asked x ≡ false) → ((x : ℕ) → (x ≡ b → ⊥) → asks x ≡ true → r.asked x ≡ true)
-        → Sights n log (suc t) a Looks r.phase asks r.law.object r.law.number r.law.start (put r.views b None) (if is_opening r.phase then put r.first_views b None else r.first_views) r.law.view r.law.first
-    unseen told took asks is un none more less = pick (opening_or r.phase)
+        → Sights n log (suc t) a Looks r.part asks r.law.object r.law.number r.law.start (put r.views b None) (if is_opening r.part then put r.first_views b None else r.first_views) r.law.view r.law.first
+    unseen told took asks is un none more less = pick (opening_or r.part)
       where
-        gone : (r.phase ≡ Opening → ⊥) → holder r.first_views b ≡ true → ⊥
+        gone : (r.part ≡ Opening → ⊥) → holder r.first_views b ≡ true → ⊥
         gone later holds = (
             let v = held_view r.first_views b holds in
             let o = h.origin b v.0 v.1 in
-            let ok : fails told ≡ false = half (fails told) (not (is_opening r.phase)) un (ap not (not_opening r.phase later)) in
+            let ok : fails told ≡ false = half (fails told) (not (is_opening r.part)) un (ap not (not_opening r.part later)) in
             let again = honest.again o.l t a b r.law.object o.view told took o.past o.is (is ∙ (λ j. Some (ask_by a b (look_at (object_is j)) told took))) ok in
             none again.0 again.1
             )
@@ -151,9 +151,9 @@ module _ (n : ℕ) (keeps : ℕ → Kind → Bool) (log : Log) (honest : Honestl
             half : (x y : Bool) → (x && y) ≡ false → y ≡ true → x ≡ false
             half x y p q = grind arith
 
-        pick : (r.phase ≡ Opening) ⊎ (r.phase ≡ Opening → ⊥) → NotShown asks (if is_opening r.phase then put r.first_views b None else r.first_views)
-        pick (inl e) = subst (λ (p : Phase). NotShown asks (if is_opening p then put r.first_views b None else r.first_views)) (sym e) (opening_not n keeps log t a b r at h e asks more)
-        pick (inr later) = subst (λ (c : Bool). NotShown asks (if c then put r.first_views b None else r.first_views)) (sym (not_opening r.phase later)) (later_not n keeps log t a b r at h later asks less (gone later))
+        pick : (r.part ≡ Opening) ⊎ (r.part ≡ Opening → ⊥) → NotShown asks (if is_opening r.part then put r.first_views b None else r.first_views)
+        pick (inl e) = subst (λ (p : HealPart). NotShown asks (if is_opening p then put r.first_views b None else r.first_views)) (sym e) (opening_not n keeps log t a b r at h e asks more)
+        pick (inr later) = subst (λ (c : Bool). NotShown asks (if c then put r.first_views b None else r.first_views)) (sym (not_opening r.part later)) (later_not n keeps log t a b r at h later asks less (gone later))
 
     -- the bricks that were asked in this step
     grown : (x : ℕ) → with (asked_in r Looks) b x ≡ false → r.asked x ≡ false
@@ -179,9 +179,9 @@ module _ (n : ℕ) (keeps : ℕ → Kind → Bool) (log : Log) (honest : Honestl
     look_sights Given took is un = unseen Given took (asked_in r Looks) is un (λ v e. cc e) stayed held_back
 
   -- a step before the looks
-  before_looks : (next : Step) (phase : Phase) (asks : ℕ → Bool) (w : Register) → rank next ≤ 6 → w.object ≡ r.law.object → w.first ≡ r.law.first → (phase ≡ Opening → (r.phase ≡ Opening) × (rank r.step ≤ 6))
-      → ((phase ≡ Opening → ⊥) → is_most n (holder r.first_views) ≡ true) → Sights n log (suc t) a next phase asks w.object w.number w.start r.views r.first_views w.view w.first
-  before_looks next phase asks w low object first early most = record {
+  before_looks : (next : Step) (part : HealPart) (asks : ℕ → Bool) (w : Register) → rank next ≤ 6 → w.object ≡ r.law.object → w.first ≡ r.law.first → (part ≡ Opening → (r.part ≡ Opening) × (rank r.step ≤ 6))
+      → ((part ≡ Opening → ⊥) → is_most n (holder r.first_views) ≡ true) → Sights n log (suc t) a next part asks w.object w.number w.start r.views r.first_views w.view w.first
+  before_looks next part asks w low object first early most = record {
     started = λ e far. absurd (omega (arith, far, low));
     none = λ e m x. ap (λ (c : ℕ → Option View). c x) first ∙ h.none (early e).0 (early e).1 x;
     untaken = λ e at. absurd (no_looks (ap rank at));
@@ -203,14 +203,14 @@ module _ (n : ℕ) (keeps : ℕ → Kind → Bool) (log : Log) (honest : Honestl
       w : WorkLocked n r.law (weak.dropping (is_gone told) b (weak.note_ask n r.law b (Lock Work area) told)) b area (is_gone told)
       w = work_locked n r.law b area told
 
-      stays : rank r.step ≤ 6 → next_phase r area ≡ r.phase → SightsAfter (Lock Work area) told
-      stays low same = before_looks WorkLocks (next_phase r area) (left_in_heal n r t b (Lock Work area) told).asked (weak.dropping (is_gone told) b (weak.note_ask n r.law b (Lock Work area) told)) (omega arith) w.object w.rest.first
+      stays : rank r.step ≤ 6 → next_part r area ≡ r.part → SightsAfter (Lock Work area) told
+      stays low same = before_looks WorkLocks (next_part r area) (left_in_heal n r t b (Lock Work area) told).asked (weak.dropping (is_gone told) b (weak.note_ask n r.law b (Lock Work area) told)) (omega arith) w.object w.rest.first
           (λ k. (sym same ∙ k, low)) (λ later. h.enough (inl (λ k. later (same ∙ k))))
 
       go : WorkPlace n keeps r source b area → SightsAfter (Lock Work area) told
       go (Waits at same own lock fresh) = (let six : rank r.step ≡ 6 = ap rank at in stays (omega (arith, six)) same)
       go (Starts five same lock) = stays (omega (arith, five)) same
-      go (Resumes twelve same idle bytes unfinished lock chosen) = before_looks WorkLocks (next_phase r area) (left_in_heal n r t b (Lock Work area) told).asked (weak.dropping (is_gone told) b (weak.note_ask n r.law b (Lock Work area) told)) (omega arith) w.object w.rest.first
+      go (Resumes twelve same idle bytes unfinished lock chosen) = before_looks WorkLocks (next_part r area) (left_in_heal n r t b (Lock Work area) told).asked (weak.dropping (is_gone told) b (weak.note_ask n r.law b (Lock Work area) told)) (omega arith) w.object w.rest.first
           (λ k. absurd (next_not_opening (same_area (whole_area r.law.object Bytes) area) (sym same ∙ k))) (λ k. h.enough (inr (omega (arith, twelve))))
 
   lock_sights : (area : Area) (told : Told) (source : ℕ) → may_heal n keeps r source b (Lock Heal area) ≡ true → SightsAfter (Lock Heal area) told
@@ -219,18 +219,18 @@ module _ (n : ℕ) (keeps : ℕ → Kind → Bool) (log : Log) (honest : Honestl
       let first = (s.early inside (omega (arith, five))).0 in
       let w = heal_locked n r.law b area told in
       let object : weak.area_object area ≡ r.law.object = ap weak.area_object (sym (same_area_is (heal_area r.law.object) area (heal_lock_area n keeps r source b area e))) in
-      before_looks HealLocks r.phase (with (asked_in r HealLocks) b) (weak.dropping (is_gone told) b (weak.note_ask n r.law b (Lock Heal area) told)) (omega arith) (w.object ∙ object) w.rest.first (λ k. (first, omega (arith, five))) (λ later. absurd (later first))
+      before_looks HealLocks r.part (with (asked_in r HealLocks) b) (weak.dropping (is_gone told) b (weak.note_ask n r.law b (Lock Heal area) told)) (omega arith) (w.object ∙ object) w.rest.first (λ k. (first, omega (arith, five))) (λ later. absurd (later first))
       )
 
   reading_sights : (source : ℕ) (asks : ℕ → Bool) (told : Told) → fails told ≡ false → goes_on n keeps r source ≡ true → looks_over n keeps r source ≡ true → rank r.step ≤ 8
-      → Sights n log (suc t) a Reads r.phase asks (weak.dropping (is_gone told) b r.law).object (weak.dropping (is_gone told) b r.law).number (weak.dropping (is_gone told) b r.law).start r.views r.first_views (weak.dropping (is_gone told) b r.law).view (weak.dropping (is_gone told) b r.law).first
-  reading_sights source asks told ok goes looks low = subst (λ (w : Register). Sights n log (suc t) a Reads r.phase asks w.object w.number w.start r.views r.first_views w.view w.first) (sym (kept_law (is_gone told) b r.law (fails_gone told ok)))
+      → Sights n log (suc t) a Reads r.part asks (weak.dropping (is_gone told) b r.law).object (weak.dropping (is_gone told) b r.law).number (weak.dropping (is_gone told) b r.law).start r.views r.first_views (weak.dropping (is_gone told) b r.law).view (weak.dropping (is_gone told) b r.law).first
+  reading_sights source asks told ok goes looks low = subst (λ (w : Register). Sights n log (suc t) a Reads r.part asks w.object w.number w.start r.views r.first_views w.view w.first) (sym (kept_law (is_gone told) b r.law (fails_gone told ok)))
       (after_looks n keeps log t a r f h source Reads asks r.law (omega arith) goes looks (λ k. omega (arith, low)) refl refl refl refl refl)
 
   -- changing requests
   changes_sights : (source : ℕ) (next : Step) (asks : ℕ → Bool) (w : Register) → 8 ≤ rank next → rank r.step ≤ 11 → goes_on n keeps r source ≡ true → looks_over n keeps r source ≡ true
       → w.object ≡ r.law.object → w.number ≡ r.law.number → w.start ≡ r.law.start → w.view ≡ r.law.view → w.first ≡ r.law.first
-      → Sights n log (suc t) a next r.phase asks w.object w.number w.start r.views r.first_views w.view w.first
+      → Sights n log (suc t) a next r.part asks w.object w.number w.start r.views r.first_views w.view w.first
   changes_sights source next asks w late low goes looks = after_looks n keeps log t a r f h source next asks w late goes looks (λ k. low)
 
   pub sights_asked : (request : Request) (told : Told) (took : Bool) (source : ℕ) → log t ≡ Some (ask_by a b request told took) → may_heal n keeps r source b request ≡ true → breaks r request told ≡ false → SightsAfter request told
@@ -286,7 +286,7 @@ module _ (n : ℕ) (keeps : ℕ → Kind → Bool) (log : Log) (honest : Honestl
       let k = (frees_work n r.law b area told).0 in
       let w = weak.note_ask n r.law b (Unlock Work area) told in
       let l = left_in_heal n r t b (Unlock Work area) told in
-      subst (λ (w : Register). Sights n log (suc t) a Unlocks r.phase l.asked w.object w.number w.start r.views r.first_views w.view w.first) (sym (kept_law (is_gone told) b w un))
+      subst (λ (w : Register). Sights n log (suc t) a Unlocks r.part l.asked w.object w.number w.start r.views r.first_views w.view w.first) (sym (kept_law (is_gone told) b w un))
       (after_looks n keeps log t a r f h source Unlocks l.asked w (omega arith) (unlock_goes n keeps r source b area e) (pres_looks n keeps r source (mends_pres n keeps r source (settles_mends n keeps r source (unlock_over n keeps r source b area e)))) (λ m. absurd (omega (arith, m)))
       k.object k.number k.rest.start k.view k.rest.first)
       )
@@ -294,7 +294,7 @@ module _ (n : ℕ) (keeps : ℕ → Kind → Bool) (log : Log) (honest : Honestl
       let k = frees_heal n r.law b area told in
       let w = weak.note_ask n r.law b (Unlock Heal area) told in
       let l = left_in_heal n r t b (Unlock Heal area) told in
-      subst (λ (w : Register). Sights n log (suc t) a HealUnlocks r.phase l.asked w.object w.number w.start r.views r.first_views w.view w.first) (sym (kept_law (is_gone told) b w un))
+      subst (λ (w : Register). Sights n log (suc t) a HealUnlocks r.part l.asked w.object w.number w.start r.views r.first_views w.view w.first) (sym (kept_law (is_gone told) b w un))
       (after_looks n keeps log t a r f h source HealUnlocks l.asked w (omega arith) (heal_unlock_goes n keeps r source b area e) (pres_looks n keeps r source (mends_pres n keeps r source (settles_mends n keeps r source (heal_unlock_over n keeps r source b area e)))) (λ m. absurd (omega (arith, m)))
       k.object k.number k.rest.start k.view k.rest.first)
       )
@@ -339,7 +339,7 @@ module _ (n : ℕ) (keeps : ℕ → Kind → Bool) (log : Log) (honest : Honestl
       six : rank r.step ≤ 6
       six = (let k : rank r.step ≡ 6 = ap rank may.step in omega (arith, k))
 
-      unseen : r.phase ≡ Opening → (x : ℕ) (is : Bool) → holder r.first_views x ≡ is → holder r.first_views x ≡ false
+      unseen : r.part ≡ Opening → (x : ℕ) (is : Bool) → holder r.first_views x ≡ is → holder r.first_views x ≡ false
       unseen e x true m = absurd (true≢false (sym (f.reached x m) ∙ f.early may.inside six e x))
       unseen e x false m = m
 

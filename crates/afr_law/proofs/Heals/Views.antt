@@ -3,7 +3,7 @@ use Rattle.afr_base.specs.Majority.{is_most}
 use Rattle.afr_base.specs.declared.ids.Kind.{Kind}
 use Rattle.afr_law.proofs.Discipline.Clear.{put_cases}
 use Rattle.afr_moves.specs.Note.{put}
-use Rattle.afr_moves.specs.Register.{Exact, Finish, Looks, Opening, Phase, Piece, Step, asked_in, holder, rank}
+use Rattle.afr_moves.specs.Register.{Exact, Finish, HealPart, Looks, Opening, Piece, Step, asked_in, holder, rank}
 use Rattle.afr_moves.specs.Steps.{goes_on, looks_at, looks_over, other}
 use Rattle.afr_law.proofs.Discipline.Firsts.{FirstsOf}
 use Rattle.afr_law.proofs.Heals.Areas.{opening_or}
@@ -28,21 +28,21 @@ pub record SeenAt (log : Log) (t a x object : ℕ) : Type 0 where
   pub is : log l ≡ Some (ask_by a x (look_at object) (Seen view) true)
 
 -- the views are those that the law has, at first and at present, and a copy that was seen is seen again
-pub record Sights (n : ℕ) (log : Log) (t a : ℕ) (step : Step) (phase : Phase) (asked : ℕ → Bool) (object number start : ℕ) (views first_views saw saw_first : ℕ → Option View) : Type 0 where
-  pub started : phase ≡ Opening → 7 ≤ rank step → number ≡ start
-  pub none : phase ≡ Opening → rank step ≤ 6 → (x : ℕ) → saw_first x ≡ None
-  pub untaken : phase ≡ Opening → step ≡ Looks → (x : ℕ) → asked x ≡ false → saw_first x ≡ None
+pub record Sights (n : ℕ) (log : Log) (t a : ℕ) (step : Step) (part : HealPart) (asked : ℕ → Bool) (object number start : ℕ) (views first_views saw saw_first : ℕ → Option View) : Type 0 where
+  pub started : part ≡ Opening → 7 ≤ rank step → number ≡ start
+  pub none : part ≡ Opening → rank step ≤ 6 → (x : ℕ) → saw_first x ≡ None
+  pub untaken : part ≡ Opening → step ≡ Looks → (x : ℕ) → asked x ≡ false → saw_first x ≡ None
   pub first : (x : ℕ) (v : View) → first_views x ≡ Some v → saw_first x ≡ Some v
   pub view : 7 ≤ rank step → rank step ≤ 11 → (x : ℕ) (v : View) → views x ≡ Some v → saw x ≡ Some v
-  pub same : phase ≡ Opening → 7 ≤ rank step → rank step ≤ 11 → (x : ℕ) → first_views x ≡ views x
+  pub same : part ≡ Opening → 7 ≤ rank step → rank step ≤ 11 → (x : ℕ) → first_views x ≡ views x
   pub origin : (x : ℕ) (v : View) → first_views x ≡ Some v → SeenAt log t a x object
-  pub again : (phase ≡ Opening → ⊥) → step ≡ Looks → (x : ℕ) → asked x ≡ true → holder first_views x ≡ true → holder views x ≡ true
-  pub still : (phase ≡ Opening → ⊥) → 8 ≤ rank step → rank step ≤ 11 → (x : ℕ) → x < n → holder first_views x ≡ true → holder views x ≡ true
-  pub enough : (phase ≡ Opening → ⊥) ⊎ (8 ≤ rank step) → is_most n (holder first_views) ≡ true
+  pub again : (part ≡ Opening → ⊥) → step ≡ Looks → (x : ℕ) → asked x ≡ true → holder first_views x ≡ true → holder views x ≡ true
+  pub still : (part ≡ Opening → ⊥) → 8 ≤ rank step → rank step ≤ 11 → (x : ℕ) → x < n → holder first_views x ≡ true → holder views x ≡ true
+  pub enough : (part ≡ Opening → ⊥) ⊎ (8 ≤ rank step) → is_most n (holder first_views) ≡ true
 
 -- the same of a register
 abbrev pub SightsIn : ℕ → Log → ℕ → ℕ → Exact → Register → Type 0
-SightsIn n log t a r w = Sights n log t a r.step r.phase r.asked w.object w.number w.start r.views r.first_views w.view w.first
+SightsIn n log t a r w = Sights n log t a r.step r.part r.asked w.object w.number w.start r.views r.first_views w.view w.first
 
 pub seen_next : (log : Log) (t a x object : ℕ) → SeenAt log t a x object → SeenAt log (suc t) a x object
 seen_next log t a x object w = record { l = w.l; view = w.view; past = omega (arith, w.past); is = w.is }
@@ -74,7 +74,7 @@ module _ (n : ℕ) (keeps : ℕ → Kind → Bool) (log : Log) (t a : ℕ) (r : 
   -- a step after the looks, which are over
   pub after_looks : (source : ℕ) (next : Step) (asks : ℕ → Bool) (w : Register) → 8 ≤ rank next → goes_on n keeps r source ≡ true → looks_over n keeps r source ≡ true → (rank next ≤ 11 → rank r.step ≤ 11)
       → w.object ≡ r.law.object → w.number ≡ r.law.number → w.start ≡ r.law.start → w.view ≡ r.law.view → w.first ≡ r.law.first
-      → Sights n log (suc t) a next r.phase asks w.object w.number w.start r.views r.first_views w.view w.first
+      → Sights n log (suc t) a next r.part asks w.object w.number w.start r.views r.first_views w.view w.first
   after_looks source next asks w far goes over_now low object number start saw first = record {
     started = λ e k. number ∙ h.started e was_far ∙ sym start;
     none = λ e k. absurd (omega (arith, far, k));
@@ -85,7 +85,7 @@ module _ (n : ℕ) (keeps : ℕ → Kind → Bool) (log : Log) (t a : ℕ) (r : 
     origin = λ x v e. subst (λ g. SeenAt log (suc t) a x g) (sym object) (seen_next log t a x r.law.object (h.origin x v e));
     again = λ later k. absurd (not_looks (ap rank k));
     still = λ later k m x below e. seen_again later (low m) x below e;
-    enough = λ k. elim (opening_or r.phase) [ inl e ↦ goes_enough n keeps r source goes e | inr later ↦ h.enough (inl later) ];
+    enough = λ k. elim (opening_or r.part) [ inl e ↦ goes_enough n keeps r source goes e | inr later ↦ h.enough (inl later) ];
   }
     where
       was_far : 7 ≤ rank r.step
@@ -94,12 +94,12 @@ module _ (n : ℕ) (keeps : ℕ → Kind → Bool) (log : Log) (t a : ℕ) (r : 
       not_looks : rank next ≡ 7 → ⊥
       not_looks e = omega (arith, far, e)
 
-      later_set : (p : Phase) → (p ≡ Opening → ⊥) → looks_at r p ≡ r.first_reached
+      later_set : (p : HealPart) → (p ≡ Opening → ⊥) → looks_at r p ≡ r.first_reached
       later_set Opening k = absurd (k refl)
       later_set Piece k = refl
       later_set Finish k = refl
 
-      seen_again : (r.phase ≡ Opening → ⊥) → rank r.step ≤ 11 → (x : ℕ) → x < n → holder r.first_views x ≡ true → holder r.views x ≡ true
+      seen_again : (r.part ≡ Opening → ⊥) → rank r.step ≤ 11 → (x : ℕ) → x < n → holder r.first_views x ≡ true → holder r.views x ≡ true
       seen_again later under x below e = go (nat_le 8 (rank r.step)) refl
         where
           at_least : (m : ℕ) → nat_le 8 m ≡ true → 8 ≤ m
@@ -114,7 +114,7 @@ module _ (n : ℕ) (keeps : ℕ → Kind → Bool) (log : Log) (t a : ℕ) (r : 
               let seven : rank r.step ≤ 7 = at_most (rank r.step) k in
               let at : r.step ≡ Looks = looks_is r.step (omega (arith, seven, was_far)) in
               let all_asked = passed_over n keeps r source Looks (looks_passed n keeps r source over_now) seven in
-              h.again later at x (ap (λ (f : ℕ → Bool). f x) (sym (asked_now r Looks at)) ∙ over_at n (looks_at r r.phase) (asked_in r Looks) all_asked x below (ap (λ (f : ℕ → Bool). f x) (later_set r.phase later) ∙ f.reached x e)) e
+              h.again later at x (ap (λ (f : ℕ → Bool). f x) (sym (asked_now r Looks at)) ∙ over_at n (looks_at r r.part) (asked_in r Looks) all_asked x below (ap (λ (f : ℕ → Bool). f x) (later_set r.part later) ∙ f.reached x e)) e
               )
 
 put_map : (f g : ℕ → Option View) (b x : ℕ) (new : Option View) (v : View) → (f x ≡ Some v → g x ≡ Some v) → put f b new x ≡ Some v → put g b new x ≡ Some v
@@ -153,12 +153,12 @@ module _ (n : ℕ) (keeps : ℕ → Kind → Bool) (log : Log) (t a b : ℕ) (r 
   firstly view = record r.law { view = put r.law.view b (Some view); first = put r.law.first b (Some view) }
 
   abbrev pub Looked : (ℕ → Bool) → (ℕ → Option View) → (ℕ → Option View) → Register → Type 0
-  Looked asks views first_views w = Sights n log (suc t) a Looks r.phase asks w.object w.number w.start views first_views w.view w.first
+  Looked asks views first_views w = Sights n log (suc t) a Looks r.part asks w.object w.number w.start views first_views w.view w.first
 
   pub origin_next : (x : ℕ) (v : View) → r.first_views x ≡ Some v → SeenAt log (suc t) a x r.law.object
   origin_next x v e = seen_next log t a x r.law.object (h.origin x v e)
 
-  pub opening_seen : r.phase ≡ Opening → (view : View) → log t ≡ Some (ask_by a b (look_at r.law.object) (Seen view) true)
+  pub opening_seen : r.part ≡ Opening → (view : View) → log t ≡ Some (ask_by a b (look_at r.law.object) (Seen view) true)
       → Looked (with r.asked b) (put r.views b (Some view)) (put r.first_views b (Some view)) (firstly view)
   opening_seen e view is = record {
     started = λ k m. h.started e far;
@@ -176,7 +176,7 @@ module _ (n : ℕ) (keeps : ℕ → Kind → Bool) (log : Log) (t a b : ℕ) (r 
     enough = λ k. elim k [ inl later ↦ absurd (later e) | inr more ↦ absurd (omega (arith, more)) ];
   }
 
-  pub opening_not : r.phase ≡ Opening → (asks : ℕ → Bool) → ((x : ℕ) → asks x ≡ false → r.asked x ≡ false) → Looked asks (put r.views b None) (put r.first_views b None) r.law
+  pub opening_not : r.part ≡ Opening → (asks : ℕ → Bool) → ((x : ℕ) → asks x ≡ false → r.asked x ≡ false) → Looked asks (put r.views b None) (put r.first_views b None) r.law
   opening_not e asks more = record {
     started = λ k m. h.started e far;
     none = λ k m. absurd (omega (arith, m));
@@ -191,7 +191,7 @@ module _ (n : ℕ) (keeps : ℕ → Kind → Bool) (log : Log) (t a b : ℕ) (r 
   }
 
   -- later looks leave the first views
-  pub later_seen : (r.phase ≡ Opening → ⊥) → (view : View) (first : ℕ → Option View) → ((x : ℕ) (v : View) → r.law.first x ≡ Some v → first x ≡ Some v)
+  pub later_seen : (r.part ≡ Opening → ⊥) → (view : View) (first : ℕ → Option View) → ((x : ℕ) (v : View) → r.law.first x ≡ Some v → first x ≡ Some v)
       → Looked (with r.asked b) (put r.views b (Some view)) r.first_views (record r.law { view = put r.law.view b (Some view); first = first })
   later_seen later view first k = record {
     started = λ e. absurd (later e);
@@ -212,7 +212,7 @@ module _ (n : ℕ) (keeps : ℕ → Kind → Bool) (log : Log) (t a b : ℕ) (r 
     enough = λ m. h.enough (inl later);
   }
 
-  pub later_not : (r.phase ≡ Opening → ⊥) → (asks : ℕ → Bool) → ((x : ℕ) → (x ≡ b → ⊥) → asks x ≡ true → r.asked x ≡ true) → (holder r.first_views b ≡ true → ⊥) → Looked asks (put r.views b None) r.first_views r.law
+  pub later_not : (r.part ≡ Opening → ⊥) → (asks : ℕ → Bool) → ((x : ℕ) → (x ≡ b → ⊥) → asks x ≡ true → r.asked x ≡ true) → (holder r.first_views b ≡ true → ⊥) → Looked asks (put r.views b None) r.first_views r.law
   later_not later asks more gone = record {
     started = λ e. absurd (later e);
     none = λ e. absurd (later e);

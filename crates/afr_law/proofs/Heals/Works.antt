@@ -125,8 +125,8 @@ module _ (n : ℕ) (keeps : ℕ → Kind → Bool) (log : Log) (honest : Honestl
       let far = onward_far n keeps now m.source g kind o in
       let areas = areas_now n keeps log moves t a m.inside m.whole in
       let set = turn_in n keeps now m.source HealPres b turns in
-      let first = pres_opening keeps now m.source now.law.kind now.phase b areas.bytes set in
-      let holds = set_holds m.source now.law.kind (sym (pres_set keeps now m.source now.law.kind now.phase b first) ∙ set) in
+      let first = pres_opening keeps now m.source now.law.kind now.part b areas.bytes set in
+      let holds = set_holds m.source now.law.kind (sym (pres_set keeps now m.source now.law.kind now.part b first) ∙ set) in
       let w = working m.inside m.whole far (omega (arith, low)) holds in
       let v = first_view n keeps log honest wide moves t a m.inside m.whole far b holds in
       record {
@@ -147,10 +147,10 @@ module _ (n : ℕ) (keeps : ℕ → Kind → Bool) (log : Log) (honest : Honestl
       }
       )
     where
-      unmended : rank now.step ≤ 9 → now.phase ≡ Opening → (tally_at log t a).mending ≡ true → ⊥
+      unmended : rank now.step ≤ 9 → now.part ≡ Opening → (tally_at log t a).mending ≡ true → ⊥
       unmended low first e = (let late : 10 ≤ rank now.step = (mended_now n keeps log wide moves t a m.inside m.whole).mending e first in omega (arith, low, late))
 
-      unasked : turn n keeps now m.source HealPres b ≡ true → rank now.step ≤ 9 → now.phase ≡ Opening → (tally_at log t a).raises b ≡ true → ⊥
+      unasked : turn n keeps now m.source HealPres b ≡ true → rank now.step ≤ 9 → now.part ≡ Opening → (tally_at log t a).raises b ≡ true → ⊥
       unasked turns low first e = (
           let w = (raises_now n keeps log honest moves t a m.inside m.whole).once first low b e in
           true≢false (sym (ap (λ (f : ℕ → Bool). f b) (asked_now now HealPres w.0) ∙ w.1) ∙ turn_fresh n keeps now m.source HealPres b turns)
@@ -167,7 +167,7 @@ module _ (n : ℕ) (keeps : ℕ → Kind → Bool) (log : Log) (honest : Honestl
         open_still = w.open_still;
         object_same = object_is repair fits_it;
         kind_same = kind_of_it repair fits_it;
-        within = subst (λ (area : Option Area). weak.CoversMend area repair) (sym (areas.here (inr far) (omega (arith, low)))) (fits_covers now.law.object now.law.kind now.phase now.upto now.first_views now.reads m.source repair areas.bytes unfinished fits_it);
+        within = subst (λ (area : Option Area). weak.CoversMend area repair) (sym (areas.here (inr far) (omega (arith, low)))) (fits_covers now.law.object now.law.kind now.part now.upto now.first_views now.reads m.source repair areas.bytes unfinished fits_it);
         contents = carried repair test fits_it;
         healing = k.reached (omega (arith, low)) b below ((firsts_now n keeps log moves t a).0.reached b holds);
         unsettled = false_of _ (λ e. (let late : 11 ≤ rank now.step = (k.settled b e).1 in omega (arith, low, late)));
@@ -191,28 +191,28 @@ module _ (n : ℕ) (keeps : ℕ → Kind → Bool) (log : Log) (honest : Honestl
       areas : AreasIn now now.law
       areas = areas_now n keeps log moves t a m.inside m.whole
 
-      set : mends_at keeps now m.source now.law.kind now.phase b ≡ true
+      set : mends_at keeps now m.source now.law.kind now.part b ≡ true
       set = turn_in n keeps now m.source Mends b turns
 
-      unfinished : now.phase ≡ Finish → now.law.kind ≡ Bytes → ⊥
-      unfinished = mends_finish keeps now m.source now.law.kind now.phase b set
+      unfinished : now.part ≡ Finish → now.law.kind ≡ Bytes → ⊥
+      unfinished = mends_finish keeps now m.source now.law.kind now.part b set
 
       in_set : raise_set keeps now.first_views m.source now.law.kind b ≡ true
-      in_set = sym (mends_set keeps now m.source now.law.kind now.phase b unfinished) ∙ set
+      in_set = sym (mends_set keeps now m.source now.law.kind now.part b unfinished) ∙ set
 
       holds : holder now.first_views b ≡ true
       holds = set_holds m.source now.law.kind in_set
 
-      fits_it : Fits now.law.object now.law.kind now.phase now.upto now.first_views now.reads m.source repair
+      fits_it : Fits now.law.object now.law.kind now.part now.upto now.first_views now.reads m.source repair
       fits_it = mend_fits n keeps now m.source repair test is_wide
 
-      object_is : (rep : Repair) → Fits now.law.object now.law.kind now.phase now.upto now.first_views now.reads m.source rep → repaired rep ≡ now.law.object
+      object_is : (rep : Repair) → Fits now.law.object now.law.kind now.part now.upto now.first_views now.reads m.source rep → repaired rep ≡ now.law.object
       object_is (CutTo g len) f = f.0
       object_is (Copy g place some read) f = f.0
       object_is (PutAttrs g read) f = f.0
       object_is (PutNames g from) f = f.0
 
-      kind_of_it : (rep : Repair) → Fits now.law.object now.law.kind now.phase now.upto now.first_views now.reads m.source rep → weak.repair_kind rep ≡ now.law.kind
+      kind_of_it : (rep : Repair) → Fits now.law.object now.law.kind now.part now.upto now.first_views now.reads m.source rep → weak.repair_kind rep ≡ now.law.kind
       kind_of_it (CutTo g len) f = sym f.1
       kind_of_it (Copy g place some read) f = sym f.1
       kind_of_it (PutAttrs g read) f = sym f.1
@@ -222,18 +222,18 @@ module _ (n : ℕ) (keeps : ℕ → Kind → Bool) (log : Log) (honest : Honestl
       goes = mend_goes n keeps now m.source repair test
 
       most : is_most n (holder now.first_views) ≡ true
-      most = elim (opening_or now.phase) [ inl first ↦ goes_enough n keeps now m.source goes first | inr later ↦ (sights_now n keeps log honest moves t a m.inside m.whole).enough (inl later) ]
+      most = elim (opening_or now.part) [ inl first ↦ goes_enough n keeps now m.source goes first | inr later ↦ (sights_now n keeps log honest moves t a m.inside m.whole).enough (inl later) ]
 
-      source_views : ((now.phase ≡ Opening → ⊥) → 8 ≤ rank now.step) → weak.Views n keeps log t a now.law m.source
+      source_views : ((now.part ≡ Opening → ⊥) → 8 ≤ rank now.step) → weak.UnaccusedViews n keeps log t a now.law m.source
       source_views late = views_of n keeps log honest wide moves t a m.inside m.whole far m.source m.below (omega (arith, low)) most (goes_good n keeps now m.source goes) (λ later. (goes_unaccused n keeps now m.source goes later, late later)) (λ other. m.possible)
 
       read_late : (x p : ℕ) → now.reads x ≡ Some p → 8 ≤ rank now.step
       read_late x p e = (readings_now n keeps log moves t a m.inside m.whole far x p e).0
 
-      opening_of : now.law.kind ≡ Names → now.phase ≡ Opening
-      opening_of e = elim (opening_or now.phase) [ inl first ↦ first | inr later ↦ absurd (cc (sym e ∙ areas.bytes later)) ]
+      opening_of : now.law.kind ≡ Names → now.part ≡ Opening
+      opening_of e = elim (opening_or now.part) [ inl first ↦ first | inr later ↦ absurd (cc (sym e ∙ areas.bytes later)) ]
 
-      carried : (rep : Repair) → may_mend n keeps now m.source rep ≡ true → Fits now.law.object now.law.kind now.phase now.upto now.first_views now.reads m.source rep → weak.Contents n keeps log t a now.law rep
+      carried : (rep : Repair) → may_mend n keeps now m.source rep ≡ true → Fits now.law.object now.law.kind now.part now.upto now.first_views now.reads m.source rep → weak.BringsSeen n keeps log t a now.law rep
       carried (CutTo g len) e f = (
           let v = held_view now.first_views m.source (and_left _ _ (and_left _ _ (goes_good n keeps now m.source goes))) in
           let sights = sights_now n keeps log honest moves t a m.inside m.whole in
@@ -256,5 +256,5 @@ module _ (n : ℕ) (keeps : ℕ → Kind → Bool) (log : Log) (honest : Honestl
 
       one_repair : (rep : Option Repair) → (tally log t a).repair ≡ rep → (rep ≡ None) ⊎ (rep ≡ Some repair)
       one_repair None e = inl refl
-      one_repair (Some rep) e = inr (ap Some (fits_one now.law.object now.law.kind now.phase now.upto now.first_views now.reads m.source rep repair
+      one_repair (Some rep) e = inr (ap Some (fits_one now.law.object now.law.kind now.part now.upto now.first_views now.reads m.source rep repair
           (((mended_now n keeps log wide moves t a m.inside m.whole).repaired_so far low rep (ap (λ (k : Tally). k.repair) (tally_here n keeps log honest wide moves t a m.inside m.whole far) ∙ e)).1 m.source m.possible) fits_it))

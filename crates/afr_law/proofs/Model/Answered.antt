@@ -30,7 +30,7 @@ use Rattle.afr_lines.specs.declared.lock.HeldLock.{HeldLock}
 use Rattle.afr_tables.specs.TableLaws.{five_pending, numbers_below}
 use Rattle.afr_moves.specs.ByList.{IsExactlyLawful}
 use Rattle.afr_moves.specs.Past.{Beginning}
-use Rattle.afr_moves.specs.Ranges.{Each, IfSome, InRange, IsShort, IsWord, MarksInRange, ToldInRange, ViewInRange}
+use Rattle.afr_moves.specs.Ranges.{Each, IfSome, InRange, IsTwoBytes, IsWord, MarksInRange, ToldInRange, ViewInRange}
 use Rattle.afr_law.proofs.Model.Discipline.{weakly_lawful}
 use Rattle.afr_law.proofs.Model.Next.{next_by, said_by}
 use Rattle.afr_law.proofs.Model.Repairs.{ends_each}
@@ -42,7 +42,7 @@ use Rattle.afr_law.specs.ModelNext.{ModelNextAnswered, asking}
 -- ---- locks
 -- the owner of each lock has a number of two bytes
 abbrev AreShort : List (HeldLock Area) → Type 0
-AreShort locks = Each (λ (lock : HeldLock Area). IsShort lock.owner.0) locks
+AreShort locks = Each (λ (lock : HeldLock Area). IsTwoBytes lock.owner.0) locks
 
 short_filter : (test : HeldLock Area → Bool) (locks : List (HeldLock Area)) → AreShort locks → AreShort (filter test locks)
 short_filter test [] h = tt
@@ -69,11 +69,11 @@ locks_short n files b [] lawful = tt
 locks_short n files b (line ∷ older) lawful =
     short_append (filter (outlives line b) (locks_held b older)) (granted_by_line b line) (short_filter (outlives line b) (locks_held b older) (locks_short n files b older lawful.1)) (granted_short b line (lawful.0).0)
 
-way_short : (wanted : HeldLock Area) (locks : List (HeldLock Area)) → AreShort locks → IfSome (λ (owner : ActorId). IsShort owner.0) (first_conflict overlap wanted locks)
+way_short : (wanted : HeldLock Area) (locks : List (HeldLock Area)) → AreShort locks → IfSome (λ (owner : ActorId). IsTwoBytes owner.0) (first_conflict overlap wanted locks)
 way_short wanted [] h = tt
 way_short wanted (lock ∷ locks) h = go (conflicts overlap wanted lock) (way_short wanted locks h.1)
   where
-    go : (hit : Bool) → IfSome (λ (owner : ActorId). IsShort owner.0) (first_conflict overlap wanted locks) → IfSome (λ (owner : ActorId). IsShort owner.0) (if hit then Some lock.owner else first_conflict overlap wanted locks)
+    go : (hit : Bool) → IfSome (λ (owner : ActorId). IsTwoBytes owner.0) (first_conflict overlap wanted locks) → IfSome (λ (owner : ActorId). IsTwoBytes owner.0) (if hit then Some lock.owner else first_conflict overlap wanted locks)
     go true rest = h.0
     go false rest = rest
 
@@ -93,7 +93,7 @@ module _ (p : Plan) (log : List Line) (short : length log < 4000000) where
   view_range b g o e low = (omega (arith, low), marks_range b g o e Bytes, marks_range b g o e Attrs, marks_range b g o e Names)
 
 -- ---- answers
-way_range : (way : Option ActorId) → IfSome (λ (owner : ActorId). IsShort owner.0) way → ToldInRange (told_by (lock_answer way))
+way_range : (way : Option ActorId) → IfSome (λ (owner : ActorId). IsTwoBytes owner.0) way → ToldInRange (told_by (lock_answer way))
 way_range None h = tt
 way_range (Some owner) h = h
 

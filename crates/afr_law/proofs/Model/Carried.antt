@@ -20,7 +20,7 @@ use Rattle.afr_plan.specs.declared.plan.Plan.{Plan}
 use Rattle.afr_model.specs.Tables.{held_before, keeps_bytes, content_in, attrs_in, names_in, bytes_shown, attrs_shown, names_shown, all_names_shown, carried}
 use Rattle.afr_moves.specs.Cells.{Cell, Byte, Attr, Entry, kind_of, is_cell}
 use Rattle.afr_tables.specs.Codes.{kind_in, code_in, kept_by}
-use Rattle.afr_moves.specs.Rules.{Register, ReadOf, EachRead, Contents, repair_kind}
+use Rattle.afr_moves.specs.Rules.{Register, ReadOf, EachRead, BringsSeen, repair_kind}
 use Rattle.afr_moves.specs.Past.{Log, before, brick_of, kind_at, most, value, values}
 use Rattle.afr_moves.proofs.ByPosition.{IsPast, before_past}
 use Rattle.afr_moves.specs.Positions.{by_position}
@@ -30,7 +30,7 @@ use Rattle.afr_law.proofs.Model.Mended.{Carries, keyed, piece_byte}
 use Rattle.afr_tables.proofs.Merged.{AllRise, led, most_led, led_merged}
 use Rattle.afr_law.specs.Beginning.{start_of}
 use Rattle.afr_tables.proofs.Values.{code_of, none_past}
-use Rattle.afr_law.specs.ModelLaw.{IsRead, NamesReads}
+use Rattle.afr_law.specs.ModelLaw.{IsReadAt, NamesReads}
 
 -- a brick that keeps bytes carries them out
 pub kept_bytes : (p : Plan) (b : ℕ) (kind : Kind) → kept_by p b kind ≡ true → kind ≡ Bytes → keeps_bytes p b ≡ true
@@ -83,7 +83,7 @@ module _ (p : Plan) (n : ℕ) (L : Log) (older : List Line) (h : IsPast L older)
   shown k cell = values (start_of p n) L (length older) k (brick_of (before L (length older) k)) cell
 
   -- a source of a repair, and the read that showed it
-  at_read : (bricks a : ℕ) (r : Register) (k : ℕ) (asked : Request) (cell : Cell) → is_cell cell ≡ true → kind_of cell ≡ r.kind → ReadOf bricks (kept_by p) (by_position older) (length older) a r k → (w : IsRead older asked k)
+  at_read : (bricks a : ℕ) (r : Register) (k : ℕ) (asked : Request) (cell : Cell) → is_cell cell ≡ true → kind_of cell ≡ r.kind → ReadOf bricks (kept_by p) (by_position older) (length older) a r k → (w : IsReadAt older asked k)
       → shown k cell ≡ code_in (held_before p older k w.brick.0) cell
   at_read bricks a r k asked cell real kind from w =
       let brick : w.brick.0 ≡ from.s = cc (w.line, from.is) in
@@ -93,7 +93,7 @@ module _ (p : Plan) (n : ℕ) (L : Log) (older : List Line) (h : IsPast L older)
       ∙ (same k from.past).codes w.brick.0 cell real (kept_bytes p w.brick.0 (kind_of cell) kept)
 
   -- of a piece of bytes
-  bytes_carried : (bricks a : ℕ) (r : Register) (g : Gfid) (at span k i : ℕ) → nat_lt i (2 ^ 63) ≡ true → is_within at span i ≡ true → Bytes ≡ r.kind → ReadOf bricks (kept_by p) (by_position older) (length older) a r k → IsRead older (request.ReadBytes g at span) k
+  bytes_carried : (bricks a : ℕ) (r : Register) (g : Gfid) (at span k i : ℕ) → nat_lt i (2 ^ 63) ≡ true → is_within at span i ≡ true → Bytes ≡ r.kind → ReadOf bricks (kept_by p) (by_position older) (length older) a r k → IsReadAt older (request.ReadBytes g at span) k
       → piece_byte at (bytes_shown (held_before p older) k (from_oldest k older)) i ≡ shown k (Byte g.0 i)
   bytes_carried bricks a r g at span k i real inside kind from w =
       (λ j. piece_byte at (bytes_shown (held_before p older) k (w.line j)) i)
@@ -105,11 +105,11 @@ module _ (p : Plan) (n : ℕ) (L : Log) (older : List Line) (h : IsPast L older)
       of_copy None = none_past i
       of_copy (Some o) = refl
 
-  short_carried : (g : Gfid) (at span k : ℕ) → IsRead older (request.ReadBytes g at span) k → length (bytes_shown (held_before p older) k (from_oldest k older)) ≤ span
+  short_carried : (g : Gfid) (at span k : ℕ) → IsReadAt older (request.ReadBytes g at span) k → length (bytes_shown (held_before p older) k (from_oldest k older)) ≤ span
   short_carried g at span k w = subst (λ (line : Option Line). length (bytes_shown (held_before p older) k line) ≤ span) (sym w.line) (omega (arith, length-take span (drop at (content_in (copy_at g (held_before p older k w.brick.0))))))
 
   -- of attributes
-  attrs_carried : (bricks a : ℕ) (r : Register) (g : Gfid) (k key : ℕ) → Attrs ≡ r.kind → ReadOf bricks (kept_by p) (by_position older) (length older) a r k → IsRead older (request.ReadAttrs g) k
+  attrs_carried : (bricks a : ℕ) (r : Register) (g : Gfid) (k key : ℕ) → Attrs ≡ r.kind → ReadOf bricks (kept_by p) (by_position older) (length older) a r k → IsReadAt older (request.ReadAttrs g) k
       → keyed key (attrs_shown (held_before p older) k (from_oldest k older)) ≡ shown k (Attr g.0 key)
   attrs_carried bricks a r g k key kind from w =
       (λ j. keyed key (attrs_shown (held_before p older) k (w.line j)))
@@ -121,7 +121,7 @@ module _ (p : Plan) (n : ℕ) (L : Log) (older : List Line) (h : IsPast L older)
       of_copy (Some o) = refl
 
   -- of names
-  names_carried : (bricks a : ℕ) (r : Register) (g : Gfid) (k m : ℕ) → Names ≡ r.kind → ReadOf bricks (kept_by p) (by_position older) (length older) a r k → IsRead older (request.List g) k
+  names_carried : (bricks a : ℕ) (r : Register) (g : Gfid) (k m : ℕ) → Names ≡ r.kind → ReadOf bricks (kept_by p) (by_position older) (length older) a r k → IsReadAt older (request.List g) k
       → led m (names_shown (held_before p older) k (from_oldest k older)) ≡ shown k (Entry g.0 m)
   names_carried bricks a r g k m kind from w =
       (λ j. led m (names_shown (held_before p older) k (w.line j)))
@@ -132,19 +132,19 @@ module _ (p : Plan) (n : ℕ) (L : Log) (older : List Line) (h : IsPast L older)
       of_copy None = refl
       of_copy (Some o) = refl
 
-  all_carried : (bricks a : ℕ) (r : Register) (g : Gfid) (m : ℕ) (reads : List (Option ℕ)) → Names ≡ r.kind → EachRead (ReadOf bricks (kept_by p) (by_position older) (length older) a r) reads → EachRead (IsRead older (request.List g)) reads
+  all_carried : (bricks a : ℕ) (r : Register) (g : Gfid) (m : ℕ) (reads : List (Option ℕ)) → Names ≡ r.kind → EachRead (ReadOf bricks (kept_by p) (by_position older) (length older) a r) reads → EachRead (IsReadAt older (request.List g)) reads
       → most_led m (all_names_shown (held_before p older) older reads) ≡ most (λ k. shown k (Entry g.0 m)) reads
   all_carried bricks a r g m [] kind from w = refl
   all_carried bricks a r g m (None ∷ reads) kind from w = all_carried bricks a r g m reads kind from w
   all_carried bricks a r g m (Some k ∷ reads) kind from w = λ i. max (names_carried bricks a r g k m kind from.0 w.0 i) (all_carried bricks a r g m reads kind from.1 w.1 i)
 
-  all_rise : (g : Gfid) (reads : List (Option ℕ)) → EachRead (IsRead older (request.List g)) reads → AllRise (all_names_shown (held_before p older) older reads)
+  all_rise : (g : Gfid) (reads : List (Option ℕ)) → EachRead (IsReadAt older (request.List g)) reads → AllRise (all_names_shown (held_before p older) older reads)
   all_rise g [] w = tt
   all_rise g (None ∷ reads) w = all_rise g reads w
   all_rise g (Some k ∷ reads) w = ((shown_sound p n older (held_before p older) sound g k w.0).0, all_rise g reads w.1)
 
   -- what a lawful repair carries
-  pub carries : (bricks a : ℕ) (r : Register) (repair : Repair) → repair_kind repair ≡ r.kind → Contents bricks (kept_by p) (by_position older) (length older) a r repair → NamesReads repair older
+  pub carries : (bricks a : ℕ) (r : Register) (repair : Repair) → repair_kind repair ≡ r.kind → BringsSeen bricks (kept_by p) (by_position older) (length older) a r repair → NamesReads repair older
       → Carries n (before L (length older)) (values (start_of p n) L (length older)) repair (carried (held_before p older) older repair)
   carries bricks a r (CutTo g len) kind from w = tt
   carries bricks a r (Copy g at span read) kind from w = (short_carried g at span read w, λ i real inside. bytes_carried bricks a r g at span read i real inside kind from w)

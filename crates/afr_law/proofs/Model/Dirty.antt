@@ -18,7 +18,7 @@ use Rattle.afr_lines.specs.declared.line.Line.{Line}
 use Rattle.afr_lines.specs.declared.line.Line.TheVariants.{Ask}
 use Rattle.afr_lines.specs.declared.request.Request.TheVariants.{Look, Pre, Apply, Post, Mend, Settle}
 use Rattle.afr_plan.specs.declared.plan.Plan.{Plan}
-use Rattle.afr_model.specs.Honest.{Honest as IsHonestLog, IsHonest, Outcome, over_session, copy_answer}
+use Rattle.afr_model.specs.Honest.{Honest as IsHonestLog, IsHonest, RequestOutcome, over_session, copy_answer}
 use Rattle.afr_base.specs.Kinds.{same_kind}
 use Rattle.afr_model.specs.Sums.{has_object, sum_over, opens_op, closes_op, settles_dirty, dirty_of}
 use Rattle.afr_model.specs.Tables.{holds, held_before, carried, effect, keeps_bytes}
@@ -151,11 +151,11 @@ module _ (p : Plan) (n : ℕ) (L : Log) (x : ℕ) (g : Gfid) (kind : Kind) where
 -- ---- looks
 -- a look that was told Seen was shown a copy
 pub seen_copy : (live : Bool) (fault : Option Fault) (c : Option Object) (view : View) (took : Bool) → (record { told = Seen view; took = took }) ≡ over_session live fault (told_by (copy_answer (λ o. answer.Seen (view_of o)) c)) → (o : Object) × (c ≡ Some o) × (view ≡ view_of o)
-seen_copy false fault c view took e = absurd (cc (ap (λ (q : Outcome). q.told) e))
-seen_copy true (Some Fail) c view took e = absurd (cc (ap (λ (q : Outcome). q.told) e))
-seen_copy true (Some LostAnswer) c view took e = absurd (cc (ap (λ (q : Outcome). q.told) e))
-seen_copy true None None view took e = absurd (cc (ap (λ (q : Outcome). q.told) e))
-seen_copy true None (Some o) view took e = (o, refl, cc (ap (λ (q : Outcome). q.told) e))
+seen_copy false fault c view took e = absurd (cc (ap (λ (q : RequestOutcome). q.told) e))
+seen_copy true (Some Fail) c view took e = absurd (cc (ap (λ (q : RequestOutcome). q.told) e))
+seen_copy true (Some LostAnswer) c view took e = absurd (cc (ap (λ (q : RequestOutcome). q.told) e))
+seen_copy true None None view took e = absurd (cc (ap (λ (q : RequestOutcome). q.told) e))
+seen_copy true None (Some o) view took e = (o, refl, cc (ap (λ (q : RequestOutcome). q.told) e))
 
 module _ (p : Plan) (n : ℕ) (L : Log) where
   line_tracks : (line : Line) (older : List Line) → IsPast L older → LawfulBelow p n older → IsHonest p line older → TracksDirty (start_of p n) L (length older) (Some line)

@@ -47,7 +47,7 @@ use Rattle.afr_law.proofs.Heals.EachLine.{viewings}
 use Rattle.afr_moves.specs.Honest.{Honest, view_marks}
 use Rattle.afr_moves.specs.Rules.{Lawful, present}
 use Rattle.afr_moves.specs.Lines.{ask_by, settle_on}
-use Rattle.afr_law.specs.ModelFits.{Fits, ModelExactSums}
+use Rattle.afr_law.specs.ModelFits.{CouldCarryOut, ModelExactSums}
 use Rattle.afr_moves.specs.Past.{Beginning, Log, pending, settled}
 use Rattle.afr_moves.proofs.ByPosition.{IsPast, none_at, past_whole}
 use Rattle.afr_moves.specs.Positions.{by_position}
@@ -221,7 +221,7 @@ module _ (p : Plan) (log : List Line) (short : length log < 4000000) (lawful : I
   can_carry a b (Mend repair) told took mends fits carried = mends repair refl
   can_carry a b r told took mends fits carried = tt
 
-  pub fits_by : (line : Line) → ((a : ActorId) (b : BrickId) (repair : Repair) (told : Told) → line ≡ Ask a b (Mend repair) told true → CanMend p log b.0 repair) → FitsSums p line log → Fits p line log
+  pub fits_by : (line : Line) → ((a : ActorId) (b : BrickId) (repair : Repair) (told : Told) → line ≡ Ask a b (Mend repair) told true → CanMend p log b.0 repair) → FitsSums p line log → CouldCarryOut p line log
   fits_by (Ask a b r told took) mends fits = λ carried. can_carry a b r told took (λ repair e. mends a b repair told (λ i. Ask a b (e i) told (carried i))) fits carried
   fits_by line mends fits = tt
 

@@ -42,7 +42,7 @@ use Rattle.afr_moves.specs.Honest.{Honest, HonestLine, asked, plane_kind}
 use Rattle.afr_moves.specs.Rules.{FitAt, Lawful, MayApply, MayMend, MayPost, MayPre, MayRaise, MaySettle, PlaneIs, present}
 use Rattle.afr_moves.specs.Lines.{ask_by, begin_by, post_on, pre_on, settle_on}
 use Rattle.afr_law.specs.ModelFits.{HasCopy, ModelNextCarries, ModelNextFound}
-use Rattle.afr_law.specs.ModelNext.{is_carried}
+use Rattle.afr_law.specs.ModelNext.{is_carried_out}
 use Rattle.afr_law.proofs.Safety.Numbers.{Prepared}
 use Rattle.afr_moves.specs.Past.{Beginning, Log, holds, joined, object, opening, repaired}
 use Rattle.afr_moves.specs.Positions.{by_position}
@@ -172,7 +172,7 @@ module _ (p : Plan) (log : List Line) (a : ActorId) (b : BrickId) (r : Request) 
   found_by : Comes p log a b r → HasCopy p log b.0 r
   found_by w = copy_by p (name_bound p) five log a b w.told w.took r (exactly_below p (Ask a b r w.told w.took ∷ log) five (omega (arith, short)) (w.said, honest) (w.next, lawful)) (w.said, honest)
 
-  carries_by : Comes p log a b r → is_carried p a b r log ≡ true → CanCarry p log b.0 r
+  carries_by : Comes p log a b r → is_carried_out p a b r log ≡ true → CanCarry p log b.0 r
   carries_by w carried = (next_fits p log (Ask a b r w.told w.took) five short honest lawful w.said w.next).0 (w.is ∙ carried)
 
 pub next_found : ModelNextFound

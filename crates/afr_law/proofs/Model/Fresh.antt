@@ -49,7 +49,7 @@ use Rattle.afr_law.proofs.Freshness.Fresh.{fresh_read}
 use Rattle.afr_law.specs.FreshReads.{LooksLet, NoOlder}
 use Rattle.afr_moves.specs.Honest.{Honest}
 use Rattle.afr_moves.specs.Lines.{ask_by}
-use Rattle.afr_law.specs.ModelFresh.{IsIn, IsLetBy, IsLetBySome, IsFreshSince, ModelReadsAreFresh, IsLetRead, IsFreshByLooks, ModelWorksReadFresh, ModelExactReadsFresh}
+use Rattle.afr_law.specs.ModelFresh.{IsOneOfLines, IsLetBy, IsLetBySome, IsFreshSince, ModelReadsAreFresh, IsLetRead, IsFreshByLooks, ModelWorksReadFresh, ModelExactReadsFresh}
 use Rattle.afr_law.specs.ModelLaw.{IsLawfulLine}
 use Rattle.afr_moves.specs.Past.{Log}
 use Rattle.afr_moves.specs.Positions.{by_position}
@@ -200,41 +200,41 @@ exact_fresh p log five short honest lawful = (let weak = weakly_lawful p log fiv
 
 -- ---- for whoever asks
 -- the parts of a work are of its lines
-upto_is : (k : ℕ) (w : Work) (x : Line × List Line) → IsIn x (upto_names k w) → IsIn x w
+upto_is : (k : ℕ) (w : Work) (x : Line × List Line) → IsOneOfLines x (upto_names k w) → IsOneOfLines x w
 upto_is k [] x it = it
 upto_is k (y ∷ w) x it = go (nat_le k (names_asked w)) (upto_is k w x) it
   where
-    go : (early : Bool) → (IsIn x (upto_names k w) → IsIn x w) → IsIn x (if early then upto_names k w else y ∷ w) → IsIn x (y ∷ w)
+    go : (early : Bool) → (IsOneOfLines x (upto_names k w) → IsOneOfLines x w) → IsOneOfLines x (if early then upto_names k w else y ∷ w) → IsOneOfLines x (y ∷ w)
     go true before h = inr (before h)
     go false before h = h
 
-after_is : (k : ℕ) (w : Work) (x : Line × List Line) → IsIn x (after_names k w) → IsIn x w
+after_is : (k : ℕ) (w : Work) (x : Line × List Line) → IsOneOfLines x (after_names k w) → IsOneOfLines x w
 after_is k [] x it = it
 after_is k (y ∷ w) x it = go (nat_le k (names_asked w)) (after_is k w x) it
   where
-    go : (late : Bool) → (IsIn x (after_names k w) → IsIn x w) → IsIn x (if late then y ∷ after_names k w else []) → IsIn x (y ∷ w)
+    go : (late : Bool) → (IsOneOfLines x (after_names k w) → IsOneOfLines x w) → IsOneOfLines x (if late then y ∷ after_names k w else []) → IsOneOfLines x (y ∷ w)
     go true before (inl h) = inl h
     go true before (inr h) = inr (before h)
     go false before h = absurd h
 
-first_is : (w : Work) (x : Line × List Line) → IsIn x (first_part w) → IsIn x w
+first_is : (w : Work) (x : Line × List Line) → IsOneOfLines x (first_part w) → IsOneOfLines x w
 first_is [] x it = it
 first_is (y ∷ w) x it = go (is_again y.0 w) (first_is w x) it
   where
-    go : (again : Bool) → (IsIn x (first_part w) → IsIn x w) → IsIn x (if again then first_part w else y ∷ w) → IsIn x (y ∷ w)
+    go : (again : Bool) → (IsOneOfLines x (first_part w) → IsOneOfLines x w) → IsOneOfLines x (if again then first_part w else y ∷ w) → IsOneOfLines x (y ∷ w)
     go true before h = inr (before h)
     go false before h = h
 
-second_is : (w : Work) (x : Line × List Line) → IsIn x (second_part w) → IsIn x w
+second_is : (w : Work) (x : Line × List Line) → IsOneOfLines x (second_part w) → IsOneOfLines x w
 second_is [] x it = it
 second_is (y ∷ w) x it = go (is_again y.0 w) (second_is w x) it
   where
-    go : (again : Bool) → (IsIn x (second_part w) → IsIn x w) → IsIn x (if again then y ∷ second_part w else []) → IsIn x (y ∷ w)
+    go : (again : Bool) → (IsOneOfLines x (second_part w) → IsOneOfLines x w) → IsOneOfLines x (if again then y ∷ second_part w else []) → IsOneOfLines x (y ∷ w)
     go true before (inl h) = inl h
     go true before (inr h) = inr (before h)
     go false before h = absurd h
 
-either_is : (v u : Work) (x : Line × List Line) → IsIn x (v ++ u) → IsIn x v ⊎ IsIn x u
+either_is : (v u : Work) (x : Line × List Line) → IsOneOfLines x (v ++ u) → IsOneOfLines x v ⊎ IsOneOfLines x u
 either_is [] u x it = inr it
 either_is (y ∷ v) u x (inl same) = inl (inl same)
 either_is (y ∷ v) u x (inr it) = elim (either_is v u x it) [
@@ -244,7 +244,7 @@ either_is (y ∷ v) u x (inr it) = elim (either_is v u x it) [
 
 module _ (p : Plan) (a : ActorId) (b : BrickId) (r : Request) (told : Told) (took : Bool) (older : List Line) where
   -- a read that a command may make by some lines of its work is let by their last looks
-  let_by_some : (c : Command) (some : Work) → ((x : Line × List Line) → IsIn x some → IsIn x (work a.0 older)) → IsAbout p c (Ask a b r told took) some → IsLetRead p (Ask a b r told took) older
+  let_by_some : (c : Command) (some : Work) → ((x : Line × List Line) → IsOneOfLines x some → IsOneOfLines x (work a.0 older)) → IsAbout p c (Ask a b r told took) some → IsLetRead p (Ask a b r told took) older
   let_by_some c some are k = by r k
     where
       let_it : (g : Gfid) (kind : Kind) → MayRead p c g kind b.0 some → IsLetBySome p b.0 g kind (work a.0 older)

@@ -29,7 +29,7 @@ use Rattle.afr_lines.specs.declared.line.Line.TheVariants.{Ask, Begin, HealBegin
 use Rattle.afr_lines.specs.declared.request.Request.{Request}
 use Rattle.afr_lines.specs.declared.request.Request.TheVariants as request
 use Rattle.afr_plan.specs.declared.plan.Plan.{Plan}
-use Rattle.afr_model.specs.Honest.{requests_to, fault_in, copy_answer, copy_for, lock_answer, answer_by, in_the_way, tells, Outcome, over_session, is_live, outcome_of, IsHonest}
+use Rattle.afr_model.specs.Honest.{requests_to, fault_in, copy_answer, copy_for, lock_answer, answer_by, in_the_way, tells, RequestOutcome, over_session, is_live, outcome_of, IsHonest}
 use Rattle.afr_model.specs.Honest as model
 use Rattle.afr_lines.specs.Locks.{first_conflict}
 use Rattle.afr_model.specs.Locks.{locks_held}
@@ -172,11 +172,11 @@ module _ (p : Plan) (n : ℕ) (L : Log) (b : ℕ) (older : List Line) (h : IsPas
 
   -- and what is told over a session
   asked_so : (a : ActorId) (r : Request) (told : Told) (took live : Bool) (fault : Option Fault) → (record { told = told; took = took }) ≡ over_session live fault (tells a r b (holds p older b) older) → HonestAsk (start_of p n) L (length older) a.0 b r told took live fault
-  asked_so a r told took false fault e = (ap (λ (o : Outcome). o.told) e, ap (λ (o : Outcome). o.took) e)
-  asked_so a r told took true (Some Fail) e = (ap (λ (o : Outcome). o.told) e, ap (λ (o : Outcome). o.took) e)
-  asked_so a r told took true (Some LostAnswer) e = (ap (λ (o : Outcome). o.told) e, ap (λ (o : Outcome). o.took) e)
+  asked_so a r told took false fault e = (ap (λ (o : RequestOutcome). o.told) e, ap (λ (o : RequestOutcome). o.took) e)
+  asked_so a r told took true (Some Fail) e = (ap (λ (o : RequestOutcome). o.told) e, ap (λ (o : RequestOutcome). o.took) e)
+  asked_so a r told took true (Some LostAnswer) e = (ap (λ (o : RequestOutcome). o.told) e, ap (λ (o : RequestOutcome). o.took) e)
   asked_so a r told took true None e =
-      (subst (λ (said : Told). Tells (start_of p n) L (length older) a.0 b r said (finds (start_of p n) L (length older) b r)) (sym (ap (λ (o : Outcome). o.told) e)) (tells_so a r), ap (λ (o : Outcome). o.took) e)
+      (subst (λ (said : Told). Tells (start_of p n) L (length older) a.0 b r said (finds (start_of p n) L (length older) b r)) (sym (ap (λ (o : RequestOutcome). o.told) e)) (tells_so a r), ap (λ (o : RequestOutcome). o.took) e)
 
 -- an honest Ask line of the model is honest by positions
 pub honest_ask : (p : Plan) (n : ℕ) (L : Log) (a : ActorId) (b : BrickId) (r : Request) (told : Told) (took : Bool) (older : List Line) → member (below p.shape.n) b.0 ≡ true → L (length older) ≡ Some (Ask a b r told took) → IsPast L older → LawfulBelow p n older

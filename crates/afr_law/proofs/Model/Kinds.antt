@@ -24,7 +24,7 @@ use Rattle.afr_moves.specs.Cells.{Entry, entry_code, what_code}
 use Rattle.afr_tables.specs.Codes.{code_in, kind_code, kind_in, value_code}
 use Rattle.afr_law.specs.Exactly.{name_bound}
 use Rattle.afr_moves.specs.Honest.{Honest}
-use Rattle.afr_law.specs.ModelKinds.{Before, IsOneKind, ModelNextLooks, ModelOneKind, Named, Now, Says, Top, WasTable}
+use Rattle.afr_law.specs.ModelKinds.{Before, IsOneKind, ModelNextLooks, ModelOneKind, Named, Now, SaysKind, Top, WasTable}
 use Rattle.afr_law.proofs.Safety.Objects.{entry_born, from_values, kind_born}
 use Rattle.afr_moves.specs.Past.{Log, born, kind_at, value}
 use Rattle.afr_moves.specs.Positions.{by_position}
@@ -103,6 +103,6 @@ next_looks p log a b g what view took five short honest lawful says said = shown
     seen : (o : Object) × (copy_at g (holds p log b.0) ≡ Some o) × (view ≡ view_of o)
     seen = seen_copy _ _ (copy_at g (holds p log b.0)) view took said
 
-    shown : Says p log g what → view.what ≡ what
+    shown : SaysKind p log g what → view.what ≡ what
     shown (Named t dir name stood there) = ap (λ (v : View). v.what) seen.2 ∙ kinds.entries t (holds p log b.0) stood (Now b.0 refl) dir name (record { gfid = g; what = what }) seen.0 there seen.1
     shown (Top is dir) = ap (λ (v : View). v.what) seen.2 ∙ kinds.top (holds p log b.0) (Now b.0 refl) seen.0 (ap (λ (h : Gfid). copy_at h (holds p log b.0)) (sym is) ∙ seen.1) ∙ sym dir

@@ -26,7 +26,7 @@ use Rattle.afr_model.specs.Showing.{look_shows, looked_after, looked_by}
 use Rattle.afr_law.proofs.Model.Cells.{below_length}
 use Rattle.afr_law.specs.FreshReads.{ShowsNoMiss}
 use Rattle.afr_moves.specs.Lines.{ask_by}
-use Rattle.afr_law.specs.ModelFresh.{IsClearLook, IsIn}
+use Rattle.afr_law.specs.ModelFresh.{IsClearLook, IsOneOfLines}
 use Rattle.afr_moves.proofs.ByPosition.{newest_at, older_at}
 use Rattle.std.proofs.lemmas.Bool.{eqb-true}
 
@@ -86,15 +86,15 @@ record StandsAt (a : ℕ) (log : List Line) (since : ℕ) (y : Line × List Line
   after : since ≤ length y.1
 
 -- so does each line of the present work
-of_work : (a : ℕ) (log : List Line) (y : Line × List Line) → IsIn y (work a log) → StandsAt a log (length (log_before (work a log) log)) y
+of_work : (a : ℕ) (log : List Line) (y : Line × List Line) → IsOneOfLines y (work a log) → StandsAt a log (length (log_before (work a log) log)) y
 of_work a [] y it = absurd it
 of_work a (line ∷ log) y it = go (is_of a line) refl (is_end line) (work a log) (begun_within a log) (of_work a log y) it
   where
     later : (since : ℕ) → StandsAt a log since y → StandsAt a (line ∷ log) since y
     later since k = record { own = k.own; stands = older_at line log (length y.1) (below_length log (length y.1) y.0 k.stands) ∙ k.stands; after = k.after }
 
-    go : (own : Bool) → is_of a line ≡ own → (last : Bool) (w : Work) → length (log_before w log) ≤ length log → (IsIn y w → StandsAt a log (length (log_before w log)) y)
-        → IsIn y (if own then (if last then [] else (line, log) ∷ w) else w) → StandsAt a (line ∷ log) (length (log_before (if own then (if last then [] else (line, log) ∷ w) else w) (line ∷ log))) y
+    go : (own : Bool) → is_of a line ≡ own → (last : Bool) (w : Work) → length (log_before w log) ≤ length log → (IsOneOfLines y w → StandsAt a log (length (log_before w log)) y)
+        → IsOneOfLines y (if own then (if last then [] else (line, log) ∷ w) else w) → StandsAt a (line ∷ log) (length (log_before (if own then (if last then [] else (line, log) ∷ w) else w) (line ∷ log))) y
     go true mine true w low before it = absurd it
     go true mine false w low before (inl same) = subst (StandsAt a (line ∷ log) (length (log_before w log))) (sym same) (record { own = mine; stands = newest_at line log; after = low })
     go true mine false w low before (inr it) = later (length (log_before w log)) (before it)
@@ -178,12 +178,12 @@ module _ (a x : ℕ) (g : Gfid) (kind : Kind) (b : ℕ) (small : x < 5) where
   line_look line older log since looked mine stands five low before now = before now
 
   -- a brick that answered the last look among some lines of the actor, and showed nothing, was looked at in one of them
-  looked_at : (log : List Line) (since : ℕ) (some : Work) → ((y : Line × List Line) → IsIn y some → StandsAt a log since y) → IsClearBy (looked_by g some) → IsClearLook log a since x g kind b
+  looked_at : (log : List Line) (since : ℕ) (some : Work) → ((y : Line × List Line) → IsOneOfLines y some → StandsAt a log since y) → IsClearBy (looked_by g some) → IsClearLook log a since x g kind b
   looked_at log since [] each now = absurd (unlooked now)
   looked_at log since (y ∷ some) each now =
       let here = each y (inl refl) in
       line_look y.0 y.1 log since (looked_by g some) here.own here.stands (five_views g some) here.after (λ w. looked_at log since some (λ z it. each z (inr it)) w) now
 
-  pub looked_clear : (log : List Line) (some : Work) → ((y : Line × List Line) → IsIn y some → IsIn y (work a log)) → member (looked_by g some).reached x ≡ true → shown_missed kind b (view_at x (looked_by g some)) ≡ false
+  pub looked_clear : (log : List Line) (some : Work) → ((y : Line × List Line) → IsOneOfLines y some → IsOneOfLines y (work a log)) → member (looked_by g some).reached x ≡ true → shown_missed kind b (view_at x (looked_by g some)) ≡ false
       → IsClearLook log a (length (log_before (work a log) log)) x g kind b
   looked_clear log some are reached clear = looked_at log (length (log_before (work a log) log)) some (λ y it. of_work a log y (are y it)) (record { reached = reached; clear = clear })

@@ -14,7 +14,7 @@ use Rattle.afr_lines.specs.declared.line.Line.{Line}
 use Rattle.afr_lines.specs.declared.line.Line.TheVariants.{Ask}
 use Rattle.afr_lines.specs.declared.request.Request.{Request}
 use Rattle.afr_lines.specs.declared.request.Request.TheVariants.{Apply, Lock, Mend, Post, Pre, Settle}
-use Rattle.afr_model.specs.Honest.{IsHonest, Outcome, copy_answer, fault_in, outcome_of, over_session, requests_to, tells}
+use Rattle.afr_model.specs.Honest.{IsHonest, RequestOutcome, copy_answer, fault_in, outcome_of, over_session, requests_to, tells}
 use Rattle.afr_model.specs.Report.{started_bricks}
 use Rattle.afr_lines.specs.Places.{Between, Fresh, Indexed, Place, Within, opens, place_of}
 use Rattle.afr_model.specs.Sessions.{is_joined, is_linked}
@@ -25,7 +25,7 @@ use Rattle.afr_lines.specs.declared.lock.Domain.TheVariants.{Heal, Work}
 use Rattle.afr_tables.specs.Codes.{kept_by}
 use Rattle.afr_moves.specs.Discipline.{MayAskExactly, exact, in_force}
 use Rattle.afr_moves.specs.Ranges.{ToldInRange}
-use Rattle.afr_law.specs.ModelNext.{IsNext, MayAskNext, asking, is_carried}
+use Rattle.afr_law.specs.ModelNext.{IsNext, MayAskNext, asking, is_carried_out}
 use Rattle.afr_moves.specs.Covering.{Changes}
 use Rattle.afr_moves.specs.Past as past
 use Rattle.afr_moves.specs.Past.{place}
@@ -65,13 +65,13 @@ done_range true None (Some o) = tt
 pub record Comes (p : Plan) (log : List Line) (a : ActorId) (b : BrickId) (r : Request) : Type 0 where
   pub told : Told
   pub took : Bool
-  pub is : took ≡ is_carried p a b r log
+  pub is : took ≡ is_carried_out p a b r log
   pub said : IsHonest p (Ask a b r told took) log
   pub next : IsNext p (Ask a b r told took) log
 
 module _ (p : Plan) (log : List Line) (a : ActorId) (b : BrickId) (r : Request) (may : MayAskNext p a b r log) where
   -- what would be told
-  abbrev out : Outcome
+  abbrev out : RequestOutcome
   out = outcome_of p a b.0 r (asking a b r) log
 
   pub said_by : IsHonest p (Ask a b r out.told out.took) log

@@ -53,7 +53,7 @@ use Rattle.afr_law.proofs.Heals.Conditions.{mend_test, mend_turn}
 use Rattle.afr_law.proofs.Discipline.Covers.{piece_is}
 use Rattle.afr_law.proofs.Discipline.Inner.{turn_in, turn_low}
 use Rattle.afr_law.specs.ModelFits.{ModelNextFits}
-use Rattle.afr_law.specs.ModelLaw.{IsKnown, IsLawful, IsRead, NamesReads}
+use Rattle.afr_law.specs.ModelLaw.{IsKnown, IsLawful, IsReadAt, NamesReads}
 use Rattle.afr_tables.proofs.Names.{AreAbove, AreRising}
 use Rattle.afr_moves.specs.Past.{Log}
 use Rattle.afr_moves.proofs.ByPosition.{IsPast, none_at, past_whole}
@@ -127,7 +127,7 @@ short_looks p log low lawful honest t a x g view took is = subst ShowsShort is (
 
 -- ---- one repair
 module _ (p : Plan) (log : List Line) (low : AllEndLow log) (lawful : IsLawful p log) where
-  shown_span : (g : Gfid) (at span read : ℕ) → IsRead log (request.ReadBytes g at span) read → length (bytes_shown (held_before p log) read (from_oldest read log)) ≤ span
+  shown_span : (g : Gfid) (at span read : ℕ) → IsReadAt log (request.ReadBytes g at span) read → length (bytes_shown (held_before p log) read (from_oldest read log)) ≤ span
   shown_span g at span read w = subst (λ (line : Option Line). length (bytes_shown (held_before p log) read line) ≤ span) (sym w.line) within
     where
       content : List ℕ
@@ -160,8 +160,8 @@ piece_room n keeps L moves looks t a b g at span read m =
     let f = mend_fits n keeps r m.source (Copy g at span read) (mend_test n keeps r m.source b (Copy g at span read) m.allowed) tt in
     let turn = mend_turn n keeps r m.source b (Copy g at span read) m.allowed in
     let low : rank r.step ≤ 10 = turn_low n keeps r m.source Mends b turn in
-    let phase : r.phase ≡ Piece = piece_is keeps r m.source b r.law.kind r.phase f.1 f.2 (turn_in n keeps r m.source Mends b turn) in
-    let room = h.room phase (omega (arith, low)) in
+    let part : r.part ≡ Piece = piece_is keeps r m.source b r.law.kind r.part f.1 f.2 (turn_in n keeps r m.source Mends b turn) in
+    let room = h.room part (omega (arith, low)) in
     omega (arith, f.3, f.4, room)
 
 -- ---- in the words of the model

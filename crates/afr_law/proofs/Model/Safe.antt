@@ -25,7 +25,7 @@ use Rattle.afr_model.specs.Tables.{holds}
 use Rattle.afr_moves.specs.Cells.{is_cell, object_of, kind_of}
 use Rattle.afr_tables.specs.Codes.{value_code, cell_of, kept_by}
 use Rattle.afr_moves.specs.Past.{Log, changes, leaves_of, value}
-use Rattle.afr_law.specs.Safe.{Safe, Good, Current, Acknowledged}
+use Rattle.afr_law.specs.Safe.{Safe, IsGoodCopy, Current, Acknowledged}
 use Rattle.afr_law.specs.Safe as law
 use Rattle.afr_law.proofs.Safety.CellHistory.{safe}
 use Rattle.afr_moves.specs.Positions.{by_position}
@@ -91,7 +91,7 @@ module _ (p : Plan) (n : ℕ) (L : Log) (five : p.shape.n ≤ 5) (older : List L
       go (Some (Event x)) e hit same = absurd (true≢false (sym hit))
 
   good_is : (among : List ℕ) → IsWithin p.shape.n among → (b : ℕ) (cell : Cell) → is_good_copy p older among (object_of_cell cell) (kind_of_cell cell) b ≡ true
-      → kept_by p b (kind_of_cell cell) ≡ true → Good p.shape.n (kept_by p) (start_of p n) L (length older) (member among) (object_of_cell cell).0 (kind_of_cell cell) b
+      → kept_by p b (kind_of_cell cell) ≡ true → IsGoodCopy p.shape.n (kept_by p) (start_of p n) L (length older) (member among) (object_of_cell cell).0 (kind_of_cell cell) b
   good_is among within b cell good kept =
       let g = object_of_cell cell in
       let kind = kind_of_cell cell in
@@ -131,9 +131,9 @@ module _ (p : Plan) (n : ℕ) (L : Log) (five : p.shape.n ≤ 5) (older : List L
       real_is : is_cell (cell_of cell) ≡ true → IsCurrent p older b cell
       real_is real =
           let good_here = good_is among within b cell good kept in
-          let moved : Good p.shape.n (kept_by p) (start_of p n) L (length older) (member among) (object_of (cell_of cell)) (kind_of (cell_of cell)) b =
-          subst (λ (o : ℕ). Good p.shape.n (kept_by p) (start_of p n) L (length older) (member among) o (kind_of (cell_of cell)) b) (sym (object_cell cell))
-          (subst (λ (k : Kind). Good p.shape.n (kept_by p) (start_of p n) L (length older) (member among) g.0 k b) (sym (kind_cell cell)) good_here) in
+          let moved : IsGoodCopy p.shape.n (kept_by p) (start_of p n) L (length older) (member among) (object_of (cell_of cell)) (kind_of (cell_of cell)) b =
+          subst (λ (o : ℕ). IsGoodCopy p.shape.n (kept_by p) (start_of p n) L (length older) (member among) o (kind_of (cell_of cell)) b) (sym (object_cell cell))
+          (subst (λ (k : Kind). IsGoodCopy p.shape.n (kept_by p) (start_of p n) L (length older) (member among) g.0 k b) (sym (kind_cell cell)) good_here) in
           current_is b cell real kept (all (member among) many b (cell_of cell) moved)
 
       unreal : (cell : Cell) → is_cell (cell_of cell) ≡ false → IsCurrent p older b cell

@@ -38,7 +38,7 @@ use Rattle.afr_object.specs.TablesLemmas.{same_gfid}
 use Rattle.afr_plan.specs.declared.plan.Plan.{Plan}
 use Rattle.afr_tables.proofs.Sound.{EachCopy, each_all_made, each_changed, each_made}
 use Rattle.afr_moves.specs.Transaction.{EndsLow}
-use Rattle.afr_law.specs.ModelLaw.{IsKnown, IsLawful, IsRead, NamesReads}
+use Rattle.afr_law.specs.ModelLaw.{IsKnown, IsLawful, IsReadAt, NamesReads}
 use Rattle.std.proofs.lemmas.Option.{same_Some}
 
 -- ---- attributes in order
@@ -176,7 +176,7 @@ module _ (p : Plan) (older : List Line) (past : Past) (all : (k b : ℕ) → Eac
       go None e = tt
       go (Some o) e = (all k b g o e).1
 
-  bytes_end : (g : Gfid) (at span k : ℕ) → IsRead older (request.ReadBytes g at span) k → 0 < length (bytes_shown past k (from_oldest k older)) → at + length (bytes_shown past k (from_oldest k older)) ≤ 1048576
+  bytes_end : (g : Gfid) (at span k : ℕ) → IsReadAt older (request.ReadBytes g at span) k → 0 < length (bytes_shown past k (from_oldest k older)) → at + length (bytes_shown past k (from_oldest k older)) ≤ 1048576
   bytes_end g at span k w = subst (λ (line : Option Line). 0 < length (bytes_shown past k line) → at + length (bytes_shown past k line) ≤ 1048576) (sym w.line) (λ some. within some)
     where
       content : List ℕ
@@ -186,7 +186,7 @@ module _ (p : Plan) (older : List Line) (past : Past) (all : (k b : ℕ) → Eac
       within some = omega (arith, some, length-take span (drop at content), length-drop at content, content_short g k w.brick.0)
 
   -- attributes that a read showed
-  pub shown_rise : (g : Gfid) (k : ℕ) → IsRead older (request.ReadAttrs g) k → KeysRise (attrs_shown past k (from_oldest k older))
+  pub shown_rise : (g : Gfid) (k : ℕ) → IsReadAt older (request.ReadAttrs g) k → KeysRise (attrs_shown past k (from_oldest k older))
   shown_rise g k w = subst (λ (line : Option Line). KeysRise (attrs_shown past k line)) (sym w.line) (attrs_rise g k w.brick.0)
 
   carried_short : (repair : Repair) → NamesReads repair older → CarriesShort repair (carried past older repair)

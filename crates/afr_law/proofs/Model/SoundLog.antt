@@ -27,7 +27,7 @@ use Rattle.afr_moves.specs.Rules.{EachRead}
 use Rattle.afr_tables.proofs.Merged.{AreBelow, AllBelow, below_merged, rising_merged}
 use Rattle.afr_tables.proofs.Sound.{EachCopy, IsSound, NameFits, CarriesSound, each_changed, sound_applied, sound_mended, sound_opening}
 use Rattle.afr_tables.specs.Ends.{EndsInTime}
-use Rattle.afr_law.specs.ModelLaw.{IsRead, NamesReads, IsKnown, IsLawful, IsLawfulLine}
+use Rattle.afr_law.specs.ModelLaw.{IsReadAt, NamesReads, IsKnown, IsLawful, IsLawfulLine}
 use Rattle.std.proofs.lemmas.Option.{same_Some}
 
 -- a line that makes a new name makes one below n
@@ -113,7 +113,7 @@ module _ (p : Plan) (n : ℕ) (older : List Line) (past : Past) (all : (k b : �
       go None e = (tt, tt)
       go (Some o) e = (let w = all k b g o e in (w.0, w.1))
 
-  bytes_end : (g : Gfid) (at span k : ℕ) → IsRead older (request.ReadBytes g at span) k → 0 < length (bytes_shown past k (from_oldest k older)) → at + length (bytes_shown past k (from_oldest k older)) ≤ 2 ^ 63
+  bytes_end : (g : Gfid) (at span k : ℕ) → IsReadAt older (request.ReadBytes g at span) k → 0 < length (bytes_shown past k (from_oldest k older)) → at + length (bytes_shown past k (from_oldest k older)) ≤ 2 ^ 63
   bytes_end g at span k w = subst (λ (line : Option Line). 0 < length (bytes_shown past k line) → at + length (bytes_shown past k line) ≤ 2 ^ 63) (sym w.line) (λ some. within some)
     where
       content : List ℕ
@@ -122,10 +122,10 @@ module _ (p : Plan) (n : ℕ) (older : List Line) (past : Past) (all : (k b : �
       within : 0 < length (take span (drop at content)) → at + length (take span (drop at content)) ≤ 2 ^ 63
       within some = omega (arith, some, length-take span (drop at content), length-drop at content, content_short g k w.brick.0)
 
-  pub shown_sound : (g : Gfid) (k : ℕ) → IsRead older (request.List g) k → AreRising (names_shown past k (from_oldest k older)) × AreBelow n (names_shown past k (from_oldest k older))
+  pub shown_sound : (g : Gfid) (k : ℕ) → IsReadAt older (request.List g) k → AreRising (names_shown past k (from_oldest k older)) × AreBelow n (names_shown past k (from_oldest k older))
   shown_sound g k w = subst (λ (line : Option Line). AreRising (names_shown past k line) × AreBelow n (names_shown past k line)) (sym w.line) (names_sound g k w.brick.0)
 
-  all_below : (g : Gfid) (reads : List (Option ℕ)) → EachRead (IsRead older (request.List g)) reads → AllBelow n (all_names_shown past older reads)
+  all_below : (g : Gfid) (reads : List (Option ℕ)) → EachRead (IsReadAt older (request.List g)) reads → AllBelow n (all_names_shown past older reads)
   all_below g [] h = tt
   all_below g (None ∷ reads) h = all_below g reads h
   all_below g (Some k ∷ reads) h = ((shown_sound g k h.0).1, all_below g reads h.1)

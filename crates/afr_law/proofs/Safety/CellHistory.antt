@@ -18,14 +18,14 @@ use Rattle.afr_lines.specs.declared.line.Line.TheVariants.{Begin}
 use Rattle.afr_moves.specs.Cells.{Cell, covers}
 use Rattle.afr_moves.specs.Past.{Beginning, Log, born, before, brick_of, holds, touch, over, stamp, choose, left_by, leaves_of, values, value, named, posts, settled, changes, mends, joined, opening, object, object_of_line}
 use Rattle.afr_moves.specs.Honest.{HonestLine, Honest, finds, Shows, view_marks, asked, begins_attempt}
-use Rattle.afr_moves.specs.Rules.{Register, MayPost, MayMend, MaySettle, Views, ReadOf, CutOf, Contents, piece, Lawful, present, repair_kind}
+use Rattle.afr_moves.specs.Rules.{Register, MayPost, MayMend, MaySettle, UnaccusedViews, ReadOf, CutOf, BringsSeen, piece, Lawful, present, repair_kind}
 use Rattle.afr_moves.specs.Cells.{object_of, kind_of, Byte, Attr, Entry}
 use Rattle.afr_base.specs.declared.ids.Kind.TheVariants.{Bytes}
 use Rattle.afr_object.specs.declared.change.Repair.TheVariants.{CutTo, Copy, PutAttrs, PutNames}
 use Rattle.std.specs.Prelude.{slice_index, nat_le, nat_lt, length, List as Seq}
 use Rattle.afr_object.specs.declared.change.Change.TheVariants.{Write, Cut}
 use Rattle.afr_moves.specs.Cells.{fits, is_cell, touches}
-use Rattle.afr_law.specs.Safe.{Acknowledged, Current, Opening, Left, Good, Safe}
+use Rattle.afr_law.specs.Safe.{Acknowledged, Current, Opening, Left, IsGoodCopy, Safe}
 use Rattle.afr_law.proofs.Safety.Core.{History, Clean, kept_on, one_cell, one_read, reached, stamp_rises}
 use Rattle.afr_law.proofs.Safety.Locks.{before_is}
 use Rattle.afr_law.proofs.Safety.Numbers.{Recorded, Piece}
@@ -77,7 +77,7 @@ module _ (n : ℕ) (files : Beginning) (faults : ℕ → ℕ → Option Fault) (
       ]
 
   -- the copy s was clean at the looks of the register's number
-  pub clean : (t a : ℕ) (r : Register) (h s : ℕ) → Viewing files log t a r → r.number ≡ suc h → ((mine : Area) → r.area ≡ Some mine → covers mine cell ≡ true) → r.object ≡ object_of cell → r.kind ≡ kind_of cell → Views n files.keeps log t a r s
+  pub clean : (t a : ℕ) (r : Register) (h s : ℕ) → Viewing files log t a r → r.number ≡ suc h → ((mine : Area) → r.area ≡ Some mine → covers mine cell ≡ true) → r.object ≡ object_of cell → r.kind ≡ kind_of cell → UnaccusedViews n files.keeps log t a r s
       → Clean n (LooksCell log cell) (λ u x c. posts files log u x c (object_of cell) (kind_of cell)) (λ u x c. settled files log u x c (object_of cell) (kind_of cell)) h s
   clean t a r h s v number inside object_is kind_is views = record {
     among = views.among;
@@ -110,7 +110,7 @@ module _ (n : ℕ) (files : Beginning) (faults : ℕ → ℕ → Option Fault) (
     pub from : v ≡ value files log read s cell
     pub since : h ≤ read
     pub past : read ≤ t
-    pub source : Views n files.keeps log t a r s
+    pub source : UnaccusedViews n files.keeps log t a r s
 
   read_brings : (t a : ℕ) (r : Register) (h read : ℕ) → r.number ≡ suc h → ReadOf n files.keeps log t a r read → Brought t a r h (values files log t read (brick_of (before log t read)) cell)
   read_brings t a r h read number w = record {
@@ -140,7 +140,7 @@ module _ (n : ℕ) (files : Beginning) (faults : ℕ → ℕ → Option Fault) (
       → Brought t a r h (left_by (before log t) (values files log t) (log t) cell)
   brings t a b r h repair told is v number may inside = rw is (go repair (sym may.object_same ∙ (mends_plane repair cell inside).0) may.kind_same may.contents inside)
     where
-      go : (repair : Repair) → r.object ≡ object_of cell → repair_kind repair ≡ r.kind → Contents n files.keeps log t a r repair → mends repair cell ≡ true → Brought t a r h (left_by (before log t) (values files log t) (Some (ask_by a b (Mend repair) told true)) cell)
+      go : (repair : Repair) → r.object ≡ object_of cell → repair_kind repair ≡ r.kind → BringsSeen n files.keeps log t a r repair → mends repair cell ≡ true → Brought t a r h (left_by (before log t) (values files log t) (Some (ask_by a b (Mend repair) told true)) cell)
       go (CutTo g len) object_is same w inside = cut_brings t a r h g.0 len v number object_is inside same w
       go (Copy g at span read) object_is same w inside = read_brings t a r h read number w
       go (PutAttrs g read) object_is same w inside = read_brings t a r h read number w
@@ -354,7 +354,7 @@ untouched_value files log b cell e (suc t) = value_next files log t b cell ∙ g
     go (Mended a repair told is hit k) before = absurd (true≢false (sym hit ∙ no_mending repair cell e))
 
 module _ (n : ℕ) (files : Beginning) (faults : ℕ → ℕ → Option Fault) (log : Log) (honest : Honest files faults log) (lawful : Lawful n files.keeps log) where
-  real_cell : (t : ℕ) (among : ℕ → Bool) → IsMajority n among → (b : ℕ) (cell : Cell) → Good n files.keeps files log t among (object_of cell) (kind_of cell) b → is_cell cell ≡ true → fits (born files log (object_of cell)) cell ≡ true → Current files log t b cell
+  real_cell : (t : ℕ) (among : ℕ → Bool) → IsMajority n among → (b : ℕ) (cell : Cell) → IsGoodCopy n files.keeps files log t among (object_of cell) (kind_of cell) b → is_cell cell ≡ true → fits (born files log (object_of cell)) cell ≡ true → Current files log t b cell
   unfolding history
   real_cell t among majority b cell good real fit =
       let w = one_cell (history n files faults log honest lawful cell real fit) t b among majority good.copy good.below

@@ -19,7 +19,7 @@ use Rattle.afr_object.specs.declared.change.Change.TheVariants.{Write, Cut, SetA
 use Rattle.afr_moves.specs.Cells.{Entry}
 use Rattle.afr_moves.specs.Past.{Beginning, Log, before, is_of, blocks, joined, opening, place, opens, holds, object_of_line}
 use Rattle.afr_moves.specs.Honest.{KnownMake, Shows, finds, Answers, Tells, HonestAsk, HonestLine, Honest, asked, begins_attempt}
-use Rattle.afr_moves.specs.Rules.{Views, MayRaise, Sink, Full, Register, in_force, register, May, MayAsk, PlaneIs, ReadOf, Contents, EachRead, Lawful, opened, present}
+use Rattle.afr_moves.specs.Rules.{UnaccusedViews, MayRaise, Sink, Full, Register, in_force, register, May, MayAsk, PlaneIs, ReadOf, BringsSeen, EachRead, Lawful, opened, present}
 use Rattle.afr_moves.specs.Tally.{Tally, tally}
 use Rattle.afr_law.specs.Law.{opening_by, HonestNext, MayNext, HonestLog, LawfulLog, SafeLog}
 use Rattle.afr_law.specs.Safe.{Safe}
@@ -79,7 +79,7 @@ module _ (n : ℕ) (keeps : ℕ → Kind → Bool) (log : Log) (t : ℕ) where
   tally_log : (a : ℕ) → tally (before log t) t a ≡ tally log t a
   tally_log a = tally_same (before log t) log t (λ u h. before_is log t u h) a t (omega arith)
 
-  views_log : (a : ℕ) (r : Register) (s : ℕ) → Views n keeps (before log t) t a r s → Views n keeps log t a r s
+  views_log : (a : ℕ) (r : Register) (s : ℕ) → UnaccusedViews n keeps (before log t) t a r s → UnaccusedViews n keeps log t a r s
   views_log a r s w = record {
     among = w.among;
     majority = w.majority;
@@ -115,7 +115,7 @@ module _ (n : ℕ) (keeps : ℕ → Kind → Bool) (log : Log) (t : ℕ) where
   reads_log a r (None ∷ reads) h = reads_log a r reads h
   reads_log a r (Some read ∷ reads) h = (read_log a r read h.0, reads_log a r reads h.1)
 
-  contents_log : (a : ℕ) (r : Register) (repair : Repair) → Contents n keeps (before log t) t a r repair → Contents n keeps log t a r repair
+  contents_log : (a : ℕ) (r : Register) (repair : Repair) → BringsSeen n keeps (before log t) t a r repair → BringsSeen n keeps log t a r repair
   contents_log a r (CutTo g len) h = record { s = h.s; view = h.view; seen = h.seen; length = h.length; source = views_log a r h.s h.source }
   contents_log a r (Copy g at span read) h = read_log a r read h
   contents_log a r (PutAttrs g read) h = read_log a r read h

@@ -35,7 +35,7 @@ use Rattle.afr_moves.specs.Ranges.{Each, IsWord}
 use Rattle.afr_law.specs.Exactly.{IsLawfulExactly}
 use Rattle.afr_moves.specs.Rules.{fits_change}
 use Rattle.afr_law.specs.ModelFits.{HasCopy}
-use Rattle.afr_law.specs.ModelNext.{IsNext, MayAskNext, answered, is_carried}
+use Rattle.afr_law.specs.ModelNext.{IsNext, MayAskNext, answered, is_carried_out}
 use Rattle.afr_moves.specs.Past.{opens, place}
 use Rattle.afr_moves.specs.Positions.{by_position}
 use Rattle.afr_tables.specs.Carrying.{CanCarry}
@@ -173,7 +173,7 @@ next_5 = (
     none : (c : ℕ) → false ≡ (nat_lt c 1 && not (if c == 0 then true else false))
     none c = grind (arith, nat_tests)
 
-reaches : is_carried plan client brick (Post 2 file Attrs []) log_5 ≡ true
+reaches : is_carried_out plan client brick (Post 2 file Attrs []) log_5 ≡ true
 unfolding below
 reaches = refl
 

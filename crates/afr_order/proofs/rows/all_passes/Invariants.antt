@@ -1,7 +1,7 @@
 use Rattle.std.proofs.Common.{◌-◌, ℕ, length}
 use Rattle.afr_model.specs.Ordered.{actors_of, passes}
 use Rattle.afr_volume.specs.Right.{KeepsChosen}
-use Rattle.afr_order.specs.Going.{AreDone, Goes, Takes}
+use Rattle.afr_order.specs.Going.{ClientsAreDone, Goes, Takes}
 use Rattle.afr_order.proofs.rows.all_passes.Given as goal
 
 abbrev pub invariant-loop-volume : goal.invariant-loop-volume
@@ -9,7 +9,7 @@ invariant-loop-volume g l = record {
   goes : Goes l.fn.volume l.volume;
   taken : (rounds : ℕ) × Takes l.fn.volume.plan (passes rounds (actors_of l.fn.volume.plan)) l.fn.volume.log l.volume.log;
   chosen : KeepsChosen g.F.Fn g.G.Fn l.fn.rules l.fn.volume l.volume;
-  done : AreDone l.done l.volume;
+  done : ClientsAreDone l.done l.volume;
 }
 
 abbrev pub decreases-loop-volume : goal.decreases-loop-volume

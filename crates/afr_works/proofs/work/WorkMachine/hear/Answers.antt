@@ -1,6 +1,6 @@
 use Rattle.std.proofs.Common.{sym, ◌∙◌}
-use Rattle.afr_works.proofs.work.Work.hear.Goals as goal
-use Rattle.afr_works.proofs.work.Work.hear.Goals.{in-Lookup, in-Write, in-Entry, in-Rename}
+use Rattle.afr_works.proofs.work.WorkMachine.hear.Goals as goal
+use Rattle.afr_works.proofs.work.WorkMachine.hear.Goals.{in-Lookup, in-Write, in-Entry, in-Rename}
 
 pub returns-clause-picked : goal.returns-clause-picked
 returns-clause-picked g c =

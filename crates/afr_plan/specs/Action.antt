@@ -4,37 +4,37 @@ use Rattle.afr_plan.specs.Data.{IsData}
 use Rattle.afr_plan.specs.Spelling.{IsKey, IsNamedPath, IsNumber, IsPath, WordThen, Both}
 
 -- by its word; bytes, keys and values stand as they are, and the second path of a rename as its names
-pub data Work : Type 0 where
-  Write : (at : ℕ) (bytes : List ℕ) → Work
-  Cut : (len : ℕ) → Work
-  Read : (at len : ℕ) → Work
-  Create : Work
-  Mkdir : Work
-  Unlink : Work
-  Rmdir : Work
-  Ls : Work
-  Stat : Work
-  SetAttr : (key value : List ℕ) → Work
-  GetAttr : (key : List ℕ) → Work
-  Rename : (to : List (List ℕ)) → Work
+pub data Action : Type 0 where
+  Write : (at : ℕ) (bytes : List ℕ) → Action
+  Cut : (len : ℕ) → Action
+  Read : (at len : ℕ) → Action
+  Create : Action
+  Mkdir : Action
+  Unlink : Action
+  Rmdir : Action
+  Ls : Action
+  Stat : Action
+  SetAttr : (key value : List ℕ) → Action
+  GetAttr : (key : List ℕ) → Action
+  Rename : (to : List (List ℕ)) → Action
 
--- the word that stands for the work
-abbrev pub work_word : Work → List ℕ
-work_word (Write at bytes) = codes "write"
-work_word (Cut len) = codes "cut"
-work_word (Read at len) = codes "read"
-work_word Create = codes "create"
-work_word Mkdir = codes "mkdir"
-work_word Unlink = codes "unlink"
-work_word Rmdir = codes "rmdir"
-work_word Ls = codes "ls"
-work_word Stat = codes "stat"
-work_word (SetAttr key value) = codes "setattr"
-work_word (GetAttr key) = codes "getattr"
-work_word (Rename to) = codes "rename"
+-- the word that stands for the action
+abbrev pub action_word : Action → List ℕ
+action_word (Write at bytes) = codes "write"
+action_word (Cut len) = codes "cut"
+action_word (Read at len) = codes "read"
+action_word Create = codes "create"
+action_word Mkdir = codes "mkdir"
+action_word Unlink = codes "unlink"
+action_word Rmdir = codes "rmdir"
+action_word Ls = codes "ls"
+action_word Stat = codes "stat"
+action_word (SetAttr key value) = codes "setattr"
+action_word (GetAttr key) = codes "getattr"
+action_word (Rename to) = codes "rename"
 
 -- the bytes of a line say a command on a path
-abbrev pub IsCommand : List ℕ → List (List ℕ) → Work → Type 0
+abbrev pub IsCommand : List ℕ → List (List ℕ) → Action → Type 0
 IsCommand line path (Write at bytes) = WordThen (codes "write ") (Both IsPath (WordThen (codes " ") (Both IsNumber (WordThen (codes " ") IsData)))) line (path, (at, bytes))
 IsCommand line path (Cut len) = WordThen (codes "cut ") (Both IsPath (WordThen (codes " ") IsNumber)) line (path, len)
 IsCommand line path (Read at len) = WordThen (codes "read ") (Both IsPath (WordThen (codes " ") (Both IsNumber (WordThen (codes " ") IsNumber)))) line (path, (at, len))
