@@ -28,7 +28,7 @@ use Rattle.afr_lines.specs.declared.lock.Domain.TheVariants.{Work as WorkDomain,
 use Rattle.afr_plan.specs.declared.command.Command.{Command}
 use Rattle.afr_plan.specs.declared.command.Command.TheVariants as command
 use Rattle.afr_plan.specs.declared.plan.Plan.{Plan}
-use Rattle.afr_moves.proofs.AreaLemmas.{same_area_is, same_area_self}
+use Rattle.afr_model_moves.proofs.AreaLemmas.{same_area_is, same_area_self}
 use Rattle.afr_model.specs.Answered.{Counts, IsAbout, IsAsked, LooksHere, MayRead, ReadsNamed}
 use Rattle.afr_model.specs.Commands.{path_of, request_on}
 use Rattle.afr_model.specs.Refusals.{refusal}

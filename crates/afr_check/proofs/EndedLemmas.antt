@@ -23,7 +23,7 @@ use Rattle.afr_lines.specs.declared.request.Request.TheVariants as request
 use Rattle.afr_lines.specs.declared.lock.Domain.TheVariants.{Work as WorkDomain}
 use Rattle.afr_plan.specs.declared.command.Command.{Command}
 use Rattle.afr_plan.specs.declared.plan.Plan.{Plan}
-use Rattle.afr_moves.proofs.AreaLemmas.{same_area_is}
+use Rattle.afr_model_moves.proofs.AreaLemmas.{same_area_is}
 use Rattle.afr_model.specs.Answered.{IsAnswered, IsCaused, is_by_views}
 use Rattle.afr_model.specs.Commands.{area_on, is_rmdir, path_of}
 use Rattle.afr_model.specs.Refusals.{both_locked}

@@ -1,9 +1,9 @@
 -- The code's values are told apart as the definitions' are.
 use Rattle.std.proofs.Common.{◌≡◌, refl, ap, ◌∙◌, sym}
 use Rattle.afr_model.specs.Cells.{Value, IsByte, IsAttr, IsEntry}
-use Rattle.afr_replay.specs.Seen.{value_seen}
-use Rattle.afr_replay.specs.declared.cell.Value as code_values
-use Rattle.afr_replay.specs.declared.cell.Value.TheVariants as code_value
+use Rattle.afr_check_tables.specs.Seen.{value_seen}
+use Rattle.afr_check_tables.specs.declared.cell.Value as code_values
+use Rattle.afr_check_tables.specs.declared.cell.Value.TheVariants as code_value
 
 -- the code's value of a value
 abbrev pub back : Value → code_values.Value

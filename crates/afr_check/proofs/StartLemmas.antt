@@ -4,7 +4,7 @@ use Rattle.afr_lines.specs.Work.{Work, work, is_of, is_end}
 use Rattle.afr_lines.specs.declared.line.Line.{Line}
 use Rattle.afr_model.specs.Safe.{log_before}
 use Rattle.afr_check.specs.Freshness.{earliest, first_after}
-use Rattle.afr_replay.proofs.LogLemmas.{newest}
+use Rattle.afr_check_tables.proofs.LogLemmas.{newest}
 
 -- a work of the first lines of a log begins at a position, if it has a line
 abbrev pub Starts : Work → List Line → ℕ → Option ℕ → Type 0

@@ -20,11 +20,11 @@ use crate::showing::looked_by;
 use crate::standing::{area_here, looks_here};
 use crate::told::object_of;
 use afr_base::{ActorId, BrickId, Gfid, Kind, MOST_BRICKS};
+use afr_check_tables::{Unfit, same_area};
 use afr_choice::good;
 use afr_lines::{Area, Domain, Good, Line, Request};
 use afr_object::{Change, NameList};
 use afr_plan::{Command, Plan};
-use afr_replay::{Unfit, same_area};
 use std::alloc::Global;
 
 /// Whether a line that doesn't end the work is about what its actor's command names, in as many steps

@@ -2,16 +2,16 @@
 ghost use Rattle.std.specs.Prelude.{Err, ◌≡◌, ◌≤◌, ◌↔◌, ℕ, true, reverse, IfOk};
 ghost use Rattle.afr_base.specs.Keeping.{keeps};
 ghost use Rattle.afr_model.specs.Cells.{kind_of_cell};
-ghost use Rattle.afr_replay.specs.Room.{Fits};
-ghost use Rattle.afr_replay.specs.Seen.{cell_of};
+ghost use Rattle.afr_check_tables.specs.Room.{Fits};
+ghost use Rattle.afr_check_tables.specs.Seen.{cell_of};
 ghost use Rattle.afr_check.specs.Alike.{AreAlikeIn, AreAlikeInBytes, IsLike, IsLikeAll};
-ghost use Rattle.afr_tables.specs.Clear.{BlamesNone, IsClear, IsClearOn};
+ghost use Rattle.afr_law_tables.specs.Clear.{BlamesNone, IsClear, IsClearOn};
 
 use crate::current::same_value;
 use afr_base::{BrickId, Gfid, Kind, Shape};
+use afr_check_tables::{Cell, Unfit, dirty, pending, value};
 use afr_lines::Line;
 use afr_plan::Plan;
-use afr_replay::{Cell, Unfit, dirty, pending, value};
 use std::alloc::Global;
 
 /// Whether on every brick all the numbers of the object and kind are 0.

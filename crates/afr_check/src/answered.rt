@@ -15,10 +15,10 @@ use crate::reading::{Path, Reading, reading_by};
 use crate::refusals::refusal;
 use crate::standing::place_by;
 use afr_base::ActorId;
+use afr_check_tables::Unfit;
 use afr_lines::{Good, Line, Reply};
 use afr_object::List;
 use afr_plan::{Command, Plan};
-use afr_replay::Unfit;
 use std::alloc::Global;
 
 /// The reply to the command whose work the actor's last lines are, in as many steps as the square of

@@ -8,9 +8,9 @@ ghost use Rattle.afr_model.specs.Showing.{begun_after, begun_by};
 ghost use Rattle.afr_model.specs.Standing.{change_after, change_by};
 
 use afr_base::{ActorId, Kind};
+use afr_check_tables::{is_end, is_of};
 use afr_lines::Line;
 use afr_object::Change;
-use afr_replay::{is_end, is_of};
 
 /// The position of the attempt that the work has begun.
 pub(crate) fn begun_by(log: &[Line], a: ActorId) -> Option<usize>

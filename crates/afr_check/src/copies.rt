@@ -4,13 +4,13 @@ ghost use Rattle.std.specs.List.{list_any};
 ghost use Rattle.afr_base.specs.Bricks.{IsWithin};
 ghost use Rattle.afr_base.specs.Keeping.{keeps};
 ghost use Rattle.afr_model.specs.Safe.{accuses, is_good_copy};
-ghost use Rattle.afr_replay.specs.Room.{Fits};
+ghost use Rattle.afr_check_tables.specs.Room.{Fits};
 ghost use Rattle.afr_model.specs.Sums.{has_object};
 
 use afr_base::{BrickId, BrickSet, Gfid, Kind, Shape};
+use afr_check_tables::{Unfit, has_copy, pending, tables};
 use afr_lines::Line;
 use afr_plan::Plan;
-use afr_replay::{Unfit, has_copy, pending, tables};
 use std::alloc::Global;
 
 /// Whether brick `x` has operations that brick `c` missed.

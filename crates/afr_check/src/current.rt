@@ -4,14 +4,14 @@ ghost use Rattle.std.specs.Option.{option_copied};
 ghost use Rattle.afr_lines.specs.Log.{change_at};
 ghost use Rattle.afr_model.specs.Attempts.{IsCurrent, IsNoOlder, touches_if};
 ghost use Rattle.afr_check.specs.Last.{IsAcknowledgedOn, IsLastOf, IsLeftAt, IsLeftFrom, IsRecent, from_last};
-ghost use Rattle.afr_replay.specs.Room.{Fits};
-ghost use Rattle.afr_replay.specs.Seen.{cell_of, value_seen};
+ghost use Rattle.afr_check_tables.specs.Room.{Fits};
+ghost use Rattle.afr_check_tables.specs.Seen.{cell_of, value_seen};
 
 use afr_base::BrickId;
+use afr_check_tables::{Cell, Unfit, Value, change_at, is_acknowledged, leaves, touches, value};
 use afr_lines::Line;
 use afr_object::Change;
 use afr_plan::Plan;
-use afr_replay::{Cell, Unfit, Value, change_at, is_acknowledged, leaves, touches, value};
 use std::alloc::Global;
 
 /// Whether the brick's value was left by the last acknowledged attempt on the cell, or by a later one,

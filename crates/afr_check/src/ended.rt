@@ -13,9 +13,9 @@ use crate::phases::{Phase, among};
 use crate::skipped::{is_in, skips_nothing};
 use crate::standing::{area_here, looks_here, place_by};
 use afr_base::{ActorId, BrickSet, Gfid};
+use afr_check_tables::{Unfit, is_end, is_of};
 use afr_lines::{Area, Good, Line, Reply, Request};
 use afr_plan::{Command, Plan};
-use afr_replay::{Unfit, is_end, is_of};
 use std::alloc::Global;
 
 /// Whether the command whose work the actor's last lines are may end with this reply, the reply's

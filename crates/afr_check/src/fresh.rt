@@ -5,14 +5,14 @@ ghost use Rattle.afr_plan.specs.declared.plan.Plan.{Plan as SpecPlan};
 ghost use Rattle.afr_lines.specs.Work.{work};
 ghost use Rattle.afr_model.specs.Safe.{IsFresh, log_before, names_cell};
 ghost use Rattle.afr_check.specs.Freshness.{IsFreshIn, IsFreshInEach, ShowsNoOlder, earliest, first_after};
-ghost use Rattle.afr_replay.specs.Room.{Fits};
-ghost use Rattle.afr_replay.specs.Seen.{cell_of};
+ghost use Rattle.afr_check_tables.specs.Room.{Fits};
+ghost use Rattle.afr_check_tables.specs.Seen.{cell_of};
 
 use crate::current::is_no_older;
 use afr_base::{ActorId, BrickId, Gfid, KeyId, MOST_CLIENTS, NameId};
+use afr_check_tables::{Cell, Unfit, is_end, is_of, is_within};
 use afr_lines::{Line, Request, Told};
 use afr_plan::Plan;
-use afr_replay::{Cell, Unfit, is_end, is_of, is_within};
 use std::alloc::Global;
 
 /// Whether the line after these older ones is fresh in one cell. Each line but a client's read that

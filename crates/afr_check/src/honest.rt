@@ -1,14 +1,14 @@
 //! Whether each line was told what its brick then gives.
 ghost use Rattle.std.specs.Prelude.{Err, ℕ, ◌≡◌, ◌↔◌, ◌<◌, ◌≤◌, ◌^◌, suc, true, length, reverse, IfOk};
-ghost use Rattle.afr_replay.specs.Room.{Fits};
+ghost use Rattle.afr_check_tables.specs.Room.{Fits};
 ghost use Rattle.afr_model.specs.Honest.{Honest, IsHonest, fault_in, faulted, in_the_way, is_live, one_more, outcome_of, over_session, requests_to, tells};
 ghost use Rattle.afr_model.specs.Tables.{holds};
 
 use crate::told::{same_told, told};
 use afr_base::{ActorId, BrickId, NoMemory};
+use afr_check_tables::{Unfit, conflict, is_joined, opens_with, tables};
 use afr_lines::{Fault, Line, Request, Told};
 use afr_plan::{Plan, PlannedFault};
-use afr_replay::{Unfit, conflict, is_joined, opens_with, tables};
 use std::alloc::Global;
 use std::marker::Model;
 

@@ -15,10 +15,10 @@ use crate::showing::looked_by;
 use crate::standing::{both_locked, suffices};
 use crate::views::{by_area, by_views};
 use afr_base::{ActorId, Kind, What};
+use afr_check_tables::Unfit;
 use afr_lines::{Area, Good, Line, Reply};
 use afr_object::{Entry, NameList};
 use afr_plan::{Command, Plan};
-use afr_replay::Unfit;
 use std::alloc::Global;
 
 /// A change of a name in the directory that the path has led to.

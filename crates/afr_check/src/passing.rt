@@ -8,8 +8,8 @@ ghost use Rattle.afr_check.specs.Passing.{passed};
 
 use crate::areas::object_of_area;
 use afr_base::{ActorId, Gfid};
+use afr_check_tables::{is_end, is_of, same_area};
 use afr_lines::{Area, Domain, Line, Request, Told};
-use afr_replay::{is_end, is_of, same_area};
 
 /// What is asked of a line.
 #[derive(Clone, Copy)]

@@ -8,8 +8,8 @@ ghost use Rattle.afr_check.specs.Phases.{counted};
 
 use crate::areas::object_of_area;
 use afr_base::{ActorId, BrickId, BrickSet, Gfid, MOST_BRICKS};
+use afr_check_tables::{Unfit, is_end, is_of, same_area};
 use afr_lines::{Area, Domain, Line, Request, Told};
-use afr_replay::{Unfit, is_end, is_of, same_area};
 
 /// What bricks are counted for.
 #[derive(Clone, Copy)]

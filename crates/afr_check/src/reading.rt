@@ -8,10 +8,10 @@ ghost use Rattle.afr_check.specs.Readings.{path_seen, reading_seen};
 
 use afr_base::{ActorId, BrickId, Gfid, KeyId, NameId, What};
 use afr_brick::{Brick, Refused};
+use afr_check_tables::{Unfit, is_end, is_of, tables};
 use afr_lines::{Good, Line, Request, Told};
 use afr_object::Entry;
 use afr_plan::Plan;
-use afr_replay::{Unfit, is_end, is_of, tables};
 use std::alloc::Global;
 
 /// At an object, after so many names; or the last name isn't there, or wasn't told.

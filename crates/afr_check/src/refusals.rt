@@ -13,10 +13,10 @@ use crate::reading::Path;
 use crate::standing::place_by;
 use crate::views::{by_area, by_last_looks};
 use afr_base::{ActorId, Kind, LONGEST_FILE, What};
+use afr_check_tables::Unfit;
 use afr_lines::{Area, Line, Reply};
 use afr_object::Entry;
 use afr_plan::{Command, Plan};
-use afr_replay::Unfit;
 use std::alloc::Global;
 
 const FILE_LIMIT: u128 = LONGEST_FILE as u128;

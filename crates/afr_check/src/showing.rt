@@ -5,9 +5,9 @@ ghost use Rattle.afr_model.specs.Showing.{look_shows, looked_after, looked_by};
 
 use crate::areas::object_of_area;
 use afr_base::{ActorId, BrickId, Gfid, MOST_BRICKS};
+use afr_check_tables::{Unfit, is_end, is_of};
 use afr_choice::Looked;
 use afr_lines::{Domain, Line, Request, Told};
-use afr_replay::{Unfit, is_end, is_of};
 
 /// What the last looks at an object show.
 pub(crate) fn looked_by(log: &[Line], a: ActorId, g: Gfid) -> Result<Looked, Unfit>

@@ -25,11 +25,11 @@ use crate::showing::looked_by;
 use crate::standing::{both_locked, place_by, suffices};
 use crate::told::object_of;
 use afr_base::{ActorId, BrickSet, Gfid, Kind, What};
+use afr_check_tables::Unfit;
 use afr_choice::holders;
 use afr_lines::{Area, Domain, Line, Request};
 use afr_object::{Change, Entry};
 use afr_plan::{Command, Plan};
-use afr_replay::Unfit;
 use std::alloc::Global;
 
 pub(crate) fn skips_nothing(

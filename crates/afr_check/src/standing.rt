@@ -15,10 +15,10 @@ use crate::phases::{Phase, among};
 use crate::reading::{Path, at_root, path_after, path_by};
 use crate::showing::looked_by;
 use afr_base::{ActorId, BrickSet, Gfid, Kind, Shape};
+use afr_check_tables::{Unfit, is_end, is_of};
 use afr_choice::{Looked, good, holders};
 use afr_lines::{Area, Line};
 use afr_plan::{Command, Plan};
-use afr_replay::{Unfit, is_end, is_of};
 use std::alloc::Global;
 
 /// Where the path to the object of the command has led: the whole path, or all but its last name.

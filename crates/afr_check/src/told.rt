@@ -10,9 +10,9 @@ ghost use Rattle.afr_check.specs.Telling.{seen_told};
 
 use afr_base::{ActorId, Gfid};
 use afr_brick::Brick;
+use afr_check_tables::{change_at, has_copy};
 use afr_lines::{Line, Request, Told};
 use afr_object::{Change, Repair, View};
-use afr_replay::{change_at, has_copy};
 
 /// What the log keeps of the answer, by the brick's tables and by who is in the way of a lock.
 #[tactic(auto, using(crate::proofs::ToldLemmas::look_told, crate::proofs::ToldLemmas::bytes_told, crate::proofs::ToldLemmas::name_told, crate::proofs::ToldLemmas::list_told, crate::proofs::ToldLemmas::attr_told, crate::proofs::ToldLemmas::attrs_told, crate::proofs::ToldLemmas::pre_told, crate::proofs::ToldLemmas::post_told, crate::proofs::ToldLemmas::mend_told, crate::proofs::ToldLemmas::settle_told))]

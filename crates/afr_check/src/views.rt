@@ -8,11 +8,11 @@ use crate::areas::object_of_area;
 use crate::phases::{Phase, among};
 use crate::showing::looked_by;
 use afr_base::{ActorId, Gfid, Kind, NoMemory, Shape};
+use afr_check_tables::Unfit;
 use afr_choice::{Looked, Verdict, good, holders, judge};
 use afr_lines::{Area, Line, Reply};
 use afr_object::Views;
 use afr_plan::Plan;
-use afr_replay::Unfit;
 use std::alloc::Global;
 
 /// By the last looks at the object.

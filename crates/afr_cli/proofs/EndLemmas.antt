@@ -2,8 +2,8 @@
 use Rattle.std.proofs.Common.{Result, Ok, Err, ◌≡◌, ◌+◌, ◌*◌, List, true, false, length, inl, inr, sym, ◌∙◌, true≢false}
 use Rattle.std.specs.Prelude.{OnOk, is_err}
 use Rattle.std.proofs.lemmas.Bool.{cases_lt}
-use Rattle.afr_bound.specs.Law.{AreEager}
-use Rattle.afr_bound.specs.Left.{bound_of}
+use Rattle.afr_law_bound.specs.Ends.Law.{AreEager}
+use Rattle.afr_law_bound.specs.Ends.Left.{bound_of}
 use Rattle.afr_cli.specs.Live.{IsShortLive}
 use Rattle.afr_cli.specs.Statuses.{IsShort, IsWorkLeft}
 use Rattle.afr_lines.specs.declared.line.Line.{Line}

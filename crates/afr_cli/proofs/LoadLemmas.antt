@@ -1,8 +1,8 @@
 -- The plan of a generated load has more turns than its bound.
 use Rattle.std.proofs.Common.{◌≡◌, ◌≢◌, ◌⊎◌, ◌+◌, ◌*◌, ◌≤◌, ◌%◌, ◌==◌, ℕ, zero, suc, Bool, true, false, List, [], ◌∷◌, ◌++◌, length, inl, inr, refl, subst, arith, ◌∙◌}
 use Rattle.std.specs.Prelude.{map, if◌then◌else◌}
-use Rattle.afr_bound.specs.Cost.{cost_of, makes, total}
-use Rattle.afr_bound.specs.Left.{bound_of, itself}
+use Rattle.afr_law_bound.specs.Ends.Cost.{cost_of, makes, total}
+use Rattle.afr_law_bound.specs.Ends.Left.{bound_of, itself}
 use Rattle.afr_cli.specs.Statuses.{IsShort}
 use Rattle.afr_gen.specs.Generated.{block, command, generated, lot, offset, path, plan_with, script, sets, values}
 use Rattle.afr_plan.specs.declared.command.Command.{Command}

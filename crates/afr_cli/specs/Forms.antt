@@ -3,8 +3,8 @@ use Rattle.std.specs.Prelude.{ℕ, List, Bool, true, false}
 use Rattle.afr_lines.specs.declared.line.Line.{Line}
 use Rattle.afr_plan.specs.declared.plan.Plan.{Plan}
 use Rattle.afr_model.specs.ReportHealers.{info_of, report_of}
-use Rattle.afr_summary.specs.Summary.{summary_of}
-use Rattle.afr_trace.specs.Lines.{trace_of}
+use Rattle.afr_report.specs.Summary.Summary.{summary_of}
+use Rattle.afr_report_trace.specs.Lines.{trace_of}
 use Rattle.afr_words.specs.declared.form.Form.{Form}
 use Rattle.afr_words.specs.declared.form.Form.TheVariants as kind
 

@@ -1,7 +1,7 @@
 -- What the program says of a run by threads.
 use Rattle.std.specs.Prelude.{◌≡◌, ◌<◌, ◌+◌, ◌*◌, ℕ, List, Option, Some, String, length}
 use Rattle.std.specs.Global.{Global}
-use Rattle.afr_bound.specs.Left.{bound_of}
+use Rattle.afr_law_bound.specs.Ends.Left.{bound_of}
 use Rattle.afr_text.specs.Causes.{Rose}
 use Rattle.afr_text.specs.Parts.{AppendsFront}
 use Rattle.afr_plan.specs.declared.plan.Plan.{Plan}

@@ -2,12 +2,12 @@
 ghost use Rattle.std.specs.Prelude.{◌≡◌, Err, IfOk};
 ghost use Rattle.afr_text.specs.Causes.{Rose};
 ghost use Rattle.afr_plan.specs.declared.plan.PlanFault.{PlanFault};
-ghost use Rattle.afr_runnable.specs.Runnable.{IsRunnable};
+ghost use Rattle.afr_law_runnable.specs.Runnable.{IsRunnable};
 ghost use Rattle.afr_cli.specs.Statuses.{IsRefused, IsSpelled};
 
+use afr_law_runnable::every_spelled_plan_runs;
 use afr_plan::{Plan, PlanFault, PlanStop};
 use afr_plan_read::read_plan;
-use afr_runnable::every_spelled_plan_runs;
 use afr_text::{ReadStop, Source, read_all};
 use std::alloc::Global;
 

@@ -8,12 +8,12 @@ use Rattle.afr_object.specs.declared.entry.View.{View}
 use Rattle.afr_lines.specs.declared.request.Area.{Area}
 use Rattle.afr_lines.specs.declared.request.Area.TheVariants.{Range, Name}
 use Rattle.afr_base.specs.Kinds.{same_kind}
-use Rattle.afr_moves.specs.Sets.{any}
-use Rattle.afr_moves.specs.Rules.{LastPosted, Register, area_object, busy, is_area}
-use Rattle.afr_moves.specs.Register.{Exact, IsArea, PlaneIn, Step, area_kind, asked_in, good, rank}
-use Rattle.afr_moves.specs.Transaction.{MayWork, Once, OneOf, SufficesBy}
+use Rattle.afr_model_moves.specs.Sets.{any}
+use Rattle.afr_model_moves.specs.Rules.{LastPosted, Register, area_object, busy, is_area}
+use Rattle.afr_model_moves.specs.Register.{Exact, IsArea, PlaneIn, Step, area_kind, asked_in, good, rank}
+use Rattle.afr_model_moves.specs.Transaction.{MayWork, Once, OneOf, SufficesBy}
 use Rattle.afr_discipline.specs.Tests.{is_open, is_valid, last_posted, may_work, once, one_of, plane_in, suffices_by}
-use Rattle.afr_moves.proofs.Tests.{some_yes, some_no, most_yes, most_no, same_kind_yes, same_kind_self}
+use Rattle.afr_model_moves.proofs.Tests.{some_yes, some_no, most_yes, most_no, same_kind_yes, same_kind_self}
 
 then_part : (c x y : Bool) → (if c then x else y) ≡ true → c ≡ true → x ≡ true
 then_part true x y h k = h

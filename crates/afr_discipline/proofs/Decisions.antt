@@ -15,24 +15,24 @@ use Rattle.afr_lines.specs.declared.request.Area.{Area}
 use Rattle.afr_lines.specs.declared.request.Area.TheVariants.{Range, Name}
 use Rattle.afr_lines.specs.declared.request.Request.{Request}
 use Rattle.afr_lines.specs.declared.request.Request.TheVariants.{Lock, Unlock, Look, ReadBytes, ReadName, List as ListNames, ReadAttr, ReadAttrs, Index, Pre, Apply, Post, Mend, Settle}
-use Rattle.afr_moves.specs.Sets.{any}
-use Rattle.afr_moves.specs.Cells.{what_code}
-use Rattle.afr_moves.specs.Honest.{plane_kind}
-use Rattle.afr_moves.specs.Rules.{busy, fits_change, heal_area}
-use Rattle.afr_moves.specs.Discipline.{MayAskExactly}
-use Rattle.afr_moves.specs.Heal.{InHeal, Goes, Gives, MayHealEnd}
-use Rattle.afr_moves.specs.Register.{Exact, Step, Untouched, Open, Pres, Applies, Posts, HealLocks, WorkLocks, Looks, Reads, HealPres, Mends, Settles, Unlocks, HealUnlocks, all, holder, kind_in, same_step}
-use Rattle.afr_moves.specs.Transaction.{EndsLow, LiesIn, MayApply, MayBegin, MayEnd, MayOpen, MayPost, MayPre, Outside}
+use Rattle.afr_model_moves.specs.Sets.{any}
+use Rattle.afr_model_moves.specs.Cells.{what_code}
+use Rattle.afr_model_moves.specs.Honest.{plane_kind}
+use Rattle.afr_model_moves.specs.Rules.{busy, fits_change, heal_area}
+use Rattle.afr_model_moves.specs.Discipline.{MayAskExactly}
+use Rattle.afr_model_moves.specs.Heal.{InHeal, Goes, Gives, MayHealEnd}
+use Rattle.afr_model_moves.specs.Register.{Exact, Step, Untouched, Open, Pres, Applies, Posts, HealLocks, WorkLocks, Looks, Reads, HealPres, Mends, Settles, Unlocks, HealUnlocks, all, holder, kind_in, same_step}
+use Rattle.afr_model_moves.specs.Transaction.{EndsLow, LiesIn, MayApply, MayBegin, MayEnd, MayOpen, MayPost, MayPre, Outside}
 use Rattle.afr_discipline.specs.declared.register.Move.{Move}
 use Rattle.afr_discipline.specs.declared.register.Move.TheVariants as move
 use Rattle.afr_discipline.specs.Moves.{IffTrue, MayMove}
 use Rattle.afr_discipline.specs.declared.register.Register.{Register}
-use Rattle.afr_moves.specs.Keeps.{keeps_in}
+use Rattle.afr_model_moves.specs.Keeps.{keeps_in}
 use Rattle.afr_discipline.specs.Stands.{seen_as}
 use Rattle.afr_discipline.proofs.StandsLemmas.{filled}
 use Rattle.afr_discipline.specs.Tests.{ends_low, fits_view, has_name, is_heal_area, last_posted, lies_in, may_apply, may_ask_outside, may_begin, may_end, may_move_outside, may_open, may_post, may_pre, misses, once, plane_in, same_flag, suffices_by}
 use Rattle.afr_discipline.proofs.Decides.{le_test, posted_yes, posted_no, work_yes, work_no, once_yes, once_no, suffices_yes, suffices_no, plane_yes, plane_no}
-use Rattle.afr_moves.proofs.Tests.{all_yes, all_no, most_yes, most_no, some_number}
+use Rattle.afr_model_moves.proofs.Tests.{all_yes, all_no, most_yes, most_no, some_number}
 
 -- the change lies in the area
 name_yes : (name : Option NameId) (m : NameId) → has_name name m ≡ true → (name ≡ None) ⊎ (name ≡ Some m)

@@ -8,26 +8,26 @@ use Rattle.afr_object.specs.declared.change.Repair.TheVariants.{CutTo, Copy, Put
 use Rattle.afr_lines.specs.declared.lock.Domain.TheVariants.{Work, Heal}
 use Rattle.afr_lines.specs.declared.request.Request.{Request}
 use Rattle.afr_lines.specs.declared.request.Request.TheVariants.{Lock, Unlock, Look, ReadBytes, List as ListNames, ReadAttrs, Pre, Mend, Settle}
-use Rattle.afr_moves.specs.Sets.{any}
-use Rattle.afr_moves.specs.Rules.{busy, is_area}
-use Rattle.afr_moves.specs.Discipline.{MayAskExactly}
-use Rattle.afr_moves.specs.Heal.{InHeal, Goes, Gives, IsUnlock, MayHealBegin, MayHealEnd}
-use Rattle.afr_moves.specs.Register.{Exact, Step, HealUnlocks, WorkLocks, HealPart, Opening, Piece, Finish, over, same_step, whole_area}
-use Rattle.afr_moves.specs.Steps.{locks_at, may_heal}
-use Rattle.afr_moves.specs.Transaction.{MayEnd}
-use Rattle.afr_moves.proofs.AreaLemmas.{is_area_is}
+use Rattle.afr_model_moves.specs.Sets.{any}
+use Rattle.afr_model_moves.specs.Rules.{busy, is_area}
+use Rattle.afr_model_moves.specs.Discipline.{MayAskExactly}
+use Rattle.afr_model_moves.specs.Heal.{InHeal, Goes, Gives, IsUnlock, MayHealBegin, MayHealEnd}
+use Rattle.afr_model_moves.specs.Register.{Exact, Step, HealUnlocks, WorkLocks, HealPart, Opening, Piece, Finish, over, same_step, whole_area}
+use Rattle.afr_model_moves.specs.Steps.{locks_at, may_heal}
+use Rattle.afr_model_moves.specs.Transaction.{MayEnd}
+use Rattle.afr_model_moves.proofs.AreaLemmas.{is_area_is}
 use Rattle.afr_lines.specs.Overlap.{same_area}
 use Rattle.afr_discipline.specs.declared.register.Move.{Move}
 use Rattle.afr_discipline.specs.declared.register.Move.TheVariants as move
 use Rattle.afr_discipline.specs.declared.register.Register.{Register}
 use Rattle.afr_discipline.specs.Inside.{allows, begins_part, is_unlock, may_ask_inside, may_end_heal, may_heal_begin, may_move, may_move_inside}
 use Rattle.afr_discipline.specs.Moves.{IffTrue, MayMove}
-use Rattle.afr_moves.specs.Keeps.{keeps_in}
+use Rattle.afr_model_moves.specs.Keeps.{keeps_in}
 use Rattle.afr_discipline.specs.Stands.{Stands, seen_as}
 use Rattle.afr_discipline.specs.Tests.{may_move_outside}
 use Rattle.afr_discipline.proofs.StandsLemmas.{filled, is_filled}
 use Rattle.afr_discipline.proofs.Decisions.{decided, asks_unseen}
-use Rattle.afr_moves.proofs.Tests.{some_yes, some_no, most_yes, most_no, same_kind_yes, same_kind_self, work_locks}
+use Rattle.afr_model_moves.proofs.Tests.{some_yes, some_no, most_yes, most_no, same_kind_yes, same_kind_self, work_locks}
 
 unlock_yes : (request : Request) → is_unlock request ≡ true → IsUnlock request
 unlock_yes (Unlock domain area) h = tt

@@ -4,10 +4,10 @@ use Rattle.std.proofs.lemmas.Bool.Decides.{nat_tests}
 use Rattle.afr_base.specs.Bricks.{member, minus}
 use Rattle.afr_base.specs.SetLemmas.{member_minus}
 use Rattle.afr_base.specs.declared.ids.Kind.{Kind}
-use Rattle.afr_moves.specs.Keeps.{keeps_in}
-use Rattle.afr_moves.specs.Register.{Exact, Step, asked_in, over, rank, same_step}
-use Rattle.afr_moves.specs.Sets.{any, empty}
-use Rattle.afr_moves.specs.Steps.{set_of, turn}
+use Rattle.afr_model_moves.specs.Keeps.{keeps_in}
+use Rattle.afr_model_moves.specs.Register.{Exact, Step, asked_in, over, rank, same_step}
+use Rattle.afr_model_moves.specs.Sets.{any, empty}
+use Rattle.afr_model_moves.specs.Steps.{set_of, turn}
 use Rattle.afr_discipline.specs.Left.{AreLeft}
 use Rattle.afr_discipline.specs.Notes.{asked_at}
 use Rattle.afr_discipline.specs.Stands.{seen_as, step_of}

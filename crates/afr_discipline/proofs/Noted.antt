@@ -4,20 +4,20 @@ use Rattle.afr_base.specs.declared.ids.Kind.{Kind}
 use Rattle.afr_choice.specs.Looks.{no_looks}
 use Rattle.afr_lines.specs.declared.answer.Told.{Told}
 use Rattle.afr_lines.specs.declared.request.Request.{Request}
-use Rattle.afr_moves.specs.Sets.{empty}
-use Rattle.afr_moves.specs.Past.{is_gone}
-use Rattle.afr_moves.specs.Rules as weak
-use Rattle.afr_moves.specs.Rules.{no_views}
-use Rattle.afr_moves.specs.Note.{left_by, stopping}
-use Rattle.afr_moves.specs.Register as exact
-use Rattle.afr_moves.specs.Register.{Exact, no_reads, untouched}
+use Rattle.afr_model_moves.specs.Sets.{empty}
+use Rattle.afr_model_moves.specs.Past.{is_gone}
+use Rattle.afr_model_moves.specs.Rules as weak
+use Rattle.afr_model_moves.specs.Rules.{no_views}
+use Rattle.afr_model_moves.specs.Note.{left_by, stopping}
+use Rattle.afr_model_moves.specs.Register as exact
+use Rattle.afr_model_moves.specs.Register.{Exact, no_reads, untouched}
 use Rattle.afr_discipline.specs.declared.register.Move.{Move}
 use Rattle.afr_discipline.specs.declared.register.Move.TheVariants as move
 use Rattle.afr_discipline.specs.declared.register.Register.{Register}
 use Rattle.afr_discipline.specs.declared.register.Step.TheVariants.{Open, Looks}
 use Rattle.afr_discipline.specs.Moves.{note_move}
 use Rattle.afr_discipline.specs.Notes.{AsksBelow, dropped, joined, noted, noted_ask, noted_begin, noted_law, noted_part, noted_steps}
-use Rattle.afr_moves.specs.Keeps.{keeps_in}
+use Rattle.afr_model_moves.specs.Keeps.{keeps_in}
 use Rattle.afr_discipline.specs.Stands.{HasFive, Stands, no_lines}
 use Rattle.afr_discipline.proofs.StandsLemmas.{no_reads_kept, no_views_shown, stands_untouched}
 use Rattle.afr_discipline.proofs.NotedShape.{steps_shape}

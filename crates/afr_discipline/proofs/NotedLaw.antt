@@ -13,12 +13,12 @@ use Rattle.afr_lines.specs.declared.answer.Told.TheVariants.{Granted, Seen, Done
 use Rattle.afr_lines.specs.declared.request.Area.{Area}
 use Rattle.afr_lines.specs.declared.request.Request.{Request}
 use Rattle.afr_lines.specs.declared.request.Request.TheVariants.{Lock, Unlock, Look, Pre, Apply, Post, Mend, Settle}
-use Rattle.afr_moves.specs.Sets.{with, without}
-use Rattle.afr_moves.specs.Past.{is_gone}
-use Rattle.afr_moves.specs.Rules as weak
+use Rattle.afr_model_moves.specs.Sets.{with, without}
+use Rattle.afr_model_moves.specs.Past.{is_gone}
+use Rattle.afr_model_moves.specs.Rules as weak
 use Rattle.afr_lines.specs.Overlap.{same_area}
-use Rattle.afr_moves.specs.Rules.{area_object, heal_area, is_area}
-use Rattle.afr_moves.specs.Note.{is_done}
+use Rattle.afr_model_moves.specs.Rules.{area_object, heal_area, is_area}
+use Rattle.afr_model_moves.specs.Note.{is_done}
 use Rattle.afr_discipline.specs.declared.register.Register.{Register}
 use Rattle.afr_discipline.specs.declared.register.Step.TheVariants.{Open, Looks}
 use Rattle.afr_discipline.specs.Notes.{anew, dropped, heal_left, heal_locked, is_working, joined, locked, named, noted_law, published, released, second_in, second_left, stopped, taken, with_held}

@@ -2,11 +2,11 @@
 use Rattle.std.proofs.Common.{ℕ, ◌<◌, ◌≤◌, Bool, true, false, if◌then◌else◌, sym, subst}
 use Rattle.afr_lines.specs.declared.answer.Told.{Told}
 use Rattle.afr_lines.specs.declared.request.Request.{Request}
-use Rattle.afr_moves.specs.Note.{left_by}
-use Rattle.afr_moves.specs.Register.{Exact}
+use Rattle.afr_model_moves.specs.Note.{left_by}
+use Rattle.afr_model_moves.specs.Register.{Exact}
 use Rattle.afr_discipline.specs.declared.register.Register.{Register}
 use Rattle.afr_discipline.specs.Notes.{noted_steps}
-use Rattle.afr_moves.specs.Keeps.{keeps_in}
+use Rattle.afr_model_moves.specs.Keeps.{keeps_in}
 use Rattle.afr_discipline.specs.Stands.{HasFive, Stands}
 use Rattle.afr_discipline.proofs.StandsLemmas.{filled, is_filled}
 use Rattle.afr_discipline.proofs.StepsOutside.{MayMatch, StepsStand, outside_stands}

@@ -4,14 +4,14 @@ use Rattle.afr_base.specs.Bricks.{member}
 use Rattle.afr_base.specs.SetLemmas.{count_same}
 use Rattle.afr_base.specs.declared.ids.BrickId.{BrickId}
 use Rattle.afr_base.specs.declared.ids.Shape.{Shape}
-use Rattle.afr_moves.specs.Rules.{Register as LawRegister}
-use Rattle.afr_moves.specs.Note.{stopping, stops_at}
-use Rattle.afr_moves.specs.Register as exact
-use Rattle.afr_moves.specs.Register.{Exact, asked_in, good, over, same_step}
-use Rattle.afr_moves.specs.Steps.{goes_on, looks_at}
+use Rattle.afr_model_moves.specs.Rules.{Register as LawRegister}
+use Rattle.afr_model_moves.specs.Note.{stopping, stops_at}
+use Rattle.afr_model_moves.specs.Register as exact
+use Rattle.afr_model_moves.specs.Register.{Exact, asked_in, good, over, same_step}
+use Rattle.afr_model_moves.specs.Steps.{goes_on, looks_at}
 use Rattle.afr_discipline.specs.declared.register.Register.{Register}
 use Rattle.afr_discipline.specs.Notes.{joined, published, stopped}
-use Rattle.afr_moves.specs.Keeps.{keeps_in}
+use Rattle.afr_model_moves.specs.Keeps.{keeps_in}
 use Rattle.afr_discipline.specs.Stands.{Stands, attempt_of, has_begun, heal_of, least, seen_as, sole, source_of, step_of, views_of}
 use Rattle.afr_discipline.proofs.StandsLemmas.{filled}
 use Rattle.afr_discipline.proofs.HealDecisions.{any_same}

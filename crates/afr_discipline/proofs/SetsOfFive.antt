@@ -9,11 +9,11 @@ use Rattle.afr_base.specs.SetLemmas.{member_added, member_added_if, member_remov
 use Rattle.afr_object.specs.declared.entry.View.{View}
 use Rattle.afr_choice.specs.Looks.{with_look, without_look}
 use Rattle.afr_choice.specs.declared.looked.Looked.{Looked}
-use Rattle.afr_moves.specs.Sets.{empty, with, without}
-use Rattle.afr_moves.specs.Note.{put}
+use Rattle.afr_model_moves.specs.Sets.{empty, with, without}
+use Rattle.afr_model_moves.specs.Note.{put}
 use Rattle.afr_discipline.specs.Notes.{picked}
 use Rattle.afr_discipline.specs.Stands.{reads_of, views_of}
-use Rattle.afr_moves.proofs.Tests.{same_self, turned, or_choice, and_choice}
+use Rattle.afr_model_moves.proofs.Tests.{same_self, turned, or_choice, and_choice}
 
 -- ---- one brick more or less
 -- the test of a set and one more brick is that of the set with it

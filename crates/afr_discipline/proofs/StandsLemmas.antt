@@ -5,8 +5,8 @@ use Rattle.afr_base.specs.SetLemmas.{below_all}
 use Rattle.afr_base.specs.declared.ids.Shape.{Shape}
 use Rattle.afr_object.specs.declared.entry.View.{View}
 use Rattle.afr_choice.specs.Looks.{no_looks}
-use Rattle.afr_moves.specs.Rules.{no_views}
-use Rattle.afr_moves.specs.Register.{Exact, untouched, no_reads}
+use Rattle.afr_model_moves.specs.Rules.{no_views}
+use Rattle.afr_model_moves.specs.Register.{Exact, untouched, no_reads}
 use Rattle.afr_discipline.specs.declared.register.Register.{Register}
 use Rattle.afr_discipline.specs.Stands.{Stands, no_lines, seen_as, views_of, reads_of}
 

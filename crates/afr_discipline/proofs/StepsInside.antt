@@ -9,17 +9,17 @@ use Rattle.afr_lines.specs.declared.request.Area.{Area}
 use Rattle.afr_lines.specs.declared.request.Request.{Request}
 use Rattle.afr_lines.specs.declared.request.Request.TheVariants.{Lock, Unlock, Look, ReadBytes, List as ListNames, ReadAttrs, Pre, Mend, Settle}
 use Rattle.afr_lines.specs.Overlap.{same_area}
-use Rattle.afr_moves.specs.Note.{answers, breaks, entering, fails, given, is_failed, is_given, is_granted, left_in_heal, next_part, put_first, put_look, reading}
-use Rattle.afr_moves.specs.Register as exact
-use Rattle.afr_moves.specs.Register.{Exact, is_opening, same_step, whole_area}
-use Rattle.afr_moves.specs.Steps.{may_heal}
+use Rattle.afr_model_moves.specs.Note.{answers, breaks, entering, fails, given, is_failed, is_given, is_granted, left_in_heal, next_part, put_first, put_look, reading}
+use Rattle.afr_model_moves.specs.Register as exact
+use Rattle.afr_model_moves.specs.Register.{Exact, is_opening, same_step, whole_area}
+use Rattle.afr_model_moves.specs.Steps.{may_heal}
 use Rattle.afr_discipline.specs.declared.register.Register.{Register}
 use Rattle.afr_discipline.specs.declared.register.Step.TheVariants.{HealLocks, WorkLocks, HealPres, Mends, Settles, Unlocks, HealUnlocks}
 use Rattle.afr_discipline.specs.declared.register.HealPart.{HealPart}
 use Rattle.afr_discipline.specs.declared.register.HealPart.TheVariants.{Piece, Finish}
 use Rattle.afr_discipline.specs.Inside.{allows}
 use Rattle.afr_discipline.specs.Notes.{broken_by, entered, leaves_open, looked_inside, noted_inside, part_after, read_inside, still_possible, upto_after}
-use Rattle.afr_moves.specs.Keeps.{keeps_in}
+use Rattle.afr_model_moves.specs.Keeps.{keeps_in}
 use Rattle.afr_discipline.specs.Stands.{HasFive, heal_part_of, seen_as, step_of}
 use Rattle.afr_discipline.proofs.StandsLemmas.{filled}
 use Rattle.afr_discipline.proofs.HealDecisions.{heal_unseen}

@@ -5,10 +5,10 @@ use Rattle.afr_base.specs.declared.ids.Kind.{Kind}
 use Rattle.afr_lines.specs.declared.request.Request.{Request}
 use Rattle.afr_lines.specs.declared.request.Request.TheVariants.{Unlock}
 use Rattle.afr_base.specs.Kinds.{same_kind}
-use Rattle.afr_moves.specs.Sets.{any}
-use Rattle.afr_moves.specs.Rules.{busy, is_area}
-use Rattle.afr_moves.specs.Register.{Exact, HealPart, HealUnlocks, Opening, WorkLocks, over, same_step, whole_area}
-use Rattle.afr_moves.specs.Steps.{locks_at, may_heal}
+use Rattle.afr_model_moves.specs.Sets.{any}
+use Rattle.afr_model_moves.specs.Rules.{busy, is_area}
+use Rattle.afr_model_moves.specs.Register.{Exact, HealPart, HealUnlocks, Opening, WorkLocks, over, same_step, whole_area}
+use Rattle.afr_model_moves.specs.Steps.{locks_at, may_heal}
 use Rattle.afr_discipline.specs.declared.register.Move.{Move}
 use Rattle.afr_discipline.specs.declared.register.Move.TheVariants.{Ask, Begin, HealBegin, End}
 use Rattle.afr_discipline.specs.Tests.{may_move_outside}

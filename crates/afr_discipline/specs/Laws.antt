@@ -2,8 +2,8 @@
 use Rattle.std.specs.Prelude.{◌≡◌, ℕ, ◌≤◌}
 use Rattle.afr_base.specs.declared.ids.Shape.{Shape}
 use Rattle.afr_lines.specs.declared.answer.Told.{Told}
-use Rattle.afr_moves.specs.Keeps.{keeps_in}
-use Rattle.afr_moves.specs.Register.{Exact, untouched}
+use Rattle.afr_model_moves.specs.Keeps.{keeps_in}
+use Rattle.afr_model_moves.specs.Register.{Exact, untouched}
 use Rattle.afr_discipline.specs.declared.register.Move.{Move}
 use Rattle.afr_discipline.specs.declared.register.Register.{Register}
 use Rattle.afr_discipline.specs.Inside.{may_move}

@@ -5,9 +5,9 @@ use Rattle.afr_base.specs.declared.ids.Kind.{Kind}
 use Rattle.afr_discipline.specs.Stands.{seen_as, step_of}
 use Rattle.afr_discipline.specs.declared.register.Register.{Register}
 use Rattle.afr_discipline.specs.declared.register.Step.{Step as TheStep}
-use Rattle.afr_moves.specs.Keeps.{keeps_in}
-use Rattle.afr_moves.specs.Register.{Exact, Step, asked_in}
-use Rattle.afr_moves.specs.Steps.{set_of}
+use Rattle.afr_model_moves.specs.Keeps.{keeps_in}
+use Rattle.afr_model_moves.specs.Register.{Exact, Step, asked_in}
+use Rattle.afr_model_moves.specs.Steps.{set_of}
 
 -- the step asks the brick, and hasn't yet
 abbrev pub waits : ℕ → (ℕ → Kind → Bool) → Exact → ℕ → Step → ℕ → Bool

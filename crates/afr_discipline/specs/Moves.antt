@@ -2,11 +2,11 @@
 use Rattle.std.specs.Prelude.{◌≡◌, ℕ, ◌<◌, Bool, true, ◌⊎◌, if◌then◌else◌, Some}
 use Rattle.afr_base.specs.declared.ids.Kind.{Kind}
 use Rattle.afr_lines.specs.declared.answer.Told.{Told}
-use Rattle.afr_moves.specs.Lines.{ask_by, begin_by, heal_begin_by}
-use Rattle.afr_moves.specs.Discipline.{MayAskExactly, note}
-use Rattle.afr_moves.specs.Register.{Exact, untouched}
-use Rattle.afr_moves.specs.Transaction.{MayBegin, MayEnd}
-use Rattle.afr_moves.specs.Heal.{MayHealBegin, MayHealEnd}
+use Rattle.afr_model_moves.specs.Lines.{ask_by, begin_by, heal_begin_by}
+use Rattle.afr_model_moves.specs.Discipline.{MayAskExactly, note}
+use Rattle.afr_model_moves.specs.Register.{Exact, untouched}
+use Rattle.afr_model_moves.specs.Transaction.{MayBegin, MayEnd}
+use Rattle.afr_model_moves.specs.Heal.{MayHealBegin, MayHealEnd}
 use Rattle.afr_discipline.specs.declared.register.Move.{Move}
 use Rattle.afr_discipline.specs.declared.register.Move.TheVariants.{Ask, Begin, HealBegin, End}
 

@@ -11,11 +11,11 @@ use Rattle.afr_lines.specs.declared.request.Area.{Area}
 use Rattle.afr_lines.specs.declared.request.Request.{Request}
 use Rattle.afr_lines.specs.declared.request.Request.TheVariants.{Lock, Unlock, Look, ReadBytes, List as ListNames, ReadAttrs, Pre, Apply, Post, Mend, Settle}
 use Rattle.afr_lines.specs.Overlap.{same_area}
-use Rattle.afr_moves.specs.Past.{is_gone}
-use Rattle.afr_moves.specs.Rules.{area_object, busy, heal_area, is_area}
-use Rattle.afr_moves.specs.Note.{answers, fails, given, is_done, is_failed, is_given, is_granted, is_held, stops_at, view_of}
-use Rattle.afr_moves.specs.Register as exact
-use Rattle.afr_moves.specs.Register.{is_on, is_opening, is_piece, rank, same_step, span, whole_area}
+use Rattle.afr_model_moves.specs.Past.{is_gone}
+use Rattle.afr_model_moves.specs.Rules.{area_object, busy, heal_area, is_area}
+use Rattle.afr_model_moves.specs.Note.{answers, fails, given, is_done, is_failed, is_given, is_granted, is_held, stops_at, view_of}
+use Rattle.afr_model_moves.specs.Register as exact
+use Rattle.afr_model_moves.specs.Register.{is_on, is_opening, is_piece, rank, same_step, span, whole_area}
 use Rattle.afr_discipline.specs.declared.register.Move.{Move}
 use Rattle.afr_discipline.specs.declared.register.Move.TheVariants as move
 use Rattle.afr_discipline.specs.declared.register.Register.{Register}
@@ -24,7 +24,7 @@ use Rattle.afr_discipline.specs.declared.register.Step.TheVariants.{Open, Pres, 
 use Rattle.afr_discipline.specs.declared.register.HealPart.{HealPart}
 use Rattle.afr_discipline.specs.declared.register.HealPart.TheVariants.{Piece, Finish}
 use Rattle.afr_discipline.specs.Inside.{allows}
-use Rattle.afr_moves.specs.Keeps.{keeps_in}
+use Rattle.afr_model_moves.specs.Keeps.{keeps_in}
 use Rattle.afr_discipline.specs.Stands.{attempt_of, has_begun, heal_of, heal_part_of, no_lines, seen_as, source_of, step_of}
 
 -- the actor holds a Work lock

@@ -10,11 +10,11 @@ use Rattle.afr_base.specs.declared.ids.Shape.{Shape}
 use Rattle.afr_object.specs.declared.entry.View.{View}
 use Rattle.afr_choice.specs.Looks.{no_looks, view_at}
 use Rattle.afr_choice.specs.declared.looked.Looked.{Looked}
-use Rattle.afr_moves.specs.Sets.{any}
-use Rattle.afr_moves.specs.Keeps.{keeps_in}
-use Rattle.afr_moves.specs.Rules.{fresh}
-use Rattle.afr_moves.specs.Register as exact
-use Rattle.afr_moves.specs.Register.{Exact, Mends, asked_in, good}
+use Rattle.afr_model_moves.specs.Sets.{any}
+use Rattle.afr_model_moves.specs.Keeps.{keeps_in}
+use Rattle.afr_model_moves.specs.Rules.{fresh}
+use Rattle.afr_model_moves.specs.Register as exact
+use Rattle.afr_model_moves.specs.Register.{Exact, Mends, asked_in, good}
 use Rattle.afr_discipline.specs.declared.register.Register.{Register}
 use Rattle.afr_discipline.specs.declared.register.Step.{Step}
 use Rattle.afr_discipline.specs.declared.register.Step.TheVariants as step

@@ -13,13 +13,13 @@ use Rattle.afr_lines.specs.declared.request.Area.TheVariants.{Range, Name}
 use Rattle.afr_lines.specs.declared.request.Request.{Request}
 use Rattle.afr_lines.specs.declared.request.Request.TheVariants.{Lock, Pre, Apply, Post, Mend, Settle}
 use Rattle.afr_base.specs.Kinds.{same_kind}
-use Rattle.afr_moves.specs.Sets.{any}
-use Rattle.afr_moves.specs.Cells.{what_code}
-use Rattle.afr_moves.specs.Honest.{plane_kind}
-use Rattle.afr_moves.specs.Rules.{Register, busy, is_area, fits_change, area_object}
+use Rattle.afr_model_moves.specs.Sets.{any}
+use Rattle.afr_model_moves.specs.Cells.{what_code}
+use Rattle.afr_model_moves.specs.Honest.{plane_kind}
+use Rattle.afr_model_moves.specs.Rules.{Register, busy, is_area, fits_change, area_object}
 use Rattle.afr_discipline.specs.declared.register.Move.{Move}
 use Rattle.afr_discipline.specs.declared.register.Move.TheVariants.{Ask, Begin, HealBegin, End}
-use Rattle.afr_moves.specs.Register.{Exact, Step, Untouched, Pres, Applies, Posts, rank, same_step, asked_in, all, holder, good, area_kind, kind_in}
+use Rattle.afr_model_moves.specs.Register.{Exact, Step, Untouched, Pres, Applies, Posts, rank, same_step, asked_in, all, holder, good, area_kind, kind_in}
 
 -- no second area was named yet
 abbrev pub is_open : Option Area → Bool

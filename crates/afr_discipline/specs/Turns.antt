@@ -2,11 +2,11 @@
 use Rattle.std.specs.Prelude.{ℕ, zero, suc, ◌+◌, nat_lt, Bool, if◌then◌else◌, Option, None, Some, ◌&&◌, slice_index, ◌∷◌, []}
 use Rattle.afr_base.specs.declared.marks.Marks.{Marks}
 use Rattle.afr_object.specs.declared.entry.View.{View}
-use Rattle.afr_moves.specs.Honest.{view_marks}
+use Rattle.afr_model_moves.specs.Honest.{view_marks}
 use Rattle.afr_base.specs.declared.ids.BrickId.{BrickId}
 use Rattle.afr_base.specs.declared.ids.Kind.{Kind}
-use Rattle.afr_moves.specs.Register.{Exact, Step, all, holder}
-use Rattle.afr_moves.specs.Steps.{changed, goes_on, raised, turn}
+use Rattle.afr_model_moves.specs.Register.{Exact, Step, all, holder}
+use Rattle.afr_model_moves.specs.Steps.{changed, goes_on, raised, turn}
 
 -- the one that is there, or else n where it passes
 abbrev pub later : Option ℕ → ℕ → Bool → Option ℕ

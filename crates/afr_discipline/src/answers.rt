@@ -1,7 +1,7 @@
 //! What an answer tells of its request.
 ghost use Rattle.std.specs.Prelude.{◌≡◌};
-ghost use Rattle.afr_moves.specs.Note.{answers, fails, given, is_done, is_failed, is_given, is_granted, is_held, view_of};
-ghost use Rattle.afr_moves.specs.Past.{is_gone};
+ghost use Rattle.afr_model_moves.specs.Note.{answers, fails, given, is_done, is_failed, is_given, is_granted, is_held, view_of};
+ghost use Rattle.afr_model_moves.specs.Past.{is_gone};
 
 use afr_lines::Told;
 use afr_object::View;

@@ -1,8 +1,8 @@
 //! What an area is, and which changes lie in it.
 ghost use Rattle.std.specs.Prelude.{◌≡◌, ◌+◌, ◌^◌, length, nat_lt, if◌then◌else◌};
-ghost use Rattle.afr_moves.specs.Honest.{plane_kind};
-ghost use Rattle.afr_moves.specs.Rules.{area_object, is_area};
-ghost use Rattle.afr_moves.specs.Register.{area_kind, is_on, kind_in};
+ghost use Rattle.afr_model_moves.specs.Honest.{plane_kind};
+ghost use Rattle.afr_model_moves.specs.Rules.{area_object, is_area};
+ghost use Rattle.afr_model_moves.specs.Register.{area_kind, is_on, kind_in};
 ghost use Rattle.afr_lines.specs.Overlap.{same_area};
 ghost use Rattle.afr_base.specs.Kinds.{same_kind};
 ghost use Rattle.afr_lines.specs.Locks.{same_name};

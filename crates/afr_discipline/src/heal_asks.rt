@@ -1,9 +1,9 @@
 //! Which request a heal may make: one that some copy allows, of those that its lines leave as the source.
 ghost use Rattle.std.specs.Prelude.{◌≡◌, ◌<◌, ◌≤◌};
-ghost use Rattle.afr_moves.specs.Sets.{any};
-ghost use Rattle.afr_moves.specs.Steps.{may_heal};
+ghost use Rattle.afr_model_moves.specs.Sets.{any};
+ghost use Rattle.afr_model_moves.specs.Steps.{may_heal};
 ghost use Rattle.afr_discipline.specs.Inside.{allows, is_unlock, may_ask_inside};
-ghost use Rattle.afr_moves.specs.Keeps.{keeps_in};
+ghost use Rattle.afr_model_moves.specs.Keeps.{keeps_in};
 ghost use Rattle.afr_discipline.specs.Stands.{seen_as};
 
 use crate::heal_moves::{

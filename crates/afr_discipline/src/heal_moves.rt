@@ -1,13 +1,13 @@
 //! Which request a heal may make, if one copy is its source.
 ghost use Rattle.std.specs.Prelude.{◌≡◌, ◌<◌, ◌≤◌, ◌&&◌, ◌||◌, nat_lt, if◌then◌else◌, not, false};
 ghost use Rattle.afr_base.specs.Bricks.{member};
-ghost use Rattle.afr_moves.specs.Sets.{empty};
-ghost use Rattle.afr_moves.specs.Rules.{heal_area};
-ghost use Rattle.afr_moves.specs.Register.{is_finish, len_of, over, piece_area, whole_area};
-ghost use Rattle.afr_moves.specs.Steps.{after_unlocks, is_lowest, is_next, is_whole, locks_at, may_heal, may_heal_work, onward, turn};
+ghost use Rattle.afr_model_moves.specs.Sets.{empty};
+ghost use Rattle.afr_model_moves.specs.Rules.{heal_area};
+ghost use Rattle.afr_model_moves.specs.Register.{is_finish, len_of, over, piece_area, whole_area};
+ghost use Rattle.afr_model_moves.specs.Steps.{after_unlocks, is_lowest, is_next, is_whole, locks_at, may_heal, may_heal_work, onward, turn};
 ghost use Rattle.afr_lines.specs.Overlap.{same_area};
 ghost use Rattle.afr_base.specs.Kinds.{same_kind};
-ghost use Rattle.afr_moves.specs.Keeps.{keeps_in};
+ghost use Rattle.afr_model_moves.specs.Keeps.{keeps_in};
 ghost use Rattle.afr_discipline.specs.Stands.{heal_part_of, seen_as, step_of, views_of};
 
 use crate::areas::{is_same_area, is_same_kind, is_the_area};

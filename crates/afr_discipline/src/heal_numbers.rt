@@ -1,9 +1,9 @@
 //! The numbers that a heal takes back, if one copy is its source.
 ghost use Rattle.std.specs.Prelude.{◌≡◌, ◌<◌, ◌≤◌, ◌+◌, ◌==◌, ◌&&◌, nat_lt, slice_index, if◌then◌else◌, Some};
-ghost use Rattle.afr_moves.specs.Honest.{view_marks};
-ghost use Rattle.afr_moves.specs.Register.{all, holder};
-ghost use Rattle.afr_moves.specs.Steps.{changed, may_heal, raised, takes};
-ghost use Rattle.afr_moves.specs.Keeps.{keeps_in};
+ghost use Rattle.afr_model_moves.specs.Honest.{view_marks};
+ghost use Rattle.afr_model_moves.specs.Register.{all, holder};
+ghost use Rattle.afr_model_moves.specs.Steps.{changed, may_heal, raised, takes};
+ghost use Rattle.afr_model_moves.specs.Keeps.{keeps_in};
 ghost use Rattle.afr_discipline.specs.Stands.{seen_as, views_of};
 
 use crate::heal_sets::is_turn;

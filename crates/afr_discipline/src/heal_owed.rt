@@ -1,6 +1,6 @@
 //! The numbers that a heal takes back at a brick, if one copy is its source.
 ghost use Rattle.std.specs.Prelude.{◌≡◌, ◌<◌, ◌≤◌};
-ghost use Rattle.afr_moves.specs.Keeps.{keeps_in};
+ghost use Rattle.afr_model_moves.specs.Keeps.{keeps_in};
 ghost use Rattle.afr_discipline.specs.Stands.{seen_as, views_of};
 ghost use Rattle.afr_discipline.specs.Turns.{dirty_less, less_in, marks_in, pending_less};
 

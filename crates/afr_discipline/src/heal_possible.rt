@@ -1,7 +1,7 @@
 //! The copies that may still be the source of a heal after a request.
 ghost use Rattle.std.specs.Prelude.{◌≡◌, ◌<◌, ◌≤◌, true};
 ghost use Rattle.afr_lines.specs.declared.request.Request.{Request};
-ghost use Rattle.afr_moves.specs.Keeps.{keeps_in};
+ghost use Rattle.afr_model_moves.specs.Keeps.{keeps_in};
 ghost use Rattle.afr_discipline.specs.Alike.{IsAlike};
 ghost use Rattle.afr_discipline.specs.Notes.{still_possible};
 ghost use Rattle.afr_discipline.specs.Stands.{seen_as};

@@ -1,9 +1,9 @@
 //! The repairs of a heal, if one copy is its source.
 ghost use Rattle.std.specs.Prelude.{◌≡◌, ◌<◌, ◌≤◌, slice_index_or, None};
-ghost use Rattle.afr_moves.specs.Rules.{some_read};
-ghost use Rattle.afr_moves.specs.Register.{is_opening};
-ghost use Rattle.afr_moves.specs.Steps.{may_heal, may_mend, same_read, same_reads};
-ghost use Rattle.afr_moves.specs.Keeps.{keeps_in};
+ghost use Rattle.afr_model_moves.specs.Rules.{some_read};
+ghost use Rattle.afr_model_moves.specs.Register.{is_opening};
+ghost use Rattle.afr_model_moves.specs.Steps.{may_heal, may_mend, same_read, same_reads};
+ghost use Rattle.afr_model_moves.specs.Keeps.{keeps_in};
 ghost use Rattle.afr_discipline.specs.Stands.{heal_part_of, reads_of, seen_as};
 ghost use Rattle.afr_discipline.specs.Five.{has_read};
 

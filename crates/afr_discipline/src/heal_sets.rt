@@ -1,10 +1,10 @@
 //! The bricks that each step of a heal asks, if one copy is its source.
 ghost use Rattle.std.specs.Prelude.{◌≡◌, ℕ, ◌<◌, ◌≤◌, ◌&&◌, not};
 ghost use Rattle.afr_base.specs.declared.ids.Kind.{Kind};
-ghost use Rattle.afr_moves.specs.Register.{asked_in, good, holder, over};
-ghost use Rattle.afr_moves.specs.Steps.{is_only, locks_at, looks_at, mends_at, other, passed, pres_at, reads_at, set_of, settles_at, sink, turn};
-ghost use Rattle.afr_moves.specs.Keeps.{keeps_in};
-ghost use Rattle.afr_moves.specs.Sets.{any};
+ghost use Rattle.afr_model_moves.specs.Register.{asked_in, good, holder, over};
+ghost use Rattle.afr_model_moves.specs.Steps.{is_only, locks_at, looks_at, mends_at, other, passed, pres_at, reads_at, set_of, settles_at, sink, turn};
+ghost use Rattle.afr_model_moves.specs.Keeps.{keeps_in};
+ghost use Rattle.afr_model_moves.specs.Sets.{any};
 ghost use Rattle.afr_base.specs.Bricks.{member};
 ghost use Rattle.afr_discipline.specs.Left.{AreLeft};
 ghost use Rattle.afr_discipline.specs.Stands.{heal_part_of, seen_as, step_of, views_of};

@@ -1,7 +1,7 @@
 //! Whose turn it is in a step of a heal, and which copy may be its source.
 ghost use Rattle.std.specs.Prelude.{◌≡◌, ℕ, Bool, ◌≤◌};
 ghost use Rattle.afr_base.specs.Bricks.{member};
-ghost use Rattle.afr_moves.specs.Keeps.{keeps_in};
+ghost use Rattle.afr_model_moves.specs.Keeps.{keeps_in};
 ghost use Rattle.afr_discipline.specs.Five.{Gives};
 ghost use Rattle.afr_discipline.specs.Stands.{seen_as, step_of};
 ghost use Rattle.afr_discipline.specs.Turns.{brick_of, candidate, find, turn_of};

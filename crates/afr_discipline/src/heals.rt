@@ -1,10 +1,10 @@
 //! Which move a heal may make, if one copy is its source.
 ghost use Rattle.std.specs.Prelude.{◌≡◌, ◌<◌, ◌≤◌, ◌&&◌, slice_index, ◌==◌, ◌||◌, not};
 ghost use Rattle.afr_base.specs.Majority.{is_most};
-ghost use Rattle.afr_moves.specs.Sets.{any};
-ghost use Rattle.afr_moves.specs.Register.{all, has_number, holder, len_of, shows_number};
-ghost use Rattle.afr_moves.specs.Steps.{changed, goes_on, goes_on_at, looks_over, mends_over, onward, pres_over, raised, reads_over, settles_over, sink};
-ghost use Rattle.afr_moves.specs.Keeps.{keeps_in};
+ghost use Rattle.afr_model_moves.specs.Sets.{any};
+ghost use Rattle.afr_model_moves.specs.Register.{all, has_number, holder, len_of, shows_number};
+ghost use Rattle.afr_model_moves.specs.Steps.{changed, goes_on, goes_on_at, looks_over, mends_over, onward, pres_over, raised, reads_over, settles_over, sink};
+ghost use Rattle.afr_model_moves.specs.Keeps.{keeps_in};
 ghost use Rattle.afr_discipline.specs.Stands.{heal_part_of, seen_as, views_of};
 
 use crate::areas::is_same_kind;

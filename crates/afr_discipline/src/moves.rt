@@ -1,9 +1,9 @@
 //! Whether the discipline allows a move.
 ghost use Rattle.std.specs.Prelude.{◌≡◌, ◌≤◌};
-ghost use Rattle.afr_moves.specs.Register.{Exact};
+ghost use Rattle.afr_model_moves.specs.Register.{Exact};
 ghost use Rattle.afr_discipline.specs.Inside.{begins_part, may_end_heal, may_heal_begin, may_move, may_move_inside};
 ghost use Rattle.afr_discipline.specs.Moves.{IffTrue, MayMove};
-ghost use Rattle.afr_moves.specs.Keeps.{keeps_in};
+ghost use Rattle.afr_model_moves.specs.Keeps.{keeps_in};
 ghost use Rattle.afr_discipline.specs.Stands.{Stands, heal_part_of, seen_as};
 
 use crate::areas::{is_same_kind, is_the_area};

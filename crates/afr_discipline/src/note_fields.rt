@@ -1,9 +1,9 @@
 //! The fields of a register that are for its readers alone: what the others say of the attempt, the heal and its source.
 ghost use Rattle.std.specs.Prelude.{◌≡◌, ◌<◌, ◌≤◌, ◌&&◌, false};
 ghost use Rattle.afr_base.specs.Bricks.{member};
-ghost use Rattle.afr_moves.specs.Register.{good};
+ghost use Rattle.afr_model_moves.specs.Register.{good};
 ghost use Rattle.afr_discipline.specs.Notes.{published};
-ghost use Rattle.afr_moves.specs.Keeps.{keeps_in};
+ghost use Rattle.afr_model_moves.specs.Keeps.{keeps_in};
 ghost use Rattle.afr_discipline.specs.Stands.{attempt_of, has_begun, heal_of, seen_as, sole, source_of, views_of};
 
 use crate::note_steps::asked_at;

@@ -1,6 +1,6 @@
 //! What a request of a heal and its answer leave in a register: the step, the looks, the reads and the part.
 ghost use Rattle.std.specs.Prelude.{◌≡◌, ◌+◌, ◌^◌, ◌<◌, ◌≤◌, false};
-ghost use Rattle.afr_moves.specs.Register.{is_piece, span};
+ghost use Rattle.afr_model_moves.specs.Register.{is_piece, span};
 ghost use Rattle.afr_discipline.specs.Notes.{broken_by, leaves_open, looked_inside, noted_inside, noted_steps, part_after, read_inside, upto_after};
 ghost use Rattle.afr_discipline.specs.Stands.{heal_part_of};
 

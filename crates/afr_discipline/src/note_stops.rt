@@ -1,11 +1,11 @@
 //! Whether a step ends a heal: too few locks, or looks with which no copy may be the source.
 ghost use Rattle.std.specs.Prelude.{◌≡◌, ◌<◌, ◌≤◌, ◌&&◌};
 ghost use Rattle.afr_base.specs.Bricks.{member};
-ghost use Rattle.afr_moves.specs.Sets.{any};
-ghost use Rattle.afr_moves.specs.Note.{stops_at};
-ghost use Rattle.afr_moves.specs.Steps.{goes_on};
+ghost use Rattle.afr_model_moves.specs.Sets.{any};
+ghost use Rattle.afr_model_moves.specs.Note.{stops_at};
+ghost use Rattle.afr_model_moves.specs.Steps.{goes_on};
 ghost use Rattle.afr_discipline.specs.Notes.{stopped};
-ghost use Rattle.afr_moves.specs.Keeps.{keeps_in};
+ghost use Rattle.afr_model_moves.specs.Keeps.{keeps_in};
 ghost use Rattle.afr_discipline.specs.Stands.{seen_as, step_of};
 
 use crate::heal_sets::is_over;

@@ -1,9 +1,9 @@
 //! What a move and its answer leave in a register.
 ghost use Rattle.std.specs.Prelude.{◌≡◌, ◌+◌, ◌^◌, ◌<◌, ◌≤◌, if◌then◌else◌, length};
-ghost use Rattle.afr_moves.specs.Register.{Exact, span};
+ghost use Rattle.afr_model_moves.specs.Register.{Exact, span};
 ghost use Rattle.afr_discipline.specs.Moves.{note_move};
 ghost use Rattle.afr_discipline.specs.Notes.{AsksBelow, noted, noted_ask, noted_begin, noted_part, upto_noted};
-ghost use Rattle.afr_moves.specs.Keeps.{keeps_in};
+ghost use Rattle.afr_model_moves.specs.Keeps.{keeps_in};
 ghost use Rattle.afr_discipline.specs.Stands.{Stands, no_lines};
 
 use crate::answers::is_gone;

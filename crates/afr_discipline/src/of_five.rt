@@ -2,8 +2,8 @@
 ghost use Rattle.std.specs.Prelude.{◌≡◌, ℕ, Bool, ◌≤◌, ◌==◌, filter, if◌then◌else◌, slice_get};
 ghost use Rattle.afr_base.specs.Bricks.{all_five};
 ghost use Rattle.afr_base.specs.Majority.{count_below, is_most};
-ghost use Rattle.afr_moves.specs.Sets.{any};
-ghost use Rattle.afr_moves.specs.Register.{all};
+ghost use Rattle.afr_model_moves.specs.Sets.{any};
+ghost use Rattle.afr_model_moves.specs.Register.{all};
 ghost use Rattle.afr_discipline.specs.Five.{Gives};
 ghost use Rattle.afr_discipline.specs.Notes.{picked};
 ghost use Rattle.afr_discipline.specs.Stands.{least, sole};

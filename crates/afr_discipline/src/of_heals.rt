@@ -1,6 +1,6 @@
 //! What a register says of a heal, and where its lines are.
 ghost use Rattle.std.specs.Prelude.{◌≡◌};
-ghost use Rattle.afr_moves.specs.Register.{Exact};
+ghost use Rattle.afr_model_moves.specs.Register.{Exact};
 ghost use Rattle.afr_discipline.specs.Stands.{Stands};
 
 use crate::register::{HealPart, Register, Step};

@@ -1,9 +1,9 @@
 //! Which moves a work may make outside its heals.
 ghost use Rattle.std.specs.Prelude.{◌≡◌, ◌<◌, ◌≤◌, false, suc, ◌==◌, ◌&&◌, not, nat_lt};
 ghost use Rattle.afr_base.specs.Bricks.{member};
-ghost use Rattle.afr_moves.specs.Rules.{busy};
-ghost use Rattle.afr_moves.specs.Register.{all};
-ghost use Rattle.afr_moves.specs.Keeps.{keeps_in};
+ghost use Rattle.afr_model_moves.specs.Rules.{busy};
+ghost use Rattle.afr_model_moves.specs.Register.{all};
+ghost use Rattle.afr_model_moves.specs.Keeps.{keeps_in};
 ghost use Rattle.afr_discipline.specs.Stands.{number_of, seen_as};
 ghost use Rattle.afr_discipline.specs.Tests.{last_posted, may_apply, may_ask_outside, may_begin, may_end, may_move_outside, may_open, may_post, may_pre, may_work, misses, one_of, same_flag};
 

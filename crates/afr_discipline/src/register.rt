@@ -1,6 +1,6 @@
 //! The register of an actor: what the lines of one work outside its heals, or of one heal, show.
 ghost use Rattle.std.specs.Prelude.{◌≡◌, ◌≤◌};
-ghost use Rattle.afr_moves.specs.Register.{untouched};
+ghost use Rattle.afr_model_moves.specs.Register.{untouched};
 ghost use Rattle.afr_discipline.specs.Stands.{Stands, no_lines};
 
 use afr_base::{BrickId, BrickSet, Gfid, Kind, Shape};

@@ -1,6 +1,6 @@
 //! The steps of a register: their order, and the bricks that were asked.
 ghost use Rattle.std.specs.Prelude.{◌≡◌, ◌<◌};
-ghost use Rattle.afr_moves.specs.Register.{asked_in, rank, same_step};
+ghost use Rattle.afr_model_moves.specs.Register.{asked_in, rank, same_step};
 ghost use Rattle.afr_discipline.specs.Stands.{seen_as, step_of};
 ghost use Rattle.afr_discipline.specs.Tests.{once};
 

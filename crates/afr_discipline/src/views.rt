@@ -1,14 +1,14 @@
 //! What the views of an object say of its copies, and which sets carry a change.
 ghost use Rattle.std.specs.Prelude.{◌≡◌, ◌<◌, ◌≤◌, ◌&&◌, ◌==◌, not, false};
-ghost use Rattle.afr_moves.specs.Sets.{any};
+ghost use Rattle.afr_model_moves.specs.Sets.{any};
 ghost use Rattle.afr_base.specs.Bricks.{member};
 ghost use Rattle.afr_base.specs.Majority.{is_most};
-ghost use Rattle.afr_moves.specs.Rules.{fits_change};
-ghost use Rattle.afr_moves.specs.Cells.{what_code};
-ghost use Rattle.afr_moves.specs.Register.{accuses, good, holder, unaccused, all};
+ghost use Rattle.afr_model_moves.specs.Rules.{fits_change};
+ghost use Rattle.afr_model_moves.specs.Cells.{what_code};
+ghost use Rattle.afr_model_moves.specs.Register.{accuses, good, holder, unaccused, all};
 ghost use Rattle.afr_base.specs.Keeping.{is_bytes, keeps};
 ghost use Rattle.afr_base.specs.Marks.{marks_of};
-ghost use Rattle.afr_moves.specs.Keeps.{keeps_in};
+ghost use Rattle.afr_model_moves.specs.Keeps.{keeps_in};
 ghost use Rattle.afr_discipline.specs.Stands.{views_of};
 ghost use Rattle.afr_discipline.specs.Tests.{fits_view, suffices_by};
 

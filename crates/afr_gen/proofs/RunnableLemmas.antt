@@ -6,7 +6,7 @@ use Rattle.std.specs.List.{All}
 use Rattle.afr_base.specs.declared.ids.BrickId.{BrickId}
 use Rattle.afr_lines.specs.declared.line.Event.TheVariants.{Stop, Start}
 use Rattle.afr_plan.specs.declared.command.Command.TheVariants.{Write, Read, SetAttr}
-use Rattle.afr_runnable.specs.Runnable.{AreRunnableRounds, IsAboutVolume, IsOneOf, IsRunnableScript, has_its_name}
+use Rattle.afr_law_runnable.specs.Runnable.{AreRunnableRounds, IsAboutVolume, IsOneOf, IsRunnableScript, has_its_name}
 use Rattle.afr_gen.specs.Generated.{block, command, events, generated, lot, offset, path, rounds, script, scripts, sets, values}
 use Rattle.afr_gen.specs.Laws.{GeneratedIsRunnable}
 

@@ -1,7 +1,7 @@
 -- What holds of every generated plan.
 use Rattle.std.specs.Prelude.{◌≡◌, ℕ, ◌≤◌}
 use Rattle.afr_plan.specs.PlanOf.{plan_of}
-use Rattle.afr_runnable.specs.Runnable.{IsRunnable}
+use Rattle.afr_law_runnable.specs.Runnable.{IsRunnable}
 use Rattle.afr_gen.specs.Generated.{generated}
 use Rattle.afr_gen.specs.Lines.{said_plan}
 

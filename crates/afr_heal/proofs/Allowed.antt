@@ -11,10 +11,10 @@ use Rattle.afr_heal.specs.Laws.{HealNextAllowed, allows_next, asks_well}
 use Rattle.afr_heal.specs.Requests.{request_in}
 use Rattle.afr_heal.specs.Standing.{AfterLooks, AtFirst, AtHeal, AtLooks, AtPart, AtViews, AtWork, Broken, Ending, First, Going, Healing, IsBase, Looking, Parting, Viewing, Working}
 use Rattle.afr_lines.specs.declared.request.Request.{Request}
-use Rattle.afr_moves.specs.Register.{Exact, Finish, HealLocks, HealPart, HealPres, HealUnlocks, Looks, Mends, Opening, Piece, Reads, Settles, Unlocks, Untouched, WorkLocks, is_opening, over, same_step, whole_area}
-use Rattle.afr_moves.specs.Steps.{locks_at, may_heal}
-use Rattle.afr_moves.proofs.Tests.{same_kind_self, same_self, some_no}
-use Rattle.afr_moves.proofs.AreaLemmas.{own_area}
+use Rattle.afr_model_moves.specs.Register.{Exact, Finish, HealLocks, HealPart, HealPres, HealUnlocks, Looks, Mends, Opening, Piece, Reads, Settles, Unlocks, Untouched, WorkLocks, is_opening, over, same_step, whole_area}
+use Rattle.afr_model_moves.specs.Steps.{locks_at, may_heal}
+use Rattle.afr_model_moves.proofs.Tests.{same_kind_self, same_self, some_no}
+use Rattle.afr_model_moves.proofs.AreaLemmas.{own_area}
 
 module _ (n : ℕ) (keeps : ℕ → Kind → Bool) (r : Exact) (s : ℕ) (g : Gfid) (kind : Kind) where
   -- a request that some source allows

@@ -9,9 +9,9 @@ use Rattle.afr_discipline.specs.Stands.{Stands, seen_as, step_of}
 use Rattle.afr_heal.specs.Carried.{IsPublished}
 use Rattle.afr_heal.specs.Moves.{StandingCarried}
 use Rattle.afr_heal.specs.Standing.{Ending, First, Going, Healing, Looking, Parting, Picked, Standing, Viewing, Working}
-use Rattle.afr_moves.specs.Keeps.{keeps_in}
-use Rattle.afr_moves.specs.Register.{Exact, Mends, same_step}
-use Rattle.afr_moves.specs.Rules.{fresh}
+use Rattle.afr_model_moves.specs.Keeps.{keeps_in}
+use Rattle.afr_model_moves.specs.Register.{Exact, Mends, same_step}
+use Rattle.afr_model_moves.specs.Rules.{fresh}
 
 -- ---- the register that the program's stands for
 -- the fields of a register that the program keeps, with other copies that may be the source

@@ -2,8 +2,8 @@
 use Rattle.std.proofs.Common.{◌≡◌, ℕ, zero, suc, ◌<◌, ◌&&◌, ◌||◌, not, nat_le, nat_lt, Bool, true, false, refl, sym, ◌∙◌, subst, arith, Option, None, Some, inl, inr}
 use Rattle.std.proofs.lemmas.Bool.Decides.{nat_tests, eqb_tells}
 use Rattle.afr_base.specs.declared.ids.Kind.{Kind}
-use Rattle.afr_moves.specs.Register.{Exact, Step, asked_in, over, rank}
-use Rattle.afr_moves.specs.Steps.{is_lowest, passed, set_of, turn}
+use Rattle.afr_model_moves.specs.Register.{Exact, Step, asked_in, over, rank}
+use Rattle.afr_model_moves.specs.Steps.{is_lowest, passed, set_of, turn}
 use Rattle.afr_discipline.specs.Turns.{find, later, turn_of}
 use Rattle.afr_heal.specs.Standing.{behind}
 use Rattle.afr_heal.proofs.Parts.{pair, both, denied}

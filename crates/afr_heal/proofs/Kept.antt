@@ -16,7 +16,7 @@ use Rattle.afr_heal.proofs.StagesWalk.{after_elim}
 use Rattle.afr_heal.specs.Laws.{HealStands, Keeps}
 use Rattle.afr_heal.specs.Standing.{AfterLooks, AtHeal, AtLooks, AtPart, AtViews, AtWork, Ending, First, Going, Healing, Looking, Parting, Viewing, Working}
 use Rattle.afr_lines.specs.declared.request.Area.{Area}
-use Rattle.afr_moves.specs.Register.{Exact}
+use Rattle.afr_model_moves.specs.Register.{Exact}
 
 module _ (n : ℕ) (keeps : ℕ → Kind → Bool) (pick : (ℕ → Bool) → ℕ) where
   going_kept : (few : n ≤ 5) (q : Exact) (s : ℕ) (g : Gfid) (kind : Kind) (area : Area) (k : AfterLooks n keeps (going_at q g kind area) s g kind) → KeepsAt n keeps pick (going_at q g kind area) s g kind

@@ -13,13 +13,13 @@ use Rattle.afr_heal.specs.Standing.{Base, Broken, Ending}
 use Rattle.afr_lines.specs.declared.answer.Told.{Told}
 use Rattle.afr_lines.specs.declared.request.Area.{Area}
 use Rattle.afr_lines.specs.declared.request.Request.TheVariants.{Unlock}
-use Rattle.afr_moves.specs.Past.{is_gone}
-use Rattle.afr_moves.specs.Register.{Exact}
-use Rattle.afr_moves.specs.Rules.{Register, heal_area, is_area}
-use Rattle.afr_moves.specs.Sets.{with, without}
+use Rattle.afr_model_moves.specs.Past.{is_gone}
+use Rattle.afr_model_moves.specs.Register.{Exact}
+use Rattle.afr_model_moves.specs.Rules.{Register, heal_area, is_area}
+use Rattle.afr_model_moves.specs.Sets.{with, without}
 use Rattle.afr_lines.specs.declared.lock.Domain.TheVariants.{Heal, Work}
 use Rattle.afr_lines.specs.declared.answer.Told.TheVariants as as_told
-use Rattle.afr_moves.specs.Rules as weak
+use Rattle.afr_model_moves.specs.Rules as weak
 
 -- what every stage keeps of the law's register
 module _ (g : Gfid) where

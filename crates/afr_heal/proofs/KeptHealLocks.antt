@@ -16,14 +16,14 @@ use Rattle.afr_heal.specs.Standing.{AtFirst, AtHeal, Base, Ending, Healing, Stan
 use Rattle.afr_lines.specs.declared.answer.Told.{Told}
 use Rattle.afr_lines.specs.declared.request.Area.{Area}
 use Rattle.afr_lines.specs.declared.request.Request.TheVariants.{Lock}
-use Rattle.afr_moves.specs.Note.{stops_at}
-use Rattle.afr_moves.specs.Register.{Exact, HealLocks, Opening, WorkLocks, whole_area}
-use Rattle.afr_moves.specs.Rules.{Register, begun, busy, heal_area}
-use Rattle.afr_moves.specs.Sets.{empty, with}
-use Rattle.afr_moves.specs.Steps.{may_heal, passed, turn}
+use Rattle.afr_model_moves.specs.Note.{stops_at}
+use Rattle.afr_model_moves.specs.Register.{Exact, HealLocks, Opening, WorkLocks, whole_area}
+use Rattle.afr_model_moves.specs.Rules.{Register, begun, busy, heal_area}
+use Rattle.afr_model_moves.specs.Sets.{empty, with}
+use Rattle.afr_model_moves.specs.Steps.{may_heal, passed, turn}
 use Rattle.afr_lines.specs.declared.lock.Domain.TheVariants.{Heal, Work}
 use Rattle.afr_lines.specs.declared.answer.Told.TheVariants as as_told
-use Rattle.afr_moves.specs.Rules as weak
+use Rattle.afr_model_moves.specs.Rules as weak
 
 module _ (n : ℕ) (keeps : ℕ → Kind → Bool) (q : Exact) (s : ℕ) (g : Gfid) (kind : Kind) (asked possible : ℕ → Bool) (law : Register) where
   -- another Heal lock, or too few are left

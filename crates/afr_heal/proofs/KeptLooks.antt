@@ -17,15 +17,15 @@ use Rattle.afr_heal.specs.Laws.{Keeps}
 use Rattle.afr_heal.specs.Standing.{AfterLooks, AtLooks, Base, Ending, Going, Looking, OfKind, Standing}
 use Rattle.afr_lines.specs.declared.answer.Told.{Told}
 use Rattle.afr_lines.specs.declared.request.Request.TheVariants.{Look}
-use Rattle.afr_moves.specs.Note.{put, stops_at}
-use Rattle.afr_moves.specs.Register.{Exact, Looks, Opening, good, holder, over, shows_number, whole_area}
-use Rattle.afr_moves.specs.Rules.{Register}
-use Rattle.afr_moves.specs.Sets.{any, with, without}
-use Rattle.afr_moves.specs.Steps.{goes_on, goes_on_at, may_heal, turn}
+use Rattle.afr_model_moves.specs.Note.{put, stops_at}
+use Rattle.afr_model_moves.specs.Register.{Exact, Looks, Opening, good, holder, over, shows_number, whole_area}
+use Rattle.afr_model_moves.specs.Rules.{Register}
+use Rattle.afr_model_moves.specs.Sets.{any, with, without}
+use Rattle.afr_model_moves.specs.Steps.{goes_on, goes_on_at, may_heal, turn}
 use Rattle.afr_object.specs.declared.entry.View.{View}
 use Rattle.afr_lines.specs.declared.answer.Told.TheVariants as as_told
-use Rattle.afr_moves.specs.Rules as weak
-use Rattle.afr_moves.proofs.Tests.{some_yes}
+use Rattle.afr_model_moves.specs.Rules as weak
+use Rattle.afr_model_moves.proofs.Tests.{some_yes}
 
 module _ (n : ℕ) (keeps : ℕ → Kind → Bool) (pick : (ℕ → Bool) → ℕ) (picks : PicksOne n pick) (q : Exact) (s : ℕ) (g : Gfid) (kind : Kind) (k : AtLooks n keeps (shape q Looks Opening g kind (Some (whole_area g.0 kind))) g kind) where
   abbrev r : Exact

@@ -19,14 +19,14 @@ use Rattle.afr_lines.specs.Overlap.{same_area}
 use Rattle.afr_lines.specs.declared.answer.Told.{Told}
 use Rattle.afr_lines.specs.declared.request.Area.{Area}
 use Rattle.afr_lines.specs.declared.request.Request.TheVariants.{Lock}
-use Rattle.afr_moves.specs.Note.{next_part}
-use Rattle.afr_moves.specs.Register.{Exact, Finish, HealPart, Mends, Piece, Settles, Unlocks, WorkLocks, asked_in, is_finish, is_opening, rank, same_step, whole_area}
-use Rattle.afr_moves.specs.Rules.{Register, begun, busy}
-use Rattle.afr_moves.specs.Sets.{empty, with}
-use Rattle.afr_moves.specs.Steps.{is_lowest, may_heal, mends_over, passed, pres_over, settles_over}
+use Rattle.afr_model_moves.specs.Note.{next_part}
+use Rattle.afr_model_moves.specs.Register.{Exact, Finish, HealPart, Mends, Piece, Settles, Unlocks, WorkLocks, asked_in, is_finish, is_opening, rank, same_step, whole_area}
+use Rattle.afr_model_moves.specs.Rules.{Register, begun, busy}
+use Rattle.afr_model_moves.specs.Sets.{empty, with}
+use Rattle.afr_model_moves.specs.Steps.{is_lowest, may_heal, mends_over, passed, pres_over, settles_over}
 use Rattle.afr_lines.specs.declared.lock.Domain.TheVariants.{Work}
 use Rattle.afr_lines.specs.declared.answer.Told.TheVariants as as_told
-use Rattle.afr_moves.specs.Rules as weak
+use Rattle.afr_model_moves.specs.Rules as weak
 
 module _ (n : ℕ) (keeps : ℕ → Kind → Bool) (few : n ≤ 5) (q : Exact) (s : ℕ) (g : Gfid) (kind : Kind) (area : Area) (k : AfterLooks n keeps (going_at q g kind area) s g kind) where
   abbrev r : Exact

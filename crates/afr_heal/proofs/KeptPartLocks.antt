@@ -15,14 +15,14 @@ use Rattle.afr_heal.specs.Standing.{AtPart, Base, Ending, Parting, Standing, Vie
 use Rattle.afr_lines.specs.declared.answer.Told.{Told}
 use Rattle.afr_lines.specs.declared.request.Area.{Area}
 use Rattle.afr_lines.specs.declared.request.Request.TheVariants.{Lock}
-use Rattle.afr_moves.specs.Register.{Exact, Finish, HealPart, Opening, Piece, WorkLocks, is_opening, over}
-use Rattle.afr_moves.specs.Rules.{Register, busy, is_area}
-use Rattle.afr_moves.specs.Sets.{empty, with}
-use Rattle.afr_moves.specs.Steps.{locks_at, may_heal, turn}
+use Rattle.afr_model_moves.specs.Register.{Exact, Finish, HealPart, Opening, Piece, WorkLocks, is_opening, over}
+use Rattle.afr_model_moves.specs.Rules.{Register, busy, is_area}
+use Rattle.afr_model_moves.specs.Sets.{empty, with}
+use Rattle.afr_model_moves.specs.Steps.{locks_at, may_heal, turn}
 use Rattle.afr_lines.specs.declared.lock.Domain.TheVariants.{Work}
 use Rattle.afr_lines.specs.declared.answer.Told.TheVariants as as_told
-use Rattle.afr_moves.specs.Rules as weak
-use Rattle.afr_moves.proofs.AreaLemmas.{same_area_self}
+use Rattle.afr_model_moves.specs.Rules as weak
+use Rattle.afr_model_moves.proofs.AreaLemmas.{same_area_self}
 
 module _ (n : ℕ) (keeps : ℕ → Kind → Bool) (pick : (ℕ → Bool) → ℕ) (q : Exact) (part : HealPart) (later : is_opening part ≡ false) (s : ℕ) (g : Gfid) (kind : Kind) (area : Area) (k : AtPart n keeps (shape q WorkLocks part g kind (Some area)) s g kind) where
   abbrev r : Exact

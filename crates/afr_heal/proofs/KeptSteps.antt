@@ -24,16 +24,16 @@ use Rattle.afr_lines.specs.declared.answer.Told.{Told}
 use Rattle.afr_lines.specs.declared.request.Area.{Area}
 use Rattle.afr_lines.specs.declared.request.Request.{Request}
 use Rattle.afr_lines.specs.declared.request.Request.TheVariants.{List, Mend, Pre, ReadAttrs, ReadBytes, Settle}
-use Rattle.afr_moves.specs.Cells.{Cell}
-use Rattle.afr_moves.specs.Note.{put}
-use Rattle.afr_moves.specs.Register.{Exact, Finish, HealPart, HealPres, HealUnlocks, Mends, Opening, Piece, Reads, Settles, Step, Unlocks, asked_in, holder, is_opening, rank}
-use Rattle.afr_moves.specs.Rules.{Register}
-use Rattle.afr_moves.specs.Sets.{with}
-use Rattle.afr_moves.specs.Steps.{looks_over, may_heal, mends_at, mends_over, passed, pres_over, raised, reads_over, set_of, sink, turn}
+use Rattle.afr_model_moves.specs.Cells.{Cell}
+use Rattle.afr_model_moves.specs.Note.{put}
+use Rattle.afr_model_moves.specs.Register.{Exact, Finish, HealPart, HealPres, HealUnlocks, Mends, Opening, Piece, Reads, Settles, Step, Unlocks, asked_in, holder, is_opening, rank}
+use Rattle.afr_model_moves.specs.Rules.{Register}
+use Rattle.afr_model_moves.specs.Sets.{with}
+use Rattle.afr_model_moves.specs.Steps.{looks_over, may_heal, mends_at, mends_over, passed, pres_over, raised, reads_over, set_of, sink, turn}
 use Rattle.afr_object.specs.declared.change.Repair.{Repair}
 use Rattle.afr_lines.specs.declared.answer.Told.TheVariants as as_told
-use Rattle.afr_moves.specs.Rules as weak
-use Rattle.afr_moves.proofs.Tests.{same_self}
+use Rattle.afr_model_moves.specs.Rules as weak
+use Rattle.afr_model_moves.proofs.Tests.{same_self}
 
 module _ (n : ℕ) (keeps : ℕ → Kind → Bool) (few : n ≤ 5) (q : Exact) (s : ℕ) (g : Gfid) (kind : Kind) (area : Area) (k : AfterLooks n keeps (going_at q g kind area) s g kind) where
   abbrev r : Exact

@@ -16,14 +16,14 @@ use Rattle.afr_heal.specs.Requests.{request_in}
 use Rattle.afr_heal.specs.Standing.{AfterLooks, Ending, Going, Standing}
 use Rattle.afr_lines.specs.declared.request.Area.{Area}
 use Rattle.afr_lines.specs.declared.request.Request.TheVariants.{Unlock}
-use Rattle.afr_moves.proofs.AreaLemmas.{heal_freed_own}
-use Rattle.afr_moves.specs.Register.{Exact, HealUnlocks, Mends, Settles, Unlocks, asked_in, is_piece, rank, span}
-use Rattle.afr_moves.specs.Rules.{Register, heal_area, is_area}
-use Rattle.afr_moves.specs.Sets.{with, without}
-use Rattle.afr_moves.specs.Steps.{may_heal, mends_over, passed, pres_over, settles_over, turn}
+use Rattle.afr_model_moves.proofs.AreaLemmas.{heal_freed_own}
+use Rattle.afr_model_moves.specs.Register.{Exact, HealUnlocks, Mends, Settles, Unlocks, asked_in, is_piece, rank, span}
+use Rattle.afr_model_moves.specs.Rules.{Register, heal_area, is_area}
+use Rattle.afr_model_moves.specs.Sets.{with, without}
+use Rattle.afr_model_moves.specs.Steps.{may_heal, mends_over, passed, pres_over, settles_over, turn}
 use Rattle.afr_lines.specs.declared.lock.Domain.TheVariants.{Heal, Work}
 use Rattle.afr_lines.specs.declared.answer.Told.TheVariants as as_told
-use Rattle.afr_moves.specs.Rules as weak
+use Rattle.afr_model_moves.specs.Rules as weak
 
 module _ (n : ℕ) (keeps : ℕ → Kind → Bool) (few : n ≤ 5) (q : Exact) (s : ℕ) (g : Gfid) (kind : Kind) (area : Area) (k : AfterLooks n keeps (going_at q g kind area) s g kind) where
   abbrev r : Exact

@@ -16,14 +16,14 @@ use Rattle.afr_heal.specs.Standing.{AfterLooks, AtViews, Base, Ending, Going, Of
 use Rattle.afr_lines.specs.declared.answer.Told.TheVariants as as_told
 use Rattle.afr_lines.specs.declared.request.Area.{Area}
 use Rattle.afr_lines.specs.declared.request.Request.TheVariants.{Look}
-use Rattle.afr_moves.specs.Note.{put, stops_at}
-use Rattle.afr_moves.specs.Register.{Exact, Finish, HealPart, Looks, Opening, Piece, good, holder, is_opening, over, unaccused}
-use Rattle.afr_moves.specs.Rules as weak
-use Rattle.afr_moves.specs.Rules.{Register}
-use Rattle.afr_moves.specs.Sets.{any, with}
-use Rattle.afr_moves.specs.Steps.{goes_on, looks_at, may_heal, sink, turn}
+use Rattle.afr_model_moves.specs.Note.{put, stops_at}
+use Rattle.afr_model_moves.specs.Register.{Exact, Finish, HealPart, Looks, Opening, Piece, good, holder, is_opening, over, unaccused}
+use Rattle.afr_model_moves.specs.Rules as weak
+use Rattle.afr_model_moves.specs.Rules.{Register}
+use Rattle.afr_model_moves.specs.Sets.{any, with}
+use Rattle.afr_model_moves.specs.Steps.{goes_on, looks_at, may_heal, sink, turn}
 use Rattle.afr_object.specs.declared.entry.View.{View}
-use Rattle.afr_moves.proofs.Tests.{some_yes}
+use Rattle.afr_model_moves.proofs.Tests.{some_yes}
 
 -- a later part looks at the bricks of the first looks
 pub looks_there : (r : Exact) (part : HealPart) → is_opening part ≡ false → looks_at r part ≡ r.first_reached

@@ -16,14 +16,14 @@ use Rattle.afr_heal.specs.Standing.{AtWork, Looking, Standing}
 use Rattle.afr_lines.specs.declared.answer.Told.{Told}
 use Rattle.afr_lines.specs.declared.request.Area.{Area}
 use Rattle.afr_lines.specs.declared.request.Request.TheVariants.{Lock}
-use Rattle.afr_moves.specs.Register.{Exact, Opening, WorkLocks, over, whole_area}
-use Rattle.afr_moves.specs.Rules.{busy, is_area}
-use Rattle.afr_moves.specs.Sets.{empty, with}
-use Rattle.afr_moves.specs.Steps.{locks_at, may_heal, turn}
+use Rattle.afr_model_moves.specs.Register.{Exact, Opening, WorkLocks, over, whole_area}
+use Rattle.afr_model_moves.specs.Rules.{busy, is_area}
+use Rattle.afr_model_moves.specs.Sets.{empty, with}
+use Rattle.afr_model_moves.specs.Steps.{locks_at, may_heal, turn}
 use Rattle.afr_lines.specs.declared.lock.Domain.TheVariants.{Work}
 use Rattle.afr_lines.specs.declared.answer.Told.TheVariants as as_told
-use Rattle.afr_moves.specs.Rules as weak
-use Rattle.afr_moves.proofs.AreaLemmas.{same_area_self}
+use Rattle.afr_model_moves.specs.Rules as weak
+use Rattle.afr_model_moves.proofs.AreaLemmas.{same_area_self}
 
 module _ (n : ℕ) (keeps : ℕ → Kind → Bool) (pick : (ℕ → Bool) → ℕ) (q : Exact) (s : ℕ) (g : Gfid) (kind : Kind) (k : AtWork n keeps (shape q WorkLocks Opening g q.law.kind (Some (whole_area g.0 kind))) g kind) where
   abbrev r : Exact

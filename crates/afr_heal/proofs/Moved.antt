@@ -26,8 +26,8 @@ use Rattle.afr_heal.specs.Moves.{HealsAllowed, HealsBegun, HealsKept, HealsMove,
 use Rattle.afr_heal.specs.Standing.{First, Standing}
 use Rattle.afr_lines.specs.declared.answer.Told.{Told}
 use Rattle.afr_lines.specs.declared.request.Request.{Request}
-use Rattle.afr_moves.specs.Keeps.{keeps_in}
-use Rattle.afr_moves.specs.Register.{Exact, len_of}
+use Rattle.afr_model_moves.specs.Keeps.{keeps_in}
+use Rattle.afr_model_moves.specs.Register.{Exact, len_of}
 use Rattle.afr_discipline.specs.declared.register.Move.TheVariants as move
 
 -- ---- the program's register

@@ -16,14 +16,14 @@ use Rattle.afr_lines.specs.declared.answer.Told.{Told}
 use Rattle.afr_lines.specs.declared.request.Area.{Area}
 use Rattle.afr_lines.specs.declared.request.Request.{Request}
 use Rattle.afr_lines.specs.declared.request.Request.TheVariants.{List, Lock, Look, Mend, Pre, ReadAttrs, ReadBytes, Settle, Unlock}
-use Rattle.afr_moves.specs.Note.{put, view_of}
-use Rattle.afr_moves.specs.Past.{is_gone}
-use Rattle.afr_moves.specs.Register.{Exact, area_kind, is_opening, len_of, piece_area, whole_area}
-use Rattle.afr_moves.specs.Rules.{Register as LawRegister, busy, heal_area, is_area}
+use Rattle.afr_model_moves.specs.Note.{put, view_of}
+use Rattle.afr_model_moves.specs.Past.{is_gone}
+use Rattle.afr_model_moves.specs.Register.{Exact, area_kind, is_opening, len_of, piece_area, whole_area}
+use Rattle.afr_model_moves.specs.Rules.{Register as LawRegister, busy, heal_area, is_area}
 use Rattle.afr_object.specs.declared.entry.View.{View}
 use Rattle.afr_lines.specs.declared.lock.Domain.TheVariants.{Heal, Work}
 use Rattle.afr_lines.specs.declared.answer.Told.TheVariants as as_told
-use Rattle.afr_moves.specs.Rules as weak
+use Rattle.afr_model_moves.specs.Rules as weak
 
 -- ---- the kind of the area
 whole_kind : (g : ℕ) (kind : Kind) → kind ≡ area_kind (whole_area g kind)

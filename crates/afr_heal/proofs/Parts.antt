@@ -3,9 +3,9 @@ use Rattle.std.proofs.Common.{◌≡◌, ℕ, zero, suc, ◌*◌, ◌<◌, ◌&&
 use Rattle.std.proofs.lemmas.Bool.{eqb-true}
 use Rattle.std.proofs.lemmas.Bool.Decides.{nat_tests}
 use Rattle.afr_base.specs.Majority.{is_most, count_below}
-use Rattle.afr_moves.specs.Sets.{any, with, without}
-use Rattle.afr_moves.proofs.Tests.{some_no, some_yes}
-pub use Rattle.afr_moves.proofs.Tests.{both, denied, deny, lt_test, no_or, pair}
+use Rattle.afr_model_moves.specs.Sets.{any, with, without}
+use Rattle.afr_model_moves.proofs.Tests.{some_no, some_yes}
+pub use Rattle.afr_model_moves.proofs.Tests.{both, denied, deny, lt_test, no_or, pair}
 
 -- ---- tests
 pub or_true : (x : Bool) → (x || true) ≡ true

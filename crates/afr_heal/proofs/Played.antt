@@ -10,7 +10,7 @@ use Rattle.afr_lines.specs.declared.answer.Told.{Told}
 use Rattle.afr_lines.specs.declared.answer.Told.TheVariants.{Granted, Held, Seen, Done, Given, NotConnected, Failed}
 use Rattle.afr_lines.specs.declared.request.Request.{Request}
 use Rattle.afr_lines.specs.declared.request.Request.TheVariants.{Lock, Unlock, Look, ReadBytes, List, ReadAttrs}
-use Rattle.afr_moves.specs.Register.{untouched}
+use Rattle.afr_model_moves.specs.Register.{untouched}
 use Rattle.afr_heal.specs.Runs.{Play, run}
 
 abbrev marks : ℕ → Marks

@@ -19,10 +19,10 @@ use Rattle.afr_lines.specs.declared.answer.Told.{Told}
 use Rattle.afr_lines.specs.declared.request.Area.{Area}
 use Rattle.afr_lines.specs.declared.request.Request.{Request}
 use Rattle.afr_lines.specs.declared.request.Request.TheVariants.{List, Lock, Look, Mend, Pre, ReadAttrs, ReadBytes, Settle, Unlock}
-use Rattle.afr_moves.specs.Register.{Exact, Finish, HealLocks, HealPart, HealPres, HealUnlocks, Looks, Mends, Opening, Piece, Reads, Settles, Step, Unlocks, WorkLocks, is_opening, is_piece, len_of, piece_area, rank, same_step, span, whole_area}
-use Rattle.afr_moves.specs.Rules.{heal_area}
-use Rattle.afr_moves.specs.Steps.{turn}
-use Rattle.afr_moves.proofs.AreaLemmas.{same_area_self}
+use Rattle.afr_model_moves.specs.Register.{Exact, Finish, HealLocks, HealPart, HealPres, HealUnlocks, Looks, Mends, Opening, Piece, Reads, Settles, Step, Unlocks, WorkLocks, is_opening, is_piece, len_of, piece_area, rank, same_step, span, whole_area}
+use Rattle.afr_model_moves.specs.Rules.{heal_area}
+use Rattle.afr_model_moves.specs.Steps.{turn}
+use Rattle.afr_model_moves.proofs.AreaLemmas.{same_area_self}
 use Rattle.afr_lines.specs.declared.lock.Domain.TheVariants.{Heal, Work}
 
 -- a request that leaves the part, its bytes and the first views

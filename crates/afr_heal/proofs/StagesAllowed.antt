@@ -17,14 +17,14 @@ use Rattle.afr_heal.specs.Standing.{AfterLooks, AtHeal, AtWork, IsBase, OfKind}
 use Rattle.afr_lines.specs.Overlap.{same_area}
 use Rattle.afr_lines.specs.declared.request.Area.{Area}
 use Rattle.afr_lines.specs.declared.request.Request.TheVariants.{Mend}
-use Rattle.afr_moves.specs.Honest.{view_marks}
-use Rattle.afr_moves.specs.Register.{Exact, Finish, HealLocks, HealPart, HealPres, HealUnlocks, Looks, Mends, Opening, Piece, Reads, Settles, Step, Unlocks, WorkLocks, good, holder, is_finish, is_opening, len_of, over, piece_area, rank, same_step, whole_area}
-use Rattle.afr_moves.specs.Rules.{heal_area, is_area, is_none, some_read}
-use Rattle.afr_moves.specs.Sets.{empty}
-use Rattle.afr_moves.specs.Steps.{after_unlocks, is_lowest, is_whole, locks_at, looks_over, may_heal, mends_at, mends_over, onward, passed, pres_over, reads_at, reads_over, same_read, same_reads, set_of, settles_at, settles_over, takes, turn}
+use Rattle.afr_model_moves.specs.Honest.{view_marks}
+use Rattle.afr_model_moves.specs.Register.{Exact, Finish, HealLocks, HealPart, HealPres, HealUnlocks, Looks, Mends, Opening, Piece, Reads, Settles, Step, Unlocks, WorkLocks, good, holder, is_finish, is_opening, len_of, over, piece_area, rank, same_step, whole_area}
+use Rattle.afr_model_moves.specs.Rules.{heal_area, is_area, is_none, some_read}
+use Rattle.afr_model_moves.specs.Sets.{empty}
+use Rattle.afr_model_moves.specs.Steps.{after_unlocks, is_lowest, is_whole, locks_at, looks_over, may_heal, mends_at, mends_over, onward, passed, pres_over, reads_at, reads_over, same_read, same_reads, set_of, settles_at, settles_over, takes, turn}
 use Rattle.afr_object.specs.declared.entry.View.{View}
-use Rattle.afr_moves.proofs.Tests.{same_kind_self, same_self}
-use Rattle.afr_moves.proofs.AreaLemmas.{same_area_self}
+use Rattle.afr_model_moves.proofs.Tests.{same_kind_self, same_self}
+use Rattle.afr_model_moves.proofs.AreaLemmas.{same_area_self}
 
 -- the area of this part is the register's own
 pub own_now : (o : Option Area) (whole area : Area) → o ≡ Some area → is_area o (area_or o whole) ≡ true

@@ -10,11 +10,11 @@ use Rattle.afr_lines.specs.declared.answer.Told.TheVariants as as_told
 use Rattle.afr_lines.specs.declared.request.Area.{Area}
 use Rattle.afr_lines.specs.declared.request.Request.{Request}
 use Rattle.afr_lines.specs.declared.request.Request.TheVariants.{Lock, Unlock, Look, ReadBytes, List, ReadAttrs, Pre, Mend, Settle}
-use Rattle.afr_moves.specs.Note.{breaks, next_part, put}
-use Rattle.afr_moves.specs.Register.{Exact, Finish, HealLocks, HealPart, HealPres, HealUnlocks, Looks, Mends, Opening, Piece, Reads, Settles, Unlocks, WorkLocks, asked_in, is_opening, is_piece, no_reads, rank, span}
-use Rattle.afr_moves.specs.Rules as weak
-use Rattle.afr_moves.specs.Rules.{Register, begun, busy, heal_area, is_area, no_views}
-use Rattle.afr_moves.specs.Sets.{empty, with, without}
+use Rattle.afr_model_moves.specs.Note.{breaks, next_part, put}
+use Rattle.afr_model_moves.specs.Register.{Exact, Finish, HealLocks, HealPart, HealPres, HealUnlocks, Looks, Mends, Opening, Piece, Reads, Settles, Unlocks, WorkLocks, asked_in, is_opening, is_piece, no_reads, rank, span}
+use Rattle.afr_model_moves.specs.Rules as weak
+use Rattle.afr_model_moves.specs.Rules.{Register, begun, busy, heal_area, is_area, no_views}
+use Rattle.afr_model_moves.specs.Sets.{empty, with, without}
 use Rattle.afr_object.specs.declared.change.Repair.{Repair}
 use Rattle.afr_object.specs.declared.entry.View.{View}
 use Rattle.afr_lines.specs.declared.lock.Domain.TheVariants.{Heal, Work}

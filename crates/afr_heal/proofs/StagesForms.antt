@@ -4,14 +4,14 @@ use Rattle.afr_base.specs.declared.ids.Gfid.{Gfid}
 use Rattle.afr_base.specs.declared.ids.Kind.{Kind}
 use Rattle.afr_heal.specs.Standing.{AfterLooks, AtFirst, AtHeal, AtLooks, AtPart, AtViews, AtWork, Broken}
 use Rattle.afr_lines.specs.declared.request.Area.{Area}
-use Rattle.afr_moves.specs.Register.{Exact, HealLocks, HealPart, Looks, Opening, Step, Untouched, WorkLocks, is_opening, whole_area}
-use Rattle.afr_moves.specs.Note.{stopping}
-use Rattle.afr_moves.specs.Steps.{may_heal}
+use Rattle.afr_model_moves.specs.Register.{Exact, HealLocks, HealPart, Looks, Opening, Step, Untouched, WorkLocks, is_opening, whole_area}
+use Rattle.afr_model_moves.specs.Note.{stopping}
+use Rattle.afr_model_moves.specs.Steps.{may_heal}
 use Rattle.afr_lines.specs.declared.request.Request.{Request}
-use Rattle.afr_moves.specs.Rules as weak
-use Rattle.afr_moves.specs.Rules.{Register, begun, busy, is_area}
-use Rattle.afr_moves.specs.Sets.{empty, with, without}
-use Rattle.afr_moves.proofs.AreaLemmas.{own_area}
+use Rattle.afr_model_moves.specs.Rules as weak
+use Rattle.afr_model_moves.specs.Rules.{Register, begun, busy, is_area}
+use Rattle.afr_model_moves.specs.Sets.{empty, with, without}
+use Rattle.afr_model_moves.proofs.AreaLemmas.{own_area}
 use Rattle.afr_object.specs.declared.entry.View.{View}
 
 -- ---- the register of each stage

@@ -12,10 +12,10 @@ use Rattle.afr_heal.specs.Requests.{area_now, request_in}
 use Rattle.afr_heal.specs.Standing.{AfterLooks, AtFirst, AtHeal}
 use Rattle.afr_lines.specs.declared.request.Request.{Request}
 use Rattle.afr_lines.specs.declared.request.Request.TheVariants.{Lock, Unlock}
-use Rattle.afr_moves.specs.Register.{Exact, Finish, HealLocks, HealPart, HealPres, HealUnlocks, Looks, Mends, Opening, Piece, Reads, Settles, Step, Unlocks, Untouched, WorkLocks, everywhere, is_opening, over, rank}
-use Rattle.afr_moves.specs.Rules.{busy, heal_area}
-use Rattle.afr_moves.specs.Sets.{empty}
-use Rattle.afr_moves.specs.Steps.{is_lowest, locks_at, looks_at, mends_over, passed, pres_over, reads_over, settles_over, turn}
+use Rattle.afr_model_moves.specs.Register.{Exact, Finish, HealLocks, HealPart, HealPres, HealUnlocks, Looks, Mends, Opening, Piece, Reads, Settles, Step, Unlocks, Untouched, WorkLocks, everywhere, is_opening, over, rank}
+use Rattle.afr_model_moves.specs.Rules.{busy, heal_area}
+use Rattle.afr_model_moves.specs.Sets.{empty}
+use Rattle.afr_model_moves.specs.Steps.{is_lowest, locks_at, looks_at, mends_over, passed, pres_over, reads_over, settles_over, turn}
 use Rattle.afr_lines.specs.declared.lock.Domain.TheVariants.{Heal, Work}
 
 -- ---- one step of the chain

@@ -3,13 +3,13 @@ use Rattle.std.proofs.Common.{◌≡◌, ℕ, zero, suc, ◌<◌, ◌&&◌, ◌|
 use Rattle.std.proofs.lemmas.Bool.{eqb-true}
 use Rattle.afr_base.specs.declared.ids.Kind.{Kind}
 use Rattle.afr_base.specs.declared.ids.Kind.TheVariants.{Bytes}
-use Rattle.afr_moves.specs.Sets.{any}
-use Rattle.afr_moves.specs.Register.{good, holder, unaccused}
-use Rattle.afr_moves.specs.Steps.{goes_on}
+use Rattle.afr_model_moves.specs.Sets.{any}
+use Rattle.afr_model_moves.specs.Register.{good, holder, unaccused}
+use Rattle.afr_model_moves.specs.Steps.{goes_on}
 use Rattle.afr_discipline.specs.Turns.{candidate}
 use Rattle.afr_heal.specs.Verdicts.{LaterIsSource, OpeningIsVerdict, are_enough, goes, has_good, has_numbers, verdict_by}
 use Rattle.afr_heal.proofs.Parts.{pair, both, deny, any_no, not_both}
-use Rattle.afr_moves.proofs.Tests.{some_no}
+use Rattle.afr_model_moves.proofs.Tests.{some_no}
 
 -- a flag that doesn't depend on the brick
 any_flag : (n : ℕ) (f : Bool) (p q : ℕ → Bool) → ((x : ℕ) → x < n → p x ≡ (q x && f)) → any n p ≡ (any n q && f)

@@ -7,9 +7,9 @@ use Rattle.afr_lines.specs.declared.answer.Told.{Told}
 use Rattle.afr_lines.specs.declared.answer.Told.TheVariants.{Done, Failed, Given, Granted, Held, NoObject, NotConnected, Seen}
 use Rattle.afr_lines.specs.declared.request.Request.{Request}
 use Rattle.afr_lines.specs.declared.request.Request.TheVariants.{List, Lock, Look, Mend, Pre, ReadAttrs, ReadBytes, Settle, Unlock}
-use Rattle.afr_moves.specs.Discipline.{note}
-use Rattle.afr_moves.specs.Lines.{ask_by, heal_begin_by}
-use Rattle.afr_moves.specs.Register.{Exact, Looks, is_opening, same_step}
+use Rattle.afr_model_moves.specs.Discipline.{note}
+use Rattle.afr_model_moves.specs.Lines.{ask_by, heal_begin_by}
+use Rattle.afr_model_moves.specs.Register.{Exact, Looks, is_opening, same_step}
 
 -- the answers that bricks give to a request of a heal
 abbrev pub fits : Request → Told → Bool

@@ -12,8 +12,8 @@ use Rattle.afr_heal.specs.Standing.{Standing}
 use Rattle.afr_lines.specs.declared.answer.Told.{Told}
 use Rattle.afr_lines.specs.declared.request.Area.{Area}
 use Rattle.afr_lines.specs.declared.request.Request.{Request}
-use Rattle.afr_moves.specs.Keeps.{keeps_in}
-use Rattle.afr_moves.specs.Register.{Exact, Mends, area_kind, asked_in, len_of}
+use Rattle.afr_model_moves.specs.Keeps.{keeps_in}
+use Rattle.afr_model_moves.specs.Register.{Exact, Mends, area_kind, asked_in, len_of}
 use Rattle.afr_object.specs.declared.entry.View.{View}
 use Rattle.afr_discipline.specs.declared.register.Move.TheVariants as move
 

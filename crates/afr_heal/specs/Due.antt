@@ -9,9 +9,9 @@ use Rattle.afr_heal.specs.Engine.{NextOfHeal, Ask, Begins, Ends, has_part, part_
 use Rattle.afr_heal.specs.Requests.{request_in}
 use Rattle.afr_heal.specs.declared.due.Due.{Due}
 use Rattle.afr_lines.specs.declared.request.Request.TheVariants.{Lock}
-use Rattle.afr_moves.specs.Keeps.{keeps_in}
-use Rattle.afr_moves.specs.Register.{Exact, HealLocks, HealPres, Looks, Mends, Reads, Settles, Step, Unlocks, Untouched, WorkLocks}
-use Rattle.afr_moves.specs.Rules.{heal_area}
+use Rattle.afr_model_moves.specs.Keeps.{keeps_in}
+use Rattle.afr_model_moves.specs.Register.{Exact, HealLocks, HealPres, Looks, Mends, Reads, Settles, Step, Unlocks, Untouched, WorkLocks}
+use Rattle.afr_model_moves.specs.Rules.{heal_area}
 use Rattle.afr_lines.specs.declared.lock.Domain.TheVariants.{Heal}
 
 -- the request of the step that is due, at its brick, or else the line that is there

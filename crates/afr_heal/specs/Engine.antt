@@ -8,9 +8,9 @@ use Rattle.afr_discipline.specs.Turns.{find, turn_of}
 use Rattle.afr_heal.specs.Requests.{area_now, next_area, request_in}
 use Rattle.afr_lines.specs.declared.request.Request.{Request}
 use Rattle.afr_lines.specs.declared.request.Request.TheVariants.{Lock, Unlock}
-use Rattle.afr_moves.specs.Register.{Exact, HealLocks, HealPart, HealPres, HealUnlocks, Looks, Mends, Reads, Settles, Step, Unlocks, Untouched, WorkLocks, is_finish}
-use Rattle.afr_moves.specs.Rules.{heal_area}
-use Rattle.afr_moves.specs.Steps.{is_lowest}
+use Rattle.afr_model_moves.specs.Register.{Exact, HealLocks, HealPart, HealPres, HealUnlocks, Looks, Mends, Reads, Settles, Step, Unlocks, Untouched, WorkLocks, is_finish}
+use Rattle.afr_model_moves.specs.Rules.{heal_area}
+use Rattle.afr_model_moves.specs.Steps.{is_lowest}
 use Rattle.afr_lines.specs.declared.lock.Domain.TheVariants.{Heal, Work}
 
 -- the next line of a heal: a request at a brick, a HealBegin or the HealEnd

@@ -9,7 +9,7 @@ use Rattle.afr_heal.specs.Engine.{Ask, Begins, Ends, NextOfHeal, next_of}
 use Rattle.afr_heal.specs.Standing.{Standing}
 use Rattle.afr_lines.specs.declared.answer.Told.{Told}
 use Rattle.afr_lines.specs.declared.request.Request.{Request}
-use Rattle.afr_moves.specs.Register.{Exact}
+use Rattle.afr_model_moves.specs.Register.{Exact}
 
 -- the discipline allows the request at the brick
 abbrev pub asks_well : ℕ → (ℕ → Kind → Bool) → Exact → ℕ → Request → Bool

@@ -16,8 +16,8 @@ use Rattle.afr_heal.specs.Standing.{Standing}
 use Rattle.afr_lines.specs.declared.answer.Told.{Told}
 use Rattle.afr_lines.specs.declared.request.Area.{Area}
 use Rattle.afr_lines.specs.declared.request.Request.{Request}
-use Rattle.afr_moves.specs.Keeps.{keeps_in}
-use Rattle.afr_moves.specs.Register.{Exact, area_kind}
+use Rattle.afr_model_moves.specs.Keeps.{keeps_in}
+use Rattle.afr_model_moves.specs.Register.{Exact, area_kind}
 
 -- an answer keeps the kind of the area and the lengths of the first views
 abbrev pub StaysNamed : Type 0

@@ -7,8 +7,8 @@ use Rattle.afr_discipline.specs.Turns.{less_in}
 use Rattle.afr_lines.specs.declared.request.Area.{Area}
 use Rattle.afr_lines.specs.declared.request.Request.{Request}
 use Rattle.afr_lines.specs.declared.request.Request.TheVariants.{List, Lock, Look, Mend, Pre, ReadAttrs, ReadBytes, Settle, Unlock}
-use Rattle.afr_moves.specs.Register.{Exact, HealLocks, HealPart, HealPres, Looks, Mends, Opening, Reads, Settles, Step, Unlocks, WorkLocks, len_of, piece_area, span, whole_area}
-use Rattle.afr_moves.specs.Rules.{heal_area}
+use Rattle.afr_model_moves.specs.Register.{Exact, HealLocks, HealPart, HealPres, Looks, Mends, Opening, Reads, Settles, Step, Unlocks, WorkLocks, len_of, piece_area, span, whole_area}
+use Rattle.afr_model_moves.specs.Rules.{heal_area}
 use Rattle.afr_object.specs.declared.change.Repair.{Repair}
 use Rattle.afr_object.specs.declared.change.Repair.TheVariants.{Copy, CutTo, PutAttrs, PutNames}
 use Rattle.afr_lines.specs.declared.lock.Domain.TheVariants.{Heal, Work}

@@ -7,7 +7,7 @@ use Rattle.afr_heal.specs.Answers.{asked_for, begun_at, source_after}
 use Rattle.afr_heal.specs.Engine.{Ask, Begins, Ends, NextOfHeal, next_of}
 use Rattle.afr_lines.specs.declared.answer.Told.{Told}
 use Rattle.afr_lines.specs.declared.request.Request.{Request}
-use Rattle.afr_moves.specs.Register.{Exact}
+use Rattle.afr_model_moves.specs.Register.{Exact}
 
 -- the number that is there, or 0
 abbrev pub lowest : Option ℕ → ℕ

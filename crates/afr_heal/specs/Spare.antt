@@ -7,7 +7,7 @@ use Rattle.afr_heal.specs.Carried.{IsNamed}
 use Rattle.afr_heal.specs.Engine.{Ask, Begins, Ends, NextOfHeal, next_of}
 use Rattle.afr_heal.specs.Standing.{Standing}
 use Rattle.afr_lines.specs.declared.answer.Told.{Told}
-use Rattle.afr_moves.specs.Register.{Exact, HealPart, Step, is_opening, is_piece, len_of, rank, span}
+use Rattle.afr_model_moves.specs.Register.{Exact, HealPart, Step, is_opening, is_piece, len_of, rank, span}
 
 -- how far a part is, by the length of its source
 pub record Spare (part : HealPart) (upto : ℕ) (step : Step) (len : ℕ) : Type 0 where

@@ -7,9 +7,9 @@ use Rattle.afr_base.specs.declared.ids.Kind.TheVariants.{Bytes}
 use Rattle.afr_discipline.specs.Five.{has_read}
 use Rattle.afr_heal.specs.Engine.{has_part}
 use Rattle.afr_lines.specs.declared.request.Area.{Area}
-use Rattle.afr_moves.specs.Note.{stops_at}
-use Rattle.afr_moves.specs.Register.{Exact, HealLocks, HealPart, HealUnlocks, Looks, Mends, Opening, Reads, Step, Unlocks, Untouched, WorkLocks, asked_in, good, is_opening, over, rank, whole_area}
-use Rattle.afr_moves.specs.Steps.{goes_on, looks_over, set_of, sink}
+use Rattle.afr_model_moves.specs.Note.{stops_at}
+use Rattle.afr_model_moves.specs.Register.{Exact, HealLocks, HealPart, HealUnlocks, Looks, Mends, Opening, Reads, Step, Unlocks, Untouched, WorkLocks, asked_in, good, is_opening, over, rank, whole_area}
+use Rattle.afr_model_moves.specs.Steps.{goes_on, looks_over, set_of, sink}
 
 -- the step is behind, or asked this brick
 abbrev pub behind : Exact → Step → ℕ → Bool

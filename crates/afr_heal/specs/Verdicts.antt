@@ -4,9 +4,9 @@ use Rattle.afr_base.specs.Majority.{is_most}
 use Rattle.afr_base.specs.declared.ids.Kind.{Kind}
 use Rattle.afr_base.specs.declared.ids.Kind.TheVariants.{Bytes}
 use Rattle.afr_discipline.specs.Turns.{candidate}
-use Rattle.afr_moves.specs.Register.{Exact, Opening, good, holder, shows_number}
-use Rattle.afr_moves.specs.Sets.{any}
-use Rattle.afr_moves.specs.Steps.{goes_on, sink}
+use Rattle.afr_model_moves.specs.Register.{Exact, Opening, good, holder, shows_number}
+use Rattle.afr_model_moves.specs.Sets.{any}
+use Rattle.afr_model_moves.specs.Steps.{goes_on, sink}
 
 -- what the first looks say
 pub data HealVerdict : Type 0 where

@@ -5,8 +5,8 @@ ghost use Rattle.afr_heal.specs.Carried.{next_by};
 ghost use Rattle.afr_heal.specs.Coming.{RoomEach, coming_of};
 ghost use Rattle.afr_heal.specs.Due.{rest_next};
 ghost use Rattle.afr_heal.specs.Engine.{Ends, broken_next, has_part, part_or_end, step_or, whole_next};
-ghost use Rattle.afr_moves.specs.Keeps.{keeps_in};
-ghost use Rattle.afr_moves.specs.Register.{HealUnlocks};
+ghost use Rattle.afr_model_moves.specs.Keeps.{keeps_in};
+ghost use Rattle.afr_model_moves.specs.Register.{HealUnlocks};
 
 use crate::coming::Coming;
 use crate::due::{asked, first_due};

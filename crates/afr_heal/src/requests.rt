@@ -3,9 +3,9 @@ ghost use Rattle.std.specs.Prelude.{◌≡◌, ◌<◌, ◌≤◌};
 ghost use Rattle.afr_discipline.specs.Stands.{heal_part_of, seen_as, step_of};
 ghost use Rattle.afr_heal.specs.Coming.{HasRoom};
 ghost use Rattle.afr_heal.specs.Requests.{area_now, next_area, position, read_in, repair_in, request_in};
-ghost use Rattle.afr_moves.specs.Keeps.{keeps_in};
-ghost use Rattle.afr_moves.specs.Register.{piece_area, whole_area};
-ghost use Rattle.afr_moves.specs.Rules.{heal_area};
+ghost use Rattle.afr_model_moves.specs.Keeps.{keeps_in};
+ghost use Rattle.afr_model_moves.specs.Register.{piece_area, whole_area};
+ghost use Rattle.afr_model_moves.specs.Rules.{heal_area};
 
 use afr_base::{BrickId, FIRST_ATTRIBUTE, Gfid, HEAL_BLOCK, Kind};
 use afr_discipline::{HealPart, Register, Step, len_at, owed_at, present_part};

@@ -1,1 +1,3 @@
-pub mod Rounding
+pub mod Acting
+pub mod Keeping
+pub mod Laws

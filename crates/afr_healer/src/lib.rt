@@ -1,8 +1,10 @@
-//! The machine of a healer's round: the index of one brick is asked once, and each object in its list is healed.
+//! A healer of a volume and the line that its round writes next: what it asks of the bricks, and why the log keeps its rules.
 #![tactic(auto)]
 
-mod machine;
-mod stage;
+mod healer;
+mod laws;
+mod step;
 
-pub use machine::RoundMachine;
-pub use stage::RoundStage;
+pub use healer::Healer;
+pub use laws::a_healer_keeps_its_round;
+pub use step::{ready_round, step_round};

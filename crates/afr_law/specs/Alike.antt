@@ -1,8 +1,8 @@
 -- Nothing diverges unrecorded.
 use Rattle.std.specs.Prelude.{◌≡◌, ℕ, ◌<◌, true}
-use Rattle.afr_moves.specs.Cells.{Cell, object_of, kind_of}
+use Rattle.afr_model_moves.specs.Cells.{Cell, object_of, kind_of}
 use Rattle.afr_law.specs.Dirty.{dirty}
-use Rattle.afr_moves.specs.Past.{Beginning, Log, pending, value}
+use Rattle.afr_model_moves.specs.Past.{Beginning, Log, pending, value}
 use Rattle.afr_base.specs.declared.ids.Kind.{Kind}
 
 -- no brick holds anything against the object and kind

@@ -2,9 +2,9 @@
 use Rattle.std.specs.Prelude.{ℕ}
 use Rattle.afr_object.specs.Tables.{opening}
 use Rattle.afr_plan.specs.declared.plan.Plan.{Plan}
-use Rattle.afr_moves.specs.Past.{Beginning}
-use Rattle.afr_tables.specs.Codes.{kind_in, code_in, kept_by}
-use Rattle.afr_tables.proofs.Opening.{opening_named}
+use Rattle.afr_model_moves.specs.Past.{Beginning}
+use Rattle.afr_law_tables.specs.Codes.{kind_in, code_in, kept_by}
+use Rattle.afr_law_tables.proofs.Opening.{opening_named}
 
 -- the beginning that the law speaks of, with so many names
 abbrev pub start_of : Plan → ℕ → Beginning

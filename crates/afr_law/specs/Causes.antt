@@ -8,10 +8,10 @@ use Rattle.afr_lines.specs.declared.answer.Told.{Told}
 use Rattle.afr_lines.specs.declared.answer.Told.TheVariants.{Done, NotConnected}
 use Rattle.afr_lines.specs.declared.line.Line.{Line}
 use Rattle.afr_lines.specs.declared.request.Request.TheVariants.{Apply}
-use Rattle.afr_moves.specs.Honest.{plane_kind}
+use Rattle.afr_model_moves.specs.Honest.{plane_kind}
 use Rattle.afr_law.specs.Law.{HonestLog, LawfulLog}
-use Rattle.afr_moves.specs.Lines.{ask_by, begin_by, post_on}
-use Rattle.afr_moves.specs.Past.{Beginning, Log, object, pending}
+use Rattle.afr_model_moves.specs.Lines.{ask_by, begin_by, post_on}
+use Rattle.afr_model_moves.specs.Past.{Beginning, Log, object, pending}
 
 -- before position t brick x carried out a post-op of an attempt on the object and kind, which names brick c as having missed it
 pub record Cause (log : Log) (t x c g : ℕ) (kind : Kind) : Type 0 where

@@ -1,7 +1,7 @@
 -- The dirty numbers: what Pre lines raised and Post and Settle lines took back.
 use Rattle.std.specs.Prelude.{◌≡◌, ℕ, zero, suc, ◌+◌, ◌-◌, ◌≤◌, Bool, false, ◌&&◌, ◌==◌, if◌then◌else◌, Option, Some}
-use Rattle.afr_moves.specs.Past.{Beginning, Log, holds}
-use Rattle.afr_moves.specs.Honest.{view_marks}
+use Rattle.afr_model_moves.specs.Past.{Beginning, Log, holds}
+use Rattle.afr_model_moves.specs.Honest.{view_marks}
 use Rattle.afr_base.specs.declared.ids.Kind.{Kind}
 use Rattle.afr_base.specs.Kinds.{same_kind}
 use Rattle.afr_lines.specs.declared.request.Request.TheVariants.{Look, Pre, Post, Settle}

@@ -2,7 +2,7 @@
 use Rattle.std.specs.Prelude.{ℕ, ◌+◌, ◌^◌, List}
 use Rattle.afr_lines.specs.declared.line.Line.{Line}
 use Rattle.afr_plan.specs.declared.plan.Plan.{Plan}
-use Rattle.afr_moves.specs.ByList.{IsExactlyLawful}
+use Rattle.afr_model_moves.specs.ByList.{IsExactlyLawful}
 use Rattle.afr_law.specs.Beginning.{start_of}
 
 -- above the names of the opening files and all numbers of four bytes

@@ -7,10 +7,10 @@ use Rattle.afr_lines.specs.declared.fault.Fault.{Fault}
 use Rattle.afr_lines.specs.declared.answer.Told.{Told}
 use Rattle.afr_lines.specs.declared.answer.Told.TheVariants.{Seen, NoObject}
 use Rattle.afr_lines.specs.declared.line.Line.{Line}
-use Rattle.afr_moves.specs.Cells.{Cell, object_of, kind_of}
+use Rattle.afr_model_moves.specs.Cells.{Cell, object_of, kind_of}
 use Rattle.afr_law.specs.Law.{HonestLog, LawfulLog}
-use Rattle.afr_moves.specs.Lines.{ask_by, look_at}
-use Rattle.afr_moves.specs.Past.{Beginning, Log, changes, leaves_of, value}
+use Rattle.afr_model_moves.specs.Lines.{ask_by, look_at}
+use Rattle.afr_model_moves.specs.Past.{Beginning, Log, changes, leaves_of, value}
 use Rattle.afr_law.specs.Safe.{Acknowledged}
 
 -- the answer to a look shows nothing that brick b missed: a view with no number against it, or that there is no such object

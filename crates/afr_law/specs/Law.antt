@@ -1,16 +1,16 @@
 -- The law, of lists of lines: each line by those before it.
 use Rattle.std.specs.Prelude.{◌≡◌, ℕ, suc, ◌≤◌, Bool, ◌&&◌, ◌||◌, List, length, take, slice_get, Option, Some}
-use Rattle.afr_moves.specs.Past.{Beginning, Log, before, is_of, place, opens, started, linked, joined}
-use Rattle.afr_moves.specs.Honest.{HonestAsk, KnownMake, asked}
+use Rattle.afr_model_moves.specs.Past.{Beginning, Log, before, is_of, place, opens, started, linked, joined}
+use Rattle.afr_model_moves.specs.Honest.{HonestAsk, KnownMake, asked}
 use Rattle.afr_lines.specs.declared.fault.Fault.{Fault}
-use Rattle.afr_moves.specs.Rules.{in_force, register, May}
+use Rattle.afr_model_moves.specs.Rules.{in_force, register, May}
 use Rattle.afr_law.specs.Safe.{Safe}
 use Rattle.afr_law.specs.Dirty.{ShowsDirty}
 use Rattle.afr_law.specs.Alike.{Alike}
 use Rattle.afr_base.specs.declared.ids.Kind.{Kind}
 use Rattle.afr_lines.specs.declared.line.Line.{Line}
 use Rattle.afr_lines.specs.declared.line.Line.TheVariants.{Ask, Begin}
-use Rattle.afr_moves.specs.Lines.{ask_by}
+use Rattle.afr_model_moves.specs.Lines.{ask_by}
 
 -- the line opens a session of a with b
 abbrev pub opening_by : Log → ℕ → ℕ → ℕ → Option Line → Bool

@@ -14,7 +14,7 @@ use Rattle.afr_model.specs.Honest.{Honest}
 use Rattle.afr_base.specs.Kinds.{same_kind}
 use Rattle.afr_lines.specs.Areas.{kind_for}
 use Rattle.afr_law.specs.ModelLaw.{IsLawful}
-use Rattle.afr_tables.specs.Clear.{IsClear}
+use Rattle.afr_law_tables.specs.Clear.{IsClear}
 
 -- where all numbers are 0, all bricks that keep such cells have the same value; an arbiter keeps no bytes
 abbrev pub AreAlike : Plan → List Line → Type 0

@@ -11,7 +11,7 @@ use Rattle.afr_lines.specs.declared.request.Request.TheVariants.{Apply, Lock}
 use Rattle.afr_model.specs.Honest.{Honest, IsHonest}
 use Rattle.afr_model.specs.Locks.{locks_held}
 use Rattle.afr_lines.specs.declared.request.Area.{Area}
-use Rattle.afr_moves.specs.Covering.{HasItsLocks, HasNumber}
+use Rattle.afr_model_moves.specs.Covering.{HasItsLocks, HasNumber}
 use Rattle.afr_object.specs.declared.change.Change.{Change}
 use Rattle.afr_plan.specs.declared.plan.Plan.{Plan}
 use Rattle.afr_lines.specs.declared.lock.Domain.{Domain}

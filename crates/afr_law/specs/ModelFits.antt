@@ -2,7 +2,7 @@
 use Rattle.std.specs.Prelude.{◌≡◌, ℕ, ◌<◌, ◌≤◌, true, List, length, Some}
 use Rattle.afr_base.specs.declared.ids.ActorId.{ActorId}
 use Rattle.afr_base.specs.declared.ids.BrickId.{BrickId}
-use Rattle.afr_tables.specs.Fits.{FitsSums}
+use Rattle.afr_law_tables.specs.Fits.{FitsSums}
 use Rattle.afr_lines.specs.Log.{EachLine, change_at}
 use Rattle.afr_lines.specs.declared.line.Line.{Line}
 use Rattle.afr_lines.specs.declared.line.Line.TheVariants.{Ask}
@@ -16,7 +16,7 @@ use Rattle.afr_object.specs.declared.change.Change.{Change}
 use Rattle.afr_plan.specs.declared.plan.Plan.{Plan}
 use Rattle.afr_law.specs.Exactly.{IsLawfulExactly}
 use Rattle.afr_law.specs.ModelNext.{IsNext, MayAskNext, is_carried_out}
-use Rattle.afr_tables.specs.Carrying.{CanCarry}
+use Rattle.afr_law_tables.specs.Carrying.{CanCarry}
 
 -- what the line's brick carried out, it could
 abbrev pub CouldCarryOut : Plan → Line → List Line → Type 0

@@ -22,7 +22,7 @@ use Rattle.afr_model.specs.Safe.{IsFresh, names_cell}
 use Rattle.afr_model.specs.Showing.{looked_by}
 use Rattle.afr_law.specs.Exactly.{IsLawfulExactly}
 use Rattle.afr_law.specs.FreshReads.{ShowsNoMiss}
-use Rattle.afr_moves.specs.Lines.{ask_by}
+use Rattle.afr_model_moves.specs.Lines.{ask_by}
 use Rattle.afr_law.specs.ModelLaw.{IsLawful}
 
 -- ---- looks from any position on

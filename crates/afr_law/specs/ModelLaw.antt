@@ -1,5 +1,5 @@
 -- The law in the words of the model.
-use Rattle.afr_tables.specs.Ends.{EndsInTime}
+use Rattle.afr_law_tables.specs.Ends.{EndsInTime}
 use Rattle.std.specs.Prelude.{◌≡◌, ℕ, ◌+◌, ◌<◌, ◌≤◌, ◌⊎◌, Bool, List, length, None, Some}
 use Rattle.afr_base.specs.declared.ids.ActorId.{ActorId}
 use Rattle.afr_base.specs.declared.ids.BrickId.{BrickId}
@@ -21,10 +21,10 @@ use Rattle.afr_plan.specs.declared.plan.Plan.{Plan}
 use Rattle.afr_model.specs.Honest.{Honest}
 use Rattle.afr_model.specs.Safe.{IsAlwaysSafe}
 use Rattle.afr_model.specs.Tables.{entry_at, held_before}
-use Rattle.afr_tables.specs.Codes.{kept_by}
+use Rattle.afr_law_tables.specs.Codes.{kept_by}
 use Rattle.afr_law.specs.Law.{MayNext}
-use Rattle.afr_moves.specs.Rules.{EachRead}
-use Rattle.afr_moves.specs.Positions.{by_position}
+use Rattle.afr_model_moves.specs.Rules.{EachRead}
+use Rattle.afr_model_moves.specs.Positions.{by_position}
 
 -- the line at a position is this read, and a copy answered it
 pub record IsReadAt (older : List Line) (asked : Request) (read : ℕ) : Type 0 where

@@ -9,11 +9,11 @@ use Rattle.afr_lines.specs.declared.request.Request.{Request}
 use Rattle.afr_model.specs.Honest.{Honest, IsHonest, outcome_of}
 use Rattle.afr_plan.specs.declared.plan.Plan.{Plan}
 use Rattle.afr_law.specs.Beginning.{start_of}
-use Rattle.afr_tables.specs.Codes.{kept_by}
-use Rattle.afr_moves.specs.ByList.{IsExactLine, MayExactlyNext}
-use Rattle.afr_moves.specs.Ranges.{InRange}
+use Rattle.afr_law_tables.specs.Codes.{kept_by}
+use Rattle.afr_model_moves.specs.ByList.{IsExactLine, MayExactlyNext}
+use Rattle.afr_model_moves.specs.Ranges.{InRange}
 use Rattle.afr_law.specs.Exactly.{IsLawfulExactly, name_bound}
-use Rattle.afr_moves.specs.Positions.{by_position}
+use Rattle.afr_model_moves.specs.Positions.{by_position}
 pub use Rattle.afr_model.specs.Honest.{asking}
 
 -- the line keeps the discipline in full after these

@@ -1,13 +1,13 @@
 -- What a good copy has.
 use Rattle.std.specs.Prelude.{◌≡◌, ℕ, zero, suc, ◌<◌, ◌≤◌, Bool, true, ◌==◌, nat_lt, if◌then◌else◌, Option, None, Some}
 use Rattle.afr_base.specs.Majority.{IsMajority}
-use Rattle.afr_moves.specs.Cells.{Cell, object_of, kind_of}
-use Rattle.afr_moves.specs.Past.{Beginning, Log, holds, changes, leaves_of, pending, value}
+use Rattle.afr_model_moves.specs.Cells.{Cell, object_of, kind_of}
+use Rattle.afr_model_moves.specs.Past.{Beginning, Log, holds, changes, leaves_of, pending, value}
 use Rattle.afr_base.specs.declared.ids.Kind.{Kind}
 use Rattle.afr_object.specs.declared.change.Change.{Change}
 use Rattle.afr_lines.specs.declared.line.Line.{Line}
 use Rattle.afr_lines.specs.declared.line.Line.TheVariants.{End}
-use Rattle.afr_moves.specs.Lines.{is_ok, begin_by}
+use Rattle.afr_model_moves.specs.Lines.{is_ok, begin_by}
 
 -- the reply of the first End line of a after position q
 abbrev pub end_of : ℕ → Option Line → Option Bool

@@ -1,15 +1,15 @@
 -- A run in which nobody asks twice running for a lock that another holds, and that has turns enough, has done all.
 use Rattle.std.proofs.Common.{◌≡◌, ◌⊎◌, ◌+◌, ◌*◌, ◌≤◌, ◌<◌, ℕ, Bool, true, false, List, length, inl, inr, refl, arith}
-use Rattle.afr_bound.specs.Cost.{AreWithinCost}
-use Rattle.afr_bound.specs.Law.{AreEager, EagerEndsWithin}
-use Rattle.afr_bound.specs.Left.{bound_of}
+use Rattle.afr_law_bound.specs.Ends.Cost.{AreWithinCost}
+use Rattle.afr_law_bound.specs.Ends.Law.{AreEager, EagerEndsWithin}
+use Rattle.afr_law_bound.specs.Ends.Left.{bound_of}
 use Rattle.afr_lines.specs.declared.line.Line.{Line}
 use Rattle.afr_live.specs.Ending.{EndsInAnyOrder}
 use Rattle.afr_model.specs.Actors.{is_done}
 use Rattle.afr_model.specs.Complete.{IsComplete, IsFinished}
 use Rattle.afr_model.specs.Ordered.{actors_of}
 use Rattle.afr_plan.specs.declared.plan.Plan.{Plan}
-use Rattle.afr_standstill.specs.Law.{IsPresumed}
+use Rattle.afr_law_bound.specs.Standstill.Law.{IsPresumed}
 
 no_room : (len turns bound : ℕ) → len < bound → len ≡ turns → bound ≤ turns → ⊥
 no_room len turns bound short full room = omega arith

@@ -4,8 +4,8 @@ use Rattle.std.specs.Prelude.{is_some, nat_lt}
 use Rattle.std.proofs.lemmas.Bool.{cases_eq, cases_lt, eqb-true}
 use Rattle.std.proofs.lemmas.Bool.Decides.{nat_tests}
 use Rattle.afr_base.specs.declared.ids.ActorId.{ActorId}
-use Rattle.afr_bound.specs.Cost.{is_held_back}
-use Rattle.afr_bound.specs.Law.{AreEager, is_back}
+use Rattle.afr_law_bound.specs.Ends.Cost.{is_held_back}
+use Rattle.afr_law_bound.specs.Ends.Law.{AreEager, is_back}
 use Rattle.afr_lines.specs.Work.{is_of}
 use Rattle.afr_lines.specs.declared.answer.Told.TheVariants.{Held as HeldBy}
 use Rattle.afr_lines.specs.declared.line.Line.TheVariants.{Ask, Begin, End, Event, HealBegin, HealEnd}

@@ -1,7 +1,7 @@
 -- A pass that added no line has found every actor done.
 use Rattle.std.proofs.Common.{◌≡◌, ◌⊎◌, ◌||◌, ◌==◌, ◌≤◌, ◌<◌, ◌+◌, ◌-◌, ℕ, Bool, true, false, List, [], ◌∷◌, length, inl, inr, refl, sym, subst, ◌∙◌, true≢false}
 use Rattle.std.proofs.lemmas.Bool.{eqb-true}
-use Rattle.afr_bound.specs.Law.{is_back}
+use Rattle.afr_law_bound.specs.Ends.Law.{is_back}
 use Rattle.afr_lines.specs.declared.answer.Told.TheVariants.{Held}
 use Rattle.afr_lines.specs.declared.line.Line.TheVariants.{Ask}
 use Rattle.afr_lines.specs.declared.line.Line.{Line}
@@ -13,9 +13,9 @@ use Rattle.afr_order.proofs.DoneLemmas.{pass_each, pass_same}
 use Rattle.afr_order.specs.Going.{Goes, IsIdle}
 use Rattle.afr_plan.specs.declared.plan.Plan.{Plan}
 use Rattle.afr_lines.specs.declared.lock.Domain.TheVariants.{Work}
-use Rattle.afr_standstill.proofs.Standing.{goes_on, held_waits, kept_before}
-use Rattle.afr_standstill.specs.Law.{IsPresumed, NotAllWait}
-use Rattle.afr_standstill.specs.Order.{IsWaiting}
+use Rattle.afr_law_bound.proofs.Standstill.Standing.{goes_on, held_waits, kept_before}
+use Rattle.afr_law_bound.specs.Standstill.Law.{IsPresumed, NotAllWait}
+use Rattle.afr_law_bound.specs.Standstill.Order.{IsWaiting}
 use Rattle.afr_volume.specs.State.{State}
 
 -- who was told so since the last other line waits

@@ -1,6 +1,6 @@
 -- What a run by threads has done where it may have enough lines.
 use Rattle.std.specs.Prelude.{◌≡◌, ℕ, ◌+◌, ◌*◌, ◌≤◌, true, List, length}
-use Rattle.afr_bound.specs.Left.{bound_of}
+use Rattle.afr_law_bound.specs.Ends.Left.{bound_of}
 use Rattle.afr_lines.specs.declared.line.Line.{Line}
 use Rattle.afr_model.specs.Actors.{IsActor, is_done}
 use Rattle.afr_model.specs.Ordered.{actors_of}

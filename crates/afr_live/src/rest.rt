@@ -9,8 +9,8 @@ ghost use Rattle.afr_rule.specs.Choosing.{IsRule};
 use crate::shared::Shared;
 use crate::tally::{EndedWorks, Run};
 use afr_base::{ActorId, FIRST_CLIENT, FIRST_HEALER, NoMemory};
+use afr_law_bound::a_log_goes_on;
 use afr_rule::{Candidate, Rules};
-use afr_standstill::a_log_goes_on;
 use afr_volume::Turned;
 
 /// Pass after pass, until every actor is done or the log is full. An actor that was told Held is passed over until another

@@ -1,6 +1,6 @@
 //! What lies under the lock: the volume, and what its threads tell each other.
 ghost use Rattle.std.specs.Prelude.{◌≡◌, ◌⊎◌, ◌<◌, ◌≤◌, ◌+◌, ℕ, true, false, None, OnOk, IfOk, List, [], ◌∷◌, length};
-ghost use Rattle.afr_bound.specs.Law.{AreEager, is_back};
+ghost use Rattle.afr_law_bound.specs.Ends.Law.{AreEager, is_back};
 ghost use Rattle.afr_live.specs.Ends.{works_ended};
 ghost use Rattle.afr_live.specs.Noted.{AreEager-prop, AreNoted, MayTakeTurn};
 ghost use Rattle.afr_live.specs.Turns.{TakesTurn};

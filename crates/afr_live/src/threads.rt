@@ -1,6 +1,6 @@
 //! A thread for each actor, and what is done once they have ended.
 ghost use Rattle.std.specs.Prelude.{◌≡◌, ◌≤◌, ◌<◌, ◌+◌, IfOk, [], length};
-ghost use Rattle.afr_bound.specs.Law.{AreEager};
+ghost use Rattle.afr_law_bound.specs.Ends.Law.{AreEager};
 ghost use Rattle.afr_live.specs.Ending.{EndsInAnyOrder};
 ghost use Rattle.afr_live.specs.Ends.{works_ended};
 ghost use Rattle.afr_live.specs.Handed.{volume_of};
@@ -14,7 +14,7 @@ use crate::rest::take_rest;
 use crate::shared::{After, Shared};
 use crate::tally::{EndedWorks, Handed, Run};
 use afr_base::{ActorId, FIRST_CLIENT, FIRST_HEALER, NoMemory};
-use afr_bound::an_ordered_run_ends;
+use afr_law_bound::an_ordered_run_ends;
 use afr_rule::{Candidate, Rules};
 use afr_volume::Volume;
 use std::alloc::Global;

@@ -1,1 +1,2 @@
 pub mod StartedLemmas
+pub mod Cut

@@ -1,12 +1,12 @@
 -- A run in the stated order that has as many turns as its bound has done all.
 use Rattle.std.proofs.Common.{◌≤◌, Ok, Err, Result, List, length, arith}
 use Rattle.std.specs.Prelude.{OnOk}
-use Rattle.afr_bound.specs.Law.{EndsDone}
+use Rattle.afr_law_bound.specs.Ends.Law.{EndsDone}
 use Rattle.afr_lines.specs.declared.line.Line.{Line}
 use Rattle.afr_model.specs.Complete.{IsComplete}
 use Rattle.afr_model.specs.Ordered.{IsOrdered}
 use Rattle.afr_plan.specs.declared.plan.Plan.{Plan}
-use Rattle.afr_standstill.specs.Law.{IsPresumed}
+use Rattle.afr_law_bound.specs.Standstill.Law.{IsPresumed}
 use Rattle.afr_volume.specs.Right.{IsRight}
 use Rattle.afr_order.specs.Ending.{EndsInBound}
 

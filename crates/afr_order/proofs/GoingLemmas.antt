@@ -12,7 +12,7 @@ use Rattle.afr_model.specs.Ordered.Writes.{Moves, PassesOver, Happens}
 use Rattle.afr_volume.specs.Turning.{Turns, Comes, AddsLine}
 use Rattle.afr_volume.specs.declared.turned.Turned.{Turned}
 use Rattle.afr_volume.specs.declared.turned.Turned.TheVariants.{Moved, Waits, Ended, Full}
-use Rattle.afr_bound.proofs.Runs.{done_more}
+use Rattle.afr_law_bound.proofs.Ends.Runs.{done_more}
 use Rattle.afr_order.specs.Going.{ClientsAreDone, Goes, IsHappening, Later, Still, Takes, TakesFront, Ends, goes_on_after}
 
 pub goes_nowhere : (s : State) → Goes s s

@@ -1,6 +1,6 @@
 -- What a run in the stated order has done where it may have as many lines as its bound.
 use Rattle.std.specs.Prelude.{◌≡◌, ℕ, ◌≤◌, true, List}
-use Rattle.afr_bound.specs.Left.{bound_of}
+use Rattle.afr_law_bound.specs.Ends.Left.{bound_of}
 use Rattle.afr_lines.specs.declared.line.Line.{Line}
 use Rattle.afr_model.specs.Actors.{IsActor, is_done}
 use Rattle.afr_plan.specs.declared.plan.Plan.{Plan}

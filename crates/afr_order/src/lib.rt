@@ -14,7 +14,7 @@ mod turns;
 
 use crate::rows::{all_orders, all_passes};
 use afr_base::NoMemory;
-use afr_bound::an_ordered_run_ends;
+use afr_law_bound::an_ordered_run_ends;
 use afr_rule::{Candidate, Rules};
 use afr_volume::Volume;
 pub use turns::come_due;

@@ -3,3 +3,4 @@ pub mod CommandLemmas
 mod OwnLemmas
 mod PlacesLemmas
 mod ToldLemmas
+mod Summary

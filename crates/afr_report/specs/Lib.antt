@@ -1,3 +1,4 @@
 pub mod BrickLines
 pub mod Heals
 pub mod Own
+pub mod Summary

@@ -6,7 +6,7 @@ ghost use Rattle.afr_model.specs.Report.{command_line, word_of};
 use afr_base::NoMemory;
 use afr_lines::Reply;
 use afr_plan::{Command, Words};
-use afr_replies::push_reply;
+use afr_report_words::push_reply;
 
 /// Adds the line of the command that comes after `before` others of its client.
 pub fn push_command(

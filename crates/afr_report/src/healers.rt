@@ -12,7 +12,7 @@ use afr_lines::Reply;
 use afr_log::Log;
 use afr_object::List;
 use afr_plan::{RoundList, Words};
-use afr_replies::push_reply;
+use afr_report_words::push_reply;
 
 /// Adds the texts of all healers. Healer 1 has the first rounds.
 pub fn push_healers(

@@ -5,7 +5,7 @@ ghost use Rattle.afr_report.specs.Heals.{ended_heal, heal_of};
 
 use afr_base::{ActorId, Gfid, Kind, NoMemory};
 use afr_lines::{HealReply, Line};
-use afr_replies::{kind_word, push_gfid, push_heal_reply};
+use afr_report_words::{kind_word, push_gfid, push_heal_reply};
 
 /// Adds the line of a heal of this healer that found something to do; nothing for any other line
 /// of the log.

@@ -11,7 +11,9 @@ mod of_volume;
 mod own;
 mod progress;
 mod report;
+mod summed;
 
 pub use events::started;
 pub use of_volume::{info_text, report_text, trace_text};
 pub use report::print_report;
+pub use summed::{print_summary, summary_text};

@@ -1,12 +1,12 @@
 //! The report of a volume, what needs heal in it, and its trace.
 ghost use Rattle.std.specs.Prelude.{◌≡◌, IfOk, string_bytes};
 ghost use Rattle.afr_model.specs.ReportHealers.{info_of, report_of};
-ghost use Rattle.afr_trace.specs.Lines.{trace_of};
+ghost use Rattle.afr_report_trace.specs.Lines.{trace_of};
 
 use crate::report::print_report;
 use afr_base::NoMemory;
-use afr_info::print_info;
-use afr_trace::print_trace;
+use afr_report_info::print_info;
+use afr_report_trace::print_trace;
 use afr_volume::Volume;
 use std::alloc::Global;
 

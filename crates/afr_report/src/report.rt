@@ -1,6 +1,6 @@
 //! The whole report: the volume, the length of the log, the clients, the healers, and what needs heal.
 ghost use Rattle.std.specs.Prelude.{◌≡◌, ◌++◌, ◌≤◌, IfOk, OnOk, length, reverse, string_bytes};
-ghost use Rattle.afr_info.specs.Shown.{HoldTables};
+ghost use Rattle.afr_report_info.specs.Shown.{HoldTables};
 ghost use Rattle.afr_model.specs.Report.{started_bricks, volume_text};
 ghost use Rattle.afr_model.specs.ReportHealers.{report_of};
 
@@ -8,9 +8,9 @@ use crate::clients::push_clients;
 use crate::healers::push_healers;
 use crate::own::places;
 use afr_base::{BrickSet, NoMemory, Shape};
-use afr_info::print_info;
 use afr_log::Log;
 use afr_plan::Plan;
+use afr_report_info::print_info;
 use afr_server::Server;
 use std::alloc::Global;
 

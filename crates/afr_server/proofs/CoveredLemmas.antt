@@ -14,8 +14,8 @@ use Rattle.afr_lines.specs.declared.request.Request.TheVariants.{Lock, Unlock, L
 use Rattle.afr_lines.specs.declared.request.Request.TheVariants as request
 use Rattle.afr_model.specs.Locks.{locks_held}
 use Rattle.afr_model.specs.Tables.{Past}
-use Rattle.afr_moves.specs.Covering.{Covers, HasHealLock, HasItsLocks, IsCovered}
-use Rattle.afr_moves.specs.Rules.{heal_area}
+use Rattle.afr_model_moves.specs.Covering.{Covers, HasHealLock, HasItsLocks, IsCovered}
+use Rattle.afr_model_moves.specs.Rules.{heal_area}
 use Rattle.afr_name_locks.specs.Names.{name_lock}
 use Rattle.afr_object.specs.declared.change.Change.{Change}
 use Rattle.afr_object.specs.declared.change.Load.{Load}

@@ -29,7 +29,7 @@ use Rattle.afr_server.proofs.LockLemmas.{locks_next, names-filter, ranges-filter
 use Rattle.afr_server.proofs.ListLemmas.{filter_true}
 use Rattle.afr_server.specs.Log.{IsLinked, IsServed, names_in, ranges_in}
 use Rattle.afr_server.specs.Serving.{Serving}
-use Rattle.afr_moves.proofs.Tests.{and_choice, or_choice}
+use Rattle.afr_model_moves.proofs.Tests.{and_choice, or_choice}
 
 -- ---- locks
 none : (u : Bool) → not (u && false) ≡ true

@@ -23,7 +23,7 @@ use Rattle.afr_session.specs.declared.link.Link.{Link}
 use Rattle.afr_server.specs.Outcome.{link_served}
 use Rattle.afr_server.specs.Carried.{joined_by, names_after, ranges_after}
 use Rattle.afr_server.specs.Serving.{AreOwned, IsGuarded}
-use Rattle.afr_moves.proofs.Tests.{same_self}
+use Rattle.afr_model_moves.proofs.Tests.{same_self}
 
 pub owned_grows : {A : Type 0} (links links' : Links) (held : List (HeldLock A)) → ((x : ℕ) → (link_of x links).live ≡ true → (link_of x links').live ≡ true) → AreOwned links held → AreOwned links' held
 owned_grows links links' [] more o = tt

@@ -45,7 +45,7 @@ use Rattle.afr_server.proofs.RequestLemmas.{by_locks}
 use Rattle.afr_server.specs.Carried.{joined_by, names_after, ranges_after}
 use Rattle.afr_server.specs.Log.{name_before, names_in, range_before, ranges_in}
 use Rattle.afr_server.specs.Outcome.{is_carried_out, is_lost, locks_served}
-use Rattle.afr_moves.proofs.Tests.{same_self}
+use Rattle.afr_model_moves.proofs.Tests.{same_self}
 
 -- ---- ranges
 pub ranges-filter : (P : HeldLock Area → Bool) (Q : HeldLock ObjectRange → Bool) → ((o : ActorId) (d : Domain) (g : Gfid) (from to : ℕ) → P (record { owner = o; domain = d; area = Range g from to }) ≡ Q (range_lock o d g from to)) → (held : List (HeldLock Area)) → ranges_in (filter P held) ≡ filter Q (ranges_in held)

@@ -39,7 +39,7 @@ use Rattle.afr_server.proofs.ListLemmas.{never}
 use Rattle.afr_server.specs.Log.{Finds, IsServed}
 use Rattle.afr_server.specs.Outcome.{Serves, is_carried_out, is_lost, locks_served}
 use Rattle.afr_server.specs.Serving.{Serving, in_way, is_epoch}
-use Rattle.afr_moves.proofs.Tests.{same_self}
+use Rattle.afr_model_moves.proofs.Tests.{same_self}
 
 -- ---- what the server goes by is what the log says
 same_lock : (p : Plan) (log : List Line) (b : ℕ) (s : Serving) (a : ActorId) (domain : Domain) (area : Area) → IsServed p log b s → in_the_way a (Lock domain area) b log ≡ in_way a (Lock domain area) s

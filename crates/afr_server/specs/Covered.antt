@@ -5,7 +5,7 @@ use Rattle.afr_lines.specs.declared.request.Area.{Area}
 use Rattle.afr_lines.specs.declared.request.Area.TheVariants.{Range, Name}
 use Rattle.afr_lines.specs.declared.request.Request.{Request}
 use Rattle.afr_lines.specs.declared.request.Request.TheVariants.{Apply}
-use Rattle.afr_moves.specs.Covering.{HasItsLocks}
+use Rattle.afr_model_moves.specs.Covering.{HasItsLocks}
 use Rattle.afr_name_locks.specs.declared.names.DirName.{DirName}
 use Rattle.afr_object.specs.declared.change.Change.{Change}
 use Rattle.afr_object.specs.declared.change.Load.{Load}

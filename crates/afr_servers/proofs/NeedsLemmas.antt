@@ -21,7 +21,7 @@ use Rattle.afr_model.specs.Honest.{RequestOutcome, is_live, one_more, over_sessi
 use Rattle.afr_model.specs.Report.{started_bricks}
 use Rattle.afr_model.specs.Sessions.{is_joined, is_linked}
 use Rattle.afr_model.specs.Tables.{Past, held_before}
-use Rattle.afr_moves.proofs.Tests.{same_self}
+use Rattle.afr_model_moves.proofs.Tests.{same_self}
 use Rattle.afr_object.specs.declared.change.Load.{Load}
 use Rattle.afr_plan.specs.declared.plan.Plan.{Plan}
 use Rattle.afr_server.proofs.CoveredLemmas.{same_change, under_locks}

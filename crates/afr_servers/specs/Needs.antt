@@ -16,7 +16,7 @@ use Rattle.afr_model.specs.Honest.{answer_by, asking, outcome_of}
 use Rattle.afr_model.specs.Locks.{locks_held}
 use Rattle.afr_model.specs.Report.{started_bricks}
 use Rattle.afr_model.specs.Tables.{held_before, holds}
-use Rattle.afr_moves.specs.Covering.{HasItsLocks, HasNumber}
+use Rattle.afr_model_moves.specs.Covering.{HasItsLocks, HasNumber}
 use Rattle.afr_object.specs.declared.change.Change.{Change}
 use Rattle.afr_object.specs.declared.change.Load.{Load}
 use Rattle.afr_plan.specs.declared.plan.Plan.{Plan}
@@ -26,7 +26,7 @@ use Rattle.afr_server.specs.Carried.{Brings, CanCarryOut, CanLock}
 use Rattle.afr_server.specs.Covered.{IsUnderLocks}
 use Rattle.afr_server.specs.Outcome.{is_carried_out}
 use Rattle.afr_server.specs.Serving.{HasEpoch, Serving}
-use Rattle.afr_tables.specs.Carrying.{CanCarry}
+use Rattle.afr_law_tables.specs.Carrying.{CanCarry}
 use Rattle.afr_servers.specs.Calls.{At}
 use Rattle.afr_servers.specs.Log.{AreServed}
 use Rattle.afr_servers.specs.Started.{started_in}

@@ -4,7 +4,7 @@ use Rattle.afr_base.specs.declared.ids.ActorId.{ActorId}
 use Rattle.afr_base.specs.declared.ids.BrickId.{BrickId}
 use Rattle.afr_discipline.specs.Notes.{noted_ask}
 use Rattle.afr_discipline.specs.declared.register.Register.{Register}
-use Rattle.afr_hears.specs.Hears.{IsHeard}
+use Rattle.afr_law_heard.specs.Hears.{IsHeard}
 use Rattle.afr_lines.specs.Places.{Fresh, Within, next_place, place_of}
 use Rattle.afr_lines.specs.Told.{told_by}
 use Rattle.afr_lines.specs.Work.{Work as Lines, ended, work}
@@ -21,18 +21,18 @@ use Rattle.afr_model.specs.Replied.{IsOf}
 use Rattle.afr_model.specs.Following.{KeepsToCommand, ToCommand}
 use Rattle.afr_plan.specs.declared.command.Command.{Command}
 use Rattle.afr_plan.specs.declared.plan.Plan.{Plan}
-use Rattle.afr_rounds.proofs.BeforeAsks.{IsAskedSo, asked_so}
+use Rattle.afr_healer.proofs.BeforeAsks.{IsAskedSo, asked_so}
 use Rattle.afr_server.specs.NextLine.{told_line}
 use Rattle.afr_server.specs.Serving.{Serving}
-use Rattle.afr_transaction.specs.Turn.{Stood}
-use Rattle.afr_readings.specs.Laws.{KeepsPicked, LineKept, number_in}
-use Rattle.afr_readings.specs.Readings.{asked_in}
-use Rattle.afr_walk.specs.Choosing.{IsAmong, reader_of}
-use Rattle.afr_transaction_tells.specs.Laws.{IsNextLine}
-use Rattle.afr_works.specs.Work.{CarriesNext, IsWork, choices_heard, heard_by, next_of, register_of}
-use Rattle.afr_works.specs.declared.work.WorkMachine.{WorkMachine}
-use Rattle.afr_works.specs.declared.work.WorkMachine.TheVariants.{Entry, Idle, Lookup, Rename, Write}
-use Rattle.afr_works_tell.specs.WorkTelling.{WorkHears, WorkTells}
+use Rattle.afr_client_transaction.specs.Turn.{Stood}
+use Rattle.afr_law_picks.specs.Laws.{KeepsPicked, LineKept, number_in}
+use Rattle.afr_law_picks.specs.Readings.{asked_in}
+use Rattle.afr_client_walk.specs.Choosing.{IsAmong, reader_of}
+use Rattle.afr_law_client.specs.Laws.{IsNextLine}
+use Rattle.afr_client.specs.Work.{CarriesNext, IsWork, choices_heard, heard_by, next_of, register_of}
+use Rattle.afr_client.specs.declared.work.WorkMachine.{WorkMachine}
+use Rattle.afr_client.specs.declared.work.WorkMachine.TheVariants.{Entry, Idle, Lookup, Rename, Write}
+use Rattle.afr_law_heard.specs.Works.WorkTelling.{WorkHears, WorkTells}
 use Rattle.afr_volume.specs.Acting.{HearsAny, IsAsked, picked_after, still_picked}
 use Rattle.afr_volume.specs.Keeping.{Carries, CarriesOutCommand, IsActing, IsNoted, IsReading}
 use Rattle.afr_volume.specs.declared.actor.Actor.{Actor}

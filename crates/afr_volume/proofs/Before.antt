@@ -16,15 +16,15 @@ use Rattle.afr_model.specs.Honest.{Honest}
 use Rattle.afr_model.specs.Tables.{held_before}
 use Rattle.afr_object.specs.declared.change.Load.{Load}
 use Rattle.afr_plan.specs.declared.plan.Plan.{Plan}
-use Rattle.afr_rounds.proofs.BeforeAsks.{AskLaws, AsksNext, IsBeforeAsk}
+use Rattle.afr_healer.proofs.BeforeAsks.{AskLaws, AsksNext, IsBeforeAsk}
 use Rattle.afr_server.specs.Carried.{Brings}
 use Rattle.afr_server.specs.Serving.{Serving}
 use Rattle.afr_servers.specs.Log.{AreServed}
 use Rattle.afr_servers.specs.declared.epochs.Epochs.{Epochs}
-use Rattle.afr_transaction.specs.Turn.{InForce}
-use Rattle.afr_works.specs.Work.{CarriesNext, next_of, register_of}
-use Rattle.afr_works.specs.declared.work.WorkMachine.{WorkMachine}
-use Rattle.afr_works.specs.declared.work.WorkMachine.TheVariants.{Entry, Idle, Lookup, Rename, Write}
+use Rattle.afr_client_transaction.specs.Turn.{InForce}
+use Rattle.afr_client.specs.Work.{CarriesNext, next_of, register_of}
+use Rattle.afr_client.specs.declared.work.WorkMachine.{WorkMachine}
+use Rattle.afr_client.specs.declared.work.WorkMachine.TheVariants.{Entry, Idle, Lookup, Rename, Write}
 use Rattle.afr_volume.specs.Keeping.{CanRun, CarriesOutCommand, IsNoted}
 use Rattle.afr_volume.specs.Laws.{Laws}
 

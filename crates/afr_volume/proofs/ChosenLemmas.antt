@@ -20,9 +20,9 @@ use Rattle.afr_model.specs.HealReplies.{refuses_index}
 use Rattle.afr_model.specs.Replied.{IsReplied, Replied}
 use Rattle.afr_model.specs.Showing.{has}
 use Rattle.afr_plan.specs.declared.plan.Plan.{Plan}
-use Rattle.afr_readings.specs.Readings.{PickAnswers}
-use Rattle.afr_sources.proofs.Turns.{event_keeps}
-use Rattle.afr_sources.proofs.Turns as sources
+use Rattle.afr_law_picks.specs.Readings.{PickAnswers}
+use Rattle.afr_law_picks.proofs.Sources.Turns.{event_keeps}
+use Rattle.afr_law_picks.proofs.Sources.Turns as sources
 use Rattle.afr_volume.specs.State.{AreRead, HealsChosen, IsChosen, ReadsChosen, State, no_volume, opened}
 use Rattle.afr_volume.specs.Turning.{AddsLine, Comes, Turns}
 use Rattle.afr_volume.specs.declared.turned.Turned.{Turned}

@@ -11,8 +11,8 @@ use Rattle.afr_lines.specs.declared.line.Line.{Line}
 use Rattle.afr_lines.specs.declared.line.Line.TheVariants as line_of
 use Rattle.afr_model.specs.Following.{Follows}
 use Rattle.afr_model.specs.Report.{started_after, started_bricks}
-use Rattle.afr_moves.specs.Ranges.{InRange}
-use Rattle.afr_next.specs.Happened.{EventKeepsAll}
+use Rattle.afr_model_moves.specs.Ranges.{InRange}
+use Rattle.afr_law_next.specs.Happened.{EventKeepsAll}
 use Rattle.afr_plan.specs.declared.plan.Plan.{Plan}
 use Rattle.afr_plan.specs.declared.schedule.PlannedEvent.{PlannedEvent}
 use Rattle.afr_server.specs.Serving.{Serving}
@@ -20,7 +20,7 @@ use Rattle.afr_servers.specs.Calls.{MeetsEach}
 use Rattle.afr_servers.specs.Log.{AreFound, AreServed}
 use Rattle.afr_servers.specs.NextLine.{EventAreServed}
 use Rattle.afr_servers.specs.declared.epochs.Epochs.{Epochs}
-use Rattle.afr_rounds.specs.declared.healer.Healer.{Healer}
+use Rattle.afr_healer.specs.declared.healer.Healer.{Healer}
 use Rattle.afr_volume.specs.Keeping.{CanRun, IsActing, IsEventOf, IsVolume, IsWhole}
 use Rattle.afr_volume.specs.Turning.{HasHealer, HasVictim, KillsHealersIn, KillsIn, due_at, if_due}
 use Rattle.afr_volume.specs.declared.actor.Actor.{Actor}

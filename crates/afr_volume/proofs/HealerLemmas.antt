@@ -4,8 +4,8 @@ use Rattle.std.proofs.lemmas.Option.{get_or_from_slice_get, slice_get-get_or}
 use Rattle.afr_base.specs.declared.ids.BrickId.{BrickId}
 use Rattle.afr_model.specs.Actors.{rounds_of}
 use Rattle.afr_plan.specs.declared.plan.Plan.{Plan}
-use Rattle.afr_rounds.specs.Acting.{Readies}
-use Rattle.afr_rounds.specs.declared.healer.Healer.{Healer}
+use Rattle.afr_healer.specs.Acting.{Readies}
+use Rattle.afr_healer.specs.declared.healer.Healer.{Healer}
 use Rattle.afr_volume.specs.Turning.{ReadiedHealerAt}
 
 pub found_at : (l : List Healer) (i : ℕ) (x : Healer) → i < length l → x ≡ get_or l i x → slice_get l i ≡ Some x

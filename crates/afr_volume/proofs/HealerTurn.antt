@@ -5,22 +5,22 @@ use Rattle.std.proofs.lemmas.Bool.Decides.{nat_tests}
 use Rattle.std.proofs.lemmas.List.{length-reverse}
 use Rattle.std.proofs.lemmas.Option.{slice_get_within}
 use Rattle.afr_base.specs.declared.ids.ActorId.{ActorId}
-use Rattle.afr_healer.specs.Rounding.{IsAnswered, IsFed}
+use Rattle.afr_heal_round.specs.Rounding.{IsAnswered, IsFed}
 use Rattle.afr_lines.specs.Work.{ended, is_killed, is_of, work}
 use Rattle.afr_lines.specs.declared.line.Line.{Line}
 use Rattle.afr_model.specs.Actors.{Client, Healer as ByHealer, IsActor, is_done, rounds_of, works_of}
 use Rattle.afr_plan.specs.declared.plan.Plan.{Plan}
-use Rattle.afr_rounds.specs.Acting.{CanStep, Stepped}
-use Rattle.afr_rounds.proofs.Fed.{steps_answered}
-use Rattle.afr_rounds.specs.Keeping.{IsHealer}
-use Rattle.afr_rounds.specs.Laws.{IsBeforeRound, IsMadeReady, IsWritten}
-use Rattle.afr_rounds.specs.declared.healer.Healer.{Healer}
+use Rattle.afr_healer.specs.Acting.{CanStep, Stepped}
+use Rattle.afr_healer.proofs.Fed.{steps_answered}
+use Rattle.afr_healer.specs.Keeping.{IsHealer}
+use Rattle.afr_healer.specs.Laws.{IsBeforeRound, IsMadeReady, IsWritten}
+use Rattle.afr_healer.specs.declared.healer.Healer.{Healer}
 use Rattle.afr_rule.specs.Choosing.{Calls}
 use Rattle.afr_server.specs.Serving.{Serving}
-use Rattle.afr_sources.proofs.HealerTurn.{healer_turn}
-use Rattle.afr_sources.specs.Chosen.{AreChosen}
-use Rattle.afr_sources.specs.Laws.{LineKeepsSource}
-use Rattle.afr_sources.specs.Sources.{picks_of, sources_of}
+use Rattle.afr_law_picks.proofs.Sources.HealerTurn.{healer_turn}
+use Rattle.afr_law_picks.specs.Sources.Chosen.{AreChosen}
+use Rattle.afr_law_picks.specs.Sources.Laws.{LineKeepsSource}
+use Rattle.afr_law_picks.specs.Sources.Sources.{picks_of, sources_of}
 use Rattle.afr_volume.specs.Keeping.{AreHealers, CanRun, IsVolume, IsWhole}
 use Rattle.afr_volume.specs.Laws.{PaceLaws, RoundLaws}
 use Rattle.afr_volume.specs.Pacing.{ArePaced}

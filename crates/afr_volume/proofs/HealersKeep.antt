@@ -5,7 +5,7 @@ use Rattle.std.proofs.lemmas.Option.{slice_get-get_or, slice_get_within}
 use Rattle.afr_base.specs.declared.ids.ActorId.{ActorId}
 use Rattle.afr_base.specs.declared.ids.BrickId.{BrickId}
 use Rattle.afr_discipline.specs.declared.register.Register.{Register}
-use Rattle.afr_healer.specs.Rounding.{IsAnswered}
+use Rattle.afr_heal_round.specs.Rounding.{IsAnswered}
 use Rattle.afr_lines.specs.Work.{is_killed, kills}
 use Rattle.afr_lines.specs.declared.line.Event.{Event}
 use Rattle.afr_lines.specs.declared.line.Line.{Line}
@@ -13,17 +13,17 @@ use Rattle.afr_lines.specs.declared.line.Line.TheVariants as line_of
 use Rattle.afr_model.specs.Actors.{IsActor, rounds_of}
 use Rattle.afr_model.specs.Following.{NoneDue}
 use Rattle.afr_model.specs.Kept.{IsKept}
-use Rattle.afr_moves.specs.Ranges.{InRange}
+use Rattle.afr_model_moves.specs.Ranges.{InRange}
 use Rattle.afr_plan.specs.declared.plan.Plan.{Plan}
-use Rattle.afr_rounds.specs.Acting.{Stepped}
-use Rattle.afr_rounds.specs.Keeping.{IsHealer}
-use Rattle.afr_rounds.specs.Laws.{IsBeforeRound, IsBeside, IsMadeReady, IsWritten, RoundKeeps}
-use Rattle.afr_rounds.specs.Laws as rounds
-use Rattle.afr_rounds.specs.declared.healer.Healer.{Healer}
+use Rattle.afr_healer.specs.Acting.{Stepped}
+use Rattle.afr_healer.specs.Keeping.{IsHealer}
+use Rattle.afr_healer.specs.Laws.{IsBeforeRound, IsBeside, IsMadeReady, IsWritten, RoundKeeps}
+use Rattle.afr_healer.specs.Laws as rounds
+use Rattle.afr_healer.specs.declared.healer.Healer.{Healer}
 use Rattle.afr_server.specs.Serving.{Serving}
 use Rattle.afr_servers.specs.Log.{AreFound}
 use Rattle.afr_servers.specs.declared.epochs.Epochs.{Epochs}
-use Rattle.afr_transaction.specs.Turn.{Stood}
+use Rattle.afr_client_transaction.specs.Turn.{Stood}
 use Rattle.afr_volume.specs.Keeping.{AreHealers, IsActing, IsVolume, IsWhole}
 use Rattle.afr_volume.specs.Laws.{EventLaws, RoundLaws}
 use Rattle.afr_volume.specs.Pacing.{ArePaced}

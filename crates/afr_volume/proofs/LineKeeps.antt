@@ -32,11 +32,11 @@ use Rattle.afr_server.specs.Serving.{Serving}
 use Rattle.afr_servers.proofs.VisitLemmas.{session_on}
 use Rattle.afr_servers.specs.Log.{AreFound, AreServed}
 use Rattle.afr_servers.specs.declared.epochs.Epochs.{Epochs}
-use Rattle.afr_transaction.specs.Turn.{Stood}
-use Rattle.afr_works.specs.Work.{register_of}
-use Rattle.afr_works.specs.declared.work.WorkMachine.{WorkMachine}
-use Rattle.afr_works.specs.declared.work.WorkMachine.TheVariants.{Entry, Idle, Lookup, Rename, Write}
-use Rattle.afr_works_tell.specs.WorkTelling.{WorkTells}
+use Rattle.afr_client_transaction.specs.Turn.{Stood}
+use Rattle.afr_client.specs.Work.{register_of}
+use Rattle.afr_client.specs.declared.work.WorkMachine.{WorkMachine}
+use Rattle.afr_client.specs.declared.work.WorkMachine.TheVariants.{Entry, Idle, Lookup, Rename, Write}
+use Rattle.afr_law_heard.specs.Works.WorkTelling.{WorkTells}
 use Rattle.afr_volume.specs.Keeping.{Carries, CarriesOutCommand, IsActing, IsNoted}
 use Rattle.afr_volume.specs.declared.actor.Actor.{Actor}
 use Rattle.afr_volume.proofs.ReadingLemmas.{reading_stays}

@@ -5,9 +5,9 @@ use Rattle.afr_plan.specs.declared.plan.Plan.{Plan}
 use Rattle.afr_server.specs.Serving.{Serving}
 use Rattle.afr_servers.specs.NextLine.{NewAreServed}
 use Rattle.afr_servers.specs.Opening.{AreNew}
-use Rattle.afr_rounds.specs.Acting.{IsNewHealer}
-use Rattle.afr_rounds.specs.Keeping.{IsHealer}
-use Rattle.afr_rounds.specs.declared.healer.Healer.{Healer}
+use Rattle.afr_healer.specs.Acting.{IsNewHealer}
+use Rattle.afr_healer.specs.Keeping.{IsHealer}
+use Rattle.afr_healer.specs.declared.healer.Healer.{Healer}
 use Rattle.afr_volume.specs.Keeping.{CanRun, IsActing, IsVolume, IsWhole}
 use Rattle.afr_volume.specs.Laws.{PaceLaws}
 use Rattle.afr_volume.specs.Starting.{AreNewActors, AreNewHealers, IsNewActor}

@@ -5,8 +5,8 @@ use Rattle.afr_lines.specs.declared.line.Event.{Event}
 use Rattle.afr_lines.specs.declared.line.Line.{Line}
 use Rattle.afr_lines.specs.declared.line.Line.TheVariants as line_of
 use Rattle.afr_plan.specs.declared.plan.Plan.{Plan}
-use Rattle.afr_round_cost.specs.Paced.{IsPacedRound}
-use Rattle.afr_rounds.specs.declared.healer.Healer.{Healer}
+use Rattle.afr_law_cost.specs.Healer.Paced.{IsPacedRound}
+use Rattle.afr_healer.specs.declared.healer.Healer.{Healer}
 use Rattle.afr_volume.specs.Laws.{PaceLaws}
 use Rattle.afr_volume.specs.Pacing.{ArePaced, IsPaced}
 use Rattle.afr_volume.specs.Starting.{AreNewActors, AreNewHealers}

@@ -2,13 +2,13 @@
 use Rattle.std.proofs.Common.{◌≡◌, ◌∙◌, ◌⊎◌, Bool, true, false, List, ◌∷◌, refl, sym, ap, subst, length, inl, inr}
 use Rattle.afr_base.specs.declared.ids.ActorId.{ActorId}
 use Rattle.afr_base.specs.declared.ids.BrickId.{BrickId}
-use Rattle.afr_descent.specs.Descent.{IsOfPlan}
+use Rattle.afr_law_names.specs.Descent.Descent.{IsOfPlan}
 use Rattle.afr_discipline.specs.declared.register.Register.{Register}
 use Rattle.afr_heal.specs.Engine.{Ask as Asks, NextOfHeal as Coming}
-use Rattle.afr_heal_order.specs.Heals.{RisesInHeal}
-use Rattle.afr_healer.specs.Rounding.{IsAnswered, next_at, next_of}
-use Rattle.afr_healer.specs.declared.stage.RoundStage.{RoundStage}
-use Rattle.afr_healer.specs.declared.stage.RoundStage.TheVariants.{Asking, Healing as At, Over}
+use Rattle.afr_law_order.specs.Heal.Heals.{RisesInHeal}
+use Rattle.afr_heal_round.specs.Rounding.{IsAnswered, next_at, next_of}
+use Rattle.afr_heal_round.specs.declared.stage.RoundStage.{RoundStage}
+use Rattle.afr_heal_round.specs.declared.stage.RoundStage.TheVariants.{Asking, Healing as At, Over}
 use Rattle.afr_lines.specs.Places.{Place, opens}
 use Rattle.afr_lines.specs.Told.{told_by}
 use Rattle.afr_lines.specs.declared.answer.Told.{Told}
@@ -19,19 +19,19 @@ use Rattle.afr_lines.specs.declared.line.Next.TheVariants as next
 use Rattle.afr_lines.specs.declared.request.Area.{Area}
 use Rattle.afr_lines.specs.declared.request.Request.{Request}
 use Rattle.afr_lines.specs.declared.request.Request.TheVariants as request
-use Rattle.afr_moves.specs.Discipline.{in_force}
-use Rattle.afr_moves.specs.Followed.{register_by}
-use Rattle.afr_moves.specs.Keeps.{keeps_in}
-use Rattle.afr_moves.specs.Rules.{heal_area}
+use Rattle.afr_model_moves.specs.Discipline.{in_force}
+use Rattle.afr_model_moves.specs.Followed.{register_by}
+use Rattle.afr_model_moves.specs.Keeps.{keeps_in}
+use Rattle.afr_model_moves.specs.Rules.{heal_area}
 use Rattle.afr_plan.specs.declared.plan.Plan.{Plan}
 use Rattle.afr_lines.specs.declared.lock.Domain.TheVariants.{Heal as HealDomain, Work as WorkDomain}
-use Rattle.afr_rounds.specs.Acting.{Stepped, SteppedBy}
-use Rattle.afr_rounds.specs.Keeping.{CarriesIts, CarriesRound, IsHealer, IsNotedHeal, StageStands}
-use Rattle.afr_rounds.specs.declared.healer.Healer.{Healer}
-use Rattle.afr_self_heal.specs.Healing.{Healing, IsHealing, coming, line_of}
-use Rattle.afr_self_heal.specs.Healing as heal
+use Rattle.afr_healer.specs.Acting.{Stepped, SteppedBy}
+use Rattle.afr_healer.specs.Keeping.{CarriesIts, CarriesRound, IsHealer, IsNotedHeal, StageStands}
+use Rattle.afr_healer.specs.declared.healer.Healer.{Healer}
+use Rattle.afr_heal_machine.specs.Healing.{Healing, IsHealing, coming, line_of}
+use Rattle.afr_heal_machine.specs.Healing as heal
 use Rattle.afr_server.specs.Serving.{Serving}
-use Rattle.afr_standstill.specs.Order.{IsRisingLine, locks_at}
+use Rattle.afr_law_bound.specs.Standstill.Order.{IsRisingLine, locks_at}
 use Rattle.afr_volume.specs.Laws.{PaceLaws}
 
 module _ (paces : PaceLaws) where

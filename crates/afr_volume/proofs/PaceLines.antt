@@ -4,7 +4,7 @@ use Rattle.std.proofs.lemmas.Bool.Decides.{nat_tests}
 use Rattle.afr_law.proofs.Model.Works.{work_more}
 use Rattle.afr_base.specs.declared.ids.ActorId.{ActorId}
 use Rattle.afr_base.specs.declared.ids.BrickId.{BrickId}
-use Rattle.afr_bound.specs.Cost.{IsWithinCost, costs_of, counted, spent}
+use Rattle.afr_law_bound.specs.Ends.Cost.{IsWithinCost, costs_of, counted, spent}
 use Rattle.afr_lines.specs.declared.fault.Fault.{Fault}
 use Rattle.afr_lines.specs.declared.fault.Fault.TheVariants.{Fail, Lost}
 use Rattle.afr_lines.specs.Work.{ended, is_end, is_of, work}
@@ -17,7 +17,7 @@ use Rattle.afr_lines.specs.declared.request.Request.{Request}
 use Rattle.afr_lines.specs.declared.request.Request.TheVariants as request
 use Rattle.afr_model.specs.Honest.{IsHonest, RequestOutcome, over_session}
 use Rattle.afr_plan.specs.declared.plan.Plan.{Plan}
-use Rattle.afr_work_pace.specs.Left.{FitsUnlock}
+use Rattle.afr_law_pace.specs.Work.Left.{FitsUnlock}
 use Rattle.afr_volume.specs.Pacing.{HasLeft}
 use Rattle.afr_volume.proofs.SourceLemmas.{own_of}
 

@@ -2,17 +2,17 @@
 use Rattle.std.proofs.Common.{◌≡◌, ℕ, ◌+◌, ◌-◌, ◌<◌, ◌≤◌, List, ◌∷◌, sym, arith, subst, length, Some, slice_get, set}
 use Rattle.std.proofs.lemmas.Option.{slice_get_within}
 use Rattle.afr_base.specs.declared.ids.ActorId.{ActorId}
-use Rattle.afr_bound.specs.Cost.{IsWithinCost, objects_of}
-use Rattle.afr_healer.specs.Rounding.{IsAnswered}
+use Rattle.afr_law_bound.specs.Ends.Cost.{IsWithinCost, objects_of}
+use Rattle.afr_heal_round.specs.Rounding.{IsAnswered}
 use Rattle.afr_lines.specs.declared.line.Line.{Line}
 use Rattle.afr_plan.specs.declared.plan.Plan.{Plan}
-use Rattle.afr_round_cost.specs.Paced.{IsPacedRound, ListsAtMost}
-use Rattle.afr_rounds.specs.Acting.{Stepped}
-use Rattle.afr_rounds.specs.Keeping.{IsHealer}
-use Rattle.afr_rounds.specs.Laws.{IsBeforeRound, IsMadeReady}
-use Rattle.afr_rounds.specs.declared.healer.Healer.{Healer}
+use Rattle.afr_law_cost.specs.Healer.Paced.{IsPacedRound, ListsAtMost}
+use Rattle.afr_healer.specs.Acting.{Stepped}
+use Rattle.afr_healer.specs.Keeping.{IsHealer}
+use Rattle.afr_healer.specs.Laws.{IsBeforeRound, IsMadeReady}
+use Rattle.afr_healer.specs.declared.healer.Healer.{Healer}
 use Rattle.afr_server.specs.Serving.{Serving}
-use Rattle.afr_standstill.specs.Order.{IsRisingLine}
+use Rattle.afr_law_bound.specs.Standstill.Order.{IsRisingLine}
 use Rattle.afr_volume.specs.Keeping.{AreHealers, IsWhole}
 use Rattle.afr_volume.specs.Laws.{PaceLaws}
 use Rattle.afr_volume.specs.Pacing.{ArePaced}

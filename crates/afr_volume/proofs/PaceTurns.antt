@@ -2,14 +2,14 @@
 use Rattle.std.proofs.Common.{◌≡◌, ◌∙◌, ℕ, ◌+◌, ◌-◌, ◌<◌, ◌≤◌, List, [], ◌∷◌, ◌++◌, sym, arith, subst, length, Some, slice_get, set, reverse}
 use Rattle.std.proofs.lemmas.List.{length-reverse}
 use Rattle.afr_base.specs.declared.ids.ActorId.{ActorId}
-use Rattle.afr_descent.specs.Descent.{IsOfPlan}
+use Rattle.afr_law_names.specs.Descent.Descent.{IsOfPlan}
 use Rattle.afr_lines.specs.Work.{ended, work}
 use Rattle.afr_lines.specs.declared.line.Line.{Line}
 use Rattle.afr_model.specs.Actors.{IsActor}
 use Rattle.afr_plan.specs.declared.plan.Plan.{Plan}
-use Rattle.afr_rounds.specs.declared.healer.Healer.{Healer}
+use Rattle.afr_healer.specs.declared.healer.Healer.{Healer}
 use Rattle.afr_server.specs.Serving.{Serving}
-use Rattle.afr_works.specs.declared.work.WorkMachine.{WorkMachine}
+use Rattle.afr_client.specs.declared.work.WorkMachine.{WorkMachine}
 use Rattle.afr_volume.specs.Acting.{HearsAny, Stepped}
 use Rattle.afr_volume.specs.Keeping.{CarriesOutCommand, IsActing, IsVolume}
 use Rattle.afr_volume.specs.Laws.{BeginLaws, Laws, PaceLaws}

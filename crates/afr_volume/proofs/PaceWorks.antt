@@ -5,8 +5,8 @@ use Rattle.std.proofs.lemmas.Bool.Decides.{nat_tests}
 use Rattle.std.proofs.lemmas.Option.{slice_get-map}
 use Rattle.afr_base.specs.declared.ids.ActorId.{ActorId}
 use Rattle.afr_base.specs.declared.ids.BrickId.{BrickId}
-use Rattle.afr_bound.specs.Cost.{IsWithinCost, cost_of, costs_of, counted}
-use Rattle.afr_descent.specs.Descent.{IsOfPlan}
+use Rattle.afr_law_bound.specs.Ends.Cost.{IsWithinCost, cost_of, costs_of, counted}
+use Rattle.afr_law_names.specs.Descent.Descent.{IsOfPlan}
 use Rattle.afr_discipline.specs.declared.register.Register.{Register}
 use Rattle.afr_lines.specs.Work.{ended, is_end, is_of, work}
 use Rattle.afr_lines.specs.Told.{told_by}
@@ -27,13 +27,13 @@ use Rattle.afr_plan.specs.declared.command.Command.{Command}
 use Rattle.afr_plan.specs.declared.plan.Plan.{Plan}
 use Rattle.afr_lines.specs.declared.lock.Domain.TheVariants.{Heal, Work as WorkDomain}
 use Rattle.afr_server.specs.Serving.{Serving}
-use Rattle.afr_standstill.specs.Order.{IsRisingLine}
-use Rattle.afr_walk.specs.Choosing.{IsAmong, reader_of}
-use Rattle.afr_work_order.specs.Logs.{IsNotedAt}
-use Rattle.afr_work_pace.specs.Left.{work_left}
-use Rattle.afr_works.specs.Work.{IsBusy, choices_of, heard_by, next_of, register_of}
-use Rattle.afr_works.specs.declared.work.WorkMachine.{WorkMachine}
-use Rattle.afr_works.specs.declared.work.WorkMachine.TheVariants.{Entry, Idle, Lookup, Rename, Write}
+use Rattle.afr_law_bound.specs.Standstill.Order.{IsRisingLine}
+use Rattle.afr_client_walk.specs.Choosing.{IsAmong, reader_of}
+use Rattle.afr_law_order.specs.Work.Logs.{IsNotedAt}
+use Rattle.afr_law_pace.specs.Work.Left.{work_left}
+use Rattle.afr_client.specs.Work.{IsBusy, choices_of, heard_by, next_of, register_of}
+use Rattle.afr_client.specs.declared.work.WorkMachine.{WorkMachine}
+use Rattle.afr_client.specs.declared.work.WorkMachine.TheVariants.{Entry, Idle, Lookup, Rename, Write}
 use Rattle.afr_volume.specs.Acting.{HearsAny, IsAsked, IsBegun, IsEnded, Stepped, SteppedBy}
 use Rattle.afr_volume.specs.Keeping.{CarriesOutCommand, IsActing, IsNoted}
 use Rattle.afr_volume.specs.Laws.{PaceLaws}

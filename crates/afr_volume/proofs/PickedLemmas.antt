@@ -10,9 +10,9 @@ use Rattle.afr_lines.specs.declared.request.Request.{Request}
 use Rattle.afr_plan.specs.declared.plan.Plan.{Plan}
 use Rattle.afr_rule.specs.Choosing.{Calls}
 use Rattle.afr_server.specs.Serving.{Serving}
-use Rattle.afr_walk.specs.Choosing.{RuleAnswers, reader_of}
-use Rattle.afr_works.specs.Work.{choices_of, heard_by}
-use Rattle.afr_works.specs.declared.work.WorkMachine.{WorkMachine}
+use Rattle.afr_client_walk.specs.Choosing.{RuleAnswers, reader_of}
+use Rattle.afr_client.specs.Work.{choices_of, heard_by}
+use Rattle.afr_client.specs.declared.work.WorkMachine.{WorkMachine}
 use Rattle.afr_volume.specs.Acting.{HasHeard, Hearing, HearsBy, picked_after, picked_by, picked_of}
 use Rattle.afr_volume.specs.Keeping.{IsActing}
 use Rattle.afr_volume.specs.Starting.{AreNewActors}

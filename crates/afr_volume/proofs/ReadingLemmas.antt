@@ -1,7 +1,7 @@
 -- What was picked for a client's reads, and the lines that it was picked by.
 use Rattle.std.proofs.Common.{◌≡◌, ◌∙◌, ℕ, ◌<◌, Bool, true, false, List, [], ◌∷◌, Option, None, Some, refl, sym, ap, arith, subst, length, slice_get, if◌then◌else◌}
 use Rattle.afr_base.specs.declared.ids.BrickId.{BrickId}
-use Rattle.afr_inode_telling.specs.Lines.{is_look}
+use Rattle.afr_law_client.specs.Read.Lines.{is_look}
 use Rattle.afr_lines.specs.Work.{Work as Lines, ended, is_of, work}
 use Rattle.afr_lines.specs.declared.line.Line.{Line}
 use Rattle.afr_lines.specs.declared.request.Request.{Request}
@@ -9,11 +9,11 @@ use Rattle.afr_model.specs.Actors.{script_of}
 use Rattle.afr_plan.specs.declared.command.Command.{Command}
 use Rattle.afr_plan.specs.declared.command.Command.TheVariants as command
 use Rattle.afr_plan.specs.declared.plan.Plan.{Plan}
-use Rattle.afr_readings.specs.Laws.{IsPickedOf, KeepsPicked, number_in, picked_then}
-use Rattle.afr_readings.specs.Readings.{asked_for_command, asked_in, asked_of, command_by, latest}
+use Rattle.afr_law_picks.specs.Laws.{IsPickedOf, KeepsPicked, number_in, picked_then}
+use Rattle.afr_law_picks.specs.Readings.{asked_for_command, asked_in, asked_of, command_by, latest}
 use Rattle.afr_rule.specs.declared.candidate.Candidate.{Candidate}
-use Rattle.afr_walk.specs.Choosing.{IsAmong, reader_of}
-use Rattle.afr_works.specs.declared.work.WorkMachine.{WorkMachine}
+use Rattle.afr_client_walk.specs.Choosing.{IsAmong, reader_of}
+use Rattle.afr_client.specs.declared.work.WorkMachine.{WorkMachine}
 use Rattle.afr_volume.specs.Acting.{picked_after, still_picked}
 use Rattle.afr_volume.specs.Keeping.{IsReading}
 

@@ -16,14 +16,14 @@ use Rattle.afr_lines.specs.declared.request.Request.{Request}
 use Rattle.afr_model.specs.Chosen.{Picks, ReadsPicked}
 use Rattle.afr_object.specs.declared.change.Change.{Change}
 use Rattle.afr_plan.specs.declared.plan.Plan.{Plan}
-use Rattle.afr_readings.proofs.Asked.{asked_before, is_look_line}
-use Rattle.afr_readings.specs.Laws.{number_in}
-use Rattle.afr_readings.specs.Readings.{PickAnswers, asked_for_command, asked_of}
+use Rattle.afr_law_picks.proofs.Asked.{asked_before, is_look_line}
+use Rattle.afr_law_picks.specs.Laws.{number_in}
+use Rattle.afr_law_picks.specs.Readings.{PickAnswers, asked_for_command, asked_of}
 use Rattle.afr_rule.specs.Choosing.{Calls}
 use Rattle.afr_server.specs.Serving.{Serving}
-use Rattle.afr_sources.specs.Sources.{picks_of}
-use Rattle.afr_works.specs.Work as works
-use Rattle.afr_works.specs.Work.{IsBusy, choices_heard, next_of}
+use Rattle.afr_law_picks.specs.Sources.Sources.{picks_of}
+use Rattle.afr_client.specs.Work as works
+use Rattle.afr_client.specs.Work.{IsBusy, choices_heard, next_of}
 use Rattle.afr_volume.specs.Acting.{HearsAny, HearsBy, IsAsked, IsBegun, IsEnded, Stepped, SteppedBy, picked_after, picked_by, picked_of, still_picked}
 use Rattle.afr_volume.specs.Keeping.{CarriesOutCommand, IsActing}
 use Rattle.afr_volume.specs.Laws.{Laws, RuleLaws}

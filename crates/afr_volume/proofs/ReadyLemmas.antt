@@ -5,10 +5,10 @@ use Rattle.afr_plan.specs.declared.command.Command.{Command}
 use Rattle.afr_plan.specs.declared.command.Command.TheVariants as command
 use Rattle.afr_plan.specs.declared.plan.Plan.{Plan}
 use Rattle.afr_model.specs.Actors.{script_of}
-use Rattle.afr_works.specs.Begin.{has_machine, work_from}
-use Rattle.afr_works.specs.Work.{IsBusy, IsWork, is_idle}
-use Rattle.afr_works.specs.declared.work.WorkMachine.{WorkMachine}
-use Rattle.afr_works.specs.declared.work.WorkMachine.TheVariants.{Entry, Idle, Lookup, Rename, Write}
+use Rattle.afr_client.specs.Begin.{has_machine, work_from}
+use Rattle.afr_client.specs.Work.{IsBusy, IsWork, is_idle}
+use Rattle.afr_client.specs.declared.work.WorkMachine.{WorkMachine}
+use Rattle.afr_client.specs.declared.work.WorkMachine.TheVariants.{Entry, Idle, Lookup, Rename, Write}
 use Rattle.afr_volume.specs.Turning.{ReadiedAt}
 use Rattle.afr_volume.specs.declared.actor.Actor.{Actor}
 

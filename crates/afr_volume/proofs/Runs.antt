@@ -8,14 +8,14 @@ use Rattle.afr_lines.specs.declared.line.Event.{Event}
 use Rattle.afr_lines.specs.declared.line.Event.TheVariants.{Cut, Join, Kill, Start, Stop}
 use Rattle.afr_model.specs.Actors.{Client, Healer, IsActor, rounds_of, script_of}
 use Rattle.afr_base.specs.declared.ids.BrickId.{BrickId}
-use Rattle.afr_runnable.proofs.SpelledLemmas.{few_bricks, some_bricks}
-use Rattle.afr_runnable.specs.Runnable.{AreRunnableRounds, IsAboutVolume, IsOneOf, IsRunnable, IsRunnableScript, has_its_name}
+use Rattle.afr_law_runnable.proofs.SpelledLemmas.{few_bricks, some_bricks}
+use Rattle.afr_law_runnable.specs.Runnable.{AreRunnableRounds, IsAboutVolume, IsOneOf, IsRunnable, IsRunnableScript, has_its_name}
 use Rattle.afr_plan.specs.declared.command.Command.{Command}
 use Rattle.afr_plan.specs.declared.command.Command.TheVariants as command
 use Rattle.afr_plan.specs.declared.plan.Plan.{Plan}
 use Rattle.afr_plan.specs.declared.schedule.Go.{Go}
 use Rattle.afr_plan.specs.declared.schedule.PlannedEvent.{PlannedEvent}
-use Rattle.afr_works.specs.Begin.{has_machine}
+use Rattle.afr_client.specs.Begin.{has_machine}
 use Rattle.afr_volume.specs.Keeping.{CanRun, IsEventOf}
 
 all_at : {A : Type 0} (P : A → Type 0) (xs : List A) (i : ℕ) (x : A) → All P xs → slice_get xs i ≡ Some x → P x

@@ -4,9 +4,9 @@ use Rattle.std.proofs.lemmas.Bool.Decides.{nat_tests}
 use Rattle.afr_base.specs.declared.ids.ActorId.{ActorId}
 use Rattle.afr_base.specs.declared.ids.Gfid.{Gfid}
 use Rattle.afr_base.specs.declared.ids.Kind.{Kind}
-use Rattle.afr_healer.specs.Rounding.{Rounding}
-use Rattle.afr_healer.specs.declared.stage.RoundStage.{RoundStage}
-use Rattle.afr_healer.specs.declared.stage.RoundStage.TheVariants.{Asking, Healing, Over}
+use Rattle.afr_heal_round.specs.Rounding.{Rounding}
+use Rattle.afr_heal_round.specs.declared.stage.RoundStage.{RoundStage}
+use Rattle.afr_heal_round.specs.declared.stage.RoundStage.TheVariants.{Asking, Healing, Over}
 use Rattle.afr_lines.specs.Work.{is_of, work}
 use Rattle.afr_lines.specs.declared.line.Event.{Event}
 use Rattle.afr_lines.specs.declared.line.Line.{Line}
@@ -15,14 +15,14 @@ use Rattle.afr_lines.specs.declared.reply.HealReply.{HealReply}
 use Rattle.afr_model.specs.Chosen.{Picks}
 use Rattle.afr_model.specs.Following.{Follows, IsFollowing, KeepsToTask, ToCommand, ToRound}
 use Rattle.afr_plan.specs.declared.plan.Plan.{Plan}
-use Rattle.afr_rounds.specs.Acting.{Hearing, IsNewHealer}
-use Rattle.afr_rounds.specs.Keeping.{CarriesIts, HasBegun, IsHealer}
-use Rattle.afr_rounds.specs.declared.healer.Healer.{Healer}
+use Rattle.afr_healer.specs.Acting.{Hearing, IsNewHealer}
+use Rattle.afr_healer.specs.Keeping.{CarriesIts, HasBegun, IsHealer}
+use Rattle.afr_healer.specs.declared.healer.Healer.{Healer}
 use Rattle.afr_server.specs.Serving.{Serving}
 use Rattle.afr_servers.specs.declared.epochs.Epochs.{Epochs}
-use Rattle.afr_sources.proofs.Turns.{client_keeps, each_same, ends_heal, ready_same, set_same, set_source}
-use Rattle.afr_sources.specs.Chosen.{AreChosen}
-use Rattle.afr_sources.specs.Sources.{picked_source, source_at, source_in, sources_of}
+use Rattle.afr_law_picks.proofs.Sources.Turns.{client_keeps, each_same, ends_heal, ready_same, set_same, set_source}
+use Rattle.afr_law_picks.specs.Sources.Chosen.{AreChosen}
+use Rattle.afr_law_picks.specs.Sources.Sources.{picked_source, source_at, source_in, sources_of}
 use Rattle.afr_volume.specs.Acting.{picked_of}
 use Rattle.afr_volume.specs.Starting.{AreNewActors, AreNewHealers}
 use Rattle.afr_volume.specs.State.{HealsChosen, State, opened}

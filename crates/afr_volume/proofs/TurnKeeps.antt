@@ -11,14 +11,14 @@ use Rattle.afr_model.specs.Actors.{IsActor, script_of}
 use Rattle.afr_model.specs.Following.{NoneDue}
 use Rattle.afr_plan.specs.declared.command.Command.{Command}
 use Rattle.afr_plan.specs.declared.plan.Plan.{Plan}
-use Rattle.afr_readings.specs.Laws.{KeepsPicked, number_in}
-use Rattle.afr_rounds.proofs.BeforeAsks.{can_ask}
+use Rattle.afr_law_picks.specs.Laws.{KeepsPicked, number_in}
+use Rattle.afr_healer.proofs.BeforeAsks.{can_ask}
 use Rattle.afr_server.specs.Serving.{Serving}
 use Rattle.afr_servers.specs.declared.epochs.Epochs.{Epochs}
-use Rattle.afr_works.specs.Begin.{has_machine, work_from}
-use Rattle.afr_works.specs.Work.{CarriesNext, IsBusy, IsWork, next_of, register_of}
-use Rattle.afr_works.specs.declared.work.WorkMachine.{WorkMachine}
-use Rattle.afr_works.specs.declared.work.WorkMachine.TheVariants.{Entry, Idle, Lookup, Rename, Write}
+use Rattle.afr_client.specs.Begin.{has_machine, work_from}
+use Rattle.afr_client.specs.Work.{CarriesNext, IsBusy, IsWork, next_of, register_of}
+use Rattle.afr_client.specs.declared.work.WorkMachine.{WorkMachine}
+use Rattle.afr_client.specs.declared.work.WorkMachine.TheVariants.{Entry, Idle, Lookup, Rename, Write}
 use Rattle.afr_volume.specs.Acting.{CanStep, HearsAny, Stepped, SteppedBy, still_picked}
 use Rattle.afr_volume.specs.Keeping.{CanRun, Carries, CarriesOutCommand, IsActing, IsBetween, IsVolume}
 use Rattle.afr_volume.specs.Turning.{ReadiedAt, Readies}

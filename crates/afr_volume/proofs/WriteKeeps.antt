@@ -3,10 +3,10 @@ use Rattle.std.proofs.Common.{◌≡◌, ◌∙◌, ℕ, ◌+◌, slice_get, ◌
 use Rattle.afr_base.specs.declared.ids.ActorId.{ActorId}
 use Rattle.afr_base.specs.declared.ids.BrickId.{BrickId}
 use Rattle.afr_discipline.specs.Notes.{noted_begin}
-use Rattle.afr_inode_read.specs.Lookup as reading
-use Rattle.afr_inode_read.specs.Lookup.{Lookup as LookupMachine}
-use Rattle.afr_inode_read.specs.declared.stage.LookupStage.{LookupStage}
-use Rattle.afr_inode_read.specs.declared.stage.LookupStage.TheVariants.{Ending, Looking, Reading, Walking}
+use Rattle.afr_client_read.specs.Lookup as reading
+use Rattle.afr_client_read.specs.Lookup.{Lookup as LookupMachine}
+use Rattle.afr_client_read.specs.declared.stage.LookupStage.{LookupStage}
+use Rattle.afr_client_read.specs.declared.stage.LookupStage.TheVariants.{Ending, Looking, Reading, Walking}
 use Rattle.afr_lines.specs.Places.{Fresh, Within, next_place, place_of}
 use Rattle.afr_lines.specs.Work.{ended, is_of, work}
 use Rattle.afr_lines.specs.declared.answer.Told.TheVariants as as_told
@@ -19,34 +19,34 @@ use Rattle.afr_lines.specs.declared.reply.Reply.{Reply}
 use Rattle.afr_model.specs.Actors.{script_of}
 use Rattle.afr_model.specs.Following.{KeepsToCommand, ToCommand}
 use Rattle.afr_model.specs.Replied.{IsOf}
-use Rattle.afr_moves.specs.Discipline.{BeginsKnown}
-use Rattle.afr_moves.specs.Positions.{by_position}
-use Rattle.afr_moves.specs.Ranges.{InRange}
+use Rattle.afr_model_moves.specs.Discipline.{BeginsKnown}
+use Rattle.afr_model_moves.specs.Positions.{by_position}
+use Rattle.afr_model_moves.specs.Ranges.{InRange}
 use Rattle.afr_object.specs.declared.change.Change.{Change}
 use Rattle.afr_object.specs.declared.change.Change.TheVariants as change_of
 use Rattle.afr_plan.specs.declared.command.Command.{Command}
 use Rattle.afr_plan.specs.declared.plan.Plan.{Plan}
-use Rattle.afr_hears.specs.Hears.{MakesNothing}
+use Rattle.afr_law_heard.specs.Hears.{MakesNothing}
 use Rattle.afr_law.specs.Beginning.{start_of}
 use Rattle.afr_law.specs.Exactly.{name_bound}
-use Rattle.afr_next.proofs.Turns.{new_known}
-use Rattle.afr_next.specs.Begun.{HasNewGfid}
-use Rattle.afr_next.specs.Standing.{ComesNext}
+use Rattle.afr_law_next.proofs.Turns.{new_known}
+use Rattle.afr_law_next.specs.Begun.{HasNewGfid}
+use Rattle.afr_law_next.specs.Standing.{ComesNext}
 use Rattle.afr_server.specs.NextLine.{is_elsewhere}
 use Rattle.afr_server.specs.Serving.{Serving}
 use Rattle.afr_servers.specs.NextLine.{GoOn}
 use Rattle.afr_servers.specs.Visiting.{AreInSession, MeetsNext}
 use Rattle.afr_servers.specs.declared.epochs.Epochs.{Epochs}
-use Rattle.afr_transaction.specs.Turn.{Stood}
-use Rattle.afr_transaction_tells.specs.Laws.{IsNextLine}
-use Rattle.afr_readings.specs.Laws.{KeepsPicked, number_in}
-use Rattle.afr_readings.specs.Readings.{asked_in}
-use Rattle.afr_walk.specs.Choosing.{IsAmong, reader_of}
-use Rattle.afr_walk.specs.Free.{Allows}
-use Rattle.afr_works.specs.Work.{IsWork, choices_heard, heard_by, next_of, register_of}
-use Rattle.afr_works.specs.declared.work.WorkMachine.{WorkMachine}
-use Rattle.afr_works.specs.declared.work.WorkMachine.TheVariants.{Entry, Idle, Lookup, Rename, Write}
-use Rattle.afr_works_tell.specs.WorkTelling.{WorkTells}
+use Rattle.afr_client_transaction.specs.Turn.{Stood}
+use Rattle.afr_law_client.specs.Laws.{IsNextLine}
+use Rattle.afr_law_picks.specs.Laws.{KeepsPicked, number_in}
+use Rattle.afr_law_picks.specs.Readings.{asked_in}
+use Rattle.afr_client_walk.specs.Choosing.{IsAmong, reader_of}
+use Rattle.afr_client_walk.specs.Free.{Allows}
+use Rattle.afr_client.specs.Work.{IsWork, choices_heard, heard_by, next_of, register_of}
+use Rattle.afr_client.specs.declared.work.WorkMachine.{WorkMachine}
+use Rattle.afr_client.specs.declared.work.WorkMachine.TheVariants.{Entry, Idle, Lookup, Rename, Write}
+use Rattle.afr_law_heard.specs.Works.WorkTelling.{WorkTells}
 use Rattle.afr_volume.specs.Acting.{IsBegun, IsEnded, still_picked}
 use Rattle.afr_volume.specs.Keeping.{Carries, CarriesOutCommand, IsActing, IsNoted, IsReading}
 use Rattle.afr_volume.specs.declared.actor.Actor.{Actor}

@@ -4,9 +4,9 @@ use Rattle.afr_base.specs.declared.ids.ActorId.{ActorId}
 use Rattle.afr_lines.specs.declared.line.Line.{Line}
 use Rattle.afr_lines.specs.declared.line.Next.{Next}
 use Rattle.afr_lines.specs.declared.line.Next.TheVariants as next
-use Rattle.afr_rounds.specs.Acting.{Adds}
+use Rattle.afr_healer.specs.Acting.{Adds}
 use Rattle.afr_server.specs.Serving.{Serving}
-use Rattle.afr_works.specs.Work.{next_of}
+use Rattle.afr_client.specs.Work.{next_of}
 use Rattle.afr_volume.specs.Acting.{Hearing, Stepped, SteppedBy, Written, WrittenBy}
 use Rattle.afr_volume.specs.declared.actor.Actor.{Actor}
 

@@ -9,7 +9,7 @@ use Rattle.afr_lines.specs.declared.line.Line.TheVariants as line
 use Rattle.afr_lines.specs.declared.line.Next.{Next}
 use Rattle.afr_lines.specs.declared.line.Next.TheVariants as next
 use Rattle.afr_lines.specs.declared.request.Request.{Request}
-use Rattle.afr_moves.specs.Ranges.{InRange, RequestInRange}
+use Rattle.afr_model_moves.specs.Ranges.{InRange, RequestInRange}
 use Rattle.afr_object.specs.declared.change.Change.{Change}
 use Rattle.afr_object.specs.declared.change.Load.{Load}
 use Rattle.afr_lines.specs.declared.reply.Reply.{Reply}
@@ -20,12 +20,12 @@ use Rattle.afr_server.specs.declared.server.Served.{Served}
 use Rattle.afr_servers.specs.Calls.{At}
 use Rattle.afr_servers.specs.Visiting.{CanAsk, MeetsNext, ServesNext, visiting}
 use Rattle.afr_servers.specs.declared.epochs.Epochs.{Epochs}
-use Rattle.afr_readings.specs.Laws.{HearsPick, number_in}
-use Rattle.afr_inode_telling.specs.Lines.{is_look}
-use Rattle.afr_walk.specs.Choosing.{RuleAnswers, reader_of}
-use Rattle.afr_works.specs.Work.{CarriesNext, choices_of, heard_by, next_of}
-use Rattle.afr_works.specs.declared.work.WorkMachine.{WorkMachine}
-use Rattle.afr_works.specs.declared.work.WorkMachine.TheVariants.{Idle}
+use Rattle.afr_law_picks.specs.Laws.{HearsPick, number_in}
+use Rattle.afr_law_client.specs.Read.Lines.{is_look}
+use Rattle.afr_client_walk.specs.Choosing.{RuleAnswers, reader_of}
+use Rattle.afr_client.specs.Work.{CarriesNext, choices_of, heard_by, next_of}
+use Rattle.afr_client.specs.declared.work.WorkMachine.{WorkMachine}
+use Rattle.afr_client.specs.declared.work.WorkMachine.TheVariants.{Idle}
 use Rattle.afr_volume.specs.declared.actor.Actor.{Actor}
 
 -- what the bricks need for the actor's next line

@@ -20,20 +20,20 @@ use Rattle.afr_model.specs.Kept.{AreKept}
 use Rattle.afr_model.specs.Following.{Follows}
 use Rattle.afr_model.specs.Honest.{Honest}
 use Rattle.afr_model.specs.Replied.{Replied}
-use Rattle.afr_readings.specs.Laws.{KeepsPicked, number_in}
-use Rattle.afr_readings.specs.Readings.{asked_in, asked_of}
-use Rattle.afr_rounds.specs.Keeping.{IsHealer}
-use Rattle.afr_rounds.specs.declared.healer.Healer.{Healer}
+use Rattle.afr_law_picks.specs.Laws.{KeepsPicked, number_in}
+use Rattle.afr_law_picks.specs.Readings.{asked_in, asked_of}
+use Rattle.afr_healer.specs.Keeping.{IsHealer}
+use Rattle.afr_healer.specs.declared.healer.Healer.{Healer}
 use Rattle.afr_server.specs.Serving.{Serving}
 use Rattle.afr_servers.specs.Log.{AreServed}
 use Rattle.afr_servers.specs.Visiting.{AreInSession}
 use Rattle.afr_servers.specs.declared.epochs.Epochs.{Epochs}
-use Rattle.afr_transaction.specs.Turn.{Stood}
-use Rattle.afr_works.specs.Begin.{has_machine}
-use Rattle.afr_works.specs.Work.{IsWork, register_of}
-use Rattle.afr_works.specs.declared.work.WorkMachine.{WorkMachine}
-use Rattle.afr_works.specs.declared.work.WorkMachine.TheVariants.{Idle}
-use Rattle.afr_works_tell.specs.WorkTelling.{WorkTells}
+use Rattle.afr_client_transaction.specs.Turn.{Stood}
+use Rattle.afr_client.specs.Begin.{has_machine}
+use Rattle.afr_client.specs.Work.{IsWork, register_of}
+use Rattle.afr_client.specs.declared.work.WorkMachine.{WorkMachine}
+use Rattle.afr_client.specs.declared.work.WorkMachine.TheVariants.{Idle}
+use Rattle.afr_law_heard.specs.Works.WorkTelling.{WorkTells}
 use Rattle.afr_volume.specs.Acting.{still_picked}
 use Rattle.afr_volume.specs.Pacing.{ArePaced}
 use Rattle.afr_volume.specs.declared.actor.Actor.{Actor}

@@ -1,27 +1,27 @@
 -- The laws that turns and events rest on.
-use Rattle.afr_transaction.specs.Turn.{BeginsAnew, GoesOn}
-use Rattle.afr_next.specs.Asked.{AllowedMayBeAsked, AnsweredIsLawful, AskedIsNoted}
-use Rattle.afr_next.specs.Begun.{AllowedMayBegin}
-use Rattle.afr_next.specs.Ended.{AllowedMayEnd}
-use Rattle.afr_next.specs.Happened.{EventKeepsAll}
-use Rattle.afr_next.specs.Ready.{NextIsReady}
-use Rattle.afr_entry_hears.specs.EntryHears.{EntryBrings, EntryHears, EntryMakesNew}
-use Rattle.afr_rename_hears.specs.RenameHears.{RenameBrings, RenameHears, RenameMakesKnown}
-use Rattle.afr_heal_order.specs.Heals.{HealersRise}
-use Rattle.afr_hears.specs.Hears.{LookupBrings, LookupHears, WriteBrings, WriteHears, WriteMakesNothing}
-use Rattle.afr_index_length.specs.Indexes.{NextIndexIsShort}
-use Rattle.afr_readings.specs.Laws.{AnswersOneOf, BeginKeepsPicked, EndReadsPicked, LineAsksRule, LineKeepsPicked, LineReadsPicked, ReadingBegins}
-use Rattle.afr_round_cost.specs.Laws.{IndexIsShown, RoundPacedAtFirst, RoundPacedLine, RoundPacedOther, RoundPacedReady}
-use Rattle.afr_rounds.specs.Laws.{CanStepNext, LineKeepsRound, OthersStay, RoundsBegin, RoundsEnd}
+use Rattle.afr_client_transaction.specs.Turn.{BeginsAnew, GoesOn}
+use Rattle.afr_law_next.specs.Asked.{AllowedMayBeAsked, AnsweredIsLawful, AskedIsNoted}
+use Rattle.afr_law_next.specs.Begun.{AllowedMayBegin}
+use Rattle.afr_law_next.specs.Ended.{AllowedMayEnd}
+use Rattle.afr_law_next.specs.Happened.{EventKeepsAll}
+use Rattle.afr_law_next.specs.Ready.{NextIsReady}
+use Rattle.afr_law_heard.specs.Entry.EntryHears.{EntryBrings, EntryHears, EntryMakesNew}
+use Rattle.afr_law_heard.specs.Rename.RenameHears.{RenameBrings, RenameHears, RenameMakesKnown}
+use Rattle.afr_law_order.specs.Heal.Heals.{HealersRise}
+use Rattle.afr_law_heard.specs.Hears.{LookupBrings, LookupHears, WriteBrings, WriteHears, WriteMakesNothing}
+use Rattle.afr_law_cost.specs.Index.Indexes.{NextIndexIsShort}
+use Rattle.afr_law_picks.specs.Laws.{AnswersOneOf, BeginKeepsPicked, EndReadsPicked, LineAsksRule, LineKeepsPicked, LineReadsPicked, ReadingBegins}
+use Rattle.afr_law_cost.specs.Healer.Laws.{IndexIsShown, RoundPacedAtFirst, RoundPacedLine, RoundPacedOther, RoundPacedReady}
+use Rattle.afr_healer.specs.Laws.{CanStepNext, LineKeepsRound, OthersStay, RoundsBegin, RoundsEnd}
 use Rattle.afr_rule.specs.Choosing.{Calls}
-use Rattle.afr_self_heal.specs.Laws.{HealIsInside}
+use Rattle.afr_heal_machine.specs.Laws.{HealIsInside}
 use Rattle.afr_servers.specs.Needs.{AnswersAreRead, NeedsAreMet}
 use Rattle.afr_servers.specs.NextLine.{AskedAreServed, EventAreServed, MetAreServed, WrittenAreServed}
-use Rattle.afr_work_order.specs.Logs.{ClientRises}
-use Rattle.afr_work_order.specs.Queue.{WorkBeginsQueued, WorkBegunQueued, WorkStaysQueued}
-use Rattle.afr_work_pace.specs.Left.{WorkBeginsNearer, WorkComesNearer, WorkKeepsEnd, WorkStartsWithin}
-use Rattle.afr_works.specs.Laws.{AllowedNext, AsksLow, AsksMore, BeginsFresh, BeginsMore, BeginsWithFive, KeepsFive, KeepsFiveBegun, NotesBegin, NotesEach, StaysOutside, StaysSound}
-use Rattle.afr_works_tell.specs.WorkLaws.{BlamedLines, WorkAbout, WorkBegins, WorkBegun, WorkEnds, WorkKeepsName, WorkTellsMore}
+use Rattle.afr_law_order.specs.Work.Logs.{ClientRises}
+use Rattle.afr_law_order.specs.Work.Queue.{WorkBeginsQueued, WorkBegunQueued, WorkStaysQueued}
+use Rattle.afr_law_pace.specs.Work.Left.{WorkBeginsNearer, WorkComesNearer, WorkKeepsEnd, WorkStartsWithin}
+use Rattle.afr_client.specs.Laws.{AllowedNext, AsksLow, AsksMore, BeginsFresh, BeginsMore, BeginsWithFive, KeepsFive, KeepsFiveBegun, NotesBegin, NotesEach, StaysOutside, StaysSound}
+use Rattle.afr_law_heard.specs.Works.WorkLaws.{BlamedLines, WorkAbout, WorkBegins, WorkBegun, WorkEnds, WorkKeepsName, WorkTellsMore}
 
 -- the register in force at a line, and what it allows
 pub record NextLaws : Type 0 where

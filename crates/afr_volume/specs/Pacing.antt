@@ -1,15 +1,15 @@
 -- How far the works of all actors have come: within their costs, and with their locks asked in rising order.
 use Rattle.std.specs.Prelude.{◌≡◌, ℕ, ◌+◌, ◌≤◌, List, Some, slice_get}
-use Rattle.afr_bound.specs.Cost.{AreWithinCost, costs_of, spent}
+use Rattle.afr_law_bound.specs.Ends.Cost.{AreWithinCost, costs_of, spent}
 use Rattle.afr_lines.specs.Work.{ended, work}
 use Rattle.afr_lines.specs.declared.line.Line.{Line}
 use Rattle.afr_plan.specs.declared.plan.Plan.{Plan}
-use Rattle.afr_round_cost.specs.Paced.{IsPacedRound}
-use Rattle.afr_rounds.specs.declared.healer.Healer.{Healer}
-use Rattle.afr_standstill.specs.Order.{AreRising}
-use Rattle.afr_work_order.specs.Queue.{IsQueued}
-use Rattle.afr_work_pace.specs.Left.{work_left}
-use Rattle.afr_works.specs.declared.work.WorkMachine.{WorkMachine}
+use Rattle.afr_law_cost.specs.Healer.Paced.{IsPacedRound}
+use Rattle.afr_healer.specs.declared.healer.Healer.{Healer}
+use Rattle.afr_law_bound.specs.Standstill.Order.{AreRising}
+use Rattle.afr_law_order.specs.Work.Queue.{IsQueued}
+use Rattle.afr_law_pace.specs.Work.Left.{work_left}
+use Rattle.afr_client.specs.declared.work.WorkMachine.{WorkMachine}
 use Rattle.afr_volume.specs.declared.actor.Actor.{Actor}
 
 -- what the lines of an actor's present work took, and so many more, are within its cost

@@ -1,15 +1,15 @@
 -- What a volume keeps of its log at every moment, and what the rules have picked.
 use Rattle.std.specs.Prelude.{List}
-use Rattle.afr_available.specs.Available.{IsAvailable}
-use Rattle.afr_bound.specs.Cost.{AreWithinCost}
-use Rattle.afr_converged.specs.Converged.{HasConverged, IsQuietLeft}
-use Rattle.afr_durable.specs.Durable.{IsDurable}
+use Rattle.afr_law_promises.specs.Available.Available.{IsAvailable}
+use Rattle.afr_law_bound.specs.Ends.Cost.{AreWithinCost}
+use Rattle.afr_law_passes.specs.Converged.{HasConverged, IsQuietLeft}
+use Rattle.afr_law_promises.specs.Durable.{IsDurable}
 use Rattle.afr_law.specs.Exactly.{IsLawfulExactly}
 use Rattle.afr_law.specs.ModelAlike.{AreAlike}
 use Rattle.afr_law.specs.ModelCauses.{HaveCauses}
 use Rattle.afr_lines.specs.declared.line.Line.{Line}
 use Rattle.afr_lines.specs.Log.{EachLine, EveryPrefix}
-use Rattle.afr_missed.specs.Missed.{AreAllMissed, HaveCausesSince}
+use Rattle.afr_law_promises.specs.Missed.Missed.{AreAllMissed, HaveCausesSince}
 use Rattle.afr_model.specs.Blamed.{AreBlamed}
 use Rattle.afr_model.specs.Kept.{AreKept}
 use Rattle.afr_model.specs.Following.{Follows}
@@ -17,15 +17,15 @@ use Rattle.afr_model.specs.Honest.{Honest}
 use Rattle.afr_model.specs.Replied.{Replied}
 use Rattle.afr_model.specs.Safe.{AreFresh, IsAlwaysSafe}
 use Rattle.afr_plan.specs.declared.plan.Plan.{Plan}
-use Rattle.afr_quiet.specs.Undisturbed.{AreQuietWhole}
-use Rattle.afr_reached.specs.Reached.{HasReached}
-use Rattle.afr_rolling.specs.Rolling.{NeverSplits}
+use Rattle.afr_law_quiet.specs.Undisturbed.{AreQuietWhole}
+use Rattle.afr_law_passes.specs.Reached.Reached.{HasReached}
+use Rattle.afr_law_passes.specs.Rolling.Rolling.{NeverSplits}
 use Rattle.afr_rule.specs.Choosing.{Calls}
 use Rattle.afr_rule.specs.declared.rules.Rules.{Rules}
-use Rattle.afr_sources.specs.Sources.{picks_of}
-use Rattle.afr_standstill.specs.Order.{AreRising}
-use Rattle.afr_unlocked.specs.Unlocked.{AreUnlocked}
-use Rattle.afr_whole_copy.specs.Whole.{AreWhole}
+use Rattle.afr_law_picks.specs.Sources.Sources.{picks_of}
+use Rattle.afr_law_bound.specs.Standstill.Order.{AreRising}
+use Rattle.afr_law_promises.specs.Unlocked.Unlocked.{AreUnlocked}
+use Rattle.afr_law_promises.specs.Whole.Whole.{AreWhole}
 use Rattle.afr_volume.specs.State.{IsChosen, State}
 
 -- the log is the plan's, its bricks answered by the rules, and its actors kept the discipline; so each reply and each

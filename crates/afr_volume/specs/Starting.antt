@@ -1,9 +1,9 @@
 -- An actor before any line.
 use Rattle.std.specs.Prelude.{◌≡◌, ℕ, false, List, length, slice_get, Some, None}
-use Rattle.afr_rounds.specs.Acting.{IsNewHealer}
-use Rattle.afr_rounds.specs.declared.healer.Healer.{Healer}
+use Rattle.afr_healer.specs.Acting.{IsNewHealer}
+use Rattle.afr_healer.specs.declared.healer.Healer.{Healer}
 use Rattle.afr_volume.specs.declared.actor.Actor.{Actor}
-use Rattle.afr_works.specs.declared.work.WorkMachine.TheVariants.{Idle}
+use Rattle.afr_client.specs.declared.work.WorkMachine.TheVariants.{Idle}
 
 -- an actor that has begun nothing
 pub record IsNewActor (x : Actor) : Type 0 where

@@ -5,8 +5,8 @@ use Rattle.afr_lines.specs.Log.{EachLine}
 use Rattle.afr_model.specs.Chosen.{Picks, ReadsPicked}
 use Rattle.afr_model.specs.State.{no_plan}
 use Rattle.afr_plan.specs.declared.plan.Plan.{Plan}
-use Rattle.afr_readings.specs.Readings.{PickAnswers, asked_of}
-use Rattle.afr_sources.specs.Chosen.{AreChosen}
+use Rattle.afr_law_picks.specs.Readings.{PickAnswers, asked_of}
+use Rattle.afr_law_picks.specs.Sources.Chosen.{AreChosen}
 
 -- the sources are those of the healers in their order, and the picked copies those of the clients
 pub record State : Type 0 where

@@ -14,11 +14,11 @@ use Rattle.afr_server.specs.Serving.{Serving}
 use Rattle.afr_plan.specs.declared.command.Command.{Command}
 use Rattle.afr_volume.specs.State.{State}
 use Rattle.afr_model.specs.Actors.{is_done, rounds_of, script_of}
-use Rattle.afr_rounds.specs.Acting as rounds
-use Rattle.afr_rounds.specs.declared.healer.Healer.{Healer}
-use Rattle.afr_works.specs.Begin.{work_from}
-use Rattle.afr_works.specs.Work.{IsBusy, IsWork}
-use Rattle.afr_works.specs.declared.work.WorkMachine.TheVariants.{Idle}
+use Rattle.afr_healer.specs.Acting as rounds
+use Rattle.afr_healer.specs.declared.healer.Healer.{Healer}
+use Rattle.afr_client.specs.Begin.{work_from}
+use Rattle.afr_client.specs.Work.{IsBusy, IsWork}
+use Rattle.afr_client.specs.declared.work.WorkMachine.TheVariants.{Idle}
 use Rattle.afr_volume.specs.Acting.{Hearing, Stepped}
 use Rattle.afr_volume.specs.declared.actor.Actor.{Actor}
 use Rattle.afr_volume.specs.declared.turned.Turned.{Turned}

@@ -1,24 +1,24 @@
 //! An actor: the machine of its present command, the sessions that it works over, and how many commands it has ended.
 ghost use Rattle.std.specs.Prelude.{true, false, ◌≡◌, ◌<◌, ◌-◌, ◌^◌, ◌++◌, ◌∷◌, [], ℕ, OnOk, OnErr};
-ghost use Rattle.afr_rounds.specs.Acting.{Adds};
+ghost use Rattle.afr_healer.specs.Acting.{Adds};
 ghost use Rattle.afr_rule.specs.Choosing.{IsRule};
 ghost use Rattle.afr_server.specs.NextLine.{told_line};
 ghost use Rattle.afr_server.specs.Serving.{HasEpoch};
 ghost use Rattle.afr_servers.specs.Calls.{At};
 ghost use Rattle.afr_servers.specs.Visiting.{MeetsNext, visiting};
-ghost use Rattle.afr_walk.specs.Free.{is_ask};
-ghost use Rattle.afr_works.specs.Work.{IsBusy, is_over, next_of};
+ghost use Rattle.afr_client_walk.specs.Free.{is_ask};
+ghost use Rattle.afr_client.specs.Work.{IsBusy, is_over, next_of};
 ghost use Rattle.afr_volume.specs.Acting.{CanStep, HasHeard, HearsBy, IsAsked, IsBegun, IsEnded, Stepped, Written, picked_after, still_picked};
 
 use afr_base::{ActorId, BrickId, NoMemory};
+use afr_client::{WorkMachine, a_work_stays_sound};
+use afr_law_fits::{fits_its_types, request_fits_its_types};
 use afr_lines::{Answer, Line, Next, Reply, Request};
 use afr_log::Log;
 use afr_object::Change;
-use afr_ranges::{fits_its_types, request_fits_its_types};
 use afr_rule::{Candidate, ReadRule};
 use afr_server::Served;
 use afr_servers::{Servers, Visit};
-use afr_works::{WorkMachine, a_work_stays_sound};
 
 #[derive(Drop)]
 pub(crate) struct Actor {

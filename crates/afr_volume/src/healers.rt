@@ -1,19 +1,19 @@
 //! One healer among all takes a turn.
 ghost use Rattle.std.specs.Prelude.{◌≡◌, ◌-◌, ◌<◌, ◌≤◌, ◌^◌, ℕ, OnOk, OnErr, IfOk, Some, true, is_some, length, slice_get};
 ghost use Rattle.afr_base.specs.declared.ids.BrickId.{BrickId};
-ghost use Rattle.afr_healer.specs.Rounding.{IsFed};
+ghost use Rattle.afr_heal_round.specs.Rounding.{IsFed};
 ghost use Rattle.afr_model.specs.Actors.{rounds_of};
-ghost use Rattle.afr_rounds.specs.Acting.{Adds, CanStep};
-ghost use Rattle.afr_rounds.specs.declared.healer.Healer.{Healer};
+ghost use Rattle.afr_healer.specs.Acting.{Adds, CanStep};
+ghost use Rattle.afr_healer.specs.declared.healer.Healer.{Healer};
 ghost use Rattle.afr_rule.specs.Choosing.{IsRule};
 ghost use Rattle.afr_volume.specs.Starting.{AreNewHealers};
 ghost use Rattle.afr_volume.specs.Turning.{HasHealer, KillsHealersIn, ReadiedHealerAt, StepsHealerAt};
 
 use afr_base::{ActorId, FIRST_HEALER, NoMemory};
+use afr_healer::{Healer, ready_round, step_round};
 use afr_lines::Event;
 use afr_log::Log;
 use afr_plan::Plan;
-use afr_rounds::{Healer, ready_round, step_round};
 use afr_rule::{Candidate, SourceRule};
 use afr_servers::Servers;
 use std::alloc::Global;

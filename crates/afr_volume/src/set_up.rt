@@ -4,8 +4,8 @@ ghost use Rattle.afr_volume.specs.Starting.{AreNewActors};
 
 use crate::actor::Actor;
 use afr_base::NoMemory;
+use afr_client::WorkMachine;
 use afr_servers::Visit;
-use afr_works::WorkMachine;
 use std::alloc::Global;
 
 /// An actor for each client, none of which has begun.

@@ -3,22 +3,22 @@ ghost use Rattle.std.specs.Prelude.{◌≡◌, ◌-◌, ◌<◌, ◌≤◌, ◌+
 ghost use Rattle.afr_plan.specs.declared.command.Command.{Command};
 ghost use Rattle.afr_model.specs.Actors.{script_of};
 ghost use Rattle.afr_volume.specs.declared.actor.Actor.{Actor};
-ghost use Rattle.afr_rounds.specs.Acting.{Adds};
+ghost use Rattle.afr_healer.specs.Acting.{Adds};
 ghost use Rattle.afr_rule.specs.Choosing.{IsRule};
 ghost use Rattle.afr_volume.specs.Acting.{CanStep, HearsBy};
 ghost use Rattle.afr_volume.specs.Turning.{HasVictim, KillsIn, ReadiedAt, StepsAt};
-ghost use Rattle.afr_works.specs.Begin.{has_machine, work_from};
-ghost use Rattle.afr_works.specs.Work.{IsBusy, IsWork};
+ghost use Rattle.afr_client.specs.Begin.{has_machine, work_from};
+ghost use Rattle.afr_client.specs.Work.{IsBusy, IsWork};
 
 use crate::actor::{Actor, step};
 use crate::turned::Turned;
 use afr_base::{ActorId, MOST_CLIENTS, NoMemory, Shape};
+use afr_client::{WorkMachine, work_for};
 use afr_lines::Event;
 use afr_log::Log;
 use afr_plan::{Command, Plan};
 use afr_rule::{Candidate, ReadRule};
 use afr_servers::Servers;
-use afr_works::{WorkMachine, work_for};
 use std::alloc::Global;
 
 /// An actor that has work left has the machine of its present command.

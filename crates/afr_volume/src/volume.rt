@@ -4,7 +4,7 @@ ghost use Rattle.afr_base.specs.Bricks.{member};
 ghost use Rattle.afr_lines.specs.Log.{from_oldest};
 ghost use Rattle.afr_lines.specs.Work.{is_killed, work};
 ghost use Rattle.afr_log.specs.Log.{shown_line};
-ghost use Rattle.afr_runnable.specs.Runnable.{IsRunnable};
+ghost use Rattle.afr_law_runnable.specs.Runnable.{IsRunnable};
 ghost use Rattle.afr_plan.specs.declared.schedule.Go.{Go};
 ghost use Rattle.afr_model.specs.Actors.{IsActor, is_done};
 ghost use Rattle.afr_model.specs.Following.{NoneDue};
@@ -14,7 +14,7 @@ ghost use Rattle.afr_model.specs.Sums.{AreSums};
 ghost use Rattle.afr_model.specs.Tables.{holds, keeps_bytes};
 ghost use Rattle.afr_rule.specs.Choosing.{IsRule};
 ghost use Rattle.afr_server.specs.Serving.{Serving};
-ghost use Rattle.afr_sources.specs.Sources.{picks_of};
+ghost use Rattle.afr_law_picks.specs.Sources.Sources.{picks_of};
 ghost use Rattle.afr_volume.specs.Right.{IsRight, KeepsChosen};
 ghost use Rattle.afr_volume.specs.State.{HealsChosen, ReadsChosen, no_volume, opened};
 ghost use Rattle.afr_volume.specs.Turning.{Comes, Turns, due_of, if_due};
@@ -25,30 +25,27 @@ use crate::laws::{laws, rule_laws};
 use crate::set_up::all_actors;
 use crate::turned::Turned;
 use crate::turns::{answer_of, kill, ready_actor, step_actor};
-use afr_available::changes_are_available;
 use afr_base::{ActorId, BrickId, BrickSet, MOST_CLIENTS, NoMemory, Shape};
-use afr_converged::quiet_rounds_converge;
-use afr_durable::acknowledged_is_durable;
+use afr_healer::Healer;
 use afr_law::{
     accusations_have_causes, lawful_is_safe, lawful_lines_fit, nothing_diverges_unrecorded,
     reads_are_fresh,
 };
+use afr_law_fits::fits_its_types;
+use afr_law_passes::{quiet_passes_reach, quiet_rounds_converge, what_all_have_never_splits};
+use afr_law_picks::{a_line_keeps_its_source, chosen_source};
+use afr_law_promises::{
+    a_copy_is_whole, acknowledged_is_durable, changes_are_available, split_copies_missed,
+    works_leave_no_lock,
+};
+use afr_law_quiet::quiet_rounds_are_whole;
 use afr_lines::{Event, Line};
 use afr_log::{Log, ShownLine};
-use afr_missed::split_copies_missed;
 use afr_object::List;
 use afr_plan::{Plan, Words};
-use afr_quiet_rounds::quiet_rounds_are_whole;
-use afr_ranges::fits_its_types;
-use afr_reached::quiet_passes_reach;
-use afr_rolling::what_all_have_never_splits;
-use afr_rounds::Healer;
 use afr_rule::{Candidate, ReadRule, Rules, SourceRule};
 use afr_server::Server;
 use afr_servers::Servers;
-use afr_sources::{a_line_keeps_its_source, chosen_source};
-use afr_unlocked::works_leave_no_lock;
-use afr_whole_copy::a_copy_is_whole;
 use std::alloc::Global;
 use std::marker::Model;
 
@@ -68,7 +65,7 @@ pub struct Volume {
 
 impl Model for Volume {
     ghost use Rattle.std.specs.Prelude.{reverse};
-    ghost use Rattle.afr_sources.specs.Sources.{sources_of};
+    ghost use Rattle.afr_law_picks.specs.Sources.Sources.{sources_of};
     ghost use Rattle.afr_volume.specs.Acting.{picked_of};
     ghost use Rattle.afr_volume.specs.Keeping.{IsWhole};
     ghost use Rattle.afr_volume.specs.State.{State};

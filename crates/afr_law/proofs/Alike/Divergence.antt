@@ -10,14 +10,14 @@ use Rattle.afr_lines.specs.declared.lock.Domain.TheVariants.{Heal}
 use Rattle.afr_lines.specs.declared.request.Request.TheVariants.{Apply, Mend}
 use Rattle.afr_lines.specs.declared.answer.Told.{Told}
 use Rattle.afr_lines.specs.declared.answer.Told.TheVariants.{Done}
-use Rattle.afr_moves.specs.Cells.{Cell, fits, is_cell, object_of, kind_of, covers}
-use Rattle.afr_moves.specs.Past.{Beginning, Log, born, before, last, held, changes, mends, stamp, left_by, values, value, actor_of}
+use Rattle.afr_model_moves.specs.Cells.{Cell, fits, is_cell, object_of, kind_of, covers}
+use Rattle.afr_model_moves.specs.Past.{Beginning, Log, born, before, last, held, changes, mends, stamp, left_by, values, value, actor_of}
 use Rattle.afr_law.specs.Dirty.{DirtyTracked}
-use Rattle.afr_moves.specs.Honest.{Honest}
-use Rattle.afr_moves.specs.Tally.{tally}
-use Rattle.afr_moves.specs.Rules.{Register, in_force, register, PlaneIs, MayPre, MayRaise, MayApply, MayMend, Sink, Lawful, opened, present}
+use Rattle.afr_model_moves.specs.Honest.{Honest}
+use Rattle.afr_model_moves.specs.Tally.{tally}
+use Rattle.afr_model_moves.specs.Rules.{Register, in_force, register, PlaneIs, MayPre, MayRaise, MayApply, MayMend, Sink, Lawful, opened, present}
 use Rattle.afr_law.specs.Alike.{Unrecorded, Alike}
-use Rattle.afr_moves.specs.Lines.{ask_by, pre_on, post_on}
+use Rattle.afr_model_moves.specs.Lines.{ask_by, pre_on, post_on}
 use Rattle.afr_law.proofs.Safety.Locks.{held_from, excluded}
 use Rattle.afr_law.proofs.Safety.Numbers.{Prepared}
 use Rattle.afr_law.proofs.Safety.Acts.{Act, acts_apart, Working, working, may_ask, mend_covers}
@@ -32,7 +32,7 @@ use Rattle.afr_law.proofs.Alike.Raises.{plane_one, no_piece, raise, PostBack, Sw
 use Rattle.afr_law.proofs.Alike.Copies.{Fate, Everywhere, Overtaken, Brought as BroughtOn, Copies, alike}
 use Rattle.afr_law.proofs.Alike.Traces.{plane_of, brought_by, brought_is, Leaves, ByRepair, number_past, one, writes, LastTouch, LastMade, LastMended, last_touch}
 use Rattle.std.proofs.lemmas.Bool.{cases_lt, cases_eq}
-use Rattle.afr_moves.proofs.Tests.{three_cases, positive}
+use Rattle.afr_model_moves.proofs.Tests.{three_cases, positive}
 
 module _ (n : ℕ) (files : Beginning) (faults : ℕ → ℕ → Option Fault) (log : Log) (honest : Honest files faults log) (lawful : Lawful n files.keeps log) (shown : DirtyTracked files log) where
   -- the register of a numbered line is no fresh one

@@ -15,12 +15,12 @@ use Rattle.afr_lines.specs.declared.answer.Told.{Told}
 use Rattle.afr_lines.specs.declared.answer.Told.TheVariants.{Seen, Done}
 use Rattle.afr_lines.specs.declared.line.Line.{Line}
 use Rattle.afr_lines.specs.declared.line.Line.TheVariants.{Ask, Begin}
-use Rattle.afr_moves.specs.Cells.{Cell, is_cell, object_of, kind_of, covers}
-use Rattle.afr_moves.specs.Past.{Beginning, Log, last, holds, joined, opening, object, actor_of}
+use Rattle.afr_model_moves.specs.Cells.{Cell, is_cell, object_of, kind_of, covers}
+use Rattle.afr_model_moves.specs.Past.{Beginning, Log, last, holds, joined, opening, object, actor_of}
 use Rattle.afr_law.specs.Dirty.{raising, raised, lowering, lowered, dirty, NoneBelow, TracksDirty, DirtyTracked}
-use Rattle.afr_moves.specs.Honest.{HonestLine, Honest, view_marks, plane_kind, asked}
-use Rattle.afr_moves.specs.Rules.{PlaneIs, SomeCell, MayPre, MayPost, MaySettle, Full, one_if, Lawful, present, opened, register, in_force}
-use Rattle.afr_moves.specs.Lines.{ask_by, begin_by, heal_begin_by, look_at, pre_on, post_on, settle_on}
+use Rattle.afr_model_moves.specs.Honest.{HonestLine, Honest, view_marks, plane_kind, asked}
+use Rattle.afr_model_moves.specs.Rules.{PlaneIs, SomeCell, MayPre, MayPost, MaySettle, Full, one_if, Lawful, present, opened, register, in_force}
+use Rattle.afr_model_moves.specs.Lines.{ask_by, begin_by, heal_begin_by, look_at, pre_on, post_on, settle_on}
 use Rattle.afr_law.proofs.Safety.Numbers.{Prepared, Piece}
 use Rattle.afr_law.proofs.Safety.Sessions.{all_four}
 use Rattle.afr_law.proofs.Safety.Acts.{Act, acts_apart, Working, working, acting, may_ask}
@@ -30,7 +30,7 @@ use Rattle.afr_law.proofs.Heals.EachLine.{viewings}
 use Rattle.afr_law.proofs.Alike.Since.{since}
 use Rattle.afr_law.proofs.Alike.Tallies.{present_tallied}
 use Rattle.afr_law.proofs.Alike.Units.{Step, Still, Raises, Lowers, Takes, TakesOwn, clears, single, seen, gone, covers_all}
-use Rattle.afr_moves.proofs.Tests.{same_self, three_cases, same_kind_self, four_parts, same_kind_yes, positive}
+use Rattle.afr_model_moves.proofs.Tests.{same_self, three_cases, same_kind_self, four_parts, same_kind_yes, positive}
 use Rattle.std.proofs.lemmas.Bool.{eqb-true, or_cases, ltb-true}
 
 equal_is : (x p : ℕ) → (x == p) ≡ true → p ≡ x

@@ -8,10 +8,10 @@ use Rattle.afr_object.specs.declared.entry.View.{View}
 use Rattle.afr_lines.specs.declared.request.Area.{Area}
 use Rattle.afr_lines.specs.declared.request.Request.{Request}
 use Rattle.afr_lines.specs.declared.answer.Told.{Told}
-use Rattle.afr_moves.specs.Sets.{with, without}
-use Rattle.afr_moves.specs.Past.{Beginning, Log, is_of, is_gone, opens, place}
-use Rattle.afr_moves.specs.Honest.{Honest}
-use Rattle.afr_moves.specs.Rules.{Register, fresh, begun, is_area, looked, viewed, put_view, is_none, locking, piece, note_ask, dropping, note, in_force, register_after, register, MayHealBegin, Lawful, opened, busy, second_of, second_freed}
+use Rattle.afr_model_moves.specs.Sets.{with, without}
+use Rattle.afr_model_moves.specs.Past.{Beginning, Log, is_of, is_gone, opens, place}
+use Rattle.afr_model_moves.specs.Honest.{Honest}
+use Rattle.afr_model_moves.specs.Rules.{Register, fresh, begun, is_area, looked, viewed, put_view, is_none, locking, piece, note_ask, dropping, note, in_force, register_after, register, MayHealBegin, Lawful, opened, busy, second_of, second_freed}
 use Rattle.afr_law.proofs.Safety.Numbers.{Piece}
 use Rattle.afr_law.proofs.Safety.Standing.{Noted, noted, Grants, Waits, Frees, Tries, HealGrants, HealWaits, HealFrees, HealTries, Looks, Pres, Applies, Posts, Mends, Settles, Same}
 use Rattle.afr_law.proofs.Safety.Registers.{Own, Asks, Begins, HealBegins, Ends, HealEnds, own_line, may_own, MayOf}

@@ -9,19 +9,19 @@ use Rattle.afr_lines.specs.declared.request.Area.{Area}
 use Rattle.afr_lines.specs.declared.request.Request.{Request}
 use Rattle.afr_lines.specs.declared.request.Request.TheVariants.{Pre, Post, Mend}
 use Rattle.afr_lines.specs.declared.answer.Told.{Told}
-use Rattle.afr_moves.specs.Sets.{with, without}
-use Rattle.afr_moves.specs.Cells.{Cell}
-use Rattle.afr_moves.specs.Past.{Beginning, Log, is_of, is_gone, opens, place, last, mends}
-use Rattle.afr_moves.specs.Honest.{Honest}
-use Rattle.afr_moves.specs.Tally.{Tally, blank, note_tally, in_tally, tally}
-use Rattle.afr_moves.specs.Rules.{Register, fresh, begun, is_area, locking, note_ask, dropping, note, piece, in_force, register, MayAsk, MayMend, Lawful, opened, present, looked, viewed, busy, second_of, second_freed}
-use Rattle.afr_moves.specs.Lines.{ask_by, pre_on, post_on}
+use Rattle.afr_model_moves.specs.Sets.{with, without}
+use Rattle.afr_model_moves.specs.Cells.{Cell}
+use Rattle.afr_model_moves.specs.Past.{Beginning, Log, is_of, is_gone, opens, place, last, mends}
+use Rattle.afr_model_moves.specs.Honest.{Honest}
+use Rattle.afr_model_moves.specs.Tally.{Tally, blank, note_tally, in_tally, tally}
+use Rattle.afr_model_moves.specs.Rules.{Register, fresh, begun, is_area, locking, note_ask, dropping, note, piece, in_force, register, MayAsk, MayMend, Lawful, opened, present, looked, viewed, busy, second_of, second_freed}
+use Rattle.afr_model_moves.specs.Lines.{ask_by, pre_on, post_on}
 use Rattle.afr_law.proofs.Safety.Acts.{last_rises}
 use Rattle.afr_law.proofs.Safety.Standing.{Noted, noted, Grants, Waits, Frees, Tries, HealGrants, HealWaits, HealFrees, HealTries, Looks, Pres, Applies, Posts, Mends, Settles, Same}
 use Rattle.afr_law.proofs.Safety.Registers.{Own, Asks, Begins, HealBegins, Ends, HealEnds, registers_at, MayOf}
 use Rattle.afr_law.proofs.Alike.Since.{follows_asked, follows_dropped}
 use Rattle.std.proofs.lemmas.Bool.{cases_lt}
-use Rattle.afr_moves.proofs.Tests.{with_more, with_self, same_self}
+use Rattle.afr_model_moves.proofs.Tests.{with_more, with_self, same_self}
 
 -- the tally in force at the line
 abbrev pub present_tally : Log → ℕ → ℕ → Tally
@@ -115,7 +115,7 @@ module _ (n : ℕ) (keeps : ℕ → Kind → Bool) (files : Beginning) (faults :
     pub posts : (p b q g : ℕ) (kind : Kind) (missed : Seq ℕ) (told : Told) (took : Bool) → log p ≡ Some (ask_by a b (post_on q g kind missed) told took) → p < t → (r.number ≡ 0 → ⊥) → r.number ≤ p → k.posts b ≡ true
     pub raises : (p b g : ℕ) (kind : Kind) (told : Told) (took : Bool) → log p ≡ Some (ask_by a b (pre_on g kind) told took) → p < t → (r.start ≡ 0 → ⊥) → r.start ≤ p → k.raises b ≡ true
     pub mends : (u b : ℕ) (repair : Repair) (told : Told) (took : Bool) → log u ≡ Some (ask_by a b (Mend repair) told took) → u < t → (r.start ≡ 0 → ⊥) → r.start ≤ u
-        → (k.mending ≡ true) × ((cell : Cell) → Rattle.afr_moves.specs.Past.mends repair cell ≡ true → last log u a ≤ k.given cell)
+        → (k.mending ≡ true) × ((cell : Cell) → Rattle.afr_model_moves.specs.Past.mends repair cell ≡ true → last log u a ≤ k.given cell)
     pub repair : (u b : ℕ) (repair : Repair) (told : Told) (took : Bool) → log u ≡ Some (ask_by a b (Mend repair) told took) → u < t → (r.number ≡ 0 → ⊥) → r.number ≤ u → k.repair ≡ Some repair
 
   -- nothing to say of a register with neither number nor start

@@ -10,18 +10,18 @@ use Rattle.afr_lines.specs.declared.request.Request.TheVariants.{Apply, Mend}
 use Rattle.afr_lines.specs.declared.answer.Told.{Told}
 use Rattle.afr_lines.specs.declared.line.Line.{Line}
 use Rattle.afr_lines.specs.declared.line.Line.TheVariants.{Begin, HealBegin}
-use Rattle.afr_moves.specs.Cells.{Cell, object_of, kind_of, touches, leaves}
-use Rattle.afr_moves.specs.Past.{Beginning, Log, before, last, changes, mends, touch, stamp, most, brick_of, left_by, leaves_of, choose, values, value}
-use Rattle.afr_moves.specs.Honest.{Honest}
-use Rattle.afr_moves.specs.Rules.{Register, PlaneIs, MayMend, ReadOf, BringsSeen, EachRead, Lawful, present}
-use Rattle.afr_moves.specs.Lines.{ask_by, begin_by, heal_begin_by}
+use Rattle.afr_model_moves.specs.Cells.{Cell, object_of, kind_of, touches, leaves}
+use Rattle.afr_model_moves.specs.Past.{Beginning, Log, before, last, changes, mends, touch, stamp, most, brick_of, left_by, leaves_of, choose, values, value}
+use Rattle.afr_model_moves.specs.Honest.{Honest}
+use Rattle.afr_model_moves.specs.Rules.{Register, PlaneIs, MayMend, ReadOf, BringsSeen, EachRead, Lawful, present}
+use Rattle.afr_model_moves.specs.Lines.{ask_by, begin_by, heal_begin_by}
 use Rattle.afr_law.proofs.Safety.Locks.{before_is}
 use Rattle.afr_law.proofs.Safety.Acts.{Act, act_later, may_ask, apply_acts}
 use Rattle.afr_law.proofs.Heals.Looks.{mend_works, mend_acts}
 use Rattle.afr_law.proofs.Safety.Touches.{Touched, touched, Not, Made, Mended, stamp_next, value_next, values_at}
 use Rattle.afr_law.proofs.Safety.CellLemmas.{begins, change_plane}
 use Rattle.afr_law.proofs.Alike.Tallies.{present_tallied}
-use Rattle.afr_moves.proofs.Tests.{three_cases}
+use Rattle.afr_model_moves.proofs.Tests.{three_cases}
 
 -- a line that changes a cell is a Begin
 begin_of : (line : Option Line) (cell : Cell) → changes line cell ≡ true → (a : ℕ) × (change : Change) × (line ≡ Some (begin_by a change)) × (touches change cell ≡ true)

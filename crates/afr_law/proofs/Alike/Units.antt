@@ -5,7 +5,7 @@ use Rattle.std.proofs.lemmas.Bool.Decides.{nat_tests}
 use Rattle.afr_base.specs.Majority.{count_below}
 use Rattle.std.proofs.lemmas.Bool.{cases_lt, lt-ltb, le-ltb}
 use Rattle.afr_base.specs.Bricks.{and_left}
-use Rattle.afr_moves.proofs.Tests.{same_self, same_no}
+use Rattle.afr_model_moves.proofs.Tests.{same_self, same_no}
 use Rattle.afr_base.specs.SetLemmas.{count_same}
 
 -- up to t no sum is below 0

@@ -13,15 +13,15 @@ use Rattle.afr_lines.specs.declared.request.Request.TheVariants.{Post}
 use Rattle.afr_base.specs.Kinds.{same_kind}
 use Rattle.afr_law.proofs.Safety.Acts.{may_ask, working}
 use Rattle.afr_law.specs.Causes.{AccusationsHaveCauses, Cause}
-use Rattle.afr_moves.specs.Honest.{Answers, Honest, HonestAsk, HonestLine, Tells, asked}
-use Rattle.afr_moves.specs.Rules.{Lawful, MayPost, PlaneIs, present}
-use Rattle.afr_moves.specs.Lines.{ask_by, begin_by, post_on}
+use Rattle.afr_model_moves.specs.Honest.{Answers, Honest, HonestAsk, HonestLine, Tells, asked}
+use Rattle.afr_model_moves.specs.Rules.{Lawful, MayPost, PlaneIs, present}
+use Rattle.afr_model_moves.specs.Lines.{ask_by, begin_by, post_on}
 use Rattle.afr_law.proofs.Freshness.Misses.{not_done}
-use Rattle.afr_moves.specs.Past.{Beginning, Log, holds, joined, named, opening, pending, posts}
+use Rattle.afr_model_moves.specs.Past.{Beginning, Log, holds, joined, named, opening, pending, posts}
 use Rattle.afr_law.proofs.Safety.Steps.{honest_whole, lawful_whole}
 use Rattle.std.proofs.lemmas.Bool.{cases_lt, eqb-true}
-use Rattle.afr_moves.proofs.Tests.{same_kind_yes}
-use Rattle.afr_tables.specs.SumLaws.{all_true}
+use Rattle.afr_model_moves.proofs.Tests.{same_kind_yes}
+use Rattle.afr_law_tables.specs.SumLaws.{all_true}
 
 -- a post-op on the object and kind that names c
 record NamedLine (x c g : ℕ) (kind : Kind) (line : Option Line) : Type 0 where

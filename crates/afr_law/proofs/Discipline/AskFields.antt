@@ -1,6 +1,6 @@
 -- What a request of a heal leaves of each part of the register of the law.
-use Rattle.afr_moves.specs.Past.{is_gone}
-use Rattle.afr_moves.specs.Sets.{empty, with, without}
+use Rattle.afr_model_moves.specs.Past.{is_gone}
+use Rattle.afr_model_moves.specs.Sets.{empty, with, without}
 use Rattle.afr_lines.specs.declared.answer.Told.{Told}
 use Rattle.afr_lines.specs.declared.answer.Told.TheVariants.{Done, Granted, NotConnected}
 use Rattle.afr_lines.specs.declared.request.Area.{Area}
@@ -10,9 +10,9 @@ use Rattle.afr_lines.specs.declared.lock.Domain.TheVariants.{Heal, Work}
 use Rattle.std.proofs.Common.{Bool, ap, arith, false, inl, inr, not, refl, sym, true, true≢false, ℕ, ◌&&◌, ◌∙◌, ◌≡◌, ◌⊎◌}
 use Rattle.std.proofs.lemmas.Bool.Decides.{nat_tests}
 use Rattle.std.specs.Prelude.{Option, Some, if◌then◌else◌, ◌==◌}
-use Rattle.afr_moves.specs.Rules as weak
-use Rattle.afr_moves.specs.Rules.{Register, busy, is_area, is_none}
-use Rattle.afr_moves.proofs.Tests.{with_cases, without_in}
+use Rattle.afr_model_moves.specs.Rules as weak
+use Rattle.afr_model_moves.specs.Rules.{Register, busy, is_area, is_none}
+use Rattle.afr_model_moves.proofs.Tests.{with_cases, without_in}
 
 -- what lock requests leave as it is
 pub record Rest (w s : Register) : Type 0 where

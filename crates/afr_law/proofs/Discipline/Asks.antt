@@ -1,8 +1,8 @@
 -- What a request leaves of the register of the law.
-use Rattle.afr_moves.specs.Steps.{other}
-use Rattle.afr_moves.specs.Rules.{busy, is_area, is_none}
-use Rattle.afr_moves.specs.Past.{is_gone}
-use Rattle.afr_moves.specs.Sets.{with, without}
+use Rattle.afr_model_moves.specs.Steps.{other}
+use Rattle.afr_model_moves.specs.Rules.{busy, is_area, is_none}
+use Rattle.afr_model_moves.specs.Past.{is_gone}
+use Rattle.afr_model_moves.specs.Sets.{with, without}
 use Rattle.afr_lines.specs.declared.answer.Told.{Told}
 use Rattle.afr_lines.specs.declared.answer.Told.TheVariants.{Done, Granted, Seen}
 use Rattle.afr_lines.specs.declared.request.Area.{Area}
@@ -12,10 +12,10 @@ use Rattle.afr_object.specs.declared.entry.View.{View}
 use Rattle.afr_lines.specs.declared.lock.Domain.TheVariants.{Heal, Work}
 use Rattle.std.proofs.Common.{Bool, false, inl, inr, not, refl, subst, sym, true, true≢false, ℕ, ◌&&◌, ◌∙◌, ◌≡◌, ◌⊎◌}
 use Rattle.std.specs.Prelude.{Option, Some, if◌then◌else◌, ◌==◌}
-use Rattle.afr_moves.specs.Rules as weak
-use Rattle.afr_moves.specs.Rules.{Register}
+use Rattle.afr_model_moves.specs.Rules as weak
+use Rattle.afr_model_moves.specs.Rules.{Register}
 use Rattle.afr_law.proofs.Safety.Standing.{Noted, noted, Grants, Waits, Frees, Tries, HealGrants, HealWaits, HealFrees, HealTries, Looks, Pres, Applies, Posts, Mends, Settles, Same}
-use Rattle.afr_moves.proofs.Tests.{without_in}
+use Rattle.afr_model_moves.proofs.Tests.{without_in}
 
 -- the request is for a lock of a heal
 abbrev pub IsHealLock : Request → Type 0

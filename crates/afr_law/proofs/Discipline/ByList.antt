@@ -1,11 +1,11 @@
 -- The discipline in full over a list of lines, the newest first: each line is judged by those before it.
-use Rattle.afr_moves.specs.ByList.{MayExactlyNext, IsExactlyLawful}
+use Rattle.afr_model_moves.specs.ByList.{MayExactlyNext, IsExactlyLawful}
 use Rattle.afr_base.specs.declared.ids.Kind.{Kind}
 use Rattle.afr_base.specs.declared.ids.What.{What}
 use Rattle.afr_law.proofs.Safety.Agree.{place_same, value_same}
-use Rattle.afr_moves.specs.Past.{Beginning, Log, is_of, opens, place}
-use Rattle.afr_moves.proofs.ByPosition.{IsPast, none_at, past_at, past_whole}
-use Rattle.afr_moves.specs.Positions.{by_position}
+use Rattle.afr_model_moves.specs.Past.{Beginning, Log, is_of, opens, place}
+use Rattle.afr_model_moves.proofs.ByPosition.{IsPast, none_at, past_at, past_whole}
+use Rattle.afr_model_moves.specs.Positions.{by_position}
 use Rattle.afr_lines.specs.declared.line.Line.{Line}
 use Rattle.afr_lines.specs.declared.line.Line.TheVariants.{Ask, Begin, End, Event, HealBegin, HealEnd}
 use Rattle.afr_object.specs.declared.change.Change.{Change}
@@ -14,8 +14,8 @@ use Rattle.std.proofs.Common.{Bool, [], arith, false, inl, inr, length, refl, su
 use Rattle.std.proofs.lemmas.Bool.Decides.{nat_tests}
 use Rattle.std.specs.Prelude.{None, Option, Some, nat_lt, ◌==◌}
 use Rattle.std.specs.Prelude.{List as Seq}
-use Rattle.afr_moves.specs.Cells.{Entry}
-use Rattle.afr_moves.specs.Discipline.{exact, exact_after, present, in_force, MayExactly, HasRead, EndsWork, MakesKnown, BeginsKnown, NumbersInRange, LawfulExactly}
+use Rattle.afr_model_moves.specs.Cells.{Entry}
+use Rattle.afr_model_moves.specs.Discipline.{exact, exact_after, present, in_force, MayExactly, HasRead, EndsWork, MakesKnown, BeginsKnown, NumbersInRange, LawfulExactly}
 use Rattle.std.proofs.lemmas.Bool.{eqb-true, ltb-true, ltb-false}
 
 module _ (log other : Log) (m : ℕ) (agree : (u : ℕ) → u < m → log u ≡ other u) where

@@ -1,16 +1,16 @@
 -- The exact register stands on the looks and the Begin of its transaction.
 use Rattle.afr_base.specs.declared.ids.Kind.{Kind}
 use Rattle.afr_law.proofs.Discipline.Asks.{IsHealLock, heal_asked, heal_dropped}
-use Rattle.afr_moves.specs.Cells.{fits, what_code}
+use Rattle.afr_model_moves.specs.Cells.{fits, what_code}
 use Rattle.afr_law.proofs.Discipline.Clear.{Clear, ClearOf, Started, clear_asked, clear_fresh, clear_next}
-use Rattle.afr_moves.specs.Heal.{Gives, Goes}
-use Rattle.afr_moves.specs.Note.{breaks, left_in_heal, left_outside}
-use Rattle.afr_moves.specs.Register.{Exact}
-use Rattle.afr_moves.specs.Steps.{may_heal}
-use Rattle.afr_moves.specs.Transaction.{LiesIn, Outside}
-use Rattle.afr_moves.specs.Rules.{begun, fits_change}
-use Rattle.afr_moves.specs.Lines.{ask_by, begin_by, look_at}
-use Rattle.afr_moves.specs.Past.{Log, is_gone, is_of}
+use Rattle.afr_model_moves.specs.Heal.{Gives, Goes}
+use Rattle.afr_model_moves.specs.Note.{breaks, left_in_heal, left_outside}
+use Rattle.afr_model_moves.specs.Register.{Exact}
+use Rattle.afr_model_moves.specs.Steps.{may_heal}
+use Rattle.afr_model_moves.specs.Transaction.{LiesIn, Outside}
+use Rattle.afr_model_moves.specs.Rules.{begun, fits_change}
+use Rattle.afr_model_moves.specs.Lines.{ask_by, begin_by, look_at}
+use Rattle.afr_model_moves.specs.Past.{Log, is_gone, is_of}
 use Rattle.afr_law.proofs.Discipline.Projection.{along, along_now}
 use Rattle.afr_lines.specs.declared.answer.Told.{Told}
 use Rattle.afr_lines.specs.declared.answer.Told.TheVariants.{Seen}
@@ -21,8 +21,8 @@ use Rattle.afr_object.specs.declared.change.Change.{Change}
 use Rattle.afr_object.specs.declared.entry.View.{View}
 use Rattle.std.proofs.Common.{Bool, ap, arith, false, inl, inr, refl, subst, suc, sym, true, true≢false, ℕ, ◌&&◌, ◌<◌, ◌||◌, ◌∙◌, ◌≡◌}
 use Rattle.std.specs.Prelude.{None, Option, Some, if◌then◌else◌}
-use Rattle.afr_moves.specs.Rules as weak
-use Rattle.afr_moves.specs.Discipline.{note, exact, present, MayExactly, MayAskExactly, MovesExactly}
+use Rattle.afr_model_moves.specs.Rules as weak
+use Rattle.afr_model_moves.specs.Discipline.{note, exact, present, MayExactly, MayAskExactly, MovesExactly}
 use Rattle.std.proofs.lemmas.Bool.{eqb-true}
 
 -- a look that was told Seen was carried out

@@ -1,15 +1,15 @@
 -- What the exact register says of a transaction before its first unlock.
 use Rattle.afr_base.specs.declared.ids.Kind.{Kind}
 use Rattle.afr_law.proofs.Discipline.Asks.{IsHealLock}
-use Rattle.afr_moves.specs.Cells.{what_code}
-use Rattle.afr_moves.specs.Note.{left_outside, put, stay}
-use Rattle.afr_moves.specs.Register.{Exact, IsArea, Open, is_on}
-use Rattle.afr_moves.specs.Steps.{other}
-use Rattle.afr_moves.specs.Transaction.{LiesIn, MayWork, Outside}
-use Rattle.afr_moves.specs.Rules.{busy, fits_change, is_area, no_views, unlocked}
-use Rattle.afr_moves.specs.Lines.{ask_by, begin_by, look_at}
-use Rattle.afr_moves.specs.Past.{Log, is_gone}
-use Rattle.afr_moves.specs.Sets.{empty, with, without}
+use Rattle.afr_model_moves.specs.Cells.{what_code}
+use Rattle.afr_model_moves.specs.Note.{left_outside, put, stay}
+use Rattle.afr_model_moves.specs.Register.{Exact, IsArea, Open, is_on}
+use Rattle.afr_model_moves.specs.Steps.{other}
+use Rattle.afr_model_moves.specs.Transaction.{LiesIn, MayWork, Outside}
+use Rattle.afr_model_moves.specs.Rules.{busy, fits_change, is_area, no_views, unlocked}
+use Rattle.afr_model_moves.specs.Lines.{ask_by, begin_by, look_at}
+use Rattle.afr_model_moves.specs.Past.{Log, is_gone}
+use Rattle.afr_model_moves.specs.Sets.{empty, with, without}
 use Rattle.afr_lines.specs.declared.answer.Told.{Told}
 use Rattle.afr_lines.specs.declared.answer.Told.TheVariants.{Done, Granted, Seen}
 use Rattle.afr_lines.specs.declared.request.Area.{Area}
@@ -21,10 +21,10 @@ use Rattle.afr_lines.specs.declared.lock.Domain.TheVariants.{Heal, Work}
 use Rattle.std.proofs.Common.{Bool, arith, false, inl, inr, not, refl, subst, suc, sym, true, true≢false, ℕ, ◌&&◌, ◌<◌, ◌||◌, ◌≡◌, ◌⊎◌}
 use Rattle.std.proofs.lemmas.Bool.Decides.{nat_tests}
 use Rattle.std.specs.Prelude.{None, Option, Some, if◌then◌else◌, ◌==◌}
-use Rattle.afr_moves.specs.Rules as weak
-use Rattle.afr_moves.specs.Rules.{Register}
+use Rattle.afr_model_moves.specs.Rules as weak
+use Rattle.afr_model_moves.specs.Rules.{Register}
 use Rattle.afr_base.specs.Bricks.{and_left}
-use Rattle.afr_moves.proofs.Tests.{with_more, with_self, no_number}
+use Rattle.afr_model_moves.proofs.Tests.{with_more, with_self, no_number}
 
 -- what the views and the Begin of a transaction stand on
 pub record Looked (log : Log) (t a x : ℕ) (seen : Bool) (area : Option Area) (number : ℕ) (view : View) : Type 0 where

@@ -11,15 +11,15 @@ use Rattle.afr_lines.specs.declared.request.Request.TheVariants.{Apply, Mend, Po
 use Rattle.afr_object.specs.declared.change.Change.{Change}
 use Rattle.afr_object.specs.declared.change.Repair.{Repair}
 use Rattle.afr_object.specs.declared.change.Repair.TheVariants.{Copy, CutTo, PutAttrs, PutNames}
-use Rattle.afr_moves.specs.Covering.{AppliesIn, Changes, Covers}
-use Rattle.afr_moves.specs.Discipline.{MayAskExactly, MovesExactly, present}
-use Rattle.afr_moves.specs.Heal.{Gives, Goes, MayHeal}
-use Rattle.afr_moves.specs.Lines.{range_of}
-use Rattle.afr_moves.specs.Past.{Log, object}
-use Rattle.afr_moves.specs.Honest.{plane_kind}
-use Rattle.afr_moves.specs.Register.{Exact, Finish, HealPart, HealPres, Mends, Opening, Piece, PlaneIn, Settles, area_kind, rank, span, whole_area}
-use Rattle.afr_moves.specs.Steps.{mends_at, onward, pres_at, settles_at}
-use Rattle.afr_moves.specs.Transaction.{LiesIn, Outside}
+use Rattle.afr_model_moves.specs.Covering.{AppliesIn, Changes, Covers}
+use Rattle.afr_model_moves.specs.Discipline.{MayAskExactly, MovesExactly, present}
+use Rattle.afr_model_moves.specs.Heal.{Gives, Goes, MayHeal}
+use Rattle.afr_model_moves.specs.Lines.{range_of}
+use Rattle.afr_model_moves.specs.Past.{Log, object}
+use Rattle.afr_model_moves.specs.Honest.{plane_kind}
+use Rattle.afr_model_moves.specs.Register.{Exact, Finish, HealPart, HealPres, Mends, Opening, Piece, PlaneIn, Settles, area_kind, rank, span, whole_area}
+use Rattle.afr_model_moves.specs.Steps.{mends_at, onward, pres_at, settles_at}
+use Rattle.afr_model_moves.specs.Transaction.{LiesIn, Outside}
 use Rattle.afr_law.proofs.Discipline.Cleans.{Shown, clean_now}
 use Rattle.afr_law.proofs.Discipline.Inner.{turn_in, turn_low}
 use Rattle.afr_law.proofs.Discipline.Stages.{mend_far, onward_far}
@@ -28,7 +28,7 @@ use Rattle.afr_law.proofs.Heals.Areas.{AreasIn, areas_now, part_area}
 use Rattle.afr_law.proofs.Heals.Mended.{mend_fits}
 use Rattle.afr_law.proofs.Heals.Pieces.{PiecesIn, ShortLooks, pieces_now}
 use Rattle.afr_law.proofs.Heals.Conditions.{mend_test, mend_turn, onward_kind, onward_object, pre_onward, pre_turn, settle_onward, settle_turn}
-use Rattle.afr_moves.proofs.Tests.{same_kind_yes}
+use Rattle.afr_model_moves.proofs.Tests.{same_kind_yes}
 use Rattle.afr_base.specs.Bricks.{and_left}
 use Rattle.std.proofs.lemmas.Bool.{eqb-true}
 

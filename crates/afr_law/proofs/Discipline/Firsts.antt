@@ -2,17 +2,17 @@
 use Rattle.afr_base.specs.declared.ids.Kind.{Kind}
 use Rattle.afr_base.specs.declared.ids.Kind.TheVariants.{Bytes}
 use Rattle.afr_law.proofs.Discipline.Asks.{IsHealLock, Kept, kept, kept_dropped}
-use Rattle.afr_moves.specs.Heal.{Gives, Goes, InHeal, MayHealBegin}
-use Rattle.afr_moves.specs.Note.{answers, breaks, left_in_heal, left_outside, next_part, put, stay, view_of}
-use Rattle.afr_moves.specs.Register.{Exact, Finish, HealLocks, HealPart, HealPres, Looks, Open, Opening, Piece, Step, Unlocks, WorkLocks, holder, is_finish, is_opening, rank, same_step, untouched, whole_area}
-use Rattle.afr_moves.specs.Steps.{after_unlocks, is_lowest, is_next, locks_at, may_heal, may_heal_work}
-use Rattle.afr_moves.specs.Transaction.{Outside}
+use Rattle.afr_model_moves.specs.Heal.{Gives, Goes, InHeal, MayHealBegin}
+use Rattle.afr_model_moves.specs.Note.{answers, breaks, left_in_heal, left_outside, next_part, put, stay, view_of}
+use Rattle.afr_model_moves.specs.Register.{Exact, Finish, HealLocks, HealPart, HealPres, Looks, Open, Opening, Piece, Step, Unlocks, WorkLocks, holder, is_finish, is_opening, rank, same_step, untouched, whole_area}
+use Rattle.afr_model_moves.specs.Steps.{after_unlocks, is_lowest, is_next, locks_at, may_heal, may_heal_work}
+use Rattle.afr_model_moves.specs.Transaction.{Outside}
 use Rattle.afr_law.proofs.Discipline.Inner.{Inner, inner_asked, inner_begin, lock_held}
-use Rattle.afr_moves.specs.Rules.{no_views, unlocked}
-use Rattle.afr_moves.specs.Lines.{ask_by}
-use Rattle.afr_moves.specs.Past.{Log, held, is_gone, last}
+use Rattle.afr_model_moves.specs.Rules.{no_views, unlocked}
+use Rattle.afr_model_moves.specs.Lines.{ask_by}
+use Rattle.afr_model_moves.specs.Past.{Log, held, is_gone, last}
 use Rattle.afr_law.proofs.Discipline.Projection.{along_now}
-use Rattle.afr_moves.specs.Sets.{empty}
+use Rattle.afr_model_moves.specs.Sets.{empty}
 use Rattle.afr_law.proofs.Discipline.StagesAlong.{StageOf, stage_now}
 use Rattle.afr_lines.specs.declared.answer.Told.{Told}
 use Rattle.afr_lines.specs.declared.answer.Told.TheVariants.{Seen}
@@ -26,9 +26,9 @@ use Rattle.afr_object.specs.declared.entry.View.{View}
 use Rattle.afr_lines.specs.declared.lock.Domain.TheVariants.{Heal, Work}
 use Rattle.std.proofs.Common.{Bool, ap, arith, false, inl, inr, not, refl, subst, suc, sym, true, true≢false, ℕ, ◌&&◌, ◌||◌, ◌∙◌, ◌≡◌, ◌≤◌, ◌⊎◌}
 use Rattle.std.specs.Prelude.{None, Option, Some, if◌then◌else◌, ◌==◌}
-use Rattle.afr_moves.specs.Rules as weak
-use Rattle.afr_moves.specs.Rules.{Register, is_area, is_none}
-use Rattle.afr_moves.specs.Discipline.{MayAskExactly, MayExactly, MovesExactly, note, present}
+use Rattle.afr_model_moves.specs.Rules as weak
+use Rattle.afr_model_moves.specs.Rules.{Register, is_area, is_none}
+use Rattle.afr_model_moves.specs.Discipline.{MayAskExactly, MayExactly, MovesExactly, note, present}
 use Rattle.std.proofs.lemmas.Bool.{or_parts, eqb-true}
 use Rattle.afr_base.specs.Bricks.{and_left}
 

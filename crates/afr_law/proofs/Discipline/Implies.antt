@@ -3,10 +3,10 @@ use Rattle.afr_base.specs.Bricks.{member}
 use Rattle.afr_base.specs.declared.ids.Kind.{Kind}
 use Rattle.afr_lines.specs.declared.fault.Fault.{Fault}
 use Rattle.afr_law.proofs.Discipline.Cleans.{clean_now}
-use Rattle.afr_moves.specs.Discipline.{LawfulExactly, MayAskExactly, MayExactly, MovesExactly, NumbersInRange, present}
-use Rattle.afr_moves.specs.Heal.{Gives, Goes, MayHealBegin}
-use Rattle.afr_moves.specs.Ranges.{RepairInRange}
-use Rattle.afr_moves.specs.Register.{rank}
+use Rattle.afr_model_moves.specs.Discipline.{LawfulExactly, MayAskExactly, MayExactly, MovesExactly, NumbersInRange, present}
+use Rattle.afr_model_moves.specs.Heal.{Gives, Goes, MayHealBegin}
+use Rattle.afr_model_moves.specs.Ranges.{RepairInRange}
+use Rattle.afr_model_moves.specs.Register.{rank}
 use Rattle.afr_law.proofs.Heals.Answers.{Honestly, honestly}
 use Rattle.afr_law.proofs.Heals.Areas.{opening_or}
 use Rattle.afr_law.proofs.Heals.MendsAlong.{Wide}
@@ -15,12 +15,12 @@ use Rattle.afr_law.proofs.Heals.Opening.{opens_here}
 use Rattle.afr_law.proofs.Heals.Settles.{Fives, settle_works}
 use Rattle.afr_law.proofs.Heals.Conditions.{heal_lock_area, heal_lock_step}
 use Rattle.afr_law.proofs.Heals.Works.{mend_works, pre_works}
-use Rattle.afr_moves.specs.Lines.{ask_by}
-use Rattle.afr_moves.specs.Past.{Beginning, Log, place}
+use Rattle.afr_model_moves.specs.Lines.{ask_by}
+use Rattle.afr_model_moves.specs.Past.{Beginning, Log, place}
 use Rattle.afr_law.proofs.Discipline.PostsOnce.{post_once}
 use Rattle.afr_law.proofs.Discipline.Projection.{present_law}
 use Rattle.afr_law.proofs.Discipline.StagesAlong.{StageOf, stage_now}
-use Rattle.afr_moves.proofs.AreaLemmas.{same_area_is}
+use Rattle.afr_model_moves.proofs.AreaLemmas.{same_area_is}
 use Rattle.afr_law.proofs.Discipline.Transactions.{weak_apply, weak_begin, weak_post, weak_pre, weak_work}
 use Rattle.afr_lines.specs.declared.answer.Told.{Told}
 use Rattle.afr_lines.specs.declared.line.Line.{Line}
@@ -32,10 +32,10 @@ use Rattle.afr_object.specs.declared.change.Repair.TheVariants.{Copy, CutTo, Put
 use Rattle.afr_lines.specs.declared.lock.Domain.TheVariants.{Heal, Work}
 use Rattle.std.proofs.Common.{Bool, arith, inl, inr, refl, subst, sym, true≢false, ℕ, ◌<◌, ◌≡◌}
 use Rattle.std.specs.Prelude.{None, Option, Some}
-use Rattle.afr_moves.specs.Rules as weak
-use Rattle.afr_moves.specs.Rules.{Register, CoversAll, Lawful, heal_area}
+use Rattle.afr_model_moves.specs.Rules as weak
+use Rattle.afr_model_moves.specs.Rules.{Register, CoversAll, Lawful, heal_area}
 use Rattle.afr_law.proofs.Heals.Mended.{IsWide}
-use Rattle.afr_moves.specs.Honest.{Honest}
+use Rattle.afr_model_moves.specs.Honest.{Honest}
 use Rattle.std.proofs.lemmas.Bool.{or_parts}
 
 module _ (n : ℕ) (keeps : ℕ → Kind → Bool) (log : Log) (honest : Honestly log) (wide : Wide log) (fives : Fives log) (moves : MovesExactly n keeps log) where

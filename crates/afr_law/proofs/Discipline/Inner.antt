@@ -2,13 +2,13 @@
 use Rattle.afr_base.specs.declared.ids.Kind.{Kind}
 use Rattle.afr_base.specs.declared.ids.Kind.TheVariants.{Attrs, Bytes, Names}
 use Rattle.afr_law.proofs.Discipline.Asks.{IsQuiet, Less, quiet_after}
-use Rattle.afr_moves.specs.Note.{answers, breaks, left_in_heal, next_part, put}
-use Rattle.afr_moves.specs.Register.{Exact, Finish, HealLocks, HealPart, HealPres, HealUnlocks, Looks, Mends, Opening, Piece, Reads, Settles, Step, Unlocks, WorkLocks, all, asked_in, is_finish, is_opening, over, rank, same_step, whole_area}
-use Rattle.afr_moves.specs.Steps.{after_unlocks, is_lowest, is_next, locks_at, looks_at, may_heal, may_heal_work, other, set_of, turn}
-use Rattle.afr_moves.specs.Honest.{asked, asks}
-use Rattle.afr_moves.specs.Lines.{look_at}
-use Rattle.afr_moves.specs.Past.{held, holds, is_gone}
-use Rattle.afr_moves.specs.Sets.{any, empty, with, without}
+use Rattle.afr_model_moves.specs.Note.{answers, breaks, left_in_heal, next_part, put}
+use Rattle.afr_model_moves.specs.Register.{Exact, Finish, HealLocks, HealPart, HealPres, HealUnlocks, Looks, Mends, Opening, Piece, Reads, Settles, Step, Unlocks, WorkLocks, all, asked_in, is_finish, is_opening, over, rank, same_step, whole_area}
+use Rattle.afr_model_moves.specs.Steps.{after_unlocks, is_lowest, is_next, locks_at, looks_at, may_heal, may_heal_work, other, set_of, turn}
+use Rattle.afr_model_moves.specs.Honest.{asked, asks}
+use Rattle.afr_model_moves.specs.Lines.{look_at}
+use Rattle.afr_model_moves.specs.Past.{held, holds, is_gone}
+use Rattle.afr_model_moves.specs.Sets.{any, empty, with, without}
 use Rattle.afr_law.proofs.Discipline.Stages.{mend_far, onward_far, settles_far}
 use Rattle.afr_lines.specs.declared.answer.Told.{Told}
 use Rattle.afr_lines.specs.declared.answer.Told.TheVariants.{Done, Failed, Granted, NotConnected}
@@ -20,11 +20,11 @@ use Rattle.afr_lines.specs.declared.lock.Domain.TheVariants.{Heal, Work}
 use Rattle.std.proofs.Common.{Bool, ap, arith, false, inl, inr, not, refl, suc, sym, true, true≢false, zero, ℕ, ◌&&◌, ◌<◌, ◌||◌, ◌∙◌, ◌≡◌, ◌≤◌, ◌⊎◌}
 use Rattle.std.proofs.lemmas.Bool.Decides.{nat_tests}
 use Rattle.std.specs.Prelude.{Some, if◌then◌else◌, ◌==◌}
-use Rattle.afr_moves.specs.Rules as weak
-use Rattle.afr_moves.specs.Rules.{Register, busy, is_area}
+use Rattle.afr_model_moves.specs.Rules as weak
+use Rattle.afr_model_moves.specs.Rules.{Register, busy, is_area}
 use Rattle.std.proofs.lemmas.Bool.{or_parts, eqb-true, leb-true, not-true}
 use Rattle.afr_base.specs.Bricks.{and_left, and_right}
-use Rattle.afr_moves.proofs.Tests.{work_locks}
+use Rattle.afr_model_moves.proofs.Tests.{work_locks}
 
 -- from the looks to the settling of a heal: it has a number, the area is open, and the bricks of the first looks are locked
 pub record Inner (n : ℕ) (step : Step) (heal_part : HealPart) (asked first_reached : ℕ → Bool) (number : ℕ) (held seen closed : ℕ → Bool) : Type 0 where

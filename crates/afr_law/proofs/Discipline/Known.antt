@@ -3,34 +3,34 @@ use Rattle.afr_base.specs.declared.ids.Gfid.{Gfid}
 use Rattle.afr_base.specs.declared.ids.Kind.{Kind}
 use Rattle.afr_base.specs.declared.ids.What.{What}
 use Rattle.afr_base.specs.declared.ids.What.TheVariants.{Dir, File}
-use Rattle.afr_tables.proofs.Opening.{opening_none}
+use Rattle.afr_law_tables.proofs.Opening.{opening_none}
 use Rattle.afr_law.specs.Beginning.{start_of}
 use Rattle.afr_law.proofs.Model.SoundLog.{LawfulBelow}
 use Rattle.afr_law.proofs.Model.Tables.{all_same}
-use Rattle.afr_tables.proofs.Values.{code_of}
-use Rattle.afr_moves.specs.Cells.{Entry, entry_code, what_code}
-use Rattle.afr_tables.specs.Codes.{kept_by, kind_code, value_code}
-use Rattle.afr_moves.specs.Discipline.{HasRead, MayAskExactly, MayExactly, MovesExactly, present}
-use Rattle.afr_moves.specs.Discipline as exact
-use Rattle.afr_moves.specs.Heal.{Gives, Goes, MayHeal}
-use Rattle.afr_moves.specs.ByList.{IsExactLine}
-use Rattle.afr_moves.specs.Register.{Exact, Mends, rank}
-use Rattle.afr_moves.specs.Steps.{same_reads}
-use Rattle.afr_moves.specs.Transaction.{EndsLow}
+use Rattle.afr_law_tables.proofs.Values.{code_of}
+use Rattle.afr_model_moves.specs.Cells.{Entry, entry_code, what_code}
+use Rattle.afr_law_tables.specs.Codes.{kept_by, kind_code, value_code}
+use Rattle.afr_model_moves.specs.Discipline.{HasRead, MayAskExactly, MayExactly, MovesExactly, present}
+use Rattle.afr_model_moves.specs.Discipline as exact
+use Rattle.afr_model_moves.specs.Heal.{Gives, Goes, MayHeal}
+use Rattle.afr_model_moves.specs.ByList.{IsExactLine}
+use Rattle.afr_model_moves.specs.Register.{Exact, Mends, rank}
+use Rattle.afr_model_moves.specs.Steps.{same_reads}
+use Rattle.afr_model_moves.specs.Transaction.{EndsLow}
 use Rattle.afr_law.proofs.Heals.Asked.{read_for, wanted_now}
 use Rattle.afr_law.proofs.Heals.Mended.{IsWide, mend_fits, read_is}
 use Rattle.afr_law.proofs.Heals.Reads.{readings_now}
 use Rattle.afr_law.proofs.Heals.Conditions.{mend_test, mend_turn}
 use Rattle.afr_law.proofs.Discipline.Implies.{wide_line}
 use Rattle.afr_law.proofs.Discipline.Inner.{turn_low}
-use Rattle.afr_moves.specs.Rules.{EachRead}
-use Rattle.afr_moves.specs.Lines.{ask_by}
-use Rattle.afr_tables.specs.Ends.{EndsInTime}
+use Rattle.afr_model_moves.specs.Rules.{EachRead}
+use Rattle.afr_model_moves.specs.Lines.{ask_by}
+use Rattle.afr_law_tables.specs.Ends.{EndsInTime}
 use Rattle.afr_law.specs.ModelLaw.{IsKnown, IsReadAt, MakesKnown, NamesReads, WasShown}
-use Rattle.afr_tables.proofs.Entries.{entry_same, entry_some}
-use Rattle.afr_moves.specs.Past.{Log}
-use Rattle.afr_moves.specs.Positions.{by_position}
-use Rattle.afr_moves.proofs.ByPosition.{past_whole}
+use Rattle.afr_law_tables.proofs.Entries.{entry_same, entry_some}
+use Rattle.afr_model_moves.specs.Past.{Log}
+use Rattle.afr_model_moves.specs.Positions.{by_position}
+use Rattle.afr_model_moves.proofs.ByPosition.{past_whole}
 use Rattle.afr_law.proofs.Discipline.Stages.{mend_far}
 use Rattle.afr_lines.specs.Log.{from_oldest}
 use Rattle.afr_lines.specs.declared.answer.Told.TheVariants.{Given}
@@ -52,7 +52,7 @@ use Rattle.std.proofs.Common.{Bool, [], ap, arith, inl, inr, length, refl, subst
 use Rattle.std.specs.Prelude.{None, Option, Some}
 use Rattle.std.specs.Prelude.{List as Seq}
 use Rattle.afr_base.specs.Bricks.{and_left, and_right}
-use Rattle.afr_moves.proofs.Tests.{what_same}
+use Rattle.afr_model_moves.proofs.Tests.{what_same}
 
 -- ---- what is made
 -- a write that ends where the discipline says ends in time

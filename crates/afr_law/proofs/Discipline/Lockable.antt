@@ -13,19 +13,19 @@ use Rattle.afr_lines.specs.declared.request.Request.{Request}
 use Rattle.afr_lines.specs.declared.request.Request.TheVariants.{Lock}
 use Rattle.afr_lines.specs.declared.lock.Domain.{Domain}
 use Rattle.afr_lines.specs.declared.lock.Domain.TheVariants.{Heal, Work}
-use Rattle.afr_moves.proofs.AreaLemmas.{is_area_is, same_area_is}
-use Rattle.afr_moves.specs.Covering.{HasNumber}
-use Rattle.afr_moves.specs.Discipline.{MayAskExactly, MayExactly, MovesExactly, exact, in_force, note, present}
-use Rattle.afr_moves.specs.Heal.{Gives, Goes}
-use Rattle.afr_moves.specs.Past.{Log, is_gone}
-use Rattle.afr_moves.specs.Register.{Exact, HealLocks, IsArea, WorkLocks, is_finish, len_of, piece_area, same_step, whole_area}
-use Rattle.afr_moves.specs.Rules as weak
-use Rattle.afr_moves.specs.Rules.{Register, begun, busy, heal_area, is_area, second_of}
-use Rattle.afr_moves.specs.Steps.{after_unlocks, is_lowest, is_next, is_whole, locks_at, may_heal_work}
+use Rattle.afr_model_moves.proofs.AreaLemmas.{is_area_is, same_area_is}
+use Rattle.afr_model_moves.specs.Covering.{HasNumber}
+use Rattle.afr_model_moves.specs.Discipline.{MayAskExactly, MayExactly, MovesExactly, exact, in_force, note, present}
+use Rattle.afr_model_moves.specs.Heal.{Gives, Goes}
+use Rattle.afr_model_moves.specs.Past.{Log, is_gone}
+use Rattle.afr_model_moves.specs.Register.{Exact, HealLocks, IsArea, WorkLocks, is_finish, len_of, piece_area, same_step, whole_area}
+use Rattle.afr_model_moves.specs.Rules as weak
+use Rattle.afr_model_moves.specs.Rules.{Register, begun, busy, heal_area, is_area, second_of}
+use Rattle.afr_model_moves.specs.Steps.{after_unlocks, is_lowest, is_next, is_whole, locks_at, may_heal_work}
 use Rattle.afr_law.proofs.Discipline.Projection.{along}
 use Rattle.afr_law.proofs.Heals.Conditions.{heal_lock_area}
 use Rattle.afr_law.proofs.Safety.Standing.{Applies, Frees, Grants, HealFrees, HealGrants, HealTries, HealWaits, Looks, Mends, Noted, Posts, Pres, Same, Settles, Tries, Waits, noted}
-use Rattle.afr_moves.specs.Sets.{empty, with, without}
+use Rattle.afr_model_moves.specs.Sets.{empty, with, without}
 use Rattle.afr_object.specs.declared.entry.View.{View}
 use Rattle.afr_base.specs.Bricks.{and_left, and_right}
 

@@ -1,17 +1,17 @@
 -- A transaction asks each brick for one Post.
 use Rattle.afr_base.specs.declared.ids.Kind.{Kind}
 use Rattle.afr_law.proofs.Discipline.Asks.{IsHealLock, heal_asked, heal_dropped, kept, kept_dropped, lock_number}
-use Rattle.afr_moves.specs.Discipline.{MayAskExactly, MayExactly, MovesExactly, note, present}
-use Rattle.afr_moves.specs.Heal.{Gives, Goes}
-use Rattle.afr_moves.specs.Note.{breaks, left_in_heal, left_outside, stay}
-use Rattle.afr_moves.specs.Register.{Applies, Exact, Open, Posts, Pres, Step, Untouched, asked_in, rank, same_step}
-use Rattle.afr_moves.specs.Steps.{may_heal, other}
-use Rattle.afr_moves.specs.Transaction.{MayPost, Outside}
+use Rattle.afr_model_moves.specs.Discipline.{MayAskExactly, MayExactly, MovesExactly, note, present}
+use Rattle.afr_model_moves.specs.Heal.{Gives, Goes}
+use Rattle.afr_model_moves.specs.Note.{breaks, left_in_heal, left_outside, stay}
+use Rattle.afr_model_moves.specs.Register.{Applies, Exact, Open, Posts, Pres, Step, Untouched, asked_in, rank, same_step}
+use Rattle.afr_model_moves.specs.Steps.{may_heal, other}
+use Rattle.afr_model_moves.specs.Transaction.{MayPost, Outside}
 use Rattle.afr_law.proofs.Heals.Conditions.{asked_now}
-use Rattle.afr_moves.specs.Lines.{ask_by}
+use Rattle.afr_model_moves.specs.Lines.{ask_by}
 use Rattle.afr_law.proofs.Discipline.Projection.{goes_tally, tally_at, together_now}
-use Rattle.afr_moves.specs.Sets.{empty, with}
-use Rattle.afr_moves.specs.Tally.{Tally, note_tally, tally}
+use Rattle.afr_model_moves.specs.Sets.{empty, with}
+use Rattle.afr_model_moves.specs.Tally.{Tally, note_tally, tally}
 use Rattle.afr_law.proofs.Discipline.Untouched.{still_now}
 use Rattle.afr_lines.specs.declared.answer.Told.{Told}
 use Rattle.afr_lines.specs.declared.line.Line.{Line}
@@ -21,10 +21,10 @@ use Rattle.afr_lines.specs.declared.request.Request.TheVariants.{Apply, Index, L
 use Rattle.afr_lines.specs.declared.lock.Domain.TheVariants.{Heal, Work}
 use Rattle.std.proofs.Common.{Bool, ap, arith, false, inl, inr, refl, subst, sym, true, true≢false, ℕ, ◌&&◌, ◌||◌, ◌∙◌, ◌≡◌, ◌≤◌}
 use Rattle.std.specs.Prelude.{None, Option, Some, if◌then◌else◌}
-use Rattle.afr_moves.specs.Past.{Log, is_gone, last}
-use Rattle.afr_moves.specs.Rules as weak
-use Rattle.afr_moves.specs.Rules.{Register, busy, no_views}
-use Rattle.afr_moves.proofs.Tests.{with_more, with_self, with_cases}
+use Rattle.afr_model_moves.specs.Past.{Log, is_gone, last}
+use Rattle.afr_model_moves.specs.Rules as weak
+use Rattle.afr_model_moves.specs.Rules.{Register, busy, no_views}
+use Rattle.afr_model_moves.proofs.Tests.{with_more, with_self, with_cases}
 
 abbrev Posted : Exact → Tally → Type 0
 Posted r k = r.law.heal ≡ false → (r.law.number ≡ 0 → ⊥) → (x : ℕ) → k.posts x ≡ true → (r.step ≡ Posts) × (r.asked x ≡ true)

@@ -1,18 +1,18 @@
 -- The law's register is a part of the exact one, and what goes on along the lines of an actor holds of each exact register.
 use Rattle.afr_base.specs.declared.ids.Kind.{Kind}
-use Rattle.afr_moves.specs.Register.{Exact, Untouched, untouched}
-use Rattle.afr_moves.specs.Lines.{is_ok}
-use Rattle.afr_moves.specs.Past.{Log, is_of, last, opens, place}
-use Rattle.afr_moves.specs.Tally.{Tally, blank, in_tally, note_tally, tally, tally_after}
+use Rattle.afr_model_moves.specs.Register.{Exact, Untouched, untouched}
+use Rattle.afr_model_moves.specs.Lines.{is_ok}
+use Rattle.afr_model_moves.specs.Past.{Log, is_of, last, opens, place}
+use Rattle.afr_model_moves.specs.Tally.{Tally, blank, in_tally, note_tally, tally, tally_after}
 use Rattle.afr_lines.specs.declared.line.Line.{Line}
 use Rattle.afr_lines.specs.declared.line.Line.TheVariants.{Ask, Begin, End, Event, HealBegin, HealEnd}
 use Rattle.std.proofs.Common.{Bool, ap, false, refl, subst, suc, true, zero, ℕ, ◌∙◌, ◌≡◌}
 use Rattle.std.specs.Prelude.{None, Option, Some}
-use Rattle.afr_moves.specs.Rules as weak
-use Rattle.afr_moves.specs.Rules.{Register}
-use Rattle.afr_moves.specs.Discipline.{note, in_force, exact_after, exact, present, MayExactly, MayAskExactly, MovesExactly}
-use Rattle.afr_moves.specs.Transaction.{MayBegin, MayEnd}
-use Rattle.afr_moves.specs.Heal.{MayHealBegin, MayHealEnd}
+use Rattle.afr_model_moves.specs.Rules as weak
+use Rattle.afr_model_moves.specs.Rules.{Register}
+use Rattle.afr_model_moves.specs.Discipline.{note, in_force, exact_after, exact, present, MayExactly, MayAskExactly, MovesExactly}
+use Rattle.afr_model_moves.specs.Transaction.{MayBegin, MayEnd}
+use Rattle.afr_model_moves.specs.Heal.{MayHealBegin, MayHealEnd}
 use Rattle.std.proofs.lemmas.Bool.{eqb-true}
 
 -- the law's register after a line is what the law notes

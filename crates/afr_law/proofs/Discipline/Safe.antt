@@ -2,13 +2,13 @@
 use Rattle.std.specs.Prelude.{ℕ, List, Option}
 use Rattle.afr_lines.specs.declared.fault.Fault.{Fault}
 use Rattle.afr_lines.specs.declared.line.Line.{Line}
-use Rattle.afr_moves.specs.Past.{Beginning, Log}
-use Rattle.afr_moves.specs.Honest.{Honest}
+use Rattle.afr_model_moves.specs.Past.{Beginning, Log}
+use Rattle.afr_model_moves.specs.Honest.{Honest}
 use Rattle.afr_law.specs.Safe.{Safe}
-use Rattle.afr_moves.specs.Positions.{by_position}
+use Rattle.afr_model_moves.specs.Positions.{by_position}
 use Rattle.afr_law.proofs.Safety.CellHistory.{safe}
-use Rattle.afr_moves.specs.Discipline.{LawfulExactly}
-use Rattle.afr_moves.specs.ByList.{IsExactlyLawful}
+use Rattle.afr_model_moves.specs.Discipline.{LawfulExactly}
+use Rattle.afr_model_moves.specs.ByList.{IsExactlyLawful}
 use Rattle.afr_law.proofs.Discipline.ByList.{exactly_lawful}
 use Rattle.afr_law.proofs.Discipline.Implies.{implies}
 

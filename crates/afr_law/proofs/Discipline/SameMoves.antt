@@ -2,9 +2,9 @@
 use Rattle.afr_base.specs.declared.ids.Kind.{Kind}
 use Rattle.afr_law.proofs.Safety.Agree.{place_same, register_same, tally_same}
 use Rattle.afr_law.specs.Law.{MayNext}
-use Rattle.afr_moves.specs.Rules.{BringsSeen, EachRead, FitAt, Full, May, MayAsk, MayRaise, PlaneIs, ReadOf, Register, Sink, UnaccusedViews, in_force, opened, present, register}
-use Rattle.afr_moves.specs.Past.{Log, opens, place}
-use Rattle.afr_moves.specs.Tally.{Tally, tally}
+use Rattle.afr_model_moves.specs.Rules.{BringsSeen, EachRead, FitAt, Full, May, MayAsk, MayRaise, PlaneIs, ReadOf, Register, Sink, UnaccusedViews, in_force, opened, present, register}
+use Rattle.afr_model_moves.specs.Past.{Log, opens, place}
+use Rattle.afr_model_moves.specs.Tally.{Tally, tally}
 use Rattle.afr_lines.specs.declared.line.Line.{Line}
 use Rattle.afr_lines.specs.declared.line.Line.TheVariants.{Ask}
 use Rattle.afr_lines.specs.declared.request.Request.{Request}

@@ -2,11 +2,11 @@
 use Rattle.afr_base.specs.declared.ids.Kind.{Kind}
 use Rattle.afr_base.specs.declared.ids.Kind.TheVariants.{Attrs, Bytes, Names}
 use Rattle.afr_law.proofs.Discipline.Asks.{Kept, kept, kept_dropped, lock_number}
-use Rattle.afr_moves.specs.Heal.{Gives, Goes, InHeal}
-use Rattle.afr_moves.specs.Note.{left_in_heal, next_part}
-use Rattle.afr_moves.specs.Steps.{goes_on, is_lowest, is_next, locks_at, may_heal_work, may_mend, onward, passed, settles_over}
-use Rattle.afr_moves.specs.Past.{is_gone, last}
-use Rattle.afr_moves.specs.Sets.{empty}
+use Rattle.afr_model_moves.specs.Heal.{Gives, Goes, InHeal}
+use Rattle.afr_model_moves.specs.Note.{left_in_heal, next_part}
+use Rattle.afr_model_moves.specs.Steps.{goes_on, is_lowest, is_next, locks_at, may_heal_work, may_mend, onward, passed, settles_over}
+use Rattle.afr_model_moves.specs.Past.{is_gone, last}
+use Rattle.afr_model_moves.specs.Sets.{empty}
 use Rattle.afr_lines.specs.declared.answer.Told.{Told}
 use Rattle.afr_lines.specs.declared.request.Area.{Area}
 use Rattle.afr_lines.specs.declared.request.Request.{Request}
@@ -19,12 +19,12 @@ use Rattle.afr_lines.specs.declared.lock.Domain.TheVariants.{Heal, Work}
 use Rattle.std.proofs.Common.{Bool, ap, arith, false, inl, inr, not, refl, sym, true, true≢false, ℕ, ◌&&◌, ◌||◌, ◌∙◌, ◌≡◌, ◌≤◌, ◌⊎◌}
 use Rattle.std.proofs.lemmas.Bool.Decides.{nat_tests}
 use Rattle.std.specs.Prelude.{if◌then◌else◌, nat_le, nat_lt, ◌==◌}
-use Rattle.afr_moves.specs.Rules as weak
-use Rattle.afr_moves.specs.Rules.{Register, busy, is_area}
-use Rattle.afr_moves.specs.Register.{Exact, Finish, HealLocks, HealPart, HealPres, HealUnlocks, Looks, Mends, Opening, Piece, Reads, Settles, Step, Unlocks, Untouched, WorkLocks, is_finish, len_of, piece_area, rank, same_step, whole_area}
+use Rattle.afr_model_moves.specs.Rules as weak
+use Rattle.afr_model_moves.specs.Rules.{Register, busy, is_area}
+use Rattle.afr_model_moves.specs.Register.{Exact, Finish, HealLocks, HealPart, HealPres, HealUnlocks, Looks, Mends, Opening, Piece, Reads, Settles, Step, Unlocks, Untouched, WorkLocks, is_finish, len_of, piece_area, rank, same_step, whole_area}
 use Rattle.std.proofs.lemmas.Bool.{or_parts, eqb-true, not-true, leb-true}
 use Rattle.afr_base.specs.Bricks.{and_left, and_right}
-use Rattle.afr_moves.proofs.Tests.{work_locks, next_not_opening}
+use Rattle.afr_model_moves.proofs.Tests.{work_locks, next_not_opening}
 
 -- number and start by the step: no start outside a heal and before its first HealBegin, no number while Work locks are asked
 pub record Stage (heal : Bool) (step : Step) (part : HealPart) (broken : Bool) (start number : ℕ) : Type 0 where

@@ -1,14 +1,14 @@
 -- Each line keeps what a register says of the steps of a heal.
 use Rattle.afr_base.specs.declared.ids.Kind.{Kind}
 use Rattle.afr_law.proofs.Discipline.Asks.{IsHealLock, Kept, kept, kept_dropped}
-use Rattle.afr_moves.specs.Heal.{Gives, Goes, InHeal, MayHealBegin}
-use Rattle.afr_moves.specs.Note.{breaks, is_held, left_by, left_in_heal, left_outside, stay, stops_at}
-use Rattle.afr_moves.specs.Steps.{may_heal, other}
-use Rattle.afr_moves.specs.Rules.{no_views, unlocked}
-use Rattle.afr_moves.specs.Lines.{ask_by}
-use Rattle.afr_moves.specs.Past.{Log, is_gone}
+use Rattle.afr_model_moves.specs.Heal.{Gives, Goes, InHeal, MayHealBegin}
+use Rattle.afr_model_moves.specs.Note.{breaks, is_held, left_by, left_in_heal, left_outside, stay, stops_at}
+use Rattle.afr_model_moves.specs.Steps.{may_heal, other}
+use Rattle.afr_model_moves.specs.Rules.{no_views, unlocked}
+use Rattle.afr_model_moves.specs.Lines.{ask_by}
+use Rattle.afr_model_moves.specs.Past.{Log, is_gone}
 use Rattle.afr_law.proofs.Discipline.Projection.{along_now}
-use Rattle.afr_moves.specs.Sets.{empty}
+use Rattle.afr_model_moves.specs.Sets.{empty}
 use Rattle.afr_law.proofs.Discipline.Stages.{Stage, stage_fresh, stage_more, staged}
 use Rattle.afr_lines.specs.declared.answer.Told.{Told}
 use Rattle.afr_lines.specs.declared.line.Line.{Line}
@@ -21,11 +21,11 @@ use Rattle.afr_lines.specs.declared.lock.Domain.TheVariants.{Heal, Work}
 use Rattle.std.proofs.Common.{Bool, arith, false, inl, inr, refl, subst, suc, sym, true, true≢false, ℕ, ◌&&◌, ◌||◌, ◌∙◌, ◌≡◌, ◌⊎◌}
 use Rattle.std.proofs.lemmas.Bool.Decides.{nat_tests}
 use Rattle.std.specs.Prelude.{None, Option, Some, if◌then◌else◌, ◌==◌}
-use Rattle.afr_moves.specs.Rules as weak
-use Rattle.afr_moves.specs.Rules.{Register, busy, is_area}
-use Rattle.afr_moves.specs.Transaction.{Outside, MayBegin}
-use Rattle.afr_moves.specs.Register.{Exact, Step, HealPart, Untouched, Open, Pres, Applies, Posts, HealLocks, Looks}
-use Rattle.afr_moves.specs.Discipline.{note, present, MayExactly, MayAskExactly, MovesExactly}
+use Rattle.afr_model_moves.specs.Rules as weak
+use Rattle.afr_model_moves.specs.Rules.{Register, busy, is_area}
+use Rattle.afr_model_moves.specs.Transaction.{Outside, MayBegin}
+use Rattle.afr_model_moves.specs.Register.{Exact, Step, HealPart, Untouched, Open, Pres, Applies, Posts, HealLocks, Looks}
+use Rattle.afr_model_moves.specs.Discipline.{note, present, MayExactly, MayAskExactly, MovesExactly}
 use Rattle.afr_law.proofs.Discipline.Untouched.{some_step}
 
 -- the same of a register

@@ -1,14 +1,14 @@
 -- The moves of a transaction are those of the weak discipline.
 use Rattle.afr_base.specs.declared.ids.Kind.{Kind}
 use Rattle.afr_base.specs.declared.ids.Kind.TheVariants.{Attrs, Bytes}
-use Rattle.afr_moves.specs.Cells.{Attr, Byte, Cell, Entry, covers, is_name, touches}
+use Rattle.afr_model_moves.specs.Cells.{Attr, Byte, Cell, Entry, covers, is_name, touches}
 use Rattle.afr_law.proofs.Discipline.Clear.{ClearOf}
-use Rattle.afr_moves.specs.Register.{Exact, IsArea, PlaneIn, area_kind, holder, is_on}
-use Rattle.afr_moves.specs.Honest.{plane_kind}
-use Rattle.afr_moves.specs.Rules.{CoveredBy, PlaneIs, area_object}
-use Rattle.afr_moves.specs.Lines.{ask_by, look_at}
-use Rattle.afr_moves.specs.Past.{value}
-use Rattle.afr_moves.specs.Tally.{tally}
+use Rattle.afr_model_moves.specs.Register.{Exact, IsArea, PlaneIn, area_kind, holder, is_on}
+use Rattle.afr_model_moves.specs.Honest.{plane_kind}
+use Rattle.afr_model_moves.specs.Rules.{CoveredBy, PlaneIs, area_object}
+use Rattle.afr_model_moves.specs.Lines.{ask_by, look_at}
+use Rattle.afr_model_moves.specs.Past.{value}
+use Rattle.afr_model_moves.specs.Tally.{tally}
 use Rattle.afr_lines.specs.declared.answer.Told.TheVariants.{Seen}
 use Rattle.afr_lines.specs.declared.request.Area.{Area}
 use Rattle.afr_lines.specs.declared.request.Area.TheVariants.{Name, Range}
@@ -18,9 +18,9 @@ use Rattle.afr_object.specs.declared.entry.View.{View}
 use Rattle.std.proofs.Common.{Bool, ap, arith, false, inl, inr, length, not, refl, subst, sym, true, true≢false, ℕ, ◌&&◌, ◌+◌, ◌<◌, ◌∙◌, ◌≡◌, ◌≤◌, ◌⊎◌}
 use Rattle.std.proofs.lemmas.Bool.Decides.{nat_tests}
 use Rattle.std.specs.Prelude.{None, Option, Some, if◌then◌else◌, nat_le, nat_lt, ◌==◌, ◌^◌}
-use Rattle.afr_moves.specs.Rules as weak
-use Rattle.afr_moves.specs.Past.{Log, object}
-use Rattle.afr_moves.specs.Transaction.{LiesIn, MayWork, MayBegin, MayPre, MayApply, MayPost}
+use Rattle.afr_model_moves.specs.Rules as weak
+use Rattle.afr_model_moves.specs.Past.{Log, object}
+use Rattle.afr_model_moves.specs.Transaction.{LiesIn, MayWork, MayBegin, MayPre, MayApply, MayPost}
 
 -- a change that lies in an area touches only what the area covers
 abbrev pub Within : Area → Change → Type 0

@@ -1,15 +1,15 @@
 -- Where a register begins: no line of the work or heal was, and nothing is noted.
 use Rattle.afr_base.specs.declared.ids.Kind.{Kind}
 use Rattle.afr_law.proofs.Discipline.Asks.{kept, kept_dropped}
-use Rattle.afr_moves.specs.Discipline.{MayAskExactly, MayExactly, MovesExactly, note, present}
-use Rattle.afr_moves.specs.Heal.{Gives, Goes, InHeal}
-use Rattle.afr_moves.specs.Note.{breaks, left_by, left_in_heal, left_outside, stay}
-use Rattle.afr_moves.specs.Register.{Applies, Exact, HealLocks, HealPres, HealUnlocks, Looks, Mends, Open, Posts, Pres, Reads, Settles, Step, Unlocks, Untouched, WorkLocks, same_step, untouched}
-use Rattle.afr_moves.specs.Steps.{may_heal}
-use Rattle.afr_moves.specs.Transaction.{Outside}
-use Rattle.afr_moves.specs.Rules.{no_views, unlocked}
+use Rattle.afr_model_moves.specs.Discipline.{MayAskExactly, MayExactly, MovesExactly, note, present}
+use Rattle.afr_model_moves.specs.Heal.{Gives, Goes, InHeal}
+use Rattle.afr_model_moves.specs.Note.{breaks, left_by, left_in_heal, left_outside, stay}
+use Rattle.afr_model_moves.specs.Register.{Applies, Exact, HealLocks, HealPres, HealUnlocks, Looks, Mends, Open, Posts, Pres, Reads, Settles, Step, Unlocks, Untouched, WorkLocks, same_step, untouched}
+use Rattle.afr_model_moves.specs.Steps.{may_heal}
+use Rattle.afr_model_moves.specs.Transaction.{Outside}
+use Rattle.afr_model_moves.specs.Rules.{no_views, unlocked}
 use Rattle.afr_law.proofs.Discipline.Projection.{along_now}
-use Rattle.afr_moves.specs.Sets.{empty}
+use Rattle.afr_model_moves.specs.Sets.{empty}
 use Rattle.afr_lines.specs.declared.answer.Told.{Told}
 use Rattle.afr_lines.specs.declared.line.Line.{Line}
 use Rattle.afr_lines.specs.declared.line.Line.TheVariants.{Ask, Begin, End, Event, HealBegin, HealEnd}
@@ -18,9 +18,9 @@ use Rattle.afr_lines.specs.declared.request.Request.TheVariants.{Apply, Index, L
 use Rattle.afr_lines.specs.declared.lock.Domain.TheVariants.{Heal, Work}
 use Rattle.std.proofs.Common.{Bool, ap, arith, false, inl, inr, refl, suc, sym, true, true≢false, ℕ, ◌&&◌, ◌||◌, ◌∙◌, ◌≡◌, ◌≤◌, ◌⊎◌}
 use Rattle.std.specs.Prelude.{None, Option, Some, if◌then◌else◌}
-use Rattle.afr_moves.specs.Rules as weak
-use Rattle.afr_moves.specs.Rules.{fresh, busy}
-use Rattle.afr_moves.specs.Past.{Log, is_of, is_gone, last, last_after}
+use Rattle.afr_model_moves.specs.Rules as weak
+use Rattle.afr_model_moves.specs.Rules.{fresh, busy}
+use Rattle.afr_model_moves.specs.Past.{Log, is_of, is_gone, last, last_after}
 
 abbrev IsStill : Exact → Type 0
 IsStill r = r.step ≡ Untouched → r ≡ untouched

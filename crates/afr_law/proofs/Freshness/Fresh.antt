@@ -10,12 +10,12 @@ use Rattle.afr_lines.specs.declared.answer.Told.TheVariants.{Seen}
 use Rattle.afr_law.proofs.Safety.Acks.{acknowledged_fixed}
 use Rattle.afr_law.proofs.Safety.CellHistory.{copy_read, counts_at, recorded_at, no_change, unfit_acked, unfit_value, untouched_value}
 use Rattle.afr_law.proofs.Safety.CellLemmas.{IsOriginAt, leaves_at}
-use Rattle.afr_moves.specs.Cells.{Cell, fits, is_cell, object_of, kind_of}
+use Rattle.afr_model_moves.specs.Cells.{Cell, fits, is_cell, object_of, kind_of}
 use Rattle.afr_law.specs.FreshReads.{ShowsNoMiss, ClearLook, LooksLet, NoOlder, Opening, Left, ReadsAreFresh}
-use Rattle.afr_moves.specs.Honest.{HonestAsk, HonestLine, Honest, Tells, Answers, asked}
-use Rattle.afr_moves.specs.Rules.{Lawful}
-use Rattle.afr_moves.specs.Lines.{look_at}
-use Rattle.afr_moves.specs.Past.{Beginning, Log, born, changes, holds, joined, keep, kind_at, opening, posts, settled, value}
+use Rattle.afr_model_moves.specs.Honest.{HonestAsk, HonestLine, Honest, Tells, Answers, asked}
+use Rattle.afr_model_moves.specs.Rules.{Lawful}
+use Rattle.afr_model_moves.specs.Lines.{look_at}
+use Rattle.afr_model_moves.specs.Past.{Beginning, Log, born, changes, holds, joined, keep, kind_at, opening, posts, settled, value}
 use Rattle.afr_law.specs.Safe.{Acknowledged}
 use Rattle.afr_law.proofs.Safety.Steps.{honest_whole, lawful_whole}
 use Rattle.afr_law.proofs.Safety.Touches.{kind_next}

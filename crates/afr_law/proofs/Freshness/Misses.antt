@@ -13,15 +13,15 @@ use Rattle.afr_lines.specs.declared.request.Area.{Area}
 use Rattle.afr_lines.specs.declared.request.Request.{Request}
 use Rattle.afr_lines.specs.declared.request.Request.TheVariants.{Apply}
 use Rattle.afr_law.proofs.Safety.Acts.{may_ask, working}
-use Rattle.afr_moves.specs.Honest.{Honest}
-use Rattle.afr_moves.specs.Rules.{Lawful, May, MayApply, MayPost, Register, area_object, begun, dropping, fresh, heal_freed, in_force, is_area, is_none, locking, looked, mend_cells, note, note_ask, opened, present, put_view, register, second_freed, second_of, viewed, busy}
-use Rattle.afr_moves.specs.Lines.{ask_by, post_on}
-use Rattle.afr_moves.specs.Past.{Beginning, Log, is_gone, is_of}
+use Rattle.afr_model_moves.specs.Honest.{Honest}
+use Rattle.afr_model_moves.specs.Rules.{Lawful, May, MayApply, MayPost, Register, area_object, begun, dropping, fresh, heal_freed, in_force, is_area, is_none, locking, looked, mend_cells, note, note_ask, opened, present, put_view, register, second_freed, second_of, viewed, busy}
+use Rattle.afr_model_moves.specs.Lines.{ask_by, post_on}
+use Rattle.afr_model_moves.specs.Past.{Beginning, Log, is_gone, is_of}
 use Rattle.afr_law.proofs.Safety.Registers.{Asks, Begins, Ends, HealBegins, HealEnds, Own, registers}
-use Rattle.afr_moves.specs.Sets.{with, without}
+use Rattle.afr_model_moves.specs.Sets.{with, without}
 use Rattle.afr_law.proofs.Safety.Standing.{Noted, noted, Grants, Waits, Frees, Tries, HealGrants, HealWaits, HealFrees, HealTries, Looks, Pres, Applies, Posts, Mends, Settles, Same}
 use Rattle.std.proofs.lemmas.Bool.{cases_lt}
-use Rattle.afr_moves.proofs.Tests.{same_self}
+use Rattle.afr_model_moves.proofs.Tests.{same_self}
 
 -- the number is that of before, and what was done is done still; or there is no number
 record Grows (r s : Register) : Type 0 where

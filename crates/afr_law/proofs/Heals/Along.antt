@@ -1,17 +1,17 @@
 -- What holds of a heal from its first lock on, and goes on along its lines, holds of each of its registers.
 use Rattle.afr_base.specs.declared.ids.Kind.{Kind}
 use Rattle.afr_law.proofs.Discipline.Asks.{IsHealLock, kept, kept_dropped}
-use Rattle.afr_moves.specs.Discipline.{MayAskExactly, MayExactly, MovesExactly, note, present}
-use Rattle.afr_moves.specs.Heal.{Gives, Goes, InHeal, MayHeal, MayHealBegin}
-use Rattle.afr_moves.specs.Note.{breaks, left_in_heal, left_outside, stopping}
-use Rattle.afr_moves.specs.Register.{Exact, untouched}
-use Rattle.afr_moves.specs.Steps.{may_heal}
-use Rattle.afr_moves.specs.Transaction.{MayOpen, Outside}
+use Rattle.afr_model_moves.specs.Discipline.{MayAskExactly, MayExactly, MovesExactly, note, present}
+use Rattle.afr_model_moves.specs.Heal.{Gives, Goes, InHeal, MayHeal, MayHealBegin}
+use Rattle.afr_model_moves.specs.Note.{breaks, left_in_heal, left_outside, stopping}
+use Rattle.afr_model_moves.specs.Register.{Exact, untouched}
+use Rattle.afr_model_moves.specs.Steps.{may_heal}
+use Rattle.afr_model_moves.specs.Transaction.{MayOpen, Outside}
 use Rattle.afr_law.proofs.Heals.Opening.{opens_here}
-use Rattle.afr_moves.specs.Rules.{opened}
-use Rattle.afr_moves.specs.Lines.{ask_by, heal_begin_by}
+use Rattle.afr_model_moves.specs.Rules.{opened}
+use Rattle.afr_model_moves.specs.Lines.{ask_by, heal_begin_by}
 use Rattle.afr_law.proofs.Discipline.Projection.{tally_at, together_now}
-use Rattle.afr_moves.specs.Tally.{Tally, blank, in_tally, note_tally, tally}
+use Rattle.afr_model_moves.specs.Tally.{Tally, blank, in_tally, note_tally, tally}
 use Rattle.afr_law.proofs.Discipline.Untouched.{still_now}
 use Rattle.afr_lines.specs.declared.answer.Told.{Told}
 use Rattle.afr_lines.specs.declared.line.Line.{Line}
@@ -22,9 +22,9 @@ use Rattle.afr_lines.specs.declared.request.Request.TheVariants.{Lock}
 use Rattle.afr_lines.specs.declared.lock.Domain.TheVariants.{Heal, Work}
 use Rattle.std.proofs.Common.{Bool, ap, false, inl, inr, refl, subst, suc, sym, true, true≢false, ℕ, ◌&&◌, ◌<◌, ◌||◌, ◌∙◌, ◌≡◌}
 use Rattle.std.specs.Prelude.{None, Option, Some, if◌then◌else◌}
-use Rattle.afr_moves.specs.Rules as weak
-use Rattle.afr_moves.specs.Rules.{Register, heal_area}
-use Rattle.afr_moves.specs.Past.{Log, is_of, is_gone, last}
+use Rattle.afr_model_moves.specs.Rules as weak
+use Rattle.afr_model_moves.specs.Rules.{Register, heal_area}
+use Rattle.afr_model_moves.specs.Past.{Log, is_of, is_gone, last}
 use Rattle.std.proofs.lemmas.Bool.{or_parts, eqb-true}
 
 -- what a line of a heal leaves of its register

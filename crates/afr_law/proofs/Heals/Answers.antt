@@ -2,9 +2,9 @@
 use Rattle.afr_base.specs.declared.ids.Kind.{Kind}
 use Rattle.afr_lines.specs.declared.fault.Fault.{Fault}
 use Rattle.afr_lines.specs.declared.fault.Fault.TheVariants.{Fail, Lost}
-use Rattle.afr_moves.specs.Note.{fails}
-use Rattle.afr_moves.specs.Lines.{ask_by, look_at, pre_on}
-use Rattle.afr_moves.specs.Past.{Beginning, Log, holds, joined, keep, kind_at, opening}
+use Rattle.afr_model_moves.specs.Note.{fails}
+use Rattle.afr_model_moves.specs.Lines.{ask_by, look_at, pre_on}
+use Rattle.afr_model_moves.specs.Past.{Beginning, Log, holds, joined, keep, kind_at, opening}
 use Rattle.afr_law.proofs.Safety.Touches.{kind_next}
 use Rattle.afr_lines.specs.declared.answer.Told.{Told}
 use Rattle.afr_lines.specs.declared.answer.Told.TheVariants.{Done, Given, Seen}
@@ -13,7 +13,7 @@ use Rattle.afr_object.specs.declared.entry.View.{View}
 use Rattle.std.proofs.Common.{Bool, ap, arith, false, not, refl, subst, suc, sym, true, true≢false, zero, ℕ, ◌+◌, ◌<◌, ◌||◌, ◌∙◌, ◌≡◌}
 use Rattle.std.proofs.lemmas.Bool.Decides.{nat_tests}
 use Rattle.std.specs.Prelude.{None, Option, Some, ◌-◌, ◌==◌}
-use Rattle.afr_moves.specs.Honest.{HonestAsk, HonestLine, Honest, Tells, Answers, asked}
+use Rattle.afr_model_moves.specs.Honest.{HonestAsk, HonestLine, Honest, Tells, Answers, asked}
 
 -- the tables of a brick keep their objects
 holds_next : (files : Beginning) (log : Log) (t b g : ℕ) → holds files log t b g ≡ true → holds files log (suc t) b g ≡ true

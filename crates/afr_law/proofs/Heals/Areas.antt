@@ -2,20 +2,20 @@
 use Rattle.afr_base.specs.declared.ids.Kind.{Kind}
 use Rattle.afr_base.specs.declared.ids.Kind.TheVariants.{Attrs, Bytes, Names}
 use Rattle.afr_law.proofs.Discipline.AskFields.{WorkLocked, frees_heal, frees_work, sees, work_locked}
-use Rattle.afr_moves.specs.Discipline.{MovesExactly, note, present}
-use Rattle.afr_moves.specs.Heal.{MayHealBegin}
-use Rattle.afr_moves.specs.Note.{left_in_heal, next_part}
-use Rattle.afr_moves.specs.Register.{Exact, Finish, HealPart, HealPres, HealUnlocks, Looks, Mends, Opening, Piece, Reads, Settles, Step, Unlocks, WorkLocks, len_of, piece_area, rank, whole_area}
-use Rattle.afr_moves.specs.Steps.{may_heal}
+use Rattle.afr_model_moves.specs.Discipline.{MovesExactly, note, present}
+use Rattle.afr_model_moves.specs.Heal.{MayHealBegin}
+use Rattle.afr_model_moves.specs.Note.{left_in_heal, next_part}
+use Rattle.afr_model_moves.specs.Register.{Exact, Finish, HealPart, HealPres, HealUnlocks, Looks, Mends, Opening, Piece, Reads, Settles, Step, Unlocks, WorkLocks, len_of, piece_area, rank, whole_area}
+use Rattle.afr_model_moves.specs.Steps.{may_heal}
 use Rattle.afr_law.proofs.Heals.Along.{healing_now, opened_by}
 use Rattle.afr_law.proofs.Heals.Conditions.{Resumes, Starts, Waits, WorkPlace, attrs_onward, attrs_turn, bytes_onward, bytes_turn, heal_lock_step, list_onward, list_turn, look_step, mend_test, mend_turn, pre_onward, pre_turn, settle_onward, settle_turn, work_place}
 use Rattle.afr_law.proofs.Discipline.Inner.{turn_low}
-use Rattle.afr_moves.specs.Rules.{fresh}
-use Rattle.afr_moves.specs.Lines.{heal_begin_by}
-use Rattle.afr_moves.specs.Sets.{with}
+use Rattle.afr_model_moves.specs.Rules.{fresh}
+use Rattle.afr_model_moves.specs.Lines.{heal_begin_by}
+use Rattle.afr_model_moves.specs.Sets.{with}
 use Rattle.afr_law.proofs.Discipline.Stages.{mend_far, onward_far}
 use Rattle.afr_law.proofs.Discipline.StagesAlong.{StageOf, stage_now}
-use Rattle.afr_moves.proofs.AreaLemmas.{same_area_is, is_area_is}
+use Rattle.afr_model_moves.proofs.AreaLemmas.{same_area_is, is_area_is}
 use Rattle.afr_lines.specs.declared.answer.Told.{Told}
 use Rattle.afr_lines.specs.declared.answer.Told.TheVariants.{Done, NotConnected, Seen}
 use Rattle.afr_lines.specs.declared.request.Area.{Area}
@@ -26,10 +26,10 @@ use Rattle.afr_lines.specs.declared.lock.Domain.TheVariants.{Heal, Work}
 use Rattle.std.proofs.Common.{Bool, ap, arith, false, inl, inr, refl, subst, sym, true, true≢false, ℕ, ◌∙◌, ◌≡◌, ◌≤◌, ◌⊎◌}
 use Rattle.std.proofs.lemmas.Bool.Decides.{nat_tests}
 use Rattle.std.specs.Prelude.{Option, Some, if◌then◌else◌, nat_lt}
-use Rattle.afr_moves.specs.Rules as weak
-use Rattle.afr_moves.specs.Rules.{Register, busy, heal_area, is_area}
-use Rattle.afr_moves.specs.Past.{Log, is_gone}
-use Rattle.afr_moves.proofs.Tests.{same_kind_yes}
+use Rattle.afr_model_moves.specs.Rules as weak
+use Rattle.afr_model_moves.specs.Rules.{Register, busy, heal_area, is_area}
+use Rattle.afr_model_moves.specs.Past.{Log, is_gone}
+use Rattle.afr_model_moves.proofs.Tests.{same_kind_yes}
 
 -- the whole of a kind at first and at last, and a piece between
 abbrev pub part_area : ℕ → Kind → ℕ → HealPart → Area

@@ -2,20 +2,20 @@
 use Rattle.afr_base.specs.declared.ids.Gfid.{Gfid}
 use Rattle.afr_base.specs.declared.ids.Kind.{Kind}
 use Rattle.afr_base.specs.declared.ids.Kind.TheVariants.{Attrs, Bytes, Names}
-use Rattle.afr_moves.specs.Discipline.{MovesExactly, present}
-use Rattle.afr_moves.specs.Note.{breaks, fails, given, left_in_heal, put}
-use Rattle.afr_moves.specs.Register.{Exact, HealPres, Mends, Reads, Settles, Step, rank, span}
-use Rattle.afr_moves.specs.Steps.{may_heal}
+use Rattle.afr_model_moves.specs.Discipline.{MovesExactly, present}
+use Rattle.afr_model_moves.specs.Note.{breaks, fails, given, left_in_heal, put}
+use Rattle.afr_model_moves.specs.Register.{Exact, HealPres, Mends, Reads, Settles, Step, rank, span}
+use Rattle.afr_model_moves.specs.Steps.{may_heal}
 use Rattle.afr_law.proofs.Heals.Along.{healing_now}
 use Rattle.afr_law.proofs.Heals.Holds.{fails_gone, kept_law}
 use Rattle.afr_law.proofs.Heals.Reads.{readings_now}
 use Rattle.afr_law.proofs.Heals.Conditions.{attrs_onward, attrs_turn, bytes_onward, bytes_turn, list_onward, list_turn, look_step, mend_test, mend_turn, onward_kind, onward_object, pre_onward, pre_turn, settle_onward, settle_turn}
 use Rattle.afr_law.proofs.Discipline.Inner.{turn_low}
-use Rattle.afr_moves.specs.Rules as weak
-use Rattle.afr_moves.specs.Rules.{Register}
-use Rattle.afr_moves.specs.Lines.{ask_by}
-use Rattle.afr_moves.specs.Past.{Log, is_gone}
-use Rattle.afr_moves.specs.Sets.{with}
+use Rattle.afr_model_moves.specs.Rules as weak
+use Rattle.afr_model_moves.specs.Rules.{Register}
+use Rattle.afr_model_moves.specs.Lines.{ask_by}
+use Rattle.afr_model_moves.specs.Past.{Log, is_gone}
+use Rattle.afr_model_moves.specs.Sets.{with}
 use Rattle.afr_law.proofs.Discipline.Stages.{mend_far, onward_far}
 use Rattle.afr_lines.specs.declared.answer.Told.{Told}
 use Rattle.afr_lines.specs.declared.answer.Told.TheVariants.{Done, Failed, Given, NotConnected}
@@ -25,7 +25,7 @@ use Rattle.afr_lines.specs.declared.lock.Domain.TheVariants.{Heal, Work}
 use Rattle.std.proofs.Common.{Bool, ap, arith, false, inl, inr, refl, subst, sym, true, true≢false, ℕ, ◌∙◌, ◌≡◌, ◌≤◌}
 use Rattle.std.specs.Prelude.{None, Option, Some}
 use Rattle.std.proofs.lemmas.Bool.{eqb-true}
-use Rattle.afr_moves.proofs.Tests.{same_kind_yes, put_read}
+use Rattle.afr_model_moves.proofs.Tests.{same_kind_yes, put_read}
 use Rattle.afr_base.specs.Bricks.{and_left, and_right}
 
 -- what a part of a heal of this kind reads of its object

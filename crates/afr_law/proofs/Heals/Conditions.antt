@@ -4,12 +4,12 @@ use Rattle.afr_base.specs.declared.ids.Gfid.{Gfid}
 use Rattle.afr_base.specs.declared.ids.Kind.{Kind}
 use Rattle.afr_base.specs.declared.ids.Kind.TheVariants.{Attrs, Bytes, Names}
 use Rattle.afr_base.specs.declared.marks.Marks.{Marks}
-use Rattle.afr_moves.specs.Note.{next_part}
-use Rattle.afr_moves.specs.Register.{Applies, Exact, Finish, HealLocks, HealPart, HealPres, HealUnlocks, Looks, Mends, Open, Opening, Piece, Posts, Pres, Reads, Settles, Step, Unlocks, Untouched, WorkLocks, asked_in, good, holder, is_finish, len_of, over, piece_area, rank, same_step, unaccused, whole_area}
-use Rattle.afr_moves.specs.Steps.{after_unlocks, goes_on, goes_on_at, is_lowest, is_next, locks_at, looks_over, may_heal, may_mend, mends_over, onward, passed, pres_over, set_of, settles_over, takes, turn}
-use Rattle.afr_moves.specs.Honest.{asked}
-use Rattle.afr_moves.specs.Lines.{look_at, pre_on, settle_on}
-use Rattle.afr_moves.specs.Sets.{empty}
+use Rattle.afr_model_moves.specs.Note.{next_part}
+use Rattle.afr_model_moves.specs.Register.{Applies, Exact, Finish, HealLocks, HealPart, HealPres, HealUnlocks, Looks, Mends, Open, Opening, Piece, Posts, Pres, Reads, Settles, Step, Unlocks, Untouched, WorkLocks, asked_in, good, holder, is_finish, len_of, over, piece_area, rank, same_step, unaccused, whole_area}
+use Rattle.afr_model_moves.specs.Steps.{after_unlocks, goes_on, goes_on_at, is_lowest, is_next, locks_at, looks_over, may_heal, may_mend, mends_over, onward, passed, pres_over, set_of, settles_over, takes, turn}
+use Rattle.afr_model_moves.specs.Honest.{asked}
+use Rattle.afr_model_moves.specs.Lines.{look_at, pre_on, settle_on}
+use Rattle.afr_model_moves.specs.Sets.{empty}
 use Rattle.afr_lines.specs.declared.request.Area.{Area}
 use Rattle.afr_lines.specs.declared.request.Request.{Request}
 use Rattle.afr_lines.specs.declared.request.Request.TheVariants.{List, Lock, Mend, ReadAttrs, ReadBytes, Unlock}
@@ -20,8 +20,8 @@ use Rattle.afr_object.specs.declared.change.Repair.TheVariants.{Copy, CutTo, Put
 use Rattle.afr_lines.specs.declared.lock.Domain.TheVariants.{Heal, Work}
 use Rattle.std.proofs.Common.{Bool, ap, arith, false, not, refl, sym, true, true≢false, ℕ, ◌&&◌, ◌<◌, ◌||◌, ◌∙◌, ◌≡◌, ◌≤◌}
 use Rattle.std.specs.Prelude.{if◌then◌else◌, nat_lt, ◌==◌}
-use Rattle.afr_moves.specs.Rules.{busy, heal_area, is_area}
-use Rattle.afr_moves.proofs.Tests.{same_self, all_yes, work_locks}
+use Rattle.afr_model_moves.specs.Rules.{busy, heal_area, is_area}
+use Rattle.afr_model_moves.proofs.Tests.{same_self, all_yes, work_locks}
 use Rattle.std.proofs.lemmas.Bool.{not-true, le-ltb, eqb-true, leb-true}
 use Rattle.afr_base.specs.Bricks.{and_left, and_right}
 

@@ -15,24 +15,24 @@ use Rattle.afr_lines.specs.declared.request.Request.{Request}
 use Rattle.afr_lines.specs.declared.request.Request.TheVariants.{Lock, Mend}
 use Rattle.afr_lines.specs.declared.answer.Told.{Told}
 use Rattle.afr_lines.specs.declared.answer.Told.TheVariants.{Seen, Done}
-use Rattle.afr_moves.specs.Sets.{with, without, empty}
-use Rattle.afr_moves.specs.Cells.{Cell}
-use Rattle.afr_moves.specs.Past.{Beginning, Log, born, held, holds, touch, over, stamp, settled, mends, joined, opening, is_gone}
-use Rattle.afr_moves.specs.Honest.{HonestAsk, HonestLine, Honest, finds, asked}
-use Rattle.afr_moves.specs.Rules.{MayPre, Register, fresh, CoversAll, MayBegin, MayMend, begun, is_area, looked, viewed, looking, put_view, is_none, locking, area_object, piece, note_ask, dropping, note, register, MayAsk, MayHealLock, MayHealBegin, Lawful, opened, present, busy, second_of, second_freed, heal_freed}
-use Rattle.afr_moves.proofs.AreaLemmas.{heal_freed_in}
-use Rattle.afr_moves.specs.Cells.{fits, object_of}
+use Rattle.afr_model_moves.specs.Sets.{with, without, empty}
+use Rattle.afr_model_moves.specs.Cells.{Cell}
+use Rattle.afr_model_moves.specs.Past.{Beginning, Log, born, held, holds, touch, over, stamp, settled, mends, joined, opening, is_gone}
+use Rattle.afr_model_moves.specs.Honest.{HonestAsk, HonestLine, Honest, finds, asked}
+use Rattle.afr_model_moves.specs.Rules.{MayPre, Register, fresh, CoversAll, MayBegin, MayMend, begun, is_area, looked, viewed, looking, put_view, is_none, locking, area_object, piece, note_ask, dropping, note, register, MayAsk, MayHealLock, MayHealBegin, Lawful, opened, present, busy, second_of, second_freed, heal_freed}
+use Rattle.afr_model_moves.proofs.AreaLemmas.{heal_freed_in}
+use Rattle.afr_model_moves.specs.Cells.{fits, object_of}
 use Rattle.afr_law.proofs.Safety.Standing.{SeenAt, Plain, Noted, noted, Grants, Waits, Frees, Tries, HealGrants, HealWaits, HealFrees, HealTries, Looks, Pres, Applies, Posts, Mends, Settles, Same}
 use Rattle.afr_law.proofs.Safety.Registers.{Own, Asks, Begins, HealBegins, Ends, HealEnds, standing, registers_at, MayOf}
 use Rattle.afr_law.proofs.Safety.Numbers.{carried_out, force_fresh}
 use Rattle.afr_law.proofs.Safety.Acts.{Working, working, all_covers}
 use Rattle.afr_law.proofs.Safety.Touches.{stamp_next}
 use Rattle.afr_law.proofs.Safety.Objects.{holds_fits}
-use Rattle.afr_moves.specs.Lines.{ask_by, begin_by, heal_begin_by, look_at, pre_on, settle_on}
+use Rattle.afr_model_moves.specs.Lines.{ask_by, begin_by, heal_begin_by, look_at, pre_on, settle_on}
 use Rattle.afr_law.proofs.Heals.Looks.{SettleLine, settle_line, unsettled, OwnPre, LookAt, ViewedAt, FirstAt, Viewing, viewing_fresh, viewing_dropped, Quiet, viewing_next, done_finds, mends_plane, stamp_rises}
 use Rattle.afr_law.proofs.Heals.Marks.{no_start, quiet_foreign, Ready, ready, quiet_own}
 use Rattle.std.proofs.lemmas.Bool.{cases_lt, eqb-true, eqb-false}
-use Rattle.afr_moves.proofs.Tests.{same_self, with_cases, with_false, positive}
+use Rattle.afr_model_moves.proofs.Tests.{same_self, with_cases, with_false, positive}
 use Rattle.afr_base.specs.Bricks.{and_left, and_right}
 
 module _ (n : ℕ) (keeps : ℕ → Kind → Bool) (files : Beginning) (faults : ℕ → ℕ → Option Fault) (log : Log) (honest : Honest files faults log) (lawful : Lawful n keeps log) where

@@ -3,19 +3,19 @@ use Rattle.afr_base.specs.declared.ids.Kind.{Kind}
 use Rattle.afr_base.specs.declared.ids.Kind.TheVariants.{Attrs, Bytes, Names}
 use Rattle.afr_base.specs.declared.marks.Marks.{Marks}
 use Rattle.afr_law.proofs.Discipline.AskFields.{frees_heal, frees_work, sees, work_locked}
-use Rattle.afr_moves.specs.Discipline.{MovesExactly, note, present}
-use Rattle.afr_moves.specs.Heal.{MayHealBegin}
-use Rattle.afr_moves.specs.Note.{breaks, fails, is_given, left_in_heal, next_part, put}
-use Rattle.afr_moves.specs.Register.{Exact, Finish, HealLocks, HealPart, HealPres, Looks, Mends, Opening, Piece, Reads, Settles, Step, Unlocks, asked_in, is_finish, is_opening, rank, whole_area}
-use Rattle.afr_moves.specs.Steps.{locks_at, looks_at, may_heal, settles_at, turn}
+use Rattle.afr_model_moves.specs.Discipline.{MovesExactly, note, present}
+use Rattle.afr_model_moves.specs.Heal.{MayHealBegin}
+use Rattle.afr_model_moves.specs.Note.{breaks, fails, is_given, left_in_heal, next_part, put}
+use Rattle.afr_model_moves.specs.Register.{Exact, Finish, HealLocks, HealPart, HealPres, Looks, Mends, Opening, Piece, Reads, Settles, Step, Unlocks, asked_in, is_finish, is_opening, rank, whole_area}
+use Rattle.afr_model_moves.specs.Steps.{locks_at, looks_at, may_heal, settles_at, turn}
 use Rattle.afr_law.proofs.Discipline.Firsts.{FirstsOf, firsts_now}
 use Rattle.afr_law.proofs.Heals.Along.{healing_now, opened_by}
 use Rattle.afr_law.proofs.Heals.Conditions.{Resumes, Starts, Waits, WorkPlace, attrs_turn, bytes_turn, heal_lock_step, list_turn, look_step, look_turn, mend_turn, pre_turn, settle_turn, settles_is, unlock_turn, work_place}
 use Rattle.afr_law.proofs.Discipline.Inner.{turn_in, turn_low}
 use Rattle.afr_law.proofs.Safety.Sessions.{without_other}
-use Rattle.afr_moves.specs.Rules.{fresh}
-use Rattle.afr_moves.specs.Lines.{heal_begin_by, look_at, settle_on}
-use Rattle.afr_moves.specs.Sets.{empty, with, without}
+use Rattle.afr_model_moves.specs.Rules.{fresh}
+use Rattle.afr_model_moves.specs.Lines.{heal_begin_by, look_at, settle_on}
+use Rattle.afr_model_moves.specs.Sets.{empty, with, without}
 use Rattle.afr_law.proofs.Discipline.StagesAlong.{StageOf, stage_now}
 use Rattle.afr_lines.specs.declared.answer.Told.{Told}
 use Rattle.afr_lines.specs.declared.answer.Told.TheVariants.{Done, Failed, Given, Granted, Held, NoObject, NotConnected, Seen}
@@ -29,10 +29,10 @@ use Rattle.afr_lines.specs.declared.lock.Domain.TheVariants.{Heal, Work}
 use Rattle.std.proofs.Common.{Bool, ap, arith, false, inl, inr, not, refl, subst, sym, true, true≢false, ℕ, ◌&&◌, ◌<◌, ◌||◌, ◌∙◌, ◌≡◌, ◌≤◌}
 use Rattle.std.proofs.lemmas.Bool.Decides.{nat_tests}
 use Rattle.std.specs.Prelude.{Some, if◌then◌else◌, ◌==◌}
-use Rattle.afr_moves.specs.Rules as weak
-use Rattle.afr_moves.specs.Rules.{Register, heal_area}
-use Rattle.afr_moves.specs.Past.{Log, is_gone}
-use Rattle.afr_moves.proofs.Tests.{with_more, with_self, with_cases, without_in, next_not_opening}
+use Rattle.afr_model_moves.specs.Rules as weak
+use Rattle.afr_model_moves.specs.Rules.{Register, heal_area}
+use Rattle.afr_model_moves.specs.Past.{Log, is_gone}
+use Rattle.afr_model_moves.proofs.Tests.{with_more, with_self, with_cases, without_in, next_not_opening}
 
 -- the last part of a heal, which settles
 abbrev pub is_last : Kind → HealPart → Bool

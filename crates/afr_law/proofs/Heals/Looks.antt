@@ -17,11 +17,11 @@ use Rattle.afr_lines.specs.declared.answer.Told.{Told}
 use Rattle.afr_lines.specs.declared.answer.Told.TheVariants.{Seen, Done, NotConnected}
 use Rattle.afr_lines.specs.declared.line.Line.{Line}
 use Rattle.afr_lines.specs.declared.line.Line.TheVariants.{Ask}
-use Rattle.afr_moves.specs.Cells.{Cell, covers}
-use Rattle.afr_moves.specs.Past.{Beginning, Log, born, held, ends, last, holds, touch, stamp, settled, mends, joined, opening, repaired}
-use Rattle.afr_moves.specs.Honest.{HonestAsk, Honest, finds, Tells, Answers}
-use Rattle.afr_moves.specs.Rules.{Register, fresh, CoversAll, MayMend, MaySettle, repair_kind, heal_area, dropping, Lawful, present}
-use Rattle.afr_moves.specs.Cells.{fits, is_cell, object_of, kind_of, Byte, Attr, Entry}
+use Rattle.afr_model_moves.specs.Cells.{Cell, covers}
+use Rattle.afr_model_moves.specs.Past.{Beginning, Log, born, held, ends, last, holds, touch, stamp, settled, mends, joined, opening, repaired}
+use Rattle.afr_model_moves.specs.Honest.{HonestAsk, Honest, finds, Tells, Answers}
+use Rattle.afr_model_moves.specs.Rules.{Register, fresh, CoversAll, MayMend, MaySettle, repair_kind, heal_area, dropping, Lawful, present}
+use Rattle.afr_model_moves.specs.Cells.{fits, is_cell, object_of, kind_of, Byte, Attr, Entry}
 use Rattle.afr_object.specs.declared.change.Repair.TheVariants.{CutTo, Copy, PutAttrs, PutNames}
 use Rattle.std.specs.Prelude.{nat_le, nat_lt}
 use Rattle.afr_law.proofs.Safety.Locks.{Grant}
@@ -30,9 +30,9 @@ use Rattle.afr_law.proofs.Safety.Numbers.{last_asked}
 use Rattle.afr_law.proofs.Safety.Acts.{Act, act_later, acts_apart, Working, working, acting, may_ask, mend_covers, all_covers, apply_acts}
 use Rattle.afr_law.proofs.Safety.Rising.{rises_once}
 use Rattle.afr_law.proofs.Safety.Touches.{Touched, touched, Not, Made, Mended, stamp_next, stamp_start}
-use Rattle.afr_moves.specs.Lines.{ask_by, look_at, pre_on, settle_on}
+use Rattle.afr_model_moves.specs.Lines.{ask_by, look_at, pre_on, settle_on}
 use Rattle.std.proofs.lemmas.Bool.{cases_lt, eqb-true}
-use Rattle.afr_moves.proofs.Tests.{same_self, first_equal, same_kind_yes, positive, four_parts}
+use Rattle.afr_model_moves.proofs.Tests.{same_self, first_equal, same_kind_yes, positive, four_parts}
 use Rattle.afr_base.specs.Bricks.{and_left}
 
 -- a Settle line that a brick with the object carried out

@@ -8,18 +8,18 @@ use Rattle.afr_lines.specs.declared.lock.Domain.TheVariants.{Heal}
 use Rattle.afr_lines.specs.declared.request.Request.{Request}
 use Rattle.afr_lines.specs.declared.answer.Told.{Told}
 use Rattle.afr_lines.specs.declared.answer.Told.TheVariants.{Done}
-use Rattle.afr_moves.specs.Past.{Beginning, Log, joined, opening, is_of, brick_of}
-use Rattle.afr_moves.specs.Honest.{HonestLine, Honest, asked}
-use Rattle.afr_moves.specs.Rules.{Register, fresh, MaySettle, heal_area, in_force, register, Lawful, opened, present}
-use Rattle.afr_moves.specs.Cells.{Byte}
+use Rattle.afr_model_moves.specs.Past.{Beginning, Log, joined, opening, is_of, brick_of}
+use Rattle.afr_model_moves.specs.Honest.{HonestLine, Honest, asked}
+use Rattle.afr_model_moves.specs.Rules.{Register, fresh, MaySettle, heal_area, in_force, register, Lawful, opened, present}
+use Rattle.afr_model_moves.specs.Cells.{Byte}
 use Rattle.afr_law.proofs.Safety.Locks.{excluded}
 use Rattle.afr_law.proofs.Safety.Standing.{HeldAt, Standing, standing_fresh}
 use Rattle.afr_law.proofs.Safety.Registers.{standing, goes_back, joined_back}
 use Rattle.afr_law.proofs.Safety.Numbers.{Numbered, numbered, numbered_fresh}
 use Rattle.afr_law.proofs.Safety.Acts.{may_ask}
-use Rattle.afr_moves.specs.Lines.{ask_by, settle_on}
+use Rattle.afr_model_moves.specs.Lines.{ask_by, settle_on}
 use Rattle.afr_law.proofs.Heals.Looks.{SettleLine, Viewing, viewing_fresh, Quiet, heal_overlap, settle_told, lost_ends, settle_works}
-use Rattle.afr_moves.proofs.Tests.{same_self}
+use Rattle.afr_model_moves.proofs.Tests.{same_self}
 
 pub no_start : (r : Register) → r ≡ fresh → r.start ≡ 0
 no_start r e = ap (λ (q : Register). q.start) e

@@ -1,23 +1,23 @@
 -- What a heal has mended: each copy that it changes gets the same, part by part.
 use Rattle.afr_base.specs.declared.ids.Kind.{Kind}
 use Rattle.afr_base.specs.declared.ids.Kind.TheVariants.{Attrs, Bytes, Names}
-use Rattle.afr_moves.specs.Register.{Exact, Finish, HealPart, Mends, Opening, Piece, Step, is_opening, len_of, rank, span}
-use Rattle.afr_moves.specs.Steps.{may_mend, mends_at, same_read, same_reads}
+use Rattle.afr_model_moves.specs.Register.{Exact, Finish, HealPart, Mends, Opening, Piece, Step, is_opening, len_of, rank, span}
+use Rattle.afr_model_moves.specs.Steps.{may_mend, mends_at, same_read, same_reads}
 use Rattle.afr_law.proofs.Heals.Raises.{raise_set}
 use Rattle.afr_law.proofs.Heals.Conditions.{onward_kind, onward_object}
-use Rattle.afr_moves.specs.Lines.{cut_to}
-use Rattle.afr_moves.specs.Past.{mends, place}
-use Rattle.afr_moves.specs.Tally.{Tally}
+use Rattle.afr_model_moves.specs.Lines.{cut_to}
+use Rattle.afr_model_moves.specs.Past.{mends, place}
+use Rattle.afr_model_moves.specs.Tally.{Tally}
 use Rattle.afr_object.specs.declared.change.Repair.{Repair}
 use Rattle.afr_object.specs.declared.change.Repair.TheVariants.{Copy, CutTo, PutAttrs, PutNames}
 use Rattle.afr_object.specs.declared.entry.View.{View}
 use Rattle.std.proofs.Common.{Bool, [], ap, arith, false, inl, inr, length, not, refl, suc, sym, true, true≢false, ℕ, ◌<◌, ◌∙◌, ◌∷◌, ◌≡◌, ◌≤◌, ◌⊎◌}
 use Rattle.std.specs.Prelude.{None, Option, Some}
-use Rattle.afr_moves.specs.Rules.{Register}
+use Rattle.afr_model_moves.specs.Rules.{Register}
 use Rattle.std.specs.Prelude.{List as Seq}
-use Rattle.afr_moves.specs.Cells.{Attr, Byte, Cell, Entry, is_cell, kind_of, object_of}
+use Rattle.afr_model_moves.specs.Cells.{Attr, Byte, Cell, Entry, is_cell, kind_of, object_of}
 use Rattle.std.proofs.lemmas.Bool.{eqb-true}
-use Rattle.afr_moves.proofs.Tests.{same_kind_yes}
+use Rattle.afr_model_moves.proofs.Tests.{same_kind_yes}
 use Rattle.afr_base.specs.Bricks.{and_left, and_right}
 
 -- the array of reads has one place a brick

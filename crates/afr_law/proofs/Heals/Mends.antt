@@ -1,14 +1,14 @@
 -- Each line of a heal keeps what its register says of what was mended.
 use Rattle.afr_base.specs.declared.ids.Kind.{Kind}
 use Rattle.afr_base.specs.declared.ids.Kind.TheVariants.{Attrs, Bytes, Names}
-use Rattle.afr_moves.specs.Note.{left_in_heal}
-use Rattle.afr_moves.specs.Register.{Applies, Exact, Finish, HealLocks, HealPart, HealPres, HealUnlocks, Looks, Mends, Open, Opening, Piece, Posts, Pres, Reads, Settles, Step, Unlocks, Untouched, WorkLocks, asked_in, len_of, rank, span}
-use Rattle.afr_moves.specs.Steps.{may_heal, mends_at, mends_over}
+use Rattle.afr_model_moves.specs.Note.{left_in_heal}
+use Rattle.afr_model_moves.specs.Register.{Applies, Exact, Finish, HealLocks, HealPart, HealPres, HealUnlocks, Looks, Mends, Open, Opening, Piece, Posts, Pres, Reads, Settles, Step, Unlocks, Untouched, WorkLocks, asked_in, len_of, rank, span}
+use Rattle.afr_model_moves.specs.Steps.{may_heal, mends_at, mends_over}
 use Rattle.afr_law.proofs.Heals.Areas.{AreasIn, opening_or}
 use Rattle.afr_law.proofs.Heals.Raises.{raise_set}
 use Rattle.afr_law.proofs.Heals.Conditions.{asked_is, mends_passed, over_at, passed_over}
-use Rattle.afr_moves.specs.Sets.{with}
-use Rattle.afr_moves.specs.Tally.{Tally, give}
+use Rattle.afr_model_moves.specs.Sets.{with}
+use Rattle.afr_model_moves.specs.Tally.{Tally, give}
 use Rattle.afr_lines.specs.declared.answer.Told.{Told}
 use Rattle.afr_lines.specs.declared.request.Request.{Request}
 use Rattle.afr_lines.specs.declared.request.Request.TheVariants.{Mend, Pre}
@@ -18,10 +18,10 @@ use Rattle.afr_object.specs.declared.entry.View.{View}
 use Rattle.std.proofs.Common.{Bool, ap, arith, false, inl, inr, refl, subst, sym, true, true≢false, ℕ, ◌&&◌, ◌+◌, ◌<◌, ◌∙◌, ◌≡◌, ◌≤◌, ◌⊎◌}
 use Rattle.std.proofs.lemmas.Bool.Decides.{nat_tests}
 use Rattle.std.specs.Prelude.{None, Option, Some, nat_le, nat_lt, ◌==◌, ◌^◌}
-use Rattle.afr_moves.specs.Past.{is_gone, last, mends}
-use Rattle.afr_moves.specs.Rules as weak
-use Rattle.afr_moves.specs.Rules.{Register, heal_area}
-use Rattle.afr_moves.specs.Cells.{Attr, Byte, Cell, Entry, is_cell, kind_of, object_of}
+use Rattle.afr_model_moves.specs.Past.{is_gone, last, mends}
+use Rattle.afr_model_moves.specs.Rules as weak
+use Rattle.afr_model_moves.specs.Rules.{Register, heal_area}
+use Rattle.afr_model_moves.specs.Cells.{Attr, Byte, Cell, Entry, is_cell, kind_of, object_of}
 use Rattle.afr_law.proofs.Heals.Mended.{Mended, Brought, Fits, MendedIn, mends_set, unmended_yet}
 use Rattle.std.proofs.lemmas.Bool.{eq-eqb}
 

@@ -1,20 +1,20 @@
 -- A Mend brings each copy the same, and so along all lines of a heal.
 use Rattle.afr_base.specs.declared.ids.Kind.{Kind}
 use Rattle.afr_base.specs.declared.ids.Kind.TheVariants.{Bytes}
-use Rattle.afr_moves.specs.Note.{fails}
-use Rattle.afr_moves.specs.Register.{Exact, Finish, Mends, asked_in, len_of, rank}
-use Rattle.afr_moves.specs.Steps.{may_heal}
+use Rattle.afr_model_moves.specs.Note.{fails}
+use Rattle.afr_model_moves.specs.Register.{Exact, Finish, Mends, asked_in, len_of, rank}
+use Rattle.afr_model_moves.specs.Steps.{may_heal}
 use Rattle.afr_law.proofs.Heals.Areas.{AreasIn}
 use Rattle.afr_law.proofs.Heals.Mends.{MendedAfter, bool_or, mends_is}
 use Rattle.afr_law.proofs.Heals.Raises.{raise_set}
 use Rattle.afr_law.proofs.Heals.Conditions.{asked_is, mend_test, mend_turn}
 use Rattle.afr_law.proofs.Discipline.Inner.{turn_in, turn_low}
-use Rattle.afr_moves.specs.Rules.{fresh}
-use Rattle.afr_moves.specs.Lines.{ask_by}
-use Rattle.afr_moves.specs.Sets.{with}
+use Rattle.afr_model_moves.specs.Rules.{fresh}
+use Rattle.afr_model_moves.specs.Lines.{ask_by}
+use Rattle.afr_model_moves.specs.Sets.{with}
 use Rattle.afr_law.proofs.Discipline.Stages.{mend_far}
 use Rattle.afr_law.proofs.Discipline.StagesAlong.{StageOf}
-use Rattle.afr_moves.specs.Tally.{Tally, give}
+use Rattle.afr_model_moves.specs.Tally.{Tally, give}
 use Rattle.afr_lines.specs.declared.answer.Told.{Told}
 use Rattle.afr_lines.specs.declared.answer.Told.TheVariants.{Done, Failed, NotConnected}
 use Rattle.afr_lines.specs.declared.request.Request.{Request}
@@ -22,14 +22,14 @@ use Rattle.afr_lines.specs.declared.request.Request.TheVariants.{Mend}
 use Rattle.afr_object.specs.declared.change.Repair.{Repair}
 use Rattle.std.proofs.Common.{Bool, ap, arith, false, inl, inr, refl, subst, sym, true, true≢false, ℕ, ◌&&◌, ◌<◌, ◌∙◌, ◌≡◌, ◌≤◌, ◌⊎◌}
 use Rattle.std.specs.Prelude.{Some, if◌then◌else◌, ◌==◌}
-use Rattle.afr_moves.specs.Past.{Log, mends}
-use Rattle.afr_moves.specs.Rules as weak
-use Rattle.afr_moves.specs.Rules.{Register, heal_area}
-use Rattle.afr_moves.specs.Cells.{Cell, Byte, Attr, Entry}
+use Rattle.afr_model_moves.specs.Past.{Log, mends}
+use Rattle.afr_model_moves.specs.Rules as weak
+use Rattle.afr_model_moves.specs.Rules.{Register, heal_area}
+use Rattle.afr_model_moves.specs.Cells.{Cell, Byte, Attr, Entry}
 use Rattle.afr_law.proofs.Heals.Mended.{Mended, Pending, Brought, Fits, MendedIn, IsWide, fits_one, mend_fits, mends_finish}
 use Rattle.std.proofs.lemmas.Bool.{eq-eqb}
 use Rattle.afr_base.specs.Bricks.{and_left, and_right}
-use Rattle.afr_moves.proofs.Tests.{with_cases}
+use Rattle.afr_model_moves.proofs.Tests.{with_cases}
 
 -- each PutNames of the log has one place a brick
 abbrev pub Wide : Log → Type 0

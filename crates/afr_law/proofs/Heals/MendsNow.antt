@@ -3,11 +3,11 @@ use Rattle.afr_base.specs.declared.ids.Kind.{Kind}
 use Rattle.afr_base.specs.declared.ids.Kind.TheVariants.{Attrs, Bytes, Names}
 use Rattle.afr_base.specs.declared.marks.Marks.{Marks}
 use Rattle.afr_law.proofs.Discipline.AskFields.{WorkLocked, frees_heal, frees_work, sees, work_locked}
-use Rattle.afr_moves.specs.Discipline.{MovesExactly, note, present}
-use Rattle.afr_moves.specs.Heal.{MayHealBegin}
-use Rattle.afr_moves.specs.Note.{breaks, fails, left_in_heal, next_part, put, view_of}
-use Rattle.afr_moves.specs.Register.{Exact, Finish, HealLocks, HealPart, HealPres, HealUnlocks, Looks, Opening, Piece, Reads, Settles, Step, Unlocks, WorkLocks, asked_in, everywhere, is_piece, len_of, no_reads, piece_area, rank, span, whole_area}
-use Rattle.afr_moves.specs.Steps.{may_heal, mends_over, settles_at}
+use Rattle.afr_model_moves.specs.Discipline.{MovesExactly, note, present}
+use Rattle.afr_model_moves.specs.Heal.{MayHealBegin}
+use Rattle.afr_model_moves.specs.Note.{breaks, fails, left_in_heal, next_part, put, view_of}
+use Rattle.afr_model_moves.specs.Register.{Exact, Finish, HealLocks, HealPart, HealPres, HealUnlocks, Looks, Opening, Piece, Reads, Settles, Step, Unlocks, WorkLocks, asked_in, everywhere, is_piece, len_of, no_reads, piece_area, rank, span, whole_area}
+use Rattle.afr_model_moves.specs.Steps.{may_heal, mends_over, settles_at}
 use Rattle.afr_law.proofs.Discipline.Firsts.{firsts_now}
 use Rattle.afr_law.proofs.Heals.Along.{healed_by, healing_now, opened_by}
 use Rattle.afr_law.proofs.Heals.Areas.{AreasIn, areas_now, opening_or, piece_apart}
@@ -17,14 +17,14 @@ use Rattle.afr_law.proofs.Heals.Raises.{pres_opening, raise_set}
 use Rattle.afr_law.proofs.Heals.Sights.{not_opening}
 use Rattle.afr_law.proofs.Heals.Conditions.{Resumes, Starts, Waits, WorkPlace, attrs_onward, attrs_turn, bytes_onward, bytes_turn, heal_lock_step, heal_unlock_over, list_onward, list_turn, look_step, mend_test, pre_onward, pre_turn, settle_mends, settle_onward, settle_turn, settles_mends, unlock_over, work_place}
 use Rattle.afr_law.proofs.Discipline.Inner.{turn_in, turn_low}
-use Rattle.afr_moves.specs.Rules.{fresh, no_views}
-use Rattle.afr_moves.specs.Lines.{ask_by, heal_begin_by, look_at, pre_on, settle_on}
+use Rattle.afr_model_moves.specs.Rules.{fresh, no_views}
+use Rattle.afr_model_moves.specs.Lines.{ask_by, heal_begin_by, look_at, pre_on, settle_on}
 use Rattle.afr_law.proofs.Discipline.Projection.{tally_at}
-use Rattle.afr_moves.specs.Sets.{empty, with}
+use Rattle.afr_model_moves.specs.Sets.{empty, with}
 use Rattle.afr_law.proofs.Discipline.Stages.{mend_far, onward_far, settles_far}
 use Rattle.afr_law.proofs.Discipline.StagesAlong.{StageOf, stage_now}
-use Rattle.afr_moves.proofs.AreaLemmas.{same_area_is}
-use Rattle.afr_moves.specs.Tally.{Tally, blank, note_tally}
+use Rattle.afr_model_moves.proofs.AreaLemmas.{same_area_is}
+use Rattle.afr_model_moves.specs.Tally.{Tally, blank, note_tally}
 use Rattle.afr_law.proofs.Discipline.Untouched.{newest_now}
 use Rattle.afr_lines.specs.declared.answer.Told.{Told}
 use Rattle.afr_lines.specs.declared.answer.Told.TheVariants.{Done, Failed, NotConnected, Seen}
@@ -38,13 +38,13 @@ use Rattle.afr_lines.specs.declared.lock.Domain.TheVariants.{Heal, Work}
 use Rattle.std.proofs.Common.{Bool, ap, arith, false, inl, inr, refl, subst, suc, sym, true, true≢false, ℕ, ◌&&◌, ◌+◌, ◌<◌, ◌∙◌, ◌≡◌, ◌≤◌, ◌⊎◌}
 use Rattle.std.proofs.lemmas.Bool.Decides.{nat_tests}
 use Rattle.std.specs.Prelude.{None, Option, Some, if◌then◌else◌, nat_lt}
-use Rattle.afr_moves.specs.Past.{Log, is_gone, last}
-use Rattle.afr_moves.specs.Rules as weak
-use Rattle.afr_moves.specs.Rules.{Register, heal_area}
-use Rattle.afr_moves.specs.Cells.{Attr, Byte, Cell, Entry}
+use Rattle.afr_model_moves.specs.Past.{Log, is_gone, last}
+use Rattle.afr_model_moves.specs.Rules as weak
+use Rattle.afr_model_moves.specs.Rules.{Register, heal_area}
+use Rattle.afr_model_moves.specs.Cells.{Attr, Byte, Cell, Entry}
 use Rattle.afr_law.proofs.Heals.Mended.{Mended, Brought, MendedIn, IsWide, unmended_yet}
 use Rattle.afr_law.proofs.Heals.MendsAlong.{Wide, MendAfter, mend_told}
-use Rattle.afr_moves.proofs.Tests.{same_kind_yes, next_not_opening}
+use Rattle.afr_model_moves.proofs.Tests.{same_kind_yes, next_not_opening}
 use Rattle.afr_base.specs.Bricks.{and_left, and_right}
 use Rattle.std.proofs.lemmas.Bool.{ltb-false}
 

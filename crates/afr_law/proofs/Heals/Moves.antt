@@ -2,9 +2,9 @@
 use Rattle.afr_base.specs.Majority.{is_most}
 use Rattle.afr_base.specs.declared.ids.Kind.{Kind}
 use Rattle.afr_base.specs.declared.ids.Kind.TheVariants.{Attrs, Bytes, Names}
-use Rattle.afr_moves.specs.Discipline.{MovesExactly, present}
-use Rattle.afr_moves.specs.Register.{Exact, Finish, HealPart, Opening, Piece, accuses, good, holder, rank, unaccused, whole_area}
-use Rattle.afr_moves.specs.Steps.{other, same_reads}
+use Rattle.afr_model_moves.specs.Discipline.{MovesExactly, present}
+use Rattle.afr_model_moves.specs.Register.{Exact, Finish, HealPart, Opening, Piece, accuses, good, holder, rank, unaccused, whole_area}
+use Rattle.afr_model_moves.specs.Steps.{other, same_reads}
 use Rattle.afr_law.proofs.Heals.Answers.{Honestly}
 use Rattle.afr_law.proofs.Heals.Areas.{opening_or, part_area}
 use Rattle.afr_law.proofs.Heals.Mends.{bool_or}
@@ -12,11 +12,11 @@ use Rattle.afr_law.proofs.Heals.Raises.{RaisesIn, raise_set, raises_now}
 use Rattle.afr_law.proofs.Heals.Reads.{readings_now}
 use Rattle.afr_law.proofs.Heals.Sights.{sights_now}
 use Rattle.afr_law.proofs.Heals.Views.{SightsIn}
-use Rattle.afr_moves.specs.Honest.{view_marks}
-use Rattle.afr_moves.specs.Lines.{ask_by}
-use Rattle.afr_moves.specs.Past.{Log, holds}
+use Rattle.afr_model_moves.specs.Honest.{view_marks}
+use Rattle.afr_model_moves.specs.Lines.{ask_by}
+use Rattle.afr_model_moves.specs.Past.{Log, holds}
 use Rattle.afr_law.proofs.Discipline.Projection.{goes_tally, tally_at}
-use Rattle.afr_moves.specs.Tally.{Tally, tally}
+use Rattle.afr_model_moves.specs.Tally.{Tally, tally}
 use Rattle.afr_law.proofs.Discipline.Transactions.{held_view}
 use Rattle.afr_lines.specs.declared.answer.Told.TheVariants.{Given}
 use Rattle.afr_object.specs.declared.change.Repair.{Repair}
@@ -25,13 +25,13 @@ use Rattle.afr_object.specs.declared.entry.View.{View}
 use Rattle.std.proofs.Common.{Bool, [], ap, arith, false, inl, inr, not, refl, subst, suc, sym, true, ℕ, ◌<◌, ◌∙◌, ◌∷◌, ◌≡◌, ◌≤◌, ◌⊎◌}
 use Rattle.std.proofs.lemmas.Bool.Decides.{nat_tests}
 use Rattle.std.specs.Prelude.{None, Option, Some, nat_lt, slice_index, ◌==◌, ◌^◌}
-use Rattle.afr_moves.specs.Rules as weak
-use Rattle.afr_moves.specs.Rules.{CoversAll, Register}
+use Rattle.afr_model_moves.specs.Rules as weak
+use Rattle.afr_model_moves.specs.Rules.{CoversAll, Register}
 use Rattle.std.specs.Prelude.{List as Seq}
-use Rattle.afr_moves.specs.Cells.{Attr, Byte, Entry, covers}
+use Rattle.afr_model_moves.specs.Cells.{Attr, Byte, Entry, covers}
 use Rattle.afr_law.proofs.Heals.MendsAlong.{Wide}
 use Rattle.afr_law.proofs.Heals.Mended.{Fits, read_is}
-use Rattle.afr_moves.proofs.Tests.{all_yes, most_yes}
+use Rattle.afr_model_moves.proofs.Tests.{all_yes, most_yes}
 use Rattle.afr_base.specs.Bricks.{and_left, and_right}
 
 -- the whole of a kind covers each of its cells

@@ -2,9 +2,9 @@
 use Rattle.afr_base.specs.declared.ids.ActorId.{ActorId}
 use Rattle.afr_base.specs.declared.ids.Gfid.{Gfid}
 use Rattle.afr_base.specs.declared.ids.Kind.{Kind}
-use Rattle.afr_moves.specs.Discipline.{MayExactly, MovesExactly, exact, exact_after, in_force, note, present}
-use Rattle.afr_moves.specs.Register.{Exact, Untouched}
-use Rattle.afr_moves.specs.Lines.{ask_by}
+use Rattle.afr_model_moves.specs.Discipline.{MayExactly, MovesExactly, exact, exact_after, in_force, note, present}
+use Rattle.afr_model_moves.specs.Register.{Exact, Untouched}
+use Rattle.afr_model_moves.specs.Lines.{ask_by}
 use Rattle.afr_law.proofs.Discipline.Projection.{same_actor}
 use Rattle.afr_law.proofs.Discipline.Untouched.{moved}
 use Rattle.afr_lines.specs.declared.answer.Told.{Told}
@@ -18,8 +18,8 @@ use Rattle.afr_lines.specs.Places.{Between, Fresh, Indexed, Place, Within, next_
 use Rattle.afr_lines.specs.declared.lock.Domain.TheVariants.{Heal}
 use Rattle.std.proofs.Common.{Bool, ap, false, refl, subst, suc, sym, true, true≢false, zero, ℕ, ◌≡◌}
 use Rattle.std.specs.Prelude.{None, Option, Some}
-use Rattle.afr_moves.specs.Rules as weak
-use Rattle.afr_moves.specs.Past.{Log, is_of, opens, place, place_after}
+use Rattle.afr_model_moves.specs.Rules as weak
+use Rattle.afr_model_moves.specs.Past.{Log, is_of, opens, place, place_after}
 
 pub ended : (p : Place) (x : ActorId) (reply : Reply) → next_place p (End x reply) ≡ Within → ⊥
 ended Fresh x reply e = cc e

@@ -12,15 +12,15 @@ use Rattle.afr_lines.specs.declared.request.Request.TheVariants.{Apply, Index, L
 use Rattle.afr_lines.specs.Overlap.{same_area}
 use Rattle.afr_object.specs.declared.entry.View.{View}
 use Rattle.afr_lines.specs.declared.lock.Domain.TheVariants.{Heal, Work}
-use Rattle.afr_moves.specs.Discipline.{MovesExactly, present}
-use Rattle.afr_moves.specs.Note.{left_in_heal, next_part, put, view_of}
-use Rattle.afr_moves.specs.Register.{Exact, Finish, HealPart, HealPres, Mends, Piece, Reads, Settles, Step, Unlocks, is_opening, len_of, piece_area, rank, span, whole_area}
-use Rattle.afr_moves.specs.Steps.{may_heal}
+use Rattle.afr_model_moves.specs.Discipline.{MovesExactly, present}
+use Rattle.afr_model_moves.specs.Note.{left_in_heal, next_part, put, view_of}
+use Rattle.afr_model_moves.specs.Register.{Exact, Finish, HealPart, HealPres, Mends, Piece, Reads, Settles, Step, Unlocks, is_opening, len_of, piece_area, rank, span, whole_area}
+use Rattle.afr_model_moves.specs.Steps.{may_heal}
 use Rattle.afr_law.proofs.Heals.Along.{healing_now}
 use Rattle.afr_law.proofs.Heals.Conditions.{Resumes, Starts, Waits, WorkPlace, attrs_turn, bytes_turn, heal_lock_step, list_turn, look_step, mend_turn, pre_turn, settle_turn, work_place}
 use Rattle.afr_law.proofs.Discipline.Inner.{turn_low}
-use Rattle.afr_moves.specs.Lines.{ask_by, look_at}
-use Rattle.afr_moves.specs.Past.{Log}
+use Rattle.afr_model_moves.specs.Lines.{ask_by, look_at}
+use Rattle.afr_model_moves.specs.Past.{Log}
 use Rattle.std.proofs.lemmas.Bool.{ltb-true}
 
 -- no view shows more than the longest file, pieces begin at multiples of their length, and the present one fits

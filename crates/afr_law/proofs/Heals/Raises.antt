@@ -2,11 +2,11 @@
 use Rattle.afr_base.specs.declared.ids.Kind.{Kind}
 use Rattle.afr_base.specs.declared.ids.Kind.TheVariants.{Attrs, Bytes, Names}
 use Rattle.afr_law.proofs.Discipline.AskFields.{WorkLocked, frees_heal, frees_work, heal_locked, sees, work_locked}
-use Rattle.afr_moves.specs.Discipline.{MovesExactly, note, present}
-use Rattle.afr_moves.specs.Heal.{MayHeal, MayHealBegin}
-use Rattle.afr_moves.specs.Note.{breaks, fails, left_in_heal, next_part, put, view_of}
-use Rattle.afr_moves.specs.Register.{Applies, Exact, Finish, HealLocks, HealPart, HealPres, HealUnlocks, Looks, Mends, Open, Opening, Piece, Posts, Pres, Reads, Settles, Step, Unlocks, Untouched, WorkLocks, asked_in, holder, over, rank, untouched, whole_area}
-use Rattle.afr_moves.specs.Steps.{may_heal, other, pres_at, pres_over, raised}
+use Rattle.afr_model_moves.specs.Discipline.{MovesExactly, note, present}
+use Rattle.afr_model_moves.specs.Heal.{MayHeal, MayHealBegin}
+use Rattle.afr_model_moves.specs.Note.{breaks, fails, left_in_heal, next_part, put, view_of}
+use Rattle.afr_model_moves.specs.Register.{Applies, Exact, Finish, HealLocks, HealPart, HealPres, HealUnlocks, Looks, Mends, Open, Opening, Piece, Posts, Pres, Reads, Settles, Step, Unlocks, Untouched, WorkLocks, asked_in, holder, over, rank, untouched, whole_area}
+use Rattle.afr_model_moves.specs.Steps.{may_heal, other, pres_at, pres_over, raised}
 use Rattle.afr_law.proofs.Heals.Along.{healed_by, healing_now, opened_by}
 use Rattle.afr_law.proofs.Heals.Answers.{Honestly}
 use Rattle.afr_law.proofs.Heals.Areas.{AreasIn, areas_now, opening_or}
@@ -15,12 +15,12 @@ use Rattle.afr_law.proofs.Heals.Sights.{not_opening, sights_now}
 use Rattle.afr_law.proofs.Heals.Conditions.{Resumes, Starts, Waits, WorkPlace, asked_is, asked_now, attrs_turn, bytes_turn, heal_lock_step, heal_unlock_over, list_turn, look_step, mend_pres, mends_pres, onward_object, over_at, passed_over, pre_onward, pre_turn, pres_passed, settle_mends, settles_mends, unlock_over, work_place}
 use Rattle.afr_law.proofs.Heals.Views.{SightsIn}
 use Rattle.afr_law.proofs.Discipline.Inner.{turn_in, turn_low}
-use Rattle.afr_moves.specs.Rules.{fresh}
-use Rattle.afr_moves.specs.Lines.{ask_by, heal_begin_by, look_at, pre_on}
+use Rattle.afr_model_moves.specs.Rules.{fresh}
+use Rattle.afr_model_moves.specs.Lines.{ask_by, heal_begin_by, look_at, pre_on}
 use Rattle.afr_law.proofs.Discipline.Projection.{tally_at}
-use Rattle.afr_moves.specs.Sets.{with}
+use Rattle.afr_model_moves.specs.Sets.{with}
 use Rattle.afr_law.proofs.Discipline.StagesAlong.{StageOf, stage_now}
-use Rattle.afr_moves.specs.Tally.{Tally, blank, note_tally}
+use Rattle.afr_model_moves.specs.Tally.{Tally, blank, note_tally}
 use Rattle.afr_law.proofs.Discipline.Transactions.{held_view}
 use Rattle.afr_lines.specs.declared.answer.Told.{Told}
 use Rattle.afr_lines.specs.declared.answer.Told.TheVariants.{Done, Failed, NotConnected, Seen}
@@ -33,12 +33,12 @@ use Rattle.afr_lines.specs.declared.lock.Domain.TheVariants.{Heal, Work}
 use Rattle.std.proofs.Common.{Bool, ap, arith, false, inl, inr, not, refl, subst, sym, true, true≢false, ℕ, ◌&&◌, ◌<◌, ◌∙◌, ◌≡◌, ◌≤◌, ◌⊎◌}
 use Rattle.std.proofs.lemmas.Bool.Decides.{nat_tests}
 use Rattle.std.specs.Prelude.{Option, Some, if◌then◌else◌, nat_le, ◌==◌}
-use Rattle.afr_moves.specs.Past.{Log, is_gone, last}
-use Rattle.afr_moves.specs.Rules as weak
-use Rattle.afr_moves.specs.Rules.{Register, heal_area}
+use Rattle.afr_model_moves.specs.Past.{Log, is_gone, last}
+use Rattle.afr_model_moves.specs.Rules as weak
+use Rattle.afr_model_moves.specs.Rules.{Register, heal_area}
 use Rattle.std.proofs.lemmas.Bool.{eqb-true}
 use Rattle.afr_base.specs.Bricks.{and_left, and_right}
-use Rattle.afr_moves.proofs.Tests.{with_more, with_self, with_cases, next_not_opening}
+use Rattle.afr_model_moves.proofs.Tests.{with_more, with_self, with_cases, next_not_opening}
 
 -- the bricks that a heal from s changes
 abbrev pub raise_set : (ℕ → Kind → Bool) → (ℕ → Option View) → ℕ → Kind → ℕ → Bool

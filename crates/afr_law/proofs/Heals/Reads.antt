@@ -2,17 +2,17 @@
 use Rattle.afr_base.specs.declared.ids.Kind.{Kind}
 use Rattle.afr_base.specs.declared.ids.Kind.TheVariants.{Attrs, Bytes, Names}
 use Rattle.afr_law.proofs.Discipline.AskFields.{frees_heal, frees_work}
-use Rattle.afr_moves.specs.Discipline.{MovesExactly, present}
-use Rattle.afr_moves.specs.Note.{breaks, fails, left_in_heal, put}
-use Rattle.afr_moves.specs.Register.{Exact, HealPart, HealPres, HealUnlocks, Mends, Reads, Settles, Step, Unlocks, good, rank}
-use Rattle.afr_moves.specs.Steps.{may_heal, reads_at}
+use Rattle.afr_model_moves.specs.Discipline.{MovesExactly, present}
+use Rattle.afr_model_moves.specs.Note.{breaks, fails, left_in_heal, put}
+use Rattle.afr_model_moves.specs.Register.{Exact, HealPart, HealPres, HealUnlocks, Mends, Reads, Settles, Step, Unlocks, good, rank}
+use Rattle.afr_model_moves.specs.Steps.{may_heal, reads_at}
 use Rattle.afr_law.proofs.Heals.Along.{healing_now}
 use Rattle.afr_law.proofs.Heals.Holds.{fails_gone, kept_law}
 use Rattle.afr_law.proofs.Heals.Conditions.{attrs_onward, attrs_turn, bytes_onward, bytes_turn, heal_unlock_over, list_onward, list_turn, look_step, mend_test, pre_onward, settle_onward, unlock_over}
 use Rattle.afr_law.proofs.Discipline.Inner.{turn_in}
-use Rattle.afr_moves.specs.Lines.{ask_by}
-use Rattle.afr_moves.specs.Past.{Log, is_gone}
-use Rattle.afr_moves.specs.Sets.{with}
+use Rattle.afr_model_moves.specs.Lines.{ask_by}
+use Rattle.afr_model_moves.specs.Past.{Log, is_gone}
+use Rattle.afr_model_moves.specs.Sets.{with}
 use Rattle.afr_law.proofs.Discipline.Stages.{mend_far, onward_far, settles_far}
 use Rattle.afr_law.proofs.Discipline.Untouched.{newest_now}
 use Rattle.afr_lines.specs.declared.answer.Told.{Told}
@@ -23,10 +23,10 @@ use Rattle.afr_object.specs.declared.entry.View.{View}
 use Rattle.afr_lines.specs.declared.lock.Domain.TheVariants.{Heal, Work}
 use Rattle.std.proofs.Common.{Bool, arith, false, inl, inr, refl, subst, suc, sym, true, true≢false, ℕ, ◌<◌, ◌≡◌, ◌≤◌}
 use Rattle.std.specs.Prelude.{None, Option, Some}
-use Rattle.afr_moves.specs.Note.{given}
-use Rattle.afr_moves.specs.Rules as weak
-use Rattle.afr_moves.specs.Rules.{Register}
-use Rattle.afr_moves.proofs.Tests.{put_read}
+use Rattle.afr_model_moves.specs.Note.{given}
+use Rattle.afr_model_moves.specs.Rules as weak
+use Rattle.afr_model_moves.specs.Rules.{Register}
+use Rattle.afr_model_moves.proofs.Tests.{put_read}
 
 -- the line of a read
 pub record ReadLine (n : ℕ) (keeps : ℕ → Kind → Bool) (log : Log) (t a : ℕ) (kind : Kind) (number : ℕ) (first_views : ℕ → Option View) (x p : ℕ) : Type 0 where

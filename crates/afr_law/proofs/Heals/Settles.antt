@@ -2,10 +2,10 @@
 use Rattle.afr_base.specs.declared.ids.Kind.{Kind}
 use Rattle.afr_base.specs.declared.ids.Kind.TheVariants.{Attrs, Bytes, Names}
 use Rattle.afr_base.specs.declared.marks.Marks.{Marks}
-use Rattle.afr_moves.specs.Discipline.{MovesExactly, present}
-use Rattle.afr_moves.specs.Heal.{MayHeal}
-use Rattle.afr_moves.specs.Register.{Exact, Finish, HealPart, Opening, Piece, Settles, all, asked_in, holder, len_of, rank, whole_area}
-use Rattle.afr_moves.specs.Steps.{changed, may_heal, onward, raised, settles_at, takes, turn}
+use Rattle.afr_model_moves.specs.Discipline.{MovesExactly, present}
+use Rattle.afr_model_moves.specs.Heal.{MayHeal}
+use Rattle.afr_model_moves.specs.Register.{Exact, Finish, HealPart, Opening, Piece, Settles, all, asked_in, holder, len_of, rank, whole_area}
+use Rattle.afr_model_moves.specs.Steps.{changed, may_heal, onward, raised, settles_at, takes, turn}
 use Rattle.afr_law.proofs.Discipline.Firsts.{firsts_now}
 use Rattle.afr_law.proofs.Heals.Answers.{Honestly}
 use Rattle.afr_law.proofs.Heals.Areas.{AreasIn, areas_now, part_area}
@@ -16,29 +16,29 @@ use Rattle.afr_law.proofs.Heals.Raises.{RaisesIn, late_raises, raise_set, raises
 use Rattle.afr_law.proofs.Heals.Sights.{sights_now}
 use Rattle.afr_law.proofs.Heals.Conditions.{asked_now, mends_pres, onward_kind, onward_object, settle_mends, settle_onward, settle_takes, settle_turn, settles_is, turn_fresh}
 use Rattle.afr_law.proofs.Heals.Works.{changed_set, pending_past, source_or, takes_one}
-use Rattle.afr_moves.specs.Honest.{view_marks}
+use Rattle.afr_model_moves.specs.Honest.{view_marks}
 use Rattle.afr_law.proofs.Discipline.Inner.{turn_in, turn_low}
-use Rattle.afr_moves.specs.Lines.{ask_by, settle_on}
-use Rattle.afr_moves.specs.Past.{Log}
+use Rattle.afr_model_moves.specs.Lines.{ask_by, settle_on}
+use Rattle.afr_model_moves.specs.Past.{Log}
 use Rattle.afr_law.proofs.Discipline.Projection.{tally_at}
-use Rattle.afr_moves.specs.Sets.{empty}
+use Rattle.afr_model_moves.specs.Sets.{empty}
 use Rattle.afr_law.proofs.Discipline.Stages.{onward_far}
 use Rattle.afr_law.proofs.Discipline.StagesAlong.{stage_now}
-use Rattle.afr_moves.specs.Tally.{Tally}
+use Rattle.afr_model_moves.specs.Tally.{Tally}
 use Rattle.afr_lines.specs.declared.answer.Told.{Told}
 use Rattle.afr_lines.specs.declared.answer.Told.TheVariants.{Granted}
 use Rattle.afr_lines.specs.declared.request.Area.{Area}
 use Rattle.afr_object.specs.declared.entry.View.{View}
 use Rattle.std.proofs.Common.{Bool, ap, arith, false, inl, inr, length, refl, subst, sym, true, true≢false, ℕ, ◌&&◌, ◌+◌, ◌<◌, ◌∙◌, ◌≡◌, ◌≤◌, ◌⊎◌}
 use Rattle.std.specs.Prelude.{Option, Some, if◌then◌else◌, nat_lt, slice_index, ◌==◌}
-use Rattle.afr_moves.specs.Rules as weak
-use Rattle.afr_moves.specs.Rules.{CoversAll, Register, some_read}
-use Rattle.afr_moves.specs.Cells.{Attr, Byte, Cell, Entry, is_cell, kind_of, object_of}
+use Rattle.afr_model_moves.specs.Rules as weak
+use Rattle.afr_model_moves.specs.Rules.{CoversAll, Register, some_read}
+use Rattle.afr_model_moves.specs.Cells.{Attr, Byte, Cell, Entry, is_cell, kind_of, object_of}
 use Rattle.afr_law.proofs.Heals.MendsAlong.{Wide}
 use Rattle.afr_law.proofs.Heals.Mended.{Mended, Brought}
 use Rattle.afr_law.proofs.Heals.Moves.{tally_here, first_view, whole_covers}
 use Rattle.std.proofs.lemmas.Bool.{eqb-true, cases_lt, and_from}
-use Rattle.afr_moves.proofs.Tests.{all_yes, same_kind_yes}
+use Rattle.afr_model_moves.proofs.Tests.{all_yes, same_kind_yes}
 use Rattle.afr_base.specs.Bricks.{and_left, and_right}
 
 -- the numbers of a settling are for five bricks

@@ -3,11 +3,11 @@ use Rattle.afr_base.specs.Majority.{is_most}
 use Rattle.afr_base.specs.declared.ids.Kind.{Kind}
 use Rattle.afr_base.specs.declared.ids.Kind.TheVariants.{Attrs, Bytes, Names}
 use Rattle.afr_law.proofs.Discipline.AskFields.{WorkLocked, frees_heal, frees_work, heal_locked, work_locked}
-use Rattle.afr_moves.specs.Discipline.{MovesExactly, note, present}
-use Rattle.afr_moves.specs.Heal.{MayHealBegin}
-use Rattle.afr_moves.specs.Note.{breaks, fails, left_in_heal, next_part, put}
-use Rattle.afr_moves.specs.Register.{Exact, Finish, HealLocks, HealPart, HealPres, HealUnlocks, Looks, Mends, Opening, Piece, Reads, Settles, Step, Unlocks, WorkLocks, asked_in, holder, is_opening, rank, untouched, whole_area}
-use Rattle.afr_moves.specs.Steps.{goes_on, looks_at, looks_over, may_heal, onward}
+use Rattle.afr_model_moves.specs.Discipline.{MovesExactly, note, present}
+use Rattle.afr_model_moves.specs.Heal.{MayHealBegin}
+use Rattle.afr_model_moves.specs.Note.{breaks, fails, left_in_heal, next_part, put}
+use Rattle.afr_model_moves.specs.Register.{Exact, Finish, HealLocks, HealPart, HealPres, HealUnlocks, Looks, Mends, Opening, Piece, Reads, Settles, Step, Unlocks, WorkLocks, asked_in, holder, is_opening, rank, untouched, whole_area}
+use Rattle.afr_model_moves.specs.Steps.{goes_on, looks_at, looks_over, may_heal, onward}
 use Rattle.afr_law.proofs.Discipline.Firsts.{FirstsOf, firsts_now}
 use Rattle.afr_law.proofs.Heals.Along.{healing_now, opened_by}
 use Rattle.afr_law.proofs.Heals.Answers.{Honestly}
@@ -16,12 +16,12 @@ use Rattle.afr_law.proofs.Heals.Holds.{HoldsIn, fails_gone, holds_now, kept_law}
 use Rattle.afr_law.proofs.Heals.Conditions.{Resumes, Starts, Waits, WorkPlace, asked_now, attrs_onward, attrs_turn, bytes_onward, bytes_turn, heal_lock_area, heal_lock_step, heal_unlock_goes, heal_unlock_over, list_onward, list_turn, look_object, look_step, look_turn, looks_is, mend_goes, mend_pres, mend_test, mend_turn, mends_pres, onward_goes, onward_looks, pre_onward, pre_turn, pres_looks, settle_onward, settle_turn, settles_mends, turn_fresh, unlock_goes, unlock_over, work_place}
 use Rattle.afr_law.proofs.Heals.Views.{SeenAt, Sights, SightsIn, after_looks, here_or, later_not, later_seen, none_view, opening_not, opening_seen, put_other, seen_next}
 use Rattle.afr_law.proofs.Discipline.Inner.{Inner, turn_in, turn_low}
-use Rattle.afr_moves.specs.Rules.{fresh}
-use Rattle.afr_moves.specs.Lines.{ask_by, heal_begin_by, look_at}
-use Rattle.afr_moves.specs.Past.{Log, holds, is_gone}
-use Rattle.afr_moves.specs.Sets.{with}
+use Rattle.afr_model_moves.specs.Rules.{fresh}
+use Rattle.afr_model_moves.specs.Lines.{ask_by, heal_begin_by, look_at}
+use Rattle.afr_model_moves.specs.Past.{Log, holds, is_gone}
+use Rattle.afr_model_moves.specs.Sets.{with}
 use Rattle.afr_law.proofs.Discipline.StagesAlong.{StageOf, stage_now}
-use Rattle.afr_moves.proofs.AreaLemmas.{same_area_is}
+use Rattle.afr_model_moves.proofs.AreaLemmas.{same_area_is}
 use Rattle.afr_law.proofs.Discipline.Transactions.{held_view}
 use Rattle.afr_lines.specs.declared.answer.Told.{Told}
 use Rattle.afr_lines.specs.declared.answer.Told.TheVariants.{Done, Failed, Given, Granted, Held, NoObject, NotConnected, Seen}
@@ -33,10 +33,10 @@ use Rattle.afr_object.specs.declared.entry.View.{View}
 use Rattle.afr_lines.specs.declared.lock.Domain.TheVariants.{Heal, Work}
 use Rattle.std.proofs.Common.{Bool, ap, arith, false, inl, inr, not, refl, subst, suc, sym, true, true≢false, ℕ, ◌&&◌, ◌<◌, ◌∙◌, ◌≡◌, ◌≤◌, ◌⊎◌}
 use Rattle.std.specs.Prelude.{None, Option, Some, if◌then◌else◌, ◌==◌}
-use Rattle.afr_moves.specs.Rules as weak
-use Rattle.afr_moves.specs.Rules.{Register, heal_area, is_none}
+use Rattle.afr_model_moves.specs.Rules as weak
+use Rattle.afr_model_moves.specs.Rules.{Register, heal_area, is_none}
 use Rattle.std.proofs.lemmas.Bool.{eqb-true, eq-eqb, and_from}
-use Rattle.afr_moves.proofs.Tests.{with_false, some_number, with_cases, next_not_opening}
+use Rattle.afr_model_moves.proofs.Tests.{with_false, some_number, with_cases, next_not_opening}
 use Rattle.afr_base.specs.Bricks.{and_right}
 
 six_true : (u v w x y z : Bool) → u ≡ true → v ≡ true → w ≡ true → x ≡ true → y ≡ true → z ≡ true → (u && v && w && x && y && z) ≡ true

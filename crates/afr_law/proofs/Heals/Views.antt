@@ -2,23 +2,23 @@
 use Rattle.afr_base.specs.Majority.{is_most}
 use Rattle.afr_base.specs.declared.ids.Kind.{Kind}
 use Rattle.afr_law.proofs.Discipline.Clear.{put_cases}
-use Rattle.afr_moves.specs.Note.{put}
-use Rattle.afr_moves.specs.Register.{Exact, Finish, HealPart, Looks, Opening, Piece, Step, asked_in, holder, rank}
-use Rattle.afr_moves.specs.Steps.{goes_on, looks_at, looks_over, other}
+use Rattle.afr_model_moves.specs.Note.{put}
+use Rattle.afr_model_moves.specs.Register.{Exact, Finish, HealPart, Looks, Opening, Piece, Step, asked_in, holder, rank}
+use Rattle.afr_model_moves.specs.Steps.{goes_on, looks_at, looks_over, other}
 use Rattle.afr_law.proofs.Discipline.Firsts.{FirstsOf}
 use Rattle.afr_law.proofs.Heals.Areas.{opening_or}
 use Rattle.afr_law.proofs.Heals.Conditions.{asked_now, goes_enough, looks_far, looks_is, looks_passed, over_at, passed_over}
-use Rattle.afr_moves.specs.Honest.{asks}
-use Rattle.afr_moves.specs.Lines.{ask_by, look_at}
-use Rattle.afr_moves.specs.Past.{Log, object}
-use Rattle.afr_moves.specs.Sets.{with}
+use Rattle.afr_model_moves.specs.Honest.{asks}
+use Rattle.afr_model_moves.specs.Lines.{ask_by, look_at}
+use Rattle.afr_model_moves.specs.Past.{Log, object}
+use Rattle.afr_model_moves.specs.Sets.{with}
 use Rattle.afr_lines.specs.declared.answer.Told.TheVariants.{Seen}
 use Rattle.afr_object.specs.declared.entry.View.{View}
 use Rattle.std.proofs.Common.{Bool, ap, arith, false, inl, inr, not, refl, subst, suc, sym, true, true≢false, ℕ, ◌<◌, ◌∙◌, ◌≡◌, ◌≤◌, ◌⊎◌}
 use Rattle.std.proofs.lemmas.Bool.Decides.{nat_tests}
 use Rattle.std.specs.Prelude.{None, Option, Some, if◌then◌else◌, nat_le, ◌==◌}
-use Rattle.afr_moves.specs.Rules.{Register, is_none}
-use Rattle.afr_moves.proofs.Tests.{with_false, with_cases}
+use Rattle.afr_model_moves.specs.Rules.{Register, is_none}
+use Rattle.afr_model_moves.proofs.Tests.{with_false, with_cases}
 
 -- a look of the actor showed the object there
 pub record SeenAt (log : Log) (t a x object : ℕ) : Type 0 where

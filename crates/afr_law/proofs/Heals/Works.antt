@@ -3,10 +3,10 @@ use Rattle.afr_base.specs.Majority.{is_most}
 use Rattle.afr_base.specs.declared.ids.Kind.{Kind}
 use Rattle.afr_base.specs.declared.ids.Kind.TheVariants.{Attrs, Bytes, Names}
 use Rattle.afr_base.specs.declared.marks.Marks.{Marks}
-use Rattle.afr_moves.specs.Discipline.{MovesExactly, present}
-use Rattle.afr_moves.specs.Heal.{MayHeal}
-use Rattle.afr_moves.specs.Register.{Exact, Finish, HealPres, Mends, Opening, holder, len_of, rank}
-use Rattle.afr_moves.specs.Steps.{changed, goes_on, may_heal, may_mend, mends_at, turn}
+use Rattle.afr_model_moves.specs.Discipline.{MovesExactly, present}
+use Rattle.afr_model_moves.specs.Heal.{MayHeal}
+use Rattle.afr_model_moves.specs.Register.{Exact, Finish, HealPres, Mends, Opening, holder, len_of, rank}
+use Rattle.afr_model_moves.specs.Steps.{changed, goes_on, may_heal, may_mend, mends_at, turn}
 use Rattle.afr_law.proofs.Discipline.Firsts.{firsts_now}
 use Rattle.afr_law.proofs.Heals.Answers.{Honestly}
 use Rattle.afr_law.proofs.Heals.Areas.{AreasIn, areas_now, opening_or}
@@ -16,15 +16,15 @@ use Rattle.afr_law.proofs.Heals.Raises.{late_raises, pres_opening, pres_set, rai
 use Rattle.afr_law.proofs.Heals.Reads.{readings_now}
 use Rattle.afr_law.proofs.Heals.Sights.{sights_now}
 use Rattle.afr_law.proofs.Heals.Conditions.{asked_now, goes_enough, goes_good, goes_unaccused, mend_goes, mend_pres, mend_test, mend_turn, onward_kind, onward_object, pre_onward, pre_turn, turn_fresh}
-use Rattle.afr_moves.specs.Honest.{view_marks}
+use Rattle.afr_model_moves.specs.Honest.{view_marks}
 use Rattle.afr_law.proofs.Discipline.Inner.{turn_in, turn_low}
-use Rattle.afr_moves.specs.Lines.{pre_on}
-use Rattle.afr_moves.specs.Past.{Log, holds, place, repaired}
+use Rattle.afr_model_moves.specs.Lines.{pre_on}
+use Rattle.afr_model_moves.specs.Past.{Log, holds, place, repaired}
 use Rattle.afr_law.proofs.Discipline.Projection.{tally_at}
-use Rattle.afr_moves.specs.Sets.{empty}
+use Rattle.afr_model_moves.specs.Sets.{empty}
 use Rattle.afr_law.proofs.Discipline.Stages.{mend_far, onward_far}
 use Rattle.afr_law.proofs.Discipline.StagesAlong.{stage_now}
-use Rattle.afr_moves.specs.Tally.{Tally, tally}
+use Rattle.afr_model_moves.specs.Tally.{Tally, tally}
 use Rattle.afr_law.proofs.Discipline.Transactions.{held_view}
 use Rattle.afr_lines.specs.declared.request.Area.{Area}
 use Rattle.afr_lines.specs.declared.request.Request.{Request}
@@ -35,15 +35,15 @@ use Rattle.afr_object.specs.declared.entry.View.{View}
 use Rattle.std.proofs.Common.{Bool, ap, arith, false, inl, inr, length, not, refl, subst, sym, true, true≢false, ℕ, ◌&&◌, ◌<◌, ◌∙◌, ◌≡◌, ◌≤◌, ◌⊎◌}
 use Rattle.std.proofs.lemmas.Bool.Decides.{nat_tests}
 use Rattle.std.specs.Prelude.{None, Option, Some, if◌then◌else◌, nat_lt, slice_index, ◌==◌}
-use Rattle.afr_moves.specs.Rules as weak
-use Rattle.afr_moves.specs.Rules.{Register, CoversAll, some_read}
+use Rattle.afr_model_moves.specs.Rules as weak
+use Rattle.afr_model_moves.specs.Rules.{Register, CoversAll, some_read}
 use Rattle.std.specs.Prelude.{List as Seq}
 use Rattle.afr_law.proofs.Heals.MendsAlong.{Wide}
 use Rattle.afr_law.proofs.Heals.Mended.{Fits, IsWide, fits_one, mend_fits, mends_set, mends_finish}
 use Rattle.afr_law.proofs.Heals.Moves.{tally_here, first_view, views_of, read_of, each_read, fits_covers}
 use Rattle.std.proofs.lemmas.List.{get_or_past}
 use Rattle.std.proofs.lemmas.Bool.{eqb-true, and_from}
-use Rattle.afr_moves.proofs.Tests.{same_kind_yes}
+use Rattle.afr_model_moves.proofs.Tests.{same_kind_yes}
 use Rattle.afr_base.specs.Bricks.{and_left, and_right}
 
 pub pending_past : (xs : Seq ℕ) (c : ℕ) → length xs ≡ 5 → 5 ≤ c → slice_index xs c ≡ 0

@@ -13,14 +13,14 @@ use Rattle.afr_model.specs.Cells.{Cell, value_of, object_of_cell, kind_of_cell}
 use Rattle.afr_model.specs.Cells as model
 use Rattle.afr_model.specs.Honest.{fault_in}
 use Rattle.afr_model.specs.Tables.{holds}
-use Rattle.afr_moves.specs.Cells.{is_cell, object_of, kind_of}
-use Rattle.afr_tables.specs.Codes.{cell_of, kept_by}
-use Rattle.afr_moves.specs.Past.{Log, value}
+use Rattle.afr_model_moves.specs.Cells.{is_cell, object_of, kind_of}
+use Rattle.afr_law_tables.specs.Codes.{cell_of, kept_by}
+use Rattle.afr_model_moves.specs.Past.{Log, value}
 use Rattle.afr_law.specs.Alike.{Unrecorded, Alike}
 use Rattle.afr_law.proofs.Alike.Divergence.{undiverged}
-use Rattle.afr_moves.specs.Honest.{Honest}
-use Rattle.afr_moves.specs.Positions.{by_position}
-use Rattle.afr_moves.proofs.ByPosition.{IsPast, past_whole}
+use Rattle.afr_model_moves.specs.Honest.{Honest}
+use Rattle.afr_model_moves.specs.Positions.{by_position}
+use Rattle.afr_model_moves.proofs.ByPosition.{IsPast, past_whole}
 use Rattle.afr_law.proofs.Model.Cells.{kind_cell, object_cell, value_sort, code_same}
 use Rattle.afr_law.proofs.Model.Dirty.{dirty_is, looks_track}
 use Rattle.afr_law.specs.Beginning.{start_of}
@@ -30,7 +30,7 @@ use Rattle.afr_law.proofs.Model.Settles.{all_honest, all_lawful, take_within, wi
 use Rattle.afr_law.proofs.Model.Sums.{pending_is}
 use Rattle.afr_law.specs.ModelAlike.{AreAlike, AreAlikeAtRest, ModelNothingDiverges}
 use Rattle.afr_law.proofs.Model.SoundLog.{LawfulBelow, lawful_below, name_limit}
-use Rattle.afr_tables.specs.Clear.{IsClear}
+use Rattle.afr_law_tables.specs.Clear.{IsClear}
 
 -- ---- one moment
 module _ (p : Plan) (n : ℕ) (L : Log) (five : p.shape.n ≤ 5) (older : List Line) (h : IsPast L older) (lawful : LawfulBelow p n older) where

@@ -27,10 +27,10 @@ use Rattle.afr_object.specs.Object.{Object}
 use Rattle.afr_plan.specs.declared.plan.Plan.{Plan}
 use Rattle.afr_lines.specs.Locks.{conflicts, first_conflict}
 use Rattle.afr_lines.specs.declared.lock.HeldLock.{HeldLock}
-use Rattle.afr_tables.specs.TableLaws.{five_pending, numbers_below}
-use Rattle.afr_moves.specs.ByList.{IsExactlyLawful}
-use Rattle.afr_moves.specs.Past.{Beginning}
-use Rattle.afr_moves.specs.Ranges.{Each, IfSome, InRange, IsTwoBytes, IsWord, MarksInRange, ToldInRange, ViewInRange}
+use Rattle.afr_law_tables.specs.TableLaws.{five_pending, numbers_below}
+use Rattle.afr_model_moves.specs.ByList.{IsExactlyLawful}
+use Rattle.afr_model_moves.specs.Past.{Beginning}
+use Rattle.afr_model_moves.specs.Ranges.{Each, IfSome, InRange, IsTwoBytes, IsWord, MarksInRange, ToldInRange, ViewInRange}
 use Rattle.afr_law.proofs.Model.Discipline.{weakly_lawful}
 use Rattle.afr_law.proofs.Model.Next.{next_by, said_by}
 use Rattle.afr_law.proofs.Model.Repairs.{ends_each}

@@ -6,9 +6,9 @@ use Rattle.afr_lines.specs.declared.line.Line.{Line}
 use Rattle.afr_lines.specs.declared.line.Line.TheVariants.{Ask, Begin, HealBegin, End, HealEnd, Event}
 use Rattle.afr_lines.specs.declared.request.Area.{Area}
 use Rattle.afr_lines.specs.declared.request.Request.{Request}
-use Rattle.afr_moves.specs.Sets.{with, without}
-use Rattle.afr_moves.specs.Past.{Log, is_of, is_gone, last, last_after, place, opens}
-use Rattle.afr_moves.specs.Rules.{Register, begun, is_area, looked, viewed, looking, locking, granting, unlocked, released, note_ask, dropping, note, in_force, register_after, register, busy, second_of, second_freed}
+use Rattle.afr_model_moves.specs.Sets.{with, without}
+use Rattle.afr_model_moves.specs.Past.{Log, is_of, is_gone, last, last_after, place, opens}
+use Rattle.afr_model_moves.specs.Rules.{Register, begun, is_area, looked, viewed, looking, locking, granting, unlocked, released, note_ask, dropping, note, in_force, register_after, register, busy, second_of, second_freed}
 use Rattle.afr_law.proofs.Safety.Standing.{Noted, Grants, Waits, Frees, Tries, HealGrants, HealWaits, HealFrees, HealTries, Looks, Pres, Applies, Posts, Mends, Settles, Same, noted}
 
 -- the register has no number

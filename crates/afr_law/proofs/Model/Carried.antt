@@ -18,18 +18,18 @@ use Rattle.afr_lines.specs.declared.request.Request.{Request}
 use Rattle.afr_lines.specs.declared.request.Request.TheVariants as request
 use Rattle.afr_plan.specs.declared.plan.Plan.{Plan}
 use Rattle.afr_model.specs.Tables.{held_before, keeps_bytes, content_in, attrs_in, names_in, bytes_shown, attrs_shown, names_shown, all_names_shown, carried}
-use Rattle.afr_moves.specs.Cells.{Cell, Byte, Attr, Entry, kind_of, is_cell}
-use Rattle.afr_tables.specs.Codes.{kind_in, code_in, kept_by}
-use Rattle.afr_moves.specs.Rules.{Register, ReadOf, EachRead, BringsSeen, repair_kind}
-use Rattle.afr_moves.specs.Past.{Log, before, brick_of, kind_at, most, value, values}
-use Rattle.afr_moves.proofs.ByPosition.{IsPast, before_past}
-use Rattle.afr_moves.specs.Positions.{by_position}
+use Rattle.afr_model_moves.specs.Cells.{Cell, Byte, Attr, Entry, kind_of, is_cell}
+use Rattle.afr_law_tables.specs.Codes.{kind_in, code_in, kept_by}
+use Rattle.afr_model_moves.specs.Rules.{Register, ReadOf, EachRead, BringsSeen, repair_kind}
+use Rattle.afr_model_moves.specs.Past.{Log, before, brick_of, kind_at, most, value, values}
+use Rattle.afr_model_moves.proofs.ByPosition.{IsPast, before_past}
+use Rattle.afr_model_moves.specs.Positions.{by_position}
 use Rattle.afr_law.proofs.Safety.Touches.{values_at}
 use Rattle.afr_law.proofs.Model.SoundLog.{AllSound, shown_sound, carried_sound}
 use Rattle.afr_law.proofs.Model.Mended.{Carries, keyed, piece_byte}
-use Rattle.afr_tables.proofs.Merged.{AllRise, led, most_led, led_merged}
+use Rattle.afr_law_tables.proofs.Merged.{AllRise, led, most_led, led_merged}
 use Rattle.afr_law.specs.Beginning.{start_of}
-use Rattle.afr_tables.proofs.Values.{code_of, none_past}
+use Rattle.afr_law_tables.proofs.Values.{code_of, none_past}
 use Rattle.afr_law.specs.ModelLaw.{IsReadAt, NamesReads}
 
 -- a brick that keeps bytes carries them out

@@ -17,13 +17,13 @@ use Rattle.afr_law.proofs.Model.SoundLog.{LawfulBelow, lawful_below, name_limit}
 use Rattle.afr_law.proofs.Model.Sums.{pending_is}
 use Rattle.afr_law.proofs.Causes.Posted.{has_cause}
 use Rattle.afr_law.specs.Causes.{Cause}
-use Rattle.afr_moves.specs.Honest.{Honest}
+use Rattle.afr_model_moves.specs.Honest.{Honest}
 use Rattle.afr_law.specs.ModelCauses.{HaveCauses, IsCause, ModelAccusationsHaveCauses, ModelExactAccusations}
-use Rattle.afr_moves.specs.Past.{Log, pending}
-use Rattle.afr_moves.specs.Positions.{by_position}
-use Rattle.afr_moves.proofs.ByPosition.{IsPast, past_at, past_whole}
-use Rattle.afr_tables.specs.CopyLaws.{gfid_is}
-use Rattle.afr_moves.proofs.Changes.{object_same, kind_same}
+use Rattle.afr_model_moves.specs.Past.{Log, pending}
+use Rattle.afr_model_moves.specs.Positions.{by_position}
+use Rattle.afr_model_moves.proofs.ByPosition.{IsPast, past_at, past_whole}
+use Rattle.afr_law_tables.specs.CopyLaws.{gfid_is}
+use Rattle.afr_model_moves.proofs.Changes.{object_same, kind_same}
 
 pub some_is : (m : ℕ) → nat_lt 0 m ≡ true → 0 < m
 some_is m e = grind (arith, nat_tests)

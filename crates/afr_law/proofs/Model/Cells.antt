@@ -16,15 +16,15 @@ use Rattle.afr_lines.specs.declared.reply.Reply.{Reply}
 use Rattle.afr_model.specs.Attempts.{first_reply, earlier, IsAcknowledged}
 use Rattle.afr_model.specs.Cells.{Value, IsByte, IsAttr, IsEntry, value_if, nothing_in, object_of_cell, kind_of_cell}
 use Rattle.afr_model.specs.Cells as model
-use Rattle.afr_moves.specs.Cells.{object_of, kind_of, entry_code, is_cell, touches, leaves}
-use Rattle.afr_tables.specs.Codes.{value_code, cell_by, cell_of}
-use Rattle.afr_moves.specs.Lines.{is_ok}
-use Rattle.afr_tables.proofs.Entries.{entry_same, entry_some}
-use Rattle.afr_moves.specs.Past.{Log}
-use Rattle.afr_moves.proofs.ByPosition.{IsPast, past_at, none_at}
+use Rattle.afr_model_moves.specs.Cells.{object_of, kind_of, entry_code, is_cell, touches, leaves}
+use Rattle.afr_law_tables.specs.Codes.{value_code, cell_by, cell_of}
+use Rattle.afr_model_moves.specs.Lines.{is_ok}
+use Rattle.afr_law_tables.proofs.Entries.{entry_same, entry_some}
+use Rattle.afr_model_moves.specs.Past.{Log}
+use Rattle.afr_model_moves.proofs.ByPosition.{IsPast, past_at, none_at}
 use Rattle.afr_law.specs.Safe.{end_of, or_else, outcome, Acknowledged}
 use Rattle.std.proofs.lemmas.Bool.{cases_lt, ltb-false}
-use Rattle.afr_moves.proofs.Tests.{what_same}
+use Rattle.afr_model_moves.proofs.Tests.{what_same}
 
 -- ---- cells
 pub kind_cell : (cell : model.Cell) → kind_of (cell_of cell) ≡ kind_of_cell cell

@@ -21,14 +21,14 @@ use Rattle.afr_plan.specs.declared.plan.Plan.{Plan}
 use Rattle.afr_lines.specs.declared.lock.Domain.{Domain}
 use Rattle.afr_lines.specs.declared.lock.Domain.TheVariants.{Heal, Work}
 use Rattle.afr_lines.specs.declared.lock.HeldLock.{HeldLock}
-use Rattle.afr_moves.specs.Covering.{Changes, Covers, HasHealLock, IsCovered}
-use Rattle.afr_moves.specs.Discipline.{LawfulExactly, MayExactly}
-use Rattle.afr_moves.specs.Discipline as exactly
-use Rattle.afr_moves.specs.Honest.{Honest}
-use Rattle.afr_moves.specs.Lines.{ask_by, settle_on}
-use Rattle.afr_moves.specs.Past.{Beginning, Log, held, opens, place}
-use Rattle.afr_moves.specs.Positions.{by_position}
-use Rattle.afr_moves.specs.Rules.{Lawful, MayApply, MayMend, MayPost, MayPre, MaySettle, Register, heal_area, present}
+use Rattle.afr_model_moves.specs.Covering.{Changes, Covers, HasHealLock, IsCovered}
+use Rattle.afr_model_moves.specs.Discipline.{LawfulExactly, MayExactly}
+use Rattle.afr_model_moves.specs.Discipline as exactly
+use Rattle.afr_model_moves.specs.Honest.{Honest}
+use Rattle.afr_model_moves.specs.Lines.{ask_by, settle_on}
+use Rattle.afr_model_moves.specs.Past.{Beginning, Log, held, opens, place}
+use Rattle.afr_model_moves.specs.Positions.{by_position}
+use Rattle.afr_model_moves.specs.Rules.{Lawful, MayApply, MayMend, MayPost, MayPre, MaySettle, Register, heal_area, present}
 use Rattle.afr_law.proofs.Discipline.ByList.{exactly_lawful}
 use Rattle.afr_law.proofs.Discipline.Covers.{change_there, covers_now}
 use Rattle.afr_law.proofs.Discipline.Lockable.{forced_has, lock_has}
@@ -39,17 +39,17 @@ use Rattle.afr_law.proofs.Heals.Pieces.{ShortLooks}
 use Rattle.afr_law.proofs.Model.Discipline.{exactly_below, weakly_lawful}
 use Rattle.afr_law.proofs.Model.Locks.{In, held_in, line_for}
 use Rattle.afr_law.proofs.Model.Next.{comes}
-use Rattle.afr_moves.proofs.ByPosition.{IsPast, past_at, past_whole}
+use Rattle.afr_model_moves.proofs.ByPosition.{IsPast, past_at, past_whole}
 use Rattle.afr_law.proofs.Model.Repairs.{ends_each, short_looks}
 use Rattle.afr_law.proofs.Model.Settles.{all_honest, all_lawful, take_within}
 use Rattle.afr_law.proofs.Model.SoundLog.{LawfulBelow}
 use Rattle.afr_law.proofs.Safety.Acts.{Working, may_ask, working}
 use Rattle.afr_law.specs.Beginning.{start_of}
-use Rattle.afr_tables.specs.Codes.{kept_by}
+use Rattle.afr_law_tables.specs.Codes.{kept_by}
 use Rattle.afr_law.specs.Exactly.{IsLawfulExactly, name_bound}
 use Rattle.afr_law.specs.ModelCovered.{ModelCarriedCovered, ModelNextCovered, ModelNextLocks, change_for}
 use Rattle.afr_law.specs.ModelNext.{IsNext, asking}
-use Rattle.afr_moves.proofs.Tests.{positive}
+use Rattle.afr_model_moves.proofs.Tests.{positive}
 
 -- ---- by positions
 -- a lock of actor a on brick b that is held at t

@@ -22,12 +22,12 @@ use Rattle.afr_model.specs.Honest.{Honest as IsHonestLog, IsHonest, RequestOutco
 use Rattle.afr_base.specs.Kinds.{same_kind}
 use Rattle.afr_model.specs.Sums.{has_object, sum_over, opens_op, closes_op, settles_dirty, dirty_of}
 use Rattle.afr_model.specs.Tables.{holds, held_before, carried, effect, keeps_bytes}
-use Rattle.afr_tables.specs.SumLaws.{now_at, counts, numbers_asked, numbers_same, numbers_effect, numbers_mended, at_first, pre_dirty, same_dirty}
+use Rattle.afr_law_tables.specs.SumLaws.{now_at, counts, numbers_asked, numbers_same, numbers_effect, numbers_mended, at_first, pre_dirty, same_dirty}
 use Rattle.afr_law.specs.Dirty.{raising, raised, lowering, lowered, dirty, NoneBelow, TracksDirty, DirtyTracked}
-use Rattle.afr_moves.specs.Honest.{view_marks}
-use Rattle.afr_moves.specs.Past.{Log}
-use Rattle.afr_moves.specs.Positions.{by_position}
-use Rattle.afr_moves.proofs.ByPosition.{IsPast, past_whole, none_at}
+use Rattle.afr_model_moves.specs.Honest.{view_marks}
+use Rattle.afr_model_moves.specs.Past.{Log}
+use Rattle.afr_model_moves.specs.Positions.{by_position}
+use Rattle.afr_model_moves.proofs.ByPosition.{IsPast, past_whole, none_at}
 use Rattle.afr_law.specs.Beginning.{start_of}
 use Rattle.afr_law.proofs.Model.Sums.{holds_is, no_post, no_settle}
 use Rattle.afr_law.proofs.Model.SoundLog.{LawfulBelow}

@@ -5,23 +5,23 @@ use Rattle.afr_law.specs.Beginning.{start_of}
 use Rattle.afr_law.proofs.Model.Safe.{model_safe}
 use Rattle.afr_law.proofs.Model.Settles.{honest_at, make_known, take_within, within_before}
 use Rattle.afr_law.proofs.Model.SoundLog.{LawfulBelow, NameIsBelow}
-use Rattle.afr_tables.proofs.Sound.{NameFits}
+use Rattle.afr_law_tables.proofs.Sound.{NameFits}
 use Rattle.afr_law.proofs.Model.Sums.{TakeWithin}
-use Rattle.afr_tables.specs.Codes.{kept_by}
-use Rattle.afr_moves.specs.Discipline.{LawfulExactly}
+use Rattle.afr_law_tables.specs.Codes.{kept_by}
+use Rattle.afr_model_moves.specs.Discipline.{LawfulExactly}
 use Rattle.afr_law.proofs.Discipline.Known.{line_known}
-use Rattle.afr_moves.specs.ByList.{IsExactLine, IsExactlyLawful}
+use Rattle.afr_model_moves.specs.ByList.{IsExactLine, IsExactlyLawful}
 use Rattle.afr_law.proofs.Discipline.ByList.{exactly_lawful}
-use Rattle.afr_moves.specs.Ranges.{ChangeInRange, InRange}
+use Rattle.afr_model_moves.specs.Ranges.{ChangeInRange, InRange}
 use Rattle.afr_law.specs.Exactly.{IsLawfulExactly, name_bound}
-use Rattle.afr_moves.specs.Honest.{Honest, HonestLine}
+use Rattle.afr_model_moves.specs.Honest.{Honest, HonestLine}
 use Rattle.afr_law.proofs.Discipline.Implies.{implies}
-use Rattle.afr_moves.specs.Rules.{Lawful, Register, present}
+use Rattle.afr_model_moves.specs.Rules.{Lawful, Register, present}
 use Rattle.afr_law.specs.ModelExact.{ModelExactIsAlike, ModelExactIsSafe}
 use Rattle.afr_law.specs.ModelLaw.{IsKnown, IsLawful, IsLawfulLine}
-use Rattle.afr_moves.specs.Past.{Log}
-use Rattle.afr_moves.proofs.ByPosition.{IsPast, none_at, past_at, past_whole}
-use Rattle.afr_moves.specs.Positions.{by_position}
+use Rattle.afr_model_moves.specs.Past.{Log}
+use Rattle.afr_model_moves.proofs.ByPosition.{IsPast, none_at, past_at, past_whole}
+use Rattle.afr_model_moves.specs.Positions.{by_position}
 use Rattle.afr_law.proofs.Discipline.Projection.{present_law}
 use Rattle.afr_law.proofs.Discipline.SameMoves.{may_next}
 use Rattle.afr_law.proofs.Discipline.Untouched.{newest_now}

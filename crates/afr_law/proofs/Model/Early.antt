@@ -19,12 +19,12 @@ use Rattle.afr_law.specs.Beginning.{start_of}
 use Rattle.afr_law.proofs.Model.Places.{far_current, nothing_far}
 use Rattle.afr_law.proofs.Model.Safe.{value_same}
 use Rattle.afr_law.proofs.Model.SoundLog.{LawfulBelow}
-use Rattle.afr_moves.specs.Cells.{is_cell}
-use Rattle.afr_tables.specs.Codes.{value_code, cell_of, kept_by}
+use Rattle.afr_model_moves.specs.Cells.{is_cell}
+use Rattle.afr_law_tables.specs.Codes.{value_code, cell_of, kept_by}
 use Rattle.afr_law.specs.FreshReads.{NoOlder}
 use Rattle.afr_law.specs.FreshReads as fresh
-use Rattle.afr_moves.specs.Past.{Log, changes, leaves_of, value}
-use Rattle.afr_moves.proofs.ByPosition.{IsPast, past_at}
+use Rattle.afr_model_moves.specs.Past.{Log, changes, leaves_of, value}
+use Rattle.afr_model_moves.proofs.ByPosition.{IsPast, past_at}
 
 -- ---- the first lines of a log
 module _ (p : Plan) (n : ℕ) (L : Log) where

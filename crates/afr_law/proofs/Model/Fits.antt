@@ -9,9 +9,9 @@ use Rattle.afr_base.specs.declared.ids.Kind.{Kind}
 use Rattle.afr_base.specs.declared.marks.Marks.{Marks}
 use Rattle.afr_object.specs.State.{CanApply}
 use Rattle.afr_lines.specs.declared.fault.Fault.{Fault}
-use Rattle.afr_tables.specs.Fits.{FitsSums}
-use Rattle.afr_tables.specs.SumLaws.{adds_up, now_at, numbers_are_sums}
-use Rattle.afr_tables.specs.TableLaws.{numbers_below}
+use Rattle.afr_law_tables.specs.Fits.{FitsSums}
+use Rattle.afr_law_tables.specs.SumLaws.{adds_up, now_at, numbers_are_sums}
+use Rattle.afr_law_tables.specs.TableLaws.{numbers_below}
 use Rattle.afr_lines.specs.Log.{EachLine, change_at, change_of, from_oldest}
 use Rattle.afr_lines.specs.declared.answer.Told.{Told}
 use Rattle.afr_lines.specs.declared.answer.Told.TheVariants.{Seen}
@@ -36,25 +36,25 @@ use Rattle.afr_law.specs.Beginning.{start_of}
 use Rattle.afr_law.proofs.Model.Settles.{all_honest, all_lawful, posts_later, take_within}
 use Rattle.afr_law.proofs.Model.SoundLog.{LawfulBelow}
 use Rattle.afr_law.proofs.Model.Sums.{pending_is}
-use Rattle.afr_tables.specs.Codes.{kept_by}
+use Rattle.afr_law_tables.specs.Codes.{kept_by}
 use Rattle.afr_law.specs.Dirty.{lowered, raised}
-use Rattle.afr_moves.specs.ByList.{IsExactLine, IsExactlyLawful}
+use Rattle.afr_model_moves.specs.ByList.{IsExactLine, IsExactlyLawful}
 use Rattle.afr_law.specs.Exactly.{IsLawfulExactly, name_bound}
-use Rattle.afr_moves.specs.Transaction.{EndsLow}
+use Rattle.afr_model_moves.specs.Transaction.{EndsLow}
 use Rattle.afr_law.proofs.Heals.Looks.{settle_works}
 use Rattle.afr_law.proofs.Heals.Marks.{ready}
 use Rattle.afr_law.proofs.Heals.EachLine.{viewings}
-use Rattle.afr_moves.specs.Honest.{Honest, view_marks}
-use Rattle.afr_moves.specs.Rules.{Lawful, present}
-use Rattle.afr_moves.specs.Lines.{ask_by, settle_on}
+use Rattle.afr_model_moves.specs.Honest.{Honest, view_marks}
+use Rattle.afr_model_moves.specs.Rules.{Lawful, present}
+use Rattle.afr_model_moves.specs.Lines.{ask_by, settle_on}
 use Rattle.afr_law.specs.ModelFits.{CouldCarryOut, ModelExactSums}
-use Rattle.afr_moves.specs.Past.{Beginning, Log, pending, settled}
-use Rattle.afr_moves.proofs.ByPosition.{IsPast, none_at, past_whole}
-use Rattle.afr_moves.specs.Positions.{by_position}
+use Rattle.afr_model_moves.specs.Past.{Beginning, Log, pending, settled}
+use Rattle.afr_model_moves.proofs.ByPosition.{IsPast, none_at, past_whole}
+use Rattle.afr_model_moves.specs.Positions.{by_position}
 use Rattle.afr_law.proofs.Alike.Raises.{none_below}
 use Rattle.std.proofs.lemmas.Bool.{cases_lt}
-use Rattle.afr_moves.proofs.Tests.{same_self, same_kind_self}
-use Rattle.afr_tables.specs.Carrying.{CanMend, CanCarry}
+use Rattle.afr_model_moves.proofs.Tests.{same_self, same_kind_self}
+use Rattle.afr_law_tables.specs.Carrying.{CanMend, CanCarry}
 use Rattle.std.proofs.lemmas.Option.{same_Some}
 
 -- ---- by positions

@@ -32,25 +32,25 @@ use Rattle.afr_law.proofs.Model.Repairs.{next_fits}
 use Rattle.afr_law.proofs.Model.Settles.{all_honest, all_lawful, take_within}
 use Rattle.afr_law.proofs.Model.SoundLog.{LawfulBelow}
 use Rattle.afr_law.proofs.Model.Sums.{holds_is}
-use Rattle.afr_tables.specs.Codes.{kept_by}
+use Rattle.afr_law_tables.specs.Codes.{kept_by}
 use Rattle.afr_law.specs.Exactly.{IsLawfulExactly, name_bound}
 use Rattle.afr_law.proofs.Heals.Answers.{holds_later, still_there}
 use Rattle.afr_law.proofs.Heals.Looks.{done_finds}
 use Rattle.afr_law.proofs.Heals.Marks.{Ready, ready}
 use Rattle.afr_law.proofs.Heals.EachLine.{viewings}
-use Rattle.afr_moves.specs.Honest.{Honest, HonestLine, asked, plane_kind}
-use Rattle.afr_moves.specs.Rules.{FitAt, Lawful, MayApply, MayMend, MayPost, MayPre, MayRaise, MaySettle, PlaneIs, present}
-use Rattle.afr_moves.specs.Lines.{ask_by, begin_by, post_on, pre_on, settle_on}
+use Rattle.afr_model_moves.specs.Honest.{Honest, HonestLine, asked, plane_kind}
+use Rattle.afr_model_moves.specs.Rules.{FitAt, Lawful, MayApply, MayMend, MayPost, MayPre, MayRaise, MaySettle, PlaneIs, present}
+use Rattle.afr_model_moves.specs.Lines.{ask_by, begin_by, post_on, pre_on, settle_on}
 use Rattle.afr_law.specs.ModelFits.{HasCopy, ModelNextCarries, ModelNextFound}
 use Rattle.afr_law.specs.ModelNext.{is_carried_out}
 use Rattle.afr_law.proofs.Safety.Numbers.{Prepared}
-use Rattle.afr_moves.specs.Past.{Beginning, Log, holds, joined, object, opening, repaired}
-use Rattle.afr_moves.specs.Positions.{by_position}
-use Rattle.afr_moves.proofs.ByPosition.{past_at, past_whole}
+use Rattle.afr_model_moves.specs.Past.{Beginning, Log, holds, joined, object, opening, repaired}
+use Rattle.afr_model_moves.specs.Positions.{by_position}
+use Rattle.afr_model_moves.proofs.ByPosition.{past_at, past_whole}
 use Rattle.afr_law.proofs.Alike.Raises.{plane_object, plane_one}
-use Rattle.afr_moves.proofs.Tests.{positive}
-use Rattle.afr_moves.proofs.Changes.{object_same}
-use Rattle.afr_tables.specs.Carrying.{CanCarry}
+use Rattle.afr_model_moves.proofs.Tests.{positive}
+use Rattle.afr_model_moves.proofs.Changes.{object_same}
+use Rattle.afr_law_tables.specs.Carrying.{CanCarry}
 
 -- ---- by positions
 module _ (n : ℕ) (keeps : ℕ → Kind → Bool) (files : Beginning) (faults : ℕ → ℕ → Option Fault) (log : Log) (honest : Honest files faults log) (lawful : Lawful n keeps log) where

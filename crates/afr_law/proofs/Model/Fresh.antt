@@ -42,18 +42,18 @@ use Rattle.afr_law.proofs.Model.Looks.{looked_clear}
 use Rattle.afr_law.specs.Beginning.{start_of}
 use Rattle.afr_law.proofs.Model.Settles.{all_honest, all_lawful, take_within, within_before}
 use Rattle.afr_law.proofs.Model.SoundLog.{LawfulBelow, lawful_below, name_limit}
-use Rattle.afr_moves.specs.Cells.{is_cell, object_of, kind_of}
-use Rattle.afr_moves.specs.Cells as law_cell
-use Rattle.afr_tables.specs.Codes.{cell_of, kept_by}
+use Rattle.afr_model_moves.specs.Cells.{is_cell, object_of, kind_of}
+use Rattle.afr_model_moves.specs.Cells as law_cell
+use Rattle.afr_law_tables.specs.Codes.{cell_of, kept_by}
 use Rattle.afr_law.proofs.Freshness.Fresh.{fresh_read}
 use Rattle.afr_law.specs.FreshReads.{LooksLet, NoOlder}
-use Rattle.afr_moves.specs.Honest.{Honest}
-use Rattle.afr_moves.specs.Lines.{ask_by}
+use Rattle.afr_model_moves.specs.Honest.{Honest}
+use Rattle.afr_model_moves.specs.Lines.{ask_by}
 use Rattle.afr_law.specs.ModelFresh.{IsOneOfLines, IsLetBy, IsLetBySome, IsFreshSince, ModelReadsAreFresh, IsLetRead, IsFreshByLooks, ModelWorksReadFresh, ModelExactReadsFresh}
 use Rattle.afr_law.specs.ModelLaw.{IsLawfulLine}
-use Rattle.afr_moves.specs.Past.{Log}
-use Rattle.afr_moves.specs.Positions.{by_position}
-use Rattle.afr_moves.proofs.ByPosition.{IsPast, past_whole, past_at}
+use Rattle.afr_model_moves.specs.Past.{Log}
+use Rattle.afr_model_moves.specs.Positions.{by_position}
+use Rattle.afr_model_moves.proofs.ByPosition.{IsPast, past_whole, past_at}
 use Rattle.afr_law.proofs.Model.Early.{Early, early_begun, early_drop, far_no_older, no_older_is}
 use Rattle.std.proofs.lemmas.Bool.{eqb-true}
 

@@ -36,18 +36,18 @@ use Rattle.afr_model.specs.Locks.{locks_held}
 use Rattle.afr_lines.specs.Overlap.{overlap}
 use Rattle.afr_model.specs.Sums.{has_object}
 use Rattle.afr_model.specs.Tables.{holds}
-use Rattle.afr_moves.specs.Cells.{Byte}
-use Rattle.afr_tables.specs.Codes.{kind_code, code_in, kept_by}
-use Rattle.afr_moves.specs.Past.{Log, before, joined, opening as opens_session, object, object_of_line, repaired, kind_at, value}
-use Rattle.afr_moves.specs.Past as past
-use Rattle.afr_moves.specs.Honest.{asks, asked, Shows, finds, begins_attempt, Answers, Tells, HonestAsk, HonestLine}
-use Rattle.afr_moves.proofs.ByPosition.{IsPast, before_past}
+use Rattle.afr_model_moves.specs.Cells.{Byte}
+use Rattle.afr_law_tables.specs.Codes.{kind_code, code_in, kept_by}
+use Rattle.afr_model_moves.specs.Past.{Log, before, joined, opening as opens_session, object, object_of_line, repaired, kind_at, value}
+use Rattle.afr_model_moves.specs.Past as past
+use Rattle.afr_model_moves.specs.Honest.{asks, asked, Shows, finds, begins_attempt, Answers, Tells, HonestAsk, HonestLine}
+use Rattle.afr_model_moves.proofs.ByPosition.{IsPast, before_past}
 use Rattle.afr_law.proofs.Safety.CellHistory.{untouched_value}
 use Rattle.afr_law.proofs.Model.Sessions.{joined_is, opening_is}
 use Rattle.afr_law.proofs.Model.Locks.{free_way, taken_way}
 use Rattle.afr_law.proofs.Model.Tables.{kind_is, code_is_value}
 use Rattle.afr_law.proofs.Model.SoundLog.{LawfulBelow}
-use Rattle.afr_tables.proofs.Values.{linked_left, content_names, code_of, none_past}
+use Rattle.afr_law_tables.proofs.Values.{linked_left, content_names, code_of, none_past}
 use Rattle.afr_law.proofs.Model.Sums.{TakeWithin, holds_is, pending_is, copy_pending}
 use Rattle.afr_law.specs.Beginning.{start_of}
 

@@ -14,22 +14,22 @@ use Rattle.afr_object.specs.Object.{Object}
 use Rattle.afr_plan.specs.declared.plan.Plan.{Plan}
 use Rattle.afr_law.proofs.Model.Dirty.{seen_copy}
 use Rattle.afr_law.proofs.Model.Discipline.{exactly_below}
-use Rattle.afr_tables.proofs.Opening.{opening_root}
+use Rattle.afr_law_tables.proofs.Opening.{opening_root}
 use Rattle.afr_law.specs.Beginning.{start_of}
 use Rattle.afr_law.proofs.Model.Settles.{all_honest, take_within, within_before}
 use Rattle.afr_law.proofs.Model.SoundLog.{LawfulBelow}
 use Rattle.afr_law.proofs.Model.Tables.{all_same}
-use Rattle.afr_tables.proofs.Values.{code_of}
-use Rattle.afr_moves.specs.Cells.{Entry, entry_code, what_code}
-use Rattle.afr_tables.specs.Codes.{code_in, kind_code, kind_in, value_code}
+use Rattle.afr_law_tables.proofs.Values.{code_of}
+use Rattle.afr_model_moves.specs.Cells.{Entry, entry_code, what_code}
+use Rattle.afr_law_tables.specs.Codes.{code_in, kind_code, kind_in, value_code}
 use Rattle.afr_law.specs.Exactly.{name_bound}
-use Rattle.afr_moves.specs.Honest.{Honest}
+use Rattle.afr_model_moves.specs.Honest.{Honest}
 use Rattle.afr_law.specs.ModelKinds.{Before, IsOneKind, ModelNextLooks, ModelOneKind, Named, Now, SaysKind, Top, WasTable}
 use Rattle.afr_law.proofs.Safety.Objects.{entry_born, from_values, kind_born}
-use Rattle.afr_moves.specs.Past.{Log, born, kind_at, value}
-use Rattle.afr_moves.specs.Positions.{by_position}
-use Rattle.afr_moves.proofs.ByPosition.{past_whole}
-use Rattle.afr_moves.proofs.Tests.{what_same, what_some}
+use Rattle.afr_model_moves.specs.Past.{Log, born, kind_at, value}
+use Rattle.afr_model_moves.specs.Positions.{by_position}
+use Rattle.afr_model_moves.proofs.ByPosition.{past_whole}
+use Rattle.afr_model_moves.proofs.Tests.{what_same, what_some}
 
 -- the tables of a brick at a moment, by positions
 record Moment (p : Plan) (n : ℕ) (L : Log) (t : Table) : Type 0 where

@@ -16,11 +16,11 @@ use Rattle.afr_lines.specs.declared.lock.HeldLock.{HeldLock}
 use Rattle.afr_lines.specs.Overlap.{same_area, overlap}
 use Rattle.afr_model.specs.Locks.{releases, outlives, granted_by_line, locks_held}
 use Rattle.afr_model.specs.Sessions.{ends_session}
-use Rattle.afr_moves.specs.Past.{Log, before, held, grants, frees, unlocks, blocks}
-use Rattle.afr_moves.proofs.ByPosition.{IsPast}
+use Rattle.afr_model_moves.specs.Past.{Log, before, held, grants, frees, unlocks, blocks}
+use Rattle.afr_model_moves.proofs.ByPosition.{IsPast}
 use Rattle.afr_law.proofs.Model.Sessions.{ends_same}
 use Rattle.afr_law.proofs.Safety.Locks.{step_cases, step_true, before_is, held_past}
-use Rattle.afr_moves.proofs.Tests.{same_self, same_no, turned}
+use Rattle.afr_model_moves.proofs.Tests.{same_self, same_no, turned}
 use Rattle.std.proofs.lemmas.Bool.{eqb-true}
 
 -- a lock of a list

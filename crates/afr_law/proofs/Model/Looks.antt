@@ -25,9 +25,9 @@ use Rattle.afr_model.specs.Safe.{log_before}
 use Rattle.afr_model.specs.Showing.{look_shows, looked_after, looked_by}
 use Rattle.afr_law.proofs.Model.Cells.{below_length}
 use Rattle.afr_law.specs.FreshReads.{ShowsNoMiss}
-use Rattle.afr_moves.specs.Lines.{ask_by}
+use Rattle.afr_model_moves.specs.Lines.{ask_by}
 use Rattle.afr_law.specs.ModelFresh.{IsClearLook, IsOneOfLines}
-use Rattle.afr_moves.proofs.ByPosition.{newest_at, older_at}
+use Rattle.afr_model_moves.proofs.ByPosition.{newest_at, older_at}
 use Rattle.std.proofs.lemmas.Bool.{eqb-true}
 
 -- there is a place for each brick's view

@@ -22,15 +22,15 @@ use Rattle.afr_object.specs.Object.{Object}
 use Rattle.afr_lines.specs.declared.answer.Told.TheVariants.{Done}
 use Rattle.afr_lines.specs.declared.request.Request.TheVariants.{Mend}
 use Rattle.afr_model.specs.Cells.{IsByte, IsAttr, IsEntry, value_in}
-use Rattle.afr_moves.specs.Cells.{Cell, Byte, Attr, Entry, object_of, kind_of, fits, is_cell, what_code}
-use Rattle.afr_tables.specs.Codes.{kind_code, value_code, cell_by, kind_in, code_in}
-use Rattle.afr_moves.specs.Lines.{ask_by}
-use Rattle.afr_tables.proofs.Names.{AreRising}
-use Rattle.afr_moves.specs.Past.{Log, brick_of, keep, left_by, mends, most, named_kind, repaired}
-use Rattle.afr_tables.proofs.Copies.{kind_changed, keep_none, what_bytes, what_names}
-use Rattle.afr_tables.proofs.Merged.{NameTable, AreBelow, led, last_named, kind_all_made, named_is}
-use Rattle.afr_tables.proofs.Values.{code_of, copy_of, code_changed, code_made, code_left, no_touch, content_names, others_bytes, bytes_changed, names_changed, group_bytes, group_cut, taken_byte}
-use Rattle.afr_moves.proofs.Tests.{some_what}
+use Rattle.afr_model_moves.specs.Cells.{Cell, Byte, Attr, Entry, object_of, kind_of, fits, is_cell, what_code}
+use Rattle.afr_law_tables.specs.Codes.{kind_code, value_code, cell_by, kind_in, code_in}
+use Rattle.afr_model_moves.specs.Lines.{ask_by}
+use Rattle.afr_law_tables.proofs.Names.{AreRising}
+use Rattle.afr_model_moves.specs.Past.{Log, brick_of, keep, left_by, mends, most, named_kind, repaired}
+use Rattle.afr_law_tables.proofs.Copies.{kind_changed, keep_none, what_bytes, what_names}
+use Rattle.afr_law_tables.proofs.Merged.{NameTable, AreBelow, led, last_named, kind_all_made, named_is}
+use Rattle.afr_law_tables.proofs.Values.{code_of, copy_of, code_changed, code_made, code_left, no_touch, content_names, others_bytes, bytes_changed, names_changed, group_bytes, group_cut, taken_byte}
+use Rattle.afr_model_moves.proofs.Tests.{some_what}
 
 -- what a key leads to, as a number
 abbrev pub keyed : ℕ → List (KeyId × ValueId) → ℕ

@@ -22,14 +22,14 @@ use Rattle.afr_model.specs.Tables.{holds}
 use Rattle.afr_object.specs.Object.{Object}
 use Rattle.afr_plan.specs.declared.plan.Plan.{Plan}
 use Rattle.afr_lines.specs.declared.lock.Domain.TheVariants.{Heal, Work}
-use Rattle.afr_tables.specs.Codes.{kept_by}
-use Rattle.afr_moves.specs.Discipline.{MayAskExactly, exact, in_force}
-use Rattle.afr_moves.specs.Ranges.{ToldInRange}
+use Rattle.afr_law_tables.specs.Codes.{kept_by}
+use Rattle.afr_model_moves.specs.Discipline.{MayAskExactly, exact, in_force}
+use Rattle.afr_model_moves.specs.Ranges.{ToldInRange}
 use Rattle.afr_law.specs.ModelNext.{IsNext, MayAskNext, asking, is_carried_out}
-use Rattle.afr_moves.specs.Covering.{Changes}
-use Rattle.afr_moves.specs.Past as past
-use Rattle.afr_moves.specs.Past.{place}
-use Rattle.afr_moves.specs.Positions.{by_position}
+use Rattle.afr_model_moves.specs.Covering.{Changes}
+use Rattle.afr_model_moves.specs.Past as past
+use Rattle.afr_model_moves.specs.Past.{place}
+use Rattle.afr_model_moves.specs.Positions.{by_position}
 
 -- a line opens sessions whatever it is told
 opens_same : (at : Place) (a : ActorId) (b : BrickId) (r : Request) (t u : Told) (k l : Bool) → opens at (Ask a b r t k) ≡ opens at (Ask a b r u l)

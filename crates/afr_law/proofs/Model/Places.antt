@@ -20,7 +20,7 @@ use Rattle.afr_model.specs.Cells.{Cell, Byte, IsByte, value_if, value_of, touche
 use Rattle.afr_model.specs.Tables.{holds}
 use Rattle.afr_law.proofs.Model.Cells.{below_length}
 use Rattle.afr_law.proofs.Model.SoundLog.{LawfulBelow, files_below, all_sound, ends_at}
-use Rattle.afr_tables.specs.Ends.{EndsInTime}
+use Rattle.afr_law_tables.specs.Ends.{EndsInTime}
 
 -- an acknowledged attempt on the cell
 abbrev pub IsAckedOn : List Line → Cell → ℕ → Type 0

@@ -16,7 +16,7 @@ use Rattle.afr_base.specs.declared.ids.Kind.{Kind}
 use Rattle.afr_base.specs.declared.ids.NameId.{NameId}
 use Rattle.afr_base.specs.declared.ids.ValueId.{ValueId}
 use Rattle.afr_object.specs.State.{CanRepair, IsInOrder}
-use Rattle.afr_tables.specs.Fits.{FitsSums}
+use Rattle.afr_law_tables.specs.Fits.{FitsSums}
 use Rattle.afr_lines.specs.Log.{EachLine, from_oldest}
 use Rattle.afr_lines.specs.declared.answer.Told.{Told}
 use Rattle.afr_lines.specs.declared.answer.Told.TheVariants.{Seen}
@@ -37,15 +37,15 @@ use Rattle.afr_plan.specs.declared.plan.Plan.{Plan}
 use Rattle.afr_law.proofs.Model.Dirty.{seen_copy}
 use Rattle.afr_law.proofs.Model.Discipline.{weakly_lawful}
 use Rattle.afr_law.proofs.Model.Fits.{ends_low, exact_sums, fits_by}
-use Rattle.afr_tables.proofs.Merged.{rising_merged}
+use Rattle.afr_law_tables.proofs.Merged.{rising_merged}
 use Rattle.afr_law.specs.Beginning.{start_of}
 use Rattle.afr_law.proofs.Model.Short.{AllEndLow, KeysAbove, KeysRise, all_short, shown_rise}
-use Rattle.afr_tables.specs.Codes.{kept_by}
-use Rattle.afr_moves.specs.Discipline.{LawfulExactly, MayAskExactly, MayExactly, MovesExactly, present}
-use Rattle.afr_moves.specs.Heal.{Gives, Goes, MayHeal}
-use Rattle.afr_moves.specs.ByList.{IsExactlyLawful}
+use Rattle.afr_law_tables.specs.Codes.{kept_by}
+use Rattle.afr_model_moves.specs.Discipline.{LawfulExactly, MayAskExactly, MayExactly, MovesExactly, present}
+use Rattle.afr_model_moves.specs.Heal.{Gives, Goes, MayHeal}
+use Rattle.afr_model_moves.specs.ByList.{IsExactlyLawful}
 use Rattle.afr_law.proofs.Discipline.ByList.{exactly_lawful}
-use Rattle.afr_moves.specs.Register.{Mends, Piece, rank}
+use Rattle.afr_model_moves.specs.Register.{Mends, Piece, rank}
 use Rattle.afr_law.specs.Exactly.{IsLawfulExactly, name_bound}
 use Rattle.afr_law.proofs.Heals.Mended.{mend_fits}
 use Rattle.afr_law.proofs.Heals.Pieces.{ShortLooks, pieces_now}
@@ -54,12 +54,12 @@ use Rattle.afr_law.proofs.Discipline.Covers.{piece_is}
 use Rattle.afr_law.proofs.Discipline.Inner.{turn_in, turn_low}
 use Rattle.afr_law.specs.ModelFits.{ModelNextFits}
 use Rattle.afr_law.specs.ModelLaw.{IsKnown, IsLawful, IsReadAt, NamesReads}
-use Rattle.afr_tables.proofs.Names.{AreAbove, AreRising}
-use Rattle.afr_moves.specs.Past.{Log}
-use Rattle.afr_moves.proofs.ByPosition.{IsPast, none_at, past_whole}
-use Rattle.afr_moves.specs.Positions.{by_position}
+use Rattle.afr_law_tables.proofs.Names.{AreAbove, AreRising}
+use Rattle.afr_model_moves.specs.Past.{Log}
+use Rattle.afr_model_moves.proofs.ByPosition.{IsPast, none_at, past_whole}
+use Rattle.afr_model_moves.specs.Positions.{by_position}
 use Rattle.std.proofs.lemmas.Bool.{cases_lt}
-use Rattle.afr_tables.specs.Carrying.{CanMend}
+use Rattle.afr_law_tables.specs.Carrying.{CanMend}
 
 -- ---- lists in order
 less_cmp : (n x : ℕ) → n < x → nat_cmp n x ≡ Less

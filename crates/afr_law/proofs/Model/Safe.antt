@@ -18,18 +18,18 @@ use Rattle.afr_model.specs.Attempts.{IsAcknowledged, touches_if, Opening, Left, 
 use Rattle.afr_model.specs.Cells.{Cell, value_of, value_if, object_of_cell, kind_of_cell, touches, leaves}
 use Rattle.afr_model.specs.Cells as model
 use Rattle.afr_model.specs.Honest.{fault_in}
-use Rattle.afr_moves.specs.Honest.{Honest}
+use Rattle.afr_model_moves.specs.Honest.{Honest}
 use Rattle.afr_model.specs.Safe.{IsSafe, is_good_copy, accuses}
 use Rattle.afr_model.specs.Sums.{has_object, pending_of}
 use Rattle.afr_model.specs.Tables.{holds}
-use Rattle.afr_moves.specs.Cells.{is_cell, object_of, kind_of}
-use Rattle.afr_tables.specs.Codes.{value_code, cell_of, kept_by}
-use Rattle.afr_moves.specs.Past.{Log, changes, leaves_of, value}
+use Rattle.afr_model_moves.specs.Cells.{is_cell, object_of, kind_of}
+use Rattle.afr_law_tables.specs.Codes.{value_code, cell_of, kept_by}
+use Rattle.afr_model_moves.specs.Past.{Log, changes, leaves_of, value}
 use Rattle.afr_law.specs.Safe.{Safe, IsGoodCopy, Current, Acknowledged}
 use Rattle.afr_law.specs.Safe as law
 use Rattle.afr_law.proofs.Safety.CellHistory.{safe}
-use Rattle.afr_moves.specs.Positions.{by_position}
-use Rattle.afr_moves.proofs.ByPosition.{IsPast, past_whole, past_at}
+use Rattle.afr_model_moves.specs.Positions.{by_position}
+use Rattle.afr_model_moves.proofs.ByPosition.{IsPast, past_whole, past_at}
 use Rattle.afr_law.proofs.Model.Cells.{kind_cell, object_cell, cell_back, touches_same, leaves_same, value_sort, leaves_sort, code_same, acknowledged_is, below_length}
 use Rattle.afr_law.specs.Beginning.{start_of}
 use Rattle.afr_law.proofs.Model.Places.{far_current}
@@ -39,7 +39,7 @@ use Rattle.afr_law.proofs.Model.Sums.{holds_is, pending_is}
 use Rattle.afr_law.proofs.Model.Tables.{code_is_value}
 use Rattle.afr_law.specs.ModelLaw.{ModelLawfulIsSafe}
 use Rattle.std.proofs.lemmas.Bool.{eqb-true, ltb-true, not-true}
-use Rattle.afr_moves.proofs.Tests.{four_parts}
+use Rattle.afr_model_moves.proofs.Tests.{four_parts}
 
 -- ---- tests
 none_of : (f : ℕ → Bool) (s : List ℕ) → list_any f s ≡ false → (x : ℕ) → member s x ≡ true → f x ≡ false

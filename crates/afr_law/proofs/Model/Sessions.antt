@@ -14,9 +14,9 @@ use Rattle.afr_model.specs.Report.{started_bricks}
 use Rattle.afr_lines.specs.Places.{place_of}
 use Rattle.afr_model.specs.Sessions.{is_linked, opens_with, ends_session, is_joined}
 use Rattle.afr_model.specs.Sessions as model
-use Rattle.afr_moves.specs.Past.{Log, started, started_after, linked, linked_after, opening, joined, ends}
-use Rattle.afr_moves.proofs.ByPosition.{IsPast}
-use Rattle.afr_moves.proofs.Places.{of_same, opens_same, place_is}
+use Rattle.afr_model_moves.specs.Past.{Log, started, started_after, linked, linked_after, opening, joined, ends}
+use Rattle.afr_model_moves.proofs.ByPosition.{IsPast}
+use Rattle.afr_model_moves.proofs.Places.{of_same, opens_same, place_is}
 
 pub ends_same : (a b : ℕ) (line : Line) → ends a b (Some line) ≡ ends_session a b line
 unfolding ends

@@ -14,27 +14,27 @@ use Rattle.afr_plan.specs.declared.plan.Plan.{Plan}
 use Rattle.afr_model.specs.Honest.{Honest as IsHonestLog, IsHonest, fault_in}
 use Rattle.afr_model.specs.Sums.{has_object}
 use Rattle.afr_base.specs.Kinds.{same_kind}
-use Rattle.afr_tables.specs.SumLaws.{all_true}
+use Rattle.afr_law_tables.specs.SumLaws.{all_true}
 use Rattle.afr_law.proofs.Safety.Acts.{may_ask}
 use Rattle.afr_law.proofs.Safety.CellLemmas.{posts_rise, shows_at}
-use Rattle.afr_tables.specs.Codes.{kept_by, kind_code, value_code}
+use Rattle.afr_law_tables.specs.Codes.{kept_by, kind_code, value_code}
 use Rattle.afr_law.proofs.Heals.Looks.{settle_works}
 use Rattle.afr_law.proofs.Heals.Marks.{ready}
 use Rattle.afr_law.proofs.Heals.EachLine.{viewings}
-use Rattle.afr_moves.specs.Honest.{asked, HonestLine, Honest, KnownMake, Shows}
+use Rattle.afr_model_moves.specs.Honest.{asked, HonestLine, Honest, KnownMake, Shows}
 use Rattle.afr_law.specs.Law.{MayNext}
-use Rattle.afr_moves.specs.Rules.{May, Lawful, opened, present}
-use Rattle.afr_moves.specs.Lines.{ask_by, settle_on}
-use Rattle.afr_moves.specs.Past.{Beginning, Log, before, joined, opening, pending, posts, settled}
-use Rattle.afr_moves.specs.Positions.{by_position}
-use Rattle.afr_moves.proofs.ByPosition.{IsPast, past_whole, before_past, none_at}
+use Rattle.afr_model_moves.specs.Rules.{May, Lawful, opened, present}
+use Rattle.afr_model_moves.specs.Lines.{ask_by, settle_on}
+use Rattle.afr_model_moves.specs.Past.{Beginning, Log, before, joined, opening, pending, posts, settled}
+use Rattle.afr_model_moves.specs.Positions.{by_position}
+use Rattle.afr_model_moves.proofs.ByPosition.{IsPast, past_whole, before_past, none_at}
 use Rattle.afr_law.proofs.Safety.Steps.{may_here}
 use Rattle.afr_law.proofs.Model.Honest.{honest_ask, small_of}
 use Rattle.afr_law.specs.Beginning.{start_of}
 use Rattle.afr_law.proofs.Model.SoundLog.{LawfulBelow}
 use Rattle.afr_law.proofs.Model.Tables.{all_same}
-use Rattle.afr_tables.proofs.Values.{code_of}
-use Rattle.afr_moves.specs.Cells.{Entry, entry_code}
+use Rattle.afr_law_tables.proofs.Values.{code_of}
+use Rattle.afr_model_moves.specs.Cells.{Entry, entry_code}
 use Rattle.afr_object.specs.Tables.{copy_at}
 use Rattle.afr_object.specs.declared.change.Change.{Change}
 use Rattle.afr_object.specs.declared.change.Change.TheVariants.{Write, Cut, SetAttr, Make, Remove}
@@ -45,7 +45,7 @@ use Rattle.afr_model.specs.Tables.{entry_in, held_before}
 use Rattle.afr_law.proofs.Model.Sums.{TakesWithin, TakeWithin, now_pending, pending_is}
 use Rattle.afr_law.specs.ModelLaw.{IsLawfulLine, MakesKnown}
 use Rattle.std.proofs.lemmas.Bool.{cases_lt, eqb-true}
-use Rattle.afr_moves.proofs.Tests.{same_kind_yes}
+use Rattle.afr_model_moves.proofs.Tests.{same_kind_yes}
 use Rattle.afr_base.specs.SetLemmas.{below_all}
 
 -- ---- bricks of the plan

@@ -36,8 +36,8 @@ use Rattle.afr_object.specs.declared.entry.Entry.{Entry}
 use Rattle.afr_object.specs.Object.{Object}
 use Rattle.afr_object.specs.TablesLemmas.{same_gfid}
 use Rattle.afr_plan.specs.declared.plan.Plan.{Plan}
-use Rattle.afr_tables.proofs.Sound.{EachCopy, each_all_made, each_changed, each_made}
-use Rattle.afr_moves.specs.Transaction.{EndsLow}
+use Rattle.afr_law_tables.proofs.Sound.{EachCopy, each_all_made, each_changed, each_made}
+use Rattle.afr_model_moves.specs.Transaction.{EndsLow}
 use Rattle.afr_law.specs.ModelLaw.{IsKnown, IsLawful, IsReadAt, NamesReads}
 use Rattle.std.proofs.lemmas.Option.{same_Some}
 

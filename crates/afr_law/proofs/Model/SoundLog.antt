@@ -22,11 +22,11 @@ use Rattle.afr_lines.specs.declared.request.Request.TheVariants.{Pre, Apply, Pos
 use Rattle.afr_lines.specs.declared.request.Request.TheVariants as request
 use Rattle.afr_plan.specs.declared.plan.Plan.{Plan}
 use Rattle.afr_model.specs.Tables.{Past, holds, held_before, step, asked, effect, keeps_bytes, content_in, names_in, names_shown, bytes_shown, all_names_shown, carried}
-use Rattle.afr_tables.proofs.Names.{AreRising}
-use Rattle.afr_moves.specs.Rules.{EachRead}
-use Rattle.afr_tables.proofs.Merged.{AreBelow, AllBelow, below_merged, rising_merged}
-use Rattle.afr_tables.proofs.Sound.{EachCopy, IsSound, NameFits, CarriesSound, each_changed, sound_applied, sound_mended, sound_opening}
-use Rattle.afr_tables.specs.Ends.{EndsInTime}
+use Rattle.afr_law_tables.proofs.Names.{AreRising}
+use Rattle.afr_model_moves.specs.Rules.{EachRead}
+use Rattle.afr_law_tables.proofs.Merged.{AreBelow, AllBelow, below_merged, rising_merged}
+use Rattle.afr_law_tables.proofs.Sound.{EachCopy, IsSound, NameFits, CarriesSound, each_changed, sound_applied, sound_mended, sound_opening}
+use Rattle.afr_law_tables.specs.Ends.{EndsInTime}
 use Rattle.afr_law.specs.ModelLaw.{IsReadAt, NamesReads, IsKnown, IsLawful, IsLawfulLine}
 use Rattle.std.proofs.lemmas.Option.{same_Some}
 

@@ -24,17 +24,17 @@ use Rattle.afr_lines.specs.declared.request.Request.TheVariants.{Pre, Apply, Pos
 use Rattle.afr_plan.specs.declared.plan.Plan.{Plan}
 use Rattle.afr_model.specs.Tables.{Past, holds, held_before, step, effect, keeps_bytes, carried}
 use Rattle.afr_model.specs.Cells.{value_in}
-use Rattle.afr_moves.specs.Cells.{Cell, Byte, Attr, Entry, object_of, kind_of, fits, is_cell, touches, leaves}
-use Rattle.afr_tables.specs.Codes.{kind_in, code_in, cell_by, kept_by}
-use Rattle.afr_moves.specs.Past.{Log, before, keep, choose, made, changes, leaves_of, makes, mends, place, opens, target, touch_of, left_by, last, object, object_of_line, kind_at, values, value}
+use Rattle.afr_model_moves.specs.Cells.{Cell, Byte, Attr, Entry, object_of, kind_of, fits, is_cell, touches, leaves}
+use Rattle.afr_law_tables.specs.Codes.{kind_in, code_in, cell_by, kept_by}
+use Rattle.afr_model_moves.specs.Past.{Log, before, keep, choose, made, changes, leaves_of, makes, mends, place, opens, target, touch_of, left_by, last, object, object_of_line, kind_at, values, value}
 use Rattle.afr_law.proofs.Safety.Touches.{kind_next, value_next, begin_kinds, begin_cells}
-use Rattle.afr_moves.specs.Rules.{in_force, register}
+use Rattle.afr_model_moves.specs.Rules.{in_force, register}
 use Rattle.afr_law.proofs.Safety.Agree.{last_same}
-use Rattle.afr_tables.proofs.Names.{AreRising}
-use Rattle.afr_moves.proofs.ByPosition.{IsPast, past_at, before_past}
-use Rattle.afr_moves.specs.Positions.{by_position}
-use Rattle.afr_tables.proofs.Copies.{kind_changed, kind_applied, made_by, keep_none}
-use Rattle.afr_tables.proofs.Values.{code_left, code_applied}
+use Rattle.afr_law_tables.proofs.Names.{AreRising}
+use Rattle.afr_model_moves.proofs.ByPosition.{IsPast, past_at, before_past}
+use Rattle.afr_model_moves.specs.Positions.{by_position}
+use Rattle.afr_law_tables.proofs.Copies.{kind_changed, kind_applied, made_by, keep_none}
+use Rattle.afr_law_tables.proofs.Values.{code_left, code_applied}
 use Rattle.afr_law.proofs.Model.Begun.{idle_first}
 use Rattle.afr_law.proofs.Model.Carried.{SameAt, carries, kept_bytes}
 use Rattle.afr_law.proofs.Model.SoundLog.{AllSound, LawfulBelow, all_sound}

@@ -16,18 +16,18 @@ use Rattle.afr_lines.specs.declared.request.Request.TheVariants.{Lock}
 use Rattle.afr_lines.specs.declared.answer.Told.{Told}
 use Rattle.afr_lines.specs.declared.line.Line.{Line}
 use Rattle.afr_lines.specs.declared.line.Line.TheVariants.{End}
-use Rattle.afr_moves.specs.Sets.{with, without}
-use Rattle.afr_moves.specs.Past.{Beginning, Log, held, opens, place, is_of, is_gone}
-use Rattle.afr_moves.specs.Honest.{Honest}
-use Rattle.afr_moves.specs.Rules.{Register, fresh, MayBegin, MayHealEnd, LastPosted, begun, is_area, looked, viewed, put_view, is_none, locking, area_object, note_ask, dropping, note, in_force, register, MayAsk, MayLock, MayHealLock, MayHealBegin, Lawful, opened, present, busy, second_of, second_freed}
+use Rattle.afr_model_moves.specs.Sets.{with, without}
+use Rattle.afr_model_moves.specs.Past.{Beginning, Log, held, opens, place, is_of, is_gone}
+use Rattle.afr_model_moves.specs.Honest.{Honest}
+use Rattle.afr_model_moves.specs.Rules.{Register, fresh, MayBegin, MayHealEnd, LastPosted, begun, is_area, looked, viewed, put_view, is_none, locking, area_object, note_ask, dropping, note, in_force, register, MayAsk, MayLock, MayHealLock, MayHealBegin, Lawful, opened, present, busy, second_of, second_freed}
 use Rattle.std.specs.Prelude.{nat_lt}
 use Rattle.afr_law.specs.Safe.{end_of, or_else, outcome, Acknowledged}
 use Rattle.afr_law.proofs.Safety.Standing.{Noted, noted, Grants, Waits, Frees, Tries, HealGrants, HealWaits, HealFrees, HealTries, Looks, Pres, Applies, Posts, Mends, Settles, Same}
 use Rattle.afr_law.proofs.Safety.Registers.{MayOf, registers_at, Own, Asks, Begins, HealBegins, Ends, HealEnds}
 use Rattle.afr_law.proofs.Safety.Numbers.{Recorded, Numbered, numbered_fresh, numbered_next, numbered_own, force_fresh, last_foreign}
-use Rattle.afr_moves.specs.Lines.{ask_by, begin_by, heal_begin_by, end_by, heal_end_by, is_ok}
+use Rattle.afr_model_moves.specs.Lines.{ask_by, begin_by, heal_begin_by, end_by, heal_end_by, is_ok}
 use Rattle.std.proofs.lemmas.Bool.{cases_lt}
-use Rattle.afr_moves.proofs.Tests.{same_self}
+use Rattle.afr_model_moves.proofs.Tests.{same_self}
 
 -- Post lines at a majority
 pub record Fixed (n : ℕ) (log : Log) (t a q : ℕ) : Type 0 where

@@ -13,16 +13,16 @@ use Rattle.afr_lines.specs.declared.request.Request.TheVariants.{Apply}
 use Rattle.afr_lines.specs.declared.answer.Told.{Told}
 use Rattle.afr_lines.specs.declared.line.Line.{Line}
 use Rattle.afr_lines.specs.declared.line.Line.TheVariants.{Begin, HealBegin}
-use Rattle.afr_moves.specs.Cells.{Cell, covers}
-use Rattle.afr_moves.specs.Past.{Beginning, Log, last, last_after, changes, mends, started, linked, joined, opening, opens, place, is_of}
-use Rattle.afr_moves.specs.Honest.{HonestAsk, HonestLine, Honest, asked}
-use Rattle.afr_moves.specs.Rules.{Register, CoveredBy, CoversAll, CoversMend, PlaneIs, MayApply, MayPost, in_force, register, May, MayAsk, Lawful, opened, present}
-use Rattle.afr_moves.specs.Cells.{touches, is_cell, object_of, kind_of}
+use Rattle.afr_model_moves.specs.Cells.{Cell, covers}
+use Rattle.afr_model_moves.specs.Past.{Beginning, Log, last, last_after, changes, mends, started, linked, joined, opening, opens, place, is_of}
+use Rattle.afr_model_moves.specs.Honest.{HonestAsk, HonestLine, Honest, asked}
+use Rattle.afr_model_moves.specs.Rules.{Register, CoveredBy, CoversAll, CoversMend, PlaneIs, MayApply, MayPost, in_force, register, May, MayAsk, Lawful, opened, present}
+use Rattle.afr_model_moves.specs.Cells.{touches, is_cell, object_of, kind_of}
 use Rattle.afr_law.proofs.Safety.Locks.{Locked, apart_others}
 use Rattle.afr_law.proofs.Safety.Standing.{Standing}
 use Rattle.afr_law.proofs.Safety.Registers.{standing}
 use Rattle.afr_law.proofs.Safety.Numbers.{Applied, Numbered, numbered, last_asked}
-use Rattle.afr_moves.specs.Lines.{ask_by, post_on}
+use Rattle.afr_model_moves.specs.Lines.{ask_by, post_on}
 use Rattle.std.proofs.lemmas.Bool.{cases_lt, cases_eq}
 
 -- suc of a number stands in `last` from its line on

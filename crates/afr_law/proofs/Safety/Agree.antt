@@ -2,12 +2,12 @@
 use Rattle.std.proofs.Common.{◌≡◌, ℕ, zero, suc, ◌+◌, ◌-◌, ◌<◌, ◌≤◌, Bool, true, false, ◌&&◌, ◌||◌, not, refl, sym, ap, ◌∙◌, subst, arith}
 use Rattle.std.specs.Prelude.{None, ◌==◌, if◌then◌else◌, nat_lt, nat_le}
 use Rattle.afr_base.specs.declared.ids.Kind.{Kind}
-use Rattle.afr_moves.specs.Cells.{fits, Cell, object_of, kind_of}
-use Rattle.afr_moves.specs.Past.{Beginning, kind_at, Log, before, is_of, ends, place, place_after, opens, started, started_after, linked, linked_after, opening, joined, grants, frees, held, last, last_after, holds, touch_of, touch, over, stamp, values, value, named, posts, taken, settled, changes, leaves_of, Tables, tables, after}
-use Rattle.afr_moves.specs.Honest.{asks, asked}
+use Rattle.afr_model_moves.specs.Cells.{fits, Cell, object_of, kind_of}
+use Rattle.afr_model_moves.specs.Past.{Beginning, kind_at, Log, before, is_of, ends, place, place_after, opens, started, started_after, linked, linked_after, opening, joined, grants, frees, held, last, last_after, holds, touch_of, touch, over, stamp, values, value, named, posts, taken, settled, changes, leaves_of, Tables, tables, after}
+use Rattle.afr_model_moves.specs.Honest.{asks, asked}
 use Rattle.afr_law.specs.Safe.{end_of, or_else, outcome, Acknowledged, Current, Opening, Left, Safe}
-use Rattle.afr_moves.specs.Rules.{register, register_after}
-use Rattle.afr_moves.specs.Tally.{tally, tally_after}
+use Rattle.afr_model_moves.specs.Rules.{register, register_after}
+use Rattle.afr_model_moves.specs.Tally.{tally, tally_after}
 use Rattle.afr_law.specs.Dirty.{raising, raised, lowering, lowered}
 use Rattle.afr_law.specs.Alike.{Alike}
 use Rattle.std.proofs.lemmas.Bool.{ltb-true}

@@ -4,7 +4,7 @@ use Rattle.std.proofs.Common.{◌≡◌, true, arith}
 use Rattle.std.proofs.lemmas.Bool.Decides.{nat_tests}
 use Rattle.afr_lines.specs.declared.request.Area.{Area}
 use Rattle.afr_lines.specs.declared.request.Area.TheVariants.{Range, Name}
-use Rattle.afr_moves.specs.Cells.{Cell, Byte, Attr, Entry, covers}
+use Rattle.afr_model_moves.specs.Cells.{Cell, Byte, Attr, Entry, covers}
 
 pub overlap-covers : (a b : Area) (cell : Cell) → covers a cell ≡ true → covers b cell ≡ true → overlap a b ≡ true
 unfolding covers

@@ -15,16 +15,16 @@ use Rattle.afr_lines.specs.declared.answer.Told.{Told}
 use Rattle.afr_lines.specs.declared.answer.Told.TheVariants.{Done}
 use Rattle.afr_lines.specs.declared.line.Line.{Line}
 use Rattle.afr_lines.specs.declared.line.Line.TheVariants.{Begin}
-use Rattle.afr_moves.specs.Cells.{Cell, covers}
-use Rattle.afr_moves.specs.Past.{Beginning, Log, born, before, brick_of, holds, touch, over, stamp, choose, left_by, leaves_of, values, value, named, posts, settled, changes, mends, joined, opening, object, object_of_line}
-use Rattle.afr_moves.specs.Honest.{HonestLine, Honest, finds, Shows, view_marks, asked, begins_attempt}
-use Rattle.afr_moves.specs.Rules.{Register, MayPost, MayMend, MaySettle, UnaccusedViews, ReadOf, CutOf, BringsSeen, piece, Lawful, present, repair_kind}
-use Rattle.afr_moves.specs.Cells.{object_of, kind_of, Byte, Attr, Entry}
+use Rattle.afr_model_moves.specs.Cells.{Cell, covers}
+use Rattle.afr_model_moves.specs.Past.{Beginning, Log, born, before, brick_of, holds, touch, over, stamp, choose, left_by, leaves_of, values, value, named, posts, settled, changes, mends, joined, opening, object, object_of_line}
+use Rattle.afr_model_moves.specs.Honest.{HonestLine, Honest, finds, Shows, view_marks, asked, begins_attempt}
+use Rattle.afr_model_moves.specs.Rules.{Register, MayPost, MayMend, MaySettle, UnaccusedViews, ReadOf, CutOf, BringsSeen, piece, Lawful, present, repair_kind}
+use Rattle.afr_model_moves.specs.Cells.{object_of, kind_of, Byte, Attr, Entry}
 use Rattle.afr_base.specs.declared.ids.Kind.TheVariants.{Bytes}
 use Rattle.afr_object.specs.declared.change.Repair.TheVariants.{CutTo, Copy, PutAttrs, PutNames}
 use Rattle.std.specs.Prelude.{slice_index, nat_le, nat_lt, length, List as Seq}
 use Rattle.afr_object.specs.declared.change.Change.TheVariants.{Write, Cut}
-use Rattle.afr_moves.specs.Cells.{fits, is_cell, touches}
+use Rattle.afr_model_moves.specs.Cells.{fits, is_cell, touches}
 use Rattle.afr_law.specs.Safe.{Acknowledged, Current, Opening, Left, IsGoodCopy, Safe}
 use Rattle.afr_law.proofs.Safety.Core.{History, Clean, kept_on, one_cell, one_read, reached, stamp_rises}
 use Rattle.afr_law.proofs.Safety.Locks.{before_is}
@@ -37,9 +37,9 @@ use Rattle.afr_law.proofs.Safety.Touches.{Touched, touched, Not, Made, Mended, s
 use Rattle.afr_law.proofs.Safety.Objects.{holds_fits, unfit_nowhere, seen_born, change_fits}
 use Rattle.afr_base.specs.Majority.{majorities_share, IsMajority}
 use Rattle.afr_law.proofs.Safety.Acks.{Fixed, acknowledged_fixed}
-use Rattle.afr_moves.specs.Lines.{ask_by, post_on, settle_on, cut_to}
+use Rattle.afr_model_moves.specs.Lines.{ask_by, post_on, settle_on, cut_to}
 use Rattle.afr_law.proofs.Safety.CellLemmas.{PostedAt, change_plane, post_here, leaves_at, IsOriginAt, origin_later, CountsAt, posts_rise, begins, no_marks, LooksCell, looks_act, shows_at, most_is, WrittenAt, cut_zero}
-use Rattle.afr_moves.proofs.Tests.{same_self, same_kind_self, positive}
+use Rattle.afr_model_moves.proofs.Tests.{same_self, same_kind_self, positive}
 
 module _ (n : ℕ) (files : Beginning) (faults : ℕ → ℕ → Option Fault) (log : Log) (honest : Honest files faults log) (lawful : Lawful n files.keeps log) (cell : Cell) (real : is_cell cell ≡ true) (fit : fits (born files log (object_of cell)) cell ≡ true) where
   finds_at : (t a b : ℕ) (request : Request) → log t ≡ Some (ask_by a b request Done true) → finds files log t b request ≡ true

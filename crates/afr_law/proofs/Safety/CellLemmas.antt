@@ -12,23 +12,23 @@ use Rattle.afr_lines.specs.declared.answer.Told.{Told}
 use Rattle.afr_lines.specs.declared.answer.Told.TheVariants.{Seen}
 use Rattle.afr_lines.specs.declared.line.Line.{Line}
 use Rattle.afr_lines.specs.declared.line.Line.TheVariants.{Begin}
-use Rattle.afr_moves.specs.Cells.{Cell, covers}
-use Rattle.afr_moves.specs.Past.{Beginning, Log, holds, touch, stamp, leaves_of, most, value, posts, settled, changes, mends, object, object_of_line}
-use Rattle.afr_moves.specs.Honest.{HonestAsk, Shows, plane_kind, Tells}
-use Rattle.afr_moves.specs.Rules.{PlaneIs, some_read, EachRead}
-use Rattle.afr_moves.specs.Cells.{object_of, kind_of, Byte, Attr, Entry}
+use Rattle.afr_model_moves.specs.Cells.{Cell, covers}
+use Rattle.afr_model_moves.specs.Past.{Beginning, Log, holds, touch, stamp, leaves_of, most, value, posts, settled, changes, mends, object, object_of_line}
+use Rattle.afr_model_moves.specs.Honest.{HonestAsk, Shows, plane_kind, Tells}
+use Rattle.afr_model_moves.specs.Rules.{PlaneIs, some_read, EachRead}
+use Rattle.afr_model_moves.specs.Cells.{object_of, kind_of, Byte, Attr, Entry}
 use Rattle.afr_base.specs.declared.ids.Kind.TheVariants.{Bytes}
 use Rattle.std.specs.Prelude.{nat_le, nat_lt, length, List as Seq, [], ◌∷◌, max}
 use Rattle.afr_object.specs.declared.change.Change.TheVariants.{Write, Cut, SetAttr, Make, Remove}
-use Rattle.afr_moves.specs.Cells.{touches}
+use Rattle.afr_model_moves.specs.Cells.{touches}
 use Rattle.afr_law.proofs.Safety.Core.{Clean}
 use Rattle.afr_law.proofs.Safety.Acts.{Act}
 use Rattle.afr_law.proofs.Heals.Looks.{LookAt, look_acts}
 use Rattle.afr_law.proofs.Safety.Touches.{begin_cells}
 use Rattle.afr_base.specs.Majority.{IsMajority}
-use Rattle.afr_moves.specs.Lines.{ask_by, look_at, post_on, cut_to}
+use Rattle.afr_model_moves.specs.Lines.{ask_by, look_at, post_on, cut_to}
 use Rattle.afr_base.specs.Bricks.{and_left}
-use Rattle.afr_moves.proofs.Tests.{first_equal, max_cases}
+use Rattle.afr_model_moves.proofs.Tests.{first_equal, max_cases}
 
 -- a Post of an attempt that touches the cell
 pub record PostedAt (files : Beginning) (log : Log) (cell : Cell) (q x p : ℕ) : Type 0 where

@@ -1,7 +1,7 @@
 -- Safety of one cell, from facts about the lines that touch it. Numbers are positions of Begin and HealBegin lines.
 use Rattle.std.proofs.Common.{◌≡◌, ℕ, zero, suc, ◌+◌, ◌-◌, ◌<◌, ◌≤◌, Bool, true, ◌⊎◌, inl, inr, refl, sym, ◌∙◌, subst, arith}
 use Rattle.afr_base.specs.Majority.{majorities_share, IsMajority}
-use Rattle.afr_moves.proofs.Tests.{three_cases}
+use Rattle.afr_model_moves.proofs.Tests.{three_cases}
 use Rattle.std.proofs.lemmas.Bool.{cases_lt}
 
 -- a majority of bricks, none of which accuses `source` at the looks of number h; the marks that were taken back there are those that were at h

@@ -11,13 +11,13 @@ use Rattle.afr_lines.specs.declared.lock.Domain.TheVariants.{Work}
 use Rattle.afr_lines.specs.declared.request.Area.{Area}
 use Rattle.afr_lines.specs.declared.request.Request.TheVariants.{Lock}
 use Rattle.afr_lines.specs.declared.answer.Told.TheVariants.{Granted}
-use Rattle.afr_moves.specs.Cells.{Cell, covers}
-use Rattle.afr_moves.specs.Past.{Beginning, Log, before, held, grants, frees, blocks, ends, unlocks, joined, opening, actor_of}
-use Rattle.afr_moves.specs.Honest.{HonestAsk, HonestLine, Honest, asked}
+use Rattle.afr_model_moves.specs.Cells.{Cell, covers}
+use Rattle.afr_model_moves.specs.Past.{Beginning, Log, before, held, grants, frees, blocks, ends, unlocks, joined, opening, actor_of}
+use Rattle.afr_model_moves.specs.Honest.{HonestAsk, HonestLine, Honest, asked}
 use Rattle.afr_law.proofs.Safety.Areas.{overlap-covers}
-use Rattle.afr_moves.specs.Lines.{ask_by}
+use Rattle.afr_model_moves.specs.Lines.{ask_by}
 use Rattle.std.proofs.lemmas.Bool.{cases_lt, eqb-true, ne_eqb}
-use Rattle.afr_moves.proofs.Tests.{same_self, same_no, three_cases}
+use Rattle.afr_model_moves.proofs.Tests.{same_self, same_no, three_cases}
 
 -- the line at p granted this lock
 pub record Grant (log : Log) (p a b : ℕ) (domain : Domain) (area : Area) : Type 0 where

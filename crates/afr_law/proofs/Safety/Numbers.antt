@@ -19,15 +19,15 @@ use Rattle.afr_lines.specs.declared.answer.Told.{Told}
 use Rattle.afr_lines.specs.declared.answer.Told.TheVariants.{Done}
 use Rattle.afr_lines.specs.declared.line.Line.{Line}
 use Rattle.afr_lines.specs.declared.line.Line.TheVariants.{Ask, Begin, HealBegin, End, HealEnd, Event}
-use Rattle.afr_moves.specs.Sets.{with, without}
-use Rattle.afr_moves.specs.Cells.{Cell}
-use Rattle.afr_moves.specs.Past.{Beginning, Log, held, last, last_after, joined, opening, is_of, is_gone}
-use Rattle.afr_moves.specs.Honest.{HonestAsk, HonestLine, Honest, asked}
-use Rattle.afr_moves.specs.Rules.{Register, fresh, CoveredBy, SomeCell, PlaneIs, SeenFit, MayApply, MayPost, MayPre, MayBegin, begun, is_area, looked, viewed, looking, put_view, is_none, unlocked, released, locking, area_object, mend_cells, piece, note_ask, dropping, note, in_force, register, MayAsk, MayHealLock, MayHealBegin, Lawful, busy, second_of, second_freed, heal_freed}
+use Rattle.afr_model_moves.specs.Sets.{with, without}
+use Rattle.afr_model_moves.specs.Cells.{Cell}
+use Rattle.afr_model_moves.specs.Past.{Beginning, Log, held, last, last_after, joined, opening, is_of, is_gone}
+use Rattle.afr_model_moves.specs.Honest.{HonestAsk, HonestLine, Honest, asked}
+use Rattle.afr_model_moves.specs.Rules.{Register, fresh, CoveredBy, SomeCell, PlaneIs, SeenFit, MayApply, MayPost, MayPre, MayBegin, begun, is_area, looked, viewed, looking, put_view, is_none, unlocked, released, locking, area_object, mend_cells, piece, note_ask, dropping, note, in_force, register, MayAsk, MayHealLock, MayHealBegin, Lawful, busy, second_of, second_freed, heal_freed}
 use Rattle.afr_law.proofs.Safety.Standing.{Noted, noted, Grants, Waits, Frees, Tries, HealGrants, HealWaits, HealFrees, HealTries, Looks, Pres, Applies, Posts, Mends, Settles, Same}
 use Rattle.afr_law.proofs.Safety.Registers.{Own, Asks, Begins, HealBegins, Ends, HealEnds, registers, MayOf}
-use Rattle.afr_moves.specs.Lines.{ask_by, begin_by, heal_begin_by, end_by, heal_end_by, pre_on, post_on}
-use Rattle.afr_moves.proofs.Tests.{same_self, with_cases, no_number}
+use Rattle.afr_model_moves.specs.Lines.{ask_by, begin_by, heal_begin_by, end_by, heal_end_by, pre_on, post_on}
+use Rattle.afr_model_moves.proofs.Tests.{same_self, with_cases, no_number}
 
 pub record Attempt (log : Log) (a q : ℕ) (area : Option Area) (pre : ℕ → Bool) : Type 0 where
   pub change : Change

@@ -7,10 +7,10 @@ use Rattle.afr_lines.specs.declared.answer.Told.TheVariants.{Seen}
 use Rattle.afr_lines.specs.declared.line.Line.{Line}
 use Rattle.afr_lines.specs.declared.line.Line.TheVariants.{Ask}
 use Rattle.afr_lines.specs.declared.request.Request.TheVariants.{Look}
-use Rattle.afr_moves.specs.Past.{Beginning, Log, before}
+use Rattle.afr_model_moves.specs.Past.{Beginning, Log, before}
 use Rattle.afr_law.specs.Dirty.{ShowsDirty, DirtyShown, TracksDirty, DirtyTracked}
-use Rattle.afr_moves.specs.Honest.{Honest}
-use Rattle.afr_moves.specs.Rules.{Lawful}
+use Rattle.afr_model_moves.specs.Honest.{Honest}
+use Rattle.afr_model_moves.specs.Rules.{Lawful}
 use Rattle.afr_law.proofs.Alike.Raises.{none_below}
 use Rattle.afr_law.specs.Alike.{Alike}
 use Rattle.afr_law.specs.Law.{HonestLog, LawfulLog, DirtyShownLog, AlikeLog}

@@ -18,15 +18,15 @@ use Rattle.afr_lines.specs.declared.answer.Told.{Told}
 use Rattle.afr_lines.specs.declared.answer.Told.TheVariants.{Granted, Done}
 use Rattle.afr_lines.specs.declared.line.Line.{Line}
 use Rattle.afr_lines.specs.declared.line.Line.TheVariants.{Ask, Begin, HealBegin, End, HealEnd, Event}
-use Rattle.afr_moves.specs.Sets.{with}
-use Rattle.afr_moves.specs.Past.{Beginning, Log, ends, unlocks, joined, opening, opens, place, is_of, is_gone}
-use Rattle.afr_moves.specs.Honest.{HonestAsk, HonestLine, Honest, asked}
-use Rattle.afr_moves.specs.Rules.{Register, fresh, is_area, locking, piece, note_ask, dropping, note, in_force, register_after, register, May, MayAsk, Lawful, opened, present, busy}
+use Rattle.afr_model_moves.specs.Sets.{with}
+use Rattle.afr_model_moves.specs.Past.{Beginning, Log, ends, unlocks, joined, opening, opens, place, is_of, is_gone}
+use Rattle.afr_model_moves.specs.Honest.{HonestAsk, HonestLine, Honest, asked}
+use Rattle.afr_model_moves.specs.Rules.{Register, fresh, is_area, locking, piece, note_ask, dropping, note, in_force, register_after, register, May, MayAsk, Lawful, opened, present, busy}
 use Rattle.afr_law.proofs.Safety.Locks.{Grant, held_on, held_new}
-use Rattle.afr_moves.specs.Lines.{ask_by, begin_by, heal_begin_by, end_by, heal_end_by, look_at, pre_on, post_on, settle_on}
+use Rattle.afr_model_moves.specs.Lines.{ask_by, begin_by, heal_begin_by, end_by, heal_end_by, look_at, pre_on, post_on, settle_on}
 use Rattle.afr_law.proofs.Safety.Standing.{KeepsLocks, Noted, Grants, Waits, Frees, Tries, HealGrants, HealWaits, HealFrees, HealTries, Looks, Pres, Applies, Posts, Mends, Settles, Same, noted, HeldAt, Standing, standing_fresh, standing_next, standing_dropped, standing_granted, standing_looking, Onward, Goes, New, onward, FairUnlock, standing_heal_freed, standing_heal_tried, standing_locking, locking_area, standing_heal_locking, keeps_all, lock_keeps, look_keeps, pre_keeps, apply_keeps, post_keeps, mend_keeps, settle_keeps, standing_released, standing_tried}
 use Rattle.std.proofs.lemmas.Bool.{eqb-true}
-use Rattle.afr_moves.proofs.Tests.{with_cases}
+use Rattle.afr_model_moves.proofs.Tests.{with_cases}
 
 pub standing_asked : (n : ℕ) (keeps : ℕ → Kind → Bool) (log : Log) (t a b : ℕ) (request : Request) (told : Told) (took first : Bool) (r : Register)
     → log t ≡ Some (ask_by a b request told took) → Onward log t a first r → MayAsk n keeps log t a first r b request → FairUnlock request told took

@@ -16,11 +16,11 @@ use Rattle.afr_base.specs.declared.ids.ActorId.{ActorId}
 use Rattle.afr_base.specs.declared.ids.Gfid.{Gfid}
 use Rattle.afr_lines.specs.Places.{Between, Fresh, Indexed, Place, Within, next_place}
 use Rattle.afr_object.specs.declared.change.Change.{Change}
-use Rattle.afr_moves.proofs.Tests.{same_self}
-use Rattle.afr_moves.specs.Honest.{Honest, HonestAsk, HonestLine, asked}
-use Rattle.afr_moves.specs.Lines.{ask_by}
-use Rattle.afr_moves.specs.Past.{Beginning, Log, before, ends, frees, grants, held, is_gone, joined, opening, unlocks}
-use Rattle.afr_moves.specs.Sets.{without}
+use Rattle.afr_model_moves.proofs.Tests.{same_self}
+use Rattle.afr_model_moves.specs.Honest.{Honest, HonestAsk, HonestLine, asked}
+use Rattle.afr_model_moves.specs.Lines.{ask_by}
+use Rattle.afr_model_moves.specs.Past.{Beginning, Log, before, ends, frees, grants, held, is_gone, joined, opening, unlocks}
+use Rattle.afr_model_moves.specs.Sets.{without}
 use Rattle.afr_lines.specs.declared.lock.Domain.{Domain}
 use Rattle.std.proofs.lemmas.Bool.{or_parts}
 use Rattle.afr_law.proofs.Safety.Locks.{Grant, before_is, held_past, step_cases}

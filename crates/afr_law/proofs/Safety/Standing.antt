@@ -1,5 +1,5 @@
 -- What a register says of the locks of its actor, and what a request leaves of it.
-use Rattle.afr_moves.proofs.AreaLemmas.{is_area_is}
+use Rattle.afr_model_moves.proofs.AreaLemmas.{is_area_is}
 use Rattle.std.specs.Prelude.{List as Seq}
 use Rattle.afr_lines.specs.Locks.{same_domain}
 use Rattle.afr_lines.specs.Overlap.{same_area}
@@ -17,13 +17,13 @@ use Rattle.afr_lines.specs.declared.request.Request.{Request}
 use Rattle.afr_lines.specs.declared.request.Request.TheVariants.{Lock, Unlock, Look, Pre, Apply, Post, Mend, Settle}
 use Rattle.afr_lines.specs.declared.answer.Told.{Told}
 use Rattle.afr_lines.specs.declared.answer.Told.TheVariants.{Granted, Seen, Done}
-use Rattle.afr_moves.specs.Sets.{with, without, empty}
-use Rattle.afr_moves.specs.Past.{Log, held, unlocks, joined, is_gone}
-use Rattle.afr_moves.specs.Rules.{Register, fresh, begun, is_area, looked, viewed, looking, put_view, is_none, unlocked, released, locking, granting, heal_area, heal_freed, area_object, mend_cells, note_ask, dropping, MayHealLock, busy, second_of, second_freed}
+use Rattle.afr_model_moves.specs.Sets.{with, without, empty}
+use Rattle.afr_model_moves.specs.Past.{Log, held, unlocks, joined, is_gone}
+use Rattle.afr_model_moves.specs.Rules.{Register, fresh, begun, is_area, looked, viewed, looking, put_view, is_none, unlocked, released, locking, granting, heal_area, heal_freed, area_object, mend_cells, note_ask, dropping, MayHealLock, busy, second_of, second_freed}
 use Rattle.afr_law.proofs.Safety.Locks.{Grant, held_on}
-use Rattle.afr_moves.specs.Lines.{ask_by, look_at, pre_on, post_on, settle_on}
+use Rattle.afr_model_moves.specs.Lines.{ask_by, look_at, pre_on, post_on, settle_on}
 use Rattle.std.proofs.lemmas.Bool.{ne_eqb}
-use Rattle.afr_moves.proofs.Tests.{with_cases, with_false, no_number}
+use Rattle.afr_model_moves.proofs.Tests.{with_cases, with_false, no_number}
 
 -- no lock of this domain is given up by the request
 pub KeepsLocks : Domain → Request → Type 0

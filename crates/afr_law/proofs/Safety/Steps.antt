@@ -16,17 +16,17 @@ use Rattle.afr_lines.specs.declared.line.Line.{Line}
 use Rattle.afr_lines.specs.declared.line.Line.TheVariants.{Ask, Begin}
 use Rattle.afr_object.specs.declared.change.Change.{Change}
 use Rattle.afr_object.specs.declared.change.Change.TheVariants.{Write, Cut, SetAttr, Make, Remove}
-use Rattle.afr_moves.specs.Cells.{Entry}
-use Rattle.afr_moves.specs.Past.{Beginning, Log, before, is_of, blocks, joined, opening, place, opens, holds, object_of_line}
-use Rattle.afr_moves.specs.Honest.{KnownMake, Shows, finds, Answers, Tells, HonestAsk, HonestLine, Honest, asked, begins_attempt}
-use Rattle.afr_moves.specs.Rules.{UnaccusedViews, MayRaise, Sink, Full, Register, in_force, register, May, MayAsk, PlaneIs, ReadOf, BringsSeen, EachRead, Lawful, opened, present}
-use Rattle.afr_moves.specs.Tally.{Tally, tally}
+use Rattle.afr_model_moves.specs.Cells.{Entry}
+use Rattle.afr_model_moves.specs.Past.{Beginning, Log, before, is_of, blocks, joined, opening, place, opens, holds, object_of_line}
+use Rattle.afr_model_moves.specs.Honest.{KnownMake, Shows, finds, Answers, Tells, HonestAsk, HonestLine, Honest, asked, begins_attempt}
+use Rattle.afr_model_moves.specs.Rules.{UnaccusedViews, MayRaise, Sink, Full, Register, in_force, register, May, MayAsk, PlaneIs, ReadOf, BringsSeen, EachRead, Lawful, opened, present}
+use Rattle.afr_model_moves.specs.Tally.{Tally, tally}
 use Rattle.afr_law.specs.Law.{opening_by, HonestNext, MayNext, HonestLog, LawfulLog, SafeLog}
 use Rattle.afr_law.specs.Safe.{Safe}
 use Rattle.afr_law.proofs.Safety.Locks.{before_is, held_past}
 use Rattle.afr_law.proofs.Safety.Agree.{tally_same, before_same, before_at, place_same, started_same, linked_same, joined_same, kind_same, holds_same, value_same, posts_same, settled_same, asked_same, register_same, held_same, safe_same}
 use Rattle.afr_law.proofs.Safety.CellHistory.{safe}
-use Rattle.afr_moves.specs.Lines.{ask_by}
+use Rattle.afr_model_moves.specs.Lines.{ask_by}
 
 module _ (files : Beginning) (log other : Log) (m : ℕ) (agree : (u : ℕ) → u < m → log u ≡ other u) where
   finds_same : (b : ℕ) (request : Request) → finds files log m b request ≡ finds files other m b request

@@ -7,13 +7,13 @@ use Rattle.afr_lines.specs.declared.request.Request.TheVariants.{Apply, Mend}
 use Rattle.afr_lines.specs.declared.answer.Told.{Told}
 use Rattle.afr_lines.specs.declared.line.Line.{Line}
 use Rattle.afr_lines.specs.declared.line.Line.TheVariants.{Ask}
-use Rattle.afr_moves.specs.Cells.{Cell}
-use Rattle.afr_moves.specs.Past.{Beginning, Tables, tables, after, keep, makes, kind_at, choose, left_by, values, value, last, Log, before, touch, over, stamp, changes, mends, target}
-use Rattle.afr_moves.specs.Cells.{fits, object_of}
+use Rattle.afr_model_moves.specs.Cells.{Cell}
+use Rattle.afr_model_moves.specs.Past.{Beginning, Tables, tables, after, keep, makes, kind_at, choose, left_by, values, value, last, Log, before, touch, over, stamp, changes, mends, target}
+use Rattle.afr_model_moves.specs.Cells.{fits, object_of}
 use Rattle.std.specs.Prelude.{nat_le, nat_lt}
-use Rattle.afr_moves.specs.Lines.{ask_by}
+use Rattle.afr_model_moves.specs.Lines.{ask_by}
 use Rattle.std.proofs.lemmas.Bool.{cases_lt, eqb-true, ltb-true}
-use Rattle.afr_moves.proofs.Tests.{three_parts}
+use Rattle.afr_model_moves.proofs.Tests.{three_parts}
 
 -- how a line touches a cell
 pub data Touched (files : Beginning) (log : Log) (t b : ℕ) (cell : Cell) : Type 0 where

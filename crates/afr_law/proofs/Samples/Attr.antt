@@ -4,13 +4,13 @@ use Rattle.afr_base.specs.declared.ids.Kind.{Kind}
 use Rattle.afr_base.specs.declared.ids.Kind.TheVariants.{Attrs}
 use Rattle.afr_base.specs.declared.ids.What.TheVariants.{File}
 use Rattle.afr_base.specs.declared.marks.Marks.{Marks}
-use Rattle.afr_moves.specs.Cells.{what_code}
-use Rattle.afr_moves.specs.Discipline.{exact, present}
-use Rattle.afr_moves.specs.Register.{Exact}
-use Rattle.afr_moves.specs.Transaction.{MayApply, MayBegin, MayEnd, MayPost, MayPre, MayWork}
-use Rattle.afr_moves.specs.Rules.{fits_change}
-use Rattle.afr_moves.specs.Lines.{ask_by, begin_by, end_by, look_at, post_on, pre_on, range_of}
-use Rattle.afr_moves.specs.Past.{opens, place}
+use Rattle.afr_model_moves.specs.Cells.{what_code}
+use Rattle.afr_model_moves.specs.Discipline.{exact, present}
+use Rattle.afr_model_moves.specs.Register.{Exact}
+use Rattle.afr_model_moves.specs.Transaction.{MayApply, MayBegin, MayEnd, MayPost, MayPre, MayWork}
+use Rattle.afr_model_moves.specs.Rules.{fits_change}
+use Rattle.afr_model_moves.specs.Lines.{ask_by, begin_by, end_by, look_at, post_on, pre_on, range_of}
+use Rattle.afr_model_moves.specs.Past.{opens, place}
 use Rattle.afr_lines.specs.declared.answer.Told.TheVariants.{Done, Granted, Seen}
 use Rattle.afr_lines.specs.declared.line.Line.{Line}
 use Rattle.afr_lines.specs.declared.request.Area.{Area}

@@ -3,13 +3,13 @@ use Rattle.afr_base.specs.declared.ids.Gfid.{Gfid}
 use Rattle.afr_base.specs.declared.ids.Kind.TheVariants.{Attrs}
 use Rattle.afr_base.specs.declared.ids.What.TheVariants.{File}
 use Rattle.afr_base.specs.declared.marks.Marks.{Marks}
-use Rattle.afr_moves.specs.Discipline.{exact, present}
-use Rattle.afr_moves.specs.Heal.{MayHeal, MayHealBegin, MayHealEnd}
-use Rattle.afr_moves.specs.Register.{Exact}
-use Rattle.afr_moves.specs.Steps.{may_heal}
-use Rattle.afr_moves.specs.Transaction.{MayOpen}
-use Rattle.afr_moves.specs.Lines.{ask_by, heal_begin_by, heal_end_by, look_at, pre_on, range_of, settle_on}
-use Rattle.afr_moves.specs.Past.{opens, place}
+use Rattle.afr_model_moves.specs.Discipline.{exact, present}
+use Rattle.afr_model_moves.specs.Heal.{MayHeal, MayHealBegin, MayHealEnd}
+use Rattle.afr_model_moves.specs.Register.{Exact}
+use Rattle.afr_model_moves.specs.Steps.{may_heal}
+use Rattle.afr_model_moves.specs.Transaction.{MayOpen}
+use Rattle.afr_model_moves.specs.Lines.{ask_by, heal_begin_by, heal_end_by, look_at, pre_on, range_of, settle_on}
+use Rattle.afr_model_moves.specs.Past.{opens, place}
 use Rattle.afr_lines.specs.declared.answer.Told.TheVariants.{Done, Given, Granted, Seen}
 use Rattle.afr_lines.specs.declared.line.Line.{Line}
 use Rattle.afr_lines.specs.declared.request.Area.{Area}
@@ -21,7 +21,7 @@ use Rattle.afr_lines.specs.declared.lock.Domain.TheVariants.{Heal, Work}
 use Rattle.std.proofs.Common.{Bool, [], arith, false, inr, refl, true, ℕ, ◌+◌, ◌∷◌, ◌≡◌}
 use Rattle.std.specs.Prelude.{slice_get, ◌^◌}
 use Rattle.afr_lines.specs.declared.reply.HealReply.TheVariants.{Settled}
-use Rattle.afr_moves.specs.Rules.{heal_area}
+use Rattle.afr_model_moves.specs.Rules.{heal_area}
 use Rattle.std.specs.Prelude.{List as Seq}
 
 -- no number

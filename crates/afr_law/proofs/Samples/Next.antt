@@ -26,19 +26,19 @@ use Rattle.afr_law.proofs.Model.Answered.{next_answered}
 use Rattle.afr_law.proofs.Model.Covered.{carried_covered}
 use Rattle.afr_law.proofs.Model.Found.{next_carries, next_found}
 use Rattle.afr_model.specs.Locks.{locks_held}
-use Rattle.afr_moves.specs.Covering.{IsCovered}
-use Rattle.afr_moves.specs.Cells.{what_code}
-use Rattle.afr_tables.specs.Codes.{kept_by}
-use Rattle.afr_moves.specs.Discipline.{MayAskExactly, exact, present}
-use Rattle.afr_moves.specs.Heal.{Gives, Goes}
-use Rattle.afr_moves.specs.Ranges.{Each, IsWord}
+use Rattle.afr_model_moves.specs.Covering.{IsCovered}
+use Rattle.afr_model_moves.specs.Cells.{what_code}
+use Rattle.afr_law_tables.specs.Codes.{kept_by}
+use Rattle.afr_model_moves.specs.Discipline.{MayAskExactly, exact, present}
+use Rattle.afr_model_moves.specs.Heal.{Gives, Goes}
+use Rattle.afr_model_moves.specs.Ranges.{Each, IsWord}
 use Rattle.afr_law.specs.Exactly.{IsLawfulExactly}
-use Rattle.afr_moves.specs.Rules.{fits_change}
+use Rattle.afr_model_moves.specs.Rules.{fits_change}
 use Rattle.afr_law.specs.ModelFits.{HasCopy}
 use Rattle.afr_law.specs.ModelNext.{IsNext, MayAskNext, answered, is_carried_out}
-use Rattle.afr_moves.specs.Past.{opens, place}
-use Rattle.afr_moves.specs.Positions.{by_position}
-use Rattle.afr_tables.specs.Carrying.{CanCarry}
+use Rattle.afr_model_moves.specs.Past.{opens, place}
+use Rattle.afr_model_moves.specs.Positions.{by_position}
+use Rattle.afr_law_tables.specs.Carrying.{CanCarry}
 
 -- one brick, and one opening file
 abbrev plan : Plan

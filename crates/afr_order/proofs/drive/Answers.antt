@@ -1,6 +1,6 @@
 -- Before the first line nothing was picked, and each turn keeps what the rules picked. With as many turns as the bound, all is done.
 use Rattle.std.proofs.Common.{subst, sym}
-use Rattle.afr_sources.specs.Sources.{picks_of}
+use Rattle.afr_law_picks.specs.Sources.Sources.{picks_of}
 use Rattle.afr_volume.proofs.ChosenLemmas.{opened_chosen}
 use Rattle.afr_volume.specs.Right.{IsChosenBy}
 use Rattle.afr_order.proofs.EndLemmas.{ends_of}

@@ -1,5 +1,5 @@
 use Rattle.std.proofs.Common.{◌<◌, ℕ, reverse}
-use Rattle.afr_replay.specs.Seen.{cell_of}
+use Rattle.afr_check_tables.specs.Seen.{cell_of}
 use Rattle.afr_check.specs.Alike.{IsLikeAll}
 use Rattle.afr_check.proofs.alike.are_alike.Given as goal
 

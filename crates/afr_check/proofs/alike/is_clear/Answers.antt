@@ -1,5 +1,5 @@
 use Rattle.std.proofs.Common.{◌∙◌, refl, reverse, sym, arith}
-use Rattle.afr_tables.specs.Clear.{IsClearOn}
+use Rattle.afr_law_tables.specs.Clear.{IsClearOn}
 use Rattle.afr_check.proofs.SetLemmas.{one_more}
 use Rattle.afr_check.proofs.alike.is_clear.Goals as goal
 

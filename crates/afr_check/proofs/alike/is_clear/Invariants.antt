@@ -1,5 +1,5 @@
 use Rattle.std.proofs.Common.{◌<◌, ℕ, reverse}
-use Rattle.afr_tables.specs.Clear.{IsClearOn}
+use Rattle.afr_law_tables.specs.Clear.{IsClearOn}
 use Rattle.afr_check.proofs.alike.is_clear.Given as goal
 
 abbrev pub invariant-loop-x : goal.invariant-loop-x

@@ -1,7 +1,7 @@
 use Rattle.std.proofs.Common.{ℕ, ◌<◌, ◌≤◌, reverse}
 use Rattle.afr_lines.specs.Log.{change_at}
 use Rattle.afr_check.specs.Last.{IsLeftAt}
-use Rattle.afr_replay.specs.Seen.{cell_of, value_seen}
+use Rattle.afr_check_tables.specs.Seen.{cell_of, value_seen}
 use Rattle.afr_check.proofs.current.is_left.Given as goal
 
 abbrev pub invariant-loop-q : goal.invariant-loop-q

@@ -1,5 +1,5 @@
 use Rattle.std.proofs.Common.{reverse}
-use Rattle.afr_replay.specs.Seen.{cell_of}
+use Rattle.afr_check_tables.specs.Seen.{cell_of}
 use Rattle.afr_check.proofs.LastLemmas.{IsLastBelow}
 use Rattle.afr_check.proofs.current.last_acknowledged.Given as goal
 

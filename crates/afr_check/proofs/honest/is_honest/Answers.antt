@@ -1,5 +1,5 @@
 use Rattle.std.proofs.Common.{Err, ap, sym}
-use Rattle.afr_replay.proofs.FitsLemmas.{fits_before}
+use Rattle.afr_check_tables.proofs.FitsLemmas.{fits_before}
 use Rattle.afr_check.proofs.honest.is_honest.Goals as goal
 
 pub returns-in_err-honest-clause-too_much : goal.returns-in_err-honest-clause-too_much

@@ -1,6 +1,6 @@
 use Rattle.std.proofs.Common.{◌==◌, ◌&&◌, nat_lt, slice_index, if◌then◌else◌}
-use Rattle.afr_moves.specs.Honest.{view_marks}
-use Rattle.afr_moves.specs.Steps.{changed}
+use Rattle.afr_model_moves.specs.Honest.{view_marks}
+use Rattle.afr_model_moves.specs.Steps.{changed}
 use Rattle.afr_discipline.specs.Stands.{seen_as}
 use Rattle.afr_discipline.proofs.heal_numbers.are_taken.Goals as goal
 

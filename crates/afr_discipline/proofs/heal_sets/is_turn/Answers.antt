@@ -1,5 +1,5 @@
 use Rattle.std.proofs.Common.{sym}
-use Rattle.afr_moves.specs.Keeps.{keeps_in}
+use Rattle.afr_model_moves.specs.Keeps.{keeps_in}
 use Rattle.afr_discipline.specs.Stands.{seen_as, step_of}
 use Rattle.afr_discipline.proofs.LeftLemmas.{is_ahead, is_behind, its_turn, not_its_turn}
 use Rattle.afr_discipline.proofs.heal_sets.is_turn.Goals as goal

@@ -1,5 +1,5 @@
 use Rattle.std.proofs.Common.{ap, sym}
-use Rattle.afr_moves.specs.Keeps.{keeps_in}
+use Rattle.afr_model_moves.specs.Keeps.{keeps_in}
 use Rattle.afr_discipline.specs.Stands.{seen_as, step_of}
 use Rattle.afr_discipline.specs.Turns.{brick_of}
 use Rattle.afr_discipline.proofs.LeftLemmas.{is_ahead, is_behind, no_turn, turn_of_lowest}

@@ -1,5 +1,5 @@
 use Rattle.std.proofs.Common.{refl}
-use Rattle.afr_moves.specs.Keeps.{keeps_in}
+use Rattle.afr_model_moves.specs.Keeps.{keeps_in}
 use Rattle.afr_discipline.specs.Inside.{may_move}
 use Rattle.afr_discipline.specs.Stands.{seen_as}
 use Rattle.afr_discipline.proofs.HealDecisions.{decided_by}

@@ -3,7 +3,7 @@ use Rattle.afr_discipline.specs.Stands.{seen_as, step_of}
 use Rattle.afr_heal.proofs.ComingLemmas.{brick_below, due_none, due_some}
 use Rattle.afr_heal.proofs.due.asked.Goals as goal
 use Rattle.afr_heal.specs.Requests.{request_in}
-use Rattle.afr_moves.specs.Keeps.{keeps_in}
+use Rattle.afr_model_moves.specs.Keeps.{keeps_in}
 
 pub returns-in-Some-clause-asks : goal.returns-in-Some-clause-asks
 returns-in-Some-clause-asks c g kind rest =

@@ -9,7 +9,7 @@ use Rattle.afr_heal.specs.Engine.{Ends, lock_next, part_or_end}
 use Rattle.afr_heal.specs.declared.coming.Coming.TheVariants as coming
 use Rattle.afr_lines.specs.declared.request.Area.{Area}
 use Rattle.afr_lines.specs.declared.request.Request.TheVariants.{Lock}
-use Rattle.afr_moves.specs.Keeps.{keeps_in}
+use Rattle.afr_model_moves.specs.Keeps.{keeps_in}
 use Rattle.afr_lines.specs.declared.lock.Domain.TheVariants.{Work}
 
 pub returns-in-Some : goal.returns-in-Some

@@ -1,6 +1,6 @@
 use Rattle.std.proofs.Common.{◌≡◌, true, Ok, ap, arith, length}
 use Rattle.std.proofs.lemmas.Grind.{common_steps}
-use Rattle.afr_sources.specs.Sources.{picks_of}
+use Rattle.afr_law_picks.specs.Sources.Sources.{picks_of}
 use Rattle.afr_order.proofs.GoingLemmas.{happens_chosen, ends_true}
 use Rattle.afr_order.proofs.DoneLemmas.{pass_idle}
 use Rattle.afr_order.proofs.PassLemmas.{rows_front, pass_front}

@@ -1,5 +1,5 @@
 use Rattle.std.proofs.Common.{[], ◌∷◌}
-use Rattle.afr_sources.specs.Sources.{picks_of}
+use Rattle.afr_law_picks.specs.Sources.Sources.{picks_of}
 use Rattle.afr_order.proofs.GoingLemmas.{happens_chosen, front_then, ends_then, turn_front, turn_ends}
 use Rattle.afr_order.proofs.turns.take_turn.Goals as goal
 

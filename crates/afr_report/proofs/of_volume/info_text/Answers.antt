@@ -4,7 +4,7 @@ use Rattle.afr_model.specs.Report.{started_bricks}
 use Rattle.afr_model.specs.ReportHealers.{info_of}
 use Rattle.afr_base.specs.Rising.{IsRising}
 use Rattle.afr_model.proofs.StartedLemmas.{rising_started}
-use Rattle.afr_info.proofs.VolumeLemmas.{handed_out}
+use Rattle.afr_report_info.proofs.VolumeLemmas.{handed_out}
 use Rattle.afr_report.proofs.of_volume.info_text.Goals as goal
 
 pub print_info-requires-clause-rising : goal.print_info-requires-clause-rising

@@ -2,7 +2,7 @@ use Rattle.std.proofs.Common.{◌≡◌, IfOk, List, reverse, string_bytes, subs
 use Rattle.afr_lines.specs.declared.line.Line.{Line}
 use Rattle.afr_plan.specs.declared.plan.Plan.{Plan}
 use Rattle.afr_model.specs.ReportHealers.{report_of}
-use Rattle.afr_info.proofs.VolumeLemmas.{handed_out}
+use Rattle.afr_report_info.proofs.VolumeLemmas.{handed_out}
 use Rattle.afr_report.proofs.of_volume.report_text.Goals as goal
 
 pub returns : goal.returns

@@ -1,7 +1,7 @@
 use Rattle.std.proofs.Common.{◌≡◌, IfOk, List, string_bytes, subst}
 use Rattle.afr_lines.specs.declared.line.Line.{Line}
 use Rattle.afr_plan.specs.declared.plan.Plan.{Plan}
-use Rattle.afr_trace.specs.Lines.{trace_of}
+use Rattle.afr_report_trace.specs.Lines.{trace_of}
 use Rattle.afr_report.proofs.of_volume.trace_text.Goals as goal
 
 pub returns : goal.returns

@@ -1,6 +1,6 @@
 use Rattle.std.proofs.Common.{ap, ◌∙◌}
-use Rattle.afr_works.proofs.WorkLemmas.{begins_more}
-use Rattle.afr_works.specs.Work.{is_over}
+use Rattle.afr_client.proofs.WorkLemmas.{begins_more}
+use Rattle.afr_client.specs.Work.{is_over}
 use Rattle.afr_volume.specs.declared.actor.Actor.{Actor}
 use Rattle.afr_volume.proofs.actor.begins.Goals as goal
 

@@ -1,4 +1,4 @@
-use Rattle.afr_works.proofs.NeverHeals.{begins_or_ends}
+use Rattle.afr_client.proofs.NeverHeals.{begins_or_ends}
 use Rattle.afr_volume.proofs.actor.writes.Goals as goal
 
 pub unreachable-requires : goal.unreachable-requires

@@ -1,6 +1,6 @@
 use Rattle.std.proofs.Common.{◌≡◌, ℕ, Some, slice_get, vec_len}
-use Rattle.afr_rounds.specs.Acting.{IsNewHealer}
-use Rattle.afr_rounds.specs.declared.healer.Healer.{Healer}
+use Rattle.afr_healer.specs.Acting.{IsNewHealer}
+use Rattle.afr_healer.specs.declared.healer.Healer.{Healer}
 use Rattle.afr_volume.proofs.healers.all_healers.Given as goal
 
 abbrev pub invariant-loop : goal.invariant-loop

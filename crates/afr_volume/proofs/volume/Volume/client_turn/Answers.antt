@@ -6,7 +6,7 @@ use Rattle.afr_volume.proofs.PickedLemmas.{client_others, unwritten}
 use Rattle.afr_volume.proofs.ReadsKeep.{any_steps, reads_kept}
 use Rattle.afr_volume.proofs.SourceLemmas.{own_of, whatever}
 use Rattle.afr_volume.proofs.WholeTurn.{at_least, before, busy, client_low, left_at, mine, ready_volume, steps, took, turned, whole}
-use Rattle.afr_sources.specs.Sources.{picks_of, sources_of}
+use Rattle.afr_law_picks.specs.Sources.Sources.{picks_of, sources_of}
 use Rattle.afr_volume.specs.Acting.{picked_of}
 use Rattle.afr_volume.specs.State.{ReadsChosen}
 use Rattle.afr_volume.proofs.volume.Volume.client_turn.Goals as goal

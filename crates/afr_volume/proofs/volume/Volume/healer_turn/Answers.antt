@@ -1,7 +1,7 @@
 use Rattle.std.proofs.Common.{◌∙◌, arith, refl, subst, sym}
 use Rattle.std.proofs.lemmas.Bool.Decides.{nat_tests}
 use Rattle.afr_volume.proofs.HealerTurn.{answered_at, busy, healed, ready_whole, sources_kept, steps}
-use Rattle.afr_sources.specs.Sources.{picks_of, sources_of}
+use Rattle.afr_law_picks.specs.Sources.Sources.{picks_of, sources_of}
 use Rattle.afr_volume.specs.Acting.{picked_of}
 use Rattle.afr_volume.specs.State.{HealsChosen}
 use Rattle.afr_volume.proofs.SourceLemmas.{healer_others, unwritten, whatever}

@@ -1,6 +1,6 @@
 -- A client's turn leaves the sources of all heals and reads what the rule picked; a healer's keeps its sources as the rule
 -- picked them, and leaves the reads.
-use Rattle.afr_sources.specs.Sources.{picks_of}
+use Rattle.afr_law_picks.specs.Sources.Sources.{picks_of}
 use Rattle.afr_volume.proofs.ChosenLemmas.{turn_chosen}
 use Rattle.afr_volume.proofs.volume.Volume.turn.Goals as goal
 

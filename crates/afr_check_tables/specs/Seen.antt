@@ -1,0 +1,28 @@
+-- The code's cells, values and places, as the definitions have them.
+use Rattle.afr_model.specs.Cells.{Cell, Byte, Attr, Name, Value, IsByte, IsAttr, IsEntry}
+use Rattle.afr_lines.specs.Places.{Place, Fresh, Indexed, Between, Within}
+use Rattle.afr_check_tables.specs.declared.cell.Cell as code
+use Rattle.afr_check_tables.specs.declared.cell.Cell.TheVariants as code_cell
+use Rattle.afr_check_tables.specs.declared.cell.Value as code_values
+use Rattle.afr_check_tables.specs.declared.cell.Value.TheVariants as code_value
+use Rattle.afr_check_tables.specs.declared.sessions.Place as code_places
+use Rattle.afr_check_tables.specs.declared.sessions.Place.TheVariants as code_place
+
+-- the cell that the code means
+abbrev pub cell_of : code.Cell → Cell
+cell_of (code_cell.Byte g i) = Byte g i
+cell_of (code_cell.Attr g key) = Attr g key
+cell_of (code_cell.Name g name) = Name g name
+
+-- the value that the code means
+abbrev pub value_seen : code_values.Value → Value
+value_seen (code_value.Byte byte) = IsByte byte
+value_seen (code_value.Attr value) = IsAttr value
+value_seen (code_value.Entry entry) = IsEntry entry
+
+-- the place that the code means
+abbrev pub place_seen : code_places.Place → Place
+place_seen code_place.Fresh = Fresh
+place_seen code_place.Indexed = Indexed
+place_seen code_place.Between = Between
+place_seen code_place.Within = Within

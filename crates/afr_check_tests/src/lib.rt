@@ -1,5 +1,0 @@
-//! Tests of the checkers of logs, over one write by hand.
-#![tactic(auto)]
-
-#[cfg(test)]
-mod tests;

@@ -1,0 +1,4 @@
+pub mod Removal
+pub mod AskedLemmas
+pub mod EntryLemmas
+pub mod HeardLemmas

@@ -1,0 +1,4 @@
+pub mod Removal
+pub mod Entry
+pub mod Job
+pub mod Laws

@@ -1,0 +1,16 @@
+//! Commands on a name of a directory: the directory's path is walked, the name is locked and read, and then changed.
+#![tactic(auto)]
+
+mod job;
+mod laws;
+mod machine;
+mod refusal;
+mod removing;
+mod stage;
+
+pub use job::EntryJob;
+pub use laws::{an_entry_keeps_the_discipline, an_entry_reads_good_copies};
+pub use machine::EntryMachine;
+pub use refusal::{Refusal, reply_to};
+pub use removing::{Child, Removal, RemovalEnding, RemovalStage, a_removal_stays_sound};
+pub use stage::{EntryStage, Found};

@@ -1,0 +1,12 @@
+pub mod Acknowledged
+pub mod Allowed
+pub mod Heard
+pub mod Kept
+pub mod MadeLemmas
+pub mod NoteLemmas
+pub mod Parts
+pub mod Quorum
+pub mod ReadLemmas
+pub mod Requests
+pub mod Turned
+pub mod Again

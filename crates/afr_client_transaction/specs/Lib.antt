@@ -1,0 +1,8 @@
+pub mod Between
+pub mod Laws
+pub mod Made
+pub mod Outcome
+pub mod Progress
+pub mod Sound
+pub mod Turn
+pub mod Again

@@ -1,0 +1,28 @@
+-- What a transaction carries to the bricks: its change with the number that its Begin line gave.
+use Rattle.std.specs.Prelude.{◌≡◌, ℕ, Option, Some, None}
+use Rattle.afr_object.specs.declared.change.Change.{Change}
+use Rattle.afr_object.specs.declared.change.Change.TheVariants.{Make}
+use Rattle.afr_client_transaction.specs.Progress.{TransactionProgress, gfid_at, number_in, numbered}
+use Rattle.afr_client_transaction.specs.Sound.{Sound}
+use Rattle.afr_client_transaction.specs.declared.stage.Stage.{Stage}
+use Rattle.afr_client_transaction.specs.declared.stage.Stage.TheVariants.{Preparing, Applying}
+
+-- the change as its Begin line has it
+abbrev pub attempted : TransactionProgress → Change
+attempted m = numbered (number_in m.register.begun) m.change
+
+-- the same of a change that makes an object, in an attempt with this number
+abbrev pub made_by : Option ℕ → Change → Option Change
+made_by (Some at) (Make dir name g what) = Some (Make dir name (gfid_at at g) what)
+made_by number change = None
+
+-- it is kept from the Begin line until the bricks have been asked for the operation
+abbrev pub IsMade : Stage → Option Change → TransactionProgress → Type 0
+IsMade Preparing made m = made ≡ made_by m.register.begun m.change
+IsMade Applying made m = made ≡ made_by m.register.begun m.change
+IsMade stage made m = Unit {0}
+
+-- what a transaction keeps at every moment
+pub record IsTransaction (made : Option Change) (m : TransactionProgress) : Type 0 where
+  pub sound : Sound m
+  pub kept : IsMade m.stage made m

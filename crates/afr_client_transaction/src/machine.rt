@@ -1,0 +1,255 @@
+//! One transaction: what it asks next, and what an answer leaves of it.
+ghost use Rattle.std.specs.Prelude.{[], ◌≡◌, ℕ, ◌<◌, ◌≤◌, ◌+◌, ◌^◌, ◌||◌, true, false, None, Some, IfOk};
+ghost use Rattle.afr_base.specs.Bricks.{is_nothing};
+ghost use Rattle.afr_discipline.specs.Stands.{no_lines};
+ghost use Rattle.afr_discipline.specs.declared.register.Register.{Register};
+ghost use Rattle.afr_lines.specs.declared.answer.Told.{Told};
+ghost use Rattle.afr_model_moves.specs.Register.{span};
+ghost use Rattle.afr_client_transaction.specs.Between.{given_up, is_read, noted_read};
+ghost use Rattle.afr_client_transaction.specs.Made.{attempted};
+ghost use Rattle.afr_client_transaction.specs.Outcome.{outcome_of};
+ghost use Rattle.afr_client_transaction.specs.Progress.{CarriesAt, TransactionProgress, allowed, answered, asks, begun, fed, is_beginning, is_over, left, next_at, request_at, starting};
+ghost use Rattle.afr_client_transaction.specs.Sound.{IsAsking, IsUnused, Sound, Suits};
+
+use crate::change::{made_by, numbered};
+use crate::reply::{TransactionOutcome, outcome_of, reply_for};
+use crate::stage::{LocksAndLooks, Stage, after, asked_after, left_of, request_of};
+use afr_base::{BrickId, BrickSet, NoMemory, Shape};
+use afr_discipline::{Move, Register, fresh, note};
+use afr_lines::{Next, Request, Told};
+use afr_object::{Change, Load};
+use std::alloc::Global;
+use std::marker::Model;
+
+/// One transaction, of one change of one object.
+#[derive(Drop)]
+pub struct Transaction {
+    change: Change,
+    /// The change as its Begin line has it, where it makes an object, whose number the line gives.
+    made: Option<Change>,
+    register: Register,
+    stage: Stage,
+    asked: LocksAndLooks,
+}
+
+impl Model for Transaction {
+    ghost use Rattle.afr_client_transaction.specs.Progress.{TransactionProgress};
+    ghost use Rattle.afr_client_transaction.specs.Made.{IsTransaction};
+
+    ghost Value = { TransactionProgress };
+
+    ghost view = { λ m. record { change = m.change; register = m.register; stage = m.stage; asked = m.asked } };
+
+    ghost invariant = { λ m. IsTransaction m.made (record { change = m.change; register = m.register; stage = m.stage; asked = m.asked }) };
+}
+
+impl Transaction {
+    /// Nothing was asked yet. `has_area` tells which changes suit; `next` puts in the number of a new object.
+    pub fn new(shape: Shape, change: Change) -> Transaction
+        requires few { shape.n ≤ 5 }
+        requires some { 0 < shape.n }
+        requires suits { Suits change }
+        ensures value { result ≡ record { change = change; register = no_lines shape; stage = Stage.Locking; asked = record { lock_asked = []; locked_on = []; looked_at = [] } } }
+    {
+        Transaction::continuing(fresh(shape), change)
+    }
+
+    /// The work has looked and read without a lock so far, as on a path that leads to the object, and this is its register.
+    pub fn continuing(register: Register, change: Change) -> Transaction
+        requires unused { IsUnused register }
+        requires few { register.shape.n ≤ 5 }
+        requires some { 0 < register.shape.n }
+        requires suits { Suits change }
+        ensures value { result ≡ starting change register }
+    {
+        Transaction {
+            change,
+            made: None,
+            register,
+            stage: Stage::Locking,
+            asked: LocksAndLooks {
+                lock_asked: BrickSet::none(),
+                locked_on: BrickSet::none(),
+                looked_at: BrickSet::none(),
+            },
+        }
+    }
+
+    /// The next line, for this position of the log. Only the change in a Begin line, and the views in an
+    /// End line, take memory.
+    pub fn next(&self, alloc: Global, at: u32) -> Result<Next, NoMemory>
+        ensures value { IfOk result (λ next. next ≡ next_at self.now.stage at self.now) }
+        ensures allowed { IfOk result (λ next. allowed self.now.register next ≡ true) }
+    {
+        match self.stage {
+            Stage::Beginning => {
+                let change = numbered(&self.change, at)?;
+                Ok(Next::Begin(change))
+            }
+            Stage::Closing => {
+                let next = self.closing(alloc, at)?;
+                Ok(next)
+            }
+            stage => Ok(self.asking(stage)),
+        }
+    }
+
+    /// Whom the next line asks, where it is a request; that is written where it is to stand, for it is large.
+    pub fn asks(&self, request: &mut Request) -> Option<BrickId>
+        ensures some { (b : BrickId) → result ≡ Some b → (at : ℕ) → next_at self.now.stage at self.now ≡ Next.Ask b request.new }
+        ensures none { result ≡ None → (is_beginning self.now.stage || is_over self.now.stage self.now) ≡ true }
+        ensures allowed { (b : BrickId) → result ≡ Some b → allowed self.now.register (Next.Ask b request.new) ≡ true }
+    {
+        let left = self.left(self.stage);
+        if left.is_empty() {
+            return None;
+        }
+        *request = self.request(self.stage);
+        Some(left.lowest())
+    }
+
+    /// The change as its Begin line has it, where the operation is asked for next.
+    pub fn load(&self) -> Load<'_>
+        ensures { CarriesAt self.now.stage result (attempted self.now) }
+    {
+        match self.stage {
+            Stage::Applying => match &self.made {
+                Some(made) => Load::Change(made),
+                None => Load::Change(&self.change),
+            },
+            _ => Load::Nothing,
+        }
+    }
+
+    /// Whether the next line is a Begin line.
+    pub fn is_beginning(&self) -> bool
+        ensures { result ≡ is_beginning self.now.stage }
+    {
+        matches!(self.stage, Stage::Beginning)
+    }
+
+    /// The next line was written at this position, and this was told; of a Begin line nothing is told.
+    pub fn feed(&mut self, told: &Told, at: u32)
+        requires more { is_over self.old.stage self.old ≡ false }
+        ensures value { self.new ≡ fed self.old.stage told.now at self.old }
+    {
+        match self.stage {
+            Stage::Beginning => self.begin(at),
+            _ => self.answer(told, at),
+        }
+    }
+
+    /// The request was written at this position, and this was told.
+    pub fn hear(&mut self, brick: BrickId, request: &Request, told: &Told, at: u32)
+        requires asked { next_at self.old.stage at self.old ≡ Next.Ask brick request.now }
+        ensures { self.new ≡ answered self.old.stage told.now at self.old }
+    {
+        let stage = self.stage;
+        let step = Move::Ask(brick, request);
+        note(&mut self.register, &step, told, at);
+        self.asked = asked_after(stage, brick, told, &self.asked);
+        self.stage = after(stage, &self.change, &self.register, &self.asked);
+    }
+
+    /// The work has read something between the looks and the attempt, which `give_up` may follow.
+    pub fn note_read(&mut self, brick: BrickId, request: &Request, told: &Told, at: u32)
+        requires beginning { is_beginning self.old.stage ≡ true }
+        requires small { brick.0 < 5 }
+        requires reads { is_read request.now ≡ true }
+        ensures { self.new ≡ noted_read brick.0 request.now told.now at self.old }
+    {
+        note(&mut self.register, &Move::Ask(brick, request), told, at);
+    }
+
+    /// The change is given up before its attempt: the locks are released, and then the work ends.
+    pub fn give_up(&mut self)
+        requires { is_beginning self.old.stage ≡ true }
+        ensures { self.new ≡ given_up self.old }
+    {
+        self.stage = Stage::Closing;
+    }
+
+    /// Whether no lock is left to release: the next line is the end of the work.
+    pub fn is_over(&self) -> bool
+        ensures { result ≡ is_over self.now.stage self.now }
+    {
+        match self.stage {
+            Stage::Closing => self.register.held.is_empty(),
+            _ => false,
+        }
+    }
+
+    /// What the bricks have done so far comes to; where the transaction is over, what it ends with.
+    pub fn outcome(&self) -> TransactionOutcome
+        ensures { result ≡ outcome_of self.now.change self.now.register }
+    {
+        outcome_of(&self.change, &self.register)
+    }
+
+    /// What the lines so far show.
+    pub fn register(&self) -> &Register
+        ensures { result.now ≡ self.now.register }
+    {
+        &self.register
+    }
+
+    /// What the transaction keeps at every moment, for those who prove over its value.
+    pub fn stays_sound(&self)
+        ensures { Sound self.now }
+    {
+        let _ = &self.register;
+    }
+
+    fn closing(&self, alloc: Global, at: u32) -> Result<Next, NoMemory>
+        ensures { IfOk result (λ next. next ≡ next_at Stage.Closing at self.now) }
+    {
+        if self.register.held.is_empty() {
+            let reply = reply_for(alloc, &outcome_of(&self.change, &self.register))?;
+            Ok(Next::End(reply))
+        } else {
+            Ok(self.asking(Stage::Closing))
+        }
+    }
+
+    fn asking(&self, stage: Stage) -> Next
+        requires some { is_nothing (left stage self.now) ≡ false }
+        ensures { result ≡ asks stage self.now }
+    {
+        Next::Ask(self.left(stage).lowest(), self.request(stage))
+    }
+
+    fn left(&self, stage: Stage) -> BrickSet
+        ensures { result ≡ left stage self.now }
+    {
+        left_of(stage, &self.register, &self.asked)
+    }
+
+    fn request(&self, stage: Stage) -> Request
+        ensures { result ≡ request_at stage self.now }
+    {
+        request_of(stage, &self.change, &self.register)
+    }
+
+    fn begin(&mut self, at: u32)
+        requires beginning { self.old.stage ≡ Stage.Beginning }
+        ensures { self.new ≡ begun at self.old }
+    {
+        note(
+            &mut self.register,
+            &Move::Begin(&self.change),
+            &Told::Done,
+            at,
+        );
+        self.made = made_by(&self.change, at);
+        self.stage = Stage::Preparing;
+    }
+
+    fn answer(&mut self, told: &Told, at: u32)
+        requires asking { IsAsking self.old.stage self.old }
+        ensures { self.new ≡ answered self.old.stage told.now at self.old }
+    {
+        let brick = self.left(self.stage).lowest();
+        let request = self.request(self.stage);
+        self.hear(brick, &request, told, at);
+    }
+}

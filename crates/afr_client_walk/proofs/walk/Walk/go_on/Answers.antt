@@ -1,0 +1,23 @@
+use Rattle.std.proofs.Common.{sym, subst, ◌∙◌}
+use Rattle.afr_client_walk.specs.Choosing.{reader_of}
+use Rattle.afr_client_walk.specs.Walk.{IsWalk}
+use Rattle.afr_client_walk.specs.declared.walk.Walk.{Walk}
+use Rattle.afr_client_walk.proofs.ChoosingLemmas.{answers_among}
+use Rattle.afr_client_walk.proofs.WalkLemmas.{asked_is, looks_end, looks_on, name_kept}
+use Rattle.afr_client_walk.proofs.walk.Walk.go_on.Goals as goal
+
+pub returns-then-not-is_over-clause-kept : goal.returns-then-not-is_over-clause-kept
+returns-then-not-is_over-clause-kept g c =
+    looks_on c.args.self.now c.in-Looking.looks c.hear.new.self c.told_of.result c.in-Looking.is c.hear.ensures (sym c.is_over.ensures ∙ c.if-not-is_over.true) c.requires.walk
+
+pub returns-else-not-is_over-clause-picked : goal.returns-else-not-is_over-clause-picked
+returns-else-not-is_over-clause-picked g c =
+    asked_is g.G.Fn c.args.rule.now c.args.self.now c.args.answer.now c.in-Looking.looks c.hear.new.self c.told_of.result c.judged_by-step.result.1 c.in-Looking.is c.told_of.ensures c.hear.ensures c.judged_by-step.ensures.picked
+
+pub returns-else-not-is_over-clause-kept : goal.returns-else-not-is_over-clause-kept
+returns-else-not-is_over-clause-kept g c =
+    looks_end (reader_of c.judged_by-step.result.1) c.args.self.now c.in-Looking.looks c.hear.new.self c.told_of.result c.judged_by-step.result.0 c.in-Looking.is c.hear.ensures c.judged_by-step.ensures.step
+    (answers_among g.G.Fn c.args.rule.now _ c.judged_by-step.result.1 c.judged_by-step.ensures.picked) c.requires.walk
+
+pub returns-in-Naming-clause-kept : goal.returns-in-Naming-clause-kept
+returns-in-Naming-clause-kept g c = subst (λ (w : Walk). IsWalk w) (sym c.name_heard.ensures) (name_kept c.args.self.now c.in-Naming.field-0 c.args.answer.now c.in-Naming.is c.requires.walk)

@@ -1,0 +1,70 @@
+//! Which of the good copies is read: the one that the read rule picks.
+ghost use Rattle.std.specs.Prelude.{◌≡◌, ◌<◌, false};
+ghost use Rattle.afr_base.specs.Bricks.{is_nothing};
+ghost use Rattle.afr_choice.specs.Verdict.{good_copies, verdict_of};
+ghost use Rattle.afr_rule.specs.Choosing.{IsPick, IsRule};
+ghost use Rattle.afr_client_walk.specs.Choosing.{RuleAnswers, candidates_of, choices, reader_of};
+
+use afr_base::{BrickId, Kind, Shape};
+use afr_choice::{Looked, Verdict, good};
+use afr_rule::{Candidate, Candidates, ReadRule};
+
+/// The good copies, the lowest first.
+fn candidates(shape: &Shape, looked: &Looked, kind: Kind) -> Candidates
+    ensures { result ≡ candidates_of shape.now looked.now kind }
+{
+    let sources = good(shape, looked, kind);
+    let flags = [
+        sources.has(BrickId(0)),
+        sources.has(BrickId(1)),
+        sources.has(BrickId(2)),
+        sources.has(BrickId(3)),
+        sources.has(BrickId(4)),
+    ];
+    Candidates::of(flags, looked)
+}
+
+/// The good copy that the rule picks.
+pub fn pick<G: Fn(&[Candidate]) -> usize>(
+    shape: &Shape,
+    looked: &Looked,
+    kind: Kind,
+    rule: &ReadRule<G>,
+) -> BrickId
+    requires rule { IsRule G.Fn rule.now }
+    requires some { is_nothing (good_copies shape.now looked.now kind) ≡ false }
+    ensures picked { IsPick G.Fn rule.now (candidates_of shape.now looked.now kind) result }
+    ensures small { result.0 < 5 }
+{
+    let copies = candidates(shape, looked, kind);
+    rule.pick(copies.as_slice())
+}
+
+/// The same where the verdict has sources. Where it has none, the rule isn't asked.
+pub fn pick_if<G: Fn(&[Candidate]) -> usize>(
+    verdict: &Verdict,
+    shape: &Shape,
+    looked: &Looked,
+    kind: Kind,
+    rule: &ReadRule<G>,
+) -> Option<BrickId>
+    requires rule { IsRule G.Fn rule.now }
+    requires judged { verdict.now ≡ verdict_of shape.now looked.now kind }
+    ensures picked { RuleAnswers G.Fn rule.now (choices shape.now looked.now kind) result }
+    ensures small { (reader_of result).0 < 5 }
+{
+    match verdict {
+        Verdict::Sources(_) => Some(pick(shape, looked, kind, rule)),
+        _ => None,
+    }
+}
+
+/// The brick that was picked.
+pub fn reader_of(picked: Option<BrickId>) -> BrickId
+    ensures { result ≡ reader_of picked }
+{
+    match picked {
+        Some(brick) => brick,
+        None => BrickId(0),
+    }
+}

@@ -1,0 +1,302 @@
+//! Walking a path: each name is read from a good copy of the directory that the names before it lead to, which the read rule
+//! picks once all copies were looked at.
+ghost use Rattle.std.specs.Prelude.{◌≡◌, ◌<◌, ◌≤◌, ◌+◌, IfOk, length, false, true};
+ghost use Rattle.afr_base.specs.Bricks.{is_nothing};
+ghost use Rattle.afr_discipline.specs.Notes.{noted_ask};
+ghost use Rattle.afr_rule.specs.Choosing.{IsRule};
+ghost use Rattle.afr_client_walk.specs.Choosing.{RuleAnswers, choices, choices_after, reader_of};
+ghost use Rattle.afr_client_walk.specs.Free.{AllowsAsk, IsFree, is_free};
+ghost use Rattle.afr_client_walk.specs.Looks.{IsLooks, heard_look, left_to_look};
+ghost use Rattle.afr_client_walk.specs.Walk.{IsStep, IsWalk, after_looks, choices_at, choices_of, is_walking, named, next_in, noted, step_at, verdict_step, walk_from, walked, walked_at};
+
+use crate::choosing::{pick_if, reader_of};
+use crate::looks::Looks;
+use crate::stop::Stop;
+use afr_base::{BrickId, Gfid, Kind, NameId, NoMemory, Shape, What};
+use afr_choice::{Verdict, judge};
+use afr_discipline::{Move, Register, fresh, note};
+use afr_lines::{Answer, Request, Told, told_of};
+use afr_object::{Entry, List, View};
+use afr_rule::{Candidate, ReadRule};
+use std::alloc::Global;
+
+/// Where a walk stands.
+#[derive(Clone, Copy, Debug)]
+pub enum WalkStep {
+    /// The bricks are looked at, for the directory that was reached.
+    Looking(Looks),
+    /// The copy that the rule picked is asked for the next name.
+    Naming(BrickId),
+    /// The path leads to the object.
+    Arrived,
+    /// The walk has ended early.
+    Stopped(Stop),
+}
+
+/// A path on its way from the root.
+#[derive(Drop)]
+pub struct Walk {
+    pub shape: Shape,
+    pub path: List<NameId>,
+    /// How many names were read.
+    pub read: usize,
+    /// The object that they lead to.
+    pub object: Entry,
+    pub step: WalkStep,
+    /// What the lines so far show.
+    pub register: Register,
+}
+
+impl Walk {
+    /// Nobody was asked yet; a path of no names leads to the root.
+    pub fn new(alloc: Global, shape: Shape, path: &[NameId]) -> Result<Walk, NoMemory>
+        requires few { shape.n ≤ 5 }
+        requires some { 0 < shape.n }
+        ensures ok { IfOk result (λ walk. walk ≡ walk_from shape path.now) }
+        ensures kept { IfOk result (λ walk. IsWalk walk) }
+    {
+        Ok(Walk::along(shape, names_of(alloc, path)?))
+    }
+
+    /// The same for names that are there, which takes no memory.
+    pub fn along(shape: Shape, names: List<NameId>) -> Walk
+        requires few { shape.n ≤ 5 }
+        requires some { 0 < shape.n }
+        ensures value { result ≡ walk_from shape names }
+        ensures kept { IsWalk result }
+    {
+        let root = Entry {
+            gfid: Gfid(1),
+            what: What::Dir,
+        };
+        Walk {
+            shape,
+            step: step_from(names.len(), 0, root),
+            path: names,
+            read: 0,
+            object: root,
+            register: fresh(shape),
+        }
+    }
+
+    /// What is asked next, while the walk goes on.
+    pub fn next(&self) -> (BrickId, Request)
+        requires walk { IsWalk self.now }
+        requires walking { is_walking self.now.step ≡ true }
+        ensures value { result ≡ next_in self.now }
+        ensures allowed { AllowsAsk self.now.register result.0 result.1 }
+        ensures small { result.0.0 < 5 }
+    {
+        self.asked()
+    }
+
+    /// Whom it asks next, while the walk goes on; the request is written where it is to stand.
+    pub fn asks(&self, request: &mut Request) -> BrickId
+        requires walk { IsWalk self.now }
+        requires walking { is_walking self.now.step ≡ true }
+        ensures brick { result ≡ (next_in self.now).0 }
+        ensures request { request.new ≡ (next_in self.now).1 }
+        ensures allowed { AllowsAsk self.now.register result request.new }
+        ensures small { result.0 < 5 }
+    {
+        self.write(request)
+    }
+
+    /// The brick has answered what it was asked, at this position. Once all were looked at the rule picks the copy that is read
+    /// next; this is what it has picked now.
+    pub fn hear<G: Fn(&[Candidate]) -> usize>(
+        &mut self,
+        brick: BrickId,
+        request: &Request,
+        answer: &Answer,
+        at: u32,
+        rule: &ReadRule<G>,
+    ) -> Option<BrickId>
+        requires rule { IsRule G.Fn rule.now }
+        requires walk { IsWalk self.old }
+        requires walking { is_walking self.old.step ≡ true }
+        requires brick { (next_in self.old).0 ≡ brick }
+        requires request { (next_in self.old).1 ≡ request.now }
+        ensures picked { RuleAnswers G.Fn rule.now (choices_of answer.now self.old) result }
+        ensures value { self.new ≡ walked (reader_of result) answer.now at self.old }
+        ensures kept { IsWalk self.new }
+    {
+        let told = told_of(answer);
+        self.note(brick, request, &told, at);
+        self.go_on(answer, rule)
+    }
+
+    /// A look or a read of the same work was told this, at this position.
+    pub fn note(&mut self, brick: BrickId, request: &Request, told: &Told, at: u32)
+        requires walk { IsWalk self.old }
+        requires small { brick.0 < 5 }
+        requires free { is_free request.now ≡ true }
+        ensures value { self.new ≡ noted (brick, request.now) told.now at self.old }
+        ensures kept { IsWalk self.new }
+    {
+        note_free(self.shape, &mut self.register, brick, request, told, at);
+    }
+
+    fn asked(&self) -> (BrickId, Request)
+        requires walk { IsWalk self.now }
+        requires walking { is_walking self.now.step ≡ true }
+        ensures { result ≡ next_in self.now }
+    {
+        match &self.step {
+            WalkStep::Looking(looks) => (
+                looks.next_brick(self.shape.n),
+                Request::Look {
+                    gfid: self.object.gfid,
+                },
+            ),
+            WalkStep::Naming(brick) => (
+                *brick,
+                Request::ReadName {
+                    gfid: self.object.gfid,
+                    name: *self.path.item(self.read),
+                },
+            ),
+            _ => unreachable!(),
+        }
+    }
+
+    /// The same, where the request is written into its place.
+    fn write(&self, request: &mut Request) -> BrickId
+        requires walk { IsWalk self.now }
+        requires walking { is_walking self.now.step ≡ true }
+        ensures brick { result ≡ (next_in self.now).0 }
+        ensures request { request.new ≡ (next_in self.now).1 }
+    {
+        match &self.step {
+            WalkStep::Looking(looks) => {
+                *request = Request::Look {
+                    gfid: self.object.gfid,
+                };
+                looks.next_brick(self.shape.n)
+            }
+            WalkStep::Naming(brick) => {
+                *request = Request::ReadName {
+                    gfid: self.object.gfid,
+                    name: *self.path.item(self.read),
+                };
+                *brick
+            }
+            _ => unreachable!(),
+        }
+    }
+
+    fn go_on<G: Fn(&[Candidate]) -> usize>(
+        &mut self,
+        answer: &Answer,
+        rule: &ReadRule<G>,
+    ) -> Option<BrickId>
+        requires rule { IsRule G.Fn rule.now }
+        requires walk { IsWalk self.old }
+        ensures picked { RuleAnswers G.Fn rule.now (choices_at self.old.step answer.now self.old) result }
+        ensures value { self.new ≡ walked_at (reader_of result) self.old.step answer.now self.old }
+        ensures kept { IsWalk self.new }
+    {
+        match &mut self.step {
+            WalkStep::Looking(looks) => {
+                looks.hear(self.shape.n, &told_of(answer));
+                if !looks.is_over(self.shape.n) {
+                    return None;
+                }
+                let (step, picked) = judged_by(self.shape, looks, rule);
+                self.step = step;
+                picked
+            }
+            WalkStep::Naming(_) => {
+                self.name_heard(answer);
+                None
+            }
+            _ => None,
+        }
+    }
+
+    fn name_heard(&mut self, answer: &Answer)
+        requires { self.old.read < length self.old.path }
+        ensures { self.new ≡ named answer.now self.old }
+    {
+        match answer {
+            Answer::Entry(Some(entry)) => {
+                let names = self.path.len();
+                self.read += 1;
+                self.object = *entry;
+                self.step = step_from(names, self.read, *entry);
+            }
+            Answer::Entry(None) => self.step = WalkStep::Stopped(Stop::NoEntry),
+            _ => self.step = WalkStep::Stopped(Stop::Failed),
+        }
+    }
+}
+
+/// The names of a path, for a walk of its own.
+pub fn names_of(alloc: Global, path: &[NameId]) -> Result<List<NameId>, NoMemory>
+    ensures { IfOk result (λ names. names ≡ path.now) }
+{
+    let mut names = List::new(alloc);
+    for name in path {
+        names.push(*name)?;
+    }
+    Ok(names)
+}
+
+fn note_free(
+    shape: Shape,
+    register: &mut Register,
+    brick: BrickId,
+    request: &Request,
+    told: &Told,
+    at: u32,
+)
+    requires free { IsFree shape register.old }
+    requires few { shape.n ≤ 5 }
+    requires small { brick.0 < 5 }
+    requires asks { is_free request.now ≡ true }
+    ensures value { register.new ≡ noted_ask register.old at brick.0 request.now told.now }
+    ensures kept { IsFree shape register.new }
+{
+    note(register, &Move::Ask(brick, request), told, at);
+}
+
+fn step_from(names: usize, read: usize, object: Entry) -> WalkStep
+    ensures { result ≡ step_at names read object }
+{
+    if read == names {
+        return WalkStep::Arrived;
+    }
+    match object.what {
+        What::Dir => WalkStep::Looking(Looks::new()),
+        What::File => WalkStep::Stopped(Stop::NotDir),
+    }
+}
+
+/// All bricks were asked: the step that follows, and what the rule has picked.
+fn judged_by<G: Fn(&[Candidate]) -> usize>(
+    shape: Shape,
+    looks: &Looks,
+    rule: &ReadRule<G>,
+) -> (WalkStep, Option<BrickId>)
+    requires rule { IsRule G.Fn rule.now }
+    requires few { shape.n ≤ 5 }
+    requires over { is_nothing (left_to_look shape.n looks.now) ≡ true }
+    ensures picked { RuleAnswers G.Fn rule.now (choices_after shape Kind.Names looks.now) result.1 }
+    ensures step { result.0 ≡ after_looks (reader_of result.1) shape looks.now }
+{
+    let looked = &looks.looked;
+    let verdict = judge(&shape, looked, Kind::Names);
+    let picked = pick_if(&verdict, &shape, looked, Kind::Names, rule);
+    (judged(verdict, reader_of(picked), &looked.views), picked)
+}
+
+fn judged(verdict: Verdict, chosen: BrickId, views: &[Option<View>; 5]) -> WalkStep
+    ensures { result ≡ verdict_step chosen verdict views.now }
+{
+    match verdict {
+        Verdict::Short => WalkStep::Stopped(Stop::NoQuorum),
+        Verdict::Bare => WalkStep::Stopped(Stop::FewCopies),
+        Verdict::Split => WalkStep::Stopped(Stop::SplitBrain(*views)),
+        Verdict::Sources(_) => WalkStep::Naming(chosen),
+    }
+}

@@ -1,9 +1,0 @@
-pub mod Parts
-pub mod Spared
-pub mod Splits
-mod Leaving
-mod Standing
-mod Lines
-mod Rounds
-mod Heals
-mod Passes

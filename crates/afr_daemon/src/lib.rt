@@ -1,6 +1,0 @@
-//! What a round heals: the list of the objects of one brick that may need heal, and how far the healer is in it.
-#![tactic(auto)]
-
-mod round;
-
-pub use round::Round;

@@ -1,4 +1,0 @@
-pub mod Cell
-pub mod Law
-pub mod Sets
-pub mod Model

@@ -1,3 +1,0 @@
-pub mod AskedLemmas
-pub mod EntryLemmas
-pub mod HeardLemmas

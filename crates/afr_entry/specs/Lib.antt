@@ -1,3 +1,0 @@
-pub mod Entry
-pub mod Job
-pub mod Laws

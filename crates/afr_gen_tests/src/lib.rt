@@ -1,5 +1,0 @@
-//! Tests of generated plans.
-#![tactic(auto)]
-
-#[cfg(test)]
-mod tests;

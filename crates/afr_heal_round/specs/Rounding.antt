@@ -1,0 +1,149 @@
+-- A round of a healer, step by step.
+use Rattle.std.specs.Prelude.{ℕ, ◌≡◌, ◌<◌, ◌≤◌, Bool, true, false, Option, None, Some, if◌then◌else◌}
+use Rattle.afr_base.specs.declared.ids.BrickId.{BrickId}
+use Rattle.afr_base.specs.declared.ids.Gfid.{Gfid}
+use Rattle.afr_base.specs.declared.ids.Kind.{Kind}
+use Rattle.afr_base.specs.declared.ids.Shape.{Shape}
+use Rattle.afr_heal_round.specs.List.Round.{RoundProgress, next_due, with_list, without_next}
+use Rattle.afr_heal_round.specs.List.Round as round
+use Rattle.afr_heal_round.specs.declared.stage.RoundStage.{RoundStage}
+use Rattle.afr_heal_round.specs.declared.stage.RoundStage.TheVariants.{Asking, Healing, Over}
+use Rattle.afr_lines.specs.declared.answer.Answer.{Answer}
+use Rattle.afr_lines.specs.declared.answer.Answer.TheVariants as answer
+use Rattle.afr_lines.specs.declared.line.Next.{Next}
+use Rattle.afr_lines.specs.declared.line.Next.TheVariants as next
+use Rattle.afr_lines.specs.declared.reply.Good.TheVariants.{Done}
+use Rattle.afr_lines.specs.declared.reply.Reply.{Reply}
+use Rattle.afr_lines.specs.declared.reply.Reply.TheVariants.{Failed, Ok}
+use Rattle.afr_lines.specs.declared.request.Request.TheVariants.{Index}
+use Rattle.afr_object.specs.declared.change.Load.{Load}
+use Rattle.afr_object.specs.declared.change.Load.TheVariants.{Nothing}
+use Rattle.afr_rule.specs.Choosing.{Calls}
+use Rattle.afr_heal_machine.specs.Contents.{load_in}
+use Rattle.afr_heal_machine.specs.Healing as heal
+use Rattle.afr_heal_machine.specs.Healing.{Healing as Heal, IsHealing, coming, heal_from}
+
+-- a round: its list and how far it is in it, and where it stands
+pub record Rounding : Type 0 where
+  pub shape : Shape
+  pub round : RoundProgress
+  pub stage : RoundStage
+
+-- a round that begins asks for the index of its brick
+abbrev pub round_from : Shape → BrickId → Rounding
+round_from shape b = record { shape = shape; round = round.begun b; stage = Asking }
+
+-- ---- the next line
+-- a round fails where its index was refused
+abbrev pub reply_of : Bool → Reply
+reply_of refused = if refused then Failed else Ok Done
+
+abbrev pub next_at : BrickId → RoundStage → Next
+next_at b Asking = next.Ask b Index
+next_at b (Healing m) = heal.next_of m
+next_at b (Over refused) = next.End (reply_of refused)
+
+abbrev pub next_of : Rounding → Next
+next_of m = next_at m.round.brick m.stage
+
+-- the next line begins a part of a heal, or ends a heal
+abbrev pub is_beginning : Next → Bool
+is_beginning (next.HealBegin g kind) = true
+is_beginning other = false
+
+abbrev pub is_ending : Next → Bool
+is_ending (next.HealEnd g kind said) = true
+is_ending other = false
+
+-- the heal that it is at
+abbrev pub heal_at : RoundStage → Option Heal
+heal_at (Healing m) = Some m
+heal_at stage = None
+
+-- what goes with the next request
+abbrev pub CarriesAt : RoundStage → Load → Type 0
+CarriesAt (Healing m) load = load_in m.contents load
+CarriesAt stage load = load ≡ Nothing
+
+abbrev pub CarriesNext : Rounding → Load → Type 0
+CarriesNext m load = CarriesAt m.stage load
+
+-- ---- what it keeps
+-- the heal that it is at has its object and kind, and is of its volume
+abbrev pub IsStaged : Shape → RoundStage → Type 0
+IsStaged shape (Healing m) = IsHealing m × (m.register.shape ≡ shape)
+IsStaged shape stage = Unit {0}
+
+pub record IsRounding (m : Rounding) : Type 0 where
+  pub few : m.shape.n ≤ 5
+  pub within : m.round.brick.0 < m.shape.n
+  pub staged : IsStaged m.shape m.stage
+
+-- ---- what a line leaves
+-- the heal that is due, from its beginning, or the end
+abbrev pub stage_due : Shape → Option (Gfid × Kind) → RoundStage
+stage_due shape (Some due) = Healing (heal_from shape due.0 due.1)
+stage_due shape None = Over false
+
+-- the next heal of the list begins, or the round is over
+abbrev pub going_on : Shape → RoundProgress → Rounding
+going_on shape r = record { shape = shape; round = without_next r; stage = stage_due shape (next_due r) }
+
+-- the index was answered: its list is gone through, or it was refused
+abbrev pub stage_indexed : Shape → Answer → RoundProgress → RoundStage
+stage_indexed shape (answer.Index list) r = stage_due shape (next_due (with_list list r))
+stage_indexed shape other r = Over true
+
+abbrev pub round_indexed : Answer → RoundProgress → RoundProgress
+round_indexed (answer.Index list) r = without_next (with_list list r)
+round_indexed other r = r
+
+abbrev pub indexed : Answer → Rounding → Rounding
+indexed answer m = record { shape = m.shape; round = round_indexed answer m.round; stage = stage_indexed m.shape answer m.round }
+
+-- an answer that a brick gives to the next line
+abbrev pub CanHearAt : RoundStage → Answer → Type 0
+CanHearAt Asking answer = Unit {0}
+CanHearAt (Healing m) answer = heal.CanHear (coming m) answer
+CanHearAt (Over refused) answer = ⊥
+
+abbrev pub CanHear : Rounding → Answer → Type 0
+CanHear m answer = CanHearAt m.stage answer
+
+-- the request was answered
+abbrev pub IsFedAt : {F : Type 0} → Calls F → F → Answer → ℕ → RoundStage → Rounding → Rounding → Type 0
+IsFedAt calls choose answer at Asking old new = new ≡ indexed answer old
+IsFedAt calls choose answer at (Healing m) old new = (after : Heal) × heal.IsFed calls choose answer at m after × (new ≡ record old { stage = Healing after })
+IsFedAt calls choose answer at (Over refused) old new = ⊥
+
+abbrev pub IsFed : {F : Type 0} → Calls F → F → Answer → ℕ → Rounding → Rounding → Type 0
+IsFed calls choose answer at old new = IsFedAt calls choose answer at old.stage old new
+
+-- the same, whatever rule it was
+abbrev pub IsAnsweredAt : Answer → ℕ → RoundStage → Rounding → Rounding → Type 0
+IsAnsweredAt answer at Asking old new = new ≡ indexed answer old
+IsAnsweredAt answer at (Healing m) old new = (after : Heal) × heal.IsAnswered answer at m after × (new ≡ record old { stage = Healing after })
+IsAnsweredAt answer at (Over refused) old new = ⊥
+
+abbrev pub IsAnswered : Answer → ℕ → Rounding → Rounding → Type 0
+IsAnswered answer at old new = IsAnsweredAt answer at old.stage old new
+
+-- after a HealBegin line
+abbrev pub begun_at : ℕ → RoundStage → RoundStage
+begun_at at (Healing m) = Healing (heal.begun at m)
+begun_at at stage = stage
+
+abbrev pub begun : ℕ → Rounding → Rounding
+begun at m = record m { stage = begun_at at m.stage }
+
+-- after a HealEnd line
+abbrev pub healed : Rounding → Rounding
+healed m = going_on m.shape m.round
+
+-- with the memory of the coming move
+abbrev pub ready_at : RoundStage → RoundStage
+ready_at (Healing m) = Healing (heal.made_ready m)
+ready_at stage = stage
+
+abbrev pub made_ready : Rounding → Rounding
+made_ready m = record m { stage = ready_at m.stage }

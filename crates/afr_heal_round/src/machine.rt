@@ -1,0 +1,225 @@
+//! A round: what it asks next, and what it makes of the answers.
+ghost use Rattle.std.specs.Prelude.{◌≡◌, ◌<◌, ◌≤◌, true, IfOk, None, OnOk, OnErr, Some, option_map};
+ghost use Rattle.afr_rule.specs.Choosing.{IsRule};
+ghost use Rattle.afr_heal_round.specs.List.Round.{next_due, without_next};
+ghost use Rattle.afr_heal_round.specs.Rounding.{CanHear, CarriesNext, IsFed, IsRounding, begun, heal_at, healed, indexed, is_beginning, is_ending, made_ready, next_of, reply_of, round_from, round_indexed, stage_due, stage_indexed};
+
+use crate::due_list::Round;
+use crate::stage::RoundStage;
+use afr_base::{BrickId, NoMemory, Shape};
+use afr_discipline::each_note_stands;
+use afr_heal_machine::HealMachine;
+use afr_lines::{Answer, Good, Next, Reply, Request};
+use afr_object::Load;
+use afr_rule::{Candidate, SourceRule};
+use std::alloc::Global;
+use std::marker::Model;
+use std::mem;
+
+/// A round of a healer.
+#[derive(Drop)]
+pub struct RoundMachine {
+    alloc: Global,
+    shape: Shape,
+    round: Round,
+    stage: RoundStage,
+}
+
+impl Model for RoundMachine {
+    ghost use Rattle.afr_heal_round.specs.Rounding.{Rounding, IsRounding};
+
+    ghost Value = { Rounding };
+
+    ghost view = { λ m. record { shape = m.shape; round = m.round; stage = m.stage } };
+
+    ghost invariant = { λ m. IsRounding (record { shape = m.shape; round = m.round; stage = m.stage }) };
+}
+
+impl RoundMachine {
+    /// A round over the index of this brick. It takes no memory.
+    pub fn new(alloc: Global, shape: Shape, brick: BrickId) -> RoundMachine
+        requires few { shape.n ≤ 5 }
+        requires within { brick.0 < shape.n }
+        ensures { result ≡ round_from shape brick }
+    {
+        RoundMachine {
+            alloc,
+            shape,
+            round: Round::new(brick),
+            stage: RoundStage::Asking,
+        }
+    }
+
+    /// Takes the memory of the coming move.
+    pub fn ready(&mut self) -> Result<(), NoMemory>
+        ensures ok { OnOk result (self.new ≡ made_ready self.old) }
+        ensures err { OnErr result (self.new ≡ self.old) }
+    {
+        match &mut self.stage {
+            RoundStage::Healing(heal) => heal.ready(),
+            _ => Ok(()),
+        }
+    }
+
+    /// The next line. Only the views in a split's end take memory.
+    pub fn next(&self) -> Result<Next, NoMemory>
+        ensures { IfOk result (λ next. next ≡ next_of self.now) }
+    {
+        match &self.stage {
+            RoundStage::Asking => Ok(Next::Ask(self.round.brick(), Request::Index)),
+            RoundStage::Healing(heal) => heal.next(),
+            RoundStage::Over { refused } => Ok(Next::End(ending(*refused))),
+        }
+    }
+
+    /// Whom the next line asks, where it is a request; that is written where it is to stand.
+    pub fn asks(&self, request: &mut Request) -> Option<BrickId>
+        ensures some { (b : BrickId) → result ≡ Some b → next_of self.now ≡ Next.Ask b request.new }
+        ensures none { (b : BrickId) (asked : Request) → result ≡ None → next_of self.now ≡ Next.Ask b asked → ⊥ }
+    {
+        match &self.stage {
+            RoundStage::Asking => {
+                *request = Request::Index;
+                Some(self.round.brick())
+            }
+            RoundStage::Healing(heal) => heal.asks(request),
+            RoundStage::Over { .. } => None,
+        }
+    }
+
+    /// What a heal read, which goes with a repair.
+    pub fn load(&self) -> Load<'_>
+        ensures { CarriesNext self.now result }
+    {
+        match &self.stage {
+            RoundStage::Healing(heal) => heal.load(),
+            _ => Load::Nothing,
+        }
+    }
+
+    /// The request was written at this position, and the brick has answered. What a read gave is taken out of the answer.
+    pub fn hear<F: Fn(&[Candidate]) -> usize>(
+        &mut self,
+        brick: BrickId,
+        request: &Request,
+        answer: &mut Answer,
+        at: u32,
+        rule: &SourceRule<F>,
+    )
+        requires rule { IsRule F.Fn rule.now }
+        requires asked { next_of self.old ≡ Next.Ask brick request.now }
+        requires can { CanHear self.old answer.old }
+        ensures { IsFed F.Fn rule.now answer.old at self.old self.new }
+    {
+        match &mut self.stage {
+            RoundStage::Asking => {
+                self.hear_index(answer);
+            }
+            RoundStage::Healing(heal) => {
+                each_note_stands();
+                heal.hear(brick, request, answer, at, rule);
+                heal.stays_sound();
+            }
+            RoundStage::Over { .. } => unreachable!(),
+        }
+    }
+
+    /// The index was answered. It stands apart, so that only such an answer pays for a frame that holds a whole heal.
+    #[inline(never)]
+    fn hear_index(&mut self, answer: &mut Answer)
+        ensures { self.new ≡ indexed answer.old self.old }
+    {
+        self.stage = indexed(self.alloc, self.shape, &mut self.round, answer);
+    }
+
+    /// Whether bricks give this answer to the next line.
+    pub fn can_hear(&self, answer: &Answer) -> bool
+        ensures { result ≡ true → CanHear self.now answer.now }
+    {
+        match &self.stage {
+            RoundStage::Asking => true,
+            RoundStage::Healing(heal) => heal.can_hear(answer),
+            RoundStage::Over { .. } => false,
+        }
+    }
+
+    /// The HealBegin line of a heal's part was written at this position.
+    pub fn begun(&mut self, at: u32)
+        requires { is_beginning (next_of self.old) ≡ true }
+        ensures { self.new ≡ begun at self.old }
+    {
+        match &mut self.stage {
+            RoundStage::Healing(heal) => {
+                each_note_stands();
+                heal.begun(at);
+                heal.stays_sound();
+            }
+            _ => unreachable!(),
+        }
+    }
+
+    /// The HealEnd line was written: the next heal of the list begins, or the round is over.
+    pub fn healed(&mut self)
+        requires { is_ending (next_of self.old) ≡ true }
+        ensures { self.new ≡ healed self.old }
+    {
+        self.stage = stage_due(self.alloc, self.shape, &mut self.round);
+    }
+
+    /// The heal that the round is at.
+    pub fn heal(&self) -> Option<&HealMachine>
+        ensures { option_map (λ heal. heal.now) result ≡ heal_at self.now.stage }
+    {
+        match &self.stage {
+            RoundStage::Healing(heal) => Some(heal),
+            RoundStage::Asking | RoundStage::Over { .. } => None,
+        }
+    }
+
+    /// What the round keeps at every moment, for those who prove over its value.
+    pub fn stays_sound(&self)
+        ensures { IsRounding self.now }
+    {
+        let _ = &self.stage;
+    }
+}
+
+/// The list of the index is gone through, or it was refused.
+fn indexed(alloc: Global, shape: Shape, round: &mut Round, answer: &mut Answer) -> RoundStage
+    requires few { shape.n ≤ 5 }
+    requires some { 0 < shape.n }
+    ensures stage { result ≡ stage_indexed shape answer.old round.old }
+    ensures round { round.new ≡ round_indexed answer.old round.old }
+{
+    match mem::replace(answer, Answer::Done) {
+        Answer::Index(list) => {
+            round.give_list(list);
+            stage_due(alloc, shape, round)
+        }
+        _ => RoundStage::Over { refused: true },
+    }
+}
+
+/// The next heal of the list, from its beginning, or the end.
+fn stage_due(alloc: Global, shape: Shape, round: &mut Round) -> RoundStage
+    requires few { shape.n ≤ 5 }
+    requires some { 0 < shape.n }
+    ensures stage { result ≡ stage_due shape (next_due round.old) }
+    ensures round { round.new ≡ without_next round.old }
+{
+    match round.next_heal() {
+        Some((gfid, kind)) => RoundStage::Healing(HealMachine::new(alloc, shape, gfid, kind)),
+        None => RoundStage::Over { refused: false },
+    }
+}
+
+/// A round fails where its index was refused.
+fn ending(refused: bool) -> Reply
+    ensures { result ≡ reply_of refused }
+{
+    if refused {
+        Reply::Failed
+    } else {
+        Reply::Ok(Good::Done)
+    }
+}

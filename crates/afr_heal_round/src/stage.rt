@@ -1,0 +1,13 @@
+//! Where a round stands.
+
+use afr_heal_machine::HealMachine;
+
+/// Where a round stands.
+#[derive(Drop)]
+pub enum RoundStage {
+    /// The index is asked for.
+    Asking,
+    Healing(HealMachine),
+    /// No heal is left, or the index was refused.
+    Over { refused: bool },
+}

@@ -1,3 +1,0 @@
-pub mod HealLaws
-pub mod HealTelling
-pub mod Stages

@@ -1,0 +1,237 @@
+//! One line of a healer.
+ghost use Rattle.std.specs.Prelude.{◌≡◌, ◌<◌, ◌≤◌, ◌^◌, ◌+◌, ◌-◌, ◌++◌, ◌∷◌, [], List, IfOk, None, OnOk, OnErr, Some, is_some, true};
+ghost use Rattle.afr_heal_round.specs.Rounding.{CanHear, IsFed, next_of};
+ghost use Rattle.afr_healer.specs.Acting.{Adds, CanStep, CanStepWith, IsAsked, IsBegun, IsEnded, IsHealed, Readies, Stepped, WrittenBy, met_after, written_on};
+ghost use Rattle.afr_healer.specs.declared.healer.Healer.{Healer};
+ghost use Rattle.afr_rule.specs.Choosing.{IsRule};
+ghost use Rattle.afr_server.specs.NextLine.{told_line};
+ghost use Rattle.afr_server.specs.Serving.{Serving};
+
+use crate::healer::Healer;
+use afr_base::{ActorId, BrickId, Gfid, Kind, NoMemory, Shape};
+use afr_heal_round::RoundMachine;
+use afr_law_fits::{fits_its_types, request_fits_its_types};
+use afr_lines::{HealReply, Line, Next, Reply, Request};
+use afr_log::Log;
+use afr_rule::{Candidate, SourceRule};
+use afr_server::Served;
+use afr_servers::{Servers, Visit};
+use std::alloc::Global;
+
+/// A healer has the machine of its present round, which goes over this brick's index, and the memory of its coming move.
+pub fn ready_round(
+    alloc: Global,
+    shape: Shape,
+    brick: BrickId,
+    healer: &mut Healer,
+) -> Result<(), NoMemory>
+    requires few { shape.n ≤ 5 }
+    requires within { brick.0 < shape.n }
+    ensures ok { OnOk result (Readies shape brick healer.old healer.new) }
+    ensures err { OnErr result (healer.new ≡ healer.old) }
+{
+    match &mut healer.round {
+        Some(round) => round.ready(),
+        None => {
+            healer.round = Some(RoundMachine::new(alloc, shape, brick));
+            Ok(())
+        }
+    }
+}
+
+/// One line of a healer whose round has begun, at the end of a log that has room for it. Its memory is taken before anything
+/// changes. Whoever makes the line adds it: it is large, and is moved no further.
+pub fn step_round<F: Fn(&[Candidate]) -> usize>(
+    healer: &mut Healer,
+    a: ActorId,
+    servers: &mut Servers,
+    position: u32,
+    log: &mut Log,
+    rule: &SourceRule<F>,
+) -> Result<(), NoMemory>
+    requires rule { IsRule F.Fn rule.now }
+    requires busy { is_some healer.old.round ≡ true }
+    requires room { healer.old.ended < 2 ^ 32 - 1 }
+    requires can { CanStep a position healer.old servers.old }
+    requires space { log.old.room ≡ true }
+    ensures ok { OnOk result (Adds (λ line. Stepped (IsFed F.Fn rule.now) a position healer.old healer.new servers.old servers.new line) log.old.items log.new.items) }
+    ensures err { OnErr result ((healer.new ≡ healer.old) × (servers.new ≡ servers.old) × (log.new.items ≡ log.old.items)) }
+{
+    let mut request = Request::Index;
+    match &mut healer.round {
+        Some(round) => match round.asks(&mut request) {
+            Some(brick) => {
+                let visit = &mut healer.visit;
+                asks(
+                    round, visit, a, brick, &request, servers, position, log, rule,
+                )
+            }
+            None => {
+                if writes(round, &mut healer.visit, a, position, log)? {
+                    healer.ended += 1;
+                    healer.round = None;
+                }
+                Ok(())
+            }
+        },
+        None => unreachable!(),
+    }
+}
+
+/// A line that is no request: a part of a heal begins, a heal ends, or the round, which is answered. It stands apart, so that
+/// only such lines pay for its frame.
+#[inline(never)]
+fn writes(
+    round: &mut RoundMachine,
+    visit: &mut Visit,
+    a: ActorId,
+    position: u32,
+    log: &mut Log,
+) -> Result<bool, NoMemory>
+    requires other { (b : BrickId) (request : Request) → next_of round.old ≡ Next.Ask b request → ⊥ }
+    requires space { log.old.room ≡ true }
+    ensures ok { IfOk result (λ over. (x : Healer) (bricks : List Serving) → Adds (λ line. WrittenBy a position (record x { visit = visit.old }) (written_on over x visit.new round.new) round.old bricks line (next_of round.old)) log.old.items log.new.items) }
+    ensures err { OnErr result ((round.new ≡ round.old) × (visit.new ≡ visit.old) × (log.new.items ≡ log.old.items)) }
+{
+    match round.next()? {
+        Next::HealBegin(gfid, kind) => {
+            heal_begins(round, a, gfid, kind, position, log);
+            Ok(false)
+        }
+        Next::HealEnd(gfid, kind, reply) => {
+            heal_ends(round, visit, a, gfid, kind, reply, log);
+            Ok(false)
+        }
+        Next::End(reply) => {
+            ends(visit, a, reply, log);
+            Ok(true)
+        }
+        Next::Ask(..) => unreachable!(),
+        Next::Begin(_) => unreachable!(),
+    }
+}
+
+/// What is left of the sessions: after an index the first heal opens them anew.
+fn stays_met(request: &Request) -> bool
+    ensures { result ≡ met_after request.now }
+{
+    match request {
+        Request::Index => false,
+        _ => true,
+    }
+}
+
+/// The line of a request that was served, and the round hears its answer.
+fn tells<F: Fn(&[Candidate]) -> usize>(
+    round: &mut RoundMachine,
+    a: ActorId,
+    brick: BrickId,
+    request: &Request,
+    given: &mut Served,
+    position: u32,
+    log: &mut Log,
+    rule: &SourceRule<F>,
+)
+    requires rule { IsRule F.Fn rule.now }
+    requires asked { next_of round.old ≡ Next.Ask brick request.now }
+    requires can { CanHear round.old given.old.answer }
+    requires space { log.old.room ≡ true }
+    ensures added { log.new.items ≡ log.old.items ++ told_line a brick request.now given.old ∷ [] }
+    ensures fed { IsFed F.Fn rule.now given.old.answer position round.old round.new }
+{
+    log.add_ask(a, brick, request, &given.answer, given.took);
+    round.hear(brick, request, &mut given.answer, position, rule);
+}
+
+/// The request of a line, and what the round makes of the answer. The first line of a heal meets every brick.
+fn asks<F: Fn(&[Candidate]) -> usize>(
+    round: &mut RoundMachine,
+    visit: &mut Visit,
+    a: ActorId,
+    brick: BrickId,
+    request: &Request,
+    servers: &mut Servers,
+    position: u32,
+    log: &mut Log,
+    rule: &SourceRule<F>,
+) -> Result<(), NoMemory>
+    requires rule { IsRule F.Fn rule.now }
+    requires next { next_of round.old ≡ Next.Ask brick request.now }
+    requires can { CanStepWith a visit.old round.old servers.old }
+    requires space { log.old.room ≡ true }
+    ensures ok { OnOk result ((x : Healer) → Adds (λ line. IsAsked (IsFed F.Fn rule.now) a position brick request.now (record x { visit = visit.old }) (record x { visit = visit.new; round = Some round.new }) round.old servers.old servers.new line) log.old.items log.new.items) }
+    ensures err { OnErr result ((round.new ≡ round.old) × (visit.new ≡ visit.old) × (servers.new ≡ servers.old) × (log.new.items ≡ log.old.items)) }
+{
+    request_fits_its_types(request);
+    let load = round.load();
+    // The answer is told and heard where it lies: it is large, and neither `?` nor a branch is to move it.
+    let mut asked = visit.ask(a, brick, request, load, servers);
+    match &mut asked {
+        Ok(given) => {
+            tells(round, a, brick, request, given, position, log, rule);
+            visit.met = stays_met(request);
+            Ok(())
+        }
+        Err(_) => Err(NoMemory),
+    }
+}
+
+#[inline(never)]
+fn heal_begins(
+    round: &mut RoundMachine,
+    a: ActorId,
+    gfid: Gfid,
+    kind: Kind,
+    position: u32,
+    log: &mut Log,
+)
+    requires next { next_of round.old ≡ Next.HealBegin gfid kind }
+    requires space { log.old.room ≡ true }
+    ensures { (x : Healer) (bricks : List Serving) → Adds (λ line. IsBegun a position gfid kind x (record x { round = Some round.new }) round.old bricks bricks line) log.old.items log.new.items }
+{
+    round.begun(position);
+    let line = Line::HealBegin {
+        actor: a,
+        gfid,
+        kind,
+    };
+    fits_its_types(&line);
+    log.add(line);
+}
+
+#[inline(never)]
+fn heal_ends(
+    round: &mut RoundMachine,
+    visit: &mut Visit,
+    a: ActorId,
+    gfid: Gfid,
+    kind: Kind,
+    reply: HealReply,
+    log: &mut Log,
+)
+    requires next { next_of round.old ≡ Next.HealEnd gfid kind reply }
+    requires space { log.old.room ≡ true }
+    ensures { (x : Healer) (bricks : List Serving) → Adds (λ line. IsHealed a gfid kind reply (record x { visit = visit.old }) (record x { visit = visit.new; round = Some round.new }) round.old bricks bricks line) log.old.items log.new.items }
+{
+    round.healed();
+    visit.met = false;
+    let line = Line::HealEnd {
+        actor: a,
+        gfid,
+        kind,
+        reply,
+    };
+    fits_its_types(&line);
+    log.add(line);
+}
+
+#[inline(never)]
+fn ends(visit: &mut Visit, a: ActorId, reply: Reply, log: &mut Log)
+    requires space { log.old.room ≡ true }
+    ensures { (x : Healer) (bricks : List Serving) → Adds (λ line. IsEnded a reply (record x { visit = visit.old }) (record { ended = x.ended + 1; killed = x.killed; visit = visit.new; round = None }) bricks bricks line) log.old.items log.new.items }
+{
+    visit.met = false;
+    let line = Line::End { actor: a, reply };
+    fits_its_types(&line);
+    log.add(line);
+}

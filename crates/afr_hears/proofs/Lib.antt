@@ -1,6 +1,0 @@
-pub mod Seen
-pub mod SomeLines
-pub mod Stood
-pub mod Told
-pub mod Hearing
-pub mod Bringing

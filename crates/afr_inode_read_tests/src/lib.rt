@@ -1,5 +1,0 @@
-//! Tests of afr_inode_read, in a crate of their own, so that it is not proved twice.
-#![tactic(auto)]
-
-#[cfg(test)]
-mod tests;

@@ -1,9 +1,0 @@
-use Rattle.std.proofs.Common.{subst}
-use Rattle.afr_lines.specs.declared.line.Next.{Next}
-use Rattle.afr_walk.specs.Free.{Allows}
-use Rattle.afr_inode_write.specs.Write.{register_of}
-use Rattle.afr_inode_write.proofs.WriteLemmas.{allowed_next}
-use Rattle.afr_inode_write.proofs.machine.WriteMachine.asks.Goals as goal
-
-pub returns-clause-allowed : goal.returns-clause-allowed
-returns-clause-allowed c b some = subst (λ (n : Next). Allows (register_of c.args.self.now) n) (c.ask.ensures.some b some) (allowed_next c.args.self.now c.stays_sound.ensures c.args.position)

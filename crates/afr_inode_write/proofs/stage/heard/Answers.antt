@@ -1,6 +1,0 @@
-use Rattle.std.proofs.Common.{◌∙◌}
-use Rattle.afr_inode_write.proofs.WriteLemmas.{told_answers}
-use Rattle.afr_inode_write.proofs.stage.heard.Goals as goal
-
-pub returns : goal.returns
-returns c = c.hear.ensures ∙ told_answers c.args.transaction.now.stage c.args.told.now c.args.at c.args.transaction.now c.args.brick c.args.request.now c.requires

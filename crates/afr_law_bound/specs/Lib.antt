@@ -1,0 +1,4 @@
+pub mod Waiting
+pub mod Law
+pub mod Standstill
+pub mod Ends

@@ -1,0 +1,12 @@
+pub mod Read
+pub mod About
+pub mod Fits
+pub mod GivenUp
+pub mod Laws
+pub mod Reads
+pub mod Tells
+pub mod Second
+pub mod Write
+pub mod Removal
+pub mod Entry
+pub mod Rename

@@ -1,0 +1,5 @@
+pub mod Left
+pub mod Laws
+pub mod Round
+pub mod Index
+pub mod Healer

@@ -1,0 +1,4 @@
+pub mod HealLaws
+pub mod HealTelling
+pub mod Stages
+pub mod Heard

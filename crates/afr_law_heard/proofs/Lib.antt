@@ -1,0 +1,9 @@
+pub mod Seen
+pub mod SomeLines
+pub mod Stood
+pub mod Told
+pub mod Hearing
+pub mod Bringing
+pub mod Entry
+pub mod Rename
+pub mod Works

@@ -1,0 +1,5 @@
+pub mod Finds
+pub mod Hears
+pub mod Entry
+pub mod Rename
+pub mod Works

@@ -1,0 +1,5 @@
+pub mod Named
+pub mod Apart
+pub mod Numbered
+pub mod Links
+pub mod Descent

@@ -1,0 +1,4 @@
+pub mod Heal
+pub mod Rows
+pub mod Asking
+pub mod Work

@@ -1,0 +1,3 @@
+pub mod Heal
+pub mod Queue
+pub mod Work

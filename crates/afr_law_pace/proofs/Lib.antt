@@ -1,0 +1,9 @@
+pub mod Counting
+pub mod Nearer
+pub mod Order
+pub mod Walks
+pub mod Writes
+pub mod Lookups
+pub mod Entry
+pub mod Rename
+pub mod Work

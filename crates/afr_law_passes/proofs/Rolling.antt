@@ -1,0 +1,4 @@
+pub mod Epoch
+pub mod Idle
+pub mod Named
+pub mod Rolled

@@ -1,0 +1,3 @@
+pub mod Converged
+pub mod Reached
+pub mod Rolling

@@ -1,0 +1,10 @@
+pub mod Candidate
+pub mod Coming
+pub mod Early
+pub mod Heal
+pub mod Line
+pub mod Register
+pub mod Stage
+pub mod Work
+pub mod HealerTurn
+pub mod Turns

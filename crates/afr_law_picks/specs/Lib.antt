@@ -1,0 +1,4 @@
+pub mod Sources
+pub mod Laws
+pub mod Picked
+pub mod Readings

@@ -1,0 +1,4 @@
+pub mod Lists
+pub mod Moves
+pub mod Copies
+mod Rounds

@@ -1,5 +1,0 @@
-//! Tests of the small crates, in a crate of their own, so that none of them is proved twice.
-#![tactic(auto)]
-
-#[cfg(test)]
-mod tests;

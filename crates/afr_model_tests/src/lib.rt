@@ -1,2 +1,0 @@
-//! Samples of what the definitions of a log admit and refuse.
-#![tactic(auto)]

@@ -1,2 +1,0 @@
-//! Samples of logs that keep the laws of durability, misses, availability and locks, and of logs that come near.
-#![tactic(auto)]

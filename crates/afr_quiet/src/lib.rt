@@ -1,2 +1,0 @@
-//! What a round does that nothing disturbs; definitions alone.
-#![tactic(auto)]

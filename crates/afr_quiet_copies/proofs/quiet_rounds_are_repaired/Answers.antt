@@ -1,5 +1,0 @@
-use Rattle.afr_quiet_copies.proofs.Kept.{quiet_repaired}
-use Rattle.afr_quiet_copies.proofs.quiet_rounds_are_repaired.Goals as goal
-
-pub returns : goal.returns
-returns c = record { kept = λ p log five some short follows honest lawful replied. quiet_repaired p log five some short follows honest lawful replied }

@@ -1,5 +1,0 @@
-use Rattle.afr_quiet_lists.proofs.Law.{quiet_listed}
-use Rattle.afr_quiet_lists.proofs.quiet_rounds_are_listed.Goals as goal
-
-pub returns : goal.returns
-returns c = record { law = λ p log small some clients short follows honest lawful replied. quiet_listed p log small some clients short follows honest lawful replied }

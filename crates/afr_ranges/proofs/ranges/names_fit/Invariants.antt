@@ -1,7 +1,0 @@
-use Rattle.std.proofs.Common.{take}
-use Rattle.afr_ranges.specs.Named.{IsNamed}
-use Rattle.afr_moves.specs.Ranges.{Each}
-use Rattle.afr_ranges.proofs.ranges.names_fit.Given as goal
-
-abbrev pub invariant-loop-pair : goal.invariant-loop-pair
-invariant-loop-pair l = Each IsNamed (take l.pair-index l.names)

@@ -1,6 +1,0 @@
-use Rattle.std.proofs.Common.{take}
-use Rattle.afr_moves.specs.Ranges.{Each, IfSome, IsWord}
-use Rattle.afr_ranges.proofs.ranges.reads_fit.Given as goal
-
-abbrev pub invariant-loop-read : goal.invariant-loop-read
-invariant-loop-read l = Each (IfSome IsWord) (take l.read-index l.reads)

@@ -1,3 +1,0 @@
-mod Passes
-mod Names
-mod Reached

@@ -1,6 +1,0 @@
-use Rattle.std.proofs.Common.{◌≡◌, map, take}
-use Rattle.afr_model.specs.ReportReplies.{name_texts}
-use Rattle.afr_replies.proofs.names.texts_of.Given as goal
-
-abbrev pub invariant-loop-name : goal.invariant-loop-name
-invariant-loop-name l = map (λ text. text.now) l.texts.items ≡ name_texts l.words (take l.name-index l.names)

@@ -1,0 +1,13 @@
+use Rattle.std.proofs.Common.{◌≡◌, ◌++◌, length}
+use Rattle.std.specs.Prelude.{string_bytes, codes, decimal, flat_map}
+use Rattle.afr_base.specs.Rising.{IsRising}
+use Rattle.afr_report_info.proofs.reach.push_bricks.Given as goal
+
+abbrev pub invariant-loop-left : goal.invariant-loop-left
+invariant-loop-left l = record {
+  rising : IsRising 0 l.left;
+  text : string_bytes l.out ++ flat_map (λ b. codes " " ++ decimal b) l.left ≡ string_bytes l.fn.out ++ flat_map (λ b. codes " " ++ decimal b) l.fn.bricks;
+}
+
+abbrev pub decreases-loop-left : goal.decreases-loop-left
+decreases-loop-left l = length l.left

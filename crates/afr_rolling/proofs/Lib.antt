@@ -1,4 +1,0 @@
-mod Epoch
-mod Idle
-mod Named
-mod Rolled

@@ -1,5 +1,0 @@
-mod Counting
-mod Beginning
-mod Spending
-mod Lines
-mod Indexes

@@ -1,8 +1,0 @@
-//! The sources of the heals: each is one that the stored rule picked.
-#![tactic(auto)]
-
-mod chosen;
-mod laws;
-
-pub use chosen::chosen_source;
-pub use laws::a_line_keeps_its_source;

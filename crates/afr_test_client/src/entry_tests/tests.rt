@@ -1,0 +1,277 @@
+//! Commands on a name of the root, to their ends.
+use afr_base::{AllMarks, BrickId, Gfid, NameId, Shape, What};
+use afr_client_entry::{EntryJob, EntryMachine};
+use afr_lines::{Answer, Area, Good, Heard, Next, Reply, Request};
+use afr_object::{Change, Entry, List, Load, NameList, View};
+use afr_rule::ReadRule;
+use afr_rule::shipped::first;
+use std::alloc::Global;
+
+const ROOT: Gfid = Gfid(1);
+
+const NAME: NameId = NameId(4);
+
+fn on_three(alloc: Global, path: &[NameId], job: EntryJob) -> Option<EntryMachine> {
+    let shape = Shape {
+        n: 3,
+        arbiter: false,
+    };
+    EntryMachine::new(alloc, shape, path, job).ok()
+}
+
+fn hears(machine: &mut EntryMachine, heard: Heard) {
+    if !machine.is_over() {
+        machine.feed(heard, &ReadRule::new(first));
+    }
+}
+
+fn hears_one(machine: &mut EntryMachine, answer: Answer) {
+    hears(machine, Heard::Answer(answer, 3));
+}
+
+fn all_done(machine: &mut EntryMachine) {
+    hears_one(machine, Answer::Done);
+    hears_one(machine, Answer::Done);
+    hears_one(machine, Answer::Done);
+}
+
+/// A clean copy of the directory.
+fn seen() -> Answer {
+    Answer::Seen(View {
+        what: What::Dir,
+        len: 0,
+        marks: AllMarks::zero(),
+    })
+}
+
+fn entry(what: What) -> Answer {
+    Answer::Entry(Some(Entry {
+        gfid: Gfid(40),
+        what,
+    }))
+}
+
+/// The name is locked in the root on every brick, and the root is looked at.
+fn locked(alloc: Global, job: EntryJob) -> Option<EntryMachine> {
+    let mut machine = on_three(alloc, &[], job)?;
+    hears_one(&mut machine, Answer::Granted);
+    hears_one(&mut machine, Answer::Granted);
+    hears_one(&mut machine, Answer::Granted);
+    hears_one(&mut machine, seen());
+    hears_one(&mut machine, seen());
+    hears_one(&mut machine, seen());
+    Some(machine)
+}
+
+/// The end of a command, after this was told of its name.
+fn end_after(alloc: Global, job: EntryJob, told: Answer) -> Option<Next> {
+    let mut machine = locked(alloc, job)?;
+    hears_one(&mut machine, told);
+    all_done(&mut machine);
+    machine.next(20).ok()
+}
+
+#[test]
+fn a_name_is_locked_at_once_in_the_root(rt: HostRuntime) {
+    let first = on_three(rt.alloc(), &[], EntryJob::Create { name: NAME }).and_then(|m| m
+        .next(0)
+        .ok());
+    assert!(rt;
+        matches!(
+            first,
+            Some(Next::Ask(
+                BrickId(0),
+                Request::Lock {
+                    area: Area::Name {
+                        gfid: ROOT,
+                        name: Some(NAME)
+                    },
+                    ..
+                }
+            ))
+        )
+    );
+}
+
+#[test]
+fn the_name_is_read_before_the_attempt(rt: HostRuntime) {
+    let next = locked(rt.alloc(), EntryJob::Mkdir { name: NAME }).and_then(|m| m.next(6).ok());
+    assert!(rt;
+        matches!(
+            next,
+            Some(Next::Ask(
+                BrickId(0),
+                Request::ReadName {
+                    gfid: ROOT,
+                    name: NAME
+                }
+            ))
+        )
+    );
+}
+
+/// A file is made on every brick: the number that its Begin line gives, whether its operation carries it, and its end.
+fn makes_a_file(alloc: Global) -> Option<(Next, bool, Next)> {
+    let mut machine = locked(alloc, EntryJob::Create { name: NAME })?;
+    hears_one(&mut machine, Answer::Entry(None));
+    machine.ready().ok()?;
+    let begin = machine.next(7).ok()?;
+    hears(&mut machine, Heard::Begun(7));
+    all_done(&mut machine);
+    let carried = matches!(machine.load(), Load::Change(Change::Make { .. }));
+    all_done(&mut machine);
+    all_done(&mut machine);
+    all_done(&mut machine);
+    let end = machine.next(20).ok()?;
+    Some((begin, carried, end))
+}
+
+#[test]
+fn a_file_takes_its_number_from_its_begin_line(rt: HostRuntime) {
+    assert!(rt;
+        matches!(
+            makes_a_file(rt.alloc()),
+            Some((
+                Next::Begin(Change::Make {
+                    dir: ROOT,
+                    name: NAME,
+                    gfid: Gfid(9),
+                    what: What::File
+                }),
+                true,
+                Next::End(Reply::Ok(Good::Done))
+            ))
+        )
+    );
+}
+
+#[test]
+fn a_name_that_is_there_is_not_made(rt: HostRuntime) {
+    let job = EntryJob::Mkdir { name: NAME };
+    let end = end_after(rt.alloc(), job, entry(What::File));
+    assert!(rt; matches!(end, Some(Next::End(Reply::Exists))));
+}
+
+#[test]
+fn a_name_that_is_not_there_is_not_unlinked(rt: HostRuntime) {
+    let job = EntryJob::Unlink { name: NAME };
+    let end = end_after(rt.alloc(), job, Answer::Entry(None));
+    assert!(rt; matches!(end, Some(Next::End(Reply::NoEntry))));
+}
+
+#[test]
+fn a_directory_is_not_unlinked(rt: HostRuntime) {
+    let job = EntryJob::Unlink { name: NAME };
+    let end = end_after(rt.alloc(), job, entry(What::Dir));
+    assert!(rt; matches!(end, Some(Next::End(Reply::IsDir))));
+}
+
+#[test]
+fn a_lost_answer_for_the_name_fails(rt: HostRuntime) {
+    let job = EntryJob::Unlink { name: NAME };
+    let end = end_after(rt.alloc(), job, Answer::NotConnected);
+    assert!(rt; matches!(end, Some(Next::End(Reply::Failed))));
+}
+
+/// What follows a path to a file.
+fn in_a_file(alloc: Global) -> Option<Next> {
+    let mut machine = on_three(alloc, &[NameId(0)], EntryJob::Create { name: NAME })?;
+    hears_one(&mut machine, seen());
+    hears_one(&mut machine, seen());
+    hears_one(&mut machine, seen());
+    hears_one(&mut machine, entry(What::File));
+    machine.next(4).ok()
+}
+
+#[test]
+fn a_file_has_no_names(rt: HostRuntime) {
+    assert!(rt; matches!(in_a_file(rt.alloc()), Some(Next::End(Reply::NotDir))));
+}
+
+const CHILD: Gfid = Gfid(40);
+
+/// The name leads to a directory, which is locked wherever the bricks answer so.
+fn child_locked(alloc: Global, locks: [Answer; 3]) -> Option<EntryMachine> {
+    let mut machine = locked(alloc, EntryJob::Rmdir { name: NAME })?;
+    hears_one(&mut machine, entry(What::Dir));
+    for answer in locks {
+        hears_one(&mut machine, answer);
+    }
+    Some(machine)
+}
+
+#[test]
+fn the_whole_child_is_locked_next(rt: HostRuntime) {
+    let next = locked(rt.alloc(), EntryJob::Rmdir { name: NAME }).and_then(|mut m| {
+        hears_one(&mut m, entry(What::Dir));
+        m.next(7).ok()
+    });
+    assert!(rt;
+        matches!(
+            next,
+            Some(Next::Ask(
+                BrickId(0),
+                Request::Lock {
+                    area: Area::Name {
+                        gfid: CHILD,
+                        name: None
+                    },
+                    ..
+                }
+            ))
+        )
+    );
+}
+
+/// The end of a removal whose child has these names.
+fn removes_with(alloc: Global, names: NameList) -> Option<Next> {
+    let locks = [Answer::Granted, Answer::Granted, Answer::Granted];
+    let mut machine = child_locked(alloc, locks)?;
+    hears_one(&mut machine, seen());
+    hears_one(&mut machine, seen());
+    hears_one(&mut machine, seen());
+    hears_one(&mut machine, Answer::Names(names));
+    hears(&mut machine, Heard::Begun(14));
+    all_done(&mut machine);
+    all_done(&mut machine);
+    all_done(&mut machine);
+    all_done(&mut machine);
+    all_done(&mut machine);
+    machine.next(30).ok()
+}
+
+#[test]
+fn an_empty_directory_is_removed(rt: HostRuntime) {
+    let end = removes_with(rt.alloc(), List::new(rt.alloc()));
+    assert!(rt; matches!(end, Some(Next::End(Reply::Ok(Good::Done)))));
+}
+
+#[test]
+fn a_directory_with_a_name_stays(rt: HostRuntime) {
+    let mut names: NameList = List::new(rt.alloc());
+    let inner = Entry {
+        gfid: Gfid(50),
+        what: What::File,
+    };
+    assert!(rt; names.push((NameId(7), inner)).is_ok());
+    let end = removes_with(rt.alloc(), names);
+    assert!(rt; matches!(end, Some(Next::End(Reply::NotEmpty))));
+}
+
+#[test]
+fn a_child_that_one_brick_locks_has_no_quorum(rt: HostRuntime) {
+    let locks = [Answer::Granted, Answer::Failed, Answer::Failed];
+    let end = child_locked(rt.alloc(), locks).and_then(|mut m| {
+        hears_one(&mut m, Answer::Done);
+        all_done(&mut m);
+        m.next(20).ok()
+    });
+    assert!(rt; matches!(end, Some(Next::End(Reply::NoQuorum))));
+}
+
+#[test]
+fn a_file_is_not_removed_as_a_directory(rt: HostRuntime) {
+    let job = EntryJob::Rmdir { name: NAME };
+    let end = end_after(rt.alloc(), job, entry(What::File));
+    assert!(rt; matches!(end, Some(Next::End(Reply::NotDir))));
+}

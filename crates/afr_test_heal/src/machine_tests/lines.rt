@@ -1,0 +1,120 @@
+//! The lines of the tests: what a heal asks next, and the answers that it hears.
+use afr_base::{AllMarks, Gfid, Kind, Marks, Shape, What};
+use afr_heal_machine::HealMachine;
+use afr_lines::{Answer, Domain, HealReply, Next, Request};
+use afr_object::{Load, View};
+use afr_rule::SourceRule;
+use afr_rule::shipped::longest;
+use std::alloc::Global;
+
+pub(crate) const OBJECT: Gfid = Gfid(2);
+
+/// A heal on three bricks.
+pub(crate) fn heal_of(alloc: Global, kind: Kind) -> HealMachine {
+    let shape = Shape {
+        n: 3,
+        arbiter: false,
+    };
+    HealMachine::new(alloc, shape, OBJECT, kind)
+}
+
+/// The object as a brick shows it that saw brick 2 miss a change, or without any number.
+pub(crate) fn seen(what: What, kind: Kind, missed: bool) -> Answer {
+    let mut marks = AllMarks::zero();
+    if missed {
+        marks.put(
+            kind,
+            Marks {
+                dirty: 0,
+                pending: [0, 0, 1, 0, 0],
+            },
+        );
+    }
+    Answer::Seen(View {
+        what,
+        len: 7,
+        marks,
+    })
+}
+
+pub(crate) fn hears(machine: &mut HealMachine, mut answer: Answer, at: u32) {
+    let rule = SourceRule::new(longest);
+    let mut request = Request::Index;
+    if let Some(brick) = machine.asks(&mut request) {
+        if machine.can_hear(&answer) {
+            machine.hear(brick, &request, &mut answer, at, &rule);
+        }
+    }
+}
+
+/// The same three times.
+pub(crate) fn hears_done(machine: &mut HealMachine, at: u32) {
+    hears(machine, Answer::Done, at);
+    hears(machine, Answer::Done, at);
+    hears(machine, Answer::Done, at);
+}
+
+pub(crate) fn hears_granted(machine: &mut HealMachine, at: u32) {
+    hears(machine, Answer::Granted, at);
+    hears(machine, Answer::Granted, at);
+    hears(machine, Answer::Granted, at);
+}
+
+/// The locks were granted, the part has begun, and brick 2 missed a change.
+pub(crate) fn sees_behind(machine: &mut HealMachine, what: What, kind: Kind) {
+    hears_granted(machine, 1);
+    hears_granted(machine, 4);
+    if machine.is_beginning() {
+        machine.begun(7);
+    }
+    hears(machine, seen(what, kind, true), 8);
+    hears(machine, seen(what, kind, true), 9);
+    hears(machine, seen(what, kind, false), 10);
+}
+
+/// What is asked of this brick next.
+pub(crate) fn asks(machine: &HealMachine, brick: u8) -> Option<Request> {
+    let mut request = Request::Index;
+    match machine.asks(&mut request) {
+        Some(b) => { if b.0 == brick { Some(request) } else { None } }
+        None => None,
+    }
+}
+
+pub(crate) fn unlocks(machine: &HealMachine, brick: u8, of_work: bool) -> bool {
+    match asks(machine, brick) {
+        Some(
+            Request::Unlock {
+                domain: Domain::Work,
+                ..
+            },
+        ) => of_work,
+        Some(
+            Request::Unlock {
+                domain: Domain::Heal,
+                ..
+            },
+        ) => !of_work,
+        _ => false,
+    }
+}
+
+/// The reply of the heal, if its next line is its end.
+pub(crate) fn reply_of(machine: &HealMachine) -> Option<HealReply> {
+    match machine.next() {
+        Ok(Next::HealEnd(_, _, reply)) => Some(reply),
+        _ => None,
+    }
+}
+
+/// How many names go with the next repair.
+pub(crate) fn names_carried(machine: &HealMachine) -> usize {
+    match machine.load() {
+        Load::Names(names) => names.len(),
+        _ => 0,
+    }
+}
+
+pub(crate) fn carries_attrs(machine: &HealMachine) -> bool {
+    matches!(machine.load(), Load::Attrs(_))
+}

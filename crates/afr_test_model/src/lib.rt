@@ -1,0 +1,4 @@
+//! Samples of what the definitions of a log admit and refuse.
+#![tactic(auto)]
+
+mod renamed_tests;

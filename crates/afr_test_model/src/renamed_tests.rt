@@ -1,0 +1,1 @@
+//! Samples of what the definitions of a rename admit and refuse.

@@ -1,0 +1,4 @@
+//! Tests of generated plans.
+
+#[cfg(test)]
+mod tests;

@@ -1,0 +1,95 @@
+//! The report and the summary of a plan and a log, over servers whose bricks a replay of the log makes.
+ghost use Rattle.std.specs.Prelude.{◌≡◌, true, reverse};
+ghost use Rattle.afr_report.specs.BrickLines.{AreBrickLines, IsBrickEvent, IsBrickLine};
+
+use afr_base::BrickId;
+use afr_check_tables::{Unfit, tables};
+use afr_faults::FaultPlan;
+use afr_lines::{Event, Line};
+use afr_log::Log;
+use afr_plan::Plan;
+use afr_report::{print_report, print_summary, started};
+use afr_server::Server;
+use std::alloc::Global;
+
+/// Whether the report has this text.
+pub fn reports(alloc: Global, plan: &Plan, lines: Vec<Line>, text: &str) -> Result<bool, Unfit> {
+    if plan.shape.n > 5 || plan.clients.len() > 16 || plan.healers.len() > 3 {
+        return Ok(false);
+    }
+    if !has_brick_lines(&lines) {
+        return Ok(false);
+    }
+    let servers = replayed(alloc, plan, &lines)?;
+    let log = Log::of(alloc, lines)?;
+    let started = started(plan.shape.n, &log);
+    let report = print_report(alloc, plan, &log, started, &servers)?;
+    Ok(report.as_str() == text)
+}
+
+/// Whether the summary of load 7 has this text.
+pub fn summarizes(alloc: Global, plan: &Plan, lines: Vec<Line>, text: &str) -> Result<bool, Unfit> {
+    if plan.shape.n > 5 || !has_brick_lines(&lines) {
+        return Ok(false);
+    }
+    let servers = replayed(alloc, plan, &lines)?;
+    let log = Log::of(alloc, lines)?;
+    let started = started(plan.shape.n, &log);
+    let summary = print_summary(alloc, 7, plan, &log, started, &servers)?;
+    Ok(summary.as_str() == text)
+}
+
+fn replayed(alloc: Global, plan: &Plan, log: &[Line]) -> Result<Vec<Server>, Unfit> {
+    let mut servers = Vec::new(alloc);
+    for brick in 0..plan.shape.n {
+        let brick = tables(alloc, plan, log, BrickId(brick))?;
+        put(
+            &mut servers,
+            Server::new(alloc, brick, FaultPlan::new(alloc)),
+        )?;
+    }
+    Ok(servers)
+}
+
+fn put(servers: &mut Vec<Server>, server: Server) -> Result<(), Unfit> {
+    match servers.push(server) {
+        Ok(()) => Ok(()),
+        Err(_) => Err(Unfit::NoMemory),
+    }
+}
+
+fn has_brick_lines(log: &[Line]) -> bool
+    ensures { result ≡ true → AreBrickLines (reverse log.now) }
+{
+    for line in log {
+        if !is_brick_line(line) {
+            return false;
+        }
+    }
+    true
+}
+
+fn is_brick_line(line: &Line) -> bool
+    ensures { result ≡ true → IsBrickLine line.now }
+{
+    match line {
+        Line::Event { event } => is_brick_event(*event),
+        Line::Ask { .. } => true,
+        Line::Begin { .. } => true,
+        Line::HealBegin { .. } => true,
+        Line::End { .. } => true,
+        Line::HealEnd { .. } => true,
+    }
+}
+
+fn is_brick_event(event: Event) -> bool
+    ensures { result ≡ true → IsBrickEvent event }
+{
+    match event {
+        Event::Stop(brick) => brick.0 < 5,
+        Event::Start(brick) => brick.0 < 5,
+        Event::Cut(_, _) => true,
+        Event::Join(_, _) => true,
+        Event::Kill(_) => true,
+    }
+}

@@ -1,0 +1,4 @@
+//! Tests of the servers of a volume, each call once.
+
+#[cfg(test)]
+mod tests;

@@ -1,7 +1,0 @@
-pub mod Fields
-pub mod Begun
-pub mod Kept
-pub mod Queue
-pub mod Circle
-pub mod Nones
-pub mod Stand

@@ -1,6 +1,0 @@
-//! What the lines of a work tell of the machine of a change: its walk and its transaction together.
-#![tactic(auto)]
-
-mod writes;
-
-pub use writes::a_write_tells_its_lines;
