@@ -6,7 +6,7 @@ use Rattle.afr_lines.specs.declared.line.Next.TheVariants as next
 use Rattle.afr_lines.specs.declared.reply.Reply.{Reply}
 use Rattle.afr_lines.specs.declared.request.Request.{Request}
 use Rattle.afr_object.specs.declared.change.Change.{Change}
-use Rattle.afr_client_walk.specs.Free.{is_ask}
+use Rattle.afr_discipline.specs.Free.{is_ask}
 use Rattle.afr_client_transaction.specs.Progress as progress
 use Rattle.afr_client_transaction.specs.Progress.{TransactionProgress, asks}
 use Rattle.afr_client_transaction.specs.declared.stage.Stage.{Stage}

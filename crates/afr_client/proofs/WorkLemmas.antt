@@ -23,7 +23,7 @@ use Rattle.afr_discipline.specs.Tests.{may_ask_outside, may_move_outside}
 use Rattle.afr_discipline.specs.declared.register.Move.TheVariants as move
 use Rattle.afr_discipline.specs.declared.register.Register.{Register}
 use Rattle.afr_rule.specs.Choosing.{Calls}
-use Rattle.afr_client_walk.specs.Free.{Allows, IsFree}
+use Rattle.afr_discipline.specs.Free.{Allows, IsFree}
 use Rattle.afr_client_walk.specs.Looks.{no_look}
 use Rattle.afr_client_walk.specs.Walk.{IsWalk, walk_from}
 use Rattle.afr_object.specs.Tables.{root_entry}
@@ -31,7 +31,7 @@ use Rattle.afr_client_walk.specs.declared.walk.Walk.{Walk}
 use Rattle.afr_client_walk.specs.declared.walk.WalkStep.TheVariants as walking
 use Rattle.afr_client_walk.specs.Choosing.{reader_of}
 use Rattle.afr_client_walk.proofs.ChoosingLemmas.{answers_among}
-use Rattle.afr_client_walk.proofs.FreeLemmas.{allows_end, shape_is}
+use Rattle.afr_discipline.proofs.FreeLemmas.{allows_end, shape_is}
 use Rattle.afr_client_transaction.specs.Outcome.{outcome_of, reply_of}
 use Rattle.afr_client_transaction.specs.Progress as progress
 use Rattle.afr_client_transaction.specs.Progress.{TransactionProgress, asks}

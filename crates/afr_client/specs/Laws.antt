@@ -14,7 +14,7 @@ use Rattle.afr_discipline.specs.Notes.{noted_ask, noted_begin}
 use Rattle.afr_discipline.specs.Stands.{HasFive, no_lines}
 use Rattle.afr_rule.specs.Choosing.{Calls}
 use Rattle.afr_client_walk.specs.Choosing.{IsAmong}
-use Rattle.afr_client_walk.specs.Free.{Allows}
+use Rattle.afr_discipline.specs.Free.{Allows}
 use Rattle.afr_client.specs.Begin.{has_machine, work_from}
 use Rattle.afr_client.specs.Work.{IsAnswered, IsFed, IsWork, choices_heard, heard_by, is_over, next_of, register_of}
 use Rattle.afr_client.specs.declared.work.WorkMachine.{WorkMachine}

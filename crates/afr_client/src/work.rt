@@ -3,7 +3,7 @@ ghost use Rattle.std.specs.Prelude.{◌≡◌, ◌<◌, ◌≤◌, IfOk, None, S
 ghost use Rattle.afr_discipline.specs.Stands.{HasFive};
 ghost use Rattle.afr_rule.specs.Choosing.{IsRule};
 ghost use Rattle.afr_client_walk.specs.Choosing.{RuleAnswers, reader_of};
-ghost use Rattle.afr_client_walk.specs.Free.{Allows, is_ask};
+ghost use Rattle.afr_discipline.specs.Free.{Allows, is_ask};
 ghost use Rattle.afr_client.specs.Work.{CarriesNext, IsBusy, IsWork, choices_of, heard_by, is_idle, is_over, next_of, register_of};
 
 use crate::on_heap::OnHeap;

@@ -16,12 +16,12 @@ use Rattle.afr_discipline.specs.declared.register.Move.{Move}
 use Rattle.afr_discipline.specs.declared.register.Move.TheVariants as move
 use Rattle.afr_discipline.specs.declared.register.Register.{Register}
 use Rattle.afr_discipline.specs.declared.register.Step.TheVariants as step
-use Rattle.afr_client_walk.specs.Free.{Allows, IsFree, IsMoveOf}
+use Rattle.afr_discipline.specs.Free.{Allows, IsFree, IsMoveOf}
 use Rattle.afr_client_walk.specs.Walk.{IsWalk}
 use Rattle.afr_client_walk.specs.declared.walk.Walk.{Walk}
 use Rattle.afr_client_walk.specs.declared.walk.WalkStep.{WalkStep}
 use Rattle.afr_client_walk.specs.declared.walk.WalkStep.TheVariants as walking
-use Rattle.afr_client_walk.proofs.FreeLemmas.{allows_end, shape_is}
+use Rattle.afr_discipline.proofs.FreeLemmas.{allows_end, shape_is}
 use Rattle.afr_client_walk.proofs.WalkLemmas.{asks_allowed}
 use Rattle.afr_client_transaction.specs.Laws as transaction
 use Rattle.afr_client_transaction.specs.Progress as progress

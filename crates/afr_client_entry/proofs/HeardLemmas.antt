@@ -11,7 +11,7 @@ use Rattle.afr_lines.specs.declared.request.Request.{Request}
 use Rattle.afr_lines.specs.declared.line.Heard.TheVariants as heard
 use Rattle.afr_lines.specs.Areas.{kind_for}
 use Rattle.afr_rule.specs.Choosing.{Calls}
-use Rattle.afr_client_walk.specs.Free.{is_ask}
+use Rattle.afr_discipline.specs.Free.{is_ask}
 use Rattle.afr_client_walk.specs.declared.walk.Walk.{Walk}
 use Rattle.afr_client_walk.specs.Choosing.{reader_of}
 use Rattle.afr_client_transaction.specs.Between.{is_read, noted_read}

@@ -11,7 +11,7 @@ use Rattle.afr_lines.specs.declared.request.Request.{Request}
 use Rattle.afr_discipline.specs.Notes.{noted_ask, noted_begin}
 use Rattle.afr_rule.specs.Choosing.{Calls}
 use Rattle.afr_client_walk.specs.Choosing.{IsAmong}
-use Rattle.afr_client_walk.specs.Free.{Allows}
+use Rattle.afr_discipline.specs.Free.{Allows}
 use Rattle.afr_client_entry.specs.Entry.{Entering, IsAnswered, IsEntry, IsFed, choices_heard, heard_by, is_over, next_of, register_of}
 
 -- the discipline allows the next line, wherever it stands

@@ -4,7 +4,7 @@ ghost use Rattle.afr_client_entry.specs.Entry.{CarriesNext, IsEntry, IsFed, answ
 ghost use Rattle.afr_rule.specs.Choosing.{IsRule};
 ghost use Rattle.afr_client_walk.specs.Choosing.{RuleAnswers, reader_of};
 ghost use Rattle.afr_client_transaction.specs.Progress.{is_beginning};
-ghost use Rattle.afr_client_walk.specs.Free.{Allows, is_ask};
+ghost use Rattle.afr_discipline.specs.Free.{Allows, is_ask};
 ghost use Rattle.afr_client_walk.specs.Walk.{IsWalk, is_walking, next_in};
 
 use crate::job::EntryJob;

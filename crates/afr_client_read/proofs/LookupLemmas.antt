@@ -22,7 +22,7 @@ use Rattle.afr_lines.specs.declared.reply.Reply.TheVariants.{Ok as OkReply, IsDi
 use Rattle.afr_lines.specs.declared.request.Request.{Request}
 use Rattle.afr_rule.specs.Choosing.{Calls}
 use Rattle.afr_client_walk.specs.Choosing.{IsAmong, RuleAnswers, choices, choices_after, reader_of}
-use Rattle.afr_client_walk.specs.Free.{Allows, is_free}
+use Rattle.afr_discipline.specs.Free.{Allows, is_free}
 use Rattle.afr_client_walk.specs.Looks.{no_look, left_to_look, heard_look}
 use Rattle.afr_client_walk.specs.Walk.{is_walking, next_in, noted, walked, IsWalk}
 use Rattle.afr_client_walk.specs.declared.looks.Looks.{Looks}
@@ -30,7 +30,7 @@ use Rattle.afr_client_walk.specs.declared.walk.Walk.{Walk}
 use Rattle.afr_client_walk.specs.declared.walk.WalkStep.{WalkStep}
 use Rattle.afr_client_walk.specs.declared.walk.WalkStep.TheVariants as walking
 use Rattle.afr_client_walk.proofs.ChoosingLemmas.{answers_among}
-use Rattle.afr_client_walk.proofs.FreeLemmas.{allows_free, allows_end}
+use Rattle.afr_discipline.proofs.FreeLemmas.{allows_free, allows_end}
 use Rattle.afr_client_walk.proofs.WalkLemmas.{HasLow, low, asks_allowed, asks_free, asked_below, heard_within, is_noted, is_walked, no_look_is, walked_notes}
 use Rattle.afr_client_read.specs.Job.{kind_of, request_of}
 use Rattle.afr_client_read.specs.Laws.{AllowedNext, FedIsAnswered, NotesEach, StaysSound}

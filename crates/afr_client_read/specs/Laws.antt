@@ -7,7 +7,7 @@ use Rattle.afr_lines.specs.declared.line.Heard.{Heard}
 use Rattle.afr_discipline.specs.Notes.{noted_ask}
 use Rattle.afr_rule.specs.Choosing.{Calls}
 use Rattle.afr_client_walk.specs.Choosing.{IsAmong}
-use Rattle.afr_client_walk.specs.Free.{Allows}
+use Rattle.afr_discipline.specs.Free.{Allows}
 use Rattle.afr_client_read.specs.Lookup.{Lookup, IsAnswered, IsFed, IsLookup, answered, asked_at, choices_of, is_asking, next_of}
 
 -- the discipline allows the next line, wherever it stands

@@ -3,7 +3,7 @@ ghost use Rattle.std.specs.Prelude.{None, Some, ◌≡◌, ◌<◌, ◌≤◌, I
 ghost use Rattle.afr_client_read.specs.Lookup.{IsFed, IsLookup, answered, choices_of, is_asking, lookup_from, next_of};
 ghost use Rattle.afr_rule.specs.Choosing.{IsRule};
 ghost use Rattle.afr_client_walk.specs.Choosing.{RuleAnswers, reader_of};
-ghost use Rattle.afr_client_walk.specs.Free.{Allows, is_ask};
+ghost use Rattle.afr_discipline.specs.Free.{Allows, is_ask};
 
 use crate::job::{LookupJob, request_of};
 use crate::stage::{LookupStage, left_by, stage_heard};

@@ -14,7 +14,7 @@ use Rattle.afr_lines.specs.declared.request.Request.{Request}
 use Rattle.afr_rule.specs.Choosing.{Calls}
 use Rattle.afr_rule.specs.declared.candidate.Candidate.{Candidate}
 use Rattle.afr_client_walk.specs.Choosing.{RuleAnswers, reader_of}
-use Rattle.afr_client_walk.specs.Free.{is_ask}
+use Rattle.afr_discipline.specs.Free.{is_ask}
 use Rattle.afr_client_walk.specs.Walk as walks
 use Rattle.afr_client_walk.specs.Walk.{is_walking, walked}
 use Rattle.afr_client_walk.specs.declared.walk.Walk.{Walk}

@@ -26,14 +26,14 @@ use Rattle.afr_discipline.specs.declared.register.Move.TheVariants as move
 use Rattle.afr_discipline.specs.declared.register.Register.{Register}
 use Rattle.afr_rule.specs.Choosing.{Calls}
 use Rattle.afr_client_walk.specs.Choosing.{IsAmong, reader_of}
-use Rattle.afr_client_walk.specs.Free.{Allows, IsFree}
+use Rattle.afr_discipline.specs.Free.{Allows, IsFree}
 use Rattle.afr_client_walk.specs.Walk as walks
 use Rattle.afr_client_walk.specs.Walk.{is_walking, next_in, noted, walked, walked_at}
 use Rattle.afr_client_walk.specs.declared.walk.Walk.{Walk}
 use Rattle.afr_client_walk.specs.declared.walk.WalkStep.{WalkStep}
 use Rattle.afr_client_walk.specs.declared.walk.WalkStep.TheVariants as walking
 use Rattle.afr_client_walk.proofs.ChoosingLemmas.{answers_among}
-use Rattle.afr_client_walk.proofs.FreeLemmas.{allows_end, shape_is}
+use Rattle.afr_discipline.proofs.FreeLemmas.{allows_end, shape_is}
 use Rattle.afr_client_walk.proofs.WalkLemmas.{asks_allowed, is_walked, walked_notes}
 use Rattle.afr_client_transaction.specs.Laws as transaction
 use Rattle.afr_client_transaction.specs.Outcome.{outcome_of, reply_for, reply_of}

@@ -3,7 +3,7 @@ ghost use Rattle.std.specs.Prelude.{None, Some, ◌≡◌, ℕ, ◌<◌, ◌≤�
 ghost use Rattle.afr_client_rename.specs.Rename.{CarriesNext, IsFed, IsRename, answered, choices_at, is_over, making_next, next_of, register_of, removing_next, rename_from, stage_begun};
 ghost use Rattle.afr_rule.specs.Choosing.{IsRule};
 ghost use Rattle.afr_client_walk.specs.Choosing.{RuleAnswers, reader_of};
-ghost use Rattle.afr_client_walk.specs.Free.{Allows, is_ask};
+ghost use Rattle.afr_discipline.specs.Free.{Allows, is_ask};
 ghost use Rattle.afr_client_walk.specs.Walk.{IsWalk, is_walking, next_in};
 
 use crate::paths::{Paths, paths_from, reads_new, reads_old};

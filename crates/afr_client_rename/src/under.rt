@@ -8,7 +8,7 @@ ghost use Rattle.afr_client_transaction.specs.Between.{is_read};
 ghost use Rattle.afr_client_transaction.specs.Progress as progress;
 ghost use Rattle.afr_client_transaction.specs.Progress.{is_beginning};
 ghost use Rattle.afr_client_walk.specs.Choosing.{RuleAnswers, reader_of};
-ghost use Rattle.afr_client_walk.specs.Free.{is_ask};
+ghost use Rattle.afr_discipline.specs.Free.{is_ask};
 
 use afr_base::{BrickId, Kind, NoMemory};
 use afr_client_entry::{Found, Refusal, reply_to};

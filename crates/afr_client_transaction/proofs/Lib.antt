@@ -8,5 +8,4 @@ pub mod Parts
 pub mod Quorum
 pub mod ReadLemmas
 pub mod Requests
-pub mod Turned
 pub mod Again

@@ -4,5 +4,4 @@ pub mod Made
 pub mod Outcome
 pub mod Progress
 pub mod Sound
-pub mod Turn
 pub mod Again

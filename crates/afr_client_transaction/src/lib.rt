@@ -15,7 +15,7 @@ mod stage;
 mod unlock;
 
 pub use change::{area_of, has_area, object_of};
-pub use laws::{a_transaction_stays_sound, a_turn_keeps_the_discipline};
+pub use laws::a_transaction_stays_sound;
 pub use machine::Transaction;
 pub use reply::TransactionOutcome;
 pub use second_work::{a_transaction_follows_another, begins_again};

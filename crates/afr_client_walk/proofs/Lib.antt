@@ -1,3 +1,2 @@
 pub mod ChoosingLemmas
-pub mod FreeLemmas
 pub mod WalkLemmas

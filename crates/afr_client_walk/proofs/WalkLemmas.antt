@@ -27,7 +27,7 @@ use Rattle.afr_rule.specs.Choosing.{Calls}
 use Rattle.afr_rule.specs.Copies.{copy_in}
 use Rattle.afr_rule.specs.declared.candidate.Candidate.{Candidate}
 use Rattle.afr_client_walk.specs.Choosing.{IsAmong, RuleAnswers, choices, choices_after, has_sources}
-use Rattle.afr_client_walk.specs.Free.{AllowsAsk, is_free}
+use Rattle.afr_discipline.specs.Free.{AllowsAsk, is_free}
 use Rattle.afr_client_walk.specs.Looks.{no_look, left_to_look, noted_look, heard_look, IsLooks}
 use Rattle.afr_client_walk.specs.Walk.{step_at, walk_from, is_walking, next_in, next_at, verdict_step, after_looks, choices_at, choices_of, named, noted, walked, walked_at, IsStep, IsWalk}
 use Rattle.afr_client_walk.specs.declared.looks.Looks.{Looks}
@@ -36,7 +36,7 @@ use Rattle.afr_client_walk.specs.declared.walk.Walk.{Walk}
 use Rattle.afr_client_walk.specs.declared.walk.WalkStep.{WalkStep}
 use Rattle.afr_client_walk.specs.declared.walk.WalkStep.TheVariants.{Looking, Naming, Arrived, Stopped}
 use Rattle.afr_client_walk.proofs.ChoosingLemmas.{offers_map}
-use Rattle.afr_client_walk.proofs.FreeLemmas.{allows_free, stays_free}
+use Rattle.afr_discipline.proofs.FreeLemmas.{allows_free, stays_free}
 
 -- ---- looks
 -- nobody was asked, and there is some brick

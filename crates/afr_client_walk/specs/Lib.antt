@@ -1,5 +1,4 @@
 pub mod Choosing
-pub mod Free
 pub mod Looks
 pub mod Stops
 pub mod Walk

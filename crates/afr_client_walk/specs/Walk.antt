@@ -21,7 +21,7 @@ use Rattle.afr_lines.specs.declared.request.Request.{Request}
 use Rattle.afr_lines.specs.declared.request.Request.TheVariants as request
 use Rattle.afr_rule.specs.declared.candidate.Candidate.{Candidate}
 use Rattle.afr_client_walk.specs.Choosing.{choices_after}
-use Rattle.afr_client_walk.specs.Free.{IsFree}
+use Rattle.afr_discipline.specs.Free.{IsFree}
 use Rattle.afr_client_walk.specs.Looks.{no_look, left_to_look, heard_look, IsLooks}
 use Rattle.afr_client_walk.specs.declared.looks.Looks.{Looks}
 use Rattle.afr_client_walk.specs.declared.stop.Stop.TheVariants as stop

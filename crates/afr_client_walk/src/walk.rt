@@ -5,7 +5,7 @@ ghost use Rattle.afr_base.specs.Bricks.{is_nothing};
 ghost use Rattle.afr_discipline.specs.Notes.{noted_ask};
 ghost use Rattle.afr_rule.specs.Choosing.{IsRule};
 ghost use Rattle.afr_client_walk.specs.Choosing.{RuleAnswers, choices, choices_after, reader_of};
-ghost use Rattle.afr_client_walk.specs.Free.{AllowsAsk, IsFree, is_free};
+ghost use Rattle.afr_discipline.specs.Free.{AllowsAsk, IsFree, is_free};
 ghost use Rattle.afr_client_walk.specs.Looks.{IsLooks, heard_look, left_to_look};
 ghost use Rattle.afr_client_walk.specs.Walk.{IsStep, IsWalk, after_looks, choices_at, choices_of, is_walking, named, next_in, noted, step_at, verdict_step, walk_from, walked, walked_at};
 

@@ -3,7 +3,7 @@ ghost use Rattle.std.specs.Prelude.{◌≡◌, ◌<◌, ◌≤◌, IfOk, None, S
 ghost use Rattle.afr_client_write.specs.Write.{CarriesNext, IsFed, IsWrite, answered, choices_at, is_over, next_of, register_of, stage_begun, write_from};
 ghost use Rattle.afr_rule.specs.Choosing.{IsRule};
 ghost use Rattle.afr_client_walk.specs.Choosing.{RuleAnswers, reader_of};
-ghost use Rattle.afr_client_walk.specs.Free.{Allows, is_ask};
+ghost use Rattle.afr_discipline.specs.Free.{Allows, is_ask};
 ghost use Rattle.afr_client_walk.specs.Walk.{IsWalk, is_walking, next_in};
 
 use crate::job::WriteJob;

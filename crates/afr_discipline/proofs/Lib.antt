@@ -13,3 +13,4 @@ mod StepsInside
 mod NotedSteps
 mod Published
 mod Noted
+pub mod FreeLemmas

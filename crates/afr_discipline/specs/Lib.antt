@@ -8,3 +8,4 @@ pub mod Notes
 pub mod Turns
 pub mod Left
 pub mod Laws
+pub mod Free

@@ -36,7 +36,7 @@ use Rattle.afr_heal_machine.specs.Healing as heal
 use Rattle.afr_heal_machine.specs.Source.{IsCandidate, is_found}
 use Rattle.afr_server.specs.NextLine.{told_line}
 use Rattle.afr_server.specs.Serving.{Serving}
-use Rattle.afr_client_transaction.specs.Turn.{Stood}
+use Rattle.afr_law_next.specs.Turn.{Stood}
 use Rattle.afr_healer.proofs.AsksAbout.{AsksAbout, IsPlain, next_about, noted_on, plain}
 use Rattle.afr_healer.proofs.AsksLine.{listed_on, of_healer, self}
 use Rattle.afr_healer.proofs.AsksSource.{tells_more}

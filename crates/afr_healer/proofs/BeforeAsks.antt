@@ -39,8 +39,8 @@ use Rattle.afr_servers.specs.Needs as needs
 use Rattle.afr_servers.specs.NextLine.{AskedAreServed, GoOnHonestly}
 use Rattle.afr_servers.specs.Visiting.{AreInSession, CanAsk, ServesNext, has_live}
 use Rattle.afr_servers.specs.declared.epochs.Epochs.{Epochs}
-use Rattle.afr_client_transaction.specs.Turn.{InForce}
-use Rattle.afr_client_walk.specs.Free.{AllowsAsk}
+use Rattle.afr_law_next.specs.Turn.{InForce}
+use Rattle.afr_discipline.specs.Free.{AllowsAsk}
 use Rattle.afr_healer.proofs.AsksGiven.{given_is}
 
 -- the laws of the crates below that a request rests on

@@ -37,8 +37,8 @@ use Rattle.afr_heal_machine.specs.declared.contents.ReadSoFar.{ReadSoFar}
 use Rattle.afr_server.specs.Serving.{Serving}
 use Rattle.afr_server.specs.declared.server.Served.{Served}
 use Rattle.afr_servers.specs.declared.epochs.Epochs.{Epochs}
-use Rattle.afr_client_transaction.specs.Turn.{InForce}
-use Rattle.afr_client_walk.specs.Free.{AllowsAsk}
+use Rattle.afr_law_next.specs.Turn.{InForce}
+use Rattle.afr_discipline.specs.Free.{AllowsAsk}
 use Rattle.afr_healer.proofs.BeforeAsks.{AskLaws, AsksNext, IsAskedSo, IsBeforeAsk, asked_so, can_ask}
 use Rattle.afr_healer.proofs.Gathered.{RoundLaws}
 

@@ -10,7 +10,7 @@ use Rattle.afr_law_next.specs.Ready.{NextIsReady}
 use Rattle.afr_heal_machine.specs.Laws.{HealAllowed, HealAsksLow, HealBegins, HealBeginsFresh, HealBegunStays, HealEndNamed, HealIsInside, HealKeepsFive, HealStays}
 use Rattle.afr_servers.specs.Needs.{AnswersAreRead, NeedsAreMet}
 use Rattle.afr_servers.specs.NextLine.{AskedAreServed, WrittenAreServed}
-use Rattle.afr_client_transaction.specs.Turn.{BeginsAnew, GoesOn}
+use Rattle.afr_law_next.specs.Turn.{BeginsAnew, GoesOn}
 
 -- the register in force at a line, and what it allows
 pub record NextLaws : Type 0 where

@@ -41,7 +41,7 @@ use Rattle.afr_heal_machine.specs.Healing as heal
 use Rattle.afr_heal_machine.specs.Outcome.{reply_of}
 use Rattle.afr_server.specs.Serving.{Serving}
 use Rattle.afr_servers.specs.Log.{AreServed}
-use Rattle.afr_client_transaction.specs.Turn.{InForce, Stood}
+use Rattle.afr_law_next.specs.Turn.{InForce, Stood}
 
 pub self : (n : ℕ) → (n == n) ≡ true
 self n = grind (arith, nat_tests)

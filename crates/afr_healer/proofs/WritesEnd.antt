@@ -25,9 +25,9 @@ use Rattle.afr_healer.specs.Keeping.{CarriesRound, HasBegun, IsBetweenHeals, IsH
 use Rattle.afr_healer.specs.Laws.{Ends, IsBeforeRound, RoundKeeps}
 use Rattle.afr_healer.specs.declared.healer.Healer.{Healer}
 use Rattle.afr_server.specs.Serving.{Serving}
-use Rattle.afr_client_transaction.specs.Turn.{InForce}
-use Rattle.afr_client_walk.proofs.FreeLemmas.{allows_end}
-use Rattle.afr_client_walk.specs.Free.{IsFree}
+use Rattle.afr_law_next.specs.Turn.{InForce}
+use Rattle.afr_discipline.proofs.FreeLemmas.{allows_end}
+use Rattle.afr_discipline.specs.Free.{IsFree}
 
 -- ---- a register of free lines
 free_five : (shape : Shape) (r : Register) → IsFree shape r → HasFive r

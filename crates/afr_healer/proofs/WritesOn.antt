@@ -21,7 +21,7 @@ use Rattle.afr_healer.proofs.Gathered.{RoundLaws}
 use Rattle.afr_heal_machine.specs.Healing.{heal_from}
 use Rattle.afr_server.specs.Serving.{Serving}
 use Rattle.afr_servers.specs.declared.epochs.Epochs.{Epochs}
-use Rattle.afr_client_transaction.specs.Turn.{Stood}
+use Rattle.afr_law_next.specs.Turn.{Stood}
 
 -- the last line gave the list or ended a heal: no line of a next heal was written
 pub record IsAtBorder (p : Plan) (a : ℕ) (log : List Line) (brick : BrickId) (r : RoundProgress) : Type 0 where

@@ -27,8 +27,8 @@ use Rattle.afr_heal_machine.specs.Healing.{Healing as Heal, IsHealing}
 use Rattle.afr_server.specs.Serving.{Serving}
 use Rattle.afr_servers.specs.Visiting.{AreInSession}
 use Rattle.afr_servers.specs.declared.epochs.Epochs.{Epochs}
-use Rattle.afr_client_transaction.specs.Turn.{Stood}
-use Rattle.afr_client_walk.specs.Free.{IsFree}
+use Rattle.afr_law_next.specs.Turn.{Stood}
+use Rattle.afr_discipline.specs.Free.{IsFree}
 
 -- a healer between two rounds has written no line of the next
 pub record IsBetweenRounds (a : ℕ) (log : List Line) (met : Bool) : Type 0 where

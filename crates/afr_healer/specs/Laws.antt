@@ -27,7 +27,7 @@ use Rattle.afr_healer.specs.declared.healer.Healer.{Healer}
 use Rattle.afr_server.specs.Serving.{Serving}
 use Rattle.afr_servers.specs.Log.{AreFound, AreServed}
 use Rattle.afr_servers.specs.declared.epochs.Epochs.{Epochs}
-use Rattle.afr_client_transaction.specs.Turn.{Stood}
+use Rattle.afr_law_next.specs.Turn.{Stood}
 
 -- what holds before any line of a healer
 pub record IsBeforeRound (p : Plan) (a : ActorId) (log : List Line) (servers : List Serving) : Type 0 where

@@ -1,11 +1,10 @@
 //! What holds of every line of a healer.
 ghost use Rattle.afr_healer.specs.Laws.{CanStepNext, LineKeepsRound, OthersStay, RoundsBegin, RoundsEnd};
 
-use afr_client_transaction::a_turn_keeps_the_discipline;
 use afr_discipline::each_note_stands;
 use afr_heal_machine::a_heal_stays_sound;
 use afr_law_heal::{a_heal_hears_what_it_asked, a_heal_tells_its_lines};
-use afr_law_next::the_next_line_is_lawful;
+use afr_law_next::{a_turn_keeps_the_discipline, the_next_line_is_lawful};
 use afr_servers::servers_follow_their_log;
 
 /// A healer whose round stands for its lines has what its next line needs of the bricks (`can`); that line is honest, lawful, the

@@ -35,7 +35,7 @@ use Rattle.afr_object.specs.Object.{Object}
 use Rattle.afr_plan.specs.declared.plan.Plan.{Plan}
 use Rattle.afr_law_client.proofs.HonestFits.{honest_fits, honest_phases}
 use Rattle.afr_law_client.specs.Fits.{FitsPhase}
-use Rattle.afr_client_walk.specs.Free.{is_free}
+use Rattle.afr_discipline.specs.Free.{is_free}
 use Rattle.afr_law_client.specs.Write.WriteTelling.{CanTell}
 use Rattle.afr_law_heard.specs.Hears.{IsHeard}
 

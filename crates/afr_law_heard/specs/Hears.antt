@@ -27,7 +27,7 @@ use Rattle.afr_object.specs.declared.change.Load.TheVariants as load
 use Rattle.afr_plan.specs.declared.command.Command.{Command}
 use Rattle.afr_plan.specs.declared.plan.Plan.{Plan}
 use Rattle.afr_server.specs.Carried.{Brings}
-use Rattle.afr_client_walk.specs.Free.{is_free}
+use Rattle.afr_discipline.specs.Free.{is_free}
 use Rattle.afr_law_client.specs.Write.WriteTelling.{CanHear, WriteTells}
 
 -- after an honest log that keeps the discipline in full the request may be asked next, and this is its honest answer: what a read is given is what the brick's tables show

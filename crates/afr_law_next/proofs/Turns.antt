@@ -31,8 +31,8 @@ use Rattle.afr_discipline.specs.Stands.{HasFive, Stands, no_lines}
 use Rattle.afr_discipline.specs.declared.register.Move.{Move}
 use Rattle.afr_discipline.specs.declared.register.Move.TheVariants as move
 use Rattle.afr_discipline.specs.declared.register.Register.{Register}
-use Rattle.afr_client_walk.specs.Free.{AllowsAsk}
-use Rattle.afr_client_transaction.specs.Turn.{EachLineIsKept, InForce, IsMove, IsTurn, Stood}
+use Rattle.afr_discipline.specs.Free.{AllowsAsk}
+use Rattle.afr_law_next.specs.Turn.{EachLineIsKept, InForce, IsMove, IsTurn, Stood}
 use Rattle.afr_law.specs.Beginning.{start_of}
 use Rattle.afr_law.specs.Exactly.{name_bound}
 use Rattle.afr_law.specs.ModelNext.{IsNext, asking}

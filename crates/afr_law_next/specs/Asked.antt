@@ -12,8 +12,8 @@ use Rattle.afr_model_moves.specs.Ranges.{InRange}
 use Rattle.afr_discipline.specs.Notes.{noted_ask}
 use Rattle.afr_discipline.specs.Stands.{HasFive}
 use Rattle.afr_discipline.specs.declared.register.Register.{Register}
-use Rattle.afr_client_walk.specs.Free.{AllowsAsk}
-use Rattle.afr_client_transaction.specs.Turn.{InForce}
+use Rattle.afr_discipline.specs.Free.{AllowsAsk}
+use Rattle.afr_law_next.specs.Turn.{InForce}
 use Rattle.afr_law.specs.Exactly.{IsLawfulExactly}
 use Rattle.afr_law.specs.ModelNext.{MayAskNext, asking}
 use Rattle.afr_law_next.specs.Standing.{AllStand}

@@ -13,8 +13,8 @@ use Rattle.afr_model_moves.specs.Ranges.{InRange}
 use Rattle.afr_discipline.specs.Notes.{noted_begin}
 use Rattle.afr_discipline.specs.Stands.{HasFive}
 use Rattle.afr_discipline.specs.declared.register.Register.{Register}
-use Rattle.afr_client_walk.specs.Free.{Allows}
-use Rattle.afr_client_transaction.specs.Turn.{InForce}
+use Rattle.afr_discipline.specs.Free.{Allows}
+use Rattle.afr_law_next.specs.Turn.{InForce}
 use Rattle.afr_law.specs.Beginning.{start_of}
 use Rattle.afr_law.specs.Exactly.{name_bound}
 use Rattle.afr_law_next.specs.Standing.{ComesNext}

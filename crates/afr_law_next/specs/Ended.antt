@@ -10,8 +10,8 @@ use Rattle.afr_plan.specs.declared.plan.Plan.{Plan}
 use Rattle.afr_model_moves.specs.Ranges.{InRange}
 use Rattle.afr_discipline.specs.Stands.{HasFive}
 use Rattle.afr_discipline.specs.declared.register.Register.{Register}
-use Rattle.afr_client_walk.specs.Free.{Allows}
-use Rattle.afr_client_transaction.specs.Turn.{InForce}
+use Rattle.afr_discipline.specs.Free.{Allows}
+use Rattle.afr_law_next.specs.Turn.{InForce}
 use Rattle.afr_law_next.specs.Standing.{ComesNext}
 
 -- an End line that the register in force allows outside heals, and whose numbers fit, comes next, and the actor's next line opens a work

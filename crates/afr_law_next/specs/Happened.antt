@@ -6,7 +6,7 @@ use Rattle.afr_lines.specs.declared.line.Line.TheVariants as line_of
 use Rattle.afr_plan.specs.declared.plan.Plan.{Plan}
 use Rattle.afr_model_moves.specs.Ranges.{EventInRange}
 use Rattle.afr_discipline.specs.declared.register.Register.{Register}
-use Rattle.afr_client_transaction.specs.Turn.{Stood}
+use Rattle.afr_law_next.specs.Turn.{Stood}
 use Rattle.afr_law.specs.Exactly.{IsLawfulExactly}
 use Rattle.afr_law.specs.ModelNext.{IsNext}
 

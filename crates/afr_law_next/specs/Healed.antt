@@ -16,7 +16,7 @@ use Rattle.afr_discipline.specs.Stands.{HasFive, no_lines, seen_as}
 use Rattle.afr_discipline.specs.declared.register.Move.{Move}
 use Rattle.afr_discipline.specs.declared.register.Move.TheVariants as move
 use Rattle.afr_discipline.specs.declared.register.Register.{Register}
-use Rattle.afr_client_transaction.specs.Turn.{InForce}
+use Rattle.afr_law_next.specs.Turn.{InForce}
 use Rattle.afr_law_next.specs.Standing.{ComesNext}
 
 -- the discipline's own test passes the move

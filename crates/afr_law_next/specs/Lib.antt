@@ -1,3 +1,4 @@
+pub mod Turn
 pub mod Asked
 pub mod Begun
 pub mod Ended

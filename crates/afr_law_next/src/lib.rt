@@ -7,9 +7,21 @@ ghost use Rattle.afr_law_next.specs.Ended.{AllowedMayEnd};
 ghost use Rattle.afr_law_next.specs.Happened.{EventKeepsAll};
 ghost use Rattle.afr_law_next.specs.Healed.{AllowedMayHealBegin, AllowedMayHealEnd};
 ghost use Rattle.afr_law_next.specs.Ready.{NextIsReady};
+ghost use Rattle.afr_law_next.specs.Turn.{BeginsAnew, EachLineIsKept, GoesOn};
 
-use afr_client_transaction::a_turn_keeps_the_discipline;
+use afr_discipline::{each_move_is_decided, each_note_stands};
 use afr_law::{lawful_lines_are_covered, lawful_lines_fit};
+
+/// A line of an actor whose register allows it is lawful, the register after it stands for one line more, and so do the
+/// registers of all other actors.
+pub fn a_turn_keeps_the_discipline()
+    ensures anew { BeginsAnew }
+    ensures goes_on { GoesOn }
+    ensures kept { EachLineIsKept }
+{
+    each_move_is_decided();
+    each_note_stands();
+}
 
 /// A line that its actor's register allows comes next in a log that keeps the discipline in full, and all registers stand
 /// for one line more. `asks`: a request that the register allows may be asked. `asked`: whatever is told of it, the register

@@ -24,7 +24,7 @@ use Rattle.afr_plan.specs.declared.plan.Plan.{Plan}
 use Rattle.afr_healer.proofs.BeforeAsks.{IsAskedSo, asked_so}
 use Rattle.afr_server.specs.NextLine.{told_line}
 use Rattle.afr_server.specs.Serving.{Serving}
-use Rattle.afr_client_transaction.specs.Turn.{Stood}
+use Rattle.afr_law_next.specs.Turn.{Stood}
 use Rattle.afr_law_picks.specs.Laws.{KeepsPicked, LineKept, number_in}
 use Rattle.afr_law_picks.specs.Readings.{asked_in}
 use Rattle.afr_client_walk.specs.Choosing.{IsAmong, reader_of}

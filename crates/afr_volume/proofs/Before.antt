@@ -21,7 +21,7 @@ use Rattle.afr_server.specs.Carried.{Brings}
 use Rattle.afr_server.specs.Serving.{Serving}
 use Rattle.afr_servers.specs.Log.{AreServed}
 use Rattle.afr_servers.specs.declared.epochs.Epochs.{Epochs}
-use Rattle.afr_client_transaction.specs.Turn.{InForce}
+use Rattle.afr_law_next.specs.Turn.{InForce}
 use Rattle.afr_client.specs.Work.{CarriesNext, next_of, register_of}
 use Rattle.afr_client.specs.declared.work.WorkMachine.{WorkMachine}
 use Rattle.afr_client.specs.declared.work.WorkMachine.TheVariants.{Entry, Idle, Lookup, Rename, Write}

@@ -23,7 +23,7 @@ use Rattle.afr_healer.specs.declared.healer.Healer.{Healer}
 use Rattle.afr_server.specs.Serving.{Serving}
 use Rattle.afr_servers.specs.Log.{AreFound}
 use Rattle.afr_servers.specs.declared.epochs.Epochs.{Epochs}
-use Rattle.afr_client_transaction.specs.Turn.{Stood}
+use Rattle.afr_law_next.specs.Turn.{Stood}
 use Rattle.afr_volume.specs.Keeping.{AreHealers, IsActing, IsVolume, IsWhole}
 use Rattle.afr_volume.specs.Laws.{EventLaws, RoundLaws}
 use Rattle.afr_volume.specs.Pacing.{ArePaced}

@@ -37,12 +37,12 @@ use Rattle.afr_server.specs.Serving.{Serving}
 use Rattle.afr_servers.specs.NextLine.{GoOn}
 use Rattle.afr_servers.specs.Visiting.{AreInSession, MeetsNext}
 use Rattle.afr_servers.specs.declared.epochs.Epochs.{Epochs}
-use Rattle.afr_client_transaction.specs.Turn.{Stood}
+use Rattle.afr_law_next.specs.Turn.{Stood}
 use Rattle.afr_law_client.specs.Laws.{IsNextLine}
 use Rattle.afr_law_picks.specs.Laws.{KeepsPicked, number_in}
 use Rattle.afr_law_picks.specs.Readings.{asked_in}
 use Rattle.afr_client_walk.specs.Choosing.{IsAmong, reader_of}
-use Rattle.afr_client_walk.specs.Free.{Allows}
+use Rattle.afr_discipline.specs.Free.{Allows}
 use Rattle.afr_client.specs.Work.{IsWork, choices_heard, heard_by, next_of, register_of}
 use Rattle.afr_client.specs.declared.work.WorkMachine.{WorkMachine}
 use Rattle.afr_client.specs.declared.work.WorkMachine.TheVariants.{Entry, Idle, Lookup, Rename, Write}

@@ -28,7 +28,7 @@ use Rattle.afr_server.specs.Serving.{Serving}
 use Rattle.afr_servers.specs.Log.{AreServed}
 use Rattle.afr_servers.specs.Visiting.{AreInSession}
 use Rattle.afr_servers.specs.declared.epochs.Epochs.{Epochs}
-use Rattle.afr_client_transaction.specs.Turn.{Stood}
+use Rattle.afr_law_next.specs.Turn.{Stood}
 use Rattle.afr_client.specs.Begin.{has_machine}
 use Rattle.afr_client.specs.Work.{IsWork, register_of}
 use Rattle.afr_client.specs.declared.work.WorkMachine.{WorkMachine}

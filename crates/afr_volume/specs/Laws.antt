@@ -1,5 +1,5 @@
 -- The laws that turns and events rest on.
-use Rattle.afr_client_transaction.specs.Turn.{BeginsAnew, GoesOn}
+use Rattle.afr_law_next.specs.Turn.{BeginsAnew, GoesOn}
 use Rattle.afr_law_next.specs.Asked.{AllowedMayBeAsked, AnsweredIsLawful, AskedIsNoted}
 use Rattle.afr_law_next.specs.Begun.{AllowedMayBegin}
 use Rattle.afr_law_next.specs.Ended.{AllowedMayEnd}

@@ -6,7 +6,7 @@ ghost use Rattle.afr_server.specs.NextLine.{told_line};
 ghost use Rattle.afr_server.specs.Serving.{HasEpoch};
 ghost use Rattle.afr_servers.specs.Calls.{At};
 ghost use Rattle.afr_servers.specs.Visiting.{MeetsNext, visiting};
-ghost use Rattle.afr_client_walk.specs.Free.{is_ask};
+ghost use Rattle.afr_discipline.specs.Free.{is_ask};
 ghost use Rattle.afr_client.specs.Work.{IsBusy, is_over, next_of};
 ghost use Rattle.afr_volume.specs.Acting.{CanStep, HasHeard, HearsBy, IsAsked, IsBegun, IsEnded, Stepped, Written, picked_after, still_picked};
 

@@ -4,7 +4,6 @@ ghost use Rattle.afr_servers.specs.NextLine.{NewAreServed};
 ghost use Rattle.afr_volume.specs.Laws.{BeginLaws, EventLaws, Laws, PaceLaws, RoundLaws, RuleLaws};
 
 use afr_client::{a_work_keeps_five_places, a_work_stays_sound};
-use afr_client_transaction::a_turn_keeps_the_discipline;
 use afr_heal_machine::a_heal_stays_sound;
 use afr_healer::a_healer_keeps_its_round;
 use afr_law_cost::{a_round_keeps_within_its_cost, indexes_are_short};
@@ -12,7 +11,7 @@ use afr_law_heard::{
     a_client_hears_of_its_names, a_client_hears_of_its_renames, a_client_hears_what_it_asked,
     a_work_tells_its_lines,
 };
-use afr_law_next::the_next_line_is_lawful;
+use afr_law_next::{a_turn_keeps_the_discipline, the_next_line_is_lawful};
 use afr_law_order::{a_client_asks_in_rising_order, heals_ask_in_rising_order};
 use afr_law_pace::a_work_comes_nearer;
 use afr_law_picks::{a_work_asks_the_rule, a_work_reads_what_was_picked};

@@ -32,8 +32,8 @@ use Rattle.afr_client_transaction.specs.Laws as laws
 use Rattle.afr_client_transaction.specs.Progress.{allowed, enough}
 use Rattle.afr_client_transaction.proofs.Allowed.{moves_of, on_plane, once_is, others_missed, some_number}
 use Rattle.afr_client_transaction.proofs.Parts.{any_nothing, both, deny, holder_shows, lt_test, pair}
-use Rattle.afr_client_walk.specs.Free as free
-use Rattle.afr_client_walk.specs.Free.{Allows}
+use Rattle.afr_discipline.specs.Free as free
+use Rattle.afr_discipline.specs.Free.{Allows}
 use Rattle.afr_client_entry.specs.Removal.Laws.{AllowedMoves}
 use Rattle.afr_client_entry.specs.Removal.Removal.{Removing, asks, brick_at, is_beginning, is_over, left, next_at, reply_of, request_at, sources, whole}
 use Rattle.afr_client_entry.specs.Removal.Sound.{During, Ready, Sound}

@@ -7,7 +7,7 @@ ghost use Rattle.afr_client_entry.specs.Removal.Sound.{IsAsking, IsBase, IsRemov
 ghost use Rattle.afr_lines.specs.Areas.{area_for};
 ghost use Rattle.afr_rule.specs.Choosing.{IsRule};
 ghost use Rattle.afr_client_walk.specs.Choosing.{RuleAnswers, reader_of};
-ghost use Rattle.afr_client_walk.specs.Free.{Allows, is_ask};
+ghost use Rattle.afr_discipline.specs.Free.{Allows, is_ask};
 
 use crate::removing::child::Child;
 use crate::removing::stage::{

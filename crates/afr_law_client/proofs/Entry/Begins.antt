@@ -32,7 +32,7 @@ use Rattle.afr_model.specs.Showing.{Path, At, NoName, Untold, path_by}
 use Rattle.afr_model.specs.Skipped.{AsksAll, SkipsNothing}
 use Rattle.afr_model.specs.Standing.{area_here, looks_here, path_upto, place_by}
 use Rattle.afr_client_transaction.specs.Progress.{starting}
-use Rattle.afr_client_walk.specs.Free.{IsFree}
+use Rattle.afr_discipline.specs.Free.{IsFree}
 use Rattle.afr_client_walk.specs.Looks.{no_look}
 use Rattle.afr_client_walk.specs.Stops.{reply_of}
 use Rattle.afr_client_walk.specs.Walk.{IsStep, IsWalk, is_walking, name_in, next_at, next_in, walk_from}
@@ -40,7 +40,7 @@ use Rattle.afr_client_walk.specs.declared.stop.Stop.{Stop}
 use Rattle.afr_client_walk.specs.declared.walk.Walk.{Walk}
 use Rattle.afr_client_walk.specs.declared.walk.WalkStep.{WalkStep}
 use Rattle.afr_client_walk.specs.declared.walk.WalkStep.TheVariants as walking
-use Rattle.afr_client_walk.proofs.FreeLemmas.{shape_is}
+use Rattle.afr_discipline.proofs.FreeLemmas.{shape_is}
 use Rattle.afr_client_walk.proofs.WalkLemmas.{is_walk_from}
 use Rattle.afr_client_entry.specs.Entry.{after_step, after_walk, at_directory}
 use Rattle.afr_client_entry.specs.Job.{change_of, name_of}

@@ -25,7 +25,7 @@ use Rattle.afr_object.specs.declared.change.Change.{Change}
 use Rattle.afr_lines.specs.declared.lock.Domain.TheVariants.{Work as WorkDomain}
 use Rattle.afr_model.specs.Showing.{among, has}
 use Rattle.afr_model.specs.Standing.{holding, locks_any}
-use Rattle.afr_client_walk.specs.Free.{IsFree}
+use Rattle.afr_discipline.specs.Free.{IsFree}
 use Rattle.afr_law_client.specs.Read.Lines.{OnlyReads}
 use Rattle.afr_law_client.proofs.Read.Quiet.{IsQuiet, has_none}
 use Rattle.afr_law_client.proofs.Read.ReadsMore.{asks_same}

@@ -19,7 +19,7 @@ use Rattle.afr_object.specs.Tables.{Table, copy_at, key_cmp, name_cmp}
 use Rattle.afr_object.specs.Object.{Object}
 use Rattle.afr_model.specs.Honest.{RequestOutcome, copy_answer, fault_in, is_live, over_session, requests_to, tells}
 use Rattle.afr_model.specs.Tables.{holds}
-use Rattle.afr_client_walk.specs.Free.{is_free}
+use Rattle.afr_discipline.specs.Free.{is_free}
 use Rattle.afr_law_client.specs.Read.Lines.{HonestReads, gives_or_fails, is_look}
 
 copy_told : (f : Object → Answer) → ((o : Object) → gives_or_fails (told_by (f o)) ≡ true) → (o : Option Object) → (told_by (copy_answer f o) ≡ NoObject → ⊥) → gives_or_fails (told_by (copy_answer f o)) ≡ true

@@ -16,7 +16,7 @@ use Rattle.afr_lines.specs.declared.request.Request.TheVariants.{Look}
 use Rattle.afr_plan.specs.declared.plan.Plan.{Plan}
 use Rattle.afr_model.specs.Showing.{among, looked_by, looking}
 use Rattle.afr_client_walk.specs.Choosing.{IsAmong, choices, choices_after}
-use Rattle.afr_client_walk.specs.Free.{is_free}
+use Rattle.afr_discipline.specs.Free.{is_free}
 use Rattle.afr_client_walk.specs.Looks.{left_to_look, heard_look, IsLooks}
 use Rattle.afr_client_walk.specs.declared.looks.Looks.{Looks}
 use Rattle.afr_client_walk.proofs.WalkLemmas.{asked_below}

@@ -16,7 +16,7 @@ use Rattle.afr_lines.specs.declared.request.Request.{Request}
 use Rattle.afr_lines.specs.declared.request.Request.TheVariants.{Look, ReadName, ReadBytes, ReadAttr, List as ListNames}
 use Rattle.afr_model.specs.Showing.{among, begins_attempt, has, locks, look_shows, looked_after, looked_by, looking, looks_at}
 use Rattle.afr_model.specs.Standing.{change_by, locks_area}
-use Rattle.afr_client_walk.specs.Free.{is_free}
+use Rattle.afr_discipline.specs.Free.{is_free}
 use Rattle.afr_client_walk.specs.Looks.{noted_look}
 use Rattle.afr_law_client.specs.Read.Lines.{LookedAll, LookedBut, OnlyReads, reads}
 use Rattle.afr_law_client.specs.Read.Looks.{IsPlain}

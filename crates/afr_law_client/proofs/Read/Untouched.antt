@@ -11,7 +11,7 @@ use Rattle.afr_lines.specs.declared.request.Request.{Request}
 use Rattle.afr_lines.specs.declared.request.Request.TheVariants.{Look, ReadName, ReadBytes, ReadAttr, List as ListNames}
 use Rattle.afr_model.specs.Showing.{among, applied_at, applying, begun_by, is_faulted, posted, posting, prepared, preparing}
 use Rattle.afr_model.specs.Standing.{asking, getting, locks_any}
-use Rattle.afr_client_walk.specs.Free.{is_free}
+use Rattle.afr_discipline.specs.Free.{is_free}
 use Rattle.afr_law_client.specs.Read.Lines.{OnlyReads, reads}
 use Rattle.afr_law_client.specs.Read.WalkLaws.{ReadsTouchNothing}
 use Rattle.afr_law_client.proofs.Read.Quiet.{IsQuiet, and_right, area_none, begins_none, change_none, has_none, locks_none}

@@ -15,7 +15,7 @@ use Rattle.afr_lines.specs.declared.line.Line.{Line}
 use Rattle.afr_lines.specs.declared.line.Line.TheVariants.{Ask}
 use Rattle.afr_lines.specs.declared.request.Request.TheVariants.{Look, Lock, ReadAttr, ReadBytes, ReadName, List as ListNames}
 use Rattle.afr_lines.specs.declared.lock.Domain.TheVariants.{Work as WorkDomain}
-use Rattle.afr_client_walk.specs.Free.{is_free}
+use Rattle.afr_discipline.specs.Free.{is_free}
 use Rattle.afr_client_walk.specs.Looks.{noted_look}
 use Rattle.afr_model.specs.Parts.{after_names, first_part, second_part, the_make, the_removal, the_walk, upto_names}
 use Rattle.afr_model.specs.Showing.{among, has, look_shows, locks, looked_after, looked_by, looking, looks_at}

@@ -18,12 +18,12 @@ use Rattle.afr_model.specs.Commands.{is_on_name, path_of}
 use Rattle.afr_model.specs.Refusals.{too_large}
 use Rattle.afr_model.specs.Showing.{At}
 use Rattle.afr_client_transaction.specs.Progress.{starting}
-use Rattle.afr_client_walk.specs.Free.{IsFree}
+use Rattle.afr_discipline.specs.Free.{IsFree}
 use Rattle.afr_client_walk.specs.Walk.{IsWalk, walk_from}
 use Rattle.afr_client_walk.specs.declared.walk.Walk.{Walk}
 use Rattle.afr_client_walk.specs.declared.walk.WalkStep.{WalkStep}
 use Rattle.afr_client_walk.specs.declared.walk.WalkStep.TheVariants as walking
-use Rattle.afr_client_walk.proofs.FreeLemmas.{shape_is}
+use Rattle.afr_discipline.proofs.FreeLemmas.{shape_is}
 use Rattle.afr_client_walk.proofs.WalkLemmas.{is_walk_from}
 use Rattle.afr_client_write.specs.Job.{change_of, is_empty, is_of_bytes, is_too_large}
 use Rattle.afr_client_write.specs.Write.{after_step, after_walk, at_object}

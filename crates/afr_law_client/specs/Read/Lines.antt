@@ -17,7 +17,7 @@ use Rattle.afr_plan.specs.declared.plan.Plan.{Plan}
 use Rattle.afr_model.specs.Honest.{IsHonest, answer_by}
 use Rattle.afr_model.specs.Showing.{among, has, looking, looks_at}
 use Rattle.afr_model.specs.Tables.{holds}
-use Rattle.afr_client_walk.specs.Free.{is_free}
+use Rattle.afr_discipline.specs.Free.{is_free}
 
 -- a line asks a brick below n for a look or a read
 abbrev pub reads : ℕ → Line → Bool

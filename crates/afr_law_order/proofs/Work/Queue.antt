@@ -62,7 +62,7 @@ use Rattle.afr_client_transaction.specs.declared.stage.Stage.TheVariants.{Applyi
 use Rattle.afr_client_transaction.specs.declared.stage.Stage.{Stage}
 use Rattle.afr_client_walk.proofs.WalkLemmas.{is_walked}
 use Rattle.afr_client_walk.specs.Choosing.{IsAmong}
-use Rattle.afr_client_walk.specs.Free.{IsFree}
+use Rattle.afr_discipline.specs.Free.{IsFree}
 use Rattle.afr_client_walk.specs.Walk.{walk_from, walked}
 use Rattle.afr_client_walk.specs.declared.walk.Walk.{Walk}
 use Rattle.afr_client_walk.specs.declared.walk.WalkStep.TheVariants as walking

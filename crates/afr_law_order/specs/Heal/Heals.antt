@@ -11,7 +11,7 @@ use Rattle.afr_lines.specs.declared.line.Line.{Line}
 use Rattle.afr_lines.specs.declared.request.Request.{Request}
 use Rattle.afr_plan.specs.declared.plan.Plan.{Plan}
 use Rattle.afr_law_bound.specs.Standstill.Order.{IsRisingLine, locks_at}
-use Rattle.afr_client_transaction.specs.Turn.{InForce}
+use Rattle.afr_law_next.specs.Turn.{InForce}
 
 -- a request is made in a heal, by what its actor's lines show
 abbrev pub IsInHeal : Plan → Line → List Line → Type 0

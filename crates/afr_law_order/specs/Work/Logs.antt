@@ -18,7 +18,7 @@ use Rattle.afr_plan.specs.declared.command.Command.{Command}
 use Rattle.afr_plan.specs.declared.plan.Plan.{Plan}
 use Rattle.afr_lines.specs.declared.lock.Domain.TheVariants.{Work as WorkDomain}
 use Rattle.afr_law_bound.specs.Standstill.Order.{locks_at}
-use Rattle.afr_client_transaction.specs.Turn.{Stood}
+use Rattle.afr_law_next.specs.Turn.{Stood}
 use Rattle.afr_law_bound.specs.Waiting.{RisesTo}
 use Rattle.afr_law_order.specs.Work.Queue.{IsQueued}
 use Rattle.afr_law_order.specs.Work.Rising.{LeadsDown}

@@ -43,10 +43,10 @@ use Rattle.afr_client_transaction.specs.Progress.{TransactionProgress, begun, fe
 use Rattle.afr_client_transaction.specs.Sound.{During, IsAsking, Sound}
 use Rattle.afr_client_transaction.specs.declared.stage.Stage.TheVariants.{Applying, Beginning, Closing, Locking, Looking, Posting, Preparing}
 use Rattle.afr_client_transaction.specs.declared.stage.Stage.{Stage}
-use Rattle.afr_client_walk.proofs.FreeLemmas.{shape_is}
+use Rattle.afr_discipline.proofs.FreeLemmas.{shape_is}
 use Rattle.afr_client_walk.proofs.WalkLemmas.{is_walked}
 use Rattle.afr_client_walk.specs.Choosing.{IsAmong}
-use Rattle.afr_client_walk.specs.Free.{IsFree}
+use Rattle.afr_discipline.specs.Free.{IsFree}
 use Rattle.afr_client_walk.specs.Walk as walks
 use Rattle.afr_client_walk.specs.Walk.{IsWalk, is_walking, walk_from, walked}
 use Rattle.afr_client_walk.specs.declared.walk.Walk.{Walk}

@@ -28,9 +28,9 @@ use Rattle.afr_law_pace.proofs.Rename.Parts.{begins_there, begun_is, part_nearer
 use Rattle.afr_law_pace.specs.Rename.Renames.{AsksMaking, AsksRename, BeginsRename, FitsRename, RenameBeginsNearer, RenameComesNearer, RenameKeepsEnd, RenameStartsWithin, for_read, rename_again, rename_left, rename_left_at, whole_part}
 use Rattle.afr_client_transaction.specs.Progress.{TransactionProgress, begun, starting}
 use Rattle.afr_client_transaction.specs.declared.stage.Stage.TheVariants.{Locking}
-use Rattle.afr_client_walk.proofs.FreeLemmas.{shape_is}
+use Rattle.afr_discipline.proofs.FreeLemmas.{shape_is}
 use Rattle.afr_client_walk.specs.Choosing.{IsAmong}
-use Rattle.afr_client_walk.specs.Free.{IsFree}
+use Rattle.afr_discipline.specs.Free.{IsFree}
 use Rattle.afr_client_walk.specs.Looks.{left_to_look}
 use Rattle.afr_client_walk.specs.Walk as walks
 use Rattle.afr_client_walk.specs.Walk.{IsStep, IsWalk, is_walking, walk_from}

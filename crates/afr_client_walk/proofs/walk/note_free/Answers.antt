@@ -1,4 +1,4 @@
-use Rattle.afr_client_walk.proofs.FreeLemmas.{stays_free}
+use Rattle.afr_discipline.proofs.FreeLemmas.{stays_free}
 use Rattle.afr_client_walk.proofs.walk.note_free.Goals as goal
 
 pub returns-clause-kept : goal.returns-clause-kept

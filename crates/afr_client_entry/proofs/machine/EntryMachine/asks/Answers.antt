@@ -1,6 +1,6 @@
 use Rattle.std.proofs.Common.{subst}
 use Rattle.afr_lines.specs.declared.line.Next.{Next}
-use Rattle.afr_client_walk.specs.Free.{Allows}
+use Rattle.afr_discipline.specs.Free.{Allows}
 use Rattle.afr_client_entry.specs.Entry.{register_of}
 use Rattle.afr_client_entry.proofs.AskedLemmas.{allowed_next}
 use Rattle.afr_client_entry.proofs.machine.EntryMachine.asks.Goals as goal

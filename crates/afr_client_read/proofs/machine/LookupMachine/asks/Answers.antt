@@ -1,6 +1,6 @@
 use Rattle.std.proofs.Common.{subst}
 use Rattle.afr_lines.specs.declared.line.Next.{Next}
-use Rattle.afr_client_walk.specs.Free.{Allows}
+use Rattle.afr_discipline.specs.Free.{Allows}
 use Rattle.afr_client_read.proofs.LookupLemmas.{allowed_next}
 use Rattle.afr_client_read.proofs.machine.LookupMachine.asks.Goals as goal
 

@@ -1,6 +1,6 @@
 use Rattle.std.proofs.Common.{◌≡◌, sym, subst, Result, Ok, Err, IfOk}
 use Rattle.afr_lines.specs.declared.line.Next.{Next}
-use Rattle.afr_client_walk.specs.Free.{Allows}
+use Rattle.afr_discipline.specs.Free.{Allows}
 use Rattle.afr_client_read.specs.Lookup.{Lookup, IsLookup, next_of}
 use Rattle.afr_client_read.proofs.LookupLemmas.{allowed_next}
 use Rattle.afr_client_read.proofs.machine.LookupMachine.next.Goals as goal

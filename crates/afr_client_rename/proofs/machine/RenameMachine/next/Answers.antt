@@ -1,6 +1,6 @@
 use Rattle.std.proofs.Common.{sym, subst}
 use Rattle.afr_lines.specs.declared.line.Next.{Next}
-use Rattle.afr_client_walk.specs.Free.{Allows}
+use Rattle.afr_discipline.specs.Free.{Allows}
 use Rattle.afr_client_rename.specs.Rename.{register_of}
 use Rattle.afr_client_rename.proofs.RenameLemmas.{allowed_next}
 use Rattle.afr_client_rename.proofs.machine.RenameMachine.next.Goals as goal

@@ -2,7 +2,7 @@ use Rattle.std.proofs.Common.{◌≡◌, ◌<◌, true, subst, arith}
 use Rattle.afr_base.specs.declared.ids.BrickId.{BrickId}
 use Rattle.afr_lines.specs.declared.request.Request.{Request}
 use Rattle.afr_client_walk.specs.Choosing.{reader_of}
-use Rattle.afr_client_walk.specs.Free.{is_free}
+use Rattle.afr_discipline.specs.Free.{is_free}
 use Rattle.afr_client_walk.specs.Walk.{next_in}
 use Rattle.afr_client_walk.proofs.WalkLemmas.{answers_noted, asked_whole, asks_free, heard_is}
 use Rattle.afr_client_walk.proofs.walk.Walk.hear.Goals as goal

@@ -1,7 +1,7 @@
 use Rattle.std.proofs.Common.{◌<◌, sym, subst, arith}
 use Rattle.afr_base.specs.declared.ids.BrickId.{BrickId}
 use Rattle.afr_lines.specs.declared.request.Request.{Request}
-use Rattle.afr_client_walk.specs.Free.{AllowsAsk}
+use Rattle.afr_discipline.specs.Free.{AllowsAsk}
 use Rattle.afr_client_walk.proofs.WalkLemmas.{asks_allowed, asks_free}
 use Rattle.afr_client_walk.proofs.walk.Walk.next.Goals as goal
 

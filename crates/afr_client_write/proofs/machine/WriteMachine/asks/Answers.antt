@@ -1,6 +1,6 @@
 use Rattle.std.proofs.Common.{subst}
 use Rattle.afr_lines.specs.declared.line.Next.{Next}
-use Rattle.afr_client_walk.specs.Free.{Allows}
+use Rattle.afr_discipline.specs.Free.{Allows}
 use Rattle.afr_client_write.specs.Write.{register_of}
 use Rattle.afr_client_write.proofs.WriteLemmas.{allowed_next}
 use Rattle.afr_client_write.proofs.machine.WriteMachine.asks.Goals as goal

@@ -1,6 +1,6 @@
 use Rattle.std.proofs.Common.{◌≡◌, ℕ, sym, subst, Result, Ok, Err, IfOk}
 use Rattle.afr_lines.specs.declared.line.Next.{Next}
-use Rattle.afr_client_walk.specs.Free.{Allows}
+use Rattle.afr_discipline.specs.Free.{Allows}
 use Rattle.afr_client_write.specs.Write.{Write, IsWrite, next_of, register_of}
 use Rattle.afr_client_write.proofs.WriteLemmas.{allowed_next}
 use Rattle.afr_client_write.proofs.machine.WriteMachine.next.Goals as goal

@@ -1,6 +1,6 @@
 use Rattle.std.proofs.Common.{subst}
 use Rattle.afr_lines.specs.declared.line.Next.{Next}
-use Rattle.afr_client_walk.specs.Free.{Allows}
+use Rattle.afr_discipline.specs.Free.{Allows}
 use Rattle.afr_client_entry.proofs.Removal.AllowedLemmas.{allows_next}
 use Rattle.afr_client_entry.proofs.removing.machine.Removal.asks.Goals as goal
 

@@ -20,8 +20,8 @@ use Rattle.afr_discipline.specs.declared.register.Move.TheVariants as move
 use Rattle.afr_discipline.specs.declared.register.Register.{Register}
 use Rattle.afr_discipline.specs.Laws.{FreshStands, NotesStand, ShapesKept, TestsDecide}
 use Rattle.afr_discipline.specs.Stands.{HasFive}
-use Rattle.afr_client_transaction.specs.Turn.{register_at}
-use Rattle.afr_client_transaction.specs.Turn.{BeginsAnew, EachLineIsKept, GoesOn, InForce, IsLineOf, IsTurn, Stood}
+use Rattle.afr_law_next.specs.Turn.{register_at}
+use Rattle.afr_law_next.specs.Turn.{BeginsAnew, EachLineIsKept, GoesOn, InForce, IsLineOf, IsTurn, Stood}
 
 self : (a : ℕ) → (a == a) ≡ true
 self a = grind (arith, nat_tests)

@@ -1,5 +1,5 @@
-use Rattle.afr_client_transaction.proofs.Turned as turned
-use Rattle.afr_client_transaction.proofs.laws.a_turn_keeps_the_discipline.Goals as goal
+use Rattle.afr_law_next.proofs.Turned as turned
+use Rattle.afr_law_next.proofs.a_turn_keeps_the_discipline.Goals as goal
 
 pub returns-clause-anew : goal.returns-clause-anew
 returns-clause-anew c = turned.begins_anew c.each_note_stands.ensures.fresh

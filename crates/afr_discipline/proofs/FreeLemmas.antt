@@ -18,7 +18,7 @@ use Rattle.afr_discipline.specs.Tests.{may_ask_outside, may_end}
 use Rattle.afr_discipline.specs.declared.register.Move.TheVariants as move
 use Rattle.afr_discipline.specs.declared.register.Register.{Register}
 use Rattle.afr_discipline.specs.declared.register.Step.TheVariants as step
-use Rattle.afr_client_walk.specs.Free.{Allows, AllowsAsk, IsFree, is_free}
+use Rattle.afr_discipline.specs.Free.{Allows, AllowsAsk, IsFree, is_free}
 
 abbrev opened : Shape → Register
 opened shape = record (no_lines shape) { step = step.Open }
