@@ -28,7 +28,7 @@ impl Model for Object {
 
     ghost Value = { Copy };
 
-    ghost view = { λ o. record { what = o.what; content = o.content; attrs = o.attrs; names = o.names; marks = o.marks } };
+    ghost view = { λ o. record { what = o.what; content = o.content.bytes; attrs = o.attrs; names = o.names; marks = o.marks } };
 }
 
 impl Object {
@@ -70,7 +70,7 @@ impl Object {
     }
 
     pub(crate) fn content(&self) -> &Content
-        ensures { result.now ≡ self.now.content }
+        ensures { result.now.bytes ≡ self.now.content }
     {
         &self.content
     }

@@ -93,7 +93,7 @@ impl Brick {
 }
 
 fn bytes_of(alloc: Global, content: &Content, at: u32, len: u32) -> Result<Vec<u8>, NoMemory>
-    ensures ok { IfOk result (λ bytes. bytes.items ≡ take len (drop at content.now)) }
+    ensures ok { IfOk result (λ bytes. bytes.items ≡ take len (drop at content.now.bytes)) }
 {
     let count = len.min(content.len().saturating_sub(at)) as usize;
     let mut bytes = Vec::with_capacity(alloc, count)?;

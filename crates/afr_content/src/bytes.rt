@@ -1,24 +1,25 @@
 //! Writing, clearing and reading a range of a list of bytes, and what each byte becomes.
-ghost use Rattle.std.specs.Prelude.{◌≡◌, ℕ, List, ◌+◌, ◌-◌, ◌≤◌, length, take, drop, min, nat_lt, if◌then◌else◌, OnOk, OnErr};
+ghost use Rattle.std.specs.Prelude.{◌≡◌, ℕ, List, ◌+◌, ◌-◌, ◌<◌, ◌≤◌, ◌/◌, length, take, nat_lt, slice_index, if◌then◌else◌, vec_capacity};
 ghost use Rattle.afr_object.specs.Bytes.{written, zeroed, copied_in, byte_at, is_within};
 
-use crate::content::NoMemory;
-
-/// Writes the bytes at an offset, over a gap of zeros where the offset is past the end.
-pub(crate) fn put(old: &mut Vec<u8>, at: usize, bytes: &[u8]) -> Result<(), NoMemory>
-    requires { at + length bytes.now ≤ 1048576 }
-    ensures ok { OnOk result (old.new.items ≡ written at bytes.now old.old.items) }
-    ensures err { OnErr result (old.new.items ≡ old.old.items) }
+/// Writes the bytes at an offset, over a gap of zeros where the offset is past the end. There has to
+/// be memory for them.
+pub(crate) fn put(old: &mut Vec<u8>, at: usize, bytes: &[u8])
+    requires { at + length bytes.now ≤ vec_capacity old.old }
+    ensures bytes { old.new.items ≡ written at bytes.now old.old.items }
+    ensures room { vec_capacity old.old ≤ vec_capacity old.new }
 {
     if bytes.is_empty() {
-        return Ok(());
+        return;
     }
     let end = at + bytes.len();
     if end > old.len() {
-        old.resize(end, 0)?;
+        match old.resize(end, 0) {
+            Ok(()) => {}
+            Err(_) => unreachable!(),
+        }
     }
     old[at..end].copy_from_slice(bytes);
-    Ok(())
 }
 
 /// Makes the present bytes from one offset up to another zero.
@@ -32,18 +33,18 @@ pub(crate) fn zero(bytes: &mut [u8], from: usize, to: usize)
     }
 }
 
-/// Copies what there is from an offset on into the front of `into`.
-pub(crate) fn take_from(bytes: &[u8], at: usize, into: &mut [u8]) -> usize
-    ensures value { result ≡ min (length into.old) (length bytes.now - at) }
-    ensures bytes { take result into.new ≡ take result (drop at bytes.now) }
-    ensures rest { drop result into.new ≡ drop result into.old }
+/// Copies the bytes from an offset on into all of `into`, and zeros where there are no more.
+pub(crate) fn show(bytes: &[u8], at: usize, into: &mut [u8])
+    ensures len { length into.new ≡ length into.old }
+    ensures bytes { (k : ℕ) → k < length into.old → slice_index into.new k ≡ byte_at (at + k) bytes.now }
 {
     if at >= bytes.len() {
-        return 0;
+        into.fill(0);
+        return;
     }
     let count = into.len().min(bytes.len() - at);
     into[..count].copy_from_slice(&bytes[at..at + count]);
-    count
+    into[count..].fill(0);
 }
 
 /// What each byte of a file is after a call, by what the file and the call's bytes were before it.

@@ -55,3 +55,35 @@ fn a_read_takes_what_there_is(rt: HostRuntime) {
         assert!(rt; count == 3 || seen[count] == b'-', "at {at}");
     }
 }
+
+#[test]
+fn the_last_byte_alone_has_the_last_page_alone(rt: HostRuntime) {
+    let mut content = Content::new(rt.alloc());
+    assert!(rt; content.write_at(1_048_575, b"z").is_ok());
+    for number in 0u32..256 {
+        assert!(rt; content.has_page(number) == (number == 255), "page {number}");
+    }
+    let mut seen = [b'-'; 3];
+    assert_eq!(rt; content.read(1_048_573, &mut seen), 3);
+    assert_eq!(rt; seen.as_slice(), b"\0\0z");
+    content.cut(1_044_481);
+    assert!(rt; content.has_page(255));
+    content.cut(1_044_480);
+    assert!(rt; !content.has_page(255));
+    assert_eq!(rt; content.len(), 1_044_480);
+}
+
+#[test]
+fn a_write_over_a_border_stands_in_both_pages(rt: HostRuntime) {
+    let mut content = Content::new(rt.alloc());
+    assert!(rt; content.write_at(8_190, b"abcd").is_ok());
+    assert!(rt; content.copy_in(4_090, 8, b"xy").is_ok());
+    for number in 0u32..4 {
+        assert!(rt; content.has_page(number) == (number < 3), "page {number}");
+    }
+    let mut seen = [b'-'; 6];
+    assert_eq!(rt; content.read(8_189, &mut seen), 5);
+    assert_eq!(rt; seen.as_slice(), b"\0abcd-");
+    assert_eq!(rt; content.read(4_089, &mut seen), 6);
+    assert_eq!(rt; seen.as_slice(), b"\0xy\0\0\0");
+}
