@@ -30,8 +30,8 @@ use Rattle.afr_client_transaction.specs.Sound.{IsUnused, Suits}
 use Rattle.afr_client_transaction.proofs.Allowed.{allowed_moves}
 use Rattle.afr_client_transaction.proofs.Kept.{sound_first}
 use Rattle.afr_client_transaction.proofs.ReadLemmas.{read_allowed, refusal_moves}
-use Rattle.afr_client_entry.specs.Removal.Removal as removal
-use Rattle.afr_client_entry.proofs.Removal.AllowedLemmas.{allowed_moves as removal_moves}
+use Rattle.afr_client_entry.specs.Removals.Removal as removal
+use Rattle.afr_client_entry.proofs.Removals.AllowedLemmas.{allowed_moves as removal_moves}
 use Rattle.afr_client_entry.specs.Entry.{IsChanging, IsEntry, IsStage, after_step, after_walk, at_directory, next_at, next_under, reads_name, register_at}
 use Rattle.afr_client_entry.specs.Job.{change_of, reply_to}
 use Rattle.afr_client_entry.specs.Laws.{AllowedNext}

@@ -37,12 +37,12 @@ use Rattle.afr_client_transaction.specs.declared.stage.Stage.TheVariants.{Lockin
 use Rattle.afr_client_transaction.proofs.Kept.{kept_begin, stays_sound as transaction_stays}
 use Rattle.afr_client_transaction.proofs.NoteLemmas.{asks_elsewhere, begins_there, fed_change, fed_notes, noted_as}
 use Rattle.afr_client_transaction.proofs.ReadLemmas.{begins_at, kept_given_up, kept_read, some_good}
-use Rattle.afr_client_entry.specs.Removal.Removal as removal
-use Rattle.afr_client_entry.specs.Removal.Removal.{Removing, removing}
-use Rattle.afr_client_entry.specs.Removal.Sound as removal_sound
-use Rattle.afr_client_entry.proofs.Removal.FirstLemmas.{base_of, named_of, unbegun_of}
-use Rattle.afr_client_entry.proofs.Removal.KeptLemmas.{begins_sound, sound_first as removal_first, stays_sound as removal_stays}
-use Rattle.afr_client_entry.proofs.Removal.NoteLemmas.{answered_notes, asks_elsewhere as removal_asks, begins_there as removal_begins}
+use Rattle.afr_client_entry.specs.Removals.Removal as removal
+use Rattle.afr_client_entry.specs.Removals.Removal.{Removing, removing}
+use Rattle.afr_client_entry.specs.Removals.Sound as removal_sound
+use Rattle.afr_client_entry.proofs.Removals.FirstLemmas.{base_of, named_of, unbegun_of}
+use Rattle.afr_client_entry.proofs.Removals.KeptLemmas.{begins_sound, sound_first as removal_first, stays_sound as removal_stays}
+use Rattle.afr_client_entry.proofs.Removals.NoteLemmas.{answered_notes, asks_elsewhere as removal_asks, begins_there as removal_begins}
 use Rattle.afr_client_entry.specs.Entry.{HasReader, IsChanging, IsEntry, IsRemoving, IsStage, IsToRemove, after_step, child_after, choices_at, choices_heard, choices_removing, choices_under, fits_job, fits_stage, found_after, found_by, is_over, name_noted, next_at, next_under, offered, or_removes, progress_after, progress_begun, reads_name, register_at, removal_after, removal_begun, settled, stage_after, stage_begun, walk_after}
 use Rattle.afr_client_entry.specs.Job.{change_of, child_by, reply_to, ruled_out}
 use Rattle.afr_client_entry.specs.Laws.{FedIsAnswered, NotesBegin, NotesEach, StaysSound}

@@ -1,4 +1,4 @@
-pub mod Removal
+pub mod Removals
 pub mod AskedLemmas
 pub mod EntryLemmas
 pub mod HeardLemmas

@@ -38,9 +38,9 @@ use Rattle.afr_client_transaction.specs.Progress.{TransactionProgress, CarriesAt
 use Rattle.afr_client_transaction.specs.Sound.{Sound}
 use Rattle.afr_client_transaction.specs.declared.stage.Stage.{Stage}
 use Rattle.afr_client_transaction.specs.declared.stage.Stage.TheVariants.{Locking, Looking, Preparing, Applying, Posting, Closing}
-use Rattle.afr_client_entry.specs.Removal.Removal as removal
-use Rattle.afr_client_entry.specs.Removal.Removal.{Removing, removing}
-use Rattle.afr_client_entry.specs.Removal.Sound as removal_sound
+use Rattle.afr_client_entry.specs.Removals.Removal as removal
+use Rattle.afr_client_entry.specs.Removals.Removal.{Removing, removing}
+use Rattle.afr_client_entry.specs.Removals.Sound as removal_sound
 use Rattle.afr_client_entry.specs.Job.{change_of, child_by, name_of, reply_to, ruled_out}
 use Rattle.afr_client_entry.specs.declared.job.EntryJob.{EntryJob}
 use Rattle.afr_client_entry.specs.declared.job.EntryJob.TheVariants.{Rmdir}

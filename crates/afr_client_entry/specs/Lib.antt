@@ -1,4 +1,4 @@
-pub mod Removal
+pub mod Removals
 pub mod Entry
 pub mod Job
 pub mod Laws

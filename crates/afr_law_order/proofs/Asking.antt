@@ -16,10 +16,10 @@ use Rattle.afr_lines.specs.declared.request.Area.{Area}
 use Rattle.afr_model_moves.proofs.Tests.{three_cases}
 use Rattle.afr_model_moves.specs.Note.{is_held}
 use Rattle.afr_law_pace.proofs.Order.{head_lowest, minus_rises}
-use Rattle.afr_client_entry.proofs.Removal.AfterLemmas.{locked_is}
-use Rattle.afr_client_entry.proofs.Removal.Facts.{apart, is_busy}
-use Rattle.afr_client_entry.specs.Removal.Removal.{Removing, against, answered, brick_at, has_takers, left, moved, or_close, register_after, removing, request_at, sets_after, stage_after, whole}
-use Rattle.afr_client_entry.specs.Removal.Sound.{IsAsking, Sound}
+use Rattle.afr_client_entry.proofs.Removals.AfterLemmas.{locked_is}
+use Rattle.afr_client_entry.proofs.Removals.Facts.{apart, is_busy}
+use Rattle.afr_client_entry.specs.Removals.Removal.{Removing, against, answered, brick_at, has_takers, left, moved, or_close, register_after, removing, request_at, sets_after, stage_after, whole}
+use Rattle.afr_client_entry.specs.Removals.Sound.{IsAsking, Sound}
 use Rattle.afr_client_entry.specs.declared.removing.stage.RemovalEnding.{RemovalEnding}
 use Rattle.afr_client_entry.specs.declared.removing.stage.RemovalEnding.TheVariants.{Counted, Failed, NoQuorum}
 use Rattle.afr_client_entry.specs.declared.removing.stage.RemovalStage.TheVariants.{Applying, Beginning, Closing, Listing, Locking, Looking, Posting, Preparing}

@@ -10,8 +10,8 @@ use Rattle.afr_lines.specs.declared.answer.Told.{Told}
 use Rattle.afr_lines.specs.declared.request.Request.{Request}
 use Rattle.afr_object.specs.declared.change.Change.{Change}
 use Rattle.afr_law_pace.proofs.Order.{Rises}
-use Rattle.afr_client_entry.specs.Removal.Removal.{Removing, answered, left, removing, whole}
-use Rattle.afr_client_entry.specs.Removal.Sound.{IsAsking, Sound}
+use Rattle.afr_client_entry.specs.Removals.Removal.{Removing, answered, left, removing, whole}
+use Rattle.afr_client_entry.specs.Removals.Sound.{IsAsking, Sound}
 use Rattle.afr_client_entry.specs.declared.removing.stage.RemovalStage.TheVariants.{Locking}
 use Rattle.afr_client_entry.specs.declared.removing.stage.RemovalStage.{RemovalStage}
 

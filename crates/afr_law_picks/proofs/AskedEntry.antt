@@ -47,8 +47,8 @@ use Rattle.afr_law_picks.proofs.AskedRemoval.{removal_asks}
 use Rattle.afr_law_picks.proofs.AskedUnder.{under_asks}
 use Rattle.afr_law_picks.proofs.Asks.{ask_same}
 use Rattle.afr_law_picks.specs.Picked.{PickedEntry}
-use Rattle.afr_client_entry.specs.Removal.Removal as removal
-use Rattle.afr_client_entry.specs.Removal.Removal.{Removing}
+use Rattle.afr_client_entry.specs.Removals.Removal as removal
+use Rattle.afr_client_entry.specs.Removals.Removal.{Removing}
 use Rattle.afr_client_entry.specs.declared.removing.stage.RemovalStage.{RemovalStage}
 use Rattle.afr_law_client.specs.Removal.RemovalTelling.{RemovalTells}
 use Rattle.afr_rule.specs.declared.candidate.Candidate.{Candidate}

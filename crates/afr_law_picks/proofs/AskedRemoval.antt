@@ -46,8 +46,8 @@ use Rattle.afr_law_picks.proofs.AskedFiles.{not_less}
 use Rattle.afr_law_picks.proofs.Asks.{ask_same}
 use Rattle.afr_law_picks.proofs.Rule.{candidates_are, numbers_of}
 use Rattle.afr_law_picks.specs.Readings.{are_over, area_at, asked_at, holds_lock, kind_here, locked_here}
-use Rattle.afr_client_entry.specs.Removal.Removal.{Removing, against, answered, asks, both_held, brick_at, choices_at, has_takers, is_beginning, is_over, left, next_at, offered, or_close, register_after, reply_of, sets_after}
-use Rattle.afr_client_entry.specs.Removal.Sound.{Sound}
+use Rattle.afr_client_entry.specs.Removals.Removal.{Removing, against, answered, asks, both_held, brick_at, choices_at, has_takers, is_beginning, is_over, left, next_at, offered, or_close, register_after, reply_of, sets_after}
+use Rattle.afr_client_entry.specs.Removals.Sound.{Sound}
 use Rattle.afr_client_entry.specs.declared.removing.stage.RemovalEnding.{RemovalEnding}
 use Rattle.afr_client_entry.specs.declared.removing.stage.RemovalEnding.TheVariants as ending
 use Rattle.afr_client_entry.specs.declared.removing.stage.RemovalStage.{RemovalStage}

@@ -31,9 +31,9 @@ use Rattle.afr_plan.specs.declared.plan.Plan.{Plan}
 use Rattle.afr_law_picks.proofs.Asks.{ask_same, end_same}
 use Rattle.afr_law_picks.proofs.Rule.{Picked, one_picked}
 use Rattle.afr_law_picks.specs.Picked.{PickedAt, PickedEnd}
-use Rattle.afr_client_entry.specs.Removal.Removal.{Removing, after, answered, asks, begun, brick_at, choices_at, has_takers, is_beginning, is_over, left, listed, next_at, offered, register_after, reply_of, removing, sets_after, starting}
-use Rattle.afr_client_entry.specs.Removal.Sound.{Sound}
-use Rattle.afr_client_entry.specs.Removal.Sound as sound_of
+use Rattle.afr_client_entry.specs.Removals.Removal.{Removing, after, answered, asks, begun, brick_at, choices_at, has_takers, is_beginning, is_over, left, listed, next_at, offered, register_after, reply_of, removing, sets_after, starting}
+use Rattle.afr_client_entry.specs.Removals.Sound.{Sound}
+use Rattle.afr_client_entry.specs.Removals.Sound as sound_of
 use Rattle.afr_client_entry.specs.declared.removing.stage.RemovalEnding.{RemovalEnding}
 use Rattle.afr_client_entry.specs.declared.removing.stage.RemovalEnding.TheVariants as ending
 use Rattle.afr_client_entry.specs.declared.removing.stage.RemovalStage.{RemovalStage}

@@ -55,8 +55,8 @@ use Rattle.afr_law_picks.proofs.RenameReads.{rename_ends, rename_reads}
 use Rattle.afr_law_picks.proofs.Rule.{Picked}
 use Rattle.afr_law_picks.proofs.Write.{write_begins, write_begun, write_ends, write_picked, write_reads}
 use Rattle.afr_law_picks.specs.Picked.{PickedAt, PickedEnd, PickedIn, PickedRename, PickedStep, PickedUnder, PickedWalk}
-use Rattle.afr_client_entry.specs.Removal.Removal as removal
-use Rattle.afr_client_entry.specs.Removal.Removal.{Removing}
+use Rattle.afr_client_entry.specs.Removals.Removal as removal
+use Rattle.afr_client_entry.specs.Removals.Removal.{Removing}
 use Rattle.afr_client_entry.specs.declared.removing.stage.RemovalStage.{RemovalStage}
 use Rattle.afr_client_entry.specs.declared.removing.stage.RemovalStage.TheVariants as removing
 use Rattle.afr_client_transaction.specs.Outcome.{outcome_of}

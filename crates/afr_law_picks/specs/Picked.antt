@@ -25,7 +25,7 @@ use Rattle.afr_model.specs.Showing.{among, looked_by}
 use Rattle.afr_plan.specs.declared.command.Command.TheVariants as command
 use Rattle.afr_plan.specs.declared.plan.Plan.{Plan}
 use Rattle.afr_law_picks.specs.Readings.{looked_here}
-use Rattle.afr_client_entry.specs.Removal.Removal.{Removing}
+use Rattle.afr_client_entry.specs.Removals.Removal.{Removing}
 use Rattle.afr_client_entry.specs.declared.removing.stage.RemovalStage.{RemovalStage}
 use Rattle.afr_client_entry.specs.declared.removing.stage.RemovalStage.TheVariants.{Listing}
 use Rattle.afr_client_transaction.specs.Progress.{TransactionProgress, is_beginning}

@@ -2,8 +2,8 @@
 ghost use Rattle.std.specs.Prelude.{[], None, Some, ◌≡◌, ◌<◌, ◌≤◌, ◌+◌, ◌^◌, true, false, IfOk};
 ghost use Rattle.afr_base.specs.Bricks.{is_nothing};
 ghost use Rattle.afr_model_moves.specs.Register.{span};
-ghost use Rattle.afr_client_entry.specs.Removal.Removal.{CarriesAt, answered, asks, begun, brick_at, choices_at, is_beginning, is_over, left, next_at, removing, request_at, stage_after};
-ghost use Rattle.afr_client_entry.specs.Removal.Sound.{IsAsking, IsBase, IsRemoval, IsUnbegun, Sound};
+ghost use Rattle.afr_client_entry.specs.Removals.Removal.{CarriesAt, answered, asks, begun, brick_at, choices_at, is_beginning, is_over, left, next_at, removing, request_at, stage_after};
+ghost use Rattle.afr_client_entry.specs.Removals.Sound.{IsAsking, IsBase, IsRemoval, IsUnbegun, Sound};
 ghost use Rattle.afr_lines.specs.Areas.{area_for};
 ghost use Rattle.afr_rule.specs.Choosing.{IsRule};
 ghost use Rattle.afr_client_walk.specs.Choosing.{RuleAnswers, reader_of};
@@ -31,8 +31,8 @@ pub struct Removal {
 }
 
 impl Model for Removal {
-    ghost use Rattle.afr_client_entry.specs.Removal.Removal.{Removing};
-    ghost use Rattle.afr_client_entry.specs.Removal.Sound.{Sound};
+    ghost use Rattle.afr_client_entry.specs.Removals.Removal.{Removing};
+    ghost use Rattle.afr_client_entry.specs.Removals.Sound.{Sound};
 
     ghost Value = { Removing };
 

@@ -6,7 +6,7 @@ ghost use Rattle.afr_discipline.specs.declared.register.Register.{Register};
 ghost use Rattle.afr_lines.specs.declared.answer.Told.{Told};
 ghost use Rattle.afr_object.specs.Tables.{object_of};
 ghost use Rattle.afr_choice.specs.Verdict.{good_copies};
-ghost use Rattle.afr_client_entry.specs.Removal.Removal.{against, child_after, child_reads, gone_on, has_takers, left_in, listed, offered, offered_after, or_close, reply_of, request_in, unlocks};
+ghost use Rattle.afr_client_entry.specs.Removals.Removal.{against, child_after, child_reads, gone_on, has_takers, left_in, listed, offered, offered_after, or_close, reply_of, request_in, unlocks};
 ghost use Rattle.afr_rule.specs.Choosing.{IsRule};
 ghost use Rattle.afr_client_transaction.specs.Progress.{enough, may_start, number_in};
 ghost use Rattle.afr_client_walk.specs.Choosing.{RuleAnswers, reader_of};

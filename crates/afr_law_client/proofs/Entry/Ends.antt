@@ -41,9 +41,9 @@ use Rattle.afr_client_entry.specs.declared.stage.Found.{Found}
 use Rattle.afr_client_entry.specs.declared.stage.Found.TheVariants.{Unread, Fits, Refused}
 use Rattle.afr_law_client.specs.Read.Lines.{CanAnswer}
 use Rattle.afr_law_client.proofs.Read.ReadsMore.{asks_same}
-use Rattle.afr_client_entry.specs.Removal.Removal as removal
-use Rattle.afr_client_entry.specs.Removal.Removal.{Removing}
-use Rattle.afr_client_entry.proofs.Removal.NoteLemmas.{asks_elsewhere, begins_there}
+use Rattle.afr_client_entry.specs.Removals.Removal as removal
+use Rattle.afr_client_entry.specs.Removals.Removal.{Removing}
+use Rattle.afr_client_entry.proofs.Removals.NoteLemmas.{asks_elsewhere, begins_there}
 use Rattle.afr_law_client.specs.Removal.RemovalTelling.{RemovalTells}
 use Rattle.afr_law_client.proofs.Removal.About.{about as removal_about, blames as removal_blames, ends as removal_ends}
 use Rattle.afr_law_client.proofs.Removal.More.{begun_on, more as removal_more}

@@ -34,8 +34,8 @@ use Rattle.afr_client_entry.specs.declared.job.EntryJob.{EntryJob}
 use Rattle.afr_client_entry.specs.declared.job.EntryJob.TheVariants.{Create, Mkdir, Unlink, Rmdir}
 use Rattle.afr_client_entry.specs.declared.refusal.Refusal.TheVariants as refusal_of
 use Rattle.afr_client_entry.specs.declared.stage.Found.TheVariants.{Unread}
-use Rattle.afr_client_entry.specs.Removal.Removal.{removing}
-use Rattle.afr_client_entry.specs.Removal.Sound.{IsRemoval}
+use Rattle.afr_client_entry.specs.Removals.Removal.{removing}
+use Rattle.afr_client_entry.specs.Removals.Sound.{IsRemoval}
 use Rattle.afr_law_client.specs.Removal.RemovalTelling.{HasLed, IsOfPath, RemovalTells, dir_at}
 use Rattle.afr_law_client.proofs.Removal.First.{begins}
 use Rattle.afr_law_client.specs.Entry.EntryTelling.{CanName, HoldsName, IsUnread, TellsIn, TransactionGoes, WasGiven, command_of}

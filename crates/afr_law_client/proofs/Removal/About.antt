@@ -31,13 +31,13 @@ use Rattle.afr_model.specs.Keeping.{KeepsTo}
 use Rattle.afr_model.specs.Refusals.{by_list, or_else, refusal}
 use Rattle.afr_model.specs.Showing.{Path, Reading, among, applied_at, begins_attempt, begun_by, has, looked_by, path_by, prepared, preparing, reading_by, refuses_read}
 use Rattle.afr_model.specs.Standing.{area_here, getting, looks_here}
-use Rattle.afr_client_entry.specs.Removal.Removal.{Removing, asks, both_held, brick_at, is_over, left, next_at, reply_of}
-use Rattle.afr_client_entry.specs.Removal.Sound as sound
-use Rattle.afr_client_entry.specs.Removal.Sound.{Ready, Sound}
+use Rattle.afr_client_entry.specs.Removals.Removal.{Removing, asks, both_held, brick_at, is_over, left, next_at, reply_of}
+use Rattle.afr_client_entry.specs.Removals.Sound as sound
+use Rattle.afr_client_entry.specs.Removals.Sound.{Ready, Sound}
 use Rattle.afr_client_entry.specs.declared.removing.stage.RemovalEnding.{RemovalEnding}
 use Rattle.afr_client_entry.specs.declared.removing.stage.RemovalStage.{RemovalStage}
 use Rattle.afr_client_entry.specs.declared.removing.stage.RemovalStage.TheVariants.{Locking, Looking, Listing, Beginning, Preparing, Applying, Posting, Closing}
-use Rattle.afr_client_entry.proofs.Removal.Facts.{common_right, of_names}
+use Rattle.afr_client_entry.proofs.Removals.Facts.{common_right, of_names}
 use Rattle.afr_client_transaction.specs.Progress.{number_in}
 use Rattle.afr_law_client.specs.About.{BlamesNext}
 use Rattle.afr_law_client.specs.Fits.{missed_by}

@@ -25,12 +25,12 @@ use Rattle.afr_plan.specs.declared.plan.Plan.{Plan}
 use Rattle.afr_model.specs.Showing.{among, has, locks, looking}
 use Rattle.afr_model.specs.Skipped.{IsChildLocked, IsLooked}
 use Rattle.afr_model.specs.Standing.{asking, getting, holding, locks_area, up_to}
-use Rattle.afr_client_entry.specs.Removal.Removal.{Removing, both_held, gone_on, has_takers, left, on_stage, removing, starting}
-use Rattle.afr_client_entry.specs.Removal.Sound.{IsRemoval, IsUnbegun}
+use Rattle.afr_client_entry.specs.Removals.Removal.{Removing, both_held, gone_on, has_takers, left, on_stage, removing, starting}
+use Rattle.afr_client_entry.specs.Removals.Sound.{IsRemoval, IsUnbegun}
 use Rattle.afr_client_entry.specs.declared.removing.stage.RemovalEnding.TheVariants.{NoQuorum}
 use Rattle.afr_client_entry.specs.declared.removing.stage.RemovalStage.TheVariants.{Locking, Looking, Closing}
-use Rattle.afr_client_entry.proofs.Removal.Facts.{common_right, some_takers}
-use Rattle.afr_client_entry.proofs.Removal.FirstLemmas.{named_of, unbegun_of}
+use Rattle.afr_client_entry.proofs.Removals.Facts.{common_right, some_takers}
+use Rattle.afr_client_entry.proofs.Removals.FirstLemmas.{named_of, unbegun_of}
 use Rattle.afr_client_transaction.specs.Progress.{TransactionProgress, is_beginning}
 use Rattle.afr_client_transaction.specs.Sound as changing
 use Rattle.afr_client_transaction.specs.Sound.{Sound}

@@ -25,8 +25,8 @@ use Rattle.afr_plan.specs.declared.plan.Plan.{Plan}
 use Rattle.afr_model.specs.Showing.{Path, At, among, has, locks, looking, path_after}
 use Rattle.afr_model.specs.Skipped.{IsLooked, is_whole}
 use Rattle.afr_model.specs.Standing.{kept_at, path_upto}
-use Rattle.afr_client_entry.specs.Removal.Sound.{IsRemoval}
-use Rattle.afr_client_entry.proofs.Removal.Facts.{apart}
+use Rattle.afr_client_entry.specs.Removals.Sound.{IsRemoval}
+use Rattle.afr_client_entry.proofs.Removals.Facts.{apart}
 use Rattle.afr_client_transaction.proofs.Parts.{no_or}
 use Rattle.afr_law_client.specs.Fits.{AreExcused, IsCalm}
 use Rattle.afr_law_client.specs.Tells.{lookups_allow}

@@ -29,13 +29,13 @@ use Rattle.afr_model.specs.Refusals.{by_list, or_else}
 use Rattle.afr_model.specs.Showing.{Gave, Reading, given_by, has, reading_by, refuses_read}
 use Rattle.afr_model.specs.Tables.{holds}
 use Rattle.afr_law_client.specs.Read.Lines.{CanAnswer}
-use Rattle.afr_client_entry.specs.Removal.Removal.{Removing, answered, begun, brick_at, listed, moved, on_stage, request_at, sets_after}
-use Rattle.afr_client_entry.specs.Removal.Sound as sound
-use Rattle.afr_client_entry.specs.Removal.Sound.{Sound}
+use Rattle.afr_client_entry.specs.Removals.Removal.{Removing, answered, begun, brick_at, listed, moved, on_stage, request_at, sets_after}
+use Rattle.afr_client_entry.specs.Removals.Sound as sound
+use Rattle.afr_client_entry.specs.Removals.Sound.{Sound}
 use Rattle.afr_client_entry.specs.declared.removing.child.Child.{Child}
 use Rattle.afr_client_entry.specs.declared.removing.stage.RemovalStage.TheVariants.{Listing, Beginning, Closing}
 use Rattle.afr_client_entry.specs.declared.removing.stage.RemovalEnding.TheVariants.{Failed}
-use Rattle.afr_client_entry.proofs.Removal.Facts.{list_asked}
+use Rattle.afr_client_entry.proofs.Removals.Facts.{list_asked}
 use Rattle.afr_client_transaction.specs.Progress.{may_start}
 use Rattle.afr_client_transaction.proofs.Requests.{after_outside, noted_is}
 use Rattle.afr_law_client.specs.Tells.{AreIdle, lookups_allow}

@@ -32,13 +32,13 @@ use Rattle.afr_model.specs.Refusals.{meets}
 use Rattle.afr_model.specs.Showing.{among, has, is_held, locks, looked_by, looking}
 use Rattle.afr_model.specs.Skipped.{IsChildLocked}
 use Rattle.afr_model.specs.Standing.{asking, asks_name, getting, holding, locks_area, marked, suffices, up_to}
-use Rattle.afr_client_entry.specs.Removal.Removal.{Removing, after, answered, both_held, brick_at, gone_on, has_takers, left, moved, on_stage, request_at, sets_after, takers_of}
-use Rattle.afr_client_entry.specs.Removal.Sound as sound
-use Rattle.afr_client_entry.specs.Removal.Sound.{IsAsking, IsBase, IsRemoval, Sound}
+use Rattle.afr_client_entry.specs.Removals.Removal.{Removing, after, answered, both_held, brick_at, gone_on, has_takers, left, moved, on_stage, request_at, sets_after, takers_of}
+use Rattle.afr_client_entry.specs.Removals.Sound as sound
+use Rattle.afr_client_entry.specs.Removals.Sound.{IsAsking, IsBase, IsRemoval, Sound}
 use Rattle.afr_client_entry.specs.declared.removing.stage.RemovalEnding.TheVariants.{NoQuorum}
 use Rattle.afr_client_entry.specs.declared.removing.stage.RemovalStage.TheVariants.{Locking, Looking, Closing}
-use Rattle.afr_client_entry.proofs.Removal.AfterLemmas.{lock_base, locked_is}
-use Rattle.afr_client_entry.proofs.Removal.Facts.{apart, common_right, is_busy, lock_asked}
+use Rattle.afr_client_entry.proofs.Removals.AfterLemmas.{lock_base, locked_is}
+use Rattle.afr_client_entry.proofs.Removals.Facts.{apart, common_right, is_busy, lock_asked}
 use Rattle.afr_client_transaction.proofs.Kept.{most_of}
 use Rattle.afr_client_transaction.proofs.Parts.{no_or}
 use Rattle.afr_client_transaction.proofs.Requests.{locked_w, noted_is}

@@ -34,13 +34,13 @@ use Rattle.afr_model.specs.Showing.{among, look_shows, looked_by, looking, readi
 use Rattle.afr_model.specs.Skipped.{IsChildLocked}
 use Rattle.afr_model.specs.Standing.{asking, getting, holding, locks_area, suffices, up_to}
 use Rattle.afr_client_walk.specs.Looks.{noted_look}
-use Rattle.afr_client_entry.specs.Removal.Removal.{Removing, after, against, answered, both_held, brick_at, gone_on, has_takers, left, moved, on_stage, or_close, reads_at, reply_of, request_at, sets_after, takers_of}
-use Rattle.afr_client_entry.specs.Removal.Sound.{IsAsking, IsBase, IsRemoval, Sound}
+use Rattle.afr_client_entry.specs.Removals.Removal.{Removing, after, against, answered, both_held, brick_at, gone_on, has_takers, left, moved, on_stage, or_close, reads_at, reply_of, request_at, sets_after, takers_of}
+use Rattle.afr_client_entry.specs.Removals.Sound.{IsAsking, IsBase, IsRemoval, Sound}
 use Rattle.afr_client_entry.specs.declared.removing.stage.RemovalEnding.{RemovalEnding}
 use Rattle.afr_client_entry.specs.declared.removing.stage.RemovalEnding.TheVariants.{NoQuorum, FewCopies, SplitBrain}
 use Rattle.afr_client_entry.specs.declared.removing.stage.RemovalStage.TheVariants.{Looking, Listing, Closing}
-use Rattle.afr_client_entry.proofs.Removal.AfterLemmas.{look_base}
-use Rattle.afr_client_entry.proofs.Removal.Facts.{look_asked}
+use Rattle.afr_client_entry.proofs.Removals.AfterLemmas.{look_base}
+use Rattle.afr_client_entry.proofs.Removals.Facts.{look_asked}
 use Rattle.afr_client_transaction.proofs.Parts.{no_or}
 use Rattle.afr_client_transaction.proofs.Requests.{after_outside, noted_is}
 use Rattle.afr_law_client.specs.Fits.{missed_by}

@@ -13,9 +13,9 @@ use Rattle.afr_lines.specs.declared.request.Request.{Request}
 use Rattle.afr_object.specs.declared.change.Change.{Change}
 use Rattle.afr_plan.specs.declared.plan.Plan.{Plan}
 use Rattle.afr_law_client.proofs.Read.ReadsMore.{asks_same}
-use Rattle.afr_client_entry.specs.Removal.Removal.{Removing, answered, asks, begun, brick_at, is_over, next_at, reply_of, request_at}
-use Rattle.afr_client_entry.specs.Removal.Sound as sound
-use Rattle.afr_client_entry.specs.Removal.Sound.{Ready, Sound}
+use Rattle.afr_client_entry.specs.Removals.Removal.{Removing, answered, asks, begun, brick_at, is_over, next_at, reply_of, request_at}
+use Rattle.afr_client_entry.specs.Removals.Sound as sound
+use Rattle.afr_client_entry.specs.Removals.Sound.{Ready, Sound}
 use Rattle.afr_client_entry.specs.declared.removing.stage.RemovalEnding.{RemovalEnding}
 use Rattle.afr_client_entry.specs.declared.removing.stage.RemovalStage.{RemovalStage}
 use Rattle.afr_client_entry.specs.declared.removing.stage.RemovalStage.TheVariants.{Locking, Looking, Listing, Beginning, Preparing, Applying, Posting, Closing}

@@ -26,12 +26,12 @@ use Rattle.afr_object.specs.Tables.{object_of}
 use Rattle.afr_plan.specs.declared.plan.Plan.{Plan}
 use Rattle.afr_model.specs.Showing.{among, applied_at, applying, has, looked_by, posting, prepared, preparing}
 use Rattle.afr_model.specs.Standing.{locks_any, suffices}
-use Rattle.afr_client_entry.specs.Removal.Removal.{Removing, after, answered, brick_at, gone_on, left, moved, on_stage, request_at, sets_after}
-use Rattle.afr_client_entry.specs.Removal.Sound as sound
-use Rattle.afr_client_entry.specs.Removal.Sound.{IsAsking, IsBase, IsRemoval, Sound}
+use Rattle.afr_client_entry.specs.Removals.Removal.{Removing, after, answered, brick_at, gone_on, left, moved, on_stage, request_at, sets_after}
+use Rattle.afr_client_entry.specs.Removals.Sound as sound
+use Rattle.afr_client_entry.specs.Removals.Sound.{IsAsking, IsBase, IsRemoval, Sound}
 use Rattle.afr_client_entry.specs.declared.removing.stage.RemovalEnding.TheVariants.{Counted}
 use Rattle.afr_client_entry.specs.declared.removing.stage.RemovalStage.TheVariants.{Preparing, Applying, Posting, Closing}
-use Rattle.afr_client_entry.proofs.Removal.AfterLemmas.{apply_base, post_base, pre_base}
+use Rattle.afr_client_entry.proofs.Removals.AfterLemmas.{apply_base, post_base, pre_base}
 use Rattle.afr_client_transaction.specs.Progress.{enough, number_in}
 use Rattle.afr_client_transaction.proofs.Parts.{holder_shows}
 use Rattle.afr_client_transaction.proofs.Requests.{after_outside, noted_is}

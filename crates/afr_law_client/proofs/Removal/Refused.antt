@@ -30,11 +30,11 @@ use Rattle.afr_model.specs.Refusals.{both_locked, by_area, by_child, by_list, by
 use Rattle.afr_model.specs.Showing.{At, NoName, Path, Untold, among, applied_at, applying, begins_attempt, has, is_faulted, looked_by, looking, path_by, posted, posting, prepared, preparing, reading_by, refuses_read}
 use Rattle.afr_model.specs.Skipped.{AsksAll, IsChildLocked, IsLocked, SkipsNothing, WentThroughPhases, takers}
 use Rattle.afr_model.specs.Standing.{area_here, change_by, getting, locks_area, looks_here, suffices}
-use Rattle.afr_client_entry.specs.Removal.Removal.{reply_of}
-use Rattle.afr_client_entry.specs.Removal.Sound.{IsRemoval}
+use Rattle.afr_client_entry.specs.Removals.Removal.{reply_of}
+use Rattle.afr_client_entry.specs.Removals.Sound.{IsRemoval}
 use Rattle.afr_client_entry.specs.declared.removing.child.Child.{Child}
 use Rattle.afr_client_entry.specs.declared.removing.stage.RemovalEnding.TheVariants.{Counted}
-use Rattle.afr_client_entry.proofs.Removal.Facts.{of_names}
+use Rattle.afr_client_entry.proofs.Removals.Facts.{of_names}
 use Rattle.afr_client_transaction.proofs.Parts.{both}
 use Rattle.afr_law_client.proofs.Small.{area_is, no_change, object_named, self}
 use Rattle.afr_law_client.proofs.Views.{suffices_grows}

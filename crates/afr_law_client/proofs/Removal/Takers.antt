@@ -17,8 +17,8 @@ use Rattle.afr_plan.specs.declared.plan.Plan.{Plan}
 use Rattle.afr_model.specs.Refusals.{meets}
 use Rattle.afr_model.specs.Showing.{looked_by}
 use Rattle.afr_model.specs.Standing.{suffices, up_to}
-use Rattle.afr_client_entry.specs.Removal.Removal.{both_held, has_takers, takers_of}
-use Rattle.afr_client_entry.specs.Removal.Sound.{IsBase}
+use Rattle.afr_client_entry.specs.Removals.Removal.{both_held, has_takers, takers_of}
+use Rattle.afr_client_entry.specs.Removals.Sound.{IsBase}
 use Rattle.afr_client_transaction.specs.Progress.{enough}
 use Rattle.afr_law_client.proofs.Views.{same_enough}
 use Rattle.afr_law_client.specs.Removal.RemovalTelling.{AreHeld, RemovalGoes, held_in, takers_by}

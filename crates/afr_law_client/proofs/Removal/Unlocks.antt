@@ -30,8 +30,8 @@ use Rattle.afr_model.specs.Refusals.{both_locked, by_area, by_child, by_list, by
 use Rattle.afr_model.specs.Showing.{Path, At, among, begins_attempt, has, is_faulted, looked_by, path_by, reading_by, refuses_read}
 use Rattle.afr_model.specs.Skipped.{AsksAll, SkipsNothing, takers}
 use Rattle.afr_model.specs.Standing.{area_here, getting, looks_here, place_by, suffices}
-use Rattle.afr_client_entry.specs.Removal.Removal.{Removing, answered, brick_at, left, moved, on_stage, reply_of, request_at, sets_after, unlocks}
-use Rattle.afr_client_entry.specs.Removal.Sound.{Sound}
+use Rattle.afr_client_entry.specs.Removals.Removal.{Removing, answered, brick_at, left, moved, on_stage, reply_of, request_at, sets_after, unlocks}
+use Rattle.afr_client_entry.specs.Removals.Sound.{Sound}
 use Rattle.afr_client_entry.specs.declared.removing.stage.RemovalEnding.{RemovalEnding}
 use Rattle.afr_client_entry.specs.declared.removing.stage.RemovalEnding.TheVariants.{Counted, NoQuorum, FewCopies, SplitBrain, NotEmpty, Failed}
 use Rattle.afr_client_entry.specs.declared.removing.stage.RemovalStage.TheVariants.{Closing}

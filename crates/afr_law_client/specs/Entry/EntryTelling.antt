@@ -36,7 +36,7 @@ use Rattle.afr_client_entry.specs.declared.stage.Found.{Found}
 use Rattle.afr_client_entry.specs.declared.stage.Found.TheVariants.{Unread, Fits, Refused}
 use Rattle.afr_law_client.specs.Read.Lines.{CanAnswer}
 use Rattle.afr_law_client.specs.Read.WalkTelling.{WalkTells}
-use Rattle.afr_client_entry.specs.Removal.Removal.{Removing}
+use Rattle.afr_client_entry.specs.Removals.Removal.{Removing}
 use Rattle.afr_law_client.specs.Removal.RemovalTelling as removal
 use Rattle.afr_law_client.specs.Removal.RemovalTelling.{RemovalTells, releases}
 use Rattle.afr_law_client.specs.Fits.{AreExcused, IsCalm}

@@ -23,8 +23,8 @@ use Rattle.afr_model.specs.Answered.{IsAbout, IsAnswered}
 use Rattle.afr_model.specs.Keeping.{KeepsTo}
 use Rattle.afr_model.specs.Showing.{NotAsked, among, has, reading_by, refuses_read}
 use Rattle.afr_model.specs.Standing.{asks_name, holding, up_to}
-use Rattle.afr_client_entry.specs.Removal.Removal.{Removing, answered, begun, next_at, removing}
-use Rattle.afr_client_entry.specs.Removal.Sound.{Sound, IsRemoval}
+use Rattle.afr_client_entry.specs.Removals.Removal.{Removing, answered, begun, next_at, removing}
+use Rattle.afr_client_entry.specs.Removals.Sound.{Sound, IsRemoval}
 use Rattle.afr_client_transaction.specs.Progress.{TransactionProgress}
 use Rattle.afr_client_transaction.specs.Sound as changing
 use Rattle.afr_client_transaction.specs.declared.stage.Stage.TheVariants.{Beginning}

@@ -34,7 +34,7 @@ use Rattle.afr_model.specs.Showing.{At, Gave, NotAsked, among, applied_at, apply
 use Rattle.afr_model.specs.Skipped.{IsChildLocked, IsLooked, is_whole}
 use Rattle.afr_model.specs.Standing.{asking, asks_name, change_by, getting, holding, locks_area, place_by, suffices, up_to}
 use Rattle.afr_law_client.specs.Read.Lines.{CanAnswer}
-use Rattle.afr_client_entry.specs.Removal.Removal.{Removing, reply_of, whole}
+use Rattle.afr_client_entry.specs.Removals.Removal.{Removing, reply_of, whole}
 use Rattle.afr_client_entry.specs.declared.removing.child.Child.{Child}
 use Rattle.afr_client_entry.specs.declared.removing.stage.RemovalEnding.{RemovalEnding}
 use Rattle.afr_client_entry.specs.declared.removing.stage.RemovalStage.{RemovalStage}

@@ -25,9 +25,9 @@ use Rattle.afr_client_transaction.specs.Progress.{CarriesAt, TransactionProgress
 use Rattle.afr_client_walk.specs.Walk.{next_in}
 use Rattle.afr_client_walk.specs.declared.walk.Walk.{Walk}
 use Rattle.afr_law_client.specs.Removal.RemovalTelling.{During}
-use Rattle.afr_client_entry.specs.Removal.Removal as removal
-use Rattle.afr_client_entry.specs.Removal.Removal.{Removing}
-use Rattle.afr_client_entry.specs.Removal.Sound.{IsRemoval}
+use Rattle.afr_client_entry.specs.Removals.Removal as removal
+use Rattle.afr_client_entry.specs.Removals.Removal.{Removing}
+use Rattle.afr_client_entry.specs.Removals.Sound.{IsRemoval}
 use Rattle.afr_client_entry.specs.declared.removing.stage.RemovalStage.{RemovalStage}
 use Rattle.afr_client_entry.specs.declared.removing.stage.RemovalStage.TheVariants as removing
 use Rattle.afr_client_entry.specs.Entry.{CarriesNext, IsChanging, IsStage, next_at, next_under, reads_name}

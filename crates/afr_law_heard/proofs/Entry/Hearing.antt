@@ -30,9 +30,9 @@ use Rattle.afr_client_entry.specs.declared.stage.EntryStage.{EntryStage}
 use Rattle.afr_client_entry.specs.declared.stage.EntryStage.TheVariants.{Walking, Changing, Removes, Ending}
 use Rattle.afr_client_entry.specs.declared.stage.Found.{Found}
 use Rattle.afr_client_entry.specs.declared.stage.Found.TheVariants.{Unread, Fits, Refused}
-use Rattle.afr_client_entry.specs.Removal.Removal as removal
-use Rattle.afr_client_entry.specs.Removal.Removal.{Removing}
-use Rattle.afr_client_entry.specs.Removal.Sound as removal_sound
+use Rattle.afr_client_entry.specs.Removals.Removal as removal
+use Rattle.afr_client_entry.specs.Removals.Removal.{Removing}
+use Rattle.afr_client_entry.specs.Removals.Sound as removal_sound
 use Rattle.afr_client_entry.specs.declared.removing.stage.RemovalStage.{RemovalStage}
 use Rattle.afr_client_entry.specs.declared.removing.stage.RemovalStage.TheVariants as removal_stage
 use Rattle.afr_client_entry.specs.declared.removing.stage.RemovalStage.TheVariants.{Listing}

@@ -33,9 +33,9 @@ use Rattle.afr_object.specs.declared.change.Change.TheVariants.{Cut, Make, Remov
 use Rattle.afr_law_pace.proofs.Order.{asks_above}
 use Rattle.afr_law_pace.specs.Left.{IsQueued as Queued}
 use Rattle.afr_lines.specs.declared.lock.Domain.TheVariants.{Work as WorkDomain}
-use Rattle.afr_client_entry.specs.Removal.Removal as removal
-use Rattle.afr_client_entry.specs.Removal.Removal.{Removing, whole}
-use Rattle.afr_client_entry.specs.Removal.Sound as removing
+use Rattle.afr_client_entry.specs.Removals.Removal as removal
+use Rattle.afr_client_entry.specs.Removals.Removal.{Removing, whole}
+use Rattle.afr_client_entry.specs.Removals.Sound as removing
 use Rattle.afr_client_entry.specs.declared.removing.stage.RemovalStage.TheVariants as removes
 use Rattle.afr_client_entry.specs.declared.removing.stage.RemovalStage.{RemovalStage}
 use Rattle.afr_law_order.proofs.Asking.{asks_above as removal_above}

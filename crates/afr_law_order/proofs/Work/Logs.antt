@@ -28,7 +28,7 @@ use Rattle.afr_object.specs.declared.entry.Entry.{Entry}
 use Rattle.afr_plan.specs.declared.command.Command.{Command}
 use Rattle.afr_plan.specs.declared.plan.Plan.{Plan}
 use Rattle.afr_lines.specs.declared.lock.Domain.TheVariants.{Work as WorkDomain}
-use Rattle.afr_client_entry.specs.Removal.Removal.{Removing}
+use Rattle.afr_client_entry.specs.Removals.Removal.{Removing}
 use Rattle.afr_client_entry.specs.declared.removing.stage.RemovalStage.TheVariants as removes
 use Rattle.afr_client_entry.specs.declared.removing.stage.RemovalStage.{RemovalStage}
 use Rattle.afr_law_client.specs.Removal.RemovalTelling.{During, HasLed, dir_at}

@@ -36,10 +36,10 @@ use Rattle.afr_object.specs.Tables.{is_dir}
 use Rattle.afr_law_pace.proofs.Order.{Rises, starts_queued, stays_queued}
 use Rattle.afr_law_pace.specs.Left.{IsQueued as Queued}
 use Rattle.afr_plan.specs.declared.command.Command.TheVariants as command
-use Rattle.afr_client_entry.proofs.Removal.KeptLemmas.{asking_of as removal_asking}
-use Rattle.afr_client_entry.specs.Removal.Removal as removal
-use Rattle.afr_client_entry.specs.Removal.Removal.{Removing}
-use Rattle.afr_client_entry.specs.Removal.Sound as removing
+use Rattle.afr_client_entry.proofs.Removals.KeptLemmas.{asking_of as removal_asking}
+use Rattle.afr_client_entry.specs.Removals.Removal as removal
+use Rattle.afr_client_entry.specs.Removals.Removal.{Removing}
+use Rattle.afr_client_entry.specs.Removals.Sound as removing
 use Rattle.afr_law_order.proofs.Asking.{starts_queued as removal_starts, stays_queued as removal_stays}
 use Rattle.afr_law_order.proofs.Rows.{keeps_row, none_rises}
 use Rattle.afr_law_order.specs.Queue as removal_queue

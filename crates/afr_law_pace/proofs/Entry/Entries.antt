@@ -33,9 +33,9 @@ use Rattle.afr_law_pace.proofs.Writes.{told_is}
 use Rattle.afr_law_pace.specs.Left.{asks_again, left_at, lines_left}
 use Rattle.afr_law_pace.specs.Left as pace
 use Rattle.afr_law_pace.specs.Walks.{walk_left}
-use Rattle.afr_client_entry.specs.Removal.Removal as removal
-use Rattle.afr_client_entry.specs.Removal.Removal.{Removing}
-use Rattle.afr_client_entry.specs.Removal.Sound as removing
+use Rattle.afr_client_entry.specs.Removals.Removal as removal
+use Rattle.afr_client_entry.specs.Removals.Removal.{Removing}
+use Rattle.afr_client_entry.specs.Removals.Sound as removing
 use Rattle.afr_client_entry.specs.declared.removing.stage.RemovalStage.TheVariants as removes
 use Rattle.afr_client_entry.specs.declared.removing.stage.RemovalStage.{RemovalStage}
 use Rattle.afr_client_transaction.specs.Progress as transaction

@@ -27,10 +27,10 @@ use Rattle.afr_law_pace.proofs.Counting.{asked_falls, removed_falls}
 use Rattle.afr_law_pace.proofs.Nearer.{done_kept, most, pre_kept, step_of}
 use Rattle.afr_law_pace.specs.Left.{count}
 use Rattle.afr_lines.specs.declared.lock.Domain.TheVariants.{Work}
-use Rattle.afr_client_entry.proofs.Removal.AfterLemmas.{locked_is}
-use Rattle.afr_client_entry.proofs.Removal.Facts.{apart, common_left, is_busy}
-use Rattle.afr_client_entry.specs.Removal.Removal.{Removing, answered, begun, both_held, brick_at, left_in, moved, request_at, unlocks, untouched, whole}
-use Rattle.afr_client_entry.specs.Removal.Sound.{During, IsAsking, Sound}
+use Rattle.afr_client_entry.proofs.Removals.AfterLemmas.{locked_is}
+use Rattle.afr_client_entry.proofs.Removals.Facts.{apart, common_left, is_busy}
+use Rattle.afr_client_entry.specs.Removals.Removal.{Removing, answered, begun, both_held, brick_at, left_in, moved, request_at, unlocks, untouched, whole}
+use Rattle.afr_client_entry.specs.Removals.Sound.{During, IsAsking, Sound}
 use Rattle.afr_client_entry.specs.declared.removing.child.Child.{Child}
 use Rattle.afr_client_entry.specs.declared.removing.stage.RemovalEnding.{RemovalEnding}
 use Rattle.afr_client_entry.specs.declared.removing.stage.RemovalStage.TheVariants.{Applying, Beginning, Closing, Listing, Locking, Looking, Posting, Preparing}

@@ -5,7 +5,7 @@ use Rattle.afr_base.specs.Bricks.{added, and_right, common, member, minus, remov
 use Rattle.afr_base.specs.SetLemmas.{member_added, member_minus, member_removed}
 use Rattle.afr_counting.proofs.Counts.{count_falls, count_less}
 use Rattle.afr_law_pace.specs.Left.{count}
-use Rattle.afr_client_entry.proofs.Removal.Facts.{common_left, common_right}
+use Rattle.afr_client_entry.proofs.Removals.Facts.{common_left, common_right}
 
 -- what is left is no more where the set is no larger
 pub left_less : (n : ℕ) (s s' t : List ℕ) → ((x : ℕ) → member s' x ≡ true → member s x ≡ true) → count n (minus s' t) ≤ count n (minus s t)

@@ -9,7 +9,7 @@ use Rattle.afr_lines.specs.declared.answer.Answer.{Answer}
 use Rattle.afr_lines.specs.declared.answer.Answer.TheVariants as answer
 use Rattle.afr_object.specs.declared.change.Change.{Change}
 use Rattle.afr_law_pace.proofs.Nearer.{most}
-use Rattle.afr_client_entry.specs.Removal.Removal.{against, gone_on, has_takers, left_in, listed, or_close}
+use Rattle.afr_client_entry.specs.Removals.Removal.{against, gone_on, has_takers, left_in, listed, or_close}
 use Rattle.afr_client_entry.specs.declared.removing.child.Child.{Child}
 use Rattle.afr_client_entry.specs.declared.removing.stage.RemovalEnding.{RemovalEnding}
 use Rattle.afr_client_entry.specs.declared.removing.stage.RemovalEnding.TheVariants.{Counted, Failed, NoQuorum, NotEmpty}

@@ -18,9 +18,9 @@ use Rattle.afr_model_moves.specs.Note.{is_failed, is_held}
 use Rattle.afr_law_pace.proofs.Nearer.{step_of}
 use Rattle.afr_law_pace.specs.Left.{FitsAnUnlock, asks_again}
 use Rattle.afr_lines.specs.declared.lock.Domain.TheVariants.{Work}
-use Rattle.afr_client_entry.specs.Removal.Removal as removal
-use Rattle.afr_client_entry.specs.Removal.Removal.{Removing}
-use Rattle.afr_client_entry.specs.Removal.Sound as removing
+use Rattle.afr_client_entry.specs.Removals.Removal as removal
+use Rattle.afr_client_entry.specs.Removals.Removal.{Removing}
+use Rattle.afr_client_entry.specs.Removals.Sound as removing
 use Rattle.afr_client_entry.specs.declared.removing.stage.RemovalStage.TheVariants as removes
 use Rattle.afr_client_entry.specs.declared.removing.stage.RemovalStage.{RemovalStage}
 use Rattle.afr_lines.specs.Areas.{area_for}

@@ -45,8 +45,8 @@ use Rattle.afr_law_pace.specs.Lookups.{read_left}
 use Rattle.afr_law_pace.specs.Writes.{Asks, FitsWrite, again_at, whole_change, write_left}
 use Rattle.afr_plan.specs.declared.command.Command.TheVariants as command
 use Rattle.afr_lines.specs.declared.lock.Domain.TheVariants.{Work}
-use Rattle.afr_client_entry.specs.Removal.Removal as removal
-use Rattle.afr_client_entry.specs.Removal.Removal.{Removing}
+use Rattle.afr_client_entry.specs.Removals.Removal as removal
+use Rattle.afr_client_entry.specs.Removals.Removal.{Removing}
 use Rattle.afr_client_entry.specs.declared.removing.stage.RemovalStage.TheVariants as removes
 use Rattle.afr_client_entry.specs.declared.removing.stage.RemovalStage.{RemovalStage}
 use Rattle.afr_client_transaction.specs.Outcome.{outcome_of, reply_of}

@@ -16,7 +16,7 @@ use Rattle.afr_lines.specs.declared.line.Heard.TheVariants as heard
 use Rattle.afr_law_pace.specs.Left.{FitsAnUnlock, asks_again, lines_left}
 use Rattle.afr_law_pace.specs.Entry.Removals.{FitsRemoval, removal_again, removal_left}
 use Rattle.afr_law_pace.specs.Walks.{walk_left}
-use Rattle.afr_client_entry.specs.Removal.Sound as removal
+use Rattle.afr_client_entry.specs.Removals.Sound as removal
 use Rattle.afr_client_entry.specs.declared.removing.stage.RemovalStage.TheVariants as removes
 use Rattle.afr_client_transaction.specs.Progress.{TransactionProgress}
 use Rattle.afr_client_transaction.specs.Sound.{IsAsking}

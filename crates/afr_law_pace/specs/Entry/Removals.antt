@@ -10,8 +10,8 @@ use Rattle.afr_lines.specs.declared.answer.Told.{Told}
 use Rattle.afr_model_moves.specs.Note.{is_failed, is_held}
 use Rattle.afr_object.specs.declared.change.Change.{Change}
 use Rattle.afr_law_pace.specs.Left.{count}
-use Rattle.afr_client_entry.specs.Removal.Removal.{Removing, answered, begun, left_in, removing}
-use Rattle.afr_client_entry.specs.Removal.Sound.{IsAsking, Sound}
+use Rattle.afr_client_entry.specs.Removals.Removal.{Removing, answered, begun, left_in, removing}
+use Rattle.afr_client_entry.specs.Removals.Sound.{IsAsking, Sound}
 use Rattle.afr_client_entry.specs.declared.removing.child.Child.{Child}
 use Rattle.afr_client_entry.specs.declared.removing.stage.RemovalStage.TheVariants.{Applying, Beginning, Closing, Listing, Locking, Looking, Posting, Preparing}
 use Rattle.afr_client_entry.specs.declared.removing.stage.RemovalStage.{RemovalStage}

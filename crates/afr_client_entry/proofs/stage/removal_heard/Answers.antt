@@ -1,7 +1,7 @@
 use Rattle.std.proofs.Common.{List, subst, ◌∙◌}
 use Rattle.afr_rule.specs.declared.candidate.Candidate.{Candidate}
 use Rattle.afr_client_walk.specs.Choosing.{RuleAnswers, reader_of}
-use Rattle.afr_client_entry.proofs.Removal.NoteLemmas.{asks_elsewhere}
+use Rattle.afr_client_entry.proofs.Removals.NoteLemmas.{asks_elsewhere}
 use Rattle.afr_client_entry.proofs.HeardLemmas.{removing_offers, removing_told}
 use Rattle.afr_client_entry.proofs.stage.removal_heard.Goals as goal
 

@@ -1,5 +1,5 @@
-use Rattle.afr_client_entry.proofs.Removal.AllowedLemmas.{allowed_moves}
-use Rattle.afr_client_entry.proofs.Removal.KeptLemmas.{begins_sound, stays_sound}
+use Rattle.afr_client_entry.proofs.Removals.AllowedLemmas.{allowed_moves}
+use Rattle.afr_client_entry.proofs.Removals.KeptLemmas.{begins_sound, stays_sound}
 use Rattle.afr_client_entry.proofs.removing.laws.a_removal_stays_sound.Goals as goal
 
 pub returns-clause-moves : goal.returns-clause-moves

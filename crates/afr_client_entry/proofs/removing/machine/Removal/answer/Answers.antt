@@ -1,5 +1,5 @@
-use Rattle.afr_client_entry.proofs.Removal.AllowedLemmas.{asked_is, asked_small}
-use Rattle.afr_client_entry.proofs.Removal.KeptLemmas.{answer_is, noted_outside, some_to_list}
+use Rattle.afr_client_entry.proofs.Removals.AllowedLemmas.{asked_is, asked_small}
+use Rattle.afr_client_entry.proofs.Removals.KeptLemmas.{answer_is, noted_outside, some_to_list}
 use Rattle.afr_client_entry.proofs.removing.machine.Removal.answer.Goals as goal
 
 pub note-requires-clause-small : goal.note-requires-clause-small

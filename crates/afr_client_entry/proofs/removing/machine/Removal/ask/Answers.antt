@@ -1,5 +1,5 @@
 use Rattle.std.proofs.Common.{sym, ◌∙◌}
-use Rattle.afr_client_entry.proofs.Removal.KeptLemmas.{asking_of}
+use Rattle.afr_client_entry.proofs.Removals.KeptLemmas.{asking_of}
 use Rattle.afr_client_entry.proofs.removing.machine.Removal.ask.Goals as goal
 
 pub brick-requires : goal.brick-requires

@@ -1,7 +1,7 @@
 use Rattle.std.proofs.Common.{subst}
 use Rattle.afr_lines.specs.declared.line.Next.{Next}
 use Rattle.afr_discipline.specs.Free.{Allows}
-use Rattle.afr_client_entry.proofs.Removal.AllowedLemmas.{allows_next}
+use Rattle.afr_client_entry.proofs.Removals.AllowedLemmas.{allows_next}
 use Rattle.afr_client_entry.proofs.removing.machine.Removal.asks.Goals as goal
 
 pub returns-clause-allowed : goal.returns-clause-allowed

@@ -1,4 +1,4 @@
-use Rattle.afr_client_entry.proofs.Removal.KeptLemmas.{reader_small}
+use Rattle.afr_client_entry.proofs.Removals.KeptLemmas.{reader_small}
 use Rattle.afr_client_entry.proofs.removing.machine.Removal.brick.Goals as goal
 
 pub returns-in-Listing-clause-small : goal.returns-in-Listing-clause-small

@@ -1,4 +1,4 @@
-use Rattle.afr_client_entry.proofs.Removal.KeptLemmas.{sound_first}
+use Rattle.afr_client_entry.proofs.Removals.KeptLemmas.{sound_first}
 use Rattle.afr_client_entry.proofs.removing.machine.Removal.new.Goals as goal
 
 pub invariant_of-result : goal.invariant_of-result

@@ -13,7 +13,7 @@ use Rattle.afr_client_transaction.specs.declared.stage.Stage.{Stage}
 use Rattle.afr_client_transaction.specs.declared.stage.Stage.TheVariants.{Beginning}
 use Rattle.afr_client_transaction.proofs.Parts.{both, denied}
 use Rattle.afr_client_transaction.proofs.ReadLemmas.{begins_at}
-use Rattle.afr_client_entry.specs.Removal.Sound.{IsBase, IsUnbegun}
+use Rattle.afr_client_entry.specs.Removals.Sound.{IsBase, IsUnbegun}
 
 pub base_of : (t : TransactionProgress) → Sound t → IsBase t.change t.register
 base_of t s = record {

@@ -10,7 +10,7 @@ use Rattle.afr_lines.specs.declared.request.Area.{Area}
 use Rattle.afr_discipline.specs.declared.register.Register.{Register}
 use Rattle.afr_client_transaction.specs.Progress.{enough, may_start}
 use Rattle.afr_client_transaction.specs.Sound.{Base, HasBegun, Shown}
-use Rattle.afr_client_entry.specs.Removal.Removal.{Removing, left, sources, whole}
+use Rattle.afr_client_entry.specs.Removals.Removal.{Removing, left, sources, whole}
 use Rattle.afr_client_entry.specs.declared.removing.stage.RemovalStage.{RemovalStage}
 use Rattle.afr_client_entry.specs.declared.removing.stage.RemovalStage.TheVariants.{Locking, Looking, Listing, Beginning, Preparing, Applying, Posting, Closing}
 

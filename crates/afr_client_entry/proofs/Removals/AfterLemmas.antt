@@ -21,7 +21,7 @@ use Rattle.afr_client_transaction.specs.Progress.{enough}
 use Rattle.afr_client_transaction.specs.Sound.{HasBegun, Shown}
 use Rattle.afr_client_transaction.proofs.Parts.{base_done, base_gone, base_left, base_pre, base_shown, shown_look, shown_loss}
 use Rattle.afr_client_transaction.proofs.Requests.{after_by, after_outside, locked_w}
-use Rattle.afr_client_entry.specs.Removal.Sound.{Areas, HasAreas, IsBase, IsUnbegun}
+use Rattle.afr_client_entry.specs.Removals.Sound.{Areas, HasAreas, IsBase, IsUnbegun}
 
 -- a session has ended: its lock of the child is gone
 areas_gone : (change : Change) (child : Area) (n : ℕ) (area second : Option Area) (held : List ℕ) → Areas change child n area second held → (b : ℕ) → Areas change child n area second (removed b held)

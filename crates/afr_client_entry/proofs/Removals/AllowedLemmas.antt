@@ -34,14 +34,14 @@ use Rattle.afr_client_transaction.proofs.Allowed.{moves_of, on_plane, once_is, o
 use Rattle.afr_client_transaction.proofs.Parts.{any_nothing, both, deny, holder_shows, lt_test, pair}
 use Rattle.afr_discipline.specs.Free as free
 use Rattle.afr_discipline.specs.Free.{Allows}
-use Rattle.afr_client_entry.specs.Removal.Laws.{AllowedMoves}
-use Rattle.afr_client_entry.specs.Removal.Removal.{Removing, asks, brick_at, is_beginning, is_over, left, next_at, reply_of, request_at, sources, whole}
-use Rattle.afr_client_entry.specs.Removal.Sound.{During, Ready, Sound}
+use Rattle.afr_client_entry.specs.Removals.Laws.{AllowedMoves}
+use Rattle.afr_client_entry.specs.Removals.Removal.{Removing, asks, brick_at, is_beginning, is_over, left, next_at, reply_of, request_at, sources, whole}
+use Rattle.afr_client_entry.specs.Removals.Sound.{During, Ready, Sound}
 use Rattle.afr_client_entry.specs.declared.removing.stage.RemovalEnding.{RemovalEnding}
 use Rattle.afr_client_entry.specs.declared.removing.stage.RemovalEnding.TheVariants.{Counted, NoQuorum, FewCopies, SplitBrain, NotEmpty, Failed}
 use Rattle.afr_client_entry.specs.declared.removing.stage.RemovalStage.{RemovalStage}
 use Rattle.afr_client_entry.specs.declared.removing.stage.RemovalStage.TheVariants.{Locking, Looking, Listing, Beginning, Preparing, Applying, Posting, Closing}
-use Rattle.afr_client_entry.proofs.Removal.Facts.{is_busy, list_asked, lock_asked, look_asked, of_names, suits}
+use Rattle.afr_client_entry.proofs.Removals.Facts.{is_busy, list_asked, lock_asked, look_asked, of_names, suits}
 
 -- the child's area is open to a transaction that has none other
 one_more : (x : Bool) (child : Area) (second : Option Area) (held : List ℕ) → ((second ≡ None) × (held ≡ [])) ⊎ (second ≡ Some child) → (x || is_open second || is_area second child) ≡ true

@@ -8,8 +8,8 @@ use Rattle.afr_discipline.specs.Stands.{seen_as}
 use Rattle.afr_discipline.specs.declared.register.Move.{Move}
 use Rattle.afr_client_transaction.specs.Laws.{IsMoveOf}
 use Rattle.afr_client_walk.specs.Choosing.{IsAmong}
-use Rattle.afr_client_entry.specs.Removal.Removal.{Removing, answered, begun, choices_at, is_beginning, is_over, next_at}
-use Rattle.afr_client_entry.specs.Removal.Sound.{Sound}
+use Rattle.afr_client_entry.specs.Removals.Removal.{Removing, answered, begun, choices_at, is_beginning, is_over, next_at}
+use Rattle.afr_client_entry.specs.Removals.Sound.{Sound}
 
 -- the discipline's own test passes the move of the next line
 abbrev pub AllowedMoves : Type 0

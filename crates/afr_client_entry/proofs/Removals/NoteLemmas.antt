@@ -8,7 +8,7 @@ use Rattle.afr_lines.specs.declared.line.Next.TheVariants as next
 use Rattle.afr_lines.specs.declared.request.Request.{Request}
 use Rattle.afr_discipline.specs.Notes.{noted_ask}
 use Rattle.afr_client_transaction.proofs.NoteLemmas.{noted_as}
-use Rattle.afr_client_entry.specs.Removal.Removal.{Removing, answered, asks, brick_at, is_beginning, is_over, next_at, reply_of, request_at}
+use Rattle.afr_client_entry.specs.Removals.Removal.{Removing, answered, asks, brick_at, is_beginning, is_over, next_at, reply_of, request_at}
 use Rattle.afr_client_entry.specs.declared.removing.stage.RemovalStage.{RemovalStage}
 use Rattle.afr_client_entry.specs.declared.removing.stage.RemovalStage.TheVariants.{Locking, Looking, Listing, Beginning, Preparing, Applying, Posting, Closing}
 

@@ -36,16 +36,16 @@ use Rattle.afr_rule.specs.Choosing.{Calls}
 use Rattle.afr_rule.specs.declared.candidate.Candidate.{Candidate}
 use Rattle.afr_client_walk.specs.Choosing.{IsAmong, RuleAnswers, reader_of}
 use Rattle.afr_client_walk.proofs.ChoosingLemmas.{among_good, answers_among, some_among}
-use Rattle.afr_client_entry.specs.Removal.Laws.{BeginsSound, StaysSound}
-use Rattle.afr_client_entry.specs.Removal.Removal.{Removing, after, against, answered, begun, both_held, brick_at, child_after, child_reads, choices_at, choices_in, gone_on, has_takers, is_beginning, is_over, left, listed, moved, offered, offered_after, on_stage, or_close, reads_at, register_after, removing, request_at, sets_after, stage_after, takers_of, unlocks, untouched, whole}
-use Rattle.afr_client_entry.specs.Removal.Sound.{During, HasAreas, HasTakers, IsAsking, IsBase, IsRemoval, IsUnbegun, Ready, Sound}
+use Rattle.afr_client_entry.specs.Removals.Laws.{BeginsSound, StaysSound}
+use Rattle.afr_client_entry.specs.Removals.Removal.{Removing, after, against, answered, begun, both_held, brick_at, child_after, child_reads, choices_at, choices_in, gone_on, has_takers, is_beginning, is_over, left, listed, moved, offered, offered_after, on_stage, or_close, reads_at, register_after, removing, request_at, sets_after, stage_after, takers_of, unlocks, untouched, whole}
+use Rattle.afr_client_entry.specs.Removals.Sound.{During, HasAreas, HasTakers, IsAsking, IsBase, IsRemoval, IsUnbegun, Ready, Sound}
 use Rattle.afr_client_entry.specs.declared.removing.child.Child.{Child}
 use Rattle.afr_client_entry.specs.declared.removing.stage.RemovalEnding.{RemovalEnding}
 use Rattle.afr_client_entry.specs.declared.removing.stage.RemovalEnding.TheVariants.{Counted, NoQuorum, FewCopies, SplitBrain, NotEmpty, Failed}
 use Rattle.afr_client_entry.specs.declared.removing.stage.RemovalStage.{RemovalStage}
 use Rattle.afr_client_entry.specs.declared.removing.stage.RemovalStage.TheVariants.{Locking, Looking, Listing, Beginning, Preparing, Applying, Posting, Closing}
-use Rattle.afr_client_entry.proofs.Removal.AfterLemmas.{apply_areas, apply_base, apply_begun, apply_enough, child_shown, list_areas, list_base, lock_areas, lock_base, lock_unbegun, locked_is, look_areas, look_base, look_unbegun, post_areas, post_base, post_begun, post_enough, pre_areas, pre_base, pre_begun, unlock_areas, unlock_base}
-use Rattle.afr_client_entry.proofs.Removal.Facts.{apart, common_left, common_right, is_busy, list_asked, lock_asked, look_asked, some_takers}
+use Rattle.afr_client_entry.proofs.Removals.AfterLemmas.{apply_areas, apply_base, apply_begun, apply_enough, child_shown, list_areas, list_base, lock_areas, lock_base, lock_unbegun, locked_is, look_areas, look_base, look_unbegun, post_areas, post_base, post_begun, post_enough, pre_areas, pre_base, pre_begun, unlock_areas, unlock_base}
+use Rattle.afr_client_entry.proofs.Removals.Facts.{apart, common_left, common_right, is_busy, list_asked, lock_asked, look_asked, some_takers}
 
 -- ---- the copy that is listed
 -- where the looks rule nothing out, there is a good copy

@@ -18,8 +18,8 @@ use Rattle.afr_discipline.specs.declared.register.Register.{Register}
 use Rattle.afr_client_transaction.specs.Sound.{Shown, Suits}
 use Rattle.afr_client_transaction.proofs.Parts.{some_of_most}
 use Rattle.afr_client_transaction.proofs.Kept.{most_of}
-use Rattle.afr_client_entry.specs.Removal.Removal.{Removing, both_held, has_takers, left, sources, takers_of}
-use Rattle.afr_client_entry.specs.Removal.Sound.{IsRemoval}
+use Rattle.afr_client_entry.specs.Removals.Removal.{Removing, both_held, has_takers, left, sources, takers_of}
+use Rattle.afr_client_entry.specs.Removals.Sound.{IsRemoval}
 use Rattle.afr_client_entry.specs.declared.removing.stage.RemovalStage.TheVariants.{Locking, Looking}
 
 -- ---- the change
