@@ -37,7 +37,7 @@ use Rattle.afr_server.specs.Serving.{HasEpoch, Serving, has_session, in_way, is_
 use Rattle.afr_session.specs.Links.{is_reached, link_of}
 use Rattle.afr_servers.proofs.PlaceLemmas.{stands}
 use Rattle.afr_servers.specs.Found.{epoch_at}
-use Rattle.afr_servers.specs.Needs.{CanCount, CanServe, CarriesByTheLog, HasRoom, IsCoveredThere, IsReadOfTables, NeedsAreMet, RangesCanBeLocked, AnswersAreRead, asking, change_for, is_read, would_carry}
+use Rattle.afr_servers.specs.Needs.{CanCount, CanServe, CarriesByTheLog, HasRoom, IsCoveredThere, IsReadOfTables, NeedsAreMet, RangesCanBeLocked, AnswersAreRead, change_for, is_read, would_carry}
 
 -- ---- whether a request is carried out
 carried_by : (p : Plan) (log : List Line) (a : ActorId) (b : BrickId) (r : Request) (live : Bool) (s : Serving) → IsServed p log b.0 s → is_live p a b.0 (asking a b r) log ≡ live → is_carried_out live (next_fault s.faults) ≡ would_carry p a b r log
