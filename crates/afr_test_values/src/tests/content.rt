@@ -61,7 +61,10 @@ fn the_last_byte_alone_has_the_last_page_alone(rt: HostRuntime) {
     let mut content = Content::new(rt.alloc());
     assert!(rt; content.write_at(1_048_575, b"z").is_ok());
     for number in 0u32..256 {
-        assert!(rt; content.has_page(number) == (number == 255), "page {number}");
+        assert!(rt;
+            content.has_page(number) == (number == 255),
+            "page {number}"
+        );
     }
     let mut seen = [b'-'; 3];
     assert_eq!(rt; content.read(1_048_573, &mut seen), 3);
