@@ -1,4 +1,4 @@
-//! Tests of afr_client_entry, in a crate of their own, so that it is not proved twice.
+//! Tests of commands on a name of a directory.
 
 #[cfg(test)]
 mod tests;

@@ -1,4 +1,4 @@
-//! Tests of afr_client_walk, in a crate of their own, so that it is not proved twice.
+//! Tests of a client's machines, with the answers of three bricks: a walk, a read, a change, a name, a rename, and its present work.
 #![tactic(auto)]
 
 #[cfg(test)]

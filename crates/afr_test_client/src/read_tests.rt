@@ -1,4 +1,4 @@
-//! Tests of afr_client_read, in a crate of their own, so that it is not proved twice.
+//! Tests of commands that read an object.
 
 #[cfg(test)]
 mod tests;

@@ -1,4 +1,4 @@
-//! Tests of afr_client_rename, in a crate of their own, so that it is not proved twice.
+//! Tests of renames.
 
 #[cfg(test)]
 mod tests;

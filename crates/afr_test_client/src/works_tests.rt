@@ -1,4 +1,4 @@
-//! Tests of afr_client, in a crate of their own, so that it is not proved twice.
+//! Tests of a client's present work, whichever command it is of.
 
 #[cfg(test)]
 mod tests;

@@ -1,4 +1,4 @@
-//! Tests of afr_report and afr_report, in a crate of their own, so that these are not proved twice.
+//! Tests of reports, of their summaries, and of traces.
 #![tactic(auto)]
 
 #[cfg(test)]

@@ -1,4 +1,4 @@
-//! Tests of afr_brick, in a crate of their own, so that it is not proved twice.
+//! Tests of one brick, of its server, and of all servers of a volume.
 #![tactic(auto)]
 
 #[cfg(test)]

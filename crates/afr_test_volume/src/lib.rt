@@ -1,4 +1,4 @@
-//! Tests of afr_volume, in a crate of their own, so that it is not proved twice.
+//! Tests of the volume, by its turns and events.
 #![tactic(auto)]
 
 #[cfg(test)]
