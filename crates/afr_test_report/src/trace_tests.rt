@@ -1,4 +1,4 @@
-//! Tests of afr_report_trace, in a crate of their own, so that it is not proved twice.
+//! Tests of the text of traces.
 
 #[cfg(test)]
 mod lines;

@@ -1,4 +1,4 @@
-//! Tests of the volume, by its turns and events.
+//! Tests of the volume: a write and a read, and a round over an empty index, line by line.
 #![tactic(auto)]
 
 #[cfg(test)]
