@@ -262,7 +262,7 @@ module _ (p : Plan) (w : Work) (m : TransactionProgress) (t : Tells p w m) where
     looked = λ h seen free. looked_is d h seen free ((object_of m.change).0 == h.0) refl;
     locked = λ area whole asked. locked_is d area asked (same_area area (area_for m.change)) refl;
     child = λ rmdir. absurd (cc (rmdir, plain));
-    suffices_by = carried_is c plain d;
+    carried = carried_is c plain d;
   }
 
 -- ---- the laws
