@@ -68,7 +68,7 @@ fn the_last_byte_alone_has_the_last_page_alone(rt: HostRuntime) {
     }
     let mut seen = [b'-'; 3];
     assert_eq!(rt; content.read(1_048_573, &mut seen), 3);
-    assert_eq!(rt; seen.as_slice(), b"\0\0z");
+    assert_eq!(rt; seen.as_slice(), b"\0\0z".as_slice());
     content.cut(1_044_481);
     assert!(rt; content.has_page(255));
     content.cut(1_044_480);
@@ -86,7 +86,7 @@ fn a_write_over_a_border_stands_in_both_pages(rt: HostRuntime) {
     }
     let mut seen = [b'-'; 6];
     assert_eq!(rt; content.read(8_189, &mut seen), 5);
-    assert_eq!(rt; seen.as_slice(), b"\0abcd-");
+    assert_eq!(rt; seen.as_slice(), b"\0abcd-".as_slice());
     assert_eq!(rt; content.read(4_089, &mut seen), 6);
-    assert_eq!(rt; seen.as_slice(), b"\0xy\0\0\0");
+    assert_eq!(rt; seen.as_slice(), b"\0xy\0\0\0".as_slice());
 }
