@@ -1,2 +1,7 @@
 mod ApartLemmas
+mod ConflictLemmas
+mod GrantedLemmas
+mod KeyLemmas
 mod NumberLemmas
+mod ReachLemmas
+mod ReleaseLemmas
