@@ -37,7 +37,7 @@ module _ {A : Type 0} where
 
   fresh_kept : (p : Key × HeldLock A → Bool) (entries : List (Key × HeldLock A)) → AreFresh entries → AreFresh (filter p entries)
   fresh_kept p [] h = tt
-  fresh_kept p (e ∷ entries) h = fresh_one e (filter p entries) (p e) (all_kept (λ x. eqb e.0.grant x.0.grant ≡ false) p entries h.0) (fresh_kept p entries h.1)
+  fresh_kept p (e ∷ entries) h = fresh_one e (filter p entries) (p e) (all_kept (λ (x : Key × HeldLock A). eqb e.0.grant x.0.grant ≡ false) p entries h.0) (fresh_kept p entries h.1)
 
   -- by whether an entry is kept, and by whether it has the number
   at_one : (p : HeldLock A → Bool) (lock : HeldLock A) (left all : List (HeldLock A)) (here : Bool) → left ≡ filter p all
@@ -147,3 +147,7 @@ module _ {A : Type 0} (at : A → Place) (next : ℕ) where
         fresh = all_fresh k lock entries low t.fresh;
         apart = subst (AreApart overlap) (sym (granted-filed k lock entries low)) apart;
       }
+
+pub table_empty : {A : Type 0} (overlap : A → A → Bool) (at : A → Place) (entries : List (Key × HeldLock A)) → entries ≡ [] → IsTable overlap at 0 entries
+table_empty {A} overlap at entries none =
+    subst (λ (x : List (Key × HeldLock A)). IsTable overlap at 0 x) (sym none) (record { filed = tt; fresh = tt; apart = λ i j d less small. absurd (omega (arith, small)) })

@@ -1,5 +1,6 @@
 mod ApartLemmas
 mod ConflictLemmas
+mod EarlierLemmas
 mod GrantedLemmas
 mod KeyLemmas
 mod NumberLemmas

@@ -10,7 +10,8 @@ use Rattle.afr_lines.specs.Locks.{conflicts, first_conflict, same_domain}
 use Rattle.afr_lines.specs.declared.lock.Domain.{Domain}
 use Rattle.afr_lines.specs.declared.lock.Domain.TheVariants.{Work, Heal}
 use Rattle.afr_lines.specs.declared.lock.HeldLock.{HeldLock}
-use Rattle.afr_range_locks.proofs.ConflictLemmas.{either, owner_first, weaker}
+use Rattle.afr_range_locks.proofs.ConflictLemmas.{owner_first}
+use Rattle.afr_range_locks.proofs.EarlierLemmas.{earlier_of, earlier_swap, either_search}
 use Rattle.afr_range_locks.proofs.GrantedLemmas.{all_kept, all_mapped, are_lower}
 use Rattle.afr_range_locks.proofs.KeyLemmas.{span_contains}
 use Rattle.afr_range_locks.specs.Granted.{AreFresh, IsFiled, IsFresh, conflict_at, conflict_of, domain_number, earlier, first_granted, granted, in_second, in_span, key_cmp, key_of, owner_of}
@@ -20,61 +21,6 @@ use Rattle.afr_range_locks.specs.declared.lockable.Reach.{Reach}
 use Rattle.afr_range_locks.specs.declared.lockable.Span.{Span}
 use Rattle.afr_range_locks.specs.declared.table.Conflict.{Conflict}
 use Rattle.afr_range_locks.specs.declared.table.Key.{Key}
-
--- ---- the earlier one of two conflicts
-
-pub earlier_assoc : (a b c : Option Conflict) → earlier (earlier a b) c ≡ earlier a (earlier b c)
-earlier_assoc None b c = refl
-earlier_assoc (Some a) None c = refl
-earlier_assoc (Some a) (Some b) None = go (ltb b.grant a.grant)
-  where
-    go : (t : Bool) → earlier (if t then Some b else Some a) None ≡ (if t then Some b else Some a)
-    go true = refl
-    go false = refl
-earlier_assoc (Some a) (Some b) (Some c) = go (ltb b.grant a.grant) (ltb c.grant b.grant) refl refl
-  where
-    go : (t u : Bool) → ltb b.grant a.grant ≡ t → ltb c.grant b.grant ≡ u → earlier (if t then Some b else Some a) (Some c) ≡ earlier (Some a) (if u then Some c else Some b)
-    go true true ba cb = let ca : ltb c.grant a.grant ≡ true = grind (arith, nat_tests, ba, cb) in rw (cb, ca) refl
-    go true false ba cb = rw (cb, ba) refl
-    go false true ba cb = refl
-    go false false ba cb = let ca : ltb c.grant a.grant ≡ false = grind (arith, nat_tests, ba, cb) in rw (ca, ba) refl
-
--- where the two have different numbers, the order of the two doesn't matter
-earlier_swap : (a b : Option Conflict) → IfSome a (λ x. IfSome b (λ y. eqb x.grant y.grant ≡ false)) → earlier a b ≡ earlier b a
-earlier_swap None None h = refl
-earlier_swap None (Some b) h = refl
-earlier_swap (Some a) None h = refl
-earlier_swap (Some a) (Some b) h = go (ltb b.grant a.grant) (ltb a.grant b.grant) refl refl
-  where
-    go : (t u : Bool) → ltb b.grant a.grant ≡ t → ltb a.grant b.grant ≡ u → (if t then Some b else Some a) ≡ (if u then Some a else Some b)
-    go true true ba ab = absurd (grind (arith, nat_tests, ba, ab))
-    go true false ba ab = refl
-    go false true ba ab = refl
-    go false false ba ab = absurd (grind (arith, nat_tests, ba, ab, h))
-
-earlier_itself : (c : Option Conflict) → earlier c c ≡ c
-earlier_itself None = refl
-earlier_itself (Some c) = let same : ltb c.grant c.grant ≡ false = grind (arith, nat_tests) in rw same refl
-
-past : (c x y : Option Conflict) → earlier c x ≡ earlier x c → earlier x (earlier c y) ≡ earlier c (earlier x y)
-past c x y swap = sym (earlier_assoc x c y) ∙ ap (λ (z : Option Conflict). earlier z y) (sym swap) ∙ earlier_assoc c x y
-
--- one that is looked at in either of two searches, or in both
-either_search : (a b : Bool) (c x y : Option Conflict) → earlier c x ≡ earlier x c → (a || b) ≡ true → earlier c (earlier x y) ≡ earlier (if a then earlier c x else x) (if b then earlier c y else y)
-either_search true true c x y swap some =
-    ap (λ (z : Option Conflict). earlier z (earlier x y)) (sym (earlier_itself c)) ∙ earlier_assoc c c (earlier x y) ∙ ap (earlier c) (sym (past c x y swap)) ∙ sym (earlier_assoc c x (earlier c y))
-either_search true false c x y swap some = sym (earlier_assoc c x y)
-either_search false true c x y swap some = sym (past c x y swap)
-either_search false false c x y swap some = absurd (cc)
-
-earlier_of : (P : Conflict → Type 0) (a b : Option Conflict) → IfSome a P → IfSome b P → IfSome (earlier a b) P
-earlier_of P None b ha hb = hb
-earlier_of P (Some a) None ha hb = ha
-earlier_of P (Some a) (Some b) ha hb = go (ltb b.grant a.grant)
-  where
-    go : (t : Bool) → IfSome (if t then Some b else Some a) P
-    go true = hb
-    go false = ha
 
 module _ {A : Type 0} (overlap : A → A → Bool) (wanted : HeldLock A) where
   fresh_at : (n : ℕ) (e : Key × HeldLock A) → eqb n e.0.grant ≡ false → IfSome (conflict_at overlap wanted e) (λ (c : Conflict). eqb n c.grant ≡ false)
@@ -120,7 +66,7 @@ module _ {A : Type 0} (overlap : A → A → Bool) (wanted : HeldLock A) where
       let x = first_granted overlap wanted (filter p entries) in
       let y = first_granted overlap wanted (filter q entries) in
       ap (earlier (conflict_at overlap wanted e)) (two_searches p q entries fresh.1 reach.1)
-          ∙ one_more e (p e) (q e) x y (fresh_first e.0.grant (filter p entries) (all_kept (λ f. eqb e.0.grant f.0.grant ≡ false) p entries fresh.0)) reach.0
+          ∙ one_more e (p e) (q e) x y (fresh_first e.0.grant (filter p entries) (all_kept (λ (f : Key × HeldLock A). eqb e.0.grant f.0.grant ≡ false) p entries fresh.0)) reach.0
           ∙ sym (ap₂ earlier (kept_first e (filter p entries) (p e)) (kept_first e (filter q entries) (q e)))
 
 -- ---- which entries a search looks at
@@ -187,12 +133,8 @@ module _ {A : Type 0} (overlap : A → A → Bool) (at : A → Place) (wanted : 
       → owner_of (earlier (first_granted overlap wanted (in_span wanted.domain (at wanted.area).gfid reach.first next entries)) (first_granted overlap wanted (in_second wanted.domain (at wanted.area).gfid reach.second next entries)))
           ≡ first_conflict overlap wanted (granted next entries)
   found_first entries filed fresh =
-      let p = span_test wanted.domain (at wanted.area).gfid next reach.first in
-      let q = second_test wanted.domain (at wanted.area).gfid next reach.second in
+      let p : Key × HeldLock A → Bool = span_test wanted.domain (at wanted.area).gfid next reach.first in
+      let q : Key × HeldLock A → Bool = second_test wanted.domain (at wanted.area).gfid next reach.second in
       ap owner_of (ap (λ (x : List (Key × HeldLock A)). earlier (first_granted overlap wanted (filter p entries)) (first_granted overlap wanted x)) (second_is wanted.domain (at wanted.area).gfid next reach.second entries)
           ∙ sym (two_searches overlap wanted p q entries fresh (all_mapped (IsFiled at next) (λ e. conflicts overlap wanted e.1 ≡ true → (p e || q e) ≡ true) in_reach entries filed)))
           ∙ owner_first overlap wanted next entries (are_lower at next entries filed)
-
-pub earlier_none : (a : Option Conflict) → earlier a None ≡ a
-earlier_none None = refl
-earlier_none (Some a) = refl

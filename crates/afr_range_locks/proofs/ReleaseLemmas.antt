@@ -13,14 +13,13 @@ use Rattle.std.specs.declared.ops.Bound.TheVariants.{Included, Excluded}
 use Rattle.afr_lines.specs.Locks.{is_lock, same_domain}
 use Rattle.afr_lines.specs.declared.lock.Domain.{Domain}
 use Rattle.afr_lines.specs.declared.lock.HeldLock.{HeldLock}
-use Rattle.afr_range_locks.proofs.GrantedLemmas.{all_mapped}
 use Rattle.afr_range_locks.proofs.KeyLemmas.{at_place_contains, granted_later, key_itself, not_before}
 use Rattle.afr_range_locks.proofs.ReachLemmas.{domain_same, last_two}
 use Rattle.afr_range_locks.specs.Granted.{IsFiled, at_place, first_equal, key_cmp, key_of}
 use Rattle.afr_range_locks.specs.declared.lockable.Place.{Place}
 use Rattle.afr_range_locks.specs.declared.table.Key.{Key}
 
-pub all_removed : {X : Type 0} (P : Key × X → Type 0) (test : Key → Bool) (xs : List (Key × X)) → AllByRecursion P xs → AllByRecursion P (remove_entry test xs)
+all_removed : {X : Type 0} (P : Key × X → Type 0) (test : Key → Bool) (xs : List (Key × X)) → AllByRecursion P xs → AllByRecursion P (remove_entry test xs)
 all_removed P test [] h = tt
 all_removed P test (x ∷ xs) h = go (test x.0) (all_removed P test xs h.1)
   where
@@ -30,14 +29,14 @@ all_removed P test (x ∷ xs) h = go (test x.0) (all_removed P test xs h.1)
 
 module _ {A : Type 0} (same : A → A → Bool) (one : HeldLock A) where
   -- what taking out the entry of a key does
-  pub record Takes (next : ℕ) (k : Key) (entries : List (Key × HeldLock A)) : Type 0 where
-    pub left : filter (λ e. not (is_lock same one e.1)) (remove_entry (is_at (key_cmp k)) entries) ≡ filter (λ e. not (is_lock same one e.1)) entries
-    pub from : AllByRecursion (λ e. is_lock same one e.1 ≡ true → k.grant ≤ e.0.grant) entries
-    pub low : k.grant < next
-    pub there : is_some (lookup (is_at (key_cmp k)) entries) ≡ true
+  record Takes (next : ℕ) (k : Key) (entries : List (Key × HeldLock A)) : Type 0 where
+    left : filter (λ e. not (is_lock same one e.1)) (remove_entry (is_at (key_cmp k)) entries) ≡ filter (λ e. not (is_lock same one e.1)) entries
+    from : AllByRecursion (λ e. is_lock same one e.1 ≡ true → k.grant ≤ e.0.grant) entries
+    low : k.grant < next
+    there : is_some (lookup (is_at (key_cmp k)) entries) ≡ true
 
   -- where the search finds nothing, no equal lock is left
-  pub none_left : (p : Key × HeldLock A → Bool) (entries : List (Key × HeldLock A)) → AllByRecursion (λ e. is_lock same one e.1 ≡ true → p e ≡ true) entries → first_equal same one (filter p entries) ≡ None
+  none_left : (p : Key × HeldLock A → Bool) (entries : List (Key × HeldLock A)) → AllByRecursion (λ e. is_lock same one e.1 ≡ true → p e ≡ true) entries → first_equal same one (filter p entries) ≡ None
       → filter (λ e. not (is_lock same one e.1)) entries ≡ entries
   none_left p [] all none = refl
   none_left p (e ∷ entries) all none = go (is_lock same one e.1) (p e) refl refl none (none_left p entries all.1)
@@ -75,7 +74,7 @@ module _ {A : Type 0} (same : A → A → Bool) (one : HeldLock A) (at : A → P
   looks_at e f later is =
       subst (λ (k : Key). range_contains key_cmp (Included (key_of one.domain (at one.area) from)) (Excluded (key_of one.domain (at one.area) next)) k ≡ true) (sym (equal_key e f is)) (at_place_contains one.domain (at one.area) from next e.0.grant (later is) f.grant)
 
-  pub all_looked_at : (entries : List (Key × HeldLock A)) → AllByRecursion (IsFiled at next) entries → AllByRecursion (λ e. is_lock same one e.1 ≡ true → from ≤ e.0.grant) entries
+  all_looked_at : (entries : List (Key × HeldLock A)) → AllByRecursion (IsFiled at next) entries → AllByRecursion (λ e. is_lock same one e.1 ≡ true → from ≤ e.0.grant) entries
       → AllByRecursion (λ e. is_lock same one e.1 ≡ true → place_test e ≡ true) entries
   all_looked_at [] filed later = tt
   all_looked_at (e ∷ entries) filed later = (looks_at e filed.0 later.0, all_looked_at entries filed.1 later.1)
@@ -88,7 +87,7 @@ module _ {A : Type 0} (same : A → A → Bool) (one : HeldLock A) (at : A → P
       (λ also. let less : key_cmp (key_of one.domain (at one.area) e.0.grant) (key_of one.domain (at one.area) x.0.grant) ≡ Less = subst (λ (k : Key). key_cmp k (key_of one.domain (at one.area) x.0.grant) ≡ Less) (equal_key e f is) (subst (λ (k : Key). key_cmp e.0 k ≡ Less) (equal_key x filed.0 also) sorted.0) in
           omega (arith, granted_later one.domain (at one.area) e.0.grant x.0.grant less), behind e f is entries filed.1 sorted.1)
 
-  pub takes : (k : Key) (entries : List (Key × HeldLock A)) → AllByRecursion (IsFiled at next) entries → AllByRecursion (λ e. is_lock same one e.1 ≡ true → place_test e ≡ true) entries → IsStrictlySortedBy key_cmp (keys_of entries)
+  takes : (k : Key) (entries : List (Key × HeldLock A)) → AllByRecursion (IsFiled at next) entries → AllByRecursion (λ e. is_lock same one e.1 ≡ true → place_test e ≡ true) entries → IsStrictlySortedBy key_cmp (keys_of entries)
       → first_equal same one (filter place_test entries) ≡ Some k → Takes same one next k entries
   takes k [] filed all sorted some = absurd (cc)
   takes k (e ∷ entries) filed all sorted some =
@@ -120,6 +119,31 @@ module _ {A : Type 0} (same : A → A → Bool) (one : HeldLock A) (at : A → P
       go true false eq is some rest = let no : true ≡ false = sym (all.0 eq) ∙ is in absurd (cc)
       go false true eq is some rest = let left : first_equal same one (filter place_test entries) ≡ Some k = (rw eq at some) in further eq left (rest left)
       go false false eq is some rest = further eq some (rest some)
+
+  -- what a turn leaves
+  pub record Taken (k : Key) (entries new : List (Key × HeldLock A)) : Type 0 where
+    pub left : filter (λ e. not (is_lock same one e.1)) new ≡ filter (λ e. not (is_lock same one e.1)) entries
+    pub filed : AllByRecursion (IsFiled at next) new
+    pub later : AllByRecursion (λ e. is_lock same one e.1 ≡ true → k.grant ≤ e.0.grant) new
+    pub low : k.grant < next
+    pub there : is_some (lookup (is_at (key_cmp k)) entries) ≡ true
+
+  pub taken : (k : Key) (entries new : List (Key × HeldLock A)) → AllByRecursion (IsFiled at next) entries → AllByRecursion (λ e. is_lock same one e.1 ≡ true → from ≤ e.0.grant) entries
+      → IsStrictlySortedBy key_cmp (keys_of entries) → Some k ≡ first_equal same one (at_place one.domain (at one.area) from next entries) → new ≡ remove_entry (is_at (key_cmp k)) entries → Taken k entries new
+  taken k entries new filed later sorted first removed =
+      let t : Takes same one next k entries = takes k entries filed (all_looked_at entries filed later) sorted (sym first) in
+      subst (λ (x : List (Key × HeldLock A)). Taken k entries x) (sym removed) (record {
+        left = t.left;
+        filed = all_removed (IsFiled at next) (is_at (key_cmp k)) entries filed;
+        later = all_removed (λ (e : Key × HeldLock A). is_lock same one e.1 ≡ true → k.grant ≤ e.0.grant) (is_at (key_cmp k)) entries t.from;
+        low = t.low;
+        there = t.there;
+      })
+
+  -- where nothing is found, none was left
+  pub all_taken : (entries : List (Key × HeldLock A)) → AllByRecursion (IsFiled at next) entries → AllByRecursion (λ e. is_lock same one e.1 ≡ true → from ≤ e.0.grant) entries
+      → None ≡ first_equal same one (at_place one.domain (at one.area) from next entries) → filter (λ e. not (is_lock same one e.1)) entries ≡ entries
+  all_taken entries filed later none = none_left same one place_test entries (all_looked_at entries filed later) (sym none)
 
 pub all_from_0 : {A : Type 0} (same : A → A → Bool) (one : HeldLock A) (entries : List (Key × HeldLock A)) → AllByRecursion (λ e. is_lock same one e.1 ≡ true → 0 ≤ e.0.grant) entries
 all_from_0 same one [] = tt

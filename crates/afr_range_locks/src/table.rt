@@ -1,5 +1,5 @@
 //! The map of held locks, in the order of domain, object, start and grant.
-ghost use Rattle.std.specs.Prelude.{◌≡◌, ◌<◌, ◌≤◌, ◌^◌, not, OnOk, OnErr};
+ghost use Rattle.std.specs.Prelude.{◌≡◌, ◌<◌, ◌≤◌, ◌^◌, true, not, OnOk, OnErr};
 ghost use Rattle.std.specs.BTreeMap.{IsOrdered, insert_entry};
 ghost use Rattle.std.specs.List.{AllByRecursion, filter};
 ghost use Rattle.afr_lines.specs.Locks.{conflicts, first_conflict, is_lock, same_domain};
@@ -67,6 +67,7 @@ pub(crate) fn blocked_by<A: Lockable>(
 }
 
 /// The conflict that was granted first, of those that start in a span.
+#[tactic(auto, using(crate::proofs::EarlierLemmas::earlier_assoc, crate::proofs::EarlierLemmas::earlier_none, crate::proofs::KeyLemmas::span_forward))]
 fn first_in<A: Lockable>(
     locks: &Locks<A>,
     next: u64,
@@ -182,6 +183,7 @@ pub(crate) fn release<A: Lockable>(locks: &mut Locks<A>, next: u64, held: &HeldL
 }
 
 /// The key of the first equal lock whose grant number isn't below `from`.
+#[tactic(auto, using(crate::proofs::KeyLemmas::at_place_forward))]
 fn first_equal<A: Lockable>(
     locks: &Locks<A>,
     next: u64,
@@ -191,6 +193,7 @@ fn first_equal<A: Lockable>(
     requires { from ≤ next }
     ensures first { result ≡ first_equal A.same held.now (at_place held.now.domain (A.at held.now.area) from next locks.now.entries) }
     ensures order { IsOrdered key_cmp locks.now }
+    ensures place { (other : _) → A.same held.now.area other ≡ true → A.at other ≡ A.at held.now.area }
 {
     let place = held.area.place();
     let low = key_of(held.domain, place, from);
