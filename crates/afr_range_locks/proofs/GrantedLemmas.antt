@@ -1,5 +1,5 @@
 -- The list of held locks in the order of their grants: what becomes of it where a lock is filed, and where some are taken out.
-use Rattle.std.proofs.Common.{◌≡◌, ℕ, zero, suc, ◌+◌, ◌<◌, ◌≤◌, ◌^◌, Bool, true, false, cond, not, List, [], ◌∷◌, ◌++◌, refl, sym, ap, ap₂, subst, ◌∙◌, arith, eqb, if◌then◌else◌}
+use Rattle.std.proofs.Common.{◌≡◌, ℕ, zero, suc, ◌+◌, ◌<◌, ◌≤◌, ◌^◌, Bool, true, false, cond, not, List, [], ◌∷◌, ◌++◌, refl, sym, ap, ap₂, subst, ◌∙◌, arith, eqb, if◌then◌else◌, None}
 use Rattle.std.proofs.lemmas.Bool.Decides.{nat_tests}
 use Rattle.std.proofs.lemmas.List.Elements.{filter-append}
 use Rattle.std.specs.BTreeMap.{insert_entry}
@@ -9,7 +9,7 @@ use Rattle.std.specs.declared.cmp.Ordering.{Ordering}
 use Rattle.std.specs.declared.cmp.Ordering.TheVariants.{Less, Equal, Greater}
 use Rattle.afr_lines.specs.Locks.{AreApart, first_conflict}
 use Rattle.afr_lines.specs.declared.lock.HeldLock.{HeldLock}
-use Rattle.afr_range_locks.proofs.ApartLemmas.{left_over}
+use Rattle.afr_range_locks.proofs.ApartLemmas.{left_over, pushed}
 use Rattle.afr_range_locks.proofs.KeyLemmas.{same_grant}
 use Rattle.afr_range_locks.specs.Granted.{AreFresh, IsFiled, IsFresh, IsTable, granted, granted_at, key_cmp, key_of}
 use Rattle.afr_range_locks.specs.declared.lockable.Place.{Place}
@@ -147,6 +147,15 @@ module _ {A : Type 0} (at : A → Place) (next : ℕ) where
         fresh = all_fresh k lock entries low t.fresh;
         apart = subst (AreApart overlap) (sym (granted-filed k lock entries low)) apart;
       }
+
+  -- a grant puts the lock at the end of the list, and leaves a table
+  pub granting : (overlap : A → A → Bool) (lock : HeldLock A) (entries new : List (Key × HeldLock A)) (after : ℕ) → IsTable overlap at next entries → first_conflict overlap lock (granted next entries) ≡ None
+      → (at lock.area).start < 2 ^ 64 → after ≡ next + 1 → new ≡ insert_entry key_cmp entries (key_of lock.domain (at lock.area) next) lock → IsTable overlap at after new × (granted after new ≡ granted next entries ++ lock ∷ [])
+  granting overlap lock entries new after t free start more filed =
+      let next_is : suc next ≡ after = omega (arith, more) in
+      subst (λ (m : ℕ). IsTable overlap at m new × (granted m new ≡ granted next entries ++ lock ∷ [])) next_is
+      (subst (λ (x : List (Key × HeldLock A)). IsTable overlap at (suc next) x × (granted (suc next) x ≡ granted next entries ++ lock ∷ [])) (sym filed)
+      (table_filed overlap lock entries start t (pushed overlap lock (granted next entries) t.apart free), granted-filed (key_of lock.domain (at lock.area) next) lock entries (are_lower entries t.filed)))
 
 pub table_empty : {A : Type 0} (overlap : A → A → Bool) (at : A → Place) (entries : List (Key × HeldLock A)) → entries ≡ [] → IsTable overlap at 0 entries
 table_empty {A} overlap at entries none =

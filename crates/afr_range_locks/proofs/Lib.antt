@@ -4,5 +4,6 @@ mod EarlierLemmas
 mod GrantedLemmas
 mod KeyLemmas
 mod NumberLemmas
+mod RangeLemmas
 mod ReachLemmas
 mod ReleaseLemmas

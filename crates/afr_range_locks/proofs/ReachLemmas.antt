@@ -129,7 +129,7 @@ module _ {A : Type 0} (overlap : A → A → Bool) (at : A → Place) (wanted : 
       reach.first reach.second (is_in reach.first (at e.1.area).start) refl (start e.1.area parts.1 begins)
 
   -- what the two searches find is the first conflict in the list
-  pub found_first : (entries : List (Key × HeldLock A)) → AllByRecursion (IsFiled at next) entries → AreFresh entries
+  found_first : (entries : List (Key × HeldLock A)) → AllByRecursion (IsFiled at next) entries → AreFresh entries
       → owner_of (earlier (first_granted overlap wanted (in_span wanted.domain (at wanted.area).gfid reach.first next entries)) (first_granted overlap wanted (in_second wanted.domain (at wanted.area).gfid reach.second next entries)))
           ≡ first_conflict overlap wanted (granted next entries)
   found_first entries filed fresh =
@@ -138,3 +138,11 @@ module _ {A : Type 0} (overlap : A → A → Bool) (at : A → Place) (wanted : 
       ap owner_of (ap (λ (x : List (Key × HeldLock A)). earlier (first_granted overlap wanted (filter p entries)) (first_granted overlap wanted x)) (second_is wanted.domain (at wanted.area).gfid next reach.second entries)
           ∙ sym (two_searches overlap wanted p q entries fresh (all_mapped (IsFiled at next) (λ e. conflicts overlap wanted e.1 ≡ true → (p e || q e) ≡ true) in_reach entries filed)))
           ∙ owner_first overlap wanted next entries (are_lower at next entries filed)
+
+  -- the same, where the place is known by an equation
+  pub found_at : (place : Place) → place ≡ at wanted.area → (entries : List (Key × HeldLock A)) → AllByRecursion (IsFiled at next) entries → AreFresh entries
+      → owner_of (earlier (first_granted overlap wanted (in_span wanted.domain place.gfid reach.first next entries)) (first_granted overlap wanted (in_second wanted.domain place.gfid reach.second next entries)))
+          ≡ first_conflict overlap wanted (granted next entries)
+  found_at place is entries filed fresh =
+      subst (λ (x : Place). owner_of (earlier (first_granted overlap wanted (in_span wanted.domain x.gfid reach.first next entries)) (first_granted overlap wanted (in_second wanted.domain x.gfid reach.second next entries))) ≡ first_conflict overlap wanted (granted next entries)) (sym is)
+      (found_first entries filed fresh)

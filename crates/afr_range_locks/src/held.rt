@@ -50,15 +50,14 @@ impl<A: Lockable> HeldLocks<A> {
         ensures held { (owner : _) → result ≡ Ok (got.Held owner) → (first_conflict A.overlap wanted self.old ≡ Some owner) × (self.new ≡ self.old) }
         ensures err { OnErr result ((first_conflict A.overlap wanted self.old ≡ None) × (self.new ≡ self.old)) }
     {
-        if let Some(owner) = blocked_by(&self.locks, self.next, &wanted) {
-            return Ok(Got::Held(owner));
+        match blocked_by(&self.locks, self.next, &wanted) {
+            Some(owner) => Ok(Got::Held(owner)),
+            None => {
+                let next = file(&mut self.locks, self.next, wanted)?;
+                self.next = next;
+                Ok(Got::Granted)
+            }
         }
-        let Some(next) = self.next.checked_add(1) else {
-            return Err(NoMemory);
-        };
-        file(&mut self.locks, self.next, wanted)?;
-        self.next = next;
-        Ok(Got::Granted)
     }
 
     /// Releases the lock as often as it was granted, and takes no memory. O(log n + k) steps on n

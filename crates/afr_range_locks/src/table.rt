@@ -1,5 +1,5 @@
 //! The map of held locks, in the order of domain, object, start and grant.
-ghost use Rattle.std.specs.Prelude.{◌≡◌, ◌<◌, ◌≤◌, ◌^◌, true, not, OnOk, OnErr};
+ghost use Rattle.std.specs.Prelude.{◌≡◌, ◌+◌, ◌<◌, ◌≤◌, ◌^◌, true, not, IfOk, OnOk, OnErr};
 ghost use Rattle.std.specs.BTreeMap.{IsOrdered, insert_entry};
 ghost use Rattle.std.specs.List.{AllByRecursion, filter};
 ghost use Rattle.afr_lines.specs.Locks.{conflicts, first_conflict, is_lock, same_domain};
@@ -153,19 +153,23 @@ fn owner_of(conflict: Option<Conflict>) -> Option<ActorId>
     }
 }
 
-/// Puts a lock in under the next grant's number, in O(log n).
+/// Puts a lock in under the next grant's number, in O(log n). Gives the number after that.
 pub(crate) fn file<A: Lockable>(
     locks: &mut Locks<A>,
     next: u64,
     lock: HeldLock<A>,
-) -> Result<(), NoMemory>
-    ensures ok { OnOk result (locks.new.entries ≡ insert_entry key_cmp locks.old.entries (key_of lock.domain (A.at lock.area) next) lock) }
+) -> Result<u64, NoMemory>
+    ensures next { IfOk result (λ after. after ≡ next + 1) }
+    ensures entries { OnOk result (locks.new.entries ≡ insert_entry key_cmp locks.old.entries (key_of lock.domain (A.at lock.area) next) lock) }
     ensures start { OnOk result ((A.at lock.area).start < 2 ^ 64) }
     ensures err { OnErr result (locks.new.entries ≡ locks.old.entries) }
 {
+    let Some(after) = next.checked_add(1) else {
+        return Err(NoMemory);
+    };
     let place = lock.area.place();
     match locks.insert(key_of(lock.domain, place, next), lock) {
-        Ok(_) => Ok(()),
+        Ok(_) => Ok(after),
         Err(_) => Err(NoMemory),
     }
 }

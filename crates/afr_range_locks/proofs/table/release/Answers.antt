@@ -30,7 +30,7 @@ loop-key-smaller g c =
     let some = ap is_some c.remove.ensures.value ∙ t.there in
     omega (arith, rw some at c.remove.ensures.len)
 
-pub returns-in-None : goal.returns-in-None
-returns-in-None g c =
+pub returns : goal.returns
+returns g c =
     let i = c.loop-key.invariant in
-    sym (all_taken g.A.Lockable.same c.args.held.now g.A.Lockable.at c.args.next c.loop-key.from c.in-None.ensures.place c.loop-key.locks.entries i.filed i.later c.in-None.ensures.first) ∙ i.left
+    sym (all_taken g.A.Lockable.same c.args.held.now g.A.Lockable.at c.args.next c.loop-key.from c.in_default.ensures.place c.loop-key.locks.entries i.filed i.later c.in_default.ensures.first) ∙ i.left
