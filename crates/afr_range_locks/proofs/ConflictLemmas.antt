@@ -4,7 +4,6 @@ use Rattle.std.proofs.lemmas.Bool.{cases_lt}
 use Rattle.std.proofs.lemmas.Bool.Decides.{nat_tests}
 use Rattle.std.specs.List.{AllByRecursion}
 use Rattle.std.specs.Option.{IfSome, option_or}
-use Rattle.afr_base.specs.declared.ids.ActorId.{ActorId}
 use Rattle.afr_lines.specs.Locks.{conflicts, first_conflict}
 use Rattle.afr_lines.specs.declared.lock.HeldLock.{HeldLock}
 use Rattle.afr_range_locks.specs.Granted.{conflict_at, conflict_of, earlier, first_granted, granted, granted_at, owner_of}
@@ -115,10 +114,10 @@ module _ {A : Type 0} (overlap : A → A → Bool) (wanted : HeldLock A) where
           → option_or (seen n (e ∷ entries)) (seen_at n (e ∷ entries)) ≡ earlier (conflict_at overlap wanted e) (option_or (seen n entries) (seen_at n entries))
       go (inl less) rest =
           ap₂ (λ (a b : Option Conflict). option_or a b) (rest less) (skipped_at n e entries (grind (arith, nat_tests, less)))
-              ∙ lower_first n (conflict_at overlap wanted e) (seen n entries) (seen_at n entries) (weaker (λ (c : Conflict). c.grant ≡ e.0.grant) (λ (c : Conflict). c.grant < n) (λ c h. omega (arith, h, less)) (conflict_at overlap wanted e) (conflict_number e)) (numbers_below n entries) (number_at n entries)
+          ∙ lower_first n (conflict_at overlap wanted e) (seen n entries) (seen_at n entries) (weaker (λ (c : Conflict). c.grant ≡ e.0.grant) (λ (c : Conflict). c.grant < n) (λ c h. omega (arith, h, less)) (conflict_at overlap wanted e) (conflict_number e)) (numbers_below n entries) (number_at n entries)
       go (inr more) rest =
           ap₂ (λ (a b : Option Conflict). option_or a b) (skipped n e entries more) (here_at n e entries (grind (arith, nat_tests, low, more)))
-              ∙ same_first n (conflict_at overlap wanted e) (seen n entries) (seen_at n entries) (weaker (λ (c : Conflict). c.grant ≡ e.0.grant) (λ (c : Conflict). c.grant ≡ n) (λ c h. omega (arith, h, low, more)) (conflict_at overlap wanted e) (conflict_number e)) (numbers_below n entries) (number_at n entries)
+          ∙ same_first n (conflict_at overlap wanted e) (seen n entries) (seen_at n entries) (weaker (λ (c : Conflict). c.grant ≡ e.0.grant) (λ (c : Conflict). c.grant ≡ n) (λ c h. omega (arith, h, low, more)) (conflict_at overlap wanted e) (conflict_number e)) (numbers_below n entries) (number_at n entries)
 
   nothing_seen : (n : ℕ) → seen n [] ≡ None
   nothing_seen zero = refl

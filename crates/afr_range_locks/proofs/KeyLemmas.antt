@@ -10,7 +10,7 @@ use Rattle.std.specs.declared.cmp.Ordering.TheVariants.{Less, Equal, Greater}
 use Rattle.std.specs.declared.ops.Bound.TheVariants.{Included, Excluded}
 use Rattle.afr_base.specs.declared.ids.Gfid.{Gfid}
 use Rattle.afr_lines.specs.declared.lock.Domain.{Domain}
-use Rattle.afr_range_locks.specs.Granted.{domain_number, key_cmp, key_of}
+use Rattle.afr_range_locks.specs.Granted.{key_cmp, key_of}
 use Rattle.afr_range_locks.specs.Reached.{is_in}
 use Rattle.afr_range_locks.specs.declared.lockable.Place.{Place}
 use Rattle.afr_range_locks.specs.declared.lockable.Span.{Span}

@@ -1,6 +1,5 @@
 -- A search for conflicts misses none: each stands in its reach, which it looks through one span at a time.
-use Rattle.std.proofs.Common.{◌≡◌, ℕ, ◌<◌, ◌≤◌, ◌^◌, Bool, true, false, cond, not, ◌&&◌, ◌||◌, List, [], ◌∷◌, ◌⊎◌, inl, inr, refl, sym, ap, ap₂, subst, ◌∙◌, arith, eqb, ltb, if◌then◌else◌, Some, None, Option}
-use Rattle.std.proofs.lemmas.Bool.Decides.{nat_tests}
+use Rattle.std.proofs.Common.{◌≡◌, ℕ, ◌<◌, ◌^◌, Bool, true, false, cond, not, ◌&&◌, ◌||◌, List, [], ◌∷◌, refl, sym, ap, ap₂, subst, ◌∙◌, eqb, if◌then◌else◌, Some, None, Option}
 use Rattle.std.specs.BTreeMap.Range.{range_contains}
 use Rattle.std.specs.List.{AllByRecursion, filter}
 use Rattle.std.specs.Option.{IfSome}
@@ -14,7 +13,7 @@ use Rattle.afr_range_locks.proofs.ConflictLemmas.{owner_first}
 use Rattle.afr_range_locks.proofs.EarlierLemmas.{earlier_of, earlier_swap, either_search}
 use Rattle.afr_range_locks.proofs.GrantedLemmas.{all_kept, all_mapped, are_lower}
 use Rattle.afr_range_locks.proofs.KeyLemmas.{span_contains}
-use Rattle.afr_range_locks.specs.Granted.{AreFresh, IsFiled, IsFresh, conflict_at, conflict_of, domain_number, earlier, first_granted, granted, in_second, in_span, key_cmp, key_of, owner_of}
+use Rattle.afr_range_locks.specs.Granted.{AreFresh, IsFiled, IsFresh, conflict_at, conflict_of, earlier, first_granted, granted, in_second, in_span, key_cmp, key_of, owner_of}
 use Rattle.afr_range_locks.specs.Reached.{is_in, is_in_some, reaches}
 use Rattle.afr_range_locks.specs.declared.lockable.Place.{Place}
 use Rattle.afr_range_locks.specs.declared.lockable.Reach.{Reach}
@@ -55,6 +54,7 @@ module _ {A : Type 0} (overlap : A → A → Bool) (wanted : HeldLock A) where
       none true false = refl
       none false true = refl
       none false false = refl
+
       go : (t : Bool) → conflicts overlap wanted e.1 ≡ t → earlier (conflict_at overlap wanted e) (earlier x y) ≡ earlier (if a then earlier (conflict_at overlap wanted e) x else x) (if b then earlier (conflict_at overlap wanted e) y else y)
       go true is = either_search a b (conflict_at overlap wanted e) x y (apart e x fresh) (reach is)
       go false is = rw is (none a b)
@@ -66,8 +66,8 @@ module _ {A : Type 0} (overlap : A → A → Bool) (wanted : HeldLock A) where
       let x = first_granted overlap wanted (filter p entries) in
       let y = first_granted overlap wanted (filter q entries) in
       ap (earlier (conflict_at overlap wanted e)) (two_searches p q entries fresh.1 reach.1)
-          ∙ one_more e (p e) (q e) x y (fresh_first e.0.grant (filter p entries) (all_kept (λ (f : Key × HeldLock A). eqb e.0.grant f.0.grant ≡ false) p entries fresh.0)) reach.0
-          ∙ sym (ap₂ earlier (kept_first e (filter p entries) (p e)) (kept_first e (filter q entries) (q e)))
+      ∙ one_more e (p e) (q e) x y (fresh_first e.0.grant (filter p entries) (all_kept (λ (f : Key × HeldLock A). eqb e.0.grant f.0.grant ≡ false) p entries fresh.0)) reach.0
+      ∙ sym (ap₂ earlier (kept_first e (filter p entries) (p e)) (kept_first e (filter q entries) (q e)))
 
 -- ---- which entries a search looks at
 
@@ -131,18 +131,18 @@ module _ {A : Type 0} (overlap : A → A → Bool) (at : A → Place) (wanted : 
   -- what the two searches find is the first conflict in the list
   found_first : (entries : List (Key × HeldLock A)) → AllByRecursion (IsFiled at next) entries → AreFresh entries
       → owner_of (earlier (first_granted overlap wanted (in_span wanted.domain (at wanted.area).gfid reach.first next entries)) (first_granted overlap wanted (in_second wanted.domain (at wanted.area).gfid reach.second next entries)))
-          ≡ first_conflict overlap wanted (granted next entries)
+      ≡ first_conflict overlap wanted (granted next entries)
   found_first entries filed fresh =
       let p : Key × HeldLock A → Bool = span_test wanted.domain (at wanted.area).gfid next reach.first in
       let q : Key × HeldLock A → Bool = second_test wanted.domain (at wanted.area).gfid next reach.second in
       ap owner_of (ap (λ (x : List (Key × HeldLock A)). earlier (first_granted overlap wanted (filter p entries)) (first_granted overlap wanted x)) (second_is wanted.domain (at wanted.area).gfid next reach.second entries)
-          ∙ sym (two_searches overlap wanted p q entries fresh (all_mapped (IsFiled at next) (λ e. conflicts overlap wanted e.1 ≡ true → (p e || q e) ≡ true) in_reach entries filed)))
-          ∙ owner_first overlap wanted next entries (are_lower at next entries filed)
+      ∙ sym (two_searches overlap wanted p q entries fresh (all_mapped (IsFiled at next) (λ e. conflicts overlap wanted e.1 ≡ true → (p e || q e) ≡ true) in_reach entries filed)))
+      ∙ owner_first overlap wanted next entries (are_lower at next entries filed)
 
   -- the same, where the place is known by an equation
   pub found_at : (place : Place) → place ≡ at wanted.area → (entries : List (Key × HeldLock A)) → AllByRecursion (IsFiled at next) entries → AreFresh entries
       → owner_of (earlier (first_granted overlap wanted (in_span wanted.domain place.gfid reach.first next entries)) (first_granted overlap wanted (in_second wanted.domain place.gfid reach.second next entries)))
-          ≡ first_conflict overlap wanted (granted next entries)
+      ≡ first_conflict overlap wanted (granted next entries)
   found_at place is entries filed fresh =
       subst (λ (x : Place). owner_of (earlier (first_granted overlap wanted (in_span wanted.domain x.gfid reach.first next entries)) (first_granted overlap wanted (in_second wanted.domain x.gfid reach.second next entries))) ≡ first_conflict overlap wanted (granted next entries)) (sym is)
       (found_first entries filed fresh)

@@ -1,5 +1,5 @@
 -- A search for an equal lock finds the first that is left, and misses none.
-use Rattle.std.proofs.Common.{◌≡◌, ℕ, ◌<◌, ◌≤◌, Bool, true, false, cond, not, ◌&&◌, List, [], ◌∷◌, refl, sym, ap, subst, ◌∙◌, arith, eqb, if◌then◌else◌, Some, None, Option}
+use Rattle.std.proofs.Common.{◌≡◌, ℕ, ◌<◌, ◌≤◌, Bool, true, false, cond, not, List, [], ◌∷◌, refl, sym, ap, subst, ◌∙◌, arith, eqb, Some, None}
 use Rattle.std.proofs.lemmas.Map.Keys.{sorted_head, sorted_tail}
 use Rattle.std.specs.BTreeMap.{is_at}
 use Rattle.std.specs.BTreeMap.Range.{range_contains}
@@ -83,9 +83,11 @@ module _ {A : Type 0} (same : A → A → Bool) (one : HeldLock A) (at : A → P
   behind : (e : Key × HeldLock A) → IsFiled at next e → is_lock same one e.1 ≡ true → (entries : List (Key × HeldLock A)) → AllByRecursion (IsFiled at next) entries → AllByRecursion (λ k. key_cmp e.0 k ≡ Less) (keys_of entries)
       → AllByRecursion (λ f. is_lock same one f.1 ≡ true → e.0.grant ≤ f.0.grant) entries
   behind e f is [] filed sorted = tt
-  behind e f is (x ∷ entries) filed sorted =
-      (λ also. let less : key_cmp (key_of one.domain (at one.area) e.0.grant) (key_of one.domain (at one.area) x.0.grant) ≡ Less = subst (λ (k : Key). key_cmp k (key_of one.domain (at one.area) x.0.grant) ≡ Less) (equal_key e f is) (subst (λ (k : Key). key_cmp e.0 k ≡ Less) (equal_key x filed.0 also) sorted.0) in
-          omega (arith, granted_later one.domain (at one.area) e.0.grant x.0.grant less), behind e f is entries filed.1 sorted.1)
+  behind e f is (x ∷ entries) filed sorted = (
+    λ also. let less : key_cmp (key_of one.domain (at one.area) e.0.grant) (key_of one.domain (at one.area) x.0.grant) ≡ Less = subst (λ (k : Key). key_cmp k (key_of one.domain (at one.area) x.0.grant) ≡ Less) (equal_key e f is) (subst (λ (k : Key). key_cmp e.0 k ≡ Less) (equal_key x filed.0 also) sorted.0) in
+        omega (arith, granted_later one.domain (at one.area) e.0.grant x.0.grant less),
+    behind e f is entries filed.1 sorted.1,
+  )
 
   takes : (k : Key) (entries : List (Key × HeldLock A)) → AllByRecursion (IsFiled at next) entries → AllByRecursion (λ e. is_lock same one e.1 ≡ true → place_test e ≡ true) entries → IsStrictlySortedBy key_cmp (keys_of entries)
       → first_equal same one (filter place_test entries) ≡ Some k → Takes same one next k entries
@@ -95,6 +97,7 @@ module _ {A : Type 0} (same : A → A → Bool) (one : HeldLock A) (at : A → P
     where
       before : AllByRecursion (λ y. key_cmp e.0 y ≡ Less) (keys_of entries)
       before = sorted_head key_cmp e.0 (keys_of entries) sorted
+
       here : is_lock same one e.1 ≡ true → e.0 ≡ k → Takes same one next k (e ∷ entries)
       here eq key =
           let at_it : is_eq (key_cmp k e.0) ≡ true = subst (λ (x : Key). is_eq (key_cmp x e.0) ≡ true) key (key_itself e.0) in
@@ -104,6 +107,7 @@ module _ {A : Type 0} (same : A → A → Bool) (one : HeldLock A) (at : A → P
             low = subst (λ (x : Key). x.grant < next) key filed.0.grant;
             there = rw at_it refl;
           }
+
       further : is_lock same one e.1 ≡ false → first_equal same one (filter place_test entries) ≡ Some k → Takes same one next k entries → Takes same one next k (e ∷ entries)
       further eq some t =
           let past : is_eq (key_cmp k e.0) ≡ false = not_before e.0 k (picks same one (λ y. key_cmp e.0 y ≡ Less) place_test k entries before some) in
@@ -113,6 +117,7 @@ module _ {A : Type 0} (same : A → A → Bool) (one : HeldLock A) (at : A → P
             low = t.low;
             there = rw past t.there;
           }
+
       go : (b a : Bool) → is_lock same one e.1 ≡ b → place_test e ≡ a → first_equal same one (cond a (e ∷ filter place_test entries) (filter place_test entries)) ≡ Some k
           → (first_equal same one (filter place_test entries) ≡ Some k → Takes same one next k entries) → Takes same one next k (e ∷ entries)
       go true true eq is some rest = let found : Some e.0 ≡ Some k = (rw eq at some) in here eq (cc)

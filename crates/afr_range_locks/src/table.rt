@@ -111,11 +111,7 @@ fn second_in<A: Lockable>(
     }
 }
 
-fn conflict_at<A: Lockable>(
-    wanted: &HeldLock<A>,
-    key: &Key,
-    lock: &HeldLock<A>,
-) -> Option<Conflict>
+fn conflict_at<A: Lockable>(wanted: &HeldLock<A>, key: &Key, lock: &HeldLock<A>) -> Option<Conflict>
     ensures { result ≡ conflict_at A.overlap wanted.now (key.now, lock.now) }
 {
     if conflicts(wanted, lock) {

@@ -1,5 +1,5 @@
 -- Each turn takes the first equal lock out, and at the end none is left.
-use Rattle.std.proofs.Common.{◌≡◌, ◌<◌, ◌≤◌, true, refl, sym, ap, ◌∙◌, arith}
+use Rattle.std.proofs.Common.{refl, sym, ap, ◌∙◌, arith}
 use Rattle.std.specs.Option.{is_some}
 use Rattle.afr_range_locks.proofs.ReleaseLemmas.{all_from_0, all_taken, taken}
 use Rattle.afr_range_locks.proofs.table.release.Goals as goal

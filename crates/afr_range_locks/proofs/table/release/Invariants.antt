@@ -1,5 +1,5 @@
 -- What the release of a lock keeps while it takes equal ones out.
-use Rattle.std.proofs.Common.{◌≡◌, ◌≤◌, ℕ, true, not, length}
+use Rattle.std.proofs.Common.{◌≡◌, ◌≤◌, true, not, length}
 use Rattle.std.specs.List.{AllByRecursion, filter}
 use Rattle.afr_lines.specs.Locks.{is_lock}
 use Rattle.afr_range_locks.specs.Granted.{IsFiled}

@@ -1,7 +1,6 @@
 -- A lock that is granted has none in its way, and comes last.
-use Rattle.std.proofs.Common.{rules, ◌≡◌, ◌∙◌, ◌++◌, ◌∷◌, [], List, ap, None}
+use Rattle.std.proofs.Common.{rules, ◌≡◌, None}
 use Rattle.afr_lines.specs.Locks.{first_conflict}
-use Rattle.afr_lines.specs.declared.lock.HeldLock.{HeldLock}
 use Rattle.afr_range_locks.specs.Granted.{granted}
 use Rattle.afr_range_locks.proofs.GrantedLemmas.{granting}
 use Rattle.afr_range_locks.proofs.held.HeldLocks.lock.Goals as goal

@@ -1,5 +1,5 @@
 -- All but the released lock are left, and are a table as before.
-use Rattle.std.proofs.Common.{◌≡◌, ◌∙◌, sym, ap, subst, not, List}
+use Rattle.std.proofs.Common.{◌∙◌, sym, ap, subst, not}
 use Rattle.afr_lines.specs.Locks.{is_lock, unlocked}
 use Rattle.afr_range_locks.proofs.GrantedLemmas.{granted-filter, table_kept}
 use Rattle.afr_range_locks.specs.Granted.{IsTable, granted}
@@ -8,7 +8,7 @@ use Rattle.afr_range_locks.proofs.held.HeldLocks.unlock.Goals as goal
 pub returns : goal.returns
 returns g c =
     ap (granted c.self.inside.next) c.release.ensures ∙ granted-filter (λ lock. not (is_lock g.A.Lockable.same c.args.held lock)) c.self.inside.next c.self.inside.locks.entries
-        ∙ ap (unlocked g.A.Lockable.same c.args.held) c.self.view_is
+    ∙ ap (unlocked g.A.Lockable.same c.args.held) c.self.view_is
 
 pub invariant_of-self : goal.invariant_of-self
 invariant_of-self g c =
