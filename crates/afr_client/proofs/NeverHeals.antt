@@ -29,13 +29,13 @@ use Rattle.afr_client_write.specs.Write as write
 use Rattle.afr_client_write.specs.Write.{Write as WriteValue}
 use Rattle.afr_client_write.specs.declared.stage.WriteStage.{WriteStage}
 use Rattle.afr_client_write.specs.declared.stage.WriteStage.TheVariants as writing
-use Rattle.afr_client_rename.specs.Paths.{reads_new, reads_old}
-use Rattle.afr_client_rename.specs.Rename as rename
-use Rattle.afr_client_rename.specs.Rename.{is_done, turned}
-use Rattle.afr_client_rename.specs.Under.{next_under}
-use Rattle.afr_client_rename.specs.declared.paths.Paths.{Paths}
-use Rattle.afr_client_rename.specs.declared.stage.RenameStage.{RenameStage}
-use Rattle.afr_client_rename.specs.declared.stage.RenameStage.TheVariants as renaming
+use Rattle.afr_client_entry.specs.Renames.Paths.{reads_new, reads_old}
+use Rattle.afr_client_entry.specs.Renames.Rename as rename
+use Rattle.afr_client_entry.specs.Renames.Rename.{is_done, turned}
+use Rattle.afr_client_entry.specs.Renames.Under.{next_under}
+use Rattle.afr_client_entry.specs.declared.renaming.paths.Paths.{Paths}
+use Rattle.afr_client_entry.specs.declared.renaming.stage.RenameStage.{RenameStage}
+use Rattle.afr_client_entry.specs.declared.renaming.stage.RenameStage.TheVariants as renaming
 use Rattle.afr_client.proofs.WorkLemmas.{same_under}
 use Rattle.afr_client.specs.Work.{next_of}
 use Rattle.afr_client.specs.declared.work.WorkMachine.{WorkMachine}

@@ -66,15 +66,15 @@ use Rattle.afr_client_write.specs.declared.stage.WriteStage.{WriteStage}
 use Rattle.afr_client_write.specs.declared.stage.WriteStage.TheVariants as writing
 use Rattle.afr_client_write.proofs.WriteLemmas as write_lemmas
 use Rattle.afr_client.specs.Laws.{AllowedNext, AsksLow, AsksMore, BeginsFresh, BeginsMore, FedIsAnswered, HasFew, NotesBegin, NotesEach, StaysOutside, StaysSound}
-use Rattle.afr_client_rename.specs.Against.{half_reply}
-use Rattle.afr_client_rename.specs.Paths.{front, last, reads_new, reads_old}
-use Rattle.afr_client_rename.specs.Rename as rename
-use Rattle.afr_client_rename.specs.Rename.{IsRename, is_done, turned}
-use Rattle.afr_client_rename.specs.Under.{next_under}
-use Rattle.afr_client_rename.specs.declared.paths.Paths.{Paths}
-use Rattle.afr_client_rename.specs.declared.stage.RenameStage.{RenameStage}
-use Rattle.afr_client_rename.specs.declared.stage.RenameStage.TheVariants as renaming
-use Rattle.afr_client_rename.proofs.RenameLemmas as rename_lemmas
+use Rattle.afr_client_entry.specs.Renames.Against.{half_reply}
+use Rattle.afr_client_entry.specs.Renames.Paths.{front, last, reads_new, reads_old}
+use Rattle.afr_client_entry.specs.Renames.Rename as rename
+use Rattle.afr_client_entry.specs.Renames.Rename.{IsRename, is_done, turned}
+use Rattle.afr_client_entry.specs.Renames.Under.{next_under}
+use Rattle.afr_client_entry.specs.declared.renaming.paths.Paths.{Paths}
+use Rattle.afr_client_entry.specs.declared.renaming.stage.RenameStage.{RenameStage}
+use Rattle.afr_client_entry.specs.declared.renaming.stage.RenameStage.TheVariants as renaming
+use Rattle.afr_client_entry.proofs.Renames.RenameLemmas as rename_lemmas
 use Rattle.afr_client.specs.Work.{choices_heard, idle_register, register_of}
 use Rattle.afr_client.specs.declared.work.WorkMachine.TheVariants.{Idle, Lookup, Write, Entry, Rename}
 

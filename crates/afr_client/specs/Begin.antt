@@ -10,8 +10,8 @@ use Rattle.afr_client_read.specs.Lookup.{lookup_from}
 use Rattle.afr_client_read.specs.declared.job.LookupJob.TheVariants.{Read, GetAttr, Ls, Stat}
 use Rattle.afr_client_write.specs.Write.{write_from}
 use Rattle.afr_client_write.specs.declared.job.WriteJob.TheVariants as job
-use Rattle.afr_client_rename.specs.Paths.{front, last}
-use Rattle.afr_client_rename.specs.Rename.{rename_from}
+use Rattle.afr_client_entry.specs.Renames.Paths.{front, last}
+use Rattle.afr_client_entry.specs.Renames.Rename.{rename_from}
 use Rattle.afr_client.specs.declared.work.WorkMachine.{WorkMachine}
 use Rattle.afr_client.specs.declared.work.WorkMachine.TheVariants.{Lookup, Write, Entry, Rename}
 

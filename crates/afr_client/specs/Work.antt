@@ -17,7 +17,7 @@ use Rattle.afr_client_walk.specs.Choosing.{IsAmong, RuleAnswers, reader_of}
 use Rattle.afr_client_entry.specs.Entry as entry
 use Rattle.afr_client_read.specs.Lookup as lookup
 use Rattle.afr_client_write.specs.Write as write
-use Rattle.afr_client_rename.specs.Rename as rename
+use Rattle.afr_client_entry.specs.Renames.Rename as rename
 use Rattle.afr_client.specs.declared.work.WorkMachine.{WorkMachine}
 use Rattle.afr_client.specs.declared.work.WorkMachine.TheVariants.{Idle, Lookup, Write, Entry, Rename}
 

@@ -10,7 +10,7 @@ use crate::on_heap::OnHeap;
 use afr_base::{BrickId, NoMemory};
 use afr_client_entry::EntryMachine;
 use afr_client_read::LookupMachine;
-use afr_client_rename::RenameMachine;
+use afr_client_entry::RenameMachine;
 use afr_client_write::WriteMachine;
 use afr_discipline::{Register, has_five};
 use afr_lines::{Answer, Heard, Next, Request};

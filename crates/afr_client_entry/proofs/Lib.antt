@@ -2,3 +2,4 @@ pub mod Removals
 pub mod AskedLemmas
 pub mod EntryLemmas
 pub mod HeardLemmas
+pub mod Renames

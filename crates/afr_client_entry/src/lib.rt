@@ -6,6 +6,7 @@ mod laws;
 mod machine;
 mod refusal;
 mod removing;
+mod renaming;
 mod stage;
 
 pub use job::EntryJob;
@@ -13,4 +14,7 @@ pub use laws::{an_entry_keeps_the_discipline, an_entry_reads_good_copies};
 pub use machine::EntryMachine;
 pub use refusal::{Refusal, reply_to};
 pub use removing::{Child, Removal, RemovalEnding, RemovalStage, a_removal_stays_sound};
+pub use renaming::{
+    Paths, RenameMachine, RenameStage, a_rename_keeps_the_discipline, a_rename_reads_good_copies,
+};
 pub use stage::{EntryStage, Found};

@@ -42,14 +42,14 @@ use Rattle.afr_law_picks.proofs.AskedFiles.{step_asked, walks_whole}
 use Rattle.afr_law_picks.proofs.Asks.{ask_same}
 use Rattle.afr_law_picks.specs.Picked.{PickedRename}
 use Rattle.afr_law_picks.specs.Readings.{asked_at, asked_by_part, asked_for_rename, kind_here, or_before}
-use Rattle.afr_client_rename.specs.Against.{against_new, against_old, half_reply}
-use Rattle.afr_client_rename.specs.Paths.{front, last, reads_new, reads_old}
-use Rattle.afr_client_rename.specs.Rename.{IsMaking, IsRemoving, IsRename, IsSound, Renaming, answered, choices_at, is_done, making_after, next_at, next_of, paths_after, second_begun, stage_after, turned}
-use Rattle.afr_client_rename.specs.Under.{choices_under, found_after, next_under, progress_after}
-use Rattle.afr_client_rename.specs.declared.paths.Paths.{Paths}
-use Rattle.afr_client_rename.specs.declared.stage.RenameStage.{RenameStage}
-use Rattle.afr_client_rename.specs.declared.stage.RenameStage.TheVariants.{Ending, Finding, Making, Removing, Walking}
-use Rattle.afr_client_rename.proofs.PathLemmas.{front_last}
+use Rattle.afr_client_entry.specs.Renames.Against.{against_new, against_old, half_reply}
+use Rattle.afr_client_entry.specs.Renames.Paths.{front, last, reads_new, reads_old}
+use Rattle.afr_client_entry.specs.Renames.Rename.{IsMaking, IsRemoving, IsRename, IsSound, Renaming, answered, choices_at, is_done, making_after, next_at, next_of, paths_after, second_begun, stage_after, turned}
+use Rattle.afr_client_entry.specs.Renames.Under.{choices_under, found_after, next_under, progress_after}
+use Rattle.afr_client_entry.specs.declared.renaming.paths.Paths.{Paths}
+use Rattle.afr_client_entry.specs.declared.renaming.stage.RenameStage.{RenameStage}
+use Rattle.afr_client_entry.specs.declared.renaming.stage.RenameStage.TheVariants.{Ending, Finding, Making, Removing, Walking}
+use Rattle.afr_client_entry.proofs.Renames.PathLemmas.{front_last}
 use Rattle.afr_law_client.proofs.Rename.Cut.{line_makes, line_removes, line_walks, not_again}
 use Rattle.afr_law_client.proofs.Rename.Walks.{finds_again, finds_walk, not_all_asked, walks_again}
 use Rattle.afr_law_client.specs.Rename.RenameTelling.{DropsOldName, MakesNewName as MakesName, Removes as RemovesName, RenameTells, TellsIn, old_dir, to_of}

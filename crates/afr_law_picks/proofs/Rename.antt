@@ -41,13 +41,13 @@ use Rattle.afr_law_picks.proofs.Read.{end_begun, stop_ends}
 use Rattle.afr_law_picks.proofs.Rule.{Picked}
 use Rattle.afr_law_picks.proofs.Walk.{walk_begins, walk_begun, walk_picked}
 use Rattle.afr_law_picks.specs.Picked.{PickedRename, PickedStep, PickedUnder, PickedWalk, PicksOf}
-use Rattle.afr_client_rename.specs.Against.{against_new, against_old}
-use Rattle.afr_client_rename.specs.Paths.{making_of, reads_new, reads_old, removal_of}
-use Rattle.afr_client_rename.specs.Rename.{IsRename, IsSound, Renaming, after_first, after_second, answered, choices_at, first_left, is_done, making_after, next_at, next_of, paths_after, rename_from, second_begun, second_left, stage_after, stage_begun, turned, unread}
-use Rattle.afr_client_rename.specs.Under.{IsUnder, choices_under, found_after, progress_after}
-use Rattle.afr_client_rename.specs.declared.paths.Paths.{Paths}
-use Rattle.afr_client_rename.specs.declared.stage.RenameStage.{RenameStage}
-use Rattle.afr_client_rename.specs.declared.stage.RenameStage.TheVariants.{Ending, Finding, Making, Removing, Walking}
+use Rattle.afr_client_entry.specs.Renames.Against.{against_new, against_old}
+use Rattle.afr_client_entry.specs.Renames.Paths.{making_of, reads_new, reads_old, removal_of}
+use Rattle.afr_client_entry.specs.Renames.Rename.{IsRename, IsSound, Renaming, after_first, after_second, answered, choices_at, first_left, is_done, making_after, next_at, next_of, paths_after, rename_from, second_begun, second_left, stage_after, stage_begun, turned, unread}
+use Rattle.afr_client_entry.specs.Renames.Under.{IsUnder, choices_under, found_after, progress_after}
+use Rattle.afr_client_entry.specs.declared.renaming.paths.Paths.{Paths}
+use Rattle.afr_client_entry.specs.declared.renaming.stage.RenameStage.{RenameStage}
+use Rattle.afr_client_entry.specs.declared.renaming.stage.RenameStage.TheVariants.{Ending, Finding, Making, Removing, Walking}
 use Rattle.afr_law_client.proofs.Rename.Walks.{finds_again, not_all_asked, walks_again}
 use Rattle.afr_law_client.specs.Rename.RenameTelling.{RenameTells, TellsIn}
 use Rattle.afr_client_transaction.specs.Between.{noted_read}

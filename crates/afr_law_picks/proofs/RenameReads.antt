@@ -32,12 +32,12 @@ use Rattle.afr_law_picks.proofs.Rename.{locked_there, looks_same}
 use Rattle.afr_law_picks.proofs.Walk.{walk_reads}
 use Rattle.afr_law_picks.proofs.Write.{change_ends, change_reads}
 use Rattle.afr_law_picks.specs.Picked.{PickedEnd, PickedRename, PickedStep, PickedUnder}
-use Rattle.afr_client_rename.specs.Against.{half_reply, is_acknowledged}
-use Rattle.afr_client_rename.specs.Paths.{reads_new, reads_old}
-use Rattle.afr_client_rename.specs.Rename.{IsRename, Renaming, is_done, next_at, next_of, turned}
-use Rattle.afr_client_rename.specs.Under.{next_under}
-use Rattle.afr_client_rename.specs.declared.stage.RenameStage.{RenameStage}
-use Rattle.afr_client_rename.specs.declared.stage.RenameStage.TheVariants.{Ending, Finding, Making, Removing, Walking}
+use Rattle.afr_client_entry.specs.Renames.Against.{half_reply, is_acknowledged}
+use Rattle.afr_client_entry.specs.Renames.Paths.{reads_new, reads_old}
+use Rattle.afr_client_entry.specs.Renames.Rename.{IsRename, Renaming, is_done, next_at, next_of, turned}
+use Rattle.afr_client_entry.specs.Renames.Under.{next_under}
+use Rattle.afr_client_entry.specs.declared.renaming.stage.RenameStage.{RenameStage}
+use Rattle.afr_client_entry.specs.declared.renaming.stage.RenameStage.TheVariants.{Ending, Finding, Making, Removing, Walking}
 use Rattle.afr_law_client.proofs.Rename.Looks.{make_looks, removal_looks, walk_looks}
 use Rattle.afr_law_client.specs.Rename.RenameTelling.{RenameTells, TellsIn}
 use Rattle.afr_client_transaction.specs.Outcome.{outcome_of}

@@ -68,12 +68,12 @@ use Rattle.afr_client_walk.specs.Walk.{is_walking, next_in, next_at}
 use Rattle.afr_client_walk.specs.declared.walk.Walk.{Walk}
 use Rattle.afr_client_walk.specs.declared.walk.WalkStep.{WalkStep}
 use Rattle.afr_client_walk.specs.declared.walk.WalkStep.TheVariants.{Arrived, Looking, Naming, Stopped}
-use Rattle.afr_client_rename.specs.Against.{half_reply}
-use Rattle.afr_client_rename.specs.Paths.{front, last, reads_new, reads_old}
-use Rattle.afr_client_rename.specs.Rename as rename
-use Rattle.afr_client_rename.specs.Under as renaming
-use Rattle.afr_client_rename.specs.declared.stage.RenameStage.{RenameStage}
-use Rattle.afr_client_rename.specs.declared.stage.RenameStage.TheVariants as naming
+use Rattle.afr_client_entry.specs.Renames.Against.{half_reply}
+use Rattle.afr_client_entry.specs.Renames.Paths.{front, last, reads_new, reads_old}
+use Rattle.afr_client_entry.specs.Renames.Rename as rename
+use Rattle.afr_client_entry.specs.Renames.Under as renaming
+use Rattle.afr_client_entry.specs.declared.renaming.stage.RenameStage.{RenameStage}
+use Rattle.afr_client_entry.specs.declared.renaming.stage.RenameStage.TheVariants as naming
 use Rattle.afr_client.specs.Begin.{work_from}
 use Rattle.afr_client.specs.Work.{IsWork, choices_of, heard_by, next_of}
 use Rattle.afr_client.specs.declared.work.WorkMachine.{WorkMachine}

@@ -1,2 +1,9 @@
 mod ApartLemmas
+mod ConflictLemmas
+mod EarlierLemmas
+mod GrantedLemmas
+mod KeyLemmas
 mod NumberLemmas
+mod RangeLemmas
+mod ReachLemmas
+mod ReleaseLemmas

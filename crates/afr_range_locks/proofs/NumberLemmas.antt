@@ -4,7 +4,7 @@ use Rattle.std.proofs.lemmas.Bool.{cases_lt}
 use Rattle.std.proofs.lemmas.Bool.Decides.{nat_tests}
 use Rattle.afr_lines.specs.Locks.{share_number, IsInBoth}
 
-begins : (from to start end : ℕ) → share_number from to start end ≡ true → (from < end) × (start < to)
+pub begins : (from to start end : ℕ) → share_number from to start end ≡ true → (from < end) × (start < to)
 begins from to start end e = (grind (arith, nat_tests, e), grind (arith, nat_tests, e))
 
 share : (from to start end : ℕ) → from < end → start < to → share_number from to start end ≡ true

@@ -1,1 +1,4 @@
+pub mod Granted
 pub mod Locks
+pub mod Reached
+pub mod ReachedLemmas

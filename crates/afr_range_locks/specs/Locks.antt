@@ -5,6 +5,7 @@ use Rattle.afr_base.specs.declared.ids.Gfid.{Gfid}
 use Rattle.afr_lines.specs.Locks.{share_number}
 use Rattle.afr_lines.specs.declared.lock.Domain.{Domain}
 use Rattle.afr_lines.specs.declared.lock.HeldLock.{HeldLock}
+use Rattle.afr_range_locks.specs.declared.lockable.Place.{Place}
 use Rattle.afr_range_locks.specs.declared.ranges.ObjectRange.{ObjectRange}
 
 -- two ranges of one object share a number
@@ -14,6 +15,10 @@ overlap_range one other = (one.gfid.0 == other.gfid.0) && share_number one.from 
 -- two ranges are the same
 abbrev pub same_range : ObjectRange → ObjectRange → Bool
 same_range one other = (one.gfid.0 == other.gfid.0) && (one.from == other.from) && (one.to == other.to)
+
+-- where a range stands
+abbrev pub place_of : ObjectRange → Place
+place_of range = record { gfid = range.gfid; start = range.from }
 
 -- a lock of an owner in a domain on a range of an object
 abbrev pub range_lock : ActorId → Domain → Gfid → ℕ → ℕ → HeldLock ObjectRange

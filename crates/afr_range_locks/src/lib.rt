@@ -1,10 +1,13 @@
-//! Locks on ranges of an object, and a list of held locks that serves whatever they cover.
+//! Locks on ranges of an object, and a table of held locks that serves whatever they cover.
 #![tactic(auto)]
 
 mod got;
 mod held;
+mod lockable;
 mod ranges;
+mod table;
 
 pub use got::Got;
-pub use held::{HeldLocks, Lockable};
+pub use held::HeldLocks;
+pub use lockable::{Lockable, Place, Reach, Span};
 pub use ranges::{ObjectRange, RangeLocks, ranges_share_a_number};

@@ -26,11 +26,11 @@ use Rattle.afr_client_walk.specs.declared.walk.WalkStep.TheVariants as walking
 use Rattle.afr_law_client.proofs.Read.Walking.{walk_tells_first}
 use Rattle.afr_law_client.specs.About.{BlamesNext}
 use Rattle.afr_law_client.specs.Laws.{IsNextLine}
-use Rattle.afr_client_rename.specs.Rename.{IsRename, answered, choices_at, next_at}
-use Rattle.afr_client_rename.specs.declared.paths.Paths.{Paths}
-use Rattle.afr_client_rename.specs.declared.stage.RenameStage.{RenameStage}
-use Rattle.afr_client_rename.specs.declared.stage.RenameStage.TheVariants.{Finding, Walking, Ending}
-use Rattle.afr_client_rename.proofs.PathLemmas.{front_last}
+use Rattle.afr_client_entry.specs.Renames.Rename.{IsRename, answered, choices_at, next_at}
+use Rattle.afr_client_entry.specs.declared.renaming.paths.Paths.{Paths}
+use Rattle.afr_client_entry.specs.declared.renaming.stage.RenameStage.{RenameStage}
+use Rattle.afr_client_entry.specs.declared.renaming.stage.RenameStage.TheVariants.{Finding, Walking, Ending}
+use Rattle.afr_client_entry.proofs.Renames.PathLemmas.{front_last}
 use Rattle.afr_law_client.specs.Rename.RenameLaws.{RenameBegins}
 use Rattle.afr_law_client.specs.Rename.RenameTelling.{CanHear, IsLeg, RenameTells, TellsIn, command_of, to_of}
 use Rattle.afr_law_client.proofs.Rename.Walks.{finding_about, leg_begins, walk_blames, walking_about}

@@ -29,13 +29,13 @@ use Rattle.afr_client_walk.specs.Choosing.{IsAmong}
 use Rattle.afr_client_entry.specs.declared.stage.Found.{Found}
 use Rattle.afr_client_entry.specs.declared.stage.Found.TheVariants.{Unread, Fits, Refused}
 use Rattle.afr_law_client.specs.Entry.EntryTelling.{OnChange}
-use Rattle.afr_client_rename.specs.Against.{half_reply}
-use Rattle.afr_client_rename.specs.Paths.{reads_new, reads_old}
-use Rattle.afr_client_rename.specs.Rename.{IsMaking, IsRename, answered, choices_at, is_done, making_after, next_at, removing_next, second_begun, stage_begun, turned}
-use Rattle.afr_client_rename.specs.Under.{next_under}
-use Rattle.afr_client_rename.specs.declared.paths.Paths.{Paths}
-use Rattle.afr_client_rename.specs.declared.stage.RenameStage.{RenameStage}
-use Rattle.afr_client_rename.specs.declared.stage.RenameStage.TheVariants.{Finding, Walking, Making, Removing, Ending}
+use Rattle.afr_client_entry.specs.Renames.Against.{half_reply}
+use Rattle.afr_client_entry.specs.Renames.Paths.{reads_new, reads_old}
+use Rattle.afr_client_entry.specs.Renames.Rename.{IsMaking, IsRename, answered, choices_at, is_done, making_after, next_at, removing_next, second_begun, stage_begun, turned}
+use Rattle.afr_client_entry.specs.Renames.Under.{next_under}
+use Rattle.afr_client_entry.specs.declared.renaming.paths.Paths.{Paths}
+use Rattle.afr_client_entry.specs.declared.renaming.stage.RenameStage.{RenameStage}
+use Rattle.afr_client_entry.specs.declared.renaming.stage.RenameStage.TheVariants.{Finding, Walking, Making, Removing, Ending}
 use Rattle.afr_law_client.specs.Rename.RenameLaws.{RenameAbout, RenameBegun, RenameBlames, RenameEnds, RenameKeepsName, RenameTellsMore}
 use Rattle.afr_law_client.specs.Rename.RenameTelling.{CanHear, CanHearMaking, MakesNewName, RenameTells, TellsIn, command_of, to_of}
 use Rattle.afr_law_client.proofs.Rename.Begins.{about_walks, blames_walks, ends_walks, more_walks}

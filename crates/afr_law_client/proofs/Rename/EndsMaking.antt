@@ -51,11 +51,11 @@ use Rattle.afr_law_client.specs.Entry.EntryTelling.{RulesOut, TransactionGoes}
 use Rattle.afr_law_client.proofs.Entry.Changing.{passed_like, unrefused_fits, unrefused_unread}
 use Rattle.afr_law_client.proofs.Entry.Ended.{by_read, no_views, refused, was_locked}
 use Rattle.afr_law_client.proofs.Entry.Under.{area_there, refused_by_locks}
-use Rattle.afr_client_rename.specs.Against.{is_acknowledged}
-use Rattle.afr_client_rename.specs.Paths.{reads_new}
-use Rattle.afr_client_rename.specs.Rename.{IsMaking, is_done}
-use Rattle.afr_client_rename.specs.Under.{next_under}
-use Rattle.afr_client_rename.specs.declared.paths.Paths.{Paths}
+use Rattle.afr_client_entry.specs.Renames.Against.{is_acknowledged}
+use Rattle.afr_client_entry.specs.Renames.Paths.{reads_new}
+use Rattle.afr_client_entry.specs.Renames.Rename.{IsMaking, is_done}
+use Rattle.afr_client_entry.specs.Renames.Under.{next_under}
+use Rattle.afr_client_entry.specs.declared.renaming.paths.Paths.{Paths}
 use Rattle.afr_law_client.specs.Rename.RenameTelling.{HasWalked, MakesNewName, to_of}
 use Rattle.afr_law_client.proofs.Rename.MakingMore.{making_like}
 use Rattle.afr_law_client.proofs.Rename.MakingParts.{fault_more, has_append, or_left}

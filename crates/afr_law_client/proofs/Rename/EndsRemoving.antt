@@ -48,12 +48,12 @@ use Rattle.afr_client_entry.specs.declared.stage.Found.{Found}
 use Rattle.afr_client_entry.specs.declared.stage.Found.TheVariants.{Unread, Fits, Refused}
 use Rattle.afr_law_client.specs.Entry.EntryTelling.{OnChange, TransactionGoes}
 use Rattle.afr_law_client.proofs.Entry.Ended.{was_locked}
-use Rattle.afr_client_rename.specs.Against.{half_reply, is_acknowledged, is_same}
-use Rattle.afr_client_rename.specs.Paths.{IsPaths, making_of, reads_old, removal_of}
-use Rattle.afr_client_rename.specs.Rename.{IsRemoving, removing_next}
-use Rattle.afr_client_rename.specs.Under.{next_under}
-use Rattle.afr_client_rename.specs.declared.paths.Paths.{Paths}
-use Rattle.afr_client_rename.proofs.RenameLemmas.{acknowledged_is}
+use Rattle.afr_client_entry.specs.Renames.Against.{half_reply, is_acknowledged, is_same}
+use Rattle.afr_client_entry.specs.Renames.Paths.{IsPaths, making_of, reads_old, removal_of}
+use Rattle.afr_client_entry.specs.Renames.Rename.{IsRemoving, removing_next}
+use Rattle.afr_client_entry.specs.Renames.Under.{next_under}
+use Rattle.afr_client_entry.specs.declared.renaming.paths.Paths.{Paths}
+use Rattle.afr_client_entry.proofs.Renames.RenameLemmas.{acknowledged_is}
 use Rattle.afr_model.proofs.Cut.Cut.{parts_whole}
 use Rattle.afr_law_client.specs.Rename.RenameTelling.{ByFault, ByNothing, ByOther, LedElsewhere, OldTells, Removes, old_dir, to_of}
 use Rattle.afr_law_client.proofs.Rename.EndsMaking.{ends_over, refusal_is}

@@ -39,10 +39,10 @@ use Rattle.afr_client_entry.specs.declared.stage.Found.TheVariants.{Unread, Fits
 use Rattle.afr_law_client.specs.Entry.EntryTelling.{TransactionGoes}
 use Rattle.afr_law_client.proofs.Entry.Changing.{each_line, keeps_request, led_fits, led_unread, line_about, name_line}
 use Rattle.afr_law_client.proofs.Entry.Words.{named_is}
-use Rattle.afr_client_rename.specs.Paths.{reads_new}
-use Rattle.afr_client_rename.specs.Rename.{IsMaking}
-use Rattle.afr_client_rename.specs.Under.{next_under}
-use Rattle.afr_client_rename.specs.declared.paths.Paths.{Paths}
+use Rattle.afr_client_entry.specs.Renames.Paths.{reads_new}
+use Rattle.afr_client_entry.specs.Renames.Rename.{IsMaking}
+use Rattle.afr_client_entry.specs.Renames.Under.{next_under}
+use Rattle.afr_client_entry.specs.declared.renaming.paths.Paths.{Paths}
 use Rattle.afr_law_client.specs.Rename.RenameTelling.{MakesNewName, to_of}
 use Rattle.afr_law_client.proofs.Rename.Cut.{line_makes}
 use Rattle.afr_law_client.proofs.Rename.MakingMore.{like, stage_waits}

@@ -28,7 +28,7 @@ use Rattle.afr_client_entry.specs.declared.stage.Found.{Found}
 use Rattle.afr_client_entry.specs.declared.stage.Found.TheVariants.{Unread, Fits, Refused}
 use Rattle.afr_law_client.specs.Read.WalkLaws.{IsUntouched}
 use Rattle.afr_law_client.specs.Entry.EntryTelling.{OnChange}
-use Rattle.afr_client_rename.specs.Under.{next_under}
+use Rattle.afr_client_entry.specs.Renames.Under.{next_under}
 use Rattle.afr_law_client.proofs.Second.Folds.{none_since}
 use Rattle.afr_law_client.proofs.Rename.Looks.{locked_alone}
 use Rattle.afr_law_client.proofs.Rename.MakingParts.{among_front, changed_front, has_front}

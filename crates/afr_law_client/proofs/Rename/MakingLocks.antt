@@ -37,7 +37,7 @@ use Rattle.afr_law_client.proofs.Write.Goes.{asked_stage, begun_fed, begun_stage
 use Rattle.afr_law_client.specs.Entry.EntryTelling.{HoldsAt, OnChange, TransactionGoes}
 use Rattle.afr_law_client.proofs.Entry.Held.{holds_more}
 use Rattle.afr_law_client.proofs.Entry.Under.{asked_more, begun_more}
-use Rattle.afr_client_rename.specs.Under.{found_after, next_under, progress_after}
+use Rattle.afr_client_entry.specs.Renames.Under.{found_after, next_under, progress_after}
 use Rattle.afr_law_client.specs.Second.Held.{Holds}
 use Rattle.afr_law_client.proofs.Second.HeldLemmas.{held_kept, held_unlocked}
 

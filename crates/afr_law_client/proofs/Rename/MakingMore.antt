@@ -47,11 +47,11 @@ use Rattle.afr_law_client.proofs.Entry.Changing.{IsLike}
 use Rattle.afr_law_client.proofs.Entry.Names.{Quiet, quiet}
 use Rattle.afr_law_client.proofs.Entry.Under.{name_more, place_more}
 use Rattle.afr_law_client.proofs.Entry.Words.{suits_view}
-use Rattle.afr_client_rename.specs.Against.{against_new}
-use Rattle.afr_client_rename.specs.Paths.{making_of, reads_new}
-use Rattle.afr_client_rename.specs.Rename.{IsMaking}
-use Rattle.afr_client_rename.specs.Under.{found_after, progress_after}
-use Rattle.afr_client_rename.specs.declared.paths.Paths.{Paths}
+use Rattle.afr_client_entry.specs.Renames.Against.{against_new}
+use Rattle.afr_client_entry.specs.Renames.Paths.{making_of, reads_new}
+use Rattle.afr_client_entry.specs.Renames.Rename.{IsMaking}
+use Rattle.afr_client_entry.specs.Renames.Under.{found_after, progress_after}
+use Rattle.afr_client_entry.specs.declared.renaming.paths.Paths.{Paths}
 use Rattle.afr_law_client.specs.Second.Held.{Holds}
 use Rattle.afr_law_client.specs.Rename.RenameTelling.{LocksLeg, MakesNewName, to_of}
 use Rattle.afr_law_client.proofs.Rename.MakingLegs.{leg_more}

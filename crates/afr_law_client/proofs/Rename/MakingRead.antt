@@ -32,11 +32,11 @@ use Rattle.afr_law_client.proofs.Entry.Heard.{hears_name}
 use Rattle.afr_law_client.proofs.Entry.Names.{name_told, quiet}
 use Rattle.afr_law_client.proofs.Entry.Under.{name_more, place_more}
 use Rattle.afr_law_client.proofs.Entry.Heard.{hears_told}
-use Rattle.afr_client_rename.specs.Against.{against_new}
-use Rattle.afr_client_rename.specs.Paths.{reads_new}
-use Rattle.afr_client_rename.specs.Rename.{IsMaking}
-use Rattle.afr_client_rename.specs.Under.{found_after, next_under, progress_after}
-use Rattle.afr_client_rename.specs.declared.paths.Paths.{Paths}
+use Rattle.afr_client_entry.specs.Renames.Against.{against_new}
+use Rattle.afr_client_entry.specs.Renames.Paths.{reads_new}
+use Rattle.afr_client_entry.specs.Renames.Rename.{IsMaking}
+use Rattle.afr_client_entry.specs.Renames.Under.{found_after, next_under, progress_after}
+use Rattle.afr_client_entry.specs.declared.renaming.paths.Paths.{Paths}
 use Rattle.afr_law_client.specs.Second.Held.{Holds}
 use Rattle.afr_law_client.proofs.Second.HeldLemmas.{held_given_up, held_read}
 use Rattle.afr_law_client.specs.Rename.RenameTelling.{LocksLeg, MakesNewName, to_of}

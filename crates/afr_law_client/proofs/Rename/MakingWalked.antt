@@ -17,7 +17,7 @@ use Rattle.afr_law_client.specs.Read.WalkLaws.{IsUntouched}
 use Rattle.afr_law_client.specs.Read.WalkTelling.{GoesOn}
 use Rattle.afr_law_client.proofs.Read.Quiet.{IsQuiet, has_none}
 use Rattle.afr_law_client.proofs.Read.Untouched.{touches_nothing}
-use Rattle.afr_client_rename.specs.declared.paths.Paths.{Paths}
+use Rattle.afr_client_entry.specs.declared.renaming.paths.Paths.{Paths}
 use Rattle.afr_law_client.specs.Rename.RenameTelling.{HasWalked, OnFirst, old_dir}
 use Rattle.afr_law_client.proofs.Rename.Looks.{make_and_walk}
 use Rattle.afr_law_client.proofs.Rename.MakingParts.{again_by, has_front}

@@ -34,10 +34,10 @@ use Rattle.afr_client_entry.specs.declared.stage.Found.{Found}
 use Rattle.afr_client_entry.specs.declared.stage.Found.TheVariants.{Unread, Fits, Refused}
 use Rattle.afr_law_client.specs.Entry.EntryTelling.{FitsName, IsUnread}
 use Rattle.afr_law_client.proofs.Entry.Changing.{change_line, each_line, keeps_request, led_fits, led_unread, like_same, name_line}
-use Rattle.afr_client_rename.specs.Paths.{IsPaths, front, reads_old, removal_of}
-use Rattle.afr_client_rename.specs.Rename.{IsMaking, IsRemoving, is_done, turned}
-use Rattle.afr_client_rename.specs.Under.{next_under}
-use Rattle.afr_client_rename.specs.declared.paths.Paths.{Paths}
+use Rattle.afr_client_entry.specs.Renames.Paths.{IsPaths, front, reads_old, removal_of}
+use Rattle.afr_client_entry.specs.Renames.Rename.{IsMaking, IsRemoving, is_done, turned}
+use Rattle.afr_client_entry.specs.Renames.Under.{next_under}
+use Rattle.afr_client_entry.specs.declared.renaming.paths.Paths.{Paths}
 use Rattle.afr_law_client.specs.Rename.RenameTelling.{DropsOldName, LedToFile, MakesNewName, Removes, old_dir, to_of}
 use Rattle.afr_law_client.proofs.Rename.RemovingBegins.{is_second, own, prefix, prefix_untouched}
 use Rattle.afr_law_client.proofs.Rename.RemovingTurn.{made_done}

@@ -42,10 +42,10 @@ use Rattle.afr_law_client.specs.Entry.EntryTelling.{OnChange, TransactionGoes}
 use Rattle.afr_law_client.proofs.Entry.Held.{holds_first}
 use Rattle.afr_law_client.proofs.Entry.Names.{upto_stays}
 use Rattle.afr_law_client.proofs.Entry.Words.{suits_view}
-use Rattle.afr_client_rename.specs.Paths.{removal_of}
-use Rattle.afr_client_rename.specs.Rename.{IsMaking, is_done, turned, unread}
-use Rattle.afr_client_rename.specs.declared.paths.Paths.{Paths}
-use Rattle.afr_client_rename.proofs.RenameLemmas.{done_is}
+use Rattle.afr_client_entry.specs.Renames.Paths.{removal_of}
+use Rattle.afr_client_entry.specs.Renames.Rename.{IsMaking, is_done, turned, unread}
+use Rattle.afr_client_entry.specs.declared.renaming.paths.Paths.{Paths}
+use Rattle.afr_client_entry.proofs.Renames.RenameLemmas.{done_is}
 use Rattle.afr_law_client.proofs.Second.HeldLemmas.{acknowledged_unlocks}
 use Rattle.afr_law_client.specs.Rename.RenameTelling.{DropsOldName, HasWalked, MakesNewName, Removes, old_dir}
 use Rattle.afr_law_client.proofs.Rename.MakingLocks.{asked_on}

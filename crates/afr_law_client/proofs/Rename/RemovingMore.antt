@@ -53,11 +53,11 @@ use Rattle.afr_law_client.proofs.Entry.Names.{NameTold, Quiet, quiet, upto_stays
 use Rattle.afr_law_client.proofs.Entry.Words.{suits_view}
 use Rattle.afr_law_client.proofs.Entry.Heard.{hears_told}
 use Rattle.afr_law_client.proofs.Entry.Under.{given_more}
-use Rattle.afr_client_rename.specs.Against.{against_old, is_same}
-use Rattle.afr_client_rename.specs.Paths.{reads_old}
-use Rattle.afr_client_rename.specs.Rename.{IsRemoving}
-use Rattle.afr_client_rename.specs.Under.{found_after, next_under, progress_after}
-use Rattle.afr_client_rename.specs.declared.paths.Paths.{Paths}
+use Rattle.afr_client_entry.specs.Renames.Against.{against_old, is_same}
+use Rattle.afr_client_entry.specs.Renames.Paths.{reads_old}
+use Rattle.afr_client_entry.specs.Renames.Rename.{IsRemoving}
+use Rattle.afr_client_entry.specs.Renames.Under.{found_after, next_under, progress_after}
+use Rattle.afr_client_entry.specs.declared.renaming.paths.Paths.{Paths}
 use Rattle.afr_law_client.specs.Rename.RenameTelling.{ByFault, ByNothing, ByOther, DropsOldName, LastFits, OldTells, Removes, old_dir}
 use Rattle.afr_law_client.proofs.Rename.MakingLocks.{asked_on, asks_own, begins_own, begun_on, of_change, settled_on}
 use Rattle.afr_law_client.proofs.Rename.RemovingTurn.{has_made, removes_more}

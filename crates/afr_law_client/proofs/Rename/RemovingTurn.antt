@@ -32,10 +32,10 @@ use Rattle.afr_client_entry.specs.declared.stage.Found.TheVariants.{Unread, Fits
 use Rattle.afr_law_client.specs.Entry.EntryTelling.{FitsName, NameTells, OnChange, TransactionGoes}
 use Rattle.afr_law_client.proofs.Entry.Changing.{passed_like, unrefused_fits}
 use Rattle.afr_law_client.proofs.Entry.Under.{refused_by_locks}
-use Rattle.afr_client_rename.specs.Paths.{making_of}
-use Rattle.afr_client_rename.specs.Rename.{IsMaking, is_done}
-use Rattle.afr_client_rename.specs.declared.paths.Paths.{Paths}
-use Rattle.afr_client_rename.proofs.RenameLemmas.{done_is}
+use Rattle.afr_client_entry.specs.Renames.Paths.{making_of}
+use Rattle.afr_client_entry.specs.Renames.Rename.{IsMaking, is_done}
+use Rattle.afr_client_entry.specs.declared.renaming.paths.Paths.{Paths}
+use Rattle.afr_client_entry.proofs.Renames.RenameLemmas.{done_is}
 use Rattle.afr_law_client.specs.Rename.RenameTelling.{DropsOldName, HasWalked, LastFits, MakesNewName, Removes, to_of}
 use Rattle.afr_law_client.proofs.Rename.MakingMore.{making_like}
 use Rattle.afr_law_client.proofs.Rename.MakingAbout.{keeps_number}

@@ -36,10 +36,10 @@ use Rattle.afr_client_entry.specs.declared.stage.Found.TheVariants.{Fits}
 use Rattle.afr_model.proofs.Cut.Cut.{after_none, names_whole, parts_whole}
 use Rattle.afr_law_client.proofs.Second.Folds.{blamed_whole}
 use Rattle.afr_law_client.proofs.Write.Goes.{begun_stage}
-use Rattle.afr_client_rename.specs.Paths.{making_of, reads_old}
-use Rattle.afr_client_rename.specs.Rename.{IsRemoving}
-use Rattle.afr_client_rename.specs.Under.{next_under}
-use Rattle.afr_client_rename.specs.declared.paths.Paths.{Paths}
+use Rattle.afr_client_entry.specs.Renames.Paths.{making_of, reads_old}
+use Rattle.afr_client_entry.specs.Renames.Rename.{IsRemoving}
+use Rattle.afr_client_entry.specs.Renames.Under.{next_under}
+use Rattle.afr_client_entry.specs.declared.renaming.paths.Paths.{Paths}
 use Rattle.afr_law_client.specs.Rename.RenameTelling.{Removes}
 use Rattle.afr_law_client.proofs.Rename.MakingBlames.{under_blames}
 use Rattle.afr_law_client.proofs.Rename.MakingLocks.{begins_own}

@@ -27,7 +27,7 @@ use Rattle.afr_law_client.proofs.Read.Ended.{refusal_here, skips_nothing}
 use Rattle.afr_law_client.proofs.Read.Quiet.{begins_none}
 use Rattle.afr_law_client.proofs.Read.Untouched.{touches_nothing}
 use Rattle.afr_law_client.proofs.Entry.Begins.{IsOnWay}
-use Rattle.afr_client_rename.specs.declared.paths.Paths.{Paths}
+use Rattle.afr_client_entry.specs.declared.renaming.paths.Paths.{Paths}
 use Rattle.afr_law_client.specs.Rename.RenameTelling.{OnFirst, to_of}
 use Rattle.afr_law_client.proofs.Rename.Cut.{has_after, none_again}
 use Rattle.afr_law_client.proofs.Rename.Walks.{is_looked}

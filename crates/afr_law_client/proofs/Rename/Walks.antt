@@ -50,7 +50,7 @@ use Rattle.afr_law_client.proofs.Read.Untouched.{touches_nothing}
 use Rattle.afr_law_client.proofs.Read.WalksEnd as walk_ends
 use Rattle.afr_law_client.specs.About.{BlamesNext}
 use Rattle.afr_law_client.proofs.Entry.Begins.{about_walk}
-use Rattle.afr_client_rename.specs.declared.paths.Paths.{Paths}
+use Rattle.afr_client_entry.specs.declared.renaming.paths.Paths.{Paths}
 use Rattle.afr_law_client.specs.Rename.RenameTelling.{IsLeg, LegGoes, WalksOn, WalksToFile, command_of, to_of}
 use Rattle.afr_law_client.proofs.Rename.Cut.{line_makes, line_walks, none_again, not_again}
 

@@ -27,10 +27,10 @@ use Rattle.afr_law_client.proofs.Read.Walking.{path_kept, walk_tells_more}
 use Rattle.afr_law_client.specs.Entry.EntryTelling as entry
 use Rattle.afr_law_client.specs.Entry.EntryTelling.{command_of as job_command}
 use Rattle.afr_law_client.proofs.Entry.Walks.{walks_more}
-use Rattle.afr_client_rename.specs.Paths.{IsPaths, first_walked, second_walked}
-use Rattle.afr_client_rename.specs.Rename.{after_first, after_second}
-use Rattle.afr_client_rename.specs.declared.paths.Paths.{Paths}
-use Rattle.afr_client_rename.proofs.RenameLemmas.{first_paths}
+use Rattle.afr_client_entry.specs.Renames.Paths.{IsPaths, first_walked, second_walked}
+use Rattle.afr_client_entry.specs.Renames.Rename.{after_first, after_second}
+use Rattle.afr_client_entry.specs.declared.renaming.paths.Paths.{Paths}
+use Rattle.afr_client_entry.proofs.Renames.RenameLemmas.{first_paths}
 use Rattle.afr_law_client.specs.Rename.RenameTelling.{CanFind, IsLeg, OnFirst, RenameTells, WalksOn, WalksToFile, command_of, to_of}
 use Rattle.afr_law_client.proofs.Rename.MakingWalked.{first_more_on}
 use Rattle.afr_law_client.proofs.Rename.Walks.{finds_again, finds_walk, legs_more, not_all_asked, only_of, walks_again}

@@ -39,10 +39,10 @@ use Rattle.afr_law_client.proofs.Read.Ended.{skips_nothing}
 use Rattle.afr_law_client.specs.Entry.EntryTelling as entry
 use Rattle.afr_law_client.specs.Entry.EntryTelling.{HoldsName, TransactionGoes}
 use Rattle.afr_law_client.proofs.Entry.Begins.{moved}
-use Rattle.afr_client_rename.specs.Paths.{IsPaths, making_of}
-use Rattle.afr_client_rename.specs.Rename.{after_first, after_second, first_left, second_left, unread}
-use Rattle.afr_client_rename.specs.declared.paths.Paths.{Paths}
-use Rattle.afr_client_rename.specs.declared.stage.RenameStage.TheVariants.{Making, Ending}
+use Rattle.afr_client_entry.specs.Renames.Paths.{IsPaths, making_of}
+use Rattle.afr_client_entry.specs.Renames.Rename.{after_first, after_second, first_left, second_left, unread}
+use Rattle.afr_client_entry.specs.declared.renaming.paths.Paths.{Paths}
+use Rattle.afr_client_entry.specs.declared.renaming.stage.RenameStage.TheVariants.{Making, Ending}
 use Rattle.afr_law_client.specs.Rename.RenameTelling.{HasWalked, IsLeg, LegGoes, OnFirst, TellsIn, to_of, waiting}
 use Rattle.afr_law_client.proofs.Rename.Cut.{none_again}
 use Rattle.afr_law_client.proofs.Rename.WalkEnds.{first_directory, first_stopped, second_ended}

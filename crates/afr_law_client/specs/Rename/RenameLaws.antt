@@ -22,7 +22,7 @@ use Rattle.afr_model.specs.Kept.{IsKept}
 use Rattle.afr_model.specs.Renamed.{IsRenamed}
 use Rattle.afr_model.specs.Replied.{IsOf}
 use Rattle.afr_client_walk.specs.Choosing.{IsAmong}
-use Rattle.afr_client_rename.specs.Rename.{IsRename, Renaming, answered, choices_at, heard_by, next_of, rename_from}
+use Rattle.afr_client_entry.specs.Renames.Rename.{IsRename, Renaming, answered, choices_at, heard_by, next_of, rename_from}
 use Rattle.afr_law_client.specs.About.{BlamesNext}
 use Rattle.afr_law_client.specs.Laws.{IsNextLine}
 use Rattle.afr_law_client.specs.Rename.RenameTelling.{CanHear, RenameTells, to_of}

@@ -36,12 +36,12 @@ use Rattle.afr_client_entry.specs.declared.stage.Found.TheVariants.{Unread, Fits
 use Rattle.afr_law_client.specs.Read.Lines.{CanAnswer, LookedAll, LookedBut}
 use Rattle.afr_law_client.specs.Read.WalkTelling.{GoesOn, WalkTells}
 use Rattle.afr_law_client.specs.Entry.EntryTelling.{CanHearUnder, ChangesName, IsUnread, OnChange, Walks, WasGiven}
-use Rattle.afr_client_rename.specs.Against.{is_same}
-use Rattle.afr_client_rename.specs.Paths.{making_of}
-use Rattle.afr_client_rename.specs.Rename.{Renaming, is_done}
-use Rattle.afr_client_rename.specs.declared.paths.Paths.{Paths}
-use Rattle.afr_client_rename.specs.declared.stage.RenameStage.{RenameStage}
-use Rattle.afr_client_rename.specs.declared.stage.RenameStage.TheVariants.{Finding, Walking, Making, Removing, Ending}
+use Rattle.afr_client_entry.specs.Renames.Against.{is_same}
+use Rattle.afr_client_entry.specs.Renames.Paths.{making_of}
+use Rattle.afr_client_entry.specs.Renames.Rename.{Renaming, is_done}
+use Rattle.afr_client_entry.specs.declared.renaming.paths.Paths.{Paths}
+use Rattle.afr_client_entry.specs.declared.renaming.stage.RenameStage.{RenameStage}
+use Rattle.afr_client_entry.specs.declared.renaming.stage.RenameStage.TheVariants.{Finding, Walking, Making, Removing, Ending}
 use Rattle.afr_law_client.specs.Second.Held.{Holds}
 use Rattle.afr_law_client.specs.Write.WriteTelling.{CanTell}
 

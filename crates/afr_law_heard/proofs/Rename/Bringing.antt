@@ -36,13 +36,13 @@ use Rattle.afr_client_entry.specs.declared.stage.Found.TheVariants.{Unread, Fits
 use Rattle.afr_law_client.proofs.Read.ReadsMore.{asks_same}
 use Rattle.afr_law_client.proofs.Write.Goes.{asked_stage}
 use Rattle.afr_law_client.specs.Entry.EntryTelling.{OnChange}
-use Rattle.afr_client_rename.specs.Against.{half_reply}
-use Rattle.afr_client_rename.specs.Paths.{making_of, reads_new, reads_old, removal_of}
-use Rattle.afr_client_rename.specs.Rename.{CarriesNext, IsSound, is_done, next_at, turned}
-use Rattle.afr_client_rename.specs.Under.{IsUnder, next_under}
-use Rattle.afr_client_rename.specs.declared.paths.Paths.{Paths}
-use Rattle.afr_client_rename.specs.declared.stage.RenameStage.{RenameStage}
-use Rattle.afr_client_rename.specs.declared.stage.RenameStage.TheVariants.{Finding, Walking, Making, Removing, Ending}
+use Rattle.afr_client_entry.specs.Renames.Against.{half_reply}
+use Rattle.afr_client_entry.specs.Renames.Paths.{making_of, reads_new, reads_old, removal_of}
+use Rattle.afr_client_entry.specs.Renames.Rename.{CarriesNext, IsSound, is_done, next_at, turned}
+use Rattle.afr_client_entry.specs.Renames.Under.{IsUnder, next_under}
+use Rattle.afr_client_entry.specs.declared.renaming.paths.Paths.{Paths}
+use Rattle.afr_client_entry.specs.declared.renaming.stage.RenameStage.{RenameStage}
+use Rattle.afr_client_entry.specs.declared.renaming.stage.RenameStage.TheVariants.{Finding, Walking, Making, Removing, Ending}
 use Rattle.afr_law_client.specs.Rename.RenameTelling.{TellsIn}
 use Rattle.afr_law_heard.proofs.Bringing.{step_brings}
 use Rattle.afr_law_heard.proofs.SomeLines.{AreIn, work_in}

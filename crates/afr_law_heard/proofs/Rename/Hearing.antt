@@ -45,13 +45,13 @@ use Rattle.afr_law_client.proofs.Write.Goes.{asked_stage}
 use Rattle.afr_law_client.specs.Entry.EntryTelling.{CanHearUnder, NameTells, OnChange}
 use Rattle.afr_law_client.proofs.Entry.Names.{name_told}
 use Rattle.afr_law_client.proofs.Entry.Removing.{shown}
-use Rattle.afr_client_rename.specs.Against.{half_reply}
-use Rattle.afr_client_rename.specs.Paths.{making_of, reads_new, reads_old, removal_of}
-use Rattle.afr_client_rename.specs.Rename.{IsMaking, IsRemoving, IsSound, is_done, next_at, turned}
-use Rattle.afr_client_rename.specs.Under.{IsUnder, next_under}
-use Rattle.afr_client_rename.specs.declared.paths.Paths.{Paths}
-use Rattle.afr_client_rename.specs.declared.stage.RenameStage.{RenameStage}
-use Rattle.afr_client_rename.specs.declared.stage.RenameStage.TheVariants.{Finding, Walking, Making, Removing, Ending}
+use Rattle.afr_client_entry.specs.Renames.Against.{half_reply}
+use Rattle.afr_client_entry.specs.Renames.Paths.{making_of, reads_new, reads_old, removal_of}
+use Rattle.afr_client_entry.specs.Renames.Rename.{IsMaking, IsRemoving, IsSound, is_done, next_at, turned}
+use Rattle.afr_client_entry.specs.Renames.Under.{IsUnder, next_under}
+use Rattle.afr_client_entry.specs.declared.renaming.paths.Paths.{Paths}
+use Rattle.afr_client_entry.specs.declared.renaming.stage.RenameStage.{RenameStage}
+use Rattle.afr_client_entry.specs.declared.renaming.stage.RenameStage.TheVariants.{Finding, Walking, Making, Removing, Ending}
 use Rattle.afr_law_client.specs.Rename.RenameTelling.{CanFind, CanHear, CanHearMaking, MakesNewName, OldTells, Removes, TellsIn, old_dir, to_of}
 use Rattle.afr_law_heard.specs.Hears.{IsHeard}
 use Rattle.afr_law_heard.proofs.Hearing.{step_there}

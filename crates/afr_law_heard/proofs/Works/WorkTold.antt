@@ -60,7 +60,7 @@ use Rattle.afr_law_client.proofs.Entry.Begins.{begins as entry_begins}
 use Rattle.afr_law_client.proofs.Entry.Ends as entry
 use Rattle.afr_client.proofs.PathLemmas.{path_is, some_names}
 use Rattle.afr_client.proofs.WorkLemmas.{never_begins}
-use Rattle.afr_client_rename.specs.Paths.{front, last}
+use Rattle.afr_client_entry.specs.Renames.Paths.{front, last}
 use Rattle.afr_law_client.specs.Rename.RenameTelling.{to_of}
 use Rattle.afr_law_client.specs.Rename.RenameLaws.{RenameAbout, RenameBegins, RenameBegun, RenameBlames, RenameEnds, RenameKeepsName, RenameTellsMore}
 use Rattle.afr_plan.specs.OnNames.{has_name}

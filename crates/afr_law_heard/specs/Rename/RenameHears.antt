@@ -20,7 +20,7 @@ use Rattle.afr_model_moves.specs.Positions.{by_position}
 use Rattle.afr_law.specs.Beginning.{start_of}
 use Rattle.afr_law.specs.Exactly.{IsLawfulExactly, name_bound}
 use Rattle.afr_server.specs.Carried.{Brings}
-use Rattle.afr_client_rename.specs.Rename.{CarriesNext, IsRename, Renaming, next_of}
+use Rattle.afr_client_entry.specs.Renames.Rename.{CarriesNext, IsRename, Renaming, next_of}
 use Rattle.afr_law_client.specs.Rename.RenameTelling.{CanHear, RenameTells}
 use Rattle.afr_law_heard.specs.Hears.{IsHeard}
 

@@ -40,14 +40,14 @@ use Rattle.afr_client_entry.specs.declared.removing.stage.RemovalStage.TheVarian
 use Rattle.afr_client_entry.specs.declared.removing.stage.RemovalStage.{RemovalStage}
 use Rattle.afr_law_order.proofs.Asking.{asks_above as removal_above}
 use Rattle.afr_law_order.specs.Queue as removal_queue
-use Rattle.afr_client_rename.proofs.RenameLemmas.{done_is}
-use Rattle.afr_client_rename.specs.Against.{half_reply}
-use Rattle.afr_client_rename.specs.Paths.{reads_new, reads_old}
-use Rattle.afr_client_rename.specs.Rename as rename
-use Rattle.afr_client_rename.specs.Rename.{Renaming, is_done, turned}
-use Rattle.afr_client_rename.specs.Under.{next_under}
-use Rattle.afr_client_rename.specs.declared.stage.RenameStage.TheVariants as renaming
-use Rattle.afr_client_rename.specs.declared.stage.RenameStage.{RenameStage}
+use Rattle.afr_client_entry.proofs.Renames.RenameLemmas.{done_is}
+use Rattle.afr_client_entry.specs.Renames.Against.{half_reply}
+use Rattle.afr_client_entry.specs.Renames.Paths.{reads_new, reads_old}
+use Rattle.afr_client_entry.specs.Renames.Rename as rename
+use Rattle.afr_client_entry.specs.Renames.Rename.{Renaming, is_done, turned}
+use Rattle.afr_client_entry.specs.Renames.Under.{next_under}
+use Rattle.afr_client_entry.specs.declared.renaming.stage.RenameStage.TheVariants as renaming
+use Rattle.afr_client_entry.specs.declared.renaming.stage.RenameStage.{RenameStage}
 use Rattle.afr_client_transaction.proofs.Kept.{asked_of, same_asked}
 use Rattle.afr_client_transaction.specs.Outcome.{outcome_of}
 use Rattle.afr_client_transaction.specs.Progress as transaction

@@ -43,15 +43,15 @@ use Rattle.afr_client_entry.specs.Removals.Sound as removing
 use Rattle.afr_law_order.proofs.Asking.{starts_queued as removal_starts, stays_queued as removal_stays}
 use Rattle.afr_law_order.proofs.Rows.{keeps_row, none_rises}
 use Rattle.afr_law_order.specs.Queue as removal_queue
-use Rattle.afr_client_rename.proofs.RenameLemmas.{done_is, over_not_done}
-use Rattle.afr_client_rename.specs.Against.{against_new, against_old}
-use Rattle.afr_client_rename.specs.Paths.{first_walked, front, last, making_of, reads_new, reads_old, removal_of, second_walked}
-use Rattle.afr_client_rename.specs.Rename as rename
-use Rattle.afr_client_rename.specs.Rename.{IsMaking, Renaming, is_done, turned}
-use Rattle.afr_client_rename.specs.Under.{progress_after}
-use Rattle.afr_client_rename.specs.declared.paths.Paths.{Paths}
-use Rattle.afr_client_rename.specs.declared.stage.RenameStage.TheVariants as renaming
-use Rattle.afr_client_rename.specs.declared.stage.RenameStage.{RenameStage}
+use Rattle.afr_client_entry.proofs.Renames.RenameLemmas.{done_is, over_not_done}
+use Rattle.afr_client_entry.specs.Renames.Against.{against_new, against_old}
+use Rattle.afr_client_entry.specs.Renames.Paths.{first_walked, front, last, making_of, reads_new, reads_old, removal_of, second_walked}
+use Rattle.afr_client_entry.specs.Renames.Rename as rename
+use Rattle.afr_client_entry.specs.Renames.Rename.{IsMaking, Renaming, is_done, turned}
+use Rattle.afr_client_entry.specs.Renames.Under.{progress_after}
+use Rattle.afr_client_entry.specs.declared.renaming.paths.Paths.{Paths}
+use Rattle.afr_client_entry.specs.declared.renaming.stage.RenameStage.TheVariants as renaming
+use Rattle.afr_client_entry.specs.declared.renaming.stage.RenameStage.{RenameStage}
 use Rattle.afr_client_transaction.proofs.Kept.{answers_line, asking_of, sound_first, stays_sound}
 use Rattle.afr_client_transaction.proofs.ReadLemmas.{kept_read}
 use Rattle.afr_client_transaction.specs.Between.{noted_read}

@@ -15,8 +15,8 @@ use Rattle.afr_law_pace.proofs.Order.{Rises}
 use Rattle.afr_law_pace.specs.Left as transaction
 use Rattle.afr_plan.specs.declared.command.Command.{Command}
 use Rattle.afr_law_order.specs.Queue as removal
-use Rattle.afr_client_rename.specs.declared.stage.RenameStage.TheVariants as renaming
-use Rattle.afr_client_rename.specs.declared.stage.RenameStage.{RenameStage}
+use Rattle.afr_client_entry.specs.declared.renaming.stage.RenameStage.TheVariants as renaming
+use Rattle.afr_client_entry.specs.declared.renaming.stage.RenameStage.{RenameStage}
 use Rattle.afr_client_walk.specs.Choosing.{IsAmong}
 use Rattle.afr_client.specs.Begin.{work_from}
 use Rattle.afr_client.specs.Work.{IsWork, choices_of, heard_by, next_of}

@@ -20,11 +20,11 @@ use Rattle.afr_law_pace.proofs.Nearer.{by_stage, most, nearer, some_end, starts,
 use Rattle.afr_law_pace.proofs.Writes.{told_is}
 use Rattle.afr_law_pace.specs.Left as pace
 use Rattle.afr_law_pace.specs.Left.{asks_again, left_at, lines_left}
-use Rattle.afr_client_rename.proofs.RenameLemmas.{done_is, removal_suits}
-use Rattle.afr_client_rename.specs.Paths.{removal_of}
-use Rattle.afr_client_rename.specs.Rename.{IsMaking, is_done, turned}
-use Rattle.afr_client_rename.specs.Under.{found_after, progress_after}
-use Rattle.afr_client_rename.specs.declared.paths.Paths.{Paths}
+use Rattle.afr_client_entry.proofs.Renames.RenameLemmas.{done_is, removal_suits}
+use Rattle.afr_client_entry.specs.Renames.Paths.{removal_of}
+use Rattle.afr_client_entry.specs.Renames.Rename.{IsMaking, is_done, turned}
+use Rattle.afr_client_entry.specs.Renames.Under.{found_after, progress_after}
+use Rattle.afr_client_entry.specs.declared.renaming.paths.Paths.{Paths}
 use Rattle.afr_law_pace.specs.Rename.Renames.{for_read, whole_part}
 use Rattle.afr_law_pace.specs.Entry.Entries.{AsksUnder, BeginsUnder}
 use Rattle.afr_client_transaction.proofs.Kept.{sound_first}

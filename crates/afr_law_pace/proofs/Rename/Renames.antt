@@ -16,14 +16,14 @@ use Rattle.afr_law_pace.proofs.Walks.{shape_kept, walk_nearer, walk_starts}
 use Rattle.afr_law_pace.specs.Left as pace
 use Rattle.afr_law_pace.specs.Left.{asks_again, count, lines_left}
 use Rattle.afr_law_pace.specs.Walks.{for_others, walk_left, walk_left_at}
-use Rattle.afr_client_rename.proofs.RenameLemmas.{first_paths, second_paths}
-use Rattle.afr_client_rename.specs.Against.{against_new, against_old}
-use Rattle.afr_client_rename.specs.Paths.{IsPaths, first_walked, front, making_of, reads_new, reads_old, second_walked}
-use Rattle.afr_client_rename.specs.Rename.{IsMaking, IsSound, after_first, after_second, answered, at_directory, choices_at, first_left, is_done, making_after, second_begun, second_left, stage_begun, unread}
-use Rattle.afr_client_rename.specs.Under.{found_after, progress_after}
-use Rattle.afr_client_rename.specs.declared.paths.Paths.{Paths}
-use Rattle.afr_client_rename.specs.declared.stage.RenameStage.TheVariants.{Ending, Finding, Making, Removing, Walking}
-use Rattle.afr_client_rename.specs.declared.stage.RenameStage.{RenameStage}
+use Rattle.afr_client_entry.proofs.Renames.RenameLemmas.{first_paths, second_paths}
+use Rattle.afr_client_entry.specs.Renames.Against.{against_new, against_old}
+use Rattle.afr_client_entry.specs.Renames.Paths.{IsPaths, first_walked, front, making_of, reads_new, reads_old, second_walked}
+use Rattle.afr_client_entry.specs.Renames.Rename.{IsMaking, IsSound, after_first, after_second, answered, at_directory, choices_at, first_left, is_done, making_after, second_begun, second_left, stage_begun, unread}
+use Rattle.afr_client_entry.specs.Renames.Under.{found_after, progress_after}
+use Rattle.afr_client_entry.specs.declared.renaming.paths.Paths.{Paths}
+use Rattle.afr_client_entry.specs.declared.renaming.stage.RenameStage.TheVariants.{Ending, Finding, Making, Removing, Walking}
+use Rattle.afr_client_entry.specs.declared.renaming.stage.RenameStage.{RenameStage}
 use Rattle.afr_law_pace.proofs.Rename.Parts.{begins_there, begun_is, part_nearer, part_shape, turn_nearer}
 use Rattle.afr_law_pace.specs.Rename.Renames.{AsksMaking, AsksRename, BeginsRename, FitsRename, RenameBeginsNearer, RenameComesNearer, RenameKeepsEnd, RenameStartsWithin, for_read, rename_again, rename_left, rename_left_at, whole_part}
 use Rattle.afr_client_transaction.specs.Progress.{TransactionProgress, begun, starting}

@@ -58,14 +58,14 @@ use Rattle.afr_client_transaction.specs.declared.stage.Stage.{Stage}
 use Rattle.afr_client_walk.specs.Choosing.{IsAmong}
 use Rattle.afr_law_pace.proofs.Work.Asking.{AskedAt, asked_at, by_stage, counts_one, lock_counts, removal_asked_at}
 use Rattle.afr_law_pace.specs.Work.Left.{FitsUnlock, WorkBeginsNearer, WorkComesNearer, WorkKeepsEnd, WorkStartsWithin, work_left}
-use Rattle.afr_client_rename.specs.Against.{half_reply}
-use Rattle.afr_client_rename.specs.Paths.{front, last, reads_new, reads_old, removal_of}
-use Rattle.afr_client_rename.specs.Rename as rename
-use Rattle.afr_client_rename.specs.Rename.{Renaming, turned}
-use Rattle.afr_client_rename.specs.Under.{next_under}
-use Rattle.afr_client_rename.specs.declared.paths.Paths.{Paths}
-use Rattle.afr_client_rename.specs.declared.stage.RenameStage.TheVariants as renaming
-use Rattle.afr_client_rename.specs.declared.stage.RenameStage.{RenameStage}
+use Rattle.afr_client_entry.specs.Renames.Against.{half_reply}
+use Rattle.afr_client_entry.specs.Renames.Paths.{front, last, reads_new, reads_old, removal_of}
+use Rattle.afr_client_entry.specs.Renames.Rename as rename
+use Rattle.afr_client_entry.specs.Renames.Rename.{Renaming, turned}
+use Rattle.afr_client_entry.specs.Renames.Under.{next_under}
+use Rattle.afr_client_entry.specs.declared.renaming.paths.Paths.{Paths}
+use Rattle.afr_client_entry.specs.declared.renaming.stage.RenameStage.TheVariants as renaming
+use Rattle.afr_client_entry.specs.declared.renaming.stage.RenameStage.{RenameStage}
 use Rattle.afr_law_pace.specs.Rename.Renames.{AsksMaking, AsksRename, BeginsRename, FitsRename, RenameBeginsNearer, RenameComesNearer, RenameKeepsEnd, RenameStartsWithin, rename_again, rename_left}
 use Rattle.afr_client.proofs.WorkLemmas.{same_under}
 use Rattle.afr_client.specs.Begin.{work_from}

@@ -10,12 +10,12 @@ use Rattle.afr_lines.specs.declared.answer.Told.{Told}
 use Rattle.afr_lines.specs.declared.line.Heard.TheVariants as heard
 use Rattle.afr_law_pace.specs.Left.{FitsAnUnlock, asks_again, lines_left}
 use Rattle.afr_law_pace.specs.Walks.{walk_left}
-use Rattle.afr_client_rename.specs.Rename.{IsRename, Renaming, choices_heard, heard_by, is_done, rename_from}
-use Rattle.afr_client_rename.specs.declared.paths.Paths.{Paths}
+use Rattle.afr_client_entry.specs.Renames.Rename.{IsRename, Renaming, choices_heard, heard_by, is_done, rename_from}
+use Rattle.afr_client_entry.specs.declared.renaming.paths.Paths.{Paths}
 use Rattle.afr_client_entry.specs.declared.stage.Found.TheVariants.{Unread}
 use Rattle.afr_client_entry.specs.declared.stage.Found.{Found}
-use Rattle.afr_client_rename.specs.declared.stage.RenameStage.TheVariants.{Ending, Finding, Making, Removing, Walking}
-use Rattle.afr_client_rename.specs.declared.stage.RenameStage.{RenameStage}
+use Rattle.afr_client_entry.specs.declared.renaming.stage.RenameStage.TheVariants.{Ending, Finding, Making, Removing, Walking}
+use Rattle.afr_client_entry.specs.declared.renaming.stage.RenameStage.{RenameStage}
 use Rattle.afr_client_transaction.specs.Progress.{TransactionProgress}
 use Rattle.afr_client_transaction.specs.declared.stage.Stage.TheVariants.{Locking}
 use Rattle.afr_client_transaction.specs.declared.stage.Stage.{Stage}

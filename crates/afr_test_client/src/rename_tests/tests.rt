@@ -1,6 +1,6 @@
 //! Renames of a file in the root, to their ends.
 use afr_base::{AllMarks, BrickId, Gfid, NameId, Shape, What};
-use afr_client_rename::{RenameMachine, a_rename_keeps_the_discipline, a_rename_reads_good_copies};
+use afr_client_entry::{RenameMachine, a_rename_keeps_the_discipline, a_rename_reads_good_copies};
 use afr_lines::{Answer, Area, Good, Heard, Next, Reply, Request};
 use afr_object::{Change, Entry, Load, View};
 use afr_rule::ReadRule;

@@ -1,0 +1,4 @@
+pub mod UnderLemmas
+pub mod RenameLemmas
+pub mod HeardLemmas
+pub mod PathLemmas

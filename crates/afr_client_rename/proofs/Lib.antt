@@ -1,4 +1,0 @@
-pub mod UnderLemmas
-pub mod RenameLemmas
-mod HeardLemmas
-pub mod PathLemmas

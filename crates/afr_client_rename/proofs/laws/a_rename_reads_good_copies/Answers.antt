@@ -1,5 +1,0 @@
-use Rattle.afr_client_rename.proofs.RenameLemmas.{fed_is_answered}
-use Rattle.afr_client_rename.proofs.laws.a_rename_reads_good_copies.Goals as goal
-
-pub returns : goal.returns
-returns g c = fed_is_answered g.G.Fn c.args.rule.now
