@@ -103,7 +103,7 @@ is_beginning stage = false
 
 -- the contents that go with the next request: the change, where the operation is asked for
 abbrev pub CarriesAt : Stage → Load → Change → Type 0
-CarriesAt Applying (load.Change suffices_by) change = suffices_by.now ≡ change
+CarriesAt Applying (load.Change carried) change = carried.now ≡ change
 CarriesAt Applying other change = ⊥
 CarriesAt stage load.Nothing change = Unit {0}
 CarriesAt stage other change = ⊥

@@ -5,7 +5,7 @@ use Rattle.afr_lines.specs.Work.{is_end}
 use Rattle.afr_lines.specs.declared.line.Line.TheVariants.{End}
 use Rattle.afr_lines.specs.declared.line.Line.{Line}
 use Rattle.afr_log.specs.Log.{waits_for}
-use Rattle.afr_order.specs.Going.{IsHappening, Still, Later}
+use Rattle.afr_volume.specs.Going.{IsHappening, Still, Later}
 use Rattle.afr_volume.specs.State.{State}
 use Rattle.afr_volume.specs.Turning.{AddsLine, Turns}
 use Rattle.afr_volume.specs.declared.turned.Turned.{Turned}

@@ -16,7 +16,7 @@ use Rattle.afr_live.specs.declared.held.Held.{Held}
 use Rattle.afr_log.specs.Log.{waits_for}
 use Rattle.afr_model.specs.Actors.{IsActor}
 use Rattle.afr_model.specs.Actors.IsActor.{Client, Healer}
-use Rattle.afr_order.specs.Going.{Goes, IsHappening, Later, Still}
+use Rattle.afr_volume.specs.Going.{Goes, IsHappening, Later, Still}
 use Rattle.afr_plan.specs.declared.plan.Plan.{Plan}
 use Rattle.afr_lines.specs.declared.lock.Domain.TheVariants.{Work}
 use Rattle.afr_volume.specs.State.{State}

@@ -9,8 +9,8 @@ use Rattle.afr_lines.specs.declared.request.Request.TheVariants.{Lock}
 use Rattle.afr_live.specs.Noted.{IsSettled}
 use Rattle.afr_model.specs.Actors.{IsActor, is_done}
 use Rattle.afr_model.specs.Following.{NoneDue}
-use Rattle.afr_order.proofs.DoneLemmas.{pass_each, pass_same}
-use Rattle.afr_order.specs.Going.{Goes, IsIdle}
+use Rattle.afr_volume.proofs.DoneLemmas.{pass_each, pass_same}
+use Rattle.afr_volume.specs.Going.{Goes, IsIdle}
 use Rattle.afr_plan.specs.declared.plan.Plan.{Plan}
 use Rattle.afr_lines.specs.declared.lock.Domain.TheVariants.{Work}
 use Rattle.afr_law_bound.proofs.Standstill.Standing.{goes_on, held_waits, kept_before}

@@ -3,7 +3,7 @@ ghost use Rattle.std.specs.Prelude.{◌≡◌, ◌≤◌, ◌<◌, ◌+◌, ◌^
 ghost use Rattle.afr_model.specs.Actors.{IsActor};
 ghost use Rattle.afr_model.specs.Complete.{IsComplete};
 ghost use Rattle.afr_live.specs.Noted.{IsSettled};
-ghost use Rattle.afr_order.specs.Going.{Goes, IsIdle};
+ghost use Rattle.afr_volume.specs.Going.{Goes, IsIdle};
 ghost use Rattle.afr_rule.specs.Choosing.{IsRule};
 
 use crate::shared::Shared;

@@ -8,7 +8,7 @@ ghost use Rattle.afr_lines.specs.Work.{is_end};
 ghost use Rattle.afr_lines.specs.declared.line.Line.{Line};
 ghost use Rattle.afr_model.specs.Actors.{IsActor, is_done};
 ghost use Rattle.afr_model.specs.Following.{NoneDue};
-ghost use Rattle.afr_order.specs.Going.{Goes};
+ghost use Rattle.afr_volume.specs.Going.{Goes};
 ghost use Rattle.afr_rule.specs.Choosing.{IsRule};
 ghost use Rattle.afr_volume.specs.State.{State};
 ghost use Rattle.afr_volume.specs.Turning.{Turns, due_of};
@@ -17,9 +17,8 @@ use crate::held::Held;
 use crate::tally::{EndedWorks, Handed, Run};
 use afr_base::{ActorId, NoMemory};
 use afr_lines::Line;
-use afr_order::come_due;
 use afr_rule::{Candidate, Rules};
-use afr_volume::{Turned, Volume};
+use afr_volume::{Turned, Volume, come_due};
 use std::sync::ledger::Book;
 
 /// A volume that threads share. Whenever its lock is free, its plan is that of the run, its book has counted the End

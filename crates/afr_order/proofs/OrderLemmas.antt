@@ -10,8 +10,8 @@ use Rattle.afr_model.specs.Ordered.{IsOrdered, actors_of, ordered_turns, passes}
 use Rattle.afr_model.specs.Ordered.Writes.{Nothing}
 use Rattle.afr_volume.specs.State.{State}
 use Rattle.afr_model.specs.Actors.{is_done}
-use Rattle.afr_order.specs.Going.{Goes, Takes, TakesFront, TakesPasses}
-use Rattle.afr_order.proofs.GoingLemmas.{front_more, front_then, takes_then, takes_passes}
+use Rattle.afr_volume.specs.Going.{Goes, Takes, TakesFront, TakesPasses}
+use Rattle.afr_volume.proofs.GoingLemmas.{front_more, front_then, takes_then, takes_passes}
 
 pub range_suc : (a n j : ℕ) → a + n ≡ j → range_with_len a (suc n) ≡ range_with_len a n ++ j ∷ []
 range_suc a zero j e = let f : a ≡ j = omega (arith, e) in ap (λ (x : ℕ). x ∷ []) f

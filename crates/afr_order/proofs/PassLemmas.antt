@@ -10,8 +10,8 @@ use Rattle.afr_model.specs.Ordered.Writes.{PassesOver}
 use Rattle.afr_plan.specs.declared.plan.Plan.{Plan}
 use Rattle.afr_volume.specs.State.{State}
 use Rattle.afr_model.specs.Ordered.{actors_of}
-use Rattle.afr_order.specs.Going.{Ends, Goes, Takes, TakesFront}
-use Rattle.afr_order.proofs.GoingLemmas.{ends_then, front_then, front_whole, goes_nowhere, goes_then, takes_none, takes_then}
+use Rattle.afr_volume.specs.Going.{Ends, Goes, Takes, TakesFront}
+use Rattle.afr_volume.proofs.GoingLemmas.{ends_then, front_then, front_whole, goes_nowhere, goes_then, takes_none, takes_then}
 use Rattle.afr_order.proofs.OrderLemmas.{range_split}
 
 -- how many clients and healers a plan has

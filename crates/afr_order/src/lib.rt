@@ -5,7 +5,7 @@ ghost use Rattle.std.specs.Prelude.{◌≡◌, IfOk, OnOk, []};
 ghost use Rattle.afr_model.specs.Complete.{IsComplete};
 ghost use Rattle.afr_model.specs.Ordered.{IsOrdered, ordered_turns};
 ghost use Rattle.afr_order.specs.Ending.{EndsInBound};
-ghost use Rattle.afr_order.specs.Going.{Ends, Goes, TakesFront, TakesPasses};
+ghost use Rattle.afr_volume.specs.Going.{Ends, Goes, TakesFront, TakesPasses};
 ghost use Rattle.afr_rule.specs.Choosing.{IsRule};
 ghost use Rattle.afr_volume.specs.Right.{IsChosenBy, IsRight, KeepsChosen};
 
@@ -17,7 +17,6 @@ use afr_base::NoMemory;
 use afr_law_bound::an_ordered_run_ends;
 use afr_rule::{Candidate, Rules};
 use afr_volume::Volume;
-pub use turns::come_due;
 
 /// Runs the plan that the volume was set up with, until every actor is done or the log is full: first its orders, then
 /// passes over all actors. Heals ask one of the rules for their sources, and clients the other for the copies that they

@@ -6,12 +6,12 @@ ghost use Rattle.afr_model.specs.Complete.{IsComplete};
 ghost use Rattle.afr_model.specs.Ordered.{actors_of, ordered_turns};
 ghost use Rattle.afr_rule.specs.Choosing.{IsRule};
 ghost use Rattle.afr_volume.specs.Right.{KeepsChosen};
-ghost use Rattle.afr_order.specs.Going.{ClientsAreDone, Goes, TakesFront, TakesPasses, Ends, IsIdle};
+ghost use Rattle.afr_volume.specs.Going.{ClientsAreDone, Goes, TakesFront, TakesPasses, Ends, IsIdle};
 
-use crate::turns::{come_due, take_turn, take_turns};
+use crate::turns::{take_turn, take_turns};
 use afr_base::{ActorId, FIRST_CLIENT, FIRST_HEALER, NoMemory};
 use afr_rule::{Candidate, Rules};
-use afr_volume::Volume;
+use afr_volume::{Volume, come_due};
 
 /// All orders of the plan. It answers whether the log had room.
 pub(crate) fn all_orders<F: Fn(&[Candidate]) -> usize, G: Fn(&[Candidate]) -> usize>(

@@ -1,45 +1,13 @@
-//! The events that are due, and turns of one actor.
-ghost use Rattle.std.specs.Prelude.{◌≡◌, ◌≤◌, ◌<◌, ◌∷◌, [], true, Ok, None, OnOk, IfOk, length, replicate};
+//! Turns of one actor, each after the events that are due.
+ghost use Rattle.std.specs.Prelude.{◌≡◌, ◌≤◌, ◌∷◌, [], true, Ok, IfOk, length, replicate};
 ghost use Rattle.afr_model.specs.Actors.{IsActor, is_done};
-ghost use Rattle.afr_model.specs.Following.{NoneDue};
 ghost use Rattle.afr_rule.specs.Choosing.{IsRule};
 ghost use Rattle.afr_volume.specs.Right.{KeepsChosen};
-ghost use Rattle.afr_volume.specs.Turning.{due_of};
-ghost use Rattle.afr_order.specs.Going.{Goes, Takes, TakesFront, Ends, IsHappening, goes_on_after};
+ghost use Rattle.afr_volume.specs.Going.{Ends, Goes, TakesFront, goes_on_after};
 
 use afr_base::{ActorId, NoMemory};
 use afr_rule::{Candidate, Rules};
-use afr_volume::{Turned, Volume};
-
-/// All events that are due. Where none is left, that is one comparison.
-#[inline]
-pub fn come_due(volume: &mut Volume) -> Result<(), NoMemory>
-    ensures goes { Goes volume.old volume.new }
-    ensures taken { Takes volume.old.plan [] volume.old.log volume.new.log }
-    ensures none { OnOk result (due_of volume.new ≡ None) }
-    ensures events { OnOk result (length volume.new.log < volume.new.plan.turns → NoneDue volume.new.plan volume.new.log) }
-    ensures happens { IsHappening volume.old volume.new }
-{
-    if volume.has_due() {
-        return all_come(volume);
-    }
-    Ok(())
-}
-
-/// One event after another, until none is due. It stands apart, so that a turn before which none is due pays for no call.
-#[inline(never)]
-fn all_come(volume: &mut Volume) -> Result<(), NoMemory>
-    ensures goes { Goes volume.old volume.new }
-    ensures taken { Takes volume.old.plan [] volume.old.log volume.new.log }
-    ensures none { OnOk result (due_of volume.new ≡ None) }
-    ensures events { OnOk result (length volume.new.log < volume.new.plan.turns → NoneDue volume.new.plan volume.new.log) }
-    ensures happens { IsHappening volume.old volume.new }
-{
-    while volume.has_due() {
-        volume.event()?;
-    }
-    Ok(())
-}
+use afr_volume::{Turned, Volume, come_due};
 
 fn goes_on(turned: Turned) -> bool
     ensures { result ≡ goes_on_after turned }

@@ -26,3 +26,6 @@ mod PaceTurns
 mod PaceHeals
 mod PaceRounds
 mod PaceEvents
+pub mod GoingLemmas
+pub mod DoneLemmas
+pub mod PresumedLemmas

@@ -6,3 +6,4 @@ pub mod Keeping
 pub mod Turning
 pub mod Starting
 pub mod Right
+pub mod Going

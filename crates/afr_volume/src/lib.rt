@@ -2,6 +2,7 @@
 #![tactic(auto)]
 
 mod actor;
+mod due;
 mod healers;
 mod laws;
 mod set_up;
@@ -9,5 +10,6 @@ mod turned;
 mod turns;
 mod volume;
 
+pub use due::come_due;
 pub use turned::Turned;
 pub use volume::Volume;

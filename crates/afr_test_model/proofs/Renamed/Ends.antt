@@ -18,8 +18,8 @@ use Rattle.afr_model.specs.Parts.{first_part, the_make, the_removal, the_walk}
 use Rattle.afr_model.specs.Renamed.{AreLegs, HasFound, IsHalved, IsLookedFor, IsMade, IsOfRename, IsRenamed, StillLeads, since_name}
 use Rattle.afr_model.specs.Renamed as rename
 use Rattle.afr_test_model.proofs.Renamed.Lines.{at_each, begin, file, file_entry, from, halved, link, linked, lock, look, made_at_one, new_area, old_area, other_file, plan, ready_again, ready_elsewhere, removal, renamed, to, walked}
-use Rattle.afr_test_model.proofs.Renamed.Means.{from_none, from_some}
-use Rattle.afr_test_model.proofs.Renamed.Skipping.{all_locked, all_looked}
+use Rattle.afr_test_model.proofs.Means.{from_none, from_some}
+use Rattle.afr_test_model.proofs.Skipping.{all_locked, all_looked}
 
 -- ---- nothing is skipped
 -- a part without an attempt

@@ -16,7 +16,7 @@ use Rattle.afr_model.specs.Answered.{Counts, LooksHere, MayRead}
 use Rattle.afr_model.specs.Refusals.{refusal}
 use Rattle.afr_model.specs.Showing.{NotAsked, among, begins_attempt, has, looked_by, path_by, reading_by, root_entry}
 use Rattle.afr_model.specs.Standing.{area_here, change_by, getting, looks_here}
-use Rattle.afr_test_model.proofs.Renamed.Means.{from_none, from_some, three}
+use Rattle.afr_test_model.proofs.Means.{from_none, from_some, three}
 use Rattle.afr_model.specs.Renamed.{IsOfRename, KeepsToRename}
 use Rattle.afr_test_model.proofs.Renamed.Lines.{file, file_entry, from, link, linked, new_area, old_area, plan, ready, ready_again, removal, renamed, to, walked}
 

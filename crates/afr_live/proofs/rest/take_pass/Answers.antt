@@ -2,7 +2,7 @@
 use Rattle.std.proofs.Common.{◌≡◌, Ok, true, ap, arith, length}
 use Rattle.std.proofs.lemmas.Grind.{common_steps}
 use Rattle.afr_live.proofs.SettledLemmas.{pass_settled}
-use Rattle.afr_order.proofs.EndLemmas.{kept_of}
+use Rattle.afr_volume.proofs.PresumedLemmas.{kept_of}
 use Rattle.afr_live.proofs.rest.take_pass.Goals as goal
 
 pub returns-clause-idle : goal.returns-clause-idle

@@ -1,7 +1,7 @@
 -- A pass that added no line was the last one.
 use Rattle.std.proofs.Common.{◌≡◌, ◌≤◌, Ok, true, ap, arith, length}
 use Rattle.std.proofs.lemmas.Grind.{common_steps}
-use Rattle.afr_order.proofs.DoneLemmas.{complete}
+use Rattle.afr_volume.proofs.DoneLemmas.{complete}
 use Rattle.afr_live.proofs.rest.take_rest.Goals as goal
 
 pub returns-then-len-before-clause-ok : goal.returns-then-len-before-clause-ok

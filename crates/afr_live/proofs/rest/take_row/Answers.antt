@@ -2,8 +2,8 @@
 use Rattle.std.proofs.Common.{◌≡◌, ◌∙◌, true, Ok, ap, arith}
 use Rattle.std.proofs.lemmas.Grind.{common_steps}
 use Rattle.afr_live.specs.Noted.{IsSettled}
-use Rattle.afr_order.proofs.DoneLemmas.{row_each}
-use Rattle.afr_order.proofs.GoingLemmas.{goes_then}
+use Rattle.afr_volume.proofs.DoneLemmas.{row_each}
+use Rattle.afr_volume.proofs.GoingLemmas.{goes_then}
 use Rattle.afr_live.proofs.rest.take_row.Goals as goal
 
 pub ask-requires-clause-actor : goal.ask-requires-clause-actor

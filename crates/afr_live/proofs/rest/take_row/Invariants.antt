@@ -1,6 +1,6 @@
 use Rattle.std.specs.Prelude.{◌≡◌, ◌≤◌, ◌<◌, ◌+◌, ℕ, length}
 use Rattle.afr_live.specs.Noted.{IsSettled}
-use Rattle.afr_order.specs.Going.{Goes}
+use Rattle.afr_volume.specs.Going.{Goes}
 use Rattle.afr_live.proofs.rest.take_row.Given as goal
 
 abbrev pub invariant-loop-i : goal.invariant-loop-i

@@ -1,6 +1,6 @@
 -- A run that has turns enough has done all.
 use Rattle.afr_live.proofs.EagerLemmas.{eager_done}
-use Rattle.afr_order.proofs.EndLemmas.{kept_of}
+use Rattle.afr_volume.proofs.PresumedLemmas.{kept_of}
 use Rattle.afr_live.proofs.threads.live.Goals as goal
 
 pub returns-in-Ok-clause-ends : goal.returns-in-Ok-clause-ends

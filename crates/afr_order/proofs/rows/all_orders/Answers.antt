@@ -2,7 +2,7 @@ use Rattle.std.proofs.Common.{◌+◌, ◌≡◌, Some, true, arith, replicate, 
 use Rattle.std.specs.Prelude.{slice_get}
 use Rattle.std.proofs.lemmas.Grind.{common_steps}
 use Rattle.afr_model.specs.Ordered.{ordered_turns}
-use Rattle.afr_order.proofs.GoingLemmas.{goes_then, takes_then, front_then, ends_true}
+use Rattle.afr_volume.proofs.GoingLemmas.{goes_then, takes_then, front_then, ends_true}
 use Rattle.afr_order.proofs.OrderLemmas.{orders_more, front_of_orders}
 use Rattle.afr_order.proofs.rows.all_orders.Goals as goal
 

@@ -1,7 +1,7 @@
 use Rattle.std.proofs.Common.{take}
 use Rattle.afr_model.specs.Ordered.{ordered_turns}
 use Rattle.afr_volume.specs.Right.{KeepsChosen}
-use Rattle.afr_order.specs.Going.{Goes, Takes}
+use Rattle.afr_volume.specs.Going.{Goes, Takes}
 use Rattle.afr_order.proofs.rows.all_orders.Given as goal
 
 abbrev pub invariant-loop-i : goal.invariant-loop-i

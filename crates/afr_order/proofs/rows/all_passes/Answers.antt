@@ -1,8 +1,8 @@
 -- Each pass is one more, and one that added no line has found every actor done.
 use Rattle.std.proofs.Common.{◌≡◌, ◌≤◌, Ok, ap, length, true, arith, suc}
 use Rattle.std.proofs.lemmas.Grind.{common_steps}
-use Rattle.afr_order.proofs.DoneLemmas.{complete}
-use Rattle.afr_order.proofs.GoingLemmas.{done_then, goes_then, ends_true}
+use Rattle.afr_volume.proofs.DoneLemmas.{complete}
+use Rattle.afr_volume.proofs.GoingLemmas.{done_then, goes_then, ends_true}
 use Rattle.afr_order.proofs.OrderLemmas.{front_of_passes, takes_pass}
 use Rattle.afr_order.proofs.rows.all_passes.Goals as goal
 

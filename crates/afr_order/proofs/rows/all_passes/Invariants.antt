@@ -1,7 +1,7 @@
 use Rattle.std.proofs.Common.{◌-◌, ℕ, length}
 use Rattle.afr_model.specs.Ordered.{actors_of, passes}
 use Rattle.afr_volume.specs.Right.{KeepsChosen}
-use Rattle.afr_order.specs.Going.{ClientsAreDone, Goes, Takes}
+use Rattle.afr_volume.specs.Going.{ClientsAreDone, Goes, Takes}
 use Rattle.afr_order.proofs.rows.all_passes.Given as goal
 
 abbrev pub invariant-loop-volume : goal.invariant-loop-volume

@@ -1,8 +1,8 @@
 use Rattle.std.proofs.Common.{◌≡◌, true, Ok, ap, arith, length}
 use Rattle.std.proofs.lemmas.Grind.{common_steps}
 use Rattle.afr_law_picks.specs.Sources.Sources.{picks_of}
-use Rattle.afr_order.proofs.GoingLemmas.{happens_chosen, ends_true}
-use Rattle.afr_order.proofs.DoneLemmas.{pass_idle}
+use Rattle.afr_volume.proofs.GoingLemmas.{happens_chosen, ends_true}
+use Rattle.afr_volume.proofs.DoneLemmas.{pass_idle}
 use Rattle.afr_order.proofs.PassLemmas.{rows_front, pass_front}
 use Rattle.afr_order.proofs.rows.take_pass.Goals as goal
 

@@ -2,9 +2,9 @@ use Rattle.std.proofs.Common.{[], ◌∷◌, ◌+◌, ◌≡◌, true, Ok, ap, a
 use Rattle.std.specs.List.{range_with_len}
 use Rattle.std.proofs.lemmas.Grind.{common_steps}
 use Rattle.afr_model.specs.Actors.{is_done}
-use Rattle.afr_order.proofs.GoingLemmas.{goes_then, takes_then, front_then, ends_true}
+use Rattle.afr_volume.proofs.GoingLemmas.{goes_then, takes_then, front_then, ends_true}
 use Rattle.afr_order.proofs.OrderLemmas.{range_more, front_of_range}
-use Rattle.afr_order.proofs.DoneLemmas.{row_each}
+use Rattle.afr_volume.proofs.DoneLemmas.{row_each}
 use Rattle.afr_order.proofs.rows.take_row.Goals as goal
 
 pub take_turn-requires : goal.take_turn-requires

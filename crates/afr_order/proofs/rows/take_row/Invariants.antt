@@ -2,7 +2,7 @@ use Rattle.std.proofs.Common.{◌≡◌, ◌≤◌, ◌<◌, ◌+◌, ℕ, true,
 use Rattle.std.specs.List.{range_with_len}
 use Rattle.afr_model.specs.Actors.{is_done}
 use Rattle.afr_volume.specs.Right.{KeepsChosen}
-use Rattle.afr_order.specs.Going.{Goes, Takes}
+use Rattle.afr_volume.specs.Going.{Goes, Takes}
 use Rattle.afr_order.proofs.rows.take_row.Given as goal
 
 abbrev pub invariant-loop-i : goal.invariant-loop-i

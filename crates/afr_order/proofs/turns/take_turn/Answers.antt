@@ -1,6 +1,6 @@
 use Rattle.std.proofs.Common.{[], ◌∷◌}
 use Rattle.afr_law_picks.specs.Sources.Sources.{picks_of}
-use Rattle.afr_order.proofs.GoingLemmas.{happens_chosen, front_then, ends_then, turn_front, turn_ends}
+use Rattle.afr_volume.proofs.GoingLemmas.{happens_chosen, front_then, ends_then, turn_front, turn_ends}
 use Rattle.afr_order.proofs.turns.take_turn.Goals as goal
 
 pub returns-clause-front : goal.returns-clause-front

@@ -1,6 +1,6 @@
 use Rattle.std.proofs.Common.{[], ◌∷◌, ◌+◌, ◌≡◌, ◌≤◌, true, Ok, length, ap, arith, replicate}
 use Rattle.std.proofs.lemmas.Grind.{common_steps}
-use Rattle.afr_order.proofs.GoingLemmas.{goes_then, takes_then, front_then, front_whole, ends_true}
+use Rattle.afr_volume.proofs.GoingLemmas.{goes_then, takes_then, front_then, front_whole, ends_true}
 use Rattle.afr_order.proofs.OrderLemmas.{replicate_more, front_of_replicate, takes_rest}
 use Rattle.afr_order.proofs.turns.take_turns.Goals as goal
 

@@ -1,6 +1,6 @@
 use Rattle.std.proofs.Common.{replicate}
 use Rattle.afr_volume.specs.Right.{KeepsChosen}
-use Rattle.afr_order.specs.Going.{Goes, Takes}
+use Rattle.afr_volume.specs.Going.{Goes, Takes}
 use Rattle.afr_order.proofs.turns.take_turns.Given as goal
 
 abbrev pub invariant-loop-taken : goal.invariant-loop-taken

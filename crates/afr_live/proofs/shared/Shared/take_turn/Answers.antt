@@ -1,7 +1,7 @@
 -- What a turn tells of locks is noted, and the work that its line ends is counted.
 use Rattle.std.proofs.Common.{◌∙◌, ◌<◌}
 use Rattle.afr_live.proofs.NotedLemmas.{low_actor, turn_eager, turn_noted}
-use Rattle.afr_order.proofs.GoingLemmas.{turn_goes}
+use Rattle.afr_volume.proofs.GoingLemmas.{turn_goes}
 use Rattle.afr_live.proofs.shared.Shared.take_turn.Goals as goal
 
 pub note-requires : goal.note-requires

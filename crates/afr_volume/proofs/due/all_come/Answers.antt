@@ -1,7 +1,7 @@
 use Rattle.std.proofs.Common.{[]}
-use Rattle.afr_order.specs.Going.{Later, Still}
-use Rattle.afr_order.proofs.GoingLemmas.{goes_nowhere, goes_then, takes_none, takes_then, event_goes, event_takes}
-use Rattle.afr_order.proofs.turns.all_come.Goals as goal
+use Rattle.afr_volume.specs.Going.{Later, Still}
+use Rattle.afr_volume.proofs.GoingLemmas.{goes_nowhere, goes_then, takes_none, takes_then, event_goes, event_takes}
+use Rattle.afr_volume.proofs.due.all_come.Goals as goal
 
 pub loop-volume-init : goal.loop-volume-init
 loop-volume-init c = record { goes = goes_nowhere c.args.volume.now; taken = takes_none c.args.volume.now.plan c.args.volume.now.log; happens = Still }

@@ -1,6 +1,6 @@
-use Rattle.afr_order.specs.Going.{Still}
-use Rattle.afr_order.proofs.GoingLemmas.{goes_nowhere, takes_none}
-use Rattle.afr_order.proofs.turns.come_due.Goals as goal
+use Rattle.afr_volume.specs.Going.{Still}
+use Rattle.afr_volume.proofs.GoingLemmas.{goes_nowhere, takes_none}
+use Rattle.afr_volume.proofs.due.come_due.Goals as goal
 
 pub returns-clause-goes : goal.returns-clause-goes
 returns-clause-goes c = goes_nowhere c.args.volume.now

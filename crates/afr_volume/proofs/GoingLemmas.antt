@@ -13,7 +13,7 @@ use Rattle.afr_volume.specs.Turning.{Turns, Comes, AddsLine}
 use Rattle.afr_volume.specs.declared.turned.Turned.{Turned}
 use Rattle.afr_volume.specs.declared.turned.Turned.TheVariants.{Moved, Waits, Ended, Full}
 use Rattle.afr_law_bound.proofs.Ends.Runs.{done_more}
-use Rattle.afr_order.specs.Going.{ClientsAreDone, Goes, IsHappening, Later, Still, Takes, TakesFront, Ends, goes_on_after}
+use Rattle.afr_volume.specs.Going.{ClientsAreDone, Goes, IsHappening, Later, Still, Takes, TakesFront, Ends, goes_on_after}
 
 pub goes_nowhere : (s : State) → Goes s s
 goes_nowhere s = record { plan = refl; grows = omega arith; same = λ h. refl; stays = λ a d. d }

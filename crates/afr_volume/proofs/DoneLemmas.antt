@@ -9,7 +9,7 @@ use Rattle.afr_model.specs.Actors.{IsActor, is_done}
 use Rattle.afr_model.specs.Actors.IsActor.{Client, Healer}
 use Rattle.afr_model.specs.Complete.{IsComplete}
 use Rattle.afr_model.specs.Following.{NoneDue}
-use Rattle.afr_order.specs.Going.{Goes, IsIdle}
+use Rattle.afr_volume.specs.Going.{Goes, IsIdle}
 
 -- what a row of actors keeps: where no line was added, it holds of the first of them
 pub row_each : (P : ℕ → State → Type 0) (old mid new : State) (first i : ℕ) → Goes old mid → Goes mid new

@@ -1,6 +1,6 @@
 use Rattle.std.proofs.Common.{[], ◌-◌, length}
-use Rattle.afr_order.specs.Going.{Goes, IsHappening, Takes}
-use Rattle.afr_order.proofs.turns.all_come.Given as goal
+use Rattle.afr_volume.specs.Going.{Goes, IsHappening, Takes}
+use Rattle.afr_volume.proofs.due.all_come.Given as goal
 
 abbrev pub invariant-loop-volume : goal.invariant-loop-volume
 invariant-loop-volume l = record {
