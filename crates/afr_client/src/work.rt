@@ -8,9 +8,8 @@ ghost use Rattle.afr_client.specs.Work.{CarriesNext, IsBusy, IsWork, choices_of,
 
 use crate::on_heap::OnHeap;
 use afr_base::{BrickId, NoMemory};
-use afr_client_entry::EntryMachine;
+use afr_client_entry::{EntryMachine, RenameMachine};
 use afr_client_read::LookupMachine;
-use afr_client_entry::RenameMachine;
 use afr_client_write::WriteMachine;
 use afr_discipline::{Register, has_five};
 use afr_lines::{Answer, Heard, Next, Request};
