@@ -31,14 +31,14 @@ returns-in-Walking-clause-kept g c =
 
 pub returns-else-is_done-clause-kept : goal.returns-else-is_done-clause-kept
 returns-else-is_done-clause-kept g c =
-    making_kept g.G.Fn c.args.rule.now c.args.paths.now c.in-Making.making c.heard_under-after.new.making c.in-Making.found c.heard_under-after.result.0 c.heard_under-after.result.1
+    making_kept g.G.Fn c.args.rule.now c.args.paths.now c.in-Making.making c.heard_under-after.new.transaction c.in-Making.found c.heard_under-after.result.0 c.heard_under-after.result.1
     c.against_new-why.result c.reads_new-asked.result c.told_of-told.result c.args.answer.now c.args.at (subst (λ (stage : RenameStage). IsRename c.args.paths.now stage) c.in-Making.is c.requires.sound)
     (subst (λ (stage : RenameStage). is_over stage ≡ false) c.in-Making.is c.requires.more) (sym c.is_done.ensures ∙ c.if-is_done.false) c.against_new-why.ensures c.reads_new-asked.ensures c.told_of-told.ensures
     c.heard_under-after.ensures.transaction c.heard_under-after.ensures.found c.heard_under-after.ensures.picked
 
 pub returns-in-Removing-clause-kept : goal.returns-in-Removing-clause-kept
 returns-in-Removing-clause-kept g c =
-    removing_kept g.G.Fn c.args.rule.now c.args.paths.now c.in-Removing.removing c.heard_under-after-in-Removing.new.removing c.in-Removing.found c.heard_under-after-in-Removing.result.0 c.heard_under-after-in-Removing.result.1
+    removing_kept g.G.Fn c.args.rule.now c.args.paths.now c.in-Removing.removing c.heard_under-after-in-Removing.new.transaction c.in-Removing.found c.heard_under-after-in-Removing.result.0 c.heard_under-after-in-Removing.result.1
     c.against_old-why.result c.reads_old-asked.result c.told_of-told-in-Removing.result c.args.answer.now c.args.at (subst (λ (stage : RenameStage). IsRename c.args.paths.now stage) c.in-Removing.is c.requires.sound)
     (subst (λ (stage : RenameStage). is_over stage ≡ false) c.in-Removing.is c.requires.more) c.against_old-why.ensures c.reads_old-asked.ensures c.told_of-told-in-Removing.ensures
     c.heard_under-after-in-Removing.ensures.transaction c.heard_under-after-in-Removing.ensures.found c.heard_under-after-in-Removing.ensures.picked
