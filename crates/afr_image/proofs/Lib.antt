@@ -1,0 +1,4 @@
+pub mod StepLemmas
+pub mod FrameLemmas
+pub mod ReadLemmas
+pub mod LogLemmas

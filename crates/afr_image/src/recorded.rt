@@ -1,0 +1,51 @@
+//! The steps of a log.
+ghost use Rattle.std.specs.Prelude.{◌≡◌, ◌<◌, ◌^◌, IfOk, Some, length, map, slice_get};
+ghost use Rattle.afr_image.specs.Steps.{step_of};
+ghost use Rattle.afr_image.specs.Logs.{HasShortActors};
+ghost use Rattle.afr_lines.specs.declared.line.Line.{Line};
+
+use crate::image::StepList;
+use crate::step::{Step, asked_step, step_of};
+use afr_base::NoMemory;
+use afr_lines::{Request, Told};
+use afr_log::Log;
+use std::alloc::Global;
+
+/// The steps of all lines, the oldest first. It takes time proportional to their number.
+pub fn steps_of(alloc: Global, log: &Log) -> Result<StepList, NoMemory>
+    requires { HasShortActors log.now.items }
+    ensures { IfOk result (λ steps. steps ≡ map step_of log.now.items) }
+{
+    let mut steps = Vec::with_capacity(alloc, log.len())?;
+    for at in 0..log.len() {
+        steps.push(step_at(log, at))?;
+    }
+    Ok(StepList::from_vec(steps))
+}
+
+/// The step of the line at a place, counted from the oldest. No line is made of a packed request.
+pub fn step_at(log: &Log, at: usize) -> Step
+    requires there { at < length log.now.items }
+    requires short { HasShortActors log.now.items }
+    ensures { (line : Line) → slice_get log.now.items at ≡ Some line → result ≡ step_of line }
+{
+    let mut request = Request::Index;
+    let mut told = Told::Done;
+    match log.asked_at(at, &mut request, &mut told) {
+        Some(by) => asked_step(by.actor, by.brick, &told, by.took),
+        None => kept_step(log, at),
+    }
+}
+
+/// The same of whatever line. It stands apart, so that only lines which are no packed requests pay for a frame with a line.
+#[inline(never)]
+fn kept_step(log: &Log, at: usize) -> Step
+    requires there { at < length log.now.items }
+    requires short { HasShortActors log.now.items }
+    ensures { (line : Line) → slice_get log.now.items at ≡ Some line → result ≡ step_of line }
+{
+    match log.line(at) {
+        Some(shown) => step_of(shown.as_line()),
+        None => unreachable!(),
+    }
+}
