@@ -15,4 +15,5 @@ mod totals;
 mod versions;
 mod words;
 
+pub use lines::cut;
 pub use read::{one_plan_for_a_text, read_plan};

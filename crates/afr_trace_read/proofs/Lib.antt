@@ -1,0 +1,11 @@
+pub mod Laws
+pub mod NumberLaws
+pub mod WordLaws
+pub mod PartLaws
+pub mod SpanLaws
+pub mod RequestLaws
+pub mod ChangeLaws
+pub mod DoingLaws
+pub mod LineLaws
+pub mod StandsLaws
+pub mod TraceLaws
