@@ -10,7 +10,7 @@ use Rattle.afr_plan.specs.Bytes.{digit, name_byte}
 use Rattle.afr_plan.specs.Reading.{Reader, word_then, both, as_a}
 use Rattle.afr_model.specs.ReportReplies.{kind_text}
 use Rattle.afr_plan_read.proofs.Laws.{Any, first_of, Stops}
-use Rattle.afr_trace_read.specs.Forms.{then_word, number_below, word_byte}
+use Rattle.afr_trace_read.specs.Forms.{then_word, number_below}
 use Rattle.afr_trace_read.specs.Parts.{brick_at, brick_of, kind_at}
 use Rattle.afr_trace_read.specs.Reading.{asked_at, answered_at, healed_at, ask_of, heal_begin_of, heal_end_of, about_at, doing_at}
 use Rattle.afr_trace_read.specs.Texts.{asked_text, answered_text, changing_text, replied_text, doing_text}
@@ -23,7 +23,7 @@ use Rattle.afr_trace_read.specs.declared.kinds.Replied.TheVariants as replied
 use Rattle.afr_trace_read.specs.declared.kinds.Doing.{Doing}
 use Rattle.afr_trace_read.specs.declared.kinds.Doing.TheVariants as doing
 use Rattle.afr_trace_read.specs.Fit.{Always, IsBrick, IsGfid, IsAsked, IsAnswered, IsDoing}
-use Rattle.afr_trace_read.proofs.Laws.{Takes, Again, word_then-takes, word_then-again, both-takes, both-again, then_word-takes, then_word-again, as-takes, as-again, as-none, both-none, then_word-none, second_of, either-takes}
+use Rattle.afr_trace_read.proofs.Laws.{IsSpaced, Takes, Again, word_then-takes, word_then-again, both-takes, both-again, then_word-takes, then_word-again, as-takes, as-again, as-none, both-none, then_word-none, second_of, either-takes}
 use Rattle.afr_trace_read.proofs.NumberLaws.{no_number, name_then_digit}
 use Rattle.afr_trace_read.proofs.PartLaws.{brick-takes, brick-again, object-takes, object-again, kind-takes, kind-again}
 use Rattle.afr_trace_read.proofs.RequestLaws.{asked-takes, asked-again}
@@ -44,8 +44,8 @@ ask-takes : (p : Plan) → Takes (ask_at p) (λ x. codes " b" ++ decimal x.0.0.0
 ask-takes p = both-takes _ _ _ _ _ _ (then_word-takes _ (codes " ") _ _ (both-takes _ _ _ _ _ _ (then_word-takes _ (codes " ") _ _ (word_then-takes (codes " b") _ _ _ brick-takes)) (asked-takes p))) answered-takes
 
 ask-again : (p : Plan) → p.files < 2 ^ 32 → Again (ask_at p) (λ x. codes " b" ++ decimal x.0.0.0 ++ codes " " ++ asked_text p x.0.1 ++ codes " " ++ answered_text x.1) (λ x. (IsBrick x.0.0 × IsAsked p x.0.1) × IsAnswered x.1) (Stops digit)
-ask-again p few = both-again _ _ _ _ _ _ Any (Stops digit) (then_word-again _ (codes " ") _ _ (Stops word_byte)
-    (both-again _ _ _ _ _ _ Any (Stops word_byte) (then_word-again _ (codes " ") _ _ (Stops digit) (word_then-again (codes " b") _ _ _ _ brick-again) (λ rest. refl)) (asked-again p few) (λ y rest ok n. tt)) (λ rest. refl))
+ask-again p few = both-again _ _ _ _ _ _ Any (Stops digit) (then_word-again _ (codes " ") _ _ (IsSpaced)
+    (both-again _ _ _ _ _ _ Any (IsSpaced) (then_word-again _ (codes " ") _ _ (Stops digit) (word_then-again (codes " b") _ _ _ _ brick-again) (λ rest. refl)) (asked-again p few) (λ y rest ok n. tt)) (λ rest. refl))
     answered-again (λ y rest ok n. tt)
 
 no_brick : (rest : List ℕ) → word_then (codes " b") brick_at (codes " begin " ++ rest) ≡ None

@@ -1,9 +1,9 @@
 -- What is read is the text of its value, and the text of a value is read.
-use Rattle.std.proofs.Common.{◌≡◌, inl, inr, ℕ, List, [], ◌++◌, Option, Some, None, refl, sym, ap, subst, ◌∙◌, Bool, true, append_assoc}
+use Rattle.std.proofs.Common.{⊥, false, ◌≡◌, inl, inr, ℕ, List, [], ◌++◌, Option, Some, None, refl, sym, ap, subst, ◌∙◌, Bool, true, append_assoc}
 use Rattle.std.proofs.lemmas.List.{append-nil}
 use Rattle.afr_plan.specs.Reading.{after, Reader, give, give_as, as_a, all_used, whole, pair, then_pair, word, word_then, both, or_else, either}
 use Rattle.afr_trace_read.specs.Forms.{skip_then, then_word, that_passes, such_that}
-use Rattle.afr_plan_read.proofs.Laws.{Any, bind_some, checked_some, after_takes, after_again, joined, used_all, or_some}
+use Rattle.afr_plan_read.proofs.Laws.{Stops, Any, bind_some, checked_some, after_takes, after_again, joined, used_all, or_some}
 
 -- what a reader takes has a good value, and is its text
 pub record Takes {A : Type 0} (r : Reader A) (T : A → List ℕ) (Ok : A → Type 0) : Type 0 where
@@ -12,6 +12,24 @@ pub record Takes {A : Type 0} (r : Reader A) (T : A → List ℕ) (Ok : A → Ty
 -- the text of a good value is taken, where what follows may follow
 pub record Again {A : Type 0} (r : Reader A) (T : A → List ℕ) (Ok : A → Type 0) (Next : List ℕ → Type 0) : Type 0 where
   pub read : (x : A) (rest : List ℕ) → Ok x → Next rest → r (T x ++ rest) ≡ Some (x, rest)
+
+-- a space follows
+abbrev pub IsSpaced : List ℕ → Type 0
+IsSpaced [] = ⊥
+IsSpaced (x ∷ xs) = x ≡ 32
+
+pub spaced_stops : (p : ℕ → Bool) → p 32 ≡ false → (rest : List ℕ) → IsSpaced rest → Stops p rest
+spaced_stops p e [] n = absurd n
+spaced_stops p e (x ∷ xs) n = subst (λ (y : ℕ). p y ≡ false) (sym n) e
+
+-- ---- a fixed value
+pub give-takes : {A : Type 0} (a : A) (T : A → List ℕ) (Ok : A → Type 0) → Ok a → T a ≡ [] → Takes (give a) T Ok
+give-takes {A} a T Ok ok text = record {
+  read = λ xs x rest e.
+      let f : ◌≡◌ {A = A × List ℕ} (a, xs) (x, rest) = cc in
+      let P : A × List ℕ → Type 0 = λ z. Ok z.0 × (xs ≡ T z.0 ++ z.1) in
+      subst P f (ok, ap (λ (t : List ℕ). t ++ xs) (sym text));
+}
 
 -- ---- a fixed word
 pub word-takes : {A : Type 0} (ws : List ℕ) (a : A) (T : A → List ℕ) (Ok : A → Type 0) → Ok a → T a ≡ ws → Takes (word ws a) T Ok

@@ -1,6 +1,9 @@
 pub mod Laws
 pub mod NumberLaws
 pub mod WordLaws
+pub mod MissedLaws
+pub mod ReadsLaws
+pub mod MarksLaws
 pub mod PartLaws
 pub mod SpanLaws
 pub mod RequestLaws

@@ -149,3 +149,10 @@ all_taken ds i n most e v l =
 pub no_number : (bound x : ℕ) (xs : List ℕ) → digit x ≡ false → number_below bound (x ∷ xs) ≡ None
 unfolding number_below
 no_number bound x xs e = rw (take_while-cons digit x xs, e) refl
+
+-- a number of 32 bits
+pub small-takes : Takes (number_below (2 ^ 32)) decimal (λ n. n < 2 ^ 32)
+small-takes = number-takes (2 ^ 32) (omega arith)
+
+pub small-again : Again (number_below (2 ^ 32)) decimal (λ n. n < 2 ^ 32) (Stops digit)
+small-again = number-again (2 ^ 32) (omega arith)

@@ -1,5 +1,5 @@
 -- What a lock covers, both ways.
-use Rattle.std.proofs.Common.{◌≡◌, ℕ, ◌+◌, ◌-◌, ◌^◌, ◌<◌, ◌==◌, List, [], ◌∷◌, ◌++◌, Option, Some, None, refl, subst, codes, Bool, true, false, arith, cond}
+use Rattle.std.proofs.Common.{◌≡◌, ℕ, ◌+◌, ◌-◌, ◌^◌, ◌<◌, ◌==◌, List, [], ◌∷◌, ◌++◌, Option, Some, None, refl, codes, Bool, true, false, arith, cond}
 use Rattle.std.specs.Prelude.{decimal}
 use Rattle.std.proofs.lemmas.Bool.Decides.{nat_tests}
 use Rattle.afr_base.specs.declared.ids.Gfid.{Gfid}
@@ -9,7 +9,7 @@ use Rattle.afr_lines.specs.declared.lock.Domain.{Domain}
 use Rattle.afr_lines.specs.declared.lock.Domain.TheVariants.{Work, Heal}
 use Rattle.afr_plan.specs.declared.plan.Plan.{Plan}
 use Rattle.afr_plan.specs.Bytes.{digit, name_byte, is_name}
-use Rattle.afr_plan.specs.Reading.{Reader, give, word, word_then, both}
+use Rattle.afr_plan.specs.Reading.{Reader, word, word_then, both}
 use Rattle.afr_report_trace.specs.Requests.{domain_text}
 use Rattle.afr_plan_read.proofs.Laws.{Any, first_of, Stops}
 use Rattle.afr_trace_read.specs.Forms.{then_word, such_that, number_below, word_among, is_small}
@@ -19,7 +19,7 @@ use Rattle.afr_trace_read.specs.Texts.{upto_text, span_text}
 use Rattle.afr_trace_read.specs.declared.kinds.Span.{Span}
 use Rattle.afr_trace_read.specs.declared.kinds.Span.TheVariants as span
 use Rattle.afr_trace_read.specs.Fit.{Always, IsGfid, IsUpto, IsSpan}
-use Rattle.afr_trace_read.proofs.Laws.{Takes, Again, word-takes, word_then-takes, word_then-again, both-takes, both-again, then_word-takes, then_word-again, as-takes, as-again, as-none, both-none, then_word-none, such_that-none, second_of, either-takes}
+use Rattle.afr_trace_read.proofs.Laws.{give-takes, Takes, Again, word-takes, word_then-takes, word_then-again, both-takes, both-again, then_word-takes, then_word-again, as-takes, as-again, as-none, both-none, then_word-none, such_that-none, second_of, either-takes}
 use Rattle.afr_trace_read.proofs.NumberLaws.{number-takes, number-again, no_number, no_word}
 use Rattle.afr_trace_read.proofs.PartLaws.{object-takes, object-again, name-takes, name-again}
 
@@ -72,13 +72,7 @@ letter_h b = b == 104
 
 domain-takes : Takes domain_at domain_text Always
 unfolding domain_at
-domain-takes = either-takes _ _ _ _ (word-takes (codes "heal ") Heal _ _ tt refl) (record { read = λ xs x rest e. give_work xs x rest e })
-  where
-    give_work : (xs : List ℕ) (x : Domain) (rest : List ℕ) → give Work xs ≡ Some (x, rest) → Always x × (xs ≡ domain_text x ++ rest)
-    give_work xs x rest e =
-        let f : ◌≡◌ {A = Domain × List ℕ} (Work, xs) (x, rest) = cc in
-        let P : Domain × List ℕ → Type 0 = λ z. Always z.0 × (xs ≡ domain_text z.0 ++ z.1) in
-        subst P f (tt, refl)
+domain-takes = either-takes _ _ _ _ (word-takes (codes "heal ") Heal _ _ tt refl) (give-takes Work _ _ tt refl)
 
 no_heal : (rest : List ℕ) → Stops letter_h rest → word (codes "heal ") Heal rest ≡ None
 no_heal [] n = refl

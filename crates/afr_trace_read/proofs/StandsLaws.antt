@@ -1,6 +1,14 @@
 -- The text of a line of the log is the text of what it says.
-use Rattle.std.proofs.Common.{◌≡◌, ℕ, ◌^◌, ◌==◌, List, ◌++◌, Option, Some, None, refl, sym, ap, ◌∙◌, codes, Bool, true, false, cond, append_assoc}
-use Rattle.std.specs.Prelude.{decimal, slice_index_or, [], IfSome, option_map}
+use Rattle.std.proofs.Common.{◌≤◌, [], ◌∷◌, take, length, zero, suc, not, nat_le, arith, filter, ◌≡◌, ℕ, ◌^◌, ◌==◌, List, ◌++◌, Option, Some, None, refl, sym, ap, ◌∙◌, codes, Bool, true, false, cond, append_assoc}
+use Rattle.std.specs.Prelude.{decimal, flat_map, slice_index_or, IfSome, option_map}
+use Rattle.std.proofs.lemmas.Bool.Decides.{nat_tests}
+use Rattle.afr_base.specs.Bricks.{all_five, member, is_nothing}
+use Rattle.afr_plan.specs.Reading.{checked}
+use Rattle.afr_report_trace.specs.Numbers.{bricks_text, given, with_commas}
+use Rattle.afr_trace_read.specs.Fit.{IsBrickSet}
+use Rattle.afr_trace_read.proofs.MissedLaws.{five_is_set}
+use Rattle.afr_trace_read.specs.Stands.{filled, reads_from, blanked, missed_from, span_from, asked_of, answered_of, changing_of, healed_of, replied_of, by, asks, trace_line_of}
+use Rattle.afr_trace_read.specs.declared.kinds.Asked.TheVariants as asked
 use Rattle.afr_base.specs.declared.ids.ActorId.{ActorId}
 use Rattle.afr_base.specs.declared.ids.BrickId.{BrickId}
 use Rattle.afr_base.specs.declared.ids.Gfid.{Gfid}
@@ -26,7 +34,6 @@ use Rattle.afr_report_trace.specs.Changes.{change_text}
 use Rattle.afr_report_trace.specs.Lines.{line_text, said_text}
 use Rattle.afr_report_trace.specs.Objects.{object_text, lock_range_text, range_text}
 use Rattle.afr_report_trace.specs.Requests.{domain_text, request_text}
-use Rattle.afr_trace_read.specs.Stands.{span_from, asked_of, answered_of, changing_of, healed_of, replied_of, by, asks, trace_line_of}
 use Rattle.afr_trace_read.specs.Texts.{span_text, asked_text, answered_text, changing_text, healed_end, replied_text, content_text, trace_line_text}
 use Rattle.afr_trace_read.specs.declared.kinds.Asked.{Asked}
 use Rattle.afr_trace_read.specs.declared.kinds.Replied.{Replied}
@@ -47,7 +54,39 @@ lock_range p g from to = step (from == 2 ^ 63) (to == 2 ^ 63)
 covers : (w o s a : List ℕ) → a ≡ o ++ s → w ++ a ≡ (w ++ o) ++ s
 covers w o s a e = ap (λ (t : List ℕ). w ++ t) e ∙ sym (append_assoc w o s)
 
-asked_is : (p : Plan) (r : Request) → IfSome (asked_of r) (λ a. request_text p r ≡ asked_text p a)
+-- ---- lists
+post_of_set : (p : Plan) (attempt : ℕ) (t : List ℕ) → IsBrickSet t → IfSome (option_map (asked.Post attempt) (checked (not (is_nothing t)) t)) (λ a. codes "post " ++ decimal attempt ++ codes " " ++ with_commas t ≡ asked_text p a)
+post_of_set p attempt [] k = tt
+post_of_set p attempt (b ∷ bs) k = ap (λ (t : List ℕ). codes "post " ++ decimal attempt ++ codes " " ++ with_commas t) (sym k)
+
+post_is : (p : Plan) (attempt : ℕ) (missed : List ℕ) → IfSome (option_map (asked.Post attempt) (missed_from missed)) (λ a. codes "post " ++ decimal attempt ++ codes " " ++ bricks_text missed ≡ asked_text p a)
+post_is p attempt [] = refl
+post_is p attempt (b ∷ bs) = post_of_set p attempt (filter (member (b ∷ bs)) all_five) (five_is_set (b ∷ bs))
+
+given_filled : (k : ℕ) (ns : List ℕ) → length ns ≤ k → given (filled k ns) ≡ ns
+given_filled zero [] l = refl
+given_filled zero (n ∷ ns) l = absurd (omega arith)
+given_filled (suc k) [] l = given_filled k [] (omega arith)
+given_filled (suc k) (n ∷ ns) l = ap (λ (t : List ℕ). n ∷ t) (given_filled k ns (omega arith))
+
+names_is : (p : Plan) (g : Gfid) (ns : List ℕ) → IfSome (option_map (asked.PutNames g) (reads_from ns)) (λ a. codes "put-names " ++ object_text p g ++ codes " from " ++ with_commas ns ≡ asked_text p a)
+names_is p g [] = tt
+names_is p g (n ∷ ns) = step (nat_le (length ns) 4) refl
+  where
+    step : (b : Bool) → nat_le (length ns) 4 ≡ b → IfSome (option_map (asked.PutNames g) (checked b (filled 5 (n ∷ ns)))) (λ a. codes "put-names " ++ object_text p g ++ codes " from " ++ with_commas (n ∷ ns) ≡ asked_text p a)
+    step false e = tt
+    step true e =
+        let l : length (n ∷ ns) ≤ 5 = grind (arith, nat_tests, e) in
+        ap (λ (t : List ℕ). codes "put-names " ++ object_text p g ++ codes " from " ++ with_commas t) (sym (given_filled 5 (n ∷ ns) l))
+
+taken_blanked : (n : ℕ) (xs : List ℕ) → take n xs ≡ take n (blanked n xs)
+taken_blanked zero [] = refl
+taken_blanked (suc n) [] = refl
+taken_blanked zero (x ∷ xs) = refl
+taken_blanked (suc n) (x ∷ xs) = ap (λ (t : List ℕ). x ∷ t) (taken_blanked n xs)
+
+-- ---- requests
+asked_is : (p : Plan) (r : Request) → IfSome (asked_of p r) (λ a. request_text p r ≡ asked_text p a)
 asked_is p (request.Lock d (Range g from to)) = covers (codes "lock " ++ domain_text d) (object_text p g) (span_text p (span_from from to)) _ (lock_range p g from to)
 asked_is p (request.Lock d (Name g None)) = covers (codes "lock " ++ domain_text d) (object_text p g) (codes "/*") _ refl
 asked_is p (request.Lock d (Name g (Some name))) = covers (codes "lock " ++ domain_text d) (object_text p g) (codes "/" ++ slice_index_or p.words.names name.0 []) _ (append_assoc (object_text p g) (codes "/") (slice_index_or p.words.names name.0 []))
@@ -63,12 +102,12 @@ asked_is p (request.ReadAttrs g) = refl
 asked_is p request.Index = refl
 asked_is p (request.Pre g kind) = refl
 asked_is p (request.Apply attempt) = refl
-asked_is p (request.Post attempt g kind missed) = tt
+asked_is p (request.Post attempt g kind missed) = post_is p attempt missed
 asked_is p (request.Mend (repair.CutTo g len)) = refl
 asked_is p (request.Mend (repair.Copy g at long read)) = refl
 asked_is p (request.Mend (repair.PutAttrs g read)) = refl
-asked_is p (request.Mend (repair.PutNames g reads)) = tt
-asked_is p (request.Settle g kind less) = tt
+asked_is p (request.Mend (repair.PutNames g reads)) = names_is p g (given reads)
+asked_is p (request.Settle g kind less) = ap (λ (ns : List ℕ). codes "settle " ++ object_text p g ++ codes " " ++ kind_text kind ++ codes " " ++ (decimal less.dirty ++ flat_map (λ n. codes " " ++ decimal n) ns)) (taken_blanked p.shape.n less.pending)
 
 answered_is : (t : Told) (took : Bool) → told_text t took ≡ answered_text (answered_of t took)
 answered_is told.Granted took = refl
@@ -133,8 +172,8 @@ reply_is : (p : Plan) (actor : ActorId) (r : Reply) (o : Option Replied) → IfS
 reply_is p actor r None h = tt
 reply_is p actor r (Some x) h = rw h (append_assoc (actor_text actor) (codes " end ") (replied_text x))
 
-content_is : (p : Plan) (l : Line) → IfSome (trace_line_of l) (λ s. said_text p l ≡ content_text p s)
-content_is p (line.Ask actor b r t took) = ask_is p actor b r t took (asked_of r) (asked_is p r)
+content_is : (p : Plan) (l : Line) → IfSome (trace_line_of p l) (λ s. said_text p l ≡ content_text p s)
+content_is p (line.Ask actor b r t took) = ask_is p actor b r t took (asked_of p r) (asked_is p r)
 content_is p (line.Begin actor c) = rw (changing_is p c) (append_assoc (actor_text actor) (codes " begin ") (changing_text p (changing_of c)))
 content_is p (line.HealBegin actor g kind) = begin_parts (actor_text actor) (codes " begin ") (codes "heal ") (kind_text kind) (codes " ") (object_text p g)
 content_is p (line.End actor r) = reply_is p actor r (replied_of r) (replied_is p r)
@@ -146,5 +185,5 @@ if_some P Q None f h = tt
 if_some P Q (Some x) f h = f x h
 
 -- what is printed of a line is the text of what it says
-pub printed : (p : Plan) (k : ℕ) (l : Line) → IfSome (trace_line_of l) (λ s. line_text p k l ≡ trace_line_text p k s ++ codes "\n")
-printed p k l = if_some (λ s. said_text p l ≡ content_text p s) (λ s. line_text p k l ≡ trace_line_text p k s ++ codes "\n") (trace_line_of l) (λ s h. ap (λ (t : List ℕ). decimal k ++ codes " " ++ t ++ codes "\n") h) (content_is p l)
+pub printed : (p : Plan) (k : ℕ) (l : Line) → IfSome (trace_line_of p l) (λ s. line_text p k l ≡ trace_line_text p k s ++ codes "\n")
+printed p k l = if_some (λ s. said_text p l ≡ content_text p s) (λ s. line_text p k l ≡ trace_line_text p k s ++ codes "\n") (trace_line_of p l) (λ s h. ap (λ (t : List ℕ). decimal k ++ codes " " ++ t ++ codes "\n") h) (content_is p l)

@@ -1,6 +1,8 @@
 -- The lines whose numbers are those that the types of a log can hold: only such lines have a text that is read.
-use Rattle.std.specs.Prelude.{◌≡◌, ℕ, ◌^◌, ◌<◌, Bool, true, List, [], Option, Some, None, slice_index_or}
+use Rattle.std.specs.Prelude.{◌∷◌, ◌⊎◌, ⊥, filter, ◌≡◌, ℕ, ◌^◌, ◌<◌, Bool, true, List, [], Option, Some, None, slice_index_or}
 use Rattle.std.specs.List.{list_all}
+use Rattle.afr_base.specs.Bricks.{all_five, member}
+use Rattle.afr_base.specs.declared.marks.Marks.{Marks}
 use Rattle.afr_plan.specs.Bytes.{name_byte, key_byte, is_name, is_key}
 use Rattle.afr_plan.specs.declared.plan.Plan.{Plan}
 use Rattle.afr_base.specs.declared.ids.KeyId.{KeyId}
@@ -79,6 +81,40 @@ IsSpan p (span.Range from to) = (from < 2 ^ 63) × IsUpto to
 IsSpan p span.AllNames = Unit {0}
 IsSpan p (span.OfName name) = IsNameOf p name
 
+-- a set of bricks, as the rising list of their numbers
+abbrev pub IsBrickSet : List ℕ → Type 0
+IsBrickSet s = filter (member s) all_five ≡ s
+
+-- no position is there
+abbrev pub AreNone : List (Option ℕ) → Type 0
+AreNone [] = Unit {0}
+AreNone (None ∷ more) = AreNone more
+AreNone (Some n ∷ more) = ⊥
+
+-- the positions that are there stand first
+abbrev pub AreFirst : List (Option ℕ) → Type 0
+AreFirst [] = Unit {0}
+AreFirst (None ∷ more) = AreNone more
+AreFirst (Some n ∷ more) = (n < 2 ^ 32) × AreFirst more
+
+-- places for five positions, of which at least one is there
+abbrev pub AreReads : List (Option ℕ) → Type 0
+AreReads (Some n ∷ a ∷ b ∷ c ∷ d ∷ []) = (n < 2 ^ 32) × AreFirst (a ∷ b ∷ c ∷ d ∷ [])
+AreReads other = ⊥
+
+-- the numbers for bricks 3 and 4 are 0 in a volume of three bricks
+abbrev pub AreLast : ℕ → ℕ × ℕ → Type 0
+AreLast n x = ((n ≡ 5) × (x.0 < 2 ^ 32) × (x.1 < 2 ^ 32)) ⊎ ((n ≡ 3) × (x.0 ≡ 0) × (x.1 ≡ 0))
+
+-- pending numbers in a volume of n bricks
+abbrev pub ArePending : ℕ → List ℕ → Type 0
+ArePending n (a ∷ b ∷ c ∷ d ∷ e ∷ []) = (((a < 2 ^ 32) × (b < 2 ^ 32)) × (c < 2 ^ 32)) × AreLast n (d, e)
+ArePending n other = ⊥
+
+-- changelog numbers in such a volume
+abbrev pub AreMarks : ℕ → Marks → Type 0
+AreMarks n marks = (marks.dirty < 2 ^ 32) × ArePending n marks.pending
+
 -- a request
 abbrev pub IsAsked : Plan → Asked → Type 0
 IsAsked p (asked.Lock d g s) = (Always d × IsGfid g) × IsSpan p s
@@ -92,9 +128,12 @@ IsAsked p (asked.ReadAttrs g) = IsGfid g
 IsAsked p asked.Index = Unit {0}
 IsAsked p (asked.Pre g kind) = IsGfid g × Always kind
 IsAsked p (asked.Apply attempt) = attempt < 2 ^ 32
+IsAsked p (asked.Post attempt missed) = (attempt < 2 ^ 32) × IsBrickSet missed
 IsAsked p (asked.CutTo g len) = IsGfid g × (len < 2 ^ 32)
 IsAsked p (asked.Copy g at long read) = (IsGfid g × (at < 2 ^ 32) × (long < 2 ^ 32)) × (read < 2 ^ 32)
 IsAsked p (asked.PutAttrs g read) = IsGfid g × (read < 2 ^ 32)
+IsAsked p (asked.PutNames g reads) = IsGfid g × AreReads reads
+IsAsked p (asked.Settle g kind less) = (IsGfid g × Always kind) × AreMarks p.shape.n less
 
 -- an answer
 abbrev pub IsAnswered : Answered → Type 0

@@ -1,8 +1,8 @@
 -- Readers that a trace needs beside those of a plan.
-use Rattle.std.specs.Prelude.{ℕ, List, ◌^◌, ◌==◌, ◌||◌, Bool, Option, Some, nat_lt, position}
+use Rattle.std.specs.Prelude.{ℕ, List, ◌^◌, Bool, Option, Some, nat_lt, position}
 use Rattle.std.specs.Str.{bytes_eq}
 use Rattle.std.specs.Str.Parse.{digits_value}
-use Rattle.afr_plan.specs.Bytes.{digit, is_numeral, name_byte}
+use Rattle.afr_plan.specs.Bytes.{digit, is_numeral}
 use Rattle.afr_plan.specs.Reading.{◌>>=◌, Reader, after, checked, give, run_of}
 
 -- a value, and then a word
@@ -48,7 +48,3 @@ word_among p ok words xs = run_of p ok xs >>= find_in words
 -- a number of 32 bits
 abbrev pub is_small : ℕ → Bool
 is_small n = nat_lt n (2 ^ 32)
-
--- a byte of a name, or a comma
-abbrev pub word_byte : ℕ → Bool
-word_byte b = name_byte b || b == 44

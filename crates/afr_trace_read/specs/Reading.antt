@@ -14,6 +14,8 @@ use Rattle.afr_lines.specs.declared.lock.Domain.TheVariants.{Work, Heal}
 use Rattle.afr_plan.specs.declared.plan.Plan.{Plan}
 use Rattle.afr_plan.specs.Reading.{◌>>=◌, Reader, checked, give, whole, word, word_then, both, as_a, either}
 use Rattle.afr_trace_read.specs.Forms.{then_word, such_that, number_below}
+use Rattle.afr_base.specs.declared.marks.Marks.{Marks}
+use Rattle.afr_trace_read.specs.Lists.{missed_at, reads_at, marks_at}
 use Rattle.afr_trace_read.specs.Parts.{actor_at, brick_at, object_at, kind_at, event_at, name_at, value_at, named_at, keyed_at}
 use Rattle.afr_trace_read.specs.declared.kinds.Span.{Span}
 use Rattle.afr_trace_read.specs.declared.kinds.Span.TheVariants as span
@@ -90,6 +92,18 @@ cut_to_of x = asked.CutTo x.0 x.1
 abbrev pub put_of : Gfid × ℕ → Asked
 put_of x = asked.PutAttrs x.0 x.1
 
+-- the close of an attempt
+abbrev pub post_of : ℕ × List ℕ → Asked
+post_of x = asked.Post x.0 x.1
+
+-- merged names that are put
+abbrev pub put_names_of : Gfid × List (Option ℕ) → Asked
+put_names_of x = asked.PutNames x.0 x.1
+
+-- what a heal takes back
+abbrev pub settle_of : (Gfid × Kind) × Marks → Asked
+settle_of x = asked.Settle x.0.0 x.0.1 x.1
+
 -- a look-up of a name, of its parts
 abbrev pub read_name_of : Gfid × NameId → Asked
 read_name_of x = asked.ReadName x.0 x.1
@@ -117,13 +131,16 @@ unfoldable pub stepping_at : Plan → Reader Asked
 stepping_at p = either (as_a lock_of (covered_at p (codes "lock "))) (
     either (as_a unlock_of (covered_at p (codes "unlock "))) (
     either (as_a pre_of (both (then_word (word_then (codes "pre ") (object_at p)) (codes " ")) kind_at)) (
-    as_a asked.Apply (word_then (codes "apply ") (number_below (2 ^ 32))))))
+    either (as_a asked.Apply (word_then (codes "apply ") (number_below (2 ^ 32)))) (
+    as_a post_of (both (then_word (word_then (codes "post ") (number_below (2 ^ 32))) (codes " ")) missed_at)))))
 
 -- a request that repairs
 unfoldable pub mending_at : Plan → Reader Asked
 mending_at p = either (as_a cut_to_of (numbered_at p (codes "cut ") (codes " "))) (
     either (as_a copy_of (both (then_word (word_then (codes "copy ") (range_at p)) (codes " from ")) (number_below (2 ^ 32)))) (
-    as_a put_of (numbered_at p (codes "put-attrs ") (codes " from "))))
+    either (as_a put_of (numbered_at p (codes "put-attrs ") (codes " from "))) (
+    either (as_a put_names_of (both (then_word (word_then (codes "put-names ") (object_at p)) (codes " from ")) reads_at)) (
+    as_a settle_of (both (then_word (both (then_word (word_then (codes "settle ") (object_at p)) (codes " ")) kind_at) (codes " ")) (marks_at p.shape.n))))))
 
 -- a request
 unfoldable pub asked_at : Plan → Reader Asked

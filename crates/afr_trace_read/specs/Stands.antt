@@ -1,5 +1,10 @@
--- What the text of a line of the log says; none for the kinds of lines that aren't read yet.
-use Rattle.std.specs.Prelude.{ℕ, ◌^◌, ◌==◌, Bool, Option, Some, None, if◌then◌else◌, length, option_map}
+-- What the text of a line of the log says; none for the kinds of lines that aren't read yet, and for lists that no line of a log has.
+use Rattle.std.specs.Prelude.{List, [], ◌∷◌, not, nat_le, filter, zero, suc, ℕ, ◌^◌, ◌==◌, Bool, Option, Some, None, if◌then◌else◌, length, option_map}
+use Rattle.afr_base.specs.Bricks.{all_five, is_nothing, member}
+use Rattle.afr_base.specs.declared.marks.Marks.{Marks}
+use Rattle.afr_plan.specs.Reading.{checked}
+use Rattle.afr_plan.specs.declared.plan.Plan.{Plan}
+use Rattle.afr_report_trace.specs.Numbers.{given}
 use Rattle.afr_base.specs.declared.ids.ActorId.{ActorId}
 use Rattle.afr_base.specs.declared.ids.BrickId.{BrickId}
 use Rattle.afr_object.specs.declared.change.Change.{Change}
@@ -42,27 +47,55 @@ upto_of to = if to == 2 ^ 63 then None else Some to
 abbrev pub span_from : ℕ → ℕ → Span
 span_from from to = if from == 2 ^ 63 then span.Meta else span.Range from (upto_of to)
 
--- a request; a Post, a Settle and merged names aren't read yet
-abbrev pub asked_of : Request → Option Asked
-asked_of (request.Lock d (Range g from to)) = Some (asked.Lock d g (span_from from to))
-asked_of (request.Lock d (Name g None)) = Some (asked.Lock d g span.AllNames)
-asked_of (request.Lock d (Name g (Some name))) = Some (asked.Lock d g (span.OfName name))
-asked_of (request.Unlock d (Range g from to)) = Some (asked.Unlock d g (span_from from to))
-asked_of (request.Unlock d (Name g None)) = Some (asked.Unlock d g span.AllNames)
-asked_of (request.Unlock d (Name g (Some name))) = Some (asked.Unlock d g (span.OfName name))
-asked_of (request.Look g) = Some (asked.Look g)
-asked_of (request.ReadBytes g at len) = Some (asked.ReadBytes g at len)
-asked_of (request.ReadName dir name) = Some (asked.ReadName dir name)
-asked_of (request.ReadAttr g key) = Some (asked.ReadAttr g key)
-asked_of (request.List g) = Some (asked.List g)
-asked_of (request.ReadAttrs g) = Some (asked.ReadAttrs g)
-asked_of request.Index = Some asked.Index
-asked_of (request.Pre g kind) = Some (asked.Pre g kind)
-asked_of (request.Apply attempt) = Some (asked.Apply attempt)
-asked_of (request.Mend (repair.CutTo g len)) = Some (asked.CutTo g len)
-asked_of (request.Mend (repair.Copy g at long read)) = Some (asked.Copy g at long read)
-asked_of (request.Mend (repair.PutAttrs g read)) = Some (asked.PutAttrs g read)
-asked_of other = None
+-- so many places for numbers, of which the first are there
+abbrev pub filled : ℕ → List ℕ → List (Option ℕ)
+filled zero ns = []
+filled (suc k) [] = None ∷ filled k []
+filled (suc k) (n ∷ ns) = Some n ∷ filled k ns
+
+-- the positions of the reads of merged names; the text of none is that of no line
+abbrev pub reads_from : List ℕ → Option (List (Option ℕ))
+reads_from [] = None
+reads_from (n ∷ ns) = checked (nat_le (length ns) 4) (filled 5 (n ∷ ns))
+
+-- pending numbers with 0 for each brick from n on
+abbrev pub blanked : ℕ → List ℕ → List ℕ
+blanked n [] = []
+blanked zero (x ∷ xs) = 0 ∷ blanked zero xs
+blanked (suc n) (x ∷ xs) = x ∷ blanked n xs
+
+-- changelog numbers of a volume of n bricks
+abbrev pub marks_from : ℕ → Marks → Marks
+marks_from n marks = record { dirty = marks.dirty; pending = blanked n marks.pending }
+
+-- bricks that missed an operation; a list of other numbers alone is no set of bricks
+abbrev pub missed_from : List ℕ → Option (List ℕ)
+missed_from [] = Some []
+missed_from (b ∷ bs) = checked (not (is_nothing (filter (member (b ∷ bs)) all_five))) (filter (member (b ∷ bs)) all_five)
+
+-- a request
+abbrev pub asked_of : Plan → Request → Option Asked
+asked_of p (request.Lock d (Range g from to)) = Some (asked.Lock d g (span_from from to))
+asked_of p (request.Lock d (Name g None)) = Some (asked.Lock d g span.AllNames)
+asked_of p (request.Lock d (Name g (Some name))) = Some (asked.Lock d g (span.OfName name))
+asked_of p (request.Unlock d (Range g from to)) = Some (asked.Unlock d g (span_from from to))
+asked_of p (request.Unlock d (Name g None)) = Some (asked.Unlock d g span.AllNames)
+asked_of p (request.Unlock d (Name g (Some name))) = Some (asked.Unlock d g (span.OfName name))
+asked_of p (request.Look g) = Some (asked.Look g)
+asked_of p (request.ReadBytes g at len) = Some (asked.ReadBytes g at len)
+asked_of p (request.ReadName dir name) = Some (asked.ReadName dir name)
+asked_of p (request.ReadAttr g key) = Some (asked.ReadAttr g key)
+asked_of p (request.List g) = Some (asked.List g)
+asked_of p (request.ReadAttrs g) = Some (asked.ReadAttrs g)
+asked_of p request.Index = Some asked.Index
+asked_of p (request.Pre g kind) = Some (asked.Pre g kind)
+asked_of p (request.Apply attempt) = Some (asked.Apply attempt)
+asked_of p (request.Post attempt g kind missed) = option_map (asked.Post attempt) (missed_from missed)
+asked_of p (request.Mend (repair.CutTo g len)) = Some (asked.CutTo g len)
+asked_of p (request.Mend (repair.Copy g at long read)) = Some (asked.Copy g at long read)
+asked_of p (request.Mend (repair.PutAttrs g read)) = Some (asked.PutAttrs g read)
+asked_of p (request.Mend (repair.PutNames g reads)) = option_map (asked.PutNames g) (reads_from (given reads))
+asked_of p (request.Settle g kind less) = Some (asked.Settle g kind (marks_from p.shape.n less))
 
 -- an answer
 abbrev pub answered_of : Told → Bool → Answered
@@ -118,10 +151,10 @@ abbrev pub asks : BrickId → Answered → Asked → Doing
 asks b told a = doing.Ask b a told
 
 -- a line
-abbrev pub trace_line_of : Line → Option TraceLine
-trace_line_of (line.Ask actor b r told took) = option_map (by actor) (option_map (asks b (answered_of told took)) (asked_of r))
-trace_line_of (line.Begin actor c) = Some (trace_line.Of actor (doing.Begin (changing_of c)))
-trace_line_of (line.HealBegin actor g kind) = Some (trace_line.Of actor (doing.HealBegin kind g))
-trace_line_of (line.End actor r) = option_map (by actor) (option_map doing.End (replied_of r))
-trace_line_of (line.HealEnd actor g kind r) = Some (trace_line.Of actor (doing.HealEnd kind g (healed_of r)))
-trace_line_of (line.Event event) = Some (trace_line.Event event)
+abbrev pub trace_line_of : Plan → Line → Option TraceLine
+trace_line_of p (line.Ask actor b r told took) = option_map (by actor) (option_map (asks b (answered_of told took)) (asked_of p r))
+trace_line_of p (line.Begin actor c) = Some (trace_line.Of actor (doing.Begin (changing_of c)))
+trace_line_of p (line.HealBegin actor g kind) = Some (trace_line.Of actor (doing.HealBegin kind g))
+trace_line_of p (line.End actor r) = option_map (by actor) (option_map doing.End (replied_of r))
+trace_line_of p (line.HealEnd actor g kind r) = Some (trace_line.Of actor (doing.HealEnd kind g (healed_of r)))
+trace_line_of p (line.Event event) = Some (trace_line.Event event)

@@ -7,6 +7,9 @@ ghost use Rattle.afr_trace_read.specs.Forms.{number_below};
 
 use afr_plan_line::numeral;
 
+/// The highest number of 32 bits.
+pub(crate) const MOST_SMALL: u128 = 4_294_967_295;
+
 /// What digits come to, if it is at most so much.
 fn value_of(ds: &[u8], most: u128) -> Option<u128>
     requires digits { AllDigits 10 ds.now }

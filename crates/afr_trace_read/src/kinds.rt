@@ -1,6 +1,6 @@
 //! A line of a log as its text says it, with nothing of what the text leaves out.
 
-use afr_base::{ActorId, BrickId, Gfid, KeyId, Kind, NameId, ValueId, What};
+use afr_base::{ActorId, BrickId, BrickSet, Gfid, KeyId, Kind, Marks, NameId, ValueId, What};
 use afr_lines::{Domain, Event};
 
 /// What of an object a lock covers: the attributes, a range of its bytes that may have no end, or all its names.
@@ -12,7 +12,8 @@ pub enum Span {
     OfName(NameId),
 }
 
-/// A request. A Post has neither object nor kind, and a lock of the attributes has no end.
+/// A request. A Post has neither object nor kind, a lock of the attributes has no end, the reads of merged
+/// names stand first, and a Settle has no number for a brick that the volume lacks.
 #[derive(Clone, Copy)]
 pub enum Asked {
     Lock { domain: Domain, gfid: Gfid, span: Span },
@@ -26,9 +27,12 @@ pub enum Asked {
     Index,
     Pre { gfid: Gfid, kind: Kind },
     Apply { attempt: u32 },
+    Post { attempt: u32, missed: BrickSet },
     CutTo { gfid: Gfid, len: u32 },
     Copy { gfid: Gfid, at: u32, span: u32, read: u32 },
     PutAttrs { gfid: Gfid, read: u32 },
+    PutNames { gfid: Gfid, reads: [Option<u32>; 5] },
+    Settle { gfid: Gfid, kind: Kind, less: Marks },
 }
 
 /// An answer, with no view. `Lost` is an answer that was carried out and not heard.

@@ -6,6 +6,7 @@ mod bytes;
 mod changes;
 mod kinds;
 mod lines;
+mod lists;
 mod parts;
 mod requests;
 mod spans;

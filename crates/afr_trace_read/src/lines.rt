@@ -156,6 +156,6 @@ pub fn a_line_is_read_exactly()
 
 /// The trace has of each line of the log the text of what it says, where that kind of line is read.
 pub fn a_line_is_printed_as_it_is_spelled()
-    ensures { (p : Plan) (k : ℕ) (l : Line) → IfSome (trace_line_of l) (λ s. line_text p k l ≡ trace_line_text p k s ++ codes "\n") }
+    ensures { (p : Plan) (k : ℕ) (l : Line) → IfSome (trace_line_of p l) (λ s. line_text p k l ≡ trace_line_text p k s ++ codes "\n") }
 {
 }

@@ -3,20 +3,19 @@ ghost use Rattle.std.specs.Prelude.{◌≡◌, ◌+◌, ◌^◌, ◌≤◌, ◌<
 ghost use Rattle.std.specs.Option.{option_map};
 ghost use Rattle.afr_plan.specs.Reading.{as_a, both, word, word_then};
 ghost use Rattle.afr_trace_read.specs.Forms.{number_below, then_word};
+ghost use Rattle.afr_trace_read.specs.Lists.{marks_at, missed_at, reads_at};
 ghost use Rattle.afr_trace_read.specs.Parts.{keyed_at, kind_at, named_at, object_at};
-ghost use Rattle.afr_trace_read.specs.Reading.{asked_at, copy_of, covered_at, cut_to_of, lock_of, mending_at, numbered_at, pre_of, put_of, range_at, read_attr_of, read_name_of, read_of, reading_at, stepping_at, unlock_of};
+ghost use Rattle.afr_trace_read.specs.Reading.{asked_at, copy_of, covered_at, cut_to_of, lock_of, mending_at, numbered_at, post_of, pre_of, put_names_of, put_of, range_at, read_attr_of, read_name_of, read_of, reading_at, settle_of, stepping_at, unlock_of};
 
-use crate::bytes::number;
+use crate::bytes::{MOST_SMALL, number};
 use crate::kinds::Asked;
+use crate::lists::{marks, missed, reads};
 use crate::parts::{kind, object};
 use crate::spans::covered;
 use crate::words::{keyed, named};
 use afr_base::Gfid;
 use afr_plan::Plan;
 use afr_plan_line::skip;
-
-/// The highest number of 32 bits.
-const MOST_SMALL: u128 = 4_294_967_295;
 
 fn is_range(at: u128, to: u128) -> bool
     requires { at < 2 ^ 32 }
@@ -154,6 +153,16 @@ fn apply(bytes: &[u8]) -> Option<(Asked, &[u8])>
     Some((Asked::Apply { attempt: n as u32 }, rest))
 }
 
+fn post(bytes: &[u8]) -> Option<(Asked, &[u8])>
+    ensures { option_map (λ x. (x.0, x.1.now)) result ≡ as_a post_of (both (then_word (word_then (codes "post ") (number_below (2 ^ 32))) (codes " ")) missed_at) bytes.now }
+{
+    let rest = skip(b"post ", bytes)?;
+    let (n, rest) = number(rest, MOST_SMALL)?;
+    let rest = skip(b" ", rest)?;
+    let (missed, rest) = missed(rest)?;
+    Some((Asked::Post { attempt: n as u32, missed }, rest))
+}
+
 fn cut_to<'a>(plan: &Plan, bytes: &'a [u8]) -> Option<(Asked, &'a [u8])>
     ensures { option_map (λ x. (x.0, x.1.now)) result ≡ as_a cut_to_of (numbered_at plan.now (codes "cut ") (codes " ")) bytes.now }
 {
@@ -177,6 +186,26 @@ fn put_attrs<'a>(plan: &Plan, bytes: &'a [u8]) -> Option<(Asked, &'a [u8])>
 {
     let (gfid, read, rest) = numbered(plan, b"put-attrs ", b" from ", bytes)?;
     Some((Asked::PutAttrs { gfid, read }, rest))
+}
+
+fn put_names<'a>(plan: &Plan, bytes: &'a [u8]) -> Option<(Asked, &'a [u8])>
+    ensures { option_map (λ x. (x.0, x.1.now)) result ≡ as_a put_names_of (both (then_word (word_then (codes "put-names ") (object_at plan.now)) (codes " from ")) reads_at) bytes.now }
+{
+    let (gfid, rest) = about(plan, b"put-names ", bytes)?;
+    let rest = skip(b" from ", rest)?;
+    let (reads, rest) = reads(rest)?;
+    Some((Asked::PutNames { gfid, reads }, rest))
+}
+
+fn settle<'a>(plan: &Plan, bytes: &'a [u8]) -> Option<(Asked, &'a [u8])>
+    ensures { option_map (λ x. (x.0, x.1.now)) result ≡ as_a settle_of (both (then_word (both (then_word (word_then (codes "settle ") (object_at plan.now)) (codes " ")) kind_at) (codes " ")) (marks_at plan.now.shape.n)) bytes.now }
+{
+    let (gfid, rest) = about(plan, b"settle ", bytes)?;
+    let rest = skip(b" ", rest)?;
+    let (kind, rest) = kind(rest)?;
+    let rest = skip(b" ", rest)?;
+    let (less, rest) = marks(plan.shape.n, rest)?;
+    Some((Asked::Settle { gfid, kind, less }, rest))
 }
 
 #[tactic(auto, unfolding(crate::specs::Reading::reading_at))]
@@ -217,7 +246,10 @@ fn stepping<'a>(plan: &Plan, bytes: &'a [u8]) -> Option<(Asked, &'a [u8])>
     if let Some(x) = pre(plan, bytes) {
         return Some(x);
     }
-    apply(bytes)
+    if let Some(x) = apply(bytes) {
+        return Some(x);
+    }
+    post(bytes)
 }
 
 #[tactic(auto, unfolding(crate::specs::Reading::mending_at))]
@@ -230,7 +262,13 @@ fn mending<'a>(plan: &Plan, bytes: &'a [u8]) -> Option<(Asked, &'a [u8])>
     if let Some(x) = copy(plan, bytes) {
         return Some(x);
     }
-    put_attrs(plan, bytes)
+    if let Some(x) = put_attrs(plan, bytes) {
+        return Some(x);
+    }
+    if let Some(x) = put_names(plan, bytes) {
+        return Some(x);
+    }
+    settle(plan, bytes)
 }
 
 /// A request, and what follows it.
