@@ -21,8 +21,7 @@ fn is_letter(byte: u8) -> bool
     (b'a' <= byte && byte <= b'z') || (b'A' <= byte && byte <= b'Z')
 }
 
-/// Whether a name may have this byte.
-pub fn is_name_byte(byte: u8) -> bool
+fn is_name_byte(byte: u8) -> bool
     ensures { result ≡ name_byte byte }
 {
     is_letter(byte) || is_digit(byte) || byte == b'.' || byte == b'_' || byte == b'-'
@@ -125,7 +124,7 @@ fn value_of(ds: &[u8]) -> u32
 }
 
 /// Digits with no leading zero.
-pub fn numeral(bytes: &[u8]) -> Option<(&[u8], &[u8])>
+fn numeral(bytes: &[u8]) -> Option<(&[u8], &[u8])>
     ensures read { option_map (λ x. (x.0.now, x.1.now)) result ≡ run_of digit is_numeral bytes.now }
     ensures digits { IfSome result (λ x. AllDigits 10 x.0.now) }
 {
@@ -155,7 +154,7 @@ pub(crate) fn small(bytes: &[u8]) -> Option<(u8, &[u8])>
 
 /// A key or a value.
 #[tactic(auto, unfolding(afr_plan::specs::Reading::key_at))]
-pub fn key(bytes: &[u8]) -> Option<(&[u8], &[u8])>
+pub(crate) fn key(bytes: &[u8]) -> Option<(&[u8], &[u8])>
     ensures { option_map (λ x. (x.0.now, x.1.now)) result ≡ key_at bytes.now }
 {
     let count = key_len(bytes);

@@ -69,8 +69,7 @@ fn first_piece(bytes: &[u8]) -> (&[u8], Option<&[u8]>)
     }
 }
 
-/// Whether these bytes together may be a name, where each may.
-pub fn is_name(name: &[u8]) -> bool
+fn is_name(name: &[u8]) -> bool
     ensures { result ≡ bytes.is_name name.now }
 {
     match name {

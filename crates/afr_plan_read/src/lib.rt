@@ -15,5 +15,4 @@ mod totals;
 mod versions;
 mod words;
 
-pub use lines::cut;
 pub use read::{one_plan_for_a_text, read_plan};

@@ -22,9 +22,10 @@ use Rattle.afr_trace_read.specs.declared.kinds.Replied.{Replied}
 use Rattle.afr_trace_read.specs.declared.kinds.Replied.TheVariants as replied
 use Rattle.afr_trace_read.specs.Fit.{Always, IsGfid, IsNameOf, IsKeyOf, IsValueOf, IsAnswered, IsChanging, IsHealed}
 use Rattle.afr_trace_read.proofs.Laws.{Takes, Again, word-takes, word_then-takes, word_then-again, both-takes, both-again, then_word-takes, then_word-again, as-takes, as-again, either-takes}
-use Rattle.afr_trace_read.proofs.NumberLaws.{number-takes, number-again, name_then_digit, name_then_key}
+use Rattle.afr_trace_read.proofs.NumberLaws.{number-takes, number-again}
 use Rattle.afr_trace_read.proofs.PartLaws.{actor-takes, actor-again, brick-takes, brick-again, object-takes, object-again, value_word, value-takes, value-again, named-takes, named-again, keyed-takes, keyed-again}
 use Rattle.afr_trace_read.proofs.RequestLaws.{numbered-takes, numbered-again}
+use Rattle.afr_trace_read.proofs.WordLaws.{name_then_digit, name_then_key}
 
 pub answered-takes : Takes answered_at answered_text IsAnswered
 unfolding answered_at

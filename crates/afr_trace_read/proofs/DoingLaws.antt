@@ -24,10 +24,11 @@ use Rattle.afr_trace_read.specs.declared.kinds.Doing.{Doing}
 use Rattle.afr_trace_read.specs.declared.kinds.Doing.TheVariants as doing
 use Rattle.afr_trace_read.specs.Fit.{Always, IsBrick, IsGfid, IsAsked, IsAnswered, IsDoing}
 use Rattle.afr_trace_read.proofs.Laws.{IsSpaced, Takes, Again, word_then-takes, word_then-again, both-takes, both-again, then_word-takes, then_word-again, as-takes, as-again, as-none, both-none, then_word-none, second_of, either-takes}
-use Rattle.afr_trace_read.proofs.NumberLaws.{no_number, name_then_digit}
+use Rattle.afr_trace_read.proofs.NumberLaws.{no_number}
 use Rattle.afr_trace_read.proofs.PartLaws.{brick-takes, brick-again, object-takes, object-again, kind-takes, kind-again}
 use Rattle.afr_trace_read.proofs.RequestLaws.{asked-takes, asked-again}
 use Rattle.afr_trace_read.proofs.ChangeLaws.{answered-takes, answered-again, changing-takes, changing-again, healed-takes, healed-again, replied-takes, replied-again}
+use Rattle.afr_trace_read.proofs.WordLaws.{name_then_digit}
 
 about-takes : (p : Plan) (w : List ℕ) → Takes (about_at p w) (λ x. w ++ kind_text x.0 ++ codes " " ++ object_text p x.1) (λ x. Always x.0 × IsGfid x.1)
 unfolding about_at

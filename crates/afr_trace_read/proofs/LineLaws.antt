@@ -15,9 +15,10 @@ use Rattle.afr_trace_read.specs.declared.kinds.TraceLine.{TraceLine}
 use Rattle.afr_trace_read.specs.declared.kinds.TraceLine.TheVariants as trace_line
 use Rattle.afr_trace_read.specs.Fit.{IsTraceLine}
 use Rattle.afr_trace_read.proofs.Laws.{Takes, Again, word_then-takes, word_then-again, both-takes, both-again, then_word-takes, then_word-again, as-takes, as-again, second_of, either-takes, whole-takes, whole-again}
-use Rattle.afr_trace_read.proofs.NumberLaws.{name_then_digit, small-takes, small-again}
+use Rattle.afr_trace_read.proofs.NumberLaws.{small-takes, small-again}
 use Rattle.afr_trace_read.proofs.PartLaws.{actor-takes, actor-again, event-takes, event-again}
 use Rattle.afr_trace_read.proofs.DoingLaws.{doing-takes, doing-again, doing_stops}
+use Rattle.afr_trace_read.proofs.WordLaws.{name_then_digit}
 
 content-takes : (p : Plan) → Takes (content_at p) (content_text p) (IsTraceLine p)
 unfolding content_at

@@ -12,7 +12,7 @@ use Rattle.afr_trace_read.specs.Lists.{brick_word, with_brick, then_brick, front
 use Rattle.afr_trace_read.proofs.Laws.{Takes, Again, IsSpaced, word-takes, either-takes, second_of}
 
 -- ---- the text of a set, digit by digit
-literal : Bool → List ℕ → List ℕ
+abbrev literal : Bool → List ℕ → List ℕ
 literal first [] = []
 literal first (b ∷ more) = brick_word first b ++ literal false more
 
@@ -28,11 +28,11 @@ literal_is first (b ∷ bs) h =
 
 kept_all : (q p : ℕ → Bool) (xs : List ℕ) → list_all q xs ≡ true → list_all q (filter p xs) ≡ true
 kept_all q p [] h = refl
-kept_all q p (x ∷ xs) h = step (p x)
+kept_all q p (x ∷ xs) h = step (p x) (and_left (q x) (list_all q xs) h) (kept_all q p xs (and_right (q x) (list_all q xs) h))
   where
-    step : (b : Bool) → list_all q (cond b (x ∷ filter p xs) (filter p xs)) ≡ true
-    step true = rw (and_left (q x) (list_all q xs) h, kept_all q p xs (and_right (q x) (list_all q xs) h)) refl
-    step false = kept_all q p xs (and_right (q x) (list_all q xs) h)
+    step : (b : Bool) → q x ≡ true → list_all q (filter p xs) ≡ true → list_all q (cond b (x ∷ filter p xs) (filter p xs)) ≡ true
+    step true here later = rw (here, later) refl
+    step false here later = later
 
 set_text : (s : List ℕ) → is_nothing s ≡ false → IsBrickSet s → bricks_text s ≡ literal true s
 set_text [] h k = absurd (cc)
@@ -127,7 +127,8 @@ front_read xs =
     let e = at_set 4 x4 (four_of a.0 b.0 c.0 d.0) d.1 in
     let rest : List ℕ = (then_brick 4 x4).1 in
     let l = leaf a.0 b.0 c.0 d.0 e.0 rest in
-    let same : chosen a.0 b.0 c.0 d.0 e.0 ≡ (front_bricks xs).0 = sym (e.1 ∙ l.0) in
+    let there : (front_bricks xs).0 ≡ chosen a.0 b.0 c.0 d.0 e.0 = e.1 ∙ l.0 in
+    let same : chosen a.0 b.0 c.0 d.0 e.0 ≡ (front_bricks xs).0 = sym there in
     let text : xs ≡ parts a.0 b.0 c.0 d.0 e.0 rest = a.2 ∙ ap (λ (t : List ℕ). taken a.0 true 0 ++ t)
         (b.2 ∙ ap (λ (t : List ℕ). taken b.0 (is_nothing (one_of a.0)) 1 ++ t)
         (c.2 ∙ ap (λ (t : List ℕ). taken c.0 (is_nothing (two_of a.0 b.0)) 2 ++ t)

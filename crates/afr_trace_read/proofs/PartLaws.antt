@@ -23,7 +23,8 @@ use Rattle.afr_lines.specs.declared.line.Event.TheVariants as event
 use Rattle.afr_report_trace.specs.Answers.{event_text}
 use Rattle.afr_trace_read.specs.Fit.{IsNameOf, IsKeyOf, IsValueOf, Always, IsActor, IsBrick, IsGfid, IsEvent}
 use Rattle.afr_trace_read.proofs.Laws.{Takes, Again, word-takes, word_then-takes, word_then-again, both-takes, both-again, then_word-takes, then_word-again, such_that-takes, such_that-again, as-takes, as-again, either-takes}
-use Rattle.afr_trace_read.proofs.NumberLaws.{number-takes, number-again, word-takes-among, word-again-among}
+use Rattle.afr_trace_read.proofs.NumberLaws.{number-takes, number-again}
+use Rattle.afr_trace_read.proofs.WordLaws.{word-takes-among, word-again-among}
 
 -- ---- actors
 client_text : (n : ℕ) → n < 17 → IsActor (client_of n) × (codes "c" ++ decimal n ≡ actor_text (client_of n))

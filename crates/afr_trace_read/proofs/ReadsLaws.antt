@@ -54,7 +54,7 @@ one_stops (Some m) rest ok n = refl
 -- ---- a number and what follows it, or neither
 maybe-takes : {A : Type 0} (none : A) (q : Reader A) (T : A → List ℕ) (Ok : A → Type 0) (Both : Option ℕ × A → Type 0) → T none ≡ [] → Both (None, none) → ((m : ℕ) (y : A) → IsSmall m → Ok y → Both (Some m, y)) → Takes q T Ok
     → Takes (maybe_then none q) (λ x. one_text x.0 ++ T x.1) Both
-maybe-takes none q T Ok Both text neither both t = either-takes _ _ _ _ (as-takes some_front _ _ _ _ _ (both-takes _ _ _ _ _ _ next-takes t) (λ x ok. (both x.0 x.1 ok.0 ok.1, refl))) (give-takes (None, none) _ _ neither text)
+maybe-takes none q T Ok Both text neither there t = either-takes _ _ _ _ (as-takes some_front _ _ _ _ _ (both-takes _ _ _ _ _ _ next-takes t) (λ x ok. (there x.0 x.1 ok.0 ok.1, refl))) (give-takes (None, none) _ _ neither text)
 
 some_again : {A : Type 0} (none : A) (q : Reader A) (T : A → List ℕ) (Ok : A → Type 0) → Again q T Ok IsSpaced → ((y : A) (rest : List ℕ) → Ok y → IsSpaced rest → Stops digit (T y ++ rest))
     → (m : ℕ) (y : A) (rest : List ℕ) → IsSmall m → Ok y → IsSpaced rest → maybe_then none q ((next_text m ++ T y) ++ rest) ≡ Some ((Some m, y), rest)

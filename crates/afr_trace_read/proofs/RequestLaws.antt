@@ -3,20 +3,23 @@ use Rattle.std.proofs.Common.{◌≡◌, ℕ, ◌+◌, ◌-◌, ◌^◌, ◌<◌
 use Rattle.std.specs.Prelude.{decimal}
 use Rattle.std.proofs.lemmas.Bool.Decides.{nat_tests}
 use Rattle.afr_base.specs.declared.ids.Gfid.{Gfid}
+use Rattle.afr_base.specs.declared.ids.Kind.{Kind}
+use Rattle.afr_model.specs.ReportReplies.{kind_text}
 use Rattle.afr_report_trace.specs.Objects.{object_text, range_text}
 use Rattle.afr_base.specs.Bricks.{and_left, and_right}
 use Rattle.afr_plan.specs.declared.plan.Plan.{Plan}
-use Rattle.afr_plan.specs.Bytes.{digit, name_byte}
-use Rattle.afr_plan.specs.Reading.{word_then, both}
+use Rattle.afr_plan.specs.Bytes.{digit, name_byte, key_byte}
+use Rattle.afr_plan.specs.Reading.{Reader, word_then, both}
 use Rattle.afr_plan_read.proofs.Laws.{Any, first_of, Stops}
 use Rattle.afr_base.specs.declared.marks.Marks.{Marks}
 use Rattle.afr_report_trace.specs.Repairs.{marks_text}
+use Rattle.afr_trace_read.specs.Forms.{then_word}
 use Rattle.afr_trace_read.specs.Lists.{marks_at}
 use Rattle.afr_trace_read.proofs.MissedLaws.{missed-takes, missed-again}
 use Rattle.afr_trace_read.proofs.ReadsLaws.{reads-takes, reads-again}
 use Rattle.afr_trace_read.proofs.MarksLaws.{marks-takes, marks-again}
 use Rattle.afr_trace_read.proofs.NumberLaws.{small-takes, small-again, number-takes, number-again}
-use Rattle.afr_trace_read.specs.Parts.{object_at}
+use Rattle.afr_trace_read.specs.Parts.{object_at, kind_at}
 use Rattle.afr_trace_read.specs.Reading.{post_of, put_names_of, settle_of, lock_of, unlock_of, covered_at, in_order, range_at, read_of, copy_of, pre_of, cut_to_of, put_of, numbered_at, reading_at, stepping_at, mending_at, asked_at, read_name_of, read_attr_of}
 use Rattle.afr_trace_read.specs.Texts.{asked_text}
 use Rattle.afr_trace_read.specs.declared.kinds.Asked.{Asked}

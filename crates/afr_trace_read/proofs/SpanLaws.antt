@@ -20,8 +20,9 @@ use Rattle.afr_trace_read.specs.declared.kinds.Span.{Span}
 use Rattle.afr_trace_read.specs.declared.kinds.Span.TheVariants as span
 use Rattle.afr_trace_read.specs.Fit.{Always, IsGfid, IsUpto, IsSpan}
 use Rattle.afr_trace_read.proofs.Laws.{give-takes, Takes, Again, word-takes, word_then-takes, word_then-again, both-takes, both-again, then_word-takes, then_word-again, as-takes, as-again, as-none, both-none, then_word-none, such_that-none, second_of, either-takes}
-use Rattle.afr_trace_read.proofs.NumberLaws.{number-takes, number-again, no_number, no_word}
+use Rattle.afr_trace_read.proofs.NumberLaws.{number-takes, number-again, no_number}
 use Rattle.afr_trace_read.proofs.PartLaws.{object-takes, object-again, name-takes, name-again}
+use Rattle.afr_trace_read.proofs.WordLaws.{no_word}
 
 upto-takes : Takes upto_at upto_text IsUpto
 unfolding upto_at

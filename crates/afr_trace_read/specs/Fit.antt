@@ -1,5 +1,5 @@
 -- The lines whose numbers are those that the types of a log can hold: only such lines have a text that is read.
-use Rattle.std.specs.Prelude.{◌∷◌, ◌⊎◌, ⊥, filter, ◌≡◌, ℕ, ◌^◌, ◌<◌, Bool, true, List, [], Option, Some, None, slice_index_or}
+use Rattle.std.specs.Prelude.{◌∷◌, ◌⊎◌, filter, ◌≡◌, ℕ, ◌^◌, ◌<◌, Bool, true, List, [], Option, Some, None, slice_index_or}
 use Rattle.std.specs.List.{list_all}
 use Rattle.afr_base.specs.Bricks.{all_five, member}
 use Rattle.afr_base.specs.declared.marks.Marks.{Marks}

@@ -39,7 +39,9 @@ fn ask<'a>(plan: &Plan, bytes: &'a [u8]) -> Option<(Doing, &'a [u8])>
     let rest = skip(b" b", bytes)?;
     let (brick, rest) = brick(rest)?;
     let rest = skip(b" ", rest)?;
-    let (asked, rest) = asked(plan, rest)?;
+    let Some((asked, rest)) = asked(plan, rest) else {
+        return None;
+    };
     let rest = skip(b" ", rest)?;
     let (answered, rest) = answered(rest)?;
     Some((Doing::Ask { brick, asked, answered }, rest))
@@ -108,7 +110,9 @@ fn of_actor<'a>(plan: &Plan, bytes: &'a [u8]) -> Option<(TraceLine, &'a [u8])>
     ensures { option_map (λ x. (x.0, x.1.now)) result ≡ as_a of_actor (both actor_at (doing_at plan.now)) bytes.now }
 {
     let (actor, rest) = actor(bytes)?;
-    let (doing, rest) = doing(plan, rest)?;
+    let Some((doing, rest)) = doing(plan, rest) else {
+        return None;
+    };
     Some((TraceLine::Of { actor, doing }, rest))
 }
 
@@ -129,7 +133,9 @@ fn read_whole(plan: &Plan, bytes: &[u8]) -> Option<(u32, TraceLine)>
 {
     let (n, rest) = number(bytes, 4_294_967_295)?;
     let rest = skip(b" ", rest)?;
-    let (line, rest) = content(plan, rest)?;
+    let Some((line, rest)) = content(plan, rest) else {
+        return None;
+    };
     if !rest.is_empty() {
         return None;
     }

@@ -159,7 +159,9 @@ fn post(bytes: &[u8]) -> Option<(Asked, &[u8])>
     let rest = skip(b"post ", bytes)?;
     let (n, rest) = number(rest, MOST_SMALL)?;
     let rest = skip(b" ", rest)?;
-    let (missed, rest) = missed(rest)?;
+    let Some((missed, rest)) = missed(rest) else {
+        return None;
+    };
     Some((Asked::Post { attempt: n as u32, missed }, rest))
 }
 

@@ -1,11 +1,12 @@
 //! A trace, line by line.
-ghost use Rattle.std.specs.Prelude.{◌≡◌, ◌<◌, ◌≤◌, IfOk, reverse};
+ghost use Rattle.std.specs.Prelude.{◌≡◌, ◌==◌, ◌<◌, ◌≤◌, IfOk, position, reverse};
+ghost use Rattle.std.specs.Option.{option_map};
+ghost use Rattle.afr_plan.specs.TextLines.{cut_of};
 ghost use Rattle.afr_trace_read.specs.Trace.{line_feeds, trace_told};
 
 use crate::lines::read_line;
-use crate::kinds::TraceLine;
+use crate::kinds::{Asked, TraceLine};
 use afr_plan::Plan;
-use afr_plan_read::cut;
 use std::alloc::Global;
 
 /// The most lines that a trace may have.
@@ -24,6 +25,21 @@ pub enum TraceStop {
     /// It has more than 2,000 line feeds.
     Limit,
     NoMemory,
+}
+
+/// Where the first line feed stands.
+fn feed(bytes: &[u8]) -> Option<usize>
+    ensures { result ≡ position (λ b. b == 10) bytes.now }
+{
+    bytes.iter().position(|b| *b == b'\n')
+}
+
+/// The bytes before the first line feed, and those after it.
+fn cut(bytes: &[u8]) -> Option<(&[u8], &[u8])>
+    ensures { option_map (λ x. (x.0.now, x.1.now)) result ≡ cut_of bytes.now }
+{
+    let at = feed(bytes)?;
+    Some((&bytes[..at], &bytes[at + 1..]))
 }
 
 /// How many line feeds there are; one more than a trace may have stands for all that are more.
