@@ -61,8 +61,6 @@ read_line_text p bytes x e = whole-takes (line_at p) (line_of_text p) (IsLine p)
 pub line_text_read : (p : Plan) → p.files < 2 ^ 32 → (x : ℕ × TraceLine) → IsLine p x → whole (line_at p) (trace_line_text p x.0 x.1) ≡ Some x
 line_text_read p few x ok = whole-again (line_at p) (line_of_text p) (IsLine p) (Stops name_byte) (line-again p few) tt x ok
 
-
-
 -- ---- a line at its position
 pub told_spelled : (p : Plan) (k : ℕ) (bytes : List ℕ) (s : TraceLine) → line_told p k bytes ≡ Some s → IsTraceLine p s × (bytes ≡ trace_line_text p k s)
 told_spelled p k bytes s e =

@@ -99,9 +99,10 @@ pending_text n a b c x (inr h) = subst (λ (m : ℕ). flat_map spaced_text (take
 
 marks_form : (p : Plan) (x : (ℕ × ((ℕ × ℕ) × ℕ)) × (ℕ × ℕ)) → (IsSmall x.0.0 × AreThree x.0.1) × AreLast p.shape.n x.1
     → AreMarks p.shape.n (marks_of x) × (decimal x.0.0 ++ three_text x.0.1 ++ last_text p.shape.n x.1 ≡ marks_text p (marks_of x))
-marks_form p x ok =
-    ((ok.0.0, (ok.0.1, ok.1)),
-     append_assoc (decimal x.0.0) (three_text x.0.1) (last_text p.shape.n x.1) ∙ ap (λ (t : List ℕ). decimal x.0.0 ++ t) (sym (pending_text p.shape.n x.0.1.0.0 x.0.1.0.1 x.0.1.1 x.1 ok.1)))
+marks_form p x ok = (
+  (ok.0.0, (ok.0.1, ok.1)),
+  append_assoc (decimal x.0.0) (three_text x.0.1) (last_text p.shape.n x.1) ∙ ap (λ (t : List ℕ). decimal x.0.0 ++ t) (sym (pending_text p.shape.n x.0.1.0.0 x.0.1.0.1 x.0.1.1 x.1 ok.1)),
+)
 
 pub marks-takes : (p : Plan) → Takes (marks_at p.shape.n) (marks_text p) (AreMarks p.shape.n)
 unfolding marks_at

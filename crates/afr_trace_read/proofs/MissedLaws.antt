@@ -7,9 +7,12 @@ use Rattle.afr_base.specs.Bricks.{all_five, member, added_if, is_nothing, and_le
 use Rattle.afr_plan.specs.Reading.{after, word}
 use Rattle.afr_plan_read.proofs.Laws.{after_takes, checked_some}
 use Rattle.afr_report_trace.specs.Numbers.{bricks_text, commas_from, with_commas}
-use Rattle.afr_trace_read.specs.Fit.{IsBrickSet}
-use Rattle.afr_trace_read.specs.Lists.{brick_word, with_brick, then_brick, front_bricks, some_bricks, listed_bricks, missed_at}
+use Rattle.afr_trace_read.specs.Lists.{flags_of, flagged, brick_word, with_brick, then_brick, front_bricks, some_bricks, listed_bricks, missed_at}
 use Rattle.afr_trace_read.proofs.Laws.{Takes, Again, IsSpaced, word-takes, either-takes, second_of}
+
+-- a set of bricks, as the rising list of their numbers
+abbrev pub IsBrickSet : List ℕ → Type 0
+IsBrickSet s = filter (member s) all_five ≡ s
 
 -- ---- the text of a set, digit by digit
 abbrev literal : Bool → List ℕ → List ℕ
@@ -80,39 +83,39 @@ abbrev chosen : Bool → Bool → Bool → Bool → Bool → List ℕ
 chosen a b c d e = kept a 0 (kept b 1 (kept c 2 (kept d 3 (kept e 4 []))))
 
 leaf : (a b c d e : Bool) (r : List ℕ) → (five_of a b c d e ≡ chosen a b c d e) × IsBrickSet (chosen a b c d e) × (parts a b c d e r ≡ literal true (chosen a b c d e) ++ r)
-    × (front_bricks (literal true (chosen a b c d e) ++ 32 ∷ r) ≡ (chosen a b c d e, 32 ∷ r))
-leaf true true true true true r = (refl, refl, refl, refl)
-leaf true true true true false r = (refl, refl, refl, refl)
-leaf true true true false true r = (refl, refl, refl, refl)
-leaf true true true false false r = (refl, refl, refl, refl)
-leaf true true false true true r = (refl, refl, refl, refl)
-leaf true true false true false r = (refl, refl, refl, refl)
-leaf true true false false true r = (refl, refl, refl, refl)
-leaf true true false false false r = (refl, refl, refl, refl)
-leaf true false true true true r = (refl, refl, refl, refl)
-leaf true false true true false r = (refl, refl, refl, refl)
-leaf true false true false true r = (refl, refl, refl, refl)
-leaf true false true false false r = (refl, refl, refl, refl)
-leaf true false false true true r = (refl, refl, refl, refl)
-leaf true false false true false r = (refl, refl, refl, refl)
-leaf true false false false true r = (refl, refl, refl, refl)
-leaf true false false false false r = (refl, refl, refl, refl)
-leaf false true true true true r = (refl, refl, refl, refl)
-leaf false true true true false r = (refl, refl, refl, refl)
-leaf false true true false true r = (refl, refl, refl, refl)
-leaf false true true false false r = (refl, refl, refl, refl)
-leaf false true false true true r = (refl, refl, refl, refl)
-leaf false true false true false r = (refl, refl, refl, refl)
-leaf false true false false true r = (refl, refl, refl, refl)
-leaf false true false false false r = (refl, refl, refl, refl)
-leaf false false true true true r = (refl, refl, refl, refl)
-leaf false false true true false r = (refl, refl, refl, refl)
-leaf false false true false true r = (refl, refl, refl, refl)
-leaf false false true false false r = (refl, refl, refl, refl)
-leaf false false false true true r = (refl, refl, refl, refl)
-leaf false false false true false r = (refl, refl, refl, refl)
-leaf false false false false true r = (refl, refl, refl, refl)
-leaf false false false false false r = (refl, refl, refl, refl)
+    × (front_bricks (literal true (chosen a b c d e) ++ 32 ∷ r) ≡ (chosen a b c d e, 32 ∷ r)) × (flags_of (chosen a b c d e) ≡ a ∷ b ∷ c ∷ d ∷ e ∷ [])
+leaf true true true true true r = (refl, refl, refl, refl, refl)
+leaf true true true true false r = (refl, refl, refl, refl, refl)
+leaf true true true false true r = (refl, refl, refl, refl, refl)
+leaf true true true false false r = (refl, refl, refl, refl, refl)
+leaf true true false true true r = (refl, refl, refl, refl, refl)
+leaf true true false true false r = (refl, refl, refl, refl, refl)
+leaf true true false false true r = (refl, refl, refl, refl, refl)
+leaf true true false false false r = (refl, refl, refl, refl, refl)
+leaf true false true true true r = (refl, refl, refl, refl, refl)
+leaf true false true true false r = (refl, refl, refl, refl, refl)
+leaf true false true false true r = (refl, refl, refl, refl, refl)
+leaf true false true false false r = (refl, refl, refl, refl, refl)
+leaf true false false true true r = (refl, refl, refl, refl, refl)
+leaf true false false true false r = (refl, refl, refl, refl, refl)
+leaf true false false false true r = (refl, refl, refl, refl, refl)
+leaf true false false false false r = (refl, refl, refl, refl, refl)
+leaf false true true true true r = (refl, refl, refl, refl, refl)
+leaf false true true true false r = (refl, refl, refl, refl, refl)
+leaf false true true false true r = (refl, refl, refl, refl, refl)
+leaf false true true false false r = (refl, refl, refl, refl, refl)
+leaf false true false true true r = (refl, refl, refl, refl, refl)
+leaf false true false true false r = (refl, refl, refl, refl, refl)
+leaf false true false false true r = (refl, refl, refl, refl, refl)
+leaf false true false false false r = (refl, refl, refl, refl, refl)
+leaf false false true true true r = (refl, refl, refl, refl, refl)
+leaf false false true true false r = (refl, refl, refl, refl, refl)
+leaf false false true false true r = (refl, refl, refl, refl, refl)
+leaf false false true false false r = (refl, refl, refl, refl, refl)
+leaf false false false true true r = (refl, refl, refl, refl, refl)
+leaf false false false true false r = (refl, refl, refl, refl, refl)
+leaf false false false false true r = (refl, refl, refl, refl, refl)
+leaf false false false false false r = (refl, refl, refl, refl, refl)
 
 front_read : (xs : List ℕ) → IsBrickSet (front_bricks xs).0 × (xs ≡ literal true (front_bricks xs).0 ++ (front_bricks xs).1)
 front_read xs =
@@ -130,9 +133,9 @@ front_read xs =
     let there : (front_bricks xs).0 ≡ chosen a.0 b.0 c.0 d.0 e.0 = e.1 ∙ l.0 in
     let same : chosen a.0 b.0 c.0 d.0 e.0 ≡ (front_bricks xs).0 = sym there in
     let text : xs ≡ parts a.0 b.0 c.0 d.0 e.0 rest = a.2 ∙ ap (λ (t : List ℕ). taken a.0 true 0 ++ t)
-        (b.2 ∙ ap (λ (t : List ℕ). taken b.0 (is_nothing (one_of a.0)) 1 ++ t)
-        (c.2 ∙ ap (λ (t : List ℕ). taken c.0 (is_nothing (two_of a.0 b.0)) 2 ++ t)
-        (d.2 ∙ ap (λ (t : List ℕ). taken d.0 (is_nothing (three_of a.0 b.0 c.0)) 3 ++ t) e.2))) in
+    (b.2 ∙ ap (λ (t : List ℕ). taken b.0 (is_nothing (one_of a.0)) 1 ++ t)
+    (c.2 ∙ ap (λ (t : List ℕ). taken c.0 (is_nothing (two_of a.0 b.0)) 2 ++ t)
+    (d.2 ∙ ap (λ (t : List ℕ). taken d.0 (is_nothing (three_of a.0 b.0 c.0)) 3 ++ t) e.2))) in
     (subst (λ (s : List ℕ). IsBrickSet s) same l.1, text ∙ l.2 ∙ ap (λ (s : List ℕ). literal true s ++ rest) same)
 
 not_true : (b : Bool) → not b ≡ true → b ≡ false
@@ -156,9 +159,13 @@ missed-takes = either-takes _ _ _ _ (word-takes (codes "-") [] _ _ refl refl) li
 no_dash : (b : ℕ) (more rest : List ℕ) → word {A = List ℕ} (codes "-") [] (literal true (b ∷ more) ++ rest) ≡ None
 no_dash b more rest = let e : (45 == 48 + b) ≡ false = grind (arith, nat_tests) in rw e refl
 
--- the bricks of all five that are in a set
-pub of_five : (s : List ℕ) → filter (member s) all_five ≡ chosen (member s 0) (member s 1) (member s 2) (member s 3) (member s 4)
-of_five s = refl
+pub set_commas : (s : List ℕ) → is_nothing s ≡ false → IsBrickSet s → with_commas s ≡ bricks_text s
+set_commas [] h k = absurd (cc)
+set_commas (b ∷ bs) h k = ap with_commas (sym k)
+
+-- five flags are those of the bricks whose flags are set
+pub flags_again : (a b c d e : Bool) → IsBrickSet (flagged 0 (a ∷ b ∷ c ∷ d ∷ e ∷ [])) × (flags_of (flagged 0 (a ∷ b ∷ c ∷ d ∷ e ∷ [])) ≡ a ∷ b ∷ c ∷ d ∷ e ∷ [])
+flags_again a b c d e = let l = leaf a b c d e [] in (l.1, l.4)
 
 pub five_is_set : (s : List ℕ) → IsBrickSet (filter (member s) all_five)
 five_is_set s = (leaf (member s 0) (member s 1) (member s 2) (member s 3) (member s 4) []).1

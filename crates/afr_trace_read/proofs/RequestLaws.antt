@@ -1,5 +1,5 @@
 -- Requests, both ways.
-use Rattle.std.proofs.Common.{◌≡◌, ℕ, ◌+◌, ◌-◌, ◌^◌, ◌<◌, ◌≤◌, List, ◌++◌, Some, refl, ap, ◌∙◌, codes, true, nat_lt, nat_le, arith}
+use Rattle.std.proofs.Common.{Bool, [], ◌∷◌, length, sym, ◌≡◌, ℕ, ◌+◌, ◌-◌, ◌^◌, ◌<◌, ◌≤◌, List, ◌++◌, Some, refl, ap, ◌∙◌, codes, true, nat_lt, nat_le, arith}
 use Rattle.std.specs.Prelude.{decimal}
 use Rattle.std.proofs.lemmas.Bool.Decides.{nat_tests}
 use Rattle.afr_base.specs.declared.ids.Gfid.{Gfid}
@@ -9,13 +9,14 @@ use Rattle.afr_report_trace.specs.Objects.{object_text, range_text}
 use Rattle.afr_base.specs.Bricks.{and_left, and_right}
 use Rattle.afr_plan.specs.declared.plan.Plan.{Plan}
 use Rattle.afr_plan.specs.Bytes.{digit, name_byte, key_byte}
-use Rattle.afr_plan.specs.Reading.{Reader, word_then, both}
+use Rattle.afr_plan.specs.Reading.{Reader, word_then, both, as_a}
 use Rattle.afr_plan_read.proofs.Laws.{Any, first_of, Stops}
 use Rattle.afr_base.specs.declared.marks.Marks.{Marks}
 use Rattle.afr_report_trace.specs.Repairs.{marks_text}
-use Rattle.afr_trace_read.specs.Forms.{then_word}
-use Rattle.afr_trace_read.specs.Lists.{marks_at}
-use Rattle.afr_trace_read.proofs.MissedLaws.{missed-takes, missed-again}
+use Rattle.afr_trace_read.specs.Forms.{then_word, number_below}
+use Rattle.afr_trace_read.specs.Lists.{flagged, marks_at, missed_at}
+use Rattle.afr_trace_read.proofs.MissedLaws.{IsBrickSet, flags_again, missed-takes, missed-again}
+use Rattle.afr_report_trace.specs.Numbers.{bricks_text}
 use Rattle.afr_trace_read.proofs.ReadsLaws.{reads-takes, reads-again}
 use Rattle.afr_trace_read.proofs.MarksLaws.{marks-takes, marks-again}
 use Rattle.afr_trace_read.proofs.NumberLaws.{small-takes, small-again, number-takes, number-again}
@@ -43,8 +44,8 @@ range-again : (p : Plan) → p.files < 2 ^ 32 → Again (range_at p) (ranged_tex
 unfolding range_at
 range-again p few = such_that-again _ in_order _ _ _ (then_word-again _ (codes ")") _ _ (Stops digit)
     (both-again _ _ _ _ _ _ Any (Stops digit) (then_word-again _ (codes ",") _ _ (Stops digit)
-        (both-again _ _ _ _ _ _ Any (Stops digit) (then_word-again _ (codes "[") _ _ (Stops digit) (object-again p few) (λ rest. refl)) small-again (λ y rest ok n. tt)) (λ rest. refl))
-        (number-again (2 ^ 33) (omega arith)) (λ y rest ok n. tt)) (λ rest. refl))
+    (both-again _ _ _ _ _ _ Any (Stops digit) (then_word-again _ (codes "[") _ _ (Stops digit) (object-again p few) (λ rest. refl)) small-again (λ y rest ok n. tt)) (λ rest. refl))
+    (number-again (2 ^ 33) (omega arith)) (λ y rest ok n. tt)) (λ rest. refl))
 
 pub numbered-takes : (p : Plan) (w v : List ℕ) → Takes (numbered_at p w v) (λ x. w ++ object_text p x.0 ++ v ++ decimal x.1) (λ x. IsGfid x.0 × (x.1 < 2 ^ 32))
 unfolding numbered_at
@@ -81,6 +82,29 @@ about_object p w = word_then-takes w _ _ _ (object-takes p)
 object_about : (p : Plan) (w : List ℕ) → p.files < 2 ^ 32 → Again (word_then w (object_at p)) (λ g. w ++ object_text p g) IsGfid (Stops digit)
 object_about p w few = word_then-again w _ _ _ _ (object-again p few)
 
+abbrev posted_at : Reader (ℕ × List ℕ)
+posted_at = both (then_word (word_then (codes "post ") (number_below (2 ^ 32))) (codes " ")) missed_at
+
+abbrev posted_text : ℕ × List ℕ → List ℕ
+posted_text x = codes "post " ++ decimal x.0 ++ codes " " ++ bricks_text x.1
+
+posted-takes : Takes posted_at posted_text (λ x. (x.0 < 2 ^ 32) × IsBrickSet x.1)
+posted-takes = both-takes _ _ _ _ _ _ (then_word-takes _ (codes " ") _ _ (word_then-takes (codes "post ") _ _ _ small-takes)) missed-takes
+
+posted-again : Again posted_at posted_text (λ x. (x.0 < 2 ^ 32) × IsBrickSet x.1) IsSpaced
+posted-again = both-again _ _ _ _ _ _ Any IsSpaced (then_word-again _ (codes " ") _ _ (Stops digit) (word_then-again (codes "post ") _ _ _ _ small-again) (λ rest. refl)) missed-again (λ y rest ok n. tt)
+
+read_post : (attempt : ℕ) (missed : List Bool) (rest : List ℕ) → attempt < 2 ^ 32 → length missed ≡ 5 → IsSpaced rest → as_a post_of posted_at (posted_text (attempt, flagged 0 missed) ++ rest) ≡ Some (asked.Post attempt missed, rest)
+read_post attempt (a ∷ b ∷ c ∷ d ∷ e ∷ []) rest l h n =
+    let f = flags_again a b c d e in
+    as-again post_of _ _ _ _ posted-again (attempt, flagged 0 (a ∷ b ∷ c ∷ d ∷ e ∷ [])) rest (l, f.0) n ∙ ap (λ (m : List Bool). Some (asked.Post attempt m, rest)) f.1
+read_post attempt [] rest l h n = absurd (omega (arith, h))
+read_post attempt (a ∷ []) rest l h n = absurd (omega (arith, h))
+read_post attempt (a ∷ b ∷ []) rest l h n = absurd (omega (arith, h))
+read_post attempt (a ∷ b ∷ c ∷ []) rest l h n = absurd (omega (arith, h))
+read_post attempt (a ∷ b ∷ c ∷ d ∷ []) rest l h n = absurd (omega (arith, h))
+read_post attempt (a ∷ b ∷ c ∷ d ∷ e ∷ f ∷ more) rest l h n = absurd (omega (arith, h))
+
 abbrev settled_at : Plan → Reader ((Gfid × Kind) × Marks)
 settled_at p = both (then_word (both (then_word (word_then (codes "settle ") (object_at p)) (codes " ")) kind_at) (codes " ")) (marks_at p.shape.n)
 
@@ -112,7 +136,7 @@ stepping-takes p = either-takes _ _ _ _ (as-takes lock_of _ _ _ _ _ (covered-tak
     either-takes _ _ _ _ (as-takes unlock_of _ _ _ _ _ (covered-takes p (codes "unlock ")) (λ x ok. (ok, refl))) (
     either-takes _ _ _ _ (as-takes pre_of _ _ _ _ _ (both-takes _ _ _ _ _ _ (then_word-takes _ (codes " ") _ _ (about_object p (codes "pre "))) kind-takes) (λ x ok. (ok, refl))) (
     either-takes _ _ _ _ (as-takes asked.Apply _ _ _ _ _ (word_then-takes (codes "apply ") _ _ _ small-takes) (λ x ok. (ok, refl))) (
-    as-takes post_of _ _ _ _ _ (both-takes _ _ _ _ _ _ (then_word-takes _ (codes " ") _ _ (word_then-takes (codes "post ") _ _ _ small-takes)) missed-takes) (λ x ok. (ok, refl))))))
+    as-takes post_of _ _ _ _ _ posted-takes (λ x ok. ((ok.0, refl), ap (λ (s : List ℕ). codes "post " ++ decimal x.0 ++ codes " " ++ bricks_text s) (sym ok.1)))))))
 
 mending-takes : (p : Plan) → Takes (mending_at p) (asked_text p) (IsAsked p)
 unfolding mending_at
@@ -141,7 +165,7 @@ read_asked p few (asked.ReadAttrs g) rest ok n = first_of _ _ _ (first_of _ _ _ 
 read_asked p few asked.Index rest ok n = refl
 read_asked p few (asked.Pre g kind) rest ok n = first_of _ _ _ (first_of _ _ _ (as-again pre_of _ _ _ _ (both-again _ _ _ _ _ _ Any Any (then_word-again _ (codes " ") _ _ (Stops digit) (object_about p (codes "pre ") few) (λ rest. refl)) kind-again (λ y rest ok n. tt)) (g, kind) rest ok tt))
 read_asked p few (asked.Apply attempt) rest ok n = first_of _ _ _ (first_of _ _ _ (as-again asked.Apply _ _ _ _ (word_then-again (codes "apply ") _ _ _ _ small-again) attempt rest ok (spaced_stops digit refl rest n)))
-read_asked p few (asked.Post attempt missed) rest ok n = first_of _ _ _ (as-again post_of _ _ _ _ (both-again _ _ _ _ _ _ Any IsSpaced (then_word-again _ (codes " ") _ _ (Stops digit) (word_then-again (codes "post ") _ _ _ _ small-again) (λ rest. refl)) missed-again (λ y rest ok n. tt)) (attempt, missed) rest ok n)
+read_asked p few (asked.Post attempt missed) rest ok n = first_of _ _ _ (read_post attempt missed rest ok.0 ok.1 n)
 read_asked p few (asked.CutTo g len) rest ok n = first_of _ _ _ (as-again cut_to_of _ _ _ _ (numbered-again p (codes "cut ") (codes " ") few (λ rest. refl)) (g, len) rest ok (spaced_stops digit refl rest n))
 read_asked p few (asked.Copy g at long read) rest ok n =
     let back : at + long - at ≡ long = omega arith in

@@ -5,8 +5,8 @@ use Rattle.std.proofs.lemmas.Bool.Decides.{nat_tests}
 use Rattle.afr_base.specs.Bricks.{all_five, member, is_nothing}
 use Rattle.afr_plan.specs.Reading.{checked}
 use Rattle.afr_report_trace.specs.Numbers.{bricks_text, given, with_commas}
-use Rattle.afr_trace_read.specs.Fit.{IsBrickSet}
-use Rattle.afr_trace_read.proofs.MissedLaws.{five_is_set}
+use Rattle.afr_trace_read.specs.Lists.{flags_of}
+use Rattle.afr_trace_read.proofs.MissedLaws.{set_commas, five_is_set}
 use Rattle.afr_trace_read.specs.Stands.{filled, reads_from, blanked, missed_from, span_from, asked_of, answered_of, changing_of, healed_of, replied_of, by, asks, trace_line_of}
 use Rattle.afr_trace_read.specs.declared.kinds.Asked.TheVariants as asked
 use Rattle.afr_base.specs.declared.ids.ActorId.{ActorId}
@@ -55,13 +55,14 @@ covers : (w o s a : List ℕ) → a ≡ o ++ s → w ++ a ≡ (w ++ o) ++ s
 covers w o s a e = ap (λ (t : List ℕ). w ++ t) e ∙ sym (append_assoc w o s)
 
 -- ---- lists
-post_of_set : (p : Plan) (attempt : ℕ) (t : List ℕ) → IsBrickSet t → IfSome (option_map (asked.Post attempt) (checked (not (is_nothing t)) t)) (λ a. codes "post " ++ decimal attempt ++ codes " " ++ with_commas t ≡ asked_text p a)
-post_of_set p attempt [] k = tt
-post_of_set p attempt (b ∷ bs) k = ap (λ (t : List ℕ). codes "post " ++ decimal attempt ++ codes " " ++ with_commas t) (sym k)
+post_of_set : (p : Plan) (attempt : ℕ) (s : List ℕ) (n : Bool) → is_nothing (filter (member s) all_five) ≡ n
+    → IfSome (option_map (asked.Post attempt) (checked (not n) (flags_of s))) (λ a. codes "post " ++ decimal attempt ++ codes " " ++ with_commas (filter (member s) all_five) ≡ asked_text p a)
+post_of_set p attempt s true e = tt
+post_of_set p attempt s false e = ap (λ (t : List ℕ). codes "post " ++ decimal attempt ++ codes " " ++ t) (set_commas (filter (member s) all_five) e (five_is_set s))
 
 post_is : (p : Plan) (attempt : ℕ) (missed : List ℕ) → IfSome (option_map (asked.Post attempt) (missed_from missed)) (λ a. codes "post " ++ decimal attempt ++ codes " " ++ bricks_text missed ≡ asked_text p a)
 post_is p attempt [] = refl
-post_is p attempt (b ∷ bs) = post_of_set p attempt (filter (member (b ∷ bs)) all_five) (five_is_set (b ∷ bs))
+post_is p attempt (b ∷ bs) = post_of_set p attempt (b ∷ bs) (is_nothing (filter (member (b ∷ bs)) all_five)) refl
 
 given_filled : (k : ℕ) (ns : List ℕ) → length ns ≤ k → given (filled k ns) ≡ ns
 given_filled zero [] l = refl

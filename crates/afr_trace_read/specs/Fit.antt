@@ -1,7 +1,6 @@
 -- The lines whose numbers are those that the types of a log can hold: only such lines have a text that is read.
-use Rattle.std.specs.Prelude.{◌∷◌, ◌⊎◌, filter, ◌≡◌, ℕ, ◌^◌, ◌<◌, Bool, true, List, [], Option, Some, None, slice_index_or}
+use Rattle.std.specs.Prelude.{◌∷◌, ◌⊎◌, length, ◌≡◌, ℕ, ◌^◌, ◌<◌, Bool, true, List, [], Option, Some, None, slice_index_or}
 use Rattle.std.specs.List.{list_all}
-use Rattle.afr_base.specs.Bricks.{all_five, member}
 use Rattle.afr_base.specs.declared.marks.Marks.{Marks}
 use Rattle.afr_plan.specs.Bytes.{name_byte, key_byte, is_name, is_key}
 use Rattle.afr_plan.specs.declared.plan.Plan.{Plan}
@@ -81,10 +80,6 @@ IsSpan p (span.Range from to) = (from < 2 ^ 63) × IsUpto to
 IsSpan p span.AllNames = Unit {0}
 IsSpan p (span.OfName name) = IsNameOf p name
 
--- a set of bricks, as the rising list of their numbers
-abbrev pub IsBrickSet : List ℕ → Type 0
-IsBrickSet s = filter (member s) all_five ≡ s
-
 -- no position is there
 abbrev pub AreNone : List (Option ℕ) → Type 0
 AreNone [] = Unit {0}
@@ -128,7 +123,7 @@ IsAsked p (asked.ReadAttrs g) = IsGfid g
 IsAsked p asked.Index = Unit {0}
 IsAsked p (asked.Pre g kind) = IsGfid g × Always kind
 IsAsked p (asked.Apply attempt) = attempt < 2 ^ 32
-IsAsked p (asked.Post attempt missed) = (attempt < 2 ^ 32) × IsBrickSet missed
+IsAsked p (asked.Post attempt missed) = (attempt < 2 ^ 32) × (length missed ≡ 5)
 IsAsked p (asked.CutTo g len) = IsGfid g × (len < 2 ^ 32)
 IsAsked p (asked.Copy g at long read) = (IsGfid g × (at < 2 ^ 32) × (long < 2 ^ 32)) × (read < 2 ^ 32)
 IsAsked p (asked.PutAttrs g read) = IsGfid g × (read < 2 ^ 32)

@@ -1,6 +1,6 @@
 -- How the lists within a request are read: the bricks that missed an operation, the reads of merged names, and changelog numbers.
 use Rattle.std.specs.Prelude.{ℕ, ◌+◌, ◌^◌, ◌==◌, Bool, not, List, [], ◌∷◌, ◌++◌, Option, Some, None, codes, if◌then◌else◌}
-use Rattle.afr_base.specs.Bricks.{added, is_nothing}
+use Rattle.afr_base.specs.Bricks.{added, is_nothing, member}
 use Rattle.afr_base.specs.declared.marks.Marks.{Marks}
 use Rattle.afr_plan.specs.Reading.{Reader, after, checked, word, word_then, both, as_a, either, give}
 use Rattle.afr_report_trace.specs.Numbers.{comma}
@@ -35,6 +35,15 @@ listed_bricks xs = some_bricks (front_bricks xs)
 -- the bricks that missed an operation, or a dash for none
 unfoldable pub missed_at : Reader (List ℕ)
 missed_at = either (word (codes "-") []) listed_bricks
+
+-- which of five bricks are in a set
+abbrev pub flags_of : List ℕ → List Bool
+flags_of s = member s 0 ∷ member s 1 ∷ member s 2 ∷ member s 3 ∷ member s 4 ∷ []
+
+-- the bricks from a number on whose flags are set
+abbrev pub flagged : ℕ → List Bool → List ℕ
+flagged b [] = []
+flagged b (flag ∷ flags) = if flag then b ∷ flagged (b + 1) flags else flagged (b + 1) flags
 
 -- ---- positions of reads
 -- a number behind a comma

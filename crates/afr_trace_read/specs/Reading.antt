@@ -15,7 +15,7 @@ use Rattle.afr_plan.specs.declared.plan.Plan.{Plan}
 use Rattle.afr_plan.specs.Reading.{◌>>=◌, Reader, checked, give, whole, word, word_then, both, as_a, either}
 use Rattle.afr_trace_read.specs.Forms.{then_word, such_that, number_below}
 use Rattle.afr_base.specs.declared.marks.Marks.{Marks}
-use Rattle.afr_trace_read.specs.Lists.{missed_at, reads_at, marks_at}
+use Rattle.afr_trace_read.specs.Lists.{flags_of, missed_at, reads_at, marks_at}
 use Rattle.afr_trace_read.specs.Parts.{actor_at, brick_at, object_at, kind_at, event_at, name_at, value_at, named_at, keyed_at}
 use Rattle.afr_trace_read.specs.declared.kinds.Span.{Span}
 use Rattle.afr_trace_read.specs.declared.kinds.Span.TheVariants as span
@@ -94,7 +94,7 @@ put_of x = asked.PutAttrs x.0 x.1
 
 -- the close of an attempt
 abbrev pub post_of : ℕ × List ℕ → Asked
-post_of x = asked.Post x.0 x.1
+post_of x = asked.Post x.0 (flags_of x.1)
 
 -- merged names that are put
 abbrev pub put_names_of : Gfid × List (Option ℕ) → Asked

@@ -5,6 +5,7 @@ use Rattle.afr_base.specs.declared.marks.Marks.{Marks}
 use Rattle.afr_plan.specs.Reading.{checked}
 use Rattle.afr_plan.specs.declared.plan.Plan.{Plan}
 use Rattle.afr_report_trace.specs.Numbers.{given}
+use Rattle.afr_trace_read.specs.Lists.{flags_of}
 use Rattle.afr_base.specs.declared.ids.ActorId.{ActorId}
 use Rattle.afr_base.specs.declared.ids.BrickId.{BrickId}
 use Rattle.afr_object.specs.declared.change.Change.{Change}
@@ -69,9 +70,9 @@ abbrev pub marks_from : ℕ → Marks → Marks
 marks_from n marks = record { dirty = marks.dirty; pending = blanked n marks.pending }
 
 -- bricks that missed an operation; a list of other numbers alone is no set of bricks
-abbrev pub missed_from : List ℕ → Option (List ℕ)
-missed_from [] = Some []
-missed_from (b ∷ bs) = checked (not (is_nothing (filter (member (b ∷ bs)) all_five))) (filter (member (b ∷ bs)) all_five)
+abbrev pub missed_from : List ℕ → Option (List Bool)
+missed_from [] = Some (flags_of [])
+missed_from (b ∷ bs) = checked (not (is_nothing (filter (member (b ∷ bs)) all_five))) (flags_of (b ∷ bs))
 
 -- a request
 abbrev pub asked_of : Plan → Request → Option Asked

@@ -8,6 +8,7 @@ use Rattle.afr_report_trace.specs.Changes.{make_word, remove_word}
 use Rattle.afr_report_trace.specs.Numbers.{bricks_text, given, with_commas}
 use Rattle.afr_report_trace.specs.Repairs.{marks_text}
 use Rattle.afr_report_trace.specs.Requests.{domain_text}
+use Rattle.afr_trace_read.specs.Lists.{flagged}
 use Rattle.afr_trace_read.specs.declared.kinds.Span.{Span}
 use Rattle.afr_trace_read.specs.declared.kinds.Span.TheVariants as span
 use Rattle.afr_trace_read.specs.declared.kinds.Asked.{Asked}
@@ -50,7 +51,7 @@ asked_text p (asked.ReadAttrs g) = codes "attrs " ++ object_text p g
 asked_text p asked.Index = codes "index"
 asked_text p (asked.Pre g kind) = codes "pre " ++ object_text p g ++ codes " " ++ kind_text kind
 asked_text p (asked.Apply attempt) = codes "apply " ++ decimal attempt
-asked_text p (asked.Post attempt missed) = codes "post " ++ decimal attempt ++ codes " " ++ bricks_text missed
+asked_text p (asked.Post attempt missed) = codes "post " ++ decimal attempt ++ codes " " ++ bricks_text (flagged 0 missed)
 asked_text p (asked.CutTo g len) = codes "cut " ++ object_text p g ++ codes " " ++ decimal len
 asked_text p (asked.Copy g at long read) = codes "copy " ++ range_text p g at (at + long) ++ codes " from " ++ decimal read
 asked_text p (asked.PutAttrs g read) = codes "put-attrs " ++ object_text p g ++ codes " from " ++ decimal read

@@ -21,7 +21,14 @@ fn write<'a>(plan: &Plan, bytes: &'a [u8]) -> Option<(Changing, &'a [u8])>
     let (gfid, at, rest) = numbered(plan, b"write ", b" ", bytes)?;
     let rest = skip(b" ", rest)?;
     let (n, rest) = number(rest, 18_446_744_073_709_551_615)?;
-    Some((Changing::Write { gfid, at, len: n as u64 }, rest))
+    Some((
+        Changing::Write {
+            gfid,
+            at,
+            len: n as u64,
+        },
+        rest,
+    ))
 }
 
 fn cut<'a>(plan: &Plan, bytes: &'a [u8]) -> Option<(Changing, &'a [u8])>
@@ -70,7 +77,15 @@ fn make<'a>(plan: &Plan, bytes: &'a [u8]) -> Option<(Changing, &'a [u8])>
     let (dir, name, rest) = named(plan, rest)?;
     let rest = skip(b" ", rest)?;
     let (gfid, rest) = object(plan, rest)?;
-    Some((Changing::Make { what, dir, name, gfid }, rest))
+    Some((
+        Changing::Make {
+            what,
+            dir,
+            name,
+            gfid,
+        },
+        rest,
+    ))
 }
 
 fn remove<'a>(plan: &Plan, bytes: &'a [u8]) -> Option<(Changing, &'a [u8])>

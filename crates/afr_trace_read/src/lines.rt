@@ -44,7 +44,14 @@ fn ask<'a>(plan: &Plan, bytes: &'a [u8]) -> Option<(Doing, &'a [u8])>
     };
     let rest = skip(b" ", rest)?;
     let (answered, rest) = answered(rest)?;
-    Some((Doing::Ask { brick, asked, answered }, rest))
+    Some((
+        Doing::Ask {
+            brick,
+            asked,
+            answered,
+        },
+        rest,
+    ))
 }
 
 fn heal_begin<'a>(plan: &Plan, bytes: &'a [u8]) -> Option<(Doing, &'a [u8])>
@@ -157,11 +164,9 @@ pub fn a_line_is_read_exactly()
     ensures read { (p : Plan) (k : ℕ) (s : TraceLine) → p.files < 2 ^ 32 → k < 2 ^ 32 → IsTraceLine p s → line_told p k (trace_line_text p k s) ≡ Some s }
     ensures none { (p : Plan) (k : ℕ) (bytes : List ℕ) (s : TraceLine) → p.files < 2 ^ 32 → k < 2 ^ 32 → IsTraceLine p s → line_told p k bytes ≡ None → bytes ≡ trace_line_text p k s → ⊥ }
     ensures one { (p : Plan) (k : ℕ) (s t : TraceLine) → p.files < 2 ^ 32 → k < 2 ^ 32 → IsTraceLine p s → IsTraceLine p t → trace_line_text p k s ≡ trace_line_text p k t → s ≡ t }
-{
-}
+{}
 
 /// The trace has of each line of the log the text of what it says, where that kind of line is read.
 pub fn a_line_is_printed_as_it_is_spelled()
     ensures { (p : Plan) (k : ℕ) (l : Line) → IfSome (trace_line_of p l) (λ s. line_text p k l ≡ trace_line_text p k s ++ codes "\n") }
-{
-}
+{}

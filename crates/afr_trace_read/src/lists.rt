@@ -56,6 +56,19 @@ pub(crate) fn missed(bytes: &[u8]) -> Option<(BrickSet, &[u8])>
     Some((set, rest))
 }
 
+/// Of each of five bricks, whether it is in the set.
+pub(crate) fn flags(set: BrickSet) -> [bool; 5]
+    ensures { result ≡ list.flags_of set }
+{
+    [
+        set.has(BrickId(0)),
+        set.has(BrickId(1)),
+        set.has(BrickId(2)),
+        set.has(BrickId(3)),
+        set.has(BrickId(4)),
+    ]
+}
+
 /// A number behind a comma.
 #[tactic(auto, unfolding(crate::specs::Lists::next_at))]
 fn next(bytes: &[u8]) -> Option<(u32, &[u8])>

@@ -9,7 +9,7 @@ ghost use Rattle.afr_trace_read.specs.Reading.{asked_at, copy_of, covered_at, cu
 
 use crate::bytes::{MOST_SMALL, number};
 use crate::kinds::Asked;
-use crate::lists::{marks, missed, reads};
+use crate::lists::{flags, marks, missed, reads};
 use crate::parts::{kind, object};
 use crate::spans::covered;
 use crate::words::{keyed, named};
@@ -96,7 +96,14 @@ fn read<'a>(plan: &Plan, bytes: &'a [u8]) -> Option<(Asked, &'a [u8])>
     let rest = skip(b"read ", bytes)?;
     let (gfid, at, to, rest) = range(plan, rest)?;
     let len = (to - at) as u32;
-    Some((Asked::ReadBytes { gfid, at: at as u32, len }, rest))
+    Some((
+        Asked::ReadBytes {
+            gfid,
+            at: at as u32,
+            len,
+        },
+        rest,
+    ))
 }
 
 fn read_name<'a>(plan: &Plan, bytes: &'a [u8]) -> Option<(Asked, &'a [u8])>
@@ -162,7 +169,9 @@ fn post(bytes: &[u8]) -> Option<(Asked, &[u8])>
     let Some((missed, rest)) = missed(rest) else {
         return None;
     };
-    Some((Asked::Post { attempt: n as u32, missed }, rest))
+    let attempt = n as u32;
+    let missed = flags(missed);
+    Some((Asked::Post { attempt, missed }, rest))
 }
 
 fn cut_to<'a>(plan: &Plan, bytes: &'a [u8]) -> Option<(Asked, &'a [u8])>
@@ -180,7 +189,15 @@ fn copy<'a>(plan: &Plan, bytes: &'a [u8]) -> Option<(Asked, &'a [u8])>
     let rest = skip(b" from ", rest)?;
     let (n, rest) = number(rest, MOST_SMALL)?;
     let span = (to - at) as u32;
-    Some((Asked::Copy { gfid, at: at as u32, span, read: n as u32 }, rest))
+    Some((
+        Asked::Copy {
+            gfid,
+            at: at as u32,
+            span,
+            read: n as u32,
+        },
+        rest,
+    ))
 }
 
 fn put_attrs<'a>(plan: &Plan, bytes: &'a [u8]) -> Option<(Asked, &'a [u8])>

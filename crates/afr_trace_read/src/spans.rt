@@ -50,7 +50,13 @@ fn ranged(bytes: &[u8]) -> Option<(Span, &[u8])>
     let (from, rest) = number(rest, MOST_END)?;
     let rest = skip(b",", rest)?;
     let (to, rest) = upto(rest)?;
-    Some((Span::Range { from: from as u64, to }, rest))
+    Some((
+        Span::Range {
+            from: from as u64,
+            to,
+        },
+        rest,
+    ))
 }
 
 fn whole_span(bytes: &[u8]) -> Option<(Span, &[u8])>
@@ -96,7 +102,11 @@ fn domain(bytes: &[u8]) -> Option<(Domain, &[u8])>
 
 /// A word, and what a lock covers.
 #[tactic(auto, unfolding(crate::specs::Reading::covered_at))]
-pub(crate) fn covered<'a>(plan: &Plan, word: &[u8], bytes: &'a [u8]) -> Option<(Domain, Gfid, Span, &'a [u8])>
+pub(crate) fn covered<'a>(
+    plan: &Plan,
+    word: &[u8],
+    bytes: &'a [u8],
+) -> Option<(Domain, Gfid, Span, &'a [u8])>
     ensures { option_map (λ x. (((x.0, x.1), x.2), x.3.now)) result ≡ covered_at plan.now word.now bytes.now }
 {
     let rest = skip(word, bytes)?;

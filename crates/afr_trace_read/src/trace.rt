@@ -4,8 +4,8 @@ ghost use Rattle.std.specs.Option.{option_map};
 ghost use Rattle.afr_plan.specs.TextLines.{cut_of};
 ghost use Rattle.afr_trace_read.specs.Trace.{line_feeds, trace_told};
 
+use crate::kinds::TraceLine;
 use crate::lines::read_line;
-use crate::kinds::{Asked, TraceLine};
 use afr_plan::Plan;
 use std::alloc::Global;
 
@@ -74,7 +74,10 @@ pub fn read_trace(alloc: Global, plan: &Plan, bytes: &[u8]) -> Result<TraceRead,
     let mut rest = bytes;
     while let Some((line, more)) = cut(rest) {
         let Some(told) = read_line(plan, lines.len() as u32, line) else {
-            return Ok(TraceRead { lines, broken: true });
+            return Ok(TraceRead {
+                lines,
+                broken: true,
+            });
         };
         match lines.push(told) {
             Ok(()) => {}
@@ -82,5 +85,8 @@ pub fn read_trace(alloc: Global, plan: &Plan, bytes: &[u8]) -> Result<TraceRead,
         }
         rest = more;
     }
-    Ok(TraceRead { lines, broken: !rest.is_empty() })
+    Ok(TraceRead {
+        lines,
+        broken: !rest.is_empty(),
+    })
 }

@@ -54,7 +54,10 @@ fn is_name(name: &[u8]) -> bool
 fn place_of(words: &WordList, word: &[u8]) -> Option<usize>
     ensures { result ≡ place_in words.now word.now }
 {
-    words.as_slice().iter().position(|other| is_same(word, other.as_slice()))
+    words
+        .as_slice()
+        .iter()
+        .position(|other| is_same(word, other.as_slice()))
 }
 
 #[tactic(auto, unfolding(crate::specs::Forms::word_among), using(afr_plan_line::proofs::Front::front_take))]
