@@ -1,8 +1,7 @@
 -- What an actor does, both ways.
-use Rattle.std.proofs.Common.{◌≡◌, ℕ, ◌+◌, ◌-◌, ◌^◌, ◌<◌, List, ◌++◌, Some, None, refl, codes}
+use Rattle.std.proofs.Common.{◌≡◌, ℕ, ◌^◌, ◌<◌, List, ◌++◌, Some, None, refl, codes}
 use Rattle.std.specs.Prelude.{decimal}
 use Rattle.afr_base.specs.declared.ids.BrickId.{BrickId}
-use Rattle.afr_base.specs.declared.ids.What.{What}
 use Rattle.afr_base.specs.declared.ids.What.TheVariants.{File, Dir}
 use Rattle.afr_report_trace.specs.Objects.{object_text}
 use Rattle.afr_plan.specs.declared.plan.Plan.{Plan}

@@ -1,11 +1,11 @@
 -- A whole line of a trace, both ways.
-use Rattle.std.proofs.Common.{◌≡◌, ℕ, ◌+◌, ◌-◌, ◌^◌, ◌<◌, ◌==◌, List, ◌++◌, Some, None, refl, sym, ap, subst, ◌∙◌, codes, Bool, true, false, nat_lt, cond}
+use Rattle.std.proofs.Common.{◌≡◌, ℕ, ◌-◌, ◌^◌, ◌<◌, ◌==◌, List, ◌++◌, Some, None, refl, sym, ap, subst, ◌∙◌, codes, Bool, true, false, nat_lt, cond}
 use Rattle.std.specs.Prelude.{decimal}
 use Rattle.std.proofs.lemmas.Bool.{eqb-true, eq-eqb}
 use Rattle.afr_base.specs.declared.ids.ActorId.{ActorId}
 use Rattle.afr_plan.specs.declared.plan.Plan.{Plan}
 use Rattle.afr_plan.specs.Bytes.{digit, name_byte}
-use Rattle.afr_plan.specs.Reading.{word_then, both, as_a, whole}
+use Rattle.afr_plan.specs.Reading.{word_then, as_a, whole}
 use Rattle.afr_model.specs.ReportReplies.{actor_text}
 use Rattle.afr_plan_read.proofs.Laws.{Any, first_of, bind_some, checked_some, Stops}
 use Rattle.afr_trace_read.specs.Parts.{event_at}

@@ -13,7 +13,6 @@ use Rattle.afr_base.specs.declared.ids.NameId.{NameId}
 use Rattle.afr_base.specs.declared.ids.ValueId.{ValueId}
 use Rattle.afr_report_trace.specs.Objects.{name_text, key_text, object_text, is_opening}
 use Rattle.afr_plan.specs.Bytes.{digit, name_byte, key_byte, is_name, is_key}
-use Rattle.afr_plan.specs.Reading.{both}
 use Rattle.afr_model.specs.ReportReplies.{actor_text, kind_text}
 use Rattle.afr_plan_read.proofs.Laws.{Any, first_of, Stops}
 use Rattle.afr_trace_read.specs.Forms.{is_small}
