@@ -12,8 +12,9 @@ pub enum Span {
     OfName(NameId),
 }
 
-/// A request. A Post says of each brick whether it missed the operation, and has neither object nor kind, a lock of the attributes has no end, the reads of merged
-/// names stand first, and a Settle has no number for a brick that the volume lacks.
+/// A request. A Post says of each brick whether it missed the operation, and has neither object nor
+/// kind; a lock of the attributes has no end; the reads of merged names that are there stand first; a
+/// Settle has no number for a brick that the volume lacks.
 #[derive(Clone, Copy)]
 pub enum Asked {
     Lock {
