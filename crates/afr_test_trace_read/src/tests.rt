@@ -128,7 +128,10 @@ fn each_kind_of_line_is_read(rt: HostRuntime) -> Result<(), Fail> {
     let plan = plan(rt.alloc())?;
     let mut position: u32 = 0;
     for line in lines().lines() {
-        assert!(rt; read_line(&plan, position, line.as_bytes()).is_some(), "{line}");
+        assert!(rt;
+            read_line(&plan, position, line.as_bytes()).is_some(),
+            "{line}"
+        );
         position = position.saturating_add(1);
     }
     Ok(())
