@@ -60,7 +60,8 @@ fn line_feeds(bytes: &[u8]) -> usize
     count
 }
 
-/// What a trace says at a plan, in one pass after its line feeds were counted. It takes time proportional to the text.
+/// What a trace says at a plan, in one pass after its line feeds were counted. Time is linear in the text; each name, key and value is
+/// looked for among all of the plan.
 #[tactic(auto, using(crate::proofs::TraceLaws::ends, crate::proofs::TraceLaws::one_feed, afr_plan_read::proofs::LoopLemmas::shorter))]
 pub fn read_trace(alloc: Global, plan: &Plan, bytes: &[u8]) -> Result<TraceRead, TraceStop>
     ensures ok { IfOk result (λ r. record { lines = reverse r.lines.items; broken = r.broken } ≡ trace_told plan.now bytes.now) }
