@@ -1,0 +1,5 @@
+//! Tests of traces that are read.
+#![tactic(auto)]
+
+#[cfg(test)]
+mod tests;

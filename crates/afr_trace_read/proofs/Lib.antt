@@ -1,0 +1,14 @@
+pub mod Laws
+pub mod NumberLaws
+pub mod WordLaws
+pub mod MissedLaws
+pub mod ReadsLaws
+pub mod MarksLaws
+pub mod PartLaws
+pub mod SpanLaws
+pub mod RequestLaws
+pub mod ChangeLaws
+pub mod DoingLaws
+pub mod LineLaws
+pub mod StandsLaws
+pub mod TraceLaws

@@ -1,0 +1,136 @@
+//! Answers, and the ends of heals and commands.
+ghost use Rattle.std.specs.Prelude.{◌≡◌, codes};
+ghost use Rattle.std.specs.Option.{option_map};
+ghost use Rattle.afr_plan.specs.Reading.{as_a, word_then};
+ghost use Rattle.afr_trace_read.specs.Parts.{actor_at, brick_at};
+ghost use Rattle.afr_trace_read.specs.Reading.{answered_at, healed_at, replied_at};
+
+use crate::kinds::{Answered, Healed, Replied};
+use crate::parts::{actor, brick};
+use afr_plan_line::skip;
+
+fn held(bytes: &[u8]) -> Option<(Answered, &[u8])>
+    ensures { option_map (λ x. (x.0, x.1.now)) result ≡ as_a Answered.Held (word_then (codes "held ") actor_at) bytes.now }
+{
+    let rest = skip(b"held ", bytes)?;
+    let (x, rest) = actor(rest)?;
+    Some((Answered::Held(x), rest))
+}
+
+/// An answer, and what follows it.
+#[tactic(auto, unfolding(crate::specs::Reading::answered_at))]
+pub(crate) fn answered(bytes: &[u8]) -> Option<(Answered, &[u8])>
+    ensures { option_map (λ x. (x.0, x.1.now)) result ≡ answered_at bytes.now }
+{
+    if let Some(rest) = skip(b"granted", bytes) {
+        return Some((Answered::Granted, rest));
+    }
+    if let Some(x) = held(bytes) {
+        return Some(x);
+    }
+    if let Some(rest) = skip(b"seen", bytes) {
+        return Some((Answered::Seen, rest));
+    }
+    if let Some(rest) = skip(b"done", bytes) {
+        return Some((Answered::Done, rest));
+    }
+    if let Some(rest) = skip(b"ok", bytes) {
+        return Some((Answered::Given, rest));
+    }
+    if let Some(rest) = skip(b"absent", bytes) {
+        return Some((Answered::NoObject, rest));
+    }
+    if let Some(rest) = skip(b"lost", bytes) {
+        return Some((Answered::Lost, rest));
+    }
+    if let Some(rest) = skip(b"gone", bytes) {
+        return Some((Answered::Gone, rest));
+    }
+    let rest = skip(b"failed", bytes)?;
+    Some((Answered::Failed, rest))
+}
+
+fn busy(bytes: &[u8]) -> Option<(Healed, &[u8])>
+    ensures { option_map (λ x. (x.0, x.1.now)) result ≡ as_a Healed.Busy (word_then (codes "busy ") actor_at) bytes.now }
+{
+    let rest = skip(b"busy ", bytes)?;
+    let (x, rest) = actor(rest)?;
+    Some((Healed::Busy(x), rest))
+}
+
+fn moved(bytes: &[u8]) -> Option<(Healed, &[u8])>
+    ensures { option_map (λ x. (x.0, x.1.now)) result ≡ as_a Healed.Moved (word_then (codes "moved ") brick_at) bytes.now }
+{
+    let rest = skip(b"moved ", bytes)?;
+    let (x, rest) = brick(rest)?;
+    Some((Healed::Moved(x), rest))
+}
+
+/// The end of a heal, and what follows it.
+#[tactic(auto, unfolding(crate::specs::Reading::healed_at))]
+pub(crate) fn healed(bytes: &[u8]) -> Option<(Healed, &[u8])>
+    ensures { option_map (λ x. (x.0, x.1.now)) result ≡ healed_at bytes.now }
+{
+    if let Some(rest) = skip(b"nothing", bytes) {
+        return Some((Healed::Nothing, rest));
+    }
+    if let Some(rest) = skip(b"settled", bytes) {
+        return Some((Healed::Settled, rest));
+    }
+    if let Some(rest) = skip(b"split", bytes) {
+        return Some((Healed::Split, rest));
+    }
+    if let Some(x) = busy(bytes) {
+        return Some(x);
+    }
+    if let Some(rest) = skip(b"short", bytes) {
+        return Some((Healed::Short, rest));
+    }
+    if let Some(x) = moved(bytes) {
+        return Some(x);
+    }
+    let rest = skip(b"failed", bytes)?;
+    Some((Healed::Failed, rest))
+}
+
+/// The end of a command, and what follows it.
+#[tactic(auto, unfolding(crate::specs::Reading::replied_at))]
+pub(crate) fn replied(bytes: &[u8]) -> Option<(Replied, &[u8])>
+    ensures { option_map (λ x. (x.0, x.1.now)) result ≡ replied_at bytes.now }
+{
+    if let Some(rest) = skip(b"ok", bytes) {
+        return Some((Replied::Done, rest));
+    }
+    if let Some(rest) = skip(b"no-entry", bytes) {
+        return Some((Replied::NoEntry, rest));
+    }
+    if let Some(rest) = skip(b"exists", bytes) {
+        return Some((Replied::Exists, rest));
+    }
+    if let Some(rest) = skip(b"not-dir", bytes) {
+        return Some((Replied::NotDir, rest));
+    }
+    if let Some(rest) = skip(b"is-dir", bytes) {
+        return Some((Replied::IsDir, rest));
+    }
+    if let Some(rest) = skip(b"not-empty", bytes) {
+        return Some((Replied::NotEmpty, rest));
+    }
+    if let Some(rest) = skip(b"no-quorum", bytes) {
+        return Some((Replied::NoQuorum, rest));
+    }
+    if let Some(rest) = skip(b"few-copies", bytes) {
+        return Some((Replied::FewCopies, rest));
+    }
+    if let Some(rest) = skip(b"split-brain", bytes) {
+        return Some((Replied::SplitBrain, rest));
+    }
+    if let Some(rest) = skip(b"failed", bytes) {
+        return Some((Replied::Failed, rest));
+    }
+    if let Some(rest) = skip(b"too-large", bytes) {
+        return Some((Replied::TooLarge, rest));
+    }
+    let rest = skip(b"half", bytes)?;
+    Some((Replied::Half, rest))
+}
