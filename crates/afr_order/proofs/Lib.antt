@@ -1,3 +1,4 @@
 pub mod OrderLemmas
 pub mod PassLemmas
 pub mod EndLemmas
+pub mod OnwardLemmas

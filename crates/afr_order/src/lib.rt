@@ -5,6 +5,7 @@ ghost use Rattle.std.specs.Prelude.{◌≡◌, IfOk, OnOk, []};
 ghost use Rattle.afr_model.specs.Complete.{IsComplete};
 ghost use Rattle.afr_model.specs.Ordered.{IsOrdered, ordered_turns};
 ghost use Rattle.afr_order.specs.Ending.{EndsInBound};
+ghost use Rattle.afr_order.specs.Onward.{Extends};
 ghost use Rattle.afr_volume.specs.Going.{Ends, Goes, TakesFront, TakesPasses};
 ghost use Rattle.afr_rule.specs.Choosing.{IsRule};
 ghost use Rattle.afr_volume.specs.Right.{IsChosenBy, IsRight, KeepsChosen};
@@ -63,8 +64,8 @@ pub fn take_orders<F: Fn(&[Candidate]) -> usize, G: Fn(&[Candidate]) -> usize>(
 }
 
 /// Takes passes over all actors in rising order, clients before healers, until every actor is done or the log is full,
-/// whatever the log already has. Before each turn, and at the end, all due events come. It takes one turn for each line; a
-/// pass asks each actor once, but for the clients from the first on that are done.
+/// whatever the log already has; they add lines and change none. Before each turn, and at the end, all due events come. It takes
+/// one turn for each line; a pass asks each actor once, but for the clients from the first on that are done.
 pub fn take_passes<F: Fn(&[Candidate]) -> usize, G: Fn(&[Candidate]) -> usize>(
     volume: &mut Volume,
     rules: &Rules<F, G>,
@@ -72,6 +73,7 @@ pub fn take_passes<F: Fn(&[Candidate]) -> usize, G: Fn(&[Candidate]) -> usize>(
     requires rule { IsRule F.Fn rules.now.heal }
     requires read_rule { IsRule G.Fn rules.now.read }
     ensures goes { Goes volume.old volume.new }
+    ensures onto { Extends volume.old.log volume.new.log }
     ensures front { TakesPasses volume.old.plan volume.old.log volume.new.log }
     ensures ok { OnOk result (IsComplete volume.new.plan volume.new.log) }
     ensures right { IsRight volume.new.plan volume.new.log }

@@ -4,6 +4,7 @@ ghost use Rattle.std.specs.List.{range_with_len};
 ghost use Rattle.afr_model.specs.Actors.{IsActor, is_done};
 ghost use Rattle.afr_model.specs.Complete.{IsComplete};
 ghost use Rattle.afr_model.specs.Ordered.{actors_of, ordered_turns};
+ghost use Rattle.afr_order.specs.Onward.{Extends};
 ghost use Rattle.afr_rule.specs.Choosing.{IsRule};
 ghost use Rattle.afr_volume.specs.Right.{KeepsChosen};
 ghost use Rattle.afr_volume.specs.Going.{ClientsAreDone, Goes, TakesFront, TakesPasses, Ends, IsIdle};
@@ -48,6 +49,7 @@ fn take_row<F: Fn(&[Candidate]) -> usize, G: Fn(&[Candidate]) -> usize>(
     requires fits { first + count < 2 ^ 16 }
     requires actors { (k : ℕ) → k < count → IsActor volume.old.plan (first + k) }
     ensures goes { Goes volume.old volume.new }
+    ensures onto { Extends volume.old.log volume.new.log }
     ensures front { TakesFront volume.old.plan (range_with_len first count) volume.old.log volume.new.log }
     ensures ok { IfOk result (λ on. Ends (range_with_len first count) volume.old on volume.new) }
     ensures done { result ≡ Ok true → length volume.new.log ≤ length volume.old.log → (k : ℕ) → k < count → is_done volume.new.plan (first + k) volume.new.log ≡ true }
@@ -90,6 +92,7 @@ fn take_clients<F: Fn(&[Candidate]) -> usize, G: Fn(&[Candidate]) -> usize>(
     requires done { (k : ℕ) → k < done → is_done volume.old.plan (1 + k) volume.old.log ≡ true }
     requires actors { (k : ℕ) → k < clients → IsActor volume.old.plan (1 + k) }
     ensures goes { Goes volume.old volume.new }
+    ensures onto { Extends volume.old.log volume.new.log }
     ensures front { TakesFront volume.old.plan (range_with_len 1 clients) volume.old.log volume.new.log }
     ensures ok { IfOk result (λ on. Ends (range_with_len 1 clients) volume.old on volume.new) }
     ensures done { result ≡ Ok true → length volume.new.log ≤ length volume.old.log → (k : ℕ) → k < clients → is_done volume.new.plan (1 + k) volume.new.log ≡ true }
@@ -109,6 +112,7 @@ fn take_pass<F: Fn(&[Candidate]) -> usize, G: Fn(&[Candidate]) -> usize>(
     requires read_rule { IsRule G.Fn rules.now.read }
     requires done { ClientsAreDone done volume.old }
     ensures goes { Goes volume.old volume.new }
+    ensures onto { Extends volume.old.log volume.new.log }
     ensures front { TakesFront volume.old.plan (actors_of volume.old.plan) volume.old.log volume.new.log }
     ensures ok { IfOk result (λ on. Ends (actors_of volume.old.plan) volume.old on volume.new) }
     ensures idle { result ≡ Ok true → length volume.new.log ≤ length volume.old.log → IsIdle volume.new }
@@ -135,6 +139,7 @@ pub(crate) fn all_passes<F: Fn(&[Candidate]) -> usize, G: Fn(&[Candidate]) -> us
     requires rule { IsRule F.Fn rules.now.heal }
     requires read_rule { IsRule G.Fn rules.now.read }
     ensures goes { Goes volume.old volume.new }
+    ensures onto { Extends volume.old.log volume.new.log }
     ensures front { TakesPasses volume.old.plan volume.old.log volume.new.log }
     ensures ok { OnOk result (IsComplete volume.new.plan volume.new.log) }
     ensures chosen { KeepsChosen F.Fn G.Fn rules.now volume.old volume.new }

@@ -1,6 +1,7 @@
 //! Turns of one actor, each after the events that are due.
 ghost use Rattle.std.specs.Prelude.{◌≡◌, ◌≤◌, ◌∷◌, [], true, Ok, IfOk, length, replicate};
 ghost use Rattle.afr_model.specs.Actors.{IsActor, is_done};
+ghost use Rattle.afr_order.specs.Onward.{Extends};
 ghost use Rattle.afr_rule.specs.Choosing.{IsRule};
 ghost use Rattle.afr_volume.specs.Right.{KeepsChosen};
 ghost use Rattle.afr_volume.specs.Going.{Ends, Goes, TakesFront, goes_on_after};
@@ -28,6 +29,7 @@ pub(crate) fn take_turn<F: Fn(&[Candidate]) -> usize, G: Fn(&[Candidate]) -> usi
     requires read_rule { IsRule G.Fn rules.now.read }
     requires actor { IsActor volume.old.plan a.0 }
     ensures goes { Goes volume.old volume.new }
+    ensures onto { Extends volume.old.log volume.new.log }
     ensures front { TakesFront volume.old.plan (a.0 ∷ []) volume.old.log volume.new.log }
     ensures ok { IfOk result (λ on. Ends (a.0 ∷ []) volume.old on volume.new) }
     ensures done { result ≡ Ok true → length volume.new.log ≤ length volume.old.log → is_done volume.new.plan a.0 volume.new.log ≡ true }

@@ -4,6 +4,7 @@ use Rattle.afr_law_picks.specs.Sources.Sources.{picks_of}
 use Rattle.afr_volume.proofs.GoingLemmas.{happens_chosen, ends_true}
 use Rattle.afr_volume.proofs.DoneLemmas.{pass_idle}
 use Rattle.afr_order.proofs.PassLemmas.{rows_front, pass_front}
+use Rattle.afr_order.proofs.OnwardLemmas.{extends_then, happens_onto}
 use Rattle.afr_order.proofs.rows.take_pass.Goals as goal
 
 pub returns-in_err-take_row-clause-front : goal.returns-in_err-take_row-clause-front
@@ -51,3 +52,15 @@ returns-in_err-come_due-clause-chosen g c = λ k. happens_chosen (picks_of g.G.F
 
 pub returns-clause-chosen : goal.returns-clause-chosen
 returns-clause-chosen g c = λ k. happens_chosen (picks_of g.G.Fn c.args.rules.now.read) (picks_of g.F.Fn c.args.rules.now.heal) c.take_row.new.volume c.come_due.new.volume c.come_due.ensures.happens (c.take_row.ensures.chosen (c.take_clients.ensures.chosen k))
+
+pub returns-in_err-take_row-clause-onto : goal.returns-in_err-take_row-clause-onto
+returns-in_err-take_row-clause-onto g c = extends_then c.args.volume.now.log c.take_clients.new.volume.log c.take_row.new.volume.log c.take_clients.ensures.onto c.take_row.ensures.onto
+
+pub returns-then-not-branch-2-clause-onto : goal.returns-then-not-branch-2-clause-onto
+returns-then-not-branch-2-clause-onto g c = extends_then c.args.volume.now.log c.take_clients.new.volume.log c.take_row.new.volume.log c.take_clients.ensures.onto c.take_row.ensures.onto
+
+pub returns-in_err-come_due-clause-onto : goal.returns-in_err-come_due-clause-onto
+returns-in_err-come_due-clause-onto g c = extends_then c.args.volume.now.log c.take_row.new.volume.log c.come_due.new.volume.log (extends_then c.args.volume.now.log c.take_clients.new.volume.log c.take_row.new.volume.log c.take_clients.ensures.onto c.take_row.ensures.onto) (happens_onto c.take_row.new.volume c.come_due.new.volume c.come_due.ensures.happens)
+
+pub returns-clause-onto : goal.returns-clause-onto
+returns-clause-onto g c = extends_then c.args.volume.now.log c.take_row.new.volume.log c.come_due.new.volume.log (extends_then c.args.volume.now.log c.take_clients.new.volume.log c.take_row.new.volume.log c.take_clients.ensures.onto c.take_row.ensures.onto) (happens_onto c.take_row.new.volume c.come_due.new.volume c.come_due.ensures.happens)

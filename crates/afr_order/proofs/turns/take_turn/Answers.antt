@@ -1,6 +1,7 @@
 use Rattle.std.proofs.Common.{[], ◌∷◌}
 use Rattle.afr_law_picks.specs.Sources.Sources.{picks_of}
 use Rattle.afr_volume.proofs.GoingLemmas.{happens_chosen, front_then, ends_then, turn_front, turn_ends}
+use Rattle.afr_order.proofs.OnwardLemmas.{events_and_no_turn, events_then_turn, happens_onto}
 use Rattle.afr_order.proofs.turns.take_turn.Goals as goal
 
 pub returns-clause-front : goal.returns-clause-front
@@ -17,3 +18,12 @@ returns-in_err-turned-clause-chosen g c = λ k. c.turn.ensures.chosen (happens_c
 
 pub returns-clause-chosen : goal.returns-clause-chosen
 returns-clause-chosen g c = λ k. c.turn.ensures.chosen (happens_chosen (picks_of g.G.Fn c.args.rules.now.read) (picks_of g.F.Fn c.args.rules.now.heal) c.args.volume.now c.come_due.new.volume c.come_due.ensures.happens k)
+
+pub returns-in_err-come_due-clause-onto : goal.returns-in_err-come_due-clause-onto
+returns-in_err-come_due-clause-onto g c = happens_onto c.args.volume.now c.come_due.new.volume c.come_due.ensures.happens
+
+pub returns-in_err-turned-clause-onto : goal.returns-in_err-turned-clause-onto
+returns-in_err-turned-clause-onto g c = events_and_no_turn c.args.volume.now c.come_due.new.volume c.turn.new.self c.come_due.ensures.happens c.in_err-turned.ensures.err
+
+pub returns-clause-onto : goal.returns-clause-onto
+returns-clause-onto g c = events_then_turn c.args.a c.args.volume.now c.come_due.new.volume c.turn.new.self c.in_ok-turned.turned c.come_due.ensures.happens c.in_ok-turned.ensures.ok
