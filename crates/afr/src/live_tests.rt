@@ -14,14 +14,14 @@ use std::thread;
 use std::thread::Threads;
 
 /// Two clients that share no range, so every order of turns has one report.
-const APART: &str =
+pub(crate) const APART: &str =
     "afr 1\nvolume replica\nfiles 2\nturns 100000\nclient 1\nwrite /f1 0 \"a\"\nclient 2\nwrite /f2 0 \"b\"\nend\n";
 
 const APART_REPORT: &str =
     "afr replica 3\nlines 48\nc1 1 of 1\n1 write ok\nc2 1 of 1\n1 write ok\nreach 0 1 2\nobjects 0\nsplit-brain 0\n";
 
 /// Four clients that make files in one directory while a brick is away and comes back, and three healers.
-const TREE: &str =
+pub(crate) const TREE: &str =
     "afr 1\nvolume replica\nfiles 0\nturns 100000\nclient 1\nmkdir /src\ncreate /src/a\nwrite /src/a 0 \"one\"\nclient 2\ncreate /src/b\nwrite /src/b 0 \"two\"\nclient 3\ncreate /src/c\nwrite /src/c 0 \"three\"\nclient 4\ncreate /src/d\nwrite /src/d 0 \"four\"\nhealer 1\nround 0\nhealer 2\nround 1\nhealer 3\nround 2\nat 0 stop 2\nat 189 start 2\ngo c1 59\ngo c2 43\ngo c3 43\ngo c4 43\ngo h1 348\nend\n";
 
 /// The turn at which two clients meet.

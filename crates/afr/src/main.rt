@@ -6,6 +6,8 @@ mod hostile_tests;
 #[cfg(test)]
 mod live_tests;
 #[cfg(test)]
+mod record_tests;
+#[cfg(test)]
 mod tests;
 
 use afr_cli::{afr_live, afr_top};
@@ -68,10 +70,10 @@ fn words_after_the_name<R: Env + Alloc<A = Global>>(
     Ok(words.collect(alloc)?)
 }
 
-/// Whether the call for runs by threads serves these words: the first is `live`.
+/// Whether the call for runs by threads serves these words: the first is `live` or `record`.
 fn is_live(words: &[String]) -> bool {
     match words.first() {
-        Some(first) => first.as_str() == "live",
+        Some(first) => matches!(first.as_str(), "live" | "record"),
         None => false,
     }
 }

@@ -9,14 +9,14 @@ use afr_volume::Volume;
 use std::alloc::Global;
 use std::test::Fail;
 
-const USAGE: &str = "usage: afr run | trace | info | gen N | live\n";
+const USAGE: &str = "usage: afr run | trace | info | gen N | live | record | replay T\n";
 
 /// A write and a read of five bytes.
-const PLAN: &str =
+pub(crate) const PLAN: &str =
     "afr 1\nvolume replica\nfiles 1\nturns 100000\nclient 1\nwrite /f1 0 \"hello\"\nread /f1 0 5\nend\n";
 
 /// Its report.
-const REPORT: &str =
+pub(crate) const REPORT: &str =
     "afr replica 3\nlines 33\nc1 2 of 2\n1 write ok\n2 read ok 68656c6c6f\nreach 0 1 2\nobjects 0\nsplit-brain 0\n";
 
 /// Its trace.
@@ -27,14 +27,14 @@ const TRACE: &str =
 const INFO: &str = "reach 0 1 2\nobjects 0\nsplit-brain 0\n";
 
 /// The same plan with a log of ten lines.
-const SHORT: &str =
+pub(crate) const SHORT: &str =
     "afr 1\nvolume replica\nfiles 1\nturns 10\nclient 1\nwrite /f1 0 \"hello\"\nread /f1 0 5\nend\n";
 
 /// The summary of the load of number 1.
 const SUMMARY: &str = "gen 1\nlines 79\nok 4\nrefused 0\nsettled 0\nobjects 3\nsplit-brain 0\n";
 
 /// Words, plan, status and text. The plans that stand in plans/ are compared from there, by plans/check.
-const CASES: [(&[&str], &str, u8, &str); 31] = [
+const CASES: [(&[&str], &str, u8, &str); 37] = [
     (&[], PLAN, 2, USAGE),
     (&["help"], "", 2, USAGE),
     (&["run", "x"], PLAN, 2, USAGE),
@@ -45,6 +45,17 @@ const CASES: [(&[&str], &str, u8, &str); 31] = [
     (&["gen", "2001"], "", 2, USAGE),
     (&["gen", "1"], PLAN, 0, SUMMARY),
     (&["live"], PLAN, 2, USAGE),
+    (&["record"], PLAN, 2, USAGE),
+    (&["replay"], PLAN, 2, USAGE),
+    (&["replay", "0"], "", 2, USAGE),
+    (&["replay", "4000001"], "", 2, USAGE),
+    (&["replay", "07"], "", 2, USAGE),
+    (
+        &["replay", "7"],
+        PLAN,
+        9,
+        "image refused: at 0, code 11 magic\n",
+    ),
     (&["trace"], PLAN, 0, TRACE),
     (&["info"], PLAN, 0, INFO),
     (

@@ -1,5 +1,5 @@
 -- A log that is full too early is one of a plan with fewer turns than its bound.
-use Rattle.std.proofs.Common.{Result, Ok, Err, ◌≡◌, ◌+◌, ◌*◌, List, true, false, length, inl, inr, sym, ◌∙◌, true≢false}
+use Rattle.std.proofs.Common.{Result, Ok, Err, ◌≡◌, ◌+◌, ◌*◌, List, false, length, inl, inr, sym, ◌∙◌, true≢false}
 use Rattle.std.specs.Prelude.{OnOk, is_err}
 use Rattle.std.proofs.lemmas.Bool.{cases_lt}
 use Rattle.afr_law_bound.specs.Ends.Law.{AreEager}

@@ -4,5 +4,7 @@ pub mod EndLemmas
 pub mod FormLemmas
 pub mod LiveLemmas
 pub mod LoadLemmas
+pub mod RecordLemmas
+pub mod ReplayLemmas
 pub mod StatusLemmas
 pub mod ToldLemmas

@@ -7,10 +7,11 @@ use Rattle.afr_plan.specs.declared.plan.PlanFault.{PlanFault}
 use Rattle.afr_plan.specs.Judging.{first_fault}
 use Rattle.afr_plan.specs.Spells.{Spells}
 use Rattle.afr_plan_read.proofs.PlanLemmas.{faulty-spells}
-use Rattle.afr_cli.specs.Statuses.{HasFault, IsFaulty, IsRefused, IsRefusal, IsSpelled, WasRead, refusal_line}
+use Rattle.afr_cli.specs.Statuses.{HasFault, IsFaulty, IsRefused, IsRefusal, IsSpelled, refusal_line}
+use Rattle.afr_cli.specs.Reading.{WasRead}
 
 -- read to its end it gave just these
-all_bytes : (bytes seen : List ℕ) (left' : Option (List ℕ)) → WasRead (Some bytes) left' seen → seen ≡ bytes
+pub all_bytes : {most : ℕ} (bytes seen : List ℕ) (left' : Option (List ℕ)) → WasRead most (Some bytes) left' seen → seen ≡ bytes
 all_bytes bytes seen None r = absurd r.came
 all_bytes bytes seen (Some ys) r = sym (r.came ∙ ap (λ zs. seen ++ zs) r.end ∙ append-nil seen)
 
@@ -21,9 +22,9 @@ module _ (bytes : List ℕ) (left' : Option (List ℕ)) where
   spelled_bytes : (plan : Plan) → IsSpelled (Some bytes) left' plan → Spells bytes plan
   spelled_bytes plan s = rw (← all_bytes bytes s.bytes left' s.read) s.spells
 
-more_bytes : (bytes : List ℕ) (left' : Option (List ℕ)) → CameMore (Some bytes) left' 16777216 → 16777216 < length bytes
-more_bytes bytes None m = absurd m.1
-more_bytes bytes (Some ys) m = rw (m.1, length-append) (omega (arith, m.2))
+pub more_bytes : (most : ℕ) (bytes : List ℕ) (left' : Option (List ℕ)) → CameMore (Some bytes) left' most → most < length bytes
+more_bytes most bytes None m = absurd m.1
+more_bytes most bytes (Some ys) m = rw (m.1, length-append) (omega (arith, m.2))
 
 module _ (bytes : List ℕ) (left' : Option (List ℕ)) where
   faulty_few : (fault : PlanFault) → IsFaulty (Some bytes) left' fault → length bytes ≤ 16777216
@@ -42,12 +43,12 @@ module _ (bytes : List ℕ) (left' : Option (List ℕ)) where
   one_fault fault other (HasFault.Long more) (inl r) = absurd (omega (arith, more, faulty_few other r))
   one_fault fault other (HasFault.Long more) (inr (e, long)) = e
   one_fault fault other (HasFault.Faulty few f first) (inl r) = let e : Some other ≡ Some f = sym (faulty_first other r) ∙ first in cc
-  one_fault fault other (HasFault.Faulty few f first) (inr (e, long)) = absurd (omega (arith, few, more_bytes bytes left' long))
+  one_fault fault other (HasFault.Faulty few f first) (inr (e, long)) = absurd (omega (arith, few, more_bytes 16777216 bytes left' long))
 
   -- bytes that spell a plan have no fault
   spelled_whole : (fault : PlanFault) (plan : Plan) → length bytes ≤ 16777216 → Spells bytes plan → IsRefused (Some bytes) left' fault → ⊥
   spelled_whole fault plan few spells (inl r) = faulty-spells bytes fault plan (faulty_first fault r) spells
-  spelled_whole fault plan few spells (inr (e, long)) = omega (arith, few, more_bytes bytes left' long)
+  spelled_whole fault plan few spells (inr (e, long)) = omega (arith, few, more_bytes 16777216 bytes left' long)
 
 module _ (bytes : List ℕ) (left left' taken taken' : Option (List ℕ)) (status : ℕ) (plan : Plan) (told : left ≡ Some bytes) where
   -- a fault is refused, unless the sink failed or memory was wanting

@@ -1,4 +1,6 @@
 -- The definitions that the contracts of this crate cite.
 pub mod Forms
 pub mod Live
+pub mod Reading
+pub mod Replay
 pub mod Statuses

@@ -1,26 +1,53 @@
 -- What the program says of a run by threads.
-use Rattle.std.specs.Prelude.{◌≡◌, ◌<◌, ◌+◌, ◌*◌, ℕ, List, Option, Some, String, length}
+use Rattle.std.specs.Prelude.{◌≡◌, ◌<◌, ◌≤◌, ◌+◌, ◌*◌, ℕ, List, Option, Some, String, length}
 use Rattle.std.specs.Global.{Global}
+use Rattle.std.specs.Io.KnownBytes.{Appends}
+use Rattle.afr_image.specs.Images.{IsImageOf, image_bytes}
+use Rattle.afr_image.specs.Logs.{image_of}
 use Rattle.afr_law_bound.specs.Ends.Left.{bound_of}
 use Rattle.afr_text.specs.Causes.{Rose}
 use Rattle.afr_text.specs.Parts.{AppendsFront}
+use Rattle.afr_lines.specs.declared.line.Line.{Line}
 use Rattle.afr_plan.specs.declared.plan.Plan.{Plan}
 use Rattle.afr_plan.specs.declared.plan.PlanFault.{PlanFault}
 use Rattle.afr_volume.specs.State.{State, no_volume}
 use Rattle.afr_model.specs.Complete.{IsComplete}
 use Rattle.afr_model.specs.Ordered.{actors_of}
 use Rattle.afr_model.specs.ReportHealers.{report_of}
-use Rattle.afr_words.specs.Forms.{AreLive}
+use Rattle.afr_words.specs.Forms.{AreLive, AskLive}
+use Rattle.afr_words.specs.declared.live.LiveForm.{LiveForm}
+use Rattle.afr_words.specs.declared.live.LiveForm.TheVariants as live
 use Rattle.afr_cli.specs.Statuses.{IsOver, IsRefused, IsSpelled, refusal_line, usage_line}
 
--- a text of the program, and why it was to be written: the usage, a refusal, or the report of a run that is over
+-- the bytes of the image of a plan and its log
+unfoldable pub image_text : Plan → List Line → List ℕ
+image_text p log = image_bytes (image_of p log)
+
+-- the image is read again by a replay that has turns for all its steps, and its bytes are at most 32 MiB
+pub record IsRecorded (p : Plan) (log : List Line) : Type 0 where
+  pub read : (turns : ℕ) → length log ≤ turns → IsImageOf (Some turns) (image_text p log) (image_of p log)
+  pub few : length (image_text p log) ≤ 33554432
+
+-- what is written of a plan that was run by threads: the report, or the image
+abbrev pub text_live : LiveForm → Plan → List Line → List ℕ
+text_live live.Live p log = report_of p log
+text_live live.Record p log = image_text p log
+
+-- the words ask for a run by threads, its plan is the one that is spelled, and the sink took the form's text, to its end
+pub record ReportsLive (words : List (String Global)) (left left' taken taken' : Option (List ℕ)) (now : State) : Type 0 where
+  pub form : LiveForm
+  pub asked : AskLive words form
+  pub spelled : IsSpelled left left' now.plan
+  pub text : Appends taken taken' (text_live form now.plan now.log)
+
+-- a text of the program, and why it was to be written: the usage, a refusal, or the form's text of a run that is over
 pub data IsLiveText {S : Type 0} (words : List (String Global)) (left : S → Option (List ℕ)) (source source' : S) (now : State) : List ℕ → Type 0 where
   Usage : (AreLive words → ⊥) → source' ≡ source → now ≡ no_volume
       → IsLiveText words left source source' now usage_line
   Refusal : AreLive words → (fault : PlanFault) → IsRefused (left source) (left source') fault → now ≡ no_volume
       → IsLiveText words left source source' now (refusal_line fault)
-  Report : AreLive words → IsSpelled (left source) (left source') now.plan → IsComplete now.plan now.log → IsOver now.plan now.log
-      → IsLiveText words left source source' now (report_of now.plan now.log)
+  Report : (form : LiveForm) → AskLive words form → IsSpelled (left source) (left source') now.plan → IsComplete now.plan now.log → IsOver now.plan now.log
+      → IsLiveText words left source source' now (text_live form now.plan now.log)
 
 -- the sink took a front of the text that was to be written
 pub record StopsLive {S : Type 0} (words : List (String Global)) (left : S → Option (List ℕ)) (source source' : S) (taken taken' : Option (List ℕ)) (now : State) : Type 0 where

@@ -1,13 +1,14 @@
 -- What each status of the program says.
 use Rattle.std.specs.Prelude.{◌≡◌, ◌<◌, ◌≤◌, ◌⊎◌, ℕ, true, false, List, ◌++◌, ◌==◌, if◌then◌else◌, Option, Some, String, codes, decimal, length}
 use Rattle.std.specs.Global.{Global}
-use Rattle.std.specs.Io.KnownBytes.{Appends, Consumes, IsAtEnd}
+use Rattle.std.specs.Io.KnownBytes.{Appends}
 use Rattle.afr_law_bound.specs.Ends.Left.{bound_of}
 use Rattle.afr_text.specs.Causes.{Rose}
 use Rattle.afr_text.specs.Parts.{AppendsFront, CameMore}
 use Rattle.afr_lines.specs.declared.line.Line.{Line}
 use Rattle.afr_plan.specs.declared.plan.Plan.{Plan}
 use Rattle.afr_plan.specs.declared.plan.PlanFault.{PlanFault}
+use Rattle.afr_image.specs.declared.image.ImageFault.{ImageFault}
 use Rattle.afr_plan.specs.Judging.{first_fault}
 use Rattle.afr_plan.specs.Spells.{Spells}
 use Rattle.afr_volume.specs.State.{State, no_volume}
@@ -18,10 +19,12 @@ use Rattle.afr_words.specs.Forms.{AreForm, AskFor}
 use Rattle.afr_words.specs.declared.form.Form.{Form}
 use Rattle.afr_words.specs.declared.form.Form.TheVariants as kind
 use Rattle.afr_cli.specs.Forms.{reads, text_of}
+use Rattle.afr_cli.specs.Reading.{WasRead}
+use Rattle.afr_cli.specs.Replay.{Differs, IsImagePlan, IsImageRefused, difference_line, image_refusal_line}
 
 -- the line that tells how the program is called
 abbrev pub usage_line : List ℕ
-usage_line = codes "usage: afr run | trace | info | gen N | live\n"
+usage_line = codes "usage: afr run | trace | info | gen N | live | record | replay T\n"
 
 -- the name of a refused plan's code
 abbrev pub name_of : ℕ → List ℕ
@@ -41,21 +44,17 @@ name_of code =
 abbrev pub refusal_line : PlanFault → List ℕ
 refusal_line fault = codes "plan refused: line " ++ decimal fault.line ++ codes ", code " ++ decimal fault.code ++ codes " " ++ name_of fault.code ++ codes "\n"
 
--- the source was read to its end, and gave these bytes, at most 16 MiB
-pub record WasRead (left now : Option (List ℕ)) (bytes : List ℕ) : Type 0 where
-  pub came : Consumes left now bytes
-  pub end : IsAtEnd now
-  pub few : length bytes ≤ 16777216
-
--- what the source gave, to its end, spells the plan
+-- what the source gave, to its end and at most 16 MiB, spells the plan
 pub record IsSpelled (left now : Option (List ℕ)) (plan : Plan) : Type 0 where
   pub bytes : List ℕ
-  pub read : WasRead left now bytes
+  pub read : WasRead 16777216 left now bytes
   pub spells : Spells bytes plan
 
--- the plan of the form: the generated one of its number, or the one that is spelled by what the source gave, to its end
+-- the plan of the form: the generated one of its number, that of the image that the source gave, with these turns, or the one
+-- that is spelled by what the source gave, to its end
 abbrev pub IsPlanOf : Form → Option (List ℕ) → Option (List ℕ) → Plan → Type 0
 IsPlanOf (kind.Gen n) left now plan = plan ≡ generated n
+IsPlanOf (kind.Replay turns) left now plan = IsImagePlan turns left now plan
 IsPlanOf form left now plan = IsSpelled left now plan
 
 -- the words ask for a form, and this is its plan
@@ -102,7 +101,7 @@ IsOver p log = AreDone p log ⊎ (IsFull p log × IsWorkLeft p log)
 -- the source was read to its end, and has this first fault; so it spells no plan
 pub record IsFaulty (left now : Option (List ℕ)) (fault : PlanFault) : Type 0 where
   pub bytes : List ℕ
-  pub read : WasRead left now bytes
+  pub read : WasRead 16777216 left now bytes
   pub first : first_fault bytes ≡ Some fault
   pub none : (plan : Plan) → Spells bytes plan → ⊥
 
@@ -116,7 +115,8 @@ pub record IsRefusal (left left' taken taken' : Option (List ℕ)) : Type 0 wher
   pub cause : IsRefused left left' fault
   pub line : Appends taken taken' (refusal_line fault)
 
--- a text of the program, and why it was to be written: the usage, a refusal, or the form's text of a run that is over
+-- a text of the program, and why it was to be written: the usage, a refusal, the form's text of a run that is over, or where a
+-- replay differs from its image
 pub data IsText {S : Type 0} (words : List (String Global)) (left : S → Option (List ℕ)) (source source' : S) (now : State) : List ℕ → Type 0 where
   Usage : (AreForm words → ⊥) → source' ≡ source → now ≡ no_volume
       → IsText words left source source' now usage_line
@@ -124,6 +124,10 @@ pub data IsText {S : Type 0} (words : List (String Global)) (left : S → Option
       → IsText words left source source' now (refusal_line fault)
   Report : (form : Form) → AskFor words form → IsPlanOf form (left source) (left source') now.plan → IsComplete now.plan now.log → IsOver now.plan now.log
       → IsText words left source source' now (text_of form now.plan now.log)
+  ImageRefusal : (turns : ℕ) → AskFor words (kind.Replay turns) → (fault : ImageFault) → IsImageRefused turns (left source) (left source') fault → now ≡ no_volume
+      → IsText words left source source' now (image_refusal_line fault)
+  Difference : (turns : ℕ) → AskFor words (kind.Replay turns) → (line : ℕ) → Differs turns (left source) (left source') now line
+      → IsText words left source source' now (difference_line line)
 
 -- the sink took a front of the text that was to be written
 pub record StopsWriting {S : Type 0} (words : List (String Global)) (left : S → Option (List ℕ)) (source source' : S) (taken taken' : Option (List ℕ)) (now : State) : Type 0 where

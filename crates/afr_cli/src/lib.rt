@@ -3,10 +3,13 @@
 
 mod finished;
 mod generated;
+mod imaged;
 mod live;
 mod messages;
 mod program;
 mod reading;
+mod recording;
+mod replaying;
 mod running;
 mod status;
 

@@ -1,5 +1,5 @@
-//! The call for a run by threads.
-ghost use Rattle.std.specs.Prelude.{◌≡◌, ◌≢◌, ◌≤◌, ◌⊎◌, ℕ, List, [], OnOk, String, length};
+//! The call for a run by threads, which may be recorded.
+ghost use Rattle.std.specs.Prelude.{◌≡◌, ◌≢◌, ◌≤◌, ◌<◌, ◌^◌, ◌⊎◌, ℕ, List, [], OnOk, String, length};
 ghost use Rattle.std.specs.Global.{Global};
 ghost use Rattle.std.specs.Io.KnownBytes.{Appends};
 ghost use Rattle.afr_law_bound.specs.Ends.Law.{AreEager};
@@ -7,36 +7,38 @@ ghost use Rattle.afr_live.specs.Ending.{EndsInAnyOrder};
 ghost use Rattle.afr_text.specs.Causes.{Rose};
 ghost use Rattle.afr_text.specs.Parts.{AppendsFront};
 ghost use Rattle.afr_model.specs.Complete.{IsComplete};
-ghost use Rattle.afr_model.specs.ReportHealers.{report_of};
 ghost use Rattle.afr_plan.specs.declared.plan.Plan.{Plan};
 ghost use Rattle.afr_plan.specs.declared.plan.PlanFault.{PlanFault};
 ghost use Rattle.afr_plan.specs.Spells.{Spells};
+ghost use Rattle.afr_plan_print.specs.PrintedPlan.{plan_text};
 ghost use Rattle.afr_rule.specs.Choosing.{IsRule};
 ghost use Rattle.afr_law_runnable.specs.Runnable.{IsRunnable};
 ghost use Rattle.afr_volume.specs.Right.{IsRight};
 ghost use Rattle.afr_volume.specs.State.{no_volume};
-ghost use Rattle.afr_words.specs.Forms.{AreLive};
-ghost use Rattle.afr_cli.specs.Live.{IsGivenLive, IsShortLive, StopsLive};
+ghost use Rattle.afr_words.specs.Forms.{AreLive, AskLive};
+ghost use Rattle.afr_cli.specs.Live.{IsGivenLive, IsRecorded, IsShortLive, ReportsLive, StopsLive, text_live};
 ghost use Rattle.afr_cli.specs.Statuses.{AreDone, HasFault, IsFull, IsOver, IsRefusal, IsSpelled, IsWorkLeft, refusal_line, usage_line};
 
 use crate::messages::{USAGE, answer, refuse};
 use crate::reading::{Unread, read_runnable};
-use crate::running::tell;
+use crate::recording::tell_live;
 use crate::status::Status;
 use afr_base::NoMemory;
 use afr_live::{Gate, live};
 use afr_plan::Plan;
+use afr_plan_print::a_printed_plan_is_read_again;
 use afr_rule::{Candidate, Rules};
 use afr_text::{Sink, Source};
 use afr_volume::Volume;
-use afr_words::{Form, are_live};
+use afr_words::{LiveForm, live_form_of};
 use std::alloc::Global;
 use std::mem;
 use std::sync::Wait;
 use std::thread::Threads;
 
-/// Serves the word `live`, and answers the status: the plan is read from the source and run by threads, in whatever order
-/// they come, and its report is written. The statuses are those of `afr_top`; it ends with 2 where the words are others.
+/// Serves the words `live` and `record`, and answers the status: the plan is read from the source and run by threads, in
+/// whatever order they come, and its report or its image is written. The statuses are those of `afr_top`; it ends with 2 where
+/// the words are others.
 /// Status 7 needs that the plan has fewer turns than twice its bound and one for each actor and event. While the threads run,
 /// the empty volume stands in the place of the one that was lent. Each thread passes the gate
 /// before each of its turns. It returns if the threads do.
@@ -62,12 +64,15 @@ pub fn afr_live<
     requires read_rule { IsRule G.Fn rules.now.read }
     requires fresh { volume.old ≡ no_volume }
 
-    // A plan was run, and its report is written.
-    ensures ok { result ≡ 0 → AreLive words.now × IsSpelled (S.left source.old) (S.left source.new) volume.new.plan
-        × Appends (K.taken sink.old) (K.taken sink.new) (report_of volume.new.plan volume.new.log) × IsComplete volume.new.plan volume.new.log × AreDone volume.new.plan volume.new.log }
-    ensures unfinished { result ≡ 7 → AreLive words.now × IsSpelled (S.left source.old) (S.left source.new) volume.new.plan
-        × Appends (K.taken sink.old) (K.taken sink.new) (report_of volume.new.plan volume.new.log) × IsFull volume.new.plan volume.new.log × IsWorkLeft volume.new.plan volume.new.log }
+    // A plan was run, and its report or its image is written.
+    ensures ok { result ≡ 0 → ReportsLive words.now (S.left source.old) (S.left source.new) (K.taken sink.old) (K.taken sink.new) volume.new
+        × IsComplete volume.new.plan volume.new.log × AreDone volume.new.plan volume.new.log }
+    ensures unfinished { result ≡ 7 → ReportsLive words.now (S.left source.old) (S.left source.new) (K.taken sink.old) (K.taken sink.new) volume.new
+        × IsFull volume.new.plan volume.new.log × IsWorkLeft volume.new.plan volume.new.log }
     ensures short { result ≡ 7 → IsShortLive volume.new.plan }
+
+    // The image of such a run is read again.
+    ensures recorded { (result ≡ 0) ⊎ (result ≡ 7) → IsRecorded volume.new.plan volume.new.log }
 
     // No plan was run.
     ensures usage { result ≡ 2 → (AreLive words.now → ⊥) × Appends (K.taken sink.old) (K.taken sink.new) usage_line × (source.new ≡ source.old) × (volume.new ≡ no_volume) }
@@ -94,10 +99,9 @@ pub fn afr_live<
     ensures eager { AreEager volume.new.log }
     ensures right { IsRight volume.new.plan volume.new.log }
 {
-    let status = if are_live(words) {
-        read_and_run(rt, alloc, source, sink, volume, rules, gate)
-    } else {
-        answer(sink, USAGE, Status::Usage as u8)
+    let status = match live_form_of(words) {
+        Some(form) => read_and_run(rt, alloc, form, source, sink, volume, rules, gate),
+        None => answer(sink, USAGE, Status::Usage as u8),
     };
     volume.every_line();
     status
@@ -115,6 +119,7 @@ fn read_and_run<
 >(
     rt: &R,
     alloc: Global,
+    form: LiveForm,
     source: &mut S,
     sink: &mut K,
     volume: &mut Volume,
@@ -124,29 +129,32 @@ fn read_and_run<
     requires rule { IsRule F.Fn rules.now.heal }
     requires read_rule { IsRule G.Fn rules.now.read }
     requires fresh { volume.old ≡ no_volume }
-    ensures ok { result ≡ 0 → IsSpelled (S.left source.old) (S.left source.new) volume.new.plan × Appends (K.taken sink.old) (K.taken sink.new) (report_of volume.new.plan volume.new.log)
+    ensures ok { result ≡ 0 → IsSpelled (S.left source.old) (S.left source.new) volume.new.plan × Appends (K.taken sink.old) (K.taken sink.new) (text_live form volume.new.plan volume.new.log)
         × IsComplete volume.new.plan volume.new.log × AreDone volume.new.plan volume.new.log }
-    ensures unfinished { result ≡ 7 → IsSpelled (S.left source.old) (S.left source.new) volume.new.plan × Appends (K.taken sink.old) (K.taken sink.new) (report_of volume.new.plan volume.new.log)
+    ensures unfinished { result ≡ 7 → IsSpelled (S.left source.old) (S.left source.new) volume.new.plan × Appends (K.taken sink.old) (K.taken sink.new) (text_live form volume.new.plan volume.new.log)
         × IsFull volume.new.plan volume.new.log × IsWorkLeft volume.new.plan volume.new.log }
     ensures short { result ≡ 7 → IsShortLive volume.new.plan }
     ensures refused { result ≡ 3 → IsRefusal (S.left source.old) (S.left source.new) (K.taken sink.old) (K.taken sink.new) × (volume.new ≡ no_volume) }
     ensures read { result ≡ 4 → Rose (S.faults source.old) (S.faults source.new) × (sink.new ≡ sink.old) × (volume.new ≡ no_volume) }
     ensures write { result ≡ 5 → Rose (K.faults sink.old) (K.faults sink.new)
-        × ((words : List (String Global)) → AreLive words → StopsLive words S.left source.old source.new (K.taken sink.old) (K.taken sink.new) volume.new) }
+        × ((words : List (String Global)) → AskLive words form → StopsLive words S.left source.old source.new (K.taken sink.old) (K.taken sink.new) volume.new) }
     ensures memory { result ≡ 6 → sink.new ≡ sink.old }
     ensures eager { AreEager volume.new.log }
     ensures plan { (volume.new ≡ no_volume) ⊎ IsSpelled (S.left source.old) (S.left source.new) volume.new.plan }
     ensures few { (result ≡ 0) ⊎ (result ≡ 3) ⊎ (result ≡ 4) ⊎ (result ≡ 5) ⊎ (result ≡ 6) ⊎ (result ≡ 7) }
 {
     match read_runnable(alloc, source) {
-        Ok(plan) => run_live(rt, alloc, plan, sink, volume, rules, gate),
+        Ok(plan) => {
+            a_printed_plan_is_read_again();
+            run_live(rt, alloc, form, plan, sink, volume, rules, gate)
+        }
         Err(Unread::Refused(fault)) => refuse(alloc, sink, fault),
         Err(Unread::ReadFault) => Status::ReadFault as u8,
         Err(Unread::NoMemory) => Status::NoMemory as u8,
     }
 }
 
-/// Runs a plan by threads and writes its report, also where the log got full in the middle of the work.
+/// Runs a plan by threads and writes the form's text, also where the log got full in the middle of the work.
 #[tactic(auto, using(crate::proofs::EndLemmas::nothing_eager))]
 fn run_live<
     R: Threads + Wait + Sync,
@@ -157,6 +165,7 @@ fn run_live<
 >(
     rt: &R,
     alloc: Global,
+    form: LiveForm,
     plan: Plan,
     sink: &mut K,
     volume: &mut Volume,
@@ -166,16 +175,17 @@ fn run_live<
     requires rule { IsRule F.Fn rules.now.heal }
     requires read_rule { IsRule G.Fn rules.now.read }
     requires runnable { IsRunnable plan }
+    requires printed { length (plan_text plan) < 2 ^ 32 }
     requires fresh { volume.old ≡ no_volume }
     ensures few { (result ≡ 0) ⊎ (result ≡ 5) ⊎ (result ≡ 6) ⊎ (result ≡ 7) }
     ensures plan { (volume.new ≡ no_volume) ⊎ (volume.new.plan ≡ plan) }
     ensures ran { result ≢ 6 → volume.new.plan ≡ plan }
     ensures ok { result ≡ 0 → IsComplete volume.new.plan volume.new.log × AreDone volume.new.plan volume.new.log }
-    ensures unfinished { result ≡ 7 → Appends (K.taken sink.old) (K.taken sink.new) (report_of volume.new.plan volume.new.log)
+    ensures unfinished { result ≡ 7 → Appends (K.taken sink.old) (K.taken sink.new) (text_live form volume.new.plan volume.new.log)
         × IsFull volume.new.plan volume.new.log × IsWorkLeft volume.new.plan volume.new.log }
     ensures short { result ≡ 7 → IsShortLive volume.new.plan }
-    ensures text { result ≡ 0 → Appends (K.taken sink.old) (K.taken sink.new) (report_of volume.new.plan volume.new.log) }
-    ensures write { result ≡ 5 → Rose (K.faults sink.old) (K.faults sink.new) × AppendsFront (K.taken sink.old) (K.taken sink.new) (report_of volume.new.plan volume.new.log)
+    ensures text { result ≡ 0 → Appends (K.taken sink.old) (K.taken sink.new) (text_live form volume.new.plan volume.new.log) }
+    ensures write { result ≡ 5 → Rose (K.faults sink.old) (K.faults sink.new) × AppendsFront (K.taken sink.old) (K.taken sink.new) (text_live form volume.new.plan volume.new.log)
         × IsComplete volume.new.plan volume.new.log × IsOver volume.new.plan volume.new.log }
     ensures memory { result ≡ 6 → sink.new ≡ sink.old }
     ensures eager { AreEager volume.new.log }
@@ -187,7 +197,7 @@ fn run_live<
         return Status::NoMemory as u8;
     }
     volume.every_line();
-    tell(alloc, Form::Run, sink, volume)
+    tell_live(alloc, form, sink, volume)
 }
 
 /// Lends the volume to the threads, and puts the one that they hand back in its place.

@@ -3,16 +3,18 @@ ghost use Rattle.std.specs.Prelude.{◌≡◌, ◌≢◌, ◌⊎◌, IfOk, strin
 ghost use Rattle.std.specs.Io.KnownBytes.{Appends};
 ghost use Rattle.afr_text.specs.Causes.{Rose};
 ghost use Rattle.afr_text.specs.Parts.{AppendsFront};
+ghost use Rattle.afr_cli.specs.Replay.{difference_line, image_code_name, image_refusal_line};
 ghost use Rattle.afr_cli.specs.Statuses.{name_of, refusal_line};
 
 use crate::status::Status;
 use afr_base::NoMemory;
+use afr_image::ImageFault;
 use afr_plan::PlanFault;
 use afr_text::{Sink, write_all};
 use std::alloc::Global;
 
 /// The line that tells how the program is called.
-pub const USAGE: &[u8] = b"usage: afr run | trace | info | gen N | live\n";
+pub const USAGE: &[u8] = b"usage: afr run | trace | info | gen N | live | record | replay T\n";
 
 /// Writes a text, and answers the status, or 5 where the sink failed.
 pub fn answer<K: Sink>(sink: &mut K, text: &[u8], status: u8) -> u8
@@ -64,4 +66,62 @@ fn name_of(code: u8) -> &'static str
         8 => "total",
         _ => "end",
     }
+}
+
+/// Writes the line that refuses an image.
+pub fn refuse_image<K: Sink>(alloc: Global, sink: &mut K, fault: ImageFault) -> u8
+    ensures few { (result ≡ 9) ⊎ (result ≡ 5) ⊎ (result ≡ 6) }
+    ensures refused { result ≡ 9 → Appends (K.taken sink.old) (K.taken sink.new) (image_refusal_line fault) }
+    ensures write { result ≡ 5 → Rose (K.faults sink.old) (K.faults sink.new) × AppendsFront (K.taken sink.old) (K.taken sink.new) (image_refusal_line fault) }
+    ensures memory { result ≡ 6 → sink.new ≡ sink.old }
+{
+    match image_refusal_text(alloc, fault) {
+        Ok(text) => answer(sink, text.as_bytes(), Status::ImageRefused as u8),
+        Err(_) => Status::NoMemory as u8,
+    }
+}
+
+fn image_refusal_text(alloc: Global, fault: ImageFault) -> Result<String, NoMemory>
+    ensures ok { IfOk result (λ text. string_bytes text ≡ image_refusal_line fault) }
+{
+    let ImageFault { at, code } = fault;
+    let name = image_code_name(code);
+    let mut text = String::new(alloc);
+    write!(text, "image refused: at {at}, code {code} {name}\n")?;
+    Ok(text)
+}
+
+fn image_code_name(code: u8) -> &'static str
+    ensures { result.now ≡ image_code_name code }
+{
+    match code {
+        0 => "long",
+        11 => "magic",
+        12 => "short",
+        13 => "plan",
+        14 => "step",
+        15 => "tail",
+        _ => "turns",
+    }
+}
+
+/// Writes the line that tells at which line a replay differs from its image.
+pub fn tell_difference<K: Sink>(alloc: Global, sink: &mut K, line: u32) -> u8
+    ensures few { (result ≡ 10) ⊎ (result ≡ 5) ⊎ (result ≡ 6) }
+    ensures told { result ≡ 10 → Appends (K.taken sink.old) (K.taken sink.new) (difference_line line) }
+    ensures write { result ≡ 5 → Rose (K.faults sink.old) (K.faults sink.new) × AppendsFront (K.taken sink.old) (K.taken sink.new) (difference_line line) }
+    ensures memory { result ≡ 6 → sink.new ≡ sink.old }
+{
+    match difference_text(alloc, line) {
+        Ok(text) => answer(sink, text.as_bytes(), Status::Differs as u8),
+        Err(_) => Status::NoMemory as u8,
+    }
+}
+
+fn difference_text(alloc: Global, line: u32) -> Result<String, NoMemory>
+    ensures ok { IfOk result (λ text. string_bytes text ≡ difference_line line) }
+{
+    let mut text = String::new(alloc);
+    write!(text, "replay differs: line {line}\n")?;
+    Ok(text)
 }

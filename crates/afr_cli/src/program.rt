@@ -1,10 +1,13 @@
 //! The whole program, but for its outside.
-ghost use Rattle.std.specs.Prelude.{◌≡◌, ◌≤◌, ◌⊎◌, ℕ, List, String, length, false, true};
+ghost use Rattle.std.specs.Prelude.{◌≡◌, ◌≤◌, ◌⊎◌, ℕ, List, Some, String, length, false, true};
 ghost use Rattle.std.specs.Global.{Global};
 ghost use Rattle.afr_text.specs.Causes.{Rose};
 ghost use Rattle.afr_model.specs.Complete.{IsComplete};
 ghost use Rattle.afr_model.specs.Ordered.{IsOrdered};
 ghost use Rattle.std.specs.Io.KnownBytes.{Appends};
+ghost use Rattle.afr_image.specs.Images.{IsImageOf};
+ghost use Rattle.afr_image.specs.declared.image.Image.{Image};
+ghost use Rattle.afr_image.specs.declared.image.ImageFault.{ImageFault};
 ghost use Rattle.afr_plan.specs.declared.plan.Plan.{Plan};
 ghost use Rattle.afr_plan.specs.declared.plan.PlanFault.{PlanFault};
 ghost use Rattle.afr_plan.specs.Spells.{Spells};
@@ -12,12 +15,14 @@ ghost use Rattle.afr_rule.specs.Choosing.{IsRule};
 ghost use Rattle.afr_volume.specs.Right.{IsChosenBy, IsRight};
 ghost use Rattle.afr_volume.specs.State.{no_volume};
 ghost use Rattle.afr_words.specs.Forms.{AreForm, AreRefused, AskFor};
-ghost use Rattle.afr_cli.specs.Forms.{reads, text_of};
+ghost use Rattle.afr_cli.specs.Forms.{is_replay, reads, text_of};
+ghost use Rattle.afr_cli.specs.Replay.{AreReplay, HasImageFault, IsDifference, IsGivenReplay, IsImageRefusal, Repeats, image_refusal_line};
 ghost use Rattle.afr_cli.specs.Statuses.{AreDone, HasFault, AreGiven, IsFull, IsPlanOf, IsPlanned, IsRefusal, IsShort, IsSpelled, IsWorkLeft, Reports, StopsWriting, refusal_line, usage_line};
 
 use crate::generated::make_and_run;
 use crate::messages::{USAGE, answer, refuse};
 use crate::reading::{Unread, read_runnable};
+use crate::replaying::read_and_replay;
 use crate::running::run_plan;
 use crate::status::Status;
 use afr_rule::{Candidate, Rules};
@@ -28,10 +33,10 @@ use std::alloc::Global;
 
 /// Serves the words, and answers the status. It ends with 2 where the words are no form that it
 /// serves, 3 where the plan is refused, 4 where the source failed, 5 where the sink failed, 6 where
-/// memory was wanting, and with 7 where the log was full before all work was done, which needs that
-/// the plan has fewer turns than its bound, and comes with no generated load; the text of the form is
-/// written of a full log too. Heals ask one of the rules for their sources, and clients the
-/// other for the copies that they read.
+/// memory was wanting, and with 7 where the log was full before all work was done; the text of the form is
+/// written of a full log too. But for a replay, 7 needs that the plan has fewer turns than its bound, and it comes with no
+/// generated load. In a replay 9 says that the image is refused, and 10 that a line of it wasn't made again. Heals ask one of
+/// the rules for their sources, and clients the other for the copies that they read.
 #[tactic(auto, using(crate::proofs::StatusLemmas::nothing_chosen, crate::proofs::StatusLemmas::nothing_ordered, crate::proofs::StatusLemmas::stops_at_usage))]
 pub fn afr_top<S: Source, K: Sink, F: Fn(&[Candidate]) -> usize, G: Fn(&[Candidate]) -> usize>(
     alloc: Global,
@@ -50,7 +55,7 @@ pub fn afr_top<S: Source, K: Sink, F: Fn(&[Candidate]) -> usize, G: Fn(&[Candida
         × IsComplete volume.new.plan volume.new.log × AreDone volume.new.plan volume.new.log }
     ensures unfinished { result ≡ 7 → Reports words.now (S.left source.old) (S.left source.new) (K.taken sink.old) (K.taken sink.new) volume.new
         × IsFull volume.new.plan volume.new.log × IsWorkLeft volume.new.plan volume.new.log }
-    ensures short { result ≡ 7 → IsShort volume.new.plan }
+    ensures short { result ≡ 7 → (AreReplay words.now → ⊥) → IsShort volume.new.plan }
 
     // No plan was run.
     ensures usage { result ≡ 2 → (AreForm words.now → ⊥) × Appends (K.taken sink.old) (K.taken sink.new) usage_line × (source.new ≡ source.old) × (volume.new ≡ no_volume) }
@@ -65,7 +70,15 @@ pub fn afr_top<S: Source, K: Sink, F: Fn(&[Candidate]) -> usize, G: Fn(&[Candida
     // The words ask for a generated load.
     ensures generated { (n : ℕ) → AskFor words.now (Form.Gen n) → (source.new ≡ source.old) × ((result ≡ 0) ⊎ (result ≡ 5) ⊎ (result ≡ 6)) }
 
-    // The words ask for a form that reads, the source tells its bytes, and no read failed.
+    // The words ask for a replay.
+    ensures repeats { (turns : ℕ) → AskFor words.now (Form.Replay turns) → (result ≡ 0) ⊎ (result ≡ 7) → Repeats turns (S.left source.old) (S.left source.new) volume.new }
+    ensures image { result ≡ 9 → (turns : ℕ) × AskFor words.now (Form.Replay turns)
+        × IsImageRefusal turns (S.left source.old) (S.left source.new) (K.taken sink.old) (K.taken sink.new) × (volume.new ≡ no_volume) }
+    ensures differs { result ≡ 10 → (turns : ℕ) × AskFor words.now (Form.Replay turns)
+        × IsDifference turns (S.left source.old) (S.left source.new) (K.taken sink.old) (K.taken sink.new) volume.new }
+    ensures replay { AreReplay words.now → (result ≡ 0) ⊎ (result ≡ 4) ⊎ (result ≡ 5) ⊎ (result ≡ 6) ⊎ (result ≡ 7) ⊎ (result ≡ 9) ⊎ (result ≡ 10) }
+
+    // The words ask for a form that reads a plan, the source tells its bytes, and no read failed.
     ensures faulty { (bytes : List ℕ) (fault : PlanFault) → AreGiven words.now (S.left source.old) (S.faults source.old) (S.faults source.new) bytes
         → HasFault bytes fault
         → ((result ≡ 3) × Appends (K.taken sink.old) (K.taken sink.new) (refusal_line fault)) ⊎ (result ≡ 5) ⊎ (result ≡ 6) }
@@ -73,12 +86,20 @@ pub fn afr_top<S: Source, K: Sink, F: Fn(&[Candidate]) -> usize, G: Fn(&[Candida
         → length bytes ≤ 16777216 → Spells bytes plan
         → (result ≡ 0) ⊎ (result ≡ 7) ⊎ (result ≡ 5) ⊎ (result ≡ 6) }
 
+    // The words ask for a replay, the source tells its bytes, and no read failed.
+    ensures faulty_image { (turns : ℕ) (bytes : List ℕ) (fault : ImageFault) → IsGivenReplay words.now turns (S.left source.old) (S.faults source.old) (S.faults source.new) bytes
+        → HasImageFault turns bytes fault
+        → ((result ≡ 9) × Appends (K.taken sink.old) (K.taken sink.new) (image_refusal_line fault)) ⊎ (result ≡ 5) ⊎ (result ≡ 6) }
+    ensures imaged { (turns : ℕ) (bytes : List ℕ) (image : Image) → IsGivenReplay words.now turns (S.left source.old) (S.faults source.old) (S.faults source.new) bytes
+        → length bytes ≤ 33554432 → IsImageOf (Some turns) bytes image
+        → (result ≡ 0) ⊎ (result ≡ 7) ⊎ (result ≡ 10) ⊎ (result ≡ 5) ⊎ (result ≡ 6) }
+
     // At every status.
     ensures plan { (volume.new ≡ no_volume) ⊎ IsPlanned words.now (S.left source.old) (S.left source.new) volume.new.plan }
     ensures others { ((AreForm words.now → ⊥) → (result ≡ 2) ⊎ (result ≡ 5) ⊎ (result ≡ 6)) × (AreRefused words.now → (result ≡ 2) ⊎ (result ≡ 5)) }
-    ensures few { (result ≡ 0) ⊎ (result ≡ 2) ⊎ (result ≡ 3) ⊎ (result ≡ 4) ⊎ (result ≡ 5) ⊎ (result ≡ 6) ⊎ (result ≡ 7) }
+    ensures few { (result ≡ 0) ⊎ (result ≡ 2) ⊎ (result ≡ 3) ⊎ (result ≡ 4) ⊎ (result ≡ 5) ⊎ (result ≡ 6) ⊎ (result ≡ 7) ⊎ (result ≡ 9) ⊎ (result ≡ 10) }
     ensures right { IsRight volume.new.plan volume.new.log }
-    ensures ordered { IsOrdered volume.new.plan volume.new.log }
+    ensures ordered { (AreReplay words.now → ⊥) → IsOrdered volume.new.plan volume.new.log }
     ensures chosen { IsChosenBy F.Fn G.Fn rules.now volume.new }
 {
     let status = match form_of(alloc, words) {
@@ -90,7 +111,7 @@ pub fn afr_top<S: Source, K: Sink, F: Fn(&[Candidate]) -> usize, G: Fn(&[Candida
     status
 }
 
-/// Serves a form: a generated load is made, and nothing is read; each other form reads its plan from the source.
+/// Serves a form: a generated load is made, and nothing is read; a replay reads an image, and each other form its plan.
 #[tactic(auto, using(crate::proofs::StatusLemmas::nothing_chosen, crate::proofs::StatusLemmas::nothing_ordered))]
 fn serve<S: Source, K: Sink, F: Fn(&[Candidate]) -> usize, G: Fn(&[Candidate]) -> usize>(
     alloc: Global,
@@ -108,21 +129,28 @@ fn serve<S: Source, K: Sink, F: Fn(&[Candidate]) -> usize, G: Fn(&[Candidate]) -
         × IsComplete volume.new.plan volume.new.log × AreDone volume.new.plan volume.new.log }
     ensures unfinished { result ≡ 7 → IsPlanOf form (S.left source.old) (S.left source.new) volume.new.plan × Appends (K.taken sink.old) (K.taken sink.new) (text_of form volume.new.plan volume.new.log)
         × IsFull volume.new.plan volume.new.log × IsWorkLeft volume.new.plan volume.new.log }
-    ensures short { result ≡ 7 → IsShort volume.new.plan }
+    ensures short { result ≡ 7 → is_replay form ≡ false → IsShort volume.new.plan }
     ensures refused { result ≡ 3 → IsRefusal (S.left source.old) (S.left source.new) (K.taken sink.old) (K.taken sink.new) × (volume.new ≡ no_volume) }
     ensures read { result ≡ 4 → Rose (S.faults source.old) (S.faults source.new) × (sink.new ≡ sink.old) × (volume.new ≡ no_volume) }
     ensures write { result ≡ 5 → Rose (K.faults sink.old) (K.faults sink.new)
         × ((words : List (String Global)) → AskFor words form → StopsWriting words S.left source.old source.new (K.taken sink.old) (K.taken sink.new) volume.new) }
     ensures memory { result ≡ 6 → sink.new ≡ sink.old }
-    ensures unread { reads form ≡ false → source.new ≡ source.old }
-    ensures generated { reads form ≡ false → (result ≡ 0) ⊎ (result ≡ 5) ⊎ (result ≡ 6) }
+    ensures generated { (n : ℕ) → form ≡ Form.Gen n → (source.new ≡ source.old) × ((result ≡ 0) ⊎ (result ≡ 5) ⊎ (result ≡ 6)) }
+    ensures repeats { (turns : ℕ) → form ≡ Form.Replay turns → (result ≡ 0) ⊎ (result ≡ 7) → Repeats turns (S.left source.old) (S.left source.new) volume.new }
+    ensures image { (turns : ℕ) → form ≡ Form.Replay turns → result ≡ 9
+        → IsImageRefusal turns (S.left source.old) (S.left source.new) (K.taken sink.old) (K.taken sink.new) × (volume.new ≡ no_volume) }
+    ensures differs { (turns : ℕ) → form ≡ Form.Replay turns → result ≡ 10
+        → IsDifference turns (S.left source.old) (S.left source.new) (K.taken sink.old) (K.taken sink.new) volume.new }
+    ensures replay { (turns : ℕ) → form ≡ Form.Replay turns → (result ≡ 0) ⊎ (result ≡ 4) ⊎ (result ≡ 5) ⊎ (result ≡ 6) ⊎ (result ≡ 7) ⊎ (result ≡ 9) ⊎ (result ≡ 10) }
+    ensures others { is_replay form ≡ false → (result ≡ 0) ⊎ (result ≡ 3) ⊎ (result ≡ 4) ⊎ (result ≡ 5) ⊎ (result ≡ 6) ⊎ (result ≡ 7) }
     ensures plan { (volume.new ≡ no_volume) ⊎ IsPlanOf form (S.left source.old) (S.left source.new) volume.new.plan }
-    ensures few { (result ≡ 0) ⊎ (result ≡ 3) ⊎ (result ≡ 4) ⊎ (result ≡ 5) ⊎ (result ≡ 6) ⊎ (result ≡ 7) }
-    ensures ordered { IsOrdered volume.new.plan volume.new.log }
+    ensures few { (result ≡ 0) ⊎ (result ≡ 3) ⊎ (result ≡ 4) ⊎ (result ≡ 5) ⊎ (result ≡ 6) ⊎ (result ≡ 7) ⊎ (result ≡ 9) ⊎ (result ≡ 10) }
+    ensures ordered { is_replay form ≡ false → IsOrdered volume.new.plan volume.new.log }
     ensures chosen { IsChosenBy F.Fn G.Fn rules.now volume.new }
 {
     match form {
         Form::Gen(n) => make_and_run(alloc, n, sink, volume, rules),
+        Form::Replay(turns) => read_and_replay(alloc, turns, source, sink, volume, rules),
         _ => read_and_run(alloc, form, source, sink, volume, rules),
     }
 }

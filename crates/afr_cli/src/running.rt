@@ -76,11 +76,26 @@ pub fn tell<K: Sink>(alloc: Global, form: Form, sink: &mut K, volume: &Volume) -
         × IsOver volume.now.plan volume.now.log }
     ensures memory { result ≡ 6 → sink.new ≡ sink.old }
 {
-    let status = status_after(volume);
     match text_of(alloc, form, volume) {
-        Ok(text) => answer(sink, text.as_bytes(), status),
+        Ok(text) => finish(sink, text.as_bytes(), volume),
         Err(_) => Status::NoMemory as u8,
     }
+}
+
+/// Writes the text of a run that is over, and answers how it ended.
+pub fn finish<K: Sink>(sink: &mut K, text: &[u8], volume: &Volume) -> u8
+    requires actors { length volume.now.plan.healers ≤ 16 }
+    requires complete { IsComplete volume.now.plan volume.now.log }
+    ensures few { (result ≡ 0) ⊎ (result ≡ 5) ⊎ (result ≡ 7) }
+    ensures ok { result ≡ 0 → AreDone volume.now.plan volume.now.log }
+    ensures unfinished { result ≡ 7 → Appends (K.taken sink.old) (K.taken sink.new) text.now
+        × IsFull volume.now.plan volume.now.log × IsWorkLeft volume.now.plan volume.now.log }
+    ensures text { result ≡ 0 → Appends (K.taken sink.old) (K.taken sink.new) text.now }
+    ensures write { result ≡ 5 → Rose (K.faults sink.old) (K.faults sink.new) × AppendsFront (K.taken sink.old) (K.taken sink.new) text.now
+        × IsOver volume.now.plan volume.now.log }
+{
+    let status = status_after(volume);
+    answer(sink, text, status)
 }
 
 /// The text that the form writes of the volume as it stands.
@@ -92,6 +107,7 @@ fn text_of(alloc: Global, form: Form, volume: &Volume) -> Result<String, NoMemor
         Form::Trace => trace_text(alloc, volume),
         Form::Info => info_text(alloc, volume),
         Form::Gen(n) => summary_text(alloc, volume, n),
+        Form::Replay(_) => report_text(alloc, volume),
     }
 }
 

@@ -1,7 +1,7 @@
 //! What the program ends with.
 
 /// The status of the program. A plan that was run to its end gives `Done`, one whose log was full
-/// before all work was done `Unfinished`; the others name what kept a plan from its report.
+/// before all work was done `Unfinished`; the others name what kept a plan or an image from its report.
 pub enum Status {
     Done = 0,
     Usage = 2,
@@ -10,4 +10,6 @@ pub enum Status {
     WriteFault = 5,
     NoMemory = 6,
     Unfinished = 7,
+    ImageRefused = 9,
+    Differs = 10,
 }

@@ -18,7 +18,7 @@ use Rattle.afr_words.specs.Forms.{AreForm, AreRefused, AreWordsOf, AskFor, IsDas
 use Rattle.afr_words.specs.Reading.{whole_program}
 use Rattle.afr_words.specs.declared.form.Form.{Form}
 use Rattle.afr_words.specs.declared.form.Form.TheVariants as kind
-use Rattle.afr_words.proofs.LoadLemmas.{decimal_begins}
+use Rattle.afr_words.proofs.NumberLemmas.{decimal_begins}
 use Rattle.afr_words.proofs.ReadingLemmas.{form_is_taken, taken_is_word, text_of, word_is_named}
 
 -- each text begins above `-`
@@ -42,8 +42,11 @@ form_is_plain kind.Run texts are = rw are (plain_from_letter (codes "run") [] (o
 form_is_plain kind.Trace texts are = rw are (plain_from_letter (codes "trace") [] (omega arith) (λ e. omega (arith, e)) tt)
 form_is_plain kind.Info texts are = rw are (plain_from_letter (codes "info") [] (omega arith) (λ e. omega (arith, e)) tt)
 form_is_plain (kind.Gen n) texts (are, low, high) =
-    let digits : 48 < slice_index (decimal n) 0 = decimal_begins (decimal n) n refl low high in
+    let digits : 48 < slice_index (decimal n) 0 = decimal_begins (decimal n) n refl low (omega (arith, high)) in
     rw are (plain_from_letter (codes "gen") (decimal n ∷ []) (omega arith) (λ e. omega (arith, e)) (omega (arith, digits), tt))
+form_is_plain (kind.Replay n) texts (are, low, high) =
+    let digits : 48 < slice_index (decimal n) 0 = decimal_begins (decimal n) n refl low (omega (arith, high)) in
+    rw are (plain_from_letter (codes "replay") (decimal n ∷ []) (omega arith) (λ e. omega (arith, e)) (omega (arith, digits), tt))
 
 dashed_letter : (text : List ℕ) → slice_get text 0 ≡ Some 45 → slice_index text 0 ≡ 45
 dashed_letter [] d = cc
@@ -64,10 +67,11 @@ refused_is_no_form words refused (form, asked) = go words refused (form_is_plain
     go (w ∷ words) (inl none) plain = cc
     go (w ∷ words) (inr (inl help)) plain = plain.first help
 
--- an error that isn't for want of memory says that the words ask for no form, where they ask for no generated load
+-- an error that isn't for want of memory says that the words ask for no form, where they ask for none with a number
 pub failed_is_no_form : (app : App) (words : List (String Global)) (why : ErrorKind) → app ≡ whole_program
-    → (takes app (map string_bytes words) ≡ true → why ≡ error.OutOfMemory) → (why ≡ error.OutOfMemory → ⊥) → ((n : ℕ) → AskFor words (kind.Gen n) → ⊥) → AreForm words → ⊥
-failed_is_no_form app words why is passes other none (form, asked) = other (passes (rw is (form_is_taken form (map string_bytes words) none asked)))
+    → (takes app (map string_bytes words) ≡ true → why ≡ error.OutOfMemory) → (why ≡ error.OutOfMemory → ⊥)
+    → ((n : ℕ) → AskFor words (kind.Gen n) → ⊥) → ((n : ℕ) → AskFor words (kind.Replay n) → ⊥) → AreForm words → ⊥
+failed_is_no_form app words why is passes other no_load no_replay (form, asked) = other (passes (rw is (form_is_taken form (map string_bytes words) no_load no_replay asked)))
 
 -- a test that said no is of what doesn't hold
 pub untold : {P : Type 0} (told : Bool) → (P → IsTrue told) → told ≡ false → P → ⊥

@@ -1,6 +1,6 @@
 -- Lemmas of this crate.
 pub mod FormLemmas
-pub mod LiveLemmas
-pub mod LoadLemmas
+pub mod NumberLemmas
+pub mod OneWordLemmas
 pub mod ReadingLemmas
 pub mod RefusedLemmas

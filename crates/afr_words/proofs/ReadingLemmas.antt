@@ -19,13 +19,15 @@ use Rattle.afr_words.specs.Reading.{whole_program}
 use Rattle.afr_words.specs.declared.form.Form.{Form}
 use Rattle.afr_words.specs.declared.form.Form.TheVariants as kind
 
--- the words of a form are taken, but for those of a generated load
-pub form_is_taken : (form : Form) (texts : List Text) → ((n : ℕ) → AreWordsOf (kind.Gen n) texts → ⊥) → AreWordsOf form texts → takes whole_program texts ≡ true
+-- the words of a form are taken, but for those of a form with a number
+pub form_is_taken : (form : Form) (texts : List Text) → ((n : ℕ) → AreWordsOf (kind.Gen n) texts → ⊥) → ((n : ℕ) → AreWordsOf (kind.Replay n) texts → ⊥)
+    → AreWordsOf form texts → takes whole_program texts ≡ true
 unfolding clap_on_literals
-form_is_taken kind.Run texts none are = rw are refl
-form_is_taken kind.Trace texts none are = rw are refl
-form_is_taken kind.Info texts none are = rw are refl
-form_is_taken (kind.Gen n) texts none are = absurd (none n are)
+form_is_taken kind.Run texts no_load no_replay are = rw are refl
+form_is_taken kind.Trace texts no_load no_replay are = rw are refl
+form_is_taken kind.Info texts no_load no_replay are = rw are refl
+form_is_taken (kind.Gen n) texts no_load no_replay are = absurd (no_load n are)
+form_is_taken (kind.Replay n) texts no_load no_replay are = absurd (no_replay n are)
 
 -- the words that are a form by themselves, and their texts
 pub data Word : Type 0 where

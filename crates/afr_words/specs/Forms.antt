@@ -4,13 +4,20 @@ use Rattle.std.specs.Global.{Global}
 use Rattle.std.specs.List.{Any}
 use Rattle.afr_words.specs.declared.form.Form.{Form}
 use Rattle.afr_words.specs.declared.form.Form.TheVariants as kind
+use Rattle.afr_words.specs.declared.live.LiveForm.{LiveForm}
+use Rattle.afr_words.specs.declared.live.LiveForm.TheVariants as live
 
--- the texts are the words of this form: one word and no more, or `gen` and the decimal digits of its number, from 1 to 2,000
+-- the texts are a name and the decimal digits of a number from 1 to a largest one, and no more
+abbrev pub AreNumbered : List ℕ → ℕ → ℕ → List (List ℕ) → Type 0
+AreNumbered name n most texts = (texts ≡ name ∷ decimal n ∷ []) × (1 ≤ n) × (n ≤ most)
+
+-- the texts are the words of this form: one word and no more, or a name and a number
 abbrev pub AreWordsOf : Form → List (List ℕ) → Type 0
 AreWordsOf kind.Run texts = texts ≡ codes "run" ∷ []
 AreWordsOf kind.Trace texts = texts ≡ codes "trace" ∷ []
 AreWordsOf kind.Info texts = texts ≡ codes "info" ∷ []
-AreWordsOf (kind.Gen n) texts = (texts ≡ codes "gen" ∷ decimal n ∷ []) × (1 ≤ n) × (n ≤ 2000)
+AreWordsOf (kind.Gen n) texts = AreNumbered (codes "gen") n 2000 texts
+AreWordsOf (kind.Replay turns) texts = AreNumbered (codes "replay") turns 4000000 texts
 
 -- the words ask for this form
 abbrev pub AskFor : List (String Global) → Form → Type 0
@@ -28,6 +35,16 @@ IsDashed word = slice_get (string_bytes word) 0 ≡ Some 45
 abbrev pub AreRefused : List (String Global) → Type 0
 AreRefused words = (words ≡ []) ⊎ (option_map string_bytes (slice_get words 0) ≡ Some (codes "help")) ⊎ Any IsDashed words
 
--- the words ask for a run by threads, which the other forms don't name
+-- ---- runs by threads, which the forms above don't name
+-- the word of such a run
+abbrev pub live_word : LiveForm → List ℕ
+live_word live.Live = codes "live"
+live_word live.Record = codes "record"
+
+-- the words ask for this form of a run by threads
+abbrev pub AskLive : List (String Global) → LiveForm → Type 0
+AskLive words form = map string_bytes words ≡ live_word form ∷ []
+
+-- the words ask for a run by threads
 abbrev pub AreLive : List (String Global) → Type 0
-AreLive words = map string_bytes words ≡ codes "live" ∷ []
+AreLive words = (form : LiveForm) × AskLive words form

@@ -3,11 +3,11 @@
 
 mod form;
 mod live;
-mod load;
+mod numbered;
 mod reading;
 mod refused;
 
 pub use form::Form;
-pub use live::are_live;
+pub use live::{LiveForm, live_form_of};
 pub use reading::form_of;
 pub use refused::are_refused;

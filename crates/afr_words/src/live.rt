@@ -1,13 +1,33 @@
-//! The word of a run by threads.
-ghost use Rattle.std.specs.Prelude.{◌↔◌, IsTrue};
-ghost use Rattle.afr_words.specs.Forms.{AreLive};
+//! The forms of a run by threads.
+ghost use Rattle.std.specs.Prelude.{◌≡◌, None, Some};
+ghost use Rattle.afr_words.specs.Forms.{AreLive, AskLive, live_word};
 
-/// Whether the words ask for a run by threads: `live`, and no more. It takes no memory.
-pub fn are_live(words: &[String]) -> bool
-    ensures { IsTrue result ↔ AreLive words.now }
+/// What is written of a plan that was run by threads: its report, or its image.
+#[derive(Clone, Copy, Debug, PartialEq, Eq)]
+pub enum LiveForm {
+    Live,
+    Record,
+}
+
+/// The form of a run by threads that the words ask for: `live` or `record`, and no more. It takes no memory.
+pub fn live_form_of(words: &[String]) -> Option<LiveForm>
+    ensures some { (form : LiveForm) → result ≡ Some form → AskLive words.now form }
+    ensures none { result ≡ None → AreLive words.now → ⊥ }
 {
     match words {
-        [word] => word.as_str() == "live",
-        _ => false,
+        [word] => live_form_named(word.as_str()),
+        _ => None,
+    }
+}
+
+/// The form that a word alone asks for.
+fn live_form_named(word: &str) -> Option<LiveForm>
+    ensures some { (form : LiveForm) → result ≡ Some form → word.now ≡ live_word form }
+    ensures none { result ≡ None → (form : LiveForm) → word.now ≡ live_word form → ⊥ }
+{
+    match word {
+        "live" => Some(LiveForm::Live),
+        "record" => Some(LiveForm::Record),
+        _ => None,
     }
 }

@@ -6,7 +6,7 @@ ghost use Rattle.afr_words.specs.Forms.{AreForm, AreRefused, AreWordsOf, AskFor}
 ghost use Rattle.afr_words.specs.Reading.{bare_program, whole_program};
 
 use crate::form::{Form, form_named};
-use crate::load::load_asked;
+use crate::numbered::{load_asked, replay_asked};
 use crate::refused::are_refused;
 use afr_base::NoMemory;
 use clap::error::ErrorKind;
@@ -24,6 +24,9 @@ pub fn form_of(alloc: Global, words: &[String]) -> Result<Option<Form>, NoMemory
     }
     if let Some(number) = load_asked(words) {
         return Ok(Some(Form::Gen(number)));
+    }
+    if let Some(turns) = replay_asked(words) {
+        return Ok(Some(Form::Replay(turns)));
     }
     match program(alloc)?.try_get_matches_from(words) {
         Ok(matches) => Ok(form_met(&matches)),

@@ -1,8 +1,9 @@
 -- What was written of a run, the text that was cut off, and what a source that tells its bytes is answered with.
-use Rattle.std.proofs.Common.{sym, ◌∙◌, inl, inr, arith}
+use Rattle.std.proofs.Common.{sym, refl, ◌∙◌, inl, inr, arith}
 use Rattle.afr_words.specs.declared.form.Form.TheVariants as kind
-use Rattle.afr_cli.proofs.FormLemmas.{is_unread, plan_is_spelled, reads_too}
-use Rattle.afr_cli.proofs.StatusLemmas.{other_status, planned_or_none, reports, stops_at_usage}
+use Rattle.afr_cli.proofs.FormLemmas.{is_load, no_replay, plan_is_spelled, reading_is_not, reads_too, replay_is, replay_or_not}
+use Rattle.afr_cli.proofs.ReplayLemmas.{no_status, not_ended, refuses_image, replays}
+use Rattle.afr_cli.proofs.StatusLemmas.{nothing_ordered, other_status, planned_or_none, reports, stops_at_usage}
 use Rattle.afr_cli.proofs.ToldLemmas.{refuses, runs}
 use Rattle.afr_cli.proofs.program.afr_top.Goals.{in-Ok-Some, in-Ok-None, in-Err}
 use Rattle.afr_cli.proofs.program.afr_top.Goals as goal
@@ -28,9 +29,9 @@ returns-clause-unfinished g c = elim c.match-form_of.branch [
 
 pub returns-clause-short : goal.returns-clause-short
 returns-clause-short g c = elim c.match-form_of.branch [
-  | in-Ok-Some w ↦ λ e. rw w.volume-is (w.serve-status.ensures.short (sym w.status-is ∙ e))
-  | in-Ok-None w ↦ λ e. absurd (other_status _ _ 7 _ w.answer-status.ensures.whole (λ h. cc) (λ h. cc) (sym w.status-is ∙ e))
-  | in-Err w ↦ λ e. absurd (omega (arith, w.status-is, e))
+  | in-Ok-Some w ↦ λ e none. rw w.volume-is (w.serve-status.ensures.short (sym w.status-is ∙ e) (no_replay c.args.words.now _ (w.in-Ok-Some.ensures.some w.in-Ok-Some.form cc) none))
+  | in-Ok-None w ↦ λ e none. absurd (other_status _ _ 7 _ w.answer-status.ensures.whole (λ h. cc) (λ h. cc) (sym w.status-is ∙ e))
+  | in-Err w ↦ λ e none. absurd (omega (arith, w.status-is, e))
 ]
 
 pub returns-clause-write : goal.returns-clause-write
@@ -44,8 +45,8 @@ returns-clause-write g c = elim c.match-form_of.branch [
 
 pub returns-clause-generated : goal.returns-clause-generated
 returns-clause-generated g c = λ n. elim c.match-form_of.branch [
-  | in-Ok-Some w ↦ λ load. let asked = is_unread c.args.words.now n _ load (w.in-Ok-Some.ensures.some w.in-Ok-Some.form cc) in
-      (rw w.source-is (w.serve-status.ensures.unread asked), rw w.status-is (w.serve-status.ensures.generated asked))
+  | in-Ok-Some w ↦ λ load. let (m, is) = is_load c.args.words.now n _ load (w.in-Ok-Some.ensures.some w.in-Ok-Some.form cc) in
+      rw (w.source-is, w.status-is) (w.serve-status.ensures.generated m is)
   | in-Ok-None w ↦ let none = w.in-Ok-None.ensures.none cc in λ load. (w.source-is, inr (inr (absurd (none (kind.Gen n, load)))))
   | in-Err w ↦ λ load. (w.source-is, inr (inr w.status-is))
 ]
@@ -54,7 +55,7 @@ pub returns-clause-faulty : goal.returns-clause-faulty
 returns-clause-faulty g c = λ bytes fault. elim c.match-form_of.branch [
   | in-Ok-Some w ↦ λ given wrong. let r = w.serve-status.ensures in
       let reading = reads_too c.args.words.now _ given.asked.form (w.in-Ok-Some.ensures.some w.in-Ok-Some.form cc) given.asked.asked given.asked.reading in
-      rw (w.status-is, w.sink-is) (refuses bytes _ _ _ _ _ _ given.told fault wrong r.few (λ e. plan_is_spelled _ _ _ _ reading (r.ok e).0) (λ e. (r.refused e).0) (λ e. given.sound (rw w.source-is (r.read e).0)) (λ e. plan_is_spelled _ _ _ _ reading (r.unfinished e).0))
+      rw (w.status-is, w.sink-is) (refuses bytes _ _ _ _ _ _ given.told fault wrong (r.others (reading_is_not _ reading)) (λ e. plan_is_spelled _ _ _ _ reading (r.ok e).0) (λ e. (r.refused e).0) (λ e. given.sound (rw w.source-is (r.read e).0)) (λ e. plan_is_spelled _ _ _ _ reading (r.unfinished e).0))
   | in-Ok-None w ↦ let none = w.in-Ok-None.ensures.none cc in λ given wrong. inr (inr (absurd (none (given.asked.form, given.asked.asked))))
   | in-Err w ↦ λ given wrong. inr (inr w.status-is)
 ]
@@ -62,7 +63,8 @@ returns-clause-faulty g c = λ bytes fault. elim c.match-form_of.branch [
 pub returns-clause-spelled : goal.returns-clause-spelled
 returns-clause-spelled g c = λ bytes plan. elim c.match-form_of.branch [
   | in-Ok-Some w ↦ λ given few spells. let r = w.serve-status.ensures in
-      rw w.status-is (runs bytes _ _ _ _ _ plan given.told plan few spells r.few (λ e. (r.refused e).0) (λ e. given.sound (rw w.source-is (r.read e).0)))
+      let reading = reads_too c.args.words.now _ given.asked.form (w.in-Ok-Some.ensures.some w.in-Ok-Some.form cc) given.asked.asked given.asked.reading in
+      rw w.status-is (runs bytes _ _ _ _ _ plan given.told plan few spells (r.others (reading_is_not _ reading)) (λ e. (r.refused e).0) (λ e. given.sound (rw w.source-is (r.read e).0)))
   | in-Ok-None w ↦ let none = w.in-Ok-None.ensures.none cc in λ given few spells. inr (inr (inr (absurd (none (given.asked.form, given.asked.asked)))))
   | in-Err w ↦ λ given few spells. inr (inr (inr w.status-is))
 ]
@@ -72,4 +74,66 @@ returns-clause-plan g c = elim c.match-form_of.branch [
   | in-Ok-Some w ↦ rw (w.source-is, w.volume-is) (planned_or_none c.args.words.now _ _ _ _ (w.in-Ok-Some.ensures.some w.in-Ok-Some.form cc) w.serve-status.ensures.plan)
   | in-Ok-None w ↦ inl (w.volume-is ∙ c.requires.fresh)
   | in-Err w ↦ inl (w.volume-is ∙ c.requires.fresh)
+]
+
+pub returns-clause-ordered : goal.returns-clause-ordered
+returns-clause-ordered g c = elim c.match-form_of.branch [
+  | in-Ok-Some w ↦ λ none. rw w.volume-is (w.serve-status.ensures.ordered (no_replay c.args.words.now _ (w.in-Ok-Some.ensures.some w.in-Ok-Some.form cc) none))
+  | in-Ok-None w ↦ λ none. nothing_ordered _ (w.volume-is ∙ c.requires.fresh)
+  | in-Err w ↦ λ none. nothing_ordered _ (w.volume-is ∙ c.requires.fresh)
+]
+
+pub returns-clause-repeats : goal.returns-clause-repeats
+returns-clause-repeats g c = λ turns. elim c.match-form_of.branch [
+  | in-Ok-Some w ↦ λ replay ended. let is = replay_is c.args.words.now turns _ replay (w.in-Ok-Some.ensures.some w.in-Ok-Some.form cc) in
+      rw (w.source-is, w.volume-is) (w.serve-status.ensures.repeats turns is (rw w.status-is at ended))
+  | in-Ok-None w ↦ let none = w.in-Ok-None.ensures.none cc in λ replay ended. absurd (none (kind.Replay turns, replay))
+  | in-Err w ↦ λ replay ended. absurd (not_ended _ w.status-is ended)
+]
+
+pub returns-clause-image : goal.returns-clause-image
+returns-clause-image g c = elim c.match-form_of.branch [
+  | in-Ok-Some w ↦ λ e. let nine = sym w.status-is ∙ e in let r = w.serve-status.ensures in elim (replay_or_not w.in-Ok-Some.form) [
+    | inl (turns, is) ↦ let refused = r.image turns is nine in
+        rw (w.source-is, w.sink-is, w.volume-is) (turns, rw is at (w.in-Ok-Some.ensures.some w.in-Ok-Some.form cc), refused.0, refused.1)
+    | inr other ↦ absurd (no_status _ 9 (inl refl) (r.others other) nine)
+  ]
+  | in-Ok-None w ↦ λ e. absurd (other_status _ _ 9 _ w.answer-status.ensures.whole (λ h. cc) (λ h. cc) (sym w.status-is ∙ e))
+  | in-Err w ↦ λ e. absurd (omega (arith, w.status-is, e))
+]
+
+pub returns-clause-differs : goal.returns-clause-differs
+returns-clause-differs g c = elim c.match-form_of.branch [
+  | in-Ok-Some w ↦ λ e. let ten = sym w.status-is ∙ e in let r = w.serve-status.ensures in elim (replay_or_not w.in-Ok-Some.form) [
+    | inl (turns, is) ↦ rw (w.source-is, w.sink-is, w.volume-is) (turns, rw is at (w.in-Ok-Some.ensures.some w.in-Ok-Some.form cc), r.differs turns is ten)
+    | inr other ↦ absurd (no_status _ 10 (inr refl) (r.others other) ten)
+  ]
+  | in-Ok-None w ↦ λ e. absurd (other_status _ _ 10 _ w.answer-status.ensures.whole (λ h. cc) (λ h. cc) (sym w.status-is ∙ e))
+  | in-Err w ↦ λ e. absurd (omega (arith, w.status-is, e))
+]
+
+pub returns-clause-replay : goal.returns-clause-replay
+returns-clause-replay g c = elim c.match-form_of.branch [
+  | in-Ok-Some w ↦ λ replay. let is = replay_is c.args.words.now replay.0 _ replay.1 (w.in-Ok-Some.ensures.some w.in-Ok-Some.form cc) in
+      rw w.status-is (w.serve-status.ensures.replay replay.0 is)
+  | in-Ok-None w ↦ let none = w.in-Ok-None.ensures.none cc in λ replay. absurd (none (kind.Replay replay.0, replay.1))
+  | in-Err w ↦ λ replay. inr (inr (inr (inl w.status-is)))
+]
+
+pub returns-clause-faulty_image : goal.returns-clause-faulty_image
+returns-clause-faulty_image g c = λ turns bytes fault. elim c.match-form_of.branch [
+  | in-Ok-Some w ↦ λ given wrong. let r = w.serve-status.ensures in
+      let is = replay_is c.args.words.now turns _ given.asked (w.in-Ok-Some.ensures.some w.in-Ok-Some.form cc) in
+      rw (w.status-is, w.sink-is) (refuses_image turns bytes _ _ _ _ _ _ given.told fault wrong (r.replay turns is) (r.repeats turns is) (λ four. given.sound (rw w.source-is (r.read four).0)) (λ nine. (r.image turns is nine).0) (r.differs turns is))
+  | in-Ok-None w ↦ let none = w.in-Ok-None.ensures.none cc in λ given wrong. absurd (none (kind.Replay turns, given.asked))
+  | in-Err w ↦ λ given wrong. inr (inr w.status-is)
+]
+
+pub returns-clause-imaged : goal.returns-clause-imaged
+returns-clause-imaged g c = λ turns bytes image. elim c.match-form_of.branch [
+  | in-Ok-Some w ↦ λ given few spelled. let r = w.serve-status.ensures in
+      let is = replay_is c.args.words.now turns _ given.asked (w.in-Ok-Some.ensures.some w.in-Ok-Some.form cc) in
+      rw w.status-is (replays turns bytes _ _ _ _ _ w.serve-status.new.volume given.told image few spelled (r.replay turns is) (λ four. given.sound (rw w.source-is (r.read four).0)) (λ nine. (r.image turns is nine).0))
+  | in-Ok-None w ↦ let none = w.in-Ok-None.ensures.none cc in λ given few spelled. absurd (none (kind.Replay turns, given.asked))
+  | in-Err w ↦ λ given few spelled. inr (inr (inr (inr w.status-is)))
 ]

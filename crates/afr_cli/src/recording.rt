@@ -1,0 +1,61 @@
+//! What is written of a run by threads.
+ghost use Rattle.std.specs.Prelude.{◌≡◌, ◌⊎◌, ◌≤◌, ◌<◌, ◌^◌, IfOk, length};
+ghost use Rattle.std.specs.Io.KnownBytes.{Appends};
+ghost use Rattle.afr_text.specs.Causes.{Rose};
+ghost use Rattle.afr_text.specs.Parts.{AppendsFront};
+ghost use Rattle.afr_model.specs.Complete.{IsComplete};
+ghost use Rattle.afr_plan_print.specs.PrintedPlan.{plan_text};
+ghost use Rattle.afr_cli.specs.Live.{image_text, text_live};
+ghost use Rattle.afr_cli.specs.Statuses.{AreDone, IsFull, IsOver, IsWorkLeft};
+
+use crate::running::finish;
+use crate::status::Status;
+use afr_base::NoMemory;
+use afr_image::{print_run, steps_of};
+use afr_report::report_text;
+use afr_text::Sink;
+use afr_volume::Volume;
+use afr_words::LiveForm;
+use std::alloc::Global;
+
+/// Writes the text of the form of a run by threads that is over, and answers how it ended.
+pub fn tell_live<K: Sink>(alloc: Global, form: LiveForm, sink: &mut K, volume: &Volume) -> u8
+    requires short { length (plan_text volume.now.plan) < 2 ^ 32 }
+    requires actors { length volume.now.plan.healers ≤ 16 }
+    requires complete { IsComplete volume.now.plan volume.now.log }
+    ensures few { (result ≡ 0) ⊎ (result ≡ 5) ⊎ (result ≡ 6) ⊎ (result ≡ 7) }
+    ensures ok { result ≡ 0 → AreDone volume.now.plan volume.now.log }
+    ensures unfinished { result ≡ 7 → Appends (K.taken sink.old) (K.taken sink.new) (text_live form volume.now.plan volume.now.log)
+        × IsFull volume.now.plan volume.now.log × IsWorkLeft volume.now.plan volume.now.log }
+    ensures text { result ≡ 0 → Appends (K.taken sink.old) (K.taken sink.new) (text_live form volume.now.plan volume.now.log) }
+    ensures write { result ≡ 5 → Rose (K.faults sink.old) (K.faults sink.new) × AppendsFront (K.taken sink.old) (K.taken sink.new) (text_live form volume.now.plan volume.now.log)
+        × IsOver volume.now.plan volume.now.log }
+    ensures memory { result ≡ 6 → sink.new ≡ sink.old }
+{
+    match text_live(alloc, form, volume) {
+        Ok(text) => finish(sink, text.as_slice(), volume),
+        Err(_) => Status::NoMemory as u8,
+    }
+}
+
+/// The text that the form writes of the volume as it stands.
+fn text_live(alloc: Global, form: LiveForm, volume: &Volume) -> Result<Vec<u8>, NoMemory>
+    requires { length (plan_text volume.now.plan) < 2 ^ 32 }
+    ensures ok { IfOk result (λ text. text.items ≡ text_live form volume.now.plan volume.now.log) }
+{
+    match form {
+        LiveForm::Live => Ok(report_text(alloc, volume)?.into_bytes()),
+        LiveForm::Record => image_text(alloc, volume),
+    }
+}
+
+/// The bytes of the image of the volume as it stands. The plan isn't copied.
+fn image_text(alloc: Global, volume: &Volume) -> Result<Vec<u8>, NoMemory>
+    requires { length (plan_text volume.now.plan) < 2 ^ 32 }
+    ensures ok { IfOk result (λ text. text.items ≡ image_text volume.now.plan volume.now.log) }
+{
+    volume.every_line();
+    let steps = steps_of(alloc, volume.lines())?;
+    let text = print_run(alloc, volume.plan(), steps.as_slice())?;
+    Ok(text)
+}
