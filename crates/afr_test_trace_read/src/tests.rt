@@ -66,6 +66,12 @@ const LINES: &str = "\
 39 c1 b0 look g16 absent
 40 c1 b0 look f2 gone
 41 c1 end half
+42 c1 end ok 68656c6c6f
+43 c1 end ok -
+44 c1 end ok draft
+45 c1 end ok a d f1
+46 c1 end ok file 00000000-0000-0001-0000-000000000001 5
+47 c1 end ok dir 00000000-0000-0000-0000-000000000009
 ";
 
 /// Texts that no line has at position 7.
@@ -93,6 +99,16 @@ const OTHERS: &str = "\
 7 h1 b0 settle f1 data 1 0 0 1 0 0 done
 7 h1 b0 settle f1 data done
 7 c1 begin heal
+7 c1 end ok 
+7 c1 end ok 6
+7 c1 end ok 6A
+7 c1 end ok f1 a
+7 c1 end ok a a
+7 c1 end ok nobody
+7 c1 end ok file 00000000-0000-0001-0000-000000000001
+7 c1 end ok file 000000000000000100000000000000010000 5
+7 c1 end ok dir 00000000-0000-0000-0000-000000000009 0
+7 c1 end half -
 7 event
 ";
 
@@ -150,7 +166,7 @@ fn other_texts_are_of_no_line(rt: HostRuntime) -> Result<(), Fail> {
 fn a_trace_is_read_up_to_its_first_other_text(rt: HostRuntime) -> Result<(), Fail> {
     let plan = plan(rt.alloc())?;
     let (count, broken) = told(rt.alloc(), &plan, lines())?;
-    assert!(rt; count == 42 && !broken);
+    assert!(rt; count == 48 && !broken);
     let (count, broken) = told(rt.alloc(), &plan, "0 c1 b0 index ok\n1 c1 b0 index")?;
     assert!(rt; count == 1 && broken);
     let (count, broken) = told(rt.alloc(), &plan, "0 c1 b0 index ok\n2 c1 b0 index ok\n")?;

@@ -14,12 +14,12 @@ use Rattle.afr_trace_read.specs.Reading.{numbered_at, answered_at, set_of, make_
 use Rattle.afr_trace_read.specs.Texts.{answered_text, changing_text, healed_end, replied_text}
 use Rattle.afr_trace_read.specs.declared.kinds.Answered.{Answered}
 use Rattle.afr_trace_read.specs.declared.kinds.Answered.TheVariants as answered
-use Rattle.afr_trace_read.specs.declared.kinds.Changing.{Changing}
-use Rattle.afr_trace_read.specs.declared.kinds.Changing.TheVariants as changing
+use Rattle.afr_trace_read.specs.declared.kinds.SpelledChange.{SpelledChange}
+use Rattle.afr_trace_read.specs.declared.kinds.SpelledChange.TheVariants as changing
 use Rattle.afr_trace_read.specs.declared.kinds.Healed.{Healed}
 use Rattle.afr_trace_read.specs.declared.kinds.Healed.TheVariants as healed
-use Rattle.afr_trace_read.specs.declared.kinds.Replied.{Replied}
-use Rattle.afr_trace_read.specs.declared.kinds.Replied.TheVariants as replied
+use Rattle.afr_trace_read.specs.declared.kinds.SpelledReply.{SpelledReply}
+use Rattle.afr_trace_read.specs.declared.kinds.SpelledReply.TheVariants as replied
 use Rattle.afr_trace_read.specs.Fit.{Always, IsGfid, IsNameOf, IsKeyOf, IsValueOf, IsAnswered, IsChanging, IsHealed}
 use Rattle.afr_trace_read.proofs.Laws.{Takes, Again, word-takes, word_then-takes, word_then-again, both-takes, both-again, then_word-takes, then_word-again, as-takes, as-again, either-takes}
 use Rattle.afr_trace_read.proofs.NumberLaws.{number-takes, number-again}
@@ -95,7 +95,7 @@ changing-takes p = either-takes _ _ _ _ (as-takes write_of _ _ _ _ _ (both-takes
     either-takes _ _ _ _ (as-takes make_of _ _ _ _ _ (both-takes _ _ _ _ _ _ (then_word-takes _ (codes " ") _ _ (both-takes _ _ _ _ _ _ made-takes (named-takes p))) (object-takes p)) (λ x ok. (ok, refl))) (
     as-takes remove_of _ _ _ _ _ (both-takes _ _ _ _ _ _ removed-takes (named-takes p)) (λ x ok. (ok, refl))))))
 
-read_changing : (p : Plan) → p.files < 2 ^ 32 → (x : Changing) (rest : List ℕ) → IsChanging p x → Stops name_byte rest → changing_at p (changing_text p x ++ rest) ≡ Some (x, rest)
+read_changing : (p : Plan) → p.files < 2 ^ 32 → (x : SpelledChange) (rest : List ℕ) → IsChanging p x → Stops name_byte rest → changing_at p (changing_text p x ++ rest) ≡ Some (x, rest)
 unfolding changing_at numbered_at made_at removed_at
 read_changing p few (changing.Write g at len) rest ok n = first_of _ _ _ (as-again write_of _ _ _ _ (both-again _ _ _ _ _ _ Any (Stops digit) (then_word-again _ (codes " ") _ _ (Stops digit) (numbered-again p (codes "write ") (codes " ") few (λ rest. refl)) (λ rest. refl)) (number-again (2 ^ 64) (omega arith)) (λ y rest ok n. tt)) ((g, at), len) rest ok (name_then_digit rest n))
 read_changing p few (changing.Cut g len) rest ok n = first_of _ _ _ (as-again cut_change_of _ _ _ _ (numbered-again p (codes "cut ") (codes " ") few (λ rest. refl)) (g, len) rest ok (name_then_digit rest n))
@@ -133,7 +133,7 @@ healed-again = record { read = read_healed }
 
 pub replied-takes : Takes replied_at replied_text Always
 unfolding replied_at
-replied-takes = either-takes _ _ _ _ (word-takes (codes "ok") replied.Done _ _ tt refl) (
+replied-takes = either-takes _ _ _ _ (word-takes (codes "ok") replied.Ok _ _ tt refl) (
     either-takes _ _ _ _ (word-takes (codes "no-entry") replied.NoEntry _ _ tt refl) (
     either-takes _ _ _ _ (word-takes (codes "exists") replied.Exists _ _ tt refl) (
     either-takes _ _ _ _ (word-takes (codes "not-dir") replied.NotDir _ _ tt refl) (
@@ -146,9 +146,9 @@ replied-takes = either-takes _ _ _ _ (word-takes (codes "ok") replied.Done _ _ t
     either-takes _ _ _ _ (word-takes (codes "too-large") replied.TooLarge _ _ tt refl) (
     word-takes (codes "half") replied.Half _ _ tt refl)))))))))))
 
-read_replied : (x : Replied) (rest : List ℕ) → Always x → Stops digit rest → replied_at (replied_text x ++ rest) ≡ Some (x, rest)
+read_replied : (x : SpelledReply) (rest : List ℕ) → Always x → Stops digit rest → replied_at (replied_text x ++ rest) ≡ Some (x, rest)
 unfolding replied_at
-read_replied replied.Done rest ok n = refl
+read_replied replied.Ok rest ok n = refl
 read_replied replied.NoEntry rest ok n = refl
 read_replied replied.Exists rest ok n = refl
 read_replied replied.NotDir rest ok n = refl

@@ -13,12 +13,12 @@ use Rattle.afr_trace_read.specs.Forms.{then_word, number_below}
 use Rattle.afr_trace_read.specs.Parts.{brick_at, brick_of, kind_at}
 use Rattle.afr_trace_read.specs.Reading.{asked_at, answered_at, healed_at, ask_of, heal_begin_of, heal_end_of, about_at, doing_at}
 use Rattle.afr_trace_read.specs.Texts.{asked_text, answered_text, changing_text, replied_text, doing_text}
-use Rattle.afr_trace_read.specs.declared.kinds.Asked.{Asked}
+use Rattle.afr_trace_read.specs.declared.kinds.SpelledRequest.{SpelledRequest}
 use Rattle.afr_trace_read.specs.declared.kinds.Answered.{Answered}
-use Rattle.afr_trace_read.specs.declared.kinds.Changing.{Changing}
-use Rattle.afr_trace_read.specs.declared.kinds.Changing.TheVariants as changing
-use Rattle.afr_trace_read.specs.declared.kinds.Replied.{Replied}
-use Rattle.afr_trace_read.specs.declared.kinds.Replied.TheVariants as replied
+use Rattle.afr_trace_read.specs.declared.kinds.SpelledChange.{SpelledChange}
+use Rattle.afr_trace_read.specs.declared.kinds.SpelledChange.TheVariants as changing
+use Rattle.afr_trace_read.specs.declared.kinds.SpelledReply.{SpelledReply}
+use Rattle.afr_trace_read.specs.declared.kinds.SpelledReply.TheVariants as replied
 use Rattle.afr_trace_read.specs.declared.kinds.Doing.{Doing}
 use Rattle.afr_trace_read.specs.declared.kinds.Doing.TheVariants as doing
 use Rattle.afr_trace_read.specs.Fit.{Always, IsBrick, IsGfid, IsAsked, IsAnswered, IsDoing}
@@ -37,7 +37,7 @@ about-again : (p : Plan) (w : List ℕ) → p.files < 2 ^ 32 → Again (about_at
 unfolding about_at
 about-again p w few = both-again _ _ _ _ _ _ Any (Stops digit) (then_word-again _ (codes " ") _ _ Any (word_then-again w _ _ _ _ kind-again) (λ rest. tt)) (object-again p few) (λ y rest ok n. tt)
 
-abbrev ask_at : Plan → Reader ((BrickId × Asked) × Answered)
+abbrev ask_at : Plan → Reader ((BrickId × SpelledRequest) × Answered)
 ask_at p = both (then_word (both (then_word (word_then (codes " b") brick_at) (codes " ")) (asked_at p)) (codes " ")) answered_at
 
 ask-takes : (p : Plan) → Takes (ask_at p) (λ x. codes " b" ++ decimal x.0.0.0 ++ codes " " ++ asked_text p x.0.1 ++ codes " " ++ answered_text x.1) (λ x. (IsBrick x.0.0 × IsAsked p x.0.1) × IsAnswered x.1)
@@ -56,7 +56,7 @@ no_ask : (p : Plan) (rest : List ℕ) → as_a ask_of (ask_at p) (codes " begin 
 no_ask p rest =
     let xs : List ℕ = codes " begin " ++ rest in
     let brick : Reader BrickId = word_then (codes " b") brick_at in
-    let asks : Reader (BrickId × Asked) = both (then_word brick (codes " ")) (asked_at p) in
+    let asks : Reader (BrickId × SpelledRequest) = both (then_word brick (codes " ")) (asked_at p) in
     as-none ask_of (ask_at p) xs (both-none (then_word asks (codes " ")) answered_at xs (then_word-none asks (codes " ") xs (both-none (then_word brick (codes " ")) (asked_at p) xs (then_word-none brick (codes " ") xs (no_brick rest)))))
 
 pub doing-takes : (p : Plan) → Takes (doing_at p) (doing_text p) (IsDoing p)
@@ -67,7 +67,7 @@ doing-takes p = either-takes _ _ _ _ (as-takes ask_of _ _ _ _ _ (ask-takes p) (�
     either-takes _ _ _ _ (as-takes heal_end_of _ _ _ _ _ (both-takes _ _ _ _ _ _ (then_word-takes _ (codes " ") _ _ (about-takes p (codes " end "))) healed-takes) (λ x ok. (ok, refl))) (
     as-takes doing.End _ _ _ _ _ (word_then-takes (codes " end ") _ _ _ replied-takes) (λ x ok. (ok, refl))))))
 
-no_heal_begin : (p : Plan) (c : Changing) (rest : List ℕ) → as_a heal_begin_of (about_at p (codes " begin heal ")) ((codes " begin " ++ changing_text p c) ++ rest) ≡ None
+no_heal_begin : (p : Plan) (c : SpelledChange) (rest : List ℕ) → as_a heal_begin_of (about_at p (codes " begin heal ")) ((codes " begin " ++ changing_text p c) ++ rest) ≡ None
 unfolding about_at
 no_heal_begin p (changing.Write g at len) rest = refl
 no_heal_begin p (changing.Cut g len) rest = refl
@@ -77,9 +77,9 @@ no_heal_begin p (changing.Make Dir dir name g) rest = refl
 no_heal_begin p (changing.Remove File dir name) rest = refl
 no_heal_begin p (changing.Remove Dir dir name) rest = refl
 
-no_heal_end : (p : Plan) (x : Replied) (rest : List ℕ) → as_a heal_end_of (both (then_word (about_at p (codes " end ")) (codes " ")) healed_at) ((codes " end " ++ replied_text x) ++ rest) ≡ None
+no_heal_end : (p : Plan) (x : SpelledReply) (rest : List ℕ) → as_a heal_end_of (both (then_word (about_at p (codes " end ")) (codes " ")) healed_at) ((codes " end " ++ replied_text x) ++ rest) ≡ None
 unfolding about_at kind_at
-no_heal_end p replied.Done rest = refl
+no_heal_end p replied.Ok rest = refl
 no_heal_end p replied.NoEntry rest = refl
 no_heal_end p replied.Exists rest = refl
 no_heal_end p replied.NotDir rest = refl

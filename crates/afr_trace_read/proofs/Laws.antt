@@ -3,7 +3,7 @@ use Rattle.std.proofs.Common.{false, ◌≡◌, ◌∷◌, inl, inr, ℕ, List, 
 use Rattle.std.proofs.lemmas.List.{append-nil}
 use Rattle.afr_plan.specs.Reading.{after, Reader, give, give_as, as_a, all_used, whole, pair, then_pair, word, word_then, both, or_else, either}
 use Rattle.afr_trace_read.specs.Forms.{skip_then, then_word, that_passes, such_that}
-use Rattle.afr_plan_read.proofs.Laws.{Stops, Any, bind_some, checked_some, after_takes, after_again, or_some}
+use Rattle.afr_plan_read.proofs.Laws.{Stops, Any, bind_some, checked_some, after_takes, after_again, joined, or_some, used_all}
 
 -- what a reader takes has a good value, and is its text
 pub record Takes {A : Type 0} (r : Reader A) (T : A → List ℕ) (Ok : A → Type 0) : Type 0 where
@@ -21,10 +21,6 @@ IsSpaced (x ∷ xs) = x ≡ 32
 pub spaced_stops : (p : ℕ → Bool) → p 32 ≡ false → (rest : List ℕ) → IsSpaced rest → Stops p rest
 spaced_stops p e [] n = absurd n
 spaced_stops p e (x ∷ xs) n = subst (λ (y : ℕ). p y ≡ false) (sym n) e
-
--- two fronts, one after the other
-joined : (xs u r v q : List ℕ) → xs ≡ u ++ r → r ≡ v ++ q → xs ≡ (u ++ v) ++ q
-joined xs u r v q e f = e ∙ ap (λ (t : List ℕ). u ++ t) f ∙ sym (append_assoc u v q)
 
 -- ---- a fixed value
 pub give-takes : {A : Type 0} (a : A) (T : A → List ℕ) (Ok : A → Type 0) → Ok a → T a ≡ [] → Takes (give a) T Ok
@@ -155,10 +151,6 @@ either-takes {A} r q T Ok tr tq = record {
 }
 
 -- ---- all of a line
-used_all : {A : Type 0} (a x : A) (rest : List ℕ) → all_used (a, rest) ≡ Some x → (a ≡ x) × (rest ≡ [])
-used_all a x [] e = (cc, refl)
-used_all a x (b ∷ bs) e = absurd (cc)
-
 pub whole-takes : {A : Type 0} (r : Reader A) (T : A → List ℕ) (Ok : A → Type 0) → Takes r T Ok → (line : List ℕ) (x : A) → whole r line ≡ Some x → Ok x × (line ≡ T x)
 whole-takes {A} r T Ok t line x e =
     let s = bind_some (r line) all_used x e in

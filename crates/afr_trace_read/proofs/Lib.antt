@@ -8,6 +8,10 @@ pub mod PartLaws
 pub mod SpanLaws
 pub mod RequestLaws
 pub mod ChangeLaws
+pub mod ContentsLaws
+pub mod NamesLaws
+pub mod OrderLaws
+pub mod GivenLaws
 pub mod DoingLaws
 pub mod LineLaws
 pub mod StandsLaws

@@ -23,8 +23,8 @@ use Rattle.afr_trace_read.proofs.NumberLaws.{small-takes, small-again, number-ta
 use Rattle.afr_trace_read.specs.Parts.{object_at, kind_at}
 use Rattle.afr_trace_read.specs.Reading.{post_of, put_names_of, settle_of, lock_of, unlock_of, covered_at, in_order, range_at, read_of, copy_of, pre_of, cut_to_of, put_of, numbered_at, reading_at, stepping_at, mending_at, asked_at, read_name_of, read_attr_of}
 use Rattle.afr_trace_read.specs.Texts.{asked_text}
-use Rattle.afr_trace_read.specs.declared.kinds.Asked.{Asked}
-use Rattle.afr_trace_read.specs.declared.kinds.Asked.TheVariants as asked
+use Rattle.afr_trace_read.specs.declared.kinds.SpelledRequest.{SpelledRequest}
+use Rattle.afr_trace_read.specs.declared.kinds.SpelledRequest.TheVariants as asked
 use Rattle.afr_trace_read.specs.Fit.{Always, AreMarks, IsGfid, IsAsked}
 use Rattle.afr_trace_read.proofs.Laws.{IsSpaced, spaced_stops, Takes, Again, word-takes, word_then-takes, word_then-again, both-takes, both-again, then_word-takes, then_word-again, such_that-takes, such_that-again, as-takes, as-again, either-takes}
 use Rattle.afr_trace_read.proofs.PartLaws.{object-takes, object-again, kind-takes, kind-again, named-takes, named-again, keyed-takes, keyed-again}
@@ -150,7 +150,7 @@ pub asked-takes : (p : Plan) → Takes (asked_at p) (asked_text p) (IsAsked p)
 unfolding asked_at
 asked-takes p = either-takes _ _ _ _ (reading-takes p) (either-takes _ _ _ _ (stepping-takes p) (mending-takes p))
 
-read_asked : (p : Plan) → p.files < 2 ^ 32 → (x : Asked) (rest : List ℕ) → IsAsked p x → IsSpaced rest → asked_at p (asked_text p x ++ rest) ≡ Some (x, rest)
+read_asked : (p : Plan) → p.files < 2 ^ 32 → (x : SpelledRequest) (rest : List ℕ) → IsAsked p x → IsSpaced rest → asked_at p (asked_text p x ++ rest) ≡ Some (x, rest)
 unfolding asked_at reading_at stepping_at mending_at covered_at numbered_at
 read_asked p few (asked.Look g) rest ok n = first_of _ _ _ (first_of _ _ _ (as-again asked.Look _ _ _ _ (object_about p (codes "look ") few) g rest ok (spaced_stops digit refl rest n)))
 read_asked p few (asked.Lock d g s) rest ok n = first_of _ _ _ (first_of _ _ _ (as-again lock_of _ _ _ _ (covered-again p (codes "lock ") few) ((d, g), s) rest ok (spaced_stops name_byte refl rest n)))

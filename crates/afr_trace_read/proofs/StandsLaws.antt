@@ -1,17 +1,21 @@
 -- The text of a line of the log is the text of what it says.
-use Rattle.std.proofs.Common.{◌≤◌, [], ◌∷◌, take, length, zero, suc, not, nat_le, arith, filter, ◌≡◌, ℕ, ◌^◌, ◌==◌, List, ◌++◌, Option, Some, None, refl, sym, ap, ◌∙◌, codes, Bool, true, false, cond, append_assoc}
+use Rattle.std.proofs.Common.{◌≤◌, [], ◌∷◌, drop, take, length, zero, suc, not, nat_le, arith, filter, ◌≡◌, ℕ, ◌^◌, ◌==◌, List, ◌++◌, Option, Some, None, refl, sym, ap, ◌∙◌, codes, Bool, true, false, cond, append_assoc}
 use Rattle.std.specs.Prelude.{decimal, flat_map, slice_index_or, IfSome, option_map}
 use Rattle.std.proofs.lemmas.Bool.Decides.{nat_tests}
+use Rattle.std.proofs.lemmas.List.{append-nil}
 use Rattle.afr_base.specs.Bricks.{all_five, member, is_nothing}
 use Rattle.afr_plan.specs.Reading.{checked}
 use Rattle.afr_report_trace.specs.Numbers.{bricks_text, given, with_commas}
+use Rattle.afr_trace_read.specs.Contents.{contents_text}
 use Rattle.afr_trace_read.specs.Lists.{flags_of}
 use Rattle.afr_trace_read.proofs.MissedLaws.{set_commas, five_is_set}
-use Rattle.afr_trace_read.specs.Stands.{filled, reads_from, blanked, missed_from, span_from, asked_of, answered_of, changing_of, healed_of, replied_of, by, asks, trace_line_of}
-use Rattle.afr_trace_read.specs.declared.kinds.Asked.TheVariants as asked
+use Rattle.afr_trace_read.specs.Stands.{filled, reads_from, blanked, missed_from, span_from, asked_of, answered_of, changing_of, healed_of, replied_of, by, asks, contents_of, given_text, trace_line_of}
+use Rattle.afr_trace_read.specs.declared.kinds.SpelledRequest.TheVariants as asked
 use Rattle.afr_base.specs.declared.ids.ActorId.{ActorId}
 use Rattle.afr_base.specs.declared.ids.BrickId.{BrickId}
 use Rattle.afr_base.specs.declared.ids.Gfid.{Gfid}
+use Rattle.afr_base.specs.declared.ids.What.{What}
+use Rattle.afr_base.specs.declared.ids.What.TheVariants.{File, Dir}
 use Rattle.afr_object.specs.declared.change.Change.{Change}
 use Rattle.afr_object.specs.declared.change.Change.TheVariants as change
 use Rattle.afr_object.specs.declared.change.Repair.TheVariants as repair
@@ -19,6 +23,7 @@ use Rattle.afr_lines.specs.declared.answer.Told.{Told}
 use Rattle.afr_lines.specs.declared.answer.Told.TheVariants as told
 use Rattle.afr_lines.specs.declared.line.Line.{Line}
 use Rattle.afr_lines.specs.declared.line.Line.TheVariants as line
+use Rattle.afr_lines.specs.declared.reply.Good.{Good}
 use Rattle.afr_lines.specs.declared.reply.Good.TheVariants as good
 use Rattle.afr_lines.specs.declared.reply.HealReply.{HealReply}
 use Rattle.afr_lines.specs.declared.reply.HealReply.TheVariants as heal
@@ -28,16 +33,15 @@ use Rattle.afr_lines.specs.declared.request.Area.TheVariants.{Range, Name}
 use Rattle.afr_lines.specs.declared.request.Request.{Request}
 use Rattle.afr_lines.specs.declared.request.Request.TheVariants as request
 use Rattle.afr_plan.specs.declared.plan.Plan.{Plan}
-use Rattle.afr_model.specs.ReportReplies.{actor_text, heal_text, kind_text, reply_text}
+use Rattle.afr_plan.specs.declared.plan.Words.{Words}
+use Rattle.afr_model.specs.ReportReplies.{actor_text, good_text, heal_text, in_order, kind_text, name_texts, names_text, reply_text, stat_text}
 use Rattle.afr_report_trace.specs.Answers.{told_text}
 use Rattle.afr_report_trace.specs.Changes.{change_text}
 use Rattle.afr_report_trace.specs.Lines.{line_text, said_text}
 use Rattle.afr_report_trace.specs.Objects.{object_text, lock_range_text, range_text}
 use Rattle.afr_report_trace.specs.Requests.{domain_text, request_text}
-use Rattle.afr_trace_read.specs.Texts.{span_text, asked_text, answered_text, changing_text, healed_end, replied_text, content_text, trace_line_text}
-use Rattle.afr_trace_read.specs.declared.kinds.Asked.{Asked}
-use Rattle.afr_trace_read.specs.declared.kinds.Replied.{Replied}
-use Rattle.afr_trace_read.specs.declared.kinds.Doing.TheVariants as doing
+use Rattle.afr_trace_read.specs.Texts.{span_text, asked_text, answered_text, changing_text, healed_end, replied_text, content_text, spelled_text}
+use Rattle.afr_trace_read.specs.declared.kinds.SpelledRequest.{SpelledRequest}
 use Rattle.afr_trace_read.specs.declared.kinds.Span.TheVariants as span
 
 range_parts : (o a f b t : List ℕ) → o ++ a ++ f ++ b ++ t ≡ o ++ (a ++ f ++ b ++ t)
@@ -137,12 +141,26 @@ healed_is heal.Short = refl
 healed_is (heal.Moved b) = refl
 healed_is heal.Failed = refl
 
-replied_is : (p : Plan) (r : Reply) → IfSome (replied_of r) (λ x. reply_text p.words r ≡ replied_text x)
-replied_is p (reply.Ok good.Done) = refl
-replied_is p (reply.Ok (good.Bytes bytes)) = tt
-replied_is p (reply.Ok (good.Names names)) = tt
-replied_is p (reply.Ok (good.Value value)) = tt
-replied_is p (reply.Ok (good.Stat entry len)) = tt
+-- what a command gave, behind the word `ok`
+names_given : (l : List (List ℕ)) → names_text l ≡ codes "ok" ++ drop 2 (names_text l)
+names_given [] = refl
+names_given (s ∷ l) = refl
+
+stat_given : (g : Gfid) (what : What) (len : ℕ) → stat_text (record { gfid = g; what = what }) len ≡ codes "ok" ++ drop 2 (stat_text (record { gfid = g; what = what }) len)
+stat_given g File len = refl
+stat_given g Dir len = refl
+
+good_is : (words : Words) (given : Good) → good_text words given ≡ codes "ok" ++ contents_text words given
+good_is words good.Done = refl
+good_is words (good.Bytes []) = refl
+good_is words (good.Bytes (b ∷ bs)) = refl
+good_is words (good.Names names) = names_given (in_order (name_texts words names))
+good_is words (good.Value None) = refl
+good_is words (good.Value (Some value)) = refl
+good_is words (good.Stat entry len) = stat_given entry.gfid entry.what len
+
+replied_is : (p : Plan) (r : Reply) → reply_text p.words r ≡ replied_text (replied_of r) ++ given_text p r
+replied_is p (reply.Ok given) = good_is p.words given
 replied_is p reply.NoEntry = refl
 replied_is p reply.Exists = refl
 replied_is p reply.NotDir = refl
@@ -164,27 +182,31 @@ begin_parts a b c k s o = rw (append_assoc a b c, append_assoc a (b ++ c) (k ++ 
 end_parts : (a b k s o t h : List ℕ) → a ++ b ++ (k ++ s ++ o) ++ t ++ h ≡ a ++ (b ++ k ++ s ++ o ++ t ++ h)
 end_parts a b k s o t h = rw (append_assoc b k s, append_assoc b (k ++ s) o, append_assoc a b (k ++ s ++ o), append_assoc a (b ++ (k ++ s ++ o)) t, append_assoc a (b ++ (k ++ s ++ o) ++ t) h) refl
 
-ask_is : (p : Plan) (actor : ActorId) (b : BrickId) (r : Request) (t : Told) (took : Bool) (o : Option Asked) → IfSome o (λ a. request_text p r ≡ asked_text p a)
-    → IfSome (option_map (by actor) (option_map (asks b (answered_of t took)) o)) (λ s. said_text p (line.Ask actor b r t took) ≡ content_text p s)
+reply_parts : (a e r g : List ℕ) → a ++ e ++ (r ++ g) ≡ (a ++ (e ++ r)) ++ g
+reply_parts a e r g = rw (append_assoc a (e ++ r) g, append_assoc e r g, append_assoc a e (r ++ g)) refl
+
+-- with nothing behind it
+alone : (xs ys : List ℕ) → xs ≡ ys → xs ≡ ys ++ []
+alone xs ys e = e ∙ sym (append-nil ys)
+
+ask_is : (p : Plan) (actor : ActorId) (b : BrickId) (r : Request) (t : Told) (took : Bool) (o : Option SpelledRequest) → IfSome o (λ a. request_text p r ≡ asked_text p a)
+    → IfSome (option_map (by actor) (option_map (asks b (answered_of t took)) o)) (λ s. said_text p (line.Ask actor b r t took) ≡ content_text p s ++ [])
 ask_is p actor b r t took None h = tt
-ask_is p actor b r t took (Some a) h = rw (h, answered_is t took) (ask_parts (actor_text actor) (codes " b") (decimal b.0) (codes " ") (asked_text p a) (codes " ") (answered_text (answered_of t took)))
+ask_is p actor b r t took (Some a) h = alone _ _ (rw (h, answered_is t took) (ask_parts (actor_text actor) (codes " b") (decimal b.0) (codes " ") (asked_text p a) (codes " ") (answered_text (answered_of t took))))
 
-reply_is : (p : Plan) (actor : ActorId) (r : Reply) (o : Option Replied) → IfSome o (λ x. reply_text p.words r ≡ replied_text x) → IfSome (option_map (by actor) (option_map doing.End o)) (λ s. said_text p (line.End actor r) ≡ content_text p s)
-reply_is p actor r None h = tt
-reply_is p actor r (Some x) h = rw h (append_assoc (actor_text actor) (codes " end ") (replied_text x))
-
-content_is : (p : Plan) (l : Line) → IfSome (trace_line_of p l) (λ s. said_text p l ≡ content_text p s)
+content_is : (p : Plan) (l : Line) → IfSome (trace_line_of p l) (λ s. said_text p l ≡ content_text p s ++ contents_of p l)
 content_is p (line.Ask actor b r t took) = ask_is p actor b r t took (asked_of p r) (asked_is p r)
-content_is p (line.Begin actor c) = rw (changing_is p c) (append_assoc (actor_text actor) (codes " begin ") (changing_text p (changing_of c)))
-content_is p (line.HealBegin actor g kind) = begin_parts (actor_text actor) (codes " begin ") (codes "heal ") (kind_text kind) (codes " ") (object_text p g)
-content_is p (line.End actor r) = reply_is p actor r (replied_of r) (replied_is p r)
-content_is p (line.HealEnd actor g kind r) = rw (healed_is r) (end_parts (actor_text actor) (codes " end ") (kind_text kind) (codes " ") (object_text p g) (codes " ") (healed_end (healed_of r)))
-content_is p (line.Event event) = refl
+content_is p (line.Begin actor c) = alone _ _ (rw (changing_is p c) (append_assoc (actor_text actor) (codes " begin ") (changing_text p (changing_of c))))
+content_is p (line.HealBegin actor g kind) = alone _ _ (begin_parts (actor_text actor) (codes " begin ") (codes "heal ") (kind_text kind) (codes " ") (object_text p g))
+content_is p (line.End actor r) = rw (replied_is p r) (reply_parts (actor_text actor) (codes " end ") (replied_text (replied_of r)) (given_text p r))
+content_is p (line.HealEnd actor g kind r) = alone _ _ (rw (healed_is r) (end_parts (actor_text actor) (codes " end ") (kind_text kind) (codes " ") (object_text p g) (codes " ") (healed_end (healed_of r))))
+content_is p (line.Event event) = alone _ _ refl
 
 if_some : {A : Type 0} (P Q : A → Type 0) (o : Option A) → ((x : A) → P x → Q x) → IfSome o P → IfSome o Q
 if_some P Q None f h = tt
 if_some P Q (Some x) f h = f x h
 
--- what is printed of a line is the text of what it says
-pub printed : (p : Plan) (k : ℕ) (l : Line) → IfSome (trace_line_of p l) (λ s. line_text p k l ≡ trace_line_text p k s ++ codes "\n")
-printed p k l = if_some (λ s. said_text p l ≡ content_text p s) (λ s. line_text p k l ≡ trace_line_text p k s ++ codes "\n") (trace_line_of p l) (λ s h. ap (λ (t : List ℕ). decimal k ++ codes " " ++ t ++ codes "\n") h) (content_is p l)
+-- what is printed of a line is the text of what it says, and of what its command gave
+pub printed : (p : Plan) (k : ℕ) (l : Line) → IfSome (trace_line_of p l) (λ s. line_text p k l ≡ spelled_text p k (s, contents_of p l) ++ codes "\n")
+printed p k l = if_some (λ s. said_text p l ≡ content_text p s ++ contents_of p l) (λ s. line_text p k l ≡ spelled_text p k (s, contents_of p l) ++ codes "\n") (trace_line_of p l)
+    (λ s h. ap (λ (t : List ℕ). t ++ codes "\n") (ap (λ (t : List ℕ). decimal k ++ codes " " ++ t) h ∙ sym (append_assoc (decimal k ++ codes " ") (content_text p s) (contents_of p l)))) (content_is p l)

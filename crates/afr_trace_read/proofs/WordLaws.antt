@@ -15,7 +15,7 @@ use Rattle.afr_trace_read.specs.Forms.{place_in, before, find_in, word_among}
 use Rattle.afr_trace_read.proofs.Laws.{Takes, Again}
 use Rattle.afr_trace_read.proofs.NumberLaws.{run-takes, run-again}
 
-same_bytes : (xs ys : List ℕ) → bytes_eq xs ys ≡ true → xs ≡ ys
+pub same_bytes : (xs ys : List ℕ) → bytes_eq xs ys ≡ true → xs ≡ ys
 same_bytes xs ys e = (bytes_eq-Decides xs ys).0 e
 
 place_is : (words : List (List ℕ)) (w : List ℕ) (i : ℕ) → place_in words w ≡ Some i → slice_index_or words i [] ≡ w

@@ -1,5 +1,5 @@
 -- The lines whose numbers are those that the types of a log can hold: only such lines have a text that is read.
-use Rattle.std.specs.Prelude.{◌∷◌, ◌⊎◌, length, ◌≡◌, ℕ, ◌^◌, ◌<◌, Bool, true, List, [], Option, Some, None, slice_index_or}
+use Rattle.std.specs.Prelude.{◌∷◌, ◌⊎◌, length, ◌≡◌, ℕ, ◌^◌, ◌<◌, Bool, true, false, List, [], Option, Some, None, slice_index_or}
 use Rattle.std.specs.List.{list_all}
 use Rattle.afr_base.specs.declared.marks.Marks.{Marks}
 use Rattle.afr_plan.specs.Bytes.{name_byte, key_byte, is_name, is_key}
@@ -7,7 +7,12 @@ use Rattle.afr_plan.specs.declared.plan.Plan.{Plan}
 use Rattle.afr_base.specs.declared.ids.KeyId.{KeyId}
 use Rattle.afr_base.specs.declared.ids.NameId.{NameId}
 use Rattle.afr_base.specs.declared.ids.ValueId.{ValueId}
+use Rattle.afr_trace_read.specs.Contents.{contents_text}
 use Rattle.afr_trace_read.specs.Forms.{place_in, is_small}
+use Rattle.afr_trace_read.specs.Reading.{gives}
+use Rattle.afr_object.specs.declared.entry.Entry.{Entry}
+use Rattle.afr_lines.specs.declared.reply.Good.{Good}
+use Rattle.afr_lines.specs.declared.reply.Good.TheVariants as good
 use Rattle.afr_base.specs.declared.ids.ActorId.{ActorId}
 use Rattle.afr_base.specs.declared.ids.BrickId.{BrickId}
 use Rattle.afr_base.specs.declared.ids.Gfid.{Gfid}
@@ -15,12 +20,12 @@ use Rattle.afr_lines.specs.declared.line.Event.{Event}
 use Rattle.afr_lines.specs.declared.line.Event.TheVariants as event
 use Rattle.afr_trace_read.specs.declared.kinds.Span.{Span}
 use Rattle.afr_trace_read.specs.declared.kinds.Span.TheVariants as span
-use Rattle.afr_trace_read.specs.declared.kinds.Asked.{Asked}
-use Rattle.afr_trace_read.specs.declared.kinds.Asked.TheVariants as asked
+use Rattle.afr_trace_read.specs.declared.kinds.SpelledRequest.{SpelledRequest}
+use Rattle.afr_trace_read.specs.declared.kinds.SpelledRequest.TheVariants as asked
 use Rattle.afr_trace_read.specs.declared.kinds.Answered.{Answered}
 use Rattle.afr_trace_read.specs.declared.kinds.Answered.TheVariants as answered
-use Rattle.afr_trace_read.specs.declared.kinds.Changing.{Changing}
-use Rattle.afr_trace_read.specs.declared.kinds.Changing.TheVariants as changing
+use Rattle.afr_trace_read.specs.declared.kinds.SpelledChange.{SpelledChange}
+use Rattle.afr_trace_read.specs.declared.kinds.SpelledChange.TheVariants as changing
 use Rattle.afr_trace_read.specs.declared.kinds.Healed.{Healed}
 use Rattle.afr_trace_read.specs.declared.kinds.Healed.TheVariants as healed
 use Rattle.afr_trace_read.specs.declared.kinds.Doing.{Doing}
@@ -111,7 +116,7 @@ abbrev pub AreMarks : ℕ → Marks → Type 0
 AreMarks n marks = (marks.dirty < 2 ^ 32) × ArePending n marks.pending
 
 -- a request
-abbrev pub IsAsked : Plan → Asked → Type 0
+abbrev pub IsAsked : Plan → SpelledRequest → Type 0
 IsAsked p (asked.Lock d g s) = (Always d × IsGfid g) × IsSpan p s
 IsAsked p (asked.Unlock d g s) = (Always d × IsGfid g) × IsSpan p s
 IsAsked p (asked.Look g) = IsGfid g
@@ -136,7 +141,7 @@ IsAnswered (answered.Held a) = IsActor a
 IsAnswered other = Unit {0}
 
 -- a change
-abbrev pub IsChanging : Plan → Changing → Type 0
+abbrev pub IsChanging : Plan → SpelledChange → Type 0
 IsChanging p (changing.Write g at len) = (IsGfid g × (at < 2 ^ 32)) × (len < 2 ^ 64)
 IsChanging p (changing.Cut g len) = IsGfid g × (len < 2 ^ 32)
 IsChanging p (changing.SetAttr g key value) = (IsGfid g × IsKeyOf p key) × IsValueOf p value
@@ -161,3 +166,37 @@ IsDoing p (doing.End reply) = Always reply
 abbrev pub IsTraceLine : Plan → TraceLine → Type 0
 IsTraceLine p (trace_line.Event event) = IsEvent event
 IsTraceLine p (trace_line.Of actor d) = IsActor actor × IsDoing p d
+
+-- ---- what a command gave
+-- each is a byte
+abbrev pub AreBytes : List ℕ → Type 0
+AreBytes [] = Unit {0}
+AreBytes (b ∷ bs) = (b < 256) × AreBytes bs
+
+-- a name isn't among these
+abbrev pub IsNotAmong : NameId → List (NameId × Entry) → Type 0
+IsNotAmong name [] = Unit {0}
+IsNotAmong name (x ∷ names) = (name.0 ≡ x.0.0 → ⊥) × IsNotAmong name names
+
+-- names of the plan, each once
+abbrev pub AreListed : Plan → List (NameId × Entry) → Type 0
+AreListed p [] = Unit {0}
+AreListed p (x ∷ names) = IsNameOf p x.0 × IsNotAmong x.0 names × AreListed p names
+
+-- what a command may have given
+abbrev pub IsGivable : Plan → Good → Type 0
+IsGivable p good.Done = Unit {0}
+IsGivable p (good.Bytes bytes) = AreBytes bytes
+IsGivable p (good.Names names) = AreListed p names
+IsGivable p (good.Value None) = Unit {0}
+IsGivable p (good.Value (Some value)) = IsValueOf p value
+IsGivable p (good.Stat entry len) = IsGfid entry.gfid × (len < 2 ^ 32)
+
+-- what may stand behind a line's own text: nothing, but at the end of a command that was carried out what it gave
+abbrev pub MayStand : Plan → Bool → List ℕ → Type 0
+MayStand p false text = text ≡ []
+MayStand p true text = (given : Good) × IsGivable p given × (text ≡ contents_text p.words given)
+
+-- a line, and what its command gave
+abbrev pub IsSpelled : Plan → TraceLine × List ℕ → Type 0
+IsSpelled p x = IsTraceLine p x.0 × MayStand p (gives x.0) x.1

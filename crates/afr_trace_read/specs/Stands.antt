@@ -1,10 +1,11 @@
--- What the text of a line of the log says; none for the kinds of lines that aren't read yet, and for lists that no line of a log has.
+-- What the text of a line of the log says, and what a command gave; none for lists that no line of a log has.
 use Rattle.std.specs.Prelude.{List, [], ◌∷◌, not, nat_le, filter, zero, suc, ℕ, ◌^◌, ◌==◌, Bool, Option, Some, None, if◌then◌else◌, length, option_map}
 use Rattle.afr_base.specs.Bricks.{all_five, is_nothing, member}
 use Rattle.afr_base.specs.declared.marks.Marks.{Marks}
 use Rattle.afr_plan.specs.Reading.{checked}
 use Rattle.afr_plan.specs.declared.plan.Plan.{Plan}
 use Rattle.afr_report_trace.specs.Numbers.{given}
+use Rattle.afr_trace_read.specs.Contents.{contents_text}
 use Rattle.afr_trace_read.specs.Lists.{flags_of}
 use Rattle.afr_base.specs.declared.ids.ActorId.{ActorId}
 use Rattle.afr_base.specs.declared.ids.BrickId.{BrickId}
@@ -15,7 +16,6 @@ use Rattle.afr_lines.specs.declared.answer.Told.{Told}
 use Rattle.afr_lines.specs.declared.answer.Told.TheVariants as told
 use Rattle.afr_lines.specs.declared.line.Line.{Line}
 use Rattle.afr_lines.specs.declared.line.Line.TheVariants as line
-use Rattle.afr_lines.specs.declared.reply.Good.TheVariants as good
 use Rattle.afr_lines.specs.declared.reply.HealReply.{HealReply}
 use Rattle.afr_lines.specs.declared.reply.HealReply.TheVariants as heal
 use Rattle.afr_lines.specs.declared.reply.Reply.{Reply}
@@ -25,16 +25,16 @@ use Rattle.afr_lines.specs.declared.request.Request.{Request}
 use Rattle.afr_lines.specs.declared.request.Request.TheVariants as request
 use Rattle.afr_trace_read.specs.declared.kinds.Span.{Span}
 use Rattle.afr_trace_read.specs.declared.kinds.Span.TheVariants as span
-use Rattle.afr_trace_read.specs.declared.kinds.Asked.{Asked}
-use Rattle.afr_trace_read.specs.declared.kinds.Asked.TheVariants as asked
+use Rattle.afr_trace_read.specs.declared.kinds.SpelledRequest.{SpelledRequest}
+use Rattle.afr_trace_read.specs.declared.kinds.SpelledRequest.TheVariants as asked
 use Rattle.afr_trace_read.specs.declared.kinds.Answered.{Answered}
 use Rattle.afr_trace_read.specs.declared.kinds.Answered.TheVariants as answered
-use Rattle.afr_trace_read.specs.declared.kinds.Changing.{Changing}
-use Rattle.afr_trace_read.specs.declared.kinds.Changing.TheVariants as changing
+use Rattle.afr_trace_read.specs.declared.kinds.SpelledChange.{SpelledChange}
+use Rattle.afr_trace_read.specs.declared.kinds.SpelledChange.TheVariants as changing
 use Rattle.afr_trace_read.specs.declared.kinds.Healed.{Healed}
 use Rattle.afr_trace_read.specs.declared.kinds.Healed.TheVariants as healed
-use Rattle.afr_trace_read.specs.declared.kinds.Replied.{Replied}
-use Rattle.afr_trace_read.specs.declared.kinds.Replied.TheVariants as replied
+use Rattle.afr_trace_read.specs.declared.kinds.SpelledReply.{SpelledReply}
+use Rattle.afr_trace_read.specs.declared.kinds.SpelledReply.TheVariants as replied
 use Rattle.afr_trace_read.specs.declared.kinds.Doing.{Doing}
 use Rattle.afr_trace_read.specs.declared.kinds.Doing.TheVariants as doing
 use Rattle.afr_trace_read.specs.declared.kinds.TraceLine.{TraceLine}
@@ -75,7 +75,7 @@ missed_from [] = Some (flags_of [])
 missed_from (b ∷ bs) = checked (not (is_nothing (filter (member (b ∷ bs)) all_five))) (flags_of (b ∷ bs))
 
 -- a request
-abbrev pub asked_of : Plan → Request → Option Asked
+abbrev pub asked_of : Plan → Request → Option SpelledRequest
 asked_of p (request.Lock d (Range g from to)) = Some (asked.Lock d g (span_from from to))
 asked_of p (request.Lock d (Name g None)) = Some (asked.Lock d g span.AllNames)
 asked_of p (request.Lock d (Name g (Some name))) = Some (asked.Lock d g (span.OfName name))
@@ -110,7 +110,7 @@ answered_of told.NotConnected took = if took then answered.Lost else answered.Go
 answered_of told.Failed took = answered.Failed
 
 -- a change
-abbrev pub changing_of : Change → Changing
+abbrev pub changing_of : Change → SpelledChange
 changing_of (change.Write g at bytes) = changing.Write g at (length bytes)
 changing_of (change.Cut g len) = changing.Cut g len
 changing_of (change.SetAttr g key value) = changing.SetAttr g key value
@@ -127,28 +127,27 @@ healed_of heal.Short = healed.Short
 healed_of (heal.Moved b) = healed.Moved b
 healed_of heal.Failed = healed.Failed
 
--- the end of a command; what a read gave isn't read yet
-abbrev pub replied_of : Reply → Option Replied
-replied_of (reply.Ok good.Done) = Some replied.Done
-replied_of (reply.Ok other) = None
-replied_of reply.NoEntry = Some replied.NoEntry
-replied_of reply.Exists = Some replied.Exists
-replied_of reply.NotDir = Some replied.NotDir
-replied_of reply.IsDir = Some replied.IsDir
-replied_of reply.NotEmpty = Some replied.NotEmpty
-replied_of reply.NoQuorum = Some replied.NoQuorum
-replied_of reply.FewCopies = Some replied.FewCopies
-replied_of (reply.SplitBrain views) = Some replied.SplitBrain
-replied_of reply.Failed = Some replied.Failed
-replied_of reply.TooLarge = Some replied.TooLarge
-replied_of reply.Half = Some replied.Half
+-- the end of a command, without what it gave
+abbrev pub replied_of : Reply → SpelledReply
+replied_of (reply.Ok given) = replied.Ok
+replied_of reply.NoEntry = replied.NoEntry
+replied_of reply.Exists = replied.Exists
+replied_of reply.NotDir = replied.NotDir
+replied_of reply.IsDir = replied.IsDir
+replied_of reply.NotEmpty = replied.NotEmpty
+replied_of reply.NoQuorum = replied.NoQuorum
+replied_of reply.FewCopies = replied.FewCopies
+replied_of (reply.SplitBrain views) = replied.SplitBrain
+replied_of reply.Failed = replied.Failed
+replied_of reply.TooLarge = replied.TooLarge
+replied_of reply.Half = replied.Half
 
 -- an actor's line
 abbrev pub by : ActorId → Doing → TraceLine
 by actor d = trace_line.Of actor d
 
 -- a question and its answer
-abbrev pub asks : BrickId → Answered → Asked → Doing
+abbrev pub asks : BrickId → Answered → SpelledRequest → Doing
 asks b told a = doing.Ask b a told
 
 -- a line
@@ -156,6 +155,16 @@ abbrev pub trace_line_of : Plan → Line → Option TraceLine
 trace_line_of p (line.Ask actor b r told took) = option_map (by actor) (option_map (asks b (answered_of told took)) (asked_of p r))
 trace_line_of p (line.Begin actor c) = Some (trace_line.Of actor (doing.Begin (changing_of c)))
 trace_line_of p (line.HealBegin actor g kind) = Some (trace_line.Of actor (doing.HealBegin kind g))
-trace_line_of p (line.End actor r) = option_map (by actor) (option_map doing.End (replied_of r))
+trace_line_of p (line.End actor r) = Some (trace_line.Of actor (doing.End (replied_of r)))
 trace_line_of p (line.HealEnd actor g kind r) = Some (trace_line.Of actor (doing.HealEnd kind g (healed_of r)))
 trace_line_of p (line.Event event) = Some (trace_line.Event event)
+
+-- what a reply gave, behind its word
+abbrev pub given_text : Plan → Reply → List ℕ
+given_text p (reply.Ok given) = contents_text p.words given
+given_text p other = []
+
+-- what a line's command gave, behind the line's own text
+abbrev pub contents_of : Plan → Line → List ℕ
+contents_of p (line.End actor r) = given_text p r
+contents_of p other = []

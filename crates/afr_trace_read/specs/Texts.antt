@@ -11,16 +11,16 @@ use Rattle.afr_report_trace.specs.Requests.{domain_text}
 use Rattle.afr_trace_read.specs.Lists.{flagged}
 use Rattle.afr_trace_read.specs.declared.kinds.Span.{Span}
 use Rattle.afr_trace_read.specs.declared.kinds.Span.TheVariants as span
-use Rattle.afr_trace_read.specs.declared.kinds.Asked.{Asked}
-use Rattle.afr_trace_read.specs.declared.kinds.Asked.TheVariants as asked
+use Rattle.afr_trace_read.specs.declared.kinds.SpelledRequest.{SpelledRequest}
+use Rattle.afr_trace_read.specs.declared.kinds.SpelledRequest.TheVariants as asked
 use Rattle.afr_trace_read.specs.declared.kinds.Answered.{Answered}
 use Rattle.afr_trace_read.specs.declared.kinds.Answered.TheVariants as answered
-use Rattle.afr_trace_read.specs.declared.kinds.Changing.{Changing}
-use Rattle.afr_trace_read.specs.declared.kinds.Changing.TheVariants as changing
+use Rattle.afr_trace_read.specs.declared.kinds.SpelledChange.{SpelledChange}
+use Rattle.afr_trace_read.specs.declared.kinds.SpelledChange.TheVariants as changing
 use Rattle.afr_trace_read.specs.declared.kinds.Healed.{Healed}
 use Rattle.afr_trace_read.specs.declared.kinds.Healed.TheVariants as healed
-use Rattle.afr_trace_read.specs.declared.kinds.Replied.{Replied}
-use Rattle.afr_trace_read.specs.declared.kinds.Replied.TheVariants as replied
+use Rattle.afr_trace_read.specs.declared.kinds.SpelledReply.{SpelledReply}
+use Rattle.afr_trace_read.specs.declared.kinds.SpelledReply.TheVariants as replied
 use Rattle.afr_trace_read.specs.declared.kinds.Doing.{Doing}
 use Rattle.afr_trace_read.specs.declared.kinds.Doing.TheVariants as doing
 use Rattle.afr_trace_read.specs.declared.kinds.TraceLine.{TraceLine}
@@ -39,7 +39,7 @@ span_text p span.AllNames = codes "/*"
 span_text p (span.OfName name) = codes "/" ++ slice_index_or p.words.names name.0 []
 
 -- a request
-abbrev pub asked_text : Plan → Asked → List ℕ
+abbrev pub asked_text : Plan → SpelledRequest → List ℕ
 asked_text p (asked.Lock domain g s) = codes "lock " ++ domain_text domain ++ object_text p g ++ span_text p s
 asked_text p (asked.Unlock domain g s) = codes "unlock " ++ domain_text domain ++ object_text p g ++ span_text p s
 asked_text p (asked.Look g) = codes "look " ++ object_text p g
@@ -71,7 +71,7 @@ answered_text answered.Gone = codes "gone"
 answered_text answered.Failed = codes "failed"
 
 -- a change
-abbrev pub changing_text : Plan → Changing → List ℕ
+abbrev pub changing_text : Plan → SpelledChange → List ℕ
 changing_text p (changing.Write g at len) = codes "write " ++ object_text p g ++ codes " " ++ decimal at ++ codes " " ++ decimal len
 changing_text p (changing.Cut g len) = codes "cut " ++ object_text p g ++ codes " " ++ decimal len
 changing_text p (changing.SetAttr g key value) = codes "setattr " ++ key_text p g key ++ codes " " ++ slice_index_or p.words.values value.0 []
@@ -89,8 +89,8 @@ healed_end (healed.Moved b) = codes "moved " ++ decimal b.0
 healed_end healed.Failed = codes "failed"
 
 -- the end of a command that gave nothing
-abbrev pub replied_text : Replied → List ℕ
-replied_text replied.Done = codes "ok"
+abbrev pub replied_text : SpelledReply → List ℕ
+replied_text replied.Ok = codes "ok"
 replied_text replied.NoEntry = codes "no-entry"
 replied_text replied.Exists = codes "exists"
 replied_text replied.NotDir = codes "not-dir"
@@ -119,3 +119,7 @@ content_text p (trace_line.Of actor d) = actor_text actor ++ doing_text p d
 -- the text of a line, without its line feed
 abbrev pub trace_line_text : Plan → ℕ → TraceLine → List ℕ
 trace_line_text p position s = decimal position ++ codes " " ++ content_text p s
+
+-- the same with what its command gave
+abbrev pub spelled_text : Plan → ℕ → TraceLine × List ℕ → List ℕ
+spelled_text p position x = trace_line_text p position x.0 ++ x.1

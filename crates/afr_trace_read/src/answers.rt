@@ -3,9 +3,9 @@ ghost use Rattle.std.specs.Prelude.{◌≡◌, codes};
 ghost use Rattle.std.specs.Option.{option_map};
 ghost use Rattle.afr_plan.specs.Reading.{as_a, word_then};
 ghost use Rattle.afr_trace_read.specs.Parts.{actor_at, brick_at};
-ghost use Rattle.afr_trace_read.specs.Reading.{answered_at, healed_at, replied_at};
+ghost use Rattle.afr_trace_read.specs.Reading.{answered_at, healed_at, is_ok, replied_at};
 
-use crate::kinds::{Answered, Healed, Replied};
+use crate::kinds::{Answered, Healed, SpelledReply};
 use crate::parts::{actor, brick};
 use afr_plan_line::skip;
 
@@ -95,42 +95,49 @@ pub(crate) fn healed(bytes: &[u8]) -> Option<(Healed, &[u8])>
 
 /// The end of a command, and what follows it.
 #[tactic(auto, unfolding(crate::specs::Reading::replied_at))]
-pub(crate) fn replied(bytes: &[u8]) -> Option<(Replied, &[u8])>
+pub(crate) fn replied(bytes: &[u8]) -> Option<(SpelledReply, &[u8])>
     ensures { option_map (λ x. (x.0, x.1.now)) result ≡ replied_at bytes.now }
 {
     if let Some(rest) = skip(b"ok", bytes) {
-        return Some((Replied::Done, rest));
+        return Some((SpelledReply::Ok, rest));
     }
     if let Some(rest) = skip(b"no-entry", bytes) {
-        return Some((Replied::NoEntry, rest));
+        return Some((SpelledReply::NoEntry, rest));
     }
     if let Some(rest) = skip(b"exists", bytes) {
-        return Some((Replied::Exists, rest));
+        return Some((SpelledReply::Exists, rest));
     }
     if let Some(rest) = skip(b"not-dir", bytes) {
-        return Some((Replied::NotDir, rest));
+        return Some((SpelledReply::NotDir, rest));
     }
     if let Some(rest) = skip(b"is-dir", bytes) {
-        return Some((Replied::IsDir, rest));
+        return Some((SpelledReply::IsDir, rest));
     }
     if let Some(rest) = skip(b"not-empty", bytes) {
-        return Some((Replied::NotEmpty, rest));
+        return Some((SpelledReply::NotEmpty, rest));
     }
     if let Some(rest) = skip(b"no-quorum", bytes) {
-        return Some((Replied::NoQuorum, rest));
+        return Some((SpelledReply::NoQuorum, rest));
     }
     if let Some(rest) = skip(b"few-copies", bytes) {
-        return Some((Replied::FewCopies, rest));
+        return Some((SpelledReply::FewCopies, rest));
     }
     if let Some(rest) = skip(b"split-brain", bytes) {
-        return Some((Replied::SplitBrain, rest));
+        return Some((SpelledReply::SplitBrain, rest));
     }
     if let Some(rest) = skip(b"failed", bytes) {
-        return Some((Replied::Failed, rest));
+        return Some((SpelledReply::Failed, rest));
     }
     if let Some(rest) = skip(b"too-large", bytes) {
-        return Some((Replied::TooLarge, rest));
+        return Some((SpelledReply::TooLarge, rest));
     }
     let rest = skip(b"half", bytes)?;
-    Some((Replied::Half, rest))
+    Some((SpelledReply::Half, rest))
+}
+
+/// Whether a reply says that the command was carried out.
+pub(crate) fn is_ok(reply: SpelledReply) -> bool
+    ensures { result ≡ is_ok reply }
+{
+    matches!(reply, SpelledReply::Ok)
 }

@@ -1,37 +1,14 @@
 //! Numbers at the front of some bytes.
-ghost use Rattle.std.specs.Prelude.{◌≡◌, ◌+◌, ◌<◌, IfSome, length, nat_lt, take_while};
+ghost use Rattle.std.specs.Prelude.{◌≡◌, ◌+◌, ◌<◌, IfSome, nat_lt};
 ghost use Rattle.std.specs.Option.{option_map};
 ghost use Rattle.std.specs.Str.Parse.{AllDigits, digits_value};
-ghost use Rattle.afr_plan.specs.Bytes.{digit, is_numeral};
-ghost use Rattle.afr_plan.specs.Reading.{checked, run_of};
+ghost use Rattle.afr_plan.specs.Reading.{checked};
 ghost use Rattle.afr_trace_read.specs.Forms.{number_below};
+
+use afr_plan_line::numeral;
 
 /// The highest number of 32 bits.
 pub(crate) const MOST_SMALL: u128 = 4_294_967_295;
-
-pub(crate) fn is_digit(byte: u8) -> bool
-    ensures { result ≡ digit byte }
-{
-    b'0' <= byte && byte <= b'9'
-}
-
-fn digits(bytes: &[u8]) -> usize
-    ensures { result ≡ length (take_while digit bytes.now) }
-{
-    bytes.iter().take_while(|b| is_digit(**b)).count()
-}
-
-/// Digits with no leading zero.
-fn numeral(bytes: &[u8]) -> Option<(&[u8], &[u8])>
-    ensures read { option_map (λ x. (x.0.now, x.1.now)) result ≡ run_of digit is_numeral bytes.now }
-    ensures digits { IfSome result (λ x. AllDigits 10 x.0.now) }
-{
-    let count = digits(bytes);
-    if count == 0 || (count > 1 && bytes[0] == b'0') {
-        return None;
-    }
-    Some((&bytes[..count], &bytes[count..]))
-}
 
 /// What digits come to, if it is at most so much.
 fn value_of(ds: &[u8], most: u128) -> Option<u128>

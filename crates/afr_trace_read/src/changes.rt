@@ -7,7 +7,7 @@ ghost use Rattle.afr_trace_read.specs.Parts.{keyed_at, named_at, object_at, valu
 ghost use Rattle.afr_trace_read.specs.Reading.{changing_at, cut_change_of, made_at, make_of, numbered_at, remove_of, removed_at, set_of, write_of};
 
 use crate::bytes::number;
-use crate::kinds::Changing;
+use crate::kinds::SpelledChange;
 use crate::parts::object;
 use crate::requests::numbered;
 use crate::words::{keyed, named, value};
@@ -15,14 +15,14 @@ use afr_base::What;
 use afr_plan::Plan;
 use afr_plan_line::skip;
 
-fn write<'a>(plan: &Plan, bytes: &'a [u8]) -> Option<(Changing, &'a [u8])>
+fn write<'a>(plan: &Plan, bytes: &'a [u8]) -> Option<(SpelledChange, &'a [u8])>
     ensures { option_map (λ x. (x.0, x.1.now)) result ≡ as_a write_of (both (then_word (numbered_at plan.now (codes "write ") (codes " ")) (codes " ")) (number_below (2 ^ 64))) bytes.now }
 {
     let (gfid, at, rest) = numbered(plan, b"write ", b" ", bytes)?;
     let rest = skip(b" ", rest)?;
     let (n, rest) = number(rest, 18_446_744_073_709_551_615)?;
     Some((
-        Changing::Write {
+        SpelledChange::Write {
             gfid,
             at,
             len: n as u64,
@@ -31,21 +31,21 @@ fn write<'a>(plan: &Plan, bytes: &'a [u8]) -> Option<(Changing, &'a [u8])>
     ))
 }
 
-fn cut<'a>(plan: &Plan, bytes: &'a [u8]) -> Option<(Changing, &'a [u8])>
+fn cut<'a>(plan: &Plan, bytes: &'a [u8]) -> Option<(SpelledChange, &'a [u8])>
     ensures { option_map (λ x. (x.0, x.1.now)) result ≡ as_a cut_change_of (numbered_at plan.now (codes "cut ") (codes " ")) bytes.now }
 {
     let (gfid, len, rest) = numbered(plan, b"cut ", b" ", bytes)?;
-    Some((Changing::Cut { gfid, len }, rest))
+    Some((SpelledChange::Cut { gfid, len }, rest))
 }
 
-fn set_attr<'a>(plan: &Plan, bytes: &'a [u8]) -> Option<(Changing, &'a [u8])>
+fn set_attr<'a>(plan: &Plan, bytes: &'a [u8]) -> Option<(SpelledChange, &'a [u8])>
     ensures { option_map (λ x. (x.0, x.1.now)) result ≡ as_a set_of (both (then_word (word_then (codes "setattr ") (keyed_at plan.now)) (codes " ")) (value_at plan.now)) bytes.now }
 {
     let rest = skip(b"setattr ", bytes)?;
     let (gfid, key, rest) = keyed(plan, rest)?;
     let rest = skip(b" ", rest)?;
     let (value, rest) = value(plan, rest)?;
-    Some((Changing::SetAttr { gfid, key, value }, rest))
+    Some((SpelledChange::SetAttr { gfid, key, value }, rest))
 }
 
 #[tactic(auto, unfolding(crate::specs::Reading::made_at))]
@@ -70,7 +70,7 @@ fn removed(bytes: &[u8]) -> Option<(What, &[u8])>
     Some((What::Dir, rest))
 }
 
-fn make<'a>(plan: &Plan, bytes: &'a [u8]) -> Option<(Changing, &'a [u8])>
+fn make<'a>(plan: &Plan, bytes: &'a [u8]) -> Option<(SpelledChange, &'a [u8])>
     ensures { option_map (λ x. (x.0, x.1.now)) result ≡ as_a make_of (both (then_word (both made_at (named_at plan.now)) (codes " ")) (object_at plan.now)) bytes.now }
 {
     let (what, rest) = made(bytes)?;
@@ -78,7 +78,7 @@ fn make<'a>(plan: &Plan, bytes: &'a [u8]) -> Option<(Changing, &'a [u8])>
     let rest = skip(b" ", rest)?;
     let (gfid, rest) = object(plan, rest)?;
     Some((
-        Changing::Make {
+        SpelledChange::Make {
             what,
             dir,
             name,
@@ -88,17 +88,17 @@ fn make<'a>(plan: &Plan, bytes: &'a [u8]) -> Option<(Changing, &'a [u8])>
     ))
 }
 
-fn remove<'a>(plan: &Plan, bytes: &'a [u8]) -> Option<(Changing, &'a [u8])>
+fn remove<'a>(plan: &Plan, bytes: &'a [u8]) -> Option<(SpelledChange, &'a [u8])>
     ensures { option_map (λ x. (x.0, x.1.now)) result ≡ as_a remove_of (both removed_at (named_at plan.now)) bytes.now }
 {
     let (what, rest) = removed(bytes)?;
     let (dir, name, rest) = named(plan, rest)?;
-    Some((Changing::Remove { what, dir, name }, rest))
+    Some((SpelledChange::Remove { what, dir, name }, rest))
 }
 
 /// A change, and what follows it.
 #[tactic(auto, unfolding(crate::specs::Reading::changing_at))]
-pub(crate) fn changing<'a>(plan: &Plan, bytes: &'a [u8]) -> Option<(Changing, &'a [u8])>
+pub(crate) fn changing<'a>(plan: &Plan, bytes: &'a [u8]) -> Option<(SpelledChange, &'a [u8])>
     ensures { option_map (λ x. (x.0, x.1.now)) result ≡ changing_at plan.now bytes.now }
 {
     if let Some(x) = write(plan, bytes) {

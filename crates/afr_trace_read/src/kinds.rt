@@ -16,7 +16,7 @@ pub enum Span {
 /// kind; a lock of the attributes has no end; the reads of merged names that are there stand first; a
 /// Settle has no number for a brick that the volume lacks.
 #[derive(Clone, Copy)]
-pub enum Asked {
+pub enum SpelledRequest {
     Lock {
         domain: Domain,
         gfid: Gfid,
@@ -102,7 +102,7 @@ pub enum Answered {
 
 /// A change. A write has its length, and not its bytes.
 #[derive(Clone, Copy)]
-pub enum Changing {
+pub enum SpelledChange {
     Write {
         gfid: Gfid,
         at: u32,
@@ -142,10 +142,10 @@ pub enum Healed {
     Failed,
 }
 
-/// The end of a command that gave nothing.
+/// The end of a command. What a command gave stands behind the word `ok`, and isn't in here.
 #[derive(Clone, Copy)]
-pub enum Replied {
-    Done,
+pub enum SpelledReply {
+    Ok,
     NoEntry,
     Exists,
     NotDir,
@@ -164,7 +164,7 @@ pub enum Replied {
 pub enum Doing {
     Ask {
         brick: BrickId,
-        asked: Asked,
+        asked: SpelledRequest,
         answered: Answered,
     },
     HealBegin {
@@ -172,7 +172,7 @@ pub enum Doing {
         gfid: Gfid,
     },
     Begin {
-        change: Changing,
+        change: SpelledChange,
     },
     HealEnd {
         kind: Kind,
@@ -180,7 +180,7 @@ pub enum Doing {
         healed: Healed,
     },
     End {
-        reply: Replied,
+        reply: SpelledReply,
     },
 }
 

@@ -4,6 +4,7 @@
 mod answers;
 mod bytes;
 mod changes;
+mod contents;
 mod kinds;
 mod lines;
 mod lists;
@@ -13,6 +14,9 @@ mod spans;
 mod trace;
 mod words;
 
-pub use kinds::{Answered, Asked, Changing, Doing, Healed, Replied, Span, TraceLine};
+pub use contents::{digits_given, name_behind, stat_given, value_given};
+pub use kinds::{
+    Answered, Doing, Healed, Span, SpelledChange, SpelledReply, SpelledRequest, TraceLine,
+};
 pub use lines::{a_line_is_printed_as_it_is_spelled, a_line_is_read_exactly, read_line};
-pub use trace::{TraceRead, TraceStop, read_trace};
+pub use trace::{SpelledLine, TraceRead, TraceStop, read_trace};

@@ -1,18 +1,19 @@
 //! Whole lines.
 ghost use Rattle.std.specs.Prelude.{◌≡◌, ◌^◌, ◌<◌, ◌++◌, codes, List, None, Some, ℕ, IfSome};
 ghost use Rattle.std.specs.Option.{option_map};
-ghost use Rattle.afr_plan.specs.Reading.{as_a, both, whole, word_then};
+ghost use Rattle.afr_plan.specs.Reading.{as_a, both, word_then};
 ghost use Rattle.afr_report_trace.specs.Lines.{line_text};
-ghost use Rattle.afr_trace_read.specs.Fit.{IsTraceLine};
+ghost use Rattle.afr_trace_read.specs.Fit.{IsSpelled};
 ghost use Rattle.afr_trace_read.specs.Forms.{then_word};
 ghost use Rattle.afr_trace_read.specs.Parts.{actor_at, brick_at, event_at};
-ghost use Rattle.afr_trace_read.specs.Reading.{about_at, answered_at, ask_of, asked_at, changing_at, content_at, doing_at, heal_begin_of, heal_end_of, healed_at, line_at, line_told, of_actor, replied_at};
-ghost use Rattle.afr_trace_read.specs.Stands.{trace_line_of};
-ghost use Rattle.afr_trace_read.specs.Texts.{trace_line_text};
+ghost use Rattle.afr_trace_read.specs.Reading.{about_at, answered_at, ask_of, asked_at, changing_at, content_at, doing_at, gives, heal_begin_of, heal_end_of, healed_at, line_at, line_told, may_stand, of_actor, replied_at};
+ghost use Rattle.afr_trace_read.specs.Stands.{contents_of, trace_line_of};
+ghost use Rattle.afr_trace_read.specs.Texts.{spelled_text};
 
-use crate::answers::{answered, healed, replied};
+use crate::answers::{answered, healed, is_ok, replied};
 use crate::bytes::number;
 use crate::changes::changing;
+use crate::contents::is_contents;
 use crate::kinds::{Doing, TraceLine};
 use crate::parts::{actor, brick, event, kind, object};
 use crate::requests::asked;
@@ -133,40 +134,67 @@ fn content<'a>(plan: &Plan, bytes: &'a [u8]) -> Option<(TraceLine, &'a [u8])>
     of_actor(plan, bytes)
 }
 
-/// A position and a line of it, if that is all.
+/// A position and a line of it, and what follows them.
 #[tactic(auto, unfolding(crate::specs::Reading::line_at))]
-fn read_whole(plan: &Plan, bytes: &[u8]) -> Option<(u32, TraceLine)>
-    ensures { result ≡ whole (line_at plan.now) bytes.now }
+fn numbered_line<'a>(plan: &Plan, bytes: &'a [u8]) -> Option<((u32, TraceLine), &'a [u8])>
+    ensures { option_map (λ x. (x.0, x.1.now)) result ≡ line_at plan.now bytes.now }
 {
     let (n, rest) = number(bytes, 4_294_967_295)?;
     let rest = skip(b" ", rest)?;
     let Some((line, rest)) = content(plan, rest) else {
         return None;
     };
-    if !rest.is_empty() {
-        return None;
-    }
-    Some((n as u32, line))
+    Some(((n as u32, line), rest))
 }
 
-/// The line whose text this is at a position, without its line feed; none where it is the text of no line.
-pub fn read_line(plan: &Plan, position: u32, bytes: &[u8]) -> Option<TraceLine>
-    ensures { result ≡ line_told plan.now position bytes.now }
+/// Whether a line is the end of a command that was carried out.
+fn gives(line: &TraceLine) -> bool
+    ensures { result ≡ gives line.now }
 {
-    let (at, line) = read_whole(plan, bytes)?;
-    if at == position { Some(line) } else { None }
+    match line {
+        TraceLine::Of {
+            doing: Doing::End { reply },
+            ..
+        } => is_ok(*reply),
+        _ => false,
+    }
+}
+
+fn may_stand(plan: &Plan, gives: bool, text: &[u8]) -> bool
+    ensures { result ≡ may_stand plan.now gives text.now }
+{
+    if gives {
+        is_contents(plan, text)
+    } else {
+        text.is_empty()
+    }
+}
+
+/// The line whose text this is at a position, without its line feed, and what its command gave, from the space behind `ok` on; none
+/// where it is the text of no line.
+pub fn read_line<'a>(plan: &Plan, position: u32, bytes: &'a [u8]) -> Option<(TraceLine, &'a [u8])>
+    ensures { option_map (λ x. (x.0, x.1.now)) result ≡ line_told plan.now position bytes.now }
+{
+    let Some(((at, line), rest)) = numbered_line(plan, bytes) else {
+        return None;
+    };
+    if at == position && may_stand(plan, gives(&line), rest) {
+        Some((line, rest))
+    } else {
+        None
+    }
 }
 
 /// What a line is read to say has this text, and each line that has a text is read: the text of a line is the text of no other, and
 /// what is read as no line is the text of none.
 pub fn a_line_is_read_exactly()
-    ensures text { (p : Plan) (k : ℕ) (bytes : List ℕ) (s : TraceLine) → line_told p k bytes ≡ Some s → IsTraceLine p s × (bytes ≡ trace_line_text p k s) }
-    ensures read { (p : Plan) (k : ℕ) (s : TraceLine) → p.files < 2 ^ 32 → k < 2 ^ 32 → IsTraceLine p s → line_told p k (trace_line_text p k s) ≡ Some s }
-    ensures none { (p : Plan) (k : ℕ) (bytes : List ℕ) (s : TraceLine) → p.files < 2 ^ 32 → k < 2 ^ 32 → IsTraceLine p s → line_told p k bytes ≡ None → bytes ≡ trace_line_text p k s → ⊥ }
-    ensures one { (p : Plan) (k : ℕ) (s t : TraceLine) → p.files < 2 ^ 32 → k < 2 ^ 32 → IsTraceLine p s → IsTraceLine p t → trace_line_text p k s ≡ trace_line_text p k t → s ≡ t }
+    ensures text { (p : Plan) (k : ℕ) (bytes : List ℕ) (x : TraceLine × List ℕ) → line_told p k bytes ≡ Some x → IsSpelled p x × (bytes ≡ spelled_text p k x) }
+    ensures read { (p : Plan) (k : ℕ) (x : TraceLine × List ℕ) → p.files < 2 ^ 32 → k < 2 ^ 32 → IsSpelled p x → line_told p k (spelled_text p k x) ≡ Some x }
+    ensures none { (p : Plan) (k : ℕ) (bytes : List ℕ) (x : TraceLine × List ℕ) → p.files < 2 ^ 32 → k < 2 ^ 32 → IsSpelled p x → line_told p k bytes ≡ None → bytes ≡ spelled_text p k x → ⊥ }
+    ensures one { (p : Plan) (k : ℕ) (x y : TraceLine × List ℕ) → p.files < 2 ^ 32 → k < 2 ^ 32 → IsSpelled p x → IsSpelled p y → spelled_text p k x ≡ spelled_text p k y → x ≡ y }
 {}
 
-/// The trace has of each line of the log the text of what it says, where that kind of line is read.
+/// The trace has of each line of the log the text of what it says, and behind it the text of what its command gave.
 pub fn a_line_is_printed_as_it_is_spelled()
-    ensures { (p : Plan) (k : ℕ) (l : Line) → IfSome (trace_line_of p l) (λ s. line_text p k l ≡ trace_line_text p k s ++ codes "\n") }
+    ensures { (p : Plan) (k : ℕ) (l : Line) → IfSome (trace_line_of p l) (λ s. line_text p k l ≡ spelled_text p k (s, contents_of p l) ++ codes "\n") }
 {}

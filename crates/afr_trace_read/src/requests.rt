@@ -8,7 +8,7 @@ ghost use Rattle.afr_trace_read.specs.Parts.{keyed_at, kind_at, named_at, object
 ghost use Rattle.afr_trace_read.specs.Reading.{asked_at, copy_of, covered_at, cut_to_of, lock_of, mending_at, numbered_at, post_of, pre_of, put_names_of, put_of, range_at, read_attr_of, read_name_of, read_of, reading_at, settle_of, stepping_at, unlock_of};
 
 use crate::bytes::{MOST_SMALL, number};
-use crate::kinds::Asked;
+use crate::kinds::SpelledRequest;
 use crate::lists::{flags, marks, missed, reads};
 use crate::parts::{kind, object};
 use crate::spans::covered;
@@ -69,35 +69,35 @@ fn about<'a>(plan: &Plan, word: &[u8], bytes: &'a [u8]) -> Option<(Gfid, &'a [u8
     object(plan, rest)
 }
 
-fn look<'a>(plan: &Plan, bytes: &'a [u8]) -> Option<(Asked, &'a [u8])>
-    ensures { option_map (λ x. (x.0, x.1.now)) result ≡ as_a Asked.Look (word_then (codes "look ") (object_at plan.now)) bytes.now }
+fn look<'a>(plan: &Plan, bytes: &'a [u8]) -> Option<(SpelledRequest, &'a [u8])>
+    ensures { option_map (λ x. (x.0, x.1.now)) result ≡ as_a SpelledRequest.Look (word_then (codes "look ") (object_at plan.now)) bytes.now }
 {
     let (gfid, rest) = about(plan, b"look ", bytes)?;
-    Some((Asked::Look { gfid }, rest))
+    Some((SpelledRequest::Look { gfid }, rest))
 }
 
-fn lock<'a>(plan: &Plan, bytes: &'a [u8]) -> Option<(Asked, &'a [u8])>
+fn lock<'a>(plan: &Plan, bytes: &'a [u8]) -> Option<(SpelledRequest, &'a [u8])>
     ensures { option_map (λ x. (x.0, x.1.now)) result ≡ as_a lock_of (covered_at plan.now (codes "lock ")) bytes.now }
 {
     let (domain, gfid, span, rest) = covered(plan, b"lock ", bytes)?;
-    Some((Asked::Lock { domain, gfid, span }, rest))
+    Some((SpelledRequest::Lock { domain, gfid, span }, rest))
 }
 
-fn unlock<'a>(plan: &Plan, bytes: &'a [u8]) -> Option<(Asked, &'a [u8])>
+fn unlock<'a>(plan: &Plan, bytes: &'a [u8]) -> Option<(SpelledRequest, &'a [u8])>
     ensures { option_map (λ x. (x.0, x.1.now)) result ≡ as_a unlock_of (covered_at plan.now (codes "unlock ")) bytes.now }
 {
     let (domain, gfid, span, rest) = covered(plan, b"unlock ", bytes)?;
-    Some((Asked::Unlock { domain, gfid, span }, rest))
+    Some((SpelledRequest::Unlock { domain, gfid, span }, rest))
 }
 
-fn read<'a>(plan: &Plan, bytes: &'a [u8]) -> Option<(Asked, &'a [u8])>
+fn read<'a>(plan: &Plan, bytes: &'a [u8]) -> Option<(SpelledRequest, &'a [u8])>
     ensures { option_map (λ x. (x.0, x.1.now)) result ≡ as_a read_of (word_then (codes "read ") (range_at plan.now)) bytes.now }
 {
     let rest = skip(b"read ", bytes)?;
     let (gfid, at, to, rest) = range(plan, rest)?;
     let len = (to - at) as u32;
     Some((
-        Asked::ReadBytes {
+        SpelledRequest::ReadBytes {
             gfid,
             at: at as u32,
             len,
@@ -106,61 +106,61 @@ fn read<'a>(plan: &Plan, bytes: &'a [u8]) -> Option<(Asked, &'a [u8])>
     ))
 }
 
-fn read_name<'a>(plan: &Plan, bytes: &'a [u8]) -> Option<(Asked, &'a [u8])>
+fn read_name<'a>(plan: &Plan, bytes: &'a [u8]) -> Option<(SpelledRequest, &'a [u8])>
     ensures { option_map (λ x. (x.0, x.1.now)) result ≡ as_a read_name_of (word_then (codes "name ") (named_at plan.now)) bytes.now }
 {
     let rest = skip(b"name ", bytes)?;
     let (dir, name, rest) = named(plan, rest)?;
-    Some((Asked::ReadName { dir, name }, rest))
+    Some((SpelledRequest::ReadName { dir, name }, rest))
 }
 
-fn read_attr<'a>(plan: &Plan, bytes: &'a [u8]) -> Option<(Asked, &'a [u8])>
+fn read_attr<'a>(plan: &Plan, bytes: &'a [u8]) -> Option<(SpelledRequest, &'a [u8])>
     ensures { option_map (λ x. (x.0, x.1.now)) result ≡ as_a read_attr_of (word_then (codes "attr ") (keyed_at plan.now)) bytes.now }
 {
     let rest = skip(b"attr ", bytes)?;
     let (gfid, key, rest) = keyed(plan, rest)?;
-    Some((Asked::ReadAttr { gfid, key }, rest))
+    Some((SpelledRequest::ReadAttr { gfid, key }, rest))
 }
 
-fn list<'a>(plan: &Plan, bytes: &'a [u8]) -> Option<(Asked, &'a [u8])>
-    ensures { option_map (λ x. (x.0, x.1.now)) result ≡ as_a Asked.List (word_then (codes "list ") (object_at plan.now)) bytes.now }
+fn list<'a>(plan: &Plan, bytes: &'a [u8]) -> Option<(SpelledRequest, &'a [u8])>
+    ensures { option_map (λ x. (x.0, x.1.now)) result ≡ as_a SpelledRequest.List (word_then (codes "list ") (object_at plan.now)) bytes.now }
 {
     let (gfid, rest) = about(plan, b"list ", bytes)?;
-    Some((Asked::List { gfid }, rest))
+    Some((SpelledRequest::List { gfid }, rest))
 }
 
-fn attrs<'a>(plan: &Plan, bytes: &'a [u8]) -> Option<(Asked, &'a [u8])>
-    ensures { option_map (λ x. (x.0, x.1.now)) result ≡ as_a Asked.ReadAttrs (word_then (codes "attrs ") (object_at plan.now)) bytes.now }
+fn attrs<'a>(plan: &Plan, bytes: &'a [u8]) -> Option<(SpelledRequest, &'a [u8])>
+    ensures { option_map (λ x. (x.0, x.1.now)) result ≡ as_a SpelledRequest.ReadAttrs (word_then (codes "attrs ") (object_at plan.now)) bytes.now }
 {
     let (gfid, rest) = about(plan, b"attrs ", bytes)?;
-    Some((Asked::ReadAttrs { gfid }, rest))
+    Some((SpelledRequest::ReadAttrs { gfid }, rest))
 }
 
-fn index(bytes: &[u8]) -> Option<(Asked, &[u8])>
-    ensures { option_map (λ x. (x.0, x.1.now)) result ≡ word (codes "index") Asked.Index bytes.now }
+fn index(bytes: &[u8]) -> Option<(SpelledRequest, &[u8])>
+    ensures { option_map (λ x. (x.0, x.1.now)) result ≡ word (codes "index") SpelledRequest.Index bytes.now }
 {
     let rest = skip(b"index", bytes)?;
-    Some((Asked::Index, rest))
+    Some((SpelledRequest::Index, rest))
 }
 
-fn pre<'a>(plan: &Plan, bytes: &'a [u8]) -> Option<(Asked, &'a [u8])>
+fn pre<'a>(plan: &Plan, bytes: &'a [u8]) -> Option<(SpelledRequest, &'a [u8])>
     ensures { option_map (λ x. (x.0, x.1.now)) result ≡ as_a pre_of (both (then_word (word_then (codes "pre ") (object_at plan.now)) (codes " ")) kind_at) bytes.now }
 {
     let (gfid, rest) = about(plan, b"pre ", bytes)?;
     let rest = skip(b" ", rest)?;
     let (kind, rest) = kind(rest)?;
-    Some((Asked::Pre { gfid, kind }, rest))
+    Some((SpelledRequest::Pre { gfid, kind }, rest))
 }
 
-fn apply(bytes: &[u8]) -> Option<(Asked, &[u8])>
-    ensures { option_map (λ x. (x.0, x.1.now)) result ≡ as_a Asked.Apply (word_then (codes "apply ") (number_below (2 ^ 32))) bytes.now }
+fn apply(bytes: &[u8]) -> Option<(SpelledRequest, &[u8])>
+    ensures { option_map (λ x. (x.0, x.1.now)) result ≡ as_a SpelledRequest.Apply (word_then (codes "apply ") (number_below (2 ^ 32))) bytes.now }
 {
     let rest = skip(b"apply ", bytes)?;
     let (n, rest) = number(rest, MOST_SMALL)?;
-    Some((Asked::Apply { attempt: n as u32 }, rest))
+    Some((SpelledRequest::Apply { attempt: n as u32 }, rest))
 }
 
-fn post(bytes: &[u8]) -> Option<(Asked, &[u8])>
+fn post(bytes: &[u8]) -> Option<(SpelledRequest, &[u8])>
     ensures { option_map (λ x. (x.0, x.1.now)) result ≡ as_a post_of (both (then_word (word_then (codes "post ") (number_below (2 ^ 32))) (codes " ")) missed_at) bytes.now }
 {
     let rest = skip(b"post ", bytes)?;
@@ -171,17 +171,17 @@ fn post(bytes: &[u8]) -> Option<(Asked, &[u8])>
     };
     let attempt = n as u32;
     let missed = flags(missed);
-    Some((Asked::Post { attempt, missed }, rest))
+    Some((SpelledRequest::Post { attempt, missed }, rest))
 }
 
-fn cut_to<'a>(plan: &Plan, bytes: &'a [u8]) -> Option<(Asked, &'a [u8])>
+fn cut_to<'a>(plan: &Plan, bytes: &'a [u8]) -> Option<(SpelledRequest, &'a [u8])>
     ensures { option_map (λ x. (x.0, x.1.now)) result ≡ as_a cut_to_of (numbered_at plan.now (codes "cut ") (codes " ")) bytes.now }
 {
     let (gfid, len, rest) = numbered(plan, b"cut ", b" ", bytes)?;
-    Some((Asked::CutTo { gfid, len }, rest))
+    Some((SpelledRequest::CutTo { gfid, len }, rest))
 }
 
-fn copy<'a>(plan: &Plan, bytes: &'a [u8]) -> Option<(Asked, &'a [u8])>
+fn copy<'a>(plan: &Plan, bytes: &'a [u8]) -> Option<(SpelledRequest, &'a [u8])>
     ensures { option_map (λ x. (x.0, x.1.now)) result ≡ as_a copy_of (both (then_word (word_then (codes "copy ") (range_at plan.now)) (codes " from ")) (number_below (2 ^ 32))) bytes.now }
 {
     let rest = skip(b"copy ", bytes)?;
@@ -190,7 +190,7 @@ fn copy<'a>(plan: &Plan, bytes: &'a [u8]) -> Option<(Asked, &'a [u8])>
     let (n, rest) = number(rest, MOST_SMALL)?;
     let span = (to - at) as u32;
     Some((
-        Asked::Copy {
+        SpelledRequest::Copy {
             gfid,
             at: at as u32,
             span,
@@ -200,23 +200,23 @@ fn copy<'a>(plan: &Plan, bytes: &'a [u8]) -> Option<(Asked, &'a [u8])>
     ))
 }
 
-fn put_attrs<'a>(plan: &Plan, bytes: &'a [u8]) -> Option<(Asked, &'a [u8])>
+fn put_attrs<'a>(plan: &Plan, bytes: &'a [u8]) -> Option<(SpelledRequest, &'a [u8])>
     ensures { option_map (λ x. (x.0, x.1.now)) result ≡ as_a put_of (numbered_at plan.now (codes "put-attrs ") (codes " from ")) bytes.now }
 {
     let (gfid, read, rest) = numbered(plan, b"put-attrs ", b" from ", bytes)?;
-    Some((Asked::PutAttrs { gfid, read }, rest))
+    Some((SpelledRequest::PutAttrs { gfid, read }, rest))
 }
 
-fn put_names<'a>(plan: &Plan, bytes: &'a [u8]) -> Option<(Asked, &'a [u8])>
+fn put_names<'a>(plan: &Plan, bytes: &'a [u8]) -> Option<(SpelledRequest, &'a [u8])>
     ensures { option_map (λ x. (x.0, x.1.now)) result ≡ as_a put_names_of (both (then_word (word_then (codes "put-names ") (object_at plan.now)) (codes " from ")) reads_at) bytes.now }
 {
     let (gfid, rest) = about(plan, b"put-names ", bytes)?;
     let rest = skip(b" from ", rest)?;
     let (reads, rest) = reads(rest)?;
-    Some((Asked::PutNames { gfid, reads }, rest))
+    Some((SpelledRequest::PutNames { gfid, reads }, rest))
 }
 
-fn settle<'a>(plan: &Plan, bytes: &'a [u8]) -> Option<(Asked, &'a [u8])>
+fn settle<'a>(plan: &Plan, bytes: &'a [u8]) -> Option<(SpelledRequest, &'a [u8])>
     ensures { option_map (λ x. (x.0, x.1.now)) result ≡ as_a settle_of (both (then_word (both (then_word (word_then (codes "settle ") (object_at plan.now)) (codes " ")) kind_at) (codes " ")) (marks_at plan.now.shape.n)) bytes.now }
 {
     let (gfid, rest) = about(plan, b"settle ", bytes)?;
@@ -224,11 +224,11 @@ fn settle<'a>(plan: &Plan, bytes: &'a [u8]) -> Option<(Asked, &'a [u8])>
     let (kind, rest) = kind(rest)?;
     let rest = skip(b" ", rest)?;
     let (less, rest) = marks(plan.shape.n, rest)?;
-    Some((Asked::Settle { gfid, kind, less }, rest))
+    Some((SpelledRequest::Settle { gfid, kind, less }, rest))
 }
 
 #[tactic(auto, unfolding(crate::specs::Reading::reading_at))]
-fn reading<'a>(plan: &Plan, bytes: &'a [u8]) -> Option<(Asked, &'a [u8])>
+fn reading<'a>(plan: &Plan, bytes: &'a [u8]) -> Option<(SpelledRequest, &'a [u8])>
     ensures { option_map (λ x. (x.0, x.1.now)) result ≡ reading_at plan.now bytes.now }
 {
     if let Some(x) = look(plan, bytes) {
@@ -253,7 +253,7 @@ fn reading<'a>(plan: &Plan, bytes: &'a [u8]) -> Option<(Asked, &'a [u8])>
 }
 
 #[tactic(auto, unfolding(crate::specs::Reading::stepping_at))]
-fn stepping<'a>(plan: &Plan, bytes: &'a [u8]) -> Option<(Asked, &'a [u8])>
+fn stepping<'a>(plan: &Plan, bytes: &'a [u8]) -> Option<(SpelledRequest, &'a [u8])>
     ensures { option_map (λ x. (x.0, x.1.now)) result ≡ stepping_at plan.now bytes.now }
 {
     if let Some(x) = lock(plan, bytes) {
@@ -272,7 +272,7 @@ fn stepping<'a>(plan: &Plan, bytes: &'a [u8]) -> Option<(Asked, &'a [u8])>
 }
 
 #[tactic(auto, unfolding(crate::specs::Reading::mending_at))]
-fn mending<'a>(plan: &Plan, bytes: &'a [u8]) -> Option<(Asked, &'a [u8])>
+fn mending<'a>(plan: &Plan, bytes: &'a [u8]) -> Option<(SpelledRequest, &'a [u8])>
     ensures { option_map (λ x. (x.0, x.1.now)) result ≡ mending_at plan.now bytes.now }
 {
     if let Some(x) = cut_to(plan, bytes) {
@@ -292,7 +292,7 @@ fn mending<'a>(plan: &Plan, bytes: &'a [u8]) -> Option<(Asked, &'a [u8])>
 
 /// A request, and what follows it.
 #[tactic(auto, unfolding(crate::specs::Reading::asked_at))]
-pub(crate) fn asked<'a>(plan: &Plan, bytes: &'a [u8]) -> Option<(Asked, &'a [u8])>
+pub(crate) fn asked<'a>(plan: &Plan, bytes: &'a [u8]) -> Option<(SpelledRequest, &'a [u8])>
     ensures { option_map (λ x. (x.0, x.1.now)) result ≡ asked_at plan.now bytes.now }
 {
     if let Some(x) = reading(plan, bytes) {

@@ -1,21 +1,28 @@
 //! A trace, line by line.
-ghost use Rattle.std.specs.Prelude.{◌≡◌, ◌==◌, ◌<◌, ◌≤◌, IfOk, position, reverse};
-ghost use Rattle.std.specs.Option.{option_map};
-ghost use Rattle.afr_plan.specs.TextLines.{cut_of};
+ghost use Rattle.std.specs.Prelude.{◌≡◌, ◌<◌, ◌≤◌, IfOk, map, reverse};
+ghost use Rattle.afr_trace_read.specs.Seen.{seen_line};
 ghost use Rattle.afr_trace_read.specs.Trace.{line_feeds, trace_told};
 
 use crate::kinds::TraceLine;
 use crate::lines::read_line;
 use afr_plan::Plan;
+use afr_plan_read::cut;
 use std::alloc::Global;
 
 /// The most lines that a trace may have.
 const MOST_LINES: usize = 2_000;
 
+/// A line, and what its command gave: nothing, or the text behind `ok`, from the space on.
+#[derive(Clone, Copy, Drop)]
+pub struct SpelledLine<'a> {
+    pub line: TraceLine,
+    pub contents: &'a [u8],
+}
+
 /// What a trace says: its lines up to the first that is the text of no line, the oldest first, and whether there is such a one.
 #[derive(Drop)]
-pub struct TraceRead {
-    pub lines: Vec<TraceLine>,
+pub struct TraceRead<'a> {
+    pub lines: Vec<SpelledLine<'a>>,
     pub broken: bool,
 }
 
@@ -25,21 +32,6 @@ pub enum TraceStop {
     /// It has more than 2,000 line feeds.
     Limit,
     NoMemory,
-}
-
-/// Where the first line feed stands.
-fn feed(bytes: &[u8]) -> Option<usize>
-    ensures { result ≡ position (λ b. b == 10) bytes.now }
-{
-    bytes.iter().position(|b| *b == b'\n')
-}
-
-/// The bytes before the first line feed, and those after it.
-fn cut(bytes: &[u8]) -> Option<(&[u8], &[u8])>
-    ensures { option_map (λ x. (x.0.now, x.1.now)) result ≡ cut_of bytes.now }
-{
-    let at = feed(bytes)?;
-    Some((&bytes[..at], &bytes[at + 1..]))
 }
 
 /// How many line feeds there are; one more than a trace may have stands for all that are more.
@@ -63,8 +55,12 @@ fn line_feeds(bytes: &[u8]) -> usize
 /// What a trace says at a plan, in one pass after its line feeds were counted. Time is linear in the text; each name, key and value is
 /// looked for among all of the plan.
 #[tactic(auto, using(crate::proofs::TraceLaws::ends, crate::proofs::TraceLaws::one_feed, afr_plan_read::proofs::LoopLemmas::shorter))]
-pub fn read_trace(alloc: Global, plan: &Plan, bytes: &[u8]) -> Result<TraceRead, TraceStop>
-    ensures ok { IfOk result (λ r. record { lines = reverse r.lines.items; broken = r.broken } ≡ trace_told plan.now bytes.now) }
+pub fn read_trace<'a>(
+    alloc: Global,
+    plan: &Plan,
+    bytes: &'a [u8],
+) -> Result<TraceRead<'a>, TraceStop>
+    ensures ok { IfOk result (λ r. record { lines = reverse (map seen_line r.lines.items); broken = r.broken } ≡ trace_told plan.now bytes.now) }
     ensures few { IfOk result (λ r. line_feeds bytes.now ≤ 2000) }
     ensures limit { result ≡ Err TraceStop.Limit → 2000 < line_feeds bytes.now }
 {
@@ -74,13 +70,16 @@ pub fn read_trace(alloc: Global, plan: &Plan, bytes: &[u8]) -> Result<TraceRead,
     let mut lines = Vec::new(alloc);
     let mut rest = bytes;
     while let Some((line, more)) = cut(rest) {
-        let Some(told) = read_line(plan, lines.len() as u32, line) else {
+        let Some((told, contents)) = read_line(plan, lines.len() as u32, line) else {
             return Ok(TraceRead {
                 lines,
                 broken: true,
             });
         };
-        match lines.push(told) {
+        match lines.push(SpelledLine {
+            line: told,
+            contents,
+        }) {
             Ok(()) => {}
             Err(_) => return Err(TraceStop::NoMemory),
         }

@@ -1,54 +1,21 @@
 //! The names, keys and values of a plan, by their places.
 ghost use Rattle.std.specs.Prelude.{◌≡◌, length, take_while};
 ghost use Rattle.std.specs.Option.{option_map};
-ghost use Rattle.afr_plan.specs.Bytes.{is_key, key_byte, letter, name_byte};
+ghost use Rattle.afr_plan.specs.Bytes.{is_key, key_byte, name_byte};
 ghost use Rattle.afr_plan.specs.Bytes as allowed;
+ghost use Rattle.afr_trace_read.specs.Contents.{bytes_of_name};
 ghost use Rattle.afr_trace_read.specs.Forms.{place_in, word_among};
 ghost use Rattle.afr_trace_read.specs.Parts.{key_at, keyed_at, name_at, named_at, value_at};
 
-use crate::bytes::is_digit;
 use crate::parts::object;
 use afr_base::{Gfid, KeyId, NameId, ValueId};
 use afr_plan::{Plan, WordList};
-use afr_plan_line::{is_same, skip};
-
-fn is_letter(byte: u8) -> bool
-    ensures { result ≡ letter byte }
-{
-    (b'a' <= byte && byte <= b'z') || (b'A' <= byte && byte <= b'Z')
-}
-
-fn is_name_byte(byte: u8) -> bool
-    ensures { result ≡ name_byte byte }
-{
-    is_letter(byte) || is_digit(byte) || byte == b'.' || byte == b'_' || byte == b'-'
-}
-
-fn is_key_byte(byte: u8) -> bool
-    ensures { result ≡ key_byte byte }
-{
-    is_letter(byte) || is_digit(byte) || byte == b'.' || byte == b'_'
-}
+use afr_plan_line::{is_name, is_name_byte, is_same, key as any_key, skip};
 
 fn name_len(bytes: &[u8]) -> usize
     ensures { result ≡ length (take_while name_byte bytes.now) }
 {
     bytes.iter().take_while(|b| is_name_byte(**b)).count()
-}
-
-fn key_len(bytes: &[u8]) -> usize
-    ensures { result ≡ length (take_while key_byte bytes.now) }
-{
-    bytes.iter().take_while(|b| is_key_byte(**b)).count()
-}
-
-fn is_name(name: &[u8]) -> bool
-    ensures { result ≡ allowed.is_name name.now }
-{
-    match name {
-        [] => false,
-        [first, ..] => *first != b'-' && !is_same(name, b".") && !is_same(name, b".."),
-    }
 }
 
 fn place_of(words: &WordList, word: &[u8]) -> Option<usize>
@@ -73,16 +40,13 @@ fn among_names<'a>(words: &WordList, bytes: &'a [u8]) -> Option<(usize, &'a [u8]
     Some((place, &bytes[count..]))
 }
 
-#[tactic(auto, unfolding(crate::specs::Forms::word_among), using(afr_plan_line::proofs::Front::front_take))]
+#[tactic(auto, unfolding(crate::specs::Forms::word_among, afr_plan::specs::Reading::key_at))]
 fn among_keys<'a>(words: &WordList, bytes: &'a [u8]) -> Option<(usize, &'a [u8])>
     ensures { option_map (λ x. (x.0, x.1.now)) result ≡ word_among key_byte is_key words.now bytes.now }
 {
-    let count = key_len(bytes);
-    if count == 0 {
-        return None;
-    }
-    let place = place_of(words, &bytes[..count])?;
-    Some((place, &bytes[count..]))
+    let (word, rest) = any_key(bytes)?;
+    let place = place_of(words, word)?;
+    Some((place, rest))
 }
 
 /// A name of the plan.
@@ -140,4 +104,14 @@ pub(crate) fn keyed<'a>(plan: &Plan, bytes: &'a [u8]) -> Option<(Gfid, KeyId, &'
     let rest = skip(b" ", rest)?;
     let (key, rest) = key(plan, rest)?;
     Some((gfid, key, rest))
+}
+
+/// The bytes of a name; none where the plan lacks it.
+pub(crate) fn bytes_of_name(plan: &Plan, name: NameId) -> &[u8]
+    ensures { result.now ≡ bytes_of_name plan.now name }
+{
+    match plan.words.names.as_slice().get(name.0 as usize) {
+        Some(word) => word.as_slice(),
+        None => &[],
+    }
 }
