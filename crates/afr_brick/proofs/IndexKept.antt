@@ -5,6 +5,7 @@ use Rattle.std.specs.Prelude.{OnOk, OnErr, option_map}
 use Rattle.std.specs.BTreeMap.{is_at, insert_entry}
 use Rattle.std.specs.List.Sorted.{IsStrictlySortedBy}
 use Rattle.std.specs.Map.{keys_of, remove_entry}
+use Rattle.afr_base.specs.Marks.{is_no_marks}
 use Rattle.afr_base.specs.declared.ids.Gfid.{Gfid}
 use Rattle.afr_base.specs.declared.ids.NameId.{NameId}
 use Rattle.afr_base.specs.declared.ids.What.{What}
@@ -65,7 +66,7 @@ index_of-linked dir name g what t = by_copy (copy_at dir t) refl
     by_copy None e = refl
     by_copy (Some o) e =
         let more : List (NameId × Entry) → List (NameId × Entry) = λ names. insert_entry name_cmp names name (record { gfid = g; what = what }) in
-        index_of-made g what (with_copy dir (with_names more o) t) ∙ index_of-with_copy dir (with_names more o) o t e (marks_with_names more o) (what_with_names more o)
+        index_of-made g what (with_copy dir (with_names more o) t) ∙ index_of-with_copy dir (with_names more o) o t e (ap is_no_marks (marks_with_names more o)) (what_with_names more o)
 
 -- A change leaves the index.
 pub index_of-applied : (keeps : Bool) (change : Change) (t : Table) → index_of (applied keeps change t) ≡ index_of t
@@ -87,7 +88,7 @@ index_of-renamed names g t = by_copy (copy_at g t) refl
     by_copy None e = refl
     by_copy (Some o) e =
         let given : List (NameId × Entry) → List (NameId × Entry) = λ old. names in
-        index_of-all_made names (with_copy g (with_names given o) t) ∙ index_of-with_copy g (with_names given o) o t e (marks_with_names given o) (what_with_names given o)
+        index_of-all_made names (with_copy g (with_names given o) t) ∙ index_of-with_copy g (with_names given o) o t e (ap is_no_marks (marks_with_names given o)) (what_with_names given o)
 
 -- A repair leaves the index.
 pub index_of-mended : (keeps : Bool) (repair : Repair) (load : Contents) (t : Table) → index_of (mended keeps repair load t) ≡ index_of t
@@ -106,7 +107,7 @@ index_of-mended keeps (PutNames g reads) (contents.Attrs attrs) t = refl
 index_of-mended keeps (PutNames g reads) (contents.Names names) t = index_of-renamed names g t
 
 -- An index is right for tables that list the same.
-same_index : (old new : Table) (index : Option Listed) → index_of new ≡ index_of old → IsIndexOf old index → IsIndexOf new index
+pub same_index : (old new : Table) (index : Option Listed) → index_of new ≡ index_of old → IsIndexOf old index → IsIndexOf new index
 same_index old new None e h = h
 same_index old new (Some listed) e h = h ∙ sym e
 

@@ -21,8 +21,8 @@ use Rattle.afr_object.specs.TablesLemmas.{same_gfid}
 abbrev listed_first : Gfid → Object → Listed → Listed
 listed_first g o rest = if is_no_marks o.marks then rest else (g, o.what) ∷ rest
 
--- A copy that keeps its kind and its numbers is listed as before.
-pub index_of-with_copy : (g : Gfid) (o w : Object) (t : Table) → copy_at g t ≡ Some w → o.marks ≡ w.marks → o.what ≡ w.what → index_of (with_copy g o t) ≡ index_of t
+-- A copy that keeps its kind, and has a number above 0 or has none as before, is listed as before.
+pub index_of-with_copy : (g : Gfid) (o w : Object) (t : Table) → copy_at g t ≡ Some w → is_no_marks o.marks ≡ is_no_marks w.marks → o.what ≡ w.what → index_of (with_copy g o t) ≡ index_of t
 index_of-with_copy g o w [] h m k = refl
 index_of-with_copy g o w (e ∷ t) h m k = by_key (is_at (gfid_cmp g) e.0) h (λ h. index_of-with_copy g o w t h m k)
   where
@@ -51,7 +51,7 @@ index_of-changed f g t m k = by_copy (copy_at g t) refl
   where
     by_copy : (o : Option Object) → copy_at g t ≡ o → index_of (changed f g o t) ≡ index_of t
     by_copy None e = refl
-    by_copy (Some o) e = index_of-with_copy g (f o) o t e (m o) (k o)
+    by_copy (Some o) e = index_of-with_copy g (f o) o t e (ap is_no_marks (m o)) (k o)
 
 -- An object below all of a table stands before those that its index lists.
 insert_below : (g : Gfid) (what : What) (t : Table) → AllByRecursion (λ y. gfid_cmp g y ≡ Less) (keys_of t) → insert_entry gfid_cmp (index_of t) g what ≡ (g, what) ∷ index_of t

@@ -1,8 +1,9 @@
 -- Names that are replaced after the objects that they name are made, and objects that go again.
-use Rattle.std.proofs.Common.{◌≡◌, ℕ, suc, zero, true, false, List, [], ◌∷◌, Option, Some, None, drop, take, reverse, length, get_or, ◌<◌, refl, sym, ap, ◌⊎◌, inl, inr, ◌==◌, if◌then◌else◌, slice_get}
+use Rattle.std.proofs.Common.{◌≡◌, ℕ, Bool, suc, zero, true, false, List, [], ◌∷◌, Option, Some, None, drop, take, reverse, length, get_or, ◌<◌, refl, sym, ap, ◌⊎◌, inl, inr, ◌==◌, if◌then◌else◌, slice_get}
 use Rattle.std.proofs.lemmas.Bool.Decides.{eqb_tells}
 use Rattle.std.proofs.Math.Seq.{take-suc}
 use Rattle.std.proofs.lemmas.List.{reverse-append}
+use Rattle.std.proofs.lemmas.Map.Steps.{set_value_same}
 use Rattle.std.specs.Prelude.{is_some}
 use Rattle.std.specs.BTreeMap.{insert_entry, is_at}
 use Rattle.std.specs.Map.{remove_entry}
@@ -10,7 +11,7 @@ use Rattle.afr_base.specs.declared.ids.Gfid.{Gfid}
 use Rattle.afr_base.specs.declared.ids.NameId.{NameId}
 use Rattle.afr_base.specs.declared.ids.What.{What}
 use Rattle.afr_object.specs.Repairs.{all_made, renamed}
-use Rattle.afr_object.specs.Tables.{Table, changed, copy_at, gfid_cmp, made, new_object, with_copy, with_names}
+use Rattle.afr_object.specs.Tables.{Table, changed, copy_at, gfid_cmp, is_dir, made, new_object, with_copy, with_names}
 use Rattle.afr_object.specs.declared.entry.Entry.{Entry}
 use Rattle.afr_object.specs.Object.{Object}
 use Rattle.afr_object.specs.TablesLemmas.{copy_at-with_copy, with_copy-insert_entry}
@@ -59,6 +60,20 @@ all_made-with_copy (x ∷ names) g o w t there =
 pub renamed_last : (names : List (NameId × Entry)) (g : Gfid) (o : Object) (t : Table) → copy_at g t ≡ Some o
     → changed (with_names (λ old. names)) g (copy_at g (all_made names t)) (all_made names t) ≡ renamed names g (copy_at g t) t
 renamed_last names g o t there = rw (still_after_all names g o t there, there) (sym (all_made-with_copy names g o (with_names (λ old. names) o) t there))
+
+-- A directory that has the names stays as it is.
+names_stay : (names : List (NameId × Entry)) (o : Object) → o.names ≡ names → with_names (λ old. names) o ≡ o
+names_stay names o same = go (is_dir o.what)
+  where
+    go : (b : Bool) → (if b then record o { names = names } else o) ≡ o
+    go true = ap (λ (n : List (NameId × Entry)). record o { names = n }) (sym same)
+    go false = refl
+
+-- Where a directory has the names, the objects that they name are made, and no more.
+pub renamed_same : (names : List (NameId × Entry)) (g : Gfid) (o : Object) (t : Table) → copy_at g t ≡ Some o → o.names ≡ names → all_made names t ≡ renamed names g (copy_at g t) t
+renamed_same names g o t there same =
+    let stays : with_copy g o t ≡ t = set_value_same (is_at (gfid_cmp g)) t o there in
+    rw (there, names_stay names o same, stays) refl
 
 -- Of objects that go again, the newest goes first.
 pub without_newest : (gfids : List Gfid) (k : ℕ) (d : Gfid) (t : Table) → k < length gfids

@@ -98,7 +98,10 @@ impl Brick {
         ensures never { result ≢ Err Refused.NoMemory }
         ensures err { OnErr result (self.new ≡ self.old) }
     {
-        self.store.pre(g, kind)?;
+        let stays = self.store.pre(g, kind)?;
+        if stays {
+            return Ok(());
+        }
         follow(&mut self.index, &self.store, g);
         Ok(())
     }
@@ -111,7 +114,10 @@ impl Brick {
         ensures never { result ≢ Err Refused.NoMemory }
         ensures err { OnErr result (self.new ≡ self.old) }
     {
-        self.store.post(g, kind, missed)?;
+        let stays = self.store.post(g, kind, missed)?;
+        if stays {
+            return Ok(());
+        }
         follow(&mut self.index, &self.store, g);
         Ok(())
     }
@@ -124,7 +130,10 @@ impl Brick {
         ensures never { result ≢ Err Refused.NoMemory }
         ensures err { OnErr result (self.new ≡ self.old) }
     {
-        self.store.settle(g, kind, less)?;
+        let stays = self.store.settle(g, kind, less)?;
+        if stays {
+            return Ok(());
+        }
         follow(&mut self.index, &self.store, g);
         Ok(())
     }

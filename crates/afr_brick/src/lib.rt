@@ -9,6 +9,7 @@ mod object;
 mod reads;
 mod refused;
 mod repairs;
+mod same;
 mod store;
 
 pub use brick::Brick;

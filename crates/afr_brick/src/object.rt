@@ -1,15 +1,17 @@
 //! One copy of an object, as a brick keeps it, and each change of it.
 ghost use Rattle.std.specs.Prelude.{◌≡◌, ℕ, ◌+◌, ◌-◌, ◌^◌, ◌<◌, ◌≤◌, OnOk, OnErr, length, slice_index, take};
 ghost use Rattle.std.specs.BTreeMap.{insert_entry, is_at};
-ghost use Rattle.std.specs.Map.{remove_entry};
+ghost use Rattle.std.specs.List.Sorted.{IsStrictlySortedBy};
+ghost use Rattle.std.specs.Map.{keys_of, remove_entry};
 ghost use Rattle.afr_base.specs.Marks.{closed_op, dirtied, is_no_marks, marks_of, taken_back};
 ghost use Rattle.afr_object.specs.Bytes.{copied_in, written};
 ghost use Rattle.afr_object.specs.Repairs.{with_attrs};
-ghost use Rattle.afr_object.specs.Tables.{name_cmp, new_object, view_of, with_attr, with_bytes, with_names, with_numbers};
+ghost use Rattle.afr_object.specs.Tables.{key_cmp, name_cmp, new_object, view_of, with_attr, with_bytes, with_names, with_numbers};
 
+use crate::same::are_same_attrs;
 use afr_base::{AllMarks, BrickSet, KeyId, Kind, Marks, NameId, NoMemory, ValueId, What};
 use afr_content::Content;
-use afr_object::{Entry, SortedMap, View};
+use afr_object::{AttrList, Entry, SortedMap, View};
 use std::alloc::Global;
 use std::marker::Model;
 
@@ -139,10 +141,18 @@ impl Object {
         self.attrs.insert(key, value)
     }
 
-    pub(crate) fn put_attrs(&mut self, attrs: SortedMap<KeyId, ValueId>)
-        ensures { self.new ≡ with_attrs attrs self.old }
+    /// Replaces the attributes, where the object has others.
+    pub(crate) fn renew_attrs(&mut self, alloc: Global, attrs: &AttrList) -> Result<(), NoMemory>
+        requires { IsStrictlySortedBy key_cmp (keys_of attrs.now) }
+        ensures ok { OnOk result (self.new ≡ with_attrs attrs.now self.old) }
+        ensures err { OnErr result (self.new ≡ self.old) }
     {
-        self.attrs = attrs;
+        let kept = self.attrs.list(alloc)?;
+        if are_same_attrs(&kept, attrs) {
+            return Ok(());
+        }
+        self.attrs = SortedMap::from_list(alloc, attrs)?;
+        Ok(())
     }
 
     /// Gives a directory a name. A file stays as it is, here and below.

@@ -10,7 +10,7 @@ use crate::brick::Brick;
 use crate::refused::Refused;
 use afr_base::{Gfid, KeyId, NameId, NoMemory, ValueId};
 use afr_content::Content;
-use afr_object::{AttrList, Chunk, Entry, IndexList, List, NameList};
+use afr_object::{AttrList, Chunk, Entry, IndexList, NameList};
 use std::alloc::Global;
 
 impl Brick {
@@ -23,8 +23,8 @@ impl Brick {
         let Some(object) = store.objects.get(&g) else {
             return Err(Refused::NoObject);
         };
-        let bytes = bytes_of(store.alloc, object.content(), at, len)?;
-        Ok(List::from_vec(bytes))
+        let bytes = chunk_of(store.alloc, object.content(), at, len)?;
+        Ok(bytes)
     }
 
     /// What a name of a directory stands for.
@@ -90,6 +90,13 @@ impl Brick {
             None => self.store.walk(),
         }
     }
+}
+
+fn chunk_of(alloc: Global, content: &Content, at: u32, len: u32) -> Result<Chunk, NoMemory>
+    ensures ok { IfOk result (λ bytes. bytes ≡ take len (drop at content.now.bytes)) }
+{
+    let bytes = bytes_of(alloc, content, at, len)?;
+    Chunk::from_vec(bytes)
 }
 
 fn bytes_of(alloc: Global, content: &Content, at: u32, len: u32) -> Result<Vec<u8>, NoMemory>

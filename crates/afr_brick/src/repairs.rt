@@ -1,5 +1,5 @@
 //! What each repair of a heal makes of a brick's copies.
-ghost use Rattle.std.specs.Prelude.{◌≡◌, ◌≢◌, ◌+◌, ◌≤◌, ◌↔◌, None, true, IfSome, OnOk, OnErr, is_some, length, reverse};
+ghost use Rattle.std.specs.Prelude.{◌≡◌, ◌≢◌, ◌+◌, ◌≤◌, ◌↔◌, None, true, IfOk, IfSome, OnOk, OnErr, is_some, length, reverse};
 ghost use Rattle.std.specs.List.Sorted.{IsStrictlySortedBy};
 ghost use Rattle.std.specs.Map.{keys_of};
 ghost use Rattle.afr_object.specs.Bytes.{copied_in};
@@ -11,6 +11,7 @@ ghost use Rattle.afr_object.specs.Tables.{changed, copy_at, key_cmp, made, name_
 use crate::refused::Refused;
 use crate::store::Store;
 use afr_base::{Gfid, NameId, NoMemory};
+use afr_heal_merge::are_same_names;
 use afr_object::{AttrList, Entry, Load, NameList, Repair, SortedMap};
 
 impl Store {
@@ -77,14 +78,28 @@ impl Store {
         let Some(object) = self.objects.get_mut(&g) else {
             return Err(Refused::NoObject);
         };
-        let map = SortedMap::from_list(self.alloc, attrs)?;
-        object.put_attrs(map);
+        object.renew_attrs(self.alloc, attrs)?;
         Ok(())
+    }
+
+    /// Gives a directory these names, and makes the objects that they name. Names that it has are not made anew.
+    fn put_names(&mut self, g: Gfid, names: &NameList) -> Result<(), Refused>
+        requires { IsStrictlySortedBy name_cmp (keys_of names.now) }
+        ensures ok { OnOk result (self.new ≡ record self.old { objects = renamed names.now g (copy_at g self.old.objects) self.old.objects }) }
+        ensures absent { (result ≡ Err Refused.NoObject) ↔ (copy_at g self.old.objects ≡ None) }
+        ensures err { OnErr result (self.new ≡ self.old) }
+    {
+        let has = self.has_names(g, names)?;
+        if has {
+            self.make_all(names)?;
+            return Ok(());
+        }
+        self.replace_names(g, names)
     }
 
     /// Replaces the names of a directory, and makes the objects that they name. Memory for both
     /// comes before the names change.
-    fn put_names(&mut self, g: Gfid, names: &NameList) -> Result<(), Refused>
+    fn replace_names(&mut self, g: Gfid, names: &NameList) -> Result<(), Refused>
         requires { IsStrictlySortedBy name_cmp (keys_of names.now) }
         ensures ok { OnOk result (self.new ≡ record self.old { objects = renamed names.now g (copy_at g self.old.objects) self.old.objects }) }
         ensures absent { (result ≡ Err Refused.NoObject) ↔ (copy_at g self.old.objects ≡ None) }
@@ -95,6 +110,18 @@ impl Store {
         self.make_all(names)?;
         self.rename(g, map);
         Ok(())
+    }
+
+    /// Whether the copy has these names.
+    fn has_names(&self, g: Gfid, names: &NameList) -> Result<bool, Refused>
+        ensures has { IfOk result (λ has. has ≡ true → IfSome (copy_at g self.now.objects) (λ o. o.names ≡ names.now)) }
+        ensures absent { (result ≡ Err Refused.NoObject) ↔ (copy_at g self.now.objects ≡ None) }
+    {
+        let Some(object) = self.objects.get(&g) else {
+            return Err(Refused::NoObject);
+        };
+        let kept = object.names().list(self.alloc)?;
+        Ok(are_same_names(&kept, names))
     }
 
     fn rename(&mut self, g: Gfid, names: SortedMap<NameId, Entry>)

@@ -17,7 +17,7 @@ use crate::standing::place_by;
 use afr_base::ActorId;
 use afr_check_tables::Unfit;
 use afr_lines::{Good, Line, Reply};
-use afr_object::List;
+use afr_object::Chunk;
 use afr_plan::{Command, Plan};
 use std::alloc::Global;
 
@@ -106,7 +106,7 @@ fn to_read(
     ensures ok { IfOk result (λ reply. reply ≡ if len == 0 then Some (Reply.Ok (Good.Bytes [])) else by_reading (reading_by plan.now (work a.0 (reverse log.now)))) }
 {
     if len == 0 {
-        Ok(Some(Reply::Ok(Good::Bytes(List::new(alloc)))))
+        Ok(Some(Reply::Ok(Good::Bytes(Chunk::new(alloc)))))
     } else {
         by_read(alloc, plan, log, a)
     }

@@ -4,7 +4,7 @@ ghost use Rattle.std.specs.Prelude.{◌≡◌, IfOk};
 use crate::logs::Worked;
 use afr_base::{ActorId, BrickId, NameId, NoMemory, Shape};
 use afr_lines::{Event, Fault};
-use afr_object::List;
+use afr_object::{Chunk, List};
 use afr_plan::{
     Command, Events, Faults, Go, NamePath, Orders, Plan, PlannedEvent, PlannedFault, Rounds,
     Script, Scripts, Words,
@@ -63,6 +63,10 @@ fn list_of<T: Copy + Drop>(alloc: Global, items: &[T]) -> Result<List<T>, NoMemo
     Ok(list)
 }
 
+fn bytes_of(alloc: Global, bytes: &[u8]) -> Result<Chunk, NoMemory> {
+    Chunk::from_vec(bytes.to_vec(alloc)?)
+}
+
 fn clients_of(alloc: Global, worked: Worked) -> Result<Scripts, NoMemory> {
     match worked {
         Worked::WriteAndRead => scripts(alloc, &[Job::Hello, Job::Read], &[]),
@@ -105,17 +109,17 @@ fn command(alloc: Global, job: Job) -> Result<Command, NoMemory> {
         Job::Write(byte) => Ok(Command::Write {
             path,
             at: 0,
-            bytes: list_of(alloc, &[byte])?,
+            bytes: bytes_of(alloc, &[byte])?,
         }),
         Job::WriteFive(byte) => Ok(Command::Write {
             path,
             at: 0,
-            bytes: list_of(alloc, &[byte; 5])?,
+            bytes: bytes_of(alloc, &[byte; 5])?,
         }),
         Job::Hello => Ok(Command::Write {
             path,
             at: 0,
-            bytes: list_of(alloc, b"hello".as_slice())?,
+            bytes: bytes_of(alloc, b"hello".as_slice())?,
         }),
         Job::Read => Ok(Command::Read {
             path,

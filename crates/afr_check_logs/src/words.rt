@@ -4,7 +4,7 @@ ghost use Rattle.std.specs.Prelude.{◌<◌, IfSome};
 use crate::trace::NoLog;
 use afr_base::{ActorId, AllMarks, BrickId, BrickSet, Gfid, Kind, Marks, NameId, NoMemory, What};
 use afr_lines::{Area, Domain, Line, Told};
-use afr_object::{Change, Chunk, List, View};
+use afr_object::{Change, Chunk, View};
 use hex::FromHexError;
 use std::alloc::Global;
 use std::str::SplitWhitespace;
@@ -174,18 +174,14 @@ fn all_marks_in(words: &mut Words<'_>) -> Option<AllMarks> {
 /// Bytes in hexadecimal.
 pub(crate) fn digits_of(alloc: Global, text: &str) -> Result<Chunk, NoLog> {
     match hex::decode(alloc, text) {
-        Ok(bytes) => Ok(chunk_of(alloc, bytes.as_slice())?),
+        Ok(bytes) => Ok(Chunk::from_vec(bytes)?),
         Err(FromHexError::OutOfMemory) => Err(NoLog::NoMemory),
         Err(_) => Err(NoLog::NoLine),
     }
 }
 
 pub(crate) fn chunk_of(alloc: Global, bytes: &[u8]) -> Result<Chunk, NoMemory> {
-    let mut chunk = List::new(alloc);
-    for byte in bytes {
-        chunk.push(*byte)?;
-    }
-    Ok(chunk)
+    Chunk::from_vec(bytes.to_vec(alloc)?)
 }
 
 /// The object and the kind of the attempt that begins at a position.

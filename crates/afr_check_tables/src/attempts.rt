@@ -11,7 +11,6 @@ use afr_lines::{Line, Reply};
 use afr_object::Change;
 
 /// The line at a position.
-#[tactic(auto, using(crate::proofs::LogLemmas::from_oldest_reverse))]
 fn line_at(log: &[Line], position: usize) -> Option<&Line>
     ensures { option_copied result ≡ from_oldest position (reverse log.now) }
 {

@@ -113,7 +113,7 @@ fn bytes_of(alloc: Global, brick: &Brick, g: Gfid, at: u32, len: u32) -> Result<
 {
     match brick.read_bytes(g, at, len) {
         Ok(bytes) => Ok(Brought::Bytes(bytes)),
-        Err(Refused::NoObject) => Ok(Brought::Bytes(List::new(alloc))),
+        Err(Refused::NoObject) => Ok(Brought::Bytes(Chunk::new(alloc))),
         Err(Refused::NoMemory) => Err(NoMemory),
     }
 }
@@ -146,9 +146,9 @@ pub(crate) fn bytes_only(alloc: Global, brought: Brought) -> Brought
 {
     match brought {
         Brought::Bytes(bytes) => Brought::Bytes(bytes),
-        Brought::Nothing => Brought::Bytes(List::new(alloc)),
-        Brought::Attrs(_) => Brought::Bytes(List::new(alloc)),
-        Brought::Names(_) => Brought::Bytes(List::new(alloc)),
+        Brought::Nothing => Brought::Bytes(Chunk::new(alloc)),
+        Brought::Attrs(_) => Brought::Bytes(Chunk::new(alloc)),
+        Brought::Names(_) => Brought::Bytes(Chunk::new(alloc)),
     }
 }
 

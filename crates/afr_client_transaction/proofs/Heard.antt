@@ -45,7 +45,7 @@ module _ (m : TransactionProgress) (at : ℕ) (b : BrickId) (q : Request) (e : n
   brick_is : Sound m → b.0 ≡ lowest (left m.stage m)
   brick_is s = ap (λ (x : BrickId). x.0) (same_asked (record { 0 = lowest (left m.stage m) }) b (request_at m.stage m) q (asked_of m.stage at m b q s.ready e).1).0
 
-  request_is : Sound m → q ≡ request_at m.stage m
+  pub request_is : Sound m → q ≡ request_at m.stage m
   request_is s = (same_asked (record { 0 = lowest (left m.stage m) }) b (request_at m.stage m) q (asked_of m.stage at m b q s.ready e).1).1
 
   pub heard_outside : Sound m → (told : Told) (x : Register) → x ≡ noted_ask m.register at b.0 q told → x.inside ≡ false

@@ -9,3 +9,4 @@ pub mod Quorum
 pub mod ReadLemmas
 pub mod Requests
 pub mod Again
+pub mod WaitsLemmas

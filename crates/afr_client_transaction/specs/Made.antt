@@ -1,11 +1,19 @@
 -- What a transaction carries to the bricks: its change with the number that its Begin line gave.
-use Rattle.std.specs.Prelude.{◌≡◌, ℕ, Option, Some, None}
+use Rattle.std.specs.Prelude.{◌≡◌, ℕ, Bool, true, false, Option, Some, None}
+use Rattle.afr_base.specs.declared.ids.ActorId.{ActorId}
+use Rattle.afr_discipline.specs.Notes.{noted_ask}
+use Rattle.afr_lines.specs.Areas.{area_for}
+use Rattle.afr_lines.specs.declared.answer.Told.{Told}
+use Rattle.afr_lines.specs.declared.answer.Told.TheVariants as as_told
+use Rattle.afr_lines.specs.declared.lock.Domain.TheVariants.{Work}
+use Rattle.afr_lines.specs.declared.request.Request.TheVariants as request
+use Rattle.afr_model_moves.specs.Note.{is_held}
 use Rattle.afr_object.specs.declared.change.Change.{Change}
 use Rattle.afr_object.specs.declared.change.Change.TheVariants.{Make}
 use Rattle.afr_client_transaction.specs.Progress.{TransactionProgress, gfid_at, number_in, numbered}
 use Rattle.afr_client_transaction.specs.Sound.{Sound}
 use Rattle.afr_client_transaction.specs.declared.stage.Stage.{Stage}
-use Rattle.afr_client_transaction.specs.declared.stage.Stage.TheVariants.{Preparing, Applying}
+use Rattle.afr_client_transaction.specs.declared.stage.Stage.TheVariants.{Locking, Preparing, Applying}
 
 -- the change as its Begin line has it
 abbrev pub attempted : TransactionProgress → Change
@@ -26,3 +34,13 @@ IsMade stage made m = Unit {0}
 pub record IsTransaction (made : Option Change) (m : TransactionProgress) : Type 0 where
   pub sound : Sound m
   pub kept : IsMade m.stage made m
+
+-- a lock was asked for that another actor holds
+abbrev pub meets_another : Stage → Told → Bool
+meets_another Locking told = is_held told
+meets_another stage told = false
+
+-- another actor holds the area: told so once more, at whatever brick, the register stays as it is
+abbrev pub Waits : Bool → TransactionProgress → Type 0
+Waits true m = (m.stage ≡ Locking) × ((b at : ℕ) (owner : ActorId) → noted_ask m.register at b (request.Lock Work (area_for m.change)) (as_told.Held owner) ≡ m.register)
+Waits false m = Unit {0}

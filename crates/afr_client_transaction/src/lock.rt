@@ -3,11 +3,12 @@ ghost use Rattle.std.specs.Prelude.{◌≡◌, ◌<◌, ◌≤◌, not};
 ghost use Rattle.afr_base.specs.Bricks.{below, minus};
 ghost use Rattle.afr_lines.specs.Areas.{area_for};
 ghost use Rattle.afr_model_moves.specs.Note.{is_granted, is_held};
+ghost use Rattle.afr_client_transaction.specs.Made.{meets_another};
 ghost use Rattle.afr_client_transaction.specs.Progress.{asked_by};
 ghost use Rattle.afr_client_transaction.specs.declared.stage.Stage.{Stage};
 
 use crate::change::area_of;
-use crate::stage::LocksAndLooks;
+use crate::stage::{LocksAndLooks, Stage};
 use afr_base::{BrickId, BrickSet};
 use afr_lines::{Domain, Request, Told};
 use afr_object::Change;
@@ -47,8 +48,18 @@ fn is_granted(told: &Told) -> bool
     matches!(told, Told::Granted)
 }
 
-fn is_held(told: &Told) -> bool
+pub(crate) fn is_held(told: &Told) -> bool
     ensures { result ≡ is_held told.now }
 {
     matches!(told, Told::Held(_))
+}
+
+/// Whether a lock was asked for that another actor holds.
+pub(crate) fn met_another(stage: Stage, told: &Told) -> bool
+    ensures { result ≡ meets_another stage told.now }
+{
+    match stage {
+        Stage::Locking => is_held(told),
+        _ => false,
+    }
 }

@@ -12,8 +12,9 @@ ghost use Rattle.afr_client_transaction.specs.Progress.{CarriesAt, TransactionPr
 ghost use Rattle.afr_client_transaction.specs.Sound.{IsAsking, IsUnused, Sound, Suits};
 
 use crate::change::{made_by, numbered};
+use crate::lock::{is_held, met_another};
 use crate::reply::{TransactionOutcome, outcome_of, reply_for};
-use crate::stage::{LocksAndLooks, Stage, after, asked_after, left_of, request_of};
+use crate::stage::{LocksAndLooks, Stage, after, asked_after, left_of, put_request, request_of};
 use afr_base::{BrickId, BrickSet, NoMemory, Shape};
 use afr_discipline::{Move, Register, fresh, note};
 use afr_lines::{Next, Request, Told};
@@ -30,17 +31,19 @@ pub struct Transaction {
     register: Register,
     stage: Stage,
     asked: LocksAndLooks,
+    /// Whether the latest answer was that another actor holds the area. Told so once more, a transaction stays as it is.
+    waits: bool,
 }
 
 impl Model for Transaction {
     ghost use Rattle.afr_client_transaction.specs.Progress.{TransactionProgress};
-    ghost use Rattle.afr_client_transaction.specs.Made.{IsTransaction};
+    ghost use Rattle.afr_client_transaction.specs.Made.{IsTransaction, Waits};
 
     ghost Value = { TransactionProgress };
 
     ghost view = { λ m. record { change = m.change; register = m.register; stage = m.stage; asked = m.asked } };
 
-    ghost invariant = { λ m. IsTransaction m.made (record { change = m.change; register = m.register; stage = m.stage; asked = m.asked }) };
+    ghost invariant = { λ m. IsTransaction m.made (record { change = m.change; register = m.register; stage = m.stage; asked = m.asked }) × Waits m.waits (record { change = m.change; register = m.register; stage = m.stage; asked = m.asked }) };
 }
 
 impl Transaction {
@@ -72,6 +75,7 @@ impl Transaction {
                 locked_on: BrickSet::none(),
                 looked_at: BrickSet::none(),
             },
+            waits: false,
         }
     }
 
@@ -104,7 +108,7 @@ impl Transaction {
         if left.is_empty() {
             return None;
         }
-        *request = self.request(self.stage);
+        self.put_request(self.stage, request);
         Some(left.lowest())
     }
 
@@ -139,16 +143,21 @@ impl Transaction {
         }
     }
 
-    /// The request was written at this position, and this was told.
+    /// The request was written at this position, and this was told. An actor that waits for another is told the same again and
+    /// again, and a line that changes nothing is to cost little.
     pub fn hear(&mut self, brick: BrickId, request: &Request, told: &Told, at: u32)
         requires asked { next_at self.old.stage at self.old ≡ Next.Ask brick request.now }
         ensures { self.new ≡ answered self.old.stage told.now at self.old }
     {
+        if self.waits && is_held(told) {
+            return;
+        }
         let stage = self.stage;
         let step = Move::Ask(brick, request);
         note(&mut self.register, &step, told, at);
         self.asked = asked_after(stage, brick, told, &self.asked);
         self.stage = after(stage, &self.change, &self.register, &self.asked);
+        self.waits = met_another(stage, told);
     }
 
     /// The work has read something between the looks and the attempt, which `give_up` may follow.
@@ -159,6 +168,7 @@ impl Transaction {
         ensures { self.new ≡ noted_read brick.0 request.now told.now at self.old }
     {
         note(&mut self.register, &Move::Ask(brick, request), told, at);
+        self.waits = false;
     }
 
     /// The change is given up before its attempt: the locks are released, and then the work ends.
@@ -167,6 +177,7 @@ impl Transaction {
         ensures { self.new ≡ given_up self.old }
     {
         self.stage = Stage::Closing;
+        self.waits = false;
     }
 
     /// Whether no lock is left to release: the next line is the end of the work.
@@ -224,6 +235,12 @@ impl Transaction {
         left_of(stage, &self.register, &self.asked)
     }
 
+    fn put_request(&self, stage: Stage, request: &mut Request)
+        ensures { request.new ≡ request_at stage self.now }
+    {
+        put_request(stage, &self.change, &self.register, request);
+    }
+
     fn request(&self, stage: Stage) -> Request
         ensures { result ≡ request_at stage self.now }
     {
@@ -242,6 +259,7 @@ impl Transaction {
         );
         self.made = made_by(&self.change, at);
         self.stage = Stage::Preparing;
+        self.waits = false;
     }
 
     fn answer(&mut self, told: &Told, at: u32)

@@ -60,20 +60,30 @@ pub(crate) fn left_of(stage: Stage, r: &Register, asked: &LocksAndLooks) -> Bric
     }
 }
 
+/// What is asked, where it is to stand: a request is large, and each line makes one.
+pub(crate) fn put_request(stage: Stage, change: &Change, r: &Register, request: &mut Request)
+    requires { r.now.shape.n ≤ 5 }
+    ensures { request.new ≡ request_in stage change.now r.now }
+{
+    match stage {
+        Stage::Locking => *request = lock_request(change),
+        Stage::Looking => *request = lookup_request(change),
+        Stage::Beginning => *request = lookup_request(change),
+        Stage::Preparing => *request = pre_op_request(change),
+        Stage::Applying => *request = fop_request(r),
+        Stage::Posting => *request = post_op_request(change, r),
+        Stage::Closing => *request = unlock_request(change),
+    }
+}
+
 /// What is asked.
 pub(crate) fn request_of(stage: Stage, change: &Change, r: &Register) -> Request
     requires { r.now.shape.n ≤ 5 }
     ensures { result ≡ request_in stage change.now r.now }
 {
-    match stage {
-        Stage::Locking => lock_request(change),
-        Stage::Looking => lookup_request(change),
-        Stage::Beginning => lookup_request(change),
-        Stage::Preparing => pre_op_request(change),
-        Stage::Applying => fop_request(r),
-        Stage::Posting => post_op_request(change, r),
-        Stage::Closing => unlock_request(change),
-    }
+    let mut request = Request::Index;
+    put_request(stage, change, r, &mut request);
+    request
 }
 
 /// Who was asked, with the brick that has answered now.

@@ -16,14 +16,19 @@ use std::marker::Model;
 pub struct FaultPlan {
     requests: u32,
     faults: BTreeMap<u64, Fault>,
+    /// The fault of the next request, so that only a count looks it up.
+    next: Option<Fault>,
 }
 
 impl Model for FaultPlan {
-    ghost use Rattle.afr_faults.specs.Planned.{Planned};
+    ghost use Rattle.std.specs.Prelude.{◌≡◌};
+    ghost use Rattle.afr_faults.specs.Planned.{Planned, next_fault};
 
     ghost Value = { Planned };
 
     ghost view = { λ p. record { requests = p.requests; faults = p.faults.entries } };
+
+    ghost invariant = { λ p. p.next ≡ next_fault (record { requests = p.requests; faults = p.faults.entries }) };
 }
 
 impl FaultPlan {
@@ -34,6 +39,7 @@ impl FaultPlan {
         FaultPlan {
             requests: 0,
             faults: BTreeMap::new(alloc),
+            next: None,
         }
     }
 
@@ -45,6 +51,7 @@ impl FaultPlan {
         ensures err { OnErr result (self.new ≡ self.old) }
     {
         self.faults.insert(u64::from(at), fault)?;
+        self.next = fault_after(&self.faults, self.requests);
         Ok(())
     }
 
@@ -52,7 +59,7 @@ impl FaultPlan {
     pub fn peek(&self) -> Option<Fault>
         ensures { result ≡ next_fault self.now }
     {
-        self.faults.get(&(u64::from(self.requests) + 1)).copied()
+        self.next
     }
 
     /// Counts one more request, and gives its fault.
@@ -61,7 +68,16 @@ impl FaultPlan {
         ensures fault { result ≡ next_fault self.old }
         ensures counted { self.new ≡ record self.old { requests = self.old.requests + 1 } }
     {
+        let fault = self.next;
         self.requests += 1;
-        self.faults.get(&u64::from(self.requests)).copied()
+        self.next = fault_after(&self.faults, self.requests);
+        fault
     }
+}
+
+/// The fault of the request after so many.
+fn fault_after(faults: &BTreeMap<u64, Fault>, requests: u32) -> Option<Fault>
+    ensures { result ≡ next_fault (record { requests = requests; faults = faults.now.entries }) }
+{
+    faults.get(&(u64::from(requests) + 1)).copied()
 }

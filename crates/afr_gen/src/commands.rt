@@ -112,5 +112,5 @@ fn filled(alloc: Global, count: u32, byte: u8) -> Result<Chunk, NoMemory>
 {
     let mut bytes = Vec::new(alloc);
     bytes.resize(count as usize, byte)?;
-    Ok(List::from_vec(bytes))
+    Chunk::from_vec(bytes)
 }

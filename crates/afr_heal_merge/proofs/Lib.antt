@@ -1,3 +1,5 @@
 mod Merges
+mod OneList
 mod Order
+pub mod SameLists
 mod Stands

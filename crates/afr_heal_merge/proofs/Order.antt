@@ -1,5 +1,5 @@
 -- The order of names, and that a merge keeps it.
-use Rattle.std.proofs.Common.{◌≡◌, ◌<◌, arith, List, [], ◌∷◌}
+use Rattle.std.proofs.Common.{◌≡◌, ℕ, zero, suc, ◌<◌, ◌≤◌, arith, List, [], ◌∷◌, Some, drop, length, slice_get}
 use Rattle.std.proofs.lemmas.Bool.Decides.{nat_tests}
 use Rattle.std.specs.BTreeMap.{is_at, insert_entry}
 use Rattle.std.specs.List.{AllByRecursion}
@@ -34,7 +34,7 @@ AreAfter n t = AllByRecursion (λ k. name_cmp n k ≡ Less) (keys_of t)
 less_is : (n k : NameId) → n.0 < k.0 → name_cmp n k ≡ Less
 less_is n k h = grind (arith, nat_tests, h)
 
-is_less : (n k : NameId) → name_cmp n k ≡ Less → n.0 < k.0
+pub is_less : (n k : NameId) → name_cmp n k ≡ Less → n.0 < k.0
 is_less n k h = go (nat_cmp n.0 k.0) (ranks n.0 k.0) h
   where
     go : (r : Ordering) → MatchOrdering r (n.0 < k.0) (n.0 ≡ k.0) (k.0 < n.0) → r ≡ Less → n.0 < k.0
@@ -71,3 +71,31 @@ pub rising_merged : (lists : List NameTable) → AreRising (merged lists)
 unfolding IsStrictlySortedBy
 rising_merged [] = tt
 rising_merged (names ∷ more) = rising_into (merged more) names (rising_merged more)
+
+-- a list that is in order from the next place on is so from this one, where the name here is below the next
+pub rising_step : (t : NameTable) (k : ℕ) (x y : NameId × Entry) → slice_get t k ≡ Some x → slice_get t (suc k) ≡ Some y → x.0.0 < y.0.0 → AreRising (drop (suc k) t) → AreRising (drop k t)
+unfolding IsStrictlySortedBy
+rising_step [] k x y e f low h = absurd (cc)
+rising_step (z ∷ []) zero x y e f low h = absurd (cc)
+rising_step (z ∷ w ∷ t) zero x y e f low h =
+    let first : z ≡ x = cc in
+    let second : w ≡ y = cc in
+    let lower : z.0.0 < w.0.0 = rw (first, second) low in
+    ((less_is z.0 w.0 lower, after_lower z.0 w.0 t lower h.0), h)
+rising_step (z ∷ t) (suc k) x y e f low h = rising_step t k x y e f low h
+
+-- and so it is from the last place on
+pub rising_last : (t : NameTable) (k : ℕ) → suc k ≡ length t → AreRising (drop k t)
+unfolding IsStrictlySortedBy
+rising_last [] k e = absurd (omega (arith, e))
+rising_last (x ∷ []) zero e = (tt, tt)
+rising_last (x ∷ y ∷ t) zero e = absurd (omega (arith, e))
+rising_last (x ∷ t) (suc k) e = rising_last t k (omega (arith, e))
+
+-- and past its end
+pub rising_none : (t : NameTable) (k : ℕ) → length t ≤ k → AreRising (drop k t)
+unfolding IsStrictlySortedBy
+rising_none [] zero h = tt
+rising_none [] (suc k) h = tt
+rising_none (x ∷ t) zero h = absurd (omega (arith, h))
+rising_none (x ∷ t) (suc k) h = rising_none t k (omega (arith, h))

@@ -26,7 +26,7 @@ contained [] x h = absurd h
 contained (y ∷ xs) x (inl e) = (0, omega arith, e)
 contained (y ∷ xs) x (inr h) = let at = contained xs x h in (suc at.0, omega (arith, at.1), at.2)
 
-same_name_of : (n k : NameId) → is_at (name_cmp n) k ≡ (n.0 == k.0)
+pub same_name_of : (n k : NameId) → is_at (name_cmp n) k ≡ (n.0 == k.0)
 same_name_of n k = grind (arith, nat_tests)
 
 name_is : (n q : NameId) → n.0 ≡ q.0 → n ≡ q

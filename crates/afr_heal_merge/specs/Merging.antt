@@ -14,6 +14,12 @@ present [] = []
 present (None ∷ more) = present more
 present (Some names ∷ more) = names ∷ present more
 
+-- each list that there is, is this one
+abbrev pub AreAll : {A : Type 0} → A → List (Option A) → Type 0
+AreAll x [] = Unit {0}
+AreAll x (None ∷ more) = AreAll x more
+AreAll x (Some y ∷ more) = (x ≡ y) × AreAll x more
+
 -- one of the lists has this name with this entry
 pub record StandsInOne (lists : List (List (NameId × Entry))) (x : NameId × Entry) : Type 0 where
   pub names : List (NameId × Entry)

@@ -7,13 +7,25 @@ ghost use Rattle.afr_heal_merge.specs.Merging.{present};
 ghost use Rattle.afr_object.specs.Repairs.{higher, merged, merged_into, outranks};
 ghost use Rattle.afr_object.specs.Tables.{name_cmp};
 
+use crate::common::common;
 use afr_base::{NameId, NoMemory, What};
-use afr_object::{Entry, NameList, SortedMap};
+use afr_object::{Entry, NameList, SortedMap, TryCopy};
 use std::alloc::Global;
 
-/// The names of all lists that there are, in order, in O(k log k) for k names. Of two entries for a
-/// name the one with the greater gfid stands.
+/// The names of all lists that there are, in order: for k names in O(k) where the lists are the same, else in O(k log k). Of
+/// two entries for a name the one with the greater gfid stands.
 pub fn merged_names(alloc: Global, lists: &[Option<NameList>; 5]) -> Result<NameList, NoMemory>
+    ensures ok { IfOk result (λ names. names ≡ merged (present lists.now)) }
+    ensures order { IfOk result (λ names. IsStrictlySortedBy name_cmp (keys_of names)) }
+{
+    match common(lists) {
+        Some(names) => names.copy(),
+        None => merge_all(alloc, lists),
+    }
+}
+
+/// The merge of lists that differ.
+fn merge_all(alloc: Global, lists: &[Option<NameList>; 5]) -> Result<NameList, NoMemory>
     ensures ok { IfOk result (λ names. names ≡ merged (present lists.now)) }
     ensures order { IfOk result (λ names. IsStrictlySortedBy name_cmp (keys_of names)) }
 {

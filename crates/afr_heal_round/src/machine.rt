@@ -2,7 +2,7 @@
 ghost use Rattle.std.specs.Prelude.{◌≡◌, ◌<◌, ◌≤◌, true, IfOk, None, OnOk, OnErr, Some, option_map};
 ghost use Rattle.afr_rule.specs.Choosing.{IsRule};
 ghost use Rattle.afr_heal_round.specs.List.Round.{next_due, without_next};
-ghost use Rattle.afr_heal_round.specs.Rounding.{CanHear, CarriesNext, IsFed, IsRounding, begun, heal_at, healed, indexed, is_beginning, is_ending, made_ready, next_of, reply_of, round_from, round_indexed, stage_due, stage_indexed};
+ghost use Rattle.afr_heal_round.specs.Rounding.{CanHear, CarriesNext, IsFed, IsRounding, IsStaged, begun, heal_at, healed, indexed, is_beginning, is_ending, made_ready, next_of, reply_of, round_from, round_indexed, stage_due, stage_indexed};
 
 use crate::due_list::Round;
 use crate::stage::RoundStage;
@@ -189,6 +189,8 @@ fn indexed(alloc: Global, shape: Shape, round: &mut Round, answer: &mut Answer) 
     requires few { shape.n ≤ 5 }
     requires some { 0 < shape.n }
     ensures stage { result ≡ stage_indexed shape answer.old round.old }
+    ensures staged { IsStaged shape result }
+    ensures brick { round.new.brick ≡ round.old.brick }
     ensures round { round.new ≡ round_indexed answer.old round.old }
 {
     match mem::replace(answer, Answer::Done) {
@@ -205,6 +207,8 @@ fn stage_due(alloc: Global, shape: Shape, round: &mut Round) -> RoundStage
     requires few { shape.n ≤ 5 }
     requires some { 0 < shape.n }
     ensures stage { result ≡ stage_due shape (next_due round.old) }
+    ensures staged { IsStaged shape result }
+    ensures brick { round.new.brick ≡ round.old.brick }
     ensures round { round.new ≡ without_next round.old }
 {
     match round.next_heal() {

@@ -1,6 +1,7 @@
 pub mod Kept
 pub mod Told
 pub mod Log
+pub mod LogLemmas
 pub mod Work
 pub mod Areas
 pub mod Locks

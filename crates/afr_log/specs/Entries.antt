@@ -1,8 +1,9 @@
 -- Which line each entry of the log stands for.
 use Rattle.std.specs.Prelude.{ℕ, ◌+◌, ◌<◌, ◌^◌, nat_lt, if◌then◌else◌, not, ◌&&◌, Bool, true, false, List, [], ◌∷◌, map, slice_index_or}
-use Rattle.afr_base.specs.Marks.{no_marks, with_marks}
+use Rattle.afr_base.specs.Marks.{no_marks, with_marks, zero_marks}
 use Rattle.afr_base.specs.declared.ids.Gfid.{Gfid}
 use Rattle.afr_base.specs.declared.ids.Kind.{Kind}
+use Rattle.afr_base.specs.declared.ids.Kind.TheVariants.{Bytes, Attrs, Names}
 use Rattle.afr_base.specs.declared.marks.Marks.{Marks}
 use Rattle.afr_base.specs.declared.ids.What.{What}
 use Rattle.afr_base.specs.declared.ids.What.TheVariants.{File, Dir}
@@ -22,6 +23,7 @@ use Rattle.afr_log.specs.declared.packed.Short.{Short}
 use Rattle.afr_log.specs.declared.packed.Short.TheVariants as short
 use Rattle.afr_log.specs.declared.packed.Packed.{Packed}
 use Rattle.afr_log.specs.declared.packed.Packed.TheVariants as entry
+use Rattle.afr_log.specs.declared.small.SmallMarks.{SmallMarks}
 
 -- the gfid that a short one stands for: as it is below 2 ^ 63, and from there on those from 2 ^ 64 on
 abbrev pub gfid_in : Id → Gfid
@@ -43,6 +45,18 @@ told_in short.Failed = told.Failed
 abbrev pub marked : What → ℕ → Kind → Marks → Told
 marked what len kind marks = told.Seen (record { what = what; len = len; marks = with_marks kind marks no_marks })
 
+-- small numbers as they are
+abbrev pub marks_in : SmallMarks → Marks
+marks_in small = record { dirty = small.dirty; pending = small.pending }
+
+-- what a look at a file tells that shows numbers of both its kinds
+abbrev pub file_marked : ℕ → Marks → Marks → Told
+file_marked len bytes attrs = told.Seen (record { what = File; len = len; marks = record { bytes = bytes; attrs = attrs; names = zero_marks } })
+
+-- and a look at a directory
+abbrev pub dir_marked : ℕ → Marks → Marks → Told
+dir_marked len names attrs = told.Seen (record { what = Dir; len = len; marks = record { bytes = zero_marks; attrs = attrs; names = names } })
+
 -- the line of a request
 abbrev pub ask_by : By → Request → Line
 ask_by by asked = Ask by.actor by.brick asked (told_in by.told) by.took
@@ -58,8 +72,12 @@ line_of kept (entry.LockName domain by id name) = ask_by by (request.Lock domain
 line_of kept (entry.UnlockRange domain by id from to) = ask_by by (request.Unlock domain (Range (gfid_in id) from to))
 line_of kept (entry.UnlockName domain by id name) = ask_by by (request.Unlock domain (Name (gfid_in id) name))
 line_of kept (entry.Look by id) = ask_by by (request.Look (gfid_in id))
-line_of kept (entry.MarkedFile kind actor brick id len marks) = Ask actor brick (request.Look (gfid_in id)) (marked File len kind marks) true
-line_of kept (entry.MarkedDir kind actor brick id len marks) = Ask actor brick (request.Look (gfid_in id)) (marked Dir len kind marks) true
+line_of kept (entry.FileBytes brick actor len id marks) = Ask actor brick (request.Look (gfid_in id)) (marked File len Bytes marks) true
+line_of kept (entry.FileAttrs brick actor len id marks) = Ask actor brick (request.Look (gfid_in id)) (marked File len Attrs marks) true
+line_of kept (entry.FileBoth brick actor len id bytes attrs) = Ask actor brick (request.Look (gfid_in id)) (file_marked len (marks_in bytes) (marks_in attrs)) true
+line_of kept (entry.DirNames brick actor len id marks) = Ask actor brick (request.Look (gfid_in id)) (marked Dir len Names marks) true
+line_of kept (entry.DirAttrs brick actor len id marks) = Ask actor brick (request.Look (gfid_in id)) (marked Dir len Attrs marks) true
+line_of kept (entry.DirBoth brick actor len id names attrs) = Ask actor brick (request.Look (gfid_in id)) (dir_marked len (marks_in names) (marks_in attrs)) true
 line_of kept (entry.ReadBytes by id at len) = ask_by by (request.ReadBytes (gfid_in id) at len)
 line_of kept (entry.ReadName by id name) = ask_by by (request.ReadName (gfid_in id) name)
 line_of kept (entry.List by id) = ask_by by (request.List (gfid_in id))
@@ -102,10 +120,17 @@ abbrev pub is_settled : Packed → Bool
 is_settled (entry.Settled kind by id less) = true
 is_settled packed = false
 
+abbrev pub is_both : Packed → Bool
+is_both (entry.FileBoth brick actor len id bytes attrs) = true
+is_both (entry.DirBoth brick actor len id names attrs) = true
+is_both packed = false
+
 abbrev pub is_marked : Packed → Bool
-is_marked (entry.MarkedFile kind actor brick id len marks) = true
-is_marked (entry.MarkedDir kind actor brick id len marks) = true
-is_marked packed = false
+is_marked (entry.FileBytes brick actor len id marks) = true
+is_marked (entry.FileAttrs brick actor len id marks) = true
+is_marked (entry.DirNames brick actor len id marks) = true
+is_marked (entry.DirAttrs brick actor len id marks) = true
+is_marked packed = is_both packed
 
 abbrev pub is_kept : Packed → Bool
 is_kept (entry.Kept place) = true

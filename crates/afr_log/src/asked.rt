@@ -51,9 +51,12 @@ pub(crate) fn unpack(entry: &Packed, request: &mut Request, told: &mut Told) -> 
 {
     match entry {
         Packed::Kept(_) => None,
-        Packed::MarkedFile { .. } | Packed::MarkedDir { .. } => {
-            Some(put_marked(entry, request, told))
-        }
+        Packed::FileBytes { .. }
+        | Packed::FileAttrs { .. }
+        | Packed::FileBoth { .. }
+        | Packed::DirNames { .. }
+        | Packed::DirAttrs { .. }
+        | Packed::DirBoth { .. } => { Some(put_marked(entry, request, told)) }
         _ => Some(put_short(entry, request, told)),
     }
 }

@@ -1,4 +1,4 @@
-//! The log of a volume: one entry a line, nearly all requests in 48 bytes each.
+//! The log of a volume: one entry a line, nearly all requests in 40 bytes each.
 #![tactic(auto)]
 
 mod asked;
@@ -7,6 +7,7 @@ mod log;
 mod marked;
 mod packed;
 mod shown;
+mod small;
 mod waits;
 
 pub use asked::Asker;

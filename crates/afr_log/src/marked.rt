@@ -1,4 +1,4 @@
-//! Looks that show changelog numbers of one kind alone, as those of a heal mostly do.
+//! Looks that show changelog numbers: of one kind alone, as those of a heal mostly do, or small ones of both kinds of an object.
 ghost use Rattle.std.specs.Prelude.{◌≡◌, ℕ, List, Some, true};
 ghost use Rattle.afr_base.specs.Marks.{marks_of, no_marks, with_marks};
 ghost use Rattle.afr_lines.specs.Told.{told_by};
@@ -6,17 +6,18 @@ ghost use Rattle.afr_lines.specs.declared.answer.Told.TheVariants.{Seen};
 ghost use Rattle.afr_lines.specs.declared.line.Line.TheVariants.{Ask};
 ghost use Rattle.afr_lines.specs.declared.line.Line.{Line};
 ghost use Rattle.afr_lines.specs.declared.request.Request.TheVariants.{Look};
-ghost use Rattle.afr_log.specs.Entries.{IsThere, gfid_in, is_marked, line_of};
+ghost use Rattle.afr_log.specs.Entries.{IsThere, gfid_in, is_both, is_marked, line_of};
 ghost use Rattle.afr_log.specs.Log.{asked_line};
 
 use crate::asked::Asker;
 use crate::id::{Id, id_of};
 use crate::packed::Packed;
+use crate::small::small_of;
 use afr_base::{ActorId, AllMarks, BrickId, Gfid, Kind, Marks, What};
 use afr_lines::{Answer, Request, Told};
 use afr_object::View;
 
-/// The entry of a look that shows numbers, where they are of one kind.
+/// The entry of a look that shows numbers, where they are of one kind, or small.
 pub(crate) fn pack_shown(
     actor: ActorId,
     brick: BrickId,
@@ -40,35 +41,96 @@ fn pack_look(actor: ActorId, brick: BrickId, gfid: Gfid, view: &View) -> Option<
     ensures there { (entry : Packed) → result ≡ Some entry → (count : ℕ) → IsThere count entry }
 {
     let id = id_of(gfid)?;
-    let kind = only_kind(&view.marks)?;
-    Some(marked_entry(actor, brick, id, view, kind))
+    match only_kind(&view.marks) {
+        Some(kind) => pack_kind(actor, brick, id, view, kind),
+        None => match view.what {
+            What::File => pack_file(actor, brick, id, view),
+            What::Dir => pack_dir(actor, brick, id, view),
+        },
+    }
 }
 
-fn marked_entry(actor: ActorId, brick: BrickId, id: Id, view: &View, kind: Kind) -> Packed
+/// Numbers of one kind.
+fn pack_kind(actor: ActorId, brick: BrickId, id: Id, view: &View, kind: Kind) -> Option<Packed>
     requires { view.now.marks ≡ with_marks kind (marks_of kind view.now.marks) no_marks }
-    ensures line { (kept : List Line) → line_of kept result ≡ Ask actor brick (Look (gfid_in id)) (Seen view.now) true }
-    ensures there { (count : ℕ) → IsThere count result }
+    ensures line { (entry : Packed) → result ≡ Some entry → (kept : List Line) → line_of kept entry ≡ Ask actor brick (Look (gfid_in id)) (Seen view.now) true }
+    ensures there { (entry : Packed) → result ≡ Some entry → (count : ℕ) → IsThere count entry }
 {
     let marks = view.marks.of(kind);
     let len = view.len;
-    match view.what {
-        What::File => Packed::MarkedFile {
-            kind,
-            actor,
+    match (view.what, kind) {
+        (What::File, Kind::Bytes) => Some(Packed::FileBytes {
             brick,
-            id,
-            len,
-            marks,
-        },
-        What::Dir => Packed::MarkedDir {
-            kind,
             actor,
-            brick,
-            id,
             len,
+            id,
             marks,
-        },
+        }),
+        (What::File, Kind::Attrs) => Some(Packed::FileAttrs {
+            brick,
+            actor,
+            len,
+            id,
+            marks,
+        }),
+        (What::Dir, Kind::Names) => Some(Packed::DirNames {
+            brick,
+            actor,
+            len,
+            id,
+            marks,
+        }),
+        (What::Dir, Kind::Attrs) => Some(Packed::DirAttrs {
+            brick,
+            actor,
+            len,
+            id,
+            marks,
+        }),
+        _ => None,
     }
+}
+
+/// A file's numbers of both its kinds, where they are small.
+fn pack_file(actor: ActorId, brick: BrickId, id: Id, view: &View) -> Option<Packed>
+    requires { view.now.what ≡ What.File }
+    ensures line { (entry : Packed) → result ≡ Some entry → (kept : List Line) → line_of kept entry ≡ Ask actor brick (Look (gfid_in id)) (Seen view.now) true }
+    ensures there { (entry : Packed) → result ≡ Some entry → (count : ℕ) → IsThere count entry }
+{
+    if view.marks.names != Marks::zero() {
+        return None;
+    }
+    let bytes = small_of(&view.marks.bytes)?;
+    let attrs = small_of(&view.marks.attrs)?;
+    Some(Packed::FileBoth {
+        brick,
+        actor,
+        len: view.len,
+        id,
+        bytes,
+        attrs,
+    })
+}
+
+/// The same of a directory.
+fn pack_dir(actor: ActorId, brick: BrickId, id: Id, view: &View) -> Option<Packed>
+    requires { view.now.what ≡ What.Dir }
+    ensures line { (entry : Packed) → result ≡ Some entry → (kept : List Line) → line_of kept entry ≡ Ask actor brick (Look (gfid_in id)) (Seen view.now) true }
+    ensures there { (entry : Packed) → result ≡ Some entry → (count : ℕ) → IsThere count entry }
+{
+    if view.marks.bytes != Marks::zero() {
+        return None;
+    }
+    let names = small_of(&view.marks.names)?;
+    let attrs = small_of(&view.marks.attrs)?;
+    Some(Packed::DirBoth {
+        brick,
+        actor,
+        len: view.len,
+        id,
+        names,
+        attrs,
+    })
 }
 
 /// A kind beside which no other has a number, if there is one.
@@ -93,32 +155,105 @@ pub(crate) fn put_marked(entry: &Packed, request: &mut Request, told: &mut Told)
     ensures { (kept : List Line) → line_of kept entry.now ≡ asked_line result request.new told.new }
 {
     match *entry {
-        Packed::MarkedFile {
-            kind,
-            actor,
+        Packed::FileBytes {
             brick,
-            id,
+            actor,
             len,
+            id,
             marks,
         } => {
-            *request = Request::Look { gfid: id.gfid() };
-            *told = marked_view(What::File, len, kind, marks);
-            took(actor, brick)
+            *told = marked_view(What::File, len, Kind::Bytes, marks);
+            look_of(actor, brick, id, request)
         }
-        Packed::MarkedDir {
-            kind,
-            actor,
+        Packed::FileAttrs {
             brick,
-            id,
+            actor,
             len,
+            id,
             marks,
         } => {
-            *request = Request::Look { gfid: id.gfid() };
-            *told = marked_view(What::Dir, len, kind, marks);
-            took(actor, brick)
+            *told = marked_view(What::File, len, Kind::Attrs, marks);
+            look_of(actor, brick, id, request)
+        }
+        Packed::DirNames {
+            brick,
+            actor,
+            len,
+            id,
+            marks,
+        } => {
+            *told = marked_view(What::Dir, len, Kind::Names, marks);
+            look_of(actor, brick, id, request)
+        }
+        Packed::DirAttrs {
+            brick,
+            actor,
+            len,
+            id,
+            marks,
+        } => {
+            *told = marked_view(What::Dir, len, Kind::Attrs, marks);
+            look_of(actor, brick, id, request)
+        }
+        _ => put_both(entry, request, told),
+    }
+}
+
+/// The same of one that shows numbers of two kinds.
+fn put_both(entry: &Packed, request: &mut Request, told: &mut Told) -> Asker
+    requires { is_both entry.now ≡ true }
+    ensures { (kept : List Line) → line_of kept entry.now ≡ asked_line result request.new told.new }
+{
+    match *entry {
+        Packed::FileBoth {
+            brick,
+            actor,
+            len,
+            id,
+            bytes,
+            attrs,
+        } => {
+            *told = Told::Seen(View {
+                what: What::File,
+                len,
+                marks: AllMarks {
+                    bytes: bytes.marks(),
+                    attrs: attrs.marks(),
+                    names: Marks::zero(),
+                },
+            });
+            look_of(actor, brick, id, request)
+        }
+        Packed::DirBoth {
+            brick,
+            actor,
+            len,
+            id,
+            names,
+            attrs,
+        } => {
+            *told = Told::Seen(View {
+                what: What::Dir,
+                len,
+                marks: AllMarks {
+                    bytes: Marks::zero(),
+                    attrs: attrs.marks(),
+                    names: names.marks(),
+                },
+            });
+            look_of(actor, brick, id, request)
         }
         _ => unreachable!(),
     }
+}
+
+/// Who looked, where the brick carried it out, and the look in its place.
+fn look_of(actor: ActorId, brick: BrickId, id: Id, request: &mut Request) -> Asker
+    ensures by { result ≡ record { actor = actor; brick = brick; took = true } }
+    ensures look { request.new ≡ Look (gfid_in id) }
+{
+    *request = Request::Look { gfid: id.gfid() };
+    took(actor, brick)
 }
 
 /// Who asked, where the brick carried it out.

@@ -1,4 +1,4 @@
-//! The entries of the log: nearly all requests with their answers in 48 bytes, and the places of the lines that are kept as
+//! The entries of the log: nearly all requests with their answers in 40 bytes, and the places of the lines that are kept as
 //! they are.
 ghost use Rattle.std.specs.Prelude.{◌≡◌, ℕ, List, IfSome, Some};
 ghost use Rattle.afr_lines.specs.Told.{told_by};
@@ -10,6 +10,7 @@ ghost use Rattle.afr_log.specs.Entries.{IsThere, ask_by, line_of, told_in};
 
 use crate::asked::Asker;
 use crate::id::{Id, id_of};
+use crate::small::SmallMarks;
 use afr_base::{ActorId, AllMarks, BrickId, BrickSet, Gfid, KeyId, Kind, Marks, NameId, What};
 use afr_lines::{Answer, Area, Domain, Line, Request, Told};
 use afr_object::{Repair, View};
@@ -71,22 +72,51 @@ pub(crate) enum Packed {
         by: By,
         id: Id,
     },
-    /// A look at a file that shows changelog numbers of this kind alone. The brick carried it out.
-    MarkedFile {
-        kind: Kind,
-        actor: ActorId,
+    /// A look at a file that shows changelog numbers of its bytes alone. The brick carried it out.
+    FileBytes {
         brick: BrickId,
-        id: Id,
+        actor: ActorId,
         len: u32,
+        id: Id,
         marks: Marks,
     },
-    MarkedDir {
-        kind: Kind,
-        actor: ActorId,
+    FileAttrs {
         brick: BrickId,
-        id: Id,
+        actor: ActorId,
         len: u32,
+        id: Id,
         marks: Marks,
+    },
+    /// Numbers of both, all small.
+    FileBoth {
+        brick: BrickId,
+        actor: ActorId,
+        len: u32,
+        id: Id,
+        bytes: SmallMarks,
+        attrs: SmallMarks,
+    },
+    DirNames {
+        brick: BrickId,
+        actor: ActorId,
+        len: u32,
+        id: Id,
+        marks: Marks,
+    },
+    DirAttrs {
+        brick: BrickId,
+        actor: ActorId,
+        len: u32,
+        id: Id,
+        marks: Marks,
+    },
+    DirBoth {
+        brick: BrickId,
+        actor: ActorId,
+        len: u32,
+        id: Id,
+        names: SmallMarks,
+        attrs: SmallMarks,
     },
     ReadBytes {
         by: By,
@@ -159,8 +189,8 @@ pub(crate) enum Packed {
     Kept(usize),
 }
 
-// An entry takes no more than 48 bytes.
-const _: () = prove!(size_of::<Packed>() <= 48);
+// An entry takes no more than 40 bytes.
+const _: () = prove!(size_of::<Packed>() <= 40);
 
 /// What is kept of an answer, where it is short.
 pub(crate) fn short_of(answer: &Answer) -> Option<Short>

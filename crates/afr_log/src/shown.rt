@@ -34,7 +34,12 @@ pub(crate) fn show<'a>(entry: &Packed, kept: &'a [Line]) -> ShownLine<'a>
 {
     match entry {
         Packed::Kept(place) => ShownLine::Kept(&kept[*place]),
-        Packed::MarkedFile { .. } | Packed::MarkedDir { .. } => ShownLine::Made(marked_line(entry)),
+        Packed::FileBytes { .. }
+        | Packed::FileAttrs { .. }
+        | Packed::FileBoth { .. }
+        | Packed::DirNames { .. }
+        | Packed::DirAttrs { .. }
+        | Packed::DirBoth { .. } => ShownLine::Made(marked_line(entry)),
         _ => ShownLine::Made(made(entry)),
     }
 }

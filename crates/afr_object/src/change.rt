@@ -1,7 +1,8 @@
 //! What a client changes, what a heal repairs, and what each carries.
 ghost use Rattle.std.specs.Prelude.{◌≡◌, IfOk};
 
-use crate::entry::{AttrList, Chunk, NameList};
+use crate::chunk::Chunk;
+use crate::entry::{AttrList, NameList};
 use crate::try_copy::TryCopy;
 use afr_base::{Gfid, KeyId, NameId, NoMemory, ValueId, What};
 

@@ -19,9 +19,6 @@ pub struct View {
     pub marks: AllMarks,
 }
 
-/// Some bytes of a file.
-pub type Chunk = List<u8>;
-
 /// The names of a directory, in the order of their numbers.
 pub type NameList = List<(NameId, Entry)>;
 

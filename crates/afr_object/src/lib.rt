@@ -2,6 +2,7 @@
 #![tactic(auto)]
 
 mod change;
+mod chunk;
 mod entry;
 mod list;
 mod sorted_map;
@@ -9,7 +10,8 @@ mod try_copy;
 mod views;
 
 pub use change::{Change, Load, Repair};
-pub use entry::{AttrList, Chunk, Entry, IndexList, NameList, View};
+pub use chunk::Chunk;
+pub use entry::{AttrList, Entry, IndexList, NameList, View};
 pub use list::List;
 pub use sorted_map::SortedMap;
 pub use try_copy::TryCopy;

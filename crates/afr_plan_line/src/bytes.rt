@@ -21,7 +21,8 @@ fn is_letter(byte: u8) -> bool
     (b'a' <= byte && byte <= b'z') || (b'A' <= byte && byte <= b'Z')
 }
 
-fn is_name_byte(byte: u8) -> bool
+/// Whether a byte may stand in a name.
+pub fn is_name_byte(byte: u8) -> bool
     ensures { result ≡ name_byte byte }
 {
     is_letter(byte) || is_digit(byte) || byte == b'.' || byte == b'_' || byte == b'-'
@@ -124,7 +125,7 @@ fn value_of(ds: &[u8]) -> u32
 }
 
 /// Digits with no leading zero.
-fn numeral(bytes: &[u8]) -> Option<(&[u8], &[u8])>
+pub fn numeral(bytes: &[u8]) -> Option<(&[u8], &[u8])>
     ensures read { option_map (λ x. (x.0.now, x.1.now)) result ≡ run_of digit is_numeral bytes.now }
     ensures digits { IfSome result (λ x. AllDigits 10 x.0.now) }
 {
@@ -154,7 +155,7 @@ pub(crate) fn small(bytes: &[u8]) -> Option<(u8, &[u8])>
 
 /// A key or a value.
 #[tactic(auto, unfolding(afr_plan::specs::Reading::key_at))]
-pub(crate) fn key(bytes: &[u8]) -> Option<(&[u8], &[u8])>
+pub fn key(bytes: &[u8]) -> Option<(&[u8], &[u8])>
     ensures { option_map (λ x. (x.0.now, x.1.now)) result ≡ key_at bytes.now }
 {
     let count = key_len(bytes);

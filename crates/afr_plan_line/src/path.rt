@@ -69,7 +69,8 @@ fn first_piece(bytes: &[u8]) -> (&[u8], Option<&[u8]>)
     }
 }
 
-fn is_name(name: &[u8]) -> bool
+/// Whether bytes that may stand in a name are one.
+pub fn is_name(name: &[u8]) -> bool
     ensures { result ≡ bytes.is_name name.now }
 {
     match name {

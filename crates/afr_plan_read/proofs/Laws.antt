@@ -68,7 +68,7 @@ pub front_rest : (p : ℕ → Bool) (a rest : List ℕ) → list_all p a ≡ tru
 front_rest p a rest h s = rw (front_again p a rest h s) (ap (λ (t : List ℕ). (a, t)) (drop_at a rest (length a) refl))
 
 -- two fronts, one after the other
-joined : (xs u r v q : List ℕ) → xs ≡ u ++ r → r ≡ v ++ q → xs ≡ (u ++ v) ++ q
+pub joined : (xs u r v q : List ℕ) → xs ≡ u ++ r → r ≡ v ++ q → xs ≡ (u ++ v) ++ q
 joined xs u r v q e f = e ∙ ap (λ (t : List ℕ). u ++ t) f ∙ sym (append_assoc u v q)
 
 followed : (xs u r q : List ℕ) → xs ≡ u ++ r → r ≡ q → xs ≡ u ++ q
@@ -191,7 +191,7 @@ either-again r q S T Next ar aq other = record {
   ];
 }
 
-used_all : {A : Type 0} (a x : A) (rest : List ℕ) → all_used (a, rest) ≡ Some x → (a ≡ x) × (rest ≡ [])
+pub used_all : {A : Type 0} (a x : A) (rest : List ℕ) → all_used (a, rest) ≡ Some x → (a ≡ x) × (rest ≡ [])
 used_all a x [] e = (cc, refl)
 used_all a x (b ∷ bs) e = absurd (cc)
 

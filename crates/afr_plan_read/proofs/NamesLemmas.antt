@@ -1,5 +1,5 @@
 -- Names as the bytes of a set's keys, and the names of the opening files.
-use Rattle.std.proofs.Common.{◌≡◌, ℕ, ◌+◌, ◌<◌, ◌^◌, List, [], ◌∷◌, ◌++◌, refl, ap, ◌∙◌, arith, Bool, true, false, cond, map, not, ◌||◌, Vec, Global, suc, zero, drop}
+use Rattle.std.proofs.Common.{◌≡◌, ℕ, ◌+◌, ◌<◌, ◌^◌, List, [], ◌∷◌, ◌++◌, refl, ap, ◌∙◌, arith, Bool, true, false, cond, map, not, ◌||◌, suc, zero, drop}
 use Rattle.std.specs.Prelude.{decimal}
 use Rattle.std.specs.Cmp.{IsEquivalence}
 use Rattle.std.specs.List.{list_any, position_or_len, IsDistinct}
@@ -11,24 +11,25 @@ use Rattle.std.proofs.lemmas.List.Folds.{list_any-append}
 use Rattle.indexmap.specs.IndexSet.{insert_all}
 use Rattle.indexmap.proofs.SetLemmas.{set_all_distinct}
 use Rattle.afr_base.specs.declared.ids.NameId.{NameId}
+use Rattle.afr_plan_read.specs.declared.keyed.Word.{Word}
 use Rattle.afr_plan.specs.Names.{with_name, file_name, file_names}
 
-abbrev pub bytes : Vec ℕ Global → List ℕ
-bytes v = v.items
+abbrev pub bytes : Word → List ℕ
+bytes v = v.bytes.items
 
-pub place-map : (w : List ℕ) (ks : List (Vec ℕ Global)) → position_or_len (bytes_eq w) (map bytes ks) ≡ position_or_len (λ k. bytes_eq w (bytes k)) ks
+pub place-map : (w : List ℕ) (ks : List (Word)) → position_or_len (bytes_eq w) (map bytes ks) ≡ position_or_len (λ k. bytes_eq w (bytes k)) ks
 place-map w [] = refl
 place-map w (k ∷ ks) = ap (λ (n : ℕ). cond (not (bytes_eq w (bytes k))) (1 + n) 0) (place-map w ks)
 
-any-map : (w : List ℕ) (ks : List (Vec ℕ Global)) → list_any (bytes_eq w) (map bytes ks) ≡ list_any (λ k. bytes_eq w (bytes k)) ks
+any-map : (w : List ℕ) (ks : List (Word)) → list_any (bytes_eq w) (map bytes ks) ≡ list_any (λ k. bytes_eq w (bytes k)) ks
 any-map w [] = refl
 any-map w (k ∷ ks) = ap (λ (b : Bool). bytes_eq w (bytes k) || b) (any-map w ks)
 
-map-append : (xs ys : List (Vec ℕ Global)) → map bytes (xs ++ ys) ≡ map bytes xs ++ map bytes ys
+map-append : (xs ys : List (Word)) → map bytes (xs ++ ys) ≡ map bytes xs ++ map bytes ys
 map-append [] ys = refl
 map-append (x ∷ xs) ys = ap (λ (t : List (List ℕ)). bytes x ∷ t) (map-append xs ys)
 
-pub insert-map : (w : Vec ℕ Global) (ks : List (Vec ℕ Global)) → map bytes (cond (list_any (λ k. bytes_eq (bytes w) (bytes k)) ks) ks (ks ++ w ∷ [])) ≡ with_name (map bytes ks) (bytes w)
+pub insert-map : (w : Word) (ks : List (Word)) → map bytes (cond (list_any (λ k. bytes_eq (bytes w) (bytes k)) ks) ks (ks ++ w ∷ [])) ≡ with_name (map bytes ks) (bytes w)
 insert-map w ks = rw (any-map (bytes w) ks) (step (list_any (λ k. bytes_eq (bytes w) (bytes k)) ks))
   where
     step : (c : Bool) → map bytes (cond c ks (ks ++ w ∷ [])) ≡ cond c (map bytes ks) (map bytes ks ++ bytes w ∷ [])
@@ -36,7 +37,7 @@ insert-map w ks = rw (any-map (bytes w) ks) (step (list_any (λ k. bytes_eq (byt
     step false = map-append ks (w ∷ [])
 
 -- ---- hashing the names anew
-abbrev pub same_name : Vec ℕ Global → Vec ℕ Global → Bool
+abbrev pub same_name : Word → Word → Bool
 same_name v w = bytes_eq (bytes v) (bytes w)
 
 names_laws : IsEquivalence same_name
@@ -47,7 +48,7 @@ names_laws = record {
 }
 
 -- names of which no two are equal, inserted in their order into an empty set, are those names
-pub inserted_again : (ks : List (Vec ℕ Global)) → IsDistinct same_name ks → insert_all same_name [] ks ≡ ks
+pub inserted_again : (ks : List (Word)) → IsDistinct same_name ks → insert_all same_name [] ks ≡ ks
 inserted_again ks d = set_all_distinct names_laws [] ks d
 
 -- ---- the opening files

@@ -3,8 +3,9 @@ ghost use Rattle.std.specs.Prelude.{◌≡◌, ◌++◌, IfOk, replicate};
 ghost use Rattle.afr_plan.specs.Data.{hex_bytes};
 ghost use Rattle.afr_plan_line.specs.Seen.{seen_data};
 
+use crate::runs::Runs;
 use afr_base::NoMemory;
-use afr_object::{Chunk, List};
+use afr_object::Chunk;
 use afr_plan_line::{SpokenData, hex_byte};
 use std::alloc::Global;
 
@@ -21,22 +22,17 @@ fn decoded(alloc: Global, digits: &[u8]) -> Result<Vec<u8>, NoMemory>
     Ok(bytes)
 }
 
-fn filled(alloc: Global, count: u32, byte: u8) -> Result<Vec<u8>, NoMemory>
-    ensures ok { IfOk result (λ v. v.items ≡ replicate count byte) }
-{
-    let mut bytes = Vec::new(alloc);
-    bytes.resize(count as usize, byte)?;
-    Ok(bytes)
-}
-
-/// The bytes that data stands for.
-pub(crate) fn data_chunk(alloc: Global, spoken: &SpokenData) -> Result<Chunk, NoMemory>
+/// The bytes that data stands for; fills share theirs.
+pub(crate) fn data_chunk(
+    alloc: Global,
+    runs: &mut Runs,
+    spoken: &SpokenData,
+) -> Result<Chunk, NoMemory>
     ensures ok { IfOk result (λ chunk. chunk ≡ seen_data spoken.now) }
 {
-    let bytes = match spoken {
-        SpokenData::Text(text) => text.to_vec(alloc)?,
-        SpokenData::Hex(digits) => decoded(alloc, digits)?,
-        SpokenData::Fill(count, byte) => filled(alloc, *count, *byte)?,
-    };
-    Ok(List::from_vec(bytes))
+    match spoken {
+        SpokenData::Text(text) => Chunk::from_vec(text.to_vec(alloc)?),
+        SpokenData::Hex(digits) => Chunk::from_vec(decoded(alloc, digits)?),
+        SpokenData::Fill(count, byte) => runs.fill(alloc, *count, *byte),
+    }
 }

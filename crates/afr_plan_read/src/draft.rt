@@ -43,8 +43,6 @@ struct Draft<'t> {
     plan: Plan,
     words: WordTables<'t>,
     alloc: Global,
-    /// The plan's text, of which the words' tables take their key.
-    text: &'t [u8],
 }
 
 impl<'t> Model for Draft<'t> {
@@ -93,14 +91,13 @@ impl<'t> Draft<'t> {
             plan: no_lines(alloc),
             words: WordTables::new(alloc, text),
             alloc,
-            text,
         }
     }
 
     fn set_files(&mut self, files: u32) -> Result<(), NoMemory>
         ensures ok { OnOk result (self.new ≡ with_line (said.Files files) self.old) }
     {
-        self.words.name_files(self.alloc, self.text, files)?;
+        self.words.name_files(self.alloc, files)?;
         self.plan.files = files;
         Ok(())
     }
@@ -193,7 +190,6 @@ impl<'t> Draft<'t> {
             mut plan,
             words,
             alloc,
-            text: _,
         } = self;
         plan.words = words.into_words(alloc)?;
         Ok(plan)

@@ -11,8 +11,10 @@ mod order;
 mod places;
 mod read;
 mod rules;
+mod runs;
 mod totals;
 mod versions;
 mod words;
 
+pub use lines::cut;
 pub use read::{one_plan_for_a_text, read_plan};

@@ -147,7 +147,7 @@ fn feed(bytes: &[u8]) -> Option<usize>
 }
 
 /// The bytes before the first line feed, and those after it.
-fn cut(bytes: &[u8]) -> Option<(&[u8], &[u8])>
+pub fn cut(bytes: &[u8]) -> Option<(&[u8], &[u8])>
     ensures { option_map (λ x. (x.0.now, x.1.now)) result ≡ cut_of bytes.now }
 {
     let at = feed(bytes)?;

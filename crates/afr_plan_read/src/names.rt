@@ -2,7 +2,7 @@
 ghost use Rattle.std.specs.Prelude.{◌≡◌, [], IfOk, OnOk};
 ghost use Rattle.afr_plan.specs.Names.{with_name, number_of, file_names};
 
-use crate::keyed::{KEYED_FROM, Keyed};
+use crate::keyed::{KEYED_FROM, Keyed, TextKey, Word};
 use afr_base::NoMemory;
 use afr_object::List;
 use afr_plan::WordList;
@@ -13,25 +13,23 @@ use std::marker::Model;
 /// Distinct names, each under the number of its first sight. Few of them are hashed without a key, and
 /// many under the key of the plan's text.
 #[derive(Drop)]
-pub(crate) struct NameTable<'t> {
-    text: &'t [u8],
-    set: IndexSet<Vec<u8>, Keyed>,
+pub(crate) struct NameTable {
+    set: IndexSet<Word, Keyed>,
 }
 
-impl<'t> Model for NameTable<'t> {
+impl Model for NameTable {
     ghost use Rattle.std.specs.Prelude.{List, ℕ, map};
 
     ghost Value = { List (List ℕ) };
 
-    ghost view = { λ t. map (λ name. name.items) t.set.keys };
+    ghost view = { λ t. map (λ name. name.bytes.items) t.set.keys };
 }
 
-impl<'t> NameTable<'t> {
-    pub(crate) fn new(alloc: Global, text: &'t [u8]) -> NameTable<'t>
+impl NameTable {
+    pub(crate) fn new(alloc: Global) -> NameTable
         ensures { result ≡ [] }
     {
         NameTable {
-            text,
             set: IndexSet::with_hasher(alloc, Keyed::unkeyed()),
         }
     }
@@ -39,48 +37,49 @@ impl<'t> NameTable<'t> {
     /// The names of the opening files, `f1` and so on.
     pub(crate) fn of_files(
         alloc: Global,
-        text: &'t [u8],
+        key: &mut TextKey<'_>,
         files: u32,
-    ) -> Result<NameTable<'t>, NoMemory>
+    ) -> Result<NameTable, NoMemory>
         ensures ok { IfOk result (λ names. names ≡ file_names files) }
     {
-        let mut names = NameTable::new(alloc, text);
+        let mut names = NameTable::new(alloc);
         for i in 0..files {
             let number = i + 1;
             let name = format!(in alloc; "f{number}")?;
-            names.number(name.into_bytes())?;
+            names.number(key, name.into_bytes())?;
         }
         Ok(names)
     }
 
     /// The number of a name, which is added at the end where it is new: one look-up, or two at the
     /// size at which the table is keyed. A table has no room for a name whose number isn't a `u32`.
-    pub(crate) fn number(&mut self, name: Vec<u8>) -> Result<u32, NoMemory>
+    pub(crate) fn number(&mut self, key: &mut TextKey<'_>, name: Vec<u8>) -> Result<u32, NoMemory>
         ensures ok { IfOk result (λ id. id ≡ number_of self.old name.items) }
         ensures value { OnOk result (self.new ≡ with_name self.old name.items) }
     {
-        self.make_ready(&name)?;
-        let (index, _) = self.set.insert_full(name)?;
+        let word = Word { bytes: name };
+        self.make_ready(key, &word)?;
+        let (index, _) = self.set.insert_full(word)?;
         let id = narrowed(index)?;
         Ok(id)
     }
 
     /// Sees to the key before a name is added that makes few names many.
-    fn make_ready(&mut self, name: &Vec<u8>) -> Result<(), NoMemory>
+    fn make_ready(&mut self, key: &mut TextKey<'_>, name: &Word) -> Result<(), NoMemory>
         ensures { self.new ≡ self.old }
     {
         if self.set.len() != KEYED_FROM || self.set.contains(name) {
             return Ok(());
         }
-        self.rekey()
+        self.rekey(key)
     }
 
     /// Hashes the names anew, under the key of the text. Where there's no memory, nothing has moved.
-    fn rekey(&mut self) -> Result<(), NoMemory>
+    fn rekey(&mut self, key: &mut TextKey<'_>) -> Result<(), NoMemory>
         ensures { self.new ≡ self.old }
     {
         let alloc = *self.set.allocator();
-        let keyed = Keyed::by_text(self.text);
+        let keyed = key.get();
         let mut set = IndexSet::with_capacity_and_hasher(alloc, self.set.len(), keyed)?;
         set.append(&mut self.set)?;
         self.set = set;
@@ -89,12 +88,13 @@ impl<'t> NameTable<'t> {
 
     /// The names in the order of their numbers. Their bytes aren't copied.
     pub(crate) fn into_list(self, alloc: Global) -> Result<WordList, NoMemory>
-        ensures ok { IfOk result (λ words. words ≡ self.entry) }
+        ensures ok { IfOk result (λ words. words ≡ self) }
     {
-        let NameTable { text: _, set } = self;
+        let NameTable { set } = self;
         let mut words = List::new(alloc);
         for name in set {
-            words.push(List::from_vec(name))?;
+            let Word { bytes } = name;
+            words.push(List::from_vec(bytes))?;
         }
         Ok(words)
     }

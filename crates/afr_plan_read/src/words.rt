@@ -7,7 +7,9 @@ ghost use Rattle.afr_plan.specs.declared.command.Command.TheVariants as commands
 ghost use Rattle.afr_plan_line.specs.Seen.{seen_action, seen_data};
 
 use crate::data_bytes::data_chunk;
+use crate::keyed::TextKey;
 use crate::names::NameTable;
+use crate::runs::Runs;
 use afr_base::{KeyId, NameId, NoMemory, ValueId};
 use afr_object::List;
 use afr_plan::{Command, NamePath, WordList, Words};
@@ -18,9 +20,12 @@ use std::marker::Model;
 /// The words of a plan of which some lines are still to come.
 #[derive(Drop)]
 pub(crate) struct WordTables<'t> {
-    names: NameTable<'t>,
-    keys: NameTable<'t>,
-    values: NameTable<'t>,
+    key: TextKey<'t>,
+    names: NameTable,
+    keys: NameTable,
+    values: NameTable,
+    /// What the fills of the plan share; contracts don't see it.
+    runs: Runs,
 }
 
 impl<'t> Model for WordTables<'t> {
@@ -36,22 +41,19 @@ impl<'t> WordTables<'t> {
         ensures { result ≡ empty_plan.words }
     {
         WordTables {
-            names: NameTable::new(alloc, text),
-            keys: NameTable::new(alloc, text),
-            values: NameTable::new(alloc, text),
+            key: TextKey::new(text),
+            names: NameTable::new(alloc),
+            keys: NameTable::new(alloc),
+            values: NameTable::new(alloc),
+            runs: Runs::new(alloc),
         }
     }
 
     /// The opening files are named before all else.
-    pub(crate) fn name_files(
-        &mut self,
-        alloc: Global,
-        text: &'t [u8],
-        files: u32,
-    ) -> Result<(), NoMemory>
+    pub(crate) fn name_files(&mut self, alloc: Global, files: u32) -> Result<(), NoMemory>
         ensures ok { OnOk result (self.new ≡ record self.old { names = file_names files }) }
     {
-        self.names = NameTable::of_files(alloc, text, files)?;
+        self.names = NameTable::of_files(alloc, &mut self.key, files)?;
         Ok(())
     }
 
@@ -60,14 +62,14 @@ impl<'t> WordTables<'t> {
         ensures ok { IfOk result (λ ids. ids ≡ path_of self.old.names (names_in path.now)) }
         ensures value { OnOk result (self.new ≡ record self.old { names = with_names self.old.names (names_in path.now) }) }
     {
-        number_path(&mut self.names, alloc, path)
+        number_path(&mut self.names, &mut self.key, alloc, path)
     }
 
     fn key(&mut self, alloc: Global, key: &[u8]) -> Result<KeyId, NoMemory>
         ensures ok { IfOk result (λ id. id ≡ record { 0 = number_of self.old.keys key.now }) }
         ensures value { OnOk result (self.new ≡ record self.old { keys = with_name self.old.keys key.now }) }
     {
-        let id = self.keys.number(key.to_vec(alloc)?)?;
+        let id = self.keys.number(&mut self.key, key.to_vec(alloc)?)?;
         Ok(KeyId(id))
     }
 
@@ -75,7 +77,7 @@ impl<'t> WordTables<'t> {
         ensures ok { IfOk result (λ id. id ≡ record { 0 = number_of self.old.values value.now }) }
         ensures value { OnOk result (self.new ≡ record self.old { values = with_name self.old.values value.now }) }
     {
-        let id = self.values.number(value.to_vec(alloc)?)?;
+        let id = self.values.number(&mut self.key, value.to_vec(alloc)?)?;
         Ok(ValueId(id))
     }
 
@@ -91,7 +93,7 @@ impl<'t> WordTables<'t> {
     {
         let path = self.path(alloc, path)?;
         match action {
-            SpokenAction::Write { at, data } => write_of(alloc, path, *at, data),
+            SpokenAction::Write { at, data } => write_of(alloc, &mut self.runs, path, *at, data),
             SpokenAction::Cut { len } => Ok(Command::Cut { path, len: *len }),
             SpokenAction::Read { at, len } => Ok(Command::Read {
                 path,
@@ -146,9 +148,11 @@ impl<'t> WordTables<'t> {
         ensures ok { IfOk result (λ words. words ≡ self.entry) }
     {
         let WordTables {
+            key: _,
             names,
             keys,
             values,
+            runs: _,
         } = self;
         let names = names.into_list(alloc)?;
         let (keys, values) = lists_of(alloc, keys, values)?;
@@ -166,7 +170,7 @@ fn lists_of(
     keys: NameTable,
     values: NameTable,
 ) -> Result<(WordList, WordList), NoMemory>
-    ensures ok { IfOk result (λ lists. lists ≡ (keys.entry, values.entry)) }
+    ensures ok { IfOk result (λ lists. lists ≡ (keys, values)) }
 {
     let keys = keys.into_list(alloc)?;
     let values = values.into_list(alloc)?;
@@ -175,25 +179,31 @@ fn lists_of(
 
 fn write_of(
     alloc: Global,
+    runs: &mut Runs,
     path: NamePath,
     at: u32,
     spoken: &SpokenData,
 ) -> Result<Command, NoMemory>
     ensures ok { IfOk result (λ command. command ≡ commands.Write path at (seen_data spoken.now)) }
 {
-    let bytes = data_chunk(alloc, spoken)?;
+    let bytes = data_chunk(alloc, runs, spoken)?;
     Ok(Command::Write { path, at, bytes })
 }
 
 /// The numbers of a path's names; new names are added. One look-up a name.
-fn number_path(table: &mut NameTable, alloc: Global, path: &[u8]) -> Result<NamePath, NoMemory>
+fn number_path(
+    table: &mut NameTable,
+    key: &mut TextKey<'_>,
+    alloc: Global,
+    path: &[u8],
+) -> Result<NamePath, NoMemory>
     ensures ok { IfOk result (λ ids. ids ≡ path_of table.old (names_in path.now)) }
     ensures value { OnOk result (table.new ≡ with_names table.old (names_in path.now)) }
 {
     let mut ids = List::new(alloc);
     let mut names = names_of(path);
     while let Some(name) = names.next() {
-        let id = table.number(name.to_vec(alloc)?)?;
+        let id = table.number(key, name.to_vec(alloc)?)?;
         ids.push(NameId(id))?;
     }
     Ok(ids)

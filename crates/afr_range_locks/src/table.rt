@@ -22,6 +22,9 @@ pub(crate) struct Key {
 
 pub(crate) type Locks<A> = BTreeMap<Key, HeldLock<A>>;
 
+/// So many locks are looked at one after the other: to find a place in the map costs more.
+const FEW: usize = 8;
+
 /// A held lock that is in the way.
 #[derive(Clone, Copy)]
 struct Conflict {
@@ -51,6 +54,36 @@ fn domain_number(domain: Domain) -> u8
 
 /// The owner of the first lock that is in the way, in O(log n + k) for k locks in reach.
 pub(crate) fn blocked_by<A: Lockable>(
+    locks: &Locks<A>,
+    next: u64,
+    wanted: &HeldLock<A>,
+) -> Option<ActorId>
+    requires filed { AllByRecursion (IsFiled A.at next) locks.now.entries }
+    requires fresh { AreFresh locks.now.entries }
+    ensures { result ≡ first_conflict A.overlap wanted.now (granted next locks.now.entries) }
+{
+    if locks.len() <= FEW {
+        owner_of(first_of_all(locks, wanted))
+    } else {
+        blocked_in_reach(locks, next, wanted)
+    }
+}
+
+/// The conflict that was granted first, of all.
+#[tactic(auto, using(crate::proofs::EarlierLemmas::earlier_assoc, crate::proofs::EarlierLemmas::earlier_none))]
+fn first_of_all<A: Lockable>(locks: &Locks<A>, wanted: &HeldLock<A>) -> Option<Conflict>
+    ensures { result ≡ first_granted A.overlap wanted.now locks.now.entries }
+{
+    let mut found = None;
+    for (key, lock) in locks.iter() {
+        found = earlier(found, conflict_at(wanted, key, lock));
+    }
+    found
+}
+
+/// The owner of the first lock that is in the way, where only those in reach are looked at.
+#[inline(never)]
+fn blocked_in_reach<A: Lockable>(
     locks: &Locks<A>,
     next: u64,
     wanted: &HeldLock<A>,
@@ -183,8 +216,50 @@ pub(crate) fn release<A: Lockable>(locks: &mut Locks<A>, next: u64, held: &HeldL
 }
 
 /// The key of the first equal lock whose grant number isn't below `from`.
-#[tactic(auto, using(crate::proofs::KeyLemmas::at_place_forward))]
 fn first_equal<A: Lockable>(
+    locks: &Locks<A>,
+    next: u64,
+    held: &HeldLock<A>,
+    from: u64,
+) -> Option<Key>
+    requires from { from ≤ next }
+    requires filed { AllByRecursion (IsFiled A.at next) locks.now.entries }
+    ensures first { result ≡ first_equal A.same held.now (at_place held.now.domain (A.at held.now.area) from next locks.now.entries) }
+    ensures order { IsOrdered key_cmp locks.now }
+    ensures place { (other : _) → A.same held.now.area other ≡ true → A.at other ≡ A.at held.now.area }
+{
+    if locks.len() <= FEW {
+        first_among(locks, next, held, from)
+    } else {
+        first_at_place(locks, next, held, from)
+    }
+}
+
+/// The same, where all are looked at.
+fn first_among<A: Lockable>(
+    locks: &Locks<A>,
+    next: u64,
+    held: &HeldLock<A>,
+    from: u64,
+) -> Option<Key>
+    requires filed { AllByRecursion (IsFiled A.at next) locks.now.entries }
+    ensures first { result ≡ first_equal A.same held.now (at_place held.now.domain (A.at held.now.area) from next locks.now.entries) }
+    ensures order { IsOrdered key_cmp locks.now }
+    ensures place { (other : _) → A.same held.now.area other ≡ true → A.at other ≡ A.at held.now.area }
+{
+    let _ = (next, held.area.place());
+    for (key, lock) in locks.iter() {
+        if key.grant >= from && is_lock(held, lock) {
+            return Some(*key);
+        }
+    }
+    None
+}
+
+/// The same, where only those at its place are looked at.
+#[inline(never)]
+#[tactic(auto, using(crate::proofs::KeyLemmas::at_place_forward))]
+fn first_at_place<A: Lockable>(
     locks: &Locks<A>,
     next: u64,
     held: &HeldLock<A>,

@@ -13,7 +13,7 @@ use afr_check_tables::{
     work_len,
 };
 use afr_lines::{Area, Domain, Event, Fault, Good, Line, Reply, Request, Told};
-use afr_object::{Change, List, Repair, View};
+use afr_object::{Change, Chunk, List, Repair, View};
 use afr_plan::{Command, Plan, PlannedFault, Words};
 use std::alloc::Global;
 use std::test::Fail;
@@ -112,7 +112,7 @@ fn written(alloc: Global, missed: BrickSet) -> Result<Vec<Line>, Fail> {
     };
     ask_all(&mut log, &lock, &Told::Granted)?;
     ask_all(&mut log, &Request::Look { gfid: FILE }, &view(What::File))?;
-    let mut bytes = List::new(alloc);
+    let mut bytes = Chunk::new(alloc);
     bytes.push(7u8).ok().ok_or("memory")?;
     log.push(Line::Begin {
         actor: WRITER,
@@ -188,7 +188,7 @@ fn a_cut_touches_what_is_past_its_length(rt: HostRuntime) -> Result<(), Fail> {
         assert_eq!(rt; touches(&cut, Cell::Byte(FILE, place)), touched);
         assert!(rt; !touches(&cut, Cell::Byte(ROOT, place)));
     }
-    let mut bytes = List::new(rt.alloc());
+    let mut bytes = Chunk::new(rt.alloc());
     bytes.push(7u8).ok().ok_or("memory")?;
     let write = Change::Write {
         gfid: FILE,
@@ -441,7 +441,7 @@ fn a_post_op_without_a_pre_op_is_too_much(rt: HostRuntime) -> Result<(), Fail> {
 fn write_of_7(alloc: Global) -> Result<Command, Fail> {
     let mut path = List::new(alloc);
     path.push(NameId(0)).ok().ok_or("memory")?;
-    let mut bytes = List::new(alloc);
+    let mut bytes = Chunk::new(alloc);
     bytes.push(7u8).ok().ok_or("memory")?;
     Ok(Command::Write { path, at: 0, bytes })
 }

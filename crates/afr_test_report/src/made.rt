@@ -2,7 +2,7 @@
 
 use afr_base::{ActorId, BrickId, BrickSet, Gfid, Kind, NameId, NoMemory, Shape, ValueId, What};
 use afr_lines::{Event, Good, HealReply, Line, Reply, Request, Told};
-use afr_object::{Entry, List, NameList, Views};
+use afr_object::{Chunk, Entry, List, NameList, Views};
 use afr_plan::{Command, Plan, RoundList, Rounds, Script, Scripts, Word, WordList, Words};
 use std::alloc::Global;
 
@@ -49,7 +49,7 @@ fn write(alloc: Global) -> Command {
     Command::Write {
         path: List::new(alloc),
         at: 0,
-        bytes: List::new(alloc),
+        bytes: Chunk::new(alloc),
     }
 }
 
@@ -128,11 +128,11 @@ fn stat(what: What, len: u32) -> Line {
 
 /// The ends of a write and of nine reads, which give each sort of thing once.
 pub fn each_reply(alloc: Global) -> Result<Vec<Line>, NoMemory> {
-    let hello = List::from_vec(b"hello".to_vec(alloc)?);
+    let hello = Chunk::from_vec(b"hello".to_vec(alloc)?)?;
     let lines = [
         end(1, Reply::Ok(Good::Done)),
         end(1, Reply::Ok(Good::Bytes(hello))),
-        end(1, Reply::Ok(Good::Bytes(List::new(alloc)))),
+        end(1, Reply::Ok(Good::Bytes(Chunk::new(alloc)))),
         end(1, Reply::NoEntry),
         end(1, Reply::Ok(Good::Names(two_names(alloc)?))),
         end(1, Reply::Ok(Good::Names(List::new(alloc)))),

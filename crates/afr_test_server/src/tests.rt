@@ -6,7 +6,7 @@ ghost use Rattle.afr_object.specs.Tables.{key_cmp, name_cmp};
 
 use afr_base::{BrickId, BrickSet, Gfid, KeyId, Kind, NameId, ValueId, What};
 use afr_brick::{Brick, Refused};
-use afr_object::{AttrList, Change, Chunk, Entry, List, Load, NameList, Repair};
+use afr_object::{AttrList, Change, Chunk, Entry, Load, NameList, Repair};
 use std::alloc::Global;
 use std::test::Fail;
 
@@ -63,7 +63,7 @@ fn remove_name(brick: &mut Brick) -> bool {
 fn one_byte(alloc: Global) -> Result<Chunk, Refused>
     ensures { IfOk result (λ bytes. bytes ≡ 7 ∷ []) }
 {
-    let mut bytes = List::new(alloc);
+    let mut bytes = Chunk::new(alloc);
     bytes.push(7u8)?;
     Ok(bytes)
 }

@@ -12,4 +12,5 @@ mod object;
 mod range_locks;
 mod rule;
 mod session;
+mod tasks;
 mod text;

@@ -4,7 +4,7 @@ ghost use Rattle.std.specs.Prelude.{◌≡◌};
 use afr_base::{ActorId, AllMarks, BrickId, BrickSet, Gfid, Kind, NameId, Shape, What};
 use afr_check_moves::{first_unlawful, is_lawful_line, makes_new_alone, register_of};
 use afr_lines::{Area, Domain, Good, Line, Reply, Request, Told};
-use afr_object::{Change, List, View};
+use afr_object::{Change, Chunk, List, View};
 use afr_plan::{Plan, Words};
 use std::alloc::Global;
 use std::test::Fail;
@@ -87,7 +87,7 @@ fn locks(area: Area) -> Request {
 
 /// The Begin of a write of the byte 7.
 fn begin_write(alloc: Global, log: &mut Vec<Line>) -> Result<(), Fail> {
-    let mut bytes = List::new(alloc);
+    let mut bytes = Chunk::new(alloc);
     bytes.push(7u8).ok().ok_or("memory")?;
     log.push(Line::Begin {
         actor: WRITER,

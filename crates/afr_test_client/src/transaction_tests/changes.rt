@@ -4,7 +4,7 @@ use afr_base::{AllMarks, BrickId, Gfid, NameId, Shape, What};
 use afr_client_transaction::{Transaction, has_area};
 use afr_discipline::fresh;
 use afr_lines::{Next, Request, Told};
-use afr_object::{Change, List, Load, View};
+use afr_object::{Change, Chunk, Load, View};
 use std::alloc::Global;
 
 #[test]
@@ -12,7 +12,7 @@ fn a_write_of_no_bytes_has_no_area(rt: HostRuntime) {
     let change = Change::Write {
         gfid: FILE,
         at: 0,
-        bytes: List::new(rt.alloc()),
+        bytes: Chunk::new(rt.alloc()),
     };
     assert!(rt; !has_area(&change));
     assert!(rt; has_area(&Change::Cut { gfid: FILE, len: 5 }));

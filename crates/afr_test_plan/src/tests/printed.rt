@@ -6,7 +6,7 @@ use std::alloc::Global;
 use std::test::Fail;
 
 /// Plans that are printed as they stand.
-const PLANS: [&str; 43] = [
+const PLANS: [&str; 44] = [
     "afr 1\nvolume replica\nfiles 1\nturns 100000\nclient 1\nwrite /f1 0 \"1\"\nwrite /f1 0 \"2\"\nwrite /f1 0 \"3\"\nread /f1 0 1\nhealer 1\nround 0\nfault 1 8 fail\nfault 2 6 fail\nat 0 stop 1\nat 20 start 1\nat 20 stop 2\nat 41 start 2\nat 41 stop 0\nat 62 start 0\ngo c1 65\nend\n",
     "afr 1\nvolume replica\nfiles 1\nturns 100000\nclient 1\nwrite /f1 0 \"a\"\nclient 2\nwrite /f1 0 \"b\"\nend\n",
     "afr 1\nvolume replica\nfiles 1\nturns 100000\nclient 1\nwrite /f1 0 \"hello\"\nfault 1 5 fail\nfault 2 5 fail\nend\n",
@@ -50,6 +50,7 @@ const PLANS: [&str; 43] = [
     "afr 2\nvolume replica 5\nfiles 1\nturns 100000\nclient 1\nwrite /f1 0 \"hello\"\nat 0 stop 3\nat 0 stop 4\nend\n",
     "afr 2\nvolume replica 5\nfiles 1\nturns 100000\nclient 1\nwrite /f1 0 \"hello\"\nat 0 stop 2\nat 0 stop 3\nat 0 stop 4\nend\n",
     "afr 2\nvolume replica 5\nfiles 0\nturns 1\nclient 1\nhealer 1\nround 4\nfault 4 4000000 lost\nat 0 cut c1 4\nend\n",
+    "afr 1\nvolume replica\nfiles 1\nturns 9\nclient 1\nwrite /f1 0 fill:99:61\nwrite /f1 0 fill:65536:61\nwrite /f1 0 fill:10:61\nwrite /f1 0 fill:100:62\nwrite /f1 0 fill:101:62\nwrite /f1 0 fill:5000:61\nend\n",
 ];
 
 /// Plans of three bricks in version 2, and how they are printed: in version 1.

@@ -47,7 +47,7 @@ pub fn answers(alloc: Global) -> Result<Vec<Line>, NoMemory> {
 }
 
 fn hello(alloc: Global) -> Result<Chunk, NoMemory> {
-    Ok(List::from_vec(b"hello".to_vec(alloc)?))
+    Chunk::from_vec(b"hello".to_vec(alloc)?)
 }
 
 fn begin(change: Change) -> Line {
@@ -126,7 +126,7 @@ pub fn gifts(alloc: Global) -> Result<Vec<Line>, NoMemory> {
     let lines = [
         given(Good::Done),
         given(Good::Bytes(bytes)),
-        given(Good::Bytes(List::new(alloc))),
+        given(Good::Bytes(Chunk::new(alloc))),
         given(Good::Names(names)),
         given(Good::Names(List::new(alloc))),
         given(Good::Value(Some(ValueId(0)))),

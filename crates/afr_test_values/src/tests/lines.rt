@@ -1,13 +1,13 @@
 //! Answers in the log, and copies of replies.
 use afr_base::{ActorId, AllMarks, NoMemory, What};
 use afr_lines::{Answer, Good, KeptReply, Reply, Told, told_of};
-use afr_object::{List, TryCopy, View};
+use afr_object::{Chunk, TryCopy, View};
 use std::alloc::Global;
 use std::test::Fail;
 
 #[test]
 fn the_log_keeps_no_bytes_of_an_answer(rt: HostRuntime) {
-    let given = told_of(&Answer::Bytes(List::new(rt.alloc())));
+    let given = told_of(&Answer::Bytes(Chunk::new(rt.alloc())));
     assert!(rt; matches!(given, Told::Given));
     let held = told_of(&Answer::Held(ActorId(2)));
     assert!(rt; matches!(held, Told::Held(ActorId(2))));
@@ -17,7 +17,7 @@ fn the_log_keeps_no_bytes_of_an_answer(rt: HostRuntime) {
 
 /// A reply of one byte.
 fn one_byte(alloc: Global) -> Result<Reply, NoMemory> {
-    let mut bytes = List::new(alloc);
+    let mut bytes = Chunk::new(alloc);
     bytes.push(7u8)?;
     Ok(Reply::Ok(Good::Bytes(bytes)))
 }

@@ -1,6 +1,6 @@
-//! Names in their order, and copies of a change.
+//! Names in their order, copies of a change, and bytes that are shared.
 use afr_base::{Gfid, NameId, NoMemory, What};
-use afr_object::{Change, Entry, List, SortedMap, TryCopy};
+use afr_object::{Change, Chunk, Entry, SortedMap, TryCopy};
 use std::alloc::Global;
 use std::test::Fail;
 
@@ -29,7 +29,7 @@ fn a_name_comes_is_listed_and_goes(rt: HostRuntime) -> Result<(), Fail> {
 
 /// A write of one byte.
 fn write(alloc: Global) -> Result<Change, NoMemory> {
-    let mut bytes = List::new(alloc);
+    let mut bytes = Chunk::new(alloc);
     bytes.push(7u8)?;
     Ok(Change::Write {
         gfid: Gfid(9),
@@ -55,5 +55,22 @@ fn is_copied(alloc: Global) -> Result<bool, NoMemory> {
 fn a_copied_write_has_its_bytes(rt: HostRuntime) -> Result<(), Fail> {
     let copied = is_copied(rt.alloc()).ok().ok_or("memory")?;
     assert!(rt; copied);
+    Ok(())
+}
+
+/// A front shares its bytes with the whole, and a byte that is added to a copy of it leaves both as they are.
+fn shares_its_bytes(alloc: Global) -> Result<bool, NoMemory> {
+    let whole = Chunk::from_vec(b"abc".to_vec(alloc)?)?;
+    let front = whole.front(2)?;
+    let mut longer = front.copy()?;
+    longer.push(b'd')?;
+    let fronts = front.as_slice() == b"ab".as_slice() && longer.as_slice() == b"abd".as_slice();
+    Ok(fronts && whole.len() == 3 && *whole.item(2) == b'c')
+}
+
+#[test]
+fn a_front_shares_its_bytes(rt: HostRuntime) -> Result<(), Fail> {
+    let shared = shares_its_bytes(rt.alloc()).ok().ok_or("memory")?;
+    assert!(rt; shared);
     Ok(())
 }

@@ -5,5 +5,5 @@ use Rattle.afr_brick.proofs.brick.Brick.post.Goals as goal
 
 pub invariant_of-self-2 : goal.invariant_of-self-2
 invariant_of-self-2 c =
-    let follows = rw c.in_ok-post.ensures.ok at c.follow.ensures in
-    rw c.in_ok-post.ensures.ok (index_follows (with_numbers c.args.kind (closed_op c.args.missed)) c.args.g c.self.inside.store.objects c.self.inside.index c.follow.new.index c.in_ok-post.ensures.order c.self.invariant follows)
+    let follows = rw c.in_ok-stays.ensures.ok at c.follow.ensures in
+    rw c.in_ok-stays.ensures.ok (index_follows (with_numbers c.args.kind (closed_op c.args.missed)) c.args.g c.self.inside.store.objects c.self.inside.index c.follow.new.index c.in_ok-stays.ensures.order c.self.invariant follows)

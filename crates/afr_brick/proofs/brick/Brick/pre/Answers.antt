@@ -5,5 +5,5 @@ use Rattle.afr_brick.proofs.brick.Brick.pre.Goals as goal
 
 pub invariant_of-self-2 : goal.invariant_of-self-2
 invariant_of-self-2 c =
-    let follows = rw c.in_ok-pre.ensures.ok at c.follow.ensures in
-    rw c.in_ok-pre.ensures.ok (index_follows (with_numbers c.args.kind (dirtied)) c.args.g c.self.inside.store.objects c.self.inside.index c.follow.new.index c.in_ok-pre.ensures.order c.self.invariant follows)
+    let follows = rw c.in_ok-stays.ensures.ok at c.follow.ensures in
+    rw c.in_ok-stays.ensures.ok (index_follows (with_numbers c.args.kind (dirtied)) c.args.g c.self.inside.store.objects c.self.inside.index c.follow.new.index c.in_ok-stays.ensures.order c.self.invariant follows)

@@ -8,10 +8,13 @@ use Rattle.afr_client_transaction.proofs.Kept.{kept_begin}
 use Rattle.afr_client_transaction.proofs.machine.Transaction.begin.Goals as goal
 
 pub invariant_of-self : goal.invariant_of-self
-invariant_of-self c = record {
-  sound =
-      subst (λ (q : Register). Sound (record { change = c.self.inside.change; register = q; stage = Preparing; asked = c.self.inside.asked })) (sym c.note.ensures.value)
-      (kept_begin (record { change = c.self.inside.change; register = c.self.inside.register; stage = c.self.inside.stage; asked = c.self.inside.asked }) c.self.invariant.sound
-      (ap (λ (m : TransactionProgress). m.stage) c.self.view_is ∙ c.requires.beginning) c.args.at);
-  kept = c.made_by.ensures ∙ ap (λ (q : Register). made_by q.begun c.self.inside.change) (sym c.note.ensures.value);
-}
+invariant_of-self c = (
+  record {
+    sound =
+        subst (λ (q : Register). Sound (record { change = c.self.inside.change; register = q; stage = Preparing; asked = c.self.inside.asked })) (sym c.note.ensures.value)
+        (kept_begin (record { change = c.self.inside.change; register = c.self.inside.register; stage = c.self.inside.stage; asked = c.self.inside.asked }) c.self.invariant.0.sound
+        (ap (λ (m : TransactionProgress). m.stage) c.self.view_is ∙ c.requires.beginning) c.args.at);
+    kept = c.made_by.ensures ∙ ap (λ (q : Register). made_by q.begun c.self.inside.change) (sym c.note.ensures.value);
+  },
+  tt,
+)

@@ -12,11 +12,11 @@ returns-in_default c =
     let next_is = c.asking.ensures ∙ asks_next c.self.inside.stage c.args.at c.args.self.now c.in_default.not-Beginning c.in_default.not-Closing ∙ ap (λ (m : TransactionProgress). next_at m.stage c.args.at c.args.self.now) c.self.view_is in
     record {
       value = next_is;
-      allowed = ap (λ (n : Next). allowed c.args.self.now.register n) next_is ∙ allowed_next c.args.self.now (subst Sound c.self.view_is c.self.invariant.sound) c.args.at;
+      allowed = ap (λ (n : Next). allowed c.args.self.now.register n) next_is ∙ allowed_next c.args.self.now (subst Sound c.self.view_is c.self.invariant.0.sound) c.args.at;
     }
 
 pub returns-in_ok-next-in-Closing-clause-allowed : goal.returns-in_ok-next-in-Closing-clause-allowed
 returns-in_ok-next-in-Closing-clause-allowed c =
     let stage_is = sym (ap (λ (m : TransactionProgress). m.stage) c.self.view_is) ∙ c.in-Closing.is in
     let next_is = c.in_ok-next-in-Closing.ensures ∙ ap (λ (stage : Stage). next_at stage c.args.at c.args.self.now) (sym stage_is) in
-    ap (λ (n : Next). allowed c.args.self.now.register n) next_is ∙ allowed_next c.args.self.now (subst Sound c.self.view_is c.self.invariant.sound) c.args.at
+    ap (λ (n : Next). allowed c.args.self.now.register n) next_is ∙ allowed_next c.args.self.now (subst Sound c.self.view_is c.self.invariant.0.sound) c.args.at

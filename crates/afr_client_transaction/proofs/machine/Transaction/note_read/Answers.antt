@@ -8,13 +8,16 @@ use Rattle.afr_client_transaction.proofs.ReadLemmas.{kept_read}
 use Rattle.afr_client_transaction.proofs.machine.Transaction.note_read.Goals as goal
 
 pub invariant_of-self : goal.invariant_of-self
-invariant_of-self c = record {
-  sound =
-      subst (λ (q : Register). Sound (record { change = c.self.inside.change; register = q; stage = c.self.inside.stage; asked = c.self.inside.asked })) (sym c.note.ensures.value)
-      (kept_read (record { change = c.self.inside.change; register = c.self.inside.register; stage = c.self.inside.stage; asked = c.self.inside.asked }) c.self.invariant.sound
-      (ap (λ (m : TransactionProgress). is_beginning m.stage) c.self.view_is ∙ c.requires.beginning) c.args.brick.0 c.args.request.now c.requires.reads c.args.told.now c.args.at);
-  kept = at_beginning c.self.inside.stage c.self.inside.made _ (ap (λ (m : TransactionProgress). is_beginning m.stage) c.self.view_is ∙ c.requires.beginning);
-}
+invariant_of-self c = (
+  record {
+    sound =
+        subst (λ (q : Register). Sound (record { change = c.self.inside.change; register = q; stage = c.self.inside.stage; asked = c.self.inside.asked })) (sym c.note.ensures.value)
+        (kept_read (record { change = c.self.inside.change; register = c.self.inside.register; stage = c.self.inside.stage; asked = c.self.inside.asked }) c.self.invariant.0.sound
+        (ap (λ (m : TransactionProgress). is_beginning m.stage) c.self.view_is ∙ c.requires.beginning) c.args.brick.0 c.args.request.now c.requires.reads c.args.told.now c.args.at);
+    kept = at_beginning c.self.inside.stage c.self.inside.made _ (ap (λ (m : TransactionProgress). is_beginning m.stage) c.self.view_is ∙ c.requires.beginning);
+  },
+  tt,
+)
 
 pub returns : goal.returns
 returns c =

@@ -6,4 +6,4 @@ pub returns-clause-ok : goal.returns-clause-ok
 returns-clause-ok c = rw (← c.make_ready.ensures, ← c.self.view_is) (c.in_ok-id.ensures.ok ∙ c.in_ok-index.ensures.index ∙ sym (place-map c.args.name.items c.self.inside.set.keys))
 
 pub returns-clause-value : goal.returns-clause-value
-returns-clause-value c = rw (← c.make_ready.ensures, ← c.self.view_is) (ap (map bytes) c.in_ok-index.ensures.keys ∙ insert-map c.args.name c.self.inside.set.keys)
+returns-clause-value c = rw (← c.make_ready.ensures, ← c.self.view_is) (ap (map bytes) c.in_ok-index.ensures.keys ∙ insert-map (record { bytes = c.args.name }) c.self.inside.set.keys)

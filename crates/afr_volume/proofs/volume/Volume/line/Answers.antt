@@ -1,6 +1,7 @@
 use Rattle.std.proofs.Common.{◌<◌, length, sym, ◌∙◌, arith}
 use Rattle.std.proofs.lemmas.List.{length-reverse}
-use Rattle.afr_volume.proofs.LogLemmas.{from_oldest-reverse, is_there}
+use Rattle.afr_lines.specs.LogLemmas.{from_oldest-reverse}
+use Rattle.afr_volume.proofs.LogLemmas.{is_there}
 use Rattle.afr_volume.proofs.volume.Volume.line.Goals as goal
 
 pub returns : goal.returns

@@ -1,0 +1,18 @@
+-- Lists that are the same from one place on.
+use Rattle.std.proofs.Common.{◌≡◌, ℕ, zero, suc, List, [], ◌∷◌, drop, Some, slice_get}
+use Rattle.afr_base.specs.declared.ids.NameId.{NameId}
+use Rattle.afr_object.specs.declared.entry.Entry.{Entry}
+
+-- Two lists with one item at a place are the same from there on, where they are so from the next.
+pub same_step : {A : Type 0} (xs ys : List A) (k : ℕ) (x : A) → slice_get xs k ≡ Some x → slice_get ys k ≡ Some x → drop (suc k) xs ≡ drop (suc k) ys → drop k xs ≡ drop k ys
+same_step [] ys k x e f h = absurd (cc)
+same_step (y ∷ xs) [] k x e f h = absurd (cc)
+same_step (y ∷ xs) (z ∷ ys) zero x e f h =
+    let first : y ≡ x = cc in
+    let second : z ≡ x = cc in
+    rw (first, second) (λ i. x ∷ h i)
+same_step (y ∷ xs) (z ∷ ys) (suc k) x e f h = same_step xs ys k x e f h
+
+-- Names with one number and one entry are the same.
+pub same_entry : (x y : NameId × Entry) → x.0.0 ≡ y.0.0 → x.1.gfid.0 ≡ y.1.gfid.0 → x.1.what ≡ y.1.what → x ≡ y
+same_entry x y e f g = λ i. (record { 0 = e i }, record { gfid = record { 0 = f i }; what = g i })
