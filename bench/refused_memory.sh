@@ -67,6 +67,8 @@ for do in refuse_each limit; do
     for plan in write_and_read stale_heal_piece source_tree; do $do plans/$plan.plan run; done
     $do /dev/null gen 1
     $do plans/apart.plan live
+    $do plans/write_and_read.plan record
+    $do plans/write_and_read.image replay 100000
 done
 echo "$wrong ended otherwise"
 [ "$wrong" -eq 0 ]
