@@ -1,0 +1,5 @@
+//! Tests of logs that are built of traces.
+#![tactic(auto)]
+
+#[cfg(test)]
+mod tests;
