@@ -4,6 +4,7 @@ mod EarlierLemmas
 mod GrantedLemmas
 mod KeyLemmas
 mod NumberLemmas
+mod OneLemmas
 mod RangeLemmas
 mod ReachLemmas
 mod ReleaseLemmas

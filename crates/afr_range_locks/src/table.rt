@@ -1,5 +1,5 @@
 //! The map of held locks, in the order of domain, object, start and grant.
-ghost use Rattle.std.specs.Prelude.{◌≡◌, ◌+◌, ◌<◌, ◌≤◌, ◌^◌, true, not, IfOk, OnOk, OnErr};
+ghost use Rattle.std.specs.Prelude.{◌≡◌, ◌+◌, ◌<◌, ◌≤◌, ◌^◌, Some, None, if◌then◌else◌, true, length, not, IfOk, OnOk, OnErr};
 ghost use Rattle.std.specs.BTreeMap.{IsOrdered, insert_entry};
 ghost use Rattle.std.specs.List.{AllByRecursion, filter};
 ghost use Rattle.afr_lines.specs.Locks.{conflicts, first_conflict, is_lock, same_domain};
@@ -62,10 +62,23 @@ pub(crate) fn blocked_by<A: Lockable>(
     requires fresh { AreFresh locks.now.entries }
     ensures { result ≡ first_conflict A.overlap wanted.now (granted next locks.now.entries) }
 {
-    if locks.len() <= FEW {
+    if locks.len() <= 1 {
+        owner_of(of_one(locks, wanted))
+    } else if locks.len() <= FEW {
         owner_of(first_of_all(locks, wanted))
     } else {
         blocked_in_reach(locks, next, wanted)
+    }
+}
+
+/// The conflict with the lock that is held, where no other is.
+fn of_one<A: Lockable>(locks: &Locks<A>, wanted: &HeldLock<A>) -> Option<Conflict>
+    requires { length locks.now.entries ≤ 1 }
+    ensures { result ≡ first_granted A.overlap wanted.now locks.now.entries }
+{
+    match locks.first_key_value() {
+        Some((key, lock)) => conflict_at(wanted, key, lock),
+        None => None,
     }
 }
 
@@ -208,11 +221,42 @@ pub(crate) fn release<A: Lockable>(locks: &mut Locks<A>, next: u64, held: &HeldL
     requires { AllByRecursion (IsFiled A.at next) locks.old.entries }
     ensures { locks.new.entries ≡ filter (λ e. not (is_lock A.same held.now e.1)) locks.old.entries }
 {
+    if locks.len() <= 1 {
+        release_one(locks, held);
+        return;
+    }
     let mut from = 0;
     while let Some(key) = first_equal(locks, next, held, from) {
         locks.remove(&key);
         from = key.grant;
     }
+}
+
+/// The same, where at most one lock is held.
+fn release_one<A: Lockable>(locks: &mut Locks<A>, held: &HeldLock<A>)
+    requires { length locks.old.entries ≤ 1 }
+    ensures { locks.new.entries ≡ filter (λ e. not (is_lock A.same held.now e.1)) locks.old.entries }
+{
+    if let Some(key) = equal_of_one(locks, held) {
+        locks.remove(&key);
+    }
+}
+
+/// The key of the lock that is held, where it is equal.
+fn equal_of_one<A: Lockable>(locks: &Locks<A>, held: &HeldLock<A>) -> Option<Key>
+    requires { length locks.now.entries ≤ 1 }
+    ensures { result ≡ first_equal A.same held.now locks.now.entries }
+{
+    match locks.first_key_value() {
+        Some((key, lock)) => key_if(is_lock(held, lock), key),
+        None => None,
+    }
+}
+
+fn key_if(is: bool, key: &Key) -> Option<Key>
+    ensures { result ≡ (if is then Some key.now else None) }
+{
+    if is { Some(*key) } else { None }
 }
 
 /// The key of the first equal lock whose grant number isn't below `from`.

@@ -1,5 +1,5 @@
 //! One request: by its session and its planned fault it is refused, carried out and answered, or carried out with its answer lost.
-ghost use Rattle.std.specs.Prelude.{◌≡◌, ℕ, ◌<◌, ◌-◌, ◌^◌, true, false, Some, None, IfOk, OnErr};
+ghost use Rattle.std.specs.Prelude.{◌≡◌, ℕ, ◌<◌, ◌-◌, ◌^◌, true, false, Some, None, IfOk, OnOk, OnErr};
 ghost use Rattle.afr_faults.specs.Planned.{next_fault};
 ghost use Rattle.afr_server.specs.Carried.{CanCarryOut, CanLock};
 ghost use Rattle.afr_server.specs.Covered.{IsUnderLocks};
@@ -21,24 +21,26 @@ impl Server {
     /// `Failed`. Any other is carried out, and where its answer is lost the session ends. Each
     /// request is counted; want of memory changes nothing, the count included. O(log n) steps on n
     /// objects, names and faults, one for each lock on the brick and for each byte or name that is
-    /// moved; an index takes one for each listed object.
+    /// moved; an index takes one for each listed object. What is given is written in its place, for an
+    /// answer is large.
     pub fn ask(
         &mut self,
         actor: ActorId,
         epoch: Option<u32>,
         request: &Request,
         load: Load<'_>,
-    ) -> Result<Served, NoMemory>
+        given: &mut Served,
+    ) -> Result<(), NoMemory>
         requires known { actor.0 < 20 }
         requires count { self.old.faults.requests < 2 ^ 32 - 1 }
         requires lock { CanLock request.now }
         requires can { is_carried_out (has_session epoch actor self.old) (next_fault self.old.faults) ≡ true → CanCarryOut request.now load self.old.copies.objects }
         requires covered { is_carried_out (has_session epoch actor self.old) (next_fault self.old.faults) ≡ true → IsUnderLocks actor request.now load self.old }
-        ensures ok { IfOk result (λ given. Serves false (has_session epoch actor self.old) (next_fault self.old.faults) actor request.now load.entry self.old self.new given) }
+        ensures ok { OnOk result (Serves false (has_session epoch actor self.old) (next_fault self.old.faults) actor request.now load.entry self.old self.new given.new) }
         ensures err { OnErr result (self.new ≡ self.old) }
     {
         let live = self.is_live(actor, epoch);
-        self.serve(actor, live, false, request, load)
+        self.serve(actor, live, false, request, load, given)
     }
 
     /// The first line of a work or of a heal: the brick is met as the request comes, once its memory
@@ -49,20 +51,21 @@ impl Server {
         actor: ActorId,
         request: &Request,
         load: Load<'_>,
-    ) -> Result<(Option<u32>, Served), NoMemory>
+        given: &mut Served,
+    ) -> Result<Option<u32>, NoMemory>
         requires known { actor.0 < 20 }
         requires count { self.old.faults.requests < 2 ^ 32 - 1 }
         requires room { HasEpoch actor self.old }
         requires lock { CanLock request.now }
         requires can { is_carried_out (is_met actor self.old) (next_fault self.old.faults) ≡ true → CanCarryOut request.now load self.old.copies.objects }
         requires covered { is_carried_out (is_met actor self.old) (next_fault self.old.faults) ≡ true → IsUnderLocks actor request.now load self.old }
-        ensures epoch { IfOk result (λ given. given.0 ≡ epoch_of actor self.old) }
-        ensures ok { IfOk result (λ given. Serves true (is_met actor self.old) (next_fault self.old.faults) actor request.now load.entry self.old self.new given.1) }
+        ensures epoch { IfOk result (λ epoch. epoch ≡ epoch_of actor self.old) }
+        ensures ok { OnOk result (Serves true (is_met actor self.old) (next_fault self.old.faults) actor request.now load.entry self.old self.new given.new) }
         ensures err { OnErr result (self.new ≡ self.old) }
     {
         let epoch = self.sessions.peek(actor);
-        let asked = self.serve(actor, epoch.is_some(), true, request, load)?;
-        Ok((epoch, asked))
+        self.serve(actor, epoch.is_some(), true, request, load, given)?;
+        Ok(epoch)
     }
 
     fn serve(
@@ -72,41 +75,46 @@ impl Server {
         first: bool,
         request: &Request,
         load: Load<'_>,
-    ) -> Result<Served, NoMemory>
+        given: &mut Served,
+    ) -> Result<(), NoMemory>
         requires known { actor.0 < 20 }
         requires count { self.old.faults.requests < 2 ^ 32 - 1 }
         requires room { first ≡ true → HasEpoch actor self.old }
         requires reach { live ≡ true → (link_served first false self.old.links.started (link_for actor self.old)).live ≡ true }
         requires lock { CanLock request.now }
         requires can { is_carried_out live (next_fault self.old.faults) ≡ true → CanCarryOut request.now load self.old.copies.objects }
-        ensures ok { IfOk result (λ given. Serves first live (next_fault self.old.faults) actor request.now load.entry self.old self.new given) }
+        ensures ok { OnOk result (Serves first live (next_fault self.old.faults) actor request.now load.entry self.old self.new given.new) }
         ensures err { OnErr result (self.new ≡ self.old) }
     {
         if !live {
-            return Ok(self.refuse(actor, first, Answer::NotConnected));
+            self.refuse(actor, first, Answer::NotConnected, given);
+            return Ok(());
         }
         match self.faults.peek() {
-            Some(Fault::Fail) => Ok(self.refuse(actor, first, Answer::Failed)),
-            Some(Fault::Lost) => self.lose(actor, first, request, load),
-            None => self.answer(actor, first, request, load),
+            Some(Fault::Fail) => {
+                self.refuse(actor, first, Answer::Failed, given);
+                Ok(())
+            }
+            Some(Fault::Lost) => self.lose(actor, first, request, load, given),
+            None => self.answer(actor, first, request, load, given),
         }
     }
 
     /// The request isn't carried out.
-    fn refuse(&mut self, actor: ActorId, first: bool, answer: Answer) -> Served
+    fn refuse(&mut self, actor: ActorId, first: bool, answer: Answer, given: &mut Served)
         requires known { actor.0 < 20 }
         requires count { self.old.faults.requests < 2 ^ 32 - 1 }
         requires room { first ≡ true → HasEpoch actor self.old }
-        ensures asked { result ≡ record { answer = answer; took = false } }
+        ensures asked { given.new ≡ record { answer = answer; took = false } }
         ensures same { self.new ≡ record self.old { links = self.new.links; faults = counted self.old.faults } }
         ensures started { self.new.links.started ≡ self.old.links.started }
         ensures links { (x : ℕ) → link_of x self.new.links ≡ only actor.0 x (link_served first false self.old.links.started) (link_of x self.old.links) }
     {
         count(&mut self.sessions, &mut self.faults, actor, first);
-        Served {
+        *given = Served {
             answer,
             took: false,
-        }
+        };
     }
 
     /// The request is carried out and answered.
@@ -116,26 +124,29 @@ impl Server {
         first: bool,
         request: &Request,
         load: Load<'_>,
-    ) -> Result<Served, NoMemory>
+        given: &mut Served,
+    ) -> Result<(), NoMemory>
         requires known { actor.0 < 20 }
         requires count { self.old.faults.requests < 2 ^ 32 - 1 }
         requires room { first ≡ true → HasEpoch actor self.old }
         requires reach { (link_served first false self.old.links.started (link_for actor self.old)).live ≡ true }
         requires lock { CanLock request.now }
         requires can { CanCarryOut request.now load self.old.copies.objects }
-        ensures ok { IfOk result (λ given. Serves first true None actor request.now load.entry self.old self.new given) }
+        ensures ok { OnOk result (Serves first true None actor request.now load.entry self.old self.new given.new) }
         ensures err { OnErr result (self.new ≡ self.old) }
     {
-        let answer = carry_out(
+        carry_out(
             &mut self.brick,
             &mut self.ranges,
             &mut self.names,
             actor,
             request,
             load,
+            &mut given.answer,
         )?;
         count(&mut self.sessions, &mut self.faults, actor, first);
-        Ok(Served { answer, took: true })
+        given.took = true;
+        Ok(())
     }
 
     /// The request is carried out, its answer is lost, and the session ends.
@@ -146,32 +157,35 @@ impl Server {
         first: bool,
         request: &Request,
         load: Load<'_>,
-    ) -> Result<Served, NoMemory>
+        given: &mut Served,
+    ) -> Result<(), NoMemory>
         requires known { actor.0 < 20 }
         requires count { self.old.faults.requests < 2 ^ 32 - 1 }
         requires room { first ≡ true → HasEpoch actor self.old }
         requires reach { (link_served first false self.old.links.started (link_for actor self.old)).live ≡ true }
         requires lock { CanLock request.now }
         requires can { CanCarryOut request.now load self.old.copies.objects }
-        ensures ok { IfOk result (λ given. Serves first true (Some Fault.Lost) actor request.now load.entry self.old self.new given) }
+        ensures ok { OnOk result (Serves first true (Some Fault.Lost) actor request.now load.entry self.old self.new given.new) }
         ensures err { OnErr result (self.new ≡ self.old) }
     {
-        let _lost = carry_out(
+        carry_out(
             &mut self.brick,
             &mut self.ranges,
             &mut self.names,
             actor,
             request,
             load,
+            &mut given.answer,
         )?;
         count(&mut self.sessions, &mut self.faults, actor, first);
         self.sessions.end(actor);
         self.ranges.drop_owner(actor);
         self.names.drop_owner(actor);
-        Ok(Served {
+        *given = Served {
             answer: Answer::NotConnected,
             took: true,
-        })
+        };
+        Ok(())
     }
 }
 

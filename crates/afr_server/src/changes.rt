@@ -1,5 +1,5 @@
-//! What a request that changes copies makes of a brick, and its answer.
-ghost use Rattle.std.specs.Prelude.{◌≡◌, IfOk, OnErr};
+//! What a request that changes copies makes of a brick, and its answer, which is written in its place.
+ghost use Rattle.std.specs.Prelude.{◌≡◌, OnOk, OnErr};
 ghost use Rattle.afr_object.specs.State.{CanApply, CanPost, CanPre, CanRepair, CanSettle, IsInOrder, contents_of};
 ghost use Rattle.afr_model.specs.Honest.{copy_answer};
 ghost use Rattle.afr_object.specs.Repairs.{mended, repaired};
@@ -13,13 +13,13 @@ use afr_lines::{Answer, Request};
 use afr_object::{Change, Load, Repair};
 
 /// The pre-op.
-pub(crate) fn pre(brick: &mut Brick, gfid: Gfid, kind: Kind) -> Answer
+pub(crate) fn pre(brick: &mut Brick, gfid: Gfid, kind: Kind, answer: &mut Answer)
     requires { CanPre kind gfid brick.old.objects }
-    ensures { (load : _) → BrickCarries (Request.Pre gfid kind) load brick.old brick.new result }
+    ensures { (load : _) → BrickCarries (Request.Pre gfid kind) load brick.old brick.new answer.new }
 {
     match brick.pre(gfid, kind) {
-        Ok(()) => Answer::Done,
-        Err(_) => Answer::NoObject,
+        Ok(()) => *answer = Answer::Done,
+        Err(_) => *answer = Answer::NoObject,
     }
 }
 
@@ -30,61 +30,81 @@ pub(crate) fn post(
     gfid: Gfid,
     kind: Kind,
     missed: BrickSet,
-) -> Answer
+    answer: &mut Answer,
+)
     requires { CanPost kind gfid brick.old.objects }
-    ensures { (load : _) → BrickCarries (Request.Post _attempt gfid kind missed) load brick.old brick.new result }
+    ensures { (load : _) → BrickCarries (Request.Post _attempt gfid kind missed) load brick.old brick.new answer.new }
 {
     match brick.post(gfid, kind, missed) {
-        Ok(()) => Answer::Done,
-        Err(_) => Answer::NoObject,
+        Ok(()) => *answer = Answer::Done,
+        Err(_) => *answer = Answer::NoObject,
     }
 }
 
 /// Numbers that a heal has settled are taken back.
-pub(crate) fn settle(brick: &mut Brick, gfid: Gfid, kind: Kind, less: &Marks) -> Answer
+pub(crate) fn settle(brick: &mut Brick, gfid: Gfid, kind: Kind, less: &Marks, answer: &mut Answer)
     requires { CanSettle kind less.now gfid brick.old.objects }
-    ensures { (load : _) → BrickCarries (Request.Settle gfid kind less.now) load brick.old brick.new result }
+    ensures { (load : _) → BrickCarries (Request.Settle gfid kind less.now) load brick.old brick.new answer.new }
 {
     match brick.settle(gfid, kind, less) {
-        Ok(()) => Answer::Done,
-        Err(_) => Answer::NoObject,
+        Ok(()) => *answer = Answer::Done,
+        Err(_) => *answer = Answer::NoObject,
     }
 }
 
 /// The operation of an attempt, with its change.
-pub(crate) fn apply(brick: &mut Brick, _attempt: u32, load: Load<'_>) -> Result<Answer, NoMemory>
+pub(crate) fn apply(
+    brick: &mut Brick,
+    _attempt: u32,
+    load: Load<'_>,
+    answer: &mut Answer,
+) -> Result<(), NoMemory>
     requires { CanApplyLoad load brick.old.objects }
-    ensures ok { IfOk result (λ answer. BrickCarries (Request.Apply _attempt) load.entry brick.old brick.new answer) }
+    ensures ok { OnOk result (BrickCarries (Request.Apply _attempt) load.entry brick.old brick.new answer.new) }
     ensures err { OnErr result (brick.new ≡ brick.old) }
 {
     match load {
-        Load::Change(change) => apply_change(brick, change),
-        _ => Ok(Answer::NoObject),
+        Load::Change(change) => apply_change(brick, change, answer),
+        _ => {
+            *answer = Answer::NoObject;
+            Ok(())
+        }
     }
 }
 
-fn apply_change(brick: &mut Brick, change: &Change) -> Result<Answer, NoMemory>
+fn apply_change(brick: &mut Brick, change: &Change, answer: &mut Answer) -> Result<(), NoMemory>
     requires { CanApply change.now brick.old.objects }
-    ensures copies { IfOk result (λ _. brick.new ≡ record { keeps = brick.old.keeps; objects = applied brick.old.keeps change.now brick.old.objects }) }
-    ensures answer { IfOk result (λ answer. answer ≡ copy_answer (λ _. Answer.Done) (copy_at (object_of change.now) brick.old.objects)) }
+    ensures copies { OnOk result (brick.new ≡ record { keeps = brick.old.keeps; objects = applied brick.old.keeps change.now brick.old.objects }) }
+    ensures answer { OnOk result (answer.new ≡ copy_answer (λ _. Answer.Done) (copy_at (object_of change.now) brick.old.objects)) }
     ensures err { OnErr result (brick.new ≡ brick.old) }
 {
     match brick.apply(change) {
-        Ok(()) => Ok(Answer::Done),
-        Err(refused) => absent(refused),
+        Ok(()) => {
+            *answer = Answer::Done;
+            Ok(())
+        }
+        Err(refused) => absent(refused, answer),
     }
 }
 
 /// A heal's repair, with the contents that it carries.
-pub(crate) fn mend(brick: &mut Brick, repair: &Repair, load: Load<'_>) -> Result<Answer, NoMemory>
+pub(crate) fn mend(
+    brick: &mut Brick,
+    repair: &Repair,
+    load: Load<'_>,
+    answer: &mut Answer,
+) -> Result<(), NoMemory>
     requires room { CanRepair repair.now (contents_of load) brick.old.objects }
     requires order { IsInOrder (contents_of load) }
-    ensures copies { IfOk result (λ _. brick.new ≡ record { keeps = brick.old.keeps; objects = mended brick.old.keeps repair.now (contents_of load.entry) brick.old.objects }) }
-    ensures answer { IfOk result (λ answer. answer ≡ copy_answer (λ _. Answer.Done) (copy_at (repaired repair.now) brick.old.objects)) }
+    ensures copies { OnOk result (brick.new ≡ record { keeps = brick.old.keeps; objects = mended brick.old.keeps repair.now (contents_of load.entry) brick.old.objects }) }
+    ensures answer { OnOk result (answer.new ≡ copy_answer (λ _. Answer.Done) (copy_at (repaired repair.now) brick.old.objects)) }
     ensures err { OnErr result (brick.new ≡ brick.old) }
 {
     match brick.repair(repair, load) {
-        Ok(()) => Ok(Answer::Done),
-        Err(refused) => absent(refused),
+        Ok(()) => {
+            *answer = Answer::Done;
+            Ok(())
+        }
+        Err(refused) => absent(refused, answer),
     }
 }

@@ -1,5 +1,5 @@
 //! Locks that are asked for: granted, or held by another.
-ghost use Rattle.std.specs.Prelude.{◌≡◌, ◌<◌, IfOk, OnErr};
+ghost use Rattle.std.specs.Prelude.{◌≡◌, ◌<◌, OnOk, OnErr};
 ghost use Rattle.afr_model.specs.Honest.{lock_answer};
 ghost use Rattle.afr_range_locks.specs.Locks.{overlap_range, range_lock};
 ghost use Rattle.afr_lines.specs.Locks.{first_conflict};
@@ -18,16 +18,18 @@ pub(crate) fn lock_range(
     gfid: Gfid,
     from: u64,
     to: u64,
-) -> Result<Answer, NoMemory>
+    answer: &mut Answer,
+) -> Result<(), NoMemory>
     requires { from < to }
-    ensures answer { IfOk result (λ answer. answer ≡ lock_answer (first_conflict overlap_range (range_lock owner domain gfid from to) ranges.old)) }
-    ensures locks { IfOk result (λ answer. ranges.new ≡ joined_by (first_conflict overlap_range (range_lock owner domain gfid from to) ranges.old) (range_lock owner domain gfid from to) ranges.old) }
+    ensures answer { OnOk result (answer.new ≡ lock_answer (first_conflict overlap_range (range_lock owner domain gfid from to) ranges.old)) }
+    ensures locks { OnOk result (ranges.new ≡ joined_by (first_conflict overlap_range (range_lock owner domain gfid from to) ranges.old) (range_lock owner domain gfid from to) ranges.old) }
     ensures err { OnErr result (ranges.new ≡ ranges.old) }
 {
     match ranges.lock(owner, domain, gfid, from, to)? {
-        Got::Granted => Ok(Answer::Granted),
-        Got::Held(holder) => Ok(Answer::Held(holder)),
+        Got::Granted => *answer = Answer::Granted,
+        Got::Held(holder) => *answer = Answer::Held(holder),
     }
+    Ok(())
 }
 
 pub(crate) fn lock_name(
@@ -36,13 +38,15 @@ pub(crate) fn lock_name(
     domain: Domain,
     gfid: Gfid,
     name: Option<NameId>,
-) -> Result<Answer, NoMemory>
-    ensures answer { IfOk result (λ answer. answer ≡ lock_answer (first_conflict overlap_dir_name (name_lock owner domain gfid name) names.old)) }
-    ensures locks { IfOk result (λ answer. names.new ≡ joined_by (first_conflict overlap_dir_name (name_lock owner domain gfid name) names.old) (name_lock owner domain gfid name) names.old) }
+    answer: &mut Answer,
+) -> Result<(), NoMemory>
+    ensures answer { OnOk result (answer.new ≡ lock_answer (first_conflict overlap_dir_name (name_lock owner domain gfid name) names.old)) }
+    ensures locks { OnOk result (names.new ≡ joined_by (first_conflict overlap_dir_name (name_lock owner domain gfid name) names.old) (name_lock owner domain gfid name) names.old) }
     ensures err { OnErr result (names.new ≡ names.old) }
 {
     match names.lock(owner, domain, gfid, name)? {
-        Got::Granted => Ok(Answer::Granted),
-        Got::Held(other) => Ok(Answer::Held(other)),
+        Got::Granted => *answer = Answer::Granted,
+        Got::Held(other) => *answer = Answer::Held(other),
     }
+    Ok(())
 }

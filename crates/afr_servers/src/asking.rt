@@ -1,5 +1,5 @@
 //! One brick is asked.
-ghost use Rattle.std.specs.Prelude.{◌≡◌, ℕ, ◌-◌, ◌^◌, ◌<◌, ◌≤◌, true, length, IfOk, OnErr};
+ghost use Rattle.std.specs.Prelude.{◌≡◌, ℕ, ◌-◌, ◌^◌, ◌<◌, ◌≤◌, true, length, IfOk, OnOk, OnErr};
 ghost use Rattle.afr_faults.specs.Planned.{next_fault};
 ghost use Rattle.afr_server.specs.Carried.{CanCarryOut, CanLock};
 ghost use Rattle.afr_server.specs.Covered.{IsUnderLocks};
@@ -23,7 +23,8 @@ pub(crate) fn ask_one(
     brick: BrickId,
     request: &Request,
     load: Load<'_>,
-) -> Result<Served, NoMemory>
+    given: &mut Served,
+) -> Result<(), NoMemory>
     requires known { actor.0 < 20 }
     requires few { length servers.old.items ≤ 5 }
     requires there { brick.0 < length servers.old.items }
@@ -31,11 +32,11 @@ pub(crate) fn ask_one(
     requires lock { CanLock request.now }
     requires can { At brick.0 servers.old.items (λ s. is_carried_out (has_session (epoch_at brick.0 epochs.now) actor s) (next_fault s.faults) ≡ true → CanCarryOut request.now load s.copies.objects) }
     requires covered { At brick.0 servers.old.items (λ s. is_carried_out (has_session (epoch_at brick.0 epochs.now) actor s) (next_fault s.faults) ≡ true → IsUnderLocks actor request.now load s) }
-    ensures ok { IfOk result (λ given. AsksOne actor epochs.now brick.0 request.now load.entry servers.old.items servers.new.items given) }
+    ensures ok { OnOk result (AsksOne actor epochs.now brick.0 request.now load.entry servers.old.items servers.new.items given.new) }
     ensures err { OnErr result (servers.new.items ≡ servers.old.items) }
 {
     let epoch = epochs.of[brick.0 as usize];
-    servers[brick.0 as usize].ask(actor, epoch, request, load)
+    servers[brick.0 as usize].ask(actor, epoch, request, load, given)
 }
 
 /// The first line of a work: one brick is asked, and once its memory is there the others meet the
@@ -46,7 +47,8 @@ pub(crate) fn ask_one_first(
     brick: BrickId,
     request: &Request,
     load: Load<'_>,
-) -> Result<(Epochs, Served), NoMemory>
+    given: &mut Served,
+) -> Result<Epochs, NoMemory>
     requires known { actor.0 < 20 }
     requires few { length servers.old.items ≤ 5 }
     requires there { brick.0 < length servers.old.items }
@@ -55,15 +57,15 @@ pub(crate) fn ask_one_first(
     requires lock { CanLock request.now }
     requires can { At brick.0 servers.old.items (λ s. is_carried_out (is_met actor s) (next_fault s.faults) ≡ true → CanCarryOut request.now load s.copies.objects) }
     requires covered { At brick.0 servers.old.items (λ s. is_carried_out (is_met actor s) (next_fault s.faults) ≡ true → IsUnderLocks actor request.now load s) }
-    ensures ok { IfOk result (λ given. AsksFirst actor brick.0 request.now load.entry servers.old.items servers.new.items given.0 given.1) }
+    ensures ok { IfOk result (λ epochs. AsksFirst actor brick.0 request.now load.entry servers.old.items servers.new.items epochs given.new) }
     ensures err { OnErr result (servers.new.items ≡ servers.old.items) }
 {
     let at = brick.0 as usize;
-    let (epoch, asked) = servers[at].ask_first(actor, request, load)?;
+    let epoch = servers[at].ask_first(actor, request, load, given)?;
     let mut epochs = Epochs::none();
     epochs.of[at] = epoch;
     let epochs = meet_between(servers, actor, 0, at, epochs);
     let bricks = servers.len();
     let epochs = meet_between(servers, actor, at + 1, bricks, epochs);
-    Ok((epochs, asked))
+    Ok(epochs)
 }

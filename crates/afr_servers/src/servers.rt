@@ -1,5 +1,5 @@
 //! All servers of a volume, and what an actor or the outside does to them.
-ghost use Rattle.std.specs.Prelude.{◌≡◌, ℕ, ◌+◌, ◌-◌, ◌^◌, ◌<◌, ◌≤◌, true, [], length, IfOk, OnErr};
+ghost use Rattle.std.specs.Prelude.{◌≡◌, ℕ, ◌+◌, ◌-◌, ◌^◌, ◌<◌, ◌≤◌, true, [], length, IfOk, OnOk, OnErr};
 ghost use Rattle.afr_faults.specs.Planned.{next_fault};
 ghost use Rattle.afr_server.specs.Carried.{CanCarryOut, CanLock};
 ghost use Rattle.afr_server.specs.Covered.{IsUnderLocks};
@@ -65,8 +65,8 @@ impl Servers {
         Ok(Servers { each })
     }
 
-    /// A request within a work, over the epoch that its actor found at this brick. Want of memory
-    /// changes nothing.
+    /// A request within a work, over the epoch that its actor found at this brick. What is given is
+    /// written in its place, here and below. Want of memory changes nothing.
     pub fn ask(
         &mut self,
         actor: ActorId,
@@ -74,17 +74,18 @@ impl Servers {
         brick: BrickId,
         request: &Request,
         load: Load<'_>,
-    ) -> Result<Served, NoMemory>
+        given: &mut Served,
+    ) -> Result<(), NoMemory>
         requires known { actor.0 < 20 }
         requires there { brick.0 < length self.old }
         requires count { At brick.0 self.old (λ s. s.faults.requests < 2 ^ 32 - 1) }
         requires lock { CanLock request.now }
         requires can { At brick.0 self.old (λ s. is_carried_out (has_session (epoch_at brick.0 epochs.now) actor s) (next_fault s.faults) ≡ true → CanCarryOut request.now load s.copies.objects) }
         requires covered { At brick.0 self.old (λ s. is_carried_out (has_session (epoch_at brick.0 epochs.now) actor s) (next_fault s.faults) ≡ true → IsUnderLocks actor request.now load s) }
-        ensures ok { IfOk result (λ given. AsksOne actor epochs.now brick.0 request.now load.entry self.old self.new given) }
+        ensures ok { OnOk result (AsksOne actor epochs.now brick.0 request.now load.entry self.old self.new given.new) }
         ensures err { OnErr result (self.new ≡ self.old) }
     {
-        ask_one(&mut self.each, actor, epochs, brick, request, load)
+        ask_one(&mut self.each, actor, epochs, brick, request, load, given)
     }
 
     /// The first line of a work or of a heal, where it is a request. The brick that is asked meets
@@ -96,7 +97,8 @@ impl Servers {
         brick: BrickId,
         request: &Request,
         load: Load<'_>,
-    ) -> Result<(Epochs, Served), NoMemory>
+        given: &mut Served,
+    ) -> Result<Epochs, NoMemory>
         requires known { actor.0 < 20 }
         requires there { brick.0 < length self.old }
         requires count { At brick.0 self.old (λ s. s.faults.requests < 2 ^ 32 - 1) }
@@ -104,10 +106,10 @@ impl Servers {
         requires lock { CanLock request.now }
         requires can { At brick.0 self.old (λ s. is_carried_out (is_met actor s) (next_fault s.faults) ≡ true → CanCarryOut request.now load s.copies.objects) }
         requires covered { At brick.0 self.old (λ s. is_carried_out (is_met actor s) (next_fault s.faults) ≡ true → IsUnderLocks actor request.now load s) }
-        ensures ok { IfOk result (λ given. AsksFirst actor brick.0 request.now load.entry self.old self.new given.0 given.1) }
+        ensures ok { IfOk result (λ epochs. AsksFirst actor brick.0 request.now load.entry self.old self.new epochs given.new) }
         ensures err { OnErr result (self.new ≡ self.old) }
     {
-        ask_one_first(&mut self.each, actor, brick, request, load)
+        ask_one_first(&mut self.each, actor, brick, request, load, given)
     }
 
     /// The first line of a work, where it is no request: the actor meets every brick. It takes no

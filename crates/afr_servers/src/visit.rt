@@ -1,5 +1,5 @@
 //! An actor's visit to the bricks: the sessions over which its present work, or heal, goes.
-ghost use Rattle.std.specs.Prelude.{◌≡◌, ◌<◌, ℕ, true, false, IfOk, OnErr};
+ghost use Rattle.std.specs.Prelude.{◌≡◌, ◌<◌, ℕ, true, false, OnOk, OnErr};
 ghost use Rattle.afr_server.specs.Serving.{HasEpoch};
 ghost use Rattle.afr_servers.specs.Calls.{At};
 ghost use Rattle.afr_servers.specs.Visiting.{CanAsk, IsServed, MeetsNext, visiting};
@@ -31,7 +31,8 @@ impl Visit {
         }
     }
 
-    /// A request of an actor, and what goes with it. Want of memory changes nothing.
+    /// A request of an actor, and what goes with it. What it is given is written in its place, for an answer is large. Want of
+    /// memory changes nothing.
     pub fn ask(
         &mut self,
         actor: ActorId,
@@ -39,17 +40,18 @@ impl Visit {
         request: &Request,
         load: Load<'_>,
         servers: &mut Servers,
-    ) -> Result<Served, NoMemory>
+        given: &mut Served,
+    ) -> Result<(), NoMemory>
         requires known { actor.0 < 20 }
         requires room { (y : ℕ) → At y servers.old (HasEpoch actor) }
         requires can { CanAsk actor self.old brick request.now load servers.old }
-        ensures ok { IfOk result (λ given. IsServed actor self.old self.new brick request.now load.entry servers.old servers.new given) }
+        ensures ok { OnOk result (IsServed actor self.old self.new brick request.now load.entry servers.old servers.new given.new) }
         ensures err { OnErr result ((self.new ≡ self.old) × (servers.new ≡ servers.old)) }
     {
         if self.met {
-            return servers.ask(actor, &self.epochs, brick, request, load);
+            return servers.ask(actor, &self.epochs, brick, request, load, given);
         }
-        self.ask_first(actor, brick, request, load, servers)
+        self.ask_first(actor, brick, request, load, servers, given)
     }
 
     /// It stands apart, so that only first lines pay for its frame.
@@ -61,18 +63,19 @@ impl Visit {
         request: &Request,
         load: Load<'_>,
         servers: &mut Servers,
-    ) -> Result<Served, NoMemory>
+        given: &mut Served,
+    ) -> Result<(), NoMemory>
         requires first { self.old.met ≡ false }
         requires known { actor.0 < 20 }
         requires room { (y : ℕ) → At y servers.old (HasEpoch actor) }
         requires can { CanAsk actor self.old brick request.now load servers.old }
-        ensures ok { IfOk result (λ given. IsServed actor self.old self.new brick request.now load.entry servers.old servers.new given) }
+        ensures ok { OnOk result (IsServed actor self.old self.new brick request.now load.entry servers.old servers.new given.new) }
         ensures err { OnErr result ((self.new ≡ self.old) × (servers.new ≡ servers.old)) }
     {
-        let (epochs, asked) = servers.ask_first(actor, brick, request, load)?;
+        let epochs = servers.ask_first(actor, brick, request, load, given)?;
         self.epochs = epochs;
         self.met = true;
-        Ok(asked)
+        Ok(())
     }
 
     /// A line that is no request meets every brick, too, where it is the first.

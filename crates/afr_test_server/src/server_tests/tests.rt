@@ -58,6 +58,14 @@ fn of_first(fault: Fault) -> PlannedFault {
     }
 }
 
+/// The place of an answer, before it is given.
+fn not_given() -> Served {
+    Served {
+        answer: Answer::Done,
+        took: false,
+    }
+}
+
 fn is_refused(asked: &Served) -> bool {
     !asked.took && matches!(asked.answer, Answer::NotConnected)
 }
@@ -65,10 +73,9 @@ fn is_refused(asked: &Served) -> bool {
 fn meets_and_sees(server: &mut Server) -> bool
     requires { IsFresh server.old }
 {
-    match server.ask_first(ONE, &LOOK, Load::Nothing) {
-        Ok((epoch, asked)) => {
-            epoch == Some(1) && asked.took && matches!(asked.answer, Answer::Seen(_))
-        }
+    let mut asked = not_given();
+    match server.ask_first(ONE, &LOOK, Load::Nothing, &mut asked) {
+        Ok(epoch) => epoch == Some(1) && asked.took && matches!(asked.answer, Answer::Seen(_)),
         Err(_) => false,
     }
 }
@@ -76,8 +83,9 @@ fn meets_and_sees(server: &mut Server) -> bool
 fn lacks_the_object(server: &mut Server) -> bool
     requires { IsFresh server.old }
 {
-    match server.ask_first(ONE, &LOOK_ELSEWHERE, Load::Nothing) {
-        Ok((_, asked)) => asked.took && matches!(asked.answer, Answer::NoObject),
+    let mut asked = not_given();
+    match server.ask_first(ONE, &LOOK_ELSEWHERE, Load::Nothing, &mut asked) {
+        Ok(_) => asked.took && matches!(asked.answer, Answer::NoObject),
         Err(_) => false,
     }
 }
@@ -85,8 +93,9 @@ fn lacks_the_object(server: &mut Server) -> bool
 fn refuses_without_a_session(server: &mut Server) -> bool
     requires { IsFresh server.old }
 {
-    match server.ask(ONE, None, &LOOK, Load::Nothing) {
-        Ok(asked) => is_refused(&asked),
+    let mut asked = not_given();
+    match server.ask(ONE, None, &LOOK, Load::Nothing, &mut asked) {
+        Ok(()) => is_refused(&asked),
         Err(_) => false,
     }
 }
@@ -94,10 +103,9 @@ fn refuses_without_a_session(server: &mut Server) -> bool
 fn fails_once(server: &mut Server) -> bool
     requires { IsFresh server.old }
 {
-    match server.ask_first(ONE, &LOOK, Load::Nothing) {
-        Ok((epoch, asked)) => {
-            epoch == Some(1) && !asked.took && matches!(asked.answer, Answer::Failed)
-        }
+    let mut asked = not_given();
+    match server.ask_first(ONE, &LOOK, Load::Nothing, &mut asked) {
+        Ok(epoch) => epoch == Some(1) && !asked.took && matches!(asked.answer, Answer::Failed),
         Err(_) => false,
     }
 }
@@ -105,11 +113,12 @@ fn fails_once(server: &mut Server) -> bool
 fn loses_the_answer_and_the_session(server: &mut Server) -> bool
     requires { IsFresh server.old }
 {
-    match server.ask_first(ONE, &LOOK, Load::Nothing) {
-        Ok((epoch, asked)) => {
+    let mut asked = not_given();
+    match server.ask_first(ONE, &LOOK, Load::Nothing, &mut asked) {
+        Ok(epoch) => {
             let lost = asked.took && matches!(asked.answer, Answer::NotConnected);
-            match server.ask(ONE, epoch, &LOOK, Load::Nothing) {
-                Ok(asked) => lost && is_refused(&asked),
+            match server.ask(ONE, epoch, &LOOK, Load::Nothing, &mut asked) {
+                Ok(()) => lost && is_refused(&asked),
                 Err(_) => false,
             }
         }
@@ -120,11 +129,12 @@ fn loses_the_answer_and_the_session(server: &mut Server) -> bool
 fn waits_for_its_holder(server: &mut Server) -> bool
     requires { IsFresh server.old }
 {
-    match server.ask_first(ONE, &WORK_LOCK, Load::Nothing) {
-        Ok((_, asked)) => {
+    let mut asked = not_given();
+    match server.ask_first(ONE, &WORK_LOCK, Load::Nothing, &mut asked) {
+        Ok(_) => {
             let granted = matches!(asked.answer, Answer::Granted);
-            match server.ask_first(TWO, &WORK_LOCK, Load::Nothing) {
-                Ok((_, asked)) => granted && matches!(asked.answer, Answer::Held(ActorId(1))),
+            match server.ask_first(TWO, &WORK_LOCK, Load::Nothing, &mut asked) {
+                Ok(_) => granted && matches!(asked.answer, Answer::Held(ActorId(1))),
                 Err(_) => false,
             }
         }
@@ -135,9 +145,10 @@ fn waits_for_its_holder(server: &mut Server) -> bool
 fn locks_beside_a_heal(server: &mut Server) -> bool
     requires { IsFresh server.old }
 {
-    match server.ask_first(ONE, &HEAL_LOCK, Load::Nothing) {
-        Ok(_) => match server.ask_first(TWO, &WORK_LOCK, Load::Nothing) {
-            Ok((_, asked)) => matches!(asked.answer, Answer::Granted),
+    let mut asked = not_given();
+    match server.ask_first(ONE, &HEAL_LOCK, Load::Nothing, &mut asked) {
+        Ok(_) => match server.ask_first(TWO, &WORK_LOCK, Load::Nothing, &mut asked) {
+            Ok(_) => matches!(asked.answer, Answer::Granted),
             Err(_) => false,
         },
         Err(_) => false,
@@ -148,8 +159,9 @@ fn lists_nothing_to_heal(server: &mut Server) -> bool
     requires { IsFresh server.old }
 {
     let epoch = server.meet(ONE);
-    match server.ask(ONE, epoch, &Request::Index, Load::Nothing) {
-        Ok(asked) => match asked.answer {
+    let mut asked = not_given();
+    match server.ask(ONE, epoch, &Request::Index, Load::Nothing, &mut asked) {
+        Ok(()) => match &asked.answer {
             Answer::Index(list) => list.len() == 0,
             _ => false,
         },

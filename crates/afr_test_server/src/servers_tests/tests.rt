@@ -66,6 +66,14 @@ fn servers_of(alloc: Global) -> Option<Servers>
     }
 }
 
+/// The place of an answer, before it is given.
+fn not_given() -> Served {
+    Served {
+        answer: Answer::Done,
+        took: false,
+    }
+}
+
 fn saw(asked: &Served) -> bool {
     asked.took && matches!(asked.answer, Answer::Seen(_))
 }
@@ -81,8 +89,9 @@ fn is_first_at_each(epochs: &Epochs) -> bool {
 fn meets_all_by_a_first_line(servers: &mut Servers) -> bool
     requires { AreFresh servers.old }
 {
-    match servers.ask_first(ACTOR, FIRST, &LOOK, Load::Nothing) {
-        Ok((epochs, asked)) => saw(&asked) && is_first_at_each(&epochs) && epochs.of[3].is_none(),
+    let mut asked = not_given();
+    match servers.ask_first(ACTOR, FIRST, &LOOK, Load::Nothing, &mut asked) {
+        Ok(epochs) => saw(&asked) && is_first_at_each(&epochs) && epochs.of[3].is_none(),
         Err(_) => false,
     }
 }
@@ -90,8 +99,9 @@ fn meets_all_by_a_first_line(servers: &mut Servers) -> bool
 fn is_refused_as_planned(servers: &mut Servers) -> bool
     requires { AreFresh servers.old }
 {
-    match servers.ask_first(ACTOR, SECOND, &LOOK, Load::Nothing) {
-        Ok((epochs, asked)) => failed(&asked) && is_first_at_each(&epochs),
+    let mut asked = not_given();
+    match servers.ask_first(ACTOR, SECOND, &LOOK, Load::Nothing, &mut asked) {
+        Ok(epochs) => failed(&asked) && is_first_at_each(&epochs),
         Err(_) => false,
     }
 }
@@ -106,8 +116,16 @@ fn finds_a_session_at_each(servers: &mut Servers) -> bool
 fn is_not_connected(servers: &mut Servers) -> bool
     requires { AreFresh servers.old }
 {
-    match servers.ask(ACTOR, &Epochs::none(), FIRST, &LOOK, Load::Nothing) {
-        Ok(asked) => !asked.took && matches!(asked.answer, Answer::NotConnected),
+    let mut asked = not_given();
+    match servers.ask(
+        ACTOR,
+        &Epochs::none(),
+        FIRST,
+        &LOOK,
+        Load::Nothing,
+        &mut asked,
+    ) {
+        Ok(()) => !asked.took && matches!(asked.answer, Answer::NotConnected),
         Err(_) => false,
     }
 }
