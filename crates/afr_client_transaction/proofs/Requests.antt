@@ -22,7 +22,7 @@ use Rattle.afr_model_moves.specs.Note.{is_granted, is_held, is_done}
 use Rattle.afr_model_moves.proofs.AreaLemmas.{own_area}
 use Rattle.afr_discipline.specs.declared.register.Register.{Register}
 use Rattle.afr_discipline.specs.declared.register.Step.TheVariants as step
-use Rattle.afr_discipline.specs.Notes.{anew, counts, dropped, joined, noted_ask, noted_law, noted_inside, noted_outside, still_possible, broken_by, published, second_left, shown_if, stayed, stopped, with_held}
+use Rattle.afr_discipline.specs.Notes.{anew, counts, dropped, joined, noted_ask, noted_law, noted_inside, noted_outside, still_possible, broken_by, second_left, shown_if, stayed, stopped, with_held}
 use Rattle.afr_discipline.specs.Stands.{seen_as}
 use Rattle.afr_client_transaction.specs.Progress.{enough}
 use Rattle.afr_client_transaction.specs.Sound.{HasQuorum, IsBase, Shown, OnLocks, HasBegun}
@@ -30,7 +30,7 @@ use Rattle.afr_client_transaction.proofs.Parts.{any_member, any_nothing, base_do
 
 -- what a request and its answer leave outside a heal
 abbrev pub after_by : Register → Register → ℕ → Told → Register
-after_by steps law b told = published (stopped (joined steps (dropped (is_gone told) b law)))
+after_by steps law b told = stopped (joined steps (dropped (is_gone told) b law))
 
 abbrev pub after_outside : Register → ℕ → Request → Told → Register
 after_outside r b request told = after_by (noted_outside r b request told) (noted_law r b request told) b told

@@ -18,7 +18,7 @@ use Rattle.afr_model_moves.specs.Note.{is_held, stops_at}
 use Rattle.afr_model_moves.specs.Register as exact
 use Rattle.afr_model_moves.specs.Register.{Exact, same_step}
 use Rattle.afr_model_moves.specs.Rules.{is_area}
-use Rattle.afr_discipline.specs.Notes.{is_working, joined, noted_ask, published, stopped}
+use Rattle.afr_discipline.specs.Notes.{is_working, joined, noted_ask, stopped}
 use Rattle.afr_discipline.specs.Stands.{seen_as, step_of}
 use Rattle.afr_discipline.specs.declared.register.Register.{Register}
 use Rattle.afr_discipline.specs.declared.register.Step.TheVariants as step
@@ -57,7 +57,7 @@ module _ (area : Area) where
   stayed_by u r = record r { step = if u then step.Open else r.step }
 
   abbrev busy_met : Bool → Bool → Register → Register
-  busy_met u s r = published (stopped (joined (stayed_by u r) (named_w true s r area)))
+  busy_met u s r = stopped (joined (stayed_by u r) (named_w true s r area))
 
   abbrev met : Register → Register
   met r = locked_w (is_working r) (is_area r.area area) r area 0 held

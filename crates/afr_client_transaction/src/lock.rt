@@ -2,6 +2,7 @@
 ghost use Rattle.std.specs.Prelude.{◌≡◌, ◌<◌, ◌≤◌, not};
 ghost use Rattle.afr_base.specs.Bricks.{below, minus};
 ghost use Rattle.afr_lines.specs.Areas.{area_for};
+ghost use Rattle.afr_lines.specs.Told.{told_by};
 ghost use Rattle.afr_model_moves.specs.Note.{is_granted, is_held};
 ghost use Rattle.afr_client_transaction.specs.Made.{meets_another};
 ghost use Rattle.afr_client_transaction.specs.Progress.{asked_by};
@@ -10,7 +11,7 @@ ghost use Rattle.afr_client_transaction.specs.declared.stage.Stage.{Stage};
 use crate::change::area_of;
 use crate::stage::{LocksAndLooks, Stage};
 use afr_base::{BrickId, BrickSet};
-use afr_lines::{Domain, Request, Told};
+use afr_lines::{Answer, Domain, Request, Told};
 use afr_object::Change;
 
 /// The bricks whose lock is still to be asked for.
@@ -52,6 +53,13 @@ pub(crate) fn is_held(told: &Told) -> bool
     ensures { result ≡ is_held told.now }
 {
     matches!(told, Told::Held(_))
+}
+
+/// Whether an answer says that another actor holds the lock.
+pub(crate) fn says_held(answer: &Answer) -> bool
+    ensures { result ≡ is_held (told_by answer.now) }
+{
+    matches!(answer, Answer::Held(_))
 }
 
 /// Whether a lock was asked for that another actor holds.

@@ -3,6 +3,7 @@ ghost use Rattle.std.specs.Prelude.{[], ◌≡◌, ℕ, ◌<◌, ◌≤◌, ◌+
 ghost use Rattle.afr_base.specs.Bricks.{is_nothing};
 ghost use Rattle.afr_discipline.specs.Stands.{no_lines};
 ghost use Rattle.afr_discipline.specs.declared.register.Register.{Register};
+ghost use Rattle.afr_lines.specs.Told.{told_by};
 ghost use Rattle.afr_lines.specs.declared.answer.Told.{Told};
 ghost use Rattle.afr_model_moves.specs.Register.{span};
 ghost use Rattle.afr_client_transaction.specs.Between.{given_up, is_read, noted_read};
@@ -12,12 +13,12 @@ ghost use Rattle.afr_client_transaction.specs.Progress.{CarriesAt, TransactionPr
 ghost use Rattle.afr_client_transaction.specs.Sound.{IsAsking, IsUnused, Sound, Suits};
 
 use crate::change::{made_by, numbered};
-use crate::lock::{is_held, met_another};
+use crate::lock::{is_held, met_another, says_held};
 use crate::reply::{TransactionOutcome, outcome_of, reply_for};
 use crate::stage::{LocksAndLooks, Stage, after, asked_after, left_of, put_request, request_of};
 use afr_base::{BrickId, BrickSet, NoMemory, Shape};
 use afr_discipline::{Move, Register, fresh, note};
-use afr_lines::{Next, Request, Told};
+use afr_lines::{Answer, Next, Request, Told, told_of};
 use afr_object::{Change, Load};
 use std::alloc::Global;
 use std::marker::Model;
@@ -158,6 +159,17 @@ impl Transaction {
         self.asked = asked_after(stage, brick, told, &self.asked);
         self.stage = after(stage, &self.change, &self.register, &self.asked);
         self.waits = met_another(stage, told);
+    }
+
+    /// The same of an answer. Where another actor holds the area once more, nothing is made of it.
+    pub fn hear_answer(&mut self, brick: BrickId, request: &Request, answer: &Answer, at: u32)
+        requires asked { next_at self.old.stage at self.old ≡ Next.Ask brick request.now }
+        ensures { self.new ≡ answered self.old.stage (told_by answer.now) at self.old }
+    {
+        if self.waits && says_held(answer) {
+            return;
+        }
+        self.hear(brick, request, &told_of(answer), at);
     }
 
     /// The work has read something between the looks and the attempt, which `give_up` may follow.

@@ -3,6 +3,7 @@ ghost use Rattle.std.specs.Prelude.{◌≡◌, ◌<◌, ◌≤◌, false, not};
 ghost use Rattle.afr_client_write.specs.Job.{IsJob};
 ghost use Rattle.afr_client_write.specs.Write.{IsWrite, after_walk, at_object, begun_in, choices_at, first_stage, is_over, next_at, stage_after, stage_begun, walk_after};
 ghost use Rattle.afr_client_transaction.specs.Progress.{told_to};
+ghost use Rattle.afr_lines.specs.Told.{told_by};
 ghost use Rattle.afr_lines.specs.declared.line.Next.{Next};
 ghost use Rattle.afr_object.specs.Tables.{is_dir};
 ghost use Rattle.afr_client_transaction.specs.Progress as progress;
@@ -16,7 +17,7 @@ use afr_base::{BrickId, What};
 use afr_client_transaction::Transaction;
 use afr_client_walk::{Walk, WalkStep, stop_reply};
 use afr_discipline::Register;
-use afr_lines::{Answer, Good, KeptReply, Reply, Request, Told, told_of};
+use afr_lines::{Answer, Good, KeptReply, Reply, Request, Told};
 use afr_object::Entry;
 use afr_rule::{Candidate, ReadRule};
 use std::mem;
@@ -125,7 +126,7 @@ pub(crate) fn stage_heard<G: Fn(&[Candidate]) -> usize>(
             picked
         }
         WriteStage::Changing(transaction) => {
-            heard(transaction, brick, request, &told_of(answer), at);
+            heard(transaction, brick, request, answer, at);
             None
         }
         WriteStage::Ending(_) => None,
@@ -142,11 +143,11 @@ fn has_ended(walk: &Walk) -> bool
     }
 }
 
-fn heard(transaction: &mut Transaction, brick: BrickId, request: &Request, told: &Told, at: u32)
+fn heard(transaction: &mut Transaction, brick: BrickId, request: &Request, answer: &Answer, at: u32)
     requires { progress.next_at transaction.old.stage at transaction.old ≡ Next.Ask brick request.now }
-    ensures { transaction.new ≡ told_to told.now at transaction.old }
+    ensures { transaction.new ≡ told_to (told_by answer.now) at transaction.old }
 {
-    transaction.hear(brick, request, told, at);
+    transaction.hear_answer(brick, request, answer, at);
 }
 
 /// The stage hears of a Begin line at this position.

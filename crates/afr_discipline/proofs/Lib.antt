@@ -3,6 +3,7 @@ mod Decides
 mod Decisions
 mod HealDecisions
 mod SetsOfFive
+mod AllowedLemmas
 mod LeftLemmas
 mod NotedLaw
 mod NotedShape
@@ -11,6 +12,6 @@ mod InPlace
 mod StepsOutside
 mod StepsInside
 mod NotedSteps
-mod Published
+mod Whole
 mod Noted
 pub mod FreeLemmas

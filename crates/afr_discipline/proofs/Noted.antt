@@ -24,7 +24,7 @@ use Rattle.afr_discipline.proofs.NotedShape.{steps_shape}
 use Rattle.afr_discipline.proofs.NotedLaw.{begun_law, joined_law, law_noted, part_law}
 use Rattle.afr_discipline.proofs.StepsOutside.{StepsStand}
 use Rattle.afr_discipline.proofs.NotedSteps.{steps_noted}
-use Rattle.afr_discipline.proofs.Published.{joined_steps, law_half, published_stands, stopped_stands}
+use Rattle.afr_discipline.proofs.Whole.{both_stand, joined_steps, law_half, stopped_stands}
 
 -- ---- a request
 -- what the law's register keeps of it
@@ -64,10 +64,10 @@ begin_steps p r t s = record {
 -- and all that it leaves
 begin_stands : (p : Register) (r : Exact) (t : ℕ) → Stands p r → Stands (noted_begin p t) (record r { step = exact.Open; law = record r.law { number = suc t } })
 begin_stands p r t s =
-    published_stands (record p { step = Open; begun = Some t }) (record r { step = exact.Open; law = record r.law { number = suc t } }) (begun_law p r.law t (law_half p r s)) (begin_steps p r t s)
+    both_stand (record p { step = Open; begun = Some t }) (record r { step = exact.Open; law = record r.law { number = suc t } }) (begun_law p r.law t (law_half p r s)) (begin_steps p r t s)
 
 -- ---- a HealBegin
--- the program's register after it, before the other fields are told
+-- the program's register after it
 abbrev part_register : Register → ℕ → Kind → Register
 part_register p t kind = record p { begun = Some t; kind = kind; step = Looks; asked = []; looked = no_looks; reads = None ∷ None ∷ None ∷ None ∷ None ∷ [] }
 
@@ -94,7 +94,7 @@ part_steps p r t kind s = record {
 
 -- and all that it leaves
 part_stands : (p : Register) (r : Exact) (t : ℕ) (kind : Kind) → Stands p r → Stands (noted_part p t kind) (part_exact r t kind)
-part_stands p r t kind s = published_stands (part_register p t kind) (part_exact r t kind) (part_law p r.law t kind (law_half p r s)) (part_steps p r t kind s)
+part_stands p r t kind s = both_stand (part_register p t kind) (part_exact r t kind) (part_law p r.law t kind (law_half p r s)) (part_steps p r t kind s)
 
 -- ---- an end
 -- in a heal or outside

@@ -21,7 +21,7 @@ use Rattle.afr_model_moves.specs.Rules.{area_object, heal_area, is_area}
 use Rattle.afr_model_moves.specs.Note.{is_done}
 use Rattle.afr_discipline.specs.declared.register.Register.{Register}
 use Rattle.afr_discipline.specs.declared.register.Step.TheVariants.{Open, Looks}
-use Rattle.afr_discipline.specs.Notes.{anew, dropped, heal_left, heal_locked, is_working, joined, locked, named, noted_law, published, released, second_in, second_left, stopped, taken, with_held}
+use Rattle.afr_discipline.specs.Notes.{anew, dropped, heal_left, heal_locked, is_working, joined, locked, named, noted_law, released, second_in, second_left, stopped, taken, with_held}
 use Rattle.afr_discipline.specs.Stands.{number_of, seen_as}
 use Rattle.afr_discipline.proofs.SetsOfFive.{with_added, without_removed}
 
@@ -259,10 +259,6 @@ joined_law p q l k = record { number = k.number; area = k.area; held = k.held; s
 -- a heal that a step ends
 pub stopped_law : (p : Register) (l : weak.Register) → LawStands p l → LawStands (stopped p) l
 stopped_law p l k = joined_law (stopped p) p l k
-
--- what is published for those who read it
-pub published_law : (p : Register) (l : weak.Register) → LawStands p l → LawStands (published p) l
-published_law p l k = joined_law (published p) p l k
 
 -- ---- lines that are no request
 -- a Begin

@@ -54,11 +54,6 @@ stands_untouched shape few = record {
   reads = no_reads_kept;
   upto = refl;
   broken = refl;
-  attempt = refl;
-  begun = refl;
-  heal = refl;
-  source = refl;
-  mended = refl;
 }
 
 -- the exact register with the fields of the program, and the proof's own as they are

@@ -1,5 +1,5 @@
 -- What a move and its answer leave in the program's register.
-use Rattle.std.specs.Prelude.{ℕ, ◌+◌, ◌<◌, ◌==◌, ◌||◌, ◌&&◌, not, nat_lt, Bool, true, false, if◌then◌else◌, List, [], ◌∷◌, Option, None, Some, slice_set}
+use Rattle.std.specs.Prelude.{◌≡◌, ℕ, ◌+◌, ◌<◌, ◌==◌, ◌||◌, ◌&&◌, not, nat_lt, Bool, true, false, if◌then◌else◌, List, [], ◌∷◌, Option, None, Some, slice_set}
 use Rattle.afr_base.specs.Bricks.{added, added_if, member, removed}
 use Rattle.afr_base.specs.declared.ids.Kind.{Kind}
 use Rattle.afr_base.specs.declared.ids.Kind.TheVariants.{Bytes}
@@ -12,6 +12,7 @@ use Rattle.afr_lines.specs.declared.request.Request.{Request}
 use Rattle.afr_lines.specs.declared.request.Request.TheVariants.{Lock, Unlock, Look, ReadBytes, List as ListNames, ReadAttrs, Pre, Apply, Post, Mend, Settle}
 use Rattle.afr_lines.specs.Overlap.{same_area}
 use Rattle.afr_model_moves.specs.Past.{is_gone}
+use Rattle.afr_model_moves.specs.Sets.{any}
 use Rattle.afr_model_moves.specs.Rules.{area_object, busy, heal_area, is_area}
 use Rattle.afr_model_moves.specs.Note.{answers, fails, given, is_done, is_failed, is_given, is_granted, is_held, stops_at, view_of}
 use Rattle.afr_model_moves.specs.Register as exact
@@ -25,7 +26,7 @@ use Rattle.afr_discipline.specs.declared.register.HealPart.{HealPart}
 use Rattle.afr_discipline.specs.declared.register.HealPart.TheVariants.{Piece, Finish}
 use Rattle.afr_discipline.specs.Inside.{allows}
 use Rattle.afr_model_moves.specs.Keeps.{keeps_in}
-use Rattle.afr_discipline.specs.Stands.{attempt_of, has_begun, heal_of, heal_part_of, no_lines, seen_as, source_of, step_of}
+use Rattle.afr_discipline.specs.Stands.{heal_part_of, no_lines, seen_as, step_of}
 
 -- the actor holds a Work lock
 abbrev pub is_working : Register → Bool
@@ -196,21 +197,17 @@ joined p l = record p { begun = l.begun; area = l.area; held = l.held; second = 
 abbrev pub stopped : Register → Register
 stopped p = record p { broken = p.broken || stops_at p.shape.n (keeps_in p.shape) (seen_as p) (step_of p.step) }
 
--- what the other fields say, for those who read it
-abbrev pub published : Register → Register
-published p = record p { attempt = attempt_of (seen_as p); begun_before_looks = has_begun (seen_as p); heal = heal_of (seen_as p); source = source_of p.shape.n (keeps_in p.shape) (seen_as p); mended = asked_at p Mends }
-
 -- a request and its answer
 abbrev pub noted_ask : Register → ℕ → ℕ → Request → Told → Register
-noted_ask p t b request told = published (stopped (joined (noted_steps p t b request told) (dropped (is_gone told) b (noted_law p b request told))))
+noted_ask p t b request told = stopped (joined (noted_steps p t b request told) (dropped (is_gone told) b (noted_law p b request told)))
 
 -- a Begin
 abbrev pub noted_begin : Register → ℕ → Register
-noted_begin p t = published (record p { step = Open; begun = Some t })
+noted_begin p t = record p { step = Open; begun = Some t }
 
 -- a HealBegin
 abbrev pub noted_part : Register → ℕ → Kind → Register
-noted_part p t kind = published (record p { begun = Some t; kind = kind; step = Looks; asked = []; looked = no_looks; reads = None ∷ None ∷ None ∷ None ∷ None ∷ [] })
+noted_part p t kind = record p { begun = Some t; kind = kind; step = Looks; asked = []; looked = no_looks; reads = None ∷ None ∷ None ∷ None ∷ None ∷ [] }
 
 -- a move and its answer
 abbrev pub noted : Register → Move → Told → ℕ → Register
@@ -234,3 +231,11 @@ upto_noted p step = p.upto
 abbrev pub AsksBelow : Move → Type 0
 AsksBelow (move.Ask b request) = b.0 < 5
 AsksBelow _ = Unit {0}
+
+-- some source allows the request, in a heal that goes on
+abbrev pub IsAllowed : Register → ℕ → Request → Type 0
+IsAllowed p b request = p.inside ≡ true → p.broken ≡ false → any p.shape.n (allows p.shape.n (keeps_in p.shape) (seen_as p) b request) ≡ true
+
+-- the copies that may be the source, brick by brick
+abbrev pub possible_now : Register → List ℕ
+possible_now p = picked (member p.possible 0) (member p.possible 1) (member p.possible 2) (member p.possible 3) (member p.possible 4)

@@ -1,20 +1,14 @@
 -- Which exact register a program's register stands for.
-use Rattle.std.specs.Prelude.{◌≡◌, ℕ, zero, suc, ◌<◌, ◌&&◌, not, ◌==◌, Bool, false, if◌then◌else◌, List, [], ◌∷◌, length, slice_index_or, Option, None, Some}
+use Rattle.std.specs.Prelude.{◌≡◌, ℕ, suc, ◌<◌, false, List, [], ◌∷◌, length, slice_index_or, Option, None, Some}
 use Rattle.afr_base.specs.Bricks.{below, member}
-use Rattle.afr_base.specs.Majority.{count_below}
-use Rattle.afr_base.specs.declared.ids.BrickId.{BrickId}
-use Rattle.afr_base.specs.declared.ids.Gfid.{Gfid}
-use Rattle.afr_base.specs.declared.ids.Kind.{Kind}
 use Rattle.afr_base.specs.declared.ids.Kind.TheVariants.{Bytes}
 use Rattle.afr_base.specs.declared.ids.Shape.{Shape}
 use Rattle.afr_object.specs.declared.entry.View.{View}
 use Rattle.afr_choice.specs.Looks.{no_looks, view_at}
 use Rattle.afr_choice.specs.declared.looked.Looked.{Looked}
-use Rattle.afr_model_moves.specs.Sets.{any}
-use Rattle.afr_model_moves.specs.Keeps.{keeps_in}
 use Rattle.afr_model_moves.specs.Rules.{fresh}
 use Rattle.afr_model_moves.specs.Register as exact
-use Rattle.afr_model_moves.specs.Register.{Exact, Mends, asked_in, good}
+use Rattle.afr_model_moves.specs.Register.{Exact}
 use Rattle.afr_discipline.specs.declared.register.Register.{Register}
 use Rattle.afr_discipline.specs.declared.register.Step.{Step}
 use Rattle.afr_discipline.specs.declared.register.Step.TheVariants as step
@@ -57,36 +51,6 @@ views_of looked x = view_at x looked
 abbrev pub reads_of : List (Option ℕ) → ℕ → Option ℕ
 reads_of reads x = slice_index_or reads x None
 
--- the position that a number says
-abbrev pub position_of : ℕ → Option ℕ
-position_of zero = None
-position_of (suc q) = Some q
-
--- the position of the Begin of a transaction
-abbrev pub attempt_of : Exact → Option ℕ
-attempt_of r = if r.law.heal then None else position_of r.law.number
-
--- a heal has a HealBegin
-abbrev pub has_begun : Exact → Bool
-has_begun r = r.law.heal && not (r.law.number == 0)
-
--- the object and kind of a heal that has begun
-abbrev pub heal_of : Exact → Option (Gfid × Kind)
-heal_of r = if has_begun r then Some (record { 0 = r.law.object }, r.law.kind) else None
-
--- the least number below n that passes
-abbrev pub least : ℕ → (ℕ → Bool) → ℕ
-least zero test = 0
-least (suc n) test = if any n test then least n test else n
-
--- the one brick below n that passes
-abbrev pub sole : ℕ → (ℕ → Bool) → Option BrickId
-sole n test = if count_below n test == 1 then Some (record { 0 = least n test }) else None
-
--- the source of a heal, where its lines leave one copy alone
-abbrev pub source_of : ℕ → (ℕ → Kind → Bool) → Exact → Option BrickId
-source_of n keeps r = if r.law.heal then sole n (λ s. r.possible s && good n keeps r.law.kind r.first_views s) else None
-
 -- a field of the program for each field that it keeps; what may be the source is told of the volume's bricks alone
 pub record Stands (p : Register) (r : Exact) : Type 0 where
   pub number : r.law.number ≡ number_of p.begun
@@ -114,11 +78,6 @@ pub record Stands (p : Register) (r : Exact) : Type 0 where
   pub reads : r.reads ≡ reads_of p.reads
   pub upto : r.upto ≡ p.upto
   pub broken : r.broken ≡ p.broken
-  pub attempt : p.attempt ≡ attempt_of r
-  pub begun : p.begun_before_looks ≡ has_begun r
-  pub heal : p.heal ≡ heal_of r
-  pub source : p.source ≡ source_of p.shape.n (keeps_in p.shape) r
-  pub mended : asked_in r Mends ≡ member p.mended
 
 -- the lists of views and reads have a place for each of five bricks
 pub record HasFive (p : Register) : Type 0 where
@@ -162,22 +121,17 @@ seen_as p = record {
 abbrev pub no_lines : Shape → Register
 no_lines shape = record {
   shape = shape;
-  attempt = None;
   area = None;
   held = [];
   second = None;
   second_held = [];
-  heal = None;
   healing = [];
   looked = no_looks;
-  begun_before_looks = false;
   pre = [];
   done = [];
   post = [];
-  source = None;
   seen = no_looks;
   reads = None ∷ None ∷ None ∷ None ∷ None ∷ [];
-  mended = [];
   upto = 0;
   settled = [];
   broken = false;

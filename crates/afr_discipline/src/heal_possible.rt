@@ -3,7 +3,7 @@ ghost use Rattle.std.specs.Prelude.{◌≡◌, ◌<◌, ◌≤◌, true};
 ghost use Rattle.afr_lines.specs.declared.request.Request.{Request};
 ghost use Rattle.afr_model_moves.specs.Keeps.{keeps_in};
 ghost use Rattle.afr_discipline.specs.Alike.{IsAlike};
-ghost use Rattle.afr_discipline.specs.Notes.{still_possible};
+ghost use Rattle.afr_discipline.specs.Notes.{IsAllowed, possible_now, still_possible};
 ghost use Rattle.afr_discipline.specs.Stands.{seen_as};
 
 use crate::heal_asks::{is_allowed_by, may_heal};
@@ -79,4 +79,38 @@ pub(crate) fn still_possible(register: &Register, b: BrickId, request: &Request)
     } else {
         each_possible(register, b, request)
     }
+}
+
+/// The copies that may be the source, one by one.
+fn all_possible(register: &Register) -> BrickSet
+    ensures { result ≡ possible_now register.now }
+{
+    picked(
+        register.possible.has(BrickId(0)),
+        register.possible.has(BrickId(1)),
+        register.possible.has(BrickId(2)),
+        register.possible.has(BrickId(3)),
+        register.possible.has(BrickId(4)),
+    )
+}
+
+/// The copies that may still be the source after a request that one of them allows: all that might, where each allows it or
+/// none does, or where one is left.
+pub(crate) fn left_possible(register: &Register, b: BrickId, request: &Request) -> BrickSet
+    requires few { register.now.shape.n ≤ 5 }
+    requires small { b.0 < 5 }
+    requires inside { register.now.inside ≡ true }
+    requires allowed { IsAllowed register.now b.0 request.now }
+    ensures { result ≡ still_possible register.now b.0 request.now }
+{
+    if register.broken {
+        return still_possible(register, b, request);
+    }
+    if is_alike(register, request) {
+        return all_possible(register);
+    }
+    if register.possible.count() == 1 {
+        return all_possible(register);
+    }
+    each_possible(register, b, request)
 }

@@ -1,7 +1,7 @@
 //! What a request of a heal and its answer leave in a register: the step, the looks, the reads and the part.
 ghost use Rattle.std.specs.Prelude.{◌≡◌, ◌+◌, ◌^◌, ◌<◌, ◌≤◌, false};
 ghost use Rattle.afr_model_moves.specs.Register.{is_piece, span};
-ghost use Rattle.afr_discipline.specs.Notes.{broken_by, leaves_open, looked_inside, noted_inside, noted_steps, part_after, read_inside, upto_after};
+ghost use Rattle.afr_discipline.specs.Notes.{IsAllowed, broken_by, leaves_open, looked_inside, noted_inside, noted_steps, part_after, read_inside, upto_after};
 ghost use Rattle.afr_discipline.specs.Stands.{heal_part_of};
 
 use crate::answers::{
@@ -9,7 +9,7 @@ use crate::answers::{
 };
 use crate::areas::is_same_area;
 use crate::heal_moves::whole;
-use crate::heal_possible::still_possible;
+use crate::heal_possible::{left_possible, still_possible};
 use crate::heal_reads::is_in_opening;
 use crate::note_steps::{entered, noted_outside, shown, shown_if};
 use crate::register::{HealPart, Register, Step};
@@ -184,6 +184,32 @@ pub(crate) fn noted_steps(
 {
     if register.inside {
         let possible = still_possible(register, b, request);
+        let broken = register.broken || broken_by(register, request, told);
+        noted_inside(register, at, b, request, told);
+        register.possible = possible;
+        register.broken = broken;
+    } else {
+        noted_outside(register, b, request, told);
+    }
+}
+
+/// The same of a request that the discipline allows: where each source allows it or none does, or one source is left, none is
+/// asked.
+pub(crate) fn allowed_steps(
+    register: &mut Register,
+    at: u32,
+    b: BrickId,
+    request: &Request,
+    told: &Told,
+)
+    requires few { register.old.shape.n ≤ 5 }
+    requires small { b.0 < 5 }
+    requires room { register.old.upto + span < 2 ^ 32 }
+    requires allowed { IsAllowed register.old b.0 request.now }
+    ensures { register.new ≡ noted_steps register.old at b.0 request.now told.now }
+{
+    if register.inside {
+        let possible = left_possible(register, b, request);
         let broken = register.broken || broken_by(register, request, told);
         noted_inside(register, at, b, request, told);
         register.possible = possible;

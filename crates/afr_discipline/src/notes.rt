@@ -2,13 +2,12 @@
 ghost use Rattle.std.specs.Prelude.{◌≡◌, ◌+◌, ◌^◌, ◌<◌, ◌≤◌, if◌then◌else◌, length};
 ghost use Rattle.afr_model_moves.specs.Register.{Exact, span};
 ghost use Rattle.afr_discipline.specs.Moves.{note_move};
-ghost use Rattle.afr_discipline.specs.Notes.{AsksBelow, noted, noted_ask, noted_begin, noted_part, upto_noted};
+ghost use Rattle.afr_discipline.specs.Notes.{AsksBelow, IsAllowed, noted, noted_ask, noted_begin, noted_part, upto_noted};
 ghost use Rattle.afr_model_moves.specs.Keeps.{keeps_in};
 ghost use Rattle.afr_discipline.specs.Stands.{Stands, no_lines};
 
 use crate::answers::is_gone;
-use crate::note_fields::published;
-use crate::note_heal::noted_steps;
+use crate::note_heal::{allowed_steps, noted_steps};
 use crate::note_law::{dropped, noted_law};
 use crate::note_stops::stopped;
 use crate::register::{Move, Register, Step, empty};
@@ -29,7 +28,6 @@ fn noted_ask(register: &mut Register, at: u32, b: BrickId, request: &Request, to
     noted_law(register, b, request, told);
     dropped(is_gone(told), b, register);
     stopped(register);
-    published(register);
 }
 
 fn noted_begin(register: &mut Register, at: u32)
@@ -38,7 +36,6 @@ fn noted_begin(register: &mut Register, at: u32)
 {
     register.step = Step::Open;
     register.begun = Some(at);
-    published(register);
 }
 
 /// A part of a heal begins: its looks and its reads start anew.
@@ -52,7 +49,6 @@ fn noted_part(register: &mut Register, at: u32, kind: Kind)
     register.asked = BrickSet::none();
     register.looked = Looked::none();
     register.reads = [None; 5];
-    published(register);
 }
 
 /// A heal that ends leaves nothing; the end of a work leaves its register to its later reads.
@@ -100,4 +96,30 @@ pub fn note(register: &mut Register, step: &Move<'_>, told: &Told, at: u32)
     has_five(&register.looked.views);
     has_five(&register.seen.views);
     noted(register, step, told, at);
+}
+
+/// The same of a request that the discipline allows.
+fn noted_allowed(register: &mut Register, at: u32, b: BrickId, request: &Request, told: &Told)
+    requires few { register.old.shape.n ≤ 5 }
+    requires small { b.0 < 5 }
+    requires room { register.old.upto + span < 2 ^ 32 }
+    requires allowed { IsAllowed register.old b.0 request.now }
+    ensures { register.new ≡ noted_ask register.old at b.0 request.now told.now }
+{
+    allowed_steps(register, at, b, request, told);
+    noted_law(register, b, request, told);
+    dropped(is_gone(told), b, register);
+    stopped(register);
+}
+
+/// Notes a request that the discipline allows, with its answer. It costs less than `note`, which makes the same of it.
+pub fn note_allowed(register: &mut Register, b: BrickId, request: &Request, told: &Told, at: u32)
+    requires few { register.old.shape.n ≤ 5 }
+    requires small { b.0 < 5 }
+    requires room { register.old.upto + span < 2 ^ 32 }
+    requires allowed { IsAllowed register.old b.0 request.now }
+    ensures value { register.new ≡ noted_ask register.old at b.0 request.now told.now }
+    ensures shape { register.new.shape ≡ register.old.shape }
+{
+    noted_allowed(register, at, b, request, told);
 }

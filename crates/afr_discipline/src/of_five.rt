@@ -1,12 +1,11 @@
-//! A condition on the bricks below `n`, told for each of five: whether some meet it, all, most, and which alone does; and which of the five do.
-ghost use Rattle.std.specs.Prelude.{◌≡◌, ℕ, Bool, ◌≤◌, ◌==◌, filter, if◌then◌else◌, slice_get};
+//! A condition on the bricks below `n`, told for each of five: whether some meet it, all or most; and which of the five do.
+ghost use Rattle.std.specs.Prelude.{◌≡◌, ℕ, Bool, ◌≤◌, filter, if◌then◌else◌, slice_get};
 ghost use Rattle.afr_base.specs.Bricks.{all_five};
-ghost use Rattle.afr_base.specs.Majority.{count_below, is_most};
+ghost use Rattle.afr_base.specs.Majority.{is_most};
 ghost use Rattle.afr_model_moves.specs.Sets.{any};
 ghost use Rattle.afr_model_moves.specs.Register.{all};
 ghost use Rattle.afr_discipline.specs.Five.{Gives};
 ghost use Rattle.afr_discipline.specs.Notes.{picked};
-ghost use Rattle.afr_discipline.specs.Stands.{least, sole};
 ghost use Rattle.afr_discipline.specs.Turns.{brick_of};
 
 use afr_base::{BrickId, BrickSet};
@@ -35,61 +34,6 @@ pub(crate) fn most_of(n: u8, a: bool, b: bool, c: bool, d: bool, e: bool) -> boo
         + one_if(1 < n && b)
         + one_if(0 < n && a);
     n < 2 * count
-}
-
-/// Whether exactly one passes.
-fn is_one_of(n: u8, a: bool, b: bool, c: bool, d: bool, e: bool) -> bool
-    requires { n ≤ 5 }
-    ensures { (test : ℕ → Bool) → Gives test a b c d e → result ≡ (count_below n test == 1) }
-{
-    let count = one_if(4 < n && e)
-        + one_if(3 < n && d)
-        + one_if(2 < n && c)
-        + one_if(1 < n && b)
-        + one_if(0 < n && a);
-    count == 1
-}
-
-fn first_of(a: bool, b: bool, c: bool, d: bool) -> u8
-    ensures { result ≡ (if a then 0 else if b then 1 else if c then 2 else if d then 3 else 4) }
-{
-    if a {
-        0
-    } else if b {
-        1
-    } else if c {
-        2
-    } else if d {
-        3
-    } else {
-        4
-    }
-}
-
-/// The lowest that passes; the last where none does.
-fn least_of(n: u8, a: bool, b: bool, c: bool, d: bool, e: bool) -> u8
-    requires { n ≤ 5 }
-    ensures { (test : ℕ → Bool) → Gives test a b c d e → result ≡ least n test }
-{
-    match n {
-        0 | 1 => 0,
-        2 => first_of(a, true, true, true),
-        3 => first_of(a, b, true, true),
-        4 => first_of(a, b, c, true),
-        _ => first_of(a, b, c, d),
-    }
-}
-
-/// The one that passes, if no other does.
-pub(crate) fn sole_of(n: u8, a: bool, b: bool, c: bool, d: bool, e: bool) -> Option<BrickId>
-    requires { n ≤ 5 }
-    ensures { (test : ℕ → Bool) → Gives test a b c d e → result ≡ sole n test }
-{
-    if is_one_of(n, a, b, c, d, e) {
-        Some(BrickId(least_of(n, a, b, c, d, e)))
-    } else {
-        None
-    }
 }
 
 fn one_if(flag: bool) -> u8

@@ -50,8 +50,6 @@ pub enum HealPart {
 pub struct Register {
     /// The bricks of the volume, and whether one is an arbiter.
     pub shape: Shape,
-    /// The position of the transaction's Begin.
-    pub attempt: Option<u32>,
     /// What the present transaction, or the present part of a heal, locks.
     pub area: Option<Area>,
     /// The bricks where `area` is held.
@@ -60,28 +58,20 @@ pub struct Register {
     pub second: Option<Area>,
     /// The bricks where `second` is held.
     pub second_held: BrickSet,
-    /// The object and kind of a heal that has begun.
-    pub heal: Option<(Gfid, Kind)>,
     /// The bricks where the Heal lock is held.
     pub healing: BrickSet,
     /// The views since the lock; in a heal, since its last HealBegin.
     pub looked: Looked,
-    /// A heal has a HealBegin.
-    pub begun_before_looks: bool,
     /// The bricks whose pre-op was done; in a heal, those whose dirty number it raised.
     pub pre: BrickSet,
     /// The bricks that carried the operation out.
     pub done: BrickSet,
     /// The bricks whose post-op was done.
     pub post: BrickSet,
-    /// The source of a heal, once its lines fit one good copy alone.
-    pub source: Option<BrickId>,
     /// The views of a heal since its first HealBegin, before its second.
     pub seen: Looked,
     /// The positions of the reads of the present part of a heal that gave contents.
     pub reads: [Option<u32>; 5],
-    /// The bricks that the present part of a heal asked to change their contents.
-    pub mended: BrickSet,
     /// How many bytes of the file the pieces of a heal are past.
     pub upto: u32,
     /// The bricks whose numbers the heal took back.
@@ -125,22 +115,17 @@ pub(crate) fn empty(shape: Shape) -> Register
 {
     Register {
         shape,
-        attempt: None,
         area: None,
         held: BrickSet::none(),
         second: None,
         second_held: BrickSet::none(),
-        heal: None,
         healing: BrickSet::none(),
         looked: Looked::none(),
-        begun_before_looks: false,
         pre: BrickSet::none(),
         done: BrickSet::none(),
         post: BrickSet::none(),
-        source: None,
         seen: Looked::none(),
         reads: [None; 5],
-        mended: BrickSet::none(),
         upto: 0,
         settled: BrickSet::none(),
         broken: false,

@@ -1,16 +1,14 @@
 -- A heal's invariant over the program's register.
-use Rattle.std.proofs.Common.{ℕ, ◌≡◌, ◌<◌, ◌∙◌, if◌then◌else◌, [], Bool, List as Seq, false, refl, subst, sym, true}
+use Rattle.std.proofs.Common.{ℕ, ◌≡◌, ◌<◌, ◌∙◌, Bool, refl, subst, sym}
 use Rattle.afr_base.specs.Bricks.{member}
 use Rattle.afr_base.specs.declared.ids.Gfid.{Gfid}
 use Rattle.afr_base.specs.declared.ids.Kind.{Kind}
 use Rattle.afr_discipline.specs.declared.register.Register.{Register}
-use Rattle.afr_discipline.specs.Notes.{published}
-use Rattle.afr_discipline.specs.Stands.{Stands, seen_as, step_of}
-use Rattle.afr_heal.specs.Carried.{IsPublished}
+use Rattle.afr_discipline.specs.Stands.{Stands, seen_as}
 use Rattle.afr_heal.specs.Moves.{StandingCarried}
 use Rattle.afr_heal.specs.Standing.{Ending, First, Going, Healing, Looking, Parting, Picked, Standing, Viewing, Working}
 use Rattle.afr_model_moves.specs.Keeps.{keeps_in}
-use Rattle.afr_model_moves.specs.Register.{Exact, Mends, same_step}
+use Rattle.afr_model_moves.specs.Register.{Exact}
 use Rattle.afr_model_moves.specs.Rules.{fresh}
 
 -- ---- the register that the program's stands for
@@ -96,16 +94,9 @@ pub standing_carried : StandingCarried
 standing_carried p r s g kind k standing =
     subst (λ (r : Exact). Standing p.shape.n (keeps_in p.shape) r s g kind) (restyled_is p r k) (restyle p.shape.n (keeps_in p.shape) r s g kind (member p.possible) k.possible standing)
 
--- ---- what the register publishes
-pub if_member : (f : Bool) (s : Seq ℕ) → (if f then member s else (λ x. false)) ≡ member (if f then s else [])
-if_member true s = refl
-if_member false s = refl
-
-pub published_is : (q : Register) → IsPublished (published q)
-published_is q = record { attempt = refl; begun = refl; heal = refl; source = refl; mended = if_member (same_step (step_of q.step) Mends) q.asked }
-
-pub self_stands : (p : Register) → IsPublished p → Stands p (seen_as p)
-self_stands p k = record {
+-- ---- the register that the program's fields say
+pub self_stands : (p : Register) → Stands p (seen_as p)
+self_stands p = record {
   number = refl;
   area = refl;
   held = refl;
@@ -131,9 +122,4 @@ self_stands p k = record {
   reads = refl;
   upto = refl;
   broken = refl;
-  attempt = k.attempt;
-  begun = k.begun;
-  heal = k.heal;
-  source = k.source;
-  mended = k.mended;
 }

@@ -12,10 +12,8 @@ use Rattle.afr_discipline.specs.declared.register.Register.{Register}
 use Rattle.afr_discipline.specs.Stands.{seen_as}
 use Rattle.afr_discipline.specs.Turns.{brick_of, find, later}
 use Rattle.afr_heal.specs.Carried.{Heals, next_by}
-use Rattle.afr_heal.specs.Coming.{coming_of}
-use Rattle.afr_heal.specs.Engine.{NextOfHeal, Ask, Begins, Ends, or_else}
+use Rattle.afr_heal.specs.Engine.{NextOfHeal, Ask, or_else}
 use Rattle.afr_heal.specs.Laws.{allows_next, asks_well}
-use Rattle.afr_heal.specs.declared.coming.Coming.TheVariants as coming
 use Rattle.afr_heal.proofs.Finding.{find_none, find_some, over_all}
 use Rattle.afr_heal.proofs.Moved.{heals_allowed}
 use Rattle.afr_heal.proofs.Parts.{both, not_both}
@@ -33,15 +31,6 @@ brick_below n p b few e = go (find n p) refl e
         number (Some b) = b.0
 
 -- the line of a brick that was found, and of none
-pub shown_some : (request : ℕ → Request) (o : Option ℕ) (rest : NextOfHeal) (b : BrickId) → brick_of o ≡ Some b → coming.Ask b (request b.0) ≡ coming_of (or_else request o rest)
-shown_some request None rest b e = absurd (cc e)
-shown_some request (Some c) rest b e = let is : record { 0 = c } ≡ b = cc e in subst (λ (b : BrickId). coming.Ask b (request b.0) ≡ coming.Ask (record { 0 = c }) (request c)) is refl
-
-pub shown_none : (request : ℕ → Request) (o : Option ℕ) (rest : NextOfHeal) → brick_of o ≡ None → coming_of rest ≡ coming_of (or_else request o rest)
-shown_none request None rest e = refl
-shown_none request (Some c) rest e = absurd (cc e)
-
--- the same in the engine's own words
 pub due_some : (request : ℕ → Request) (o : Option ℕ) (rest : NextOfHeal) (b : BrickId) → brick_of o ≡ Some b → Ask b.0 (request b.0) ≡ or_else request o rest
 due_some request None rest b e = absurd (cc e)
 due_some request (Some c) rest b e = let is : record { 0 = c } ≡ b = cc e in subst (λ (b : BrickId). Ask b.0 (request b.0) ≡ Ask c (request c)) is refl
@@ -63,22 +52,6 @@ lowest_same (suc n) p = go (find n p) refl (lowest_same n p)
     go : (o : Option ℕ) → find n p ≡ o → find n (is_lowest p (λ x. false)) ≡ find n p → later (find n (is_lowest p (λ x. false))) n (is_lowest p (λ x. false) n) ≡ later (find n p) n (p n)
     go (Some c) e h = rw (h, e) refl
     go None e h = rw (h, e) (ap (λ (f : Bool). if f then Some n else None) (both_so (p n) (over n p (λ x. false)) (over_all n p (λ x. false) (λ x l m. absurd (not_both (p x) m (find_none n p e x l))))))
-
--- the line that asks is the engine's
-pub asked_next : (next : NextOfHeal) (b : BrickId) (request : Request) → coming_of next ≡ coming.Ask b request → next ≡ Ask b.0 request
-asked_next (Ask c q) b request e = let one : record { 0 = c } ≡ b = cc e in let two : q ≡ request = cc e in λ i. Ask ((one i).0) (two i)
-asked_next Begins b request e = absurd (cc e)
-asked_next Ends b request e = absurd (cc e)
-
-pub begun_next : (next : NextOfHeal) → coming_of next ≡ coming.Begin → next ≡ Begins
-begun_next Begins e = refl
-begun_next (Ask b request) e = absurd (cc e)
-begun_next Ends e = absurd (cc e)
-
-pub ended_next : (next : NextOfHeal) → coming_of next ≡ coming.End → next ≡ Ends
-ended_next Ends e = refl
-ended_next (Ask b request) e = absurd (cc e)
-ended_next Begins e = absurd (cc e)
 
 -- a heal asks one of the five bricks
 pub small_next : (p : Register) (s : ℕ) (g : Gfid) (kind : Kind) → Heals p s g kind → (b : ℕ) (request : Request) → next_by p s g kind ≡ Ask b request → b < 5

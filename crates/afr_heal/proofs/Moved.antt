@@ -1,5 +1,5 @@
 -- Each move of a heal is allowed, and leaves what its machine keeps.
-use Rattle.std.proofs.Common.{ℕ, ◌≡◌, ◌<◌, ◌≤◌, ◌^◌, ◌&&◌, if◌then◌else◌, [], Bool, arith, false, nat_lt, refl, subst, suc, sym, true, zero}
+use Rattle.std.proofs.Common.{ℕ, ◌≡◌, ◌<◌, ◌≤◌, ◌^◌, ◌&&◌, if◌then◌else◌, Bool, arith, false, nat_lt, refl, subst, suc, sym, true, zero}
 use Rattle.std.proofs.lemmas.Bool.Decides.{nat_tests}
 use Rattle.afr_base.specs.SetLemmas.{below_all}
 use Rattle.afr_base.specs.declared.ids.Gfid.{Gfid}
@@ -13,7 +13,7 @@ use Rattle.afr_discipline.specs.Stands.{HasFive, Stands, no_lines, seen_as}
 use Rattle.afr_discipline.specs.Tests.{may_ask_outside}
 use Rattle.afr_discipline.specs.declared.register.Move.{Move}
 use Rattle.afr_heal.proofs.Allowed.{heal_next_allowed}
-use Rattle.afr_heal.proofs.Carried.{if_member, published_is, restyled_is, self_stands, standing_carried}
+use Rattle.afr_heal.proofs.Carried.{restyled_is, self_stands, standing_carried}
 use Rattle.afr_heal.proofs.Kept.{heal_stands}
 use Rattle.afr_heal.proofs.NamedLemmas.{stays_named}
 use Rattle.afr_heal.proofs.Parts.{both}
@@ -40,7 +40,6 @@ module _ (notes : NotesStand) (shapes : ShapesKept) (pick : (ℕ → Bool) → �
   after_ask (move.Ask brick ref) told t b request w next small f range five = record {
     some = subst (λ (shape : Shape). 0 < shape.n) (sym same) k.some;
     few = subst (λ (shape : Shape). shape.n ≤ 5) (sym same) k.few;
-    published = published_is new;
     five = five;
     standing = subst (λ (shape : Shape). Standing shape.n (keeps_in shape) (seen_as new) source g kind) (sym same) stood;
     named = named_now;
@@ -61,7 +60,7 @@ module _ (notes : NotesStand) (shapes : ShapesKept) (pick : (ℕ → Bool) → �
       there : Stands new abbrev_after
       there = subst (λ (c : ℕ). Stands new (asked_for p.shape.n (keeps_in p.shape) (seen_as p) t c request told)) w.0
           (subst (λ (request : Request). Stands new (asked_for p.shape.n (keeps_in p.shape) (seen_as p) t brick.0 request told)) w.1
-          (notes p (seen_as p) (move.Ask brick ref) told t k.few k.five (subst (λ (c : ℕ). c < 5) (sym w.0) small) (self_stands p k.published)))
+          (notes p (seen_as p) (move.Ask brick ref) told t k.few k.five (subst (λ (c : ℕ). c < 5) (sym w.0) small) (self_stands p)))
 
       stood : Standing p.shape.n (keeps_in p.shape) (seen_as new) source g kind
       stood =
@@ -81,7 +80,6 @@ module _ (notes : NotesStand) (shapes : ShapesKept) (pick : (ℕ → Bool) → �
   after_begin (move.HealBegin h what) told t w next five = record {
     some = subst (λ (shape : Shape). 0 < shape.n) (sym same) k.some;
     few = subst (λ (shape : Shape). shape.n ≤ 5) (sym same) k.few;
-    published = published_is new;
     five = five;
     standing = subst (λ (shape : Shape). Standing shape.n (keeps_in shape) (seen_as new) s g kind) (sym same) stood;
     named = record { named = k.named.named; short = k.named.short };
@@ -94,7 +92,7 @@ module _ (notes : NotesStand) (shapes : ShapesKept) (pick : (ℕ → Bool) → �
       same = shapes p (move.HealBegin h what) told t
 
       there : Stands new (begun_at p.shape.n (keeps_in p.shape) (seen_as p) t g kind)
-      there = subst (λ (what : Kind). Stands new (begun_at p.shape.n (keeps_in p.shape) (seen_as p) t g what)) w.1 (notes p (seen_as p) (move.HealBegin h what) told t k.few k.five tt (self_stands p k.published))
+      there = subst (λ (what : Kind). Stands new (begun_at p.shape.n (keeps_in p.shape) (seen_as p) t g what)) w.1 (notes p (seen_as p) (move.HealBegin h what) told t k.few k.five tt (self_stands p))
 
       stood : Standing p.shape.n (keeps_in p.shape) (seen_as new) s g kind
       stood =
@@ -123,7 +121,6 @@ pub heals_new : HealsNew
 heals_new shape s g kind some few = record {
   some = some;
   few = few;
-  published = record { attempt = refl; begun = refl; heal = refl; source = refl; mended = if_member false [] };
   five = record { looked = refl; seen = refl; reads = refl };
   standing = First (record { outside = refl; whole = refl; step = refl; opening = refl; every = λ x l. below_all shape.n x few l; none_held = λ x. refl; no_second = λ x. refl; no_area = refl; none_first = λ x. refl });
   named = record { named = λ a e. absurd (cc e); short = shorts };

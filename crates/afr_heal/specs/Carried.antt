@@ -1,9 +1,8 @@
 -- A heal over the program's register: what its machine keeps.
 use Rattle.std.specs.Prelude.{ℕ, ◌≡◌, ◌<◌, ◌≤◌, ◌^◌, Bool, Option, Some, nat_lt, true}
-use Rattle.afr_base.specs.Bricks.{member}
 use Rattle.afr_base.specs.declared.ids.Gfid.{Gfid}
 use Rattle.afr_base.specs.declared.ids.Kind.{Kind}
-use Rattle.afr_discipline.specs.Stands.{HasFive, attempt_of, has_begun, heal_of, seen_as, source_of}
+use Rattle.afr_discipline.specs.Stands.{HasFive, seen_as}
 use Rattle.afr_discipline.specs.declared.register.Move.{Move}
 use Rattle.afr_discipline.specs.declared.register.Register.{Register}
 use Rattle.afr_heal.specs.Answers.{asked_for, source_after}
@@ -13,7 +12,7 @@ use Rattle.afr_lines.specs.declared.answer.Told.{Told}
 use Rattle.afr_lines.specs.declared.request.Area.{Area}
 use Rattle.afr_lines.specs.declared.request.Request.{Request}
 use Rattle.afr_model_moves.specs.Keeps.{keeps_in}
-use Rattle.afr_model_moves.specs.Register.{Exact, Mends, area_kind, asked_in, len_of}
+use Rattle.afr_model_moves.specs.Register.{Exact, area_kind, len_of}
 use Rattle.afr_object.specs.declared.entry.View.{View}
 use Rattle.afr_discipline.specs.declared.register.Move.TheVariants as move
 
@@ -27,19 +26,10 @@ pub record Named (kind : Kind) (area : Option Area) (views : ℕ → Option View
 abbrev pub IsNamed : Kind → Exact → Type 0
 IsNamed kind r = Named kind r.law.area r.first_views
 
--- the fields of the register that others read are those that its private fields say
-pub record IsPublished (p : Register) : Type 0 where
-  pub attempt : p.attempt ≡ attempt_of (seen_as p)
-  pub begun : p.begun_before_looks ≡ has_begun (seen_as p)
-  pub heal : p.heal ≡ heal_of (seen_as p)
-  pub source : p.source ≡ source_of p.shape.n (keeps_in p.shape) (seen_as p)
-  pub mended : asked_in (seen_as p) Mends ≡ member p.mended
-
 -- what a heal's machine keeps of its register and its source
 pub record Heals (p : Register) (s : ℕ) (g : Gfid) (kind : Kind) : Type 0 where
   pub some : 0 < p.shape.n
   pub few : p.shape.n ≤ 5
-  pub published : IsPublished p
   pub five : HasFive p
   pub standing : Standing p.shape.n (keeps_in p.shape) (seen_as p) s g kind
   pub named : IsNamed kind (seen_as p)

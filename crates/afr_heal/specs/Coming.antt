@@ -7,12 +7,13 @@ use Rattle.afr_discipline.specs.declared.register.Register.{Register}
 use Rattle.afr_heal.specs.Engine.{NextOfHeal, Ask, Begins, Ends}
 use Rattle.afr_heal.specs.declared.coming.Coming.{Coming}
 use Rattle.afr_heal.specs.declared.coming.Coming.TheVariants as coming
+use Rattle.afr_lines.specs.declared.request.Request.{Request}
 
--- the line as the machine says it
-abbrev pub coming_of : NextOfHeal → Coming
-coming_of (Ask b request) = coming.Ask (record { 0 = b }) request
-coming_of Begins = coming.Begin
-coming_of Ends = coming.End
+-- the line that the machine says, where the request that stands beside is this
+abbrev pub comes : Coming → Request → NextOfHeal
+comes (coming.Ask b) request = Ask b.0 request
+comes coming.Begin request = Begins
+comes coming.End request = Ends
 
 -- the dirty number that a brick showed leaves room for the heal's own
 abbrev pub HasRoom : Register → Kind → ℕ → Type 0

@@ -1,11 +1,10 @@
 //! The next line of a heal.
 use afr_base::BrickId;
-use afr_lines::Request;
 
-/// What a heal does next: it asks a brick, begins a part, or ends.
+/// What a heal does next: it asks a brick, begins a part, or ends. Its request stands where its asker wants it.
 #[derive(Clone, Copy, Debug)]
 pub enum Coming {
-    Ask(BrickId, Request),
+    Ask(BrickId),
     Begin,
     End,
 }

@@ -129,53 +129,58 @@ fn repair_of(register: &Register, source: BrickId, gfid: Gfid, kind: Kind) -> Re
     }
 }
 
-/// The request of a step at a brick.
-pub(crate) fn request_of(
+/// The request of a step at a brick, written in its place.
+pub(crate) fn put_request(
     register: &Register,
     source: BrickId,
     gfid: Gfid,
     kind: Kind,
     step: Step,
     brick: BrickId,
-) -> Request
+    request: &mut Request,
+)
     requires few { register.now.shape.n ≤ 5 }
     requires source { source.0 < 5 }
     requires small { brick.0 < 5 }
     requires room { HasRoom register.now kind brick.0 }
-    ensures { result ≡ request_in register.now.shape.n (keeps_in register.now.shape) (seen_as register.now) source.0 gfid kind (step_of step) brick.0 }
+    ensures { request.new ≡ request_in register.now.shape.n (keeps_in register.now.shape) (seen_as register.now) source.0 gfid kind (step_of step) brick.0 }
 {
     match step {
-        Step::HealLocks => Request::Lock {
-            domain: Domain::Heal,
-            area: heal_range(gfid),
-        },
-        Step::WorkLocks => Request::Lock {
-            domain: Domain::Work,
-            area: area_of(register, gfid, kind),
-        },
-        Step::Looks => Request::Look { gfid },
-        Step::Reads => read_of(register, gfid, kind),
-        Step::HealPres => Request::Pre { gfid, kind },
-        Step::Mends => Request::Mend {
-            repair: repair_of(register, source, gfid, kind),
-        },
-        Step::Settles => Request::Settle {
-            gfid,
-            kind,
-            less: owed_at(register, source, kind, brick),
-        },
-        Step::Unlocks => Request::Unlock {
-            domain: Domain::Work,
-            area: area_of(register, gfid, kind),
-        },
+        Step::HealLocks => put_lock(Domain::Heal, heal_range(gfid), request),
+        Step::WorkLocks => put_lock(Domain::Work, area_of(register, gfid, kind), request),
+        Step::Looks => *request = Request::Look { gfid },
+        Step::Reads => *request = read_of(register, gfid, kind),
+        Step::HealPres => *request = Request::Pre { gfid, kind },
+        Step::Mends => {
+            *request = Request::Mend {
+                repair: repair_of(register, source, gfid, kind),
+            }
+        }
+        Step::Settles => {
+            *request = Request::Settle {
+                gfid,
+                kind,
+                less: owed_at(register, source, kind, brick),
+            }
+        }
+        Step::Unlocks => put_unlock(Domain::Work, area_of(register, gfid, kind), request),
         Step::HealUnlocks
         | Step::Untouched
         | Step::Open
         | Step::Pres
         | Step::Applies
-        | Step::Posts => Request::Unlock {
-            domain: Domain::Heal,
-            area: heal_range(gfid),
-        },
+        | Step::Posts => put_unlock(Domain::Heal, heal_range(gfid), request),
     }
+}
+
+fn put_lock(domain: Domain, area: Area, request: &mut Request)
+    ensures { request.new ≡ Request.Lock domain area }
+{
+    *request = Request::Lock { domain, area };
+}
+
+fn put_unlock(domain: Domain, area: Area, request: &mut Request)
+    ensures { request.new ≡ Request.Unlock domain area }
+{
+    *request = Request::Unlock { domain, area };
 }

@@ -1,7 +1,7 @@
 -- The next line of a heal, as its machine says it.
 use Rattle.std.proofs.Common.{◌≡◌, ◌∙◌, ℕ, Bool, ap, false, if◌then◌else◌, refl, subst, sym, true}
 use Rattle.afr_base.specs.declared.ids.BrickId.{BrickId}
-use Rattle.afr_heal.specs.Coming.{coming_of}
+use Rattle.afr_heal.specs.Coming.{comes}
 use Rattle.afr_heal.specs.Engine.{NextOfHeal, Ask, Begins, Ends}
 use Rattle.afr_heal.specs.declared.coming.Coming.{Coming}
 use Rattle.afr_heal.specs.declared.coming.Coming.TheVariants as coming_line
@@ -21,33 +21,25 @@ use Rattle.afr_heal_machine.specs.declared.outcome.HealOutcome.{HealOutcome}
 use Rattle.afr_heal_machine.specs.Healing.{CanHear, Healing, IsHealing, answered, coming, line_of, next_of, register_after}
 use Rattle.afr_heal_machine.specs.Outcome.{outcome_by, reply_of}
 
-pub asks : (next : NextOfHeal) (b : BrickId) (request : Request) → coming_of next ≡ coming_line.Ask b request → next ≡ Ask b.0 request
-asks (Ask x other) b request e =
-    let first : x ≡ b.0 = cc e in
-    let second : other ≡ request = cc e in
-    λ i. Ask (first i) (second i)
-asks Begins b request e = absurd (cc e)
-asks Ends b request e = absurd (cc e)
+-- what the engine says, and the request that stands beside
+pub asks : (next : NextOfHeal) (b : BrickId) (request : Request) (said : Coming) → comes said request ≡ next → said ≡ coming_line.Ask b → next ≡ Ask b.0 request
+asks next b request said e f = sym e ∙ ap (λ (said : Coming). comes said request) f
 
-pub begins : (next : NextOfHeal) → coming_of next ≡ coming_line.Begin → next ≡ Begins
-begins (Ask x other) e = absurd (cc e)
-begins Begins e = refl
-begins Ends e = absurd (cc e)
+pub begins : (next : NextOfHeal) (request : Request) (said : Coming) → comes said request ≡ next → said ≡ coming_line.Begin → next ≡ Begins
+begins next request said e f = sym e ∙ ap (λ (said : Coming). comes said request) f
 
-pub ends : (next : NextOfHeal) → coming_of next ≡ coming_line.End → next ≡ Ends
-ends (Ask x other) e = absurd (cc e)
-ends Begins e = absurd (cc e)
-ends Ends e = refl
+pub ends : (next : NextOfHeal) (request : Request) (said : Coming) → comes said request ≡ next → said ≡ coming_line.End → next ≡ Ends
+ends next request said e f = sym e ∙ ap (λ (said : Coming). comes said request) f
 
 -- the next line, as what the engine says
-pub next_asks : (m : Healing) (b : BrickId) (request : Request) (said : Coming) → said ≡ coming_of (coming m) → said ≡ coming_line.Ask b request → line.Ask b request ≡ next_of m
-next_asks m b request said e f = ap (line_of m) (sym (asks (coming m) b request (sym e ∙ f)))
+pub next_asks : (m : Healing) (b : BrickId) (request : Request) (said : Coming) → comes said request ≡ coming m → said ≡ coming_line.Ask b → line.Ask b request ≡ next_of m
+next_asks m b request said e f = ap (line_of m) (sym (asks (coming m) b request said e f))
 
-pub next_begins : (m : Healing) (said : Coming) → said ≡ coming_of (coming m) → said ≡ coming_line.Begin → line.HealBegin m.gfid m.kind ≡ next_of m
-next_begins m said e f = ap (line_of m) (sym (begins (coming m) (sym e ∙ f)))
+pub next_begins : (m : Healing) (request : Request) (said : Coming) → comes said request ≡ coming m → said ≡ coming_line.Begin → line.HealBegin m.gfid m.kind ≡ next_of m
+next_begins m request said e f = ap (line_of m) (sym (begins (coming m) request said e f))
 
-pub next_ends : (m : Healing) (reply : HealReply) (said : Coming) → said ≡ coming_of (coming m) → said ≡ coming_line.End → reply ≡ reply_of m.outcome m.register.seen → line.HealEnd m.gfid m.kind reply ≡ next_of m
-next_ends m reply said e f g = ap (λ (r : HealReply). line.HealEnd m.gfid m.kind r) g ∙ ap (line_of m) (sym (ends (coming m) (sym e ∙ f)))
+pub next_ends : (m : Healing) (reply : HealReply) (request : Request) (said : Coming) → comes said request ≡ coming m → said ≡ coming_line.End → reply ≡ reply_of m.outcome m.register.seen → line.HealEnd m.gfid m.kind reply ≡ next_of m
+next_ends m reply request said e f g = ap (λ (r : HealReply). line.HealEnd m.gfid m.kind r) g ∙ ap (line_of m) (sym (ends (coming m) request said e f))
 
 -- the request of the next line is the engine's
 pub line_asks : (m : Healing) (b : BrickId) (request : Request) → next_of m ≡ line.Ask b request → coming m ≡ Ask b.0 request
@@ -62,8 +54,13 @@ line_asks m b request e = by (coming m) refl e
     by Ends is e = absurd (cc e)
 
 -- where the engine asks nobody, no more does the next line
-pub line_asks_none : (m : Healing) (said : Coming) → said ≡ coming_of (coming m) → ((b : BrickId) (request : Request) → said ≡ coming_line.Ask b request → ⊥) → (b : BrickId) (request : Request) → next_of m ≡ line.Ask b request → ⊥
-line_asks_none m said e never b request next = never b request (e ∙ ap coming_of (line_asks m b request next))
+pub line_asks_none : (m : Healing) (asked : Request) (said : Coming) → comes said asked ≡ coming m → ((b : BrickId) → said ≡ coming_line.Ask b → ⊥) → (b : BrickId) (request : Request) → next_of m ≡ line.Ask b request → ⊥
+line_asks_none m asked said e never b request next = by said never (e ∙ line_asks m b request next)
+  where
+    by : (said : Coming) → ((b : BrickId) → said ≡ coming_line.Ask b → ⊥) → comes said asked ≡ Ask b.0 request → ⊥
+    by (coming_line.Ask x) never e = never x refl
+    by coming_line.Begin never e = absurd (cc e)
+    by coming_line.End never e = absurd (cc e)
 
 -- ---- what an answer leaves
 -- where the first looks are over, a copy may be the source

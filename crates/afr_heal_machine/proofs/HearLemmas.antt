@@ -1,13 +1,19 @@
 -- What an answer leaves of a heal's machine.
-use Rattle.std.proofs.Common.{Bool, ◌≡◌, ◌∙◌, ◌<◌, ℕ, ap, arith, subst, sym, true, false}
+use Rattle.std.proofs.Common.{Bool, ◌≡◌, ◌∙◌, ◌<◌, ℕ, ap, arith, refl, subst, sym, true, false}
+use Rattle.std.specs.Borrow.{Bor}
+use Rattle.std.specs.Prelude.{nat_lt}
 use Rattle.afr_base.specs.declared.ids.BrickId.{BrickId}
 use Rattle.afr_base.specs.declared.ids.Kind.{Kind}
 use Rattle.afr_base.specs.declared.ids.Shape.{Shape}
+use Rattle.afr_discipline.specs.Inside.{may_ask_inside, may_move}
+use Rattle.afr_discipline.specs.Notes.{IsAllowed}
 use Rattle.afr_discipline.specs.Stands.{heal_part_of, seen_as}
+use Rattle.afr_discipline.specs.declared.register.Move.TheVariants as move
 use Rattle.afr_discipline.specs.declared.register.HealPart.{HealPart}
 use Rattle.afr_discipline.specs.declared.register.Register.{Register}
 use Rattle.afr_heal.specs.Answers.{fits}
-use Rattle.afr_heal.specs.Coming.{coming_of}
+use Rattle.afr_heal.specs.Carried.{MovesOf}
+use Rattle.afr_heal.specs.Coming.{comes}
 use Rattle.afr_heal.specs.Engine.{Ask, NextOfHeal}
 use Rattle.afr_heal.specs.declared.coming.Coming.{Coming}
 use Rattle.afr_heal.specs.declared.coming.Coming.TheVariants as coming_line
@@ -15,12 +21,14 @@ use Rattle.afr_lines.specs.Told.{told_by}
 use Rattle.afr_lines.specs.declared.answer.Answer.{Answer}
 use Rattle.afr_lines.specs.declared.answer.Told.{Told}
 use Rattle.afr_lines.specs.declared.request.Request.{Request}
+use Rattle.afr_model_moves.proofs.Tests.{both}
+use Rattle.afr_model_moves.specs.Keeps.{keeps_in}
 use Rattle.afr_rule.specs.Choosing.{Calls}
 use Rattle.afr_heal_machine.proofs.ChoiceLemmas.{chosen_is_candidate}
 use Rattle.afr_heal_machine.proofs.ComingLemmas.{asks, heard_is}
 use Rattle.afr_heal_machine.specs.Contents.{kept}
 use Rattle.afr_heal_machine.specs.Healing.{CanHear, Healing, IsChosen, IsFed, IsHealing, IsTellable, answered, coming, register_after}
-use Rattle.afr_heal_machine.specs.Laws.{HealAsksLow, HealStays}
+use Rattle.afr_heal_machine.specs.Laws.{HealAllowed, HealAsksLow, HealStays}
 use Rattle.afr_heal_machine.specs.Outcome.{cause, outcome_after, outcome_by}
 use Rattle.afr_heal_machine.specs.Source.{IsCandidate, is_found}
 use Rattle.afr_heal_machine.specs.declared.contents.ReadSoFar.{ReadSoFar}
@@ -31,14 +39,21 @@ pub heard_can : (m seen : Healing) → m ≡ seen → (answer : Answer) → CanH
 heard_can m seen e answer can b request next = subst (λ (next : NextOfHeal). CanHear next answer) next (subst (λ (m : Healing). CanHear (coming m) answer) (sym e) can)
 
 -- an answer that fits can be heard
-pub hearable : (m : Healing) (b : BrickId) (request : Request) (said : Coming) (answer : Answer) (told : Told) (fit : Bool) → said ≡ coming_of (coming m) → said ≡ coming_line.Ask b request → told ≡ told_by answer
+pub hearable : (m : Healing) (b : BrickId) (request : Request) (said : Coming) (answer : Answer) (told : Told) (fit : Bool) → comes said request ≡ coming m → said ≡ coming_line.Ask b → told ≡ told_by answer
     → fit ≡ fits request told → fit ≡ true → IsTellable told → CanHear (coming m) answer
 hearable m b request said answer told fit e f is by fitting tells =
-    subst (λ (next : NextOfHeal). CanHear next answer) (sym (asks (coming m) b request (sym e ∙ f))) (subst (λ (told : Told). fits request told ≡ true) is (sym by ∙ fitting), subst IsTellable is tells)
+    subst (λ (next : NextOfHeal). CanHear next answer) (sym (asks (coming m) b request said e f)) (subst (λ (told : Told). fits request told ≡ true) is (sym by ∙ fitting), subst IsTellable is tells)
 
 -- the request goes to one of five bricks
 pub heard_small : HealAsksLow → (m : Healing) → IsHealing m → (b : ℕ) (request : Request) → coming m ≡ Ask b request → b < 5
 heard_small law m k b request next = let w = law m k b request next in omega (arith, w.0, w.1)
+
+-- the discipline allows the request
+pub heard_allowed : HealAllowed → (m : Healing) → IsHealing m → (b : BrickId) (request : Bor Request) → coming m ≡ Ask b.0 request.now → IsAllowed m.register b.0 request.now
+heard_allowed law m k b request next inside whole =
+    let moves : MovesOf m.gfid m.kind (coming m) (move.Ask b request) = subst (λ (next : NextOfHeal). MovesOf m.gfid m.kind next (move.Ask b request)) (sym next) (refl, refl) in
+    let may : may_move m.register.shape.n (keeps_in m.register.shape) (seen_as m.register) (move.Ask b request) ≡ true = law m k (move.Ask b request) moves in
+    rw whole at (both (nat_lt b.0 m.register.shape.n) (may_ask_inside m.register.shape.n (keeps_in m.register.shape) (seen_as m.register) b.0 request.now) (rw inside at may)).1
 
 -- how the heal ends after the answer
 pub heard_outcome : (p q : Register) (s : ℕ) (kind : Kind) (request : Request) (told said : Told) (before outcome caused : HealOutcome) (part : HealPart)

@@ -99,7 +99,7 @@ module _ (notes : NotesStand) (shapes : ShapesKept) (allowed : HealsAllowed) (ke
   same = shapes p (move_of b request) told t
 
   there : Stands q r
-  there = notes p (seen_as p) (move_of b request) told t k.heals.few k.heals.five small (self_stands p k.heals.published)
+  there = notes p (seen_as p) (move_of b request) told t k.heals.few k.heals.five small (self_stands p)
 
   well : asks_well p.shape.n (keeps_in p.shape) (seen_as p) b request ≡ true
   well = subst (λ (next : NextOfHeal). allows_next p.shape.n (keeps_in p.shape) (seen_as p) m.gfid m.kind next ≡ true) next (allowed p m.source.0 m.gfid m.kind k.heals).0
@@ -114,7 +114,7 @@ module _ (notes : NotesStand) (shapes : ShapesKept) (allowed : HealsAllowed) (ke
   with_source : (c : ℕ) → Standing p.shape.n (keeps_in p.shape) (seen_as q) c m.gfid m.kind → Heals q c m.gfid m.kind
   with_source c k2 =
       let h = heals_by (pick_for p.shape.n 0) (picks_for p.shape.n 0) in
-      record { some = h.some; few = h.few; published = h.published; five = h.five; standing = subst (λ (shape : Shape). Standing shape.n (keeps_in shape) (seen_as q) c m.gfid m.kind) (sym same) k2; named = h.named }
+      record { some = h.some; few = h.few; five = h.five; standing = subst (λ (shape : Shape). Standing shape.n (keeps_in shape) (seen_as q) c m.gfid m.kind) (sym same) k2; named = h.named }
 
   -- each copy may be the source at the end of the first looks
   possible_each : Found p.shape.n (seen_as q) → (x : ℕ) → x < p.shape.n → member q.possible x ≡ true

@@ -1,7 +1,7 @@
 //! What an answer leaves of a heal: its register, and its source once the first looks are over.
 ghost use Rattle.std.specs.Prelude.{◌≡◌, ◌+◌, ◌^◌, ◌<◌, ◌≤◌, ◌||◌, false, nat_le, not, true};
 ghost use Rattle.afr_base.specs.Bricks.{member};
-ghost use Rattle.afr_discipline.specs.Notes.{noted_ask};
+ghost use Rattle.afr_discipline.specs.Notes.{IsAllowed, noted_ask};
 ghost use Rattle.afr_discipline.specs.Stands.{heal_part_of, seen_as, step_of};
 ghost use Rattle.afr_model_moves.specs.Keeps.{keeps_in};
 ghost use Rattle.afr_model_moves.specs.Register.{is_opening, over, rank, span};
@@ -13,12 +13,12 @@ ghost use Rattle.afr_heal_machine.specs.Source.{HasSource, is_found};
 use crate::choosing::source_found;
 use afr_base::{BrickId, BrickSet, Kind};
 use afr_discipline::{
-    HealPart, Move, Register, Step, all_of, asked_at, note, present_part, present_step,
+    HealPart, Register, Step, all_of, asked_at, note_allowed, present_part, present_step,
 };
 use afr_lines::{Request, Told};
 use afr_rule::{Candidate, SourceRule};
 
-/// Notes the request and its answer.
+/// Notes the request, which the discipline allows, and its answer.
 pub(crate) fn note_answer(
     register: &mut Register,
     brick: BrickId,
@@ -29,10 +29,11 @@ pub(crate) fn note_answer(
     requires few { register.old.shape.n ≤ 5 }
     requires small { brick.0 < 5 }
     requires room { register.old.upto + span < 2 ^ 32 }
+    requires allowed { IsAllowed register.old brick.0 request.now }
     ensures value { register.new ≡ noted_ask register.old at brick.0 request.now told.now }
     ensures shape { register.new.shape ≡ register.old.shape }
 {
-    note(register, &Move::Ask(brick, request), told, at);
+    note_allowed(register, brick, request, told, at);
 }
 
 fn is_past(set: BrickSet, asked: BrickSet, x: BrickId) -> bool

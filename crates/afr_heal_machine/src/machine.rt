@@ -79,8 +79,15 @@ impl HealMachine {
     pub fn next(&self) -> Result<Next, NoMemory>
         ensures { IfOk result (λ next. next ≡ next_of self.now) }
     {
-        match heal_next(&self.register, self.source, self.gfid, self.kind) {
-            Coming::Ask(brick, request) => Ok(Next::Ask(brick, request)),
+        let mut request = Request::Index;
+        match heal_next(
+            &self.register,
+            self.source,
+            self.gfid,
+            self.kind,
+            &mut request,
+        ) {
+            Coming::Ask(brick) => Ok(Next::Ask(brick, request)),
             Coming::Begin => Ok(Next::HealBegin(self.gfid, self.kind)),
             Coming::End => {
                 let reply = ending(self.alloc, self.outcome, &self.register.seen)?;
@@ -94,11 +101,8 @@ impl HealMachine {
         ensures some { (b : BrickId) → result ≡ Some b → next_of self.now ≡ Next.Ask b request.new }
         ensures none { (b : BrickId) (asked : Request) → result ≡ None → next_of self.now ≡ Next.Ask b asked → ⊥ }
     {
-        match heal_next(&self.register, self.source, self.gfid, self.kind) {
-            Coming::Ask(brick, asked) => {
-                *request = asked;
-                Some(brick)
-            }
+        match heal_next(&self.register, self.source, self.gfid, self.kind, request) {
+            Coming::Ask(brick) => Some(brick),
             Coming::Begin | Coming::End => None,
         }
     }
@@ -148,8 +152,15 @@ impl HealMachine {
     pub fn can_hear(&self, answer: &Answer) -> bool
         ensures { result ≡ true → CanHear (coming self.now) answer.now }
     {
-        match heal_next(&self.register, self.source, self.gfid, self.kind) {
-            Coming::Ask(_, request) => {
+        let mut request = Request::Index;
+        match heal_next(
+            &self.register,
+            self.source,
+            self.gfid,
+            self.kind,
+            &mut request,
+        ) {
+            Coming::Ask(_) => {
                 let told = told_of(answer);
                 fits(&request, &told) && is_tellable(&told)
             }
@@ -161,10 +172,15 @@ impl HealMachine {
     pub fn is_beginning(&self) -> bool
         ensures { result ≡ true → coming self.now ≡ Begins }
     {
-        matches!(
-            heal_next(&self.register, self.source, self.gfid, self.kind),
-            Coming::Begin
-        )
+        let mut request = Request::Index;
+        let coming = heal_next(
+            &self.register,
+            self.source,
+            self.gfid,
+            self.kind,
+            &mut request,
+        );
+        matches!(coming, Coming::Begin)
     }
 
     /// The HealBegin line was written at this position.

@@ -6,7 +6,7 @@ use crate::lines::{
     sees_behind, settles, unlocks, untouched,
 };
 use afr_base::{BrickId, BrickSet, Kind};
-use afr_discipline::{Move, Register};
+use afr_discipline::{Move, Register, Step, asked_at, begun};
 use afr_lines::{Domain, Request, Told};
 use afr_object::Change;
 
@@ -23,7 +23,7 @@ fn a_write_notes_its_lines(rt: HostRuntime) {
     assert!(rt; asks_all(&mut register, &look, Told::Seen(clean()), 3));
     assert_eq!(rt; register.looked.reached, BrickSet::all(3));
     assert!(rt; makes(&mut register, &Move::Begin(&cut), Told::Done, 6));
-    assert_eq!(rt; register.attempt, Some(6));
+    assert_eq!(rt; begun(&register), Some(6));
     assert!(rt; asks_all(&mut register, &raises(Kind::Bytes), Told::Done, 7));
     assert_eq!(rt; register.pre, BrickSet::all(3));
     assert!(rt; asks_all(&mut register, &apply, Told::Done, 10));
@@ -33,7 +33,7 @@ fn a_write_notes_its_lines(rt: HostRuntime) {
     assert!(rt; asks_all(&mut register, &unlock, Told::Done, 16));
     assert!(rt; register.held.is_empty());
     assert!(rt; makes(&mut register, &Move::End { ok: true }, Told::Done, 19));
-    assert_eq!(rt; register.attempt, Some(6));
+    assert_eq!(rt; begun(&register), Some(6));
 }
 
 #[test]
@@ -73,14 +73,17 @@ fn a_heal_of_attributes_notes_its_lines(rt: HostRuntime) {
     let work = unlocks(Domain::Work, all_attrs());
     let unlock = unlocks(Domain::Heal, all_bytes());
     assert!(rt; sees_behind(&mut register));
-    assert!(rt; register.begun_before_looks && register.source.is_none());
+    assert!(rt; begun(&register).is_some());
     assert!(rt; asks(&mut register, 0, &read, Told::Given, 10));
-    assert_eq!(rt; register.source, Some(BrickId(0)));
+    assert_eq!(rt; register.reads[0], Some(10));
     assert!(rt; asks(&mut register, 1, &pre, Told::Done, 11));
     assert!(rt; asks(&mut register, 2, &pre, Told::Done, 12));
     assert!(rt; asks(&mut register, 1, &put, Told::Done, 13));
     assert!(rt; asks(&mut register, 2, &put, Told::Done, 14));
-    assert_eq!(rt; register.mended, BrickSet::all(3).without(BrickId(0)));
+    assert_eq!(rt;
+        asked_at(&register, Step::Mends),
+        BrickSet::all(3).without(BrickId(0))
+    );
     assert!(rt; settles_all(&mut register));
     assert_eq!(rt; register.settled, BrickSet::all(3));
     assert!(rt; asks_all(&mut register, &work, Told::Done, 18));
@@ -88,5 +91,5 @@ fn a_heal_of_attributes_notes_its_lines(rt: HostRuntime) {
     assert!(rt; register.healing.is_empty() && !register.broken);
     assert_eq!(rt; register.upto, 0);
     assert!(rt; makes(&mut register, &Move::End { ok: true }, Told::Done, 24));
-    assert!(rt; register.heal.is_none() && register.source.is_none());
+    assert!(rt; begun(&register).is_none());
 }

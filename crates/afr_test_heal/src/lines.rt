@@ -42,12 +42,12 @@ pub(crate) fn ahead() -> Told {
     })
 }
 
-/// The next line, with brick 0 as the source.
-fn comes(register: &Register, kind: Kind) -> Coming
+/// The next line, with brick 0 as the source; a request is written in its place.
+fn comes(register: &Register, kind: Kind, request: &mut Request) -> Coming
     requires { register.now.shape.n ≤ 5 }
 {
     if has_room(register, kind) {
-        heal_next(register, BrickId(0), FILE, kind)
+        heal_next(register, BrickId(0), FILE, kind, request)
     } else {
         Coming::End
     }
@@ -57,8 +57,9 @@ fn comes(register: &Register, kind: Kind) -> Coming
 pub(crate) fn asks(register: &Register, kind: Kind, b: u8) -> Option<Request>
     requires { register.now.shape.n ≤ 5 }
 {
-    match comes(register, kind) {
-        Coming::Ask(brick, request) => { if brick.0 == b { Some(request) } else { None } }
+    let mut request = Request::Index;
+    match comes(register, kind, &mut request) {
+        Coming::Ask(brick) => { if brick.0 == b { Some(request) } else { None } }
         _ => None,
     }
 }
@@ -66,13 +67,15 @@ pub(crate) fn asks(register: &Register, kind: Kind, b: u8) -> Option<Request>
 pub(crate) fn begins(register: &Register, kind: Kind) -> bool
     requires { register.now.shape.n ≤ 5 }
 {
-    matches!(comes(register, kind), Coming::Begin)
+    let mut request = Request::Index;
+    matches!(comes(register, kind, &mut request), Coming::Begin)
 }
 
 pub(crate) fn ends(register: &Register, kind: Kind) -> bool
     requires { register.now.shape.n ≤ 5 }
 {
-    matches!(comes(register, kind), Coming::End)
+    let mut request = Request::Index;
+    matches!(comes(register, kind, &mut request), Coming::End)
 }
 
 /// The next line asks for a lock of this domain at the brick.
@@ -103,8 +106,9 @@ pub(crate) fn tells(register: &mut Register, kind: Kind, told: Told, at: u32)
     if register.upto > LONGEST {
         return;
     }
-    match comes(register, kind) {
-        Coming::Ask(brick, request) => {
+    let mut request = Request::Index;
+    match comes(register, kind, &mut request) {
+        Coming::Ask(brick) => {
             if brick.0 < 5 {
                 note(register, &Move::Ask(brick, &request), &told, at);
             }

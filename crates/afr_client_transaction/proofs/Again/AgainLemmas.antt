@@ -1,28 +1,23 @@
 -- The first lock of a second transaction clears all that the first has left.
-use Rattle.std.proofs.Common.{◌≡◌, ℕ, zero, suc, ◌<◌, ◌≤◌, ◌||◌, ◌&&◌, not, nat_le, Bool, true, false, List, [], ◌∷◌, refl, sym, ◌∙◌, ap, subst, Option, None, Some}
-use Rattle.afr_base.specs.Bricks.{added_if, member, removed, is_nothing}
+use Rattle.std.proofs.Common.{◌≡◌, ℕ, ◌||◌, Bool, true, false, List, [], ◌∷◌, refl, sym, ◌∙◌, ap, subst, None}
+use Rattle.afr_base.specs.Bricks.{member, is_nothing}
 use Rattle.afr_base.specs.declared.ids.Shape.{Shape}
 use Rattle.afr_lines.specs.declared.lock.Domain.TheVariants.{Work}
 use Rattle.afr_lines.specs.declared.answer.Told.{Told}
 use Rattle.afr_lines.specs.declared.answer.Told.TheVariants as as_told
 use Rattle.afr_lines.specs.declared.request.Area.{Area}
-use Rattle.afr_lines.specs.declared.request.Request.{Request}
 use Rattle.afr_lines.specs.declared.request.Request.TheVariants as request
-use Rattle.afr_model_moves.specs.Past.{is_gone}
-use Rattle.afr_model_moves.specs.Register.{rank}
 use Rattle.afr_model_moves.specs.Rules.{busy, is_area}
 use Rattle.afr_model_moves.specs.Sets.{any}
 use Rattle.afr_discipline.specs.Notes.{noted_ask}
-use Rattle.afr_discipline.specs.Stands.{no_lines, seen_as, step_of}
+use Rattle.afr_discipline.specs.Stands.{no_lines, seen_as}
 use Rattle.afr_discipline.specs.declared.register.Register.{Register}
-use Rattle.afr_discipline.specs.declared.register.Step.{Step}
-use Rattle.afr_discipline.specs.declared.register.Step.TheVariants as step
 use Rattle.afr_client_transaction.proofs.Parts.{any_nothing}
 use Rattle.afr_client_transaction.proofs.Requests.{after_outside, locked_w, noted_is}
 use Rattle.afr_client_transaction.specs.Progress.{is_over}
 use Rattle.afr_client_transaction.specs.declared.stage.Stage.{Stage}
 use Rattle.afr_client_transaction.specs.declared.stage.Stage.TheVariants.{Closing}
-use Rattle.afr_client_transaction.specs.Again.Again.{AgainSame, EndsPlain, IsPlain, IsRested, PlainFirst, but_for_transaction, opened}
+use Rattle.afr_client_transaction.specs.Again.Again.{AgainSame, EndsPlain, IsRested, PlainFirst, but_for_transaction, opened}
 
 pub plain_first : PlainFirst
 plain_first shape = record { none = record { only = refl; outside = refl }; free = record { only = refl; outside = refl } }

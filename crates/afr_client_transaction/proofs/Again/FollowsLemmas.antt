@@ -1,23 +1,21 @@
 -- The first lock of another transaction is allowed, and the transaction is sound after it.
-use Rattle.std.proofs.Common.{◌≡◌, ℕ, ◌<◌, ◌≤◌, ◌||◌, ◌&&◌, not, nat_lt, Bool, true, false, List, [], refl, sym, ◌∙◌, ap, subst, arith, Option, None, Some, if◌then◌else◌, inl, inr}
-use Rattle.std.proofs.lemmas.Bool.Decides.{nat_tests}
-use Rattle.afr_base.specs.Bricks.{below, is_nothing, lowest, member, minus}
-use Rattle.afr_base.specs.Majority.{is_majority, is_most}
+use Rattle.std.proofs.Common.{◌≡◌, ℕ, ◌<◌, ◌||◌, ◌&&◌, not, Bool, true, false, [], refl, ◌∙◌, ap, if◌then◌else◌, inr}
+use Rattle.afr_base.specs.Bricks.{below, lowest}
 use Rattle.afr_base.specs.SetLemmas.{lowest_left, within_below}
 use Rattle.afr_object.specs.declared.change.Change.{Change}
 use Rattle.afr_lines.specs.Areas.{area_for}
 use Rattle.afr_lines.specs.declared.answer.Told.{Told}
 use Rattle.afr_model_moves.specs.Rules.{busy}
-use Rattle.afr_discipline.specs.Stands.{number_of, seen_as}
-use Rattle.afr_discipline.specs.Tests.{is_valid, last_posted, one_of}
+use Rattle.afr_discipline.specs.Stands.{seen_as}
+use Rattle.afr_discipline.specs.Tests.{last_posted, one_of}
 use Rattle.afr_discipline.specs.declared.register.Register.{Register}
 use Rattle.afr_client_transaction.specs.Laws.{AcknowledgedExactly, StaysSound}
-use Rattle.afr_client_transaction.specs.Progress.{TransactionProgress, after, asked_by, fed, left, on_stage, request_at, starting}
+use Rattle.afr_client_transaction.specs.Progress.{TransactionProgress, after, asked_by, left, on_stage, starting}
 use Rattle.afr_client_transaction.specs.Sound.{Sound}
 use Rattle.afr_client_transaction.specs.declared.stage.Stage.TheVariants.{Locking}
 use Rattle.afr_client_transaction.proofs.Kept.{sound_first}
 use Rattle.afr_client_transaction.proofs.Parts.{lt_test, pair}
-use Rattle.afr_client_transaction.specs.Again.Again.{AgainAllowed, AgainNew, AgainSound, EndsPlain, IsRested, opened}
+use Rattle.afr_client_transaction.specs.Again.Again.{AgainAllowed, AgainNew, AgainSound, EndsPlain, opened}
 use Rattle.afr_client_transaction.proofs.Again.AgainLemmas.{again_same, new_same, rests, unbusy}
 
 -- somebody is there to ask

@@ -1,5 +1,5 @@
 -- A transaction notes nothing of a heal.
-use Rattle.std.proofs.Common.{◌≡◌, ℕ, ◌||◌, ◌&&◌, not, nat_le, Bool, true, false, List, [], refl, sym, ◌∙◌, ap, subst, Option, None, Some, if◌then◌else◌}
+use Rattle.std.proofs.Common.{◌≡◌, ℕ, nat_le, Bool, true, false, List, refl, sym, ◌∙◌, ap, subst, Some, if◌then◌else◌}
 use Rattle.afr_base.specs.Bricks.{below, lowest, minus, removed}
 use Rattle.afr_base.specs.declared.ids.Gfid.{Gfid}
 use Rattle.afr_base.specs.declared.ids.Kind.{Kind}
@@ -14,21 +14,20 @@ use Rattle.afr_lines.specs.declared.request.Request.TheVariants as request
 use Rattle.afr_model_moves.specs.Past.{is_gone}
 use Rattle.afr_model_moves.specs.Register.{Untouched, rank, same_step}
 use Rattle.afr_model_moves.specs.Rules.{busy, is_area}
-use Rattle.afr_discipline.specs.Notes.{dropped, joined, noted_ask, noted_law, noted_outside, published, second_left, stopped}
+use Rattle.afr_discipline.specs.Notes.{dropped, joined, noted_ask, noted_law, noted_outside, second_left, stopped}
 use Rattle.afr_discipline.specs.Stands.{seen_as, step_of}
 use Rattle.afr_discipline.specs.declared.register.Register.{Register}
 use Rattle.afr_discipline.specs.declared.register.Step.{Step}
 use Rattle.afr_discipline.specs.declared.register.Step.TheVariants as step
 use Rattle.afr_client_transaction.specs.Between.{is_read}
-use Rattle.afr_client_transaction.specs.Progress.{TransactionProgress, begun, fed, left, number_in, request_at, request_in}
-use Rattle.afr_client_transaction.specs.Sound.{Sound}
+use Rattle.afr_client_transaction.specs.Progress.{TransactionProgress, fed, left, number_in, request_at, request_in}
 use Rattle.afr_client_transaction.specs.declared.stage.Stage.{Stage}
 use Rattle.afr_client_transaction.specs.declared.stage.Stage.TheVariants.{Locking, Looking, Beginning, Preparing, Applying, Posting, Closing}
 use Rattle.afr_client_transaction.proofs.Requests.{after_outside, law_w, noted_is, steps_w}
 use Rattle.afr_client_transaction.specs.Again.Again.{IsPlain, PlainBegun, PlainKept, PlainRead, but_for_transaction}
 
--- ---- what is published of a plain register
-with_step : (q : Register) (s : Step) → nat_le (rank (step_of s)) 4 ≡ true → published (stopped (record (but_for_transaction q) { step = s })) ≡ but_for_transaction (published (stopped (record (but_for_transaction q) { step = s })))
+-- ---- a plain register that may be ended
+with_step : (q : Register) (s : Step) → nat_le (rank (step_of s)) 4 ≡ true → stopped (record (but_for_transaction q) { step = s }) ≡ but_for_transaction (stopped (record (but_for_transaction q) { step = s }))
 with_step q step.Untouched e = refl
 with_step q step.Open e = refl
 with_step q step.Pres e = refl
@@ -44,10 +43,10 @@ with_step q step.Settles e = absurd (cc e)
 with_step q step.Unlocks e = absurd (cc e)
 with_step q step.HealUnlocks e = absurd (cc e)
 
--- a register that is plain but for what is published
-folded : (j : Register) → j ≡ but_for_transaction j → nat_le (rank (step_of j.step)) 4 ≡ true → IsPlain (published (stopped j))
+-- a register that is plain but for its end
+folded : (j : Register) → j ≡ but_for_transaction j → nat_le (rank (step_of j.step)) 4 ≡ true → IsPlain (stopped j)
 folded j e o = record {
-  only = subst (λ (x : Register). published (stopped x) ≡ but_for_transaction (published (stopped x))) (sym e) (with_step j j.step o);
+  only = subst (λ (x : Register). stopped x ≡ but_for_transaction (stopped x)) (sym e) (with_step j j.step o);
   outside = o;
 }
 
@@ -71,7 +70,7 @@ module _ (q : Register) (o : nat_le (rank (step_of q.step)) 4 ≡ true) (b : ℕ
   abbrev j : Request → Told → Register
   j asked told = halves (noted_outside r b asked told) (noted_law r b asked told) b told
 
-  lock_by : (w s : Bool) (area : Area) (told : Told) → IsPlain (published (stopped (halves (steps_w w r) (law_w w s r area b told) b told)))
+  lock_by : (w s : Bool) (area : Area) (told : Told) → IsPlain (stopped (halves (steps_w w r) (law_w w s r area b told) b told))
   lock_by true true area as_told.Granted = folded (halves (steps_w true r) (law_w true true r area b as_told.Granted) b as_told.Granted) refl (stays_low q.step o)
   lock_by true true area as_told.NotConnected = folded (halves (steps_w true r) (law_w true true r area b as_told.NotConnected) b as_told.NotConnected) refl (stays_low q.step o)
   lock_by true true area told = folded (halves (steps_w true r) (law_w true true r area b told) b told) refl (stays_low q.step o)
@@ -91,7 +90,7 @@ module _ (q : Register) (o : nat_le (rank (step_of q.step)) 4 ≡ true) (b : ℕ
       freed : Bool → Register
       freed s = if s then record r { held = removed b r.held } else record r { second_held = second_left r area b }
 
-      by : (s : Bool) → IsPlain (published (stopped (halves (noted_outside r b (request.Unlock Work area) as_told.Done) (freed s) b as_told.Done)))
+      by : (s : Bool) → IsPlain (stopped (halves (noted_outside r b (request.Unlock Work area) as_told.Done) (freed s) b as_told.Done))
       by true = folded (halves (noted_outside r b (request.Unlock Work area) as_told.Done) (freed true) b as_told.Done) refl (stays_low q.step o)
       by false = folded (halves (noted_outside r b (request.Unlock Work area) as_told.Done) (freed false) b as_told.Done) refl (stays_low q.step o)
   unlock_plain area as_told.NotConnected = folded (j (request.Unlock Work area) as_told.NotConnected) refl (stays_low q.step o)
@@ -163,4 +162,4 @@ plain_read r at b asked told e k =
     subst IsPlain (sym (noted_is r at b asked told (inside_not r k))) (subst (λ (x : Register). IsPlain (after_outside x b asked told)) (sym k.only) (read_plain r k.outside b asked told e))
 
 pub plain_begun : PlainBegun
-plain_begun m k at = subst (λ (r : Register). IsPlain (published (record r { step = step.Open; begun = Some at }))) (sym k.only) (record { only = refl; outside = refl })
+plain_begun m k at = subst (λ (r : Register). IsPlain (record r { step = step.Open; begun = Some at })) (sym k.only) (record { only = refl; outside = refl })

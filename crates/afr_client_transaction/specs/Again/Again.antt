@@ -1,14 +1,11 @@
 -- What a transaction leaves in the register, and the first lock of another after it.
-use Rattle.std.specs.Prelude.{◌≡◌, ℕ, ◌<◌, ◌≤◌, nat_le, Bool, true, false, List, [], Option, None}
+use Rattle.std.specs.Prelude.{◌≡◌, ℕ, ◌<◌, nat_le, true, false, []}
 use Rattle.afr_object.specs.declared.change.Change.{Change}
 use Rattle.afr_lines.specs.declared.lock.Domain.TheVariants.{Work}
-use Rattle.afr_lines.specs.Areas.{area_for}
 use Rattle.afr_lines.specs.declared.answer.Told.{Told}
-use Rattle.afr_lines.specs.declared.line.Next.TheVariants as next
 use Rattle.afr_lines.specs.declared.request.Area.{Area}
 use Rattle.afr_lines.specs.declared.request.Request.{Request}
 use Rattle.afr_lines.specs.declared.request.Request.TheVariants.{Lock}
-use Rattle.afr_base.specs.declared.ids.BrickId.{BrickId}
 use Rattle.afr_base.specs.declared.ids.Shape.{Shape}
 use Rattle.afr_model_moves.specs.Register.{rank}
 use Rattle.afr_discipline.specs.Notes.{noted_ask}
@@ -25,7 +22,6 @@ use Rattle.afr_client_transaction.specs.declared.stage.Stage.TheVariants.{Beginn
 -- the register of no line, but for what a transaction keeps there
 abbrev pub but_for_transaction : Register → Register
 but_for_transaction r = record (no_lines r.shape) {
-  attempt = r.attempt;
   area = r.area;
   held = r.held;
   second = r.second;

@@ -9,13 +9,24 @@ use std::alloc::Global;
 
 pub(crate) const OBJECT: Gfid = Gfid(9);
 
+const THREE: Shape = Shape {
+    n: 3,
+    arbiter: false,
+};
+
 /// A round over the index of brick 1, on three bricks.
 pub(crate) fn round_of(alloc: Global) -> RoundMachine {
-    let shape = Shape {
-        n: 3,
-        arbiter: false,
-    };
-    RoundMachine::new(alloc, shape, BrickId(1))
+    RoundMachine::new(alloc, THREE, true, BrickId(1))
+}
+
+/// A round of a crawler over the same index.
+pub(crate) fn crawl_of(alloc: Global) -> RoundMachine {
+    RoundMachine::new(alloc, THREE, false, BrickId(1))
+}
+
+/// The task of the file.
+pub(crate) fn task_of(alloc: Global) -> Result<RoundMachine, NoMemory> {
+    RoundMachine::task(alloc, THREE, OBJECT, What::File)
 }
 
 /// An index that shows one file.

@@ -13,13 +13,6 @@ stopped-requires c =
     (sym (turn_shape c.args.register.now c.noted_steps.new.register c.noted_law.new.register c.dropped.new.register c.args.at c.args.b.0 c.args.request.now c.args.told.now c.is_gone.result c.noted_steps.ensures c.noted_law.ensures c.is_gone.ensures c.dropped.ensures))
     c.requires.few
 
-pub published-requires : goal.published-requires
-published-requires c =
-    rw c.stopped.ensures
-    (subst (λ (s : Shape). s.n ≤ 5)
-    (sym (turn_shape c.args.register.now c.noted_steps.new.register c.noted_law.new.register c.dropped.new.register c.args.at c.args.b.0 c.args.request.now c.args.told.now c.is_gone.result c.noted_steps.ensures c.noted_law.ensures c.is_gone.ensures c.dropped.ensures))
-    c.requires.few)
-
 pub returns : goal.returns
 returns c =
-    rw (c.published.ensures, c.stopped.ensures, noted_in_turn c.args.register.now c.noted_steps.new.register c.noted_law.new.register c.dropped.new.register c.args.at c.args.b.0 c.args.request.now c.args.told.now c.is_gone.result c.noted_steps.ensures c.noted_law.ensures c.is_gone.ensures c.dropped.ensures) refl
+    rw (c.stopped.ensures, noted_in_turn c.args.register.now c.noted_steps.new.register c.noted_law.new.register c.dropped.new.register c.args.at c.args.b.0 c.args.request.now c.args.told.now c.is_gone.result c.noted_steps.ensures c.noted_law.ensures c.is_gone.ensures c.dropped.ensures) refl

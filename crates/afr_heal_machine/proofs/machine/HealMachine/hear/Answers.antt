@@ -3,7 +3,7 @@ use Rattle.afr_discipline.specs.Notes.{noted_ask}
 use Rattle.afr_lines.specs.Told.{told_by}
 use Rattle.afr_lines.specs.declared.answer.Told.{Told}
 use Rattle.afr_heal_machine.proofs.ComingLemmas.{heard_source, line_asks}
-use Rattle.afr_heal_machine.proofs.HearLemmas.{heard_can, heard_fed, heard_outcome, heard_small, heard_stays}
+use Rattle.afr_heal_machine.proofs.HearLemmas.{heard_allowed, heard_can, heard_fed, heard_outcome, heard_small, heard_stays}
 use Rattle.afr_lines.specs.declared.line.Next.TheVariants as line
 use Rattle.afr_heal_machine.specs.Healing.{Healing, IsFed, next_of}
 use Rattle.afr_heal_machine.proofs.machine.HealMachine.hear.Goals as goal
@@ -11,6 +11,11 @@ use Rattle.afr_heal_machine.proofs.machine.HealMachine.hear.Goals as goal
 pub note_answer-requires-clause-small : goal.note_answer-requires-clause-small
 note_answer-requires-clause-small g c =
     heard_small c.a_heal_stays_sound.ensures.low (record { gfid = c.self.inside.gfid; kind = c.self.inside.kind; register = c.self.inside.register; source = c.self.inside.source; outcome = c.self.inside.outcome; contents = c.self.inside.contents }) c.self.invariant c.args.brick.0 c.args.request.now
+    (line_asks (record { gfid = c.self.inside.gfid; kind = c.self.inside.kind; register = c.self.inside.register; source = c.self.inside.source; outcome = c.self.inside.outcome; contents = c.self.inside.contents }) c.args.brick c.args.request.now (subst (λ (m : Healing). next_of m ≡ line.Ask c.args.brick c.args.request.now) (sym c.self.view_is) c.requires.asked))
+
+pub note_answer-requires-clause-allowed : goal.note_answer-requires-clause-allowed
+note_answer-requires-clause-allowed g c =
+    heard_allowed c.a_heal_stays_sound.ensures.allowed (record { gfid = c.self.inside.gfid; kind = c.self.inside.kind; register = c.self.inside.register; source = c.self.inside.source; outcome = c.self.inside.outcome; contents = c.self.inside.contents }) c.self.invariant c.args.brick c.args.request
     (line_asks (record { gfid = c.self.inside.gfid; kind = c.self.inside.kind; register = c.self.inside.register; source = c.self.inside.source; outcome = c.self.inside.outcome; contents = c.self.inside.contents }) c.args.brick c.args.request.now (subst (λ (m : Healing). next_of m ≡ line.Ask c.args.brick c.args.request.now) (sym c.self.view_is) c.requires.asked))
 
 pub source_after-self-inside-requires-clause-found : goal.source_after-self-inside-requires-clause-found

@@ -1,4 +1,4 @@
--- A register that stands in its law and its steps stands whole once it is published.
+-- A register that stands in its law and its steps stands whole.
 use Rattle.std.proofs.Common.{◌≡◌, ℕ, zero, suc, ◌<◌, ◌&&◌, ◌||◌, not, Bool, if◌then◌else◌, refl, sym, ◌∙◌, ap, subst, arith, Option, None}
 use Rattle.afr_base.specs.Bricks.{member}
 use Rattle.afr_base.specs.SetLemmas.{count_same}
@@ -10,9 +10,9 @@ use Rattle.afr_model_moves.specs.Register as exact
 use Rattle.afr_model_moves.specs.Register.{Exact, asked_in, good, over, same_step}
 use Rattle.afr_model_moves.specs.Steps.{goes_on, looks_at}
 use Rattle.afr_discipline.specs.declared.register.Register.{Register}
-use Rattle.afr_discipline.specs.Notes.{joined, published, stopped}
+use Rattle.afr_discipline.specs.Notes.{joined, stopped}
 use Rattle.afr_model_moves.specs.Keeps.{keeps_in}
-use Rattle.afr_discipline.specs.Stands.{Stands, attempt_of, has_begun, heal_of, least, seen_as, sole, source_of, step_of, views_of}
+use Rattle.afr_discipline.specs.Stands.{Stands, seen_as, step_of}
 use Rattle.afr_discipline.proofs.StandsLemmas.{filled}
 use Rattle.afr_discipline.proofs.HealDecisions.{any_same}
 use Rattle.afr_discipline.proofs.NotedLaw.{LawStands, stopped_law}
@@ -41,27 +41,10 @@ halves_fill : (p : Register) (r : Exact) → LawStands p r.law → StepsStand p 
 halves_fill p r l s =
     rw (← l.number, ← l.area, ← l.held, ← l.second, ← l.second_held, ← l.pre, ← l.done, ← l.post, ← l.inside, ← l.object, ← l.kind, ← l.healing, ← l.settled, ← s.step, ← s.asked, ← s.unlocked, ← s.reached, ← s.views, ← s.first_reached, ← s.first_views, ← s.part, ← s.reads, ← s.upto, ← s.broken) refl
 
--- ---- the one source
--- tests that are the same below n have the same least number
-least_same : (n : ℕ) (test same : ℕ → Bool) → ((s : ℕ) → s < n → test s ≡ same s) → least n test ≡ least n same
-least_same zero test same h = refl
-least_same (suc n) test same h = rw (any_same n test same (λ s l. h s (omega (arith, l))), least_same n test same (λ s l. h s (omega (arith, l)))) refl
-
--- and the same one brick
-sole_same : (n : ℕ) (test same : ℕ → Bool) → ((s : ℕ) → s < n → test s ≡ same s) → sole n test ≡ sole n same
-sole_same n test same h = rw (count_same n test same h, least_same n test same h) refl
-
--- the source is told by the fields that the program has
-source_same : (p : Register) (r : Exact) → MayMatch p r → source_of p.shape.n (keeps_in p.shape) (seen_as p) ≡ source_of p.shape.n (keeps_in p.shape) (filled p r)
-source_same p r possible =
-    ap (λ (one : Option BrickId). if p.inside then one else None)
-    (sole_same p.shape.n (λ s. member p.possible s && good p.shape.n (keeps_in p.shape) p.kind (views_of p.seen) s) (λ s. r.possible s && good p.shape.n (keeps_in p.shape) p.kind (views_of p.seen) s)
-    (λ s l. ap (λ (may : Bool). may && good p.shape.n (keeps_in p.shape) p.kind (views_of p.seen) s) (sym (possible s l))))
-
--- ---- published
--- the other fields say what the exact register says
-pub published_stands : (p : Register) (r : Exact) → LawStands p r.law → StepsStand p r → Stands (published p) r
-published_stands p r l s = record {
+-- ---- whole
+-- both halves are all of it
+pub both_stand : (p : Register) (r : Exact) → LawStands p r.law → StepsStand p r → Stands p r
+both_stand p r l s = record {
   number = l.number;
   area = l.area;
   held = l.held;
@@ -87,11 +70,6 @@ published_stands p r l s = record {
   reads = s.reads;
   upto = s.upto;
   broken = s.broken;
-  attempt = ap attempt_of (sym (halves_fill p r l s));
-  begun = ap has_begun (sym (halves_fill p r l s));
-  heal = ap heal_of (sym (halves_fill p r l s));
-  source = source_same p r s.possible ∙ ap (source_of p.shape.n (keeps_in p.shape)) (sym (halves_fill p r l s));
-  mended = ap (λ (x : Exact). asked_in x exact.Mends) (halves_fill p r l s) ∙ asked_if (same_step (step_of p.step) exact.Mends) p.asked;
 }
 
 -- ---- stopped
@@ -147,7 +125,7 @@ joined_steps p q r law s = record {
 }
 
 -- both, for a register of this shape
-pub stopped_stands : (p : Register) (r : Exact) (shape : Shape) → p.shape ≡ shape → LawStands p r.law → StepsStand p r → Stands (published (stopped p)) (stopping shape.n (keeps_in shape) r)
+pub stopped_stands : (p : Register) (r : Exact) (shape : Shape) → p.shape ≡ shape → LawStands p r.law → StepsStand p r → Stands (stopped p) (stopping shape.n (keeps_in shape) r)
 stopped_stands p r shape same l s =
-    subst (λ (here : Shape). Stands (published (stopped p)) (stopping here.n (keeps_in here) r)) same
-    (published_stands (stopped p) (stopping p.shape.n (keeps_in p.shape) r) (stopped_law p r.law l) (stopped_steps p r l s))
+    subst (λ (here : Shape). Stands (stopped p) (stopping here.n (keeps_in here) r)) same
+    (both_stand (stopped p) (stopping p.shape.n (keeps_in p.shape) r) (stopped_law p r.law l) (stopped_steps p r l s))
